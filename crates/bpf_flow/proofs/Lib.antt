@@ -1,0 +1,3 @@
+mod StepLemmas
+mod LabelLemmas
+pub mod EdgeLemmas

@@ -1,0 +1,8 @@
+//! What one instruction does to the machine, and to what the verifier knows of it.
+#![tactic(auto)]
+
+mod laws;
+mod registers;
+
+pub use laws::{labels_fit_their_instruction, no_step_writes_the_frame_pointer, one_label_one_state, steps_follow_edges};
+pub use registers::{jump_target, next_slot, reads, writes};

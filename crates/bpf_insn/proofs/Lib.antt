@@ -1,0 +1,10 @@
+pub mod FieldLemmas
+pub mod FormLemmas
+pub mod ClassLemmas
+pub mod SpellingLemmas
+pub mod OperationLemmas
+pub mod ProgressLemmas
+pub mod OpcodeLemmas
+pub mod InverseLemmas
+pub mod UniqueLemmas
+pub mod ResultLemmas

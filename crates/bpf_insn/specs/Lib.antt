@@ -1,0 +1,14 @@
+pub mod Register
+pub mod Size
+pub mod Signed
+pub mod Arithmetic
+pub mod Extension
+pub mod ByteOrder
+pub mod Conditions
+pub mod Fields
+pub mod Spelling
+pub mod Code
+pub mod Cause
+pub mod Form
+pub mod Refusal
+pub mod Text

@@ -1,0 +1,128 @@
+ghost use Rattle.std.specs.Prelude.{◌≡◌, false, true};
+ghost use Rattle.bpf_insn.specs.Arithmetic.{computed, negated};
+
+use crate::alu_op::AluOp;
+use crate::halves::low_half;
+
+/// What an arithmetic instruction leaves in its destination, of the numbers in destination and source: on 64 bits if
+/// `wide`, else on the low 32, and then the upper half is 0.
+pub fn alu(op: AluOp, wide: bool, dst: u64, src: u64) -> u64
+    ensures { result ≡ computed op wide dst src }
+{
+    if wide {
+        alu64(op, dst, src)
+    } else {
+        u64::from(alu32(op, low_half(dst), low_half(src)))
+    }
+}
+
+/// What NEG leaves in its destination.
+#[tactic(auto, unfolding(crate::specs::Arithmetic::negated))]
+pub fn negate(wide: bool, dst: u64) -> u64
+    ensures { result ≡ negated wide dst }
+{
+    if wide {
+        dst.wrapping_neg()
+    } else {
+        u64::from(low_half(dst).wrapping_neg())
+    }
+}
+
+#[tactic(auto, unfolding(crate::specs::Arithmetic::computed))]
+fn alu64(op: AluOp, dst: u64, src: u64) -> u64
+    ensures { result ≡ computed op true dst src }
+{
+    match op {
+        AluOp::Add => dst.wrapping_add(src),
+        AluOp::Sub => dst.wrapping_sub(src),
+        AluOp::Mul => dst.wrapping_mul(src),
+        AluOp::Div => if src == 0 { 0 } else { dst / src },
+        AluOp::SignedDiv => signed_quotient(dst, src),
+        AluOp::Or => dst | src,
+        AluOp::And => dst & src,
+        AluOp::Lsh => dst.wrapping_shl(low_half(src)),
+        AluOp::Rsh => dst.wrapping_shr(low_half(src)),
+        AluOp::Mod => if src == 0 { dst } else { dst % src },
+        AluOp::SignedMod => signed_remainder(dst, src),
+        AluOp::Xor => dst ^ src,
+        AluOp::Mov => src,
+        AluOp::Arsh => dst
+            .cast_signed()
+            .wrapping_shr(low_half(src))
+            .cast_unsigned(),
+    }
+}
+
+#[tactic(auto, unfolding(crate::specs::Arithmetic::computed))]
+fn signed_quotient(dst: u64, src: u64) -> u64
+    ensures { result ≡ computed AluOp.SignedDiv true dst src }
+{
+    if src == 0 {
+        0
+    } else {
+        dst.cast_signed()
+            .wrapping_div(src.cast_signed())
+            .cast_unsigned()
+    }
+}
+
+#[tactic(auto, unfolding(crate::specs::Arithmetic::computed))]
+fn signed_remainder(dst: u64, src: u64) -> u64
+    ensures { result ≡ computed AluOp.SignedMod true dst src }
+{
+    if src == 0 {
+        dst
+    } else {
+        dst.cast_signed()
+            .wrapping_rem(src.cast_signed())
+            .cast_unsigned()
+    }
+}
+
+#[tactic(auto, unfolding(crate::specs::Arithmetic::computed))]
+fn alu32(op: AluOp, dst: u32, src: u32) -> u32
+    ensures { result ≡ computed op false dst src }
+{
+    match op {
+        AluOp::Add => dst.wrapping_add(src),
+        AluOp::Sub => dst.wrapping_sub(src),
+        AluOp::Mul => dst.wrapping_mul(src),
+        AluOp::Div => if src == 0 { 0 } else { dst / src },
+        AluOp::SignedDiv => signed_quotient32(dst, src),
+        AluOp::Or => dst | src,
+        AluOp::And => dst & src,
+        AluOp::Lsh => dst.wrapping_shl(src),
+        AluOp::Rsh => dst.wrapping_shr(src),
+        AluOp::Mod => if src == 0 { dst } else { dst % src },
+        AluOp::SignedMod => signed_remainder32(dst, src),
+        AluOp::Xor => dst ^ src,
+        AluOp::Mov => src,
+        AluOp::Arsh => dst.cast_signed().wrapping_shr(src).cast_unsigned(),
+    }
+}
+
+#[tactic(auto, unfolding(crate::specs::Arithmetic::computed))]
+fn signed_quotient32(dst: u32, src: u32) -> u32
+    ensures { result ≡ computed AluOp.SignedDiv false dst src }
+{
+    if src == 0 {
+        0
+    } else {
+        dst.cast_signed()
+            .wrapping_div(src.cast_signed())
+            .cast_unsigned()
+    }
+}
+
+#[tactic(auto, unfolding(crate::specs::Arithmetic::computed))]
+fn signed_remainder32(dst: u32, src: u32) -> u32
+    ensures { result ≡ computed AluOp.SignedMod false dst src }
+{
+    if src == 0 {
+        dst
+    } else {
+        dst.cast_signed()
+            .wrapping_rem(src.cast_signed())
+            .cast_unsigned()
+    }
+}

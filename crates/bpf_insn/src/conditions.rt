@@ -1,0 +1,55 @@
+ghost use Rattle.std.specs.Prelude.{◌≡◌, false, true};
+ghost use Rattle.bpf_insn.specs.Conditions.{is_met};
+
+use crate::condition::Condition;
+use crate::halves::low_half;
+
+/// Whether a conditional jump is taken, of the numbers in destination and source: on 64 bits if `wide`, else on the
+/// low halves.
+pub fn holds(cond: Condition, wide: bool, a: u64, b: u64) -> bool
+    ensures { result ≡ is_met cond wide a b }
+{
+    if wide {
+        holds64(cond, a, b)
+    } else {
+        holds32(cond, low_half(a), low_half(b))
+    }
+}
+
+#[tactic(auto, unfolding(crate::specs::Conditions::is_met))]
+fn holds64(cond: Condition, a: u64, b: u64) -> bool
+    ensures { result ≡ is_met cond true a b }
+{
+    match cond {
+        Condition::Equal => a == b,
+        Condition::Greater => a > b,
+        Condition::GreaterOrEqual => a >= b,
+        Condition::Set => a & b != 0,
+        Condition::NotEqual => a != b,
+        Condition::SignedGreater => a.cast_signed() > b.cast_signed(),
+        Condition::SignedGreaterOrEqual => a.cast_signed() >= b.cast_signed(),
+        Condition::Less => a < b,
+        Condition::LessOrEqual => a <= b,
+        Condition::SignedLess => a.cast_signed() < b.cast_signed(),
+        Condition::SignedLessOrEqual => a.cast_signed() <= b.cast_signed(),
+    }
+}
+
+#[tactic(auto, unfolding(crate::specs::Conditions::is_met))]
+fn holds32(cond: Condition, a: u32, b: u32) -> bool
+    ensures { result ≡ is_met cond false a b }
+{
+    match cond {
+        Condition::Equal => a == b,
+        Condition::Greater => a > b,
+        Condition::GreaterOrEqual => a >= b,
+        Condition::Set => a & b != 0,
+        Condition::NotEqual => a != b,
+        Condition::SignedGreater => a.cast_signed() > b.cast_signed(),
+        Condition::SignedGreaterOrEqual => a.cast_signed() >= b.cast_signed(),
+        Condition::Less => a < b,
+        Condition::LessOrEqual => a <= b,
+        Condition::SignedLess => a.cast_signed() < b.cast_signed(),
+        Condition::SignedLessOrEqual => a.cast_signed() <= b.cast_signed(),
+    }
+}

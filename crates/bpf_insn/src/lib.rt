@@ -1,0 +1,44 @@
+//! BPF instructions (RFC 9669): their bytes, what they compute, and their text.
+#![tactic(auto)]
+
+mod alu_op;
+mod arithmetic;
+mod byte_order;
+mod code;
+mod condition;
+mod conditions;
+mod decoder;
+mod encoder;
+mod extension;
+mod fields;
+mod halves;
+mod insn;
+mod laws;
+mod operand;
+mod refusal;
+mod register;
+mod size;
+mod slot;
+mod swap_kind;
+#[cfg(test)]
+mod tests;
+mod text;
+mod width;
+
+pub use alu_op::AluOp;
+pub use arithmetic::{alu, negate};
+pub use byte_order::swap;
+pub use code::Code;
+pub use condition::Condition;
+pub use conditions::holds;
+pub use decoder::{decode, refusal_of};
+pub use encoder::encode;
+pub use extension::{extend, move_extended};
+pub use insn::Insn;
+pub use laws::{encoded_is_code, refusal_is_unique, results_fit, spelling_is_unique};
+pub use operand::Operand;
+pub use refusal::{Cause, Refusal};
+pub use register::Register;
+pub use size::Size;
+pub use swap_kind::SwapKind;
+pub use width::Width;

@@ -1,0 +1,4 @@
+mod arithmetic;
+mod encoding;
+mod prefixes;
+mod spelling;

@@ -1,0 +1,4 @@
+pub mod Shape
+pub mod State
+pub mod Bytes
+pub mod Regions

@@ -1,0 +1,9 @@
+mod StructureLemmas
+mod SetLemmas
+mod GraphLemmas
+mod PassLemmas
+mod CodeLemmas
+mod PathLemmas
+mod ConsistentLemmas
+mod AcceptedLemmas
+mod RefusalLemmas

@@ -1,0 +1,71 @@
+-- The structure of a program: where its jumps land, what follows its instructions, which maps it names.
+use Rattle.std.specs.Prelude.{ℕ, ◌+◌, ◌≡◌, ◌<◌, ℤ, List, length, Option, None, Some, Bool, true, false, not, if◌then◌else◌, nat_lt, nat_le, slice_get}
+use Rattle.bpf_insn.specs.declared.insn.Insn.{Insn}
+use Rattle.bpf_insn.specs.declared.insn.Insn.TheVariants.{Alu, Neg, End, MovSx, Const, MapRef, Ldx, St, Stx, AddCounter, Ja, Jump, Call, Exit, Second}
+use Rattle.bpf_insn.specs.declared.refusal.Cause.{Cause}
+use Rattle.bpf_insn.specs.declared.refusal.Cause.TheVariants as cause
+use Rattle.bpf_flow.specs.Step.{target}
+use Rattle.bpf_flow.specs.Graph.{next_slot}
+
+-- the offset of a jump
+abbrev pub jump_of : Insn → Option ℤ
+jump_of (Ja wide_offset to) = Some to
+jump_of (Jump cond wide dst src off) = Some off
+jump_of i = None
+
+-- the slot holds an instruction: it is there, and no second half of a wide load
+abbrev pub begins : Option Insn → Bool
+begins None = false
+begins (Some Second) = false
+begins (Some i) = true
+
+abbrev pub lands : List Insn → Option ℕ → Bool
+lands code None = false
+lands code (Some to) = begins (slice_get code to)
+
+abbrev pub is_not_above : ℕ → Option ℕ → Bool
+is_not_above pc None = false
+is_not_above pc (Some to) = nat_le to pc
+
+-- a jump whose target is no instruction of the program
+abbrev pub misses_target : List Insn → ℕ → Option ℤ → Bool
+misses_target code pc None = false
+misses_target code pc (Some off) = not (lands code (target pc off))
+
+-- a jump whose target isn't above it
+abbrev pub jumps_back : ℕ → Option ℤ → Bool
+jumps_back pc None = false
+jumps_back pc (Some off) = is_not_above pc (target pc off)
+
+-- after EXIT and JA nothing follows, and a second half is no instruction
+abbrev pub falls_through : Insn → Bool
+falls_through (Ja wide_offset to) = false
+falls_through Exit = false
+falls_through Second = false
+falls_through i = true
+
+-- the next slot is past the end
+abbrev pub runs_off : List Insn → ℕ → Insn → Bool
+runs_off code pc i = if falls_through i then not (nat_lt (next_slot i pc) (length code)) else false
+
+-- a map that isn't there
+abbrev pub lacks_map : ℕ → Insn → Bool
+lacks_map maps (MapRef dst m) = nat_le maps m
+lacks_map maps i = false
+
+-- what is wrong with the structure at a slot, the first in this order
+abbrev pub structure_of : List Insn → ℕ → ℕ → Insn → Option Cause
+structure_of code maps pc i =
+    if misses_target code pc (jump_of i) then Some cause.Target
+    else if jumps_back pc (jump_of i) then Some cause.BackJump
+    else if runs_off code pc i then Some cause.End
+    else if lacks_map maps i then Some cause.MapNumber
+    else None
+
+abbrev pub structure_by : List Insn → ℕ → ℕ → Option Insn → Option Cause
+structure_by code maps pc None = None
+structure_by code maps pc (Some i) = structure_of code maps pc i
+
+-- the same of the instruction at slot pc, reached or not
+unfoldable pub structure_at : List Insn → ℕ → ℕ → Option Cause
+structure_at code maps pc = structure_by code maps pc (slice_get code pc)

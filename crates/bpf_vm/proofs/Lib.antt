@@ -1,0 +1,7 @@
+mod ByteLemmas
+mod RegionLemmas
+pub mod ExecuteLemmas
+mod ExtendLemmas
+mod RunLemmas
+mod MachineLemmas
+mod WholeLemmas

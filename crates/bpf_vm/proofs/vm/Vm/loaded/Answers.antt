@@ -1,0 +1,68 @@
+use Rattle.std.proofs.Common.{◌≡◌, ◌<◌, ◌≤◌, ◌+◌, ◌^◌, ℕ, List, Option, Some, None, length, arith, ap, sym, subst, ◌∙◌, refl}
+use Rattle.std.specs.Prelude.{slice_get}
+use Rattle.bpf_note.specs.Shape.{Shape, AreShapes}
+use Rattle.bpf_note.specs.State.{State}
+use Rattle.bpf_flow.specs.Step.{Outcome, Exited, exec, step, LeadsTo}
+use Rattle.bpf_verify.specs.Consistent.{Accepted, instructions, rank}
+use Rattle.bpf_vm.specs.Running.{machine_state, IsNoFault}
+use Rattle.bpf_vm.specs.Stands.{Running, Stands, IsRunning, now, own, label_of, exits}
+use Rattle.bpf_vm.specs.Wants.{Answers}
+use Rattle.bpf_vm.proofs.ExecuteLemmas.{extends_itself}
+use Rattle.bpf_vm.proofs.RunLemmas.{few_instructions, inside_of, wants_same, exit_same, want_exits, other_exits}
+use Rattle.bpf_vm.proofs.MachineLemmas.{own_of, running_of, here, stepped, given_number, fine_here, running, started, standing, new_shapes, restated}
+use Rattle.bpf_vm.proofs.vm.Vm.loaded.Goals as goal
+
+
+pub are_numbers-requires-clause-few : goal.are_numbers-requires-clause-few
+are_numbers-requires-clause-few c =
+    let p = c.self.inside.program.now in
+    let m = c.self.inside.machine in
+    let n = c.answer.new.self in
+    let k = c.slots-slots.ensures.consistent in
+    let g = given_number p m c.insn-insn.result.now k c.self.invariant.0 c.insn-insn.ensures.at n c.args.number c.ranges.number.fits c.answer.ensures (own_of p m) c.self.invariant.1.described (extends_itself (own_of p m)) in
+    let same = new_shapes p (own_of p m) n (label_of (step p.code (own_of p m)) c.args.number) g.0 g.1 in
+    omega (arith, k.few_maps, ap length same)
+
+pub are_numbers-requires-clause-shapes : goal.are_numbers-requires-clause-shapes
+are_numbers-requires-clause-shapes c =
+    let p = c.self.inside.program.now in
+    let m = c.self.inside.machine in
+    let n = c.answer.new.self in
+    let k = c.slots-slots.ensures.consistent in
+    let g = given_number p m c.insn-insn.result.now k c.self.invariant.0 c.insn-insn.ensures.at n c.args.number c.ranges.number.fits c.answer.ensures (own_of p m) c.self.invariant.1.described (extends_itself (own_of p m)) in
+    let same = new_shapes p (own_of p m) n (label_of (step p.code (own_of p m)) c.args.number) g.0 g.1 in
+    subst (λ (shapes : List Shape). AreShapes shapes) (sym same) k.maps
+
+pub overflow_add-self : goal.overflow_add-self
+overflow_add-self c =
+    let p = c.self.inside.program.now in
+    let k = c.slots-slots.ensures.consistent in
+    omega (arith, c.self.invariant.1.counted, few_instructions p.code, k.laid_out.short)
+
+pub invariant_of-self : goal.invariant_of-self
+invariant_of-self c =
+    let p = c.self.inside.program.now in
+    let m = c.self.inside.machine in
+    let n = c.answer.new.self in
+    let k = c.slots-slots.ensures.consistent in
+    let g = given_number p m c.insn-insn.result.now k c.self.invariant.0 c.insn-insn.ensures.at n c.args.number c.ranges.number.fits c.answer.ensures (own_of p m) c.self.invariant.1.described (extends_itself (own_of p m)) in
+    (new_shapes p (own_of p m) n (label_of (step p.code (own_of p m)) c.args.number) g.0 g.1,
+     running p m c.insn-insn.result.now k c.self.invariant.0 c.insn-insn.ensures.at n c.self.inside.count (label_of (step p.code (own_of p m)) c.args.number) c.self.invariant.1.described c.self.invariant.1.counted c.are_numbers.ensures g)
+
+pub returns-clause-stands : goal.returns-clause-stands
+returns-clause-stands c =
+    let p = c.self.inside.program.now in
+    let m = c.self.inside.machine in
+    let n = c.answer.new.self in
+    let k = c.slots-slots.ensures.consistent in
+    rw (← c.self.view_is) (λ s st. let g = given_number p m c.insn-insn.result.now k c.self.invariant.0 c.insn-insn.ensures.at n c.args.number c.ranges.number.fits c.answer.ensures s st.described st.numbers in (g.0, g.1.leads, standing p s n (c.self.inside.count + 1) (label_of (step p.code (own_of p m)) c.args.number) g.0 g.1))
+
+pub returns-clause-bound : goal.returns-clause-bound
+returns-clause-bound c =
+    let p = c.self.inside.program.now in
+    let m = c.self.inside.machine in
+    let n = c.answer.new.self in
+    let k = c.slots-slots.ensures.consistent in
+    let g = given_number p m c.insn-insn.result.now k c.self.invariant.0 c.insn-insn.ensures.at n c.args.number c.ranges.number.fits c.answer.ensures (own_of p m) c.self.invariant.1.described (extends_itself (own_of p m)) in
+    let r = running p m c.insn-insn.result.now k c.self.invariant.0 c.insn-insn.ensures.at n c.self.inside.count (label_of (step p.code (own_of p m)) c.args.number) c.self.invariant.1.described c.self.invariant.1.counted c.are_numbers.ensures g in
+    omega (arith, r.counted)

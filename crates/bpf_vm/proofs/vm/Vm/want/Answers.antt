@@ -1,0 +1,35 @@
+use Rattle.std.proofs.Common.{◌≡◌, ◌<◌, ◌≤◌, ◌+◌, ◌^◌, ℕ, List, Option, Some, None, length, arith, ap, sym, subst, ◌∙◌, refl}
+use Rattle.std.specs.Prelude.{slice_get}
+use Rattle.bpf_note.specs.Shape.{Shape, AreShapes}
+use Rattle.bpf_note.specs.State.{State}
+use Rattle.bpf_flow.specs.Step.{Outcome, Exited, exec, step, LeadsTo}
+use Rattle.bpf_verify.specs.Consistent.{Accepted, instructions, rank}
+use Rattle.bpf_vm.specs.Running.{machine_state, IsNoFault}
+use Rattle.bpf_vm.specs.Stands.{Running, Stands, IsRunning, now, own, label_of, exits}
+use Rattle.bpf_vm.specs.Wants.{Answers}
+use Rattle.bpf_vm.proofs.ExecuteLemmas.{extends_itself}
+use Rattle.bpf_vm.proofs.RunLemmas.{few_instructions, inside_of, wants_same, exit_same, want_exits, other_exits}
+use Rattle.bpf_vm.proofs.MachineLemmas.{own_of, running_of, here, stepped, given_number, fine_here, running, started, standing, new_shapes, restated}
+use Rattle.bpf_vm.proofs.vm.Vm.want.Goals as goal
+
+
+pub insn-insn-requires : goal.insn-insn-requires
+insn-insn-requires c = inside_of c.self.inside.program.now (own_of c.self.inside.program.now c.self.inside.machine) c.slots-slots.ensures.consistent c.self.invariant.1.described
+
+pub want-requires-clause-fine : goal.want-requires-clause-fine
+want-requires-clause-fine c =
+    fine_here c.self.inside.program.now c.self.inside.machine c.insn-insn.result.now c.slots-slots.ensures.consistent c.self.invariant.0 c.insn-insn.ensures.at c.self.invariant.1.described
+
+pub returns-clause-own : goal.returns-clause-own
+returns-clause-own c =
+    let p = c.self.inside.program.now in
+    let m = c.self.inside.machine in
+    rw (← c.self.view_is) (subst (λ (o : Outcome). Answers c.want.result o) (here p m c.insn-insn.result.now c.slots-slots.ensures.consistent c.self.invariant.0 c.insn-insn.ensures.at) c.want.ensures)
+
+pub returns-clause-stands : goal.returns-clause-stands
+returns-clause-stands c =
+    let p = c.self.inside.program.now in
+    let m = c.self.inside.machine in
+    let k = c.slots-slots.ensures.consistent in
+    let mine = subst (λ (o : Outcome). Answers c.want.result o) (here p m c.insn-insn.result.now k c.self.invariant.0 c.insn-insn.ensures.at) c.want.ensures in
+    rw (← c.self.view_is) (λ s st. wants_same p c.want.result s (own_of p m) k st.described st.numbers mine)

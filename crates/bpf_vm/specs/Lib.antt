@@ -1,0 +1,4 @@
+pub mod Running
+pub mod Run
+pub mod Stands
+pub mod Wants

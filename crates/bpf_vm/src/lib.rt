@@ -1,0 +1,18 @@
+//! The interpreter of accepted programs, and the packets that they run on.
+#![tactic(auto)]
+
+mod buffer;
+mod bytes;
+mod execute;
+mod machine;
+mod memory;
+mod packet;
+mod run;
+mod vm;
+mod want;
+
+pub use buffer::Buffer;
+pub use packet::{PacketBuf, PacketFault};
+pub use run::{Ended, run_to_end};
+pub use vm::Vm;
+pub use want::VmWant;

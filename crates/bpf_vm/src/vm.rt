@@ -1,0 +1,130 @@
+//! An interpreter of an accepted program.
+ghost use Rattle.std.specs.Prelude.{◌≡◌, ◌+◌, ◌<◌, ◌≤◌, ◌%◌, ◌^◌, ℕ, Some, None};
+ghost use Rattle.bpf_note.specs.State.{State, IsStart};
+ghost use Rattle.bpf_flow.specs.Step.{Exited, LeadsTo, step};
+ghost use Rattle.bpf_verify.specs.Consistent.{instructions};
+ghost use Rattle.bpf_vm.specs.Running.{Advances};
+ghost use Rattle.bpf_vm.specs.Stands.{Stands, now, own, exits, Ends, label_of};
+ghost use Rattle.bpf_vm.specs.Wants.{Answers, IsLoad, IsAdd};
+
+use crate::machine::Machine;
+use crate::packet::PacketBuf;
+use crate::want::VmWant;
+use bpf_verify::Verified;
+use std::marker::Model;
+
+/// An interpreter. It holds plain numbers and tests no access: what was accepted has none to refuse.
+#[derive(Drop)]
+pub struct Vm<'p, 'b> {
+    program: &'p Verified,
+    machine: Machine<'p, 'b>,
+    count: u32,
+}
+
+impl<'p, 'b> Model for Vm<'p, 'b> {
+    ghost use Rattle.std.specs.Prelude.{◌≡◌};
+    ghost use Rattle.bpf_vm.specs.Running.{numbers_of};
+    ghost use Rattle.bpf_vm.specs.Stands.{Running, IsRunning};
+
+    ghost Value = { Running };
+
+    ghost view = { λ v. record { program = v.program.now; numbers = numbers_of v.machine; count = v.count } };
+
+    ghost invariant = { λ v. (v.machine.shapes.now ≡ v.program.now.shapes)
+        × IsRunning (record { program = v.program.now; numbers = numbers_of v.machine; count = v.count }) };
+}
+
+impl<'p, 'b> Vm<'p, 'b> {
+    /// An interpreter before the first instruction.
+    pub fn start(program: &'p Verified, packet: PacketBuf<'b>, ifindex: u32, queue: u32) -> Vm<'p, 'b>
+        ensures program { result.program ≡ program.now }
+        ensures stands { (s : State) → IsStart s → s.packet ≡ packet.entry → s.ifindex ≡ ifindex → s.queue ≡ queue → s.shapes ≡ program.now.shapes → Stands result s }
+        ensures count { result.count ≡ 0 }
+    {
+        let machine = Machine::new(packet, ifindex, queue, program.shapes());
+        machine.are_numbers();
+        Vm { program, machine, count: 0 }
+    }
+
+    /// What comes next.
+    pub fn want(&self) -> VmWant
+        ensures own { Answers result (now self.now) }
+        ensures stands { (s : State) → Stands self.now s → Answers result (step self.now.program.code s) }
+    {
+        let _slots = self.program.slots();
+        let insn = *self.program.insn(self.machine.pc);
+        self.machine.want(insn)
+    }
+
+    /// Does the next instruction.
+    pub fn step(&mut self)
+        requires { Advances (now self.old) }
+        ensures program { self.new.program ≡ self.old.program }
+        ensures stands { (s : State) → Stands self.old s → (t : State) × LeadsTo (step self.old.program.code s) None t × Stands self.new t }
+        ensures count { self.new.count ≡ self.old.count + 1 }
+        ensures bound { self.new.count < instructions self.new.program.code }
+    {
+        let _slots = self.program.slots();
+        let insn = *self.program.insn(self.machine.pc);
+        self.machine.execute(insn);
+        self.machine.are_numbers();
+        self.count += 1;
+    }
+
+    /// Goes on with the number that a wanted counter holds.
+    pub fn loaded(&mut self, number: u64)
+        requires { IsLoad (now self.old) }
+        ensures program { self.new.program ≡ self.old.program }
+        ensures stands { (s : State) → Stands self.old s → (t : State) × LeadsTo (step self.old.program.code s) (label_of (now self.old) number) t × Stands self.new t }
+        ensures count { self.new.count ≡ self.old.count + 1 }
+        ensures bound { self.new.count < instructions self.new.program.code }
+    {
+        let _slots = self.program.slots();
+        let insn = *self.program.insn(self.machine.pc);
+        self.machine.answer(insn, number);
+        self.machine.are_numbers();
+        self.count += 1;
+    }
+
+    /// Goes on with the number that a counter held before a wanted add.
+    pub fn added(&mut self, old: u64)
+        requires { IsAdd (now self.old) }
+        ensures program { self.new.program ≡ self.old.program }
+        ensures stands { (s : State) → Stands self.old s → (t : State) × LeadsTo (step self.old.program.code s) (label_of (now self.old) old) t × Stands self.new t }
+        ensures count { self.new.count ≡ self.old.count + 1 }
+        ensures bound { self.new.count < instructions self.new.program.code }
+    {
+        let _slots = self.program.slots();
+        let insn = *self.program.insn(self.machine.pc);
+        self.machine.answer(insn, old);
+        self.machine.are_numbers();
+        self.count += 1;
+    }
+
+    /// How many instructions are done, a wanted exit included.
+    pub fn count(&self) -> u32
+        ensures count { result ≡ self.now.count + exits (now self.now) }
+        ensures bound { result ≤ instructions self.now.program.code }
+    {
+        let _slots = self.program.slots();
+        match self.want() {
+            VmWant::Exit { .. } => self.count + 1,
+            _ => self.count,
+        }
+    }
+
+    /// The number and the packet at the exit.
+    pub fn finish(self) -> (u32, PacketBuf<'b>)
+        requires { Ends (now self) }
+        ensures { (s : State) → Stands self.entry s → (r0 : ℕ) × (step self.entry.program.code s ≡ Exited r0) × (result.0 ≡ r0 % 2 ^ 32) × (result.1 ≡ s.packet) }
+    {
+        let _slots = self.program.slots();
+        match self.want() {
+            VmWant::Exit { r0 } => {
+                let Vm { program: _, machine, count: _ } = self;
+                ((r0 % 0x1_0000_0000) as u32, machine.into_packet())
+            }
+            _ => unreachable!(),
+        }
+    }
+}

@@ -1,0 +1,192 @@
+//! The chain of slots that a packet makes on the tx ring.
+
+ghost use Rattle.std.specs.Prelude.{[], ◌∷◌, ◌++◌, ◌≡◌, ◌≢◌, ◌↔◌, ◌≤◌, length, sum_by, Some, Ok, Err, MatchResult, OnOk, OnErr, IfOk, IsTrue};
+ghost use Rattle.std.specs.List.{list_all};
+ghost use Rattle.xen_netif.specs.Chain.{Stands, requests_of};
+ghost use Rattle.xen_netif.specs.Fragments.{fragment_size, fragments_of, is_in_page, packet_size};
+ghost use Rattle.xen_netif.specs.Standing.{standing};
+
+use crate::expected::Expected;
+use crate::extra::asks_extra;
+use crate::fault::{ChainFault, SizeFault};
+use crate::fragment::{Fragment, all_in_page, split, total_size};
+use crate::tx::TxReq;
+use arrayvec::ArrayVec;
+use std::marker::Model;
+
+/// What a chain wants next.
+#[derive(Clone, Copy, Debug, PartialEq, Eq)]
+pub enum ChainState {
+    /// A data slot.
+    Data,
+    /// An extra.
+    Extra,
+    /// Nothing: the chain is complete.
+    Complete,
+}
+
+/// The slots of one packet, as they were read: a data slot, up to five extras where it says so, and up to
+/// seventeen further data slots.
+#[derive(Debug, Drop)]
+pub struct Chain {
+    slots: ArrayVec<[u32; 3], 23>,
+    expected: Expected,
+}
+
+impl Model for Chain {
+    ghost use Rattle.std.specs.Prelude.{List, ℕ};
+    ghost use Rattle.xen_netif.specs.Expected.{Expects};
+
+    ghost Value = { List (List ℕ) };
+
+    ghost view = { λ c. c.slots.items };
+
+    ghost invariant = { λ c. Expects c.slots.items c.expected };
+}
+
+impl Default for Chain {
+    ghost use Rattle.std.specs.Prelude.{[], ◌≡◌};
+
+    ghost is_default = { λ chain. chain ≡ [] };
+
+    fn default() -> Self {
+        Chain::new()
+    }
+}
+
+impl Chain {
+    /// A chain without slots.
+    pub fn new() -> Self
+        ensures { result ≡ [] }
+    {
+        Chain {
+            slots: ArrayVec::new(),
+            expected: Expected::First,
+        }
+    }
+
+    /// How many slots there are, extras among them.
+    pub fn len(&self) -> usize
+        ensures { result ≡ length self.now }
+    {
+        self.slots.len()
+    }
+
+    /// Whether there is no slot yet.
+    pub fn is_empty(&self) -> bool
+        ensures { IsTrue result ↔ (self.now ≡ []) }
+    {
+        self.slots.is_empty()
+    }
+
+    /// What the chain wants next.
+    pub fn state(&self) -> ChainState
+        ensures grammar { Stands self.now (Some (Ok result)) }
+        ensures standing { standing self.now ≡ Some (Ok result) }
+    {
+        self.expected.state()
+    }
+
+    /// Adds the slot of these three words, and says what is wanted next. A fault leaves the chain as it was.
+    ///
+    /// # Errors
+    ///
+    /// `UnknownExtra` where an extra is wanted and the slot's type is none of the five, `TooManyExtras` where the
+    /// slot is a fifth extra and asks for a sixth, `TooManySlots` where it is an eighteenth data slot and asks for a
+    /// nineteenth.
+    pub fn push(&mut self, words: [u32; 3]) -> Result<ChainState, ChainFault>
+        requires { standing self.old ≢ Some (Ok ChainState.Complete) }
+        ensures grammar { Stands (self.old ++ words ∷ []) (Some result) }
+        ensures standing { standing (self.old ++ words ∷ []) ≡ Some result }
+        ensures ok { OnOk result (self.new ≡ self.old ++ words ∷ []) }
+        ensures err { OnErr result (self.new ≡ self.old) }
+    {
+        let expected = self.expected.after(words)?;
+        self.slots.push(words);
+        self.expected = expected;
+        Ok(expected.state())
+    }
+
+    /// The request in each slot, in order; `None` for an extra.
+    pub fn requests(&self) -> ArrayVec<Option<TxReq>, 23>
+        ensures items { result.items ≡ requests_of self.now }
+        ensures len { length result.items ≡ length self.now }
+    {
+        requests_in(self.slots.as_slice())
+    }
+
+    /// The packet's parts in granted pages, one a slot, in order.
+    ///
+    /// # Errors
+    ///
+    /// The first that applies of `ExtraInfo`, `ShortPacket`, `LaterSizes` and `PastPage`.
+    pub fn fragments(&self) -> Result<ArrayVec<Fragment, 18>, SizeFault>
+        requires { standing self.now ≡ Some (Ok ChainState.Complete) }
+        ensures answer { MatchResult result (λ v. fragments_of self.now ≡ Ok v.items)
+            (λ fault. fragments_of self.now ≡ Err fault) }
+        ensures sizes { IfOk result (λ v. sum_by fragment_size v.items ≡ packet_size self.now) }
+        ensures count { IfOk result (λ v. length v.items ≡ length self.now) }
+        ensures in_page { IfOk result (λ v. IsTrue (list_all is_in_page v.items)) }
+    {
+        fragments_in(self.slots.as_slice())
+    }
+}
+
+/// The fragments of a whole chain's slots.
+fn fragments_in(slots: &[[u32; 3]]) -> Result<ArrayVec<Fragment, 18>, SizeFault>
+    requires { standing slots.now ≡ Some (Ok ChainState.Complete) }
+    ensures answer { MatchResult result (λ v. fragments_of slots.now ≡ Ok v.items)
+        (λ fault. fragments_of slots.now ≡ Err fault) }
+    ensures sizes { IfOk result (λ v. sum_by fragment_size v.items ≡ packet_size slots.now) }
+    ensures count { IfOk result (λ v. length v.items ≡ length slots.now) }
+    ensures in_page { IfOk result (λ v. IsTrue (list_all is_in_page v.items)) }
+{
+    let first = TxReq::of_words(slots[0]);
+    if first.flags.extra_info {
+        return Err(SizeFault::ExtraInfo);
+    }
+    if first.size < 14 {
+        return Err(SizeFault::ShortPacket);
+    }
+    let later = &slots[1..];
+    let later_size = total_size(later);
+    let packet_size = u32::from(first.size);
+    if packet_size < later_size {
+        return Err(SizeFault::LaterSizes);
+    }
+    let first = Fragment {
+        gref: first.gref,
+        offset: first.offset,
+        size: (packet_size - later_size) as u16,
+    };
+    let fragments = split(first, later);
+    if all_in_page(fragments.as_slice()) {
+        Ok(fragments)
+    } else {
+        Err(SizeFault::PastPage)
+    }
+}
+
+/// The requests in a chain's slots.
+fn requests_in(slots: &[[u32; 3]]) -> ArrayVec<Option<TxReq>, 23>
+    requires { length slots.now ≤ 23 }
+    ensures items { result.items ≡ requests_of slots.now }
+    ensures len { length result.items ≡ length slots.now }
+{
+    let mut requests = ArrayVec::new();
+    let Some((first, later)) = slots.split_first() else {
+        return requests;
+    };
+    let first = TxReq::of_words(*first);
+    requests.push(Some(first));
+    let mut extra_asked = first.flags.extra_info;
+    for slot in later {
+        if extra_asked {
+            extra_asked = asks_extra(*slot);
+            requests.push(None);
+        } else {
+            requests.push(Some(TxReq::of_words(*slot)));
+        }
+    }
+    requests
+}

@@ -1,0 +1,3 @@
+pub mod AccessLemmas
+pub mod TableLemmas
+pub mod MappingLemmas

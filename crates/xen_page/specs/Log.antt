@@ -1,0 +1,23 @@
+-- A log with room for so many accesses.
+use Rattle.std.specs.Prelude.{ℕ, List, [], ◌∷◌, ◌++◌, length, Bool, true, false, nat_lt, Option, Some, None, if◌then◌else◌}
+use Rattle.xen_page.specs.declared.access.Access.{Access}
+
+-- The first accesses, the room for them, and whether one was left out.
+pub record Logged : Type 0 where
+  pub kept : List Access
+  pub room : ℕ
+  pub full : Bool
+
+abbrev pub empty_log : ℕ → Logged
+empty_log room = record { kept = []; room = room; full = false }
+
+-- An access is kept where there is room, and else left out.
+abbrev pub noted : Logged → Access → Logged
+noted log access =
+    if nat_lt (length log.kept) log.room
+    then record log { kept = log.kept ++ access ∷ [] }
+    else record log { full = true }
+
+-- What is told: all accesses so far, as long as none was left out.
+abbrev pub told : Logged → Option (List Access)
+told log = if log.full then None else Some log.kept

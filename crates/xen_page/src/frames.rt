@@ -1,0 +1,61 @@
+// Pages of shared words.
+
+ghost use Rattle.std.specs.Prelude.{◌≡◌, ◌≤◌, ◌<◌, length, IfOk};
+ghost use Rattle.xen_page.specs.declared.owners.TheConstants.{MAX_FRAMES};
+ghost use Rattle.xen_page.specs.declared.place.TheConstants.{WORDS};
+
+use crate::place::{Place, WORDS};
+use std::alloc::{AllocError, Global};
+use std::marker::Model;
+use std::sync::atomic::AtomicU32;
+
+/// Frames of 1,024 words each. Contracts see how many frames there are, and nothing of a word: any thread
+/// may have written it.
+#[derive(Drop)]
+pub struct Frames {
+    count: u32,
+    words: Vec<AtomicU32>,
+}
+
+impl Model for Frames {
+    ghost use Rattle.std.specs.Prelude.{◌≡◌, ◌≤◌, ◌*◌, ℕ, vec_len};
+    ghost use Rattle.xen_page.specs.declared.owners.TheConstants.{MAX_FRAMES};
+    ghost use Rattle.xen_page.specs.declared.place.TheConstants.{WORDS};
+
+    ghost Value = { ℕ };
+
+    ghost view = { λ f. f.count };
+
+    ghost invariant = { λ f. (f.count ≤ MAX_FRAMES) × (vec_len f.words ≡ f.count * WORDS) };
+}
+
+impl Frames {
+    /// One frame for each owner, all words 0.
+    pub fn make(alloc: Global, owners: &[u16]) -> Result<Frames, AllocError>
+        requires { length owners.now ≤ MAX_FRAMES }
+        ensures { IfOk result (λ frames. frames ≡ length owners.now) }
+    {
+        let total = owners.len() * WORDS as usize;
+        let mut words = Vec::with_capacity(alloc, total)?;
+        for _word in 0..total {
+            words.push_reserved(AtomicU32::new(0));
+        }
+        Ok(Frames {
+            count: owners.len() as u32,
+            words,
+        })
+    }
+
+    pub fn count(&self) -> u32
+        ensures { result ≡ self.now }
+    {
+        self.count
+    }
+
+    pub(crate) fn word(&self, at: Place) -> &AtomicU32
+        requires frame { at.frame < self.now }
+        requires word { at.word < WORDS }
+    {
+        &self.words[at.frame as usize * WORDS as usize + at.word as usize]
+    }
+}

@@ -1,0 +1,34 @@
+//! Shared pages: frames of words that another domain may rewrite between any two accesses, the buses that
+//! reach them, and the grants by which a domain lends its frames.
+#![tactic(auto)]
+
+pub mod access;
+pub mod bus;
+pub mod entry;
+pub mod fault;
+pub mod frames;
+mod log;
+pub mod mapped;
+pub mod mapping;
+pub mod owners;
+pub mod page_bus;
+pub mod place;
+pub mod recorder;
+pub mod script_bus;
+pub mod table;
+#[cfg(test)]
+mod tests;
+
+pub use access::Access;
+pub use bus::Bus;
+pub use entry::{Entry, check};
+pub use fault::GrantFault;
+pub use frames::Frames;
+pub use mapped::Mapped;
+pub use mapping::{map, unmap};
+pub use owners::{MAX_FRAMES, Owners};
+pub use page_bus::PageBus;
+pub use place::{Place, WORDS};
+pub use recorder::Recorder;
+pub use script_bus::ScriptBus;
+pub use table::{ENTRIES, MAX_TABLE_FRAMES, Table};

@@ -1,0 +1,62 @@
+// A frame that is mapped.
+
+ghost use Rattle.std.specs.Prelude.{◌≡◌, ◌<◌};
+ghost use Rattle.xen_page.specs.declared.place.TheConstants.{WORDS};
+
+use crate::place::Place;
+use std::marker::Model;
+
+/// A mapping of a frame that its granter owned, made by `map` alone. Its entry carries the marks until `unmap`.
+#[derive(Debug, Drop)]
+pub struct Mapped {
+    pub(crate) granter: u16,
+    pub(crate) frame: u32,
+    pub(crate) write: bool,
+    /// Where the entry's flags word is.
+    pub(crate) at: Place,
+    /// The flags word, without the marks.
+    pub(crate) word: u32,
+}
+
+impl Model for Mapped {
+    ghost use Rattle.std.specs.Prelude.{◌≡◌, ◌<◌, false};
+    ghost use Rattle.xen_page.specs.Entry.{entry_of, is_marked};
+    ghost use Rattle.xen_page.specs.Mapping.{Mapping};
+    ghost use Rattle.xen_page.specs.declared.place.TheConstants.{WORDS};
+
+    ghost Value = { Mapping };
+
+    ghost view = { λ m. record { granter = m.granter; frame = m.frame; write = m.write; at = m.at; word = m.word } };
+
+    ghost invariant = { λ m. (m.at.word < WORDS) × (is_marked (entry_of m.word m.frame) ≡ false) };
+}
+
+impl Mapped {
+    pub fn frame(&self) -> u32
+        ensures { result ≡ self.now.frame }
+    {
+        self.frame
+    }
+
+    /// The domain that lends the frame.
+    pub fn granter(&self) -> u16
+        ensures { result ≡ self.now.granter }
+    {
+        self.granter
+    }
+
+    /// Whether the frame is mapped for writing.
+    pub fn is_writable(&self) -> bool
+        ensures { result ≡ self.now.write }
+    {
+        self.write
+    }
+
+    /// Where the entry's flags word is.
+    pub fn entry(&self) -> Place
+        ensures entry { result ≡ self.now.at }
+        ensures in_page { self.now.at.word < WORDS }
+    {
+        self.at
+    }
+}

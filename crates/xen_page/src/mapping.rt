@@ -1,0 +1,98 @@
+// Mapping a granted frame, and ending the mapping.
+
+ghost use Rattle.std.specs.Prelude.{◌≡◌, ◌<◌, List, All, IfOk, Some, false, slice_get};
+ghost use Rattle.xen_page.specs.Access.{Performs};
+ghost use Rattle.xen_page.specs.Entry.{is_marked};
+ghost use Rattle.xen_page.specs.Mapping.{IsMap, IsUnmap, mappable, marks};
+ghost use Rattle.xen_page.specs.declared.access.Access.{Access};
+
+use crate::bus::Bus;
+use crate::entry::{Entry, GTF_READING, GTF_WRITING, check};
+use crate::fault::GrantFault;
+use crate::mapped::Mapped;
+use crate::owners::Owners;
+use crate::table::Table;
+
+/// Maps the frame that `granter` lends `user` under a reference of its table, for writing where `write` is
+/// set. The entry's two words are read once each; then its flags word is exchanged for one with the marks.
+pub fn map<B: Bus>(
+    bus: &mut B,
+    table: &Table,
+    owners: &Owners,
+    granter: u16,
+    user: u16,
+    gref: u32,
+    write: bool,
+) -> Result<Mapped, GrantFault>
+    requires { All (λ frame. frame < B.size bus.old) table.now }
+    ensures size { B.size bus.new ≡ B.size bus.old }
+    ensures frame { IfOk result (λ m. slice_get owners.now m.frame ≡ Some granter) }
+    ensures granter { IfOk result (λ m. m.granter ≡ granter) }
+    ensures write { IfOk result (λ m. m.write ≡ write) }
+    ensures entry { IfOk result (λ m. m.at.frame < B.size bus.new) }
+
+    // The accesses, and the answer that they fix.
+    ensures mapped { (t : List Access) × IsMap table.now owners.now granter user gref write t result
+        × Performs B.log B.access_gives bus.old t bus.new }
+{
+    let Some(at) = table.place(gref) else {
+        return Err(GrantFault::BadGntref);
+    };
+    let word = bus.read(at);
+    let frame = bus.read(at.next());
+    let entry = Entry::of_words(word, frame);
+    let frame = check_unmarked(owners, granter, user, entry, write)?;
+    let found = bus.cas(at, word, word | marks_for(write));
+    if found != word {
+        return Err(GrantFault::Eagain);
+    }
+    Ok(Mapped {
+        granter,
+        frame,
+        write,
+        at,
+        word,
+    })
+}
+
+/// Ends a mapping: one exchange takes the marks away. Where the flags word was changed meanwhile, it stays,
+/// and the mapping comes back.
+pub fn unmap<B: Bus>(bus: &mut B, mapped: Mapped) -> Result<(), Mapped>
+    requires { mapped.at.frame < B.size bus.old }
+    ensures size { B.size bus.new ≡ B.size bus.old }
+    ensures unmapped { (t : List Access) × IsUnmap mapped t result
+        × Performs B.log B.access_gives bus.old t bus.new }
+{
+    let marked = mapped.word | marks_for(mapped.write);
+    let found = bus.cas(mapped.at, marked, mapped.word);
+    if found == marked { Ok(()) } else { Err(mapped) }
+}
+
+fn check_unmarked(
+    owners: &Owners,
+    granter: u16,
+    user: u16,
+    entry: Entry,
+    write: bool,
+) -> Result<u32, GrantFault>
+    ensures mappable { result ≡ mappable owners.now granter user entry write }
+    ensures owned { IfOk result (λ frame. slice_get owners.now frame ≡ Some granter) }
+    ensures unmarked { IfOk result (λ frame. (frame ≡ entry.frame) × (is_marked entry ≡ false)) }
+{
+    let frame = check(owners, granter, user, entry, write)?;
+    if entry.is_marked() {
+        Err(GrantFault::Eagain)
+    } else {
+        Ok(frame)
+    }
+}
+
+fn marks_for(write: bool) -> u32
+    ensures { result ≡ marks write }
+{
+    if write {
+        u32::from(GTF_READING | GTF_WRITING)
+    } else {
+        u32::from(GTF_READING)
+    }
+}

@@ -1,0 +1,58 @@
+// A bus over frames.
+
+ghost use Rattle.std.specs.Prelude.{◌≡◌, None};
+
+use crate::bus::Bus;
+use crate::frames::Frames;
+use crate::place::Place;
+use std::marker::Model;
+use std::sync::atomic::Ordering;
+
+/// Reaches frames that threads share. It doesn't tell its accesses. Contracts see how many frames there are.
+#[derive(Drop)]
+pub struct PageBus<'f> {
+    frames: &'f Frames,
+}
+
+impl<'f> Model for PageBus<'f> {
+    ghost use Rattle.std.specs.Prelude.{ℕ};
+
+    ghost Value = { ℕ };
+
+    ghost view = { λ b. b.frames.now };
+}
+
+impl<'f> PageBus<'f> {
+    pub fn of(frames: &'f Frames) -> PageBus<'f>
+        ensures { result ≡ frames.now }
+    {
+        PageBus { frames }
+    }
+}
+
+impl Bus for PageBus<'_> {
+    ghost size = { λ b. b };
+
+    ghost log = { λ _. None };
+
+    ghost access_gives = { λ old _ new. new ≡ old };
+
+    fn frames(&self) -> u32 {
+        self.frames.count()
+    }
+
+    fn read(&mut self, at: Place) -> u32 {
+        self.frames.word(at).load(Ordering::SeqCst)
+    }
+
+    fn write(&mut self, at: Place, value: u32) {
+        self.frames.word(at).store(value, Ordering::SeqCst);
+    }
+
+    fn cas(&mut self, at: Place, old: u32, new: u32) -> u32 {
+        let word = self.frames.word(at);
+        match word.compare_exchange(old, new, Ordering::SeqCst, Ordering::SeqCst) {
+            Ok(found) | Err(found) => found,
+        }
+    }
+}

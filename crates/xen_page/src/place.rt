@@ -1,0 +1,39 @@
+// A word of a frame.
+
+ghost use Rattle.std.specs.Prelude.{◌≡◌, ◌<◌, ◌+◌};
+ghost use Rattle.std.specs.Option.{SomeIff};
+
+/// How many words of four octets a page has.
+pub const WORDS: u32 = 1024;
+
+/// A word of a frame.
+#[derive(Clone, Copy, Debug, PartialEq, Eq, Hash)]
+pub struct Place {
+    pub frame: u32,
+    /// From 0 to 1,023 within a page.
+    pub word: u32,
+}
+
+impl Place {
+    /// The place of this word, if a page has so many.
+    pub fn of(frame: u32, word: u32) -> Option<Place>
+        ensures { SomeIff result (word < WORDS) (record { frame = frame; word = word }) }
+    {
+        if word < WORDS {
+            Some(Place { frame, word })
+        } else {
+            None
+        }
+    }
+
+    /// The word after this one.
+    pub fn next(self) -> Place
+        requires { self.word + 1 < WORDS }
+        ensures { result ≡ record { frame = self.frame; word = self.word + 1 } }
+    {
+        Place {
+            frame: self.frame,
+            word: self.word + 1,
+        }
+    }
+}

@@ -1,0 +1,73 @@
+// A domain's grant table.
+
+ghost use Rattle.std.specs.Prelude.{◌≡◌, ◌<◌, ◌↔◌, All, IsTrue, slice_get};
+ghost use Rattle.std.specs.Option.{SomeIff};
+ghost use Rattle.xen_page.specs.Table.{IsTable, entry_place};
+
+use crate::entry::is_owner;
+use crate::owners::Owners;
+use crate::place::Place;
+use std::marker::Model;
+
+/// How many frames a table has at most.
+pub const MAX_TABLE_FRAMES: usize = 16;
+/// How many entries of two words a frame of a table has.
+pub const ENTRIES: u32 = 512;
+
+/// The frames of a domain's grant table, 1 to 16 of them. Contracts see the list of the frames.
+#[derive(Debug, Drop)]
+pub struct Table {
+    frames: [u32; MAX_TABLE_FRAMES],
+    count: usize,
+}
+
+impl Model for Table {
+    ghost use Rattle.std.specs.Prelude.{ℕ, List, ◌≤◌, take};
+
+    ghost Value = { List ℕ };
+
+    ghost view = { λ t. take t.count t.frames };
+
+    ghost invariant = { λ t. (1 ≤ t.count) × (t.count ≤ 16) };
+}
+
+impl Table {
+    /// The table of these frames: none unless there are 1 to 16, all there and the granter's.
+    pub fn make(owners: &Owners, granter: u16, frames: &[u32]) -> Option<Table>
+        ensures { SomeIff result (IsTable owners.now granter frames.now) frames.now }
+    {
+        let count = frames.len();
+        if count == 0
+            || count > MAX_TABLE_FRAMES
+            || !frames.iter().all(|f| is_owner(owners, granter, *f))
+        {
+            return None;
+        }
+        let mut kept = [0; MAX_TABLE_FRAMES];
+        kept[..count].copy_from_slice(frames);
+        Some(Table {
+            frames: kept,
+            count,
+        })
+    }
+
+    /// Whether each frame of the table is one of the first `frames`, as a mapping over a bus of so many asks.
+    pub fn is_within(&self, frames: u32) -> bool
+        ensures { IsTrue result ↔ All (λ frame. frame < frames) self.now }
+    {
+        self.frames[..self.count]
+            .iter()
+            .all(|frame| *frame < frames)
+    }
+
+    /// The place of the flags word of a reference's entry, if the reference is in the table.
+    pub fn place(&self, gref: u32) -> Option<Place>
+        ensures { result ≡ entry_place self.now gref }
+    {
+        let frame = *self.frames[..self.count].get((gref / ENTRIES) as usize)?;
+        Some(Place {
+            frame,
+            word: 2 * (gref % ENTRIES),
+        })
+    }
+}

@@ -1,0 +1,5 @@
+mod buses;
+mod entries;
+mod fixtures;
+mod mappings;
+mod tables;

@@ -1,0 +1,15 @@
+-- Ring indices (ring.h: RING_IDX is an unsigned int of 32 bits, so all its arithmetic is modulo 2^32).
+use Rattle.std.specs.Prelude.{ℕ, ◌+◌, ◌-◌, ◌%◌, ◌^◌, Bool, nat_lt}
+
+-- how far an index has to run to come to another
+abbrev pub distance : (from to : ℕ) → ℕ
+distance from to = (to + (2 ^ 32 - from)) % 2 ^ 32
+
+-- A notice is due where the event index is less far behind the new producer than the old producer is
+-- (ring.h: RING_PUSH_REQUESTS_AND_CHECK_NOTIFY and RING_PUSH_RESPONSES_AND_CHECK_NOTIFY).
+abbrev pub is_due : (old new event : ℕ) → Bool
+is_due old new event = nat_lt (distance event new) (distance old new)
+
+-- the entry of a ring of 256 entries (ring.h: RING_GET_REQUEST takes the index modulo RING_SIZE)
+abbrev pub place_of : ℕ → ℕ
+place_of index = index % 256

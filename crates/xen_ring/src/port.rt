@@ -1,0 +1,48 @@
+// One event port.
+
+ghost use Rattle.std.specs.Prelude.{◌≡◌, ◌<◌};
+ghost use Rattle.std.specs.Option.{SomeIff};
+
+use std::marker::Model;
+
+/// How many event ports a domain has.
+pub const PORTS: u32 = 64;
+
+/// The number of an event port, 0 to 63.
+#[derive(Clone, Copy, Debug, PartialEq, Eq, Hash)]
+pub struct Port {
+    number: u32,
+}
+
+impl Model for Port {
+    ghost use Rattle.std.specs.Prelude.{ℕ, ◌<◌};
+    ghost use Rattle.xen_ring.specs.declared.port.TheConstants.{PORTS};
+
+    ghost Value = { ℕ };
+
+    ghost view = { λ p. p.number };
+
+    ghost invariant = { λ p. p.number < PORTS };
+
+    ghost inverse = { λ n. record { number = n } };
+}
+
+impl Port {
+    /// The port of this number.
+    pub fn of(number: u32) -> Option<Port>
+        ensures { SomeIff result (number < PORTS) number }
+    {
+        if number < PORTS {
+            Some(Port { number })
+        } else {
+            None
+        }
+    }
+
+    pub fn number(&self) -> u32
+        ensures number { result ≡ self.now }
+        ensures in_range { self.now < PORTS }
+    {
+        self.number
+    }
+}
