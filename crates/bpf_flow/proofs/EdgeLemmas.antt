@@ -1,9 +1,8 @@
 -- Every step follows an edge of the flow graph.
-use Rattle.std.proofs.Common.{ℕ, ◌+◌, ◌-◌, ◌≡◌, ◌⊎◌, inl, inr, refl, sym, ap, subst, ◌∙◌, ℤ, pos, negsuc, List, Option, None, Some, Bool, true, false, length}
+use Rattle.std.proofs.Common.{ℕ, ◌+◌, ◌≡◌, ◌⊎◌, inl, inr, refl, sym, ap, subst, ◌∙◌, ℤ, pos, negsuc, Option, None, Some, Bool, true, false, length}
 use Rattle.std.specs.Prelude.{if◌then◌else◌, ◌==◌, slice_get}
 use Rattle.bpf_insn.specs.Register.{number}
 use Rattle.bpf_insn.specs.Size.{size_bytes}
-use Rattle.bpf_insn.specs.Signed.{sign_extended}
 use Rattle.bpf_insn.specs.Conditions.{is_met}
 use Rattle.bpf_insn.specs.declared.insn.Insn.{Insn}
 use Rattle.bpf_insn.specs.declared.insn.Insn.TheVariants.{Alu, Neg, End, MovSx, Const, MapRef, Ldx, St, Stx, AddCounter, Ja, Jump, Call, Exit, Second}
@@ -13,7 +12,7 @@ use Rattle.bpf_note.specs.Regions.{Place, InPacket, InStack, InContext, InCounte
 use Rattle.bpf_note.specs.declared.op.Op.{Op}
 use Rattle.bpf_note.specs.declared.op.Op.TheVariants.{Load, Add}
 use Rattle.bpf_flow.specs.Graph.{Leads}
-use Rattle.bpf_flow.specs.Step.{Outcome, Next, Loads, Adds, Exited, Fault, need, at_slot, with_number, is_frame, written, operand, first_operand, target, jumped, reached, loaded, load_from, store_to, add_to, map_at, key_in, value_or_null, called, looked_up, helped, exec, step, LeadsTo, taken}
+use Rattle.bpf_flow.specs.Step.{Next, Loads, Adds, Exited, Fault, need, at_slot, with_number, is_frame, written, operand, first_operand, target, jumped, reached, loaded, load_from, store_to, add_to, map_at, key_in, value_or_null, called, looked_up, helped, exec, LeadsTo, taken}
 use Rattle.bpf_flow.proofs.StepLemmas.{no_fault, needed, exited}
 
 next_at : (t : State) (q : ℕ) (l : Option Op) (u : State) → t.pc ≡ q → LeadsTo (Next t) l u → u.pc ≡ q
@@ -80,11 +79,11 @@ helped_at (pos n) s l u h = by (n == 1) h
   where
     by : (b : Bool) → LeadsTo (if b then looked_up s else Fault) l u → u.pc ≡ s.pc + 1
     by true h =
-      needed (s.reg 1) _ l u (λ x h.
-      needed (s.reg 2) _ l u (λ a h.
-      needed (map_at s x) _ l u (λ m h.
-      needed (key_in (region (length s.packet) s.shapes a 4) s) _ l u (λ k h.
-      next_at (called s (value_or_null (slice_get s.shapes m) m k)) (s.pc + 1) l u refl h) h) h) h) h
+        needed (s.reg 1) _ l u (λ x h.
+        needed (s.reg 2) _ l u (λ a h.
+        needed (map_at s x) _ l u (λ m h.
+        needed (key_in (region (length s.packet) s.shapes a 4) s) _ l u (λ k h.
+        next_at (called s (value_or_null (slice_get s.shapes m) m k)) (s.pc + 1) l u refl h) h) h) h) h
     by false h = absurd (no_fault l u h)
 helped_at (negsuc n) s l u h = absurd (no_fault l u h)
 

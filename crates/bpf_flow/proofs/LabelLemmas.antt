@@ -1,9 +1,8 @@
 -- Which labels lead on from an instruction.
-use Rattle.std.proofs.Common.{ℕ, ◌+◌, ◌-◌, ◌*◌, ◌%◌, ◌^◌, ◌≡◌, ◌<◌, ◌≤◌, refl, sym, ap, subst, ◌∙◌, arith, ℤ, pos, negsuc, List, Option, None, Some, Bool, true, false, length}
-use Rattle.std.specs.Prelude.{if◌then◌else◌, ◌==◌, ◌&&◌, nat_le, nat_lt, slice_get}
+use Rattle.std.proofs.Common.{ℕ, ◌+◌, ◌-◌, ◌%◌, ◌≡◌, refl, sym, subst, ◌∙◌, arith, ℤ, pos, negsuc, List, Option, None, Some, Bool, true, false, length}
+use Rattle.std.specs.Prelude.{if◌then◌else◌, ◌==◌, ◌&&◌, slice_get}
 use Rattle.std.proofs.lemmas.Bool.Decides.{nat_tests}
 use Rattle.bpf_insn.specs.Register.{number}
-use Rattle.bpf_insn.specs.Signed.{sign_extended}
 use Rattle.bpf_insn.specs.Size.{size_bytes}
 use Rattle.bpf_insn.specs.Conditions.{is_met}
 use Rattle.bpf_insn.specs.declared.insn.Insn.{Insn}
@@ -14,7 +13,7 @@ use Rattle.bpf_note.specs.State.{State, packet_start, stack_start, stack_end, co
 use Rattle.bpf_note.specs.Regions.{Place, InPacket, InStack, InContext, InCounter, Nowhere, region, lies_in, counter_at}
 use Rattle.bpf_note.specs.declared.op.Op.{Op}
 use Rattle.bpf_note.specs.declared.op.Op.TheVariants.{Load, Add}
-use Rattle.bpf_flow.specs.Step.{Outcome, Next, Loads, Adds, Exited, Fault, need, at_slot, with_number, is_frame, written, operand, first_operand, target, jumped, reached, loaded, load_from, store_to, add_to, map_at, key_in, value_or_null, called, looked_up, helped, exec, step, LeadsTo, taken, Alike, Fits}
+use Rattle.bpf_flow.specs.Step.{Outcome, Next, Loads, Adds, Exited, Fault, at_slot, with_number, is_frame, written, operand, first_operand, target, jumped, reached, loaded, load_from, store_to, add_to, map_at, key_in, value_or_null, called, looked_up, helped, exec, LeadsTo, taken, Alike, Fits}
 use Rattle.bpf_flow.proofs.StepLemmas.{no_fault, needed, exited}
 
 pub labels_alike : (o : Outcome) (l l' : Option Op) (u u' : State) → LeadsTo o l u → LeadsTo o l' u' → Alike l l'
@@ -76,11 +75,11 @@ helped_plain (pos n) s l u h = by (n == 1) h
   where
     by : (b : Bool) → LeadsTo (if b then looked_up s else Fault) l u → l ≡ None
     by true h =
-      needed (s.reg 1) _ l u (λ x h.
-      needed (s.reg 2) _ l u (λ a h.
-      needed (map_at s x) _ l u (λ m h.
-      needed (key_in (region (length s.packet) s.shapes a 4) s) _ l u (λ k h.
-      plain (called s (value_or_null (slice_get s.shapes m) m k)) l u h) h) h) h) h
+        needed (s.reg 1) _ l u (λ x h.
+        needed (s.reg 2) _ l u (λ a h.
+        needed (map_at s x) _ l u (λ m h.
+        needed (key_in (region (length s.packet) s.shapes a 4) s) _ l u (λ k h.
+        plain (called s (value_or_null (slice_get s.shapes m) m k)) l u h) h) h) h) h
     by false h = absurd (no_fault l u h)
 helped_plain (negsuc n) s l u h = absurd (no_fault l u h)
 

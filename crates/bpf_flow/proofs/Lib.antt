@@ -1,3 +1,4 @@
 mod StepLemmas
 mod LabelLemmas
 pub mod EdgeLemmas
+mod WorkedLemmas

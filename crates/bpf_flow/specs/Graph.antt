@@ -1,5 +1,5 @@
 -- The flow graph of a program, and which registers its instructions read and write (RFC 9669, sections 4 and 5).
-use Rattle.std.specs.Prelude.{ℕ, ◌+◌, ◌≡◌, ◌⊎◌, List, Option, None, Some, Bool, true, false, ◌&&◌, ◌||◌, ◌==◌, nat_le}
+use Rattle.std.specs.Prelude.{ℕ, ◌+◌, ◌≡◌, ◌⊎◌, Some, Bool, true, false, ◌&&◌, ◌||◌, ◌==◌, nat_le}
 use Rattle.bpf_insn.specs.Register.{number}
 use Rattle.bpf_insn.specs.declared.insn.Insn.{Insn}
 use Rattle.bpf_insn.specs.declared.insn.Insn.TheVariants.{Alu, Neg, End, MovSx, Const, MapRef, Ldx, St, Stx, AddCounter, Ja, Jump, Call, Exit, Second}

@@ -9,24 +9,20 @@ ghost use Rattle.bpf_flow.specs.Step.{Outcome, LeadsTo, Alike, Fits, exec, step}
 /// No step changes `r10`, the frame pointer.
 pub fn no_step_writes_the_frame_pointer()
     ensures { (code : List Insn) (s : State) (label : Option Op) (t : State) → LeadsTo (step code s) label t → t.reg 10 ≡ s.reg 10 }
-{
-}
+{}
 
 /// A label that fits one instruction doesn't fit another kind; and where two labels fit one step, they name one operation.
 pub fn labels_fit_their_instruction()
     ensures kind { (i : Insn) (s : State) (label : Option Op) (t : State) → LeadsTo (exec i s) label t → Fits i label }
     ensures alike { (o : Outcome) (a b : Option Op) (t u : State) → LeadsTo o a t → LeadsTo o b u → Alike a b }
-{
-}
+{}
 
 /// A step and its label fix the state after it.
 pub fn one_label_one_state()
     ensures { (o : Outcome) (label : Option Op) (t u : State) → LeadsTo o label t → LeadsTo o label u → t ≡ u }
-{
-}
+{}
 
 /// Every step follows an edge of the flow graph.
 pub fn steps_follow_edges()
     ensures { (i : Insn) (s : State) (label : Option Op) (t : State) → LeadsTo (exec i s) label t → Leads i s.pc t.pc }
-{
-}
+{}

@@ -4,5 +4,8 @@
 mod laws;
 mod registers;
 
-pub use laws::{labels_fit_their_instruction, no_step_writes_the_frame_pointer, one_label_one_state, steps_follow_edges};
+pub use laws::{
+    labels_fit_their_instruction, no_step_writes_the_frame_pointer, one_label_one_state,
+    steps_follow_edges,
+};
 pub use registers::{jump_target, next_slot, reads, writes};

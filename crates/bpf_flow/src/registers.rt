@@ -21,7 +21,11 @@ pub fn reads(insn: Insn, register: Register) -> bool
 {
     let k = register.number();
     match insn {
-        Insn::Alu { op: AluOp::Mov, src, .. } => is_operand(src, register),
+        Insn::Alu {
+            op: AluOp::Mov,
+            src,
+            ..
+        } => is_operand(src, register),
         Insn::Alu { dst, src, .. } | Insn::Jump { dst, src, .. } => {
             k == dst.number() || is_operand(src, register)
         }

@@ -1,3 +1,5 @@
+use std::fmt;
+
 /// An arithmetic operation of two operands.
 #[derive(Clone, Copy, Debug, PartialEq, Eq, Drop)]
 pub enum AluOp {
@@ -75,5 +77,31 @@ impl AluOp {
             AluOp::SignedDiv | AluOp::SignedMod => 1,
             _ => 0,
         }
+    }
+}
+
+impl fmt::Display for AluOp {
+    ghost use Rattle.std.specs.Prelude.{Some};
+    ghost use Rattle.bpf_insn.specs.Text.{operation_text};
+
+    ghost output = { λ op. Some (operation_text op) };
+
+    fn fmt<W: fmt::Write>(&self, f: &mut fmt::Formatter<W>) -> fmt::Result {
+        f.write_str(match self {
+            AluOp::Add => "+=",
+            AluOp::Sub => "-=",
+            AluOp::Mul => "*=",
+            AluOp::Div => "/=",
+            AluOp::SignedDiv => "s/=",
+            AluOp::Or => "|=",
+            AluOp::And => "&=",
+            AluOp::Lsh => "<<=",
+            AluOp::Rsh => ">>=",
+            AluOp::Mod => "%=",
+            AluOp::SignedMod => "s%=",
+            AluOp::Xor => "^=",
+            AluOp::Mov => "=",
+            AluOp::Arsh => "s>>=",
+        })
     }
 }

@@ -1,3 +1,5 @@
+use std::fmt;
+
 /// When a conditional jump is taken. `Set` is a non-zero AND; the `Signed` forms read their operands as signed.
 #[derive(Clone, Copy, Debug, PartialEq, Eq, Drop)]
 pub enum Condition {
@@ -58,5 +60,28 @@ impl Condition {
             Condition::SignedLess => 0xc0,
             Condition::SignedLessOrEqual => 0xd0,
         }
+    }
+}
+
+impl fmt::Display for Condition {
+    ghost use Rattle.std.specs.Prelude.{Some};
+    ghost use Rattle.bpf_insn.specs.Text.{condition_text};
+
+    ghost output = { λ cond. Some (condition_text cond) };
+
+    fn fmt<W: fmt::Write>(&self, f: &mut fmt::Formatter<W>) -> fmt::Result {
+        f.write_str(match self {
+            Condition::Equal => "==",
+            Condition::Greater => ">",
+            Condition::GreaterOrEqual => ">=",
+            Condition::Set => "&",
+            Condition::NotEqual => "!=",
+            Condition::SignedGreater => "s>",
+            Condition::SignedGreaterOrEqual => "s>=",
+            Condition::Less => "<",
+            Condition::LessOrEqual => "<=",
+            Condition::SignedLess => "s<",
+            Condition::SignedLessOrEqual => "s<=",
+        })
     }
 }

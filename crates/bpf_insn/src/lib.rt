@@ -1,6 +1,7 @@
 //! BPF instructions (RFC 9669): their bytes, what they compute, and their text.
 #![tactic(auto)]
 
+mod access_slot;
 mod alu_op;
 mod arithmetic;
 mod byte_order;

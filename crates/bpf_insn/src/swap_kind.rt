@@ -1,3 +1,5 @@
+use std::fmt;
+
 /// What a byte swap instruction does, on a little-endian machine.
 #[derive(Clone, Copy, Debug, PartialEq, Eq, Drop)]
 pub enum SwapKind {
@@ -22,5 +24,20 @@ impl SwapKind {
             SwapKind::ToBig => 0xdc,
             SwapKind::Swap => 0xd7,
         }
+    }
+}
+
+impl fmt::Display for SwapKind {
+    ghost use Rattle.std.specs.Prelude.{Some};
+    ghost use Rattle.bpf_insn.specs.Text.{swap_text};
+
+    ghost output = { λ kind. Some (swap_text kind) };
+
+    fn fmt<W: fmt::Write>(&self, f: &mut fmt::Formatter<W>) -> fmt::Result {
+        f.write_str(match self {
+            SwapKind::ToLittle => "le",
+            SwapKind::ToBig => "be",
+            SwapKind::Swap => "bswap",
+        })
     }
 }

@@ -2,13 +2,11 @@
 
 ghost use Rattle.std.specs.Prelude.{◌≡◌};
 
-use crate::alu_op::AluOp;
 use crate::condition::Condition;
 use crate::insn::Insn;
 use crate::operand::Operand;
 use crate::register::Register;
 use crate::size::Size;
-use crate::swap_kind::SwapKind;
 use std::fmt;
 
 /// A register by its name: `r0`, or `w0` for its low half.
@@ -40,70 +38,6 @@ impl fmt::Display for Name {
         } else {
             write!(f, "w{number}")
         }
-    }
-}
-
-impl fmt::Display for AluOp {
-    ghost use Rattle.std.specs.Prelude.{Some};
-    ghost use Rattle.bpf_insn.specs.Text.{operation_text};
-
-    ghost output = { λ op. Some (operation_text op) };
-
-    fn fmt<W: fmt::Write>(&self, f: &mut fmt::Formatter<W>) -> fmt::Result {
-        f.write_str(match self {
-            AluOp::Add => "+=",
-            AluOp::Sub => "-=",
-            AluOp::Mul => "*=",
-            AluOp::Div => "/=",
-            AluOp::SignedDiv => "s/=",
-            AluOp::Or => "|=",
-            AluOp::And => "&=",
-            AluOp::Lsh => "<<=",
-            AluOp::Rsh => ">>=",
-            AluOp::Mod => "%=",
-            AluOp::SignedMod => "s%=",
-            AluOp::Xor => "^=",
-            AluOp::Mov => "=",
-            AluOp::Arsh => "s>>=",
-        })
-    }
-}
-
-impl fmt::Display for Condition {
-    ghost use Rattle.std.specs.Prelude.{Some};
-    ghost use Rattle.bpf_insn.specs.Text.{condition_text};
-
-    ghost output = { λ cond. Some (condition_text cond) };
-
-    fn fmt<W: fmt::Write>(&self, f: &mut fmt::Formatter<W>) -> fmt::Result {
-        f.write_str(match self {
-            Condition::Equal => "==",
-            Condition::Greater => ">",
-            Condition::GreaterOrEqual => ">=",
-            Condition::Set => "&",
-            Condition::NotEqual => "!=",
-            Condition::SignedGreater => "s>",
-            Condition::SignedGreaterOrEqual => "s>=",
-            Condition::Less => "<",
-            Condition::LessOrEqual => "<=",
-            Condition::SignedLess => "s<",
-            Condition::SignedLessOrEqual => "s<=",
-        })
-    }
-}
-
-impl fmt::Display for SwapKind {
-    ghost use Rattle.std.specs.Prelude.{Some};
-    ghost use Rattle.bpf_insn.specs.Text.{swap_text};
-
-    ghost output = { λ kind. Some (swap_text kind) };
-
-    fn fmt<W: fmt::Write>(&self, f: &mut fmt::Formatter<W>) -> fmt::Result {
-        f.write_str(match self {
-            SwapKind::ToLittle => "le",
-            SwapKind::ToBig => "be",
-            SwapKind::Swap => "bswap",
-        })
     }
 }
 

@@ -2,3 +2,4 @@ pub mod Shape
 pub mod State
 pub mod Bytes
 pub mod Regions
+pub mod History

@@ -6,19 +6,16 @@ ghost use Rattle.bpf_note.specs.Shape.{Shape, IsShape, AreShapes};
 /// No byte past a packet's end is in the packet's region.
 pub fn packets_end()
     ensures { (len : ℕ) (shapes : List Shape) (a z i : ℕ) → region len shapes a z ≡ InPacket i → i + z ≤ len }
-{
-}
+{}
 
 /// Each counter of each map is found at its address.
 pub fn counters_are_found()
     ensures { (shapes : List Shape) (m k j : ℕ) (s : Shape) → slice_get shapes m ≡ Some s → IsShape s →
         k < s.entries → j < s.counters → counter_at shapes (counter_address s.counters m k j) ≡ InCounter m k j }
-{
-}
+{}
 
 /// A counter that is found at an address is one of the maps', and lies there.
 pub fn found_counters_lie_there()
     ensures { (shapes : List Shape) (a m k j : ℕ) → AreShapes shapes → counter_at shapes a ≡ InCounter m k j →
         (s : Shape) × (slice_get shapes m ≡ Some s) × LiesAt s m k j a }
-{
-}
+{}

@@ -1,24 +1,23 @@
 -- A program that passes both passes is consistent and ordered.
-use Rattle.std.proofs.Common.{◌≡◌, ◌≢◌, ◌<◌, ◌≤◌, ◌+◌, ◌^◌, ◌⊎◌, inl, inr, ℕ, ℤ, List, [], ◌∷◌, Option, Some, None, length, refl, sym, ap, subst, ◌∙◌, arith, Bool, true, false, ◌||◌, zero, suc, map}
-use Rattle.std.specs.Prelude.{slice_get, slice_index, ◌==◌, IsSome, unwrap_or, if◌then◌else◌}
-use Rattle.std.proofs.lemmas.Bool.Decides.{nat_tests}
+use Rattle.std.proofs.Common.{◌≡◌, ◌<◌, ◌≤◌, ℕ, List, [], ◌∷◌, Option, Some, None, length, refl, sym, ap, subst, ◌∙◌, arith, Bool, true, false, ◌||◌, zero, suc, map}
+use Rattle.std.specs.Prelude.{slice_get, slice_index, ◌==◌, IsSome, if◌then◌else◌}
 use Rattle.bpf_insn.specs.Code.{IsCode}
 use Rattle.bpf_insn.specs.declared.insn.Insn.{Insn}
 use Rattle.bpf_insn.specs.declared.insn.Insn.TheVariants.{Alu, Neg, End, MovSx, Const, MapRef, Ldx, St, Stx, AddCounter, Ja, Jump, Call, Exit, Second}
 use Rattle.bpf_note.specs.Shape.{Shape, AreShapes}
 use Rattle.bpf_note.specs.State.{State, IsStart, context_start, stack_end}
-use Rattle.bpf_flow.specs.Step.{Outcome, Next, Loads, Adds, Exited, Fault, exec, step, need, target}
-use Rattle.bpf_flow.specs.Graph.{Leads, next_slot}
-use Rattle.bpf_verify.specs.Consistent.{Note, is_set, Accepted, Describes, OneDescribes, IsDescribed, GoesOn, IsConsistent, IsOrdered, worth, instructions}
-use Rattle.bpf_verify.specs.Structure.{begins, falls_through, misses_target, jump_of}
+use Rattle.bpf_flow.specs.Step.{Outcome, Next, Loads, Adds, Exited, Fault, exec, step, need}
+use Rattle.bpf_flow.specs.Graph.{Leads}
+use Rattle.bpf_verify.specs.Consistent.{Note, is_set, Accepted, OneDescribes, IsDescribed, GoesOn, IsConsistent, worth, instructions}
+use Rattle.bpf_verify.specs.Structure.{begins, falls_through}
 use Rattle.bpf_verify.specs.FirstRefusal.{IsStructured, AreTreated}
 use Rattle.bpf_verify.specs.Unwritten.{Reached, start, along}
-use Rattle.bpf_verify.specs.Passing.{note_at, IsPassed, IsRising}
+use Rattle.bpf_verify.specs.Passing.{note_at, IsPassed}
 use Rattle.bpf_verify.specs.Views.{slot_notes, ranks_of}
 use Rattle.bpf_verify.specs.declared.set.RegisterSet.{RegisterSet}
 use Rattle.bpf_verify.proofs.CodeLemmas.{first_begins, next_begins, spelled_at}
-use Rattle.bpf_verify.proofs.GraphLemmas.{IsFine, fine, Way, Falls, Jumps, way, jumps_to, next_inside, some_inside, rising, target_found}
-use Rattle.bpf_verify.proofs.ConsistentLemmas.{Stands, Noted, Continues, continues, stands, list_of, described_note, note_described}
+use Rattle.bpf_verify.proofs.GraphLemmas.{fine, Falls, Jumps, way, jumps_to, next_inside, some_inside, rising, target_found}
+use Rattle.bpf_verify.proofs.ConsistentLemmas.{Stands, Noted, Continues, continues, stands, described_note, note_described}
 
 begun : (o : Option Insn) → begins o ≡ true → (i : Insn) × (o ≡ Some i)
 begun None e = cc
@@ -63,8 +62,8 @@ pub edge_begins : (code : List Insn) (maps pc q : ℕ) (i : Insn) → IsCode cod
 edge_begins code maps pc q i laid h e l =
     let f = fine code maps pc i h e in
     elim (way i pc q l) [
-      Falls t s ↦ subst (λ (q : ℕ). begins (slice_get code q) ≡ true) (sym s) (next_begins code pc i laid e (falling_begins i t) (next_inside code pc i t f.ends))
-    | Jumps off j t ↦ (jumps_to code maps pc q i off j t f).0
+      | Falls t s ↦ subst (λ (q : ℕ). begins (slice_get code q) ≡ true) (sym s) (next_begins code pc i laid e (falling_begins i t) (next_inside code pc i t f.ends))
+      | Jumps off j t ↦ (jumps_to code maps pc q i off j t f).0
     ]
 
 pub reached_begins : {q : ℕ} (code : List Insn) (maps : ℕ) → IsCode code → IsStructured code maps → Reached code q → begins (slice_get code q) ≡ true
@@ -90,7 +89,6 @@ known false false e = cc
 module _ (code : List Insn) (shapes : List Shape) (xs : List (Option RegisterSet))
     (laid : IsCode code) (few : length shapes ≤ 4) (maps : AreShapes shapes) (structured : IsStructured code (length shapes)) (treated : AreTreated code)
     (passed : IsPassed code (length code) (note_at xs)) where
-
   abbrev program : Accepted
   program = record { code = code; shapes = shapes; notes = map slot_notes xs; ranks = ranks_of code }
 
@@ -129,13 +127,13 @@ module _ (code : List Insn) (shapes : List Shape) (xs : List (Option RegisterSet
     few_maps = few;
     maps = maps;
     starts = λ s h m.
-      described s (passed.entry, ap (note_at xs) h.pc ∙ passed.first, record { state = h.state; maps = m; set = λ k e. started k s h e });
+        described s (passed.entry, ap (note_at xs) h.pc ∙ passed.first, record { state = h.state; maps = m; set = λ k e. started k s h e });
     steps = step_goes_on;
     ordered = record {
       below = λ pc i e w. rank_below code pc i e w;
       falls = λ pc q i e l.
-        let b = edge_begins code (length shapes) pc q i laid structured e l in
-        let j = begun (slice_get code q) b in
-        rank_falls code pc q i j.0 e j.1 (begun_worth j.0 (subst (λ (o : Option Insn). begins o ≡ true) j.1 b)) (rising code (length shapes) structured pc q i e l).above;
+          let b = edge_begins code (length shapes) pc q i laid structured e l in
+          let j = begun (slice_get code q) b in
+          rank_falls code pc q i j.0 e j.1 (begun_worth j.0 (subst (λ (o : Option Insn). begins o ≡ true) j.1 b)) (rising code (length shapes) structured pc q i e l).above;
     };
   }

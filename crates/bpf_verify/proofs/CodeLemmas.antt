@@ -1,9 +1,9 @@
 -- What is laid out in a code: an instruction with a spelling, and after it another.
-use Rattle.std.proofs.Common.{◌≡◌, ◌≢◌, ◌<◌, ◌≤◌, ◌+◌, ◌⊎◌, inl, inr, ℕ, List, Option, Some, None, length, refl, sym, ap, subst, ◌∙◌, arith, zero, suc, [], ◌∷◌, ◌++◌, Bool, true, false}
+use Rattle.std.proofs.Common.{◌≡◌, ◌<◌, ◌+◌, ℕ, List, Some, length, refl, sym, ap, subst, ◌∙◌, arith, zero, suc, [], ◌∷◌, ◌++◌, true, false}
 use Rattle.std.specs.Prelude.{slice_get, flat_map}
 use Rattle.std.specs.List.{AllByRecursion}
 use Rattle.bpf_insn.specs.Code.{IsCode, takes}
-use Rattle.bpf_insn.specs.Spelling.{HasSpelling, slots}
+use Rattle.bpf_insn.specs.Spelling.{HasSpelling}
 use Rattle.bpf_insn.specs.declared.insn.Insn.{Insn}
 use Rattle.bpf_insn.specs.declared.insn.Insn.TheVariants.{Alu, Neg, End, MovSx, Const, MapRef, Ldx, St, Stx, AddCounter, Ja, Jump, Call, Exit, Second}
 use Rattle.bpf_flow.specs.Graph.{next_slot}
@@ -35,15 +35,13 @@ kind_of Second h = absurd (h.some refl)
 first_in : (insns : List Insn) → AllByRecursion HasSpelling insns → 0 < length (flat_map takes insns) → begins (slice_get (flat_map takes insns) 0) ≡ true
 first_in [] h lt = absurd (omega arith)
 first_in (i ∷ is) h lt = elim (kind_of i h.0) [
-    Narrow t n b ↦ subst (λ (xs : List Insn). begins (slice_get (xs ++ flat_map takes is) 0) ≡ true) (sym t) b
+  | Narrow t n b ↦ subst (λ (xs : List Insn). begins (slice_get (xs ++ flat_map takes is) 0) ≡ true) (sym t) b
   | Wide t n b ↦ subst (λ (xs : List Insn). begins (slice_get (xs ++ flat_map takes is) 0) ≡ true) (sym t) b
-  ]
-
+]
 
 module _ (rest : List Insn) (first : 0 < length rest → begins (slice_get rest 0) ≡ true)
     (more : (pc q : ℕ) (j : Insn) → slice_get rest pc ≡ Some j → begins (Some j) ≡ true → q ≡ next_slot j pc → q < length rest → begins (slice_get rest q) ≡ true)
     (shift : (pc : ℕ) (j : Insn) → next_slot j (suc pc) ≡ suc (next_slot j pc)) where
-
   narrow : (i : Insn) → ((pc : ℕ) → next_slot i pc ≡ pc + 1) → (pc q : ℕ) (j : Insn) → slice_get (i ∷ rest) pc ≡ Some j → begins (Some j) ≡ true → q ≡ next_slot j pc → q < length (i ∷ rest) → begins (slice_get (i ∷ rest) q) ≡ true
   narrow i n zero q j e b s lt =
       let same : i ≡ j = cc in
@@ -86,8 +84,8 @@ next_in (i ∷ is) h pc q j e b s lt =
     let rest = flat_map takes is in
     let Next : List Insn → Type 0 = λ xs. slice_get (xs ++ rest) pc ≡ Some j → q < length (xs ++ rest) → begins (slice_get (xs ++ rest) q) ≡ true in
     elim (kind_of i h.0) [
-      Narrow t n c ↦ subst Next (sym t) (λ e lt. narrow rest (first_in is h.1) (next_in is h.1) shift i n pc q j e b s lt) e lt
-    | Wide t n c ↦ subst Next (sym t) (λ e lt. wide rest (first_in is h.1) (next_in is h.1) shift i n pc q j e b s lt) e lt
+      | Narrow t n c ↦ subst Next (sym t) (λ e lt. narrow rest (first_in is h.1) (next_in is h.1) shift i n pc q j e b s lt) e lt
+      | Wide t n c ↦ subst Next (sym t) (λ e lt. wide rest (first_in is h.1) (next_in is h.1) shift i n pc q j e b s lt) e lt
     ]
 
 module _ (i : Insn) (rest : List Insn) (here : HasSpelling i) (more : (pc : ℕ) (j : Insn) → slice_get rest pc ≡ Some j → begins (Some j) ≡ true → HasSpelling j) where
@@ -106,8 +104,8 @@ spelled_in (i ∷ is) h pc j e b =
     let rest = flat_map takes is in
     let Here : List Insn → Type 0 = λ xs. slice_get (xs ++ rest) pc ≡ Some j → HasSpelling j in
     elim (kind_of i h.0) [
-      Narrow t n c ↦ subst Here (sym t) (λ e. one i rest h.0 (spelled_in is h.1) pc j e b) e
-    | Wide t n c ↦ subst Here (sym t) (λ e. two i rest h.0 (spelled_in is h.1) pc j e b) e
+      | Narrow t n c ↦ subst Here (sym t) (λ e. one i rest h.0 (spelled_in is h.1) pc j e b) e
+      | Wide t n c ↦ subst Here (sym t) (λ e. two i rest h.0 (spelled_in is h.1) pc j e b) e
     ]
 
 pub first_begins : (code : List Insn) → IsCode code → begins (slice_get code 0) ≡ true

@@ -1,8 +1,7 @@
 -- The second pass's notes account for every step.
-use Rattle.std.proofs.Common.{◌≡◌, ◌≢◌, ◌<◌, ◌≤◌, ◌+◌, ◌%◌, ◌^◌, ◌⊎◌, inl, inr, ℕ, ℤ, List, [], ◌∷◌, Option, Some, None, length, refl, sym, ap, subst, ◌∙◌, arith, Bool, true, false, ◌&&◌, ◌||◌, zero, suc, nat_eq, map}
-use Rattle.std.specs.Prelude.{slice_get, slice_index_or, ◌==◌, IsSome, unwrap_or, if◌then◌else◌}
+use Rattle.std.proofs.Common.{◌≡◌, ◌<◌, ◌≤◌, ◌+◌, ◌^◌, inl, inr, ℕ, ℤ, List, [], ◌∷◌, Option, Some, None, refl, sym, subst, ◌∙◌, arith, Bool, true, false, ◌||◌, zero, suc, map}
+use Rattle.std.specs.Prelude.{slice_get, ◌==◌, IsSome, unwrap_or, if◌then◌else◌}
 use Rattle.std.proofs.lemmas.Bool.Decides.{nat_tests}
-use Rattle.bpf_insn.specs.Code.{IsCode}
 use Rattle.bpf_insn.specs.Register.{number}
 use Rattle.bpf_insn.specs.Arithmetic.{computed}
 use Rattle.bpf_insn.specs.Signed.{sign_extended}
@@ -11,16 +10,15 @@ use Rattle.bpf_insn.specs.declared.register.Register.{Register}
 use Rattle.bpf_insn.specs.declared.register.Register.TheVariants.{R0, R1, R2, R3, R4, R5, R6, R7, R8, R9, R10}
 use Rattle.bpf_insn.specs.declared.operand.Operand.{Operand}
 use Rattle.bpf_insn.specs.declared.operand.Operand.TheVariants as operands
-use Rattle.bpf_insn.specs.declared.alu_op.AluOp.{AluOp}
 use Rattle.bpf_insn.specs.declared.alu_op.AluOp.TheVariants as ops
 use Rattle.bpf_insn.specs.declared.insn.Insn.{Insn}
-use Rattle.bpf_insn.specs.declared.insn.Insn.TheVariants.{Alu, Neg, End, MovSx, Const, MapRef, Ldx, St, Stx, AddCounter, Ja, Jump, Call, Exit, Second}
+use Rattle.bpf_insn.specs.declared.insn.Insn.TheVariants.{Alu, Const, Ja, Exit, Second}
 use Rattle.bpf_note.specs.Shape.{Shape}
-use Rattle.bpf_note.specs.State.{State, IsState, IsStart, start_register, put}
-use Rattle.bpf_flow.specs.Step.{Outcome, Next, Loads, Adds, Exited, Fault, need, exec, step, written, with_number, at_slot, operand, target, is_frame}
-use Rattle.bpf_flow.specs.Graph.{Leads, reads, writes, is_operand}
-use Rattle.bpf_verify.specs.Consistent.{Note, is_set, Accepted, Describes, OneDescribes, IsDescribed, GoesOn}
-use Rattle.bpf_verify.specs.Passing.{note_of, note_at, Covers, IsPassed}
+use Rattle.bpf_note.specs.State.{State, IsState, put}
+use Rattle.bpf_flow.specs.Step.{Outcome, Next, Loads, Adds, Exited, Fault, need, exec, written, with_number, at_slot, operand, target, is_frame}
+use Rattle.bpf_flow.specs.Graph.{Leads, writes, is_operand}
+use Rattle.bpf_verify.specs.Consistent.{Note, is_set, Describes, OneDescribes}
+use Rattle.bpf_verify.specs.Passing.{note_of, note_at, Covers}
 use Rattle.bpf_verify.specs.Views.{slot_notes}
 use Rattle.bpf_verify.specs.Sets.{IsAllowed}
 use Rattle.bpf_verify.specs.Structure.{jump_of}
@@ -93,6 +91,7 @@ moved_state s q k v h lt fits = record {
     by : (j x : ℕ) (t : Bool) → (j == k) ≡ t → (if t then Some v else s.reg j) ≡ Some x → x < 2 ^ 64
     by j x true f e = let same : v ≡ x = cc in subst (λ (x : ℕ). x < 2 ^ 64) same fits
     by j x false f e = h.words j x e
+
     past : (j : ℕ) → 11 ≤ j → (t : Bool) → (j == k) ≡ t → (if t then Some v else s.reg j) ≡ None
     past j g true f = let same : j ≡ k = grind (arith, nat_tests) in absurd (omega arith)
     past j g false f = h.registers j g
@@ -163,6 +162,7 @@ written_continues code shapes notes s i n q v r st leads w fits = by (is_frame (
   where
     frame : is_frame (number r) ≡ false
     frame = flip (number r) 10 ∙ (sym (w 10) ∙ st.allowed.leaves_frame)
+
     by : (b : Bool) → is_frame (number r) ≡ b → Continues shapes notes (if b then Fault else Next (with_number s q (number r) v))
     by true e = cc (sym e ∙ frame)
     by false e =
@@ -183,7 +183,7 @@ pub continues : (code : List Insn) (shapes : List Shape) (notes : ℕ → Option
 continues code shapes notes s (Alu ops.Mov true dst src) n st t h j =
     let x = operand_set s n src (λ k e. st.described.set k (st.allowed.reads_set k e)) in
     need_continues shapes notes (operand s src) _ x.0 x.1
-      (written_continues code shapes notes s (Alu ops.Mov true dst src) n (s.pc + 1) (computed ops.Mov true 0 x.0) dst st refl (λ k. refl) (mov_fits 0 x.0))
+    (written_continues code shapes notes s (Alu ops.Mov true dst src) n (s.pc + 1) (computed ops.Mov true 0 x.0) dst st refl (λ k. refl) (mov_fits 0 x.0))
 continues code shapes notes s (Const dst value) n st t h j =
     written_continues code shapes notes s (Const dst value) n (s.pc + 2) value dst st refl (λ k. refl) (constant_fits dst value h)
 continues code shapes notes s (Ja wide_offset to) n st t h j =

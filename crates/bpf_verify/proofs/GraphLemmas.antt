@@ -1,13 +1,9 @@
 -- What a structured program's edges are.
-use Rattle.std.proofs.Common.{◌≡◌, ◌<◌, ◌≤◌, ◌+◌, ◌⊎◌, inl, inr, ℕ, ℤ, List, Option, Some, None, length, refl, sym, ap, subst, ◌∙◌, arith, zero, suc, [], ◌∷◌, Bool, true, false, ◌++◌}
-use Rattle.std.specs.Prelude.{slice_get, nat_lt, nat_le, not, if◌then◌else◌, flat_map}
-use Rattle.std.specs.List.{AllByRecursion}
+use Rattle.std.proofs.Common.{◌≡◌, ◌<◌, inl, inr, ℕ, ℤ, List, Option, Some, None, length, refl, subst, arith, zero, suc, [], ◌∷◌, Bool, true, false}
+use Rattle.std.specs.Prelude.{slice_get, nat_lt, nat_le, not, if◌then◌else◌}
 use Rattle.std.proofs.lemmas.Bool.Decides.{nat_tests}
-use Rattle.bpf_insn.specs.Code.{IsCode, takes}
-use Rattle.bpf_insn.specs.Spelling.{HasSpelling}
 use Rattle.bpf_insn.specs.declared.insn.Insn.{Insn}
 use Rattle.bpf_insn.specs.declared.insn.Insn.TheVariants.{Alu, Neg, End, MovSx, Const, MapRef, Ldx, St, Stx, AddCounter, Ja, Jump, Call, Exit, Second}
-use Rattle.bpf_insn.specs.declared.refusal.Cause.{Cause}
 use Rattle.bpf_insn.specs.declared.refusal.Cause.TheVariants as cause
 use Rattle.bpf_flow.specs.Step.{target}
 use Rattle.bpf_flow.specs.Graph.{Leads, next_slot}
@@ -52,6 +48,7 @@ land_by code pc q (Some to) e h g = let same : to ≡ q = cc in (subst (λ q. be
     was : (b : Bool) → not b ≡ false → b ≡ true
     was true e = refl
     was false e = cc
+
     above : nat_le to pc ≡ false → pc < to
     above g = grind (arith, nat_tests)
 
@@ -77,6 +74,7 @@ next_inside code pc i f h = by (falls_through i) f h
   where
     test : (n : ℕ) → not (nat_lt n (length code)) ≡ false → n < length code
     test n h = grind (arith, nat_tests)
+
     by : (b : Bool) → b ≡ true → (if b then not (nat_lt (next_slot i pc) (length code)) else false) ≡ false → next_slot i pc < length code
     by true f h = test (next_slot i pc) h
     by false f h = cc
@@ -110,12 +108,12 @@ jumps_to code maps pc q i off j t f =
 
 pub lies_above : (code : List Insn) (maps pc q : ℕ) (i : Insn) → Leads i pc q → IsFine code maps pc i → LiesAbove code pc q
 lies_above code maps pc q i h f = elim (way i pc q h) [
-    Falls t e ↦ let up = next_above pc i in let within = next_inside code pc i t f.ends in record { above = omega (arith, up, e); inside = omega (arith, within, e) }
+  | Falls t e ↦ let up = next_above pc i in let within = next_inside code pc i t f.ends in record { above = omega (arith, up, e); inside = omega (arith, within, e) }
   | Jumps off j t ↦
       let l = jumps_to code maps pc q i off j t f in
       let b = begun (slice_get code q) l.0 in
       record { above = l.1; inside = some_inside code q b.0 b.1 }
-  ]
+]
 
 pub rising : (code : List Insn) (maps : ℕ) → IsStructured code maps → IsRising code
 rising code maps h pc q i e l = lies_above code maps pc q i l (fine code maps pc i h e)

@@ -1,14 +1,14 @@
 -- One slot more of the second pass.
-use Rattle.std.proofs.Common.{◌≡◌, ◌≢◌, ◌<◌, ◌≤◌, ◌+◌, ◌⊎◌, inl, inr, ℕ, List, Option, Some, None, length, refl, sym, ap, subst, ◌∙◌, arith, Bool, true, false, ◌&&◌, ◌||◌, nat_eq}
+use Rattle.std.proofs.Common.{◌≡◌, ◌≢◌, ◌<◌, ◌+◌, ◌⊎◌, inl, inr, ℕ, List, Option, Some, None, refl, sym, ap, subst, ◌∙◌, arith, Bool, true, false, ◌&&◌, ◌||◌, nat_eq}
 use Rattle.std.specs.Prelude.{slice_get, nat_lt, ◌==◌}
 use Rattle.std.proofs.lemmas.Bool.Decides.{nat_tests}
 use Rattle.bpf_insn.specs.declared.insn.Insn.{Insn}
-use Rattle.bpf_flow.specs.Graph.{Leads, reads, writes}
+use Rattle.bpf_flow.specs.Graph.{Leads}
 use Rattle.bpf_verify.specs.Consistent.{Note, is_set}
 use Rattle.bpf_verify.specs.Unwritten.{Reached, Unwritten, start, along, never, later}
 use Rattle.bpf_note.specs.State.{start_register}
 use Rattle.bpf_verify.specs.Sets.{IsAllowed, AddsWritten}
-use Rattle.bpf_verify.specs.Passing.{LiesAbove, IsRising, Meets, HasCome, Covers, IsDone, IsPassed}
+use Rattle.bpf_verify.specs.Passing.{LiesAbove, Meets, HasCome, Covers, IsDone, IsPassed}
 
 both_true : (a b : Bool) → (a && b) ≡ true → (a ≡ true) × (b ≡ true)
 both_true true true e = (refl, refl)
@@ -61,28 +61,27 @@ covers_now set i (Some o) (Some n) after w m = λ k e. sym (w k) ∙ set_met (So
 module _ (code : List Insn) (pc to : ℕ) (old new : ℕ → Option Note) (set after : Note) (i : Insn)
     (p : IsPassed code pc old) (noted : old pc ≡ Some set) (here : slice_get code pc ≡ Some i) (allowed : IsAllowed i set) (adds : AddsWritten i set after)
     (leads : Leads i pc to) (alone : (q : ℕ) → Leads i pc q → q ≡ to) (up : LiesAbove code pc to) (come : HasCome old new to after) where
-
   reached_now : (q : ℕ) (n : Note) → new q ≡ Some n → Reached code q
   reached_now q n e = elim (same_or_not q to) [
-      inl s ↦ subst (Reached code) (sym s) (along pc to i (p.reached pc set noted) here leads)
+    | inl s ↦ subst (Reached code) (sym s) (along pc to i (p.reached pc set noted) here leads)
     | inr d ↦ p.reached q n (sym (come.others q d) ∙ e)
-    ]
+  ]
 
   unwritten_now : (k : ℕ) → is_set after k ≡ false → Unwritten code k to
   unwritten_now k e = let f = both_false _ _ (sym (adds k) ∙ e) in later pc to i (p.traced pc k set noted f.0) here f.1 leads
 
   traced_now : (q k : ℕ) (n : Note) → new q ≡ Some n → is_set n k ≡ false → Unwritten code k q
   traced_now q k n e f = elim (same_or_not q to) [
-      inl s ↦ subst (Unwritten code k) (sym s)
-          (unset_met (Unwritten code k to) (old to) after n k (subst (Meets (old to) after) (sym (ap new s) ∙ e) come.here) f (λ m g h. p.traced to k m g h) (λ h. unwritten_now k h))
+    | inl s ↦ subst (Unwritten code k) (sym s)
+        (unset_met (Unwritten code k to) (old to) after n k (subst (Meets (old to) after) (sym (ap new s) ∙ e) come.here) f (λ m g h. p.traced to k m g h) (λ h. unwritten_now k h))
     | inr d ↦ p.traced q k n (sym (come.others q d) ∙ e) f
-    ]
+  ]
 
   still_covered : (n : Note) (j : Insn) (r : ℕ) → Covers n j (old r) → Covers n j (new r)
   still_covered n j r h = elim (same_or_not r to) [
-      inl s ↦ subst (λ (r : ℕ). Covers n j (new r)) (sym s) (still_covers n j (old to) (new to) after come.here (subst (λ (r : ℕ). Covers n j (old r)) s h))
+    | inl s ↦ subst (λ (r : ℕ). Covers n j (new r)) (sym s) (still_covers n j (old to) (new to) after come.here (subst (λ (r : ℕ). Covers n j (old r)) s h))
     | inr d ↦ subst (Covers n j) (sym (come.others r d)) h
-    ]
+  ]
 
   done_before : (q : ℕ) (n : Note) (j : Insn) → q < pc → new q ≡ Some n → slice_get code q ≡ Some j → IsDone new n j q
   done_before q n j lt e at =
@@ -106,9 +105,9 @@ module _ (code : List Insn) (pc to : ℕ) (old new : ℕ → Option Note) (set a
     reached = reached_now;
     traced = traced_now;
     done = λ q n j lt e at. elim (below_or_last q pc lt) [
-        inl h ↦ done_before q n j h e at
+      | inl h ↦ done_before q n j h e at
       | inr s ↦ subst (IsDone new n j) (sym s) (done_here n j (ap new (sym s) ∙ e) (ap (slice_get code) (sym s) ∙ at))
-      ];
+    ];
   }
 
 -- an instruction that leads nowhere
@@ -121,13 +120,13 @@ passed_still code pc notes set i p noted here allowed none = record {
   reached = p.reached;
   traced = p.traced;
   done = λ q n j lt e at. elim (below_or_last q pc lt) [
-      inl h ↦ p.done q n j h e at
+    | inl h ↦ p.done q n j h e at
     | inr s ↦
         let same_note : set ≡ n = cc in
         let same_insn : i ≡ j = cc in
         let d : IsDone notes set i pc = record { allowed = allowed; covered = λ r l. absurd (none r l) } in
         subst (IsDone notes n j) (sym s) (subst (λ (n : Note). IsDone notes n j pc) same_note (subst (λ (j : Insn). IsDone notes set j pc) same_insn d))
-    ];
+  ];
 }
 
 -- a slot that no path has reached
@@ -152,10 +151,10 @@ passed_none code notes entry first starts rest = record {
   starts = starts;
   reached = λ q n e. elim (same_or_not q 0) [ inl s ↦ subst (Reached code) (sym s) start | inr d ↦ cc (rest q d) ];
   traced = λ q k n e f. elim (same_or_not q 0) [
-      inl s ↦
+    | inl s ↦
         let same : entry ≡ n = cc (sym first ∙ (ap notes (sym s) ∙ e)) in
         subst (Unwritten code k) (sym s) (never (not_at_start k (sym (starts k) ∙ subst (λ (n : Note). is_set n k ≡ false) (sym same) f)))
     | inr d ↦ cc (rest q d)
-    ];
+  ];
   done = λ q n i lt e at. absurd (omega arith);
 }

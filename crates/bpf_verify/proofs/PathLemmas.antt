@@ -1,17 +1,15 @@
 -- What the second pass says of every path.
-use Rattle.std.proofs.Common.{◌≡◌, ◌≢◌, ◌<◌, ◌≤◌, ◌+◌, ◌⊎◌, inl, inr, ℕ, List, Option, Some, None, length, refl, sym, ap, subst, ◌∙◌, arith, Bool, true, false, ◌&&◌, ◌||◌}
-use Rattle.std.specs.Prelude.{slice_get, ◌==◌}
+use Rattle.std.proofs.Common.{◌≡◌, ◌<◌, ◌≤◌, ℕ, List, Option, Some, None, refl, sym, subst, ◌∙◌, arith, Bool, true, false, ◌||◌}
+use Rattle.std.specs.Prelude.{◌==◌}
 use Rattle.std.proofs.lemmas.Bool.Decides.{nat_tests}
 use Rattle.bpf_insn.specs.declared.insn.Insn.{Insn}
 use Rattle.bpf_insn.specs.declared.insn.Insn.TheVariants.{Alu, Neg, End, MovSx, Const, MapRef, Ldx, St, Stx, AddCounter, Ja, Jump, Call, Exit, Second}
-use Rattle.bpf_insn.specs.declared.refusal.Cause.{Cause}
 use Rattle.bpf_insn.specs.declared.refusal.Cause.TheVariants.{Unset, FramePointer}
 use Rattle.bpf_note.specs.State.{start_register}
-use Rattle.bpf_flow.specs.Graph.{Leads, reads, writes, loses}
+use Rattle.bpf_flow.specs.Graph.{reads, writes, loses}
 use Rattle.bpf_verify.specs.Consistent.{Note, is_set}
 use Rattle.bpf_verify.specs.Unwritten.{Reached, Unwritten, start, along, never, later, lost}
-use Rattle.bpf_verify.specs.Sets.{IsAllowed, IsForbidden}
-use Rattle.bpf_verify.specs.Passing.{LiesAbove, IsRising, Covers, IsDone, IsPassed, IsStopped}
+use Rattle.bpf_verify.specs.Passing.{IsRising, Covers, IsPassed, IsStopped}
 use Rattle.bpf_verify.specs.FirstRefusal.{AreTreated, is_treated, ReadsUnset, WritesFrame, IsSound}
 
 treated_loses : (i : Insn) (k : ℕ) → is_treated i ≡ true → loses i k ≡ false
@@ -51,7 +49,6 @@ still_unset true false false h e f = let no : false ≡ true = h refl in cc
 still_unset false s w h e f = refl
 
 module _ (code : List Insn) (pc : ℕ) (notes : ℕ → Option Note) (rising : IsRising code) (treated : AreTreated code) (p : IsPassed code pc notes) where
-
   pub reached_noted : {q : ℕ} → Reached code q → q ≤ pc → (n : Note) × (notes q ≡ Some n)
   reached_noted start le = (p.entry, p.first)
   reached_noted (along a q i r at l) le =
@@ -94,12 +91,13 @@ module _ (code : List Insn) (pc : ℕ) (notes : ℕ → Option Note) (rising : I
   }
 
   pub stopped_frame : IsStopped code pc notes FramePointer → WritesFrame code pc × (ReadsUnset code pc → ⊥)
-  stopped_frame s =
-      (record { insn = s.insn; here = s.here; written = s.forbidden.0; reached = p.reached pc s.note s.noted },
-       λ r.
-         let n = unwritten_noted r.unwritten (omega arith) in
-         let same_note : s.note ≡ n.0 = cc (s.noted, n.1) in
-         let same_insn : s.insn ≡ r.insn = cc (s.here, r.here) in
-         let read : reads s.insn r.register ≡ true = subst (λ (i : Insn). reads i r.register ≡ true) (sym same_insn) r.read in
-         let yes : is_set n.0 r.register ≡ true = subst (λ (n : Note). is_set n r.register ≡ true) same_note (s.forbidden.1 r.register read) in
-         cc (n.2, yes))
+  stopped_frame s = (
+    record { insn = s.insn; here = s.here; written = s.forbidden.0; reached = p.reached pc s.note s.noted },
+    λ r.
+        let n = unwritten_noted r.unwritten (omega arith) in
+        let same_note : s.note ≡ n.0 = cc (s.noted, n.1) in
+        let same_insn : s.insn ≡ r.insn = cc (s.here, r.here) in
+        let read : reads s.insn r.register ≡ true = subst (λ (i : Insn). reads i r.register ≡ true) (sym same_insn) r.read in
+        let yes : is_set n.0 r.register ≡ true = subst (λ (n : Note). is_set n r.register ≡ true) same_note (s.forbidden.1 r.register read) in
+        cc (n.2, yes),
+  )

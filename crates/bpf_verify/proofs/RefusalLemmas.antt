@@ -1,16 +1,15 @@
 -- The refusals are the program's.
-use Rattle.std.proofs.Common.{◌≡◌, ◌<◌, ◌≤◌, ◌+◌, ℕ, List, Option, Some, None, length, refl, sym, ap, subst, ◌∙◌, arith, Bool, true, false}
-use Rattle.std.specs.Prelude.{slice_get, nat_lt, if◌then◌else◌, IfSome}
+use Rattle.std.proofs.Common.{◌≡◌, ◌<◌, ℕ, List, Option, Some, None, length, refl, subst, Bool, true, false}
+use Rattle.std.specs.Prelude.{slice_get, if◌then◌else◌, IfSome}
 use Rattle.std.proofs.lemmas.Option.{slice_get-get_or}
 use Rattle.bpf_insn.specs.declared.insn.Insn.TheVariants.{Second}
-use Rattle.std.proofs.lemmas.Bool.Decides.{nat_tests}
 use Rattle.bpf_insn.specs.declared.insn.Insn.{Insn}
 use Rattle.bpf_insn.specs.declared.refusal.Cause.{Cause}
 use Rattle.bpf_insn.specs.declared.refusal.Cause.TheVariants.{Memory, Length, Opcode, Register, Target, BackJump, End, Unset, FramePointer, NoPointer, Packet, Stack, Context, MayBeNull, MapAccess, Helper, MapNumber, Argument, Unsupported}
 use Rattle.bpf_verify.specs.Consistent.{Note}
-use Rattle.bpf_verify.specs.Structure.{structure_at, structure_by, structure_of}
-use Rattle.bpf_verify.specs.Passing.{IsRising, IsPassed, IsStopped, IsHalted}
-use Rattle.bpf_verify.specs.FirstRefusal.{IsStructured, IsFirstFault, AreTreated, IsSound, IsFirstUnsound, IsRefusal, IsFaultless, ReadsUnset, WritesFrame, is_treated, IsFirstUntreated}
+use Rattle.bpf_verify.specs.Structure.{structure_at, structure_by}
+use Rattle.bpf_verify.specs.Passing.{IsPassed, IsHalted}
+use Rattle.bpf_verify.specs.FirstRefusal.{IsStructured, IsFirstFault, AreTreated, IsRefusal, IsFaultless, is_treated, IsFirstUntreated}
 use Rattle.bpf_verify.proofs.GraphLemmas.{some_inside, rising}
 use Rattle.bpf_verify.proofs.PathLemmas.{sound_below, stopped_unset, stopped_frame}
 

@@ -1,9 +1,8 @@
 -- The structure of a program, slot by slot.
-use Rattle.std.proofs.Common.{◌≡◌, ◌<◌, ◌≤◌, ◌+◌, ℕ, List, Option, Some, None, length, refl, sym, ap, subst, ◌∙◌, arith, zero, suc, [], ◌∷◌, Bool, true, false}
+use Rattle.std.proofs.Common.{◌≡◌, ◌<◌, ◌≤◌, ℕ, List, Option, None, length, refl, ap, arith, zero, suc, [], ◌∷◌, Bool, true, false}
 use Rattle.std.proofs.lemmas.Bool.Decides.{nat_tests}
 use Rattle.std.specs.Prelude.{slice_get, nat_lt}
 use Rattle.bpf_insn.specs.declared.insn.Insn.{Insn}
-use Rattle.bpf_insn.specs.declared.refusal.Cause.{Cause}
 use Rattle.bpf_verify.specs.Structure.{structure_at, structure_by}
 
 pub none_past : {A : Type 0} (xs : List A) (k : ℕ) → length xs ≤ k → slice_get xs k ≡ None

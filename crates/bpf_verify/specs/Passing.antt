@@ -1,9 +1,9 @@
 -- What the second pass knows while it goes over the slots in rising order.
-use Rattle.std.specs.Prelude.{ℕ, ◌≡◌, ◌≢◌, ◌<◌, List, [], ◌∷◌, length, Option, None, Some, Bool, true, false, ◌&&◌, ◌||◌, ◌==◌, if◌then◌else◌, slice_get, slice_index_or}
+use Rattle.std.specs.Prelude.{ℕ, ◌≡◌, ◌≢◌, ◌<◌, List, length, Option, None, Some, true, false, ◌&&◌, ◌||◌, ◌==◌, if◌then◌else◌, slice_get, slice_index_or}
 use Rattle.bpf_insn.specs.declared.insn.Insn.{Insn}
 use Rattle.bpf_insn.specs.declared.refusal.Cause.{Cause}
 use Rattle.bpf_insn.specs.declared.refusal.Cause.TheVariants.{Memory}
-use Rattle.bpf_flow.specs.Graph.{Leads, reads, writes}
+use Rattle.bpf_flow.specs.Graph.{Leads, writes}
 use Rattle.bpf_verify.specs.declared.set.RegisterSet.{RegisterSet}
 use Rattle.bpf_verify.specs.Consistent.{Note, is_set}
 use Rattle.bpf_verify.specs.Unwritten.{Reached, Unwritten}

@@ -1,11 +1,11 @@
 -- What the second pass knows of a slot: the registers that are set there, for the instructions that it treats.
-use Rattle.std.specs.Prelude.{ℕ, ◌≡◌, ◌↔◌, List, Option, None, Some, Bool, true, false, ◌&&◌, ◌||◌, ◌==◌}
+use Rattle.std.specs.Prelude.{ℕ, ◌≡◌, Option, None, Some, Bool, true, false, ◌||◌, ◌==◌}
 use Rattle.bpf_insn.specs.Register.{number}
 use Rattle.bpf_insn.specs.declared.register.Register.{Register}
 use Rattle.bpf_insn.specs.declared.insn.Insn.{Insn}
 use Rattle.bpf_insn.specs.declared.refusal.Cause.{Cause}
 use Rattle.bpf_insn.specs.declared.refusal.Cause.TheVariants.{Unset, FramePointer}
-use Rattle.bpf_flow.specs.Graph.{Leads, reads, writes}
+use Rattle.bpf_flow.specs.Graph.{reads, writes}
 use Rattle.bpf_verify.specs.Consistent.{Note, is_set}
 
 -- register k is the one that is named, if one is

@@ -1,7 +1,7 @@
 -- The structure of a program: where its jumps land, what follows its instructions, which maps it names.
-use Rattle.std.specs.Prelude.{ℕ, ◌+◌, ◌≡◌, ◌<◌, ℤ, List, length, Option, None, Some, Bool, true, false, not, if◌then◌else◌, nat_lt, nat_le, slice_get}
+use Rattle.std.specs.Prelude.{ℕ, ℤ, List, length, Option, None, Some, Bool, true, false, not, if◌then◌else◌, nat_lt, nat_le, slice_get}
 use Rattle.bpf_insn.specs.declared.insn.Insn.{Insn}
-use Rattle.bpf_insn.specs.declared.insn.Insn.TheVariants.{Alu, Neg, End, MovSx, Const, MapRef, Ldx, St, Stx, AddCounter, Ja, Jump, Call, Exit, Second}
+use Rattle.bpf_insn.specs.declared.insn.Insn.TheVariants.{MapRef, Ja, Jump, Exit, Second}
 use Rattle.bpf_insn.specs.declared.refusal.Cause.{Cause}
 use Rattle.bpf_insn.specs.declared.refusal.Cause.TheVariants as cause
 use Rattle.bpf_flow.specs.Step.{target}

@@ -1,5 +1,5 @@
 -- Paths in the flow graph from the first slot.
-use Rattle.std.specs.Prelude.{ℕ, ◌≡◌, List, Option, None, Some, Bool, true, false, slice_get}
+use Rattle.std.specs.Prelude.{ℕ, ◌≡◌, List, None, Some, true, false, slice_get}
 use Rattle.bpf_insn.specs.declared.insn.Insn.{Insn}
 use Rattle.bpf_flow.specs.Graph.{Leads, writes, loses}
 use Rattle.bpf_note.specs.State.{start_register}

@@ -11,3 +11,6 @@ pub use bpf_insn::{Cause, Refusal};
 pub use bpf_note::MapShape;
 pub use verified::Verified;
 pub use verifier::verify;
+
+#[cfg(test)]
+mod tests;

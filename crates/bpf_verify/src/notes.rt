@@ -64,7 +64,10 @@ pub(crate) fn notes_of(alloc: Global, code: &[Insn]) -> Result<Vec<Option<Regist
     ensures halted { IfErr result (λ r. IsHalted code.now r.pc r.cause) }
 {
     let Ok(mut notes) = blank(alloc, code.len()) else {
-        return Err(Refusal { cause: Cause::Memory, pc: 0 });
+        return Err(Refusal {
+            cause: Cause::Memory,
+            pc: 0,
+        });
     };
     for pc in 0..code.len() as u32 {
         if let Err(cause) = follow(code, &mut notes, pc) {

@@ -20,7 +20,9 @@ impl RegisterSet {
     pub(crate) fn at_start() -> RegisterSet
         ensures { (k : ℕ) → is_set result.set k ≡ (k == 1 || k == 10) }
     {
-        let set = [false, true, false, false, false, false, false, false, false, false, true];
+        let set = [
+            false, true, false, false, false, false, false, false, false, false, true,
+        ];
         RegisterSet { set }
     }
 
@@ -55,7 +57,10 @@ fn register_read(insn: Insn) -> Option<Register>
     ensures { (k : ℕ) → reads insn k ≡ is_named result k }
 {
     match insn {
-        Insn::Alu { src: Operand::Register(src), .. } => Some(src),
+        Insn::Alu {
+            src: Operand::Register(src),
+            ..
+        } => Some(src),
         Insn::Exit => Some(Register::R0),
         _ => None,
     }

@@ -149,7 +149,14 @@ fn is_treated(insn: Insn) -> bool
 {
     matches!(
         insn,
-        Insn::Alu { op: AluOp::Mov, wide: true, .. } | Insn::Const { .. } | Insn::Ja { .. } | Insn::Exit | Insn::Second
+        Insn::Alu {
+            op: AluOp::Mov,
+            wide: true,
+            ..
+        } | Insn::Const { .. }
+            | Insn::Ja { .. }
+            | Insn::Exit
+            | Insn::Second
     )
 }
 

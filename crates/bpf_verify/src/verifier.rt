@@ -36,11 +36,17 @@ pub fn verify(alloc: Global, code: Code, shapes: &[MapShape]) -> Result<Verified
         return Err(refusal);
     }
     if let Some(pc) = first_untreated(insns) {
-        return Err(Refusal { cause: Cause::Unsupported, pc });
+        return Err(Refusal {
+            cause: Cause::Unsupported,
+            pc,
+        });
     }
     let notes = notes_of(alloc, insns)?;
     match shapes.to_vec(alloc) {
         Ok(shapes) => Ok(Verified::of(code, shapes, notes)),
-        Err(_) => Err(Refusal { cause: Cause::Memory, pc: 0 }),
+        Err(_) => Err(Refusal {
+            cause: Cause::Memory,
+            pc: 0,
+        }),
     }
 }

@@ -22,18 +22,57 @@ impl<'p, 'b> Machine<'p, 'b> {
     {
         match insn {
             Insn::Alu { op, wide, dst, src } => self.alu(op, wide, dst, src),
-            Insn::Neg { wide, dst } => self.write(self.pc + 1, dst, negate(wide, self.register(dst))),
-            Insn::End { kind, width, dst } => self.write(self.pc + 1, dst, swap(kind, width, self.register(dst))),
-            Insn::MovSx { wide, bits, dst, src } => {
-                self.write(self.pc + 1, dst, move_extended(wide, bits, self.register(src)));
+            Insn::Neg { wide, dst } => self.write(
+                self.pc + 1,
+                dst,
+                negate(wide, self.register(dst)),
+            ),
+            Insn::End { kind, width, dst } => self.write(
+                self.pc + 1,
+                dst,
+                swap(kind, width, self.register(dst)),
+            ),
+            Insn::MovSx {
+                wide,
+                bits,
+                dst,
+                src,
+            } => {
+                self.write(
+                    self.pc + 1,
+                    dst,
+                    move_extended(wide, bits, self.register(src)),
+                );
             }
             Insn::Const { dst, value } => self.write(self.pc + 2, dst, value),
             Insn::MapRef { dst, m } => self.write(self.pc + 2, dst, 0x5000_0000 + u64::from(m)),
-            Insn::Ldx { size, signed, dst, src, off } => self.load_register(size, signed, dst, src, off),
-            Insn::St { size, dst, off, imm } => self.store_constant(size, dst, off, imm),
-            Insn::Stx { size, dst, src, off } => self.store_register(size, dst, src, off),
+            Insn::Ldx {
+                size,
+                signed,
+                dst,
+                src,
+                off,
+            } => self.load_register(size, signed, dst, src, off),
+            Insn::St {
+                size,
+                dst,
+                off,
+                imm,
+            } => self.store_constant(size, dst, off, imm),
+            Insn::Stx {
+                size,
+                dst,
+                src,
+                off,
+            } => self.store_register(size, dst, src, off),
             Insn::Ja { to, .. } => self.jump(to),
-            Insn::Jump { cond, wide, dst, src, off } => self.branch(cond, wide, dst, src, off),
+            Insn::Jump {
+                cond,
+                wide,
+                dst,
+                src,
+                off,
+            } => self.branch(cond, wide, dst, src, off),
             Insn::Call { .. } => self.look_up(),
             Insn::AddCounter { .. } | Insn::Exit | Insn::Second => unreachable!(),
         }
@@ -46,8 +85,17 @@ impl<'p, 'b> Machine<'p, 'b> {
         ensures { Answered (exec insn (machine_state self.old)) number (machine_state self.new) }
     {
         match insn {
-            Insn::Ldx { size, signed, dst, .. } => self.write(self.pc + 1, dst, taken(signed, size, number)),
-            Insn::AddCounter { fetch: true, src, .. } => self.write(self.pc + 1, src, number),
+            Insn::Ldx {
+                size,
+                signed,
+                dst,
+                ..
+            } => self.write(self.pc + 1, dst, taken(signed, size, number)),
+            Insn::AddCounter {
+                fetch: true,
+                src,
+                ..
+            } => self.write(self.pc + 1, src, number),
             Insn::AddCounter { fetch: false, .. } => self.pc += 1,
             _ => unreachable!(),
         }
@@ -61,7 +109,9 @@ impl<'p, 'b> Machine<'p, 'b> {
         ensures { Answers result (exec insn (machine_state self.now)) }
     {
         match insn {
-            Insn::Exit => VmWant::Exit { r0: self.register(Register::R0) },
+            Insn::Exit => VmWant::Exit {
+                r0: self.register(Register::R0),
+            },
             Insn::Ldx { size, src, off, .. } => self.want_of_load(self.address(src, off), size),
             Insn::AddCounter { dst, src, off, .. } => {
                 let delta = self.register(src);

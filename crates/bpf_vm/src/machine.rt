@@ -4,14 +4,15 @@ ghost use Rattle.bpf_note.specs.Shape.{AreShapes};
 ghost use Rattle.bpf_note.specs.State.{IsState};
 ghost use Rattle.bpf_insn.specs.Register.{number};
 ghost use Rattle.bpf_insn.specs.Signed.{sign_extended as sign_extended_lem};
-
 ghost use Rattle.bpf_flow.specs.Step.{Next, exec, operand, first_operand, with_number, target, at_slot, jumped, address as address_of};
 ghost use Rattle.bpf_vm.specs.Running.{machine_state, first_registers, Advances, ComesTo};
 
 use crate::bytes::are_bytes;
 use crate::packet::PacketBuf;
 use bpf_flow::jump_target;
-use bpf_insn::{AluOp, Condition, Insn, Operand, Register, alu, holds, move_extended, negate, swap};
+use bpf_insn::{
+    AluOp, Condition, Insn, Operand, Register, alu, holds, move_extended, negate, swap,
+};
 use bpf_note::MapShape;
 
 /// Plain numbers: what an interpreter works on.
@@ -40,7 +41,12 @@ pub(crate) fn sign_extended(value: i32) -> u64
 
 impl<'p, 'b> Machine<'p, 'b> {
     /// A machine before its first instruction.
-    pub(crate) fn new(packet: PacketBuf<'b>, ifindex: u32, queue: u32, shapes: &'p [MapShape]) -> Machine<'p, 'b>
+    pub(crate) fn new(
+        packet: PacketBuf<'b>,
+        ifindex: u32,
+        queue: u32,
+        shapes: &'p [MapShape],
+    ) -> Machine<'p, 'b>
         ensures pc { result.pc ≡ 0 }
         ensures registers { result.registers ≡ first_registers }
         ensures packet { result.packet ≡ packet.entry }
@@ -90,7 +96,8 @@ impl<'p, 'b> Machine<'p, 'b> {
         ensures of { IfSome (slice_get self.now.registers (number register)) (λ a. result ≡ address_of a off) }
         ensures there { (a : ℕ) × (slice_get self.now.registers (number register) ≡ Some a) × (result ≡ address_of a off) }
     {
-        self.register(register).wrapping_add(sign_extended(i32::from(off)))
+        self.register(register)
+            .wrapping_add(sign_extended(i32::from(off)))
     }
 
     pub(crate) fn write(&mut self, pc: u32, dst: Register, value: u64)
@@ -119,7 +126,14 @@ impl<'p, 'b> Machine<'p, 'b> {
         }
     }
 
-    pub(crate) fn branch(&mut self, cond: Condition, wide: bool, dst: Register, src: Operand, off: i16)
+    pub(crate) fn branch(
+        &mut self,
+        cond: Condition,
+        wide: bool,
+        dst: Register,
+        src: Operand,
+        off: i16,
+    )
         requires small { self.old.pc < 4096 }
         requires advances { Advances (exec (Insn.Jump cond wide dst src off) (machine_state self.old)) }
         ensures { exec (Insn.Jump cond wide dst src off) (machine_state self.old) ≡ Next (machine_state self.new) }
@@ -137,7 +151,15 @@ impl<'p, 'b> Machine<'p, 'b> {
     pub(crate) fn into_packet(self) -> PacketBuf<'b>
         ensures { result ≡ self.entry.packet }
     {
-        let Machine { pc: _, registers: _, stack: _, packet, ifindex: _, queue: _, shapes: _ } = self;
+        let Machine {
+            pc: _,
+            registers: _,
+            stack: _,
+            packet,
+            ifindex: _,
+            queue: _,
+            shapes: _,
+        } = self;
         packet
     }
 

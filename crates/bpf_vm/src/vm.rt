@@ -36,14 +36,23 @@ impl<'p, 'b> Model for Vm<'p, 'b> {
 
 impl<'p, 'b> Vm<'p, 'b> {
     /// An interpreter before the first instruction.
-    pub fn start(program: &'p Verified, packet: PacketBuf<'b>, ifindex: u32, queue: u32) -> Vm<'p, 'b>
+    pub fn start(
+        program: &'p Verified,
+        packet: PacketBuf<'b>,
+        ifindex: u32,
+        queue: u32,
+    ) -> Vm<'p, 'b>
         ensures program { result.program ≡ program.now }
         ensures stands { (s : State) → IsStart s → s.packet ≡ packet.entry → s.ifindex ≡ ifindex → s.queue ≡ queue → s.shapes ≡ program.now.shapes → Stands result s }
         ensures count { result.count ≡ 0 }
     {
         let machine = Machine::new(packet, ifindex, queue, program.shapes());
         machine.are_numbers();
-        Vm { program, machine, count: 0 }
+        Vm {
+            program,
+            machine,
+            count: 0,
+        }
     }
 
     /// What comes next.
@@ -121,7 +130,11 @@ impl<'p, 'b> Vm<'p, 'b> {
         let _slots = self.program.slots();
         match self.want() {
             VmWant::Exit { r0 } => {
-                let Vm { program: _, machine, count: _ } = self;
+                let Vm {
+                    program: _,
+                    machine,
+                    count: _,
+                } = self;
                 ((r0 % 0x1_0000_0000) as u32, machine.into_packet())
             }
             _ => unreachable!(),

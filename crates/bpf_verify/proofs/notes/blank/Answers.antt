@@ -1,6 +1,5 @@
-use Rattle.std.proofs.Common.{◌≡◌, ◌<◌, Some, None, length, vec_len, arith, ap, ◌∙◌, get_or-set_same, List, ℕ}
+use Rattle.std.proofs.Common.{◌≡◌, ◌<◌, Some, None, length, arith, ap, get_or-set_same}
 use Rattle.std.specs.Prelude.{slice_set, slice_index_or}
-use Rattle.bpf_verify.specs.declared.set.RegisterSet.{RegisterSet}
 use Rattle.bpf_verify.specs.Passing.{note_of}
 use Rattle.bpf_verify.proofs.notes.blank.Goals as goal
 

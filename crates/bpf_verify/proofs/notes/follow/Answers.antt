@@ -1,4 +1,4 @@
-use Rattle.std.proofs.Common.{rules, ◌≡◌, ◌<◌, ◌≤◌, ◌+◌, ℕ, Some, None, length, arith, get_or, false, ap, sym, ◌∙◌, List, Option, refl}
+use Rattle.std.proofs.Common.{◌≡◌, ℕ, Some, arith, get_or, false, ap, List, refl}
 use Rattle.std.specs.Prelude.{slice_get}
 use Rattle.std.proofs.lemmas.Option.{slice_get-get_or}
 use Rattle.bpf_insn.specs.declared.insn.Insn.{Insn}
@@ -29,8 +29,8 @@ returns-in-Some-successor-clause-ok c =
     let leads = (c.in-Some-successor.ensures to).1 refl in
     let up = c.requires.rising c.args.pc to i here leads in
     passed_along code c.args.pc to (note_at c.args.notes.now) (note_at c.arrive.new.notes) c.in-Some.set.set c.in_ok-set.set.set i
-        c.requires.passed (ap note_of c.in-Some.is) here c.in_ok-set.ensures.allowed c.in_ok-set.ensures.new leads
-        (λ q l. let e = (c.in-Some-successor.ensures q).0 l in cc) up c.arrive.ensures
+    c.requires.passed (ap note_of c.in-Some.is) here c.in_ok-set.ensures.allowed c.in_ok-set.ensures.new leads
+    (λ q l. let e = (c.in-Some-successor.ensures q).0 l in cc) up c.arrive.ensures
 
 pub returns-in_default-clause-ok : goal.returns-in_default-clause-ok
 returns-in_default-clause-ok c = passed_over c.args.code.now c.args.pc (note_at c.args.notes.now) c.requires.passed (ap note_of c.in_default.is)
@@ -40,4 +40,4 @@ returns-in_default-successor-clause-ok c =
     let code = c.args.code.now in
     let here : slice_get code c.args.pc ≡ Some (read code c.args.pc) = slice_get-get_or code c.args.pc _ c.requires.there in
     passed_still code c.args.pc (note_at c.args.notes.now) c.in-Some.set.set (read code c.args.pc) c.requires.passed (ap note_of c.in-Some.is) here c.in_ok-set.ensures.allowed
-        (λ q l. let e = (c.in_default-successor.ensures q).0 l in cc)
+    (λ q l. let e = (c.in_default-successor.ensures q).0 l in cc)

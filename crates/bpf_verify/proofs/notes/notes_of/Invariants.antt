@@ -1,4 +1,4 @@
-use Rattle.std.proofs.Common.{◌≡◌, ◌<◌, ℕ, length, vec_len}
+use Rattle.std.proofs.Common.{◌≡◌, length, vec_len}
 use Rattle.bpf_verify.specs.Passing.{IsPassed, note_at}
 use Rattle.bpf_verify.proofs.notes.notes_of.Given as goal
 

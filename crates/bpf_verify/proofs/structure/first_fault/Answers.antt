@@ -1,4 +1,4 @@
-use Rattle.std.proofs.Common.{◌≤◌, ℕ, arith}
+use Rattle.std.proofs.Common.{arith}
 use Rattle.bpf_verify.specs.Structure.{structure_at}
 use Rattle.bpf_verify.proofs.StructureLemmas.{structure_past, everywhere}
 use Rattle.bpf_verify.proofs.structure.first_fault.Goals as goal

@@ -1,11 +1,11 @@
-use Rattle.std.proofs.Common.{◌≡◌, ◌<◌, ◌≤◌, ℕ, List, Some, Option, length, sym, ap, subst, ◌∙◌, arith, false}
-use Rattle.std.specs.Prelude.{slice_get, map, IfSome}
+use Rattle.std.proofs.Common.{◌≡◌, List, length, sym, subst}
+use Rattle.std.specs.Prelude.{map}
 use Rattle.std.proofs.lemmas.Result.{err_from_is_err_and}
 use Rattle.bpf_insn.specs.declared.insn.Insn.{Insn}
-use Rattle.bpf_note.specs.Shape.{Shape, AreShapes}
+use Rattle.bpf_note.specs.Shape.{Shape}
 use Rattle.bpf_verify.specs.Consistent.{IsConsistent}
-use Rattle.bpf_verify.specs.FirstRefusal.{IsRefusal, IsFaultless, IsStructured, AreTreated, IsFirstFault, IsFirstUntreated, is_treated}
-use Rattle.bpf_verify.specs.Passing.{IsPassed, IsHalted, note_at}
+use Rattle.bpf_verify.specs.FirstRefusal.{IsRefusal, IsFaultless, IsStructured, AreTreated, IsFirstUntreated}
+use Rattle.bpf_verify.specs.Passing.{IsPassed, note_at}
 use Rattle.bpf_verify.specs.Views.{slot_notes, ranks_of}
 use Rattle.bpf_verify.proofs.GraphLemmas.{rising}
 use Rattle.bpf_verify.proofs.RefusalLemmas.{fault_refusal, halted_refusal, faultless, untreated_by}
@@ -33,7 +33,7 @@ returns-in_err-notes-clause-refused c =
     let r = c.in_err-notes.field-0.0 in
     let p = err_from_is_err_and c.from_residual.result c.from_residual.ensures.1 in
     rw (p.1, p.2) (subst (λ (code : List Insn). IsRefusal code maps r.cause r.pc) c.insns-insns.ensures.same
-      (halted_refusal c.insns-insns.result.now maps r.pc r.cause c.in_default.ensures.none c.in_default-first_untreated.ensures.none c.in_err-notes.ensures.halted))
+    (halted_refusal c.insns-insns.result.now maps r.pc r.cause c.in_default.ensures.none c.in_default-first_untreated.ensures.none c.in_err-notes.ensures.halted))
 
 pub of-requires : goal.of-requires
 of-requires c =
@@ -51,4 +51,4 @@ pub returns-in-Ok-clause-faultless : goal.returns-in-Ok-clause-faultless
 returns-in-Ok-clause-faultless c =
     let maps = length c.args.shapes.now in
     subst (λ (code : List Insn). IsFaultless code maps) c.insns-insns.ensures.same
-      (faultless c.insns-insns.result.now maps (note_at c.in_ok-notes.notes.items) c.in_default.ensures.none c.in_default-first_untreated.ensures.none c.in_ok-notes.ensures.passed)
+    (faultless c.insns-insns.result.now maps (note_at c.in_ok-notes.notes.items) c.in_default.ensures.none c.in_default-first_untreated.ensures.none c.in_ok-notes.ensures.passed)

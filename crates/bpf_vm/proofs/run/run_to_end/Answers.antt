@@ -1,8 +1,5 @@
-use Rattle.std.proofs.Common.{◌≡◌, ◌+◌, ℕ, List, [], None, ap, sym, subst, ◌∙◌, arith, inl, inr}
-use Rattle.bpf_insn.specs.declared.insn.Insn.{Insn}
-use Rattle.bpf_note.specs.Shape.{Shape}
-use Rattle.bpf_note.specs.State.{State}
-use Rattle.bpf_flow.specs.Step.{Outcome, Exited, step, LeadsTo}
+use Rattle.std.proofs.Common.{◌≡◌, ◌+◌, ℕ, [], None, ap, sym, subst, ◌∙◌, inl, inr}
+use Rattle.bpf_flow.specs.Step.{Exited, step, LeadsTo}
 use Rattle.bpf_verify.specs.Consistent.{Accepted}
 use Rattle.bpf_vm.specs.Stands.{now, own}
 use Rattle.bpf_vm.specs.Wants.{Answers}
@@ -19,10 +16,10 @@ loop-vm-preserved c =
     record {
       program = c.step.ensures.program ∙ i.program;
       came = λ s h a b d e.
-        let w = i.came s h a b d e in
-        let g = c.step.ensures.stands w.0 w.1 in
-        let leads = subst (λ (q : Accepted). LeadsTo (step q.code w.0) None g.0) i.program g.1 in
-        (g.0, g.2, subst (λ (count : ℕ). Precedes p.code s count g.0) (sym c.step.ensures.count) (precedes_next p.code s w.0 g.0 c.loop-vm.vm.count w.2 leads));
+          let w = i.came s h a b d e in
+          let g = c.step.ensures.stands w.0 w.1 in
+          let leads = subst (λ (q : Accepted). LeadsTo (step q.code w.0) None g.0) i.program g.1 in
+          (g.0, g.2, subst (λ (count : ℕ). Precedes p.code s count g.0) (sym c.step.ensures.count) (precedes_next p.code s w.0 g.0 c.loop-vm.vm.count w.2 leads));
     }
 
 pub returns-in-Exit-clause-run : goal.returns-in-Exit-clause-run
@@ -41,6 +38,6 @@ unreachable-requires c =
     let v = c.loop-vm.vm in
     let shapes : (own v).shapes ≡ [] = ap (λ (q : Accepted). q.shapes) c.loop-vm.invariant.program ∙ c.requires in
     elim c.in-Load.is [
-      inl l ↦ step_never_asks v.program.code (own v) shapes (asks_load l.0 l.1 l.2 (now v) (subst (λ (w : VmWant). Answers w (now v)) l.3 c.want.ensures.own))
-    | inr l ↦ step_never_asks v.program.code (own v) shapes (asks_add l.0 l.1 l.2 l.3 (now v) (subst (λ (w : VmWant). Answers w (now v)) l.4 c.want.ensures.own))
+      | inl l ↦ step_never_asks v.program.code (own v) shapes (asks_load l.0 l.1 l.2 (now v) (subst (λ (w : VmWant). Answers w (now v)) l.3 c.want.ensures.own))
+      | inr l ↦ step_never_asks v.program.code (own v) shapes (asks_add l.0 l.1 l.2 l.3 (now v) (subst (λ (w : VmWant). Answers w (now v)) l.4 c.want.ensures.own))
     ]

@@ -1,4 +1,4 @@
-use Rattle.std.proofs.Common.{arith, rules}
+use Rattle.std.proofs.Common.{arith}
 use Rattle.bpf_verify.proofs.SetLemmas.{common_everywhere}
 use Rattle.bpf_verify.proofs.set.RegisterSet.common.Goals as goal
 

@@ -1,17 +1,11 @@
-use Rattle.std.proofs.Common.{◌≡◌, ◌<◌, ◌≤◌, ◌+◌, ◌^◌, ℕ, List, Option, Some, None, length, arith, ap, sym, subst, ◌∙◌, refl}
-use Rattle.std.specs.Prelude.{slice_get}
+use Rattle.std.proofs.Common.{◌+◌, List, length, arith, ap, sym, subst}
 use Rattle.bpf_note.specs.Shape.{Shape, AreShapes}
-use Rattle.bpf_note.specs.State.{State}
-use Rattle.bpf_flow.specs.Step.{Outcome, Exited, exec, step, LeadsTo}
-use Rattle.bpf_verify.specs.Consistent.{Accepted, instructions, rank}
-use Rattle.bpf_vm.specs.Running.{machine_state, IsNoFault}
-use Rattle.bpf_vm.specs.Stands.{Running, Stands, IsRunning, now, own, label_of, exits}
-use Rattle.bpf_vm.specs.Wants.{Answers}
+use Rattle.bpf_flow.specs.Step.{step}
+use Rattle.bpf_vm.specs.Stands.{label_of}
 use Rattle.bpf_vm.proofs.ExecuteLemmas.{extends_itself}
-use Rattle.bpf_vm.proofs.RunLemmas.{few_instructions, inside_of, wants_same, exit_same, want_exits, other_exits}
-use Rattle.bpf_vm.proofs.MachineLemmas.{own_of, running_of, here, stepped, given_number, fine_here, running, started, standing, new_shapes, restated}
+use Rattle.bpf_vm.proofs.RunLemmas.{few_instructions}
+use Rattle.bpf_vm.proofs.MachineLemmas.{own_of, given_number, running, standing, new_shapes}
 use Rattle.bpf_vm.proofs.vm.Vm.loaded.Goals as goal
-
 
 pub are_numbers-requires-clause-few : goal.are_numbers-requires-clause-few
 are_numbers-requires-clause-few c =
@@ -45,9 +39,10 @@ invariant_of-self c =
     let m = c.self.inside.machine in
     let n = c.answer.new.self in
     let k = c.slots-slots.ensures.consistent in
-    let g = given_number p m c.insn-insn.result.now k c.self.invariant.0 c.insn-insn.ensures.at n c.args.number c.ranges.number.fits c.answer.ensures (own_of p m) c.self.invariant.1.described (extends_itself (own_of p m)) in
-    (new_shapes p (own_of p m) n (label_of (step p.code (own_of p m)) c.args.number) g.0 g.1,
-     running p m c.insn-insn.result.now k c.self.invariant.0 c.insn-insn.ensures.at n c.self.inside.count (label_of (step p.code (own_of p m)) c.args.number) c.self.invariant.1.described c.self.invariant.1.counted c.are_numbers.ensures g)
+    let g = given_number p m c.insn-insn.result.now k c.self.invariant.0 c.insn-insn.ensures.at n c.args.number c.ranges.number.fits c.answer.ensures (own_of p m) c.self.invariant.1.described (extends_itself (own_of p m)) in (
+      new_shapes p (own_of p m) n (label_of (step p.code (own_of p m)) c.args.number) g.0 g.1,
+      running p m c.insn-insn.result.now k c.self.invariant.0 c.insn-insn.ensures.at n c.self.inside.count (label_of (step p.code (own_of p m)) c.args.number) c.self.invariant.1.described c.self.invariant.1.counted c.are_numbers.ensures g,
+    )
 
 pub returns-clause-stands : goal.returns-clause-stands
 returns-clause-stands c =

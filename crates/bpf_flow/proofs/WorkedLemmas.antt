@@ -1,0 +1,78 @@
+-- The definitions, computed on small programs.
+use Rattle.std.proofs.Common.{◌≡◌, ◌^◌, ◌-◌, ℕ, zero, suc, List, [], ◌∷◌, Option, None, Some, refl, true, false}
+use Rattle.std.specs.Prelude.{pos, negsuc, slice_get}
+use Rattle.bpf_insn.specs.Arithmetic.{computed, negated}
+use Rattle.bpf_insn.specs.ByteOrder.{swapped}
+use Rattle.bpf_insn.specs.Conditions.{is_met}
+use Rattle.bpf_insn.specs.Extension.{extended, moved_extended}
+use Rattle.bpf_insn.specs.declared.register.Register.TheVariants.{R0, R1, R2, R3, R4, R6, R10}
+use Rattle.bpf_insn.specs.declared.operand.Operand.TheVariants.{Register, Immediate}
+use Rattle.bpf_insn.specs.declared.alu_op.AluOp.TheVariants as ops
+use Rattle.bpf_insn.specs.declared.size.Size.TheVariants.{Byte, Word, Double}
+use Rattle.bpf_insn.specs.declared.condition.Condition.TheVariants.{Greater, Equal}
+use Rattle.bpf_insn.specs.declared.insn.Insn.{Insn}
+use Rattle.bpf_insn.specs.declared.insn.Insn.TheVariants.{Alu, MapRef, Ldx, St, AddCounter, Jump, Call, Exit, Second}
+use Rattle.bpf_note.specs.Shape.{Shape}
+use Rattle.bpf_note.specs.State.{State, start_register}
+use Rattle.bpf_note.specs.Bytes.{put_bytes}
+use Rattle.bpf_note.specs.Regions.{region}
+use Rattle.bpf_flow.specs.Step.{Outcome, Next, Loads, Adds, Exited, Fault, step}
+
+start : List Shape → List ℕ → State
+start shapes packet = record { pc = 0; reg = start_register; stack = λ i. None; packet = packet; ifindex = 0; queue = 0; shapes = shapes }
+
+-- an answer of a counter is 0 here
+next : Outcome → (State → Outcome) → Outcome
+next (Next t) go = go t
+next (Loads m k j to) go = go (to 0)
+next (Adds m k j d to) go = go (to 0)
+next (Exited x) go = Exited x
+next Fault go = Fault
+
+-- the outcome of the step after so many
+after : List Insn → ℕ → State → Outcome
+after code zero s = step code s
+after code (suc n) s = next (step code s) (after code n)
+
+-- looks at the first byte where the packet has 14
+looks : List Insn
+looks =
+    Ldx Word false R2 R1 (pos 0) ∷ Ldx Word false R3 R1 (pos 4) ∷ Alu ops.Mov true R4 (Register R2) ∷ Alu ops.Add true R4 (Immediate (pos 14))
+    ∷ Jump Greater true R4 (Register R3) (pos 3) ∷ Ldx Byte false R0 R2 (pos 0) ∷ Alu ops.Mov true R0 (Immediate (pos 2)) ∷ Exit
+    ∷ Alu ops.Mov true R0 (Immediate (pos 1)) ∷ Exit ∷ []
+
+fourteen_bytes_pass : after looks 7 (start [] (0 ∷ 1 ∷ 2 ∷ 3 ∷ 4 ∷ 5 ∷ 6 ∷ 7 ∷ 8 ∷ 9 ∷ 10 ∷ 11 ∷ 12 ∷ 13 ∷ [])) ≡ Exited 2
+unfolding computed is_met region extended start next after looks
+fourteen_bytes_pass = refl
+
+thirteen_bytes_drop : after looks 6 (start [] (0 ∷ 1 ∷ 2 ∷ 3 ∷ 4 ∷ 5 ∷ 6 ∷ 7 ∷ 8 ∷ 9 ∷ 10 ∷ 11 ∷ 12 ∷ [])) ≡ Exited 1
+unfolding computed is_met region extended start next after looks
+thirteen_bytes_drop = refl
+
+-- counts in value 1 of a map
+counts : List Insn
+counts =
+    St Word R10 (negsuc 3) (pos 1) ∷ Alu ops.Mov true R2 (Register R10) ∷ Alu ops.Add true R2 (Immediate (negsuc 3)) ∷ MapRef R1 0 ∷ Second
+    ∷ Call (pos 1) ∷ Jump Equal true R0 (Immediate (pos 0)) (pos 2) ∷ Alu ops.Mov true R1 (Immediate (pos 1)) ∷ AddCounter false R0 R1 (pos 0)
+    ∷ Alu ops.Mov true R0 (Immediate (pos 2)) ∷ Exit ∷ []
+
+is_add : Outcome → List ℕ
+is_add (Adds m k j d go) = m ∷ k ∷ j ∷ d ∷ []
+is_add o = []
+
+two_values : List Shape
+two_values = record { entries = 2; counters = 1 } ∷ []
+
+adds_1_to_value_1 : is_add (after counts 7 (start two_values [])) ≡ 0 ∷ 1 ∷ 0 ∷ 1 ∷ []
+unfolding computed is_met region put_bytes extended start next after counts is_add two_values
+adds_1_to_value_1 = refl
+
+then_passes : after counts 9 (start two_values []) ≡ Exited 2
+unfolding computed is_met region put_bytes extended start next after counts two_values
+then_passes = refl
+
+-- zero divisors, the least number and the upper half
+divisions : (computed ops.Div true 7 0 ≡ 0) × (computed ops.Mod true 7 0 ≡ 7) × (computed ops.SignedDiv true (2 ^ 63) (2 ^ 64 - 1) ≡ 2 ^ 63)
+    × (computed ops.SignedMod true (2 ^ 64 - 13) 3 ≡ 2 ^ 64 - 1) × (computed ops.Mov false 0 (2 ^ 64 - 1) ≡ 0xFFFFFFFF)
+unfolding computed
+divisions = (refl, refl, refl, refl, refl)

@@ -1,0 +1,11 @@
+pub mod HistoryLemmas
+mod PlaceLemmas
+mod ViewLemmas
+mod StepLemmas
+mod GrowthLemmas
+mod JoinLemmas
+mod OpeningLemmas
+mod ClosingLemmas
+mod PairLemmas
+mod ReturnLemmas
+pub mod EverySeatLemmas

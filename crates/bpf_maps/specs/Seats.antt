@@ -1,0 +1,73 @@
+-- What contracts see of counters and of a seat.
+use Rattle.std.specs.Prelude.{◌≡◌, ◌≢◌, ℕ, List, [], ◌∷◌, All, Contains, map, slice_index}
+use Rattle.std.specs.List.{range_with_len}
+use Rattle.atomic_table.specs.Seated.{TableId}
+use Rattle.bpf_note.specs.declared.op.Op.{Op}
+use Rattle.bpf_note.specs.History.{Entry, IsLegal, left_in, share}
+use Rattle.bpf_note.specs.Shape.{Shape, IsCounter}
+use Rattle.bpf_maps.specs.Layout.{place_of}
+use Rattle.bpf_maps.specs.declared.view.Part.{Part}
+use Rattle.bpf_maps.specs.declared.view.View.{View}
+
+-- the table, the maps' shapes, and how many seats there are
+pub record CountersView : Type 0 where
+  pub table : TableId
+  pub shapes : List Shape
+  pub seats : ℕ
+
+-- the table and the maps' shapes, the seat's number, and what was done by it
+pub record SeatView : Type 0 where
+  pub table : TableId
+  pub shapes : List Shape
+  pub number : ℕ
+  pub ops : List Op
+
+-- the seat is of these counters
+abbrev pub IsSeatOf : CountersView → SeatView → Type 0
+IsSeatOf c s = (s.table ≡ c.table) × (s.shapes ≡ c.shapes)
+
+-- a seat that has done nothing
+abbrev pub new_seat : CountersView → ℕ → SeatView
+new_seat c number = record { table = c.table; shapes = c.shapes; number = number; ops = [] }
+
+-- so many seats, in order, from 0 on
+abbrev pub new_seats : CountersView → ℕ → List SeatView
+new_seats c count = map (new_seat c) (range_with_len 0 count)
+
+-- the number and the list of a seat, which its view has alone
+abbrev pub number_of : List Part → ℕ
+number_of [] = 0
+number_of (p ∷ ps) = p.number
+
+abbrev pub ops_of : List Part → List Op
+ops_of [] = []
+ops_of (p ∷ ps) = p.ops
+
+-- what contracts see of a seat of the table t with the view v
+abbrev pub seat_view : TableId → View → SeatView
+seat_view t v = record { table = t; shapes = v.shapes; number = number_of v.parts; ops = ops_of v.parts }
+
+-- The operations of two seats stand in one legal history
+pub record StandTogether (a b : SeatView) : Type 0 where
+  pub history : List Entry
+  pub legal : IsLegal history
+  pub first : share a.number history ≡ a.ops
+  pub second : share b.number history ≡ b.ops
+  pub apart : a.number ≢ b.number
+
+-- the maps' shapes, and a number for each counter
+pub record TotalsView : Type 0 where
+  pub shapes : List Shape
+  pub values : List ℕ
+
+-- the number of counter j of value k of map m
+abbrev pub total_at : TotalsView → ℕ → ℕ → ℕ → ℕ
+total_at t m k j = slice_index t.values (place_of t.shapes m k j)
+
+-- The seats' lists are the shares of one legal history, which has no other entries and leaves these numbers
+pub record Account (seats : List SeatView) (t : TotalsView) : Type 0 where
+  pub history : List Entry
+  pub legal : IsLegal history
+  pub shares : All (λ (s : SeatView). share s.number history ≡ s.ops) seats
+  pub no_others : All (λ (e : Entry). Contains (map (λ (s : SeatView). s.number) seats) e.0) history
+  pub leaves : (m k j : ℕ) → IsCounter t.shapes m k j → total_at t m k j ≡ left_in m k j history

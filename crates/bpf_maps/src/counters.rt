@@ -1,0 +1,131 @@
+//! The counters, as threads share them.
+ghost use Rattle.std.specs.Prelude.{◌≡◌, ℕ, ◌%◌, ◌^◌, ◌<◌, ◌≤◌, ◌++◌, ◌∷◌, [], All, Contains, length, map, sum_by, IfOk};
+ghost use Rattle.bpf_note.specs.declared.op.Op.TheVariants.{Load, Add};
+ghost use Rattle.bpf_maps.specs.Seats.{IsSeatOf, new_seats, StandTogether, Account, total_at};
+ghost use Rattle.bpf_note.specs.History.{added};
+ghost use Rattle.bpf_note.specs.Shape.{IsCounter};
+
+use crate::place;
+use crate::plays::{Both, Fetched, First, Loaded, Looked};
+use crate::rule::{Plan, Rule};
+use crate::seat::CounterSeat;
+use crate::totals::Totals;
+use crate::view::View;
+use atomic_table::Table;
+use bpf_note::MapShape;
+use std::alloc::{AllocError, Global};
+use std::marker::Model;
+
+/// The counters of all maps, which threads borrow. Contracts see their table, the maps' shapes and how many seats there are.
+#[derive(Drop)]
+pub struct Counters {
+    /// Word 0 is spare, for joins, splits and looks. The counters follow.
+    table: Table<(), View, Plan, Rule, Global>,
+    plan: Plan,
+    /// What `close` answers, made before.
+    room: Totals,
+}
+
+impl Model for Counters {
+    ghost use Rattle.std.specs.Prelude.{◌≡◌, ◌<◌, ◌≤◌, ◌+◌, length};
+    ghost use Rattle.bpf_maps.specs.Layout.{total};
+    ghost use Rattle.bpf_maps.specs.Seats.{CountersView};
+
+    ghost Value = { CountersView };
+
+    ghost view = { λ c. record { table = c.table.shared.table_id; shapes = c.plan.shapes.items; seats = c.plan.seats } };
+
+    ghost invariant = { λ c. (c.table.shared.key ≡ c.plan) × (length c.plan.shapes.items ≤ 4) × (c.table.shared.table_id.words ≡ 1 + total c.plan.shapes.items) × (c.table.shared.table_id.slots ≡ 0) × (c.room.shapes ≡ c.plan.shapes.items) × (0 < c.plan.seats) };
+}
+
+impl Counters {
+    /// Counters for the maps, all 0, and as many seats as asked for, numbered from 0.
+    pub fn make(
+        alloc: Global,
+        shapes: &[MapShape],
+        seats: usize,
+    ) -> Result<(Counters, Vec<CounterSeat>), AllocError>
+        requires maps { length shapes.now ≤ 4 }
+        requires seats { (0 < seats) × (seats ≤ 8) }
+        ensures counters { IfOk result (λ r. (r.0.shapes ≡ shapes.now) × (r.0.seats ≡ seats)) }
+        ensures seats { IfOk result (λ r. r.1.items ≡ new_seats r.0 seats) }
+    {
+        let room = Totals::make(alloc, shapes)?;
+        let words = Vec::from_elem(alloc, 0, place::total(shapes) + 1)?;
+        let plan = Plan {
+            shapes: place::copied(alloc, shapes)?,
+            seats,
+        };
+        let mut dealt = Vec::with_capacity(alloc, seats)?;
+        let (table, mut rest) = Table::of_words(alloc, words.as_slice(), &plan)?;
+        for _number in 0..seats {
+            let seat = table.shared.split_seat::<First>(&mut rest);
+            dealt.push(CounterSeat { seat })?;
+        }
+        Ok((Counters { table, plan, room }, dealt))
+    }
+
+    /// Counter `j` of value `k` of map `m`, by one atomic load.
+    pub fn load(&self, seat: &mut CounterSeat, m: u32, k: u32, j: u32) -> u64
+        requires seat { IsSeatOf self.now seat.old }
+        requires place { IsCounter self.now.shapes m k j }
+        ensures { seat.new ≡ record seat.old { ops = seat.old.ops ++ Load m k j result ∷ [] } }
+    {
+        let place = place::place(self.plan.shapes.as_slice(), m, k, j);
+        self.table.shared.load::<Loaded>(&mut seat.seat, place + 1)
+    }
+
+    /// Adds to counter `j` of value `k` of map `m` by one atomic step, and answers what it was. The sum wraps.
+    pub fn add(&self, seat: &mut CounterSeat, m: u32, k: u32, j: u32, delta: u64) -> u64
+        requires seat { IsSeatOf self.now seat.old }
+        requires place { IsCounter self.now.shapes m k j }
+        ensures { seat.new ≡ record seat.old { ops = seat.old.ops ++ Add m k j delta result ∷ [] } }
+    {
+        let place = place::place(self.plan.shapes.as_slice(), m, k, j);
+        self.table
+            .shared
+            .fetch_add::<Fetched>(&mut seat.seat, place + 1, delta)
+    }
+
+    /// Hands both seats back as they were. Their operations stand in one legal history.
+    pub fn meet(&self, first: CounterSeat, second: CounterSeat) -> (CounterSeat, CounterSeat)
+        requires first { IsSeatOf self.now first }
+        requires second { IsSeatOf self.now second }
+        ensures same { (result.0 ≡ first) × (result.1 ≡ second) }
+        ensures history { StandTogether first second }
+    {
+        let CounterSeat { seat: mut one } = first;
+        let CounterSeat { seat: two } = second;
+        self.table.shared.join_seat::<Both>(&mut one, two);
+        self.table.shared.load::<Looked>(&mut one, 0);
+        let two = self.table.shared.split_seat::<First>(&mut one);
+        (CounterSeat { seat: one }, CounterSeat { seat: two })
+    }
+
+    /// Ends the counters, given every seat that `make` gave. It takes no memory.
+    pub fn close(self, mut seats: Vec<CounterSeat>) -> Totals
+        requires own { All (IsSeatOf self) seats.items }
+        requires every { (number : ℕ) → number < self.seats → Contains (map (λ s. s.number) seats.items) number }
+        ensures shapes { result.shapes ≡ self.shapes }
+        ensures history { Account seats.items result }
+        ensures sums { (m k j : ℕ) → IsCounter self.shapes m k j → total_at result m k j ≡ sum_by (λ s. sum_by (added m k j) s.ops) seats.items % 2 ^ 64 }
+    {
+        let Counters {
+            table,
+            plan: _,
+            mut room,
+        } = self;
+        let Some(last) = seats.pop() else {
+            unreachable!()
+        };
+        let CounterSeat { seat: mut all } = last;
+        while let Some(next) = seats.pop() {
+            let CounterSeat { seat } = next;
+            table.shared.join_seat::<Both>(&mut all, seat);
+        }
+        let closed = table.close_with(all);
+        room.take_words(&closed);
+        closed.free();
+        room
+    }
+}

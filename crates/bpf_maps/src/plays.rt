@@ -1,0 +1,45 @@
+//! What each step tells.
+ghost use Rattle.std.specs.Prelude.{[], ◌++◌};
+ghost use Rattle.bpf_maps.specs.Rule.{loaded, fetched, looked, view, first_of, rest_of};
+
+use crate::view::View;
+use atomic_table::{Join, Play, Split};
+
+/// The seat's list grew by a load of the word.
+pub(crate) struct Loaded;
+
+impl Play<(), View> for Loaded {
+    ghost then = { loaded };
+}
+
+/// The seat's list grew by an add to the word.
+pub(crate) struct Fetched;
+
+impl Play<(), View> for Fetched {
+    ghost then = { fetched };
+}
+
+/// Nothing changed, and the seat's lists stand in one history: how a fact is read off the rule.
+pub(crate) struct Looked;
+
+impl Play<(), View> for Looked {
+    ghost then = { looked };
+}
+
+/// The first number goes to the new seat.
+pub(crate) struct First;
+
+impl Split<View> for First {
+    ghost left = { λ v. view v.shapes (rest_of v.parts) };
+
+    ghost right = { λ v. view v.shapes (first_of v.parts) };
+}
+
+/// The other's numbers come before the seat's own.
+pub(crate) struct Both;
+
+impl Join<View> for Both {
+    ghost both = { λ v w. view v.shapes (w.parts ++ v.parts) };
+
+    ghost spent = { view [] [] };
+}

@@ -1,0 +1,22 @@
+//! What holds of the counters' table between any two steps.
+use crate::view::View;
+use atomic_table::TableRule;
+use bpf_note::MapShape;
+
+/// What the table is told when it is made.
+#[derive(Drop)]
+pub struct Plan {
+    pub shapes: Vec<MapShape>,
+    pub seats: usize,
+}
+
+/// One legal history leaves the words, and its shares are the lists in the views.
+pub struct Rule;
+
+impl TableRule<(), View, Plan> for Rule {
+    ghost use Rattle.bpf_maps.specs.Rule.{Kept, first_view};
+
+    ghost holds = { λ plan. Kept plan.shapes.items plan.seats };
+
+    ghost first = { λ plan. first_view plan.shapes.items plan.seats };
+}

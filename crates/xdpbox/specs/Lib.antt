@@ -1,0 +1,5 @@
+pub mod Words
+pub mod Lines
+pub mod Executing
+pub mod Answer
+pub mod Seen

@@ -1,0 +1,13 @@
+-- What the code's values stand for.
+use Rattle.std.specs.Prelude.{string_bytes}
+use Rattle.xdpbox.specs.declared.request.Request.{Request}
+use Rattle.xdpbox.specs.declared.request.Request.TheVariants as code
+use Rattle.xdpbox.specs.declared.answer.Answer.{Answer}
+use Rattle.xdpbox.specs.Answer.{Said}
+use Rattle.xdpbox.specs.Words.{Wanted, exec}
+
+abbrev pub wanted_of : Request → Wanted
+wanted_of (code.Exec program packet) = exec program.now packet.now
+
+abbrev pub said_of : Answer → Said
+said_of a = (string_bytes a.text, a.status)

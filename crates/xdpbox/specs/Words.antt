@@ -1,0 +1,36 @@
+-- The program's command line, as data of `clap`, and what its words ask for.
+use Rattle.std.specs.Prelude.{ℕ, codes, true, List, [], ◌∷◌, Option, None, option_map, option_and_then, Bool, false, if◌then◌else◌}
+use Rattle.std.specs.Str.{bytes_eq}
+use Rattle.clap.specs.Words.{App, Kinds, Row, Rule, Text, fault_of, first_of, subcommand_of, new_app, new_rule, with_rule, with_subcommand}
+
+-- a word that has to be there
+abbrev pub wanted : List ℕ → Rule
+wanted id = record (new_rule id) { required = true }
+
+-- `exec PROGRAM PACKET`
+abbrev pub exec_app : App
+exec_app = with_rule (with_rule (new_app (codes "exec")) (wanted (codes "program"))) (wanted (codes "packet"))
+
+unfoldable pub program_app : App
+program_app = with_subcommand (new_app (codes "xdpbox")) exec_app.top
+
+-- what a call asks for
+pub data Wanted : Type 0 where
+  exec : Text → Text → Wanted
+
+-- `exec`, by what was found for its words
+abbrev pub exec_of : List Row → Option Wanted
+exec_of rows = option_and_then (λ program. option_map (λ packet. exec program packet) (first_of (codes "packet") rows)) (first_of (codes "program") rows)
+
+-- the subcommand that the words name, with what was found for its own words
+abbrev pub wanted_by : Text × List Row → Option Wanted
+wanted_by p = if bytes_eq p.0 (codes "exec") then exec_of p.1 else None
+
+-- the command line takes the words
+abbrev pub is_taken : Kinds → Bool
+is_taken [] = true
+is_taken (k ∷ ks) = false
+
+-- what the words ask for, by the meaning of the command line; nothing where it refuses them, a call for help included
+unfoldable pub wanted_of_words : List Text → Option Wanted
+wanted_of_words words = if is_taken (fault_of program_app words) then option_and_then wanted_by (subcommand_of program_app words) else None

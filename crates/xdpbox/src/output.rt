@@ -1,0 +1,37 @@
+//! Writing.
+ghost use Rattle.std.specs.Prelude.{ℕ, take};
+ghost use Rattle.std.specs.Bool.{OnTrue};
+ghost use Rattle.std.specs.Io.KnownBytes.{Appends};
+ghost use Rattle.xdpbox.specs.Answer.{Prints};
+
+use std::io::Write;
+
+/// The exit status where a write failed.
+const WRITE_FAILED: u8 = 4;
+
+/// Writes all the bytes, and says whether each write took some. A write that is interrupted has failed.
+fn put<W: Write>(output: &mut W, bytes: &[u8]) -> bool
+    ensures all { OnTrue result (Appends (W.contents output.old) (W.contents output.new) bytes.now) }
+    ensures front { (n : ℕ) × Appends (W.contents output.old) (W.contents output.new) (take n bytes.now) }
+{
+    let mut done = 0;
+    while done < bytes.len() {
+        match output.write(&bytes[done..]) {
+            Ok(0) => return false,
+            Ok(n) => done += n,
+            Err(_) => return false,
+        }
+    }
+    true
+}
+
+/// Prints a text, and gives the status, or 4 where a write failed.
+pub fn say<W: Write>(output: &mut W, text: &str, status: u8) -> u8
+    ensures { Prints (W.contents output.old) (W.contents output.new) (text.now, status) result }
+{
+    if put(output, text.as_bytes()) {
+        status
+    } else {
+        WRITE_FAILED
+    }
+}

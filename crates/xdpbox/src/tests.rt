@@ -1,0 +1,3 @@
+mod exec;
+mod failing;
+mod words;
