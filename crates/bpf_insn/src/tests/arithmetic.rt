@@ -1,5 +1,5 @@
 //! Values of the operations from outside. Each row names its source: D for this profile's stated results (the least number
-//! by -1, zero divisors), R for RFC 9669 section 4, K for lib/test_bpf.c of Linux 6.1, P for Python 3's integers reduced
+//! by -1, zero divisors), R for RFC 9669 section 4, K for values worked by hand from it, P for Python 3's integers reduced
 //! modulo 2 ^ 64 or 2 ^ 32.
 
 use crate::{
