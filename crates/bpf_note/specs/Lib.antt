@@ -3,3 +3,7 @@ pub mod State
 pub mod Bytes
 pub mod Regions
 pub mod History
+pub mod Facts
+pub mod Describes
+pub mod Join
+pub mod Parts
