@@ -2,3 +2,4 @@ mod StepLemmas
 mod LabelLemmas
 pub mod EdgeLemmas
 mod WorkedLemmas
+pub mod SoundLemmas

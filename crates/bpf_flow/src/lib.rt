@@ -1,6 +1,8 @@
 //! What one instruction does to the machine, and to what the verifier knows of it.
 #![tactic(auto)]
 
+mod access;
+mod computed;
 mod laws;
 mod registers;
 

@@ -1,0 +1,12 @@
+//! What arithmetic makes.
+
+use bpf_note::Val;
+
+/// What an operation makes of its operands.
+#[derive(Clone, Copy, Debug, PartialEq, Eq, Drop)]
+pub(crate) enum Computed {
+    /// A value.
+    Plain(Val),
+    /// An address in the packet with a base of its own, at most `top`.
+    Fresh { top: u32 },
+}
