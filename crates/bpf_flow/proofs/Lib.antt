@@ -3,3 +3,9 @@ mod LabelLemmas
 pub mod EdgeLemmas
 mod WorkedLemmas
 pub mod SoundLemmas
+pub mod AnswerLemmas
+pub mod RegisterLemmas
+pub mod IdLemmas
+pub mod ComputeLemmas
+pub mod SumLemmas
+pub mod ResultLemmas

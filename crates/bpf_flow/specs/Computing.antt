@@ -85,8 +85,8 @@ difference_of v w = full
 -- a range and a constant
 abbrev pub range_by : AluOp → ℕ → ℕ → ℕ → Val
 range_by And lo hi c = Num 0 (min hi c)
-range_by Rsh lo hi c = Num (computed Rsh true lo c) (computed Rsh true hi c)
-range_by Lsh lo hi c = if nat_lt (hi * 2 ^ (c % 64)) (2 ^ 64) then Num (computed Lsh true lo c) (computed Lsh true hi c) else full
+range_by Rsh lo hi c = Num (lo / 2 ^ (c % 64)) (hi / 2 ^ (c % 64))
+range_by Lsh lo hi c = if nat_lt (hi * 2 ^ (c % 64)) (2 ^ 64) then Num (computed Lsh true lo c) (hi * 2 ^ (c % 64)) else full
 range_by Mod lo hi c = if c == 0 then full else Num 0 (c - 1)
 range_by op lo hi c = full
 

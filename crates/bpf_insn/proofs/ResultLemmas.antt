@@ -98,6 +98,32 @@ swapped_fits Swap Bits16 a = omega arith
 swapped_fits Swap Bits32 a = omega arith
 swapped_fits Swap Bits64 a = omega arith
 
+-- without 64 bits the low half alone
+pub low_computed_fits : (op : AluOp) (a b : ℕ) → computed op false a b < 2 ^ 32
+unfolding computed
+low_computed_fits op a b = fits_32 op (a % 2 ^ 32) (b % 2 ^ 32) (mod_32 a) (mod_32 b)
+
+pub low_negated_fits : (a : ℕ) → negated false a < 2 ^ 32
+unfolding negated
+low_negated_fits a = omega arith
+
+pub low_moved_extended_fits : (size : Size) (a : ℕ) → moved_extended false size a < 2 ^ 32
+unfolding moved_extended
+low_moved_extended_fits size a = omega arith
+
+-- a swap keeps so many bytes
+pub swapped_16 : (kind : SwapKind) (a : ℕ) → swapped kind Bits16 a < 2 ^ 16
+unfolding swapped
+swapped_16 ToLittle a = omega arith
+swapped_16 ToBig a = omega arith
+swapped_16 Swap a = omega arith
+
+pub swapped_32 : (kind : SwapKind) (a : ℕ) → swapped kind Bits32 a < 2 ^ 32
+unfolding swapped
+swapped_32 ToLittle a = omega arith
+swapped_32 ToBig a = omega arith
+swapped_32 Swap a = omega arith
+
 pub computed_fits : (op : AluOp) (wide : Bool) (a b : ℕ) → computed op wide a b < 2 ^ 64
 unfolding computed
 computed_fits op true a b = fits_64 op (a % 2 ^ 64) (b % 2 ^ 64) (mod_64 a) (mod_64 b)

@@ -1,0 +1,36 @@
+-- What an answer of the rule says of its parts.
+use Rattle.std.proofs.Common.{◌≡◌, ℕ, Bool, true, false, ◌||◌, ◌&&◌, refl, Option, Some, None, not}
+use Rattle.std.specs.Prelude.{Result, Ok, Err}
+use Rattle.bpf_insn.specs.declared.refusal.Cause.{Cause}
+use Rattle.bpf_flow.specs.Edges.{Edges, unless, and_then, or_refuse}
+use Rattle.bpf_flow.specs.After.{at_target}
+
+pub unless_ok : {A : Type 0} (b : Bool) (c : Cause) (go : Result A Cause) (x : A) → unless b c go ≡ Ok x → (b ≡ false) × (go ≡ Ok x)
+unless_ok true c go x h = cc
+unless_ok false c go x h = (refl, h)
+
+pub and_then_ok : {A B : Type 0} (r : Result A Cause) (go : A → Result B Cause) (y : B) → and_then r go ≡ Ok y → (x : A) × (r ≡ Ok x) × (go x ≡ Ok y)
+and_then_ok (Ok x) go y h = (x, refl, h)
+and_then_ok (Err c) go y h = absurd (cc)
+
+pub at_target_ok : (o : Option ℕ) (edges : ℕ → Edges) (es : Edges) → at_target o edges ≡ Ok es → (q : ℕ) × (o ≡ Some q) × (edges q ≡ es)
+at_target_ok None edges es h = absurd (cc)
+at_target_ok (Some q) edges es h = (q, refl, cc)
+
+pub neither : (a b : Bool) → (a || b) ≡ false → (a ≡ false) × (b ≡ false)
+neither true b h = absurd (cc)
+neither false b h = (refl, h)
+
+pub each : (a b : Bool) → (a && b) ≡ true → (a ≡ true) × (b ≡ true)
+each true b h = (refl, h)
+each false b h = absurd (cc)
+
+pub flipped : (b : Bool) → not b ≡ false → b ≡ true
+flipped true h = refl
+flipped false h = absurd (cc)
+
+pub same_ok : {A : Type 0} (x y : A) → ◌≡◌ {A = Result A Cause} (Ok x) (Ok y) → x ≡ y
+same_ok x y h = cc
+
+pub same_some : {A : Type 0} (x y : A) → Some x ≡ Some y → x ≡ y
+same_some x y h = cc
