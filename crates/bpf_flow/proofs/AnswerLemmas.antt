@@ -34,3 +34,7 @@ same_ok x y h = cc
 
 pub same_some : {A : Type 0} (x y : A) → Some x ≡ Some y → x ≡ y
 same_some x y h = cc
+
+pub unless_again : {A : Type 0} (b : Bool) (c : Cause) (go : Result A Cause) (x : A) → b ≡ false → go ≡ Ok x → unless b c go ≡ Ok x
+unless_again true c go x e h = absurd (cc)
+unless_again false c go x e h = h

@@ -9,3 +9,5 @@ pub mod IdLemmas
 pub mod ComputeLemmas
 pub mod SumLemmas
 pub mod ResultLemmas
+pub mod ReachLemmas
+pub mod LoadLemmas

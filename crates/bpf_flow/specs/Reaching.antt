@@ -18,14 +18,14 @@ abbrev pub place_in : ℤ → ℕ → ℕ → Option ℕ
 place_in (pos p) z limit = if nat_le (p + z) limit then Some p else None
 place_in (negsuc m) z limit = None
 
+abbrev pub packet_place : Option ℕ → Result Access Cause
+packet_place None = Err cause.Packet
+packet_place (Some p) = Ok InPacket
+
 -- z bytes of the packet from an id's base and an offset on: within the id's safe bound
 abbrev pub in_packet : Option ℕ → ℤ → ℕ → Result Access Cause
 in_packet None at z = Err cause.Packet
 in_packet (Some safe) at z = packet_place (place_in at z safe)
-  where
-    packet_place : Option ℕ → Result Access Cause
-    packet_place None = Err cause.Packet
-    packet_place (Some p) = Ok InPacket
 
 abbrev pub on_stack : Option ℕ → Result Access Cause
 on_stack None = Err cause.Stack

@@ -1,1 +1,1 @@
-mod RegionLemmas
+pub mod RegionLemmas
