@@ -11,3 +11,4 @@ pub mod SumLemmas
 pub mod ResultLemmas
 pub mod ReachLemmas
 pub mod LoadLemmas
+pub mod StoreLemmas
