@@ -130,3 +130,14 @@ resolved_describes n s id v d h =
       low = d.low;
       safes = d.safes;
     }
+
+put_here : (f : ℕ → ℕ) (k x : ℕ) (b : Bool) → b ≡ nat_eq k k → cond b x (f k) ≡ x
+put_here f k x true e = refl
+put_here f k x false e = absurd (grind (arith, nat_tests))
+
+-- the same, with what the id stands for
+pub with_id_known : (n : Facts) (s : State) (id b a top : ℕ) → nat_eq packet_id id ≡ false → b ≤ top → b ≤ 0xFFFFF → Describes n s →
+    (d : Describes (with_id n id top) s) × (d.base id ≡ b) × (d.address id ≡ a)
+unfolding with_id_describes
+with_id_known n s id b a top other le low d =
+    (with_id_describes n s id b a top other le low d, put_here d.base id b (nat_eq id id) refl, put_here d.address id a (nat_eq id id) refl)

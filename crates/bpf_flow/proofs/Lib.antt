@@ -12,3 +12,5 @@ pub mod ResultLemmas
 pub mod ReachLemmas
 pub mod LoadLemmas
 pub mod StoreLemmas
+pub mod JumpLemmas
+pub mod CallLemmas

@@ -49,7 +49,7 @@ region_packet : (len : ℕ) (shapes : List Shape) (i z : ℕ) → i + z ≤ len 
 unfolding region
 region_packet len shapes i z h = grind (arith, nat_tests)
 
-region_stack : (len : ℕ) (shapes : List Shape) (i z : ℕ) → len ≤ 65535 → i + z ≤ 512 → region len shapes (stack_start + i) z ≡ InStack i
+pub region_stack : (len : ℕ) (shapes : List Shape) (i z : ℕ) → len ≤ 65535 → i + z ≤ 512 → region len shapes (stack_start + i) z ≡ InStack i
 unfolding region
 region_stack len shapes i z short h = grind (arith, nat_tests)
 
@@ -92,10 +92,10 @@ moved_stack a p off o e f = omega (arith, ints, e, f)
 counter_further : (c m k at a : ℕ) → a ≡ counter_address c m k 0 → at % 8 ≡ 0 → a + at ≡ counter_address c m k (at / 8)
 counter_further c m k at a e whole = omega (arith, e, whole)
 
-map_small : (shapes : List Shape) (m : ℕ) (c : Shape) → slice_get shapes m ≡ Some c → length shapes ≤ 4 → m < 4
+pub map_small : (shapes : List Shape) (m : ℕ) (c : Shape) → slice_get shapes m ≡ Some c → length shapes ≤ 4 → m < 4
 map_small shapes m c e few = omega (arith, some_inside shapes m c e, few)
 
-counter_fits : (c : Shape) (m k j : ℕ) → m < 4 → IsShape c → k < c.entries → j < c.counters → counter_address c.counters m k j < 2 ^ 64
+pub counter_fits : (c : Shape) (m k j : ℕ) → m < 4 → IsShape c → k < c.entries → j < c.counters → counter_address c.counters m k j < 2 ^ 64
 counter_fits c m k j few is hk hj =
     let few' : k ≤ 1024 = omega (arith, hk, is.most_entries) in
     let some : c.counters * k ≤ 8 * 1024 = mul-le-mul is.most_counters few' in

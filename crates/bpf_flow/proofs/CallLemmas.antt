@@ -1,0 +1,200 @@
+-- Lookups, and adds to counters.
+use Rattle.std.proofs.Common.{◌≡◌, ◌≢◌, ℕ, zero, suc, ◌+◌, ◌-◌, ◌*◌, ◌/◌, ◌%◌, ◌^◌, ◌<◌, ◌≤◌, ◌⊎◌, inl, inr, Bool, true, false, ◌&&◌, ◌||◌, not, refl, Option, Some, None, List, [], ◌∷◌, length, nat_eq, nat_lt, subst, sym, ap, ◌∙◌, arith, ℤ, pos, negsuc, ◌+ℤ◌}
+use Rattle.std.specs.Prelude.{if◌then◌else◌, nat_le, ◌==◌, slice_get, Result, Ok, Err}
+use Rattle.std.proofs.lemmas.Bool.Decides.{nat_tests}
+use Rattle.std.proofs.lemmas.Int.{ints}
+use Rattle.bpf_insn.specs.Register.{number}
+use Rattle.bpf_insn.specs.declared.register.Register.{Register}
+use Rattle.bpf_insn.specs.declared.refusal.Cause.TheVariants as cause
+use Rattle.bpf_note.specs.declared.val.Val.{Val}
+use Rattle.bpf_note.specs.declared.val.Val.TheVariants as val
+use Rattle.bpf_note.specs.Shape.{Shape, IsShape}
+use Rattle.bpf_note.specs.Bytes.{word_at}
+use Rattle.bpf_note.specs.State.{State, IsState, packet_start, stack_start, stack_end, references_start}
+use Rattle.bpf_note.specs.Regions.{Place, InStack, InCounter, region, counter_address}
+use Rattle.bpf_note.specs.Facts.{Facts, full, packet_id, is_unset, with_reg, with_id}
+use Rattle.bpf_note.specs.Describes.{Meaning, meaning, Describes, IsReading, Reads, IsValueOf}
+use Rattle.bpf_flow.specs.Step.{Outcome, Next, Adds, Fault, need, at_slot, with_number, is_frame, add_to, map_at, key_in, value_or_null, after_call, called, looked_up, reached}
+use Rattle.bpf_flow.specs.Edges.{Edges, goes_to, unless, and_then}
+use Rattle.bpf_flow.specs.Reaching.{place_in, is_counter, all_set, adds_at}
+use Rattle.bpf_flow.specs.After.{fetched, is_key, is_key_at, called_reg, with_call, looks_up}
+use Rattle.bpf_flow.specs.Sound.{Accounts, Covers}
+use Rattle.bpf_flow.specs.declared.access.Access.{Access}
+use Rattle.bpf_flow.specs.declared.access.Access.TheVariants.{InPacket, OnStack, InContext, AtValue}
+use Rattle.bpf_flow.proofs.AnswerLemmas.{unless_ok, same_ok, same_some, neither, flipped}
+use Rattle.bpf_flow.proofs.RegisterLemmas.{is_set_reads, one_covers, at_slot_describes, with_number_describes, number_small}
+use Rattle.bpf_flow.proofs.IdLemmas.{full_reads, with_id_known}
+use Rattle.bpf_flow.proofs.ReachLemmas.{Reaches, access_reaches, place_in_ok, counter_fits, map_small, region_stack}
+use Rattle.bpf_flow.proofs.LoadLemmas.{all_set_word, counter_at_ok}
+
+-- a value's address, or 0
+null_or_value : (shapes : List Shape) (m k : ℕ) (shape : Option Shape) → slice_get shapes m ≡ shape → (value_or_null shape m k ≡ 0) ⊎ IsValueOf shape m (value_or_null shape m k)
+null_or_value shapes m k None e = inl refl
+null_or_value shapes m k (Some c) e = by (nat_lt k c.entries) refl
+  where
+    by : (b : Bool) → b ≡ nat_lt k c.entries → ((if b then counter_address c.counters m k 0 else 0) ≡ 0) ⊎ IsValueOf (Some c) m (if b then counter_address c.counters m k 0 else 0)
+    by true t = inr (k, grind (arith, nat_tests), refl)
+    by false t = inl refl
+
+value_fits : (s : State) (m k : ℕ) (shape : Option Shape) → IsState s → slice_get s.shapes m ≡ shape → value_or_null shape m k < 2 ^ 64
+value_fits s m k None st e = omega arith
+value_fits s m k (Some c) st e = by (nat_lt k c.entries) refl
+  where
+    by : (b : Bool) → b ≡ nat_lt k c.entries → (if b then counter_address c.counters m k 0 else 0) < 2 ^ 64
+    by true t = let is = st.shapes m c e in counter_fits c m k 0 (map_small s.shapes m c e st.maps) is (grind (arith, nat_tests)) is.some_counters
+    by false t = omega arith
+
+call_word : (a x y : ℕ) (o : Option ℕ) (zero' five : Bool) → a < 2 ^ 64 → ((y : ℕ) → o ≡ Some y → y < 2 ^ 64) → (if zero' then Some a else if five then None else o) ≡ Some y → y < 2 ^ 64
+call_word a x y o true five fits h e = subst (λ (y : ℕ). y < 2 ^ 64) (same_some a y e) fits
+call_word a x y o false true fits h e = absurd (cc)
+call_word a x y o false false fits h e = h y e
+
+call_none : (a k : ℕ) (o : Option ℕ) (zero' five : Bool) → zero' ≡ nat_eq k 0 → 11 ≤ k → o ≡ None → (if zero' then Some a else if five then None else o) ≡ None
+call_none a k o true five e past none = absurd (grind (arith, nat_tests))
+call_none a k o false true e past none = refl
+call_none a k o false false e past none = none
+
+called_state : (s : State) (a : ℕ) → a < 2 ^ 64 → IsState s → IsState (called s a)
+called_state s a fits st = record {
+  words = λ k y e. call_word a k y (s.reg k) (nat_eq k 0) (nat_le k 5) fits (st.words k) e;
+  registers = λ k past. call_none a k (s.reg k) (nat_eq k 0) (nat_le k 5) refl past (st.registers k past);
+  stack_bytes = st.stack_bytes;
+  stack_size = st.stack_size;
+  packet_bytes = st.packet_bytes;
+  packet_size = st.packet_size;
+  ifindex_fits = st.ifindex_fits;
+  queue_fits = st.queue_fits;
+  maps = st.maps;
+  shapes = st.shapes;
+}
+
+call_reads : (w : Meaning) (m pc a : ℕ) (v : Val) (o : Option ℕ) (zero' five : Bool) → IsReading w (val.MaybeValue m pc) a → Reads w v o →
+    Reads w (if zero' then val.MaybeValue m pc else if five then val.Unset else v) (if zero' then Some a else if five then None else o)
+call_reads w m pc a v o true five h r = h
+call_reads w m pc a v o false true h r = refl
+call_reads w m pc a v o false false h r = r
+
+called_describes : (n : Facts) (s : State) (m pc a : ℕ) (d : Describes n s) → a < 2 ^ 64 → IsReading (meaning s d.base d.address) (val.MaybeValue m pc) a → Describes (with_call n m pc) (called s a)
+called_describes n s m pc a d fits r = record {
+  state = called_state s a fits d.state;
+  base = d.base;
+  address = d.address;
+  regs = λ k. call_reads (meaning s d.base d.address) m pc a (n.reg k) (s.reg k) (nat_eq k 0) (nat_le k 5) r (d.regs k);
+  kept = d.kept;
+  set = d.set;
+  start = d.start;
+  tops = d.tops;
+  low = d.low;
+  safes = d.safes;
+}
+
+-- the key
+key_at : (n : Facts) (at : ℤ) → is_key_at n (place_in at 4 512) ≡ true → (p : ℕ) × (at ≡ pos p) × (p + 4 ≤ 512) × (all_set n p 4 ≡ true)
+key_at n at e = by (place_in at 4 512) refl e
+  where
+    by : (o : Option ℕ) → place_in at 4 512 ≡ o → is_key_at n o ≡ true → (p : ℕ) × (at ≡ pos p) × (p + 4 ≤ 512) × (all_set n p 4 ≡ true)
+    by None f e = absurd (cc)
+    by (Some p) f e = let q = place_in_ok at 4 512 p f in (p, q.0, q.1, e)
+
+record Key (s : State) (a : ℕ) : Type 0 where
+  pub at : ℕ
+  pub key : ℕ
+  pub place : region (length s.packet) s.shapes a 4 ≡ InStack at
+  pub word : word_at s.stack at 4 ≡ Some key
+
+key_is : (n : Facts) (s : State) (v : Val) (a : ℕ) (d : Describes n s) → IsReading (meaning s d.base d.address) v a → is_key n v ≡ true → Key s a
+key_is n s (val.Stack off) a d r e =
+    let q = key_at n (pos 512 +ℤ off) e in
+    let at : a ≡ stack_start + q.0 = omega (arith, ints, q.1, r.0) in
+    let word = all_set_word n s q.0 4 d q.3 in
+    record { at = q.0; key = word.0; place = ap (λ (b : ℕ). region (length s.packet) s.shapes b 4) at ∙ region_stack (length s.packet) s.shapes q.0 4 d.state.packet_size q.2; word = word.1 }
+key_is n s val.Unset a d r e = absurd (cc)
+key_is n s (val.Num lo hi) a d r e = absurd (cc)
+key_is n s (val.Pkt id off) a d r e = absurd (cc)
+key_is n s val.PktEnd a d r e = absurd (cc)
+key_is n s val.Ctx a d r e = absurd (cc)
+key_is n s (val.Map m) a d r e = absurd (cc)
+key_is n s (val.MaybeValue m id) a d r e = absurd (cc)
+key_is n s (val.Value m) a d r e = absurd (cc)
+
+map_found : (s : State) (x m : ℕ) → x ≡ references_start + m → m < length s.shapes → map_at s x ≡ Some m
+map_found s x m e lt = by (nat_le references_start x && nat_lt (x - references_start) (length s.shapes)) refl
+  where
+    by : (b : Bool) → b ≡ (nat_le references_start x && nat_lt (x - references_start) (length s.shapes)) → (if b then Some (x - references_start) else None) ≡ Some m
+    by true t = ap Some (omega (arith, e))
+    by false t = absurd (grind (arith, nat_tests))
+
+other_id : (pc : ℕ) → pc < 4096 → nat_eq packet_id pc ≡ false
+other_id pc h = grind (arith, nat_tests)
+
+map_looks_up : (n : Facts) (s : State) (m x y : ℕ) (key : Val) (es : Edges) (d : Describes n s) → s.pc < 4096 → s.reg 1 ≡ Some x → s.reg 2 ≡ Some y →
+    IsReading (meaning s d.base d.address) (val.Map m) x → IsReading (meaning s d.base d.address) key y → looks_up n s.pc (val.Map m) key ≡ Ok es → Accounts es (looked_up s)
+map_looks_up n s m x y key es d small e f rx ry h =
+    let u = unless_ok (not (is_key n key)) cause.Argument (goes_to (s.pc + 1) (with_call (with_id n s.pc 0) m s.pc)) es h in
+    let k = key_is n s key y d ry (flipped (is_key n key) u.0) in
+    let a = value_or_null (slice_get s.shapes m) m k.key in
+    let fits : value_or_null (slice_get s.shapes m) m k.key < 2 ^ 64 = value_fits s m k.key (slice_get s.shapes m) d.state refl in
+    let known = with_id_known n s s.pc 0 (value_or_null (slice_get s.shapes m) m k.key) 0 (other_id s.pc small) (omega arith) (omega arith) d in
+    let reading : IsReading (meaning s known.0.base known.0.address) (val.MaybeValue m s.pc) (value_or_null (slice_get s.shapes m) m k.key) =
+        (sym known.2, null_or_value s.shapes m k.key (slice_get s.shapes m) refl) in
+    subst (λ (o : Option ℕ). Accounts es (need o (λ x. need (s.reg 2) (λ a. need (map_at s x) (λ m. need (key_in (region (length s.packet) s.shapes a 4) s) (λ k. Next (called s (value_or_null (slice_get s.shapes m) m k)))))))) (sym e)
+    (subst (λ (o : Option ℕ). Accounts es (need o (λ a. need (map_at s x) (λ m. need (key_in (region (length s.packet) s.shapes a 4) s) (λ k. Next (called s (value_or_null (slice_get s.shapes m) m k))))))) (sym f)
+    (subst (λ (o : Option ℕ). Accounts es (need o (λ m. need (key_in (region (length s.packet) s.shapes y 4) s) (λ k. Next (called s (value_or_null (slice_get s.shapes m) m k)))))) (sym (map_found s x m rx.0 rx.1))
+    (subst (λ (p : Place). Accounts es (need (key_in p s) (λ k. Next (called s (value_or_null (slice_get s.shapes m) m k))))) (sym k.place)
+    (subst (λ (o : Option ℕ). Accounts es (need o (λ k. Next (called s (value_or_null (slice_get s.shapes m) m k))))) (sym k.word)
+        (one_covers (s.pc + 1) (with_call (with_id n s.pc 0) m s.pc) es (called s (value_or_null (slice_get s.shapes m) m k.key)) refl
+            (called_describes (with_id n s.pc 0) s m s.pc (value_or_null (slice_get s.shapes m) m k.key) known.0 fits reading) u.1)))))
+
+-- a lookup that the rule allows
+pub lookup_sound : (n : Facts) (s : State) (v key : Val) (x y : ℕ) (es : Edges) (d : Describes n s) → s.pc < 4096 → s.reg 1 ≡ Some x → s.reg 2 ≡ Some y →
+    IsReading (meaning s d.base d.address) v x → IsReading (meaning s d.base d.address) key y → looks_up n s.pc v key ≡ Ok es → Accounts es (looked_up s)
+lookup_sound n s (val.Map m) key x y es d small e f rx ry h = map_looks_up n s m x y key es d small e f rx ry h
+lookup_sound n s val.Unset key x y es d small e f rx ry h = absurd (cc)
+lookup_sound n s (val.Num lo hi) key x y es d small e f rx ry h = absurd (cc)
+lookup_sound n s (val.Pkt id off) key x y es d small e f rx ry h = absurd (cc)
+lookup_sound n s val.PktEnd key x y es d small e f rx ry h = absurd (cc)
+lookup_sound n s (val.Stack off) key x y es d small e f rx ry h = absurd (cc)
+lookup_sound n s val.Ctx key x y es d small e f rx ry h = absurd (cc)
+lookup_sound n s (val.MaybeValue m id) key x y es d small e f rx ry h = absurd (cc)
+lookup_sound n s (val.Value m) key x y es d small e f rx ry h = absurd (cc)
+
+-- an add that the rule allows reaches a value's counter
+adds_ok : (n : Facts) (s : State) (v : Val) (a : ℕ) (o : ℤ) (u : Unit) (d : Describes n s) → IsReading (meaning s d.base d.address) v a → a < 2 ^ 64 → adds_at s.shapes v o ≡ Ok u →
+    (m : ℕ) × (v ≡ val.Value m) × (is_counter (slice_get s.shapes m) o ≡ true)
+adds_ok n s (val.Value m) a o u d r fits h = by (is_counter (slice_get s.shapes m) o) refl h
+  where
+    by : (b : Bool) → is_counter (slice_get s.shapes m) o ≡ b → (if b then Ok tt else Err cause.MapAccess) ≡ Ok u → (k : ℕ) × (val.Value m ≡ val.Value k) × (is_counter (slice_get s.shapes k) o ≡ true)
+    by true e h = (m, refl, e)
+    by false e h = absurd (cc)
+adds_ok n s val.Unset a o u d r fits h = absurd (cc)
+adds_ok n s (val.Num lo hi) a o u d r fits h = absurd (cc)
+adds_ok n s (val.Pkt id off) a o u d r fits h = absurd (cc)
+adds_ok n s val.PktEnd a o u d r fits h = absurd (cc)
+adds_ok n s (val.Stack off) a o u d r fits h = absurd (cc)
+adds_ok n s val.Ctx a o u d r fits h = absurd (cc)
+adds_ok n s (val.Map m) a o u d r fits h = absurd (cc)
+adds_ok n s (val.MaybeValue m id) a o u d r fits h = absurd (cc)
+
+-- after an add: the old number goes to src, or nowhere
+module _ (n : Facts) (s : State) (d : Describes n s) where
+  fetch_by : (m k j delta src : ℕ) (es : Edges) (b : Bool) → b ≡ false → src < 11 → goes_to (s.pc + 1) (with_reg n src full) ≡ Ok es →
+      Accounts es (if b then Fault else Adds m k j delta (λ x. with_number s (s.pc + 1) src x))
+  fetch_by m k j delta src es true e small h = absurd (cc)
+  fetch_by m k j delta src es false e small h = λ x fits.
+      one_covers (s.pc + 1) (with_reg n src full) es (with_number s (s.pc + 1) src x) refl (with_number_describes n s (s.pc + 1) src x full d small fits (full_reads (meaning s d.base d.address) x fits)) h
+
+  add_goes_on : (m k j delta src : ℕ) (fetch : Bool) (es : Edges) → (fetch && is_frame src) ≡ false → src < 11 → goes_to (s.pc + 1) (fetched fetch n src) ≡ Ok es →
+      Accounts es (add_to (InCounter m k j) s fetch src delta)
+  add_goes_on m k j delta src true es e small h = fetch_by m k j delta src es (is_frame src) e small h
+  add_goes_on m k j delta src false es e small h = λ x fits. one_covers (s.pc + 1) n es (at_slot s (s.pc + 1)) refl (at_slot_describes n s (s.pc + 1) d) h
+
+  -- an add that the rule allows
+  pub add_sound : (v : Val) (a delta src : ℕ) (o : ℤ) (fetch : Bool) (u : Unit) (es : Edges) → IsReading (meaning s d.base d.address) v a → a < 2 ^ 64 → adds_at s.shapes v o ≡ Ok u →
+      (fetch && is_frame src) ≡ false → src < 11 → goes_to (s.pc + 1) (fetched fetch n src) ≡ Ok es → Accounts es (add_to (reached s a o 8) s fetch src delta)
+  add_sound v a delta src o fetch u es r fits h e small g =
+      let q = adds_ok n s v a o u d r fits h in
+      let reading : IsReading (meaning s d.base d.address) (val.Value q.0) a = subst (λ (v : Val). IsReading (meaning s d.base d.address) v a) q.1 r in
+      let there = access_reaches n s d a fits o 8 (val.Value q.0) (AtValue q.0 o) reading refl in
+      let c = counter_at_ok n s d (slice_get s.shapes q.0) o q.2 in
+      let place = there c.0 c.1 c.2 c.3 c.4 c.5 refl in
+      subst (λ (p : Place). Accounts es (add_to p s fetch src delta)) (sym place.2) (add_goes_on q.0 place.0 place.1 delta src fetch es e small g)
