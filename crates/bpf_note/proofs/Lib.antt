@@ -1,1 +1,3 @@
 mod RegionLemmas
+pub mod PlaceLemmas
+pub mod BoundLemmas
