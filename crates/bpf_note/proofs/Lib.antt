@@ -1,3 +1,4 @@
 mod RegionLemmas
 pub mod PlaceLemmas
 pub mod BoundLemmas
+pub mod FactLemmas

@@ -1,5 +1,5 @@
 -- What is done to lists of bounds.
-use Rattle.std.specs.Prelude.{ℕ, zero, suc, ◌≡◌, List, [], ◌∷◌, Bool, Option, None, max, if◌then◌else◌, nat_lt, ◌==◌, ◌||◌, not, is_some}
+use Rattle.std.specs.Prelude.{ℕ, zero, suc, ◌≡◌, List, [], ◌∷◌, Bool, false, Option, None, Some, max, if◌then◌else◌, nat_lt, ◌==◌, ◌||◌, not, is_some}
 use Rattle.bpf_note.specs.declared.bound.Bound.{Bound}
 use Rattle.bpf_note.specs.State.{put}
 use Rattle.bpf_note.specs.Join.{lesser}
@@ -9,6 +9,10 @@ use Rattle.bpf_note.specs.Parts.{top_in, safe_in, IsNormal}
 abbrev pub place_of : List Bound → ℕ → ℕ
 place_of [] id = 0
 place_of (b ∷ bs) id = if nat_lt b.id id then suc (place_of bs id) else 0
+
+abbrev pub has_id : Option Bound → ℕ → Bool
+has_id None id = false
+has_id (Some b) id = b.id == id
 
 -- the bounds with what they say of one id replaced
 pub record IsSet (old : List Bound) (b : Bound) (new : List Bound) : Type 0 where

@@ -1,9 +1,10 @@
 -- What is done to slots of the stack.
-use Rattle.std.specs.Prelude.{ℕ, List, [], ◌∷◌, Bool, true, false, ◌&&◌, map, set, slice_index_or}
+use Rattle.std.specs.Prelude.{ℕ, ◌≡◌, ◌<◌, List, [], ◌∷◌, Bool, true, false, ◌&&◌, map, slice_index_or}
 use Rattle.bpf_note.specs.declared.val.Val.{Val}
 use Rattle.bpf_note.specs.declared.slot.Slot.{Slot}
 use Rattle.bpf_note.specs.declared.slot.Slot.TheVariants.{Kept, Bytes}
-use Rattle.bpf_note.specs.Join.{joined_value}
+use Rattle.bpf_note.specs.Join.{joined_value, joined_kept}
+use Rattle.bpf_note.specs.Parts.{kept_of, set_of}
 
 abbrev pub all_bytes : List Bool
 all_bytes = true ∷ true ∷ true ∷ true ∷ true ∷ true ∷ true ∷ true ∷ []
@@ -11,10 +12,6 @@ all_bytes = true ∷ true ∷ true ∷ true ∷ true ∷ true ∷ true ∷ true 
 abbrev pub set_bytes : Slot → List Bool
 set_bytes (Kept v) = all_bytes
 set_bytes (Bytes bytes) = bytes
-
--- byte b is set too, and no value is kept
-abbrev pub slot_with_byte : Slot → ℕ → Slot
-slot_with_byte slot b = Bytes (set (set_bytes slot) b true)
 
 -- the value that is kept is replaced
 abbrev pub slot_with : (Val → Val) → Slot → Slot
@@ -28,3 +25,8 @@ both xs ys = map (λ b. slice_index_or xs b false && slice_index_or ys b false) 
 abbrev pub joined_slot : Slot → Slot → Slot
 joined_slot (Kept a) (Kept b) = Kept (joined_value a b)
 joined_slot a b = Bytes (both (set_bytes a) (set_bytes b))
+
+-- what two slots say together is what the first says
+pub record IsCovered (a b : Slot) : Type 0 where
+  pub kept : joined_kept (kept_of a) (kept_of b) ≡ kept_of a
+  pub set : (k : ℕ) → k < 8 → (set_of a k && set_of b k) ≡ set_of a k

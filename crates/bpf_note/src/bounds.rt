@@ -1,8 +1,8 @@
 //! Lists of what is known of ids: rising ids, each with something to say.
-ghost use Rattle.std.specs.Prelude.{◌≡◌, ◌↔◌, [], IsTrue, IfOk, OnOk, OnErr, ◌++◌};
+ghost use Rattle.std.specs.Prelude.{◌≡◌, ◌↔◌, [], IsTrue, IfOk, OnOk, OnErr, ◌++◌, ◌≤◌, length, slice_get};
 ghost use Rattle.bpf_note.specs.Join.{lesser};
 ghost use Rattle.bpf_note.specs.Parts.{top_in, safe_in, IsNormal};
-ghost use Rattle.bpf_note.specs.Bounds.{place_of, IsSet, AreJoined, says, alone, paired, with_said, all_alone};
+ghost use Rattle.bpf_note.specs.Bounds.{place_of, has_id, IsSet, AreJoined, says, alone, paired, with_said, all_alone};
 
 use crate::bound::Bound;
 use std::alloc::{AllocError, Global};
@@ -38,8 +38,7 @@ pub(crate) fn set_bound(bounds: &mut Vec<Bound>, new: Bound) -> Result<(), Alloc
     ensures err { OnErr result (bounds.new.items ≡ bounds.old.items) }
 {
     let at = place(bounds, new.id);
-    let found = at < bounds.len() && bounds[at].id == new.id;
-    match (found, says(new)) {
+    match (is_at(bounds, at, new.id), says(new)) {
         (true, true) => bounds[at] = new,
         (true, false) => {
             bounds.remove(at);
@@ -52,7 +51,8 @@ pub(crate) fn set_bound(bounds: &mut Vec<Bound>, new: Bound) -> Result<(), Alloc
 
 /// How many bounds are of lesser ids.
 fn place(bounds: &[Bound], id: u16) -> usize
-    ensures { result ≡ place_of bounds.now id }
+    ensures value { result ≡ place_of bounds.now id }
+    ensures inside { result ≤ length bounds.now }
 {
     for i in 0..bounds.len() {
         if id <= bounds[i].id {
@@ -60,6 +60,16 @@ fn place(bounds: &[Bound], id: u16) -> usize
         }
     }
     bounds.len()
+}
+
+/// Whether the bound at a place is of the id.
+fn is_at(bounds: &[Bound], at: usize, id: u16) -> bool
+    ensures { result ≡ has_id (slice_get bounds.now at) id }
+{
+    match bounds.get(at) {
+        Some(bound) => bound.id == id,
+        None => false,
+    }
 }
 
 /// Whether a bound says anything.

@@ -1,10 +1,10 @@
 //! What is known where either of two notes may describe the state.
-ghost use Rattle.std.specs.Prelude.{◌≡◌, ◌⊎◌, ◌↔◌, ◌&&◌, ◌<◌, ℕ, slice_index_or, IfOk, IsTrue};
+ghost use Rattle.std.specs.Prelude.{◌≡◌, ◌⊎◌, ◌↔◌, ◌&&◌, ◌<◌, ℕ, slice_index_or, false, IfOk, IsTrue};
 ghost use Rattle.bpf_note.specs.State.{State};
 ghost use Rattle.bpf_note.specs.Describes.{Describes};
 ghost use Rattle.bpf_note.specs.Join.{joined, joined_value, is_same_pointer};
 ghost use Rattle.bpf_note.specs.Parts.{facts, no_bytes};
-ghost use Rattle.bpf_note.specs.Slots.{both, joined_slot};
+ghost use Rattle.bpf_note.specs.Slots.{both, joined_slot, IsCovered};
 
 use crate::bounds::{covers_bounds, join_bounds};
 use crate::note::Note;
@@ -148,12 +148,30 @@ fn covers_registers(a: &[Val; 11], b: &[Val; 11]) -> bool
 
 /// Whether each slot of the first is the join of the two.
 fn covers_stack(a: &[Slot; 64], b: &[Slot; 64]) -> bool
-    ensures { IsTrue result ↔ ((j : ℕ) → joined_slot (slice_index_or a.now j no_bytes) (slice_index_or b.now j no_bytes) ≡ slice_index_or a.now j no_bytes) }
+    ensures { IsTrue result ↔ ((j : ℕ) → IsCovered (slice_index_or a.now j no_bytes) (slice_index_or b.now j no_bytes)) }
 {
     for i in 0..64 {
-        if join_slots(a[i], b[i]) != a[i] {
+        if !covers_slot(a[i], b[i]) {
             return false;
         }
     }
     true
+}
+
+/// Whether the first is the join of the two.
+fn covers_slot(a: Slot, b: Slot) -> bool
+    ensures { IsTrue result ↔ IsCovered a b }
+{
+    match (a, b) {
+        (Slot::Kept(a), Slot::Kept(b)) => join_value(a, b) == a,
+        (Slot::Kept(_), Slot::Bytes(_)) => false,
+        (Slot::Bytes(a), b) => covers_bytes(a, set_bytes(b)),
+    }
+}
+
+/// Whether the bytes that are set on both sides are those of the first.
+fn covers_bytes(a: [bool; 8], b: [bool; 8]) -> bool
+    ensures { IsTrue result ↔ ((k : ℕ) → k < 8 → (slice_index_or a k false && slice_index_or b k false) ≡ slice_index_or a k false) }
+{
+    both(a, b) == a
 }

@@ -7,11 +7,15 @@ ghost use Rattle.bpf_note.specs.Join.{joined};
 ghost use Rattle.bpf_note.specs.Parts.{facts};
 
 use crate::note::Note;
+use crate::slots::have_eight_bytes;
 
 /// Two notes that say the same are equal.
 pub fn notes_that_say_the_same_are_equal(a: &Note, b: &Note)
     ensures { facts a.now ≡ facts b.now → a.now ≡ b.now }
-{}
+{
+    have_eight_bytes(&a.slots);
+    have_eight_bytes(&b.slots);
+}
 
 /// The join of what is known with itself is itself.
 pub fn joins_with_itself_change_nothing()

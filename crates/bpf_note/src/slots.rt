@@ -1,8 +1,9 @@
 //! What is done to values, registers and slots of the stack.
-ghost use Rattle.std.specs.Prelude.{◌≡◌, ◌<◌, ℕ, slice_index_or};
+ghost use Rattle.std.specs.Prelude.{◌≡◌, ◌<◌, ℕ, None, true, slice_index_or, length};
 ghost use Rattle.bpf_note.specs.Facts.{forgotten, resolved};
-ghost use Rattle.bpf_note.specs.Parts.{no_bytes};
-ghost use Rattle.bpf_note.specs.Slots.{set_bytes, slot_with_byte, slot_with};
+ghost use Rattle.bpf_note.specs.State.{put};
+ghost use Rattle.bpf_note.specs.Parts.{no_bytes, kept_of, set_of};
+ghost use Rattle.bpf_note.specs.Slots.{set_bytes, slot_with};
 
 use crate::slot::Slot;
 use crate::val::Val;
@@ -99,9 +100,26 @@ pub(crate) fn set_bytes(slot: Slot) -> [bool; 8]
 /// A slot of which one more byte is set, and that keeps no value any more.
 pub(crate) fn slot_with_byte(slot: Slot, byte: u16) -> Slot
     requires { byte < 8 }
-    ensures { result ≡ slot_with_byte slot byte }
+    ensures kept { kept_of result ≡ None }
+    ensures set { (k : ℕ) → k < 8 → set_of result k ≡ put (set_of slot) byte true k }
 {
     let mut bytes = set_bytes(slot);
     bytes[usize::from(byte)] = true;
     Slot::Bytes(bytes)
+}
+
+/// A slot has eight bytes.
+pub(crate) fn has_eight_bytes(slot: Slot)
+    ensures { length (set_bytes slot) ≡ 8 }
+{
+    let _bytes = set_bytes(slot);
+}
+
+/// Each slot has eight bytes.
+pub(crate) fn have_eight_bytes(slots: &[Slot; 64])
+    ensures { (j : ℕ) → length (set_bytes (slice_index_or slots.now j no_bytes)) ≡ 8 }
+{
+    for i in 0..64 {
+        has_eight_bytes(slots[i]);
+    }
 }
