@@ -1,13 +1,13 @@
 -- Lists of bounds: looking an id up, and setting what is said of one.
 use Rattle.std.proofs.Common.{◌≡◌, ◌≢◌, ℕ, zero, suc, ◌+◌, ◌<◌, ◌≤◌, Bool, true, false, refl, Option, Some, None, List, [], ◌∷◌, ◌++◌, max, nat_eq, sym, ap, ◌∙◌, arith, cond, subst, set, length, take, drop, get_or, ◌⊎◌, inl, inr}
-use Rattle.std.specs.Prelude.{if◌then◌else◌, nat_lt, ◌==◌, ◌||◌, not, is_some}
+use Rattle.std.specs.Prelude.{if◌then◌else◌, nat_lt, ◌==◌, ◌||◌, not, is_some, slice_get}
 use Rattle.std.proofs.lemmas.Bool.Decides.{nat_tests}
 use Rattle.std.proofs.lemmas.List.{take-append-drop}
 use Rattle.std.proofs.Math.Seq.{drop-cons}
 use Rattle.bpf_note.specs.declared.bound.Bound.{Bound}
 use Rattle.bpf_note.specs.State.{put}
 use Rattle.bpf_note.specs.Parts.{top_in, safe_in, Says, IsNormal, IsNormalFrom}
-use Rattle.bpf_note.specs.Bounds.{place_of, IsSet, says, with_said}
+use Rattle.bpf_note.specs.Bounds.{place_of, has_id, IsSet, says, with_said}
 
 pub says_it : (b : Bound) → says b ≡ true → Says b
 says_it b e = by (b.top == 0) b.safe refl refl e
@@ -247,3 +247,64 @@ same_bounds least (x ∷ xs) (y ∷ ys) n m h = by (order x.id y.id) (λ e. same
         let heads : x ≡ y = same_bound x y e top safe in
         let tails : xs ≡ ys = ih e in
         cc
+
+-- the four ways to set what is said of an id
+id_there : (xs : List Bound) (p id : ℕ) (d : Bound) → has_id (slice_get xs p) id ≡ true → (p < length xs) × ((get_or xs p d).id ≡ id)
+id_there [] p id d e = absurd (let wrong : false ≡ true = e in cc)
+id_there (x ∷ xs) zero id d e = (omega arith, grind (arith, nat_tests))
+id_there (x ∷ xs) (suc p) id d e = let ih = id_there xs p id d e in (omega arith, ih.1)
+
+id_not_there : (xs : List Bound) (p id : ℕ) (d : Bound) → has_id (slice_get xs p) id ≡ false → p < length xs → (get_or xs p d).id ≢ id
+id_not_there [] p id d e lt = absurd (omega arith)
+id_not_there (x ∷ xs) zero id d e lt = grind (arith, nat_tests)
+id_not_there (x ∷ xs) (suc p) id d e lt = id_not_there xs p id d e (omega arith)
+
+pub place_inside : (xs : List Bound) (id : ℕ) → place_of xs id ≤ length xs
+place_inside [] id = omega arith
+place_inside (x ∷ xs) id = by (nat_lt x.id id) (place_inside xs id)
+  where
+    by : (less : Bool) → place_of xs id ≤ length xs → cond less (suc (place_of xs id)) 0 ≤ suc (length xs)
+    by true h = omega arith
+    by false h = omega arith
+
+said_true : (b : Bound) (xs : List Bound) → says b ≡ true → with_said b xs ≡ b ∷ xs
+said_true b xs e = ap (λ (s : Bool). cond s (b ∷ xs) xs) e
+
+said_false : (b : Bound) (xs : List Bound) → says b ≡ false → with_said b xs ≡ xs
+said_false b xs e = ap (λ (s : Bool). cond s (b ∷ xs) xs) e
+
+set_splits : (xs : List Bound) (p : ℕ) (b : Bound) → p < length xs → set xs p b ≡ take p xs ++ b ∷ drop (suc p) xs
+set_splits [] p b h = absurd (omega arith)
+set_splits (x ∷ xs) zero b h = refl
+set_splits (x ∷ xs) (suc p) b h = ap (λ (ys : List Bound). x ∷ ys) (set_splits xs p b (omega arith))
+
+pub set_over : (xs : List Bound) (p : ℕ) (b : Bound) → IsNormal xs → p ≡ place_of xs b.id → has_id (slice_get xs p) b.id ≡ true → says b ≡ true → IsSet xs b (set xs p b)
+set_over xs p b n e h s =
+    let q : ℕ = place_of xs b.id in
+    let t = id_there xs q b.id b (ap (λ (k : ℕ). has_id (slice_get xs k) b.id) (sym e) ∙ h) in
+    let same : take q xs ++ with_said b (drop (suc q) xs) ≡ set xs p b =
+        ap (λ (ys : List Bound). take q xs ++ ys) (said_true b (drop (suc q) xs) s) ∙ sym (set_splits xs q b t.0) ∙ ap (λ (k : ℕ). set xs k b) (sym e) in
+    subst (IsSet xs b) same (set_found xs b b n t.0 t.1)
+
+pub set_out : (xs : List Bound) (p : ℕ) (b : Bound) → IsNormal xs → p ≡ place_of xs b.id → has_id (slice_get xs p) b.id ≡ true → says b ≡ false → IsSet xs b (take p xs ++ drop (suc p) xs)
+set_out xs p b n e h s =
+    let q : ℕ = place_of xs b.id in
+    let t = id_there xs q b.id b (ap (λ (k : ℕ). has_id (slice_get xs k) b.id) (sym e) ∙ h) in
+    let same : take q xs ++ with_said b (drop (suc q) xs) ≡ take p xs ++ drop (suc p) xs =
+        ap (λ (ys : List Bound). take q xs ++ ys) (said_false b (drop (suc q) xs) s) ∙ ap (λ (k : ℕ). take k xs ++ drop (suc k) xs) (sym e) in
+    subst (IsSet xs b) same (set_found xs b b n t.0 t.1)
+
+pub set_in : (xs : List Bound) (p : ℕ) (b : Bound) → IsNormal xs → p ≡ place_of xs b.id → has_id (slice_get xs p) b.id ≡ false → says b ≡ true → IsSet xs b (take p xs ++ b ∷ drop p xs)
+set_in xs p b n e h s =
+    let q : ℕ = place_of xs b.id in
+    let t = id_not_there xs q b.id b (ap (λ (k : ℕ). has_id (slice_get xs k) b.id) (sym e) ∙ h) in
+    let same : take q xs ++ with_said b (drop q xs) ≡ take p xs ++ b ∷ drop p xs =
+        ap (λ (ys : List Bound). take q xs ++ ys) (said_true b (drop q xs) s) ∙ ap (λ (k : ℕ). take k xs ++ b ∷ drop k xs) (sym e) in
+    subst (IsSet xs b) same (set_missing xs b b n t)
+
+pub set_not : (xs : List Bound) (p : ℕ) (b : Bound) → IsNormal xs → p ≡ place_of xs b.id → has_id (slice_get xs p) b.id ≡ false → says b ≡ false → IsSet xs b xs
+set_not xs p b n e h s =
+    let q : ℕ = place_of xs b.id in
+    let t = id_not_there xs q b.id b (ap (λ (k : ℕ). has_id (slice_get xs k) b.id) (sym e) ∙ h) in
+    let same : take q xs ++ with_said b (drop q xs) ≡ xs = ap (λ (ys : List Bound). take q xs ++ ys) (said_false b (drop q xs) s) ∙ whole q xs in
+    subst (IsSet xs b) same (set_missing xs b b n t)

@@ -3,6 +3,7 @@ use Rattle.std.proofs.Common.{◌≡◌, ◌≢◌, ℕ, zero, suc, ◌+◌, ◌
 use Rattle.std.specs.Prelude.{slice_index_or, option_map, if◌then◌else◌, ◌==◌}
 use Rattle.std.proofs.lemmas.Bool.Decides.{nat_tests}
 use Rattle.std.proofs.lemmas.List.{get_or-set_same, get_or-set_other}
+use Rattle.std.specs.Prelude.{Result, Ok, Err, OnOk}
 use mathlib.Core.Path.{fun_ext}
 use Rattle.bpf_note.specs.declared.val.Val.{Val}
 use Rattle.bpf_note.specs.declared.val.Val.TheVariants.{Unset}
@@ -202,3 +203,7 @@ facts_joined n a b regs slots bounds = made
     (fun_ext (λ i. ap (λ (s : Slot). set_of s (i % 8)) (slots (i / 8)) ∙ set_joined (slice_index_or a.slots (i / 8) no_bytes) (slice_index_or b.slots (i / 8) no_bytes) (i % 8) (omega arith)))
     (fun_ext bounds.tops)
     (fun_ext bounds.safes)
+
+pub on_ok : {A E P Q : Type 0} (r : Result A E) → (P → Q) → OnOk r P → OnOk r Q
+on_ok (Ok x) f h = f h
+on_ok (Err e) f h = tt
