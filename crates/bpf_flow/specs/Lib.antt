@@ -6,3 +6,4 @@ pub mod Reaching
 pub mod Learning
 pub mod After
 pub mod Sound
+pub mod Gives

@@ -2,12 +2,18 @@
 #![tactic(auto)]
 
 mod access;
+mod after;
 mod computed;
+mod computing;
 mod laws;
+mod learning;
+mod reaching;
 mod registers;
+mod successors;
 
 pub use laws::{
     labels_fit_their_instruction, no_step_writes_the_frame_pointer, one_label_one_state,
     steps_follow_edges,
 };
 pub use registers::{jump_target, next_slot, reads, writes};
+pub use successors::{Successor, Successors};

@@ -7,3 +7,5 @@ pub mod Facts
 pub mod Describes
 pub mod Join
 pub mod Parts
+pub mod Slots
+pub mod Bounds

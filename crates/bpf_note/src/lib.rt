@@ -2,13 +2,23 @@
 #![tactic(auto)]
 
 mod bound;
+mod bounds;
+mod joins;
+mod laws;
 mod layout;
 mod note;
 mod op;
 mod shape;
 mod slot;
+mod slots;
 mod val;
 
+pub use joins::{covers, join};
+pub use laws::{
+    joins_describe_what_either_does, joins_take_either_order, joins_with_itself_change_nothing,
+    notes_that_say_the_same_are_equal, the_entry_describes_every_start,
+    the_entry_describes_what_is_begun,
+};
 pub use layout::{counters_are_found, found_counters_lie_there, packets_end};
 pub use note::Note;
 pub use op::Op;

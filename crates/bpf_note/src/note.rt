@@ -1,10 +1,14 @@
 //! What is known of a state before an instruction.
-ghost use Rattle.std.specs.Prelude.{◌≡◌, ◌<◌, ◌≤◌, ◌⊎◌, ◌↔◌, ℕ, IsTrue, IfOk, OnOk, OnErr, Some, None};
-ghost use Rattle.bpf_note.specs.Facts.{Facts, with_reg, with_kept, with_byte, with_top, with_safe, with_id, with_each, resolved, entry};
-ghost use Rattle.bpf_note.specs.Parts.{facts};
+ghost use Rattle.std.specs.Prelude.{◌≡◌, ◌<◌, ◌≤◌, ◌⊎◌, ◌↔◌, ℕ, IsTrue, IfOk, OnOk, OnErr, slice_index_or};
+ghost use Rattle.bpf_note.specs.Facts.{Facts, with_reg, with_kept, with_byte, with_top, with_safe, with_id, with_each, resolved, entry, entry_reg};
+ghost use Rattle.bpf_note.specs.Parts.{facts, no_bytes};
 
 use crate::bound::Bound;
+use crate::bounds::{safe_of, set_bound, top_of};
 use crate::slot::Slot;
+use crate::slots::{
+    forget_in_registers, forget_in_stack, resolve_in_registers, resolve_in_stack, slot_with_byte,
+};
 use crate::val::Val;
 use std::alloc::{AllocError, Global};
 use std::marker::Model;
@@ -14,9 +18,9 @@ use std::marker::Model;
 /// equal where they say the same.
 #[derive(Drop)]
 pub struct Note {
-    regs: [Val; 11],
-    slots: [Slot; 64],
-    bounds: Vec<Bound>,
+    pub(crate) regs: [Val; 11],
+    pub(crate) slots: [Slot; 64],
+    pub(crate) bounds: Vec<Bound>,
 }
 
 impl Model for Note {
@@ -50,4 +54,149 @@ impl Note {
     {
         self.regs[usize::from(number)] = value;
     }
+
+    /// The value that a slot of eight stack bytes keeps, if it keeps one.
+    #[tactic(auto, unfolding(crate::specs::Parts::facts))]
+    pub fn kept(&self, slot: u8) -> Option<Val>
+        ensures { result ≡ (facts self.now).kept slot }
+    {
+        match self.slots.get(usize::from(slot)) {
+            Some(Slot::Kept(value)) => Some(*value),
+            _ => None,
+        }
+    }
+
+    /// Whether a stack byte is set.
+    #[tactic(auto, unfolding(crate::specs::Parts::facts))]
+    pub fn is_set(&self, byte: u16) -> bool
+        ensures { result ≡ (facts self.now).set byte }
+    {
+        match self.slots.get(usize::from(byte / 8)) {
+            Some(Slot::Kept(_)) => true,
+            Some(Slot::Bytes(bytes)) => bytes[usize::from(byte % 8)],
+            None => false,
+        }
+    }
+
+    /// Keeps a value in a slot.
+    pub fn keep(&mut self, slot: u8, value: Val)
+        requires { slot < 64 }
+        ensures { facts self.new ≡ with_kept (facts self.old) slot value }
+    {
+        self.slots[usize::from(slot)] = Slot::Kept(value);
+    }
+
+    /// Sets a stack byte. Its slot keeps no value any more.
+    pub fn set_byte(&mut self, byte: u16)
+        requires { byte < 512 }
+        ensures { facts self.new ≡ with_byte (facts self.old) byte }
+    {
+        let at = usize::from(byte / 8);
+        self.slots[at] = slot_with_byte(self.slots[at], byte % 8);
+    }
+
+    /// The greatest base of an id.
+    #[tactic(auto, unfolding(crate::specs::Parts::facts))]
+    pub fn top(&self, id: u16) -> u32
+        ensures { result ≡ (facts self.now).top id }
+    {
+        top_of(&self.bounds, id)
+    }
+
+    /// How many bytes from an id's base on lie in the packet, if that is known.
+    #[tactic(auto, unfolding(crate::specs::Parts::facts))]
+    pub fn safe(&self, id: u16) -> Option<u32>
+        ensures { result ≡ (facts self.now).safe id }
+    {
+        safe_of(&self.bounds, id)
+    }
+
+    /// Sets the greatest base of an id. An `Err` changes nothing.
+    pub fn set_top(&mut self, id: u16, top: u32) -> Result<(), AllocError>
+        ensures ok { OnOk result (facts self.new ≡ with_top (facts self.old) id top) }
+        ensures err { OnErr result (self.new ≡ self.old) }
+    {
+        let safe = safe_of(&self.bounds, id);
+        set_bound(&mut self.bounds, Bound { id, top, safe })
+    }
+
+    /// Sets the safe bound of an id. An `Err` changes nothing.
+    pub fn set_safe(&mut self, id: u16, safe: Option<u32>) -> Result<(), AllocError>
+        ensures ok { OnOk result (facts self.new ≡ with_safe (facts self.old) id safe) }
+        ensures err { OnErr result (self.new ≡ self.old) }
+    {
+        let top = top_of(&self.bounds, id);
+        set_bound(&mut self.bounds, Bound { id, top, safe })
+    }
+
+    /// Makes an id: what carried it before is any number, and nothing but its greatest base is known. An `Err` changes nothing.
+    pub fn make_id(&mut self, id: u16, top: u32) -> Result<(), AllocError>
+        ensures ok { OnOk result (facts self.new ≡ with_id (facts self.old) id top) }
+        ensures err { OnErr result (self.new ≡ self.old) }
+    {
+        set_bound(
+            &mut self.bounds,
+            Bound {
+                id,
+                top,
+                safe: None,
+            },
+        )?;
+        self.regs = forget_in_registers(&self.regs, id);
+        self.slots = forget_in_stack(&self.slots, id);
+        Ok(())
+    }
+
+    /// Puts a value in place of each address or 0 that carries the id.
+    pub fn resolve(&mut self, id: u16, value: Val)
+        ensures { facts self.new ≡ with_each (facts self.old) (resolved id value) }
+    {
+        self.regs = resolve_in_registers(&self.regs, id, value);
+        self.slots = resolve_in_stack(&self.slots, id, value);
+    }
+
+    /// What is known before the first instruction. It takes no memory.
+    pub fn entry(alloc: Global) -> Note
+        ensures { facts result ≡ entry }
+    {
+        Note {
+            regs: entry_registers(),
+            slots: no_slots(),
+            bounds: Vec::new(alloc),
+        }
+    }
+
+    /// The same note again.
+    pub fn copy(&self, alloc: Global) -> Result<Note, AllocError>
+        ensures { IfOk result (λ n. n ≡ self.now) }
+    {
+        let bounds = self.bounds.to_vec(alloc)?;
+        Ok(Note {
+            regs: self.regs,
+            slots: self.slots,
+            bounds,
+        })
+    }
+
+    /// Whether the two notes are equal: they say the same.
+    pub fn same_as(&self, other: &Note) -> bool
+        ensures { IsTrue result ↔ (self.now ≡ other.now) }
+    {
+        self.regs == other.regs && self.slots == other.slots && self.bounds == other.bounds
+    }
+}
+
+fn entry_registers() -> [Val; 11]
+    ensures { (k : ℕ) → slice_index_or result k Val.Unset ≡ entry_reg k }
+{
+    let mut registers = [Val::Unset; 11];
+    registers[1] = Val::Ctx;
+    registers[10] = Val::Stack { off: 0 };
+    registers
+}
+
+fn no_slots() -> [Slot; 64]
+    ensures { (j : ℕ) → slice_index_or result j no_bytes ≡ no_bytes }
+{
+    [Slot::Bytes([false; 8]); 64]
 }

@@ -7,36 +7,21 @@ pub enum Val {
     /// Anything, or nothing.
     Unset,
     /// A number from `lo` to `hi`, unsigned.
-    Num {
-        lo: u64,
-        hi: u64,
-    },
+    Num { lo: u64, hi: u64 },
     /// The address `off` bytes behind the base of `id` in the packet.
-    Pkt {
-        id: u16,
-        off: u16,
-    },
+    Pkt { id: u16, off: u16 },
     /// The address of the packet's end.
     PktEnd,
     /// The address `off` bytes from the stack's end, -512 to 0.
-    Stack {
-        off: i16,
-    },
+    Stack { off: i16 },
     /// The address of the context.
     Ctx,
     /// A reference to map `m`.
-    Map {
-        m: u32,
-    },
+    Map { m: u32 },
     /// The address of a value of map `m`, or 0: the same for all that carry `id`.
-    MaybeValue {
-        m: u32,
-        id: u16,
-    },
+    MaybeValue { m: u32, id: u16 },
     /// The address of a value of map `m`.
-    Value {
-        m: u32,
-    },
+    Value { m: u32 },
 }
 
 impl Val {

@@ -1,0 +1,32 @@
+-- What the code answers, seen as the rule's answer.
+use Rattle.std.specs.Prelude.{ℕ, ◌+◌, ◌≡◌, ◌≤◌, List, [], ◌∷◌, Result, Ok, Err}
+use Rattle.bpf_insn.specs.declared.refusal.Cause.{Cause}
+use Rattle.bpf_insn.specs.declared.refusal.Cause.TheVariants.{Memory}
+use Rattle.bpf_note.specs.Parts.{facts}
+use Rattle.bpf_flow.specs.declared.successors.Successors.{Successors}
+use Rattle.bpf_flow.specs.declared.successors.Successors.TheVariants.{None, One, Two}
+use Rattle.bpf_flow.specs.Edges.{Edges, Answer}
+use Rattle.bpf_flow.specs.declared.access.Access.{Access}
+use Rattle.bpf_flow.specs.declared.access.Access.TheVariants.{InPacket, OnStack, InContext, AtValue}
+
+-- bytes of the stack that are reached lie in it
+abbrev pub IsInside : Access → ℕ → Type 0
+IsInside InPacket z = Unit {0}
+IsInside (OnStack p) z = p + z ≤ 512
+IsInside (InContext o) z = Unit {0}
+IsInside (AtValue m o) z = Unit {0}
+
+-- the edges, the next slot before a jump's target
+abbrev pub edges_of : Successors → Edges
+edges_of None = []
+edges_of (One e) = (e.pc, facts e.note) ∷ []
+edges_of (Two e f) = (e.pc, facts e.note) ∷ (f.pc, facts f.note) ∷ []
+
+abbrev pub Fails : Cause → Answer → Type 0
+Fails Memory a = Unit {0}
+Fails c a = a ≡ Err c
+
+-- the answer is the rule's, unless memory ran out
+abbrev pub Gives : Result Successors Cause → Answer → Type 0
+Gives (Ok s) a = a ≡ Ok (edges_of s)
+Gives (Err c) a = Fails c a

@@ -1,0 +1,59 @@
+-- Lists that are filled place by place.
+use Rattle.std.proofs.Common.{◌≡◌, ◌≢◌, ℕ, zero, suc, ◌+◌, ◌<◌, ◌≤◌, refl, List, [], ◌∷◌, get_or, set, replicate, length, arith, ap, sym, ◌∙◌, ◌⊎◌, inl, inr, drop, take}
+use Rattle.std.proofs.lemmas.List.{get_or-set_same, get_or-set_other}
+use Rattle.std.proofs.Math.ListN.{length-set}
+use borrow.Author.Count.{below_more}
+
+pub past_end : {A : Type 0} (xs : List A) (k : ℕ) (d : A) → length xs ≤ k → get_or xs k d ≡ d
+past_end [] k d h = refl
+past_end (x ∷ xs) zero d h = absurd (omega arith)
+past_end (x ∷ xs) (suc k) d h = past_end xs k d (omega arith)
+
+pub same_read : {A : Type 0} (xs : List A) (i : ℕ) (d e : A) → i < length xs → get_or xs i d ≡ get_or xs i e
+same_read [] i d e h = absurd (omega arith)
+same_read (x ∷ xs) zero d e h = refl
+same_read (x ∷ xs) (suc i) d e h = same_read xs i d e (omega arith)
+
+filled : {A : Type 0} (xs ys zs : List A) (f : A → A → A) (d x : A) (i n : ℕ) → length xs ≡ n → i < n →
+    ((k : ℕ) → k < i → get_or xs k d ≡ f (get_or ys k d) (get_or zs k d)) → x ≡ f (get_or ys i d) (get_or zs i d) →
+    (length (set xs i x) ≡ n) × ((k : ℕ) → k < i + 1 → get_or (set xs i x) k d ≡ f (get_or ys k d) (get_or zs k d))
+filled xs ys zs f d x i n len lt h e =
+    (length-set xs i x ∙ len,
+     below_more _ _ (λ k lt. let ne : k ≢ i = omega arith in get_or-set_other xs i k x d ne ∙ h k lt)
+        (let there : i < length xs = omega arith in get_or-set_same xs i x d there ∙ e))
+
+-- one more place is filled, whatever the default of the reads
+pub filled_from : {A : Type 0} (xs ys zs : List A) (f : A → A → A) (d e x : A) (i n : ℕ) → length xs ≡ n → length ys ≡ n → length zs ≡ n → i < n →
+    ((k : ℕ) → k < i → get_or xs k d ≡ f (get_or ys k d) (get_or zs k d)) → x ≡ f (get_or ys i e) (get_or zs i e) →
+    (length (set xs i x) ≡ n) × ((k : ℕ) → k < i + 1 → get_or (set xs i x) k d ≡ f (get_or ys k d) (get_or zs k d))
+filled_from {A = A} xs ys zs f d e x i n len ly lz lt h is =
+    filled xs ys zs f d x i n len lt h (is ∙ ap (λ (y : A). f y (get_or zs i e)) (same_read ys i e d (omega arith)) ∙ ap (λ (z : A). f (get_or ys i d) z) (same_read zs i e d (omega arith)))
+
+pub le_cases : (n k : ℕ) → (n ≤ k) ⊎ (k < n)
+le_cases zero k = inl (omega arith)
+le_cases (suc n) zero = inr (omega arith)
+le_cases (suc n) (suc k) = elim (le_cases n k) [ inl h ↦ inl (omega arith) | inr h ↦ inr (omega arith) ]
+
+-- past the end too
+pub all_joined : {A : Type 0} (xs ys zs : List A) (f : A → A → A) (d : A) (n : ℕ) → length xs ≡ n → length ys ≡ n → length zs ≡ n → f d d ≡ d →
+    ((k : ℕ) → k < n → get_or xs k d ≡ f (get_or ys k d) (get_or zs k d)) → (k : ℕ) → get_or xs k d ≡ f (get_or ys k d) (get_or zs k d)
+all_joined {A = A} xs ys zs f d n lx ly lz id h k = by (le_cases n k)
+  where
+    by : (n ≤ k) ⊎ (k < n) → get_or xs k d ≡ f (get_or ys k d) (get_or zs k d)
+    by (inl past) = past_end xs k d (omega arith) ∙ (sym id ∙ (ap (λ (y : A). f y d) (sym (past_end ys k d (omega arith))) ∙ ap (λ (z : A). f (get_or ys k d) z) (sym (past_end zs k d (omega arith)))))
+    by (inr inside) = h k inside
+
+pub get_replicate : {A : Type 0} (n j : ℕ) (x : A) → get_or (replicate n x) j x ≡ x
+get_replicate zero j x = refl
+get_replicate (suc n) zero x = refl
+get_replicate (suc n) (suc j) x = get_replicate n j x
+
+-- lists of one length with the same at each place
+pub same_places : {A : Type 0} (xs ys : List A) (d : A) → length xs ≡ length ys → ((k : ℕ) → get_or xs k d ≡ get_or ys k d) → xs ≡ ys
+same_places [] [] d l h = refl
+same_places [] (y ∷ ys) d l h = absurd (omega arith)
+same_places (x ∷ xs) [] d l h = absurd (omega arith)
+same_places (x ∷ xs) (y ∷ ys) d l h =
+    let tails : xs ≡ ys = same_places xs ys d (omega arith) (λ k. h (suc k)) in
+    let heads : x ≡ y = h 0 in
+    cc

@@ -1,0 +1,9 @@
+use Rattle.std.proofs.Common.{◌≡◌, ◌≤◌, ◌+◌, ◌-◌, ◌↔◌, ℕ, drop, length}
+use Rattle.bpf_note.proofs.MergeLemmas.{Stays}
+use Rattle.bpf_note.proofs.bounds.covers_bounds.Given as goal
+
+abbrev pub invariant-loop-i : goal.invariant-loop-i
+invariant-loop-i l = (Stays l.a l.b ↔ Stays (drop l.i l.a) (drop l.j l.b)) × (l.i ≤ length l.a) × (l.j ≤ length l.b)
+
+abbrev pub decreases-loop-i : goal.decreases-loop-i
+decreases-loop-i l = (length l.a - l.i) + (length l.b - l.j)

@@ -1,0 +1,6 @@
+use Rattle.std.proofs.Common.{◌≡◌, ◌<◌, length, arith, sym}
+use Rattle.bpf_note.proofs.FactLemmas.{facts_kept}
+use Rattle.bpf_note.proofs.note.Note.keep.Goals as goal
+
+pub returns : goal.returns
+returns c = rw (← c.self.view_is) (facts_kept c.self.inside.regs c.self.inside.slots c.self.inside.bounds.items c.args.slot c.from.result c.args.value c.from.ensures (omega arith))

@@ -1,0 +1,177 @@
+//! What is known where either of two notes may describe the state.
+ghost use Rattle.std.specs.Prelude.{◌≡◌, ◌⊎◌, ◌↔◌, ◌&&◌, ◌<◌, ℕ, slice_index_or, false, IfOk, IsTrue};
+ghost use Rattle.bpf_note.specs.State.{State};
+ghost use Rattle.bpf_note.specs.Describes.{Describes};
+ghost use Rattle.bpf_note.specs.Join.{joined, joined_value, is_same_pointer};
+ghost use Rattle.bpf_note.specs.Parts.{facts, no_bytes};
+ghost use Rattle.bpf_note.specs.Slots.{both, joined_slot, IsCovered};
+
+use crate::bounds::{covers_bounds, join_bounds};
+use crate::note::Note;
+use crate::slot::Slot;
+use crate::slots::set_bytes;
+use crate::val::Val;
+use std::alloc::{AllocError, Global};
+
+/// What is known where either of two notes may describe the state.
+pub fn join(alloc: Global, a: &Note, b: &Note) -> Result<Note, AllocError>
+    ensures joined { IfOk result (λ n. facts n ≡ joined (facts a.now) (facts b.now)) }
+    ensures describes { IfOk result (λ n. (s : State) → Describes (facts a.now) s ⊎ Describes (facts b.now) s → Describes (facts n) s) }
+{
+    let bounds = join_bounds(alloc, &a.bounds, &b.bounds)?;
+    Ok(Note {
+        regs: join_registers(&a.regs, &b.regs),
+        slots: join_stacks(&a.slots, &b.slots),
+        bounds,
+    })
+}
+
+/// Whether the join of the two is the first.
+pub fn covers(a: &Note, b: &Note) -> bool
+    ensures exact { IsTrue result ↔ (joined (facts a.now) (facts b.now) ≡ facts a.now) }
+    ensures describes { IsTrue result → (s : State) → Describes (facts b.now) s → Describes (facts a.now) s }
+{
+    covers_registers(&a.regs, &b.regs)
+        && covers_stack(&a.slots, &b.slots)
+        && covers_bounds(&a.bounds, &b.bounds)
+}
+
+fn join_value(a: Val, b: Val) -> Val
+    ensures { result ≡ joined_value a b }
+{
+    match (a, b) {
+        (Val::Unset, _) | (_, Val::Unset) => Val::Unset,
+        (
+            Val::Num { lo, hi },
+            Val::Num {
+                lo: other_lo,
+                hi: other_hi,
+            },
+        ) => Val::Num {
+            lo: lo.min(other_lo),
+            hi: hi.max(other_hi),
+        },
+        _ if is_same_pointer(a, b) => a,
+        _ => Val::FULL,
+    }
+}
+
+/// Whether the two are pointers, and equal.
+fn is_same_pointer(a: Val, b: Val) -> bool
+    ensures { result ≡ is_same_pointer a b }
+{
+    match (a, b) {
+        (
+            Val::Pkt { id, off },
+            Val::Pkt {
+                id: other_id,
+                off: other_off,
+            },
+        ) => id == other_id && off == other_off,
+        (Val::PktEnd, Val::PktEnd) | (Val::Ctx, Val::Ctx) => true,
+        (Val::Stack { off }, Val::Stack { off: other }) => off == other,
+        (Val::Map { m }, Val::Map { m: other }) | (Val::Value { m }, Val::Value { m: other }) => m
+            == other,
+        (
+            Val::MaybeValue { m, id },
+            Val::MaybeValue {
+                m: other_m,
+                id: other_id,
+            },
+        ) => m == other_m && id == other_id,
+        _ => false,
+    }
+}
+
+fn join_slots(a: Slot, b: Slot) -> Slot
+    ensures { result ≡ joined_slot a b }
+{
+    match (a, b) {
+        (Slot::Kept(a), Slot::Kept(b)) => Slot::Kept(join_value(a, b)),
+        _ => Slot::Bytes(both(set_bytes(a), set_bytes(b))),
+    }
+}
+
+/// The bytes that are set on both sides.
+fn both(a: [bool; 8], b: [bool; 8]) -> [bool; 8]
+    ensures { result ≡ both a b }
+{
+    [
+        and(a[0], b[0]),
+        and(a[1], b[1]),
+        and(a[2], b[2]),
+        and(a[3], b[3]),
+        and(a[4], b[4]),
+        and(a[5], b[5]),
+        and(a[6], b[6]),
+        and(a[7], b[7]),
+    ]
+}
+
+fn and(a: bool, b: bool) -> bool
+    ensures { result ≡ (a && b) }
+{
+    a && b
+}
+
+fn join_registers(a: &[Val; 11], b: &[Val; 11]) -> [Val; 11]
+    ensures { (k : ℕ) → slice_index_or result k Val.Unset ≡ joined_value (slice_index_or a.now k Val.Unset) (slice_index_or b.now k Val.Unset) }
+{
+    let mut joined = *a;
+    for i in 0..11 {
+        joined[i] = join_value(a[i], b[i]);
+    }
+    joined
+}
+
+fn join_stacks(a: &[Slot; 64], b: &[Slot; 64]) -> [Slot; 64]
+    ensures { (j : ℕ) → slice_index_or result j no_bytes ≡ joined_slot (slice_index_or a.now j no_bytes) (slice_index_or b.now j no_bytes) }
+{
+    let mut joined = *a;
+    for i in 0..64 {
+        joined[i] = join_slots(a[i], b[i]);
+    }
+    joined
+}
+
+/// Whether each register of the first is the join of the two.
+fn covers_registers(a: &[Val; 11], b: &[Val; 11]) -> bool
+    ensures { IsTrue result ↔ ((k : ℕ) → joined_value (slice_index_or a.now k Val.Unset) (slice_index_or b.now k Val.Unset) ≡ slice_index_or a.now k Val.Unset) }
+{
+    for i in 0..11 {
+        if join_value(a[i], b[i]) != a[i] {
+            return false;
+        }
+    }
+    true
+}
+
+/// Whether each slot of the first is the join of the two.
+fn covers_stack(a: &[Slot; 64], b: &[Slot; 64]) -> bool
+    ensures { IsTrue result ↔ ((j : ℕ) → IsCovered (slice_index_or a.now j no_bytes) (slice_index_or b.now j no_bytes)) }
+{
+    for i in 0..64 {
+        if !covers_slot(a[i], b[i]) {
+            return false;
+        }
+    }
+    true
+}
+
+/// Whether the first is the join of the two.
+fn covers_slot(a: Slot, b: Slot) -> bool
+    ensures { IsTrue result ↔ IsCovered a b }
+{
+    match (a, b) {
+        (Slot::Kept(a), Slot::Kept(b)) => join_value(a, b) == a,
+        (Slot::Kept(_), Slot::Bytes(_)) => false,
+        (Slot::Bytes(a), b) => covers_bytes(a, set_bytes(b)),
+    }
+}
+
+/// Whether the bytes that are set on both sides are those of the first.
+fn covers_bytes(a: [bool; 8], b: [bool; 8]) -> bool
+    ensures { IsTrue result ↔ ((k : ℕ) → k < 8 → (slice_index_or a k false && slice_index_or b k false) ≡ slice_index_or a k false) }
+{
+    both(a, b) == a
+}

@@ -1,0 +1,43 @@
+//! Laws of what is known.
+ghost use Rattle.std.specs.Prelude.{◌≡◌, ◌⊎◌, ◌↔◌};
+ghost use Rattle.bpf_note.specs.State.{State, IsStart};
+ghost use Rattle.bpf_note.specs.Facts.{Facts, entry};
+ghost use Rattle.bpf_note.specs.Describes.{Describes, IsBegun};
+ghost use Rattle.bpf_note.specs.Join.{joined};
+ghost use Rattle.bpf_note.specs.Parts.{facts};
+
+use crate::note::Note;
+use crate::slots::have_eight_bytes;
+
+/// Two notes that say the same are equal.
+pub fn notes_that_say_the_same_are_equal(a: &Note, b: &Note)
+    ensures { facts a.now ≡ facts b.now → a.now ≡ b.now }
+{
+    have_eight_bytes(&a.slots);
+    have_eight_bytes(&b.slots);
+}
+
+/// The join of what is known with itself is itself.
+pub fn joins_with_itself_change_nothing()
+    ensures { (n : Facts) → joined n n ≡ n }
+{}
+
+/// A join doesn't depend on the order of the two.
+pub fn joins_take_either_order()
+    ensures { (a b : Facts) → joined a b ≡ joined b a }
+{}
+
+/// A join describes what either of the two describes.
+pub fn joins_describe_what_either_does()
+    ensures { (a b : Facts) (s : State) → Describes a s ⊎ Describes b s → Describes (joined a b) s }
+{}
+
+/// What is known at the entry describes exactly the states in which what a start sets is set.
+pub fn the_entry_describes_what_is_begun()
+    ensures { (s : State) → Describes entry s ↔ IsBegun s }
+{}
+
+/// What is known at the entry describes every start.
+pub fn the_entry_describes_every_start()
+    ensures { (s : State) → IsStart s → Describes entry s }
+{}
