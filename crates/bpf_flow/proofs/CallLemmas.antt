@@ -136,14 +136,14 @@ map_looks_up n s m x y key es d small e f rx ry h =
     let fits : value_or_null (slice_get s.shapes m) m k.key < 2 ^ 64 = value_fits s m k.key (slice_get s.shapes m) d.state refl in
     let known = with_id_known n s s.pc 0 (value_or_null (slice_get s.shapes m) m k.key) 0 (other_id s.pc small) (omega arith) (omega arith) d in
     let reading : IsReading (meaning s known.0.base known.0.address) (val.MaybeValue m s.pc) (value_or_null (slice_get s.shapes m) m k.key) =
-        (sym known.2, null_or_value s.shapes m k.key (slice_get s.shapes m) refl) in
+    (sym known.2, null_or_value s.shapes m k.key (slice_get s.shapes m) refl) in
     subst (λ (o : Option ℕ). Accounts es (need o (λ x. need (s.reg 2) (λ a. need (map_at s x) (λ m. need (key_in (region (length s.packet) s.shapes a 4) s) (λ k. Next (called s (value_or_null (slice_get s.shapes m) m k)))))))) (sym e)
     (subst (λ (o : Option ℕ). Accounts es (need o (λ a. need (map_at s x) (λ m. need (key_in (region (length s.packet) s.shapes a 4) s) (λ k. Next (called s (value_or_null (slice_get s.shapes m) m k))))))) (sym f)
     (subst (λ (o : Option ℕ). Accounts es (need o (λ m. need (key_in (region (length s.packet) s.shapes y 4) s) (λ k. Next (called s (value_or_null (slice_get s.shapes m) m k)))))) (sym (map_found s x m rx.0 rx.1))
     (subst (λ (p : Place). Accounts es (need (key_in p s) (λ k. Next (called s (value_or_null (slice_get s.shapes m) m k))))) (sym k.place)
     (subst (λ (o : Option ℕ). Accounts es (need o (λ k. Next (called s (value_or_null (slice_get s.shapes m) m k))))) (sym k.word)
-        (one_covers (s.pc + 1) (with_call (with_id n s.pc 0) m s.pc) es (called s (value_or_null (slice_get s.shapes m) m k.key)) refl
-            (called_describes (with_id n s.pc 0) s m s.pc (value_or_null (slice_get s.shapes m) m k.key) known.0 fits reading) u.1)))))
+    (one_covers (s.pc + 1) (with_call (with_id n s.pc 0) m s.pc) es (called s (value_or_null (slice_get s.shapes m) m k.key)) refl
+    (called_describes (with_id n s.pc 0) s m s.pc (value_or_null (slice_get s.shapes m) m k.key) known.0 fits reading) u.1)))))
 
 -- a lookup that the rule allows
 pub lookup_sound : (n : Facts) (s : State) (v key : Val) (x y : ℕ) (es : Edges) (d : Describes n s) → s.pc < 4096 → s.reg 1 ≡ Some x → s.reg 2 ≡ Some y →

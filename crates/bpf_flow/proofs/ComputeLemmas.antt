@@ -38,15 +38,15 @@ signed_is c h = by (nat_lt (2 * c) (2 ^ 64)) refl
 -- a number and a constant, by the constant's signed reading
 pub sum_signed : (x c p : ℕ) → x < 2 ^ 64 → c < 2 ^ 64 → p < 2 ^ 64 → pos x +ℤ signed c ≡ pos p → computed Add true x c ≡ p
 sum_signed x c p fx fc fp e = sum_is x c ∙ elim (signed_is c fc) [
-    | inl s ↦ let t : pos x +ℤ pos c ≡ pos p = ap (λ (z : ℤ). pos x +ℤ z) (sym s) ∙ e in let u : x + c ≡ p = omega (arith, ints, t) in omega arith
-    | inr s ↦ let t : pos x +ℤ (pos c -ℤ pos (2 ^ 64)) ≡ pos p = ap (λ (z : ℤ). pos x +ℤ z) (sym s.1) ∙ e in let u : x + c ≡ p + 2 ^ 64 = omega (arith, ints, t) in omega arith
-  ]
+  | inl s ↦ let t : pos x +ℤ pos c ≡ pos p = ap (λ (z : ℤ). pos x +ℤ z) (sym s) ∙ e in let u : x + c ≡ p = omega (arith, ints, t) in omega arith
+  | inr s ↦ let t : pos x +ℤ (pos c -ℤ pos (2 ^ 64)) ≡ pos p = ap (λ (z : ℤ). pos x +ℤ z) (sym s.1) ∙ e in let u : x + c ≡ p + 2 ^ 64 = omega (arith, ints, t) in omega arith
+]
 
 pub difference_signed : (x c p : ℕ) → x < 2 ^ 64 → c < 2 ^ 64 → p < 2 ^ 64 → pos x -ℤ signed c ≡ pos p → computed Sub true x c ≡ p
 difference_signed x c p fx fc fp e = difference_is x c ∙ elim (signed_is c fc) [
-    | inl s ↦ let t : pos x -ℤ pos c ≡ pos p = ap (λ (z : ℤ). pos x -ℤ z) (sym s) ∙ e in let u : x ≡ p + c = omega (arith, ints, t) in omega arith
-    | inr s ↦ let t : pos x -ℤ (pos c -ℤ pos (2 ^ 64)) ≡ pos p = ap (λ (z : ℤ). pos x -ℤ z) (sym s.1) ∙ e in let u : x + 2 ^ 64 ≡ p + c = omega (arith, ints, t) in omega arith
-  ]
+  | inl s ↦ let t : pos x -ℤ pos c ≡ pos p = ap (λ (z : ℤ). pos x -ℤ z) (sym s) ∙ e in let u : x ≡ p + c = omega (arith, ints, t) in omega arith
+  | inr s ↦ let t : pos x -ℤ (pos c -ℤ pos (2 ^ 64)) ≡ pos p = ap (λ (z : ℤ). pos x -ℤ z) (sym s.1) ∙ e in let u : x + 2 ^ 64 ≡ p + c = omega (arith, ints, t) in omega arith
+]
 
 packet_chosen : (w : Meaning) (id o r : ℕ) (b : Bool) → b ≡ nat_le o 65535 → r < 2 ^ 64 → (o ≤ 65535 → r ≡ packet_start + w.base id + o) → IsReading w (if b then Pkt id o else full) r
 packet_chosen w id o r true e fits h = let small : o ≤ 65535 = grind (arith, nat_tests) in (h small, small)

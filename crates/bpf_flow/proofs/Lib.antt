@@ -14,3 +14,5 @@ pub mod LoadLemmas
 pub mod StoreLemmas
 pub mod JumpLemmas
 pub mod CallLemmas
+pub mod StackLemmas
+pub mod GivesLemmas

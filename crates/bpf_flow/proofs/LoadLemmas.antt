@@ -118,7 +118,7 @@ module _ (n : Facts) (s : State) (d : Describes n s) where
       Accounts es (need (loaded s p (size_bytes size)) (λ x. written s (s.pc + 1) k (taken signed size x)))
   arrives p signed size k x v es small frame e fits r h =
       subst (λ (o : Option ℕ). Accounts es (need o (λ x. written s (s.pc + 1) k (taken signed size x)))) (sym e)
-          (sets_sound n s (s.pc + 1) k (taken signed size x) v es d small fits r (unless_again (is_frame k) cause.FramePointer (goes_to (s.pc + 1) (with_reg n k v)) es frame h))
+      (sets_sound n s (s.pc + 1) k (taken signed size x) v es d small fits r (unless_again (is_frame k) cause.FramePointer (goes_to (s.pc + 1) (with_reg n k v)) es frame h))
 
   packet_loads : (p : Place) (signed : Bool) (size : Size) (k : ℕ) (es : Edges) → k < 11 → is_frame k ≡ false → Reaches s InPacket (size_bytes size) p →
       goes_to (s.pc + 1) (with_reg n k (any_loaded signed size)) ≡ Ok es → Accounts es (load_from p s signed size k)
@@ -126,8 +126,8 @@ module _ (n : Facts) (s : State) (d : Describes n s) where
       let x = number_of (take (size_bytes size) (drop r.0 s.packet)) in
       let fits : number_of (take (size_bytes size) (drop r.0 s.packet)) < 256 ^ size_bytes size = number_take (size_bytes size) (drop r.0 s.packet) (bytes_drop r.0 s.packet d.state.packet_bytes) in
       subst (λ (p : Place). Accounts es (load_from p s signed size k)) (sym r.1)
-          (arrives (place.InPacket r.0) signed size k (number_of (take (size_bytes size) (drop r.0 s.packet))) (any_loaded signed size) es small frame refl
-              (taken_fits signed size _ fits) (loaded_reads w signed size _ fits) h)
+      (arrives (place.InPacket r.0) signed size k (number_of (take (size_bytes size) (drop r.0 s.packet))) (any_loaded signed size) es small frame refl
+      (taken_fits signed size _ fits) (loaded_reads w signed size _ fits) h)
 
   stack_by : (i : ℕ) (set signed : Bool) (size : Size) (k : ℕ) (v : Val) (es : Edges) → set ≡ all_set n i (size_bytes size) → k < 11 → is_frame k ≡ false →
       (if set then Ok (stack_value n i signed size) else Err cause.Stack) ≡ Ok v → goes_to (s.pc + 1) (with_reg n k v) ≡ Ok es → Accounts es (load_from (place.InStack i) s signed size k)
@@ -136,7 +136,7 @@ module _ (n : Facts) (s : State) (d : Describes n s) where
       let fits : word.0 < 256 ^ size_bytes size = word_below s.stack i (size_bytes size) word.0 d.state.stack_bytes word.1 in
       let same : stack_value n i signed size ≡ v = same_ok (stack_value n i signed size) v f in
       arrives (place.InStack i) signed size k word.0 v es small frame word.1 (taken_fits signed size word.0 fits)
-          (subst (λ (v : Val). IsReading w v (taken signed size word.0)) same (stack_reads i word.0 signed size word.1 fits)) h
+      (subst (λ (v : Val). IsReading w v (taken signed size word.0)) same (stack_reads i word.0 signed size word.1 fits)) h
   stack_by i false signed size k v es e small frame f h = absurd (cc)
 
   -- a field's offset
@@ -151,8 +151,8 @@ module _ (n : Facts) (s : State) (d : Describes n s) where
       let here : p ≡ place.InContext at.0 = r at.0 at.1 at.2 at.3 refl in
       let same : field_value (pos at.0) ≡ v = ap field_value (sym at.1) ∙ same_ok (field_value o) v f in
       subst (λ (p : Place). Accounts es (load_from p s false Word k)) (sym here)
-          (arrives (place.InContext at.0) false Word k (field_at s at.0) v es small frame refl (field_fits (nat_eq at.0 4) (nat_eq at.0 12) (nat_eq at.0 16))
-              (subst (λ (v : Val). IsReading w v (field_at s at.0)) same (field_by (nat_eq at.0 4) (nat_eq at.0 12) (nat_eq at.0 16))) h)
+      (arrives (place.InContext at.0) false Word k (field_at s at.0) v es small frame refl (field_fits (nat_eq at.0 4) (nat_eq at.0 12) (nat_eq at.0 16))
+      (subst (λ (v : Val). IsReading w v (field_at s at.0)) same (field_by (nat_eq at.0 4) (nat_eq at.0 12) (nat_eq at.0 16))) h)
   context_by p Byte o k v es true e small frame r f h = absurd (cc)
   context_by p Half o k v es true e small frame r f h = absurd (cc)
   context_by p Double o k v es true e small frame r f h = absurd (cc)
@@ -177,7 +177,7 @@ module _ (n : Facts) (s : State) (d : Describes n s) where
       let q = r c.0 c.1 c.2 c.3 c.4 c.5 refl in
       let same : full ≡ v = same_ok full v f in
       subst (λ (p : Place). Accounts es (load_from p s false Double k)) (sym q.2)
-          (counter_arrives m q.0 q.1 k es (is_frame k) refl small frame (subst (λ (v : Val). goes_to (s.pc + 1) (with_reg n k v) ≡ Ok es) (sym same) h))
+      (counter_arrives m q.0 q.1 k es (is_frame k) refl small frame (subst (λ (v : Val). goes_to (s.pc + 1) (with_reg n k v) ≡ Ok es) (sym same) h))
   counter_by p Byte m o k v es true e small frame r f h = absurd (cc)
   counter_by p Half m o k v es true e small frame r f h = absurd (cc)
   counter_by p Word m o k v es true e small frame r f h = absurd (cc)

@@ -112,14 +112,14 @@ module _ (n : Facts) (s : State) (d : Describes n s) (a : ℕ) (fits : a < 2 ^ 6
       let inside : d.base id + q.1 + z ≤ length s.packet = omega (arith, bound, q.4) in
       let at : address a o ≡ packet_start + (d.base id + q.1) = shift_is a (packet_start + (d.base id + q.1)) o (moved_packet a (d.base id) off q.1 o r.0 q.3) fits (omega (arith, d.state.packet_size, inside)) in
       subst (λ (x : Access). Reaches s x z there) (sym q.5)
-          (d.base id + q.1, ap (λ (b : ℕ). region (length s.packet) s.shapes b z) at ∙ region_packet (length s.packet) s.shapes (d.base id + q.1) z inside, inside)
+      (d.base id + q.1, ap (λ (b : ℕ). region (length s.packet) s.shapes b z) at ∙ region_packet (length s.packet) s.shapes (d.base id + q.1) z inside, inside)
 
   stack_reaches : (off : ℤ) (access : Access) → IsReading (meaning s d.base d.address) (Stack off) a → on_stack (place_in (pos 512 +ℤ off +ℤ o) z 512) ≡ Ok access → Reaches s access z there
   stack_reaches off access r h =
       let q = on_stack_ok (pos 512 +ℤ off +ℤ o) z access h in
       let at : address a o ≡ stack_start + q.0 = shift_is a (stack_start + q.0) o (moved_stack a q.0 off o r.0 q.1) fits (omega (arith, q.2)) in
       subst (λ (x : Access). Reaches s x z there) (sym q.3)
-          (ap (λ (b : ℕ). region (length s.packet) s.shapes b z) at ∙ region_stack (length s.packet) s.shapes q.0 z d.state.packet_size q.2, q.2)
+      (ap (λ (b : ℕ). region (length s.packet) s.shapes b z) at ∙ region_stack (length s.packet) s.shapes q.0 z d.state.packet_size q.2, q.2)
 
   context_reaches : IsReading (meaning s d.base d.address) Ctx a → Reaches s (InContext o) z there
   context_reaches r at e most whole four =
@@ -134,13 +134,16 @@ module _ (n : Facts) (s : State) (d : Describes n s) (a : ℕ) (fits : a < 2 ^ 6
       let j : at / 8 < shape.counters = subst (λ (c : Shape). at / 8 < c.counters) same (omega (arith, inside)) in
       let is_shape = d.state.shapes m shape e in
       let place : address a o ≡ counter_address shape.counters m r.0 (at / 8) =
-          shift_is a (counter_address shape.counters m r.0 (at / 8)) o
-              (ap (λ (o : ℤ). pos a +ℤ o) g ∙ ap pos (counter_further shape.counters m r.0 at a r.2 whole)) fits
-              (counter_fits shape m r.0 (at / 8) (map_small s.shapes m shape e d.state.maps) is_shape r.1 j) in
-      (r.0, at / 8, ap (λ (b : ℕ). region (length s.packet) s.shapes b z) place
-          ∙ (ap (region (length s.packet) s.shapes (counter_address shape.counters m r.0 (at / 8))) eight
-          ∙ (region_value (length s.packet) s.shapes (counter_address shape.counters m r.0 (at / 8)) d.state.packet_size (omega arith)
-          ∙ counter_at_address s.shapes m r.0 (at / 8) shape e is_shape r.1 j)))
+      shift_is a (counter_address shape.counters m r.0 (at / 8)) o
+      (ap (λ (o : ℤ). pos a +ℤ o) g ∙ ap pos (counter_further shape.counters m r.0 at a r.2 whole)) fits
+      (counter_fits shape m r.0 (at / 8) (map_small s.shapes m shape e d.state.maps) is_shape r.1 j) in (
+        r.0,
+        at / 8,
+        ap (λ (b : ℕ). region (length s.packet) s.shapes b z) place
+            ∙ (ap (region (length s.packet) s.shapes (counter_address shape.counters m r.0 (at / 8))) eight
+            ∙ (region_value (length s.packet) s.shapes (counter_address shape.counters m r.0 (at / 8)) d.state.packet_size (omega arith)
+            ∙ counter_at_address s.shapes m r.0 (at / 8) shape e is_shape r.1 j)),
+      )
 
   -- an access that the rule allows lies where it says
   pub access_reaches : (v : Val) (access : Access) → IsReading (meaning s d.base d.address) v a → reach n v o z ≡ Ok access → Reaches s access z there

@@ -133,7 +133,7 @@ module _ (w : Meaning) where
         IsResult w (folded op wide (constant u) (constant v) (unfolded n op wide u v)) (computed op wide x y)
     both_read op wide u v x y fx fy rx ry =
         folded_reads op wide (constant u) (constant v) x y (unfolded n op wide u v) (λ c e. constant_is u x c rx e) (λ c e. constant_is v y c ry e)
-            (unfolded_reads op wide u v x y fx fy rx ry)
+        (unfolded_reads op wide u v x y fx fy rx ry)
 
     -- the result of MOV
     pub move_read : (wide : Bool) (u v : Val) (y : ℕ) → y < 2 ^ 64 → IsReading w v y → IsResult w (result_of n Mov wide u v) (computed Mov wide 0 y)

@@ -78,7 +78,7 @@ module _ (n : Facts) (s : State) (d : Describes n s) where
       let known = with_id_known n s s.pc r.0 0 top (other_id s.pc small) r.1 r.2 d in
       let base : packet_start + known.0.base s.pc + 0 ≡ packet_start + r.0 = ap (λ (b : ℕ). packet_start + b + 0) known.1 ∙ omega arith in
       written_sound (with_reg (with_id n s.pc top) k (val.Pkt s.pc 0)) s (s.pc + 1) k x es
-          (with_number_describes (with_id n s.pc top) s (s.pc + 1) k x (val.Pkt s.pc 0) known.0 below fits (r.3 ∙ sym base, omega arith)) h
+      (with_number_describes (with_id n s.pc top) s (s.pc + 1) k x (val.Pkt s.pc 0) known.0 below fits (r.3 ∙ sym base, omega arith)) h
 
   tops : (id : ℕ) → w.base id ≤ n.top id
   tops id = d.tops id
@@ -86,7 +86,7 @@ module _ (n : Facts) (s : State) (d : Describes n s) where
   -- an operation that reads both operands
   both_sound : (op : AluOp) (wide : Bool) (dst : Register) (src : Operand) (es : Edges) → s.pc < 4096 →
       unless (is_unset (operand_value n src) || is_unset (n.reg (number dst))) cause.Unset
-          (sets_computed n s.pc (number dst) (folded op wide (constant (n.reg (number dst))) (constant (operand_value n src)) (unfolded n op wide (n.reg (number dst)) (operand_value n src)))) ≡ Ok es →
+      (sets_computed n s.pc (number dst) (folded op wide (constant (n.reg (number dst))) (constant (operand_value n src)) (unfolded n op wide (n.reg (number dst)) (operand_value n src)))) ≡ Ok es →
       Accounts es (need (operand s src) (λ x. need (s.reg (number dst)) (λ a. written s (s.pc + 1) (number dst) (computed op wide a x))))
   both_sound op wide dst src es small h =
       let u = unless_ok _ cause.Unset _ es h in
@@ -95,16 +95,16 @@ module _ (n : Facts) (s : State) (d : Describes n s) where
       let a = register (number dst) set.1 in
       subst (λ (o : Option ℕ). Accounts es (need o (λ x. need (s.reg (number dst)) (λ a. written s (s.pc + 1) (number dst) (computed op wide a x))))) (sym x.1)
       (subst (λ (o : Option ℕ). Accounts es (need o (λ a. written s (s.pc + 1) (number dst) (computed op wide a x.0)))) (sym a.1)
-          (computed_sound (number dst) (computed op wide a.0 x.0) _ es small (number_small dst) (computed_fits op wide a.0 x.0)
-              (both_read w d.low n tops op wide (n.reg (number dst)) (operand_value n src) a.0 x.0 (d.state.words (number dst) a.0 a.1) (operand_fits src x.0 x.1) a.2 x.2) u.1))
+      (computed_sound (number dst) (computed op wide a.0 x.0) _ es small (number_small dst) (computed_fits op wide a.0 x.0)
+      (both_read w d.low n tops op wide (n.reg (number dst)) (operand_value n src) a.0 x.0 (d.state.words (number dst) a.0 a.1) (operand_fits src x.0 x.1) a.2 x.2) u.1))
 
   move_sound : (wide : Bool) (dst : Register) (src : Operand) (es : Edges) → s.pc < 4096 → after_of (Alu Mov wide dst src) s.pc n s.shapes ≡ Ok es → Accounts es (exec (Alu Mov wide dst src) s)
   move_sound wide dst src es small h =
       let u = unless_ok (is_unset (operand_value n src) || false) cause.Unset _ es h in
       let x = second src (neither (is_unset (operand_value n src)) false u.0).0 in
       subst (λ (o : Option ℕ). Accounts es (need o (λ x. written s (s.pc + 1) (number dst) (computed Mov wide 0 x)))) (sym x.1)
-          (computed_sound (number dst) (computed Mov wide 0 x.0) (result_of n Mov wide (n.reg (number dst)) (operand_value n src)) es small (number_small dst) (computed_fits Mov wide 0 x.0)
-              (move_read w d.low n tops wide (n.reg (number dst)) (operand_value n src) x.0 (operand_fits src x.0 x.1) x.2) u.1)
+      (computed_sound (number dst) (computed Mov wide 0 x.0) (result_of n Mov wide (n.reg (number dst)) (operand_value n src)) es small (number_small dst) (computed_fits Mov wide 0 x.0)
+      (move_read w d.low n tops wide (n.reg (number dst)) (operand_value n src) x.0 (operand_fits src x.0 x.1) x.2) u.1)
 
   alu_sound : (op : AluOp) (wide : Bool) (dst : Register) (src : Operand) (es : Edges) → s.pc < 4096 → after_of (Alu op wide dst src) s.pc n s.shapes ≡ Ok es → Accounts es (exec (Alu op wide dst src) s)
   alu_sound Mov wide dst src es small h = move_sound wide dst src es small h
@@ -129,7 +129,7 @@ module _ (n : Facts) (s : State) (d : Describes n s) where
       let u = unless_ok (is_unset (n.reg (number src))) cause.Unset (sets n (s.pc + 1) (number dst) v) es h in
       let x = register (number src) u.0 in
       subst (λ (o : Option ℕ). Accounts es (need o (λ x. written s (s.pc + 1) (number dst) (f x)))) (sym x.1)
-          (sets_sound n s (s.pc + 1) (number dst) (f x.0) v es d (number_small dst) (fits x.0) (reads x.0 x.2) u.1)
+      (sets_sound n s (s.pc + 1) (number dst) (f x.0) v es d (number_small dst) (fits x.0) (reads x.0 x.2) u.1)
 
   ldx_sound : (size : Size) (signed : Bool) (dst src : Register) (off : ℤ) (es : Edges) → after_of (Ldx size signed dst src off) s.pc n s.shapes ≡ Ok es → Accounts es (exec (Ldx size signed dst src off) s)
   ldx_sound size signed dst src off es h =
@@ -139,8 +139,8 @@ module _ (n : Facts) (s : State) (d : Describes n s) where
       let l = and_then_ok (loaded_value n s.shapes signed size g.0) _ es g.2 in
       let a = register (number src) u.0 in
       subst (λ (o : Option ℕ). Accounts es (need o (λ a. load_from (reached s a off (size_bytes size)) s signed size (number dst)))) (sym a.1)
-          (load_sound n s d g.0 (reached s a.0 off (size_bytes size)) signed size (number dst) l.0 es (number_small dst) f.0
-              (access_reaches n s d a.0 (d.state.words (number src) a.0 a.1) off (size_bytes size) (n.reg (number src)) g.0 a.2 g.1) l.1 l.2)
+      (load_sound n s d g.0 (reached s a.0 off (size_bytes size)) signed size (number dst) l.0 es (number_small dst) f.0
+      (access_reaches n s d a.0 (d.state.words (number src) a.0 a.1) off (size_bytes size) (n.reg (number src)) g.0 a.2 g.1) l.1 l.2)
 
   -- a store of x, which is a reading of v
   store_of : (size : Size) (dst : Register) (off : ℤ) (x : ℕ) (v : Val) (es : Edges) → x < 2 ^ 64 → IsReading w v x → is_unset (n.reg (number dst)) ≡ false →
@@ -150,8 +150,8 @@ module _ (n : Facts) (s : State) (d : Describes n s) where
       let g = and_then_ok (reach n (n.reg (number dst)) off (size_bytes size)) (stores n (s.pc + 1) size v) es h in
       let a = register (number dst) set in
       subst (λ (o : Option ℕ). Accounts es (need o (λ a. store_to (reached s a off (size_bytes size)) s (size_bytes size) x))) (sym a.1)
-          (store_sound n s g.0 (reached s a.0 off (size_bytes size)) size x v es d fits r
-              (access_reaches n s d a.0 (d.state.words (number dst) a.0 a.1) off (size_bytes size) (n.reg (number dst)) g.0 a.2 g.1) g.2)
+      (store_sound n s g.0 (reached s a.0 off (size_bytes size)) size x v es d fits r
+      (access_reaches n s d a.0 (d.state.words (number dst) a.0 a.1) off (size_bytes size) (n.reg (number dst)) g.0 a.2 g.1) g.2)
 
   st_sound : (size : Size) (dst : Register) (off imm : ℤ) (es : Edges) → after_of (St size dst off imm) s.pc n s.shapes ≡ Ok es → Accounts es (exec (St size dst off imm) s)
   st_sound size dst off imm es h =
@@ -164,7 +164,7 @@ module _ (n : Facts) (s : State) (d : Describes n s) where
       let set = neither (is_unset (n.reg (number src))) (is_unset (n.reg (number dst))) u.0 in
       let x = register (number src) set.0 in
       subst (λ (o : Option ℕ). Accounts es (need o (λ x. need (s.reg (number dst)) (λ a. store_to (reached s a off (size_bytes size)) s (size_bytes size) x)))) (sym x.1)
-          (store_of size dst off x.0 (n.reg (number src)) es (d.state.words (number src) x.0 x.1) x.2 set.1 u.1)
+      (store_of size dst off x.0 (n.reg (number src)) es (d.state.words (number src) x.0 x.1) x.2 set.1 u.1)
 
   add_counter_sound : (fetch : Bool) (dst src : Register) (off : ℤ) (es : Edges) → after_of (AddCounter fetch dst src off) s.pc n s.shapes ≡ Ok es → Accounts es (exec (AddCounter fetch dst src off) s)
   add_counter_sound fetch dst src off es h =
@@ -176,7 +176,7 @@ module _ (n : Facts) (s : State) (d : Describes n s) where
       let a = register (number dst) set.1 in
       subst (λ (o : Option ℕ). Accounts es (need o (λ x. need (s.reg (number dst)) (λ a. add_to (reached s a off 8) s fetch (number src) x)))) (sym x.1)
       (subst (λ (o : Option ℕ). Accounts es (need o (λ a. add_to (reached s a off 8) s fetch (number src) x.0))) (sym a.1)
-          (add_sound n s d (n.reg (number dst)) a.0 x.0 (number src) off fetch g.0 es a.2 (d.state.words (number dst) a.0 a.1) g.1 f.0 (number_small src) g.2))
+      (add_sound n s d (n.reg (number dst)) a.0 x.0 (number src) off fetch g.0 es a.2 (d.state.words (number dst) a.0 a.1) g.1 f.0 (number_small src) g.2))
 
   jumps_to : (to : ℕ) (es : Edges) → ((to, n) ∷ []) ≡ es → Accounts es (Next (at_slot s to))
   jumps_to to es e = subst (λ (es : Edges). Accounts es (Next (at_slot s to))) e (inl (refl, at_slot_describes n s to d))
@@ -202,8 +202,8 @@ module _ (n : Facts) (s : State) (d : Describes n s) where
       (subst (λ (o : Option ℕ). Accounts es (need o (λ b. if is_met cond wide x.0 b then jumped s off else Next (at_slot s (s.pc + 1))))) (sym y.1)
       (subst (λ (o : Option ℕ). Accounts es (if is_met cond wide x.0 y.0 then need o (λ to. Next (at_slot s to)) else Next (at_slot s (s.pc + 1)))) (sym t.1)
       (subst (λ (es : Edges). Accounts es (if is_met cond wide x.0 y.0 then Next (at_slot s t.0) else Next (at_slot s (s.pc + 1)))) t.2
-          (jump_by cond wide (number dst) t.0 x.0 y.0 src (n.reg (number dst)) (operand_value n src) (is_met cond wide x.0 y.0) refl x.1 y.1
-              (d.state.words (number dst) x.0 x.1) (operand_fits src y.0 y.1) x.2 y.2))))
+      (jump_by cond wide (number dst) t.0 x.0 y.0 src (n.reg (number dst)) (operand_value n src) (is_met cond wide x.0 y.0) refl x.1 y.1
+      (d.state.words (number dst) x.0 x.1) (operand_fits src y.0 y.1) x.2 y.2))))
 
   call_goes_on : (es : Edges) → s.pc < 4096 → unless (is_unset (n.reg 1) || is_unset (n.reg 2)) cause.Unset (looks_up n s.pc (n.reg 1) (n.reg 2)) ≡ Ok es → Accounts es (looked_up s)
   call_goes_on es small h =

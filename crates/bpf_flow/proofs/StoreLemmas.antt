@@ -16,7 +16,7 @@ use Rattle.bpf_note.specs.Facts.{Facts, with_kept}
 use Rattle.bpf_note.specs.Describes.{Meaning, meaning, Describes, IsReading, Reads, Holds}
 use Rattle.bpf_flow.specs.Step.{Outcome, Next, store_to, with_stack, with_packet, spliced}
 use Rattle.bpf_flow.specs.Edges.{Edges, goes_to}
-use Rattle.bpf_flow.specs.Reaching.{is_slot, with_bytes, with_store, stores}
+use Rattle.bpf_flow.specs.Reaching.{is_slot, touches, with_bytes, with_store, stores}
 use Rattle.bpf_flow.specs.Sound.{Accounts, Covers}
 use Rattle.bpf_flow.specs.declared.access.Access.{Access}
 use Rattle.bpf_flow.specs.declared.access.Access.TheVariants.{InPacket, OnStack, InContext, AtValue}
@@ -47,7 +47,7 @@ word_same f g i (suc z) h =
     let rest = word_same f g (i + 1) z (λ k lt. let at : i + 1 + k ≡ i + suc k = omega arith in ap g at ∙ (h (suc k) (omega arith) ∙ ap f (sym at))) in
     ap (λ (o : Option ℕ). higher o (word_at g (i + 1) z)) here ∙ ap (higher (f i)) rest
 
-other_byte : (f : ℕ → Option ℕ) (j p z v b : ℕ) → (nat_lt (8 * j) (p + z) && nat_lt p (8 * j + 8)) ≡ false → b < 8 → put_bytes f p z v (8 * j + b) ≡ f (8 * j + b)
+other_byte : (f : ℕ → Option ℕ) (j p z v b : ℕ) → (touches p z j) ≡ false → b < 8 → put_bytes f p z v (8 * j + b) ≡ f (8 * j + b)
 unfolding put_bytes
 other_byte f j p z v b e lt = grind (arith, nat_tests)
 
@@ -56,7 +56,7 @@ unchanged_holds : (w : Meaning) (o : Option Val) (f g : ℕ → Option ℕ) (j :
 unchanged_holds w None f g j h same = tt
 unchanged_holds w (Some v) f g j h same = (h.0, word_same f g (8 * j) 8 same ∙ h.1, h.2)
 
-touched_holds : (w : Meaning) (o : Option Val) (f : ℕ → Option ℕ) (j p z v : ℕ) (b : Bool) → b ≡ (nat_lt (8 * j) (p + z) && nat_lt p (8 * j + 8)) → Holds w o f j →
+touched_holds : (w : Meaning) (o : Option Val) (f : ℕ → Option ℕ) (j p z v : ℕ) (b : Bool) → b ≡ (touches p z j) → Holds w o f j →
     Holds w (if b then None else o) (put_bytes f p z v) j
 touched_holds w o f j p z v true e h = tt
 touched_holds w o f j p z v false e h = unchanged_holds w o f (put_bytes f p z v) j h (λ b lt. other_byte f j p z v b (sym e) lt)
@@ -104,7 +104,7 @@ bytes_describe n s pc p z x inside d = record {
   base = d.base;
   address = d.address;
   regs = d.regs;
-  kept = λ j. touched_holds (meaning s d.base d.address) (n.kept j) s.stack j p z x (nat_lt (8 * j) (p + z) && nat_lt p (8 * j + 8)) refl (d.kept j);
+  kept = λ j. touched_holds (meaning s d.base d.address) (n.kept j) s.stack j p z x (touches p z j) refl (d.kept j);
   set = λ i. stored_set s.stack p z x i (nat_le p i && nat_lt i (p + z)) (n.set i) refl (d.set i);
   start = d.start;
   tops = d.tops;
@@ -227,11 +227,11 @@ pub store_sound : (n : Facts) (s : State) (access : Access) (p : Place) (size : 
     Reaches s access (size_bytes size) p → stores n (s.pc + 1) size v access ≡ Ok es → Accounts es (store_to p s (size_bytes size) x)
 store_sound n s InPacket p size x v es d fits r reach h =
     subst (λ (p : Place). Accounts es (store_to p s (size_bytes size) x)) (sym reach.1)
-        (one_covers (s.pc + 1) n es (with_packet s (s.pc + 1) (spliced s.packet reach.0 (size_bytes size) x)) refl
-            (packet_describes n s (s.pc + 1) (spliced s.packet reach.0 (size_bytes size) x) (spliced_length s.packet reach.0 (size_bytes size) x reach.2)
-                (packet_state s (s.pc + 1) reach.0 (size_bytes size) x reach.2 d.state) d) h)
+    (one_covers (s.pc + 1) n es (with_packet s (s.pc + 1) (spliced s.packet reach.0 (size_bytes size) x)) refl
+    (packet_describes n s (s.pc + 1) (spliced s.packet reach.0 (size_bytes size) x) (spliced_length s.packet reach.0 (size_bytes size) x reach.2)
+    (packet_state s (s.pc + 1) reach.0 (size_bytes size) x reach.2 d.state) d) h)
 store_sound n s (OnStack i) p size x v es d fits r reach h =
     subst (λ (p : Place). Accounts es (store_to p s (size_bytes size) x)) (sym reach.0)
-        (one_covers (s.pc + 1) (with_store n i size v) es (with_stack s (s.pc + 1) (put_bytes s.stack i (size_bytes size) x)) refl (stack_describes n s (s.pc + 1) i x size v d reach.1 fits r) h)
+    (one_covers (s.pc + 1) (with_store n i size v) es (with_stack s (s.pc + 1) (put_bytes s.stack i (size_bytes size) x)) refl (stack_describes n s (s.pc + 1) i x size v d reach.1 fits r) h)
 store_sound n s (InContext o) p size x v es d fits r reach h = absurd (cc)
 store_sound n s (AtValue m o) p size x v es d fits r reach h = absurd (cc)

@@ -42,8 +42,8 @@ module _ (w : Meaning) (low : (id : ℕ) → w.base id ≤ 0xFFFFF) where
   packet_constant : (id off x y : ℕ) → x ≡ packet_start + w.base id + off → off ≤ 65535 → y < 2 ^ 64 → IsReading w (packet_at id (pos off +ℤ signed y)) (computed Add true x y)
   packet_constant id off x y e small fy =
       packet_at_reads w id (pos off +ℤ signed y) (computed Add true x y) (computed_fits Add true x y)
-          (λ o at lt. sum_signed x y (packet_start + w.base id + o) (omega (arith, low id, e)) fy (omega (arith, low id))
-              (shifted x (packet_start + w.base id) off o (signed y) e at))
+      (λ o at lt. sum_signed x y (packet_start + w.base id + o) (omega (arith, low id, e)) fy (omega (arith, low id))
+      (shifted x (packet_start + w.base id) off o (signed y) e at))
 
   packet_ranged : (top id off hi x y : ℕ) (b : Bool) → b ≡ (nat_le hi 65535 && nat_le (top + off + hi) most_base) → x ≡ packet_start + w.base id + off → w.base id ≤ top → y ≤ hi → y < 2 ^ 64 →
       IsResult w (if b then Fresh (top + off + hi) else Plain full) (computed Add true x y)
@@ -67,7 +67,7 @@ module _ (w : Meaning) (low : (id : ℕ) → w.base id ≤ 0xFFFFF) where
   stack_by off lo hi x y true e rx ry fx fy =
       let s = the_one lo hi y e ry.0 ry.1 in
       subst (λ (c : ℕ). IsReading w (stack_at (off +ℤ signed c)) (computed Add true x y)) s
-          (stack_at_reads w (off +ℤ signed y) (computed Add true x y) (computed_fits Add true x y) (λ least most. stack_sum_is off (signed y) x y rx.0 fx fy refl least most))
+      (stack_at_reads w (off +ℤ signed y) (computed Add true x y) (computed_fits Add true x y) (λ least most. stack_sum_is off (signed y) x y rx.0 fx fy refl least most))
     where
       stack_sum_is : (off z : ℤ) (x y : ℕ) → pos x ≡ pos stack_end +ℤ off → x < 2 ^ 64 → y < 2 ^ 64 → signed y ≡ z → (negsuc 511 ≤ℤ (off +ℤ z)) → ((off +ℤ z) ≤ℤ pos 0) → pos (computed Add true x y) ≡ pos stack_end +ℤ (off +ℤ z)
       stack_sum_is off z x y rx fx fy is least most = by (pos stack_end +ℤ (off +ℤ z)) refl
@@ -103,9 +103,9 @@ module _ (w : Meaning) (low : (id : ℕ) → w.base id ≤ 0xFFFFF) where
   packet_less id off lo hi x y true e rx ry fy =
       let s = the_one lo hi y e ry.0 ry.1 in
       subst (λ (c : ℕ). IsReading w (packet_at id (pos off -ℤ signed c)) (computed Sub true x y)) s
-          (packet_at_reads w id (pos off -ℤ signed y) (computed Sub true x y) (computed_fits Sub true x y)
-              (λ o at lt. difference_signed x y (packet_start + w.base id + o) (omega (arith, low id, rx.0, rx.1)) fy (omega (arith, low id))
-                  (lowered x (packet_start + w.base id) off o (signed y) rx.0 at)))
+      (packet_at_reads w id (pos off -ℤ signed y) (computed Sub true x y) (computed_fits Sub true x y)
+      (λ o at lt. difference_signed x y (packet_start + w.base id + o) (omega (arith, low id, rx.0, rx.1)) fy (omega (arith, low id))
+      (lowered x (packet_start + w.base id) off o (signed y) rx.0 at)))
   packet_less id off lo hi x y false e rx ry fy = full_reads w (computed Sub true x y) (computed_fits Sub true x y)
 
   stack_less : (off : ℤ) (lo hi x y : ℕ) (b : Bool) → b ≡ nat_eq lo hi → IsReading w (Stack off) x → IsReading w (Num lo hi) y → x < 2 ^ 64 → y < 2 ^ 64 →
@@ -113,7 +113,7 @@ module _ (w : Meaning) (low : (id : ℕ) → w.base id ≤ 0xFFFFF) where
   stack_less off lo hi x y true e rx ry fx fy =
       let s = the_one lo hi y e ry.0 ry.1 in
       subst (λ (c : ℕ). IsReading w (stack_at (off -ℤ signed c)) (computed Sub true x y)) s
-          (stack_at_reads w (off -ℤ signed y) (computed Sub true x y) (computed_fits Sub true x y) (λ least most. stack_difference_is off (signed y) x y rx.0 fx fy refl least most))
+      (stack_at_reads w (off -ℤ signed y) (computed Sub true x y) (computed_fits Sub true x y) (λ least most. stack_difference_is off (signed y) x y rx.0 fx fy refl least most))
     where
       stack_difference_is : (off z : ℤ) (x y : ℕ) → pos x ≡ pos stack_end +ℤ off → x < 2 ^ 64 → y < 2 ^ 64 → signed y ≡ z → (negsuc 511 ≤ℤ (off -ℤ z)) → ((off -ℤ z) ≤ℤ pos 0) → pos (computed Sub true x y) ≡ pos stack_end +ℤ (off -ℤ z)
       stack_difference_is off z x y rx fx fy is least most = by (pos stack_end +ℤ (off -ℤ z)) refl

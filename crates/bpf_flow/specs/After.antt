@@ -91,8 +91,8 @@ after_of (Ja wide_offset to) pc n shapes = at_target (target pc to) (λ q. (q, n
 after_of (Jump cond wide dst src off) pc n shapes =
     unless (is_unset (n.reg (number dst)) || is_unset (operand_value n src)) cause.Unset
     (at_target (target pc off) (λ q.
-        (pc + 1, passed cond wide n (number dst) src (n.reg (number dst)) (operand_value n src))
-        ∷ (q, taken cond wide n (number dst) src (n.reg (number dst)) (operand_value n src)) ∷ []))
+    (pc + 1, passed cond wide n (number dst) src (n.reg (number dst)) (operand_value n src))
+    ∷ (q, taken cond wide n (number dst) src (n.reg (number dst)) (operand_value n src)) ∷ []))
 after_of (Call helper) pc n shapes =
     unless (not (is_lookup helper)) cause.Helper
     (unless (is_unset (n.reg 1) || is_unset (n.reg 2)) cause.Unset

@@ -77,9 +77,15 @@ sum_of n (Num lo hi) (Num lo' hi') = Plain (range_sum lo hi lo' hi')
 sum_of n v w = Plain full
 
 -- a constant taken from a pointer
+abbrev pub packet_difference : ℕ → ℕ → ℕ → ℕ → Val
+packet_difference id off lo hi = if lo == hi then packet_at id (pos off -ℤ signed lo) else full
+
+abbrev pub stack_difference : ℤ → ℕ → ℕ → Val
+stack_difference off lo hi = if lo == hi then stack_at (off -ℤ signed lo) else full
+
 abbrev pub difference_of : Val → Val → Val
-difference_of (Pkt id off) (Num lo hi) = if lo == hi then packet_at id (pos off -ℤ signed lo) else full
-difference_of (Stack off) (Num lo hi) = if lo == hi then stack_at (off -ℤ signed lo) else full
+difference_of (Pkt id off) (Num lo hi) = packet_difference id off lo hi
+difference_of (Stack off) (Num lo hi) = stack_difference off lo hi
 difference_of v w = full
 
 -- a range and a constant

@@ -1,5 +1,5 @@
 -- What an access through a value reaches, what a load makes of it and what a store changes.
-use Rattle.std.specs.Prelude.{ℕ, ◌+◌, ◌*◌, ◌/◌, ◌%◌, zero, suc, ℤ, pos, negsuc, ◌+ℤ◌, List, Option, None, Some, Bool, true, false, ◌&&◌, ◌||◌, if◌then◌else◌, ◌==◌, nat_le, nat_lt, Result, Ok, Err, slice_get}
+use Rattle.std.specs.Prelude.{ℕ, ◌+◌, ◌*◌, ◌/◌, ◌%◌, zero, suc, min, max, ℤ, pos, negsuc, ◌+ℤ◌, List, Option, None, Some, Bool, true, false, ◌&&◌, ◌||◌, if◌then◌else◌, ◌==◌, nat_le, nat_lt, Result, Ok, Err, slice_get}
 use Rattle.bpf_insn.specs.Size.{size_bytes}
 use Rattle.bpf_insn.specs.declared.size.Size.{Size}
 use Rattle.bpf_insn.specs.declared.size.Size.TheVariants.{Byte, Half, Word, Double}
@@ -111,11 +111,15 @@ loaded_value n shapes false size (InContext o) = if is_word size && is_field o t
 loaded_value n shapes true size (AtValue m o) = Err cause.MapAccess
 loaded_value n shapes false size (AtValue m o) = if is_double size && is_counter (slice_get shapes m) o then Ok full else Err cause.MapAccess
 
+-- z bytes from p on and the eight of slot j have one in common
+abbrev pub touches : ℕ → ℕ → ℕ → Bool
+touches p z j = nat_lt (max p (8 * j)) (min (p + z) (8 * j + 8))
+
 -- z bytes of the stack from p on are stored: they are set, and a slot that they touch keeps no value any more
 abbrev pub with_bytes : Facts → ℕ → ℕ → Facts
 with_bytes n p z = record {
   reg = n.reg;
-  kept = λ j. if nat_lt (8 * j) (p + z) && nat_lt p (8 * j + 8) then None else n.kept j;
+  kept = λ j. if touches p z j then None else n.kept j;
   set = λ i. (nat_le p i && nat_lt i (p + z)) || n.set i;
   top = n.top;
   safe = n.safe;

@@ -2,7 +2,7 @@
 ghost use Rattle.std.specs.Prelude.{◌≡◌};
 ghost use Rattle.bpf_insn.specs.Signed.{sign_extended};
 ghost use Rattle.bpf_note.specs.Parts.{facts};
-ghost use Rattle.bpf_flow.specs.Computing.{exactly, constant, any_number, operand_value, signed, packet_at, stack_at, packet_sum, stack_sum, range_sum, sum_of, difference_of, range_by, ranged, unfolded, folded, first_constant, result_of, negated_value, extended_value, any_of_width, swapped_value};
+ghost use Rattle.bpf_flow.specs.Computing.{exactly, constant, any_number, operand_value, signed, packet_at, stack_at, packet_sum, stack_sum, range_sum, sum_of, packet_difference, stack_difference, difference_of, range_by, ranged, unfolded, folded, first_constant, result_of, negated_value, extended_value, any_of_width, swapped_value};
 
 use crate::computed::Computed;
 use bpf_insn::{AluOp, Operand, Size, SwapKind, Width, alu, move_extended, negate, swap};
@@ -11,7 +11,7 @@ use bpf_note::{Note, Val};
 /// The greatest base of an address in the packet.
 const MOST_BASE: u32 = 0xF_FFFF;
 
-fn exactly(number: u64) -> Val
+pub(crate) fn exactly(number: u64) -> Val
     ensures { result ≡ exactly number }
 {
     Val::Num {
@@ -137,10 +137,34 @@ fn sum_of(note: &Note, a: Val, b: Val) -> Computed
         (Val::Num { lo, hi }, Val::Pkt { id, off }) => packet_sum(note.top(id), id, off, lo, hi),
         (Val::Stack { off }, Val::Num { lo, hi }) => Computed::Plain(stack_sum(off, lo, hi)),
         (Val::Num { lo, hi }, Val::Stack { off }) => Computed::Plain(stack_sum(off, lo, hi)),
-        (Val::Num { lo, hi }, Val::Num { lo: other_lo, hi: other_hi }) => {
-            Computed::Plain(range_sum(lo, hi, other_lo, other_hi))
-        }
+        (
+            Val::Num { lo, hi },
+            Val::Num {
+                lo: other_lo,
+                hi: other_hi,
+            },
+        ) => { Computed::Plain(range_sum(lo, hi, other_lo, other_hi)) }
         _ => Computed::Plain(Val::FULL),
+    }
+}
+
+fn packet_difference(id: u16, off: u16, lo: u64, hi: u64) -> Val
+    ensures { result ≡ packet_difference id off lo hi }
+{
+    if lo == hi {
+        packet_at(id, i128::from(off) - signed(lo))
+    } else {
+        Val::FULL
+    }
+}
+
+fn stack_difference(off: i16, lo: u64, hi: u64) -> Val
+    ensures { result ≡ stack_difference off lo hi }
+{
+    if lo == hi {
+        stack_at(i128::from(off) - signed(lo))
+    } else {
+        Val::FULL
     }
 }
 
@@ -148,20 +172,8 @@ fn difference_of(a: Val, b: Val) -> Val
     ensures { result ≡ difference_of a b }
 {
     match (a, b) {
-        (Val::Pkt { id, off }, Val::Num { lo, hi }) => {
-            if lo == hi {
-                packet_at(id, i128::from(off) - signed(lo))
-            } else {
-                Val::FULL
-            }
-        }
-        (Val::Stack { off }, Val::Num { lo, hi }) => {
-            if lo == hi {
-                stack_at(i128::from(off) - signed(lo))
-            } else {
-                Val::FULL
-            }
-        }
+        (Val::Pkt { id, off }, Val::Num { lo, hi }) => packet_difference(id, off, lo, hi),
+        (Val::Stack { off }, Val::Num { lo, hi }) => stack_difference(off, lo, hi),
         _ => Val::FULL,
     }
 }
@@ -208,7 +220,13 @@ fn ranged(op: AluOp, a: Val, b: Val) -> Val
     ensures { result ≡ ranged op a b }
 {
     match (a, b) {
-        (Val::Num { lo, hi }, Val::Num { lo: least, hi: most }) => if least == most {
+        (
+            Val::Num { lo, hi },
+            Val::Num {
+                lo: least,
+                hi: most,
+            },
+        ) => if least == most {
             range_by(op, lo, hi, least)
         } else {
             Val::FULL
@@ -275,10 +293,7 @@ fn any_of_width(width: Width) -> Val
     ensures { result ≡ any_of_width width }
 {
     match width {
-        Width::Bits16 => Val::Num {
-            lo: 0,
-            hi: 0xFFFF,
-        },
+        Width::Bits16 => Val::Num { lo: 0, hi: 0xFFFF },
         Width::Bits32 => any_number(false),
         Width::Bits64 => Val::FULL,
     }

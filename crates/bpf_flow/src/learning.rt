@@ -131,7 +131,13 @@ fn learn(note: &mut Note, cond: Condition, dst: Register, src: Operand) -> Resul
     match (first, second) {
         (Val::Pkt { id, off }, Val::PktEnd) => against_end(note, cond, id, off)?,
         (Val::PktEnd, Val::Pkt { id, off }) => end_against(note, cond, id, off)?,
-        (Val::Num { lo, hi }, Val::Num { lo: least, hi: most }) => if least == most {
+        (
+            Val::Num { lo, hi },
+            Val::Num {
+                lo: least,
+                hi: most,
+            },
+        ) => if least == most {
             compare(note, cond, dst.number(), lo, hi, least);
         },
         (Val::MaybeValue { m, id }, _) => if is_null(src) {
@@ -143,7 +149,14 @@ fn learn(note: &mut Note, cond: Condition, dst: Register, src: Operand) -> Resul
 }
 
 /// What is known where a jump is taken.
-pub(crate) fn taken(alloc: Global, note: &Note, cond: Condition, wide: bool, dst: Register, src: Operand) -> Result<Note, AllocError>
+pub(crate) fn taken(
+    alloc: Global,
+    note: &Note,
+    cond: Condition,
+    wide: bool,
+    dst: Register,
+    src: Operand,
+) -> Result<Note, AllocError>
     ensures { IfOk result (λ n. facts n ≡ taken cond wide (facts note.now) (number dst) src ((facts note.now).reg (number dst)) (operand_value (facts note.now) src)) }
 {
     let mut there = note.copy(alloc)?;
@@ -154,7 +167,14 @@ pub(crate) fn taken(alloc: Global, note: &Note, cond: Condition, wide: bool, dst
 }
 
 /// What is known where a jump isn't taken.
-pub(crate) fn passed(alloc: Global, note: &Note, cond: Condition, wide: bool, dst: Register, src: Operand) -> Result<Note, AllocError>
+pub(crate) fn passed(
+    alloc: Global,
+    note: &Note,
+    cond: Condition,
+    wide: bool,
+    dst: Register,
+    src: Operand,
+) -> Result<Note, AllocError>
     ensures { IfOk result (λ n. facts n ≡ passed cond wide (facts note.now) (number dst) src ((facts note.now).reg (number dst)) (operand_value (facts note.now) src)) }
 {
     let mut next = note.copy(alloc)?;

@@ -2,13 +2,14 @@
 #![tactic(auto)]
 
 mod access;
-mod after;
+mod accesses;
 mod computed;
 mod computing;
 mod laws;
 mod learning;
 mod reaching;
 mod registers;
+mod rule;
 mod successors;
 
 pub use laws::{
@@ -16,4 +17,5 @@ pub use laws::{
     steps_follow_edges,
 };
 pub use registers::{jump_target, next_slot, reads, writes};
+pub use rule::after;
 pub use successors::{Successor, Successors};

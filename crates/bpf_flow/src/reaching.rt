@@ -1,7 +1,8 @@
 //! What an access through a value reaches.
-ghost use Rattle.std.specs.Prelude.{◌≡◌, ◌+◌, ◌<◌, ◌≤◌, IfOk, IsTrue, slice_get, option_map};
+ghost use Rattle.std.specs.Prelude.{◌≡◌, ◌+◌, ◌<◌, ◌≤◌, ◌+ℤ◌, pos, IfOk, IsTrue, slice_get, option_map};
 ghost use Rattle.bpf_insn.specs.Size.{size_bytes};
 ghost use Rattle.bpf_note.specs.Parts.{facts};
+ghost use Rattle.bpf_flow.specs.After.{is_key};
 ghost use Rattle.bpf_flow.specs.Gives.{IsInside};
 ghost use Rattle.bpf_flow.specs.Reaching.{place_in, in_packet, on_stack, reach, is_field, is_counter, all_set, any_of_size, any_loaded, is_slot, stack_value, field_value, loaded_value, with_bytes, with_store, adds_at};
 
@@ -52,6 +53,13 @@ fn on_stack(at: i32, bytes: u32) -> Result<Access, Cause>
     }
 }
 
+/// The place on the stack that lies `off` from a pointer with offset `from` from its end.
+fn stack_place(from: i16, off: i16) -> i32
+    ensures { result ≡ pos 512 +ℤ from +ℤ off }
+{
+    512 + i32::from(from) + i32::from(off)
+}
+
 /// What an access of `size` at `off` from a value reaches.
 pub(crate) fn reach(note: &Note, value: Val, off: i16, size: Size) -> Result<Access, Cause>
     ensures reached { result ≡ reach (facts note.now) value off (size_bytes size) }
@@ -61,8 +69,12 @@ pub(crate) fn reach(note: &Note, value: Val, off: i16, size: Size) -> Result<Acc
     match value {
         Val::Unset => Err(Cause::Unset),
         Val::Num { .. } | Val::PktEnd => Err(Cause::NoPointer),
-        Val::Pkt { id, off: from } => in_packet(note.safe(id), i32::from(from) + i32::from(off), bytes),
-        Val::Stack { off: from } => on_stack(512 + i32::from(from) + i32::from(off), bytes),
+        Val::Pkt { id, off: from } => in_packet(
+            note.safe(id),
+            i32::from(from) + i32::from(off),
+            bytes,
+        ),
+        Val::Stack { off: from } => on_stack(stack_place(from, off), bytes),
         Val::Ctx => Ok(Access::InContext(off)),
         Val::MaybeValue { .. } => Err(Cause::MayBeNull),
         Val::Value { m } => Ok(Access::AtValue { m, off }),
@@ -77,7 +89,7 @@ fn is_field(off: i16) -> bool
 }
 
 fn is_counter(shape: Option<&MapShape>, off: i16) -> bool
-    ensures { result ≡ is_counter (option_map (λ s. s.now) shape) off }
+    ensures { result ≡ is_counter (option_map (λ s. s.now) shape.entry) off }
 {
     match shape {
         None => false,
@@ -101,7 +113,12 @@ fn all_set(note: &Note, place: u32, bytes: u32) -> bool
     requires { place + bytes ≤ 512 }
     ensures { result ≡ all_set (facts note.now) place bytes }
 {
-    (place..place + bytes).all(|byte| note.is_set(byte as u16))
+    for byte in place..place + bytes {
+        if !note.is_set(byte as u16) {
+            return false;
+        }
+    }
+    true
 }
 
 fn any_of_size(size: Size) -> Val
@@ -109,10 +126,7 @@ fn any_of_size(size: Size) -> Val
 {
     match size {
         Size::Byte => Val::Num { lo: 0, hi: 0xFF },
-        Size::Half => Val::Num {
-            lo: 0,
-            hi: 0xFFFF,
-        },
+        Size::Half => Val::Num { lo: 0, hi: 0xFFFF },
         Size::Word => Val::Num {
             lo: 0,
             hi: 0xFFFF_FFFF,
@@ -124,11 +138,7 @@ fn any_of_size(size: Size) -> Val
 fn any_loaded(signed: bool, size: Size) -> Val
     ensures { result ≡ any_loaded signed size }
 {
-    if signed {
-        Val::FULL
-    } else {
-        any_of_size(size)
-    }
+    if signed { Val::FULL } else { any_of_size(size) }
 }
 
 fn is_slot(place: u32, size: Size) -> bool
@@ -172,7 +182,13 @@ fn field_value(off: i16) -> Val
 }
 
 /// What a load gives.
-pub(crate) fn loaded_value(note: &Note, shapes: &[MapShape], signed: bool, size: Size, access: Access) -> Result<Val, Cause>
+pub(crate) fn loaded_value(
+    note: &Note,
+    shapes: &[MapShape],
+    signed: bool,
+    size: Size,
+    access: Access,
+) -> Result<Val, Cause>
     requires { IsInside access (size_bytes size) }
     ensures { result ≡ loaded_value (facts note.now) shapes.now signed size access }
 {
@@ -234,5 +250,18 @@ pub(crate) fn adds_at(shapes: &[MapShape], value: Val, off: i16) -> Result<(), C
         Val::MaybeValue { .. } => Err(Cause::MayBeNull),
         Val::Value { m } if has_counter(shapes, m, off) => Ok(()),
         _ => Err(Cause::MapAccess),
+    }
+}
+
+/// Whether a value is the address of four set bytes of the stack.
+pub(crate) fn is_key(note: &Note, value: Val) -> bool
+    ensures { result ≡ is_key (facts note.now) value }
+{
+    match value {
+        Val::Stack { off } => match place_in(512 + i32::from(off), 4, 512) {
+            None => false,
+            Some(place) => all_set(note, place, 4),
+        },
+        _ => false,
     }
 }

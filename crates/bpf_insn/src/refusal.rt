@@ -1,3 +1,4 @@
+use std::alloc::AllocError;
 use std::fmt;
 
 /// Why a program is refused. A cause prints as its number, as `V7`; there is no V18.
@@ -72,6 +73,17 @@ impl Cause {
             Cause::Argument => 17,
             Cause::Unsupported => 19,
         }
+    }
+}
+
+impl From<AllocError> for Cause {
+    ghost use Rattle.std.specs.Prelude.{◌≡◌};
+    ghost use Rattle.bpf_insn.specs.declared.refusal.Cause.TheVariants.{Memory};
+
+    ghost from_gives = { λ _ e. e ≡ Memory };
+
+    fn from(_error: AllocError) -> Cause {
+        Cause::Memory
     }
 }
 
