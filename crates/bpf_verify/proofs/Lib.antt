@@ -1,6 +1,14 @@
-mod StructureLemmas
 mod SetLemmas
 mod GraphLemmas
+mod WayLemmas
+mod CycleLemmas
+mod SearchLemmas
+mod WaitLemmas
+mod TakeLemmas
+mod RankLemmas
+mod OrderLemmas
+mod LawLemmas
+mod TellLemmas
 mod PassLemmas
 mod CodeLemmas
 mod PathLemmas
