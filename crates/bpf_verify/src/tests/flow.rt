@@ -78,13 +78,11 @@ fn a_target_at_a_higher_slot_comes_after_a_cycle(rt: HostRuntime) {
 }
 
 /// A jump to the last of `jumps` jumps, each to the slot below it, the lowest to an EXIT.
-fn chain(alloc: Global, jumps: i32) -> Result<Vec<Insn>, Fail>
-    requires { jumps < 4000 }
-{
+fn chain(alloc: Global, jumps: u16) -> Result<Vec<Insn>, Fail> {
     let mut code = Vec::new(alloc);
     code.push(Insn::Ja {
         wide_offset: false,
-        to: jumps,
+        to: i32::from(jumps),
     })?;
     code.push(Insn::Exit)?;
     for _ in 0..jumps {
@@ -99,13 +97,13 @@ fn chain(alloc: Global, jumps: i32) -> Result<Vec<Insn>, Fail>
 #[test]
 fn a_chain_of_backward_jumps(rt: HostRuntime) -> Result<(), Fail> {
     let alloc = rt.alloc();
-    let code = chain(alloc, 300)?;
+    let code = chain(alloc, 4000)?;
     let slots = code.as_slice();
     assert!(rt; !slots.is_empty() && slots.len() <= 4096);
     let order = order_of(alloc, slots)?.ok_or("a fault")?;
-    assert_eq!(rt; order.len(), 302);
+    assert_eq!(rt; order.len(), 4002);
     assert_eq!(rt; order.first(), Some(&0));
-    assert_eq!(rt; order.get(1), Some(&301));
+    assert_eq!(rt; order.get(1), Some(&4001));
     assert_eq!(rt; order.last(), Some(&1));
     Ok(())
 }
