@@ -3,51 +3,19 @@ use Rattle.std.proofs.Common.{◌≡◌, ◌≤◌, ℕ, List, Option, Some, Non
 use Rattle.std.specs.Prelude.{slice_get, ◌==◌, IsSome, if◌then◌else◌}
 use Rattle.bpf_insn.specs.Code.{IsCode}
 use Rattle.bpf_insn.specs.declared.insn.Insn.{Insn}
-use Rattle.bpf_insn.specs.declared.insn.Insn.TheVariants.{Alu, Neg, End, MovSx, Const, MapRef, Ldx, St, Stx, AddCounter, Ja, Jump, Call, Exit, Second}
 use Rattle.bpf_note.specs.Shape.{Shape, AreShapes}
 use Rattle.bpf_note.specs.State.{State, IsStart, context_start, stack_end}
 use Rattle.bpf_flow.specs.Step.{Outcome, Next, Loads, Adds, Exited, Fault, exec, step, need}
-use Rattle.bpf_flow.specs.Graph.{Leads}
 use Rattle.bpf_verify.specs.Consistent.{Note, is_set, Accepted, OneDescribes, IsDescribed, GoesOn, IsConsistent, IsOrdered}
-use Rattle.bpf_verify.specs.Structure.{begins, falls_through}
+use Rattle.bpf_verify.specs.Structure.{begins}
 use Rattle.bpf_verify.specs.FirstRefusal.{IsStructured, AreTreated, AreForward}
-use Rattle.bpf_verify.specs.Unwritten.{Reached, start, along}
 use Rattle.bpf_verify.specs.Passing.{note_at, IsPassed}
 use Rattle.bpf_verify.specs.Views.{slot_notes}
 use Rattle.bpf_verify.specs.declared.set.RegisterSet.{RegisterSet}
-use Rattle.bpf_verify.proofs.CodeLemmas.{first_begins, next_begins, spelled_at}
-use Rattle.bpf_verify.proofs.GraphLemmas.{Falls, Jumps, way, begun, jumps_to, next_inside, some_inside, target_found}
+use Rattle.bpf_verify.proofs.CodeLemmas.{spelled_at}
+use Rattle.bpf_verify.proofs.GraphLemmas.{begun, some_inside, target_found}
+use Rattle.bpf_verify.proofs.FlowLemmas.{reached_begins}
 use Rattle.bpf_verify.proofs.ConsistentLemmas.{Stands, Noted, Continues, continues, stands, described_note, note_described}
-
-falling_begins : (i : Insn) → falls_through i ≡ true → begins (Some i) ≡ true
-falling_begins (Alu op wide dst src) e = refl
-falling_begins (Neg wide dst) e = refl
-falling_begins (End kind width dst) e = refl
-falling_begins (MovSx wide bits dst src) e = refl
-falling_begins (Const dst value) e = refl
-falling_begins (MapRef dst m) e = refl
-falling_begins (Ldx size signed dst src off) e = refl
-falling_begins (St size dst off imm) e = refl
-falling_begins (Stx size dst src off) e = refl
-falling_begins (AddCounter fetch dst src off) e = refl
-falling_begins (Ja wide_offset to) e = refl
-falling_begins (Jump cond wide dst src off) e = refl
-falling_begins (Call helper) e = refl
-falling_begins Exit e = refl
-falling_begins Second e = cc
-
--- an edge leads to an instruction
-pub edge_begins : (code : List Insn) (maps pc q : ℕ) (i : Insn) → IsCode code → IsStructured code maps → AreForward code → slice_get code pc ≡ Some i → Leads i pc q → begins (slice_get code q) ≡ true
-edge_begins code maps pc q i laid h forward e l =
-    let f = h pc i e in
-    elim (way i pc q l) [
-      | Falls t s ↦ subst (λ (q : ℕ). begins (slice_get code q) ≡ true) (sym s) (next_begins code pc i laid e (falling_begins i t) (next_inside code pc i t f.ends))
-      | Jumps off j t ↦ (jumps_to code maps pc q i off j t f (forward pc i e)).0
-    ]
-
-pub reached_begins : {q : ℕ} (code : List Insn) (maps : ℕ) → IsCode code → IsStructured code maps → AreForward code → Reached code q → begins (slice_get code q) ≡ true
-reached_begins code maps laid h forward start = first_begins code laid
-reached_begins code maps laid h forward (along p q i r at l) = edge_begins code maps p q i laid h forward at l
 
 known : (a b : Bool) → (a || b) ≡ true → IsSome (if a then Some context_start else if b then Some stack_end else None)
 known true b e = refl
@@ -77,7 +45,7 @@ module _ (code : List Insn) (shapes : List Shape) (xs : List (Option RegisterSet
   step_goes_on : (s : State) → IsDescribed program s → GoesOn program (step code s)
   step_goes_on s h =
       let n = noted s h in
-      let b = reached_begins code (length shapes) laid structured forward (passed.reached s.pc n.0 n.1) in
+      let b = reached_begins code (length shapes) laid structured (passed.reached s.pc n.0 n.1) in
       let i = begun (slice_get code s.pc) b in
       let there = some_inside code s.pc i.0 i.1 in
       let d = passed.done s.pc n.0 i.0 there n.1 i.1 in

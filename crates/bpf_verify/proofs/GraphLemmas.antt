@@ -37,14 +37,18 @@ begun_worth (Call helper) e = refl
 begun_worth Exit e = refl
 begun_worth Second e = cc
 
-land_by : (code : List Insn) (pc q : ℕ) (o : Option ℕ) → o ≡ Some q → not (lands code o) ≡ false → is_not_above pc o ≡ false → (begins (slice_get code q) ≡ true) × (pc < q)
-land_by code pc q None e h g = cc
-land_by code pc q (Some to) e h g = let same : to ≡ q = cc in (subst (λ q. begins (slice_get code q) ≡ true) same (was (begins (slice_get code to)) h), omega (arith, same, above g))
+pub lands_of : (code : List Insn) (q : ℕ) (o : Option ℕ) → o ≡ Some q → not (lands code o) ≡ false → begins (slice_get code q) ≡ true
+lands_of code q None e h = cc
+lands_of code q (Some to) e h = let same : to ≡ q = cc in subst (λ q. begins (slice_get code q) ≡ true) same (was (begins (slice_get code to)) h)
   where
     was : (b : Bool) → not b ≡ false → b ≡ true
     was true e = refl
     was false e = cc
 
+above_of : (pc q : ℕ) (o : Option ℕ) → o ≡ Some q → is_not_above pc o ≡ false → pc < q
+above_of pc q None e g = cc
+above_of pc q (Some to) e g = let same : to ≡ q = cc in let up = above g in omega (arith, same, up)
+  where
     above : nat_le to pc ≡ false → pc < to
     above g = grind (arith, nat_tests)
 
@@ -100,7 +104,7 @@ way Second pc q h = absurd h
 
 pub jumps_to : (code : List Insn) (maps pc q : ℕ) (i : Insn) (off : ℤ) → jump_of i ≡ Some off → target pc off ≡ Some q → IsFine code maps pc i → jumps_back pc (jump_of i) ≡ false → (begins (slice_get code q) ≡ true) × (pc < q)
 jumps_to code maps pc q i off j t f up =
-    land_by code pc q (target pc off) t (subst (λ (o : Option ℤ). misses_target code pc o ≡ false) j f.target) (subst (λ (o : Option ℤ). jumps_back pc o ≡ false) j up)
+    (lands_of code q (target pc off) t (subst (λ (o : Option ℤ). misses_target code pc o ≡ false) j f.target), above_of pc q (target pc off) t (subst (λ (o : Option ℤ). jumps_back pc o ≡ false) j up))
 
 pub lies_above : (code : List Insn) (maps pc q : ℕ) (i : Insn) → Leads i pc q → IsFine code maps pc i → jumps_back pc (jump_of i) ≡ false → LiesAbove code pc q
 lies_above code maps pc q i h f up = elim (way i pc q h) [

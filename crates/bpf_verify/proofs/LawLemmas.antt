@@ -41,7 +41,7 @@ lowest_open {Edge = Edge} {In = In} taken c up low (suc n) q l on out below =
     } in
     let h = low q ready in absurd (omega (arith, h))
 
-get_or_same : (xs : List ℕ) (i d : ℕ) → i < length xs → slice_index_or xs i (get_or xs i d) ≡ get_or xs i d
+pub get_or_same : (xs : List ℕ) (i d : ℕ) → i < length xs → slice_index_or xs i (get_or xs i d) ≡ get_or xs i d
 get_or_same [] i d l = absurd (omega arith)
 get_or_same (x ∷ xs) zero d l = refl
 get_or_same (x ∷ xs) (suc i) d l = get_or_same xs i d (omega arith)

@@ -11,6 +11,7 @@ mod LawLemmas
 mod TellLemmas
 mod PassLemmas
 mod CodeLemmas
+mod FlowLemmas
 mod PathLemmas
 mod ConsistentLemmas
 mod AcceptedLemmas
