@@ -1,9 +1,9 @@
 -- A pass over an order solves the equation of what stands at its slots.
-use Rattle.std.proofs.Common.{◌≡◌, ◌<◌, ◌++◌, ℕ, suc, length, take, get_or, List, [], ◌∷◌, arith, sym, ◌∙◌, refl, ap, inl, inr, Bool, true, false}
+use Rattle.std.proofs.Common.{◌≡◌, ◌<◌, ◌+◌, ◌++◌, ℕ, suc, length, take, get_or, List, [], ◌∷◌, arith, sym, ◌∙◌, refl, ap, inl, inr, Bool, true, false}
 use Rattle.std.specs.Prelude.{Contains, if◌then◌else◌, ◌==◌}
 use Rattle.std.proofs.lemmas.Bool.{cases_lt}
 use Rattle.std.proofs.lemmas.Bool.Decides.{nat_tests}
-use Rattle.std.proofs.lemmas.List.{get_or_append_left, take-append-le, take_all}
+use Rattle.std.proofs.lemmas.List.{get_or_append_left, take-append-le, take_all, take_more}
 use Rattle.std.proofs.Math.Seq.{get_or-append_seam}
 use Rattle.bpf_verify.specs.Orders.{Takes, none, more}
 use Rattle.bpf_verify.specs.Telling.{hear, after_all, heard, Speaks}
@@ -47,6 +47,11 @@ module _ {N T : Type 0} (add : N → T → N) (told : ℕ → N → List (ℕ ×
       ∙ (ap (λ (m : N). hear add m q (told c (before c))) (solves start along_edges t q ∙ heard_same before after q (start q) taken (λ p at. kept p (to_taken p at)))
       ∙ (ap (λ (m : N). hear add (heard add told after q (start q) taken) q (told c m)) (kept c to_self)
       ∙ sym (heard_last after q (start q) taken c)))
+
+  -- one turn more
+  pub after_more : (start : ℕ → N) (order : List ℕ) (i q : ℕ) → i < length order →
+      after_all add told start (take (i + 1) order) q ≡ hear add (after_all add told start (take i order) q) q (told (get_or order i 0) (after_all add told start (take i order) (get_or order i 0)))
+  after_more start order i q low = ap (λ (xs : List ℕ). after_all add told start xs q) (take_more order i 0 low) ∙ after_last start (take i order) (get_or order i 0) q
 
   -- what stands at a slot as its turn comes stays there to the end
   pub settled : {Edge : ℕ → ℕ → Type 0} {In : ℕ → Type 0} {order : List ℕ} (start : ℕ → N) → ((p : ℕ) (n : N) (q : ℕ) → In p → Speaks (told p n) q → Edge p q) → Takes Edge In order →
