@@ -1,85 +1,21 @@
 -- A program that passes both passes is consistent and ordered.
-use Rattle.std.proofs.Common.{◌≡◌, ◌<◌, ◌≤◌, ℕ, List, [], ◌∷◌, Option, Some, None, length, refl, sym, ap, subst, ◌∙◌, arith, Bool, true, false, ◌||◌, zero, suc, map}
-use Rattle.std.specs.Prelude.{slice_get, slice_index, ◌==◌, IsSome, if◌then◌else◌}
+use Rattle.std.proofs.Common.{◌≡◌, ◌≤◌, ℕ, List, Option, Some, None, length, refl, sym, ap, subst, ◌∙◌, Bool, true, false, ◌||◌, map}
+use Rattle.std.specs.Prelude.{slice_get, ◌==◌, IsSome, if◌then◌else◌}
 use Rattle.bpf_insn.specs.Code.{IsCode}
 use Rattle.bpf_insn.specs.declared.insn.Insn.{Insn}
-use Rattle.bpf_insn.specs.declared.insn.Insn.TheVariants.{Alu, Neg, End, MovSx, Const, MapRef, Ldx, St, Stx, AddCounter, Ja, Jump, Call, Exit, Second}
 use Rattle.bpf_note.specs.Shape.{Shape, AreShapes}
 use Rattle.bpf_note.specs.State.{State, IsStart, context_start, stack_end}
 use Rattle.bpf_flow.specs.Step.{Outcome, Next, Loads, Adds, Exited, Fault, exec, step, need}
-use Rattle.bpf_flow.specs.Graph.{Leads}
-use Rattle.bpf_verify.specs.Consistent.{Note, is_set, Accepted, OneDescribes, IsDescribed, GoesOn, IsConsistent, worth, instructions}
-use Rattle.bpf_verify.specs.Structure.{begins, falls_through}
-use Rattle.bpf_verify.specs.FirstRefusal.{IsStructured, AreTreated}
-use Rattle.bpf_verify.specs.Unwritten.{Reached, start, along}
+use Rattle.bpf_verify.specs.Consistent.{Note, is_set, Accepted, OneDescribes, IsDescribed, GoesOn, IsConsistent, IsOrdered}
+use Rattle.bpf_verify.specs.Structure.{begins}
+use Rattle.bpf_verify.specs.FirstRefusal.{IsStructured, AreTreated, AreForward}
 use Rattle.bpf_verify.specs.Passing.{note_at, IsPassed}
-use Rattle.bpf_verify.specs.Views.{slot_notes, ranks_of}
+use Rattle.bpf_verify.specs.Views.{slot_notes}
 use Rattle.bpf_verify.specs.declared.set.RegisterSet.{RegisterSet}
-use Rattle.bpf_verify.proofs.CodeLemmas.{first_begins, next_begins, spelled_at}
-use Rattle.bpf_verify.proofs.GraphLemmas.{fine, Falls, Jumps, way, jumps_to, next_inside, some_inside, rising, target_found}
+use Rattle.bpf_verify.proofs.CodeLemmas.{spelled_at}
+use Rattle.bpf_verify.proofs.GraphLemmas.{begun, some_inside, target_found}
+use Rattle.bpf_verify.proofs.FlowLemmas.{reached_begins}
 use Rattle.bpf_verify.proofs.ConsistentLemmas.{Stands, Noted, Continues, continues, stands, described_note, note_described}
-
-begun : (o : Option Insn) → begins o ≡ true → (i : Insn) × (o ≡ Some i)
-begun None e = cc
-begun (Some i) e = (i, refl)
-
-falling_begins : (i : Insn) → falls_through i ≡ true → begins (Some i) ≡ true
-falling_begins (Alu op wide dst src) e = refl
-falling_begins (Neg wide dst) e = refl
-falling_begins (End kind width dst) e = refl
-falling_begins (MovSx wide bits dst src) e = refl
-falling_begins (Const dst value) e = refl
-falling_begins (MapRef dst m) e = refl
-falling_begins (Ldx size signed dst src off) e = refl
-falling_begins (St size dst off imm) e = refl
-falling_begins (Stx size dst src off) e = refl
-falling_begins (AddCounter fetch dst src off) e = refl
-falling_begins (Ja wide_offset to) e = refl
-falling_begins (Jump cond wide dst src off) e = refl
-falling_begins (Call helper) e = refl
-falling_begins Exit e = refl
-falling_begins Second e = cc
-
-begun_worth : (i : Insn) → begins (Some i) ≡ true → worth i ≡ 1
-begun_worth (Alu op wide dst src) e = refl
-begun_worth (Neg wide dst) e = refl
-begun_worth (End kind width dst) e = refl
-begun_worth (MovSx wide bits dst src) e = refl
-begun_worth (Const dst value) e = refl
-begun_worth (MapRef dst m) e = refl
-begun_worth (Ldx size signed dst src off) e = refl
-begun_worth (St size dst off imm) e = refl
-begun_worth (Stx size dst src off) e = refl
-begun_worth (AddCounter fetch dst src off) e = refl
-begun_worth (Ja wide_offset to) e = refl
-begun_worth (Jump cond wide dst src off) e = refl
-begun_worth (Call helper) e = refl
-begun_worth Exit e = refl
-begun_worth Second e = cc
-
--- an edge leads to an instruction
-pub edge_begins : (code : List Insn) (maps pc q : ℕ) (i : Insn) → IsCode code → IsStructured code maps → slice_get code pc ≡ Some i → Leads i pc q → begins (slice_get code q) ≡ true
-edge_begins code maps pc q i laid h e l =
-    let f = fine code maps pc i h e in
-    elim (way i pc q l) [
-      | Falls t s ↦ subst (λ (q : ℕ). begins (slice_get code q) ≡ true) (sym s) (next_begins code pc i laid e (falling_begins i t) (next_inside code pc i t f.ends))
-      | Jumps off j t ↦ (jumps_to code maps pc q i off j t f).0
-    ]
-
-pub reached_begins : {q : ℕ} (code : List Insn) (maps : ℕ) → IsCode code → IsStructured code maps → Reached code q → begins (slice_get code q) ≡ true
-reached_begins code maps laid h start = first_begins code laid
-reached_begins code maps laid h (along p q i r at l) = edge_begins code maps p q i laid h at l
-
-rank_below : (code : List Insn) (pc : ℕ) (i : Insn) → slice_get code pc ≡ Some i → worth i ≡ 1 → slice_index (ranks_of code) pc < instructions code
-rank_below [] pc i e w = cc
-rank_below (j ∷ js) zero i e w = let same : worth j ≡ worth i = cc in omega arith
-rank_below (j ∷ js) (suc pc) i e w = omega (arith, rank_below js pc i e w)
-
-rank_falls : (code : List Insn) (pc q : ℕ) (i j : Insn) → slice_get code pc ≡ Some i → slice_get code q ≡ Some j → worth j ≡ 1 → pc < q → slice_index (ranks_of code) q < slice_index (ranks_of code) pc
-rank_falls [] pc q i j e f w lt = cc
-rank_falls (k ∷ ks) pc zero i j e f w lt = absurd (omega arith)
-rank_falls (k ∷ ks) zero (suc q) i j e f w lt = rank_below ks q j f w
-rank_falls (k ∷ ks) (suc pc) (suc q) i j e f w lt = rank_falls ks pc q i j e f w (omega arith)
 
 known : (a b : Bool) → (a || b) ≡ true → IsSome (if a then Some context_start else if b then Some stack_end else None)
 known true b e = refl
@@ -88,9 +24,10 @@ known false false e = cc
 
 module _ (code : List Insn) (shapes : List Shape) (xs : List (Option RegisterSet))
     (laid : IsCode code) (few : length shapes ≤ 4) (maps : AreShapes shapes) (structured : IsStructured code (length shapes)) (treated : AreTreated code)
+    (forward : AreForward code) (ordered : IsOrdered code)
     (passed : IsPassed code (length code) (note_at xs)) where
   abbrev program : Accepted
-  program = record { code = code; shapes = shapes; notes = map slot_notes xs; ranks = ranks_of code }
+  program = record { code = code; shapes = shapes; notes = map slot_notes xs }
 
   described : (s : State) → Noted shapes (note_at xs) s → IsDescribed program s
   described s h = subst (λ (ns : List Note). OneDescribes shapes ns s) (sym (stands xs s.pc)) (note_described shapes (note_at xs s.pc) h.0 s h.1 h.2)
@@ -113,7 +50,7 @@ module _ (code : List Insn) (shapes : List Shape) (xs : List (Option RegisterSet
       let there = some_inside code s.pc i.0 i.1 in
       let d = passed.done s.pc n.0 i.0 there n.1 i.1 in
       let st : Stands code shapes (note_at xs) s i.0 n.0 = record { here = i.1; allowed = d.allowed; covered = d.covered; described = n.2 } in
-      let f = fine code (length shapes) s.pc i.0 structured i.1 in
+      let f = structured s.pc i.0 i.1 in
       let spelled = spelled_at code s.pc i.0 laid i.1 (subst (λ (o : Option Insn). begins o ≡ true) i.1 b) in
       let c = continues code shapes (note_at xs) s i.0 n.0 st (treated s.pc i.0 i.1) spelled (λ off j. target_found code s.pc i.0 off j f.target) in
       subst (λ (o : Option Insn). GoesOn program (need o (λ i. exec i s))) (sym i.1) (goes_on (exec i.0 s) c)
@@ -129,11 +66,5 @@ module _ (code : List Insn) (shapes : List Shape) (xs : List (Option RegisterSet
     starts = λ s h m.
         described s (passed.entry, ap (note_at xs) h.pc ∙ passed.first, record { state = h.state; maps = m; set = λ k e. started k s h e });
     steps = step_goes_on;
-    ordered = record {
-      below = λ pc i e w. rank_below code pc i e w;
-      falls = λ pc q i e l.
-          let b = edge_begins code (length shapes) pc q i laid structured e l in
-          let j = begun (slice_get code q) b in
-          rank_falls code pc q i j.0 e j.1 (begun_worth j.0 (subst (λ (o : Option Insn). begins o ≡ true) j.1 b)) (rising code (length shapes) structured pc q i e l).above;
-    };
+    ordered = ordered;
   }

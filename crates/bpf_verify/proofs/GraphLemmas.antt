@@ -4,55 +4,55 @@ use Rattle.std.specs.Prelude.{slice_get, nat_lt, nat_le, not, if◌then◌else�
 use Rattle.std.proofs.lemmas.Bool.Decides.{nat_tests}
 use Rattle.bpf_insn.specs.declared.insn.Insn.{Insn}
 use Rattle.bpf_insn.specs.declared.insn.Insn.TheVariants.{Alu, Neg, End, MovSx, Const, MapRef, Ldx, St, Stx, AddCounter, Ja, Jump, Call, Exit, Second}
-use Rattle.bpf_insn.specs.declared.refusal.Cause.TheVariants as cause
 use Rattle.bpf_flow.specs.Step.{target}
 use Rattle.bpf_flow.specs.Graph.{Leads, next_slot}
-use Rattle.bpf_verify.specs.Structure.{structure_at, structure_by, structure_of, misses_target, jumps_back, runs_off, lacks_map, lands, begins, is_not_above, jump_of, falls_through}
-use Rattle.bpf_verify.specs.FirstRefusal.{IsStructured}
+use Rattle.bpf_verify.specs.Structure.{misses_target, jumps_back, runs_off, lands, begins, is_not_above, jump_of, falls_through}
+use Rattle.bpf_verify.specs.Consistent.{worth}
+use Rattle.bpf_verify.specs.FirstRefusal.{IsFine, IsStructured, AreForward}
 use Rattle.bpf_verify.specs.Passing.{LiesAbove, IsRising}
-
--- no fault of structure
-pub record IsFine (code : List Insn) (maps pc : ℕ) (i : Insn) : Type 0 where
-  pub target : misses_target code pc (jump_of i) ≡ false
-  pub rises : jumps_back pc (jump_of i) ≡ false
-  pub ends : runs_off code pc i ≡ false
-  pub map : lacks_map maps i ≡ false
-
-fine_by : (a b c d : Bool) → (if a then Some cause.Target else if b then Some cause.BackJump else if c then Some cause.End else if d then Some cause.MapNumber else None) ≡ None → (a ≡ false) × (b ≡ false) × (c ≡ false) × (d ≡ false)
-fine_by true b c d e = cc
-fine_by false true c d e = cc
-fine_by false false true d e = cc
-fine_by false false false true e = cc
-fine_by false false false false e = (refl, refl, refl, refl)
-
-pub fine : (code : List Insn) (maps pc : ℕ) (i : Insn) → IsStructured code maps → slice_get code pc ≡ Some i → IsFine code maps pc i
-unfolding structure_at
-fine code maps pc i h e =
-    let n : structure_of code maps pc i ≡ None = subst (λ (o : Option Insn). structure_by code maps pc o ≡ None) e (h pc) in
-    let f = fine_by _ _ _ _ n in
-    record { target = f.0; rises = f.1; ends = f.2; map = f.3 }
 
 pub some_inside : {A : Type 0} (xs : List A) (k : ℕ) (x : A) → slice_get xs k ≡ Some x → k < length xs
 some_inside [] k x e = cc
 some_inside (y ∷ ys) zero x e = omega arith
 some_inside (y ∷ ys) (suc k) x e = let r = some_inside ys k x e in omega (arith, r)
 
-begun : (o : Option Insn) → begins o ≡ true → (i : Insn) × (o ≡ Some i)
+pub begun : (o : Option Insn) → begins o ≡ true → (i : Insn) × (o ≡ Some i)
 begun None e = cc
 begun (Some i) e = (i, refl)
 
-land_by : (code : List Insn) (pc q : ℕ) (o : Option ℕ) → o ≡ Some q → not (lands code o) ≡ false → is_not_above pc o ≡ false → (begins (slice_get code q) ≡ true) × (pc < q)
-land_by code pc q None e h g = cc
-land_by code pc q (Some to) e h g = let same : to ≡ q = cc in (subst (λ q. begins (slice_get code q) ≡ true) same (was (begins (slice_get code to)) h), omega (arith, same, above g))
+pub begun_worth : (i : Insn) → begins (Some i) ≡ true → worth i ≡ 1
+begun_worth (Alu op wide dst src) e = refl
+begun_worth (Neg wide dst) e = refl
+begun_worth (End kind width dst) e = refl
+begun_worth (MovSx wide bits dst src) e = refl
+begun_worth (Const dst value) e = refl
+begun_worth (MapRef dst m) e = refl
+begun_worth (Ldx size signed dst src off) e = refl
+begun_worth (St size dst off imm) e = refl
+begun_worth (Stx size dst src off) e = refl
+begun_worth (AddCounter fetch dst src off) e = refl
+begun_worth (Ja wide_offset to) e = refl
+begun_worth (Jump cond wide dst src off) e = refl
+begun_worth (Call helper) e = refl
+begun_worth Exit e = refl
+begun_worth Second e = cc
+
+pub lands_of : (code : List Insn) (q : ℕ) (o : Option ℕ) → o ≡ Some q → not (lands code o) ≡ false → begins (slice_get code q) ≡ true
+lands_of code q None e h = cc
+lands_of code q (Some to) e h = let same : to ≡ q = cc in subst (λ q. begins (slice_get code q) ≡ true) same (was (begins (slice_get code to)) h)
   where
     was : (b : Bool) → not b ≡ false → b ≡ true
     was true e = refl
     was false e = cc
 
+above_of : (pc q : ℕ) (o : Option ℕ) → o ≡ Some q → is_not_above pc o ≡ false → pc < q
+above_of pc q None e g = cc
+above_of pc q (Some to) e g = let same : to ≡ q = cc in let up = above g in omega (arith, same, up)
+  where
     above : nat_le to pc ≡ false → pc < to
     above g = grind (arith, nat_tests)
 
-next_above : (pc : ℕ) (i : Insn) → pc < next_slot i pc
+pub next_above : (pc : ℕ) (i : Insn) → pc < next_slot i pc
 next_above pc (Alu op wide dst src) = omega arith
 next_above pc (Neg wide dst) = omega arith
 next_above pc (End kind width dst) = omega arith
@@ -102,21 +102,21 @@ way (Call helper) pc q h = Falls refl h
 way Exit pc q h = absurd h
 way Second pc q h = absurd h
 
-pub jumps_to : (code : List Insn) (maps pc q : ℕ) (i : Insn) (off : ℤ) → jump_of i ≡ Some off → target pc off ≡ Some q → IsFine code maps pc i → (begins (slice_get code q) ≡ true) × (pc < q)
-jumps_to code maps pc q i off j t f =
-    land_by code pc q (target pc off) t (subst (λ (o : Option ℤ). misses_target code pc o ≡ false) j f.target) (subst (λ (o : Option ℤ). jumps_back pc o ≡ false) j f.rises)
+pub jumps_to : (code : List Insn) (maps pc q : ℕ) (i : Insn) (off : ℤ) → jump_of i ≡ Some off → target pc off ≡ Some q → IsFine code maps pc i → jumps_back pc (jump_of i) ≡ false → (begins (slice_get code q) ≡ true) × (pc < q)
+jumps_to code maps pc q i off j t f up =
+    (lands_of code q (target pc off) t (subst (λ (o : Option ℤ). misses_target code pc o ≡ false) j f.target), above_of pc q (target pc off) t (subst (λ (o : Option ℤ). jumps_back pc o ≡ false) j up))
 
-pub lies_above : (code : List Insn) (maps pc q : ℕ) (i : Insn) → Leads i pc q → IsFine code maps pc i → LiesAbove code pc q
-lies_above code maps pc q i h f = elim (way i pc q h) [
+pub lies_above : (code : List Insn) (maps pc q : ℕ) (i : Insn) → Leads i pc q → IsFine code maps pc i → jumps_back pc (jump_of i) ≡ false → LiesAbove code pc q
+lies_above code maps pc q i h f up = elim (way i pc q h) [
   | Falls t e ↦ let up = next_above pc i in let within = next_inside code pc i t f.ends in record { above = omega (arith, up, e); inside = omega (arith, within, e) }
   | Jumps off j t ↦
-      let l = jumps_to code maps pc q i off j t f in
+      let l = jumps_to code maps pc q i off j t f up in
       let b = begun (slice_get code q) l.0 in
       record { above = l.1; inside = some_inside code q b.0 b.1 }
 ]
 
-pub rising : (code : List Insn) (maps : ℕ) → IsStructured code maps → IsRising code
-rising code maps h pc q i e l = lies_above code maps pc q i l (fine code maps pc i h e)
+pub rising : (code : List Insn) (maps : ℕ) → IsStructured code maps → AreForward code → IsRising code
+rising code maps h forward pc q i e l = lies_above code maps pc q i l (h pc i e) (forward pc i e)
 
 -- a jump that doesn't miss has a target
 pub target_found : (code : List Insn) (pc : ℕ) (i : Insn) (off : ℤ) → jump_of i ≡ Some off → misses_target code pc (jump_of i) ≡ false → (q : ℕ) × (target pc off ≡ Some q)

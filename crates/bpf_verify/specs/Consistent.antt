@@ -1,12 +1,13 @@
 -- When notes account for every run of a program, and when ranks bound it.
-use Rattle.std.specs.Prelude.{ℕ, ◌+◌, ◌^◌, ◌≡◌, ◌<◌, ◌≤◌, ◌⊎◌, List, [], ◌∷◌, length, Some, IsSome, Bool, true, false, slice_get, slice_index, slice_index_or, unwrap_or}
+use Rattle.std.specs.Prelude.{ℕ, ◌+◌, ◌^◌, ◌≡◌, ◌<◌, ◌≤◌, ◌⊎◌, List, [], ◌∷◌, length, Some, IsSome, Bool, true, false, slice_get, slice_index_or, unwrap_or}
 use Rattle.bpf_insn.specs.declared.insn.Insn.{Insn}
 use Rattle.bpf_insn.specs.declared.insn.Insn.TheVariants.{Second}
 use Rattle.bpf_insn.specs.Code.{IsCode}
 use Rattle.bpf_note.specs.Shape.{Shape, AreShapes}
 use Rattle.bpf_note.specs.State.{State, IsState, IsStart}
 use Rattle.bpf_flow.specs.Step.{Outcome, Next, Loads, Adds, Exited, Fault, step}
-use Rattle.bpf_flow.specs.Graph.{Leads}
+use Rattle.bpf_verify.specs.Paths.{IsRank}
+use Rattle.bpf_verify.specs.Edges.{Edge}
 
 -- what is known at a slot: which registers are set
 abbrev pub Note : Type 0
@@ -15,12 +16,11 @@ Note = List Bool
 abbrev pub is_set : Note → ℕ → Bool
 is_set note k = slice_index_or note k false
 
--- a program that was accepted: its notes and its ranks stand here for contracts alone
+-- a program that was accepted: its notes stand here for contracts alone
 pub record Accepted : Type 0 where
   pub code : List Insn
   pub shapes : List Shape
   pub notes : List (List Note)
-  pub ranks : List ℕ
 
 -- the note describes the state
 pub record Describes (shapes : List Shape) (note : Note) (s : State) : Type 0 where
@@ -55,13 +55,11 @@ abbrev pub instructions : List Insn → ℕ
 instructions [] = 0
 instructions (i ∷ is) = worth i + instructions is
 
-abbrev pub rank : Accepted → ℕ → ℕ
-rank p pc = slice_index p.ranks pc
-
 -- each instruction has a rank below their number, reached or not, which falls along every edge of the flow graph
-pub record IsOrdered (p : Accepted) : Type 0 where
-  pub below : (pc : ℕ) (i : Insn) → slice_get p.code pc ≡ Some i → worth i ≡ 1 → rank p pc < instructions p.code
-  pub falls : (pc q : ℕ) (i : Insn) → slice_get p.code pc ≡ Some i → Leads i pc q → rank p q < rank p pc
+pub record IsOrdered (code : List Insn) : Type 0 where
+  pub rank : ℕ → ℕ
+  pub below : (pc : ℕ) (i : Insn) → slice_get code pc ≡ Some i → worth i ≡ 1 → rank pc < instructions code
+  pub falls : IsRank (Edge code) rank
 
 -- every start is described, and so is what each step of a described state leads to
 pub record IsConsistent (p : Accepted) : Type 0 where
@@ -70,4 +68,4 @@ pub record IsConsistent (p : Accepted) : Type 0 where
   pub maps : AreShapes p.shapes
   pub starts : (s : State) → IsStart s → s.shapes ≡ p.shapes → IsDescribed p s
   pub steps : (s : State) → IsDescribed p s → GoesOn p (step p.code s)
-  pub ordered : IsOrdered p
+  pub ordered : IsOrdered p.code

@@ -1,7 +1,14 @@
 pub mod Structure
+pub mod Paths
+pub mod Orders
+pub mod Edges
+pub mod Ways
+pub mod Marks
+pub mod Waits
 pub mod Unwritten
 pub mod Consistent
 pub mod FirstRefusal
 pub mod Sets
 pub mod Passing
+pub mod Telling
 pub mod Views

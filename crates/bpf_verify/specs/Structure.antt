@@ -2,8 +2,6 @@
 use Rattle.std.specs.Prelude.{ℕ, ℤ, List, length, Option, None, Some, Bool, true, false, not, if◌then◌else◌, nat_lt, nat_le, slice_get}
 use Rattle.bpf_insn.specs.declared.insn.Insn.{Insn}
 use Rattle.bpf_insn.specs.declared.insn.Insn.TheVariants.{MapRef, Ja, Jump, Exit, Second}
-use Rattle.bpf_insn.specs.declared.refusal.Cause.{Cause}
-use Rattle.bpf_insn.specs.declared.refusal.Cause.TheVariants as cause
 use Rattle.bpf_flow.specs.Step.{target}
 use Rattle.bpf_flow.specs.Graph.{next_slot}
 
@@ -52,20 +50,3 @@ runs_off code pc i = if falls_through i then not (nat_lt (next_slot i pc) (lengt
 abbrev pub lacks_map : ℕ → Insn → Bool
 lacks_map maps (MapRef dst m) = nat_le maps m
 lacks_map maps i = false
-
--- what is wrong with the structure at a slot, the first in this order
-abbrev pub structure_of : List Insn → ℕ → ℕ → Insn → Option Cause
-structure_of code maps pc i =
-    if misses_target code pc (jump_of i) then Some cause.Target
-    else if jumps_back pc (jump_of i) then Some cause.BackJump
-    else if runs_off code pc i then Some cause.End
-    else if lacks_map maps i then Some cause.MapNumber
-    else None
-
-abbrev pub structure_by : List Insn → ℕ → ℕ → Option Insn → Option Cause
-structure_by code maps pc None = None
-structure_by code maps pc (Some i) = structure_of code maps pc i
-
--- the same of the instruction at slot pc, reached or not
-unfoldable pub structure_at : List Insn → ℕ → ℕ → Option Cause
-structure_at code maps pc = structure_by code maps pc (slice_get code pc)

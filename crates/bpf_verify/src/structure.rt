@@ -1,39 +1,16 @@
 //! The first pass: the structure of a program, over all slots, reached or not.
-ghost use Rattle.std.specs.Prelude.{◌≡◌, ◌<◌, ◌≤◌, ℕ, Some, None, length, slice_get, IfSome, IfNone};
-ghost use Rattle.bpf_flow.specs.Step.{target};
-ghost use Rattle.bpf_verify.specs.Structure.{begins, lands, is_not_above, misses_target, jumps_back, falls_through, runs_off, lacks_map, jump_of, structure_of, structure_at};
-ghost use Rattle.bpf_verify.specs.FirstRefusal.{IsStructured, IsFirstFault, is_treated, AreTreated};
-ghost use Rattle.std.specs.Prelude.{true, false};
+ghost use Rattle.std.specs.Prelude.{◌≡◌, ◌<◌, ◌≤◌, ℕ, Some, true, false, length, slice_get, IfOk, IfSome, IfNone};
+ghost use Rattle.std.specs.Bool.{OnTrue};
 ghost use Rattle.bpf_insn.specs.declared.insn.Insn.{Insn};
+ghost use Rattle.bpf_verify.specs.Structure.{lands, is_not_above, misses_target, jumps_back, runs_off, lacks_map};
+ghost use Rattle.bpf_verify.specs.Consistent.{IsOrdered};
+ghost use Rattle.bpf_verify.specs.FirstRefusal.{IsFine, IsFault, IsStructured, IsStructureRefusal, is_treated, is_treated_at, AreTreated, AreForward};
 
+use crate::graph::{closes_cycle_unless, try_ranks};
+use crate::slot::{begins, falls_through, insn_at, jump_of};
 use bpf_flow::{jump_target, next_slot};
 use bpf_insn::{AluOp, Cause, Insn, Refusal};
-
-/// Whether a slot holds an instruction.
-fn begins(slot: Option<Insn>) -> bool
-    ensures { result ≡ begins slot }
-{
-    match slot {
-        None | Some(Insn::Second) => false,
-        Some(_) => true,
-    }
-}
-
-fn insn_at(code: &[Insn], pc: u32) -> Option<Insn>
-    ensures { result ≡ slice_get code.now pc }
-{
-    code.get(pc as usize).copied()
-}
-
-fn jump_of(insn: Insn) -> Option<i32>
-    ensures { result ≡ jump_of insn }
-{
-    match insn {
-        Insn::Ja { to, .. } => Some(to),
-        Insn::Jump { off, .. } => Some(i32::from(off)),
-        _ => None,
-    }
-}
+use std::alloc::{AllocError, Global};
 
 fn lands(code: &[Insn], to: Option<u32>) -> bool
     ensures { result ≡ lands code.now to }
@@ -73,12 +50,6 @@ fn jumps_back(pc: u32, jump: Option<i32>) -> bool
     }
 }
 
-fn falls_through(insn: Insn) -> bool
-    ensures { result ≡ falls_through insn }
-{
-    !matches!(insn, Insn::Ja { .. } | Insn::Exit | Insn::Second)
-}
-
 fn runs_off(code: &[Insn], pc: u32, insn: Insn) -> bool
     requires { pc < 4096 }
     ensures { result ≡ runs_off code.now pc insn }
@@ -99,46 +70,60 @@ fn lacks_map(maps: u32, insn: Insn) -> bool
     }
 }
 
-/// What is wrong with the structure at one slot.
-fn structure_of(code: &[Insn], maps: u32, pc: u32, insn: Insn) -> Option<Cause>
-    requires { pc < 4096 }
-    ensures { result ≡ structure_of code.now maps pc insn }
+/// What is wrong first with the structure at a slot, where `insn` stands. `ordered` tells that no jump closes a cycle.
+fn fault_of(
+    alloc: Global,
+    code: &[Insn],
+    maps: u32,
+    ordered: bool,
+    pc: u32,
+    insn: Insn,
+) -> Result<Option<Cause>, AllocError>
+    requires short { length code.now ≤ 4096 }
+    requires inside { pc < length code.now }
+    requires ordered { OnTrue ordered (IsOrdered code.now) }
+    ensures none { IfOk result (λ o. IfNone o (IsFine code.now maps pc insn)) }
+    ensures some { IfOk result (λ o. IfSome o (IsFault code.now maps pc insn)) }
 {
-    let jump = jump_of(insn);
-    if misses_target(code, pc, jump) {
-        Some(Cause::Target)
-    } else if jumps_back(pc, jump) {
-        Some(Cause::BackJump)
-    } else if runs_off(code, pc, insn) {
-        Some(Cause::End)
-    } else if lacks_map(maps, insn) {
-        Some(Cause::MapNumber)
-    } else {
-        None
+    if misses_target(code, pc, jump_of(insn)) {
+        return Ok(Some(Cause::Target));
     }
+    if closes_cycle_unless(alloc, code, ordered, pc)? {
+        return Ok(Some(Cause::BackJump));
+    }
+    if runs_off(code, pc, insn) {
+        return Ok(Some(Cause::End));
+    }
+    if lacks_map(maps, insn) {
+        return Ok(Some(Cause::MapNumber));
+    }
+    Ok(None)
 }
 
-/// The same of the instruction at a slot.
-#[tactic(auto, unfolding(crate::specs::Structure::structure_at))]
-fn structure_at(code: &[Insn], maps: u32, pc: u32) -> Option<Cause>
-    requires { pc < 4096 }
-    ensures { result ≡ structure_at code.now maps pc }
-{
-    match insn_at(code, pc) {
-        None => None,
-        Some(insn) => structure_of(code, maps, pc, insn),
-    }
-}
-
-/// The lowest slot at which something is wrong with the structure.
-pub(crate) fn first_fault(code: &[Insn], maps: u32) -> Option<Refusal>
+/// The lowest slot at which something is wrong with the structure; a program without such a slot is ordered. Where
+/// memory is wanting, V0 with the slot that was treated, or 0.
+pub(crate) fn first_fault(alloc: Global, code: &[Insn], maps: u32) -> Option<Refusal>
     requires { length code.now ≤ 4096 }
     ensures none { IfNone result (IsStructured code.now maps) }
-    ensures some { IfSome result (λ r. IsFirstFault code.now maps r.pc r.cause) }
+    ensures ordered { IfNone result (IsOrdered code.now) }
+    ensures some { IfSome result (λ r. IsStructureRefusal code.now maps r.pc r.cause) }
 {
+    let Ok(ordered) = try_ranks(alloc, code) else {
+        return Some(Refusal {
+            cause: Cause::Memory,
+            pc: 0,
+        });
+    };
     for pc in 0..code.len() as u32 {
-        if let Some(cause) = structure_at(code, maps, pc) {
-            return Some(Refusal { cause, pc });
+        match fault_of(alloc, code, maps, ordered, pc, code[pc as usize]) {
+            Ok(None) => {}
+            Ok(Some(cause)) => return Some(Refusal { cause, pc }),
+            Err(_) => {
+                return Some(Refusal {
+                    cause: Cause::Memory,
+                    pc,
+                });
+            }
         }
     }
     None
@@ -160,18 +145,26 @@ fn is_treated(insn: Insn) -> bool
     )
 }
 
-/// The lowest slot whose instruction the second pass doesn't treat.
+/// The lowest slot whose instruction the second pass doesn't treat, a jump that doesn't go up among them.
 pub(crate) fn first_untreated(code: &[Insn]) -> Option<u32>
     requires { length code.now ≤ 4096 }
     ensures none { IfNone result (AreTreated code.now) }
-    ensures some { IfSome result (λ pc. IfSome (slice_get code.now pc) (λ i. is_treated i ≡ false)) }
+    ensures forward { IfNone result (AreForward code.now) }
+    ensures some { IfSome result (λ pc. IfSome (slice_get code.now pc) (λ i. is_treated_at pc i ≡ false)) }
     ensures there { IfSome result (λ pc. pc < length code.now) }
-    ensures first { IfSome result (λ pc. (p : ℕ) (i : Insn) → p < pc → slice_get code.now p ≡ Some i → is_treated i ≡ true) }
+    ensures first { IfSome result (λ pc. (p : ℕ) (i : Insn) → p < pc → slice_get code.now p ≡ Some i → is_treated_at p i ≡ true) }
 {
     for pc in 0..code.len() as u32 {
-        if !is_treated(code[pc as usize]) {
+        if !is_treated_at(pc, code[pc as usize]) {
             return Some(pc);
         }
     }
     None
+}
+
+fn is_treated_at(pc: u32, insn: Insn) -> bool
+    requires { pc < 4096 }
+    ensures { result ≡ is_treated_at pc insn }
+{
+    is_treated(insn) && !jumps_back(pc, jump_of(insn))
 }

@@ -6,6 +6,8 @@ use bpf_insn::decode;
 use std::alloc::Global;
 use std::test::Fail;
 
+mod flow;
+
 fn answer(alloc: Global, bytes: &[u8], shapes: &[MapShape]) -> Result<Verified, Refusal>
     requires { length shapes.now ≤ 4 }
 {

@@ -32,7 +32,7 @@ pub fn verify(alloc: Global, code: Code, shapes: &[MapShape]) -> Result<Verified
 {
     are_shapes(shapes);
     let insns = code.insns();
-    if let Some(refusal) = first_fault(insns, shapes.len() as u32) {
+    if let Some(refusal) = first_fault(alloc, insns, shapes.len() as u32) {
         return Err(refusal);
     }
     if let Some(pc) = first_untreated(insns) {

@@ -1,6 +1,8 @@
-use Rattle.std.proofs.Common.{◌≡◌, ◌<◌, ℕ, None}
-use Rattle.bpf_verify.specs.Structure.{structure_at}
+use Rattle.std.proofs.Common.{◌≡◌, ◌<◌, ℕ, Some}
+use Rattle.std.specs.Prelude.{slice_get}
+use Rattle.bpf_insn.specs.declared.insn.Insn.{Insn}
+use Rattle.bpf_verify.specs.FirstRefusal.{IsFine}
 use Rattle.bpf_verify.proofs.structure.first_fault.Given as goal
 
 abbrev pub invariant-loop-pc : goal.invariant-loop-pc
-invariant-loop-pc l = (p : ℕ) → p < l.pc → structure_at l.code l.maps p ≡ None
+invariant-loop-pc l = (p : ℕ) (i : Insn) → p < l.pc → slice_get l.code p ≡ Some i → IsFine l.code l.maps p i

@@ -3,7 +3,7 @@ use Rattle.bpf_note.specs.Shape.{Shape, AreShapes}
 use Rattle.bpf_flow.specs.Step.{step}
 use Rattle.bpf_vm.specs.Stands.{label_of}
 use Rattle.bpf_vm.proofs.ExecuteLemmas.{extends_itself}
-use Rattle.bpf_vm.proofs.RunLemmas.{few_instructions}
+use Rattle.bpf_vm.proofs.RunLemmas.{few_instructions, counted_below}
 use Rattle.bpf_vm.proofs.MachineLemmas.{own_of, given_number, running, standing, new_shapes}
 use Rattle.bpf_vm.proofs.vm.Vm.added.Goals as goal
 
@@ -31,7 +31,8 @@ pub overflow_add-self : goal.overflow_add-self
 overflow_add-self c =
     let p = c.self.inside.program.now in
     let k = c.slots-slots.ensures.consistent in
-    omega (arith, c.self.invariant.1.counted, few_instructions p.code, k.laid_out.short)
+    let count = counted_below _ k c.self.invariant.1 in
+    omega (arith, count, few_instructions p.code, k.laid_out.short)
 
 pub invariant_of-self : goal.invariant_of-self
 invariant_of-self c =
@@ -41,7 +42,7 @@ invariant_of-self c =
     let k = c.slots-slots.ensures.consistent in
     let g = given_number p m c.insn-insn.result.now k c.self.invariant.0 c.insn-insn.ensures.at n c.args.old c.ranges.old.fits c.answer.ensures (own_of p m) c.self.invariant.1.described (extends_itself (own_of p m)) in (
       new_shapes p (own_of p m) n (label_of (step p.code (own_of p m)) c.args.old) g.0 g.1,
-      running p m c.insn-insn.result.now k c.self.invariant.0 c.insn-insn.ensures.at n c.self.inside.count (label_of (step p.code (own_of p m)) c.args.old) c.self.invariant.1.described c.self.invariant.1.counted c.are_numbers.ensures g,
+      running p m c.insn-insn.result.now k c.self.invariant.0 c.insn-insn.ensures.at n c.self.inside.count (label_of (step p.code (own_of p m)) c.args.old) c.self.invariant.1 c.are_numbers.ensures g,
     )
 
 pub returns-clause-stands : goal.returns-clause-stands
@@ -59,5 +60,5 @@ returns-clause-bound c =
     let n = c.answer.new.self in
     let k = c.slots-slots.ensures.consistent in
     let g = given_number p m c.insn-insn.result.now k c.self.invariant.0 c.insn-insn.ensures.at n c.args.old c.ranges.old.fits c.answer.ensures (own_of p m) c.self.invariant.1.described (extends_itself (own_of p m)) in
-    let r = running p m c.insn-insn.result.now k c.self.invariant.0 c.insn-insn.ensures.at n c.self.inside.count (label_of (step p.code (own_of p m)) c.args.old) c.self.invariant.1.described c.self.invariant.1.counted c.are_numbers.ensures g in
-    omega (arith, r.counted)
+    let r = running p m c.insn-insn.result.now k c.self.invariant.0 c.insn-insn.ensures.at n c.self.inside.count (label_of (step p.code (own_of p m)) c.args.old) c.self.invariant.1 c.are_numbers.ensures g in
+    counted_below _ k r

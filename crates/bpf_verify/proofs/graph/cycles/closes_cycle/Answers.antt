@@ -1,0 +1,28 @@
+use Rattle.std.proofs.Common.{◌≡◌, ◌<◌, ℕ, zero, suc, List, [], ◌∷◌, length, Some, arith, sym, ◌∙◌, Bool}
+use Rattle.std.specs.Prelude.{slice_index_or}
+use Rattle.bpf_verify.specs.Ways.{jump_to}
+use Rattle.bpf_verify.specs.Marks.{marked}
+use Rattle.bpf_verify.proofs.WayLemmas.{closes, closes_from, closes_nowhere}
+use Rattle.bpf_verify.proofs.graph.cycles.closes_cycle.Goals as goal
+
+is_marked : (m : List Bool) (k : ℕ) (b : Bool) → b ≡ slice_index_or m k b → k < length m → b ≡ marked m k
+is_marked [] k b e low = absurd (omega arith)
+is_marked (x ∷ m) zero b e low = e
+is_marked (x ∷ m) (suc k) b e low = is_marked m k b e (omega arith)
+
+pub returns-in_default : goal.returns-in_default
+returns-in_default c = (λ e. cc, λ k. absurd (closes_nowhere c.args.code.now c.args.pc (sym c.jump_to.ensures ∙ c.in_default.is) k))
+
+pub returns-then-to-pc : goal.returns-then-to-pc
+returns-then-to-pc c =
+    (λ e. cc, λ k. let at = closes_from c.args.code.now c.args.pc c.in-Some.to (sym c.jump_to.ensures ∙ c.in-Some.is) k in absurd (omega (arith, at.0, c.if-to-pc.true)))
+
+pub returns : goal.returns
+returns c =
+    let code = c.args.code.now in
+    let jumps : jump_to code c.args.pc ≡ Some c.in-Some.to = sym c.jump_to.ensures ∙ c.in-Some.is in
+    let exact = c.in_ok-marks.ensures.exact c.args.pc in
+    let is = is_marked c.in_ok-marks.marks.items c.args.pc c.index.result.now c.index.ensures (omega (arith, c.in_ok-marks.ensures.len, c.requires.inside, c.in_ok-marks.marks.ok.0)) in (
+      λ e. closes code c.args.pc c.in-Some.to jumps c.if-to-pc.false (exact.0 (sym is ∙ e)),
+      λ k. is ∙ exact.1 (closes_from code c.args.pc c.in-Some.to jumps k).1,
+    )

@@ -1,0 +1,11 @@
+//! The flow graph of a program.
+
+mod cycles;
+mod edges;
+mod laws;
+mod order;
+mod reach;
+
+pub(crate) use cycles::{closes_cycle_unless, try_ranks};
+pub use laws::{pass_order_is_unique, pass_order_rises, runs_are_short};
+pub(crate) use order::pass_order;

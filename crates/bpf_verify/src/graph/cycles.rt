@@ -1,0 +1,84 @@
+//! Which jumps close a cycle, and whether any does.
+ghost use Rattle.std.specs.Prelude.{◌≡◌, ◌<◌, ◌≤◌, ◌↔◌, ℕ, Some, true, length, map, IfOk, IsTrue};
+ghost use Rattle.std.specs.Bool.{OnTrue};
+ghost use Rattle.bpf_verify.specs.Consistent.{IsOrdered};
+ghost use Rattle.bpf_verify.specs.Edges.{ClosesCycle};
+ghost use Rattle.bpf_verify.specs.Marks.{is_instruction, marked};
+
+use crate::graph::edges::jump_to;
+use crate::graph::order::order;
+use crate::graph::reach::reached;
+use crate::slot::begins;
+use bpf_insn::Insn;
+use std::alloc::{AllocError, Global};
+
+/// Which slots hold an instruction.
+fn instructions(alloc: Global, code: &[Insn]) -> Result<Vec<bool>, AllocError>
+    ensures { IfOk result (λ v. v.items ≡ map is_instruction code.now) }
+{
+    code.iter().map(|insn| is_instruction(*insn)).collect(alloc)
+}
+
+#[tactic(auto, unfolding(crate::specs::Marks::is_instruction))]
+fn is_instruction(insn: Insn) -> bool
+    ensures { result ≡ is_instruction insn }
+{
+    begins(Some(insn))
+}
+
+/// Whether nothing is marked.
+fn is_clear(marks: &[bool]) -> bool
+    ensures { OnTrue result ((q : ℕ) → marked marks.now q ≡ true → ⊥) }
+{
+    for mark in marks {
+        if *mark {
+            return false;
+        }
+    }
+    true
+}
+
+/// Whether the jump here closes a cycle.
+fn closes_cycle(alloc: Global, code: &[Insn], pc: u32) -> Result<bool, AllocError>
+    requires short { length code.now ≤ 4096 }
+    requires inside { pc < length code.now }
+    ensures { IfOk result (λ b. IsTrue b ↔ ClosesCycle code.now pc) }
+{
+    let Some(to) = jump_to(code, pc) else {
+        return Ok(false);
+    };
+    if to > pc {
+        return Ok(false);
+    }
+    let marks = reached(alloc, code, to)?;
+    Ok(marks[pc as usize])
+}
+
+/// Tries to order all instructions, and says whether that went through. Where no jump closes a cycle it does.
+pub(crate) fn try_ranks(alloc: Global, code: &[Insn]) -> Result<bool, AllocError>
+    requires { length code.now ≤ 4096 }
+    ensures yes { IfOk result (λ b. OnTrue b (IsOrdered code.now)) }
+    ensures acyclic { IfOk result (λ _. ((q : ℕ) → q < length code.now → ClosesCycle code.now q → ⊥) → IsOrdered code.now) }
+{
+    let all = instructions(alloc, code)?;
+    let whole = order(alloc, code, all)?;
+    Ok(is_clear(&whole.left))
+}
+
+/// Whether the jump here closes a cycle; where the program is known to be `ordered` nothing is searched.
+pub(crate) fn closes_cycle_unless(
+    alloc: Global,
+    code: &[Insn],
+    ordered: bool,
+    pc: u32,
+) -> Result<bool, AllocError>
+    requires short { length code.now ≤ 4096 }
+    requires inside { pc < length code.now }
+    requires ordered { OnTrue ordered (IsOrdered code.now) }
+    ensures { IfOk result (λ b. IsTrue b ↔ ClosesCycle code.now pc) }
+{
+    if ordered {
+        return Ok(false);
+    }
+    closes_cycle(alloc, code, pc)
+}
