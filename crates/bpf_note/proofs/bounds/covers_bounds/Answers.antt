@@ -1,0 +1,60 @@
+use Rattle.std.proofs.Common.{◌≡◌, ◌∙◌, ap, sym, subst, arith, drop, length, true, false, Some, None, Option, Bool, ◌+◌, ◌↔◌, List}
+use Rattle.std.specs.Prelude.{is_some, All}
+use Rattle.bpf_note.specs.declared.bound.Bound.{Bound}
+use Rattle.bpf_note.specs.Bounds.{paired}
+use Rattle.bpf_note.proofs.EqualLemmas.{bounds_equal, equal, unequal}
+use Rattle.bpf_note.proofs.MergeLemmas.{Stays, place_left, place_right, place_both, end_left, end_right, joined_stays, stays_joined}
+use Rattle.bpf_note.proofs.bounds.covers_bounds.Goals.{then-loop-i-test+else-j-b, else-loop-i-test}
+use Rattle.bpf_note.proofs.bounds.covers_bounds.Goals as goal
+
+never : false ≡ true → ⊥
+never e = cc
+
+there_not : (o : Option _) (r : Bool) → r ≡ is_some o → r ≡ true → o ≡ None → ⊥
+there_not o r e t n = let wrong : true ≡ false = sym t ∙ e ∙ ap is_some n in cc
+
+not_there : {A : Type 0} (o : Option A) (r : Bool) → r ≡ is_some o → r ≡ false → o ≡ None
+not_there None r e f = let h : r ≡ false = f in refl
+not_there (Some x) r e f = let wrong : true ≡ false = sym e ∙ f in absurd (cc)
+
+pub returns-then-is_some : goal.returns-then-is_some
+returns-then-is_some c =
+    let part = place_left c.args.a.now c.args.b.now c.loop-i.i c.loop-i.j _ _ c.requires.a c.requires.b (omega arith) (omega arith) c.if-x-y.true in
+    (λ t. absurd (never t),
+     λ joined. absurd (there_not _ c.is_some.result c.is_some.ensures c.if-is_some.true (part.0 (c.loop-i.invariant.0.0 (joined_stays c.args.a.now c.args.b.now c.requires.a c.requires.b joined))).0))
+
+pub loop-i-preserved-then-x-y : goal.loop-i-preserved-then-x-y
+loop-i-preserved-then-x-y c =
+    let part = place_left c.args.a.now c.args.b.now c.loop-i.i c.loop-i.j _ _ c.requires.a c.requires.b (omega arith) (omega arith) c.if-x-y.true in
+    let none = not_there _ c.is_some.result c.is_some.ensures c.if-is_some.false in
+    ((λ s. (part.0 (c.loop-i.invariant.0.0 s)).1, λ s. c.loop-i.invariant.0.1 (part.1 none s)), omega arith, omega arith)
+
+pub returns-then-y-ne0 : goal.returns-then-y-ne0
+returns-then-y-ne0 c =
+    let part = place_right c.args.a.now c.args.b.now c.loop-i.i c.loop-i.j _ _ (omega arith) (omega arith) c.if-y-x.true in
+    (λ t. absurd (never t),
+     λ joined. absurd (c.if-y-ne0.true (part.0 (c.loop-i.invariant.0.0 (joined_stays c.args.a.now c.args.b.now c.requires.a c.requires.b joined))).0))
+
+pub loop-i-preserved-then-y-x : goal.loop-i-preserved-then-y-x
+loop-i-preserved-then-y-x c =
+    let part = place_right c.args.a.now c.args.b.now c.loop-i.i c.loop-i.j _ _ (omega arith) (omega arith) c.if-y-x.true in
+    ((λ s. (part.0 (c.loop-i.invariant.0.0 s)).1, λ s. c.loop-i.invariant.0.1 (part.1 c.if-y-ne0.false s)), omega arith, omega arith)
+
+pub returns-then-ne : goal.returns-then-ne
+returns-then-ne c =
+    let part = place_both c.args.a.now c.args.b.now c.loop-i.i c.loop-i.j _ _ c.requires.a c.requires.b (omega arith) (omega arith) (omega arith) in
+    (λ t. absurd (never t),
+     λ joined. absurd (unequal _ c.ne.result (bounds_equal c.paired.result _) c.ne.ensures c.if-ne.true
+        (c.paired.ensures ∙ (part.0 (c.loop-i.invariant.0.0 (joined_stays c.args.a.now c.args.b.now c.requires.a c.requires.b joined))).0)))
+
+pub loop-i-preserved : goal.loop-i-preserved
+loop-i-preserved c =
+    let part = place_both c.args.a.now c.args.b.now c.loop-i.i c.loop-i.j _ _ c.requires.a c.requires.b (omega arith) (omega arith) (omega arith) in
+    let same = equal _ c.ne.result (bounds_equal c.paired.result _) c.ne.ensures c.if-ne.false in
+    ((λ s. (part.0 (c.loop-i.invariant.0.0 s)).1, λ s. c.loop-i.invariant.0.1 (part.1 (sym c.paired.ensures ∙ same) s)), omega arith, omega arith)
+
+pub returns-then-have_no_safe : goal.returns-then-have_no_safe
+returns-then-have_no_safe c = ?
+
+pub returns-else-have_no_safe : goal.returns-else-have_no_safe
+returns-else-have_no_safe c = ?
