@@ -89,9 +89,9 @@ facts_byte rs ss bs i at new e h none bits =
     ap (λ (p : ℕ). facts (noted rs (set ss p new) bs)) e ∙ made
     refl
     (fun_ext (λ k. ap kept_of (got_set ss (i / 8) k new no_bytes inside) ∙ kept_cond (nat_eq k (i / 8)) new (get_or ss k no_bytes)
-        ∙ ap (λ (o : Option Val). cond (nat_eq k (i / 8)) o (kept_of (get_or ss k no_bytes))) none))
+    ∙ ap (λ (o : Option Val). cond (nat_eq k (i / 8)) o (kept_of (get_or ss k no_bytes))) none))
     (fun_ext (λ k. ap (λ (s : Slot). set_of s (k % 8)) (got_set ss (i / 8) (k / 8) new no_bytes inside)
-        ∙ set_byte (get_or ss (i / 8) no_bytes) new i k (nat_eq (k / 8) (i / 8)) refl here (get_or ss (k / 8) no_bytes) (λ at. ap (λ (p : ℕ). get_or ss p no_bytes) at)))
+    ∙ set_byte (get_or ss (i / 8) no_bytes) new i k (nat_eq (k / 8) (i / 8)) refl here (get_or ss (k / 8) no_bytes) (λ at. ap (λ (p : ℕ). get_or ss p no_bytes) at)))
     refl refl
 
 -- what is said of an id is new
@@ -235,12 +235,12 @@ at_byte f j k lt =
 pub slots_covered : (a b : Noted) → joined (facts a) (facts b) ≡ facts a → (j : ℕ) → IsCovered (slice_index_or a.slots j no_bytes) (slice_index_or b.slots j no_bytes)
 unfolding facts
 slots_covered a b e j = record {
-    kept = ap (λ (f : Facts). f.kept j) e;
-    set = λ k lt.
-        sym (at_byte (λ x y. set_of (slice_index_or a.slots x no_bytes) y && set_of (slice_index_or b.slots x no_bytes) y) j k lt)
-        ∙ ap (λ (f : Facts). f.set (8 * j + k)) e
-        ∙ at_byte (λ x y. set_of (slice_index_or a.slots x no_bytes) y) j k lt;
-  }
+  kept = ap (λ (f : Facts). f.kept j) e;
+  set = λ k lt.
+      sym (at_byte (λ x y. set_of (slice_index_or a.slots x no_bytes) y && set_of (slice_index_or b.slots x no_bytes) y) j k lt)
+      ∙ ap (λ (f : Facts). f.set (8 * j + k)) e
+      ∙ at_byte (λ x y. set_of (slice_index_or a.slots x no_bytes) y) j k lt;
+}
 
 pub bounds_covered : (a b : Noted) → IsNormal a.bounds → joined (facts a) (facts b) ≡ facts a → AreJoined a.bounds b.bounds a.bounds
 unfolding facts
@@ -269,13 +269,15 @@ unfolding facts
 same_notes a b rs ss la lb na nb e = same_noted a b
     (same_places a.regs b.regs Unset rs (λ k. ap (λ (f : Facts). f.reg k) e))
     (same_places a.slots b.slots no_bytes ss (λ j. same_slot (slice_index_or a.slots j no_bytes) (slice_index_or b.slots j no_bytes) (la j) (lb j) (ap (λ (f : Facts). f.kept j) e)
-        (λ k lt. sym (at_byte (λ x y. set_of (slice_index_or a.slots x no_bytes) y) j k lt) ∙ ap (λ (f : Facts). f.set (8 * j + k)) e ∙ at_byte (λ x y. set_of (slice_index_or b.slots x no_bytes) y) j k lt)))
+    (λ k lt. sym (at_byte (λ x y. set_of (slice_index_or a.slots x no_bytes) y) j k lt) ∙ ap (λ (f : Facts). f.set (8 * j + k)) e ∙ at_byte (λ x y. set_of (slice_index_or b.slots x no_bytes) y) j k lt)))
     (same_bounds 0 a.bounds b.bounds na nb (λ id. (ap (λ (f : Facts). f.top id) e, ap (λ (f : Facts). f.safe id) e)))
 
 -- notes are equal exactly where their parts are
 pub parts_equal : (r s t : Bool) (a b : Noted) → Decides r (a.regs ≡ b.regs) → Decides s (a.slots ≡ b.slots) → Decides t (a.bounds ≡ b.bounds) → Decides (r && (s && t)) (a ≡ b)
-parts_equal r s t a b p q u = (λ e. let h = both_true r (s && t) e in let g = both_true s t h.1 in same_noted a b (p.0 h.0) (q.0 g.0) (u.0 g.1),
-    λ e. let x : r ≡ true = p.1 (ap (λ (n : Noted). n.regs) e) in let y : s ≡ true = q.1 (ap (λ (n : Noted). n.slots) e) in let z : t ≡ true = u.1 (ap (λ (n : Noted). n.bounds) e) in all_true r s t x y z)
+parts_equal r s t a b p q u = (
+  λ e. let h = both_true r (s && t) e in let g = both_true s t h.1 in same_noted a b (p.0 h.0) (q.0 g.0) (u.0 g.1),
+  λ e. let x : r ≡ true = p.1 (ap (λ (n : Noted). n.regs) e) in let y : s ≡ true = q.1 (ap (λ (n : Noted). n.slots) e) in let z : t ≡ true = u.1 (ap (λ (n : Noted). n.bounds) e) in all_true r s t x y z,
+)
   where
     all_true : (r s t : Bool) → r ≡ true → s ≡ true → t ≡ true → (r && (s && t)) ≡ true
     all_true r s t x y z = ap (λ (b : Bool). b && (s && t)) x ∙ ap (λ (b : Bool). b && t) y ∙ z

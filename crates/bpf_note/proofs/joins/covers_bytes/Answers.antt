@@ -9,6 +9,7 @@ use Rattle.bpf_note.proofs.joins.covers_bytes.Goals as goal
 pub returns : goal.returns
 returns c =
     let xs = c.args.a.now in let ys = c.args.b.now in
-    let d = slice_eq-Decides bools_equal c.both.result xs c.eq.result c.eq.ensures in
-    (λ t k lt. sym (both_read xs ys k lt) ∙ ap (λ (zs : List Bool). slice_index_or zs k false) (sym c.both.ensures ∙ d.0 t),
-     λ h. d.1 (c.both.ensures ∙ same_bytes (both xs ys) xs refl c.told-a (λ k lt. both_read xs ys k lt ∙ h k lt)))
+    let d = slice_eq-Decides bools_equal c.both.result xs c.eq.result c.eq.ensures in (
+      λ t k lt. sym (both_read xs ys k lt) ∙ ap (λ (zs : List Bool). slice_index_or zs k false) (sym c.both.ensures ∙ d.0 t),
+      λ h. d.1 (c.both.ensures ∙ same_bytes (both xs ys) xs refl c.told-a (λ k lt. both_read xs ys k lt ∙ h k lt)),
+    )

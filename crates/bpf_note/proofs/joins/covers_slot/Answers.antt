@@ -17,8 +17,9 @@ kept_none xs (Bytes ys) h = record { kept = refl; set = h }
 
 pub returns-in-Bytes-default : goal.returns-in-Bytes-default
 returns-in-Bytes-default c =
-    let xs = c.in-Bytes-default.a in
-    (λ t. subst (λ (s : Slot). IsCovered s c.args.b) (sym c.in-Bytes-default.is-0)
-        (kept_none xs c.args.b (λ k lt. sym (bytes_read xs c.set_bytes.result c.args.b k c.set_bytes.ensures lt) ∙ c.covers_bytes.ensures.0 t k lt)),
-     λ h. let g : IsCovered (Bytes c.in-Bytes-default.a) c.args.b = subst (λ (s : Slot). IsCovered s c.args.b) c.in-Bytes-default.is-0 h in
-        c.covers_bytes.ensures.1 (λ k lt. bytes_read xs c.set_bytes.result c.args.b k c.set_bytes.ensures lt ∙ g.set k lt))
+    let xs = c.in-Bytes-default.a in (
+      λ t. subst (λ (s : Slot). IsCovered s c.args.b) (sym c.in-Bytes-default.is-0)
+          (kept_none xs c.args.b (λ k lt. sym (bytes_read xs c.set_bytes.result c.args.b k c.set_bytes.ensures lt) ∙ c.covers_bytes.ensures.0 t k lt)),
+      λ h. let g : IsCovered (Bytes c.in-Bytes-default.a) c.args.b = subst (λ (s : Slot). IsCovered s c.args.b) c.in-Bytes-default.is-0 h in
+          c.covers_bytes.ensures.1 (λ k lt. bytes_read xs c.set_bytes.result c.args.b k c.set_bytes.ensures lt ∙ g.set k lt),
+    )
