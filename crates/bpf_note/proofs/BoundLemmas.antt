@@ -1,6 +1,6 @@
 -- Lists of bounds: looking an id up, and setting what is said of one.
-use Rattle.std.proofs.Common.{◌≡◌, ◌≢◌, ℕ, zero, suc, ◌+◌, ◌<◌, ◌≤◌, Bool, true, false, refl, Option, Some, None, List, [], ◌∷◌, ◌++◌, max, nat_eq, sym, ap, ◌∙◌, arith, cond, subst, set, length, take, drop, get_or, ◌⊎◌, inl, inr}
-use Rattle.std.specs.Prelude.{if◌then◌else◌, nat_lt, ◌==◌, ◌||◌, not, is_some, slice_get}
+use Rattle.std.proofs.Common.{◌≡◌, ◌≢◌, ℕ, zero, suc, ◌+◌, ◌<◌, ◌≤◌, Bool, true, false, refl, Option, Some, None, List, [], ◌∷◌, ◌++◌, nat_eq, sym, ap, ◌∙◌, arith, cond, subst, set, length, take, drop, get_or, ◌⊎◌, inl, inr}
+use Rattle.std.specs.Prelude.{nat_lt, ◌==◌, ◌||◌, not, is_some, slice_get}
 use Rattle.std.proofs.lemmas.Bool.Decides.{nat_tests}
 use Rattle.std.proofs.lemmas.List.{take-append-drop}
 use Rattle.std.proofs.Math.Seq.{drop-cons}

@@ -1,6 +1,6 @@
 -- What a note says once one of its parts is new.
-use Rattle.std.proofs.Common.{◌≡◌, ◌≢◌, ℕ, zero, suc, ◌+◌, ◌*◌, ◌/◌, ◌%◌, ◌<◌, ◌≤◌, Bool, true, false, ◌&&◌, ◌||◌, refl, Option, Some, None, List, [], ◌∷◌, nat_eq, sym, ap, ◌∙◌, arith, cond, set, length, get_or, map, max, ◌⊎◌, inl, inr}
-use Rattle.std.specs.Prelude.{slice_index_or, option_map, if◌then◌else◌, ◌==◌}
+use Rattle.std.proofs.Common.{◌≡◌, ◌≢◌, ℕ, zero, suc, ◌+◌, ◌*◌, ◌/◌, ◌%◌, ◌<◌, ◌≤◌, Bool, true, false, ◌&&◌, ◌||◌, refl, Option, None, List, [], ◌∷◌, nat_eq, sym, ap, ◌∙◌, arith, cond, set, length, get_or, map, ◌⊎◌, inl, inr}
+use Rattle.std.specs.Prelude.{slice_index_or, option_map}
 use Rattle.std.proofs.lemmas.Bool.Decides.{nat_tests}
 use Rattle.std.proofs.lemmas.List.{get_or-set_same, get_or-set_other}
 use Rattle.std.specs.Prelude.{Result, Ok, Err, OnOk, Decides}
@@ -12,7 +12,7 @@ use Rattle.bpf_note.specs.declared.slot.Slot.TheVariants.{Kept, Bytes}
 use Rattle.bpf_note.specs.declared.bound.Bound.{Bound}
 use Rattle.bpf_note.specs.State.{put}
 use Rattle.bpf_note.specs.Facts.{Facts, with_kept, with_byte, with_top, with_safe, with_id, with_each, forgotten, entry, entry_reg}
-use Rattle.bpf_note.specs.Join.{joined, joined_value, joined_kept, lesser}
+use Rattle.bpf_note.specs.Join.{joined, joined_value, joined_kept}
 use Rattle.bpf_note.specs.Parts.{Noted, facts, no_bytes, kept_of, set_of, top_in, safe_in, IsNormal}
 use Rattle.bpf_note.specs.Slots.{all_bytes, set_bytes, slot_with, both, joined_slot, IsCovered}
 use Rattle.bpf_note.specs.Bounds.{IsSet, AreJoined}

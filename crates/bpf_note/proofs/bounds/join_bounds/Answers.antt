@@ -1,4 +1,4 @@
-use Rattle.std.proofs.Common.{◌≡◌, ◌∙◌, ◌++◌, ◌∷◌, [], ap, sym, arith, List, drop, length, ◌+◌}
+use Rattle.std.proofs.Common.{◌≡◌, ◌∙◌, ◌++◌, [], ap, arith, List, drop, ◌+◌}
 use Rattle.bpf_note.specs.declared.bound.Bound.{Bound}
 use Rattle.bpf_note.specs.Bounds.{with_said, all_alone}
 use Rattle.bpf_note.proofs.MergeLemmas.{merged, step_left, step_right, step_both, rest_left, rest_right, rest_appended, slice_rest, merged_joined}

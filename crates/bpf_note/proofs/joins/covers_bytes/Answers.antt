@@ -1,4 +1,4 @@
-use Rattle.std.proofs.Common.{◌≡◌, ◌∙◌, ap, sym, List, Bool, true, false, refl, arith, length}
+use Rattle.std.proofs.Common.{◌∙◌, ap, sym, List, Bool, false, refl}
 use Rattle.std.specs.Prelude.{slice_index_or}
 use Rattle.std.proofs.lemmas.Slice.Eq.{slice_eq-Decides}
 use Rattle.bpf_note.specs.Slots.{both}

@@ -1,4 +1,4 @@
-use Rattle.std.proofs.Common.{◌≡◌, ◌<◌, ◌∙◌, ap, sym, ℕ, List, length, arith, true, false}
+use Rattle.std.proofs.Common.{◌≡◌, ◌<◌, ◌∙◌, ap, ℕ, List, length, arith}
 use Rattle.std.specs.Prelude.{slice_index_or}
 use borrow.Author.Count.{below_more}
 use Rattle.bpf_note.specs.declared.val.Val.{Val}

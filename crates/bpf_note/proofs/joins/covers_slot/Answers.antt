@@ -1,4 +1,4 @@
-use Rattle.std.proofs.Common.{◌≡◌, ◌∙◌, ap, sym, subst, List, Bool, true, false, refl, ◌&&◌, ◌<◌, ℕ}
+use Rattle.std.proofs.Common.{◌≡◌, ◌∙◌, ap, sym, subst, List, Bool, false, refl, ◌&&◌, ◌<◌, ℕ}
 use Rattle.std.specs.Prelude.{slice_index_or}
 use Rattle.bpf_note.specs.declared.slot.Slot.{Slot}
 use Rattle.bpf_note.specs.declared.slot.Slot.TheVariants.{Kept, Bytes}

@@ -1,4 +1,4 @@
-use Rattle.std.proofs.Common.{◌≡◌, ◌∙◌, sym}
+use Rattle.std.proofs.Common.{◌∙◌, sym}
 use Rattle.bpf_note.proofs.FactLemmas.{same_notes}
 use Rattle.bpf_note.proofs.laws.notes_that_say_the_same_are_equal.Goals as goal
 

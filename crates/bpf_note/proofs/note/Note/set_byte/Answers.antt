@@ -1,4 +1,4 @@
-use Rattle.std.proofs.Common.{◌≡◌, ◌<◌, ◌/◌, ◌%◌, ◌∙◌, ap, true, length, arith}
+use Rattle.std.proofs.Common.{◌%◌, ◌∙◌, ap, true, arith}
 use Rattle.bpf_note.specs.declared.slot.Slot.{Slot}
 use Rattle.bpf_note.specs.State.{put}
 use Rattle.bpf_note.specs.Parts.{no_bytes, set_of}
