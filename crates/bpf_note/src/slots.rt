@@ -109,7 +109,7 @@ pub(crate) fn slot_with_byte(slot: Slot, byte: u16) -> Slot
 }
 
 /// A slot has eight bytes.
-pub(crate) fn has_eight_bytes(slot: Slot)
+fn has_eight_bytes(slot: Slot)
     ensures { length (set_bytes slot) ≡ 8 }
 {
     let _bytes = set_bytes(slot);
