@@ -1,6 +1,6 @@
 -- Lists of bounds: looking an id up, and setting what is said of one.
-use Rattle.std.proofs.Common.{◌≡◌, ◌≢◌, ℕ, zero, suc, ◌+◌, ◌<◌, ◌≤◌, Bool, true, false, refl, Option, Some, None, List, [], ◌∷◌, ◌++◌, max, nat_eq, sym, ap, ◌∙◌, arith, cond, subst, set, length, take, drop, get_or, ◌⊎◌, inl, inr}
-use Rattle.std.specs.Prelude.{if◌then◌else◌, nat_lt, ◌==◌, ◌||◌, not, is_some, slice_get}
+use Rattle.std.proofs.Common.{◌≡◌, ◌≢◌, ℕ, zero, suc, ◌+◌, ◌<◌, ◌≤◌, Bool, true, false, refl, Option, Some, None, List, [], ◌∷◌, ◌++◌, nat_eq, sym, ap, ◌∙◌, arith, cond, subst, set, length, take, drop, get_or, ◌⊎◌, inl, inr}
+use Rattle.std.specs.Prelude.{nat_lt, ◌==◌, ◌||◌, not, is_some, slice_get}
 use Rattle.std.proofs.lemmas.Bool.Decides.{nat_tests}
 use Rattle.std.proofs.lemmas.List.{take-append-drop}
 use Rattle.std.proofs.Math.Seq.{drop-cons}
@@ -56,6 +56,7 @@ said_lookup b xs id n = by (says b) refl
         let nothing = says_nothing b (sym f) in
         (none.0 ∙ sym nothing.0, none.1 ∙ sym nothing.1)
     at false e f = (refl, refl)
+
     by : (s : Bool) → s ≡ says b → (top_in (cond s (b ∷ xs) xs) id ≡ cond (nat_eq id b.id) b.top (top_in xs id)) × (safe_in (cond s (b ∷ xs) xs) id ≡ cond (nat_eq id b.id) b.safe (safe_in xs id))
     by true e = (refl, refl)
     by false e = at (nat_eq id b.id) refl e
@@ -86,10 +87,10 @@ set_first b y ys e n =
 -- none of the bounds is of that id
 pub set_none : (b : Bound) (ys : List Bound) → IsNormalFrom (b.id + 1) ys → IsSetFrom b.id ys b (with_said b ys)
 set_none b ys m = record {
-    normal = said_normal b.id b ys (omega arith) m;
-    tops = λ id. (said_lookup b ys id m).0;
-    safes = λ id. (said_lookup b ys id m).1;
-  }
+  normal = said_normal b.id b ys (omega arith) m;
+  tops = λ id. (said_lookup b ys id m).0;
+  safes = λ id. (said_lookup b ys id m).1;
+}
 
 -- normal bounds, all of lesser ids
 abbrev pub IsFront : ℕ → ℕ → List Bound → Type 0
@@ -283,7 +284,7 @@ set_over xs p b n e h s =
     let q : ℕ = place_of xs b.id in
     let t = id_there xs q b.id b (ap (λ (k : ℕ). has_id (slice_get xs k) b.id) (sym e) ∙ h) in
     let same : take q xs ++ with_said b (drop (suc q) xs) ≡ set xs p b =
-        ap (λ (ys : List Bound). take q xs ++ ys) (said_true b (drop (suc q) xs) s) ∙ sym (set_splits xs q b t.0) ∙ ap (λ (k : ℕ). set xs k b) (sym e) in
+    ap (λ (ys : List Bound). take q xs ++ ys) (said_true b (drop (suc q) xs) s) ∙ sym (set_splits xs q b t.0) ∙ ap (λ (k : ℕ). set xs k b) (sym e) in
     subst (IsSet xs b) same (set_found xs b b n t.0 t.1)
 
 pub set_out : (xs : List Bound) (p : ℕ) (b : Bound) → IsNormal xs → p ≡ place_of xs b.id → has_id (slice_get xs p) b.id ≡ true → says b ≡ false → IsSet xs b (take p xs ++ drop (suc p) xs)
@@ -291,7 +292,7 @@ set_out xs p b n e h s =
     let q : ℕ = place_of xs b.id in
     let t = id_there xs q b.id b (ap (λ (k : ℕ). has_id (slice_get xs k) b.id) (sym e) ∙ h) in
     let same : take q xs ++ with_said b (drop (suc q) xs) ≡ take p xs ++ drop (suc p) xs =
-        ap (λ (ys : List Bound). take q xs ++ ys) (said_false b (drop (suc q) xs) s) ∙ ap (λ (k : ℕ). take k xs ++ drop (suc k) xs) (sym e) in
+    ap (λ (ys : List Bound). take q xs ++ ys) (said_false b (drop (suc q) xs) s) ∙ ap (λ (k : ℕ). take k xs ++ drop (suc k) xs) (sym e) in
     subst (IsSet xs b) same (set_found xs b b n t.0 t.1)
 
 pub set_in : (xs : List Bound) (p : ℕ) (b : Bound) → IsNormal xs → p ≡ place_of xs b.id → has_id (slice_get xs p) b.id ≡ false → says b ≡ true → IsSet xs b (take p xs ++ b ∷ drop p xs)
@@ -299,7 +300,7 @@ set_in xs p b n e h s =
     let q : ℕ = place_of xs b.id in
     let t = id_not_there xs q b.id b (ap (λ (k : ℕ). has_id (slice_get xs k) b.id) (sym e) ∙ h) in
     let same : take q xs ++ with_said b (drop q xs) ≡ take p xs ++ b ∷ drop p xs =
-        ap (λ (ys : List Bound). take q xs ++ ys) (said_true b (drop q xs) s) ∙ ap (λ (k : ℕ). take k xs ++ b ∷ drop k xs) (sym e) in
+    ap (λ (ys : List Bound). take q xs ++ ys) (said_true b (drop q xs) s) ∙ ap (λ (k : ℕ). take k xs ++ b ∷ drop k xs) (sym e) in
     subst (IsSet xs b) same (set_missing xs b b n t)
 
 pub set_not : (xs : List Bound) (p : ℕ) (b : Bound) → IsNormal xs → p ≡ place_of xs b.id → has_id (slice_get xs p) b.id ≡ false → says b ≡ false → IsSet xs b xs

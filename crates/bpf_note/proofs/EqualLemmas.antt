@@ -1,5 +1,5 @@
 -- What the derived tests of equality say.
-use Rattle.std.proofs.Common.{◌≡◌, rules, List, Bool, true, false, refl}
+use Rattle.std.proofs.Common.{◌≡◌, rules, List, Bool, true, false, not, refl, sym, ◌∙◌}
 use Rattle.std.specs.Prelude.{Decides}
 use lib.Pointwise.{pointwise}
 use Rattle.std.proofs.lemmas.Slice.Eq.{slice_eq-Decides}
@@ -29,3 +29,12 @@ slots_equal (Kept v) (Kept w) = let h = vals_equal v w in search rules
 slots_equal (Kept v) (Bytes ys) = search rules
 slots_equal (Bytes xs) (Kept w) = search rules
 slots_equal (Bytes xs) (Bytes ys) = let h = bytes_equal xs ys in search rules
+
+-- what `!=` says
+pub unequal : {P : Type 0} (e r : Bool) → Decides e P → r ≡ not e → r ≡ true → P → ⊥
+unequal true r d h t p = let wrong : true ≡ false = sym t ∙ h in cc
+unequal false r d h t p = let wrong : false ≡ true = d.1 p in cc
+
+pub equal : {P : Type 0} (e r : Bool) → Decides e P → r ≡ not e → r ≡ false → P
+equal true r d h f = d.0 refl
+equal false r d h f = let wrong : true ≡ false = sym h ∙ f in absurd (cc)

@@ -1,9 +1,9 @@
 -- What a note says once one of its parts is new.
-use Rattle.std.proofs.Common.{◌≡◌, ◌≢◌, ℕ, zero, suc, ◌+◌, ◌*◌, ◌/◌, ◌%◌, ◌<◌, ◌≤◌, Bool, true, false, ◌&&◌, ◌||◌, refl, Option, Some, None, List, [], ◌∷◌, nat_eq, sym, ap, ◌∙◌, arith, cond, set, length, get_or, map, max}
-use Rattle.std.specs.Prelude.{slice_index_or, option_map, if◌then◌else◌, ◌==◌}
+use Rattle.std.proofs.Common.{◌≡◌, ◌≢◌, ℕ, zero, suc, ◌+◌, ◌*◌, ◌/◌, ◌%◌, ◌<◌, ◌≤◌, Bool, true, false, ◌&&◌, ◌||◌, refl, Option, None, List, [], ◌∷◌, nat_eq, sym, ap, ◌∙◌, arith, cond, set, length, get_or, map, ◌⊎◌, inl, inr}
+use Rattle.std.specs.Prelude.{slice_index_or, option_map}
 use Rattle.std.proofs.lemmas.Bool.Decides.{nat_tests}
 use Rattle.std.proofs.lemmas.List.{get_or-set_same, get_or-set_other}
-use Rattle.std.specs.Prelude.{Result, Ok, Err, OnOk}
+use Rattle.std.specs.Prelude.{Result, Ok, Err, OnOk, Decides}
 use mathlib.Core.Path.{fun_ext}
 use Rattle.bpf_note.specs.declared.val.Val.{Val}
 use Rattle.bpf_note.specs.declared.val.Val.TheVariants.{Unset}
@@ -12,10 +12,13 @@ use Rattle.bpf_note.specs.declared.slot.Slot.TheVariants.{Kept, Bytes}
 use Rattle.bpf_note.specs.declared.bound.Bound.{Bound}
 use Rattle.bpf_note.specs.State.{put}
 use Rattle.bpf_note.specs.Facts.{Facts, with_kept, with_byte, with_top, with_safe, with_id, with_each, forgotten, entry, entry_reg}
-use Rattle.bpf_note.specs.Join.{joined, joined_value, joined_kept, lesser}
-use Rattle.bpf_note.specs.Parts.{Noted, facts, no_bytes, kept_of, set_of, top_in, safe_in}
-use Rattle.bpf_note.specs.Slots.{all_bytes, set_bytes, slot_with, both, joined_slot}
+use Rattle.bpf_note.specs.Join.{joined, joined_value, joined_kept}
+use Rattle.bpf_note.specs.Parts.{Noted, facts, no_bytes, kept_of, set_of, top_in, safe_in, IsNormal}
+use Rattle.bpf_note.specs.Slots.{all_bytes, set_bytes, slot_with, both, joined_slot, IsCovered}
 use Rattle.bpf_note.specs.Bounds.{IsSet, AreJoined}
+use Rattle.bpf_note.proofs.PlaceLemmas.{past_end, le_cases, same_places}
+use Rattle.bpf_note.proofs.BoundLemmas.{same_bounds}
+use Rattle.bpf_note.proofs.JoinDescribes.{both_true}
 
 abbrev pub noted : List Val → List Slot → List Bound → Noted
 noted rs ss bs = record { regs = rs; slots = ss; bounds = bs }
@@ -86,9 +89,9 @@ facts_byte rs ss bs i at new e h none bits =
     ap (λ (p : ℕ). facts (noted rs (set ss p new) bs)) e ∙ made
     refl
     (fun_ext (λ k. ap kept_of (got_set ss (i / 8) k new no_bytes inside) ∙ kept_cond (nat_eq k (i / 8)) new (get_or ss k no_bytes)
-        ∙ ap (λ (o : Option Val). cond (nat_eq k (i / 8)) o (kept_of (get_or ss k no_bytes))) none))
+    ∙ ap (λ (o : Option Val). cond (nat_eq k (i / 8)) o (kept_of (get_or ss k no_bytes))) none))
     (fun_ext (λ k. ap (λ (s : Slot). set_of s (k % 8)) (got_set ss (i / 8) (k / 8) new no_bytes inside)
-        ∙ set_byte (get_or ss (i / 8) no_bytes) new i k (nat_eq (k / 8) (i / 8)) refl here (get_or ss (k / 8) no_bytes) (λ at. ap (λ (p : ℕ). get_or ss p no_bytes) at)))
+    ∙ set_byte (get_or ss (i / 8) no_bytes) new i k (nat_eq (k / 8) (i / 8)) refl here (get_or ss (k / 8) no_bytes) (λ at. ap (λ (p : ℕ). get_or ss p no_bytes) at)))
     refl refl
 
 -- what is said of an id is new
@@ -207,3 +210,74 @@ facts_joined n a b regs slots bounds = made
 pub on_ok : {A E P Q : Type 0} (r : Result A E) → (P → Q) → OnOk r P → OnOk r Q
 on_ok (Ok x) f h = f h
 on_ok (Err e) f h = tt
+
+-- the first note is the join of the two
+pub covers_all : (a b : Noted) → ((k : ℕ) → joined_value (slice_index_or a.regs k Unset) (slice_index_or b.regs k Unset) ≡ slice_index_or a.regs k Unset) →
+    ((j : ℕ) → IsCovered (slice_index_or a.slots j no_bytes) (slice_index_or b.slots j no_bytes)) → AreJoined a.bounds b.bounds a.bounds → joined (facts a) (facts b) ≡ facts a
+unfolding facts
+covers_all a b regs slots bounds = made
+    (fun_ext regs)
+    (fun_ext (λ j. (slots j).kept))
+    (fun_ext (λ i. (slots (i / 8)).set (i % 8) (omega arith)))
+    (fun_ext (λ id. sym (bounds.tops id)))
+    (fun_ext (λ id. sym (bounds.safes id)))
+
+pub registers_covered : (a b : Noted) → joined (facts a) (facts b) ≡ facts a → (k : ℕ) → joined_value (slice_index_or a.regs k Unset) (slice_index_or b.regs k Unset) ≡ slice_index_or a.regs k Unset
+unfolding facts
+registers_covered a b e k = ap (λ (f : Facts). f.reg k) e
+
+at_byte : (f : ℕ → ℕ → Bool) (j k : ℕ) → k < 8 → f ((8 * j + k) / 8) ((8 * j + k) % 8) ≡ f j k
+at_byte f j k lt =
+    let p : (8 * j + k) / 8 ≡ j = omega arith in
+    let q : (8 * j + k) % 8 ≡ k = omega arith in
+    ap (λ (x : ℕ). f x ((8 * j + k) % 8)) p ∙ ap (f j) q
+
+pub slots_covered : (a b : Noted) → joined (facts a) (facts b) ≡ facts a → (j : ℕ) → IsCovered (slice_index_or a.slots j no_bytes) (slice_index_or b.slots j no_bytes)
+unfolding facts
+slots_covered a b e j = record {
+  kept = ap (λ (f : Facts). f.kept j) e;
+  set = λ k lt.
+      sym (at_byte (λ x y. set_of (slice_index_or a.slots x no_bytes) y && set_of (slice_index_or b.slots x no_bytes) y) j k lt)
+      ∙ ap (λ (f : Facts). f.set (8 * j + k)) e
+      ∙ at_byte (λ x y. set_of (slice_index_or a.slots x no_bytes) y) j k lt;
+}
+
+pub bounds_covered : (a b : Noted) → IsNormal a.bounds → joined (facts a) (facts b) ≡ facts a → AreJoined a.bounds b.bounds a.bounds
+unfolding facts
+bounds_covered a b n e = record { normal = n; tops = λ id. sym (ap (λ (f : Facts). f.top id) e); safes = λ id. sym (ap (λ (f : Facts). f.safe id) e) }
+
+-- slots and notes that say the same are equal
+pub same_bytes : (xs ys : List Bool) → length xs ≡ 8 → length ys ≡ 8 → ((k : ℕ) → k < 8 → slice_index_or xs k false ≡ slice_index_or ys k false) → xs ≡ ys
+same_bytes xs ys l m h = same_places xs ys false (l ∙ sym m) (λ k. by k (le_cases 8 k))
+  where
+    by : (k : ℕ) → (8 ≤ k) ⊎ (k < 8) → slice_index_or xs k false ≡ slice_index_or ys k false
+    by k (inl past) = past_end xs k false (omega arith) ∙ sym (past_end ys k false (omega arith))
+    by k (inr inside) = h k inside
+
+same_slot : (s t : Slot) → length (set_bytes s) ≡ 8 → length (set_bytes t) ≡ 8 → kept_of s ≡ kept_of t → ((k : ℕ) → k < 8 → set_of s k ≡ set_of t k) → s ≡ t
+same_slot (Kept v) (Kept w) l m e h = cc
+same_slot (Kept v) (Bytes ys) l m e h = absurd (cc)
+same_slot (Bytes xs) (Kept w) l m e h = absurd (cc)
+same_slot (Bytes xs) (Bytes ys) l m e h = ap Bytes (same_bytes xs ys l m h)
+
+same_noted : (a b : Noted) → a.regs ≡ b.regs → a.slots ≡ b.slots → a.bounds ≡ b.bounds → a ≡ b
+same_noted a b p q r = λ i. record { regs = p i; slots = q i; bounds = r i }
+
+pub same_notes : (a b : Noted) → length a.regs ≡ length b.regs → length a.slots ≡ length b.slots →
+    ((j : ℕ) → length (set_bytes (slice_index_or a.slots j no_bytes)) ≡ 8) → ((j : ℕ) → length (set_bytes (slice_index_or b.slots j no_bytes)) ≡ 8) → IsNormal a.bounds → IsNormal b.bounds → facts a ≡ facts b → a ≡ b
+unfolding facts
+same_notes a b rs ss la lb na nb e = same_noted a b
+    (same_places a.regs b.regs Unset rs (λ k. ap (λ (f : Facts). f.reg k) e))
+    (same_places a.slots b.slots no_bytes ss (λ j. same_slot (slice_index_or a.slots j no_bytes) (slice_index_or b.slots j no_bytes) (la j) (lb j) (ap (λ (f : Facts). f.kept j) e)
+    (λ k lt. sym (at_byte (λ x y. set_of (slice_index_or a.slots x no_bytes) y) j k lt) ∙ ap (λ (f : Facts). f.set (8 * j + k)) e ∙ at_byte (λ x y. set_of (slice_index_or b.slots x no_bytes) y) j k lt)))
+    (same_bounds 0 a.bounds b.bounds na nb (λ id. (ap (λ (f : Facts). f.top id) e, ap (λ (f : Facts). f.safe id) e)))
+
+-- notes are equal exactly where their parts are
+pub parts_equal : (r s t : Bool) (a b : Noted) → Decides r (a.regs ≡ b.regs) → Decides s (a.slots ≡ b.slots) → Decides t (a.bounds ≡ b.bounds) → Decides (r && (s && t)) (a ≡ b)
+parts_equal r s t a b p q u = (
+  λ e. let h = both_true r (s && t) e in let g = both_true s t h.1 in same_noted a b (p.0 h.0) (q.0 g.0) (u.0 g.1),
+  λ e. let x : r ≡ true = p.1 (ap (λ (n : Noted). n.regs) e) in let y : s ≡ true = q.1 (ap (λ (n : Noted). n.slots) e) in let z : t ≡ true = u.1 (ap (λ (n : Noted). n.bounds) e) in all_true r s t x y z,
+)
+  where
+    all_true : (r s t : Bool) → r ≡ true → s ≡ true → t ≡ true → (r && (s && t)) ≡ true
+    all_true r s t x y z = ap (λ (b : Bool). b && (s && t)) x ∙ ap (λ (b : Bool). b && t) y ∙ z

@@ -1,14 +1,14 @@
 -- A join describes what either of the two describes.
-use Rattle.std.proofs.Common.{◌≡◌, ◌⊎◌, inl, inr, ℕ, zero, suc, ◌+◌, ◌*◌, ◌^◌, ◌<◌, ◌≤◌, Bool, true, false, ◌&&◌, refl, Option, Some, None, length, nat_eq, subst, sym, ap, ◌∙◌, arith, max, min, ℤ, pos, negsuc}
-use Rattle.std.specs.Prelude.{if◌then◌else◌, IsSome}
+use Rattle.std.proofs.Common.{◌≡◌, ◌⊎◌, inl, inr, ℕ, zero, suc, ◌+◌, ◌*◌, ◌^◌, ◌<◌, ◌≤◌, Bool, true, false, ◌&&◌, refl, Option, Some, None, length, nat_eq, subst, sym, ap, ◌∙◌, arith, min, ℤ, pos, negsuc}
+use Rattle.std.specs.Prelude.{if◌then◌else◌}
 use Rattle.std.proofs.lemmas.Bool.Decides.{nat_tests}
 use Rattle.std.proofs.Math.Nat.{pow-succ'}
 use Rattle.std.proofs.lemmas.Int.{ints}
 use Rattle.bpf_note.specs.declared.val.Val.{Val}
 use Rattle.bpf_note.specs.declared.val.Val.TheVariants.{Unset, Num, Pkt, PktEnd, Stack, Ctx, Map, MaybeValue, Value}
-use Rattle.bpf_note.specs.State.{State, IsState, IsStart, start_register, context_start, stack_end}
+use Rattle.bpf_note.specs.State.{State, IsStart, context_start, stack_end}
 use Rattle.bpf_note.specs.Bytes.{word_at, higher}
-use Rattle.bpf_note.specs.Facts.{Facts, full, entry, entry_reg}
+use Rattle.bpf_note.specs.Facts.{Facts, full, entry}
 use Rattle.bpf_note.specs.Describes.{Describes, Meaning, meaning, Reads, IsReading, Holds, IsBegun}
 use Rattle.bpf_note.specs.Join.{is_same_offset, is_same_pointer, joined_value, joined_kept, lesser, joined}
 

@@ -1,5 +1,5 @@
 -- Lists that are filled place by place.
-use Rattle.std.proofs.Common.{◌≡◌, ◌≢◌, ℕ, zero, suc, ◌+◌, ◌<◌, ◌≤◌, refl, List, [], ◌∷◌, get_or, set, replicate, length, arith, ap, sym, ◌∙◌, ◌⊎◌, inl, inr, drop, take}
+use Rattle.std.proofs.Common.{◌≡◌, ◌≢◌, ℕ, zero, suc, ◌+◌, ◌<◌, ◌≤◌, refl, List, [], ◌∷◌, get_or, set, replicate, length, arith, ap, sym, ◌∙◌, ◌⊎◌, inl, inr}
 use Rattle.std.proofs.lemmas.List.{get_or-set_same, get_or-set_other}
 use Rattle.std.proofs.Math.ListN.{length-set}
 use borrow.Author.Count.{below_more}
@@ -17,10 +17,11 @@ same_read (x ∷ xs) (suc i) d e h = same_read xs i d e (omega arith)
 filled : {A : Type 0} (xs ys zs : List A) (f : A → A → A) (d x : A) (i n : ℕ) → length xs ≡ n → i < n →
     ((k : ℕ) → k < i → get_or xs k d ≡ f (get_or ys k d) (get_or zs k d)) → x ≡ f (get_or ys i d) (get_or zs i d) →
     (length (set xs i x) ≡ n) × ((k : ℕ) → k < i + 1 → get_or (set xs i x) k d ≡ f (get_or ys k d) (get_or zs k d))
-filled xs ys zs f d x i n len lt h e =
-    (length-set xs i x ∙ len,
-     below_more _ _ (λ k lt. let ne : k ≢ i = omega arith in get_or-set_other xs i k x d ne ∙ h k lt)
-        (let there : i < length xs = omega arith in get_or-set_same xs i x d there ∙ e))
+filled xs ys zs f d x i n len lt h e = (
+  length-set xs i x ∙ len,
+  below_more _ _ (λ k lt. let ne : k ≢ i = omega arith in get_or-set_other xs i k x d ne ∙ h k lt)
+      (let there : i < length xs = omega arith in get_or-set_same xs i x d there ∙ e),
+)
 
 -- one more place is filled, whatever the default of the reads
 pub filled_from : {A : Type 0} (xs ys zs : List A) (f : A → A → A) (d e x : A) (i n : ℕ) → length xs ≡ n → length ys ≡ n → length zs ≡ n → i < n →

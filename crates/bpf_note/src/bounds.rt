@@ -1,5 +1,5 @@
 //! Lists of what is known of ids: rising ids, each with something to say.
-ghost use Rattle.std.specs.Prelude.{◌≡◌, ◌↔◌, [], IsTrue, IfOk, OnOk, OnErr, ◌++◌, ◌≤◌, length, slice_get};
+ghost use Rattle.std.specs.Prelude.{◌≡◌, ◌↔◌, [], IsTrue, All, None, IfOk, OnOk, OnErr, ◌++◌, ◌≤◌, length, slice_get};
 ghost use Rattle.bpf_note.specs.Join.{lesser};
 ghost use Rattle.bpf_note.specs.Parts.{top_in, safe_in, IsNormal};
 ghost use Rattle.bpf_note.specs.Bounds.{place_of, has_id, IsSet, AreJoined, says, alone, paired, with_said, all_alone};
@@ -135,7 +135,19 @@ pub(crate) fn covers_bounds(a: &[Bound], b: &[Bound]) -> bool
             j += 1;
         }
     }
-    a[i..].iter().all(|x| x.safe.is_none()) && b[j..].iter().all(|y| y.top == 0)
+    have_no_safe(&a[i..]) && have_no_top(&b[j..])
+}
+
+fn have_no_safe(bounds: &[Bound]) -> bool
+    ensures { IsTrue result ↔ All (λ b. b.safe ≡ None) bounds.now }
+{
+    bounds.iter().all(|bound| bound.safe.is_none())
+}
+
+fn have_no_top(bounds: &[Bound]) -> bool
+    ensures { IsTrue result ↔ All (λ b. b.top ≡ 0) bounds.now }
+{
+    bounds.iter().all(|bound| bound.top == 0)
 }
 
 /// Adds a bound if it says something.

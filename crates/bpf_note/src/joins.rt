@@ -139,11 +139,18 @@ fn covers_registers(a: &[Val; 11], b: &[Val; 11]) -> bool
     ensures { IsTrue result ↔ ((k : ℕ) → joined_value (slice_index_or a.now k Val.Unset) (slice_index_or b.now k Val.Unset) ≡ slice_index_or a.now k Val.Unset) }
 {
     for i in 0..11 {
-        if join_value(a[i], b[i]) != a[i] {
+        if !covers_value(a[i], b[i]) {
             return false;
         }
     }
     true
+}
+
+/// Whether the first is the join of the two.
+fn covers_value(a: Val, b: Val) -> bool
+    ensures { IsTrue result ↔ (joined_value a b ≡ a) }
+{
+    join_value(a, b) == a
 }
 
 /// Whether each slot of the first is the join of the two.
@@ -163,15 +170,15 @@ fn covers_slot(a: Slot, b: Slot) -> bool
     ensures { IsTrue result ↔ IsCovered a b }
 {
     match (a, b) {
-        (Slot::Kept(a), Slot::Kept(b)) => join_value(a, b) == a,
+        (Slot::Kept(a), Slot::Kept(b)) => covers_value(a, b),
         (Slot::Kept(_), Slot::Bytes(_)) => false,
-        (Slot::Bytes(a), b) => covers_bytes(a, set_bytes(b)),
+        (Slot::Bytes(a), b) => covers_bytes(&a, &set_bytes(b)),
     }
 }
 
 /// Whether the bytes that are set on both sides are those of the first.
-fn covers_bytes(a: [bool; 8], b: [bool; 8]) -> bool
-    ensures { IsTrue result ↔ ((k : ℕ) → k < 8 → (slice_index_or a k false && slice_index_or b k false) ≡ slice_index_or a k false) }
+fn covers_bytes(a: &[bool; 8], b: &[bool; 8]) -> bool
+    ensures { IsTrue result ↔ ((k : ℕ) → k < 8 → (slice_index_or a.now k false && slice_index_or b.now k false) ≡ slice_index_or a.now k false) }
 {
-    both(a, b) == a
+    both(*a, *b) == *a
 }

@@ -7,12 +7,14 @@ ghost use Rattle.bpf_note.specs.Join.{joined};
 ghost use Rattle.bpf_note.specs.Parts.{facts};
 
 use crate::note::Note;
-use crate::slots::have_eight_bytes;
+use crate::slots::{are_eleven, have_eight_bytes};
 
 /// Two notes that say the same are equal.
 pub fn notes_that_say_the_same_are_equal(a: &Note, b: &Note)
     ensures { facts a.now ≡ facts b.now → a.now ≡ b.now }
 {
+    are_eleven(&a.regs);
+    are_eleven(&b.regs);
     have_eight_bytes(&a.slots);
     have_eight_bytes(&b.slots);
 }

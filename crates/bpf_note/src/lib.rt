@@ -11,6 +11,8 @@ mod op;
 mod shape;
 mod slot;
 mod slots;
+#[cfg(test)]
+mod tests;
 mod val;
 
 pub use joins::{covers, join};
@@ -23,4 +25,4 @@ pub use layout::{counters_are_found, found_counters_lie_there, packets_end};
 pub use note::Note;
 pub use op::Op;
 pub use shape::MapShape;
-pub use val::Val;
+pub use val::{PACKET_ID, Val};

@@ -109,17 +109,23 @@ pub(crate) fn slot_with_byte(slot: Slot, byte: u16) -> Slot
 }
 
 /// A slot has eight bytes.
-pub(crate) fn has_eight_bytes(slot: Slot)
+fn has_eight_bytes(slot: Slot)
     ensures { length (set_bytes slot) ≡ 8 }
 {
     let _bytes = set_bytes(slot);
 }
 
-/// Each slot has eight bytes.
+/// There are 64 slots, and each has eight bytes.
 pub(crate) fn have_eight_bytes(slots: &[Slot; 64])
-    ensures { (j : ℕ) → length (set_bytes (slice_index_or slots.now j no_bytes)) ≡ 8 }
+    ensures length { length slots.now ≡ 64 }
+    ensures bytes { (j : ℕ) → length (set_bytes (slice_index_or slots.now j no_bytes)) ≡ 8 }
 {
     for i in 0..64 {
         has_eight_bytes(slots[i]);
     }
 }
+
+/// There are eleven registers.
+pub(crate) fn are_eleven(registers: &[Val; 11])
+    ensures { length registers.now ≡ 11 }
+{}

@@ -1,4 +1,4 @@
-use Rattle.std.proofs.Common.{◌≡◌, ◌≤◌, ◌+◌, ◌-◌, ◌↔◌, ℕ, drop, length}
+use Rattle.std.proofs.Common.{◌≤◌, ◌+◌, ◌-◌, ◌↔◌, drop, length}
 use Rattle.bpf_note.proofs.MergeLemmas.{Stays}
 use Rattle.bpf_note.proofs.bounds.covers_bounds.Given as goal
 

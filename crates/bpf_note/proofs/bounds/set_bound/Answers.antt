@@ -1,7 +1,7 @@
-use Rattle.std.proofs.Common.{◌≡◌, sym, ◌∙◌, ap, List, true, false, subst, ◌++◌, ◌∷◌, take, drop, suc}
+use Rattle.std.proofs.Common.{◌≡◌, sym, ◌∙◌, ap, List, true, false, subst}
 use Rattle.std.specs.Prelude.{slice_get}
 use Rattle.bpf_note.specs.declared.bound.Bound.{Bound}
-use Rattle.bpf_note.specs.Bounds.{place_of, has_id, says, IsSet}
+use Rattle.bpf_note.specs.Bounds.{place_of, has_id, IsSet}
 use Rattle.bpf_note.proofs.BoundLemmas.{set_over, set_out, set_in, set_not}
 use Rattle.bpf_note.proofs.bounds.set_bound.Goals as goal
 

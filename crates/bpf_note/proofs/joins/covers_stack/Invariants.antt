@@ -1,4 +1,4 @@
-use Rattle.std.proofs.Common.{◌≡◌, ◌<◌, ℕ}
+use Rattle.std.proofs.Common.{◌<◌, ℕ}
 use Rattle.std.specs.Prelude.{slice_index_or}
 use Rattle.bpf_note.specs.Parts.{no_bytes}
 use Rattle.bpf_note.specs.Slots.{IsCovered}

@@ -1,4 +1,4 @@
-use Rattle.std.proofs.Common.{◌≡◌, arith, refl}
+use Rattle.std.proofs.Common.{arith, refl}
 use Rattle.bpf_note.specs.Parts.{no_bytes}
 use Rattle.bpf_note.specs.Slots.{joined_slot}
 use Rattle.bpf_note.proofs.PlaceLemmas.{filled_from, all_joined}

@@ -1,4 +1,4 @@
-use Rattle.std.proofs.Common.{◌≡◌, arith, refl}
+use Rattle.std.proofs.Common.{arith, refl}
 use Rattle.bpf_note.specs.declared.val.Val.TheVariants.{Unset}
 use Rattle.bpf_note.specs.Facts.{resolved}
 use Rattle.bpf_note.specs.declared.val.Val.{Val}

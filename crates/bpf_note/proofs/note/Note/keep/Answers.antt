@@ -1,4 +1,4 @@
-use Rattle.std.proofs.Common.{◌≡◌, ◌<◌, length, arith, sym}
+use Rattle.std.proofs.Common.{arith}
 use Rattle.bpf_note.proofs.FactLemmas.{facts_kept}
 use Rattle.bpf_note.proofs.note.Note.keep.Goals as goal
 

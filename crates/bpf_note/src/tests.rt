@@ -1,0 +1,3 @@
+mod joins;
+mod notes;
+mod shapes;
