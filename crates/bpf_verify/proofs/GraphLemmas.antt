@@ -6,10 +6,9 @@ use Rattle.bpf_insn.specs.declared.insn.Insn.{Insn}
 use Rattle.bpf_insn.specs.declared.insn.Insn.TheVariants.{Alu, Neg, End, MovSx, Const, MapRef, Ldx, St, Stx, AddCounter, Ja, Jump, Call, Exit, Second}
 use Rattle.bpf_flow.specs.Step.{target}
 use Rattle.bpf_flow.specs.Graph.{Leads, next_slot}
-use Rattle.bpf_verify.specs.Structure.{misses_target, jumps_back, runs_off, lands, begins, is_not_above, jump_of, falls_through}
+use Rattle.bpf_verify.specs.Structure.{misses_target, runs_off, lands, begins, jump_of, falls_through}
 use Rattle.bpf_verify.specs.Consistent.{worth}
-use Rattle.bpf_verify.specs.FirstRefusal.{IsFine, IsStructured, AreForward}
-use Rattle.bpf_verify.specs.Passing.{LiesAbove, IsRising}
+use Rattle.bpf_verify.specs.FirstRefusal.{IsFine, IsStructured}
 
 pub some_inside : {A : Type 0} (xs : List A) (k : ℕ) (x : A) → slice_get xs k ≡ Some x → k < length xs
 some_inside [] k x e = cc
@@ -44,13 +43,6 @@ lands_of code q (Some to) e h = let same : to ≡ q = cc in subst (λ q. begins 
     was : (b : Bool) → not b ≡ false → b ≡ true
     was true e = refl
     was false e = cc
-
-above_of : (pc q : ℕ) (o : Option ℕ) → o ≡ Some q → is_not_above pc o ≡ false → pc < q
-above_of pc q None e g = cc
-above_of pc q (Some to) e g = let same : to ≡ q = cc in let up = above g in omega (arith, same, up)
-  where
-    above : nat_le to pc ≡ false → pc < to
-    above g = grind (arith, nat_tests)
 
 pub next_above : (pc : ℕ) (i : Insn) → pc < next_slot i pc
 next_above pc (Alu op wide dst src) = omega arith
@@ -101,22 +93,6 @@ way (Jump cond wide dst src off) pc q (inr h) = Jumps off refl h
 way (Call helper) pc q h = Falls refl h
 way Exit pc q h = absurd h
 way Second pc q h = absurd h
-
-pub jumps_to : (code : List Insn) (maps pc q : ℕ) (i : Insn) (off : ℤ) → jump_of i ≡ Some off → target pc off ≡ Some q → IsFine code maps pc i → jumps_back pc (jump_of i) ≡ false → (begins (slice_get code q) ≡ true) × (pc < q)
-jumps_to code maps pc q i off j t f up =
-    (lands_of code q (target pc off) t (subst (λ (o : Option ℤ). misses_target code pc o ≡ false) j f.target), above_of pc q (target pc off) t (subst (λ (o : Option ℤ). jumps_back pc o ≡ false) j up))
-
-pub lies_above : (code : List Insn) (maps pc q : ℕ) (i : Insn) → Leads i pc q → IsFine code maps pc i → jumps_back pc (jump_of i) ≡ false → LiesAbove code pc q
-lies_above code maps pc q i h f up = elim (way i pc q h) [
-  | Falls t e ↦ let up = next_above pc i in let within = next_inside code pc i t f.ends in record { above = omega (arith, up, e); inside = omega (arith, within, e) }
-  | Jumps off j t ↦
-      let l = jumps_to code maps pc q i off j t f up in
-      let b = begun (slice_get code q) l.0 in
-      record { above = l.1; inside = some_inside code q b.0 b.1 }
-]
-
-pub rising : (code : List Insn) (maps : ℕ) → IsStructured code maps → AreForward code → IsRising code
-rising code maps h forward pc q i e l = lies_above code maps pc q i l (h pc i e) (forward pc i e)
 
 -- a jump that doesn't miss has a target
 pub target_found : (code : List Insn) (pc : ℕ) (i : Insn) (off : ℤ) → jump_of i ≡ Some off → misses_target code pc (jump_of i) ≡ false → (q : ℕ) × (target pc off ≡ Some q)

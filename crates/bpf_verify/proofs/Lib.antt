@@ -1,4 +1,3 @@
-mod SetLemmas
 mod GraphLemmas
 mod WayLemmas
 mod CycleLemmas
@@ -8,11 +7,6 @@ mod TakeLemmas
 mod RankLemmas
 mod OrderLemmas
 mod LawLemmas
-mod TellLemmas
-mod PassLemmas
 mod CodeLemmas
 mod FlowLemmas
-mod PathLemmas
-mod ConsistentLemmas
-mod AcceptedLemmas
-mod RefusalLemmas
+mod ListLemmas

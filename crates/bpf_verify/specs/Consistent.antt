@@ -1,41 +1,30 @@
 -- When notes account for every run of a program, and when ranks bound it.
-use Rattle.std.specs.Prelude.{ℕ, ◌+◌, ◌^◌, ◌≡◌, ◌<◌, ◌≤◌, ◌⊎◌, List, [], ◌∷◌, length, Some, IsSome, Bool, true, false, slice_get, slice_index_or, unwrap_or}
+use Rattle.std.specs.Prelude.{ℕ, ◌+◌, ◌^◌, ◌≡◌, ◌<◌, ◌≤◌, ◌⊎◌, List, [], ◌∷◌, length, Some, slice_get, unwrap_or}
 use Rattle.bpf_insn.specs.declared.insn.Insn.{Insn}
 use Rattle.bpf_insn.specs.declared.insn.Insn.TheVariants.{Second}
 use Rattle.bpf_insn.specs.Code.{IsCode}
 use Rattle.bpf_note.specs.Shape.{Shape, AreShapes}
-use Rattle.bpf_note.specs.State.{State, IsState, IsStart}
+use Rattle.bpf_note.specs.State.{State, IsStart}
+use Rattle.bpf_note.specs.Parts.{Noted, facts}
+use Rattle.bpf_note.specs.Describes.{Describes}
 use Rattle.bpf_flow.specs.Step.{Outcome, Next, Loads, Adds, Exited, Fault, step}
 use Rattle.bpf_verify.specs.Paths.{IsRank}
 use Rattle.bpf_verify.specs.Edges.{Edge}
 
--- what is known at a slot: which registers are set
-abbrev pub Note : Type 0
-Note = List Bool
-
-abbrev pub is_set : Note → ℕ → Bool
-is_set note k = slice_index_or note k false
-
--- a program that was accepted: its notes stand here for contracts alone
+-- a program that was accepted: its notes, at most eight a slot, stand here for contracts alone
 pub record Accepted : Type 0 where
   pub code : List Insn
   pub shapes : List Shape
-  pub notes : List (List Note)
-
--- the note describes the state
-pub record Describes (shapes : List Shape) (note : Note) (s : State) : Type 0 where
-  pub state : IsState s
-  pub maps : s.shapes ≡ shapes
-  pub set : (k : ℕ) → is_set note k ≡ true → IsSome (s.reg k)
+  pub notes : List (List Noted)
 
 -- one of the notes describes the state
-abbrev pub OneDescribes : List Shape → List Note → State → Type 0
-OneDescribes shapes [] s = ⊥
-OneDescribes shapes (n ∷ ns) s = Describes shapes n s ⊎ OneDescribes shapes ns s
+abbrev pub OneDescribes : List Noted → State → Type 0
+OneDescribes [] s = ⊥
+OneDescribes (n ∷ ns) s = Describes (facts n) s ⊎ OneDescribes ns s
 
--- a note at the state's slot describes it
+-- a state over the program's maps, which a note at its slot describes
 abbrev pub IsDescribed : Accepted → State → Type 0
-IsDescribed p s = OneDescribes p.shapes (unwrap_or (slice_get p.notes s.pc) []) s
+IsDescribed p s = (s.shapes ≡ p.shapes) × OneDescribes (unwrap_or (slice_get p.notes s.pc) []) s
 
 -- what a step comes to is an exit, or is described whatever a counter answers
 abbrev pub GoesOn : Accepted → Outcome → Type 0
@@ -66,6 +55,7 @@ pub record IsConsistent (p : Accepted) : Type 0 where
   pub laid_out : IsCode p.code
   pub few_maps : length p.shapes ≤ 4
   pub maps : AreShapes p.shapes
+  pub few_notes : (pc : ℕ) → length (unwrap_or (slice_get p.notes pc) []) ≤ 8
   pub starts : (s : State) → IsStart s → s.shapes ≡ p.shapes → IsDescribed p s
   pub steps : (s : State) → IsDescribed p s → GoesOn p (step p.code s)
   pub ordered : IsOrdered p.code

@@ -1,14 +1,15 @@
 -- Why a program is refused: the first cause of the first pass that has one.
-use Rattle.std.specs.Prelude.{ℕ, ◌≡◌, ◌<◌, List, Some, Bool, true, false, ◌&&◌, not, slice_get}
+use Rattle.std.specs.Prelude.{ℕ, ◌≡◌, ◌<◌, List, ◌∷◌, ◌++◌, length, Some, true, false, slice_get, Contains}
 use Rattle.bpf_insn.specs.declared.insn.Insn.{Insn}
-use Rattle.bpf_insn.specs.declared.insn.Insn.TheVariants.{Alu, Const, Ja, Exit, Second}
-use Rattle.bpf_insn.specs.declared.alu_op.AluOp.TheVariants.{Mov}
 use Rattle.bpf_insn.specs.declared.refusal.Cause.{Cause}
-use Rattle.bpf_insn.specs.declared.refusal.Cause.TheVariants.{Memory, Target, BackJump, End, MapNumber, Unset, FramePointer, Unsupported}
-use Rattle.bpf_flow.specs.Graph.{reads, writes}
-use Rattle.bpf_verify.specs.Structure.{jump_of, misses_target, jumps_back, runs_off, lacks_map}
-use Rattle.bpf_verify.specs.Edges.{ClosesCycle}
-use Rattle.bpf_verify.specs.Unwritten.{Reached, Unwritten}
+use Rattle.bpf_insn.specs.declared.refusal.Cause.TheVariants.{Memory, Target, BackJump, End, Unset, FramePointer, NoPointer, Packet, Stack, Context, MayBeNull, MapAccess, Helper, MapNumber, Argument}
+use Rattle.bpf_note.specs.Shape.{Shape}
+use Rattle.bpf_note.specs.Facts.{Facts}
+use Rattle.bpf_flow.specs.Graph.{reads}
+use Rattle.bpf_verify.specs.Structure.{jump_of, misses_target, runs_off, lacks_map}
+use Rattle.bpf_verify.specs.Edges.{ClosesCycle, IsPassOrder}
+use Rattle.bpf_verify.specs.Gathered.{AreNotes, AreAllowed, IsFirstCause}
+use Rattle.bpf_verify.specs.Unwritten.{Unwritten}
 
 -- nothing is wrong with the structure at slot pc, where instruction i stands
 pub record IsFine (code : List Insn) (maps pc : ℕ) (i : Insn) : Type 0 where
@@ -41,32 +42,24 @@ abbrev pub IsStructureRefusal : List Insn → ℕ → ℕ → Cause → Type 0
 IsStructureRefusal code maps pc Memory = Unit {0}
 IsStructureRefusal code maps pc cause = IsFirstFault code maps pc cause
 
--- an instruction that the second pass treats: MOV of 64 bits, a wide constant, JA, EXIT
-abbrev pub is_treated : Insn → Bool
-is_treated (Alu Mov true dst src) = true
-is_treated (Const dst value) = true
-is_treated (Ja wide_offset to) = true
-is_treated Exit = true
-is_treated Second = true
-is_treated i = false
+-- the second pass went over all reached slots in its order and the rule refused no note
+pub record IsPassed (code : List Insn) (shapes : List Shape) (notes : ℕ → List Facts) : Type 0 where
+  pub order : List ℕ
+  pub is_order : IsPassOrder code order
+  pub are_notes : AreNotes code shapes order notes
+  pub allowed : (p : ℕ) → Contains order p → AreAllowed code shapes p (notes p)
 
-abbrev pub AreTreated : List Insn → Type 0
-AreTreated code = (pc : ℕ) (i : Insn) → slice_get code pc ≡ Some i → is_treated i ≡ true
-
--- no jump goes to its own slot or below it
-abbrev pub AreForward : List Insn → Type 0
-AreForward code = (pc : ℕ) (i : Insn) → slice_get code pc ≡ Some i → jumps_back pc (jump_of i) ≡ false
-
--- the second pass treats the instruction at this slot: of the jumps only those that go up
-abbrev pub is_treated_at : ℕ → Insn → Bool
-is_treated_at pc i = is_treated i && not (jumps_back pc (jump_of i))
-
-pub record IsFirstUntreated (code : List Insn) (maps pc : ℕ) : Type 0 where
-  pub structured : IsStructured code maps
-  pub insn : Insn
-  pub here : slice_get code pc ≡ Some insn
-  pub untreated : is_treated_at pc insn ≡ false
-  pub before : (p : ℕ) (i : Insn) → p < pc → slice_get code p ≡ Some i → is_treated_at p i ≡ true
+-- slot pc is the first in the order of the second pass at which the rule refuses a note: the slots before it have told theirs
+pub record IsStopped (code : List Insn) (shapes : List Shape) (pc : ℕ) (cause : Cause) : Type 0 where
+  pub order : List ℕ
+  pub is_order : IsPassOrder code order
+  pub before : List ℕ
+  pub rest : List ℕ
+  pub parts : order ≡ before ++ pc ∷ rest
+  pub notes : ℕ → List Facts
+  pub are_notes : AreNotes code shapes before notes
+  pub allowed : (p : ℕ) → Contains before p → AreAllowed code shapes p (notes p)
+  pub refused : IsFirstCause code shapes pc (notes pc) cause
 
 -- the instruction at a slot reads a register that some path leaves unwritten
 pub record ReadsUnset (code : List Insn) (pc : ℕ) : Type 0 where
@@ -76,40 +69,33 @@ pub record ReadsUnset (code : List Insn) (pc : ℕ) : Type 0 where
   pub read : reads insn register ≡ true
   pub unwritten : Unwritten code register pc
 
--- the instruction at a reached slot writes the frame pointer
-pub record WritesFrame (code : List Insn) (pc : ℕ) : Type 0 where
-  pub insn : Insn
-  pub here : slice_get code pc ≡ Some insn
-  pub written : writes insn 10 ≡ true
-  pub reached : Reached code pc
-
--- neither
-pub record IsSound (code : List Insn) (pc : ℕ) : Type 0 where
-  pub set : ReadsUnset code pc → ⊥
-  pub frame : WritesFrame code pc → ⊥
-
--- what stands before a refusal of the second pass
-pub record IsFirstUnsound (code : List Insn) (maps pc : ℕ) : Type 0 where
-  pub structured : IsStructured code maps
-  pub treated : AreTreated code
-  pub forward : AreForward code
-  pub before : (p : ℕ) → p < pc → IsSound code p
+-- the structure has no fault, and the second pass stopped
+pub record IsSecondRefusal (code : List Insn) (shapes : List Shape) (pc : ℕ) (cause : Cause) : Type 0 where
+  pub structured : IsStructured code (length shapes)
+  pub stopped : IsStopped code shapes pc cause
 
 -- the refusal is the program's: want of memory, or the first cause of the first pass that has one
-abbrev pub IsRefusal : List Insn → ℕ → Cause → ℕ → Type 0
-IsRefusal code maps Memory pc = Unit {0}
-IsRefusal code maps Target pc = IsFirstFault code maps pc Target
-IsRefusal code maps BackJump pc = IsFirstFault code maps pc BackJump
-IsRefusal code maps End pc = IsFirstFault code maps pc End
-IsRefusal code maps MapNumber pc = IsFirstFault code maps pc MapNumber
-IsRefusal code maps Unsupported pc = IsFirstUntreated code maps pc
-IsRefusal code maps Unset pc = ReadsUnset code pc × IsFirstUnsound code maps pc
-IsRefusal code maps FramePointer pc = WritesFrame code pc × (ReadsUnset code pc → ⊥) × IsFirstUnsound code maps pc
-IsRefusal code maps cause pc = ⊥
+abbrev pub IsRefusal : List Insn → List Shape → Cause → ℕ → Type 0
+IsRefusal code shapes Memory pc = Unit {0}
+IsRefusal code shapes Target pc = IsFirstFault code (length shapes) pc Target
+IsRefusal code shapes BackJump pc = IsFirstFault code (length shapes) pc BackJump
+IsRefusal code shapes End pc = IsFirstFault code (length shapes) pc End
+IsRefusal code shapes MapNumber pc = IsFirstFault code (length shapes) pc MapNumber
+IsRefusal code shapes Unset pc = IsSecondRefusal code shapes pc Unset × ReadsUnset code pc
+IsRefusal code shapes FramePointer pc = IsSecondRefusal code shapes pc FramePointer
+IsRefusal code shapes NoPointer pc = IsSecondRefusal code shapes pc NoPointer
+IsRefusal code shapes Packet pc = IsSecondRefusal code shapes pc Packet
+IsRefusal code shapes Stack pc = IsSecondRefusal code shapes pc Stack
+IsRefusal code shapes Context pc = IsSecondRefusal code shapes pc Context
+IsRefusal code shapes MayBeNull pc = IsSecondRefusal code shapes pc MayBeNull
+IsRefusal code shapes MapAccess pc = IsSecondRefusal code shapes pc MapAccess
+IsRefusal code shapes Helper pc = IsSecondRefusal code shapes pc Helper
+IsRefusal code shapes Argument pc = IsSecondRefusal code shapes pc Argument
+IsRefusal code shapes cause pc = ⊥
 
--- the program has no cause of refusal
-pub record IsFaultless (code : List Insn) (maps : ℕ) : Type 0 where
-  pub structured : IsStructured code maps
-  pub treated : AreTreated code
-  pub forward : AreForward code
-  pub sound : (pc : ℕ) → IsSound code pc
+-- the program has no cause of refusal, and no path leaves unwritten what an instruction reads
+pub record IsFaultless (code : List Insn) (shapes : List Shape) : Type 0 where
+  pub structured : IsStructured code (length shapes)
+  pub notes : ℕ → List Facts
+  pub passed : IsPassed code shapes notes
+  pub written : (pc : ℕ) → ReadsUnset code pc → ⊥

@@ -7,8 +7,5 @@ pub mod Marks
 pub mod Waits
 pub mod Unwritten
 pub mod Consistent
+pub mod Gathered
 pub mod FirstRefusal
-pub mod Sets
-pub mod Passing
-pub mod Telling
-pub mod Views

@@ -21,19 +21,10 @@ abbrev pub lands : List Insn → Option ℕ → Bool
 lands code None = false
 lands code (Some to) = begins (slice_get code to)
 
-abbrev pub is_not_above : ℕ → Option ℕ → Bool
-is_not_above pc None = false
-is_not_above pc (Some to) = nat_le to pc
-
 -- a jump whose target is no instruction of the program
 abbrev pub misses_target : List Insn → ℕ → Option ℤ → Bool
 misses_target code pc None = false
 misses_target code pc (Some off) = not (lands code (target pc off))
-
--- a jump whose target isn't above it
-abbrev pub jumps_back : ℕ → Option ℤ → Bool
-jumps_back pc None = false
-jumps_back pc (Some off) = is_not_above pc (target pc off)
 
 -- after EXIT and JA nothing follows, and a second half is no instruction
 abbrev pub falls_through : Insn → Bool

@@ -2,14 +2,14 @@
 ghost use Rattle.std.specs.Prelude.{◌≡◌, ◌<◌, ◌≤◌, ℕ, Some, true, false, length, slice_get, IfOk, IfSome, IfNone};
 ghost use Rattle.std.specs.Bool.{OnTrue};
 ghost use Rattle.bpf_insn.specs.declared.insn.Insn.{Insn};
-ghost use Rattle.bpf_verify.specs.Structure.{lands, is_not_above, misses_target, jumps_back, runs_off, lacks_map};
+ghost use Rattle.bpf_verify.specs.Structure.{lands, misses_target, runs_off, lacks_map};
 ghost use Rattle.bpf_verify.specs.Consistent.{IsOrdered};
-ghost use Rattle.bpf_verify.specs.FirstRefusal.{IsFine, IsFault, IsStructured, IsStructureRefusal, is_treated, is_treated_at, AreTreated, AreForward};
+ghost use Rattle.bpf_verify.specs.FirstRefusal.{IsFine, IsFault, IsStructured, IsStructureRefusal};
 
 use crate::graph::{closes_cycle_unless, try_ranks};
 use crate::slot::{begins, falls_through, insn_at, jump_of};
 use bpf_flow::{jump_target, next_slot};
-use bpf_insn::{AluOp, Cause, Insn, Refusal};
+use bpf_insn::{Cause, Insn, Refusal};
 use std::alloc::{AllocError, Global};
 
 fn lands(code: &[Insn], to: Option<u32>) -> bool
@@ -28,25 +28,6 @@ fn misses_target(code: &[Insn], pc: u32, jump: Option<i32>) -> bool
     match jump {
         None => false,
         Some(off) => !lands(code, jump_target(pc, off)),
-    }
-}
-
-fn is_not_above(pc: u32, to: Option<u32>) -> bool
-    ensures { result ≡ is_not_above pc to }
-{
-    match to {
-        None => false,
-        Some(to) => to <= pc,
-    }
-}
-
-fn jumps_back(pc: u32, jump: Option<i32>) -> bool
-    requires { pc < 4096 }
-    ensures { result ≡ jumps_back pc jump }
-{
-    match jump {
-        None => false,
-        Some(off) => is_not_above(pc, jump_target(pc, off)),
     }
 }
 
@@ -127,44 +108,4 @@ pub(crate) fn first_fault(alloc: Global, code: &[Insn], maps: u32) -> Option<Ref
         }
     }
     None
-}
-
-fn is_treated(insn: Insn) -> bool
-    ensures { result ≡ is_treated insn }
-{
-    matches!(
-        insn,
-        Insn::Alu {
-            op: AluOp::Mov,
-            wide: true,
-            ..
-        } | Insn::Const { .. }
-            | Insn::Ja { .. }
-            | Insn::Exit
-            | Insn::Second
-    )
-}
-
-/// The lowest slot whose instruction the second pass doesn't treat, a jump that doesn't go up among them.
-pub(crate) fn first_untreated(code: &[Insn]) -> Option<u32>
-    requires { length code.now ≤ 4096 }
-    ensures none { IfNone result (AreTreated code.now) }
-    ensures forward { IfNone result (AreForward code.now) }
-    ensures some { IfSome result (λ pc. IfSome (slice_get code.now pc) (λ i. is_treated_at pc i ≡ false)) }
-    ensures there { IfSome result (λ pc. pc < length code.now) }
-    ensures first { IfSome result (λ pc. (p : ℕ) (i : Insn) → p < pc → slice_get code.now p ≡ Some i → is_treated_at p i ≡ true) }
-{
-    for pc in 0..code.len() as u32 {
-        if !is_treated_at(pc, code[pc as usize]) {
-            return Some(pc);
-        }
-    }
-    None
-}
-
-fn is_treated_at(pc: u32, insn: Insn) -> bool
-    requires { pc < 4096 }
-    ensures { result ≡ is_treated_at pc insn }
-{
-    is_treated(insn) && !jumps_back(pc, jump_of(insn))
 }

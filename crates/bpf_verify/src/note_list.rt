@@ -1,0 +1,92 @@
+//! The notes at a slot.
+ghost use Rattle.std.specs.Prelude.{◌≡◌, ◌↔◌, map, Contains, IsTrue, OnOk, IfOk, [], ◌∷◌};
+ghost use Rattle.bpf_note.specs.Facts.{entry};
+ghost use Rattle.bpf_note.specs.Parts.{facts};
+ghost use Rattle.bpf_verify.specs.Gathered.{Arrives};
+
+use bpf_note::{Note, join, notes_that_say_the_same_are_equal};
+use std::alloc::{AllocError, Global};
+use std::marker::Model;
+
+/// How many notes a slot has at most.
+const MOST_NOTES: usize = 8;
+
+/// The notes at a slot, in the order in which they came.
+#[derive(Drop)]
+pub(crate) struct NoteList {
+    notes: Vec<Note>,
+}
+
+impl Model for NoteList {
+    ghost use Rattle.std.specs.Prelude.{List, length, ◌≤◌};
+    ghost use Rattle.bpf_note.specs.Parts.{Noted};
+
+    ghost Value = { List Noted };
+
+    ghost view = { λ l. l.notes.items };
+
+    ghost invariant = { λ l. length l.notes.items ≤ 8 };
+}
+
+/// Whether two notes say the same.
+fn say_the_same(a: &Note, b: &Note) -> bool
+    ensures { IsTrue result ↔ (facts a.now ≡ facts b.now) }
+{
+    notes_that_say_the_same_are_equal(a, b);
+    a.same_as(b)
+}
+
+impl NoteList {
+    /// No notes.
+    pub(crate) fn empty(alloc: Global) -> NoteList
+        ensures { result ≡ [] }
+    {
+        NoteList {
+            notes: Vec::new(alloc),
+        }
+    }
+
+    /// What is known at the entry.
+    pub(crate) fn at_entry(alloc: Global) -> Result<NoteList, AllocError>
+        ensures { IfOk result (λ l. map facts l ≡ entry ∷ []) }
+    {
+        let mut notes = Vec::new(alloc);
+        notes.push(Note::entry(alloc))?;
+        Ok(NoteList { notes })
+    }
+
+    /// The notes.
+    pub(crate) fn notes(&self) -> &[Note]
+        ensures { result.now ≡ self.now }
+    {
+        self.notes.as_slice()
+    }
+
+    /// Whether a note of the list says the same as this one.
+    fn holds(&self, note: &Note) -> bool
+        ensures { IsTrue result ↔ Contains (map facts self.now) (facts note.now) }
+    {
+        for listed in &self.notes {
+            if say_the_same(listed, note) {
+                return true;
+            }
+        }
+        false
+    }
+
+    /// A note comes to the list.
+    pub(crate) fn arrive(&mut self, alloc: Global, note: Note) -> Result<(), AllocError>
+        ensures { OnOk result (Arrives (map facts self.old) (facts note) (map facts self.new)) }
+    {
+        if self.holds(&note) {
+            return Ok(());
+        }
+        if self.notes.len() < MOST_NOTES {
+            self.notes.push(note)?;
+            return Ok(());
+        }
+        let merged = join(alloc, &self.notes[MOST_NOTES - 1], &note)?;
+        self.notes[MOST_NOTES - 1] = merged;
+        Ok(())
+    }
+}
