@@ -16,3 +16,4 @@ pub mod JumpLemmas
 pub mod CallLemmas
 pub mod StackLemmas
 pub mod GivesLemmas
+pub mod LeadLemmas

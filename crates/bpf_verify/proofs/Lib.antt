@@ -11,3 +11,7 @@ mod CodeLemmas
 mod FlowLemmas
 mod ListLemmas
 mod ArrivalLemmas
+mod GatherLemmas
+mod ToldLemmas
+mod FollowLemmas
+mod PassingLemmas

@@ -61,6 +61,11 @@ pub record IsStopped (code : List Insn) (shapes : List Shape) (pc : ℕ) (cause 
   pub allowed : (p : ℕ) → Contains before p → AreAllowed code shapes p (notes p)
   pub refused : IsFirstCause code shapes pc (notes pc) cause
 
+-- want of memory, or the second pass stopped there
+abbrev pub IsHalted : List Insn → List Shape → ℕ → Cause → Type 0
+IsHalted code shapes pc Memory = Unit {0}
+IsHalted code shapes pc cause = IsStopped code shapes pc cause
+
 -- the instruction at a slot reads a register that some path leaves unwritten
 pub record ReadsUnset (code : List Insn) (pc : ℕ) : Type 0 where
   pub insn : Insn

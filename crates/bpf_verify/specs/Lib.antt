@@ -8,4 +8,5 @@ pub mod Waits
 pub mod Unwritten
 pub mod Consistent
 pub mod Gathered
+pub mod Tables
 pub mod FirstRefusal

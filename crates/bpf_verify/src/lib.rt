@@ -3,6 +3,7 @@
 
 mod graph;
 mod note_list;
+mod notes;
 mod slot;
 mod structure;
 mod verified;

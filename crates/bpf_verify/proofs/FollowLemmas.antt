@@ -1,0 +1,209 @@
+-- While the notes of one slot are taken along its edges.
+use Rattle.std.proofs.Common.{◌≡◌, ◌⊎◌, inl, inr, ◌<◌, ◌≤◌, ◌+◌, ℕ, zero, suc, List, [], ◌∷◌, ◌++◌, Option, Some, None, length, drop, map, refl, sym, ap, ◌∙◌, arith, subst, Bool, true, false}
+use Rattle.std.specs.Prelude.{slice_get, slice_index_or, Ok, Err, not, nat_le, IsSome}
+use Rattle.std.proofs.lemmas.Bool.Decides.{nat_tests}
+use Rattle.bpf_insn.specs.Code.{IsCode}
+use Rattle.bpf_insn.specs.declared.insn.Insn.{Insn}
+use Rattle.bpf_insn.specs.declared.insn.Insn.TheVariants.{Alu, Neg, End, MovSx, Const, MapRef, Ldx, St, Stx, AddCounter, Ja, Jump, Call, Exit, Second}
+use Rattle.bpf_insn.specs.declared.refusal.Cause.{Cause}
+use Rattle.bpf_insn.specs.declared.refusal.Cause.TheVariants.{Memory, Length, Opcode, Register, Target, BackJump, End as EndCause, Unset, FramePointer, NoPointer, Packet, Stack, Context, MayBeNull, MapAccess, Helper, MapNumber, Argument, Unsupported}
+use Rattle.bpf_note.specs.Shape.{Shape}
+use Rattle.bpf_note.specs.Parts.{Noted, facts}
+use Rattle.std.proofs.lemmas.List.{length-map}
+use Rattle.bpf_note.specs.Facts.{Facts}
+use Rattle.bpf_flow.specs.Edges.{Edges, Answer}
+use Rattle.bpf_flow.specs.After.{after_of, IsRuled}
+use Rattle.bpf_flow.specs.Step.{target}
+use Rattle.bpf_flow.proofs.LeadLemmas.{Speaks}
+use Rattle.bpf_verify.specs.Edges.{Edge}
+use Rattle.bpf_verify.specs.Consistent.{IsOrdered}
+use Rattle.bpf_verify.specs.Structure.{begins, jump_of, misses_target, lacks_map}
+use Rattle.bpf_verify.specs.FirstRefusal.{IsFine, IsStructured}
+use Rattle.bpf_verify.specs.Gathered.{Hears, rule_by, rule_at, allowed, told, AreAllowed, IsFirstCause}
+use Rattle.bpf_flow.specs.Gives.{Fails}
+use Rattle.bpf_verify.specs.Tables.{facts_at, LeadInside, IsMet}
+use Rattle.bpf_verify.proofs.GraphLemmas.{some_inside, begun, target_found}
+use Rattle.bpf_verify.proofs.GatherLemmas.{hears_append, hears_quiet}
+use Rattle.bpf_verify.proofs.ToldLemmas.{told_edge}
+
+pub drop_more : {A : Type 0} (xs : List A) (i : ℕ) (x : A) → slice_get xs i ≡ Some x → drop i xs ≡ x ∷ drop (i + 1) xs
+drop_more [] i x e = absurd (cc)
+drop_more (y ∷ ys) zero x e = let same : y ≡ x = cc in ap (λ (z : _). z ∷ ys) same
+drop_more (y ∷ ys) (suc i) x e = drop_more ys i x e ∙ ap (λ (k : ℕ). x ∷ drop k (y ∷ ys)) (suc-add i)
+  where
+    suc-add : (i : ℕ) → suc (i + 1) ≡ suc i + 1
+    suc-add i = omega arith
+
+pub drop_all : {A : Type 0} (xs : List A) (i : ℕ) → length xs ≤ i → drop i xs ≡ []
+drop_all [] zero h = refl
+drop_all [] (suc i) h = refl
+drop_all (x ∷ xs) zero h = absurd (omega arith)
+drop_all (x ∷ xs) (suc i) h = drop_all xs i (omega arith)
+
+-- the first i notes of slot pc have gone along its edges: what is left does the rest
+pub record IsFollowing (code : List Insn) (shapes : List Shape) (pc i : ℕ) (old new : ℕ → List Facts) : Type 0 where
+  pub here : new pc ≡ old pc
+  pub rest : (q : ℕ) (r : List Facts) → Hears (new q) q (told code shapes pc (drop i (old pc))) r → Hears (old q) q (told code shapes pc (old pc)) r
+  pub allowed : AreAllowed code shapes pc (drop i (old pc)) → AreAllowed code shapes pc (old pc)
+  pub cause : (c : Cause) → IsFirstCause code shapes pc (drop i (old pc)) c → IsFirstCause code shapes pc (old pc) c
+
+pub following_first : (code : List Insn) (shapes : List Shape) (pc : ℕ) (old : ℕ → List Facts) → IsFollowing code shapes pc 0 old old
+following_first code shapes pc old = record { here = refl; rest = λ q r h. h; allowed = λ h. h; cause = λ c h. h }
+
+module _ (code : List Insn) (shapes : List Shape) (pc i : ℕ) (old new : ℕ → List Facts) (f : IsFollowing code shapes pc i old new) (n : Facts) (at : slice_get (old pc) i ≡ Some n) where
+  told_split : (es : Edges) → rule_at code shapes pc n ≡ Ok es → told code shapes pc (drop i (old pc)) ≡ es ++ told code shapes pc (drop (i + 1) (old pc))
+  told_split es e =
+      ap (told code shapes pc) (drop_more (old pc) i n at)
+      ∙ ap (λ (a : Answer). allowed a ++ told code shapes pc (drop (i + 1) (old pc))) e
+
+  -- one note more
+  pub following_on : (es : Edges) (new' : ℕ → List Facts) → rule_at code shapes pc n ≡ Ok es → ((q : ℕ) → Hears (new q) q es (new' q)) → (Speaks es pc → ⊥) → IsFollowing code shapes pc (i + 1) old new'
+  following_on es new' e hears quiet = record {
+    here = sym (hears_quiet (new pc) pc es (new' pc) quiet (hears pc)) ∙ f.here;
+    rest = λ q r h. f.rest q r (subst (λ (gs : Edges). Hears (new q) q gs r) (sym (told_split es e)) (hears_append (new q) q es (told code shapes pc (drop (i + 1) (old pc))) (new' q) r (hears q) h));
+    allowed = λ h. f.allowed (subst (λ (ns : List Facts). AreAllowed code shapes pc ns) (sym (drop_more (old pc) i n at)) ((es, e), h));
+    cause = λ c h. f.cause c (subst (λ (ns : List Facts). IsFirstCause code shapes pc ns c) (sym (drop_more (old pc) i n at)) (inr ((es, e), h)));
+  }
+
+  -- this note is refused
+  pub following_stops : (c : Cause) → rule_at code shapes pc n ≡ Err c → IsFirstCause code shapes pc (old pc) c
+  following_stops c e = f.cause c (subst (λ (ns : List Facts). IsFirstCause code shapes pc ns c) (sym (drop_more (old pc) i n at)) (inl e))
+
+-- all have gone
+pub followed : (code : List Insn) (shapes : List Shape) (pc i : ℕ) (old new : ℕ → List Facts) → IsFollowing code shapes pc i old new → length (old pc) ≤ i →
+    ((q : ℕ) → Hears (old q) q (told code shapes pc (old pc)) (new q)) × AreAllowed code shapes pc (old pc)
+followed code shapes pc i old new f all =
+    let none = drop_all (old pc) i all in
+    (λ q. f.rest q (new q) (subst (λ (ns : List Facts). Hears (new q) q (told code shapes pc ns) (new q)) (sym none) refl),
+     f.allowed (subst (λ (ns : List Facts). AreAllowed code shapes pc ns) (sym none) tt))
+
+pub get_is : {A : Type 0} (xs : List A) (k : ℕ) (d : A) → k < length xs → slice_get xs k ≡ Some (slice_index_or xs k d)
+get_is [] k d h = absurd (omega arith)
+get_is (x ∷ xs) zero d h = refl
+get_is (x ∷ xs) (suc k) d h = get_is xs k d (omega arith)
+
+pub get_map : {A B : Type 0} (f : A → B) (xs : List A) (k : ℕ) (x : A) → slice_get xs k ≡ Some x → slice_get (map f xs) k ≡ Some (f x)
+get_map f [] k x e = absurd (cc)
+get_map f (y ∷ ys) zero x e = let same : y ≡ x = cc in ap (λ (z : _). Some (f z)) same
+get_map f (y ∷ ys) (suc k) x e = get_map f ys k x e
+
+-- the rule may be asked of an instruction of a structured program
+found : (o : Option ℕ) (q : ℕ) → o ≡ Some q → IsSome o
+found None q e = absurd (cc)
+found (Some p) q e = refl
+
+jump_there : (code : List Insn) (pc : ℕ) (i : Insn) (off : _) → jump_of i ≡ Some off → misses_target code pc (jump_of i) ≡ false → IsSome (target pc off)
+jump_there code pc i off j h = let t = target_found code pc i off j h in found (target pc off) t.0 t.1
+
+pub ruled : (code : List Insn) (maps pc : ℕ) (i : Insn) → IsFine code maps pc i → begins (Some i) ≡ true → IsRuled i pc maps
+ruled code maps pc (Ja wide to) f b = jump_there code pc (Ja wide to) to refl f.target
+ruled code maps pc (Jump cond wide dst src off) f b = jump_there code pc (Jump cond wide dst src off) off refl f.target
+ruled code maps pc (MapRef dst m) f b = let h = f.map in grind (arith, nat_tests)
+ruled code maps pc Second f b = absurd (cc)
+ruled code maps pc (Alu op wide dst src) f b = tt
+ruled code maps pc (Neg wide dst) f b = tt
+ruled code maps pc (End kind width dst) f b = tt
+ruled code maps pc (MovSx wide bits dst src) f b = tt
+ruled code maps pc (Const dst value) f b = tt
+ruled code maps pc (Ldx size signed dst src off) f b = tt
+ruled code maps pc (St size dst off imm) f b = tt
+ruled code maps pc (Stx size dst src off) f b = tt
+ruled code maps pc (AddCounter fetch dst src off) f b = tt
+ruled code maps pc (Call helper) f b = tt
+ruled code maps pc Exit f b = tt
+
+lead_inside : (es : Edges) (n : ℕ) → ((q : ℕ) → Speaks es q → q < n) → LeadInside es n
+lead_inside [] n h = tt
+lead_inside (e ∷ es) n h = (h e.0 (inl refl), lead_inside es n (λ q s. h q (inr s)))
+
+pub edge_inside : (code : List Insn) (p q : ℕ) → Edge code p q → q < length code
+edge_inside code p q e = let b = begun (slice_get code q) e.lands in some_inside code q b.0 b.1
+
+self_edge : (code : List Insn) (p : ℕ) → IsOrdered code → Edge code p p → ⊥
+self_edge code p o e = let h = o.falls.falls p p e in omega (arith, h)
+
+-- the edges of a note of slot pc lead inside, and to other slots
+module _ (code : List Insn) (shapes : List Shape) (pc : ℕ) (n : Facts) (es : Edges) (laid : IsCode code) (structured : IsStructured code (length shapes)) (e : rule_at code shapes pc n ≡ Ok es) where
+  edge_of : (q : ℕ) → Speaks es q → Edge code pc q
+  edge_of q s = told_edge code shapes laid structured pc q (n ∷ []) (subst (λ (a : Answer). Speaks (allowed a ++ []) q) (sym e) (widen es q s))
+    where
+      widen : (es : Edges) (q : ℕ) → Speaks es q → Speaks (es ++ []) q
+      widen [] q s = s
+      widen (e ∷ es) q (inl at) = inl at
+      widen (e ∷ es) q (inr s) = inr (widen es q s)
+
+  pub leads_inside : LeadInside es (length code)
+  leads_inside = lead_inside es (length code) (λ q s. edge_inside code pc q (edge_of q s))
+
+  pub leads_elsewhere : IsOrdered code → Speaks es pc → ⊥
+  leads_elsewhere o s = self_edge code pc o (edge_of pc s)
+
+pub rule_is : (code : List Insn) (shapes : List Shape) (pc : ℕ) (i : Insn) (n : Facts) (a : Answer) → slice_get code pc ≡ Some i → after_of i pc n shapes ≡ a → rule_at code shapes pc n ≡ a
+unfolding rule_at
+rule_is code shapes pc i n a e h = ap (λ (o : Option Insn). rule_by o pc n shapes) e ∙ h
+
+pub ruled_at : (code : List Insn) (maps pc : ℕ) (i : Insn) → IsStructured code maps → slice_get code pc ≡ Some i → begins (slice_get code pc) ≡ true → IsRuled i pc maps
+ruled_at code maps pc i h e b = ruled code maps pc i (h pc i e) (subst (λ (o : Option Insn). begins o ≡ true) e b)
+
+-- a cause that was met, whatever it is
+pub met : (c : Cause) (P : Type 0) → P → IsMet c P
+met Memory P h = tt
+met Length P h = h
+met Opcode P h = h
+met Register P h = h
+met Target P h = h
+met BackJump P h = h
+met EndCause P h = h
+met Unset P h = h
+met FramePointer P h = h
+met NoPointer P h = h
+met Packet P h = h
+met Stack P h = h
+met Context P h = h
+met MayBeNull P h = h
+met MapAccess P h = h
+met Helper P h = h
+met MapNumber P h = h
+met Argument P h = h
+met Unsupported P h = h
+
+met_fails : (c : Cause) (a : Answer) (P : Type 0) → Fails c a → (a ≡ Err c → P) → IsMet c P
+met_fails Memory a P g f = tt
+met_fails Length a P g f = f g
+met_fails Opcode a P g f = f g
+met_fails Register a P g f = f g
+met_fails Target a P g f = f g
+met_fails BackJump a P g f = f g
+met_fails EndCause a P g f = f g
+met_fails Unset a P g f = f g
+met_fails FramePointer a P g f = f g
+met_fails NoPointer a P g f = f g
+met_fails Packet a P g f = f g
+met_fails Stack a P g f = f g
+met_fails Context a P g f = f g
+met_fails MayBeNull a P g f = f g
+met_fails MapAccess a P g f = f g
+met_fails Helper a P g f = f g
+met_fails MapNumber a P g f = f g
+met_fails Argument a P g f = f g
+met_fails Unsupported a P g f = f g
+
+-- the rule refused note i
+pub stopped_at : (code : List Insn) (shapes : List Shape) (pc i : ℕ) (old new : ℕ → List Facts) (n : Facts) (insn : Insn) (c : Cause) → IsFollowing code shapes pc i old new → slice_get (new pc) i ≡ Some n →
+    slice_get code pc ≡ Some insn → Fails c (after_of insn pc n shapes) → IsMet c (IsFirstCause code shapes pc (old pc) c)
+stopped_at code shapes pc i old new n insn c f at here g =
+    met_fails c (after_of insn pc n shapes) _ g (λ e.
+        following_stops code shapes pc i old new f n (subst (λ (ns : List Facts). slice_get ns i ≡ Some n) f.here at) c (rule_is code shapes pc insn n (Err c) here e))
+
+any_default : {A : Type 0} (xs : List A) (k : ℕ) (d e : A) → k < length xs → slice_index_or xs k d ≡ slice_index_or xs k e
+any_default [] k d e h = absurd (omega arith)
+any_default (x ∷ xs) zero d e h = refl
+any_default (x ∷ xs) (suc k) d e h = any_default xs k d e (omega arith)
+
+-- the note that is read
+pub note_there : (items : List (List Noted)) (pc i : ℕ) (here : List Noted) (n : Noted) → pc < length items → here ≡ slice_index_or items pc here → i < length (facts_at items pc) → n ≡ slice_index_or here i n →
+    slice_get (facts_at items pc) i ≡ Some (facts n)
+note_there items pc i here n inside is low at =
+    let list : slice_index_or items pc [] ≡ here = any_default items pc [] here inside ∙ sym is in
+    let size : length (facts_at items pc) ≡ length here = length-map (slice_index_or items pc []) facts ∙ ap length list in
+    subst (λ (ns : List Noted). slice_get (map facts ns) i ≡ Some (facts n)) (sym list) (get_map facts here i n (get_is here i n (omega (arith, low, size)) ∙ ap Some (sym at)))

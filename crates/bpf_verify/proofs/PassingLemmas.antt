@@ -1,0 +1,156 @@
+-- While the slots of an order are taken.
+use Rattle.std.proofs.Common.{◌≡◌, ◌⊎◌, inl, inr, ◌<◌, ◌≤◌, ◌+◌, ℕ, zero, suc, List, [], ◌∷◌, ◌++◌, Some, length, take, drop, get_or, refl, sym, ap, ◌∙◌, arith, subst, true}
+use Rattle.std.specs.Prelude.{Contains, slice_get}
+use Rattle.std.proofs.lemmas.Bool.{cases_lt}
+use Rattle.std.proofs.lemmas.List.{get_or_append_left, take-append-le, take_all, take_more}
+use Rattle.std.proofs.lemmas.List.Elements.{Contains-append_cases}
+use Rattle.std.proofs.Math.Seq.{get_or-append_seam}
+use Rattle.bpf_insn.specs.Code.{IsCode}
+use Rattle.bpf_insn.specs.declared.insn.Insn.{Insn}
+use Rattle.bpf_insn.specs.declared.refusal.Cause.{Cause}
+use Rattle.bpf_insn.specs.declared.refusal.Cause.TheVariants.{Memory, Length, Opcode, Register, Target, BackJump, End, Unset, FramePointer, NoPointer, Packet, Stack, Context, MayBeNull, MapAccess, Helper, MapNumber, Argument, Unsupported}
+use Rattle.bpf_note.specs.Shape.{Shape}
+use Rattle.bpf_note.specs.Facts.{Facts}
+use Rattle.bpf_flow.proofs.LeadLemmas.{Speaks}
+use Rattle.bpf_verify.specs.Edges.{Edge, Flows, IsPassOrder}
+use Rattle.bpf_verify.specs.Orders.{IsReady, Takes, none, more}
+use Rattle.bpf_verify.specs.Structure.{begins}
+use Rattle.bpf_verify.specs.FirstRefusal.{IsStructured, IsPassed, IsStopped, IsHalted}
+use Rattle.bpf_verify.specs.Tables.{IsMet}
+use Rattle.bpf_verify.proofs.GraphLemmas.{begun, some_inside}
+use Rattle.bpf_verify.specs.Gathered.{Hears, told, first_notes, AreNotes, AreAllowed, IsFirstCause}
+use Rattle.bpf_verify.proofs.GatherLemmas.{hears_quiet, notes_more}
+use Rattle.bpf_verify.proofs.ToldLemmas.{told_edge}
+use Rattle.bpf_verify.proofs.RankLemmas.{taken_preds, last_length}
+use Rattle.bpf_verify.proofs.LawLemmas.{takes_within, get_or_same}
+use Rattle.bpf_verify.proofs.CodeLemmas.{first_begins}
+use Rattle.bpf_verify.specs.Paths as paths
+
+-- a beginning of an order is an order, and the next slot was ready
+pub record IsTaken (Edge : ℕ → ℕ → Type 0) (In : ℕ → Type 0) (taken : List ℕ) (p : ℕ) : Type 0 where
+  pub takes : Takes Edge In taken
+  pub ready : IsReady Edge In taken p
+
+pub taken_at : {Edge : ℕ → ℕ → Type 0} {In : ℕ → Type 0} {order : List ℕ} → Takes Edge In order → (i : ℕ) → i < length order → IsTaken Edge In (take i order) (get_or order i 0)
+taken_at none i low = absurd (omega arith)
+taken_at {Edge = Edge} {In = In} (more {taken = taken} {p = c} t ready first) i low =
+    let len = last_length taken c in
+    elim (cases_lt i (length taken)) [
+      | inl old ↦
+          let at : get_or (taken ++ c ∷ []) i 0 ≡ get_or taken i 0 = get_or_append_left taken (c ∷ []) 0 i old in
+          let front : take i (taken ++ c ∷ []) ≡ take i taken = take-append-le i taken (c ∷ []) (omega arith) in
+          subst (λ (q : ℕ). IsTaken Edge In (take i (taken ++ c ∷ [])) q) (sym at) (subst (λ (xs : List ℕ). IsTaken Edge In xs (get_or taken i 0)) (sym front) (taken_at t i old))
+      | inr h ↦
+          let last : i ≡ length taken = omega (arith, len) in
+          let at : get_or (taken ++ c ∷ []) i 0 ≡ c = ap (λ (k : ℕ). get_or (taken ++ c ∷ []) k 0) last ∙ get_or-append_seam taken c [] 0 in
+          let front : take i (taken ++ c ∷ []) ≡ taken = ap (λ (k : ℕ). take k (taken ++ c ∷ [])) last ∙ (take-append-le (length taken) taken (c ∷ []) (omega arith) ∙ take_all (length taken) taken (omega arith)) in
+          subst (λ (q : ℕ). IsTaken Edge In (take i (taken ++ c ∷ [])) q) (sym at) (subst (λ (xs : List ℕ). IsTaken Edge In xs c) (sym front) (record { takes = t; ready = ready }))
+    ]
+
+the_one : (c q : ℕ) → Contains (c ∷ []) q → q ≡ c
+the_one c q (zero, low, e) = sym e
+the_one c q (suc k, low, e) = absurd (omega arith)
+
+parts_of : (xs : List ℕ) (i c : ℕ) → i < length xs → get_or xs i 0 ≡ c → xs ≡ take i xs ++ c ∷ drop (i + 1) xs
+parts_of [] i c low e = absurd (omega arith)
+parts_of (x ∷ xs) zero c low e = ap (λ (y : ℕ). y ∷ xs) e
+parts_of (x ∷ xs) (suc i) c low e = ap (λ (ys : List ℕ). x ∷ ys) (parts_of xs i c (omega arith) e) ∙ ap (λ (k : ℕ). x ∷ (take i xs ++ c ∷ drop k (x ∷ xs))) (more_by_one i)
+  where
+    more_by_one : (i : ℕ) → suc (i + 1) ≡ suc i + 1
+    more_by_one i = omega arith
+
+-- a slot that the flow graph reaches begins an instruction
+pub flows_begins : (code : List Insn) (q : ℕ) → IsCode code → Flows code 0 q → begins (slice_get code q) ≡ true
+flows_begins code q laid f = on code 0 q (first_begins code laid) f
+  where
+    on : (code : List Insn) (p q : ℕ) → begins (slice_get code p) ≡ true → paths.Reaches (Edge code) p q → begins (slice_get code q) ≡ true
+    on code p q b paths.here = b
+    on code p q b (paths.along {q = r} e f) = on code r q e.lands f
+
+-- the slots below place i of the order have told theirs, and were allowed
+pub record IsPassing (code : List Insn) (shapes : List Shape) (order : List ℕ) (i : ℕ) (notes : ℕ → List Facts) : Type 0 where
+  pub are_notes : AreNotes code shapes (take i order) notes
+  pub allowed : (p : ℕ) → Contains (take i order) p → AreAllowed code shapes p (notes p)
+
+pub passing_first : (code : List Insn) (shapes : List Shape) (order : List ℕ) (notes : ℕ → List Facts) → ((q : ℕ) → notes q ≡ first_notes q) → IsPassing code shapes order 0 notes
+passing_first code shapes order notes h = record { are_notes = λ q. sym (h q); allowed = λ p at. absurd (omega (arith, at.1)) }
+
+module _ (code : List Insn) (shapes : List Shape) (order : List ℕ) (laid : IsCode code) (structured : IsStructured code (length shapes)) (is : IsPassOrder code order) where
+  module _ (i c : ℕ) (low : i < length order) (at : get_or order i 0 ≡ c) (notes : ℕ → List Facts) (p : IsPassing code shapes order i notes) where
+    state : IsTaken (Edge code) (Flows code 0) (take i order) c
+    state = subst (λ (q : ℕ). IsTaken (Edge code) (Flows code 0) (take i order) q) at (taken_at is.takes i low)
+
+    quiet : (q : ℕ) → Contains (take i order) q → Speaks (told code shapes c (notes c)) q → ⊥
+    quiet q there s = state.ready.open' (taken_preds state.takes c q state.ready.within (told_edge code shapes laid structured c q (notes c) s) there)
+
+    self : Speaks (told code shapes c (notes c)) c → ⊥
+    self s = state.ready.open' (state.ready.preds c state.ready.within (told_edge code shapes laid structured c c (notes c) s))
+
+    longer : take (i + 1) order ≡ take i order ++ c ∷ []
+    longer = take_more order i 0 low ∙ ap (λ (q : ℕ). take i order ++ q ∷ []) at
+
+    -- one slot more
+    pub passing_on : (notes' : ℕ → List Facts) → ((q : ℕ) → Hears (notes q) q (told code shapes c (notes c)) (notes' q)) → AreAllowed code shapes c (notes c) → IsPassing code shapes order (i + 1) notes'
+    passing_on notes' hears ok =
+        let kept : (q : ℕ) → Contains (take i order) q → notes q ≡ notes' q = λ q there. hears_quiet (notes q) q (told code shapes c (notes c)) (notes' q) (quiet q there) (hears q) in
+        let same : notes c ≡ notes' c = hears_quiet (notes c) c (told code shapes c (notes c)) (notes' c) self (hears c) in
+        record {
+          are_notes = subst (λ (ps : List ℕ). AreNotes code shapes ps notes') (sym longer) (notes_more code shapes (take i order) c notes notes' quiet self hears p.are_notes);
+          allowed = λ q there. elim (Contains-append_cases (take i order) (c ∷ []) q (subst (λ (ps : List ℕ). Contains ps q) longer there)) [
+            | inl old ↦ subst (λ (ns : List Facts). AreAllowed code shapes q ns) (kept q old) (p.allowed q old)
+            | inr new ↦ let here = the_one c q new in subst (λ (r : ℕ). AreAllowed code shapes r (notes' r)) (sym here) (subst (λ (ns : List Facts). AreAllowed code shapes c ns) same ok)
+          ];
+        }
+
+    -- the pass stops here
+    pub passing_stops : (cause : Cause) → IsFirstCause code shapes c (notes c) cause → IsStopped code shapes c cause
+    passing_stops cause h = record {
+      order = order;
+      is_order = is;
+      before = take i order;
+      rest = drop (i + 1) order;
+      parts = parts_of order i c low at;
+      notes = notes;
+      are_notes = p.are_notes;
+      allowed = p.allowed;
+      refused = h;
+    }
+
+  -- all have been taken
+  pub passing_last : (i : ℕ) (notes : ℕ → List Facts) → length order ≤ i → IsPassing code shapes order i notes → IsPassed code shapes notes
+  passing_last i notes all p =
+      let whole : take i order ≡ order = take_all i order all in
+      record {
+        order = order;
+        is_order = is;
+        are_notes = subst (λ (ps : List ℕ). AreNotes code shapes ps notes) whole p.are_notes;
+        allowed = λ q there. p.allowed q (subst (λ (ps : List ℕ). Contains ps q) (sym whole) there);
+      }
+
+-- each slot of the order begins an instruction
+pub order_begins : (code : List Insn) (order : List ℕ) (i : ℕ) → IsCode code → IsPassOrder code order → i < length order → begins (slice_get code (get_or order i 0)) ≡ true
+order_begins code order i laid is low = let s = taken_at is.takes i low in flows_begins code (get_or order i 0) laid s.ready.within
+
+pub begun_inside : (code : List Insn) (q : ℕ) → begins (slice_get code q) ≡ true → q < length code
+begun_inside code q b = let g = begun (slice_get code q) b in some_inside code q g.0 g.1
+
+pub halted_by : (code : List Insn) (shapes : List Shape) (pc : ℕ) (c : Cause) (P : Type 0) → IsMet c P → (P → IsStopped code shapes pc c) → IsHalted code shapes pc c
+halted_by code shapes pc Memory P h f = tt
+halted_by code shapes pc Length P h f = f h
+halted_by code shapes pc Opcode P h f = f h
+halted_by code shapes pc Register P h f = f h
+halted_by code shapes pc Target P h f = f h
+halted_by code shapes pc BackJump P h f = f h
+halted_by code shapes pc End P h f = f h
+halted_by code shapes pc Unset P h f = f h
+halted_by code shapes pc FramePointer P h f = f h
+halted_by code shapes pc NoPointer P h f = f h
+halted_by code shapes pc Packet P h f = f h
+halted_by code shapes pc Stack P h f = f h
+halted_by code shapes pc Context P h f = f h
+halted_by code shapes pc MayBeNull P h f = f h
+halted_by code shapes pc MapAccess P h f = f h
+halted_by code shapes pc Helper P h f = f h
+halted_by code shapes pc MapNumber P h f = f h
+halted_by code shapes pc Argument P h f = f h
+halted_by code shapes pc Unsupported P h f = f h

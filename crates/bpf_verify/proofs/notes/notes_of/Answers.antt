@@ -1,0 +1,37 @@
+use Rattle.std.proofs.Common.{rules, ◌≡◌, ◌<◌, ◌≤◌, ◌∙◌, ℕ, List, length, sym, ap, subst, refl, arith}
+use Rattle.std.specs.Prelude.{slice_index_or}
+use Rattle.bpf_verify.specs.Edges.{IsPassOrder}
+use Rattle.bpf_verify.specs.Gathered.{IsFirstCause}
+use Rattle.bpf_verify.specs.Tables.{facts_at}
+use Rattle.bpf_verify.proofs.PassingLemmas.{passing_on, passing_stops, passing_last, order_begins, begun_inside, halted_by}
+use Rattle.bpf_verify.proofs.notes.notes_of.Goals as goal
+
+pub follow-requires-clause-there : goal.follow-requires-clause-there
+follow-requires-clause-there c =
+    let is = subst (IsPassOrder c.args.code.now) (sym c.deref-pc-items.ensures.value) c.in-Ok.ensures in
+    begun_inside c.args.code.now _ (order_begins c.args.code.now c.deref-pc-items.result.now c.loop-pc.pc-index c.requires.laid is (omega arith))
+
+pub follow-requires-clause-begins : goal.follow-requires-clause-begins
+follow-requires-clause-begins c =
+    let is = subst (IsPassOrder c.args.code.now) (sym c.deref-pc-items.ensures.value) c.in-Ok.ensures in
+    order_begins c.args.code.now c.deref-pc-items.result.now c.loop-pc.pc-index c.requires.laid is (omega arith)
+
+pub returns-in-Err-clause-halted : goal.returns-in-Err-clause-halted
+returns-in-Err-clause-halted c =
+    let is = subst (IsPassOrder c.args.code.now) (sym c.deref-pc-items.ensures.value) c.in-Ok.ensures in
+    let pc = slice_index_or c.deref-pc-items.result.now c.loop-pc.pc-index 0 in
+    halted_by c.args.code.now c.args.shapes.now pc c.in-Err.cause (IsFirstCause c.args.code.now c.args.shapes.now pc (facts_at c.loop-pc.table.items pc) c.in-Err.cause) c.in-Err.ensures.err
+        (passing_stops c.args.code.now c.args.shapes.now c.deref-pc-items.result.now c.requires.laid c.requires.structured is c.loop-pc.pc-index pc (omega arith) refl (facts_at c.loop-pc.table.items) c.loop-pc.invariant.1 c.in-Err.cause)
+
+pub loop-pc-preserved : goal.loop-pc-preserved
+loop-pc-preserved c =
+    let is = subst (IsPassOrder c.args.code.now) (sym c.deref-pc-items.ensures.value) c.in-Ok.ensures in
+    let pc = slice_index_or c.deref-pc-items.result.now c.loop-pc.pc-index 0 in
+    (c.in_default-follow.ensures.size,
+     passing_on c.args.code.now c.args.shapes.now c.deref-pc-items.result.now c.requires.laid c.requires.structured is c.loop-pc.pc-index pc (omega arith) refl (facts_at c.loop-pc.table.items) c.loop-pc.invariant.1
+         (facts_at c.follow.new.table.items) c.in_default-follow.ensures.hears c.in_default-follow.ensures.allowed)
+
+pub returns-clause-passed : goal.returns-clause-passed
+returns-clause-passed c =
+    let is = subst (IsPassOrder c.args.code.now) (sym c.deref-pc-items.ensures.value) c.in-Ok.ensures in
+    passing_last c.args.code.now c.args.shapes.now c.deref-pc-items.result.now c.requires.laid c.requires.structured is c.loop-pc.pc-index (facts_at c.loop-pc.table.items) (omega arith) c.loop-pc.invariant.1

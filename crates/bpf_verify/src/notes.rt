@@ -1,0 +1,115 @@
+//! The second pass: what is known at each slot that the flow graph reaches.
+ghost use Rattle.std.specs.Prelude.{◌≡◌, ◌<◌, ◌∷◌, [], ℕ, true, length, slice_get, vec_len, OnOk, IfOk, IfErr};
+ghost use Rattle.bpf_insn.specs.Code.{IsCode};
+ghost use Rattle.bpf_flow.specs.Gives.{edges_of};
+ghost use Rattle.bpf_note.specs.Parts.{facts};
+ghost use Rattle.bpf_verify.specs.Consistent.{IsOrdered};
+ghost use Rattle.bpf_verify.specs.FirstRefusal.{IsStructured, IsPassed, IsHalted};
+ghost use Rattle.bpf_verify.specs.Gathered.{Hears, told, first_notes, AreAllowed, IsFirstCause};
+ghost use Rattle.bpf_verify.specs.Structure.{begins};
+ghost use Rattle.bpf_verify.specs.Tables.{facts_at, LeadInside, IsMet};
+
+use crate::graph::pass_order;
+use crate::note_list::NoteList;
+use bpf_flow::{Successor, Successors, after};
+use bpf_insn::{Cause, Insn, Refusal};
+use bpf_note::MapShape;
+use std::alloc::{AllocError, Global};
+
+/// Brings a note to its slot.
+fn tell(alloc: Global, table: &mut Vec<NoteList>, successor: Successor) -> Result<(), AllocError>
+    requires { successor.pc < vec_len table.old }
+    ensures size { OnOk result (vec_len table.new ≡ vec_len table.old) }
+    ensures hears { OnOk result ((q : ℕ) → Hears (facts_at table.old.items q) q ((successor.pc, facts successor.note) ∷ []) (facts_at table.new.items q)) }
+{
+    table[successor.pc as usize].arrive(alloc, successor.note)
+}
+
+/// Brings notes to the slots that an instruction leads to.
+fn spread(alloc: Global, table: &mut Vec<NoteList>, successors: Successors) -> Result<(), AllocError>
+    requires { LeadInside (edges_of successors) (vec_len table.old) }
+    ensures size { OnOk result (vec_len table.new ≡ vec_len table.old) }
+    ensures hears { OnOk result ((q : ℕ) → Hears (facts_at table.old.items q) q (edges_of successors) (facts_at table.new.items q)) }
+{
+    match successors {
+        Successors::None => Ok(()),
+        Successors::One(next) => tell(alloc, table, next),
+        Successors::Two(next, target) => {
+            tell(alloc, table, next)?;
+            tell(alloc, table, target)
+        }
+    }
+}
+
+/// Takes the notes of one slot along its edges.
+fn follow(
+    alloc: Global,
+    code: &[Insn],
+    shapes: &[MapShape],
+    table: &mut Vec<NoteList>,
+    pc: u32,
+) -> Result<(), Cause>
+    requires laid { IsCode code.now }
+    requires structured { IsStructured code.now (length shapes.now) }
+    requires ordered { IsOrdered code.now }
+    requires there { pc < length code.now }
+    requires begins { begins (slice_get code.now pc) ≡ true }
+    requires size { vec_len table.old ≡ length code.now }
+    ensures size { OnOk result (vec_len table.new ≡ length code.now) }
+    ensures hears { OnOk result ((q : ℕ) → Hears (facts_at table.old.items q) q (told code.now shapes.now pc (facts_at table.old.items pc)) (facts_at table.new.items q)) }
+    ensures allowed { OnOk result (AreAllowed code.now shapes.now pc (facts_at table.old.items pc)) }
+    ensures err { IfErr result (λ c. IsMet c (IsFirstCause code.now shapes.now pc (facts_at table.old.items pc) c)) }
+{
+    let insn = code[pc as usize];
+    for i in 0..table[pc as usize].notes().len() {
+        let successors = after(alloc, &insn, pc, &table[pc as usize].notes()[i], shapes)?;
+        spread(alloc, table, successors)?;
+    }
+    Ok(())
+}
+
+/// What is known at the first slot, and nothing at the others.
+fn blank(alloc: Global, slots: usize) -> Result<Vec<NoteList>, AllocError>
+    requires { 0 < slots }
+    ensures size { IfOk result (λ v. vec_len v ≡ slots) }
+    ensures first { IfOk result (λ v. (q : ℕ) → facts_at v.items q ≡ first_notes q) }
+{
+    let mut table = Vec::with_capacity(alloc, slots)?;
+    table.push(NoteList::at_entry(alloc)?)?;
+    for _slot in 1..slots {
+        table.push(NoteList::empty(alloc))?;
+    }
+    Ok(table)
+}
+
+/// The notes at each slot, or the first refusal in the order of the pass. Where memory is wanting, V0 with the slot that
+/// was treated, or 0.
+pub(crate) fn notes_of(
+    alloc: Global,
+    code: &[Insn],
+    shapes: &[MapShape],
+) -> Result<Vec<NoteList>, Refusal>
+    requires laid { IsCode code.now }
+    requires structured { IsStructured code.now (length shapes.now) }
+    requires ordered { IsOrdered code.now }
+    ensures size { IfOk result (λ v. vec_len v ≡ length code.now) }
+    ensures passed { IfOk result (λ v. IsPassed code.now shapes.now (facts_at v.items)) }
+    ensures halted { IfErr result (λ r. IsHalted code.now shapes.now r.pc r.cause) }
+{
+    let wanting = Refusal {
+        cause: Cause::Memory,
+        pc: 0,
+    };
+    let Ok(order) = pass_order(alloc, code) else {
+        return Err(wanting);
+    };
+    let Ok(mut table) = blank(alloc, code.len()) else {
+        return Err(wanting);
+    };
+    for &pc in &order {
+        if let Err(cause) = follow(alloc, code, shapes, &mut table, pc) {
+            return Err(Refusal { cause, pc });
+        }
+    }
+    Ok(table)
+}
