@@ -10,3 +10,4 @@ mod LawLemmas
 mod CodeLemmas
 mod FlowLemmas
 mod ListLemmas
+mod ArriveLemmas
