@@ -15,3 +15,4 @@ mod GatherLemmas
 mod ToldLemmas
 mod FollowLemmas
 mod PassingLemmas
+mod ArriveLemmas
