@@ -16,3 +16,5 @@ mod ToldLemmas
 mod FollowLemmas
 mod PassingLemmas
 mod ArriveLemmas
+mod ShapeLemmas
+mod AcceptedLemmas
