@@ -17,3 +17,4 @@ pub mod CallLemmas
 pub mod StackLemmas
 pub mod GivesLemmas
 pub mod LeadLemmas
+pub mod CauseLemmas
