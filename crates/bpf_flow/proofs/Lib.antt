@@ -16,3 +16,6 @@ pub mod JumpLemmas
 pub mod CallLemmas
 pub mod StackLemmas
 pub mod GivesLemmas
+pub mod SetLemmas
+pub mod BehindLemmas
+pub mod ReadingLemmas

@@ -7,3 +7,4 @@ pub mod Learning
 pub mod After
 pub mod Sound
 pub mod Gives
+pub mod Reading
