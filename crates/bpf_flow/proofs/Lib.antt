@@ -18,3 +18,6 @@ pub mod StackLemmas
 pub mod GivesLemmas
 pub mod LeadLemmas
 pub mod CauseLemmas
+pub mod SetLemmas
+pub mod BehindLemmas
+pub mod ReadingLemmas

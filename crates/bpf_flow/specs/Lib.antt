@@ -8,3 +8,4 @@ pub mod After
 pub mod Sound
 pub mod Gives
 pub mod Causes
+pub mod Reading

@@ -1,9 +1,14 @@
 //! Laws of the steps of a program.
-ghost use Rattle.std.specs.Prelude.{◌≡◌, List, Option};
+ghost use Rattle.std.specs.Prelude.{◌≡◌, ◌↔◌, ℕ, List, Option, Err, true};
 ghost use Rattle.bpf_insn.specs.declared.insn.Insn.{Insn};
+ghost use Rattle.bpf_insn.specs.declared.refusal.Cause.TheVariants.{Unset, FramePointer};
+ghost use Rattle.bpf_note.specs.Facts.{Facts};
+ghost use Rattle.bpf_note.specs.Shape.{Shape};
 ghost use Rattle.bpf_note.specs.State.{State};
 ghost use Rattle.bpf_note.specs.declared.op.Op.{Op};
-ghost use Rattle.bpf_flow.specs.Graph.{Leads};
+ghost use Rattle.bpf_flow.specs.After.{after_of};
+ghost use Rattle.bpf_flow.specs.Graph.{Leads, writes};
+ghost use Rattle.bpf_flow.specs.Reading.{ReadsUnset};
 ghost use Rattle.bpf_flow.specs.Step.{Outcome, LeadsTo, Alike, Fits, exec, step};
 
 /// No step changes `r10`, the frame pointer.
@@ -25,4 +30,15 @@ pub fn one_label_one_state()
 /// Every step follows an edge of the flow graph.
 pub fn steps_follow_edges()
     ensures { (i : Insn) (s : State) (label : Option Op) (t : State) → LeadsTo (exec i s) label t → Leads i s.pc t.pc }
+{}
+
+/// An instruction is refused for an unset register exactly where it reads a register of which nothing is known. A call of
+/// a helper that programs may not call reads nothing.
+pub fn unset_exactly_where_read()
+    ensures { (i : Insn) (pc : ℕ) (n : Facts) (shapes : List Shape) → (after_of i pc n shapes ≡ Err Unset) ↔ ReadsUnset i n }
+{}
+
+/// An instruction is refused for the frame pointer exactly where it writes `r10` and reads no unset register.
+pub fn frame_pointer_exactly_where_written()
+    ensures { (i : Insn) (pc : ℕ) (n : Facts) (shapes : List Shape) → (after_of i pc n shapes ≡ Err FramePointer) ↔ (writes i 10 ≡ true) × (ReadsUnset i n → ⊥) }
 {}

@@ -13,8 +13,9 @@ mod rule;
 mod successors;
 
 pub use laws::{
-    labels_fit_their_instruction, no_step_writes_the_frame_pointer, one_label_one_state,
-    steps_follow_edges,
+    frame_pointer_exactly_where_written, labels_fit_their_instruction,
+    no_step_writes_the_frame_pointer, one_label_one_state, steps_follow_edges,
+    unset_exactly_where_read,
 };
 pub use registers::{jump_target, next_slot, reads, writes};
 pub use rule::after;
