@@ -18,3 +18,4 @@ mod PassingLemmas
 mod ArriveLemmas
 mod ShapeLemmas
 mod AcceptedLemmas
+mod RefusalLemmas

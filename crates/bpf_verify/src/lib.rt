@@ -7,8 +7,13 @@ mod notes;
 mod slot;
 mod structure;
 mod verified;
+mod verifier;
 
 pub use bpf_insn::{Cause, Refusal};
 pub use bpf_note::MapShape;
 pub use graph::{pass_order_is_unique, pass_order_rises, runs_are_short};
 pub use verified::Verified;
+pub use verifier::verify;
+
+#[cfg(test)]
+mod tests;

@@ -1,0 +1,46 @@
+//! Both passes.
+ghost use Rattle.std.specs.Prelude.{◌≡◌, ◌≤◌, length, IfOk, IfErr};
+ghost use Rattle.bpf_note.specs.Shape.{AreShapes};
+ghost use Rattle.bpf_verify.specs.Consistent.{IsConsistent};
+ghost use Rattle.bpf_verify.specs.FirstRefusal.{IsRefusal, IsFaultless};
+
+use crate::notes::notes_of;
+use crate::structure::first_fault;
+use crate::verified::Verified;
+use bpf_insn::{Cause, Code, Refusal};
+use bpf_note::MapShape;
+use std::alloc::Global;
+
+/// Every shape is within the limits. It does nothing.
+fn are_shapes(shapes: &[MapShape])
+    ensures { AreShapes shapes.now }
+{
+    for shape in shapes {
+        let _entries = shape.entries();
+    }
+}
+
+/// Accepts a program with its maps, at most four of them, or refuses it with the first cause of the first pass that has
+/// one. On a refusal the code is dropped. Want of memory is V0.
+pub fn verify(alloc: Global, code: Code, shapes: &[MapShape]) -> Result<Verified, Refusal>
+    requires { length shapes.now ≤ 4 }
+    ensures code { IfOk result (λ v. v.code ≡ code) }
+    ensures shapes { IfOk result (λ v. v.shapes ≡ shapes.now) }
+    ensures consistent { IfOk result IsConsistent }
+    ensures faultless { IfOk result (λ _. IsFaultless code shapes.now) }
+    ensures refused { IfErr result (λ r. IsRefusal code shapes.now r.cause r.pc) }
+{
+    are_shapes(shapes);
+    let insns = code.insns();
+    if let Some(refusal) = first_fault(alloc, insns, shapes.len() as u32) {
+        return Err(refusal);
+    }
+    let notes = notes_of(alloc, insns, shapes)?;
+    match shapes.to_vec(alloc) {
+        Ok(shapes) => Ok(Verified::of(code, shapes, notes)),
+        Err(_) => Err(Refusal {
+            cause: Cause::Memory,
+            pc: 0,
+        }),
+    }
+}
