@@ -14,7 +14,7 @@ pub enum Cause {
     Register,
     /// V4: a jump out of the program, or into a wide load.
     Target,
-    /// V5: a jump backwards.
+    /// V5: a jump that closes a cycle.
     BackJump,
     /// V6: the program can run past its end.
     End,

@@ -1,6 +1,5 @@
 -- From orders to ranks and to the second pass.
-use Rattle.std.proofs.Common.{◌≡◌, ◌<◌, ℕ, zero, suc, length, List, [], ◌∷◌, arith, sym, ◌∙◌, refl, ap, inl, inr, Bool, true, false, Some, cond}
-use Rattle.std.specs.Bool.{OnTrue}
+use Rattle.std.proofs.Common.{◌≡◌, ◌<◌, ℕ, zero, suc, length, List, [], ◌∷◌, arith, sym, ◌∙◌, refl, ap, inl, inr, Bool, true, Some, cond}
 use Rattle.std.specs.Prelude.{Contains, slice_get, map, count_by}
 use Rattle.std.proofs.lemmas.List.Sums.{sum_by-cons}
 use Rattle.bpf_insn.specs.declared.insn.Insn.{Insn}
@@ -126,9 +125,9 @@ passes code start left taken to from t l o = record {
   whole = λ q f. whole (Edge code) start left taken l (λ p c. rank_circle p o.falls c) q (from q f);
 }
 
-pub when_true : (b : Bool) (P : Type 0) → OnTrue b P → b ≡ true → P
-when_true true P p e = p
-when_true false P p e = let f : false ≡ true = e in absurd (cc)
+-- of an ordered program nothing is left
+pub nothing_left : (code : List Insn) (start left : List Bool) (taken : List ℕ) → IsLeft (Edge code) start taken left → IsOrdered code → (q : ℕ) → marked left q ≡ true → ⊥
+nothing_left code start left taken l o q on = let was = l.kept q on in was.1 (whole (Edge code) start left taken l (λ p c. rank_circle p o.falls c) q was.0)
 
 pub stands_below : (code : List Insn) (o : IsOrdered code) (p : ℕ) → begins (slice_get code p) ≡ true → o.rank p < instructions code
 stands_below code o p s =

@@ -1,12 +1,11 @@
 //! The first pass: the structure of a program, over all slots, reached or not.
-ghost use Rattle.std.specs.Prelude.{◌≡◌, ◌<◌, ◌≤◌, ℕ, Some, true, false, length, slice_get, IfOk, IfSome, IfNone};
-ghost use Rattle.std.specs.Bool.{OnTrue};
+ghost use Rattle.std.specs.Prelude.{◌≡◌, ◌<◌, ◌≤◌, ℕ, Some, true, false, length, slice_get, IsTrue, IfOk, IfSome, IfNone};
 ghost use Rattle.bpf_insn.specs.declared.insn.Insn.{Insn};
 ghost use Rattle.bpf_verify.specs.Structure.{lands, misses_target, runs_off, lacks_map};
 ghost use Rattle.bpf_verify.specs.Consistent.{IsOrdered};
 ghost use Rattle.bpf_verify.specs.FirstRefusal.{IsFine, IsFault, IsStructured, IsStructureRefusal};
 
-use crate::graph::{closes_cycle_unless, try_ranks};
+use crate::graph::{closes_cycle_unless, is_ordered};
 use crate::slot::{begins, falls_through, insn_at, jump_of};
 use bpf_flow::{jump_target, next_slot};
 use bpf_insn::{Cause, Insn, Refusal};
@@ -62,7 +61,7 @@ fn fault_of(
 ) -> Result<Option<Cause>, AllocError>
     requires short { length code.now ≤ 4096 }
     requires inside { pc < length code.now }
-    requires ordered { OnTrue ordered (IsOrdered code.now) }
+    requires ordered { IsTrue ordered → IsOrdered code.now }
     ensures none { IfOk result (λ o. IfNone o (IsFine code.now maps pc insn)) }
     ensures some { IfOk result (λ o. IfSome o (IsFault code.now maps pc insn)) }
 {
@@ -89,7 +88,7 @@ pub(crate) fn first_fault(alloc: Global, code: &[Insn], maps: u32) -> Option<Ref
     ensures ordered { IfNone result (IsOrdered code.now) }
     ensures some { IfSome result (λ r. IsStructureRefusal code.now maps r.pc r.cause) }
 {
-    let Ok(ordered) = try_ranks(alloc, code) else {
+    let Ok(ordered) = is_ordered(alloc, code) else {
         return Some(Refusal {
             cause: Cause::Memory,
             pc: 0,

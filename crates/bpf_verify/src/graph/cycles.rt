@@ -1,6 +1,5 @@
 //! Which jumps close a cycle, and whether any does.
 ghost use Rattle.std.specs.Prelude.{◌≡◌, ◌<◌, ◌≤◌, ◌↔◌, ℕ, Some, true, length, map, IfOk, IsTrue};
-ghost use Rattle.std.specs.Bool.{OnTrue};
 ghost use Rattle.bpf_verify.specs.Consistent.{IsOrdered};
 ghost use Rattle.bpf_verify.specs.Edges.{ClosesCycle};
 ghost use Rattle.bpf_verify.specs.Marks.{is_instruction, marked};
@@ -28,7 +27,7 @@ fn is_instruction(insn: Insn) -> bool
 
 /// Whether nothing is marked.
 fn is_clear(marks: &[bool]) -> bool
-    ensures { OnTrue result ((q : ℕ) → marked marks.now q ≡ true → ⊥) }
+    ensures { IsTrue result ↔ ((q : ℕ) → marked marks.now q ≡ true → ⊥) }
 {
     for mark in marks {
         if *mark {
@@ -54,10 +53,10 @@ fn closes_cycle(alloc: Global, code: &[Insn], pc: u32) -> Result<bool, AllocErro
     Ok(marks[pc as usize])
 }
 
-/// Tries to order all instructions, and says whether that went through. Where no jump closes a cycle it does.
-pub(crate) fn try_ranks(alloc: Global, code: &[Insn]) -> Result<bool, AllocError>
+/// Whether all instructions can be ordered. Where no jump closes a cycle they can.
+pub(crate) fn is_ordered(alloc: Global, code: &[Insn]) -> Result<bool, AllocError>
     requires { length code.now ≤ 4096 }
-    ensures yes { IfOk result (λ b. OnTrue b (IsOrdered code.now)) }
+    ensures ordered { IfOk result (λ b. IsTrue b ↔ IsOrdered code.now) }
     ensures acyclic { IfOk result (λ _. ((q : ℕ) → q < length code.now → ClosesCycle code.now q → ⊥) → IsOrdered code.now) }
 {
     let all = instructions(alloc, code)?;
@@ -74,7 +73,7 @@ pub(crate) fn closes_cycle_unless(
 ) -> Result<bool, AllocError>
     requires short { length code.now ≤ 4096 }
     requires inside { pc < length code.now }
-    requires ordered { OnTrue ordered (IsOrdered code.now) }
+    requires ordered { IsTrue ordered → IsOrdered code.now }
     ensures { IfOk result (λ b. IsTrue b ↔ ClosesCycle code.now pc) }
 {
     if ordered {

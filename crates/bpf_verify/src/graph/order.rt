@@ -1,5 +1,5 @@
 //! The order in which slots are taken: each time the lowest to which no slot leads that isn't taken.
-ghost use Rattle.std.specs.Prelude.{◌≡◌, ◌<◌, ◌≤◌, ◌+◌, ◌^◌, ℕ, Some, true, length, vec_len, slice_index, IfOk, IfSome, IfNone};
+ghost use Rattle.std.specs.Prelude.{◌≡◌, ◌<◌, ◌≤◌, ◌+◌, ◌^◌, ◌⊎◌, ℕ, Some, true, length, vec_len, slice_index, IfOk, IfSome, IfNone};
 ghost use Rattle.bpf_verify.specs.Consistent.{IsOrdered};
 ghost use Rattle.bpf_verify.specs.Edges.{Edge, IsPassOrder};
 ghost use Rattle.bpf_verify.specs.Marks.{marked, IsLeft};
@@ -58,6 +58,7 @@ fn waits_of(alloc: Global, code: &[Insn], live: &[bool]) -> Result<Vec<u32>, All
 fn first_free(live: &[bool], waits: &[u32], from: u32) -> Option<u32>
     requires same { length live.now ≡ length waits.now }
     requires short { length live.now ≤ 4096 }
+    ensures from { IfSome result (λ p. from ≤ p) }
     ensures free { IfSome result (λ p. IsFree live.now waits.now p) }
     ensures first { IfSome result (λ p. (q : ℕ) → from ≤ q → q < p → IsFree live.now waits.now q → ⊥) }
     ensures none { IfNone result ((q : ℕ) → from ≤ q → IsFree live.now waits.now q → ⊥) }
@@ -81,6 +82,7 @@ pub(crate) struct Taken {
 fn lower(pc: u32, jump: Option<u32>) -> u32
     ensures low { result ≤ pc }
     ensures jump { IfSome jump (λ to. result ≤ to) }
+    ensures one { (result ≡ pc) ⊎ (jump ≡ Some result) }
 {
     match jump {
         Some(to) if to < pc => to,
