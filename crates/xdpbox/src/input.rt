@@ -13,11 +13,7 @@ const MOST: usize = 1_048_577;
 const BUFFER: usize = 4_096;
 
 /// Adds the bytes of one read, and says how many came.
-fn read_more<R: Read>(
-    input: &mut R,
-    buffer: &mut [u8],
-    bytes: &mut Vec<u8>,
-) -> Result<usize, Stop>
+fn read_more<R: Read>(input: &mut R, buffer: &mut [u8], bytes: &mut Vec<u8>) -> Result<usize, Stop>
     requires { 0 < length buffer.old }
     ensures added { IfOk result (λ n. (vec_len bytes.new ≡ vec_len bytes.old + n) × (n ≤ length buffer.old)) }
     ensures took { IfOk result (λ n. (taken : List ℕ) × (bytes.new.items ≡ bytes.old.items ++ taken) × Consumes (R.remaining input.old) (R.remaining input.new) taken) }

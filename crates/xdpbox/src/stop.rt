@@ -1,5 +1,8 @@
 //! Why a call has no answer.
-use std::alloc::{AllocError, AllocFailed};
+ghost use Rattle.std.specs.Prelude.{◌≡◌};
+ghost use Rattle.xdpbox.specs.declared.stop.Stop.TheVariants.{Memory};
+
+use std::alloc::AllocError;
 
 /// Why a call has no answer.
 #[derive(Clone, Copy, Debug, PartialEq, Eq)]
@@ -11,6 +14,8 @@ pub enum Stop {
 }
 
 impl From<AllocError> for Stop {
+    ghost from_gives = { λ _ e. e ≡ Memory };
+
     fn from(_error: AllocError) -> Stop {
         Stop::Memory
     }
