@@ -8,8 +8,8 @@ use Rattle.toml.specs.View.{view, items_of}
 use Rattle.toml.specs.declared.value.Value.{Value}
 use Rattle.xdp_load.specs.Document.{RelocText, Text, items_list, rows}
 use Rattle.xdp_load.specs.Seen.{map_seen, reloc_seen}
-use Rattle.xdp_load.specs.declared.rows.MapRow.{MapRow}
-use Rattle.xdp_load.specs.declared.rows.RelocRow.{RelocRow}
+use Rattle.xdp_load.specs.declared.kinds.MapRow.{MapRow}
+use Rattle.xdp_load.specs.declared.kinds.RelocRow.{RelocRow}
 use Rattle.xdp_load.specs.Setup.{have_own_slots, is_taken_again, names_of, relocated, relocated_once}
 use Rattle.xdp_load.specs.Limits.{are_names, each, is_bad_first}
 

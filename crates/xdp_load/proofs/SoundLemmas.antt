@@ -8,7 +8,7 @@ use Rattle.std.proofs.lemmas.Bool.{and_parts, leb-true, ltb-true}
 use Rattle.std.proofs.lemmas.Option.{cond_some, option_and_then_some, same_Some}
 use Rattle.xdp_load.specs.declared.fault.Fault.{Fault}
 use Rattle.xdp_load.specs.declared.fault.Fault.TheVariants as fault
-use Rattle.xdp_load.specs.Document.{MapText, PacketText}
+use Rattle.xdp_load.specs.Document.{MapText, PacketText, StepText}
 use Rattle.xdp_load.specs.Gives.{Gives, or_fault, ◌>>=◌}
 use Rattle.xdp_load.specs.Limits.{HexPacket, LimitedText, Numbers, are_names, below, each, limited, limited_shape, limited_lists, limited_numbers, limited_of, limited_packet, limited_step}
 use Rattle.xdp_load.specs.Setup.{Packet, SetupView, bytes_of, decoded_of, document_of, joined, loaded_program, names_of, text_of, packet_of, relocated_setup, setup_of, setup_of_limited, setup_of_table}
@@ -73,11 +73,11 @@ numbers_within n m e =
     option_and_then_some _ (limited 0 4294967295 n.start) m more (λ s last same.
     subst (λ (k : Numbers). (1 ≤ k.queues) × (k.queues ≤ 8)) (same_Some _ _ same) (limited_within 1 8 n.queues q here))))
 
-step_within : (queues : ℕ) (s : ℤ × ℤ) (p : ℕ × ℕ) → limited_step queues s ≡ Some p → p.0 < queues
+step_within : (queues : ℕ) (s : StepText) (p : ℕ × ℕ) → limited_step queues s ≡ Some p → p.0 < queues
 step_within queues s p e =
-    option_and_then_some _ (below queues s.0) p e (λ q here rest.
-    map_some _ (limited 0 4294967295 s.1) p rest (λ a there same.
-    subst (λ (r : ℕ × ℕ). r.0 < queues) same (below_within queues s.0 q here)))
+    option_and_then_some _ (below queues s.queue) p e (λ q here rest.
+    map_some _ (limited 0 4294967295 s.answer) p rest (λ a there same.
+    subst (λ (r : ℕ × ℕ). r.0 < queues) same (below_within queues s.queue q here)))
 
 shape_within : (m : MapText) (s : Shape) → limited_shape m ≡ Some s → IsShape s
 shape_within m s e =

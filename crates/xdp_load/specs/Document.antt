@@ -101,12 +101,16 @@ packet_of_table ms =
 abbrev pub packet_row : Data → Option PacketText
 packet_row d = as_table d >>= packet_of_table
 
--- a step as it is written: the queue and the answer
-abbrev pub step_of : List Data → Option (ℤ × ℤ)
-step_of (a ∷ b ∷ []) = as_integer a >>= (λ queue. as_integer b >>= (λ answer. Some (queue, answer)))
+-- a step as it is written
+pub record StepText : Type 0 where
+  pub queue : ℤ
+  pub answer : ℤ
+
+abbrev pub step_of : List Data → Option StepText
+step_of (a ∷ b ∷ []) = as_integer a >>= (λ queue. as_integer b >>= (λ answer. Some (record { queue = queue; answer = answer })))
 step_of _ = None
 
-abbrev pub step_row : Data → Option (ℤ × ℤ)
+abbrev pub step_row : Data → Option StepText
 step_row d = option_map items_list (as_array d) >>= step_of
 
 -- the list at a key

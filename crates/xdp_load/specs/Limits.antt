@@ -3,7 +3,7 @@ use Rattle.std.specs.Prelude.{Result, Ok, Err, ◌&&◌, ◌||◌, ◌/◌, ℕ,
 use Rattle.std.specs.List.{list_any}
 use Rattle.std.specs.Str.{bytes_eq}
 use Rattle.bpf_note.specs.Shape.{Shape}
-use Rattle.xdp_load.specs.Document.{Text, MapText, PacketText}
+use Rattle.xdp_load.specs.Document.{Text, MapText, PacketText, StepText}
 use Rattle.xdp_load.specs.declared.fault.Fault.{Fault}
 use Rattle.xdp_load.specs.declared.fault.Fault.TheVariants.{Limit}
 use Rattle.xdp_load.specs.Gives.{or_fault, ◌>>=◌}
@@ -42,8 +42,8 @@ limited_shape m = option_and_then (λ entries. option_and_then (λ counters.
     Some (record { entries = entries; counters = counters }))
     (limited 1 8 m.counters)) (limited 1 1024 m.entries)
 
-abbrev pub limited_step : ℕ → ℤ × ℤ → Option (ℕ × ℕ)
-limited_step queues s = option_and_then (λ queue. option_map (λ answer. (queue, answer)) (limited 0 most_word s.1)) (below queues s.0)
+abbrev pub limited_step : ℕ → StepText → Option (ℕ × ℕ)
+limited_step queues s = option_and_then (λ queue. option_map (λ answer. (queue, answer)) (limited 0 most_word s.answer)) (below queues s.queue)
 
 -- a packet whose bytes are still hex
 pub record HexPacket : Type 0 where

@@ -3,7 +3,7 @@ use Rattle.std.specs.Prelude.{ℤ, List, [], ◌∷◌, codes, pos, Option, Some
 use Rattle.toml.specs.Data.{Data, Members, as_str}
 use Rattle.xdp_load.specs.declared.fault.Fault.{Fault}
 use Rattle.xdp_load.specs.declared.fault.Fault.TheVariants.{Key}
-use Rattle.xdp_load.specs.Document.{Text, MapText, RelocText, PacketText, has_only, integer_or, list_at, map_row, packet_row, reloc_row, rows, step_row, values_at}
+use Rattle.xdp_load.specs.Document.{Text, MapText, RelocText, PacketText, StepText, has_only, integer_or, list_at, map_row, packet_row, reloc_row, rows, step_row, values_at}
 use Rattle.xdp_load.specs.Gives.{or_fault, ◌>>=◌}
 
 -- the numbers as they are written
@@ -17,7 +17,7 @@ pub record WrittenText : Type 0 where
   pub numbers : NumberTexts
   pub maps : List MapText
   pub relocs : List RelocText
-  pub script : List (ℤ × ℤ)
+  pub script : List StepText
   pub packets : List PacketText
 
 abbrev pub shaped : {A : Type 0} → Option A → Result A Fault

@@ -1,74 +1,27 @@
 //! A document as it is written, before any limit is looked at.
-ghost use Rattle.std.specs.Prelude.{◌≡◌, codes, map, option_map};
+ghost use Rattle.std.specs.Prelude.{◌≡◌, map, option_map};
 ghost use Rattle.toml.specs.View.{table_view};
-ghost use Rattle.xdp_load.specs.Document.{map_row, packet_row, reloc_row, step_row};
 ghost use Rattle.xdp_load.specs.Gives.{Gives};
-ghost use Rattle.xdp_load.specs.Written.{numbers_of, program_of, rows_of, rows_of_table, written_of};
-ghost use Rattle.xdp_load.specs.Seen.{map_seen, numbers_seen, packet_seen, reloc_seen, written_seen};
+ghost use Rattle.xdp_load.specs.Written.{numbers_of, program_of, rows_of_table, written_of};
+ghost use Rattle.xdp_load.specs.Seen.{hex_seen, numbers_seen, written_seen};
 
 use crate::fault::{Fault, LoadFault};
-use crate::rows::{
-    MapRow, PacketRow, RelocRow, map_rows, packet_rows, reloc_rows, rows_in, step_rows, text_rows,
-    values_at,
-};
+use crate::kinds::{HexRow, MapRow, PacketRow, RelocRow, StepRow};
+use crate::rows::{rows, rows_at, rows_in};
 use crate::table::{found, has_only, integer_or};
 use std::alloc::Global;
 use toml::Table;
 
 /// The texts of the program.
 #[tactic(auto, unfolding(crate::specs::Written::program_of))]
-fn program_of(alloc: Global, table: &Table) -> Result<Vec<&str>, LoadFault>
-    ensures { Gives (λ v. map (λ t. t.now) v.items) result (program_of (table_view table.now)) }
+fn program_of(alloc: Global, table: &Table) -> Result<Vec<HexRow<'_>>, LoadFault>
+    ensures { Gives (λ v. map hex_seen v.items) result (program_of (table_view table.now)) }
 {
     let Some(texts) = found(table, "program") else {
         return Err(LoadFault::Refused(Fault::Key));
     };
     match rows_in(texts) {
-        Some(values) => text_rows(alloc, values),
-        None => Err(LoadFault::Refused(Fault::Key)),
-    }
-}
-
-/// The maps.
-#[tactic(auto, unfolding(crate::specs::Written::rows_of))]
-fn maps_of(alloc: Global, table: &Table) -> Result<Vec<MapRow<'_>>, LoadFault>
-    ensures { Gives (λ v. map map_seen v.items) result (rows_of map_row (codes "map") (table_view table.now)) }
-{
-    match values_at(table, "map") {
-        Some(values) => map_rows(alloc, values),
-        None => Err(LoadFault::Refused(Fault::Key)),
-    }
-}
-
-/// The relocations.
-#[tactic(auto, unfolding(crate::specs::Written::rows_of))]
-fn relocs_of(alloc: Global, table: &Table) -> Result<Vec<RelocRow<'_>>, LoadFault>
-    ensures { Gives (λ v. map reloc_seen v.items) result (rows_of reloc_row (codes "reloc") (table_view table.now)) }
-{
-    match values_at(table, "reloc") {
-        Some(values) => reloc_rows(alloc, values),
-        None => Err(LoadFault::Refused(Fault::Key)),
-    }
-}
-
-/// The steps.
-#[tactic(auto, unfolding(crate::specs::Written::rows_of))]
-fn script_of(alloc: Global, table: &Table) -> Result<Vec<(i64, i64)>, LoadFault>
-    ensures { Gives (λ v. v.items) result (rows_of step_row (codes "script") (table_view table.now)) }
-{
-    match values_at(table, "script") {
-        Some(values) => step_rows(alloc, values),
-        None => Err(LoadFault::Refused(Fault::Key)),
-    }
-}
-
-/// The packets.
-#[tactic(auto, unfolding(crate::specs::Written::rows_of))]
-fn packets_of(alloc: Global, table: &Table) -> Result<Vec<PacketRow<'_>>, LoadFault>
-    ensures { Gives (λ v. map packet_seen v.items) result (rows_of packet_row (codes "packet") (table_view table.now)) }
-{
-    match values_at(table, "packet") {
-        Some(values) => packet_rows(alloc, values),
+        Some(values) => rows(alloc, values),
         None => Err(LoadFault::Refused(Fault::Key)),
     }
 }
@@ -98,11 +51,11 @@ fn numbers_of(table: &Table) -> Option<Numbers>
 /// A document as it is written.
 #[derive(Drop)]
 pub struct Written<'a> {
-    pub program: Vec<&'a str>,
+    pub program: Vec<HexRow<'a>>,
     pub numbers: Numbers,
     pub maps: Vec<MapRow<'a>>,
     pub relocs: Vec<RelocRow<'a>>,
-    pub script: Vec<(i64, i64)>,
+    pub script: Vec<StepRow>,
     pub packets: Vec<PacketRow<'a>>,
 }
 
@@ -115,10 +68,10 @@ fn rows_of_table<'a>(alloc: Global, table: &'a Table) -> Result<Written<'a>, Loa
         return Err(LoadFault::Refused(Fault::Key));
     };
     let program = program_of(alloc, table)?;
-    let maps = maps_of(alloc, table)?;
-    let relocs = relocs_of(alloc, table)?;
-    let script = script_of(alloc, table)?;
-    let packets = packets_of(alloc, table)?;
+    let maps = rows_at(alloc, table, "map")?;
+    let relocs = rows_at(alloc, table, "reloc")?;
+    let script = rows_at(alloc, table, "script")?;
+    let packets = rows_at(alloc, table, "packet")?;
     Ok(Written {
         program,
         numbers,

@@ -3,6 +3,7 @@
 
 mod document;
 mod fault;
+mod kinds;
 mod limits;
 mod names;
 mod packets;

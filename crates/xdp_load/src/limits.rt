@@ -2,13 +2,13 @@
 ghost use Rattle.std.specs.Prelude.{◌≡◌, ◌≤◌, IfSome, OnOk, vec_len, map, option_map};
 ghost use Rattle.xdp_load.specs.Gives.{Gives, or_fault};
 ghost use Rattle.xdp_load.specs.Limits.{below, each, limited, limited_lists, limited_numbers, limited_of, limited_packet, limited_shape, limited_step};
-ghost use Rattle.xdp_load.specs.Seen.{map_seen, numbers_seen, packet_seen, written_seen};
+ghost use Rattle.xdp_load.specs.Seen.{map_seen, numbers_seen, packet_seen, step_seen, written_seen};
 ghost use Rattle.xdp_load.specs.LimitsSeen.{hex_packet_seen, limited_seen, limits_seen};
 ghost use Rattle.xdp_load.specs.declared.fault.Fault.TheVariants.{Limit};
 
 use crate::document::{Numbers, Written};
 use crate::fault::{Fault, LoadFault};
-use crate::rows::{MapRow, PacketRow};
+use crate::kinds::{MapRow, PacketRow, StepRow};
 use bpf_note::MapShape;
 use std::alloc::Global;
 
@@ -77,11 +77,11 @@ pub fn limited_shapes(alloc: Global, rows: &[MapRow<'_>]) -> Result<Vec<MapShape
 }
 
 /// A step within its limits.
-fn limited_step(queues: u32, row: (i64, i64)) -> Option<(usize, u32)>
-    ensures { result ≡ limited_step queues row }
+fn limited_step(queues: u32, row: &StepRow) -> Option<(usize, u32)>
+    ensures { result ≡ limited_step queues (step_seen row.now) }
 {
-    let queue = below(queues, row.0)?;
-    let answer = limited(0, u32::MAX, row.1)?;
+    let queue = below(queues, row.queue)?;
+    let answer = limited(0, u32::MAX, row.answer)?;
     Some((queue as usize, answer))
 }
 
@@ -89,13 +89,13 @@ fn limited_step(queues: u32, row: (i64, i64)) -> Option<(usize, u32)>
 pub fn limited_script(
     alloc: Global,
     queues: u32,
-    rows: &[(i64, i64)],
+    rows: &[StepRow],
 ) -> Result<Vec<(usize, u32)>, LoadFault>
-    ensures { Gives (λ v. v.items) result (or_fault Limit (each (limited_step queues) rows.now)) }
+    ensures { Gives (λ v. v.items) result (or_fault Limit (each (limited_step queues) (map step_seen rows.now))) }
 {
     let mut script = Vec::new(alloc);
     for row in rows {
-        let Some(step) = limited_step(queues, *row) else {
+        let Some(step) = limited_step(queues, row) else {
             return Err(LoadFault::Refused(Fault::Limit));
         };
         script.push(step)?;

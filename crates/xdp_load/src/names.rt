@@ -4,7 +4,7 @@ ghost use Rattle.std.specs.List.{list_any};
 ghost use Rattle.std.specs.Str.{bytes_eq};
 ghost use Rattle.xdp_load.specs.Limits.{are_names, is_bad_first};
 
-use crate::rows::MapRow;
+use crate::kinds::MapRow;
 
 /// Whether a map has the name.
 fn is_repeated(name: &str, rows: &[MapRow<'_>]) -> bool

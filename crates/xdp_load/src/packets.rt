@@ -2,12 +2,14 @@
 ghost use Rattle.std.specs.Prelude.{map};
 ghost use Rattle.xdp_load.specs.Gives.{Gives, or_fault};
 ghost use Rattle.xdp_load.specs.Limits.{each};
+ghost use Rattle.xdp_load.specs.Seen.{hex_seen};
 ghost use Rattle.xdp_load.specs.LimitsSeen.{hex_packet_seen};
 ghost use Rattle.xdp_load.specs.Setup.{bytes_of, joined, packet_of};
 ghost use Rattle.xdp_load.specs.SetupSeen.{packet_view};
 ghost use Rattle.xdp_load.specs.declared.fault.Fault.TheVariants.{Hex};
 
 use crate::fault::{Fault, LoadFault};
+use crate::kinds::HexRow;
 use crate::limits::HexPacket;
 use hex::FromHexError;
 use std::alloc::Global;
@@ -32,12 +34,12 @@ fn bytes_of(alloc: Global, text: &str) -> Result<Vec<u8>, LoadFault>
 }
 
 /// The bytes of some hex texts, one after another.
-pub fn joined(alloc: Global, texts: &[&str]) -> Result<Vec<u8>, LoadFault>
-    ensures { Gives (λ v. v.items) result (or_fault Hex (joined (map (λ t. t.now) texts.now))) }
+pub fn joined(alloc: Global, texts: &[HexRow<'_>]) -> Result<Vec<u8>, LoadFault>
+    ensures { Gives (λ v. v.items) result (or_fault Hex (joined (map hex_seen texts.now))) }
 {
     let mut program = Vec::new(alloc);
     for text in texts {
-        let bytes = bytes_of(alloc, text)?;
+        let bytes = bytes_of(alloc, text.text)?;
         program.extend_from_slice(bytes.as_slice())?;
     }
     Ok(program)

@@ -7,7 +7,7 @@ ghost use Rattle.std.specs.Str.{bytes_eq};
 ghost use Rattle.xdp_load.specs.Seen.{reloc_seen};
 ghost use Rattle.xdp_load.specs.Setup.{have_own_slots, is_taken_again, relocated, relocated_once, wide_slot, with_map};
 
-use crate::rows::{MapRow, RelocRow};
+use crate::kinds::{MapRow, RelocRow};
 
 /// Whether a relocation has the slot.
 fn is_taken(slot: i64, rows: &[RelocRow<'_>]) -> bool

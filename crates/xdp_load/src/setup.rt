@@ -14,11 +14,11 @@ ghost use Rattle.toml.specs.View.{table_view};
 
 use crate::document::{Written, read_document};
 use crate::fault::{Fault, LoadFault};
+use crate::kinds::MapRow;
 use crate::limits::{WithinLimits, limited_of};
 use crate::names::are_names;
 use crate::packets::{Packet, joined, packets_of};
 use crate::relocations::{have_own_slots, relocate};
-use crate::rows::MapRow;
 use bpf_note::MapShape;
 use std::alloc::{AllocError, Global};
 use toml::Table;

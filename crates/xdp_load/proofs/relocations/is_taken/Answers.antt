@@ -4,7 +4,7 @@ use Rattle.std.proofs.lemmas.Iterator.{YieldsList-from_slice}
 use Rattle.std.proofs.lemmas.Iterator.Search.{any_from_yields_List}
 use Rattle.xdp_load.proofs.RowLemmas.{any_map}
 use Rattle.xdp_load.specs.Seen.{reloc_seen}
-use Rattle.xdp_load.specs.declared.rows.RelocRow.{RelocRow}
+use Rattle.xdp_load.specs.declared.kinds.RelocRow.{RelocRow}
 use Rattle.xdp_load.proofs.relocations.is_taken.Goals as goal
 
 pub returns : goal.returns

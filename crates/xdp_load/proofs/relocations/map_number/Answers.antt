@@ -3,7 +3,7 @@ use Rattle.std.specs.Str.{bytes_eq}
 use Rattle.std.proofs.lemmas.Iterator.{YieldsList-from_slice}
 use Rattle.std.proofs.lemmas.Iterator.Search.{position_from_yields_List}
 use Rattle.xdp_load.proofs.RowLemmas.{position_map}
-use Rattle.xdp_load.specs.declared.rows.MapRow.{MapRow}
+use Rattle.xdp_load.specs.declared.kinds.MapRow.{MapRow}
 use Rattle.xdp_load.proofs.relocations.map_number.Goals as goal
 
 pub returns-clause-value : goal.returns-clause-value
