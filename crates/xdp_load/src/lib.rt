@@ -4,6 +4,7 @@
 mod document;
 mod fault;
 mod kinds;
+mod laws;
 mod limits;
 mod names;
 mod packets;
@@ -13,6 +14,7 @@ mod setup;
 mod table;
 
 pub use fault::{Fault, LoadFault};
+pub use laws::relocated_loads_are_of_maps;
 pub use packets::Packet;
 pub use setup::{Setup, load};
 
