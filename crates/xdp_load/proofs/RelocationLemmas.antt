@@ -1,5 +1,5 @@
 -- A relocated wide load of 0 is that of the map.
-use Rattle.std.proofs.Common.{◌≡◌, ◌<◌, ◌+◌, ◌++◌, ◌∙◌, ℕ, zero, suc, List, [], ◌∷◌, length, refl, ap, arith, add-one}
+use Rattle.std.proofs.Common.{◌≡◌, ◌<◌, ◌++◌, ◌∙◌, ℕ, zero, suc, List, [], ◌∷◌, length, refl, ap, arith}
 use native.Mathlib.Numerals.{unary_clauses}
 use Rattle.bpf_insn.specs.Spelling.{spelling}
 use Rattle.bpf_insn.specs.declared.insn.Insn.TheVariants.{Const, MapRef}
