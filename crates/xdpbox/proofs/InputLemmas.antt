@@ -1,13 +1,12 @@
 -- What was taken up to an end or a limit is the front of all.
 use Rattle.std.proofs.Common.{◌≡◌, ◌<◌, ◌≤◌, ◌+◌, ◌++◌, Bool, true, false, ℕ, List, [], length, take, append-nil, Option, Some, None, Result, Ok, Err, Vec, Global, vec_len, subst, refl, sym, arith}
 use Rattle.std.specs.Prelude.{IfOk, IfSome, nat_lt}
-use Rattle.std.specs.Io.KnownBytes.{Consumes, IsAtEnd, Keeps}
+use Rattle.std.specs.Io.KnownBytes.{Consumes, IsAtEnd}
 use Rattle.std.proofs.KnownBytes.{Consumes-trans}
 use Rattle.std.proofs.lemmas.Bool.{ltb-true, ltb-false}
 use Rattle.std.proofs.lemmas.List.{length-append, take_all}
 use Rattle.std.proofs.Math.Seq.{take-append_seam}
-use Rattle.xdpbox.specs.Answer.{IsSettings, Takes, TakesAtMost}
-use Rattle.xdpbox.specs.Words.{Wanted, exec, check}
+use Rattle.xdpbox.specs.Answer.{IsSettings, TakesAtMost}
 
 front_is : (n : ℕ) (s ys : List ℕ) → length s ≤ n → (length s < n → ys ≡ []) → s ≡ take n (s ++ ys)
 front_is n s ys few all = go (nat_lt (length s) n) refl
@@ -37,14 +36,3 @@ pub takes_more : (m n : ℕ) (a b c : Option (List ℕ)) (bs : List ℕ) → Con
 takes_more m n a b c bs before more few =
     let (taken, took, short) = more in
     (bs ++ taken, Consumes-trans a b c bs taken before took, rw length-append (omega (arith, short, few)))
-
--- a reader that is kept is one that every call may leave
-nothing : (a b : Option (List ℕ)) → Keeps a b → Consumes a b []
-nothing None b kept = tt
-nothing (Some x) None kept = kept
-nothing (Some x) (Some y) kept = sym kept
-
-pub takes_none : (wanted : Option Wanted) (a b : Option (List ℕ)) → Keeps a b → Takes wanted a b
-takes_none None a b kept = kept
-takes_none (Some (exec program packet)) a b kept = kept
-takes_none (Some check) a b kept = ([], nothing a b kept, omega arith)

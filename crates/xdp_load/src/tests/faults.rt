@@ -184,30 +184,36 @@ fn l7_relocations(rt: HostRuntime) {
 
 #[test]
 fn the_earlier_of_two_faults_is_answered(rt: HostRuntime) {
+    let alloc = rt.alloc();
     assert_refused(
         &rt,
-        rt.alloc(),
+        alloc,
         1,
         &[b"program = [ # \xff", b"# \xff\nprogram = ["],
     );
     assert_refused(
         &rt,
-        rt.alloc(),
+        alloc,
         2,
         &[b"size = 1\nprogram = [", b"program = 1 2\nsize = 1"],
     );
     assert_refused(
         &rt,
-        rt.alloc(),
+        alloc,
         3,
         &[
             b"program = []\nqueues = 9\nsize = 1",
             b"size = 1\nqueues = 9\nprogram = []",
         ],
     );
+}
+
+#[test]
+fn the_earlier_of_two_later_faults_is_answered(rt: HostRuntime) {
+    let alloc = rt.alloc();
     assert_refused(
         &rt,
-        rt.alloc(),
+        alloc,
         4,
         &[
             b"program = []\n[[map]]\nname = \"\"\nentries = 1\n[[map]]\nname = \"a\"\nentries = 0",
@@ -216,7 +222,7 @@ fn the_earlier_of_two_faults_is_answered(rt: HostRuntime) {
     );
     assert_refused(
         &rt,
-        rt.alloc(),
+        alloc,
         5,
         &[
             b"program = [\"9\"]\n[[map]]\nname = \"\"\nentries = 1",
@@ -225,7 +231,7 @@ fn the_earlier_of_two_faults_is_answered(rt: HostRuntime) {
     );
     assert_refused(
         &rt,
-        rt.alloc(),
+        alloc,
         6,
         &[
             b"reloc = [{slot = 0, map = \"a\"}]\nprogram = [\"9\"]",
