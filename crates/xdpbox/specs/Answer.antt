@@ -1,13 +1,18 @@
 -- What a call prints, and its exit status.
-use Rattle.std.specs.Prelude.{ℕ, ◌≡◌, ◌<◌, ◌≤◌, ◌⊎◌, List, length, take, codes, Option, Some, None, Result, Ok, Err}
+use Rattle.std.specs.Prelude.{ℕ, ◌≡◌, ◌<◌, ◌≤◌, ◌⊎◌, List, length, take, codes, Option, Some, None, IfSome, Result, Ok, Err}
 use Rattle.std.specs.Result.{result_ok}
-use Rattle.std.specs.Io.KnownBytes.{Appends}
+use Rattle.std.specs.Io.KnownBytes.{Appends, Consumes, IsAtEnd, Keeps}
 use Rattle.hex.specs.Hex.{decode_of}
 use Rattle.bpf_insn.specs.declared.refusal.Refusal.{Refusal}
 use Rattle.bpf_vm.specs.declared.run.Ended.{Ended}
-use Rattle.xdpbox.specs.Executing.{Executes}
-use Rattle.xdpbox.specs.Lines.{executed_text}
-use Rattle.xdpbox.specs.Words.{Wanted, exec}
+use Rattle.xdp_load.specs.Setup.{SetupView, setup_of}
+use Rattle.xdp_load.specs.declared.fault.Fault.{Fault}
+use Rattle.xdp_load.specs.declared.fault.LoadFault.{LoadFault}
+use Rattle.xdp_load.specs.declared.fault.LoadFault.TheVariants.{Memory, Refused}
+use Rattle.xdpbox.specs.declared.executing.Accepted.{Accepted}
+use Rattle.xdpbox.specs.Executing.{Checks, Executes}
+use Rattle.xdpbox.specs.Lines.{checked_text, executed_text, settings_text}
+use Rattle.xdpbox.specs.Words.{Wanted, exec, check}
 
 -- a text, and an exit status
 abbrev pub Said : Type 0
@@ -19,12 +24,13 @@ words_refused = (codes "words refused\n", 2)
 abbrev pub memory_wanted : Said
 memory_wanted = (codes "memory\n", 3)
 
-abbrev pub executed_status : Result Ended Refusal → ℕ
-executed_status (Ok e) = 0
-executed_status (Err r) = 1
+-- the status of a program that is accepted, or refused
+abbrev pub program_status : {A : Type 0} → Result A Refusal → ℕ
+program_status (Ok a) = 0
+program_status (Err r) = 1
 
 abbrev pub executed_answer : Result Ended Refusal → Said
-executed_answer e = (executed_text e, executed_status e)
+executed_answer e = (executed_text e, program_status e)
 
 -- the bytes of a hex word, in either case
 abbrev pub hex_bytes : List ℕ → Option (List ℕ)
@@ -46,17 +52,62 @@ BytesAnswer (Some program) (Some packet) said = PacketAnswer program packet said
 abbrev pub ExecAnswer : List ℕ → List ℕ → Said → Type 0
 ExecAnswer program packet said = BytesAnswer (hex_bytes program) (hex_bytes packet) said
 
--- the answer to what the words ask for
-abbrev pub IsAnswer : Option Wanted → Said → Type 0
-IsAnswer None said = said ≡ words_refused
-IsAnswer (Some (exec program packet)) said = ExecAnswer program packet said
+abbrev pub settings_refused : LoadFault → Said
+settings_refused f = (settings_text f, 2)
+
+abbrev pub checked_answer : Result Accepted Refusal → Said
+checked_answer c = (checked_text c, program_status c)
+
+-- the answer to a setup: by a check of its program with its maps
+abbrev pub SetupAnswer : SetupView → Said → Type 0
+SetupAnswer s said = (c : Result Accepted Refusal) × Checks s.program s.shapes c × (said ≡ checked_answer c)
+
+-- the answer to what settings spell: a setup, or their first fault
+abbrev pub SpelledAnswer : Result SetupView Fault → Said → Type 0
+SpelledAnswer (Ok s) said = SetupAnswer s said
+SpelledAnswer (Err f) said = said ≡ settings_refused (Refused f)
+
+-- the answer of `check`; L0 where memory ran out while the settings were loaded
+abbrev pub CheckAnswer : List ℕ → Said → Type 0
+CheckAnswer settings said = SpelledAnswer (setup_of settings) said ⊎ (said ≡ settings_refused Memory)
+
+-- the settings are what the reader gave, up to its end or 1,048,577 bytes
+pub record IsSettings (old new : Option (List ℕ)) (settings : List ℕ) : Type 0 where
+  pub took : Consumes old new settings
+  pub few : length settings ≤ 1048577
+  pub all : length settings < 1048577 → IsAtEnd new
+  pub known : IfSome old (λ xs. settings ≡ take 1048577 xs)
+
+-- the answer to what the words ask for, over a reader before and after
+abbrev pub IsAnswer : Option Wanted → Option (List ℕ) → Option (List ℕ) → Said → Type 0
+IsAnswer None old new said = said ≡ words_refused
+IsAnswer (Some (exec program packet)) old new said = ExecAnswer program packet said
+IsAnswer (Some check) old new said = (settings : List ℕ) × IsSettings old new settings × CheckAnswer settings said
+
+-- at most so many bytes are taken
+abbrev pub TakesAtMost : ℕ → Option (List ℕ) → Option (List ℕ) → Type 0
+TakesAtMost n old new = (taken : List ℕ) × Consumes old new taken × (length taken ≤ n)
+
+-- what a call does to its reader, whatever it answers: `check` alone reads
+abbrev pub Takes : Option Wanted → Option (List ℕ) → Option (List ℕ) → Type 0
+Takes None old new = Keeps old new
+Takes (Some (exec program packet)) old new = Keeps old new
+Takes (Some check) old new = TakesAtMost 1048577 old new
+
+-- a call that may end as a read failed, when nothing is printed
+abbrev pub Reads : Option Wanted → Type 0
+Reads None = ⊥
+Reads (Some (exec program packet)) = ⊥
+Reads (Some check) = Unit {0}
 
 -- the text is printed and the status given; or a write failed, the status is 4, and a beginning of the text is printed
 abbrev pub Prints : Option (List ℕ) → Option (List ℕ) → Said → ℕ → Type 0
 Prints held written said status =
     ((status ≡ said.1) × Appends held written said.0) ⊎ ((status ≡ 4) × ((n : ℕ) × Appends held written (take n said.0)))
 
--- a call ends with its answer, or for want of memory
-abbrev pub Ends : Option Wanted → Option (List ℕ) → Option (List ℕ) → ℕ → Type 0
-Ends wanted held written status =
-    ((said : Said) × IsAnswer wanted said × Prints held written said status) ⊎ Prints held written memory_wanted status
+-- a call ends with its answer, for want of memory, or as a read failed
+abbrev pub Ends : Option Wanted → Option (List ℕ) → Option (List ℕ) → Option (List ℕ) → Option (List ℕ) → ℕ → Type 0
+Ends wanted old new held written status =
+    ((said : Said) × IsAnswer wanted old new said × Prints held written said status)
+    ⊎ (Prints held written memory_wanted status
+    ⊎ (Reads wanted × (status ≡ 4) × Keeps held written))

@@ -1,13 +1,15 @@
--- What a program's bytes come to on a packet.
-use Rattle.std.specs.Prelude.{ℕ, ◌≤◌, ◌⊎◌, List, Result, Ok, Err}
+-- What a program's bytes come to: alone, and on a packet.
+use Rattle.std.specs.Prelude.{ℕ, ◌≡◌, ◌≤◌, ◌⊎◌, List, length, Result, Ok, Err}
 use Rattle.bpf_insn.specs.Code.{Spells}
 use Rattle.bpf_insn.specs.Refusal.{IsNoCode}
 use Rattle.bpf_insn.specs.declared.insn.Insn.{Insn}
 use Rattle.bpf_insn.specs.declared.refusal.Refusal.{Refusal}
+use Rattle.bpf_note.specs.Shape.{Shape}
 use Rattle.bpf_verify.specs.FirstRefusal.{IsFaultless, IsRefusal}
 use Rattle.bpf_verify.specs.Consistent.{instructions}
 use Rattle.bpf_vm.specs.Run.{IsRunOf}
 use Rattle.bpf_vm.specs.declared.run.Ended.{Ended}
+use Rattle.xdpbox.specs.declared.executing.Accepted.{Accepted}
 
 -- the bytes spell a program without a cause of refusal, and this is its run on the packet, with interface and queue 0,
 -- which does no more instructions than it has
@@ -18,13 +20,30 @@ pub record IsRunOfBytes (program packet : List ℕ) (ended : Ended) : Type 0 whe
   pub run : IsRunOf code packet 0 0 ended.number ended.packet ended.instructions
   pub bound : ended.instructions ≤ instructions code
 
--- the bytes spell a program that is refused so
-pub record IsRefusalOfCode (program : List ℕ) (refusal : Refusal) : Type 0 where
+-- the bytes spell a program that is refused so with this many maps
+pub record IsRefusalOfCode (program : List ℕ) (maps : ℕ) (refusal : Refusal) : Type 0 where
   pub code : List Insn
   pub spelled : Spells code program
-  pub refused : IsRefusal code 0 refusal.cause refusal.pc
+  pub refused : IsRefusal code maps refusal.cause refusal.pc
 
--- a run, or a refusal: of the bytes, or of the program that they spell
+-- the refusal is that of the bytes, or of the program that they spell
+abbrev pub IsRefusalOfBytes : List ℕ → ℕ → Refusal → Type 0
+IsRefusalOfBytes program maps refusal = IsNoCode program refusal ⊎ IsRefusalOfCode program maps refusal
+
+-- a run, or a refusal
 abbrev pub Executes : List ℕ → List ℕ → Result Ended Refusal → Type 0
 Executes program packet (Ok ended) = IsRunOfBytes program packet ended
-Executes program packet (Err refusal) = IsNoCode program refusal ⊎ IsRefusalOfCode program refusal
+Executes program packet (Err refusal) = IsRefusalOfBytes program 0 refusal
+
+-- the bytes spell a program without a cause of refusal, and it has this many instructions and slots
+pub record IsAccepted (program : List ℕ) (maps : ℕ) (accepted : Accepted) : Type 0 where
+  pub code : List Insn
+  pub spelled : Spells code program
+  pub faultless : IsFaultless code maps
+  pub counted : accepted.instructions ≡ instructions code
+  pub long : accepted.slots ≡ length code
+
+-- what a check of a program's bytes with these maps answers
+abbrev pub Checks : List ℕ → List Shape → Result Accepted Refusal → Type 0
+Checks program shapes (Ok accepted) = IsAccepted program (length shapes) accepted
+Checks program shapes (Err refusal) = IsRefusalOfBytes program (length shapes) refusal

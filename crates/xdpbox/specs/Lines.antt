@@ -4,6 +4,9 @@ use Rattle.hex.specs.Hex.{encode_lower}
 use Rattle.bpf_insn.specs.Cause.{refusal_text}
 use Rattle.bpf_insn.specs.declared.refusal.Refusal.{Refusal}
 use Rattle.bpf_vm.specs.declared.run.Ended.{Ended}
+use Rattle.xdp_load.specs.FaultNumber.{fault_number}
+use Rattle.xdp_load.specs.declared.fault.LoadFault.{LoadFault}
+use Rattle.xdpbox.specs.declared.executing.Accepted.{Accepted}
 
 -- the names of the actions: those of XDP in Linux's uapi/linux/bpf.h
 abbrev pub action_name : ℕ → List ℕ
@@ -15,7 +18,19 @@ ended_text e =
     codes "action " ++ (action_name e.number ++ (codes " number " ++ (decimal e.number ++ (codes " instructions " ++ (decimal e.instructions
     ++ (codes "\npacket " ++ (encode_lower e.packet ++ codes "\n")))))))
 
+abbrev pub refused_text : Refusal → List ℕ
+refused_text r = codes "refused " ++ (refusal_text r ++ codes "\n")
+
 -- the lines of a run, or of a refusal
 abbrev pub executed_text : Result Ended Refusal → List ℕ
 executed_text (Ok e) = ended_text e
-executed_text (Err r) = codes "refused " ++ (refusal_text r ++ codes "\n")
+executed_text (Err r) = refused_text r
+
+-- the line of a check: how many instructions the program has, a wide load being one, and how many slots
+abbrev pub checked_text : Result Accepted Refusal → List ℕ
+checked_text (Ok a) = codes "accepted, " ++ (decimal a.instructions ++ (codes " instructions, " ++ (decimal a.slots ++ codes " slots\n")))
+checked_text (Err r) = refused_text r
+
+-- the line of refused settings
+abbrev pub settings_text : LoadFault → List ℕ
+settings_text f = codes "settings refused L" ++ (decimal (fault_number f) ++ codes "\n")

@@ -4,10 +4,11 @@ use Rattle.xdpbox.specs.declared.request.Request.{Request}
 use Rattle.xdpbox.specs.declared.request.Request.TheVariants as code
 use Rattle.xdpbox.specs.declared.answer.Answer.{Answer}
 use Rattle.xdpbox.specs.Answer.{Said}
-use Rattle.xdpbox.specs.Words.{Wanted, exec}
+use Rattle.xdpbox.specs.Words.{Wanted, exec, check}
 
 abbrev pub wanted_of : Request → Wanted
 wanted_of (code.Exec program packet) = exec program.now packet.now
+wanted_of code.Check = check
 
 abbrev pub said_of : Answer → Said
 said_of a = (string_bytes a.text, a.status)

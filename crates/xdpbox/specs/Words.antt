@@ -1,5 +1,5 @@
 -- The program's command line, as data of `clap`, and what its words ask for.
-use Rattle.std.specs.Prelude.{ℕ, codes, true, List, [], ◌∷◌, Option, None, option_map, option_and_then, Bool, false, if◌then◌else◌}
+use Rattle.std.specs.Prelude.{ℕ, codes, true, List, [], ◌∷◌, Option, Some, None, option_map, option_and_then, Bool, false, if◌then◌else◌}
 use Rattle.std.specs.Str.{bytes_eq}
 use Rattle.clap.specs.Words.{App, Kinds, Row, Rule, Text, fault_of, first_of, subcommand_of, new_app, new_rule, with_rule, with_subcommand}
 
@@ -11,12 +11,17 @@ wanted id = record (new_rule id) { required = true }
 abbrev pub exec_app : App
 exec_app = with_rule (with_rule (new_app (codes "exec")) (wanted (codes "program"))) (wanted (codes "packet"))
 
+-- `check`
+abbrev pub check_app : App
+check_app = new_app (codes "check")
+
 unfoldable pub program_app : App
-program_app = with_subcommand (new_app (codes "xdpbox")) exec_app.top
+program_app = with_subcommand (with_subcommand (new_app (codes "xdpbox")) exec_app.top) check_app.top
 
 -- what a call asks for
 pub data Wanted : Type 0 where
   exec : Text → Text → Wanted
+  check : Wanted
 
 -- `exec`, by what was found for its words
 abbrev pub exec_of : List Row → Option Wanted
@@ -24,7 +29,10 @@ exec_of rows = option_and_then (λ program. option_map (λ packet. exec program 
 
 -- the subcommand that the words name, with what was found for its own words
 abbrev pub wanted_by : Text × List Row → Option Wanted
-wanted_by p = if bytes_eq p.0 (codes "exec") then exec_of p.1 else None
+wanted_by p =
+    if bytes_eq p.0 (codes "exec") then exec_of p.1
+    else if bytes_eq p.0 (codes "check") then Some check
+    else None
 
 -- the command line takes the words
 abbrev pub is_taken : Kinds → Bool

@@ -1,15 +1,21 @@
 //! What the program answers.
-ghost use Rattle.std.specs.Prelude.{◌≡◌, IfOk, option_map};
-ghost use Rattle.xdpbox.specs.Answer.{ExecAnswer, IsAnswer, PacketAnswer, executed_answer, hex_bytes, words_refused};
+ghost use Rattle.std.specs.Prelude.{◌≡◌, ◌≤◌, IfOk, IfErr, Some, length, option_map};
+ghost use Rattle.xdp_load.specs.SetupSeen.{setup_view};
+ghost use Rattle.xdpbox.specs.Answer.{CheckAnswer, ExecAnswer, IsAnswer, PacketAnswer, Reads, SetupAnswer, Takes, TakesAtMost, checked_answer, executed_answer, hex_bytes, program_status, settings_refused, words_refused};
+ghost use Rattle.xdpbox.specs.Words.{check};
 ghost use Rattle.xdpbox.specs.Seen.{said_of, wanted_of};
 
-use crate::executing::execute;
-use crate::lines::executed_text;
+use crate::executing::{Accepted, check, execute};
+use crate::input::read_settings;
+use crate::lines::{checked_text, executed_text, settings_text};
 use crate::request::Request;
+use crate::stop::Stop;
 use bpf_insn::Refusal;
 use bpf_vm::{Buffer, Ended, PacketBuf};
 use hex::FromHexError;
 use std::alloc::{AllocError, Global};
+use std::io::Read;
+use xdp_load::{LoadFault, Setup, load};
 
 /// A text that is printed, and the exit status.
 #[derive(Drop)]
@@ -26,6 +32,16 @@ fn words_refused(alloc: Global) -> Result<Answer, AllocError>
     Ok(Answer { text, status: 2 })
 }
 
+/// The status of a program that is accepted, or refused.
+fn program_status<T>(outcome: &Result<T, Refusal>) -> u8
+    ensures { result ≡ program_status outcome.now }
+{
+    match outcome {
+        Ok(_) => 0,
+        Err(_) => 1,
+    }
+}
+
 /// The answer of a run or a refusal.
 fn executed_answer(
     alloc: Global,
@@ -34,11 +50,10 @@ fn executed_answer(
     ensures { IfOk result (λ a. said_of a ≡ executed_answer executed.now) }
 {
     let text = executed_text(alloc, executed)?;
-    let status = match executed {
-        Ok(_) => 0,
-        Err(_) => 1,
-    };
-    Ok(Answer { text, status })
+    Ok(Answer {
+        text,
+        status: program_status(executed),
+    })
 }
 
 /// The bytes of a hex word, none where it is refused.
@@ -77,12 +92,66 @@ fn exec_answer(alloc: Global, program: &str, packet: &str) -> Result<Answer, All
     run_answer(alloc, program.as_slice(), packet.as_slice())
 }
 
+/// The answer of a check.
+fn checked_answer(alloc: Global, checked: &Result<Accepted, Refusal>) -> Result<Answer, AllocError>
+    ensures { IfOk result (λ a. said_of a ≡ checked_answer checked.now) }
+{
+    let text = checked_text(alloc, checked)?;
+    Ok(Answer {
+        text,
+        status: program_status(checked),
+    })
+}
+
+/// The answer to settings that are refused.
+fn settings_refused(alloc: Global, fault: LoadFault) -> Result<Answer, AllocError>
+    ensures { IfOk result (λ a. said_of a ≡ settings_refused fault) }
+{
+    let text = settings_text(alloc, fault)?;
+    Ok(Answer { text, status: 2 })
+}
+
+/// The answer to a setup.
+fn setup_answer(alloc: Global, setup: &Setup) -> Result<Answer, AllocError>
+    requires { length setup.now.shapes.items ≤ 4 }
+    ensures { IfOk result (λ a. SetupAnswer (setup_view setup.now) (said_of a)) }
+{
+    let checked = check(alloc, setup.program.as_slice(), setup.shapes.as_slice());
+    checked_answer(alloc, &checked)
+}
+
+/// The answer of `check`.
+fn check_answer(alloc: Global, settings: &[u8]) -> Result<Answer, AllocError>
+    ensures { IfOk result (λ a. CheckAnswer settings.now (said_of a)) }
+{
+    match load(alloc, settings) {
+        Ok(setup) => setup_answer(alloc, &setup),
+        Err(fault) => settings_refused(alloc, fault),
+    }
+}
+
+/// The answer to the settings that the input gives.
+fn input_answer<R: Read>(alloc: Global, input: &mut R) -> Result<Answer, Stop>
+    ensures answer { IfOk result (λ a. IsAnswer (Some check) (R.remaining input.old) (R.remaining input.new) (said_of a)) }
+    ensures takes { TakesAtMost 1048577 (R.remaining input.old) (R.remaining input.new) }
+{
+    let settings = read_settings(alloc, input)?;
+    Ok(check_answer(alloc, settings.as_slice())?)
+}
+
 /// The answer to what the words ask for, if they ask for anything.
-pub fn answer_to(alloc: Global, request: Option<Request<'_>>) -> Result<Answer, AllocError>
-    ensures { IfOk result (λ a. IsAnswer (option_map wanted_of request.entry) (said_of a)) }
+pub fn answer_to<R: Read>(
+    alloc: Global,
+    request: Option<Request<'_>>,
+    input: &mut R,
+) -> Result<Answer, Stop>
+    ensures answer { IfOk result (λ a. IsAnswer (option_map wanted_of request.entry) (R.remaining input.old) (R.remaining input.new) (said_of a)) }
+    ensures takes { Takes (option_map wanted_of request.entry) (R.remaining input.old) (R.remaining input.new) }
+    ensures reads { IfErr result (λ e. e ≡ Stop.Read → Reads (option_map wanted_of request.entry)) }
 {
     match request {
-        None => words_refused(alloc),
-        Some(Request::Exec { program, packet }) => exec_answer(alloc, program, packet),
+        None => Ok(words_refused(alloc)?),
+        Some(Request::Exec { program, packet }) => Ok(exec_answer(alloc, program, packet)?),
+        Some(Request::Check) => input_answer(alloc, input),
     }
 }

@@ -22,5 +22,8 @@ pub fn program_command<'a>(alloc: Global) -> Result<Command<'a>, AllocError>
     ensures { IfOk result (λ c. app_of c ≡ program_app) }
 {
     let exec = exec_command(alloc)?;
-    Command::new(alloc, "xdpbox").subcommand(exec)
+    let check = Command::new(alloc, "check");
+    Command::new(alloc, "xdpbox")
+        .subcommand(exec)?
+        .subcommand(check)
 }

@@ -1,13 +1,15 @@
-//! `xdpbox`: runs a BPF program on a packet, and prints how it ended.
+//! `xdpbox`: checks a BPF program, or runs it on a packet, and prints how that ended.
 #![tactic(auto)]
 
 mod answer;
 mod command_line;
 mod executing;
+mod input;
 mod lines;
 mod output;
 mod program;
 mod request;
+mod stop;
 
 use crate::program::{print_memory, run_words};
 use std::process::ExitCode;

@@ -6,8 +6,8 @@ ghost use Rattle.xdpbox.specs.Answer.{Prints};
 
 use std::io::Write;
 
-/// The exit status where a write failed.
-const WRITE_FAILED: u8 = 4;
+/// The exit status where a read or a write failed.
+pub const FAILED: u8 = 4;
 
 /// Writes all the bytes, and says whether each write took some. A write that is interrupted has failed.
 fn put<W: Write>(output: &mut W, bytes: &[u8]) -> bool
@@ -32,6 +32,6 @@ pub fn say<W: Write>(output: &mut W, text: &str, status: u8) -> u8
     if put(output, text.as_bytes()) {
         status
     } else {
-        WRITE_FAILED
+        FAILED
     }
 }

@@ -1,23 +1,29 @@
 //! A call of the program.
-ghost use Rattle.std.specs.Prelude.{IfOk, codes, map};
-ghost use Rattle.std.specs.Io.KnownBytes.{Keeps};
+ghost use Rattle.std.specs.Prelude.{◌≡◌, IfOk, IfErr, map};
 ghost use Rattle.xdpbox.specs.Words.{wanted_of_words};
-ghost use Rattle.xdpbox.specs.Answer.{Ends, IsAnswer, Prints, memory_wanted};
+ghost use Rattle.xdpbox.specs.Answer.{Ends, IsAnswer, Prints, Reads, Takes, memory_wanted};
 ghost use Rattle.xdpbox.specs.Seen.{said_of};
 
 use crate::answer::{Answer, answer_to};
-use crate::output::say;
+use crate::output::{FAILED, say};
 use crate::request::read_words;
-use std::alloc::{AllocError, Global};
+use crate::stop::Stop;
+use std::alloc::Global;
 use std::convert::AsStr;
 use std::io::{Read, Write};
 
 /// The answer to the words.
-fn answer_words<S: AsStr>(alloc: Global, words: &[S]) -> Result<Answer, AllocError>
-    ensures { IfOk result (λ a. IsAnswer (wanted_of_words (map S.text words.entry.now)) (said_of a)) }
+fn answer_words<S: AsStr, R: Read>(
+    alloc: Global,
+    words: &[S],
+    input: &mut R,
+) -> Result<Answer, Stop>
+    ensures answer { IfOk result (λ a. IsAnswer (wanted_of_words (map S.text words.entry.now)) (R.remaining input.old) (R.remaining input.new) (said_of a)) }
+    ensures takes { Takes (wanted_of_words (map S.text words.entry.now)) (R.remaining input.old) (R.remaining input.new) }
+    ensures reads { IfErr result (λ e. e ≡ Stop.Read → Reads (wanted_of_words (map S.text words.entry.now))) }
 {
     let request = read_words(alloc, words)?;
-    answer_to(alloc, request)
+    answer_to(alloc, request, input)
 }
 
 /// Says that memory ran out, and gives the status.
@@ -28,18 +34,19 @@ pub fn print_memory<W: Write>(output: &mut W) -> u8
 }
 
 /// Does what the words ask for, the first of them being the program's own name, and gives the exit status: 0 done,
-/// 1 the program is refused, 2 the words are, 3 memory ran out, 4 a write failed. No command reads the input so far.
+/// 1 the program is refused, 2 the words or the settings are, 3 memory ran out, 4 a read or a write failed.
 pub fn run_words<S: AsStr, R: Read, W: Write>(
     alloc: Global,
     words: &[S],
-    _input: &mut R,
+    input: &mut R,
     output: &mut W,
 ) -> u8
-    ensures answered { Ends (wanted_of_words (map S.text words.entry.now)) (W.contents output.old) (W.contents output.new) result }
-    ensures unread { Keeps (R.remaining _input.old) (R.remaining _input.new) }
+    ensures answered { Ends (wanted_of_words (map S.text words.entry.now)) (R.remaining input.old) (R.remaining input.new) (W.contents output.old) (W.contents output.new) result }
+    ensures takes { Takes (wanted_of_words (map S.text words.entry.now)) (R.remaining input.old) (R.remaining input.new) }
 {
-    match answer_words(alloc, words) {
+    match answer_words(alloc, words, input) {
         Ok(answer) => say(output, answer.text.as_str(), answer.status),
-        Err(_) => print_memory(output),
+        Err(Stop::Memory) => print_memory(output),
+        Err(Stop::Read) => FAILED,
     }
 }

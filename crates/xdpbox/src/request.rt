@@ -15,6 +15,8 @@ use std::convert::AsStr;
 pub enum Request<'a> {
     /// A run of a program on a packet, both in hex.
     Exec { program: &'a str, packet: &'a str },
+    /// Whether the program of the settings is accepted.
+    Check,
 }
 
 /// The word of a positional.
@@ -40,6 +42,9 @@ fn request_in<'a>(matches: &ArgMatches<'a>) -> Option<Request<'a>>
     let (name, inner) = matches.subcommand()?;
     if name == "exec" {
         return exec_in(inner);
+    }
+    if name == "check" {
+        return Some(Request::Check);
     }
     None
 }

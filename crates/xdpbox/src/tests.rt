@@ -1,3 +1,6 @@
+mod check;
+mod examples;
 mod exec;
 mod failing;
+mod readers;
 mod words;

@@ -3,29 +3,34 @@ use std::test::Fail;
 
 const REFUSED: &[u8] = b"words refused\n";
 
+/// Words that are refused, with commas between them.
+const ROWS: [&str; 21] = [
+    "xdpbox",
+    "xdpbox,exec",
+    "xdpbox,exec,9500000000000000",
+    "xdpbox,exec,9500000000000000,00,00",
+    "xdpbox,9500000000000000,00",
+    "xdpbox,run,9500000000000000,00",
+    "xdpbox,check,-",
+    "xdpbox,check,--help",
+    "xdpbox,check,settings.toml",
+    "xdpbox,help",
+    "xdpbox,help,exec",
+    "xdpbox,--help",
+    "xdpbox,-h",
+    "xdpbox,exec,--help",
+    "xdpbox,exec,9500000000000000,-h",
+    "xdpbox,exec,9500000000000000,--loud",
+    "xdpbox,exec,b7,0",
+    "xdpbox,exec,b,00",
+    "xdpbox,exec,zz,00",
+    "xdpbox,exec,0x9500000000000000,00",
+    "xdpbox,exec,9500000000000000,00 01",
+];
+
 #[test]
 fn refuses_words(rt: HostRuntime) -> Result<(), Fail> {
-    let rows = [
-        "xdpbox",
-        "xdpbox,exec",
-        "xdpbox,exec,9500000000000000",
-        "xdpbox,exec,9500000000000000,00,00",
-        "xdpbox,9500000000000000,00",
-        "xdpbox,run,9500000000000000,00",
-        "xdpbox,help",
-        "xdpbox,help,exec",
-        "xdpbox,--help",
-        "xdpbox,-h",
-        "xdpbox,exec,--help",
-        "xdpbox,exec,9500000000000000,-h",
-        "xdpbox,exec,9500000000000000,--loud",
-        "xdpbox,exec,b7,0",
-        "xdpbox,exec,b,00",
-        "xdpbox,exec,zz,00",
-        "xdpbox,exec,0x9500000000000000,00",
-        "xdpbox,exec,9500000000000000,00 01",
-    ];
-    for row in rows {
+    for row in ROWS {
         let words: Vec<&str> = row.split(',').collect(rt.alloc())?;
         let mut output = Vec::new(rt.alloc());
         let status = run_words(

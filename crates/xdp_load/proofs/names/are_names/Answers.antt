@@ -1,0 +1,10 @@
+use Rattle.std.proofs.Common.{◌≡◌, ◌∙◌, false, drop, map, sym}
+use Rattle.xdp_load.proofs.RowLemmas.{rest_is, names_more}
+use Rattle.xdp_load.specs.Limits.{is_bad_first}
+use Rattle.xdp_load.proofs.names.are_names.Goals as goal
+
+pub loop-i-preserved : goal.loop-i-preserved
+loop-i-preserved c =
+    let more = names_more (λ m. m.name.now) c.args.rows.now c.loop-i.i c.loop-i-test.true in
+    let free : is_bad_first (map (λ m. m.name.now) (drop c.loop-i.i c.args.rows.now)) ≡ false = sym (rw (rest_is c.args.rows.now c.loop-i.i) at c.is_bad_first.ensures) ∙ c.if-is_bad_first.false in
+    sym (rw free at more) ∙ c.loop-i.invariant

@@ -1,0 +1,15 @@
+-- The number after the L.
+use Rattle.std.specs.Prelude.{ℕ}
+use Rattle.xdp_load.specs.declared.fault.Fault.TheVariants.{Text, Syntax, Key, Limit, Name, Hex, Relocation}
+use Rattle.xdp_load.specs.declared.fault.LoadFault.{LoadFault}
+use Rattle.xdp_load.specs.declared.fault.LoadFault.TheVariants.{Memory, Refused}
+
+abbrev pub fault_number : LoadFault → ℕ
+fault_number Memory = 0
+fault_number (Refused Text) = 1
+fault_number (Refused Syntax) = 2
+fault_number (Refused Key) = 3
+fault_number (Refused Limit) = 4
+fault_number (Refused Name) = 5
+fault_number (Refused Hex) = 6
+fault_number (Refused Relocation) = 7

@@ -1,0 +1,10 @@
+pub mod Document
+pub mod FaultNumber
+pub mod Gives
+pub mod Limits
+pub mod LimitsSeen
+pub mod Seen
+pub mod Setup
+pub mod SetupSeen
+pub mod Sound
+pub mod Written

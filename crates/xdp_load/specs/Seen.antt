@@ -1,0 +1,39 @@
+-- What the rows of the code stand for.
+use Rattle.std.specs.Prelude.{map}
+use Rattle.xdp_load.specs.declared.kinds.MapRow.{MapRow}
+use Rattle.xdp_load.specs.declared.kinds.RelocRow.{RelocRow}
+use Rattle.xdp_load.specs.declared.kinds.PacketRow.{PacketRow}
+use Rattle.xdp_load.specs.declared.kinds.StepRow.{StepRow}
+use Rattle.xdp_load.specs.declared.kinds.HexRow.{HexRow}
+use Rattle.xdp_load.specs.declared.document.Numbers.{Numbers}
+use Rattle.xdp_load.specs.declared.document.Written.{Written}
+use Rattle.xdp_load.specs.Document.{MapText, RelocText, PacketText, StepText, Text}
+use Rattle.xdp_load.specs.Written.{NumberTexts, WrittenText}
+
+abbrev pub map_seen : MapRow → MapText
+map_seen m = record { name = m.name.now; entries = m.entries; counters = m.counters }
+
+abbrev pub reloc_seen : RelocRow → RelocText
+reloc_seen r = record { slot = r.slot; map = r.map.now }
+
+abbrev pub packet_seen : PacketRow → PacketText
+packet_seen p = record { queue = p.queue; bytes = p.bytes.now; times = p.times }
+
+abbrev pub step_seen : StepRow → StepText
+step_seen s = record { queue = s.queue; answer = s.answer }
+
+abbrev pub hex_seen : HexRow → Text
+hex_seen h = h.text.now
+
+abbrev pub numbers_seen : Numbers → NumberTexts
+numbers_seen n = record { queues = n.queues; ifindex = n.ifindex; start = n.start }
+
+abbrev pub written_seen : Written → WrittenText
+written_seen w = record {
+  program = map hex_seen w.program.items;
+  numbers = numbers_seen w.numbers;
+  maps = map map_seen w.maps.items;
+  relocs = map reloc_seen w.relocs.items;
+  script = map step_seen w.script.items;
+  packets = map packet_seen w.packets.items;
+}

@@ -1,0 +1,40 @@
+//! The names of the maps.
+ghost use Rattle.std.specs.Prelude.{◌≡◌, map};
+ghost use Rattle.std.specs.List.{list_any};
+ghost use Rattle.std.specs.Str.{bytes_eq};
+ghost use Rattle.xdp_load.specs.Limits.{are_names, is_bad_first};
+
+use crate::kinds::MapRow;
+
+/// Whether a map has the name.
+fn is_repeated(name: &str, rows: &[MapRow<'_>]) -> bool
+    ensures { result ≡ list_any (bytes_eq name.now) (map (λ m. m.name.now) rows.now) }
+{
+    rows.iter().any(|row| name == row.name)
+}
+
+/// Whether the first map's name is no right one, or is given again.
+fn is_bad_first(rows: &[MapRow<'_>]) -> bool
+    ensures { result ≡ is_bad_first (map (λ m. m.name.now) rows.now) }
+{
+    match rows.split_first() {
+        Some((first, rest)) => {
+            let name = first.name;
+            name.is_empty() || name.len() > 32 || is_repeated(name, rest)
+        }
+        None => false,
+    }
+}
+
+/// Whether the names are of a right length, and each differs from those after it.
+#[tactic(auto, using(crate::proofs::RowLemmas::names_more))]
+pub fn are_names(rows: &[MapRow<'_>]) -> bool
+    ensures { result ≡ are_names (map (λ m. m.name.now) rows.now) }
+{
+    for i in 0..rows.len() {
+        if is_bad_first(&rows[i..]) {
+            return false;
+        }
+    }
+    true
+}

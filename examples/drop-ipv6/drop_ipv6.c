@@ -1,0 +1,32 @@
+/* Drops IPv6 and passes all else. */
+struct xdp_md {
+	unsigned int data;
+	unsigned int data_end;
+	unsigned int data_meta;
+	unsigned int ingress_ifindex;
+	unsigned int rx_queue_index;
+};
+
+enum xdp_action { XDP_ABORTED, XDP_DROP, XDP_PASS, XDP_TX };
+
+struct ethhdr {
+	unsigned char h_dest[6];
+	unsigned char h_source[6];
+	unsigned short h_proto;
+};
+
+#define ETH_P_IPV6 0x86dd
+
+__attribute__((section("xdp"), used))
+int drop_ipv6(struct xdp_md *ctx)
+{
+	void *data = (void *)(long)ctx->data;
+	void *data_end = (void *)(long)ctx->data_end;
+	struct ethhdr *eth = data;
+
+	if ((void *)(eth + 1) > data_end)
+		return XDP_DROP;
+	if (eth->h_proto == __builtin_bswap16(ETH_P_IPV6))
+		return XDP_DROP;
+	return XDP_PASS;
+}
