@@ -11,3 +11,5 @@ mod CodeLemmas
 mod FlowLemmas
 mod ListLemmas
 mod ArriveLemmas
+mod UnsetLemmas
+mod UnwrittenLemmas
