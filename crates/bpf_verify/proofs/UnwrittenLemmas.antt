@@ -31,10 +31,11 @@ use Rattle.bpf_verify.proofs.LawLemmas.{takes_within}
 use Rattle.bpf_verify.proofs.RankLemmas.{numbered}
 use Rattle.bpf_verify.proofs.UnsetLemmas.{Rises, Traced, rule_there, all_traced, unset_read}
 
--- a note of which something is asked or nothing
+-- register k is Unset in the note
 abbrev HasUnset : ℕ → Facts → Type 0
 HasUnset k n = is_unset (n.reg k) ≡ true
 
+-- any note
 abbrev IsThere : Facts → Type 0
 IsThere n = Unit {0}
 
