@@ -10,7 +10,6 @@ use Rattle.bpf_insn.specs.ByteOrder.{swapped}
 use Rattle.bpf_insn.specs.Extension.{moved_extended}
 use Rattle.bpf_insn.specs.declared.insn.Insn.{Insn}
 use Rattle.bpf_insn.specs.declared.insn.Insn.TheVariants.{Alu, Neg, End, MovSx, Const, MapRef, Ldx, St, Stx, AddCounter, Ja, Jump, Call, Exit, Second}
-use Rattle.bpf_insn.specs.declared.alu_op.AluOp.{AluOp}
 use Rattle.bpf_insn.specs.declared.condition.Condition.{Condition}
 use Rattle.bpf_insn.specs.declared.condition.Condition.TheVariants.{Equal, Greater, GreaterOrEqual, NotEqual, Less, LessOrEqual}
 use Rattle.bpf_insn.specs.declared.operand.Operand.{Operand}
@@ -87,9 +86,9 @@ computed_kept : (n : Facts) (made dst : ℕ) (c : Computed) → KeepsSet n → K
 computed_kept n made dst (Plain v) kept = kept
 computed_kept n made dst (Fresh top) kept = λ j. mapped_kept (forgotten made) (n.kept j) (forgotten_unset made) (kept j)
 
-alu_behind : (op : AluOp) (wide : Bool) (dst : ℕ) (pc k : ℕ) (n : Facts) (c : Computed) (es : Edges) (i : Insn) → IsSetResult c →
+computed_behind : (dst pc k : ℕ) (n : Facts) (c : Computed) (es : Edges) (i : Insn) → IsSetResult c →
     Leads i pc (pc + 1) → ((q : ℕ) → Leads i pc q → q ≡ pc + 1) → (is_unset (n.reg k) && not (k == dst)) ≡ unset_behind i k (is_unset (n.reg k)) → sets_computed n pc dst c ≡ Ok es → IsBehind i pc k n es
-alu_behind op wide dst pc k n c es i s l only u h =
+computed_behind dst pc k n c es i s l only u h =
     one_behind i pc k (pc + 1) n (with_computed n pc dst c) es l only (λ g. computed_unset n pc dst k c s ∙ u) (computed_kept n pc dst c) (unless_ok (is_frame dst) cause.FramePointer _ es h).1
 
 sets_behind : (i : Insn) (pc k to dst : ℕ) (n : Facts) (v : Val) (es : Edges) → Leads i pc to → ((q : ℕ) → Leads i pc q → q ≡ to) → (is_unset (n.reg k) && not (k == dst)) ≡ unset_behind i k (is_unset (n.reg k)) → is_unset v ≡ false → sets n to dst v ≡ Ok es → IsBehind i pc k n es
@@ -260,7 +259,7 @@ after_behind (Alu op wide dst src) pc k n shapes es h =
     let e = unless_ok _ cause.Unset _ es h in
     let set = neither (is_unset (operand_value n src)) (is_first_unset op (n.reg (number dst))) e.0 in
     let c = result_of n op wide (n.reg (number dst)) (operand_value n src) in
-    alu_behind op wide (number dst) pc k n c es (Alu op wide dst src) (result_set n op wide (n.reg (number dst)) (operand_value n src) set.0) refl (λ q l. l) refl e.1
+    computed_behind (number dst) pc k n c es (Alu op wide dst src) (result_set n op wide (n.reg (number dst)) (operand_value n src) set.0) refl (λ q l. l) refl e.1
 after_behind (Neg wide dst) pc k n shapes es h =
     let v = negated_value wide (n.reg (number dst)) in
     sets_behind (Neg wide dst) pc k (pc + 1) (number dst) n v es refl (λ q l. l) refl

@@ -6,7 +6,7 @@ use Rattle.bpf_note.specs.Facts.{Facts, is_unset}
 use Rattle.bpf_flow.specs.Graph.{reads}
 use Rattle.bpf_flow.specs.After.{is_lookup}
 
--- a call is one of the helper that programs may call
+-- no call, or one of the helper that programs may call
 abbrev pub IsKnownCall : Insn → Type 0
 IsKnownCall (Call helper) = is_lookup helper ≡ true
 IsKnownCall i = Unit {0}

@@ -19,3 +19,5 @@ mod ArriveLemmas
 mod ShapeLemmas
 mod AcceptedLemmas
 mod RefusalLemmas
+mod UnsetLemmas
+mod UnwrittenLemmas

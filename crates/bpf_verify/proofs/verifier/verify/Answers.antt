@@ -9,6 +9,7 @@ use Rattle.bpf_verify.specs.FirstRefusal.{IsRefusal, IsFaultless, IsStructured, 
 use Rattle.bpf_verify.specs.Tables.{facts_at}
 use Rattle.bpf_verify.proofs.RefusalLemmas.{halted_refusal}
 use Rattle.bpf_verify.proofs.AcceptedLemmas.{consistent}
+use Rattle.bpf_verify.proofs.UnwrittenLemmas.{stopped_unset, passed_written}
 use Rattle.bpf_verify.proofs.verifier.verify.Goals as goal
 
 pub returns-in_err-notes-clause-refused : goal.returns-in_err-notes-clause-refused
@@ -19,7 +20,7 @@ returns-in_err-notes-clause-refused c =
     let p = err_from_is_err_and c.from_residual.result c.from_residual.ensures.1 in
     let structured = subst (λ (code : List Insn). IsStructured code (length shapes)) same c.in_default.ensures.none in
     let halted = subst (λ (code : List Insn). IsHalted code shapes r.pc r.cause) same c.in_err-notes.ensures.halted in
-    rw (p.1, p.2) (halted_refusal c.args.code shapes r.pc c.insns-insns.ensures.code structured r.cause (?) halted)
+    rw (p.1, p.2) (halted_refusal c.args.code shapes r.pc c.insns-insns.ensures.code structured r.cause (stopped_unset c.args.code shapes (length shapes) r.pc c.insns-insns.ensures.code structured) halted)
 
 pub of-requires : goal.of-requires
 of-requires c =
@@ -38,4 +39,5 @@ returns-in-Ok-clause-faultless c =
     let shapes = c.args.shapes.now in
     let structured = subst (λ (code : List Insn). IsStructured code (length shapes)) same c.in_default.ensures.none in
     let passed = subst (λ (code : List Insn). IsPassed code shapes (facts_at c.in_ok-notes.notes.items)) same c.in_ok-notes.ensures.passed in
-    record { structured = structured; notes = facts_at c.in_ok-notes.notes.items; passed = passed; written = ? }
+    record { structured = structured; notes = facts_at c.in_ok-notes.notes.items; passed = passed;
+      written = passed_written c.args.code shapes (length shapes) (facts_at c.in_ok-notes.notes.items) c.insns-insns.ensures.code structured passed }
