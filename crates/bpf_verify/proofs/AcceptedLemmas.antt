@@ -1,5 +1,5 @@
 -- A program that both passes let through is consistent.
-use Rattle.std.proofs.Common.{◌≡◌, ◌⊎◌, inl, inr, ◌<◌, ◌≤◌, ◌+◌, ◌^◌, ℕ, zero, suc, List, [], ◌∷◌, ◌++◌, Option, Some, None, length, map, refl, sym, ap, ◌∙◌, arith, subst, Bool, true, false}
+use Rattle.std.proofs.Common.{◌≡◌, ◌⊎◌, inl, inr, ◌<◌, ◌≤◌, ℕ, zero, suc, List, [], ◌∷◌, Option, Some, length, map, refl, sym, ap, ◌∙◌, arith, subst, Bool, true, false}
 use Rattle.std.specs.Prelude.{Contains, slice_get, slice_index_or, unwrap_or, ◌==◌, if◌then◌else◌, Ok}
 use Rattle.std.proofs.lemmas.Bool.Decides.{nat_tests}
 use Rattle.std.proofs.lemmas.List.{length-append, length-map}
@@ -21,11 +21,11 @@ use Rattle.bpf_flow.specs.Sound.{Covers, Accounts, HasWords}
 use Rattle.bpf_flow.proofs.LeadLemmas.{Speaks}
 use Rattle.bpf_flow.proofs.SoundLemmas.{after_sound}
 use Rattle.bpf_verify.specs.Consistent.{Accepted, OneDescribes, IsDescribed, GoesOn, IsConsistent, IsOrdered}
-use Rattle.bpf_verify.specs.Edges.{Edge, Flows}
+use Rattle.bpf_verify.specs.Edges.{Flows}
 use Rattle.bpf_verify.specs.Structure.{begins}
 use Rattle.bpf_verify.specs.Paths as paths
 use Rattle.bpf_verify.specs.FirstRefusal.{IsStructured, IsPassed}
-use Rattle.bpf_verify.specs.Gathered.{Arrives, dropped, appended, merged, Hears, Gathers, told, rule_by, rule_at, first_notes, AreNotes, AreAllowed}
+use Rattle.bpf_verify.specs.Gathered.{Arrives, dropped, appended, merged, Hears, Gathers, told, rule_by, rule_at, first_notes}
 use Rattle.bpf_verify.specs.Tables.{facts_at}
 use Rattle.bpf_verify.proofs.ArriveLemmas.{OneHas, EachHas, Brings, BringsOnly, one_found, each_at, told_brings, gathering_kept, gathering_stands, gathering_each, allowed_at}
 use Rattle.bpf_verify.proofs.CodeLemmas.{spelled_at}
@@ -120,10 +120,10 @@ module _ (code : List Insn) (shapes : List Shape) (lists : List (List Noted))
   reached : (q : ℕ) (n : Facts) → Contains (facts_at lists q) n → Flows code 0 q
   reached q n at =
       each_at (λ n. Flows code 0 q) (facts_at lists q)
-          (gathering_each (λ n. Flows code 0 q) (λ a b h g. h) code shapes (facts_at lists) q passed.order (first_notes q) (facts_at lists q) (passed.are_notes q) (first_flows code q (q == 0) refl)
-              (λ p there. only_speaks (Flows code 0 q) q (told code shapes p (facts_at lists p))
-                  (λ s. one_more (takes_within passed.is_order.takes p there) (told_edge code shapes laid structured p q (facts_at lists p) s))))
-          n at
+      (gathering_each (λ n. Flows code 0 q) (λ a b h g. h) code shapes (facts_at lists) q passed.order (first_notes q) (facts_at lists q) (passed.are_notes q) (first_flows code q (q == 0) refl)
+      (λ p there. only_speaks (Flows code 0 q) q (told code shapes p (facts_at lists p))
+      (λ s. one_more (takes_within passed.is_order.takes p there) (told_edge code shapes laid structured p q (facts_at lists p) s))))
+      n at
 
   -- a state that an edge of a noted slot covers is described
   goes_to : (p : ℕ) (n : Facts) (es : Edges) (t : State) → Contains (facts_at lists p) n → rule_at code shapes p n ≡ Ok es → t.shapes ≡ shapes → Covers es t → IsDescribed program t
@@ -154,7 +154,7 @@ module _ (code : List Insn) (shapes : List Shape) (lists : List (List Noted))
       let ruled = ruled_at code (length shapes) s.pc i.0 structured i.1 b in
       let accounts = after_sound n.0 s n.2 i.0 rule.0 (has_words i.0 spelled) small (subst (λ (ms : List Shape). IsRuled i.0 s.pc (length ms)) (sym h.0) ruled) after in
       subst (λ (o : Option Insn). GoesOn program (need o (λ i. exec i s))) (sym i.1)
-          (goes_on s.pc n.0 rule.0 s (exec i.0 s) n.1 rule.1 h.0 (exec_keeps_maps i.0 s) accounts)
+      (goes_on s.pc n.0 rule.0 s (exec i.0 s) n.1 rule.1 h.0 (exec_keeps_maps i.0 s) accounts)
 
   starts_described : (s : State) → IsStart s → s.shapes ≡ shapes → IsDescribed program s
   starts_described s h same =

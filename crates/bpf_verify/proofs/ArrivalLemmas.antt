@@ -1,11 +1,11 @@
 -- A note that comes to a list.
-use Rattle.std.proofs.Common.{◌≡◌, ◌<◌, ◌≤◌, ℕ, suc, List, [], ◌∷◌, ◌++◌, Some, length, map, refl, sym, ap, ◌∙◌, arith, subst}
+use Rattle.std.proofs.Common.{◌≡◌, ◌<◌, List, [], ◌∷◌, ◌++◌, Some, length, map, sym, ap, ◌∙◌, arith, subst}
 use Rattle.std.specs.Prelude.{slice_get, slice_set, Contains}
 use Rattle.std.proofs.lemmas.List.{map-append, length-map}
 use Rattle.bpf_note.specs.Parts.{Noted, facts}
 use Rattle.bpf_note.specs.Facts.{Facts}
 use Rattle.bpf_note.specs.Join.{joined}
-use Rattle.bpf_verify.specs.Gathered.{Arrives, dropped, appended, merged}
+use Rattle.bpf_verify.specs.Gathered.{Arrives, appended, merged}
 use Rattle.bpf_verify.proofs.ListLemmas.{with_last}
 
 pub arrives_appended : (xs : List Noted) (n : Noted) → (Contains (map facts xs) (facts n) → ⊥) → length xs < 8 → Arrives (map facts xs) (facts n) (map facts (xs ++ n ∷ []))

@@ -1,6 +1,6 @@
 -- While the notes of one slot are taken along its edges.
-use Rattle.std.proofs.Common.{◌≡◌, ◌⊎◌, inl, inr, ◌<◌, ◌≤◌, ◌+◌, ℕ, zero, suc, List, [], ◌∷◌, ◌++◌, Option, Some, None, length, drop, map, refl, sym, ap, ◌∙◌, arith, subst, Bool, true, false}
-use Rattle.std.specs.Prelude.{slice_get, slice_index_or, Ok, Err, not, nat_le, IsSome}
+use Rattle.std.proofs.Common.{◌≡◌, inl, inr, ◌<◌, ◌≤◌, ◌+◌, ℕ, zero, suc, List, [], ◌∷◌, ◌++◌, Option, Some, None, length, drop, map, refl, sym, ap, ◌∙◌, arith, subst, true, false}
+use Rattle.std.specs.Prelude.{slice_get, slice_index_or, Ok, Err, IsSome}
 use Rattle.std.proofs.lemmas.Bool.Decides.{nat_tests}
 use Rattle.bpf_insn.specs.Code.{IsCode}
 use Rattle.bpf_insn.specs.declared.insn.Insn.{Insn}
@@ -17,7 +17,7 @@ use Rattle.bpf_flow.specs.Step.{target}
 use Rattle.bpf_flow.proofs.LeadLemmas.{Speaks}
 use Rattle.bpf_verify.specs.Edges.{Edge}
 use Rattle.bpf_verify.specs.Consistent.{IsOrdered}
-use Rattle.bpf_verify.specs.Structure.{begins, jump_of, misses_target, lacks_map}
+use Rattle.bpf_verify.specs.Structure.{begins, jump_of, misses_target}
 use Rattle.bpf_verify.specs.FirstRefusal.{IsFine, IsStructured}
 use Rattle.bpf_verify.specs.Gathered.{Hears, rule_by, rule_at, allowed, told, AreAllowed, IsFirstCause}
 use Rattle.bpf_flow.specs.Gives.{Fails}
@@ -73,9 +73,10 @@ module _ (code : List Insn) (shapes : List Shape) (pc i : ℕ) (old new : ℕ �
 pub followed : (code : List Insn) (shapes : List Shape) (pc i : ℕ) (old new : ℕ → List Facts) → IsFollowing code shapes pc i old new → length (old pc) ≤ i →
     ((q : ℕ) → Hears (old q) q (told code shapes pc (old pc)) (new q)) × AreAllowed code shapes pc (old pc)
 followed code shapes pc i old new f all =
-    let none = drop_all (old pc) i all in
-    (λ q. f.rest q (new q) (subst (λ (ns : List Facts). Hears (new q) q (told code shapes pc ns) (new q)) (sym none) refl),
-     f.allowed (subst (λ (ns : List Facts). AreAllowed code shapes pc ns) (sym none) tt))
+    let none = drop_all (old pc) i all in (
+      λ q. f.rest q (new q) (subst (λ (ns : List Facts). Hears (new q) q (told code shapes pc ns) (new q)) (sym none) refl),
+      f.allowed (subst (λ (ns : List Facts). AreAllowed code shapes pc ns) (sym none) tt),
+    )
 
 pub get_is : {A : Type 0} (xs : List A) (k : ℕ) (d : A) → k < length xs → slice_get xs k ≡ Some (slice_index_or xs k d)
 get_is [] k d h = absurd (omega arith)
@@ -193,7 +194,7 @@ pub stopped_at : (code : List Insn) (shapes : List Shape) (pc i : ℕ) (old new 
     slice_get code pc ≡ Some insn → Fails c (after_of insn pc n shapes) → IsMet c (IsFirstCause code shapes pc (old pc) c)
 stopped_at code shapes pc i old new n insn c f at here g =
     met_fails c (after_of insn pc n shapes) _ g (λ e.
-        following_stops code shapes pc i old new f n (subst (λ (ns : List Facts). slice_get ns i ≡ Some n) f.here at) c (rule_is code shapes pc insn n (Err c) here e))
+    following_stops code shapes pc i old new f n (subst (λ (ns : List Facts). slice_get ns i ≡ Some n) f.here at) c (rule_is code shapes pc insn n (Err c) here e))
 
 any_default : {A : Type 0} (xs : List A) (k : ℕ) (d e : A) → k < length xs → slice_index_or xs k d ≡ slice_index_or xs k e
 any_default [] k d e h = absurd (omega arith)

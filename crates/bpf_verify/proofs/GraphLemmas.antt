@@ -1,6 +1,6 @@
 -- What a structured program's edges are.
 use Rattle.std.proofs.Common.{◌≡◌, ◌<◌, inl, inr, ℕ, ℤ, List, Option, Some, None, length, refl, subst, arith, zero, suc, [], ◌∷◌, Bool, true, false}
-use Rattle.std.specs.Prelude.{slice_get, nat_lt, nat_le, not, if◌then◌else◌}
+use Rattle.std.specs.Prelude.{slice_get, nat_lt, not, if◌then◌else◌}
 use Rattle.std.proofs.lemmas.Bool.Decides.{nat_tests}
 use Rattle.bpf_insn.specs.declared.insn.Insn.{Insn}
 use Rattle.bpf_insn.specs.declared.insn.Insn.TheVariants.{Alu, Neg, End, MovSx, Const, MapRef, Ldx, St, Stx, AddCounter, Ja, Jump, Call, Exit, Second}
@@ -8,7 +8,6 @@ use Rattle.bpf_flow.specs.Step.{target}
 use Rattle.bpf_flow.specs.Graph.{Leads, next_slot}
 use Rattle.bpf_verify.specs.Structure.{misses_target, runs_off, lands, begins, jump_of, falls_through}
 use Rattle.bpf_verify.specs.Consistent.{worth}
-use Rattle.bpf_verify.specs.FirstRefusal.{IsFine, IsStructured}
 
 pub some_inside : {A : Type 0} (xs : List A) (k : ℕ) (x : A) → slice_get xs k ≡ Some x → k < length xs
 some_inside [] k x e = cc

@@ -1,5 +1,5 @@
 -- What lists hold.
-use Rattle.std.proofs.Common.{◌≡◌, ◌<◌, ◌+◌, ℕ, zero, suc, List, [], ◌∷◌, ◌++◌, Option, Some, None, length, map, refl, sym, ap, ◌∙◌, arith, subst}
+use Rattle.std.proofs.Common.{◌≡◌, ◌<◌, ℕ, zero, suc, List, [], ◌∷◌, ◌++◌, Some, length, map, refl, ap, ◌∙◌, arith}
 use Rattle.std.specs.Prelude.{slice_get, slice_set, Contains}
 
 -- an item is there, at its place
@@ -12,7 +12,6 @@ pub stands_there : {A B : Type 0} (f : A → B) (xs : List A) (y : B) (k : ℕ) 
 stands_there f [] y k x e h = absurd (cc)
 stands_there f (z ∷ xs) y zero x e h = let same : z ≡ x = cc in (0, omega arith, ap f same ∙ h)
 stands_there f (z ∷ xs) y (suc k) x e h = let r = stands_there f xs y k x e h in (suc r.0, (let l = r.1 in omega (arith, l)), r.2)
-
 
 -- none of the items is y
 pub not_there : {A B : Type 0} (f : A → B) (xs : List A) (y : B) → ((k : ℕ) → k < length xs → (x : A) → slice_get xs k ≡ Some x → f x ≡ y → ⊥) → Contains (map f xs) y → ⊥

@@ -1,5 +1,5 @@
 -- While the slots of an order are taken.
-use Rattle.std.proofs.Common.{◌≡◌, ◌⊎◌, inl, inr, ◌<◌, ◌≤◌, ◌+◌, ℕ, zero, suc, List, [], ◌∷◌, ◌++◌, Some, length, take, drop, get_or, refl, sym, ap, ◌∙◌, arith, subst, true}
+use Rattle.std.proofs.Common.{◌≡◌, inl, inr, ◌<◌, ◌≤◌, ◌+◌, ℕ, zero, suc, List, [], ◌∷◌, ◌++◌, length, take, drop, get_or, sym, ap, ◌∙◌, arith, subst, true}
 use Rattle.std.specs.Prelude.{Contains, slice_get}
 use Rattle.std.proofs.lemmas.Bool.{cases_lt}
 use Rattle.std.proofs.lemmas.List.{get_or_append_left, take-append-le, take_all, take_more}
@@ -22,7 +22,6 @@ use Rattle.bpf_verify.specs.Gathered.{Hears, told, first_notes, AreNotes, AreAll
 use Rattle.bpf_verify.proofs.GatherLemmas.{hears_quiet, notes_more}
 use Rattle.bpf_verify.proofs.ToldLemmas.{told_edge}
 use Rattle.bpf_verify.proofs.RankLemmas.{taken_preds, last_length}
-use Rattle.bpf_verify.proofs.LawLemmas.{takes_within, get_or_same}
 use Rattle.bpf_verify.proofs.CodeLemmas.{first_begins}
 use Rattle.bpf_verify.specs.Paths as paths
 

@@ -1,6 +1,6 @@
 -- The refusals are the program's.
-use Rattle.std.proofs.Common.{◌≡◌, ◌⊎◌, inl, inr, ◌<◌, ◌+◌, ℕ, suc, List, [], ◌∷◌, ◌++◌, Option, Some, None, length, arith, refl, subst, sym, true}
-use Rattle.std.specs.Prelude.{slice_get, Contains, Ok, Err}
+use Rattle.std.proofs.Common.{◌≡◌, inl, inr, ℕ, suc, List, [], ◌∷◌, ◌++◌, Option, Some, None, length, arith, refl, subst, sym, true}
+use Rattle.std.specs.Prelude.{slice_get, Contains, Err}
 use Rattle.bpf_insn.specs.Code.{IsCode}
 use Rattle.bpf_insn.specs.declared.insn.Insn.{Insn}
 use Rattle.bpf_insn.specs.declared.refusal.Cause.{Cause}
@@ -8,7 +8,6 @@ use Rattle.bpf_insn.specs.declared.refusal.Cause.TheVariants.{Memory, Length, Op
 use Rattle.bpf_note.specs.Shape.{Shape}
 use Rattle.bpf_note.specs.Facts.{Facts}
 use Rattle.bpf_flow.specs.Causes.{IsRuleCause}
-use Rattle.bpf_flow.specs.After.{after_of}
 use Rattle.bpf_flow.proofs.CauseLemmas.{rule_causes}
 use Rattle.bpf_verify.specs.Structure.{begins}
 use Rattle.bpf_verify.specs.FirstRefusal.{IsStructured, IsStructureRefusal, IsStopped, IsHalted, ReadsUnset, IsSecondRefusal, IsRefusal}

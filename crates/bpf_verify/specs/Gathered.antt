@@ -1,5 +1,5 @@
 -- What the second pass knows at each slot: lists of at most eight notes, as they arrive along the edges into it.
-use Rattle.std.specs.Prelude.{ℕ, ◌≡◌, ◌<◌, List, [], ◌∷◌, ◌++◌, length, Option, None, Some, ◌==◌, ◌⊎◌, slice_get, if◌then◌else◌, Contains, Result, Ok, Err}
+use Rattle.std.specs.Prelude.{ℕ, ◌≡◌, ◌<◌, List, [], ◌∷◌, ◌++◌, length, Option, None, Some, ◌==◌, ◌⊎◌, slice_get, if◌then◌else◌, Contains, Ok, Err}
 use Rattle.bpf_insn.specs.declared.insn.Insn.{Insn}
 use Rattle.bpf_insn.specs.declared.refusal.Cause.{Cause}
 use Rattle.bpf_note.specs.Shape.{Shape}

@@ -26,7 +26,11 @@ fn tell(alloc: Global, table: &mut Vec<NoteList>, successor: Successor) -> Resul
 }
 
 /// Brings notes to the slots that an instruction leads to.
-fn spread(alloc: Global, table: &mut Vec<NoteList>, successors: Successors) -> Result<(), AllocError>
+fn spread(
+    alloc: Global,
+    table: &mut Vec<NoteList>,
+    successors: Successors,
+) -> Result<(), AllocError>
     requires { LeadInside (edges_of successors) (vec_len table.old) }
     ensures size { OnOk result (vec_len table.new ≡ vec_len table.old) }
     ensures hears { OnOk result ((q : ℕ) → Hears (facts_at table.old.items q) q (edges_of successors) (facts_at table.new.items q)) }

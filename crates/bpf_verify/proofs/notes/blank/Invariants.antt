@@ -1,4 +1,4 @@
-use Rattle.std.proofs.Common.{◌≡◌, ◌≤◌, ℕ}
+use Rattle.std.proofs.Common.{◌≡◌, ℕ}
 use Rattle.std.specs.Prelude.{vec_len}
 use Rattle.bpf_verify.specs.Gathered.{first_notes}
 use Rattle.bpf_verify.specs.Tables.{facts_at}

@@ -1,4 +1,4 @@
-use Rattle.std.proofs.Common.{rules, ◌≡◌, ◌<◌, ◌≤◌, ◌∙◌, ℕ, List, length, sym, ap, subst, refl, arith}
+use Rattle.std.proofs.Common.{sym, subst, refl, arith}
 use Rattle.std.specs.Prelude.{slice_index_or}
 use Rattle.bpf_verify.specs.Edges.{IsPassOrder}
 use Rattle.bpf_verify.specs.Gathered.{IsFirstCause}
@@ -21,15 +21,16 @@ returns-in-Err-clause-halted c =
     let is = subst (IsPassOrder c.args.code.now) (sym c.deref-pc-items.ensures.value) c.in-Ok.ensures in
     let pc = slice_index_or c.deref-pc-items.result.now c.loop-pc.pc-index 0 in
     halted_by c.args.code.now c.args.shapes.now pc c.in-Err.cause (IsFirstCause c.args.code.now c.args.shapes.now pc (facts_at c.loop-pc.table.items pc) c.in-Err.cause) c.in-Err.ensures.err
-        (passing_stops c.args.code.now c.args.shapes.now c.deref-pc-items.result.now c.requires.laid c.requires.structured is c.loop-pc.pc-index pc (omega arith) refl (facts_at c.loop-pc.table.items) c.loop-pc.invariant.1 c.in-Err.cause)
+    (passing_stops c.args.code.now c.args.shapes.now c.deref-pc-items.result.now c.requires.laid c.requires.structured is c.loop-pc.pc-index pc (omega arith) refl (facts_at c.loop-pc.table.items) c.loop-pc.invariant.1 c.in-Err.cause)
 
 pub loop-pc-preserved : goal.loop-pc-preserved
 loop-pc-preserved c =
     let is = subst (IsPassOrder c.args.code.now) (sym c.deref-pc-items.ensures.value) c.in-Ok.ensures in
-    let pc = slice_index_or c.deref-pc-items.result.now c.loop-pc.pc-index 0 in
-    (c.in_default-follow.ensures.size,
-     passing_on c.args.code.now c.args.shapes.now c.deref-pc-items.result.now c.requires.laid c.requires.structured is c.loop-pc.pc-index pc (omega arith) refl (facts_at c.loop-pc.table.items) c.loop-pc.invariant.1
-         (facts_at c.follow.new.table.items) c.in_default-follow.ensures.hears c.in_default-follow.ensures.allowed)
+    let pc = slice_index_or c.deref-pc-items.result.now c.loop-pc.pc-index 0 in (
+      c.in_default-follow.ensures.size,
+      passing_on c.args.code.now c.args.shapes.now c.deref-pc-items.result.now c.requires.laid c.requires.structured is c.loop-pc.pc-index pc (omega arith) refl (facts_at c.loop-pc.table.items) c.loop-pc.invariant.1
+          (facts_at c.follow.new.table.items) c.in_default-follow.ensures.hears c.in_default-follow.ensures.allowed,
+    )
 
 pub returns-clause-passed : goal.returns-clause-passed
 returns-clause-passed c =

@@ -1,11 +1,9 @@
-use Rattle.std.proofs.Common.{◌≡◌, ℕ, List, length, sym, subst}
+use Rattle.std.proofs.Common.{◌≡◌, List, length, sym, subst}
 use Rattle.std.proofs.lemmas.Result.{err_from_is_err_and}
-use Rattle.bpf_insn.specs.Code.{IsCode}
 use Rattle.bpf_insn.specs.declared.insn.Insn.{Insn}
 use Rattle.bpf_note.specs.Shape.{Shape}
-use Rattle.bpf_note.specs.Facts.{Facts}
 use Rattle.bpf_verify.specs.Consistent.{IsConsistent, IsOrdered}
-use Rattle.bpf_verify.specs.FirstRefusal.{IsRefusal, IsFaultless, IsStructured, IsPassed, IsHalted}
+use Rattle.bpf_verify.specs.FirstRefusal.{IsStructured, IsPassed, IsHalted}
 use Rattle.bpf_verify.specs.Tables.{facts_at}
 use Rattle.bpf_verify.proofs.RefusalLemmas.{halted_refusal}
 use Rattle.bpf_verify.proofs.AcceptedLemmas.{consistent}
@@ -39,5 +37,9 @@ returns-in-Ok-clause-faultless c =
     let shapes = c.args.shapes.now in
     let structured = subst (λ (code : List Insn). IsStructured code (length shapes)) same c.in_default.ensures.none in
     let passed = subst (λ (code : List Insn). IsPassed code shapes (facts_at c.in_ok-notes.notes.items)) same c.in_ok-notes.ensures.passed in
-    record { structured = structured; notes = facts_at c.in_ok-notes.notes.items; passed = passed;
-      written = passed_written c.args.code shapes (length shapes) (facts_at c.in_ok-notes.notes.items) c.insns-insns.ensures.code structured passed }
+    record {
+      structured = structured;
+      notes = facts_at c.in_ok-notes.notes.items;
+      passed = passed;
+      written = passed_written c.args.code shapes (length shapes) (facts_at c.in_ok-notes.notes.items) c.insns-insns.ensures.code structured passed;
+    }

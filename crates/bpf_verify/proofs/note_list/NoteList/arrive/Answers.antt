@@ -1,4 +1,4 @@
-use Rattle.std.proofs.Common.{rules, ◌≡◌, ◌∙◌, ℕ, ◌<◌, ◌≤◌, ◌+◌, List, length, map, arith, Some, sym, ap, subst, refl}
+use Rattle.std.proofs.Common.{rules, ◌≡◌, ◌<◌, List, length, map, arith, Some, ap, subst, refl}
 use Rattle.std.specs.Prelude.{slice_get, slice_set, Contains}
 use Rattle.std.proofs.lemmas.Option.{slice_get_read}
 use Rattle.bpf_note.specs.Parts.{Noted, facts}
@@ -13,7 +13,7 @@ pub returns-then-len-lt-MOST_NOTES : goal.returns-then-len-lt-MOST_NOTES
 returns-then-len-lt-MOST_NOTES c =
     let room : length c.args.self.now < 8 = search rules in
     subst (λ (ys : List Noted). Arrives (map facts c.args.self.now) (facts c.args.note) (map facts ys)) (search rules)
-        (arrives_appended c.args.self.now c.args.note (λ h. let t = c.holds.ensures.1 h in cc (t, c.if-holds.false)) room)
+    (arrives_appended c.args.self.now c.args.note (λ h. let t = c.holds.ensures.1 h in cc (t, c.if-holds.false)) room)
 
 pub returns : goal.returns
 returns c =
@@ -23,6 +23,6 @@ returns c =
     let there : 7 < length c.self.inside.notes.items = omega (arith, full, ap length same) in
     let at : slice_get c.self.inside.notes.items 7 ≡ Some c.index.result.now = slice_get_read xs (length xs) 7 c.index.result.now refl there c.index.ensures in
     let new : Contains (map facts c.self.inside.notes.items) (facts c.args.note) → ⊥ =
-        λ h. let t = c.holds.ensures.1 (subst (λ (ys : List Noted). Contains (map facts ys) (facts c.args.note)) same h) in cc (t, c.if-holds.false) in
+    λ h. let t = c.holds.ensures.1 (subst (λ (ys : List Noted). Contains (map facts ys) (facts c.args.note)) same h) in cc (t, c.if-holds.false) in
     subst (λ (ys : List Noted). Arrives (map facts ys) (facts c.args.note) (map facts (slice_set c.self.inside.notes.items 7 c.in_ok-merged.merged))) same
-        (arrives_merged c.self.inside.notes.items c.args.note c.in_ok-merged.merged c.index.result.now new (omega (arith, full, ap length same)) at c.in_ok-merged.ensures.joined)
+    (arrives_merged c.self.inside.notes.items c.args.note c.in_ok-merged.merged c.index.result.now new (omega (arith, full, ap length same)) at c.in_ok-merged.ensures.joined)
