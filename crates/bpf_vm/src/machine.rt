@@ -1,5 +1,5 @@
 //! The registers, the stack and the packet, and what an instruction does to them.
-ghost use Rattle.std.specs.Prelude.{◌≡◌, ◌+◌, ◌<◌, ◌≤◌, ◌^◌, Some, IfSome, ℕ, length, slice_get, slice_index};
+ghost use Rattle.std.specs.Prelude.{◌≡◌, ◌+◌, ◌<◌, ◌≤◌, ◌^◌, Some, IfSome, ℕ, length, replicate, slice_get, slice_index};
 ghost use Rattle.bpf_note.specs.Shape.{AreShapes};
 ghost use Rattle.bpf_note.specs.State.{IsState};
 ghost use Rattle.bpf_insn.specs.Register.{number};
@@ -28,7 +28,9 @@ pub struct Machine<'p, 'b> {
 }
 
 /// A stack of zeros.
-fn cleared() -> [u8; 512] {
+fn cleared() -> [u8; 512]
+    ensures { result ≡ replicate 512 0 }
+{
     [0; 512]
 }
 
@@ -49,6 +51,7 @@ impl<'p, 'b> Machine<'p, 'b> {
     ) -> Machine<'p, 'b>
         ensures pc { result.pc ≡ 0 }
         ensures registers { result.registers ≡ first_registers }
+        ensures stack { result.stack ≡ replicate 512 0 }
         ensures packet { result.packet ≡ packet.entry }
         ensures ifindex { result.ifindex ≡ ifindex }
         ensures queue { result.queue ≡ queue }

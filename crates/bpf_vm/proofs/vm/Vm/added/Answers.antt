@@ -62,3 +62,12 @@ returns-clause-bound c =
     let g = given_number p m c.insn-insn.result.now k c.self.invariant.0 c.insn-insn.ensures.at n c.args.old c.ranges.old.fits c.answer.ensures (own_of p m) c.self.invariant.1.described (extends_itself (own_of p m)) in
     let r = running p m c.insn-insn.result.now k c.self.invariant.0 c.insn-insn.ensures.at n c.self.inside.count (label_of (step p.code (own_of p m)) c.args.old) c.self.invariant.1 c.are_numbers.ensures g in
     counted_below _ k r
+
+pub returns-clause-own : goal.returns-clause-own
+returns-clause-own c =
+    let p = c.self.inside.program.now in
+    let m = c.self.inside.machine in
+    let n = c.answer.new.self in
+    let k = c.slots-slots.ensures.consistent in
+    let g = given_number p m c.insn-insn.result.now k c.self.invariant.0 c.insn-insn.ensures.at n c.args.old c.ranges.old.fits c.answer.ensures (own_of p m) c.self.invariant.1.described (extends_itself (own_of p m)) in
+    rw (← c.self.view_is) (g.0, g.1.leads, (standing p (own_of p m) n (c.self.inside.count + 1) (label_of (step p.code (own_of p m)) c.args.old) g.0 g.1).numbers)
