@@ -3,6 +3,7 @@ ghost use Rattle.std.specs.Prelude.{◌≡◌, ◌+◌, ◌<◌, ◌≤◌, ◌%
 ghost use Rattle.bpf_note.specs.State.{State, IsStart};
 ghost use Rattle.bpf_flow.specs.Step.{Exited, LeadsTo, step};
 ghost use Rattle.bpf_verify.specs.Consistent.{instructions};
+ghost use Rattle.bpf_vm.specs.Run.{Leaves};
 ghost use Rattle.bpf_vm.specs.Running.{Advances, Extends, first_numbers, state_of};
 ghost use Rattle.bpf_vm.specs.Stands.{Stands, now, own, exits, Ends, label_of};
 ghost use Rattle.bpf_vm.specs.Wants.{Answers, IsLoad, IsAdd};
@@ -74,6 +75,7 @@ impl<'p, 'b> Vm<'p, 'b> {
         ensures program { self.new.program ≡ self.old.program }
         ensures stands { (s : State) → Stands self.old s → (t : State) × LeadsTo (step self.old.program.code s) None t × Stands self.new t }
         ensures own { (t : State) × LeadsTo (now self.old) None t × Extends t (own self.new) }
+        ensures left { Leaves None self.old self.new }
         ensures count { self.new.count ≡ self.old.count + 1 }
         ensures bound { self.new.count < instructions self.new.program.code }
     {
@@ -90,6 +92,7 @@ impl<'p, 'b> Vm<'p, 'b> {
         ensures program { self.new.program ≡ self.old.program }
         ensures stands { (s : State) → Stands self.old s → (t : State) × LeadsTo (step self.old.program.code s) (label_of (now self.old) number) t × Stands self.new t }
         ensures own { (t : State) × LeadsTo (now self.old) (label_of (now self.old) number) t × Extends t (own self.new) }
+        ensures left { Leaves (label_of (now self.old) number) self.old self.new }
         ensures count { self.new.count ≡ self.old.count + 1 }
         ensures bound { self.new.count < instructions self.new.program.code }
     {
@@ -106,6 +109,7 @@ impl<'p, 'b> Vm<'p, 'b> {
         ensures program { self.new.program ≡ self.old.program }
         ensures stands { (s : State) → Stands self.old s → (t : State) × LeadsTo (step self.old.program.code s) (label_of (now self.old) old) t × Stands self.new t }
         ensures own { (t : State) × LeadsTo (now self.old) (label_of (now self.old) old) t × Extends t (own self.new) }
+        ensures left { Leaves (label_of (now self.old) old) self.old self.new }
         ensures count { self.new.count ≡ self.old.count + 1 }
         ensures bound { self.new.count < instructions self.new.program.code }
     {

@@ -5,6 +5,7 @@ use Rattle.bpf_vm.specs.Stands.{label_of}
 use Rattle.bpf_vm.proofs.ExecuteLemmas.{extends_itself}
 use Rattle.bpf_vm.proofs.RunLemmas.{few_instructions, counted_below}
 use Rattle.bpf_vm.proofs.MachineLemmas.{own_of, given_number, running, standing, new_shapes}
+use Rattle.bpf_vm.proofs.LeftLemmas.{leaves}
 use Rattle.bpf_vm.proofs.vm.Vm.added.Goals as goal
 
 pub are_numbers-requires-clause-few : goal.are_numbers-requires-clause-few
@@ -71,3 +72,13 @@ returns-clause-own c =
     let k = c.slots-slots.ensures.consistent in
     let g = given_number p m c.insn-insn.result.now k c.self.invariant.0 c.insn-insn.ensures.at n c.args.old c.ranges.old.fits c.answer.ensures (own_of p m) c.self.invariant.1.described (extends_itself (own_of p m)) in
     rw (← c.self.view_is) (g.0, g.1.leads, (standing p (own_of p m) n (c.self.inside.count + 1) (label_of (step p.code (own_of p m)) c.args.old) g.0 g.1).numbers)
+
+pub returns-clause-left : goal.returns-clause-left
+returns-clause-left c =
+    let p = c.self.inside.program.now in
+    let m = c.self.inside.machine in
+    let n = c.answer.new.self in
+    let k = c.slots-slots.ensures.consistent in
+    let label = label_of (step p.code (own_of p m)) c.args.old in
+    let g = given_number p m c.insn-insn.result.now k c.self.invariant.0 c.insn-insn.ensures.at n c.args.old c.ranges.old.fits c.answer.ensures (own_of p m) c.self.invariant.1.described (extends_itself (own_of p m)) in
+    rw (← c.self.view_is) (leaves p k label (own_of p m) g.0 (own_of p n) g.1.leads g.1.described (standing p (own_of p m) n (c.self.inside.count + 1) label g.0 g.1).numbers)

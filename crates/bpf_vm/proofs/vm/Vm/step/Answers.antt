@@ -3,6 +3,7 @@ use Rattle.bpf_note.specs.Shape.{Shape, AreShapes}
 use Rattle.bpf_vm.proofs.ExecuteLemmas.{extends_itself}
 use Rattle.bpf_vm.proofs.RunLemmas.{few_instructions, counted_below}
 use Rattle.bpf_vm.proofs.MachineLemmas.{own_of, stepped, running, standing, new_shapes}
+use Rattle.bpf_vm.proofs.LeftLemmas.{leaves}
 use Rattle.bpf_vm.proofs.vm.Vm.step.Goals as goal
 
 pub are_numbers-requires-clause-few : goal.are_numbers-requires-clause-few
@@ -69,3 +70,12 @@ returns-clause-own c =
     let k = c.slots-slots.ensures.consistent in
     let g = stepped p m c.insn-insn.result.now k c.self.invariant.0 c.insn-insn.ensures.at n c.execute.ensures (own_of p m) c.self.invariant.1.described (extends_itself (own_of p m)) in
     rw (← c.self.view_is) (g.0, g.1.leads, (standing p (own_of p m) n (c.self.inside.count + 1) None g.0 g.1).numbers)
+
+pub returns-clause-left : goal.returns-clause-left
+returns-clause-left c =
+    let p = c.self.inside.program.now in
+    let m = c.self.inside.machine in
+    let n = c.execute.new.self in
+    let k = c.slots-slots.ensures.consistent in
+    let g = stepped p m c.insn-insn.result.now k c.self.invariant.0 c.insn-insn.ensures.at n c.execute.ensures (own_of p m) c.self.invariant.1.described (extends_itself (own_of p m)) in
+    rw (← c.self.view_is) (leaves p k None (own_of p m) g.0 (own_of p n) g.1.leads g.1.described (standing p (own_of p m) n (c.self.inside.count + 1) None g.0 g.1).numbers)
