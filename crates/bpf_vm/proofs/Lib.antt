@@ -6,4 +6,5 @@ pub mod DescribeLemmas
 pub mod RunLemmas
 mod LeftLemmas
 mod MachineLemmas
+mod AfterLemmas
 mod WholeLemmas
