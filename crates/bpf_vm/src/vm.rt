@@ -3,7 +3,7 @@ ghost use Rattle.std.specs.Prelude.{◌≡◌, ◌+◌, ◌<◌, ◌≤◌, ◌%
 ghost use Rattle.bpf_note.specs.State.{State, IsStart};
 ghost use Rattle.bpf_flow.specs.Step.{Exited, LeadsTo, step};
 ghost use Rattle.bpf_verify.specs.Consistent.{instructions};
-ghost use Rattle.bpf_vm.specs.Run.{Leaves};
+ghost use Rattle.bpf_vm.specs.Run.{Leaves, SameRuns};
 ghost use Rattle.bpf_vm.specs.Running.{Advances, Extends, first_numbers, state_of};
 ghost use Rattle.bpf_vm.specs.Stands.{Stands, now, own, exits, Ends, label_of};
 ghost use Rattle.bpf_vm.specs.Wants.{Answers, IsLoad, IsAdd};
@@ -63,6 +63,7 @@ impl<'p, 'b> Vm<'p, 'b> {
         ensures own { Answers result (now self.now) }
         ensures itself { Stands self.now (own self.now) }
         ensures stands { (s : State) → Stands self.now s → Answers result (step self.now.program.code s) }
+        ensures runs { (s : State) → Stands self.now s → SameRuns self.now s }
     {
         let _slots = self.program.slots();
         let insn = *self.program.insn(self.machine.pc);
