@@ -1,7 +1,10 @@
 mod ByteLemmas
 mod RegionLemmas
 pub mod ExecuteLemmas
-mod ExtendLemmas
-mod RunLemmas
+pub mod ExtendLemmas
+pub mod DescribeLemmas
+pub mod RunLemmas
+mod LeftLemmas
 mod MachineLemmas
+mod AfterLemmas
 mod WholeLemmas

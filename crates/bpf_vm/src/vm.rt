@@ -3,7 +3,8 @@ ghost use Rattle.std.specs.Prelude.{◌≡◌, ◌+◌, ◌<◌, ◌≤◌, ◌%
 ghost use Rattle.bpf_note.specs.State.{State, IsStart};
 ghost use Rattle.bpf_flow.specs.Step.{Exited, LeadsTo, step};
 ghost use Rattle.bpf_verify.specs.Consistent.{instructions};
-ghost use Rattle.bpf_vm.specs.Running.{Advances};
+ghost use Rattle.bpf_vm.specs.Run.{Leaves, SameRuns};
+ghost use Rattle.bpf_vm.specs.Running.{Advances, Extends, first_numbers, state_of};
 ghost use Rattle.bpf_vm.specs.Stands.{Stands, now, own, exits, Ends, label_of};
 ghost use Rattle.bpf_vm.specs.Wants.{Answers, IsLoad, IsAdd};
 
@@ -44,6 +45,8 @@ impl<'p, 'b> Vm<'p, 'b> {
     ) -> Vm<'p, 'b>
         ensures program { result.program ≡ program.now }
         ensures stands { (s : State) → IsStart s → s.packet ≡ packet.entry → s.ifindex ≡ ifindex → s.queue ≡ queue → s.shapes ≡ program.now.shapes → Stands result s }
+        ensures own { own result ≡ state_of program.now.shapes (first_numbers packet.entry ifindex queue) }
+        ensures itself { Stands result (own result) }
         ensures count { result.count ≡ 0 }
     {
         let machine = Machine::new(packet, ifindex, queue, program.shapes());
@@ -58,7 +61,9 @@ impl<'p, 'b> Vm<'p, 'b> {
     /// What comes next.
     pub fn want(&self) -> VmWant
         ensures own { Answers result (now self.now) }
+        ensures itself { Stands self.now (own self.now) }
         ensures stands { (s : State) → Stands self.now s → Answers result (step self.now.program.code s) }
+        ensures runs { (s : State) → Stands self.now s → SameRuns self.now s }
     {
         let _slots = self.program.slots();
         let insn = *self.program.insn(self.machine.pc);
@@ -70,6 +75,8 @@ impl<'p, 'b> Vm<'p, 'b> {
         requires { Advances (now self.old) }
         ensures program { self.new.program ≡ self.old.program }
         ensures stands { (s : State) → Stands self.old s → (t : State) × LeadsTo (step self.old.program.code s) None t × Stands self.new t }
+        ensures own { (t : State) × LeadsTo (now self.old) None t × Extends t (own self.new) }
+        ensures left { Leaves None self.old self.new }
         ensures count { self.new.count ≡ self.old.count + 1 }
         ensures bound { self.new.count < instructions self.new.program.code }
     {
@@ -85,6 +92,8 @@ impl<'p, 'b> Vm<'p, 'b> {
         requires { IsLoad (now self.old) }
         ensures program { self.new.program ≡ self.old.program }
         ensures stands { (s : State) → Stands self.old s → (t : State) × LeadsTo (step self.old.program.code s) (label_of (now self.old) number) t × Stands self.new t }
+        ensures own { (t : State) × LeadsTo (now self.old) (label_of (now self.old) number) t × Extends t (own self.new) }
+        ensures left { Leaves (label_of (now self.old) number) self.old self.new }
         ensures count { self.new.count ≡ self.old.count + 1 }
         ensures bound { self.new.count < instructions self.new.program.code }
     {
@@ -100,6 +109,8 @@ impl<'p, 'b> Vm<'p, 'b> {
         requires { IsAdd (now self.old) }
         ensures program { self.new.program ≡ self.old.program }
         ensures stands { (s : State) → Stands self.old s → (t : State) × LeadsTo (step self.old.program.code s) (label_of (now self.old) old) t × Stands self.new t }
+        ensures own { (t : State) × LeadsTo (now self.old) (label_of (now self.old) old) t × Extends t (own self.new) }
+        ensures left { Leaves (label_of (now self.old) old) self.old self.new }
         ensures count { self.new.count ≡ self.old.count + 1 }
         ensures bound { self.new.count < instructions self.new.program.code }
     {
@@ -125,7 +136,8 @@ impl<'p, 'b> Vm<'p, 'b> {
     /// The number and the packet at the exit.
     pub fn finish(self) -> (u32, PacketBuf<'b>)
         requires { Ends (now self) }
-        ensures { (s : State) → Stands self.entry s → (r0 : ℕ) × (step self.entry.program.code s ≡ Exited r0) × (result.0 ≡ r0 % 2 ^ 32) × (result.1 ≡ s.packet) }
+        ensures stands { (s : State) → Stands self.entry s → (r0 : ℕ) × (step self.entry.program.code s ≡ Exited r0) × (result.0 ≡ r0 % 2 ^ 32) × (result.1 ≡ s.packet) }
+        ensures own { (r0 : ℕ) × (now self.entry ≡ Exited r0) × (result.0 ≡ r0 % 2 ^ 32) × (result.1 ≡ (own self.entry).packet) }
     {
         let _slots = self.program.slots();
         match self.want() {

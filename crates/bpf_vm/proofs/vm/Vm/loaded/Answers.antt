@@ -1,31 +1,19 @@
-use Rattle.std.proofs.Common.{◌+◌, List, length, arith, ap, sym, subst}
-use Rattle.bpf_note.specs.Shape.{Shape, AreShapes}
-use Rattle.bpf_flow.specs.Step.{step}
-use Rattle.bpf_vm.specs.Stands.{label_of}
-use Rattle.bpf_vm.proofs.ExecuteLemmas.{extends_itself}
+use Rattle.std.proofs.Common.{arith}
 use Rattle.bpf_vm.proofs.RunLemmas.{few_instructions, counted_below}
-use Rattle.bpf_vm.proofs.MachineLemmas.{own_of, given_number, running, standing, new_shapes}
+use Rattle.bpf_vm.proofs.AfterLemmas.{after_answer}
 use Rattle.bpf_vm.proofs.vm.Vm.loaded.Goals as goal
 
 pub are_numbers-requires-clause-few : goal.are_numbers-requires-clause-few
 are_numbers-requires-clause-few c =
-    let p = c.self.inside.program.now in
-    let m = c.self.inside.machine in
-    let n = c.answer.new.self in
-    let k = c.slots-slots.ensures.consistent in
-    let g = given_number p m c.insn-insn.result.now k c.self.invariant.0 c.insn-insn.ensures.at n c.args.number c.ranges.number.fits c.answer.ensures (own_of p m) c.self.invariant.1.described (extends_itself (own_of p m)) in
-    let same = new_shapes p (own_of p m) n (label_of (step p.code (own_of p m)) c.args.number) g.0 g.1 in
-    omega (arith, k.few_maps, ap length same)
+    let v = c.self.inside in
+    let after = after_answer v.program.now v.machine c.answer.new.self c.slots-slots.ensures.consistent c.self.invariant.0 c.insn-insn.ensures.at c.self.invariant.1 c.args.number c.ranges.number.fits c.answer.ensures in
+    after.few
 
 pub are_numbers-requires-clause-shapes : goal.are_numbers-requires-clause-shapes
 are_numbers-requires-clause-shapes c =
-    let p = c.self.inside.program.now in
-    let m = c.self.inside.machine in
-    let n = c.answer.new.self in
-    let k = c.slots-slots.ensures.consistent in
-    let g = given_number p m c.insn-insn.result.now k c.self.invariant.0 c.insn-insn.ensures.at n c.args.number c.ranges.number.fits c.answer.ensures (own_of p m) c.self.invariant.1.described (extends_itself (own_of p m)) in
-    let same = new_shapes p (own_of p m) n (label_of (step p.code (own_of p m)) c.args.number) g.0 g.1 in
-    subst (λ (shapes : List Shape). AreShapes shapes) (sym same) k.maps
+    let v = c.self.inside in
+    let after = after_answer v.program.now v.machine c.answer.new.self c.slots-slots.ensures.consistent c.self.invariant.0 c.insn-insn.ensures.at c.self.invariant.1 c.args.number c.ranges.number.fits c.answer.ensures in
+    after.maps
 
 pub overflow_add-self : goal.overflow_add-self
 overflow_add-self c =
@@ -36,29 +24,30 @@ overflow_add-self c =
 
 pub invariant_of-self : goal.invariant_of-self
 invariant_of-self c =
-    let p = c.self.inside.program.now in
-    let m = c.self.inside.machine in
-    let n = c.answer.new.self in
-    let k = c.slots-slots.ensures.consistent in
-    let g = given_number p m c.insn-insn.result.now k c.self.invariant.0 c.insn-insn.ensures.at n c.args.number c.ranges.number.fits c.answer.ensures (own_of p m) c.self.invariant.1.described (extends_itself (own_of p m)) in (
-      new_shapes p (own_of p m) n (label_of (step p.code (own_of p m)) c.args.number) g.0 g.1,
-      running p m c.insn-insn.result.now k c.self.invariant.0 c.insn-insn.ensures.at n c.self.inside.count (label_of (step p.code (own_of p m)) c.args.number) c.self.invariant.1 c.are_numbers.ensures g,
-    )
+    let v = c.self.inside in
+    let after = after_answer v.program.now v.machine c.answer.new.self c.slots-slots.ensures.consistent c.self.invariant.0 c.insn-insn.ensures.at c.self.invariant.1 c.args.number c.ranges.number.fits c.answer.ensures in
+    (after.shapes, after.running c.are_numbers.ensures)
 
 pub returns-clause-stands : goal.returns-clause-stands
 returns-clause-stands c =
-    let p = c.self.inside.program.now in
-    let m = c.self.inside.machine in
-    let n = c.answer.new.self in
-    let k = c.slots-slots.ensures.consistent in
-    rw (← c.self.view_is) (λ s st. let g = given_number p m c.insn-insn.result.now k c.self.invariant.0 c.insn-insn.ensures.at n c.args.number c.ranges.number.fits c.answer.ensures s st.described st.numbers in (g.0, g.1.leads, standing p s n (c.self.inside.count + 1) (label_of (step p.code (own_of p m)) c.args.number) g.0 g.1))
+    let v = c.self.inside in
+    let after = after_answer v.program.now v.machine c.answer.new.self c.slots-slots.ensures.consistent c.self.invariant.0 c.insn-insn.ensures.at c.self.invariant.1 c.args.number c.ranges.number.fits c.answer.ensures in
+    rw (← c.self.view_is) after.stands
+
+pub returns-clause-own : goal.returns-clause-own
+returns-clause-own c =
+    let v = c.self.inside in
+    let after = after_answer v.program.now v.machine c.answer.new.self c.slots-slots.ensures.consistent c.self.invariant.0 c.insn-insn.ensures.at c.self.invariant.1 c.args.number c.ranges.number.fits c.answer.ensures in
+    rw (← c.self.view_is) after.own
+
+pub returns-clause-left : goal.returns-clause-left
+returns-clause-left c =
+    let v = c.self.inside in
+    let after = after_answer v.program.now v.machine c.answer.new.self c.slots-slots.ensures.consistent c.self.invariant.0 c.insn-insn.ensures.at c.self.invariant.1 c.args.number c.ranges.number.fits c.answer.ensures in
+    rw (← c.self.view_is) after.left
 
 pub returns-clause-bound : goal.returns-clause-bound
 returns-clause-bound c =
-    let p = c.self.inside.program.now in
-    let m = c.self.inside.machine in
-    let n = c.answer.new.self in
-    let k = c.slots-slots.ensures.consistent in
-    let g = given_number p m c.insn-insn.result.now k c.self.invariant.0 c.insn-insn.ensures.at n c.args.number c.ranges.number.fits c.answer.ensures (own_of p m) c.self.invariant.1.described (extends_itself (own_of p m)) in
-    let r = running p m c.insn-insn.result.now k c.self.invariant.0 c.insn-insn.ensures.at n c.self.inside.count (label_of (step p.code (own_of p m)) c.args.number) c.self.invariant.1 c.are_numbers.ensures g in
-    counted_below _ k r
+    let v = c.self.inside in
+    let after = after_answer v.program.now v.machine c.answer.new.self c.slots-slots.ensures.consistent c.self.invariant.0 c.insn-insn.ensures.at c.self.invariant.1 c.args.number c.ranges.number.fits c.answer.ensures in
+    after.bound c.are_numbers.ensures

@@ -3,6 +3,7 @@ use Rattle.bpf_flow.specs.Step.{Outcome}
 use Rattle.bpf_vm.specs.Wants.{Answers}
 use Rattle.bpf_vm.proofs.RunLemmas.{inside_of, wants_same}
 use Rattle.bpf_vm.proofs.MachineLemmas.{own_of, here, fine_here}
+use Rattle.bpf_vm.proofs.LeftLemmas.{same_runs}
 use Rattle.bpf_vm.proofs.vm.Vm.want.Goals as goal
 
 pub insn-insn-requires : goal.insn-insn-requires
@@ -25,3 +26,9 @@ returns-clause-stands c =
     let k = c.slots-slots.ensures.consistent in
     let mine = subst (λ (o : Outcome). Answers c.want.result o) (here p m c.insn-insn.result.now k c.self.invariant.0 c.insn-insn.ensures.at) c.want.ensures in
     rw (← c.self.view_is) (λ s st. wants_same p c.want.result s (own_of p m) k st.described st.numbers mine)
+
+pub returns-clause-runs : goal.returns-clause-runs
+returns-clause-runs c =
+    let p = c.self.inside.program.now in
+    let m = c.self.inside.machine in
+    rw (← c.self.view_is) (λ s st. same_runs p c.slots-slots.ensures.consistent s (own_of p m) st.described st.numbers)
