@@ -2,5 +2,6 @@ mod check;
 mod examples;
 mod exec;
 mod failing;
+mod programs;
 mod readers;
 mod words;

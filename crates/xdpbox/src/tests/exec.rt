@@ -4,7 +4,7 @@ use std::process::Abort;
 use std::test::Fail;
 
 /// Runs `exec` on two words, and compares what is printed and the status.
-fn assert_exec(
+pub(crate) fn assert_exec(
     rt: &impl Abort,
     program: &str,
     packet: &str,
@@ -20,7 +20,7 @@ fn assert_exec(
 }
 
 /// A text so many times.
-fn repeated(rt: HostRuntime, text: &str, count: usize) -> Result<String, AllocError> {
+pub(crate) fn repeated(rt: HostRuntime, text: &str, count: usize) -> Result<String, AllocError> {
     let mut all = String::new(rt.alloc());
     for _ in 0..count {
         all.push_str(text)?;
