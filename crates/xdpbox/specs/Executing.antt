@@ -1,5 +1,5 @@
 -- What a program's bytes come to: alone, and on a packet.
-use Rattle.std.specs.Prelude.{ℕ, ◌≡◌, ◌≤◌, ◌⊎◌, List, length, Result, Ok, Err}
+use Rattle.std.specs.Prelude.{ℕ, ◌≡◌, ◌≤◌, ◌⊎◌, List, [], length, Result, Ok, Err}
 use Rattle.bpf_insn.specs.Code.{Spells}
 use Rattle.bpf_insn.specs.Refusal.{IsNoCode}
 use Rattle.bpf_insn.specs.declared.insn.Insn.{Insn}
@@ -16,34 +16,34 @@ use Rattle.xdpbox.specs.declared.executing.Accepted.{Accepted}
 pub record IsRunOfBytes (program packet : List ℕ) (ended : Ended) : Type 0 where
   pub code : List Insn
   pub spelled : Spells code program
-  pub faultless : IsFaultless code 0
+  pub faultless : IsFaultless code []
   pub run : IsRunOf code packet 0 0 ended.number ended.packet ended.instructions
   pub bound : ended.instructions ≤ instructions code
 
--- the bytes spell a program that is refused so with this many maps
-pub record IsRefusalOfCode (program : List ℕ) (maps : ℕ) (refusal : Refusal) : Type 0 where
+-- the bytes spell a program that is refused so with these maps
+pub record IsRefusalOfCode (program : List ℕ) (shapes : List Shape) (refusal : Refusal) : Type 0 where
   pub code : List Insn
   pub spelled : Spells code program
-  pub refused : IsRefusal code maps refusal.cause refusal.pc
+  pub refused : IsRefusal code shapes refusal.cause refusal.pc
 
 -- the refusal is that of the bytes, or of the program that they spell
-abbrev pub IsRefusalOfBytes : List ℕ → ℕ → Refusal → Type 0
-IsRefusalOfBytes program maps refusal = IsNoCode program refusal ⊎ IsRefusalOfCode program maps refusal
+abbrev pub IsRefusalOfBytes : List ℕ → List Shape → Refusal → Type 0
+IsRefusalOfBytes program shapes refusal = IsNoCode program refusal ⊎ IsRefusalOfCode program shapes refusal
 
 -- a run, or a refusal
 abbrev pub Executes : List ℕ → List ℕ → Result Ended Refusal → Type 0
 Executes program packet (Ok ended) = IsRunOfBytes program packet ended
-Executes program packet (Err refusal) = IsRefusalOfBytes program 0 refusal
+Executes program packet (Err refusal) = IsRefusalOfBytes program [] refusal
 
 -- the bytes spell a program without a cause of refusal, and it has this many instructions and slots
-pub record IsAccepted (program : List ℕ) (maps : ℕ) (accepted : Accepted) : Type 0 where
+pub record IsAccepted (program : List ℕ) (shapes : List Shape) (accepted : Accepted) : Type 0 where
   pub code : List Insn
   pub spelled : Spells code program
-  pub faultless : IsFaultless code maps
+  pub faultless : IsFaultless code shapes
   pub counted : accepted.instructions ≡ instructions code
   pub long : accepted.slots ≡ length code
 
 -- what a check of a program's bytes with these maps answers
 abbrev pub Checks : List ℕ → List Shape → Result Accepted Refusal → Type 0
-Checks program shapes (Ok accepted) = IsAccepted program (length shapes) accepted
-Checks program shapes (Err refusal) = IsRefusalOfBytes program (length shapes) refusal
+Checks program shapes (Ok accepted) = IsAccepted program shapes accepted
+Checks program shapes (Err refusal) = IsRefusalOfBytes program shapes refusal
