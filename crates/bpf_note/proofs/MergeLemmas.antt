@@ -1,5 +1,5 @@
 -- Two lists of bounds, merged by their ids.
-use Rattle.std.proofs.Common.{◌≡◌, ℕ, zero, suc, ◌+◌, ◌<◌, ◌≤◌, Bool, true, false, refl, Option, Some, None, List, [], ◌∷◌, ◌++◌, max, nat_eq, sym, ap, ◌∙◌, arith, cond, subst, length, drop, get_or, inl, inr, ◌↔◌, append_assoc, take, ◌-◌, length-drop}
+use Rattle.std.proofs.Common.{◌≡◌, ℕ, zero, suc, ◌+◌, ◌<◌, ◌≤◌, Bool, true, false, refl, Option, Some, None, List, [], ◌∷◌, ◌++◌, max, nat_eq, sym, ap, ◌∙◌, arith, cond, subst, length, drop, get_or, inl, inr, ◌↔◌, append_assoc}
 use Rattle.std.specs.Prelude.{if◌then◌else◌, nat_lt, ◌==◌, ◌||◌, not, All}
 use Rattle.std.proofs.lemmas.Bool.Decides.{nat_tests}
 use Rattle.std.proofs.Math.Seq.{drop-cons}
@@ -389,13 +389,3 @@ end_right xs ys i j n h =
 -- what is left of both lists, after bounds that are merged
 pub rest_appended : (front us vs whole ms : List Bound) → us ++ vs ≡ ms → front ++ ms ≡ whole → (front ++ us) ++ vs ≡ whole
 rest_appended front us vs whole ms e f = append_assoc front us vs ∙ ap (λ (zs : List Bound). front ++ zs) e ∙ f
-
--- a slice from a place on is the rest
-take_enough : (n : ℕ) (xs : List Bound) → length xs ≤ n → take n xs ≡ xs
-take_enough zero [] h = refl
-take_enough zero (x ∷ xs) h = absurd (omega arith)
-take_enough (suc n) [] h = refl
-take_enough (suc n) (x ∷ xs) h = ap (λ (ys : List Bound). x ∷ ys) (take_enough n xs (omega arith))
-
-pub slice_rest : (xs : List Bound) (i : ℕ) → take (length xs - i) (drop i xs) ≡ drop i xs
-slice_rest xs i = take_enough (length xs - i) (drop i xs) (omega (arith, length-drop i xs))

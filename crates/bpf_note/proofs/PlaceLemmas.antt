@@ -1,5 +1,5 @@
 -- Lists that are filled place by place.
-use Rattle.std.proofs.Common.{◌≡◌, ◌≢◌, ℕ, zero, suc, ◌+◌, ◌<◌, ◌≤◌, refl, List, [], ◌∷◌, get_or, set, replicate, length, arith, ap, sym, ◌∙◌, ◌⊎◌, inl, inr}
+use Rattle.std.proofs.Common.{◌≡◌, ◌≢◌, ℕ, zero, suc, ◌+◌, ◌<◌, ◌≤◌, refl, List, [], ◌∷◌, get_or, set, replicate, length, arith, ap, sym, ◌∙◌, ◌⊎◌, inl, inr, ◌-◌, take, drop, length-drop}
 use Rattle.std.proofs.lemmas.List.{get_or-set_same, get_or-set_other}
 use Rattle.std.proofs.Math.ListN.{length-set}
 use borrow.Author.Count.{below_more}
@@ -58,3 +58,13 @@ same_places (x ∷ xs) (y ∷ ys) d l h =
     let tails : xs ≡ ys = same_places xs ys d (omega arith) (λ k. h (suc k)) in
     let heads : x ≡ y = h 0 in
     cc
+
+-- a slice from a place on is the rest
+take_enough : {A : Type 0} (n : ℕ) (xs : List A) → length xs ≤ n → take n xs ≡ xs
+take_enough zero [] h = refl
+take_enough zero (x ∷ xs) h = absurd (omega arith)
+take_enough (suc n) [] h = refl
+take_enough {A = A} (suc n) (x ∷ xs) h = ap (λ (ys : List A). x ∷ ys) (take_enough n xs (omega arith))
+
+pub slice_rest : {A : Type 0} (xs : List A) (i : ℕ) → take (length xs - i) (drop i xs) ≡ drop i xs
+slice_rest xs i = take_enough (length xs - i) (drop i xs) (omega (arith, length-drop i xs))

@@ -1,7 +1,8 @@
 use Rattle.std.proofs.Common.{◌≡◌, ◌∙◌, ap, sym, subst, arith, drop, true, false, Some, None, Option, Bool, ◌↔◌}
 use Rattle.std.specs.Prelude.{is_some, All}
 use Rattle.bpf_note.proofs.EqualLemmas.{bounds_equal, equal, unequal}
-use Rattle.bpf_note.proofs.MergeLemmas.{Stays, place_left, place_right, place_both, end_left, end_right, joined_stays, stays_joined, slice_rest, HasNoSafe, HasNoTop}
+use Rattle.bpf_note.proofs.PlaceLemmas.{slice_rest}
+use Rattle.bpf_note.proofs.MergeLemmas.{Stays, place_left, place_right, place_both, end_left, end_right, joined_stays, stays_joined, HasNoSafe, HasNoTop}
 use Rattle.bpf_note.proofs.bounds.covers_bounds.Goals.{then-loop-i-test+else-j-b, else-loop-i-test}
 use Rattle.bpf_note.proofs.bounds.covers_bounds.Goals as goal
 

@@ -1,7 +1,8 @@
 use Rattle.std.proofs.Common.{◌≡◌, ◌∙◌, ◌++◌, [], ap, arith, List, drop, ◌+◌}
 use Rattle.bpf_note.specs.declared.bound.Bound.{Bound}
 use Rattle.bpf_note.specs.Bounds.{with_said, all_alone}
-use Rattle.bpf_note.proofs.MergeLemmas.{merged, step_left, step_right, step_both, rest_left, rest_right, rest_appended, slice_rest, merged_joined}
+use Rattle.bpf_note.proofs.PlaceLemmas.{slice_rest}
+use Rattle.bpf_note.proofs.MergeLemmas.{merged, step_left, step_right, step_both, rest_left, rest_right, rest_appended, merged_joined}
 use Rattle.bpf_note.proofs.bounds.join_bounds.Goals.{then-loop-i-test+else-j-b, else-loop-i-test}
 use Rattle.bpf_note.proofs.bounds.join_bounds.Goals as goal
 
