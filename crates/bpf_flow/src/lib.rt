@@ -11,6 +11,8 @@ mod reaching;
 mod registers;
 mod rule;
 mod successors;
+#[cfg(test)]
+mod tests;
 
 pub use laws::{
     labels_fit_their_instruction, no_step_writes_the_frame_pointer, one_label_one_state,
