@@ -55,39 +55,36 @@ const EXIT: u64 = 0x9500_0000_0000_0000;
 
 const CALL: u64 = 0x8500_0000_0100_0000;
 
-const MAP: u64 = 0x1811_0000_0000_0000;
+const LOOKUP: [u64; 8] = [
+    0x620a_fcff_0000_0000,
+    0xbfa2_0000_0000_0000,
+    0x0702_0000_fcff_ffff,
+    0x1811_0000_0000_0000,
+    0,
+    CALL,
+    0x7900_0000_0000_0000,
+    EXIT,
+];
 
+/// Each program is one to three slots and the exit.
 #[test]
 fn the_shortest_programs(rt: HostRuntime) -> Result<(), Fail> {
     let shape = MapShape::of(1, 1).expect(&rt, "a shape");
-    let key = [
-        0x620a_fcff_0000_0000,
-        0xbfa2_0000_0000_0000,
-        0x0702_0000_fcff_ffff,
-        MAP,
-        0,
-        CALL,
-        0x7900_0000_0000_0000,
-        EXIT,
-    ];
-    let rows: [(&[u64], Cause, u32); 9] = [
+    let number = [0xb701_0000_0000_0000, 0x7910_0000_0000_0000, EXIT];
+    let packet = [0x6112_0000_0000_0000, 0x7120_0000_0000_0000, EXIT];
+    let argument = [0xb702_0000_0000_0000, CALL, EXIT];
+    let rows: [(&[u64], Cause, u32); 11] = [
         (&[EXIT], Cause::Unset, 0),
+        (&[CALL, EXIT], Cause::Unset, 0),
         (&[0xb70a_0000_0000_0000, EXIT], Cause::FramePointer, 0),
-        (
-            &[0xb701_0000_0000_0000, 0x7910_0000_0000_0000, EXIT],
-            Cause::NoPointer,
-            1,
-        ),
-        (
-            &[0x6112_0000_0000_0000, 0x7120_0000_0000_0000, EXIT],
-            Cause::Packet,
-            1,
-        ),
+        (&number, Cause::NoPointer, 1),
+        (&packet, Cause::Packet, 1),
         (&[0x79a0_f8ff_0000_0000, EXIT], Cause::Stack, 0),
         (&[0x6910_0000_0000_0000, EXIT], Cause::Context, 0),
-        (&key, Cause::MayBeNull, 6),
+        (&LOOKUP, Cause::MayBeNull, 6),
         (&[0xdb11_0000_0000_0000, EXIT], Cause::MapAccess, 0),
         (&[0x8500_0000_0200_0000, EXIT], Cause::Helper, 0),
+        (&argument, Cause::Argument, 1),
     ];
     for (slots, cause, pc) in rows {
         assert_eq!(rt;
@@ -96,22 +93,6 @@ fn the_shortest_programs(rt: HostRuntime) -> Result<(), Fail> {
             "{cause:?}"
         );
     }
-    let argument = refusal(&rt, shape, &[0xb702_0000_0000_0000, CALL, EXIT])?;
-    assert_eq!(rt;
-        argument,
-        Some(Refusal {
-            cause: Cause::Argument,
-            pc: 1
-        })
-    );
-    let unset = refusal(&rt, shape, &[CALL, EXIT])?;
-    assert_eq!(rt;
-        unset,
-        Some(Refusal {
-            cause: Cause::Unset,
-            pc: 0
-        })
-    );
     Ok(())
 }
 
@@ -124,53 +105,68 @@ fn cause(rt: &HostRuntime, insn: Insn) -> Option<Cause>
     after(rt.alloc(), &insn, 7, &note, &[]).err()
 }
 
+/// A load, a copy and a sign extension of `src` into `r10`.
+fn writes_of_the_frame_pointer(rt: &HostRuntime, src: Register) -> [Option<Cause>; 3] {
+    let dst = Register::R10;
+    let load = Insn::Ldx {
+        size: Size::Word,
+        signed: false,
+        dst,
+        src,
+        off: 0,
+    };
+    let copy = Insn::Alu {
+        op: AluOp::Mov,
+        wide: true,
+        dst,
+        src: Operand::Register(src),
+    };
+    let extend = Insn::MovSx {
+        wide: true,
+        bits: Size::Word,
+        dst,
+        src,
+    };
+    [cause(rt, load), cause(rt, copy), cause(rt, extend)]
+}
+
+/// An unset register comes first, then a write to the frame pointer, then all else.
 #[test]
-fn the_order_of_causes(rt: HostRuntime) {
-    let (r2, r3, r10) = (Register::R2, Register::R3, Register::R10);
-    let size = Size::Word;
-    // an unset register comes before a write to the frame pointer, and that before all else
-    for (src, wanted) in [(r2, Cause::FramePointer), (r3, Cause::Unset)] {
-        let load = Insn::Ldx {
-            size,
-            signed: false,
-            dst: r10,
-            src,
-            off: 0,
-        };
-        assert_eq!(rt; cause(&rt, load), Some(wanted));
-        let copy = Insn::Alu {
-            op: AluOp::Mov,
-            wide: true,
-            dst: r10,
-            src: Operand::Register(src),
-        };
-        assert_eq!(rt; cause(&rt, copy), Some(wanted));
-        let extend = Insn::MovSx {
-            wide: true,
-            bits: size,
-            dst: r10,
-            src,
-        };
-        assert_eq!(rt; cause(&rt, extend), Some(wanted));
-    }
-    for (dst, wanted) in [(r2, Cause::FramePointer), (r3, Cause::Unset)] {
+fn the_frame_pointer(rt: HostRuntime) {
+    for (src, wanted) in [
+        (Register::R2, Cause::FramePointer),
+        (Register::R3, Cause::Unset),
+    ] {
+        for written in writes_of_the_frame_pointer(&rt, src) {
+            assert_eq!(rt; written, Some(wanted));
+        }
         let fetch = Insn::AddCounter {
             fetch: true,
-            dst,
-            src: r10,
+            dst: src,
+            src: Register::R10,
             off: 0,
         };
         assert_eq!(rt; cause(&rt, fetch), Some(wanted));
     }
-    for (src, wanted) in [(r2, Cause::NoPointer), (r3, Cause::Unset)] {
+    let constant = Insn::Const {
+        dst: Register::R10,
+        value: 0,
+    };
+    assert_eq!(rt; cause(&rt, constant), Some(Cause::FramePointer));
+}
+
+#[test]
+fn a_stored_register_is_read(rt: HostRuntime) {
+    for (src, wanted) in [
+        (Register::R2, Cause::NoPointer),
+        (Register::R3, Cause::Unset),
+    ] {
         let store = Insn::Stx {
-            size,
-            dst: r2,
+            size: Size::Word,
+            dst: Register::R2,
             src,
             off: 0,
         };
         assert_eq!(rt; cause(&rt, store), Some(wanted));
     }
-    let constant = Insn::Const { dst: r10, value: 0 };
-    assert_eq!(rt; cause(&rt, constant), Some(Cause::FramePointer));
 }

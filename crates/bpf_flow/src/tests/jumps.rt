@@ -29,7 +29,7 @@ fn learnt(
 #[test]
 fn ranges_narrow(rt: HostRuntime) -> Result<(), Fail> {
     let all = range(0, 9);
-    let rows = [
+    for (cond, number, wanted, otherwise) in [
         (Condition::Equal, 4, exactly(4), all),
         (Condition::Equal, 0, exactly(0), range(1, 9)),
         (Condition::Equal, 9, exactly(9), range(0, 8)),
@@ -40,33 +40,38 @@ fn ranges_narrow(rt: HostRuntime) -> Result<(), Fail> {
         (Condition::GreaterOrEqual, 4, range(4, 9), range(0, 3)),
         (Condition::Less, 4, range(0, 3), range(4, 9)),
         (Condition::LessOrEqual, 4, range(0, 4), range(5, 9)),
-        // an empty range leaves the value as it was
-        (Condition::Equal, 12, all, all),
-        (Condition::Greater, 9, all, all),
-        (Condition::GreaterOrEqual, 0, all, all),
-        (Condition::Less, 0, all, all),
-        (Condition::Greater, -1, all, all),
-        (Condition::LessOrEqual, -1, all, all),
-        // these teach nothing
-        (Condition::Set, 4, all, all),
-        (Condition::SignedGreater, 4, all, all),
-        (Condition::SignedGreaterOrEqual, 4, all, all),
-        (Condition::SignedLess, 4, all, all),
-        (Condition::SignedLessOrEqual, 4, all, all),
-    ];
-    for (cond, number, wanted, otherwise) in rows {
+    ] {
         let src = Operand::Immediate(number);
-        let name = cond;
-        assert_eq!(rt;
-            learnt(&rt, cond, true, all, src)?,
-            (wanted, otherwise),
-            "{name:?} {number}"
-        );
-        assert_eq!(rt;
-            learnt(&rt, cond, false, all, src)?,
-            (all, all),
-            "{name:?} {number}"
-        );
+        let learnt = learnt(&rt, cond, true, all, src)?;
+        assert_eq!(rt; learnt, (wanted, otherwise), "{cond:?} {number}");
+    }
+    Ok(())
+}
+
+/// Where the range would be empty on one edge, and holds all on the other; by signed conditions and JSET; by JMP32.
+#[test]
+fn ranges_stay(rt: HostRuntime) -> Result<(), Fail> {
+    let all = range(0, 9);
+    for (cond, wide, number) in [
+        (Condition::Equal, true, 12),
+        (Condition::Greater, true, 9),
+        (Condition::GreaterOrEqual, true, 0),
+        (Condition::Less, true, 0),
+        (Condition::Greater, true, -1),
+        (Condition::LessOrEqual, true, -1),
+        (Condition::Set, true, 4),
+        (Condition::SignedGreater, true, 4),
+        (Condition::SignedGreaterOrEqual, true, 4),
+        (Condition::SignedLess, true, 4),
+        (Condition::SignedLessOrEqual, true, 4),
+        (Condition::Equal, false, 4),
+        (Condition::NotEqual, false, 0),
+        (Condition::Greater, false, 4),
+        (Condition::Less, false, 4),
+    ] {
+        let src = Operand::Immediate(number);
+        let learnt = learnt(&rt, cond, wide, all, src)?;
+        assert_eq!(rt; learnt, (all, all), "{cond:?} {number}");
     }
     Ok(())
 }
