@@ -2,7 +2,7 @@
 use Rattle.std.proofs.Common.{◌≡◌, ℕ, Bool, true, false, ◌||◌, ◌&&◌, refl, Option, Some, None, not}
 use Rattle.std.specs.Prelude.{Result, Ok, Err}
 use Rattle.bpf_insn.specs.declared.refusal.Cause.{Cause}
-use Rattle.bpf_flow.specs.Edges.{Edges, unless, and_then, or_refuse}
+use Rattle.bpf_flow.specs.Edges.{Edges, unless, and_then}
 use Rattle.bpf_flow.specs.After.{at_target}
 
 pub unless_ok : {A : Type 0} (b : Bool) (c : Cause) (go : Result A Cause) (x : A) → unless b c go ≡ Ok x → (b ≡ false) × (go ≡ Ok x)

@@ -1,30 +1,27 @@
 -- Lookups, and adds to counters.
-use Rattle.std.proofs.Common.{◌≡◌, ◌≢◌, ℕ, zero, suc, ◌+◌, ◌-◌, ◌*◌, ◌/◌, ◌%◌, ◌^◌, ◌<◌, ◌≤◌, ◌⊎◌, inl, inr, Bool, true, false, ◌&&◌, ◌||◌, not, refl, Option, Some, None, List, [], ◌∷◌, length, nat_eq, nat_lt, subst, sym, ap, ◌∙◌, arith, ℤ, pos, negsuc, ◌+ℤ◌}
-use Rattle.std.specs.Prelude.{if◌then◌else◌, nat_le, ◌==◌, slice_get, Result, Ok, Err}
+use Rattle.std.proofs.Common.{◌≡◌, ℕ, ◌+◌, ◌-◌, ◌^◌, ◌<◌, ◌≤◌, ◌⊎◌, inl, inr, Bool, true, false, ◌&&◌, not, refl, Option, Some, None, List, length, nat_eq, nat_lt, subst, sym, ap, ◌∙◌, arith, ℤ, pos, ◌+ℤ◌}
+use Rattle.std.specs.Prelude.{if◌then◌else◌, nat_le, slice_get, Ok, Err}
 use Rattle.std.proofs.lemmas.Bool.Decides.{nat_tests}
 use Rattle.std.proofs.lemmas.Int.{ints}
-use Rattle.bpf_insn.specs.Register.{number}
-use Rattle.bpf_insn.specs.declared.register.Register.{Register}
 use Rattle.bpf_insn.specs.declared.refusal.Cause.TheVariants as cause
 use Rattle.bpf_note.specs.declared.val.Val.{Val}
 use Rattle.bpf_note.specs.declared.val.Val.TheVariants as val
-use Rattle.bpf_note.specs.Shape.{Shape, IsShape}
+use Rattle.bpf_note.specs.Shape.{Shape}
 use Rattle.bpf_note.specs.Bytes.{word_at}
-use Rattle.bpf_note.specs.State.{State, IsState, packet_start, stack_start, stack_end, references_start}
+use Rattle.bpf_note.specs.State.{State, IsState, stack_start, references_start}
 use Rattle.bpf_note.specs.Regions.{Place, InStack, InCounter, region, counter_address}
-use Rattle.bpf_note.specs.Facts.{Facts, full, packet_id, is_unset, with_reg, with_id}
+use Rattle.bpf_note.specs.Facts.{Facts, full, packet_id, with_reg, with_id}
 use Rattle.bpf_note.specs.Describes.{Meaning, meaning, Describes, IsReading, Reads, IsValueOf}
-use Rattle.bpf_flow.specs.Step.{Outcome, Next, Adds, Fault, need, at_slot, with_number, is_frame, add_to, map_at, key_in, value_or_null, after_call, called, looked_up, reached}
-use Rattle.bpf_flow.specs.Edges.{Edges, goes_to, unless, and_then}
+use Rattle.bpf_flow.specs.Step.{Next, Adds, Fault, need, at_slot, with_number, is_frame, add_to, map_at, key_in, value_or_null, called, looked_up, reached}
+use Rattle.bpf_flow.specs.Edges.{Edges, goes_to}
 use Rattle.bpf_flow.specs.Reaching.{place_in, is_counter, all_set, adds_at}
-use Rattle.bpf_flow.specs.After.{fetched, is_key, is_key_at, called_reg, with_call, looks_up}
-use Rattle.bpf_flow.specs.Sound.{Accounts, Covers}
-use Rattle.bpf_flow.specs.declared.access.Access.{Access}
-use Rattle.bpf_flow.specs.declared.access.Access.TheVariants.{InPacket, OnStack, InContext, AtValue}
-use Rattle.bpf_flow.proofs.AnswerLemmas.{unless_ok, same_ok, same_some, neither, flipped}
-use Rattle.bpf_flow.proofs.RegisterLemmas.{is_set_reads, one_covers, at_slot_describes, with_number_describes, number_small}
+use Rattle.bpf_flow.specs.After.{fetched, is_key, is_key_at, with_call, looks_up}
+use Rattle.bpf_flow.specs.Sound.{Accounts}
+use Rattle.bpf_flow.specs.declared.access.Access.TheVariants.{AtValue}
+use Rattle.bpf_flow.proofs.AnswerLemmas.{unless_ok, same_some, flipped}
+use Rattle.bpf_flow.proofs.RegisterLemmas.{one_covers, at_slot_describes, with_number_describes}
 use Rattle.bpf_flow.proofs.IdLemmas.{full_reads, with_id_known}
-use Rattle.bpf_flow.proofs.ReachLemmas.{Reaches, access_reaches, place_in_ok, counter_fits, map_small, region_stack}
+use Rattle.bpf_flow.proofs.ReachLemmas.{access_reaches, place_in_ok, counter_fits, map_small, region_stack}
 use Rattle.bpf_flow.proofs.LoadLemmas.{all_set_word, counter_at_ok}
 
 -- a value's address, or 0

@@ -1,21 +1,15 @@
 -- Arithmetic: what is computed reads as what the rule makes of the operands.
-use Rattle.std.proofs.Common.{◌≡◌, ◌≢◌, ℕ, zero, suc, ◌+◌, ◌-◌, ◌*◌, ◌/◌, ◌%◌, ◌^◌, ◌<◌, ◌≤◌, ◌⊎◌, inl, inr, Bool, true, false, ◌&&◌, refl, Option, Some, None, cond, length, nat_eq, nat_lt, min, subst, sym, ap, ◌∙◌, arith, ℤ, pos, negsuc, ◌+ℤ◌}
-use Rattle.std.specs.Prelude.{if◌then◌else◌, nat_le, int_le, int_lt, ◌-ℤ◌, ◌≤ℤ◌, ◌<ℤ◌, ◌==◌, bit_and}
+use Rattle.std.proofs.Common.{◌≡◌, ℕ, ◌+◌, ◌-◌, ◌*◌, ◌%◌, ◌^◌, ◌<◌, ◌≤◌, ◌⊎◌, inl, inr, Bool, true, false, ◌&&◌, refl, nat_lt, sym, ap, ◌∙◌, arith, ℤ, pos, negsuc, ◌+ℤ◌}
+use Rattle.std.specs.Prelude.{if◌then◌else◌, nat_le, int_le, ◌-ℤ◌, ◌≤ℤ◌}
 use Rattle.std.proofs.lemmas.Bool.Decides.{nat_tests}
 use Rattle.std.proofs.lemmas.Int.{ints}
-use Rattle.bpf_insn.specs.Arithmetic.{computed, negated, operation}
-use Rattle.bpf_insn.specs.Signed.{signed_reading, sign_extended}
-use Rattle.bpf_insn.specs.ByteOrder.{swapped}
-use Rattle.bpf_insn.specs.Extension.{moved_extended}
-use Rattle.bpf_insn.specs.declared.alu_op.AluOp.{AluOp}
-use Rattle.bpf_insn.specs.declared.alu_op.AluOp.TheVariants.{Add, Sub, Mul, Div, SignedDiv, Or, And, Lsh, Rsh, Mod, SignedMod, Xor, Mov, Arsh}
-use Rattle.bpf_insn.proofs.ResultLemmas.{computed_fits}
-use Rattle.bpf_note.specs.declared.val.Val.{Val}
-use Rattle.bpf_note.specs.declared.val.Val.TheVariants.{Unset, Num, Pkt, PktEnd, Stack, Ctx, Map, MaybeValue, Value}
+use Rattle.bpf_insn.specs.Arithmetic.{computed}
+use Rattle.bpf_insn.specs.declared.alu_op.AluOp.TheVariants.{Add, Sub}
+use Rattle.bpf_note.specs.declared.val.Val.TheVariants.{Pkt, Stack}
 use Rattle.bpf_note.specs.State.{packet_start, stack_end}
-use Rattle.bpf_note.specs.Facts.{Facts, full}
+use Rattle.bpf_note.specs.Facts.{full}
 use Rattle.bpf_note.specs.Describes.{Meaning, IsReading}
-use Rattle.bpf_flow.specs.Computing.{signed, packet_at, stack_at, range_sum, range_by, ranged, difference_of}
+use Rattle.bpf_flow.specs.Computing.{signed, packet_at, stack_at}
 use Rattle.bpf_flow.proofs.IdLemmas.{full_reads}
 
 -- sums and differences modulo 2 ^ 64

@@ -1,13 +1,13 @@
 -- Ids: an instruction that makes one, and what is learnt of one.
-use Rattle.std.proofs.Common.{◌≡◌, ◌≢◌, ℕ, zero, suc, ◌+◌, ◌*◌, ◌^◌, ◌<◌, ◌≤◌, ◌⊎◌, inl, inr, Bool, true, false, refl, Option, Some, None, cond, length, nat_eq, subst, sym, ap, ◌∙◌, arith}
-use Rattle.std.specs.Prelude.{if◌then◌else◌, slice_get, option_map, ◌==◌}
+use Rattle.std.proofs.Common.{◌≡◌, ℕ, zero, suc, ◌+◌, ◌*◌, ◌^◌, ◌<◌, ◌≤◌, Bool, true, false, refl, Option, Some, None, cond, length, nat_eq, ap, ◌∙◌, arith}
+use Rattle.std.specs.Prelude.{if◌then◌else◌, option_map}
 use Rattle.std.proofs.lemmas.Bool.Decides.{nat_tests}
 use Rattle.bpf_note.specs.declared.val.Val.{Val}
 use Rattle.bpf_note.specs.declared.val.Val.TheVariants.{Unset, Num, Pkt, PktEnd, Stack, Ctx, Map, MaybeValue, Value}
 use Rattle.bpf_note.specs.Bytes.{word_at, higher}
-use Rattle.bpf_note.specs.State.{State, IsState, put, packet_start}
+use Rattle.bpf_note.specs.State.{State, put, packet_start}
 use Rattle.bpf_note.specs.Facts.{Facts, full, packet_id, forgotten, with_id, with_each, resolved}
-use Rattle.bpf_note.specs.Describes.{Meaning, meaning, Describes, Reads, IsReading, Holds, IsValueOf}
+use Rattle.bpf_note.specs.Describes.{Meaning, meaning, Describes, Reads, IsReading, Holds}
 
 power_suc : (z : ℕ) → 256 ^ suc z ≡ 256 * 256 ^ z
 power_suc z = omega arith

@@ -1,20 +1,19 @@
 -- Jumps: what an edge teaches is so.
-use Rattle.std.proofs.Common.{◌≡◌, ◌≢◌, ℕ, zero, suc, ◌+◌, ◌-◌, ◌*◌, ◌%◌, ◌^◌, ◌<◌, ◌≤◌, ◌⊎◌, inl, inr, Bool, true, false, not, refl, Option, Some, None, List, [], ◌∷◌, length, nat_eq, nat_lt, max, min, subst, sym, ap, ◌∙◌, arith, ℤ, pos, negsuc}
-use Rattle.std.specs.Prelude.{if◌then◌else◌, nat_le, ◌==◌, Ok}
+use Rattle.std.proofs.Common.{◌≡◌, ◌≢◌, ℕ, ◌+◌, ◌-◌, ◌%◌, ◌^◌, ◌<◌, ◌≤◌, inl, inr, Bool, true, false, not, refl, Option, Some, None, length, nat_eq, max, min, subst, sym, ap, ◌∙◌, arith, pos, negsuc}
+use Rattle.std.specs.Prelude.{if◌then◌else◌, nat_le}
 use Rattle.std.proofs.lemmas.Bool.Decides.{nat_tests}
-use Rattle.bpf_insn.specs.Signed.{sign_extended}
 use Rattle.bpf_insn.specs.Conditions.{relation, is_met}
 use Rattle.bpf_insn.specs.declared.condition.Condition.{Condition}
 use Rattle.bpf_insn.specs.declared.condition.Condition.TheVariants.{Equal, Greater, GreaterOrEqual, Set, NotEqual, SignedGreater, SignedGreaterOrEqual, Less, LessOrEqual, SignedLess, SignedLessOrEqual}
 use Rattle.bpf_insn.specs.declared.operand.Operand.{Operand}
 use Rattle.bpf_insn.specs.declared.operand.Operand.TheVariants.{Register, Immediate}
 use Rattle.bpf_note.specs.declared.val.Val.{Val}
-use Rattle.bpf_note.specs.declared.val.Val.TheVariants.{Unset, Num, Pkt, PktEnd, Stack, Ctx, Map, MaybeValue, Value}
-use Rattle.bpf_note.specs.State.{State, packet_start}
+use Rattle.bpf_note.specs.declared.val.Val.TheVariants.{Num, Pkt, PktEnd, MaybeValue, Value}
+use Rattle.bpf_note.specs.State.{State}
 use Rattle.bpf_note.specs.Facts.{Facts, with_reg, with_each, resolved}
 use Rattle.bpf_note.specs.Describes.{Meaning, meaning, Describes, IsReading, Reads}
 use Rattle.bpf_flow.specs.Step.{operand}
-use Rattle.bpf_flow.specs.Learning.{opposite, raised, raise, narrowed, without, below, compared, against_end, end_against, is_null, checked, learnt, learnt_if, taken, passed}
+use Rattle.bpf_flow.specs.Learning.{opposite, raised, raise, narrowed, compared, against_end, end_against, is_null, checked, learnt, learnt_if, taken, passed}
 use Rattle.bpf_flow.proofs.AnswerLemmas.{same_some}
 use Rattle.bpf_flow.proofs.IdLemmas.{same_id, resolved_describes}
 use Rattle.bpf_flow.proofs.SumLemmas.{the_one}

@@ -1,6 +1,6 @@
 -- Loads.
-use Rattle.std.proofs.Common.{◌≡◌, ◌≢◌, ℕ, zero, suc, ◌+◌, ◌-◌, ◌*◌, ◌/◌, ◌%◌, ◌^◌, ◌<◌, ◌≤◌, Bool, true, false, ◌&&◌, ◌||◌, refl, Option, Some, None, List, [], ◌∷◌, length, take, drop, nat_eq, nat_lt, subst, sym, ap, ◌∙◌, arith, ℤ, pos, negsuc, lit<}
-use Rattle.std.specs.Prelude.{if◌then◌else◌, nat_le, ◌==◌, slice_get, slice_index, IsSome, Result, Ok, Err}
+use Rattle.std.proofs.Common.{◌≡◌, ℕ, zero, suc, ◌+◌, ◌*◌, ◌/◌, ◌%◌, ◌^◌, ◌<◌, ◌≤◌, Bool, true, false, ◌&&◌, ◌||◌, refl, Option, Some, None, List, [], ◌∷◌, length, take, drop, nat_eq, subst, sym, ap, ◌∙◌, arith, ℤ, pos, negsuc, lit<}
+use Rattle.std.specs.Prelude.{if◌then◌else◌, slice_get, slice_index, IsSome, Ok, Err}
 use Rattle.std.proofs.lemmas.Bool.Decides.{nat_tests}
 use Rattle.bpf_insn.specs.Size.{size_bytes}
 use Rattle.bpf_insn.specs.declared.size.Size.{Size}
@@ -12,15 +12,15 @@ use Rattle.bpf_note.specs.declared.val.Val.{Val}
 use Rattle.bpf_note.specs.declared.val.Val.TheVariants as val
 use Rattle.bpf_note.specs.Bytes.{number_of, word_at, higher}
 use Rattle.bpf_note.specs.Shape.{Shape}
-use Rattle.bpf_note.specs.State.{State, IsState, packet_start}
+use Rattle.bpf_note.specs.State.{State, packet_start}
 use Rattle.bpf_note.specs.Regions.{Place}
 use Rattle.bpf_note.specs.Regions as place
 use Rattle.bpf_note.specs.Facts.{Facts, full, with_reg}
 use Rattle.bpf_note.specs.Describes.{Meaning, meaning, Describes, IsReading, Holds}
-use Rattle.bpf_flow.specs.Step.{Outcome, Next, Loads, Fault, need, written, with_number, is_frame, loaded, taken, load_from, field_at}
-use Rattle.bpf_flow.specs.Edges.{Edges, goes_to, sets}
-use Rattle.bpf_flow.specs.Reaching.{is_field, is_counter, all_set, any_of_size, any_loaded, is_slot, kept_or_full, stack_value, field_value, is_word, is_double, loaded_value}
-use Rattle.bpf_flow.specs.Sound.{Accounts, Covers}
+use Rattle.bpf_flow.specs.Step.{Loads, Fault, need, written, with_number, is_frame, loaded, taken, load_from, field_at}
+use Rattle.bpf_flow.specs.Edges.{Edges, goes_to}
+use Rattle.bpf_flow.specs.Reaching.{is_field, is_counter, all_set, any_of_size, any_loaded, kept_or_full, stack_value, field_value, is_word, is_double, loaded_value}
+use Rattle.bpf_flow.specs.Sound.{Accounts}
 use Rattle.bpf_flow.specs.declared.access.Access.{Access}
 use Rattle.bpf_flow.specs.declared.access.Access.TheVariants.{InPacket, OnStack, InContext, AtValue}
 use Rattle.bpf_flow.proofs.AnswerLemmas.{each, same_ok, same_some, unless_again}

@@ -1,19 +1,16 @@
 -- What an access that the rule allows reaches.
-use Rattle.std.proofs.Common.{◌≡◌, ◌≢◌, ℕ, zero, suc, ◌+◌, ◌-◌, ◌*◌, ◌/◌, ◌%◌, ◌^◌, ◌<◌, ◌≤◌, ◌⊎◌, inl, inr, Bool, true, false, ◌&&◌, refl, Option, Some, None, List, [], ◌∷◌, length, take, drop, nat_eq, nat_lt, subst, sym, ap, ◌∙◌, arith, mul-le-mul, ℤ, pos, negsuc, ◌+ℤ◌}
-use Rattle.std.specs.Prelude.{if◌then◌else◌, nat_le, ◌≤ℤ◌, ◌==◌, slice_get, Result, Ok, Err}
+use Rattle.std.proofs.Common.{◌≡◌, ℕ, zero, suc, ◌+◌, ◌-◌, ◌*◌, ◌/◌, ◌%◌, ◌^◌, ◌<◌, ◌≤◌, Bool, true, false, refl, Option, Some, None, List, [], ◌∷◌, length, subst, sym, ap, ◌∙◌, arith, mul-le-mul, ℤ, pos, negsuc, ◌+ℤ◌}
+use Rattle.std.specs.Prelude.{if◌then◌else◌, nat_le, slice_get, Ok}
 use Rattle.std.proofs.lemmas.Bool.Decides.{nat_tests}
 use Rattle.std.proofs.lemmas.Int.{ints}
-use Rattle.bpf_insn.specs.Signed.{sign_extended}
-use Rattle.bpf_insn.specs.declared.refusal.Cause.{Cause}
-use Rattle.bpf_insn.specs.declared.refusal.Cause.TheVariants as cause
 use Rattle.bpf_note.specs.declared.val.Val.{Val}
 use Rattle.bpf_note.specs.declared.val.Val.TheVariants.{Unset, Num, Pkt, PktEnd, Stack, Ctx, Map, MaybeValue, Value}
-use Rattle.bpf_note.specs.Shape.{Shape, IsShape, AreShapes}
-use Rattle.bpf_note.specs.State.{State, IsState, packet_start, stack_start, stack_end, context_start, values_start}
+use Rattle.bpf_note.specs.Shape.{Shape, IsShape}
+use Rattle.bpf_note.specs.State.{State, packet_start, stack_start, stack_end, context_start, values_start}
 use Rattle.bpf_note.specs.Regions.{Place, InStack, InCounter, Nowhere, region, counter_at, counter_address}
 use Rattle.bpf_note.specs.Regions as place
 use Rattle.bpf_note.specs.Facts.{Facts}
-use Rattle.bpf_note.specs.Describes.{Meaning, meaning, Describes, IsReading, IsValueOf}
+use Rattle.bpf_note.specs.Describes.{meaning, Describes, IsReading, IsValueOf}
 use Rattle.bpf_note.proofs.RegionLemmas.{counter_at_address}
 use Rattle.bpf_flow.specs.Step.{address, reached}
 use Rattle.bpf_flow.specs.Reaching.{place_in, packet_place, in_packet, on_stack, reach}

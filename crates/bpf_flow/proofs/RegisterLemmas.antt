@@ -1,6 +1,6 @@
 -- A register that is read or written.
-use Rattle.std.proofs.Common.{◌≡◌, ◌≢◌, ℕ, ◌+◌, ◌<◌, ◌≤◌, ◌^◌, Bool, true, false, refl, Option, Some, None, cond, List, [], ◌∷◌, length, inl, nat_eq, subst, sym, arith}
-use Rattle.std.specs.Prelude.{Result, Ok, Err, if◌then◌else◌}
+use Rattle.std.proofs.Common.{◌≡◌, ℕ, ◌<◌, ◌≤◌, ◌^◌, Bool, true, false, refl, Option, Some, None, cond, [], ◌∷◌, inl, nat_eq, subst, arith}
+use Rattle.std.specs.Prelude.{Ok, if◌then◌else◌}
 use Rattle.std.proofs.lemmas.Bool.Decides.{nat_tests}
 use Rattle.bpf_insn.specs.Register.{number}
 use Rattle.bpf_insn.specs.declared.register.Register.{Register}
@@ -8,10 +8,10 @@ use Rattle.bpf_insn.specs.declared.register.Register.TheVariants.{R0, R1, R2, R3
 use Rattle.bpf_insn.specs.declared.refusal.Cause.TheVariants as cause
 use Rattle.bpf_note.specs.declared.val.Val.{Val}
 use Rattle.bpf_note.specs.declared.val.Val.TheVariants.{Unset, Num, Pkt, PktEnd, Stack, Ctx, Map, MaybeValue, Value}
-use Rattle.bpf_note.specs.State.{State, IsState, put}
+use Rattle.bpf_note.specs.State.{State, IsState}
 use Rattle.bpf_note.specs.Facts.{Facts, is_unset, with_reg}
 use Rattle.bpf_note.specs.Describes.{Meaning, meaning, Describes, Reads, IsReading}
-use Rattle.bpf_flow.specs.Step.{Outcome, Next, Fault, written, with_number, at_slot, is_frame}
+use Rattle.bpf_flow.specs.Step.{Next, Fault, written, with_number, at_slot, is_frame}
 use Rattle.bpf_flow.specs.Edges.{Edges, sets, unless, goes_to}
 use Rattle.bpf_flow.specs.Sound.{Accounts, Covers}
 use Rattle.bpf_flow.proofs.AnswerLemmas.{same_ok}

@@ -1,14 +1,14 @@
 -- What an operation computes reads as its result.
-use Rattle.std.proofs.Common.{◌≡◌, ◌≢◌, ℕ, zero, suc, ◌+◌, ◌-◌, ◌*◌, ◌/◌, ◌%◌, ◌^◌, ◌<◌, ◌≤◌, Bool, true, false, ◌&&◌, refl, Option, Some, None, nat_eq, nat_lt, min, subst, sym, ap, ◌∙◌, arith}
-use Rattle.std.specs.Prelude.{if◌then◌else◌, nat_le, ◌==◌, bit_and}
+use Rattle.std.proofs.Common.{◌≡◌, ◌≢◌, ℕ, ◌-◌, ◌*◌, ◌/◌, ◌%◌, ◌^◌, ◌<◌, ◌≤◌, Bool, true, false, refl, Option, Some, None, nat_eq, nat_lt, subst, sym, ap, ◌∙◌, arith}
+use Rattle.std.specs.Prelude.{if◌then◌else◌, bit_and}
 use Rattle.std.proofs.lemmas.Bool.Decides.{nat_tests}
 use Rattle.std.proofs.lemmas.Nat.{and_le_l, and_le_r, le-div, pow_pos}
 use Rattle.std.proofs.Math.Nat.{mul-le-mul_right, div-mul-le_self}
-use Rattle.bpf_insn.specs.Arithmetic.{computed, negated, operation}
+use Rattle.bpf_insn.specs.Arithmetic.{computed, negated}
 use Rattle.bpf_insn.specs.ByteOrder.{swapped}
 use Rattle.bpf_insn.specs.Extension.{moved_extended}
 use Rattle.bpf_insn.specs.declared.alu_op.AluOp.{AluOp}
-use Rattle.bpf_insn.specs.declared.alu_op.AluOp.TheVariants.{Add, Sub, Mul, Div, SignedDiv, Or, And, Lsh, Rsh, Mod, SignedMod, Xor, Mov, Arsh}
+use Rattle.bpf_insn.specs.declared.alu_op.AluOp.TheVariants.{Add, Sub, And, Lsh, Rsh, Mod, Mov}
 use Rattle.bpf_insn.specs.declared.size.Size.{Size}
 use Rattle.bpf_insn.specs.declared.width.Width.{Width}
 use Rattle.bpf_insn.specs.declared.width.Width.TheVariants.{Bits16, Bits32, Bits64}
@@ -19,8 +19,8 @@ use Rattle.bpf_note.specs.declared.val.Val.TheVariants.{Unset, Num, Pkt, PktEnd,
 use Rattle.bpf_note.specs.Facts.{Facts, full}
 use Rattle.bpf_note.specs.Describes.{Meaning, IsReading}
 use Rattle.bpf_flow.specs.declared.computed.Computed.{Computed}
-use Rattle.bpf_flow.specs.declared.computed.Computed.TheVariants.{Plain, Fresh}
-use Rattle.bpf_flow.specs.Computing.{exactly, constant, any_number, range_by, ranged, unfolded, folded, first_constant, result_of, sum_of, difference_of, folded_one, negated_value, extended_value, any_of_width, swapped_value}
+use Rattle.bpf_flow.specs.declared.computed.Computed.TheVariants.{Plain}
+use Rattle.bpf_flow.specs.Computing.{constant, any_number, range_by, ranged, unfolded, folded, result_of, folded_one, negated_value, extended_value, any_of_width, swapped_value}
 use Rattle.bpf_flow.proofs.IdLemmas.{full_reads, same_id}
 use Rattle.bpf_flow.proofs.SumLemmas.{IsResult, the_one, sum_reads, difference_reads}
 

@@ -1,6 +1,6 @@
 -- The rule accounts for what each instruction does.
-use Rattle.std.proofs.Common.{◌≡◌, ◌≢◌, ℕ, ◌+◌, ◌^◌, ◌<◌, ◌≤◌, inl, inr, Bool, true, false, ◌&&◌, ◌||◌, not, refl, Option, Some, None, List, [], ◌∷◌, length, nat_eq, subst, sym, ap, ◌∙◌, arith, ℤ, pos, negsuc}
-use Rattle.std.specs.Prelude.{if◌then◌else◌, ◌==◌, slice_get, Result, Ok, Err}
+use Rattle.std.proofs.Common.{◌≡◌, ℕ, ◌+◌, ◌^◌, ◌<◌, ◌≤◌, inl, inr, Bool, true, false, ◌&&◌, ◌||◌, not, refl, Option, Some, [], ◌∷◌, length, nat_eq, subst, sym, ap, ◌∙◌, arith, ℤ, pos, negsuc}
+use Rattle.std.specs.Prelude.{if◌then◌else◌, Ok}
 use Rattle.std.proofs.lemmas.Bool.Decides.{nat_tests}
 use Rattle.bpf_insn.specs.Register.{number}
 use Rattle.bpf_insn.specs.Signed.{sign_extended}
@@ -23,20 +23,20 @@ use Rattle.bpf_insn.proofs.ResultLemmas.{computed_fits, negated_fits, moved_exte
 use Rattle.bpf_note.specs.declared.val.Val.{Val}
 use Rattle.bpf_note.specs.declared.val.Val.TheVariants as val
 use Rattle.bpf_note.specs.State.{State, packet_start, references_start}
-use Rattle.bpf_note.specs.Facts.{Facts, full, is_unset, packet_id, with_reg, with_id}
+use Rattle.bpf_note.specs.Facts.{Facts, is_unset, packet_id, with_reg, with_id}
 use Rattle.bpf_note.specs.Describes.{Meaning, meaning, Describes, IsReading, Reads}
-use Rattle.bpf_flow.specs.Step.{Outcome, Next, Exited, Fault, need, written, with_number, at_slot, is_frame, operand, first_operand, target, jumped, reached, load_from, store_to, add_to, looked_up, helped, exec}
-use Rattle.bpf_flow.specs.Edges.{Edges, unless, and_then, goes_to, sets, with_computed, sets_computed}
+use Rattle.bpf_flow.specs.Step.{Next, Exited, Fault, need, written, at_slot, is_frame, operand, target, jumped, reached, load_from, store_to, add_to, looked_up, exec}
+use Rattle.bpf_flow.specs.Edges.{Edges, unless, and_then, sets, sets_computed}
 use Rattle.bpf_flow.specs.Computing.{exactly, operand_value, result_of, folded, unfolded, constant, negated_value, extended_value, swapped_value}
 use Rattle.bpf_flow.specs.Reaching.{reach, loaded_value, stores, adds_at}
 use Rattle.bpf_flow.specs.Learning.{taken, passed}
-use Rattle.bpf_flow.specs.After.{is_first_unset, at_target, fetched, looks_up, is_lookup, after_of, IsRuled}
-use Rattle.bpf_flow.specs.Sound.{Accounts, Covers, HasWords}
+use Rattle.bpf_flow.specs.After.{looks_up, after_of, IsRuled}
+use Rattle.bpf_flow.specs.Sound.{Accounts, HasWords}
 use Rattle.bpf_flow.specs.declared.computed.Computed.{Computed}
 use Rattle.bpf_flow.specs.declared.computed.Computed.TheVariants.{Plain, Fresh}
-use Rattle.bpf_flow.proofs.AnswerLemmas.{unless_ok, and_then_ok, at_target_ok, neither, flipped, same_ok, unless_again}
+use Rattle.bpf_flow.proofs.AnswerLemmas.{unless_ok, and_then_ok, at_target_ok, neither}
 use Rattle.bpf_flow.proofs.RegisterLemmas.{number_small, is_set_reads, at_slot_describes, with_number_describes, written_sound, sets_sound}
-use Rattle.bpf_flow.proofs.IdLemmas.{same_id, with_id_known}
+use Rattle.bpf_flow.proofs.IdLemmas.{with_id_known}
 use Rattle.bpf_flow.proofs.SumLemmas.{IsResult}
 use Rattle.bpf_flow.proofs.ResultLemmas.{both_read, move_read, negated_reads, extended_reads, swapped_reads}
 use Rattle.bpf_flow.proofs.ReachLemmas.{access_reaches}

@@ -1,5 +1,5 @@
 -- What the loops over stack bytes and lost registers keep.
-use Rattle.std.proofs.Common.{◌≡◌, ℕ, zero, suc, ◌+◌, ◌-◌, ◌*◌, ◌/◌, ◌<◌, ◌≤◌, Bool, true, false, ◌&&◌, ◌||◌, refl, Option, Some, None, nat_eq, nat_lt, max, min, sym, ap, ◌∙◌, arith, subst, cond}
+use Rattle.std.proofs.Common.{◌≡◌, ℕ, suc, ◌+◌, ◌-◌, ◌/◌, ◌<◌, ◌≤◌, Bool, true, false, ◌&&◌, ◌||◌, refl, Option, None, nat_eq, nat_lt, sym, ap, ◌∙◌, arith, cond}
 use Rattle.std.specs.Prelude.{if◌then◌else◌, nat_le, ◌==◌}
 use Rattle.std.proofs.lemmas.Bool.Decides.{nat_tests}
 use mathlib.Core.Path.{fun_ext}
@@ -8,7 +8,7 @@ use Rattle.bpf_note.specs.declared.val.Val.TheVariants.{Unset, MaybeValue}
 use Rattle.bpf_note.specs.State.{put}
 use Rattle.bpf_note.specs.Facts.{Facts, with_reg, with_byte}
 use Rattle.bpf_flow.specs.Reaching.{all_set, touches, with_bytes}
-use Rattle.bpf_flow.specs.After.{called_reg, with_call}
+use Rattle.bpf_flow.specs.After.{with_call}
 
 -- the first of the bytes, and the rest
 pub all_set_step : (n : Facts) (i end : ℕ) → i < end → all_set n i (end - i) ≡ (n.set i && all_set n (i + 1) (end - (i + 1)))

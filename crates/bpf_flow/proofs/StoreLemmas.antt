@@ -1,6 +1,6 @@
 -- Stores.
-use Rattle.std.proofs.Common.{◌≡◌, ◌≢◌, ℕ, zero, suc, ◌+◌, ◌-◌, ◌*◌, ◌/◌, ◌%◌, ◌^◌, ◌<◌, ◌≤◌, Bool, true, false, ◌&&◌, ◌||◌, refl, Option, Some, None, List, [], ◌∷◌, ◌++◌, length, take, drop, nat_eq, nat_lt, subst, sym, ap, ◌∙◌, arith, add-zero}
-use Rattle.std.specs.Prelude.{if◌then◌else◌, nat_le, ◌==◌, slice_index, IsSome, Ok, Err}
+use Rattle.std.proofs.Common.{◌≡◌, ℕ, zero, suc, ◌+◌, ◌-◌, ◌*◌, ◌/◌, ◌%◌, ◌^◌, ◌<◌, ◌≤◌, Bool, true, false, ◌&&◌, ◌||◌, refl, Option, Some, None, List, [], ◌∷◌, ◌++◌, length, take, drop, nat_eq, nat_lt, subst, sym, ap, ◌∙◌, arith, add-zero}
+use Rattle.std.specs.Prelude.{if◌then◌else◌, nat_le, slice_index, IsSome, Ok}
 use Rattle.std.proofs.lemmas.Bool.Decides.{nat_tests}
 use Rattle.std.proofs.Math.Nat.{pow-succ'}
 use Rattle.std.proofs.lemmas.List.{length-append, length-take, length-drop}
@@ -8,16 +8,15 @@ use Rattle.bpf_insn.specs.Size.{size_bytes}
 use Rattle.bpf_insn.specs.declared.size.Size.{Size}
 use Rattle.bpf_insn.specs.declared.size.Size.TheVariants.{Byte, Half, Word, Double}
 use Rattle.bpf_note.specs.declared.val.Val.{Val}
-use Rattle.bpf_note.specs.Bytes.{number_of, bytes_of, byte_of, word_at, higher, put_bytes}
-use Rattle.bpf_note.specs.State.{State, IsState, put}
+use Rattle.bpf_note.specs.Bytes.{bytes_of, byte_of, word_at, higher, put_bytes}
+use Rattle.bpf_note.specs.State.{State, IsState}
 use Rattle.bpf_note.specs.Regions.{Place}
-use Rattle.bpf_note.specs.Regions as place
 use Rattle.bpf_note.specs.Facts.{Facts, with_kept}
 use Rattle.bpf_note.specs.Describes.{Meaning, meaning, Describes, IsReading, Reads, Holds}
-use Rattle.bpf_flow.specs.Step.{Outcome, Next, store_to, with_stack, with_packet, spliced}
-use Rattle.bpf_flow.specs.Edges.{Edges, goes_to}
-use Rattle.bpf_flow.specs.Reaching.{is_slot, touches, with_bytes, with_store, stores}
-use Rattle.bpf_flow.specs.Sound.{Accounts, Covers}
+use Rattle.bpf_flow.specs.Step.{store_to, with_stack, with_packet, spliced}
+use Rattle.bpf_flow.specs.Edges.{Edges}
+use Rattle.bpf_flow.specs.Reaching.{touches, with_bytes, with_store, stores}
+use Rattle.bpf_flow.specs.Sound.{Accounts}
 use Rattle.bpf_flow.specs.declared.access.Access.{Access}
 use Rattle.bpf_flow.specs.declared.access.Access.TheVariants.{InPacket, OnStack, InContext, AtValue}
 use Rattle.bpf_flow.proofs.RegisterLemmas.{one_covers}

@@ -1,19 +1,19 @@
 -- Sums and differences of pointers, ranges and constants.
-use Rattle.std.proofs.Common.{◌≡◌, ◌≢◌, ℕ, zero, suc, ◌+◌, ◌-◌, ◌*◌, ◌/◌, ◌%◌, ◌^◌, ◌<◌, ◌≤◌, ◌⊎◌, inl, inr, Bool, true, false, ◌&&◌, refl, Option, Some, None, nat_eq, nat_lt, subst, sym, ap, ◌∙◌, arith, ℤ, pos, negsuc, ◌+ℤ◌}
-use Rattle.std.specs.Prelude.{if◌then◌else◌, nat_le, ◌-ℤ◌, ◌≤ℤ◌, ◌==◌}
+use Rattle.std.proofs.Common.{◌≡◌, ℕ, ◌+◌, ◌%◌, ◌^◌, ◌<◌, ◌≤◌, Bool, true, false, ◌&&◌, refl, nat_eq, nat_lt, subst, sym, ap, ◌∙◌, arith, ℤ, pos, negsuc, ◌+ℤ◌}
+use Rattle.std.specs.Prelude.{if◌then◌else◌, nat_le, ◌-ℤ◌, ◌≤ℤ◌}
 use Rattle.std.proofs.lemmas.Bool.Decides.{nat_tests}
 use Rattle.std.proofs.lemmas.Int.{ints}
 use Rattle.bpf_insn.specs.Arithmetic.{computed}
 use Rattle.bpf_insn.specs.declared.alu_op.AluOp.TheVariants.{Add, Sub}
 use Rattle.bpf_insn.proofs.ResultLemmas.{computed_fits}
 use Rattle.bpf_note.specs.declared.val.Val.{Val}
-use Rattle.bpf_note.specs.declared.val.Val.TheVariants.{Unset, Num, Pkt, PktEnd, Stack, Ctx, Map, MaybeValue, Value}
+use Rattle.bpf_note.specs.declared.val.Val.TheVariants.{Num, Pkt, Stack}
 use Rattle.bpf_note.specs.State.{packet_start, stack_end}
 use Rattle.bpf_note.specs.Facts.{Facts, full}
 use Rattle.bpf_note.specs.Describes.{Meaning, IsReading}
 use Rattle.bpf_flow.specs.declared.computed.Computed.{Computed}
 use Rattle.bpf_flow.specs.declared.computed.Computed.TheVariants.{Plain, Fresh}
-use Rattle.bpf_flow.specs.Computing.{signed, most_base, packet_at, stack_at, packet_sum, stack_sum, range_sum, sum_of, difference_of}
+use Rattle.bpf_flow.specs.Computing.{signed, most_base, packet_at, stack_at, packet_sum, stack_sum, sum_of, difference_of}
 use Rattle.bpf_flow.proofs.IdLemmas.{full_reads, same_id}
 use Rattle.bpf_flow.proofs.ComputeLemmas.{sum_is, sum_signed, difference_signed, packet_at_reads, stack_at_reads}
 

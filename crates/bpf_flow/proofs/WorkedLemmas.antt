@@ -1,14 +1,13 @@
 -- The definitions, computed on small programs.
-use Rattle.std.proofs.Common.{◌≡◌, ◌^◌, ◌-◌, ℕ, zero, suc, List, [], ◌∷◌, Option, None, Some, refl, true, false}
-use Rattle.std.specs.Prelude.{pos, negsuc, slice_get}
-use Rattle.bpf_insn.specs.Arithmetic.{computed, negated}
-use Rattle.bpf_insn.specs.ByteOrder.{swapped}
+use Rattle.std.proofs.Common.{◌≡◌, ◌^◌, ◌-◌, ℕ, zero, suc, List, [], ◌∷◌, None, refl, true, false}
+use Rattle.std.specs.Prelude.{pos, negsuc}
+use Rattle.bpf_insn.specs.Arithmetic.{computed}
 use Rattle.bpf_insn.specs.Conditions.{is_met}
-use Rattle.bpf_insn.specs.Extension.{extended, moved_extended}
-use Rattle.bpf_insn.specs.declared.register.Register.TheVariants.{R0, R1, R2, R3, R4, R6, R10}
+use Rattle.bpf_insn.specs.Extension.{extended}
+use Rattle.bpf_insn.specs.declared.register.Register.TheVariants.{R0, R1, R2, R3, R4, R10}
 use Rattle.bpf_insn.specs.declared.operand.Operand.TheVariants.{Register, Immediate}
 use Rattle.bpf_insn.specs.declared.alu_op.AluOp.TheVariants as ops
-use Rattle.bpf_insn.specs.declared.size.Size.TheVariants.{Byte, Word, Double}
+use Rattle.bpf_insn.specs.declared.size.Size.TheVariants.{Byte, Word}
 use Rattle.bpf_insn.specs.declared.condition.Condition.TheVariants.{Greater, Equal}
 use Rattle.bpf_insn.specs.declared.insn.Insn.{Insn}
 use Rattle.bpf_insn.specs.declared.insn.Insn.TheVariants.{Alu, MapRef, Ldx, St, AddCounter, Jump, Call, Exit, Second}

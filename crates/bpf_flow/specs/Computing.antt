@@ -14,7 +14,7 @@ use Rattle.bpf_insn.specs.declared.width.Width.{Width}
 use Rattle.bpf_insn.specs.declared.width.Width.TheVariants.{Bits16, Bits32, Bits64}
 use Rattle.bpf_insn.specs.declared.swap_kind.SwapKind.{SwapKind}
 use Rattle.bpf_note.specs.declared.val.Val.{Val}
-use Rattle.bpf_note.specs.declared.val.Val.TheVariants.{Unset, Num, Pkt, Stack}
+use Rattle.bpf_note.specs.declared.val.Val.TheVariants.{Num, Pkt, Stack}
 use Rattle.bpf_note.specs.Facts.{Facts, full}
 use Rattle.bpf_flow.specs.declared.computed.Computed.{Computed}
 use Rattle.bpf_flow.specs.declared.computed.Computed.TheVariants.{Plain, Fresh}

@@ -1,9 +1,9 @@
 -- What the edges of a conditional jump teach (JMP alone, and its unsigned conditions).
-use Rattle.std.specs.Prelude.{ℕ, ◌+◌, ◌-◌, min, max, ℤ, pos, negsuc, Option, None, Some, Bool, true, false, if◌then◌else◌, ◌==◌, nat_le}
+use Rattle.std.specs.Prelude.{ℕ, ◌+◌, ◌-◌, min, max, pos, Option, None, Some, Bool, true, false, if◌then◌else◌, ◌==◌, nat_le}
 use Rattle.bpf_insn.specs.declared.condition.Condition.{Condition}
-use Rattle.bpf_insn.specs.declared.condition.Condition.TheVariants.{Equal, Greater, GreaterOrEqual, Set, NotEqual, SignedGreater, SignedGreaterOrEqual, Less, LessOrEqual, SignedLess, SignedLessOrEqual}
+use Rattle.bpf_insn.specs.declared.condition.Condition.TheVariants.{Equal, Greater, GreaterOrEqual, NotEqual, Less, LessOrEqual}
 use Rattle.bpf_insn.specs.declared.operand.Operand.{Operand}
-use Rattle.bpf_insn.specs.declared.operand.Operand.TheVariants.{Register, Immediate}
+use Rattle.bpf_insn.specs.declared.operand.Operand.TheVariants.{Immediate}
 use Rattle.bpf_note.specs.declared.val.Val.{Val}
 use Rattle.bpf_note.specs.declared.val.Val.TheVariants.{Num, Pkt, PktEnd, MaybeValue, Value}
 use Rattle.bpf_note.specs.Facts.{Facts, with_reg, with_safe, with_each, resolved}

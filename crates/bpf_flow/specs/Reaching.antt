@@ -9,7 +9,7 @@ use Rattle.bpf_note.specs.declared.val.Val.{Val}
 use Rattle.bpf_note.specs.declared.val.Val.TheVariants as val
 use Rattle.bpf_note.specs.Shape.{Shape}
 use Rattle.bpf_note.specs.Facts.{Facts, full, packet_id, with_kept}
-use Rattle.bpf_flow.specs.Edges.{Answer, or_refuse, unless, goes_to}
+use Rattle.bpf_flow.specs.Edges.{Answer, goes_to}
 use Rattle.bpf_flow.specs.declared.access.Access.{Access}
 use Rattle.bpf_flow.specs.declared.access.Access.TheVariants.{InPacket, OnStack, InContext, AtValue}
 

@@ -11,6 +11,8 @@ mod reaching;
 mod registers;
 mod rule;
 mod successors;
+#[cfg(test)]
+mod tests;
 
 pub use laws::{
     frame_pointer_exactly_where_written, labels_fit_their_instruction,

@@ -8,10 +8,7 @@ ghost use Rattle.bpf_flow.specs.Reaching.{place_in, in_packet, on_stack, reach, 
 
 use crate::access::Access;
 use bpf_insn::{Cause, Size};
-use bpf_note::{MapShape, Note, Val};
-
-/// The id of the packet's start.
-const PACKET_ID: u16 = 0xFFFF;
+use bpf_note::{MapShape, Note, PACKET_ID, Val};
 
 /// The place in a region of `limit` bytes, where `bytes` from it on lie in the region.
 fn place_in(at: i32, bytes: u32, limit: u32) -> Option<u32>

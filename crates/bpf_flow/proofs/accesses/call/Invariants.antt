@@ -1,4 +1,4 @@
-use Rattle.std.proofs.Common.{◌≡◌, ◌≤◌}
+use Rattle.std.proofs.Common.{◌≡◌}
 use Rattle.bpf_note.specs.Parts.{facts}
 use Rattle.bpf_flow.proofs.StackLemmas.{with_lost}
 use Rattle.bpf_flow.proofs.accesses.call.Given as goal

@@ -1,4 +1,4 @@
-use Rattle.std.proofs.Common.{rules, ◌≡◌, ◌+◌, ◌-◌, ◌<◌, ◌≤◌, ◌&&◌, ℕ, Bool, true, sym, ap, ◌∙◌, arith}
+use Rattle.std.proofs.Common.{rules, ◌≡◌, ◌+◌, ◌-◌, ◌&&◌, Bool, true, sym, ap, ◌∙◌, arith}
 use Rattle.bpf_note.specs.Parts.{facts}
 use Rattle.bpf_flow.specs.Reaching.{all_set}
 use Rattle.bpf_flow.proofs.StackLemmas.{all_set_step}

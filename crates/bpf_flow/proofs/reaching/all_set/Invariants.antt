@@ -1,4 +1,4 @@
-use Rattle.std.proofs.Common.{◌≡◌, ◌+◌, ◌-◌, ◌<◌, ◌≤◌}
+use Rattle.std.proofs.Common.{◌≡◌, ◌+◌, ◌-◌}
 use Rattle.bpf_note.specs.Parts.{facts}
 use Rattle.bpf_flow.specs.Reaching.{all_set}
 use Rattle.bpf_flow.proofs.reaching.all_set.Given as goal

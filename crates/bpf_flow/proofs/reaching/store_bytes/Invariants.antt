@@ -1,4 +1,4 @@
-use Rattle.std.proofs.Common.{◌≡◌, ◌+◌, ◌-◌, ◌<◌, ◌≤◌}
+use Rattle.std.proofs.Common.{◌≡◌, ◌-◌}
 use Rattle.bpf_note.specs.Parts.{facts}
 use Rattle.bpf_flow.specs.Reaching.{with_bytes}
 use Rattle.bpf_flow.proofs.reaching.store_bytes.Given as goal

@@ -1,4 +1,4 @@
-use Rattle.std.proofs.Common.{rules, ◌≡◌, FitsSigned, w16, w32, subst, sym}
+use Rattle.std.proofs.Common.{rules, FitsSigned, w16, w32, subst, sym}
 use Rattle.std.proofs.lemmas.Int.{to_z-of_z}
 use Rattle.bpf_insn.specs.declared.insn.Insn.{Insn}
 use Rattle.bpf_note.specs.Parts.{facts}

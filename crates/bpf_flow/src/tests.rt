@@ -1,0 +1,7 @@
+mod arithmetic;
+mod bounds;
+mod causes;
+mod jumps;
+mod maps;
+mod memory;
+mod steps;
