@@ -1,0 +1,61 @@
+/* Drops UDP packets to port 53 over IPv4, however long the IPv4 header is, and passes all else. */
+struct xdp_md {
+	unsigned int data;
+	unsigned int data_end;
+	unsigned int data_meta;
+	unsigned int ingress_ifindex;
+	unsigned int rx_queue_index;
+};
+
+enum xdp_action { XDP_ABORTED, XDP_DROP, XDP_PASS, XDP_TX };
+
+struct ethhdr {
+	unsigned char h_dest[6];
+	unsigned char h_source[6];
+	unsigned short h_proto;
+};
+
+struct iphdr {
+	unsigned char ihl_version, tos;
+	unsigned short tot_len, id, frag_off;
+	unsigned char ttl, protocol;
+	unsigned short check;
+	unsigned int saddr, daddr;
+};
+
+struct udphdr {
+	unsigned short source, dest, len, check;
+};
+
+#define ETH_P_IP 0x0800
+#define IPPROTO_UDP 17
+#define FRAGMENT_OFFSET 0x1fff
+#define PORT_DNS 53
+
+__attribute__((section("xdp"), used))
+int ip_header_length(struct xdp_md *ctx)
+{
+	void *data = (void *)(long)ctx->data;
+	void *data_end = (void *)(long)ctx->data_end;
+	struct ethhdr *eth = data;
+	struct iphdr *ip = (void *)(eth + 1);
+	struct udphdr *udp;
+	unsigned long first, length;
+
+	if ((void *)(ip + 1) > data_end)
+		return XDP_PASS;
+	if (eth->h_proto != __builtin_bswap16(ETH_P_IP) || ip->protocol != IPPROTO_UDP)
+		return XDP_PASS;
+	if (ip->frag_off & __builtin_bswap16(FRAGMENT_OFFSET))
+		return XDP_PASS;
+	first = ip->ihl_version;
+	/* Without this clang masks the low half alone, from which the verifier learns no range. */
+	asm volatile("" : "+r"(first));
+	length = (first & 15) * 4;
+	if (length < sizeof(*ip))
+		return XDP_DROP;
+	udp = (void *)ip + length;
+	if ((void *)(udp + 1) > data_end)
+		return XDP_PASS;
+	return udp->dest == __builtin_bswap16(PORT_DNS) ? XDP_DROP : XDP_PASS;
+}
