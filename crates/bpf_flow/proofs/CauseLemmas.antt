@@ -123,11 +123,11 @@ rule_causes (Ldx size signed dst src off) pc n shapes c r h =
 rule_causes (St size dst off imm) pc n shapes c r h =
     unless_cause (is_unset (n.reg (number dst))) cause.Unset c _ tt (λ g.
     then_cause (reach n (n.reg (number dst)) off (size_bytes size)) _ c (reach_cause n (n.reg (number dst)) off (size_bytes size) c)
-        (λ a g. stores_cause n (pc + 1) size (exactly (sign_extended imm)) a c g) g) h
+    (λ a g. stores_cause n (pc + 1) size (exactly (sign_extended imm)) a c g) g) h
 rule_causes (Stx size dst src off) pc n shapes c r h =
     unless_cause (is_unset (n.reg (number src)) || is_unset (n.reg (number dst))) cause.Unset c _ tt (λ g.
     then_cause (reach n (n.reg (number dst)) off (size_bytes size)) _ c (reach_cause n (n.reg (number dst)) off (size_bytes size) c)
-        (λ a g. stores_cause n (pc + 1) size (n.reg (number src)) a c g) g) h
+    (λ a g. stores_cause n (pc + 1) size (n.reg (number src)) a c g) g) h
 rule_causes (AddCounter fetch dst src off) pc n shapes c r h =
     unless_cause (is_unset (n.reg (number src)) || is_unset (n.reg (number dst))) cause.Unset c _ tt (λ g.
     unless_cause (fetch && is_frame (number src)) cause.FramePointer c _ tt (λ g.

@@ -106,4 +106,3 @@ rule_leads Exit pc n shapes es q h s =
     let u = unless_ok (is_unset (n.reg 0)) cause.Unset (Ok []) es h in
     absurd (subst (λ (es : Edges). Speaks es q) (sym (same_ok [] es u.1)) s)
 rule_leads Second pc n shapes es q h s = absurd (cc)
-
