@@ -4,4 +4,5 @@ mod causes;
 mod jumps;
 mod maps;
 mod memory;
+mod registers;
 mod steps;
