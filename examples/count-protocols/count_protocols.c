@@ -1,29 +1,6 @@
 /* Counts IPv4 packets by protocol in a map of 256 counters, and passes every packet. */
-struct xdp_md {
-	unsigned int data;
-	unsigned int data_end;
-	unsigned int data_meta;
-	unsigned int ingress_ifindex;
-	unsigned int rx_queue_index;
-};
-
-enum xdp_action { XDP_ABORTED, XDP_DROP, XDP_PASS, XDP_TX };
-
-struct ethhdr {
-	unsigned char h_dest[6];
-	unsigned char h_source[6];
-	unsigned short h_proto;
-};
-
-struct iphdr {
-	unsigned char ihl_version, tos;
-	unsigned short tot_len, id, frag_off;
-	unsigned char ttl, protocol;
-	unsigned short check;
-	unsigned int saddr, daddr;
-};
-
-#define ETH_P_IP 0x0800
+#include "../headers.h"
+#include "../xdp.h"
 
 extern char protocols[];	/* the map; the settings say which */
 

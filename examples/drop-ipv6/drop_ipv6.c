@@ -1,19 +1,6 @@
 /* Drops IPv6 and passes all else. */
-struct xdp_md {
-	unsigned int data;
-	unsigned int data_end;
-	unsigned int data_meta;
-	unsigned int ingress_ifindex;
-	unsigned int rx_queue_index;
-};
-
-enum xdp_action { XDP_ABORTED, XDP_DROP, XDP_PASS, XDP_TX };
-
-struct ethhdr {
-	unsigned char h_dest[6];
-	unsigned char h_source[6];
-	unsigned short h_proto;
-};
+#include "../headers.h"
+#include "../xdp.h"
 
 #define ETH_P_IPV6 0x86dd
 

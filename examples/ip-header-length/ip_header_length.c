@@ -1,33 +1,11 @@
 /* Drops UDP packets to port 53 over IPv4, however long the IPv4 header is, and passes all else. */
-struct xdp_md {
-	unsigned int data;
-	unsigned int data_end;
-	unsigned int data_meta;
-	unsigned int ingress_ifindex;
-	unsigned int rx_queue_index;
-};
-
-enum xdp_action { XDP_ABORTED, XDP_DROP, XDP_PASS, XDP_TX };
-
-struct ethhdr {
-	unsigned char h_dest[6];
-	unsigned char h_source[6];
-	unsigned short h_proto;
-};
-
-struct iphdr {
-	unsigned char ihl_version, tos;
-	unsigned short tot_len, id, frag_off;
-	unsigned char ttl, protocol;
-	unsigned short check;
-	unsigned int saddr, daddr;
-};
+#include "../headers.h"
+#include "../xdp.h"
 
 struct udphdr {
 	unsigned short source, dest, len, check;
 };
 
-#define ETH_P_IP 0x0800
 #define IPPROTO_UDP 17
 #define FRAGMENT_OFFSET 0x1fff
 #define PORT_DNS 53

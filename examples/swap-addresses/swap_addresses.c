@@ -1,13 +1,5 @@
 /* Swaps the two Ethernet addresses and sends the packet back; drops what is too short for them. */
-struct xdp_md {
-	unsigned int data;
-	unsigned int data_end;
-	unsigned int data_meta;
-	unsigned int ingress_ifindex;
-	unsigned int rx_queue_index;
-};
-
-enum xdp_action { XDP_ABORTED, XDP_DROP, XDP_PASS, XDP_TX };
+#include "../xdp.h"
 
 struct address {
 	unsigned short part[3];

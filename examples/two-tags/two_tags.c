@@ -1,26 +1,12 @@
 /* Passes IPv4 behind at most two VLAN tags, and drops all else. */
-struct xdp_md {
-	unsigned int data;
-	unsigned int data_end;
-	unsigned int data_meta;
-	unsigned int ingress_ifindex;
-	unsigned int rx_queue_index;
-};
-
-enum xdp_action { XDP_ABORTED, XDP_DROP, XDP_PASS, XDP_TX };
-
-struct ethhdr {
-	unsigned char h_dest[6];
-	unsigned char h_source[6];
-	unsigned short h_proto;
-};
+#include "../headers.h"
+#include "../xdp.h"
 
 struct vlan_hdr {
 	unsigned short tci;
 	unsigned short proto;
 };
 
-#define ETH_P_IP 0x0800
 #define ETH_P_8021Q 0x8100
 #define ETH_P_8021AD 0x88a8
 #define MOST_TAGS 2
@@ -42,7 +28,7 @@ int two_tags(struct xdp_md *ctx)
 	if ((void *)(eth + 1) > data_end)
 		return XDP_DROP;
 	proto = eth->h_proto;
-	/* No jump may go backwards. */
+	/* No jump may close a cycle. */
 #pragma unroll
 	for (int i = 0; i < MOST_TAGS; i++) {
 		if (!is_tag(proto))
