@@ -1,0 +1,62 @@
+/* Refuses one allocation of a process: the one whose number, from 1, is in REFUSE. At the end it writes to standard error how many
+   there were. To be preloaded. */
+#include <errno.h>
+#include <stddef.h>
+#include <stdio.h>
+#include <stdlib.h>
+#include <unistd.h>
+
+void *__libc_malloc(size_t size);
+void *__libc_calloc(size_t count, size_t size);
+void *__libc_realloc(void *old, size_t size);
+void *__libc_memalign(size_t align, size_t size);
+
+static long number;
+
+static int is_refused(void)
+{
+	static long refused = -1;
+
+	if (refused < 0) {
+		const char *text = getenv("REFUSE");
+		refused = text ? atol(text) : 0;
+	}
+	return ++number == refused;
+}
+
+void *malloc(size_t size)
+{
+	return is_refused() ? NULL : __libc_malloc(size);
+}
+
+void *calloc(size_t count, size_t size)
+{
+	return is_refused() ? NULL : __libc_calloc(count, size);
+}
+
+void *realloc(void *old, size_t size)
+{
+	return is_refused() ? NULL : __libc_realloc(old, size);
+}
+
+void *aligned_alloc(size_t align, size_t size)
+{
+	return is_refused() ? NULL : __libc_memalign(align, size);
+}
+
+int posix_memalign(void **out, size_t align, size_t size)
+{
+	if (is_refused())
+		return ENOMEM;
+	*out = __libc_memalign(align, size);
+	return *out ? 0 : ENOMEM;
+}
+
+__attribute__((destructor)) static void tell(void)
+{
+	char text[24];
+	int length = snprintf(text, sizeof text, "%ld\n", number);
+
+	if (write(STDERR_FILENO, text, length) < 0)
+		_exit(5);
+}
