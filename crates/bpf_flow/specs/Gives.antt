@@ -22,8 +22,14 @@ edges_of None = []
 edges_of (One e) = (e.pc, facts e.note) ∷ []
 edges_of (Two e f) = (e.pc, facts e.note) ∷ (f.pc, facts f.note) ∷ []
 
+-- an answer that takes memory: it has an edge
+abbrev pub WantsMemory : Answer → Type 0
+WantsMemory (Ok []) = ⊥
+WantsMemory (Ok (e ∷ es)) = Unit {0}
+WantsMemory (Err c) = ⊥
+
 abbrev pub Fails : Cause → Answer → Type 0
-Fails Memory a = Unit {0}
+Fails Memory a = WantsMemory a
 Fails c a = a ≡ Err c
 
 -- the answer is the rule's, unless memory ran out

@@ -21,59 +21,23 @@ pub(crate) fn load(f: Fields) -> Option<Insn>
     if f.imm != 0 {
         return None;
     }
-    let off = f.off;
-    match f.op {
-        0x61 => Some(Insn::Ldx {
-            size: Size::Word,
-            signed: false,
-            dst,
-            src,
-            off,
-        }),
-        0x69 => Some(Insn::Ldx {
-            size: Size::Half,
-            signed: false,
-            dst,
-            src,
-            off,
-        }),
-        0x71 => Some(Insn::Ldx {
-            size: Size::Byte,
-            signed: false,
-            dst,
-            src,
-            off,
-        }),
-        0x79 => Some(Insn::Ldx {
-            size: Size::Double,
-            signed: false,
-            dst,
-            src,
-            off,
-        }),
-        0x81 => Some(Insn::Ldx {
-            size: Size::Word,
-            signed: true,
-            dst,
-            src,
-            off,
-        }),
-        0x89 => Some(Insn::Ldx {
-            size: Size::Half,
-            signed: true,
-            dst,
-            src,
-            off,
-        }),
-        0x91 => Some(Insn::Ldx {
-            size: Size::Byte,
-            signed: true,
-            dst,
-            src,
-            off,
-        }),
-        _ => None,
-    }
+    let (size, signed) = match f.op {
+        0x61 => (Size::Word, false),
+        0x69 => (Size::Half, false),
+        0x71 => (Size::Byte, false),
+        0x79 => (Size::Double, false),
+        0x81 => (Size::Word, true),
+        0x89 => (Size::Half, true),
+        0x91 => (Size::Byte, true),
+        _ => return None,
+    };
+    Some(Insn::Ldx {
+        size,
+        signed,
+        dst,
+        src,
+        off: f.off,
+    })
 }
 
 /// An ST instruction.
@@ -111,43 +75,25 @@ pub(crate) fn store(f: Fields) -> Option<Insn>
     let dst = Register::of_number(f.dst)?;
     let src = Register::of_number(f.src)?;
     let off = f.off;
-    match (f.op, f.imm) {
-        (0x63, 0) => Some(Insn::Stx {
-            size: Size::Word,
-            dst,
-            src,
-            off,
-        }),
-        (0x6b, 0) => Some(Insn::Stx {
-            size: Size::Half,
-            dst,
-            src,
-            off,
-        }),
-        (0x73, 0) => Some(Insn::Stx {
-            size: Size::Byte,
-            dst,
-            src,
-            off,
-        }),
-        (0x7b, 0) => Some(Insn::Stx {
-            size: Size::Double,
-            dst,
-            src,
-            off,
-        }),
-        (0xdb, 0) => Some(Insn::AddCounter {
-            fetch: false,
-            dst,
-            src,
-            off,
-        }),
-        (0xdb, 1) => Some(Insn::AddCounter {
-            fetch: true,
-            dst,
-            src,
-            off,
-        }),
-        _ => None,
-    }
+    let size = match (f.op, f.imm) {
+        (0x63, 0) => Size::Word,
+        (0x6b, 0) => Size::Half,
+        (0x73, 0) => Size::Byte,
+        (0x7b, 0) => Size::Double,
+        (0xdb, 0 | 1) => {
+            return Some(Insn::AddCounter {
+                fetch: f.imm == 1,
+                dst,
+                src,
+                off,
+            });
+        }
+        _ => return None,
+    };
+    Some(Insn::Stx {
+        size,
+        dst,
+        src,
+        off,
+    })
 }

@@ -187,15 +187,12 @@ pub fn decode(alloc: Global, bytes: &[u8]) -> Result<Code, Refusal>
     ensures ok { IfOk result (λ code. Spells code bytes.now) }
     ensures err { IfErr result (λ r. IsNoCode bytes.now r) }
 
-    // Only want of memory takes the place of the code, or of the refusal, that bytes have.
+    // Want of memory takes the place of the code alone, never of a refusal.
     ensures spelled { (code : List Insn) → Spells code bytes.now → MatchResult result (λ c. c ≡ code) (λ r. r.cause ≡ Cause.Memory) }
-    ensures refused { (cause : Cause) (pc : ℕ) → IsRefused bytes.now cause pc → IsErrAnd result (λ r. IsRefusalOrMemory r cause pc) }
+    ensures refused { (cause : Cause) (pc : ℕ) → IsRefused bytes.now cause pc → IsErrAnd result (λ r. (r.cause ≡ cause) × (r.pc ≡ pc)) }
 {
-    if !has_length(bytes) {
-        return Err(Refusal {
-            cause: Cause::Length,
-            pc: 0,
-        });
+    if let Some(refusal) = refusal_of(bytes) {
+        return Err(refusal);
     }
     match slots_of(alloc, bytes) {
         Ok(insns) => Ok(Code::of_slots(insns)),

@@ -165,9 +165,8 @@ fn one_slot(insn: Insn) -> Fields
             off,
         } => jump_slot(cond, wide, dst, src, off),
         Insn::Call { helper } => slot(0x85, 0, 0, 0, helper),
-        Insn::Const { .. } | Insn::MapRef { .. } | Insn::Exit | Insn::Second => slot(
-            0x95, 0, 0, 0, 0,
-        ),
+        Insn::Exit => slot(0x95, 0, 0, 0, 0),
+        Insn::Const { .. } | Insn::MapRef { .. } | Insn::Second => unreachable!(),
     }
 }
 

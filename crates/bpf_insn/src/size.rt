@@ -25,20 +25,6 @@ impl Size {
         }
     }
 
-    /// The size of an opcode's two bits.
-    pub(crate) fn of_code(code: u8) -> Option<Size>
-        ensures some { IfSome result (λ size. size_code size ≡ code) }
-        ensures none { IfNone result ((size : Size) → size_code size ≡ code → ⊥) }
-    {
-        match code {
-            0x00 => Some(Size::Word),
-            0x08 => Some(Size::Half),
-            0x10 => Some(Size::Byte),
-            0x18 => Some(Size::Double),
-            _ => None,
-        }
-    }
-
     /// The opcode's two bits.
     pub(crate) fn code(self) -> u8
         ensures code { result ≡ size_code self }

@@ -66,21 +66,9 @@ fn negation(f: Fields) -> Option<Insn>
     ensures none { IfNone result ((wide : Bool) (dst : Register) → slots (Insn.Neg wide dst) ≡ f ∷ [] → ⊥) }
 {
     let dst = Register::of_number(f.dst)?;
-    match f {
-        Fields {
-            op: 0x84,
-            src: 0,
-            off: 0,
-            imm: 0,
-            ..
-        } => Some(Insn::Neg { wide: false, dst }),
-        Fields {
-            op: 0x87,
-            src: 0,
-            off: 0,
-            imm: 0,
-            ..
-        } => Some(Insn::Neg { wide: true, dst }),
+    match (f.op, f.src, f.off, f.imm) {
+        (0x84, 0, 0, 0) => Some(Insn::Neg { wide: false, dst }),
+        (0x87, 0, 0, 0) => Some(Insn::Neg { wide: true, dst }),
         _ => None,
     }
 }
@@ -119,39 +107,20 @@ fn extending_move(f: Fields) -> Option<Insn>
     if f.imm != 0 {
         return None;
     }
-    match (f.op, f.off) {
-        (0xbc, 8) => Some(Insn::MovSx {
-            wide: false,
-            bits: Size::Byte,
-            dst,
-            src,
-        }),
-        (0xbc, 16) => Some(Insn::MovSx {
-            wide: false,
-            bits: Size::Half,
-            dst,
-            src,
-        }),
-        (0xbf, 8) => Some(Insn::MovSx {
-            wide: true,
-            bits: Size::Byte,
-            dst,
-            src,
-        }),
-        (0xbf, 16) => Some(Insn::MovSx {
-            wide: true,
-            bits: Size::Half,
-            dst,
-            src,
-        }),
-        (0xbf, 32) => Some(Insn::MovSx {
-            wide: true,
-            bits: Size::Word,
-            dst,
-            src,
-        }),
-        _ => None,
-    }
+    let (wide, bits) = match (f.op, f.off) {
+        (0xbc, 8) => (false, Size::Byte),
+        (0xbc, 16) => (false, Size::Half),
+        (0xbf, 8) => (true, Size::Byte),
+        (0xbf, 16) => (true, Size::Half),
+        (0xbf, 32) => (true, Size::Word),
+        _ => return None,
+    };
+    Some(Insn::MovSx {
+        wide,
+        bits,
+        dst,
+        src,
+    })
 }
 
 /// A conditional jump.
@@ -179,41 +148,17 @@ fn bare(f: Fields) -> Option<Insn>
     ensures call { IfNone result ((helper : ℤ) → slots (Insn.Call helper) ≡ f ∷ [] → ⊥) }
     ensures exit { IfNone result (slots Insn.Exit ≡ f ∷ [] → ⊥) }
 {
-    match f {
-        Fields {
-            op: 0x05,
-            dst: 0,
-            src: 0,
-            imm: 0,
-            off,
-        } => Some(Insn::Ja {
+    match (f.op, f.dst, f.src, f.off, f.imm) {
+        (0x05, 0, 0, off, 0) => Some(Insn::Ja {
             wide_offset: false,
             to: off as i32,
         }),
-        Fields {
-            op: 0x06,
-            dst: 0,
-            src: 0,
-            off: 0,
-            imm,
-        } => Some(Insn::Ja {
+        (0x06, 0, 0, 0, imm) => Some(Insn::Ja {
             wide_offset: true,
             to: imm,
         }),
-        Fields {
-            op: 0x85,
-            dst: 0,
-            src: 0,
-            off: 0,
-            imm,
-        } => Some(Insn::Call { helper: imm }),
-        Fields {
-            op: 0x95,
-            dst: 0,
-            src: 0,
-            off: 0,
-            imm: 0,
-        } => Some(Insn::Exit),
+        (0x85, 0, 0, 0, imm) => Some(Insn::Call { helper: imm }),
+        (0x95, 0, 0, 0, 0) => Some(Insn::Exit),
         _ => None,
     }
 }
@@ -285,49 +230,21 @@ pub(crate) fn wide(first: Fields, second: Fields) -> Option<Insn>
     ensures none { IfNone result ((i : Insn) → slots i ≡ first ∷ second ∷ [] → ⊥) }
 {
     let dst = Register::of_number(first.dst)?;
-    match (first, second) {
-        (
-            Fields {
-                op: 0x18,
-                src: 0,
-                off: 0,
-                imm: low,
-                ..
-            },
-            Fields {
-                op: 0,
-                dst: 0,
-                src: 0,
-                off: 0,
-                imm: high,
-            },
-        ) => {
-            Some(Insn::Const {
-                dst,
-                value: constant(low, high),
-            })
-        }
-        (
-            Fields {
-                op: 0x18,
-                src: 1,
-                off: 0,
-                imm,
-                ..
-            },
-            Fields {
-                op: 0,
-                dst: 0,
-                src: 0,
-                off: 0,
-                imm: 0,
-            },
-        ) => {
-            Some(Insn::MapRef {
-                dst,
-                m: imm.cast_unsigned(),
-            })
-        }
+    if first.op != 0x18 || first.off != 0 {
+        return None;
+    }
+    if second.op != 0 || second.dst != 0 || second.src != 0 || second.off != 0 {
+        return None;
+    }
+    match (first.src, second.imm) {
+        (0, high) => Some(Insn::Const {
+            dst,
+            value: constant(first.imm, high),
+        }),
+        (1, 0) => Some(Insn::MapRef {
+            dst,
+            m: first.imm.cast_unsigned(),
+        }),
         _ => None,
     }
 }

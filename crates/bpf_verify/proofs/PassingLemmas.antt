@@ -133,23 +133,23 @@ order_begins code order i laid is low = let s = taken_at is.takes i low in flows
 pub begun_inside : (code : List Insn) (q : ℕ) → begins (slice_get code q) ≡ true → q < length code
 begun_inside code q b = let g = begun (slice_get code q) b in some_inside code q g.0 g.1
 
-pub halted_by : (code : List Insn) (shapes : List Shape) (pc : ℕ) (c : Cause) (P : Type 0) → IsMet c P → (P → IsStopped code shapes pc c) → IsHalted code shapes pc c
-halted_by code shapes pc Memory P h f = tt
-halted_by code shapes pc Length P h f = f h
-halted_by code shapes pc Opcode P h f = f h
-halted_by code shapes pc Register P h f = f h
-halted_by code shapes pc Target P h f = f h
-halted_by code shapes pc BackJump P h f = f h
-halted_by code shapes pc End P h f = f h
-halted_by code shapes pc Unset P h f = f h
-halted_by code shapes pc FramePointer P h f = f h
-halted_by code shapes pc NoPointer P h f = f h
-halted_by code shapes pc Packet P h f = f h
-halted_by code shapes pc Stack P h f = f h
-halted_by code shapes pc Context P h f = f h
-halted_by code shapes pc MayBeNull P h f = f h
-halted_by code shapes pc MapAccess P h f = f h
-halted_by code shapes pc Helper P h f = f h
-halted_by code shapes pc MapNumber P h f = f h
-halted_by code shapes pc Argument P h f = f h
-halted_by code shapes pc Unsupported P h f = f h
+pub halted_by : (code : List Insn) (shapes : List Shape) (pc : ℕ) (c : Cause) (P : Type 0) → pc < length code → IsMet c P → (P → IsStopped code shapes pc c) → IsHalted code shapes pc c
+halted_by code shapes pc Memory P low h f = low
+halted_by code shapes pc Length P low h f = f h
+halted_by code shapes pc Opcode P low h f = f h
+halted_by code shapes pc Register P low h f = f h
+halted_by code shapes pc Target P low h f = f h
+halted_by code shapes pc BackJump P low h f = f h
+halted_by code shapes pc End P low h f = f h
+halted_by code shapes pc Unset P low h f = f h
+halted_by code shapes pc FramePointer P low h f = f h
+halted_by code shapes pc NoPointer P low h f = f h
+halted_by code shapes pc Packet P low h f = f h
+halted_by code shapes pc Stack P low h f = f h
+halted_by code shapes pc Context P low h f = f h
+halted_by code shapes pc MayBeNull P low h f = f h
+halted_by code shapes pc MapAccess P low h f = f h
+halted_by code shapes pc Helper P low h f = f h
+halted_by code shapes pc MapNumber P low h f = f h
+halted_by code shapes pc Argument P low h f = f h
+halted_by code shapes pc Unsupported P low h f = f h

@@ -39,7 +39,7 @@ pub record IsFirstFault (code : List Insn) (maps pc : ℕ) (cause : Cause) : Typ
 
 -- want of memory, or the first fault of structure
 abbrev pub IsStructureRefusal : List Insn → ℕ → ℕ → Cause → Type 0
-IsStructureRefusal code maps pc Memory = Unit {0}
+IsStructureRefusal code maps pc Memory = pc < length code
 IsStructureRefusal code maps pc cause = IsFirstFault code maps pc cause
 
 -- the second pass went over all reached slots in its order and the rule refused no note
@@ -63,7 +63,7 @@ pub record IsStopped (code : List Insn) (shapes : List Shape) (pc : ℕ) (cause 
 
 -- want of memory, or the second pass stopped there
 abbrev pub IsHalted : List Insn → List Shape → ℕ → Cause → Type 0
-IsHalted code shapes pc Memory = Unit {0}
+IsHalted code shapes pc Memory = pc < length code
 IsHalted code shapes pc cause = IsStopped code shapes pc cause
 
 -- the instruction at a slot reads a register that some path leaves unwritten
@@ -81,7 +81,7 @@ pub record IsSecondRefusal (code : List Insn) (shapes : List Shape) (pc : ℕ) (
 
 -- the refusal is the program's: want of memory, or the first cause of the first pass that has one
 abbrev pub IsRefusal : List Insn → List Shape → Cause → ℕ → Type 0
-IsRefusal code shapes Memory pc = Unit {0}
+IsRefusal code shapes Memory pc = pc < length code
 IsRefusal code shapes Target pc = IsFirstFault code (length shapes) pc Target
 IsRefusal code shapes BackJump pc = IsFirstFault code (length shapes) pc BackJump
 IsRefusal code shapes End pc = IsFirstFault code (length shapes) pc End

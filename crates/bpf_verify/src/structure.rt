@@ -83,7 +83,8 @@ fn fault_of(
 /// The lowest slot at which something is wrong with the structure; a program without such a slot is ordered. Where
 /// memory is wanting, V0 with the slot that was treated, or 0.
 pub(crate) fn first_fault(alloc: Global, code: &[Insn], maps: u32) -> Option<Refusal>
-    requires { length code.now ≤ 4096 }
+    requires short { length code.now ≤ 4096 }
+    requires some { 0 < length code.now }
     ensures none { IfNone result (IsStructured code.now maps) }
     ensures ordered { IfNone result (IsOrdered code.now) }
     ensures some { IfSome result (λ r. IsStructureRefusal code.now maps r.pc r.cause) }

@@ -1,10 +1,10 @@
 //! An interpreter of an accepted program.
-ghost use Rattle.std.specs.Prelude.{◌≡◌, ◌+◌, ◌<◌, ◌≤◌, ◌%◌, ◌^◌, ℕ, Some, None};
+ghost use Rattle.std.specs.Prelude.{◌≡◌, ◌+◌, ◌≤◌, ◌%◌, ◌^◌, ℕ, None};
 ghost use Rattle.bpf_note.specs.State.{State, IsStart};
-ghost use Rattle.bpf_flow.specs.Step.{Exited, LeadsTo, step};
+ghost use Rattle.bpf_flow.specs.Step.{Exited, step};
 ghost use Rattle.bpf_verify.specs.Consistent.{instructions};
-ghost use Rattle.bpf_vm.specs.Run.{Leaves, SameRuns};
-ghost use Rattle.bpf_vm.specs.Running.{Advances, Extends, first_numbers, state_of};
+ghost use Rattle.bpf_vm.specs.Run.{IsStep, SameRuns};
+ghost use Rattle.bpf_vm.specs.Running.{Advances, Asks, first_numbers, state_of};
 ghost use Rattle.bpf_vm.specs.Stands.{Stands, now, own, exits, Ends, label_of};
 ghost use Rattle.bpf_vm.specs.Wants.{Answers, IsLoad, IsAdd};
 
@@ -65,7 +65,6 @@ impl<'p, 'b> Vm<'p, 'b> {
         ensures stands { (s : State) → Stands self.now s → Answers result (step self.now.program.code s) }
         ensures runs { (s : State) → Stands self.now s → SameRuns self.now s }
     {
-        let _slots = self.program.slots();
         let insn = *self.program.insn(self.machine.pc);
         self.machine.want(insn)
     }
@@ -73,16 +72,21 @@ impl<'p, 'b> Vm<'p, 'b> {
     /// Does the next instruction.
     pub fn step(&mut self)
         requires { Advances (now self.old) }
-        ensures program { self.new.program ≡ self.old.program }
-        ensures stands { (s : State) → Stands self.old s → (t : State) × LeadsTo (step self.old.program.code s) None t × Stands self.new t }
-        ensures own { (t : State) × LeadsTo (now self.old) None t × Extends t (own self.new) }
-        ensures left { Leaves None self.old self.new }
-        ensures count { self.new.count ≡ self.old.count + 1 }
-        ensures bound { self.new.count < instructions self.new.program.code }
+        ensures { IsStep None self.old self.new }
     {
-        let _slots = self.program.slots();
         let insn = *self.program.insn(self.machine.pc);
         self.machine.execute(insn);
+        self.machine.are_numbers();
+        self.count += 1;
+    }
+
+    /// Goes on with a counter's number.
+    fn resume(&mut self, number: u64)
+        requires { Asks (now self.old) }
+        ensures { IsStep (label_of (now self.old) number) self.old self.new }
+    {
+        let insn = *self.program.insn(self.machine.pc);
+        self.machine.answer(insn, number);
         self.machine.are_numbers();
         self.count += 1;
     }
@@ -90,35 +94,17 @@ impl<'p, 'b> Vm<'p, 'b> {
     /// Goes on with the number that a wanted counter holds.
     pub fn loaded(&mut self, number: u64)
         requires { IsLoad (now self.old) }
-        ensures program { self.new.program ≡ self.old.program }
-        ensures stands { (s : State) → Stands self.old s → (t : State) × LeadsTo (step self.old.program.code s) (label_of (now self.old) number) t × Stands self.new t }
-        ensures own { (t : State) × LeadsTo (now self.old) (label_of (now self.old) number) t × Extends t (own self.new) }
-        ensures left { Leaves (label_of (now self.old) number) self.old self.new }
-        ensures count { self.new.count ≡ self.old.count + 1 }
-        ensures bound { self.new.count < instructions self.new.program.code }
+        ensures { IsStep (label_of (now self.old) number) self.old self.new }
     {
-        let _slots = self.program.slots();
-        let insn = *self.program.insn(self.machine.pc);
-        self.machine.answer(insn, number);
-        self.machine.are_numbers();
-        self.count += 1;
+        self.resume(number);
     }
 
     /// Goes on with the number that a counter held before a wanted add.
     pub fn added(&mut self, old: u64)
         requires { IsAdd (now self.old) }
-        ensures program { self.new.program ≡ self.old.program }
-        ensures stands { (s : State) → Stands self.old s → (t : State) × LeadsTo (step self.old.program.code s) (label_of (now self.old) old) t × Stands self.new t }
-        ensures own { (t : State) × LeadsTo (now self.old) (label_of (now self.old) old) t × Extends t (own self.new) }
-        ensures left { Leaves (label_of (now self.old) old) self.old self.new }
-        ensures count { self.new.count ≡ self.old.count + 1 }
-        ensures bound { self.new.count < instructions self.new.program.code }
+        ensures { IsStep (label_of (now self.old) old) self.old self.new }
     {
-        let _slots = self.program.slots();
-        let insn = *self.program.insn(self.machine.pc);
-        self.machine.answer(insn, old);
-        self.machine.are_numbers();
-        self.count += 1;
+        self.resume(old);
     }
 
     /// How many instructions are done, a wanted exit included.
@@ -126,7 +112,6 @@ impl<'p, 'b> Vm<'p, 'b> {
         ensures count { result ≡ self.now.count + exits (now self.now) }
         ensures bound { result ≤ instructions self.now.program.code }
     {
-        let _slots = self.program.slots();
         match self.want() {
             VmWant::Exit { .. } => self.count + 1,
             _ => self.count,
@@ -139,7 +124,6 @@ impl<'p, 'b> Vm<'p, 'b> {
         ensures stands { (s : State) → Stands self.entry s → (r0 : ℕ) × (step self.entry.program.code s ≡ Exited r0) × (result.0 ≡ r0 % 2 ^ 32) × (result.1 ≡ s.packet) }
         ensures own { (r0 : ℕ) × (now self.entry ≡ Exited r0) × (result.0 ≡ r0 % 2 ^ 32) × (result.1 ≡ (own self.entry).packet) }
     {
-        let _slots = self.program.slots();
         match self.want() {
             VmWant::Exit { r0 } => {
                 let Vm {

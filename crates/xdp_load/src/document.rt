@@ -17,9 +17,7 @@ use toml::Table;
 fn program_of(alloc: Global, table: &Table) -> Result<Vec<HexRow<'_>>, LoadFault>
     ensures { Gives (λ v. map hex_seen v.items) result (program_of (table_view table.now)) }
 {
-    let Some(texts) = found(table, "program") else {
-        return Err(LoadFault::Refused(Fault::Key));
-    };
+    let texts = found(table, "program").ok_or(Fault::Key)?;
     match rows_in(texts) {
         Some(values) => rows(alloc, values),
         None => Err(LoadFault::Refused(Fault::Key)),
@@ -64,9 +62,7 @@ pub struct Written<'a> {
 fn rows_of_table<'a>(alloc: Global, table: &'a Table) -> Result<Written<'a>, LoadFault>
     ensures { Gives written_seen result (rows_of_table (table_view table.now)) }
 {
-    let Some(numbers) = numbers_of(table) else {
-        return Err(LoadFault::Refused(Fault::Key));
-    };
+    let numbers = numbers_of(table).ok_or(Fault::Key)?;
     let program = program_of(alloc, table)?;
     let maps = rows_at(alloc, table, "map")?;
     let relocs = rows_at(alloc, table, "reloc")?;

@@ -1,7 +1,7 @@
 //! Why settings are refused.
 ghost use Rattle.std.specs.Prelude.{◌≡◌};
 ghost use Rattle.xdp_load.specs.FaultNumber.{fault_number};
-ghost use Rattle.xdp_load.specs.declared.fault.LoadFault.TheVariants.{Memory};
+ghost use Rattle.xdp_load.specs.declared.fault.LoadFault.TheVariants.{Memory, Refused};
 
 use std::alloc::{AllocError, AllocFailed};
 use thiserror::Error;
@@ -58,6 +58,14 @@ impl LoadFault {
             LoadFault::Refused(Fault::Hex) => 6,
             LoadFault::Refused(Fault::Relocation) => 7,
         }
+    }
+}
+
+impl From<Fault> for LoadFault {
+    ghost from_gives = { λ fault e. e ≡ Refused fault };
+
+    fn from(fault: Fault) -> LoadFault {
+        LoadFault::Refused(fault)
     }
 }
 

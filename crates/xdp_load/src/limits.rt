@@ -68,9 +68,7 @@ pub fn limited_shapes(alloc: Global, rows: &[MapRow<'_>]) -> Result<Vec<MapShape
 {
     let mut shapes = Vec::new(alloc);
     for row in rows {
-        let Some(shape) = limited_shape(row) else {
-            return Err(LoadFault::Refused(Fault::Limit));
-        };
+        let shape = limited_shape(row).ok_or(Fault::Limit)?;
         shapes.push(shape)?;
     }
     Ok(shapes)
@@ -95,9 +93,7 @@ pub fn limited_script(
 {
     let mut script = Vec::new(alloc);
     for row in rows {
-        let Some(step) = limited_step(queues, row) else {
-            return Err(LoadFault::Refused(Fault::Limit));
-        };
+        let step = limited_step(queues, row).ok_or(Fault::Limit)?;
         script.push(step)?;
     }
     Ok(script)
@@ -138,9 +134,7 @@ pub fn limited_packets<'a>(
 {
     let mut packets = Vec::new(alloc);
     for row in rows {
-        let Some(packet) = limited_packet(queues, row) else {
-            return Err(LoadFault::Refused(Fault::Limit));
-        };
+        let packet = limited_packet(queues, row).ok_or(Fault::Limit)?;
         packets.push(packet)?;
     }
     Ok(packets)

@@ -55,9 +55,7 @@ pub fn rows<'a, T: Row<'a> + Drop>(alloc: Global, values: &'a [Value]) -> Result
 {
     let mut rows = Vec::new(alloc);
     for value in values {
-        let Some(row) = T::of(value) else {
-            return Err(LoadFault::Refused(Fault::Key));
-        };
+        let row = T::of(value).ok_or(Fault::Key)?;
         rows.push(row)?;
     }
     Ok(rows)

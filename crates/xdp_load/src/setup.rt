@@ -174,9 +174,7 @@ fn document_of(alloc: Global, text: &str) -> Result<Table, LoadFault>
 fn load_setup(alloc: Global, bytes: &[u8]) -> Result<Setup, LoadFault>
     ensures { Gives setup_view result (setup_of bytes.now) }
 {
-    let Some(text) = text_of(bytes) else {
-        return Err(LoadFault::Refused(Fault::Text));
-    };
+    let text = text_of(bytes).ok_or(Fault::Text)?;
     let table = document_of(alloc, text)?;
     setup_of_table(alloc, &table)
 }

@@ -103,7 +103,7 @@ Reads (Some check) = Unit {0}
 -- the text is printed and the status given; or a write failed, the status is 4, and a beginning of the text is printed
 abbrev pub Prints : Option (List ℕ) → Option (List ℕ) → Said → ℕ → Type 0
 Prints held written said status =
-    ((status ≡ said.1) × Appends held written said.0) ⊎ ((status ≡ 4) × ((n : ℕ) × Appends held written (take n said.0)))
+    ((status ≡ said.1) × Appends held written said.0) ⊎ ((status ≡ 4) × ((n : ℕ) × (n < length said.0) × Appends held written (take n said.0)))
 
 -- a call ends with its answer, for want of memory, or as a read failed
 abbrev pub Ends : Option Wanted → Option (List ℕ) → Option (List ℕ) → Option (List ℕ) → Option (List ℕ) → ℕ → Type 0

@@ -93,6 +93,8 @@ fn ranges(rt: HostRuntime) -> Result<(), Fail> {
         (AluOp::Lsh, range(0, 1 << 63), exactly(1), Val::FULL),
         (AluOp::Mod, range(0, 255), exactly(10), range(0, 9)),
         (AluOp::Mod, range(0, 255), exactly(0), Val::FULL),
+        (AluOp::Mod, range(0, 5), exactly(10), range(0, 9)),
+        (AluOp::Sub, range(5, 9), exactly(1), Val::FULL),
         (AluOp::Sub, range(5, 9), range(1, 2), Val::FULL),
         (AluOp::Mul, range(1, 2), exactly(2), Val::FULL),
     ];
@@ -100,6 +102,19 @@ fn ranges(rt: HostRuntime) -> Result<(), Fail> {
         assert_eq!(rt; makes(&rt, op, true, first, second)?, wanted, "{op:?}");
         assert_eq!(rt;
             makes(&rt, op, false, first, Val::Ctx)?,
+            HALF_FULL,
+            "{op:?}"
+        );
+    }
+    // of ALU nothing but constants is followed
+    for op in [AluOp::Mov, AluOp::Add, AluOp::And, AluOp::Rsh, AluOp::Mod] {
+        assert_eq!(rt;
+            makes(&rt, op, false, range(1, 5), exactly(3))? == HALF_FULL,
+            op != AluOp::Mov,
+            "{op:?}"
+        );
+        assert_eq!(rt;
+            makes(&rt, op, false, exactly(9), range(1, 5))?,
             HALF_FULL,
             "{op:?}"
         );
@@ -242,6 +257,7 @@ fn swapped(rt: HostRuntime) -> Result<(), Fail> {
         ),
         (SwapKind::ToBig, Width::Bits16, Val::FULL, range(0, 0xffff)),
         (SwapKind::ToLittle, Width::Bits32, Val::Ctx, HALF_FULL),
+        (SwapKind::ToLittle, Width::Bits32, range(0, 5), HALF_FULL),
         (SwapKind::Swap, Width::Bits64, Val::PktEnd, Val::FULL),
     ] {
         let insn = Insn::End { kind, width, dst };

@@ -91,6 +91,14 @@ fn registers_that_are_compared(rt: HostRuntime) -> Result<(), Fail> {
         learnt(&rt, less, true, exactly(4), other_range)?,
         (exactly(4), exactly(4))
     );
+    // nothing is learnt of the second operand
+    let mut note = Note::entry(rt.alloc());
+    note.set_register(2, exactly(4));
+    note.set_register(4, range(2, 7));
+    for cond in [Condition::Equal, Condition::Less, Condition::Greater] {
+        let (passed, taken) = edges(rt.alloc(), &note, cond, true, Register::R2, other_range)?;
+        assert!(rt; passed.same_as(&note) && taken.same_as(&note), "{cond:?}");
+    }
     assert_eq!(rt;
         learnt(&rt, less, true, Val::Ctx, constant)?,
         (Val::Ctx, Val::Ctx)
@@ -140,6 +148,10 @@ fn no_null_check(rt: HostRuntime) -> Result<(), Fail> {
         let (passed, taken) = edges(rt.alloc(), &note, cond, wide, Register::R2, src)?;
         assert!(rt; passed.same_as(&note) && taken.same_as(&note), "{cond:?}");
     }
+    // 0 first
+    let r2 = Operand::Register(Register::R2);
+    let (passed, taken) = edges(rt.alloc(), &note, Condition::Equal, true, Register::R5, r2)?;
+    assert!(rt; passed.same_as(&note) && taken.same_as(&note));
     Ok(())
 }
 

@@ -25,6 +25,8 @@ fn a_lookup_gives_a_value_or_null(rt: HostRuntime) -> Result<(), Fail> {
     note.set_register(6, Val::MaybeValue { m: 1, id: 7 });
     note.set_register(7, Val::MaybeValue { m: 1, id: 6 });
     note.keep(0, Val::Pkt { id: 7, off: 0 });
+    note.set_top(7, 9)?;
+    note.set_safe(7, Some(3))?;
     let note = next(call(rt.alloc(), &note, 1))?;
     assert_eq!(rt; note.register(0), Val::MaybeValue { m: 1, id: 7 });
     for lost in 1..6 {
@@ -34,6 +36,7 @@ fn a_lookup_gives_a_value_or_null(rt: HostRuntime) -> Result<(), Fail> {
     assert_eq!(rt; note.register(6), Val::FULL);
     assert_eq!(rt; note.kept(0), Some(Val::FULL));
     assert_eq!(rt; note.register(7), Val::MaybeValue { m: 1, id: 6 });
+    assert_eq!(rt; (note.top(7), note.safe(7)), (0, None));
     assert!(rt; note.is_set(508));
     Ok(())
 }
@@ -66,7 +69,9 @@ fn arguments_of_a_call(rt: HostRuntime) {
         // the helper's number comes first
         assert_eq!(rt; cause(call(rt.alloc(), &note, 2)), Some(Cause::Helper));
     }
-    assert_eq!(rt; cause(call(rt.alloc(), &good, -1)), Some(Cause::Helper));
+    for helper in [-1, 0, 2] {
+        assert_eq!(rt; cause(call(rt.alloc(), &good, helper)), Some(Cause::Helper));
+    }
 }
 
 /// The cause against a load into `r0` from a value of map 0.

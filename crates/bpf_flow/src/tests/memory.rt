@@ -1,7 +1,8 @@
 //! Loads and stores: the stack, the context and the packet.
 
+use crate::after;
 use crate::tests::steps::{cause, exactly, load, load_signed, next, store, store_five};
-use bpf_insn::{Cause, Register, Size};
+use bpf_insn::{Cause, Insn, Register, Size};
 use bpf_note::{Note, PACKET_ID, Val};
 use std::test::Fail;
 
@@ -91,6 +92,8 @@ fn a_slot_keeps_what_is_stored_to_the_whole_of_it(rt: HostRuntime) -> Result<(),
     );
     let five = next(store_five(alloc, &whole, Size::Double, R10, -16))?;
     assert_eq!(rt; five.kept(62), Some(exactly(5)));
+    let byte = next(load(alloc, &five, Size::Byte, R10, -16))?;
+    assert_eq!(rt; byte.register(0), Val::Num { lo: 0, hi: 0xff });
     Ok(())
 }
 
@@ -199,5 +202,56 @@ fn loads_from_the_packet(rt: HostRuntime) -> Result<(), Fail> {
             Some(Cause::Packet)
         );
     }
+    Ok(())
+}
+
+/// A load and a store of eight bytes through what is no address of bytes.
+#[test]
+fn no_bytes_to_reach(rt: HostRuntime) {
+    let alloc = rt.alloc();
+    for (value, load_cause, store_cause) in [
+        (Val::Unset, Cause::Unset, Cause::Unset),
+        (exactly(0), Cause::NoPointer, Cause::NoPointer),
+        (Val::PktEnd, Cause::NoPointer, Cause::NoPointer),
+        (
+            Val::MaybeValue { m: 0, id: 3 },
+            Cause::MayBeNull,
+            Cause::MayBeNull,
+        ),
+        (Val::Map { m: 0 }, Cause::MapAccess, Cause::MapAccess),
+        (Val::Value { m: 0 }, Cause::MapAccess, Cause::MapAccess),
+        (Val::Ctx, Cause::Context, Cause::Context),
+    ] {
+        let mut note = Note::entry(alloc);
+        note.set_register(2, value);
+        assert_eq!(rt;
+            cause(load(alloc, &note, Size::Double, R2, 0)),
+            Some(load_cause),
+            "{value:?}"
+        );
+        assert_eq!(rt;
+            cause(store(alloc, &note, Size::Double, R2, 0, R1)),
+            Some(store_cause),
+            "{value:?}"
+        );
+        assert_eq!(rt;
+            cause(store_five(alloc, &note, Size::Double, R2, 0)),
+            Some(store_cause),
+            "{value:?}"
+        );
+    }
+}
+
+/// A constant of eight bytes is stored with its sign.
+#[test]
+fn a_stored_constant_has_64_bits(rt: HostRuntime) -> Result<(), Fail> {
+    let insn = Insn::St {
+        size: Size::Double,
+        dst: R10,
+        off: -8,
+        imm: -1,
+    };
+    let note = next(after(rt.alloc(), &insn, 7, &Note::entry(rt.alloc()), &[]))?;
+    assert_eq!(rt; note.kept(63), Some(exactly(u64::MAX)));
     Ok(())
 }

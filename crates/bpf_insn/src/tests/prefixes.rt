@@ -59,6 +59,80 @@ fn causes_in_their_order(rt: HostRuntime) -> Result<(), Fail> {
     Ok(())
 }
 
+/// Each opcode, sixteen a line: `#` an instruction's, `-` left out by this profile, `.` of none (RFC 9669, section 3 and the
+/// tables of sections 4 and 5).
+const OPCODES: [&str; 16] = [
+    "....####....#..#",
+    "....#####...####",
+    "-...####-...####",
+    "-...####....####",
+    "-...####-...####",
+    "-...####....####",
+    ".#######.#######",
+    ".#######.#######",
+    ".#..##.#.#......",
+    ".#..##.#....#..#",
+    "....####....####",
+    "....####....####",
+    "...-####....####",
+    "....####...####.",
+    "................",
+    "................",
+];
+
+/// A register of 11 is refused for the register exactly where the opcode is an instruction's.
+#[test]
+fn every_opcode(rt: HostRuntime) -> Result<(), Fail> {
+    let mut op = 0u8;
+    for line in OPCODES {
+        for kind in line.bytes() {
+            let cause = match kind {
+                b'#' => Cause::Register,
+                b'-' => Cause::Unsupported,
+                _ => Cause::Opcode,
+            };
+            assert_eq!(rt;
+                refused(rt.alloc(), [op, 0x0b, 0, 0, 0, 0, 0, 0])?,
+                Some(Refusal { cause, pc: 0 }),
+                "{op:x}"
+            );
+            op = op.wrapping_add(1);
+        }
+    }
+    assert_eq!(rt; op, 0);
+    Ok(())
+}
+
+/// The first and the last field value that this profile leaves out, and the next ones.
+#[test]
+fn fields_left_out(rt: HostRuntime) -> Result<(), Fail> {
+    for (slot, cause) in [
+        ([0x18, 0x20, 0, 0, 0, 0, 0, 0], Cause::Unsupported),
+        ([0x18, 0x60, 0, 0, 0, 0, 0, 0], Cause::Unsupported),
+        ([0x18, 0x70, 0, 0, 0, 0, 0, 0], Cause::Opcode),
+        ([0x85, 0x20, 0, 0, 0, 0, 0, 0], Cause::Unsupported),
+        ([0x85, 0x30, 0, 0, 0, 0, 0, 0], Cause::Opcode),
+        ([0xdb, 0, 0, 0, 2, 0, 0, 0], Cause::Unsupported),
+        ([0xdb, 0, 0, 0, 0xff, 0xff, 0xff, 0xff], Cause::Unsupported),
+    ] {
+        assert_eq!(rt;
+            refused(rt.alloc(), slot)?,
+            Some(Refusal { cause, pc: 0 }),
+            "{slot:?}"
+        );
+    }
+    // a kind that is left out comes before the missing second half
+    let last = [0x18, 0x30, 0, 0, 0, 0, 0, 0];
+    assert_eq!(rt;
+        decode(rt.alloc(), &last).err(),
+        Some(Refusal {
+            cause: Cause::Unsupported,
+            pc: 0
+        })
+    );
+    Ok(())
+}
+
 #[test]
 fn lengths(rt: HostRuntime) -> Result<(), Fail> {
     let alloc = rt.alloc();

@@ -27,7 +27,8 @@ fn order_of(alloc: Global, code: &[Insn]) -> Result<Option<Vec<u32>>, Fail>
 }
 
 fn fault_of(alloc: Global, code: &[Insn]) -> Option<(Cause, u32)>
-    requires { length code.now ≤ 4096 }
+    requires short { length code.now ≤ 4096 }
+    requires some { 0 < length code.now }
 {
     first_fault(alloc, code, 0).map(|refusal| (refusal.cause, refusal.pc))
 }
@@ -113,7 +114,7 @@ fn a_cycle_behind_a_chain_of_backward_jumps(rt: HostRuntime) -> Result<(), Fail>
         to: -1,
     })?;
     let slots = code.as_slice();
-    assert!(rt; slots.len() <= 4096);
+    assert!(rt; !slots.is_empty() && slots.len() <= 4096);
     assert_eq!(rt; fault_of(alloc, slots), Some((Cause::BackJump, 62)));
     Ok(())
 }

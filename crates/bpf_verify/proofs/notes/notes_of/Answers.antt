@@ -20,7 +20,8 @@ pub returns-in-Err-clause-halted : goal.returns-in-Err-clause-halted
 returns-in-Err-clause-halted c =
     let is = subst (IsPassOrder c.args.code.now) (sym c.deref-pc-items.ensures.value) c.in-Ok.ensures in
     let pc = slice_index_or c.deref-pc-items.result.now c.loop-pc.pc-index 0 in
-    halted_by c.args.code.now c.args.shapes.now pc c.in-Err.cause (IsFirstCause c.args.code.now c.args.shapes.now pc (facts_at c.loop-pc.table.items pc) c.in-Err.cause) c.in-Err.ensures.err
+    halted_by c.args.code.now c.args.shapes.now pc c.in-Err.cause (IsFirstCause c.args.code.now c.args.shapes.now pc (facts_at c.loop-pc.table.items pc) c.in-Err.cause)
+    (begun_inside c.args.code.now _ (order_begins c.args.code.now c.deref-pc-items.result.now c.loop-pc.pc-index c.requires.laid is (omega arith))) c.in-Err.ensures.err
     (passing_stops c.args.code.now c.args.shapes.now c.deref-pc-items.result.now c.requires.laid c.requires.structured is c.loop-pc.pc-index pc (omega arith) refl (facts_at c.loop-pc.table.items) c.loop-pc.invariant.1 c.in-Err.cause)
 
 pub loop-pc-preserved : goal.loop-pc-preserved

@@ -12,7 +12,7 @@ use Rattle.bpf_verify.proofs.structure.first_fault.Goals as goal
 
 first_refusal : (code : List Insn) (maps pc : ℕ) (i : Insn) (cause : Cause) → slice_get code pc ≡ Some i → IsFault code maps pc i cause →
     ((p : ℕ) (j : Insn) → p < pc → slice_get code p ≡ Some j → IsFine code maps p j) → IsStructureRefusal code maps pc cause
-first_refusal code maps pc i Memory e f before = tt
+first_refusal code maps pc i Memory e f before = some_inside code pc i e
 first_refusal code maps pc i cause e f before = record { insn = i; here = e; fault = f; before = before }
 
 one_more : (code : List Insn) (maps pc : ℕ) (i : Insn) → slice_get code pc ≡ Some i → IsFine code maps pc i →

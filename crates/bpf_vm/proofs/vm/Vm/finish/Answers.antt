@@ -9,7 +9,7 @@ pub returns-clause-stands : goal.returns-clause-stands
 returns-clause-stands c =
     let p = c.self.inside.program.now in
     let m = c.self.inside.machine in
-    let k = c.slots-slots.ensures.consistent in
+    let k = c.self.invariant.1.consistent in
     let e = want_exits c.want.result c.in-Exit.r0 (now c.args.self) c.in-Exit.ensures.own in
     let mine : step p.code (own_of p m) ≡ Exited c.in-Exit.r0 = subst (λ (v : Running). now v ≡ Exited c.in-Exit.r0) (sym c.self.view_is) e.1 in
     rw (← c.self.view_is) (λ s st. (c.in-Exit.r0, exit_same p s (own_of p m) c.in-Exit.r0 k st.described st.numbers mine, refl, c.into_packet.ensures ∙ sym st.numbers.packet))

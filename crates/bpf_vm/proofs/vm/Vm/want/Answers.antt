@@ -7,23 +7,23 @@ use Rattle.bpf_vm.proofs.LeftLemmas.{same_runs}
 use Rattle.bpf_vm.proofs.vm.Vm.want.Goals as goal
 
 pub insn-insn-requires : goal.insn-insn-requires
-insn-insn-requires c = inside_of c.self.inside.program.now (own_of c.self.inside.program.now c.self.inside.machine) c.slots-slots.ensures.consistent c.self.invariant.1.described
+insn-insn-requires c = inside_of c.self.inside.program.now (own_of c.self.inside.program.now c.self.inside.machine) c.self.invariant.1.consistent c.self.invariant.1.described
 
 pub want-requires-clause-fine : goal.want-requires-clause-fine
 want-requires-clause-fine c =
-    fine_here c.self.inside.program.now c.self.inside.machine c.insn-insn.result.now c.slots-slots.ensures.consistent c.self.invariant.0 c.insn-insn.ensures.at c.self.invariant.1.described
+    fine_here c.self.inside.program.now c.self.inside.machine c.insn-insn.result.now c.self.invariant.1.consistent c.self.invariant.0 c.insn-insn.ensures.at c.self.invariant.1.described
 
 pub returns-clause-own : goal.returns-clause-own
 returns-clause-own c =
     let p = c.self.inside.program.now in
     let m = c.self.inside.machine in
-    rw (← c.self.view_is) (subst (λ (o : Outcome). Answers c.want.result o) (here p m c.insn-insn.result.now c.slots-slots.ensures.consistent c.self.invariant.0 c.insn-insn.ensures.at) c.want.ensures)
+    rw (← c.self.view_is) (subst (λ (o : Outcome). Answers c.want.result o) (here p m c.insn-insn.result.now c.self.invariant.1.consistent c.self.invariant.0 c.insn-insn.ensures.at) c.want.ensures)
 
 pub returns-clause-stands : goal.returns-clause-stands
 returns-clause-stands c =
     let p = c.self.inside.program.now in
     let m = c.self.inside.machine in
-    let k = c.slots-slots.ensures.consistent in
+    let k = c.self.invariant.1.consistent in
     let mine = subst (λ (o : Outcome). Answers c.want.result o) (here p m c.insn-insn.result.now k c.self.invariant.0 c.insn-insn.ensures.at) c.want.ensures in
     rw (← c.self.view_is) (λ s st. wants_same p c.want.result s (own_of p m) k st.described st.numbers mine)
 
@@ -31,4 +31,4 @@ pub returns-clause-runs : goal.returns-clause-runs
 returns-clause-runs c =
     let p = c.self.inside.program.now in
     let m = c.self.inside.machine in
-    rw (← c.self.view_is) (λ s st. same_runs p c.slots-slots.ensures.consistent s (own_of p m) st.described st.numbers)
+    rw (← c.self.view_is) (λ s st. same_runs p c.self.invariant.1.consistent s (own_of p m) st.described st.numbers)
