@@ -16,7 +16,7 @@ use Rattle.bpf_note.specs.Describes.{Describes}
 use Rattle.bpf_note.proofs.JoinDescribes.{joined_describes, start_begun, begun_entry}
 use Rattle.bpf_flow.specs.Step.{Outcome, Next, Loads, Adds, Exited, Fault, need, exec, step}
 use Rattle.bpf_flow.specs.Edges.{Edges}
-use Rattle.bpf_flow.specs.After.{after_of, IsRuled}
+use Rattle.bpf_flow.specs.Rule.{after_of, IsRuled}
 use Rattle.bpf_flow.specs.Sound.{Covers, Accounts, HasWords}
 use Rattle.bpf_flow.proofs.LeadLemmas.{Speaks}
 use Rattle.bpf_flow.proofs.SoundLemmas.{after_sound}

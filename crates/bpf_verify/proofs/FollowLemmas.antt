@@ -12,7 +12,7 @@ use Rattle.bpf_note.specs.Parts.{Noted, facts}
 use Rattle.std.proofs.lemmas.List.{length-map}
 use Rattle.bpf_note.specs.Facts.{Facts}
 use Rattle.bpf_flow.specs.Edges.{Edges, Answer}
-use Rattle.bpf_flow.specs.After.{after_of, IsRuled}
+use Rattle.bpf_flow.specs.Rule.{after_of, IsRuled}
 use Rattle.bpf_flow.specs.Step.{target}
 use Rattle.bpf_flow.proofs.LeadLemmas.{Speaks}
 use Rattle.bpf_verify.specs.Edges.{Edge}

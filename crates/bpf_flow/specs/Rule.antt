@@ -1,5 +1,5 @@
 -- The verifier's rule for one instruction. (The rules are this verifier's own; what they speak of is RFC 9669's.)
-use Rattle.std.specs.Prelude.{ℕ, ◌+◌, ◌<◌, ℤ, pos, negsuc, ◌+ℤ◌, List, [], ◌∷◌, Option, None, Some, IsSome, Bool, true, false, ◌&&◌, ◌||◌, not, if◌then◌else◌, ◌==◌, nat_le, Ok, Err}
+use Rattle.std.specs.Prelude.{ℕ, ◌+◌, ◌<◌, List, [], ◌∷◌, Option, None, Some, IsSome, Bool, true, false, ◌&&◌, ◌||◌, not, Ok, Err}
 use Rattle.bpf_insn.specs.Register.{number}
 use Rattle.bpf_insn.specs.Signed.{sign_extended}
 use Rattle.bpf_insn.specs.Size.{size_bytes}
@@ -11,12 +11,13 @@ use Rattle.bpf_insn.specs.declared.refusal.Cause.TheVariants as cause
 use Rattle.bpf_note.specs.declared.val.Val.{Val}
 use Rattle.bpf_note.specs.declared.val.Val.TheVariants as val
 use Rattle.bpf_note.specs.Shape.{Shape}
-use Rattle.bpf_note.specs.Facts.{Facts, full, is_unset, with_reg, with_id}
+use Rattle.bpf_note.specs.Facts.{Facts, full, is_unset, with_reg}
 use Rattle.bpf_flow.specs.Step.{target, is_frame}
 use Rattle.bpf_flow.specs.Edges.{Edges, Answer, unless, and_then, goes_to, sets, sets_computed}
-use Rattle.bpf_flow.specs.Computing.{exactly, operand_value, result_of, negated_value, extended_value, swapped_value}
-use Rattle.bpf_flow.specs.Reaching.{place_in, reach, all_set, loaded_value, stores, adds_at}
-use Rattle.bpf_flow.specs.Learning.{taken, passed}
+use Rattle.bpf_flow.specs.Alu.{exactly, operand_value, result_of, negated_value, extended_value, swapped_value}
+use Rattle.bpf_flow.specs.Memory.{reach, loaded_value, stores, adds_at}
+use Rattle.bpf_flow.specs.Branch.{taken, passed}
+use Rattle.bpf_flow.specs.Call.{is_lookup, looks_up}
 
 -- all but MOV read their destination
 abbrev pub is_first_unset : AluOp → Val → Bool
@@ -31,31 +32,6 @@ at_target (Some to) edges = Ok (edges to)
 abbrev pub fetched : Bool → Facts → ℕ → Facts
 fetched true n k = with_reg n k full
 fetched false n k = n
-
--- a key of four set bytes on the stack
-abbrev pub is_key_at : Facts → Option ℕ → Bool
-is_key_at n None = false
-is_key_at n (Some p) = all_set n p 4
-
-abbrev pub is_key : Facts → Val → Bool
-is_key n (val.Stack off) = is_key_at n (place_in (pos 512 +ℤ off) 4 512)
-is_key n v = false
-
--- registers after a call: r0 the address of a value or 0, r1 to r5 lost
-abbrev pub called_reg : (ℕ → Val) → ℕ → ℕ → ℕ → Val
-called_reg reg m pc k = if k == 0 then val.MaybeValue m pc else if nat_le k 5 then val.Unset else reg k
-
-abbrev pub with_call : Facts → ℕ → ℕ → Facts
-with_call n m pc = record { reg = called_reg n.reg m pc; kept = n.kept; set = n.set; top = n.top; safe = n.safe }
-
--- a lookup of a key, in the map that r1 names
-abbrev pub looks_up : Facts → ℕ → Val → Val → Answer
-looks_up n pc (val.Map m) key = unless (not (is_key n key)) cause.Argument (goes_to (pc + 1) (with_call (with_id n pc 0) m pc))
-looks_up n pc v key = Err cause.Argument
-
-abbrev pub is_lookup : ℤ → Bool
-is_lookup (pos h) = h == 1
-is_lookup (negsuc h) = false
 
 -- where an instruction at slot pc leads, the next slot before a jump's target, or the first cause against it
 abbrev pub after_of : Insn → ℕ → Facts → List Shape → Answer
@@ -106,3 +82,11 @@ IsRuled (Jump cond wide dst src off) pc maps = IsSome (target pc off)
 IsRuled (MapRef dst m) pc maps = m < maps
 IsRuled Second pc maps = ⊥
 IsRuled i pc maps = Unit {0}
+
+-- an instruction that reads or writes memory
+abbrev pub IsAccess : Insn → Type 0
+IsAccess (Ldx size signed dst src off) = Unit {0}
+IsAccess (St size dst off imm) = Unit {0}
+IsAccess (Stx size dst src off) = Unit {0}
+IsAccess (AddCounter fetch dst src off) = Unit {0}
+IsAccess i = ⊥

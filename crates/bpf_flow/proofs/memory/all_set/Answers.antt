@@ -1,8 +1,8 @@
 use Rattle.std.proofs.Common.{rules, ◌≡◌, ◌+◌, ◌-◌, ◌&&◌, Bool, true, sym, ap, ◌∙◌, arith}
 use Rattle.bpf_note.specs.Parts.{facts}
-use Rattle.bpf_flow.specs.Reaching.{all_set}
+use Rattle.bpf_flow.specs.Memory.{all_set}
 use Rattle.bpf_flow.proofs.StackLemmas.{all_set_step}
-use Rattle.bpf_flow.proofs.reaching.all_set.Goals as goal
+use Rattle.bpf_flow.proofs.memory.all_set.Goals as goal
 
 pub loop-byte-preserved : goal.loop-byte-preserved
 loop-byte-preserved c =

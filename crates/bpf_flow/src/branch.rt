@@ -1,12 +1,19 @@
-//! What the edges of a conditional jump teach.
-ghost use Rattle.std.specs.Prelude.{◌≡◌, ◌<◌, ◌≤◌, OnOk, OnErr, IfOk};
+//! Jumps, the exit, and what the edges of a conditional jump say.
+ghost use Rattle.std.specs.Prelude.{◌≡◌, ◌<◌, ◌≤◌, OnOk, OnErr, IfOk, IsSome, true};
 ghost use Rattle.bpf_insn.specs.Register.{number};
+ghost use Rattle.bpf_insn.specs.declared.insn.Insn.{Insn};
 ghost use Rattle.bpf_note.specs.Parts.{facts};
-ghost use Rattle.bpf_flow.specs.Computing.{operand_value};
-ghost use Rattle.bpf_flow.specs.Learning.{opposite, raise, narrowed, without, below, compared, against_end, end_against, is_null, checked, learnt, learnt_if, taken, passed};
+ghost use Rattle.bpf_flow.specs.Alu.{operand_value};
+ghost use Rattle.bpf_flow.specs.Branch.{opposite, raise, narrowed, without, below, compared, against_end, end_against, is_null, checked, refined, refined_if, taken, passed};
+ghost use Rattle.bpf_flow.specs.Gives.{Gives};
+ghost use Rattle.bpf_flow.specs.Rule.{after_of};
+ghost use Rattle.bpf_flow.specs.Step.{target};
 
-use crate::computing::operand_value;
-use bpf_insn::{Condition, Operand, Register};
+use crate::alu::operand_value;
+use crate::graph::jump_target;
+use crate::point::{Point, is_unset};
+use crate::successors::{Successor, Successors};
+use bpf_insn::{Cause, Condition, Operand, Register};
 use bpf_note::{Note, Val};
 use std::alloc::{AllocError, Global};
 
@@ -123,8 +130,8 @@ fn check(note: &mut Note, cond: Condition, m: u32, id: u16)
 }
 
 /// The first operand of a comparison stands in this condition to the second.
-fn learn(note: &mut Note, cond: Condition, dst: Register, src: Operand) -> Result<(), AllocError>
-    ensures { OnOk result (facts note.new ≡ learnt cond (facts note.old) (number dst) src ((facts note.old).reg (number dst)) (operand_value (facts note.old) src)) }
+fn refine(note: &mut Note, cond: Condition, dst: Register, src: Operand) -> Result<(), AllocError>
+    ensures { OnOk result (facts note.new ≡ refined cond (facts note.old) (number dst) src ((facts note.old).reg (number dst)) (operand_value (facts note.old) src)) }
 {
     let first = note.register(dst.number());
     let second = operand_value(note, src);
@@ -149,7 +156,7 @@ fn learn(note: &mut Note, cond: Condition, dst: Register, src: Operand) -> Resul
 }
 
 /// What is known where a jump is taken.
-pub(crate) fn taken(
+fn taken(
     alloc: Global,
     note: &Note,
     cond: Condition,
@@ -161,13 +168,13 @@ pub(crate) fn taken(
 {
     let mut there = note.copy(alloc)?;
     if wide {
-        learn(&mut there, cond, dst, src)?;
+        refine(&mut there, cond, dst, src)?;
     }
     Ok(there)
 }
 
 /// What is known where a jump isn't taken.
-pub(crate) fn passed(
+fn passed(
     alloc: Global,
     note: &Note,
     cond: Condition,
@@ -180,8 +187,64 @@ pub(crate) fn passed(
     let mut next = note.copy(alloc)?;
     if wide {
         if let Some(cond) = opposite(cond) {
-            learn(&mut next, cond, dst, src)?;
+            refine(&mut next, cond, dst, src)?;
         }
     }
     Ok(next)
+}
+
+impl Point<'_> {
+    pub fn ja(&self, to: i32) -> Result<Successors, Cause>
+        requires small { self.now.pc < 4096 }
+        requires there { IsSome (target self.now.pc to) }
+        ensures { Gives result (after_of (Insn.Ja true to) self.now.pc (facts self.now.note.now) self.now.shapes.now) }
+    {
+        let Some(pc) = jump_target(self.pc, to) else {
+            return Err(Cause::Target);
+        };
+        let note = self.note.copy(self.alloc)?;
+        Ok(Successors::One(Successor { pc, note }))
+    }
+
+    pub fn jump(
+        &self,
+        cond: Condition,
+        wide: bool,
+        dst: Register,
+        src: Operand,
+        off: i16,
+    ) -> Result<Successors, Cause>
+        requires small { self.now.pc < 4096 }
+        requires there { IsSome (target self.now.pc off) }
+        ensures { Gives result (after_of (Insn.Jump cond wide dst src off) self.now.pc (facts self.now.note.now) self.now.shapes.now) }
+    {
+        if is_unset(self.note.register(dst.number())) || is_unset(operand_value(self.note, src)) {
+            return Err(Cause::Unset);
+        }
+        let Some(to) = jump_target(self.pc, i32::from(off)) else {
+            return Err(Cause::Target);
+        };
+        let next = passed(self.alloc, self.note, cond, wide, dst, src)?;
+        let there = taken(self.alloc, self.note, cond, wide, dst, src)?;
+        Ok(Successors::Two(
+            Successor {
+                pc: self.pc + 1,
+                note: next,
+            },
+            Successor {
+                pc: to,
+                note: there,
+            },
+        ))
+    }
+
+    pub fn exit(&self) -> Result<Successors, Cause>
+        ensures { Gives result (after_of Insn.Exit self.now.pc (facts self.now.note.now) self.now.shapes.now) }
+    {
+        if is_unset(self.note.register(0)) {
+            Err(Cause::Unset)
+        } else {
+            Ok(Successors::None)
+        }
+    }
 }

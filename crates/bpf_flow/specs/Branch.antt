@@ -26,7 +26,7 @@ raised (Some b) s = Some (max b s)
 abbrev pub raise : Facts → ℕ → ℕ → Facts
 raise n id s = with_safe n id (raised (n.safe id) s)
 
--- register k is from lo to hi; an empty range isn't learnt
+-- register k is from lo to hi; an empty range isn't refined
 abbrev pub narrowed : Facts → ℕ → ℕ → ℕ → Facts
 narrowed n k lo hi = if nat_le lo hi then with_reg n k (Num lo hi) else n
 
@@ -72,22 +72,22 @@ checked NotEqual n m id = with_each n (resolved id (Value m))
 checked cond n m id = n
 
 -- register k, which holds v, stands in this condition to an operand, which is w
-abbrev pub learnt : Condition → Facts → ℕ → Operand → Val → Val → Facts
-learnt cond n k operand (Pkt id off) PktEnd = against_end cond n id off
-learnt cond n k operand PktEnd (Pkt id off) = end_against cond n id off
-learnt cond n k operand (Num lo hi) (Num c d) = if c == d then compared cond n k lo hi c else n
-learnt cond n k operand (MaybeValue m id) w = if is_null operand then checked cond n m id else n
-learnt cond n k operand v w = n
+abbrev pub refined : Condition → Facts → ℕ → Operand → Val → Val → Facts
+refined cond n k operand (Pkt id off) PktEnd = against_end cond n id off
+refined cond n k operand PktEnd (Pkt id off) = end_against cond n id off
+refined cond n k operand (Num lo hi) (Num c d) = if c == d then compared cond n k lo hi c else n
+refined cond n k operand (MaybeValue m id) w = if is_null operand then checked cond n m id else n
+refined cond n k operand v w = n
 
-abbrev pub learnt_if : Option Condition → Facts → ℕ → Operand → Val → Val → Facts
-learnt_if None n k operand v w = n
-learnt_if (Some cond) n k operand v w = learnt cond n k operand v w
+abbrev pub refined_if : Option Condition → Facts → ℕ → Operand → Val → Val → Facts
+refined_if None n k operand v w = n
+refined_if (Some cond) n k operand v w = refined cond n k operand v w
 
 -- what is known where the jump is taken, and where it isn't; JMP32 teaches nothing
 abbrev pub taken : Condition → Bool → Facts → ℕ → Operand → Val → Val → Facts
 taken cond false n k operand v w = n
-taken cond true n k operand v w = learnt cond n k operand v w
+taken cond true n k operand v w = refined cond n k operand v w
 
 abbrev pub passed : Condition → Bool → Facts → ℕ → Operand → Val → Val → Facts
 passed cond false n k operand v w = n
-passed cond true n k operand v w = learnt_if (opposite cond) n k operand v w
+passed cond true n k operand v w = refined_if (opposite cond) n k operand v w

@@ -1,83 +1,19 @@
-//! What an access through a value reaches.
-ghost use Rattle.std.specs.Prelude.{◌≡◌, ◌+◌, ◌<◌, ◌≤◌, ◌+ℤ◌, pos, IfOk, IsTrue, slice_get, option_map};
+//! Loads, stores and adds to counters.
+ghost use Rattle.std.specs.Prelude.{◌≡◌, ◌+◌, ◌<◌, ◌≤◌, IsTrue, slice_get, option_map};
+ghost use Rattle.bpf_insn.specs.Register.{number};
 ghost use Rattle.bpf_insn.specs.Size.{size_bytes};
+ghost use Rattle.bpf_insn.specs.declared.insn.Insn.{Insn};
 ghost use Rattle.bpf_note.specs.Parts.{facts};
-ghost use Rattle.bpf_flow.specs.After.{is_key};
-ghost use Rattle.bpf_flow.specs.Gives.{IsInside};
-ghost use Rattle.bpf_flow.specs.Reaching.{place_in, in_packet, on_stack, reach, is_field, is_counter, all_set, any_of_size, any_loaded, is_slot, stack_value, field_value, loaded_value, with_bytes, with_store, adds_at};
+ghost use Rattle.bpf_flow.specs.Rule.{after_of};
+ghost use Rattle.bpf_flow.specs.Gives.{Gives, IsInside};
+ghost use Rattle.bpf_flow.specs.Memory.{is_field, is_counter, all_set, any_of_size, any_loaded, is_slot, stack_value, field_value, loaded_value, with_bytes, with_store, stores, adds_at};
 
-use crate::access::Access;
-use bpf_insn::{Cause, Size};
+use crate::access::{Access, reach};
+use crate::alu::immediate;
+use crate::point::{Point, is_frame, is_unset};
+use crate::successors::{Successor, Successors};
+use bpf_insn::{Cause, Register, Size};
 use bpf_note::{MapShape, Note, PACKET_ID, Val};
-
-/// The place in a region of `limit` bytes, where `bytes` from it on lie in the region.
-fn place_in(at: i32, bytes: u32, limit: u32) -> Option<u32>
-    requires { bytes ≤ 8 }
-    ensures { result ≡ place_in at bytes limit }
-{
-    if at < 0 {
-        return None;
-    }
-    let place = at as u32;
-    if place + bytes <= limit {
-        Some(place)
-    } else {
-        None
-    }
-}
-
-fn in_packet(safe: Option<u32>, at: i32, bytes: u32) -> Result<Access, Cause>
-    requires { bytes ≤ 8 }
-    ensures { result ≡ in_packet safe at bytes }
-{
-    match safe {
-        None => Err(Cause::Packet),
-        Some(safe) => match place_in(at, bytes, safe) {
-            None => Err(Cause::Packet),
-            Some(_) => Ok(Access::InPacket),
-        },
-    }
-}
-
-fn on_stack(at: i32, bytes: u32) -> Result<Access, Cause>
-    requires { bytes ≤ 8 }
-    ensures reached { result ≡ on_stack (place_in at bytes 512) }
-    ensures inside { IfOk result (λ a. IsInside a bytes) }
-{
-    match place_in(at, bytes, 512) {
-        None => Err(Cause::Stack),
-        Some(place) => Ok(Access::OnStack(place)),
-    }
-}
-
-/// The place on the stack that lies `off` from a pointer with offset `from` from its end.
-fn stack_place(from: i16, off: i16) -> i32
-    ensures { result ≡ pos 512 +ℤ from +ℤ off }
-{
-    512 + i32::from(from) + i32::from(off)
-}
-
-/// What an access of `size` at `off` from a value reaches.
-pub(crate) fn reach(note: &Note, value: Val, off: i16, size: Size) -> Result<Access, Cause>
-    ensures reached { result ≡ reach (facts note.now) value off (size_bytes size) }
-    ensures inside { IfOk result (λ a. IsInside a (size_bytes size)) }
-{
-    let bytes = size.bytes() as u32;
-    match value {
-        Val::Unset => Err(Cause::Unset),
-        Val::Num { .. } | Val::PktEnd => Err(Cause::NoPointer),
-        Val::Pkt { id, off: from } => in_packet(
-            note.safe(id),
-            i32::from(from) + i32::from(off),
-            bytes,
-        ),
-        Val::Stack { off: from } => on_stack(stack_place(from, off), bytes),
-        Val::Ctx => Ok(Access::InContext(off)),
-        Val::MaybeValue { .. } => Err(Cause::MayBeNull),
-        Val::Value { m } => Ok(Access::AtValue { m, off }),
-        Val::Map { .. } => Err(Cause::MapAccess),
-    }
-}
 
 fn is_field(off: i16) -> bool
     ensures { result ≡ is_field off }
@@ -106,7 +42,7 @@ fn has_counter(shapes: &[MapShape], m: u32, off: i16) -> bool
     is_counter(shapes.get(m as usize), off)
 }
 
-fn all_set(note: &Note, place: u32, bytes: u32) -> bool
+pub(crate) fn all_set(note: &Note, place: u32, bytes: u32) -> bool
     requires { place + bytes ≤ 512 }
     ensures { result ≡ all_set (facts note.now) place bytes }
 {
@@ -179,7 +115,7 @@ fn field_value(off: i16) -> Val
 }
 
 /// What a load gives.
-pub(crate) fn loaded_value(
+fn loaded_value(
     note: &Note,
     shapes: &[MapShape],
     signed: bool,
@@ -226,7 +162,7 @@ fn store_bytes(note: &mut Note, place: u32, bytes: u32)
 }
 
 /// What a store to the stack changes.
-pub(crate) fn store(note: &mut Note, place: u32, size: Size, value: Val)
+fn store(note: &mut Note, place: u32, size: Size, value: Val)
     requires { place + size_bytes size ≤ 512 }
     ensures { facts note.new ≡ with_store (facts note.old) place size value }
 {
@@ -238,7 +174,7 @@ pub(crate) fn store(note: &mut Note, place: u32, size: Size, value: Val)
 }
 
 /// Whether an add to a counter at `off` from a value is allowed.
-pub(crate) fn adds_at(shapes: &[MapShape], value: Val, off: i16) -> Result<(), Cause>
+fn adds_at(shapes: &[MapShape], value: Val, off: i16) -> Result<(), Cause>
     ensures { result ≡ adds_at shapes.now value off }
 {
     match value {
@@ -250,15 +186,103 @@ pub(crate) fn adds_at(shapes: &[MapShape], value: Val, off: i16) -> Result<(), C
     }
 }
 
-/// Whether a value is the address of four set bytes of the stack.
-pub(crate) fn is_key(note: &Note, value: Val) -> bool
-    ensures { result ≡ is_key (facts note.now) value }
-{
-    match value {
-        Val::Stack { off } => match place_in(512 + i32::from(off), 4, 512) {
-            None => false,
-            Some(place) => all_set(note, place, 4),
-        },
-        _ => false,
+impl Point<'_> {
+    pub fn ldx(
+        &self,
+        size: Size,
+        signed: bool,
+        dst: Register,
+        src: Register,
+        off: i16,
+    ) -> Result<Successors, Cause>
+        requires { self.now.pc < 4096 }
+        ensures { Gives result (after_of (Insn.Ldx size signed dst src off) self.now.pc (facts self.now.note.now) self.now.shapes.now) }
+    {
+        let pointer = self.note.register(src.number());
+        if is_unset(pointer) {
+            return Err(Cause::Unset);
+        }
+        if is_frame(dst) {
+            return Err(Cause::FramePointer);
+        }
+        let access = reach(self.note, pointer, off, size)?;
+        let value = loaded_value(self.note, self.shapes, signed, size, access)?;
+        self.sets(self.pc + 1, dst, value)
+    }
+
+    fn stores(&self, size: Size, value: Val, access: Access) -> Result<Successors, Cause>
+        requires small { self.now.pc < 4096 }
+        requires inside { IsInside access (size_bytes size) }
+        ensures { Gives result (stores (facts self.now.note.now) (self.now.pc + 1) size value access) }
+    {
+        match access {
+            Access::InPacket => self.goes_to(self.pc + 1),
+            Access::OnStack(place) => {
+                let mut note = self.note.copy(self.alloc)?;
+                store(&mut note, place, size, value);
+                Ok(Successors::One(Successor {
+                    pc: self.pc + 1,
+                    note,
+                }))
+            }
+            Access::InContext(_) => Err(Cause::Context),
+            Access::AtValue { .. } => Err(Cause::MapAccess),
+        }
+    }
+
+    pub fn st(&self, size: Size, dst: Register, off: i16, imm: i32) -> Result<Successors, Cause>
+        requires { self.now.pc < 4096 }
+        ensures { Gives result (after_of (Insn.St size dst off imm) self.now.pc (facts self.now.note.now) self.now.shapes.now) }
+    {
+        let pointer = self.note.register(dst.number());
+        if is_unset(pointer) {
+            return Err(Cause::Unset);
+        }
+        let access = reach(self.note, pointer, off, size)?;
+        self.stores(size, immediate(imm), access)
+    }
+
+    pub fn stx(
+        &self,
+        size: Size,
+        dst: Register,
+        src: Register,
+        off: i16,
+    ) -> Result<Successors, Cause>
+        requires { self.now.pc < 4096 }
+        ensures { Gives result (after_of (Insn.Stx size dst src off) self.now.pc (facts self.now.note.now) self.now.shapes.now) }
+    {
+        let value = self.note.register(src.number());
+        let pointer = self.note.register(dst.number());
+        if is_unset(value) || is_unset(pointer) {
+            return Err(Cause::Unset);
+        }
+        let access = reach(self.note, pointer, off, size)?;
+        self.stores(size, value, access)
+    }
+
+    pub fn add_counter(
+        &self,
+        fetch: bool,
+        dst: Register,
+        src: Register,
+        off: i16,
+    ) -> Result<Successors, Cause>
+        requires { self.now.pc < 4096 }
+        ensures { Gives result (after_of (Insn.AddCounter fetch dst src off) self.now.pc (facts self.now.note.now) self.now.shapes.now) }
+    {
+        let pointer = self.note.register(dst.number());
+        if is_unset(self.note.register(src.number())) || is_unset(pointer) {
+            return Err(Cause::Unset);
+        }
+        if fetch && is_frame(src) {
+            return Err(Cause::FramePointer);
+        }
+        adds_at(self.shapes, pointer, off)?;
+        if fetch {
+            self.sets(self.pc + 1, src, Val::FULL)
+        } else {
+            self.goes_to(self.pc + 1)
+        }
     }
 }

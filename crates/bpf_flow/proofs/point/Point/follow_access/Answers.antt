@@ -2,9 +2,9 @@ use Rattle.std.proofs.Common.{rules, FitsSigned, w16, w32, subst, sym}
 use Rattle.std.proofs.lemmas.Int.{to_z-of_z}
 use Rattle.bpf_insn.specs.declared.insn.Insn.{Insn}
 use Rattle.bpf_note.specs.Parts.{facts}
-use Rattle.bpf_flow.specs.After.{after_of}
+use Rattle.bpf_flow.specs.Rule.{after_of}
 use Rattle.bpf_flow.specs.Gives.{Gives}
-use Rattle.bpf_flow.proofs.accesses.Point.follow.Goals as goal
+use Rattle.bpf_flow.proofs.point.Point.follow_access.Goals as goal
 
 pub returns-in-St : goal.returns-in-St
 returns-in-St c =

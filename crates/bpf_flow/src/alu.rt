@@ -1,8 +1,9 @@
 //! What arithmetic makes of values.
-ghost use Rattle.std.specs.Prelude.{◌≡◌};
+ghost use Rattle.std.specs.Prelude.{◌≡◌, ◌<◌, ◌+◌};
+ghost use Rattle.bpf_insn.specs.Register.{number};
 ghost use Rattle.bpf_insn.specs.Signed.{sign_extended};
 ghost use Rattle.bpf_note.specs.Parts.{facts};
-ghost use Rattle.bpf_flow.specs.Computing.{exactly, constant, any_number, operand_value, signed, packet_at, stack_at, packet_sum, stack_sum, range_sum, sum_of, packet_difference, stack_difference, difference_of, range_by, ranged, unfolded, folded, first_constant, result_of, negated_value, extended_value, any_of_width, swapped_value};
+ghost use Rattle.bpf_flow.specs.Alu.{exactly, constant, any_number, operand_value, signed, packet_at, stack_at, packet_sum, stack_sum, range_sum, sum_of, packet_difference, stack_difference, difference_of, range_by, ranged, unfolded, folded, first_constant, result_of, negated_value, extended_value, any_of_width, swapped_value};
 
 use crate::computed::Computed;
 use bpf_insn::{AluOp, Operand, Size, SwapKind, Width, alu, move_extended, negate, swap};
