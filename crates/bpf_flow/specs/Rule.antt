@@ -82,11 +82,3 @@ IsRuled (Jump cond wide dst src off) pc maps = IsSome (target pc off)
 IsRuled (MapRef dst m) pc maps = m < maps
 IsRuled Second pc maps = ⊥
 IsRuled i pc maps = Unit {0}
-
--- an instruction that reads or writes memory
-abbrev pub IsAccess : Insn → Type 0
-IsAccess (Ldx size signed dst src off) = Unit {0}
-IsAccess (St size dst off imm) = Unit {0}
-IsAccess (Stx size dst src off) = Unit {0}
-IsAccess (AddCounter fetch dst src off) = Unit {0}
-IsAccess i = ⊥

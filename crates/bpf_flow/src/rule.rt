@@ -1,11 +1,12 @@
 //! The verifier's rule for one instruction.
 ghost use Rattle.std.specs.Prelude.{◌≡◌, ◌<◌, IfOk, length};
+ghost use Rattle.bpf_insn.specs.Form.{IsAccess};
 ghost use Rattle.bpf_insn.specs.declared.insn.Insn.{Insn};
 ghost use Rattle.bpf_note.specs.Describes.{Describes};
 ghost use Rattle.bpf_note.specs.Parts.{facts};
 ghost use Rattle.bpf_note.specs.State.{State};
 ghost use Rattle.bpf_flow.specs.Gives.{Gives, edges_of};
-ghost use Rattle.bpf_flow.specs.Rule.{after_of, IsAccess, IsRuled};
+ghost use Rattle.bpf_flow.specs.Rule.{after_of, IsRuled};
 ghost use Rattle.bpf_flow.specs.Sound.{Accounts, HasWords};
 ghost use Rattle.bpf_flow.specs.Step.{exec};
 
