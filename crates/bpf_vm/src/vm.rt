@@ -7,7 +7,7 @@ ghost use Rattle.bpf_vm.specs.Course.{Begins, Exiting, course, left, start_state
 ghost use Rattle.bpf_vm.specs.Run.{IsStep};
 ghost use Rattle.bpf_vm.specs.Running.{Advances, Asks, first_numbers, state_of};
 ghost use Rattle.bpf_vm.specs.Stands.{Stands, now, own, exits, Ends, label_of};
-ghost use Rattle.bpf_vm.specs.Wants.{Answers, IsLoad, IsAdd};
+ghost use Rattle.bpf_vm.specs.Wants.{Answers, IsLoad, IsAdd, IsOfMaps};
 
 use crate::machine::Machine;
 use crate::packet::PacketBuf;
@@ -66,6 +66,7 @@ impl<'p, 'b> Vm<'p, 'b> {
         ensures itself { Stands self.now (own self.now) }
         ensures stands { (s : State) → Stands self.now s → Answers result (step self.now.program.code s) }
         ensures course { Begins result (left self.now) }
+        ensures counter { IsOfMaps self.now.program.shapes result }
     {
         let insn = *self.program.insn(self.machine.pc);
         self.machine.want(insn)

@@ -4,6 +4,7 @@ use Rattle.bpf_vm.specs.Wants.{Answers}
 use Rattle.bpf_vm.proofs.RunLemmas.{inside_of, wants_same, counted_below}
 use Rattle.bpf_vm.proofs.MachineLemmas.{own_of, running_of, here, fine_here}
 use Rattle.bpf_vm.proofs.CourseLemmas.{begins}
+use Rattle.bpf_vm.proofs.CounterLemmas.{wanted}
 use Rattle.bpf_vm.proofs.vm.Vm.want.Goals as goal
 
 pub insn-insn-requires : goal.insn-insn-requires
@@ -35,3 +36,11 @@ returns-clause-course c =
     let v = running_of p m c.self.inside.count in
     let mine = subst (λ (o : Outcome). Answers c.want.result o) (here p m c.insn-insn.result.now k c.self.invariant.0 c.insn-insn.ensures.at) c.want.ensures in
     rw (← c.self.view_is) (begins v c.want.result (counted_below v k c.self.invariant.1) mine)
+
+pub returns-clause-counter : goal.returns-clause-counter
+returns-clause-counter c =
+    let p = c.self.inside.program.now in
+    let m = c.self.inside.machine in
+    let k = c.self.invariant.1.consistent in
+    let mine = subst (λ (o : Outcome). Answers c.want.result o) (here p m c.insn-insn.result.now k c.self.invariant.0 c.insn-insn.ensures.at) c.want.ensures in
+    rw (← c.self.view_is) (wanted p.code (own_of p m) c.want.result k.maps mine)
