@@ -4,7 +4,8 @@ pub mod ExecuteLemmas
 pub mod ExtendLemmas
 pub mod DescribeLemmas
 pub mod RunLemmas
-mod LeftLemmas
+pub mod CourseLemmas
+pub mod CounterLemmas
 mod MachineLemmas
 mod AfterLemmas
 mod WholeLemmas
