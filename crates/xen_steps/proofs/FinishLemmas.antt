@@ -29,6 +29,21 @@ ends_by P Q (done x) h g = g [] x refl
 ends_by P Q (ask w k) h g = (h.0, λ a e o. ends_by P Q (k a) (h.1 a e o) (λ t x r. g (e ∷ t) x (a, o, r)))
 ends_by P Q never h g = absurd h
 
+ends_next : {A : Type 0} (P : A → Type 0) (s s' : Steps A) (e : Event) → Ends P s → Goes s e s' → Ends P s'
+ends_next P (done x) s' e h g = absurd g.1
+ends_next P (ask w k) s' e h g = subst (λ q. Ends P q) (sym g.2) (h.1 g.0 e g.1)
+ends_next P never s' e h g = absurd h
+
+pub ends_gone : {A : Type 0} (P : A → Type 0) (s s' : Steps A) (t : List Event) → Ends P s → Gone s t s' → Ends P s'
+ends_gone P s s' [] h g = subst (λ q. Ends P q) g h
+ends_gone P s s' (e ∷ t) h g = ends_gone P g.0 s' t (ends_next P s g.0 e h g.1) g.2
+
+-- What comes to an end finishes, if no want is ruled out.
+pub finishes_any : {A : Type 0} (P : A → Type 0) (s : Steps A) → Ends P s → Finishes (λ w. Unit {0}) s
+finishes_any P (done x) h = tt
+finishes_any P (ask w k) h = (tt, (h.0, λ a e o. finishes_any P (k a) (h.1 a e o)))
+finishes_any P never h = absurd h
+
 -- bounded, and coming to an end
 pub finishes : {A : Type 0} (within : Want → Type 0) (P Q : A → Type 0) (s : Steps A) (n : ℕ) → Bounded within P s n → Ends Q s → Finishes within s
 finishes within P Q (done x) n b e = tt
