@@ -4,7 +4,7 @@ pub mod ExecuteLemmas
 pub mod ExtendLemmas
 pub mod DescribeLemmas
 pub mod RunLemmas
-mod LeftLemmas
+pub mod CourseLemmas
 mod MachineLemmas
 mod AfterLemmas
 mod WholeLemmas

@@ -2,3 +2,5 @@ pub mod Running
 pub mod Run
 pub mod Stands
 pub mod Wants
+pub mod Course
+pub mod Actions

@@ -1,9 +1,11 @@
 //! The interpreter of accepted programs, and the packets that they run on.
 #![tactic(auto)]
 
+mod action;
 mod buffer;
 mod bytes;
 mod execute;
+mod laws;
 mod machine;
 mod memory;
 mod packet;
@@ -11,7 +13,9 @@ mod run;
 mod vm;
 mod want;
 
+pub use action::Action;
 pub use buffer::Buffer;
+pub use laws::accepted_programs_end;
 pub use packet::{PacketBuf, PacketFault};
 pub use run::{Ended, run_to_end};
 pub use vm::Vm;

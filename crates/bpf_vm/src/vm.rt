@@ -3,7 +3,8 @@ ghost use Rattle.std.specs.Prelude.{◌≡◌, ◌+◌, ◌≤◌, ◌%◌, ◌^
 ghost use Rattle.bpf_note.specs.State.{State, IsStart};
 ghost use Rattle.bpf_flow.specs.Step.{Exited, step};
 ghost use Rattle.bpf_verify.specs.Consistent.{instructions};
-ghost use Rattle.bpf_vm.specs.Run.{IsStep, SameRuns};
+ghost use Rattle.bpf_vm.specs.Course.{Begins, Exiting, course, left, start_state};
+ghost use Rattle.bpf_vm.specs.Run.{IsStep};
 ghost use Rattle.bpf_vm.specs.Running.{Advances, Asks, first_numbers, state_of};
 ghost use Rattle.bpf_vm.specs.Stands.{Stands, now, own, exits, Ends, label_of};
 ghost use Rattle.bpf_vm.specs.Wants.{Answers, IsLoad, IsAdd};
@@ -47,6 +48,7 @@ impl<'p, 'b> Vm<'p, 'b> {
         ensures stands { (s : State) → IsStart s → s.packet ≡ packet.entry → s.ifindex ≡ ifindex → s.queue ≡ queue → s.shapes ≡ program.now.shapes → Stands result s }
         ensures own { own result ≡ state_of program.now.shapes (first_numbers packet.entry ifindex queue) }
         ensures itself { Stands result (own result) }
+        ensures course { left result ≡ course (instructions program.now.code) program.now.code (start_state program.now.shapes packet.entry ifindex queue) }
         ensures count { result.count ≡ 0 }
     {
         let machine = Machine::new(packet, ifindex, queue, program.shapes());
@@ -63,7 +65,7 @@ impl<'p, 'b> Vm<'p, 'b> {
         ensures own { Answers result (now self.now) }
         ensures itself { Stands self.now (own self.now) }
         ensures stands { (s : State) → Stands self.now s → Answers result (step self.now.program.code s) }
-        ensures runs { (s : State) → Stands self.now s → SameRuns self.now s }
+        ensures course { Begins result (left self.now) }
     {
         let insn = *self.program.insn(self.machine.pc);
         self.machine.want(insn)
@@ -123,6 +125,7 @@ impl<'p, 'b> Vm<'p, 'b> {
         requires { Ends (now self) }
         ensures stands { (s : State) → Stands self.entry s → (r0 : ℕ) × (step self.entry.program.code s ≡ Exited r0) × (result.0 ≡ r0 % 2 ^ 32) × (result.1 ≡ s.packet) }
         ensures own { (r0 : ℕ) × (now self.entry ≡ Exited r0) × (result.0 ≡ r0 % 2 ^ 32) × (result.1 ≡ (own self.entry).packet) }
+        ensures course { (r0 : ℕ) × (left self.entry ≡ Exiting r0 result.1) × (result.0 ≡ r0 % 2 ^ 32) }
     {
         match self.want() {
             VmWant::Exit { r0 } => {

@@ -1,8 +1,10 @@
-use Rattle.std.proofs.Common.{◌≡◌, sym, subst, ◌∙◌, refl}
+use Rattle.std.proofs.Common.{◌≡◌, ap, sym, subst, ◌∙◌, refl}
 use Rattle.bpf_flow.specs.Step.{Exited, step}
+use Rattle.bpf_vm.specs.Course.{Exiting}
 use Rattle.bpf_vm.specs.Stands.{Running, now}
-use Rattle.bpf_vm.proofs.RunLemmas.{exit_same, want_exits}
-use Rattle.bpf_vm.proofs.MachineLemmas.{own_of}
+use Rattle.bpf_vm.proofs.RunLemmas.{exit_same, want_exits, counted_below}
+use Rattle.bpf_vm.proofs.MachineLemmas.{own_of, running_of}
+use Rattle.bpf_vm.proofs.CourseLemmas.{left_exits}
 use Rattle.bpf_vm.proofs.vm.Vm.finish.Goals as goal
 
 pub returns-clause-stands : goal.returns-clause-stands
@@ -18,3 +20,12 @@ pub returns-clause-own : goal.returns-clause-own
 returns-clause-own c =
     let e = want_exits c.want.result c.in-Exit.r0 (now c.args.self) c.in-Exit.ensures.own in
     (c.in-Exit.r0, e.1, refl, rw (← c.self.view_is) c.into_packet.ensures)
+
+pub returns-clause-course : goal.returns-clause-course
+returns-clause-course c =
+    let p = c.self.inside.program.now in
+    let m = c.self.inside.machine in
+    let v = running_of p m c.self.inside.count in
+    let e = want_exits c.want.result c.in-Exit.r0 (now c.args.self) c.in-Exit.ensures.own in
+    let mine : now v ≡ Exited c.in-Exit.r0 = subst (λ (v : Running). now v ≡ Exited c.in-Exit.r0) (sym c.self.view_is) e.1 in
+    (c.in-Exit.r0, rw (← c.self.view_is) (left_exits v c.in-Exit.r0 (counted_below v c.self.invariant.1.consistent c.self.invariant.1) mine ∙ ap (Exiting c.in-Exit.r0) (sym c.into_packet.ensures)), refl)

@@ -1,0 +1,41 @@
+ghost use Rattle.std.specs.Prelude.{◌≡◌};
+ghost use Rattle.bpf_vm.specs.Actions.{action_of, action_name};
+
+/// What becomes of a packet: the actions of XDP (Linux's uapi/linux/bpf.h, `enum xdp_action`).
+#[derive(Clone, Copy, Debug, PartialEq, Eq, Drop)]
+pub enum Action {
+    /// The packet is dropped as after a fault.
+    Aborted,
+    /// The packet is dropped.
+    Drop,
+    /// The packet goes on to the network stack.
+    Pass,
+    /// The packet goes back out of the interface that it came from.
+    Tx,
+}
+
+impl Action {
+    /// The action of the number that a program ends with. Each from 4 on is `Aborted`.
+    pub fn of(number: u32) -> Action
+        ensures { result ≡ action_of number }
+    {
+        match number {
+            1 => Action::Drop,
+            2 => Action::Pass,
+            3 => Action::Tx,
+            _ => Action::Aborted,
+        }
+    }
+
+    /// The name without its prefix `XDP_`.
+    pub fn name(self) -> &'static str
+        ensures { result.now ≡ action_name self }
+    {
+        match self {
+            Action::Aborted => "ABORTED",
+            Action::Drop => "DROP",
+            Action::Pass => "PASS",
+            Action::Tx => "TX",
+        }
+    }
+}

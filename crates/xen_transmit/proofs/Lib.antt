@@ -1,0 +1,3 @@
+pub mod EntryParts
+pub mod SendLemmas
+pub mod SendParts
