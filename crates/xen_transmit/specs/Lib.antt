@@ -7,3 +7,4 @@ pub mod Rest
 pub mod Shared
 pub mod Sending
 pub mod Touched
+pub mod Wired
