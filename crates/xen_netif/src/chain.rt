@@ -25,7 +25,7 @@ pub enum ChainState {
     Complete,
 }
 
-/// The slots of one packet, as they were read: a data slot, up to five extras where it says so, and up to
+/// The slots of one packet, as they were read: a data slot, up to five extras if it says so, and up to
 /// seventeen further data slots.
 #[derive(Debug, Drop)]
 pub struct Chain {
@@ -67,7 +67,8 @@ impl Chain {
 
     /// How many slots there are, extras among them.
     pub fn len(&self) -> usize
-        ensures { result ≡ length self.now }
+        ensures len { result ≡ length self.now }
+        ensures few { result ≤ 23 }
     {
         self.slots.len()
     }
@@ -91,9 +92,8 @@ impl Chain {
     ///
     /// # Errors
     ///
-    /// `UnknownExtra` where an extra is wanted and the slot's type is none of the five, `TooManyExtras` where the
-    /// slot is a fifth extra and asks for a sixth, `TooManySlots` where it is an eighteenth data slot and asks for a
-    /// nineteenth.
+    /// `UnknownExtra` if an extra is wanted and the slot's type is none of the five, `TooManyExtras` if the slot is
+    /// a fifth extra and asks for a sixth, `TooManySlots` if it is an eighteenth data slot and asks for a nineteenth.
     pub fn push(&mut self, words: [u32; 3]) -> Result<ChainState, ChainFault>
         requires { standing self.old ≢ Some (Ok ChainState.Complete) }
         ensures grammar { Stands (self.old ++ words ∷ []) (Some result) }
@@ -115,7 +115,7 @@ impl Chain {
         requests_in(self.slots.as_slice())
     }
 
-    /// The packet's parts in granted pages, one a slot, in order.
+    /// The packet's parts in granted pages, one per slot, in order.
     ///
     /// # Errors
     ///
@@ -125,6 +125,7 @@ impl Chain {
         ensures answer { MatchResult result (λ v. fragments_of self.now ≡ Ok v.items)
             (λ fault. fragments_of self.now ≡ Err fault) }
         ensures sizes { IfOk result (λ v. sum_by fragment_size v.items ≡ packet_size self.now) }
+        ensures short { IfOk result (λ v. sum_by fragment_size v.items ≤ 65535) }
         ensures count { IfOk result (λ v. length v.items ≡ length self.now) }
         ensures in_page { IfOk result (λ v. IsTrue (list_all is_in_page v.items)) }
     {
@@ -138,6 +139,7 @@ fn fragments_in(slots: &[[u32; 3]]) -> Result<ArrayVec<Fragment, 18>, SizeFault>
     ensures answer { MatchResult result (λ v. fragments_of slots.now ≡ Ok v.items)
         (λ fault. fragments_of slots.now ≡ Err fault) }
     ensures sizes { IfOk result (λ v. sum_by fragment_size v.items ≡ packet_size slots.now) }
+    ensures short { IfOk result (λ v. sum_by fragment_size v.items ≤ 65535) }
     ensures count { IfOk result (λ v. length v.items ≡ length slots.now) }
     ensures in_page { IfOk result (λ v. IsTrue (list_all is_in_page v.items)) }
 {

@@ -23,11 +23,11 @@ abbrev pub is_domain : Option ℕ → ℕ → Bool
 is_domain None domain = false
 is_domain (Some owner) domain = owner == domain
 
--- the frame is there, and this domain's
+-- the frame exists and is this domain's
 abbrev pub owns : List ℕ → (domain frame : ℕ) → Bool
 owns owners domain frame = is_domain (slice_get owners frame) domain
 
--- What is asked of an entry, in this order, each with the fault where it isn't so.
+-- What is required of an entry, in this order, each with the fault if it isn't so.
 abbrev pub demands : List ℕ → (granter user : ℕ) → Entry → (write : Bool) → List (Bool × GrantFault)
 demands owners granter user e write =
     (permits_access e, BadGntref) ∷

@@ -11,13 +11,13 @@ pub record Logged : Type 0 where
 abbrev pub empty_log : ℕ → Logged
 empty_log room = record { kept = []; room = room; full = false }
 
--- An access is kept where there is room, and else left out.
+-- An access is kept if there is room, and left out otherwise.
 abbrev pub noted : Logged → Access → Logged
 noted log access =
     if nat_lt (length log.kept) log.room
     then record log { kept = log.kept ++ access ∷ [] }
     else record log { full = true }
 
--- What is told: all accesses so far, as long as none was left out.
+-- What is reported: all accesses so far, as long as none was left out.
 abbrev pub told : Logged → Option (List Access)
 told log = if log.full then None else Some log.kept

@@ -1,6 +1,6 @@
--- Mappings of granted frames (grant_table.h: a mapping marks its entry GTF_reading, and GTF_writing where it may write;
+-- Mappings of granted frames (grant_table.h: a mapping marks its entry GTF_reading, and GTF_writing if it may write;
 -- the marks are set and taken away by a compare-exchange of the flags).
-use Rattle.std.specs.Prelude.{ℕ, ◌+◌, ◌≡◌, ◌≢◌, Bool, not, List, [], ◌∷◌, ◌++◌, None, Some, Result, Ok, Err, bit_or, if◌then◌else◌}
+use Rattle.std.specs.Prelude.{ℕ, ◌+◌, ◌≡◌, ◌≢◌, Bool, not, List, [], ◌∷◌, ◌++◌, None, Some, Result, Ok, Err, bit_or, slice_get, if◌then◌else◌}
 use Rattle.xen_page.specs.Entry.{entry_of, is_marked}
 use Rattle.xen_page.specs.Grant.{demands, first_fault}
 use Rattle.xen_page.specs.Table.{entry_place}
@@ -19,6 +19,11 @@ pub record Mapping : Type 0 where
   pub write : Bool
   pub at : Place
   pub word : ℕ
+
+-- a mapping of a frame that this domain owns and lent
+pub record IsMappedBy (owners : List ℕ) (granter : ℕ) (m : Mapping) : Type 0 where
+  pub owned : slice_get owners m.frame ≡ Some granter
+  pub by_granter : m.granter ≡ granter
 
 -- the marks of a mapping: GTF_reading 8, and GTF_writing 16 beside it
 abbrev pub marks : (write : Bool) → ℕ
@@ -58,7 +63,7 @@ pub data IsMap (table owners : List ℕ) (granter user gref : ℕ) (write : Bool
 abbrev pub unmarking : Mapping → (found : ℕ) → Access
 unmarking m found = access.Exchange m.at (bit_or m.word (marks m.write)) m.word found
 
--- The access of ending a mapping, and its answer: the mapping itself where the word was another.
+-- The access of ending a mapping, and its answer: the mapping itself if the word was another.
 pub data IsUnmap (m : Mapping) : List Access → Result (Unit {0}) Mapping → Type 0 where
   unmapped : IsUnmap m (unmarking m (bit_or m.word (marks m.write)) ∷ []) (Ok tt)
   kept : (found : ℕ) → found ≢ bit_or m.word (marks m.write) → IsUnmap m (unmarking m found ∷ []) (Err m)

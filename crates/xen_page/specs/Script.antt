@@ -9,7 +9,7 @@ pub record Script : Type 0 where
   pub answers : List ℕ  -- those that are left
   pub log : Logged
 
--- A read and an exchange take the next answer, which is 0 where none is left.
+-- A read and an exchange take the next answer, which is 0 once none is left.
 abbrev pub Takes : List ℕ → Access → List ℕ → Type 0
 Takes old (access.Read at answer) new = (answer ≡ slice_index old 0) × (new ≡ drop 1 old)
 Takes old (access.Write at value) new = new ≡ old

@@ -3,7 +3,7 @@ use Rattle.std.specs.Prelude.{ℕ, ◌≤◌, ◌*◌, ◌/◌, ◌%◌, List, l
 use Rattle.xen_page.specs.Grant.{owns}
 use Rattle.xen_page.specs.declared.place.Place.{Place}
 
--- one to sixteen frames, each there and the granter's
+-- one to sixteen frames, which exist and are the granter's
 abbrev pub IsTable : List ℕ → ℕ → List ℕ → Type 0
 IsTable owners granter frames =
     (1 ≤ length frames) × (length frames ≤ 16) × All (λ frame. IsTrue (owns owners granter frame)) frames

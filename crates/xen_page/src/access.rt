@@ -1,8 +1,8 @@
-// One access of a page word.
+//! One access to a page word.
 
 use crate::place::Place;
 
-/// An access of a page word, with what it was answered.
+/// An access to a page word, with its answer.
 #[derive(Clone, Copy, Debug, PartialEq, Eq)]
 pub enum Access {
     Read {
@@ -13,7 +13,7 @@ pub enum Access {
         at: Place,
         value: u32,
     },
-    /// A compare-exchange. It found `found`, and wrote `new` where that is `old`.
+    /// A compare-exchange. It found `found`, and wrote `new` if that is `old`.
     Exchange {
         at: Place,
         old: u32,

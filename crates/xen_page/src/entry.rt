@@ -1,4 +1,4 @@
-// A grant table's entry, and its check.
+//! A grant table's entry, and its check.
 
 ghost use Rattle.std.specs.Prelude.{◌≡◌, ◌∷◌, [], IfOk, Some, slice_get};
 ghost use Rattle.xen_page.specs.Entry.{entry_of, first_word, is_marked, is_readonly, permits_access};
@@ -28,7 +28,7 @@ pub struct Entry {
 }
 
 impl Entry {
-    /// The entry of its first word and its second.
+    /// The entry with these two words.
     pub fn of_words(a: u32, b: u32) -> Entry
         ensures entry { result ≡ entry_of a b }
         ensures back { first_word result ≡ a }
@@ -71,7 +71,7 @@ impl Entry {
     }
 }
 
-/// Whether `user` may reach the frame of an entry of `granter`'s table, for writing where `write` is set:
+/// Whether `user` may reach the frame of an entry of `granter`'s table, for writing if `write` is set:
 /// the frame, which is then the granter's, or the first fault.
 pub fn check(
     owners: &Owners,

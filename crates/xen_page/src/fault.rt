@@ -1,4 +1,4 @@
-// Why a grant may not be used.
+//! Why a grant may not be used.
 
 ghost use Rattle.std.specs.Prelude.{◌≡◌};
 
@@ -12,9 +12,9 @@ pub enum GrantFault {
     BadGntref,
     /// The entry is another domain's, or read-only where writing is wanted (GNTST_permission_denied).
     PermissionDenied,
-    /// The frame isn't there, or isn't the granter's (GNTST_bad_page).
+    /// The frame doesn't exist, or isn't the granter's (GNTST_bad_page).
     BadPage,
-    /// The entry is mapped, or changed meanwhile (GNTST_eagain).
+    /// The entry is already mapped, or was changed at the same time (GNTST_eagain).
     Eagain,
 }
 

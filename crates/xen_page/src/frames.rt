@@ -1,16 +1,14 @@
-// Pages of shared words.
+//! Pages of shared words.
 
 ghost use Rattle.std.specs.Prelude.{◌≡◌, ◌≤◌, ◌<◌, length, IfOk};
-ghost use Rattle.xen_page.specs.declared.owners.TheConstants.{MAX_FRAMES};
-ghost use Rattle.xen_page.specs.declared.place.TheConstants.{WORDS};
 
 use crate::place::{Place, WORDS};
 use std::alloc::{AllocError, Global};
 use std::marker::Model;
 use std::sync::atomic::AtomicU32;
 
-/// Frames of 1,024 words each. Contracts see how many frames there are, and nothing of a word: any thread
-/// may have written it.
+/// Frames of 1,024 words each. Contracts see the number of frames, and nothing of a word: any thread may
+/// have written it.
 #[derive(Drop)]
 pub struct Frames {
     count: u32,
@@ -19,20 +17,18 @@ pub struct Frames {
 
 impl Model for Frames {
     ghost use Rattle.std.specs.Prelude.{◌≡◌, ◌≤◌, ◌*◌, ℕ, vec_len};
-    ghost use Rattle.xen_page.specs.declared.owners.TheConstants.{MAX_FRAMES};
-    ghost use Rattle.xen_page.specs.declared.place.TheConstants.{WORDS};
 
     ghost Value = { ℕ };
 
     ghost view = { λ f. f.count };
 
-    ghost invariant = { λ f. (f.count ≤ MAX_FRAMES) × (vec_len f.words ≡ f.count * WORDS) };
+    ghost invariant = { λ f. (f.count ≤ 8192) × (vec_len f.words ≡ f.count * 1024) };
 }
 
 impl Frames {
-    /// One frame for each owner, all words 0.
+    /// One frame per owner, all words 0.
     pub fn make(alloc: Global, owners: &[u16]) -> Result<Frames, AllocError>
-        requires { length owners.now ≤ MAX_FRAMES }
+        requires { length owners.now ≤ 8192 }
         ensures { IfOk result (λ frames. frames ≡ length owners.now) }
     {
         let total = owners.len() * WORDS as usize;
@@ -46,6 +42,7 @@ impl Frames {
         })
     }
 
+    /// The number of frames.
     pub fn count(&self) -> u32
         ensures { result ≡ self.now }
     {
@@ -54,7 +51,7 @@ impl Frames {
 
     pub(crate) fn word(&self, at: Place) -> &AtomicU32
         requires frame { at.frame < self.now }
-        requires word { at.word < WORDS }
+        requires word { at.word < 1024 }
     {
         &self.words[at.frame as usize * WORDS as usize + at.word as usize]
     }

@@ -1,4 +1,4 @@
-// The log of a bus that tells.
+//! The log of a bus that reports its accesses.
 
 ghost use Rattle.std.specs.Prelude.{◌≡◌, IfOk};
 ghost use Rattle.xen_page.specs.Log.{empty_log, noted};
@@ -38,6 +38,7 @@ impl Log {
         })
     }
 
+    /// Keeps an access if there is room.
     pub fn note(&mut self, access: Access)
         ensures { self.new ≡ noted self.old access }
     {
@@ -48,12 +49,14 @@ impl Log {
         }
     }
 
+    /// Whether an access was left out.
     pub fn full(&self) -> bool
         ensures { result ≡ self.now.full }
     {
         self.full
     }
 
+    /// The accesses that were kept.
     pub fn kept(&self) -> &[Access]
         ensures { result.now ≡ self.now.kept }
     {

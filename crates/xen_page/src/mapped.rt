@@ -1,7 +1,6 @@
-// A frame that is mapped.
+//! A frame that is mapped.
 
 ghost use Rattle.std.specs.Prelude.{◌≡◌, ◌<◌};
-ghost use Rattle.xen_page.specs.declared.place.TheConstants.{WORDS};
 
 use crate::place::Place;
 use std::marker::Model;
@@ -22,16 +21,16 @@ impl Model for Mapped {
     ghost use Rattle.std.specs.Prelude.{◌≡◌, ◌<◌, false};
     ghost use Rattle.xen_page.specs.Entry.{entry_of, is_marked};
     ghost use Rattle.xen_page.specs.Mapping.{Mapping};
-    ghost use Rattle.xen_page.specs.declared.place.TheConstants.{WORDS};
 
     ghost Value = { Mapping };
 
     ghost view = { λ m. record { granter = m.granter; frame = m.frame; write = m.write; at = m.at; word = m.word } };
 
-    ghost invariant = { λ m. (m.at.word < WORDS) × (is_marked (entry_of m.word m.frame) ≡ false) };
+    ghost invariant = { λ m. (m.at.word < 1024) × (is_marked (entry_of m.word m.frame) ≡ false) };
 }
 
 impl Mapped {
+    /// The frame's number.
     pub fn frame(&self) -> u32
         ensures { result ≡ self.now.frame }
     {
@@ -55,7 +54,7 @@ impl Mapped {
     /// Where the entry's flags word is.
     pub fn entry(&self) -> Place
         ensures entry { result ≡ self.now.at }
-        ensures in_page { self.now.at.word < WORDS }
+        ensures in_page { self.now.at.word < 1024 }
     {
         self.at
     }

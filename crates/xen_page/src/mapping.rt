@@ -1,9 +1,10 @@
-// Mapping a granted frame, and ending the mapping.
+//! Mapping a granted frame, and ending the mapping.
 
 ghost use Rattle.std.specs.Prelude.{◌≡◌, ◌<◌, List, All, IfOk, Some, false, slice_get};
 ghost use Rattle.xen_page.specs.Access.{Performs};
 ghost use Rattle.xen_page.specs.Entry.{is_marked};
-ghost use Rattle.xen_page.specs.Mapping.{IsMap, IsUnmap, mappable, marks};
+ghost use Rattle.xen_page.specs.Mapping.{IsMap, IsMappedBy, IsUnmap, mappable, marks};
+ghost use Rattle.xen_page.specs.Table.{IsTable};
 ghost use Rattle.xen_page.specs.declared.access.Access.{Access};
 
 use crate::bus::Bus;
@@ -13,7 +14,7 @@ use crate::mapped::Mapped;
 use crate::owners::Owners;
 use crate::table::Table;
 
-/// Maps the frame that `granter` lends `user` under a reference of its table, for writing where `write` is
+/// Maps the frame that `granter` lends `user` under a reference of its table, for writing if `write` is
 /// set. The entry's two words are read once each; then its flags word is exchanged for one with the marks.
 pub fn map<B: Bus>(
     bus: &mut B,
@@ -24,10 +25,10 @@ pub fn map<B: Bus>(
     gref: u32,
     write: bool,
 ) -> Result<Mapped, GrantFault>
-    requires { All (λ frame. frame < B.size bus.old) table.now }
+    requires table { IsTable owners.now granter table.now }
+    requires within { All (λ frame. frame < B.size bus.old) table.now }
     ensures size { B.size bus.new ≡ B.size bus.old }
-    ensures frame { IfOk result (λ m. slice_get owners.now m.frame ≡ Some granter) }
-    ensures granter { IfOk result (λ m. m.granter ≡ granter) }
+    ensures lent { IfOk result (IsMappedBy owners.now granter) }
     ensures write { IfOk result (λ m. m.write ≡ write) }
     ensures entry { IfOk result (λ m. m.at.frame < B.size bus.new) }
 
@@ -55,8 +56,8 @@ pub fn map<B: Bus>(
     })
 }
 
-/// Ends a mapping: one exchange takes the marks away. Where the flags word was changed meanwhile, it stays,
-/// and the mapping comes back.
+/// Ends a mapping: one exchange takes the marks away. If the flags word was changed meanwhile, it stays as
+/// it is, and the mapping is handed back.
 pub fn unmap<B: Bus>(bus: &mut B, mapped: Mapped) -> Result<(), Mapped>
     requires { mapped.at.frame < B.size bus.old }
     ensures size { B.size bus.new ≡ B.size bus.old }

@@ -1,4 +1,4 @@
-// A bus over frames.
+//! A bus over frames.
 
 ghost use Rattle.std.specs.Prelude.{◌≡◌, None};
 
@@ -8,7 +8,8 @@ use crate::place::Place;
 use std::marker::Model;
 use std::sync::atomic::Ordering;
 
-/// Reaches frames that threads share. It doesn't tell its accesses. Contracts see how many frames there are.
+/// Reaches frames that threads share. It doesn't report its accesses, so that each call makes one access
+/// and no other is for a reader of the code to see. Contracts see the number of frames.
 #[derive(Drop)]
 pub struct PageBus<'f> {
     frames: &'f Frames,
@@ -23,6 +24,7 @@ impl<'f> Model for PageBus<'f> {
 }
 
 impl<'f> PageBus<'f> {
+    /// A bus that reaches these frames.
     pub fn of(frames: &'f Frames) -> PageBus<'f>
         ensures { result ≡ frames.now }
     {

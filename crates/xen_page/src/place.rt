@@ -1,9 +1,9 @@
-// A word of a frame.
+//! A word of a frame.
 
 ghost use Rattle.std.specs.Prelude.{◌≡◌, ◌<◌, ◌+◌};
 ghost use Rattle.std.specs.Option.{SomeIff};
 
-/// How many words of four octets a page has.
+/// The number of words of four octets in a page.
 pub const WORDS: u32 = 1024;
 
 /// A word of a frame.
@@ -15,9 +15,9 @@ pub struct Place {
 }
 
 impl Place {
-    /// The place of this word, if a page has so many.
+    /// The place of this word, if a page has it.
     pub fn of(frame: u32, word: u32) -> Option<Place>
-        ensures { SomeIff result (word < WORDS) (record { frame = frame; word = word }) }
+        ensures { SomeIff result (word < 1024) (record { frame = frame; word = word }) }
     {
         if word < WORDS {
             Some(Place { frame, word })
@@ -28,7 +28,7 @@ impl Place {
 
     /// The word after this one.
     pub fn next(self) -> Place
-        requires { self.word + 1 < WORDS }
+        requires { self.word + 1 < 1024 }
         ensures { result ≡ record { frame = self.frame; word = self.word + 1 } }
     {
         Place {

@@ -1,4 +1,4 @@
-// A bus that keeps the accesses of another.
+//! A bus that keeps the accesses of another.
 
 ghost use Rattle.std.specs.Prelude.{◌≡◌, IfOk};
 ghost use Rattle.xen_page.specs.Log.{empty_log, told};
@@ -10,7 +10,7 @@ use crate::log::Log;
 use crate::place::Place;
 use std::alloc::{AllocError, Global};
 
-/// Passes each access on to a bus and tells it with its answer, as long as `full()` is false.
+/// Passes each access on to a bus and reports it with its answer, as long as `full()` is false.
 #[derive(Drop)]
 pub struct Recorder<B> {
     bus: B,

@@ -1,4 +1,4 @@
-// A bus that answers from a list.
+//! A bus that answers from a list.
 
 ghost use Rattle.std.specs.Prelude.{◌≡◌, IfOk, slice_index, drop};
 ghost use Rattle.xen_page.specs.Log.{empty_log, noted, told};
@@ -12,7 +12,7 @@ use std::alloc::{AllocError, Global};
 use std::marker::Model;
 
 /// Answers each read and each compare-exchange with the next number of a list, and with 0 once none is left.
-/// Nothing that is written is kept. It tells its accesses as long as `full()` is false.
+/// Nothing that is written is kept. It reports its accesses as long as `full()` is false.
 #[derive(Drop)]
 pub struct ScriptBus {
     frames: u32,
@@ -31,7 +31,7 @@ impl Model for ScriptBus {
 }
 
 impl ScriptBus {
-    /// A bus of so many frames, with room for `cap` accesses in its log.
+    /// A bus of `frames` frames, with room for `cap` accesses in its log.
     pub fn make(
         alloc: Global,
         frames: u32,

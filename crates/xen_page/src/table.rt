@@ -1,6 +1,6 @@
-// A domain's grant table.
+//! A domain's grant table.
 
-ghost use Rattle.std.specs.Prelude.{◌≡◌, ◌<◌, ◌↔◌, All, IsTrue, slice_get};
+ghost use Rattle.std.specs.Prelude.{◌≡◌, ◌+◌, ◌<◌, ◌↔◌, All, Contains, IfSome, IsTrue, slice_get};
 ghost use Rattle.std.specs.Option.{SomeIff};
 ghost use Rattle.xen_page.specs.Table.{IsTable, entry_place};
 
@@ -9,9 +9,9 @@ use crate::owners::Owners;
 use crate::place::Place;
 use std::marker::Model;
 
-/// How many frames a table has at most.
+/// The most frames that a table has.
 pub const MAX_TABLE_FRAMES: usize = 16;
-/// How many entries of two words a frame of a table has.
+/// The number of entries of two words in a frame of a table.
 pub const ENTRIES: u32 = 512;
 
 /// The frames of a domain's grant table, 1 to 16 of them. Contracts see the list of the frames.
@@ -32,7 +32,7 @@ impl Model for Table {
 }
 
 impl Table {
-    /// The table of these frames: none unless there are 1 to 16, all there and the granter's.
+    /// The table of these frames, if there are 1 to 16, which exist and are the granter's.
     pub fn make(owners: &Owners, granter: u16, frames: &[u32]) -> Option<Table>
         ensures { SomeIff result (IsTable owners.now granter frames.now) frames.now }
     {
@@ -51,7 +51,7 @@ impl Table {
         })
     }
 
-    /// Whether each frame of the table is one of the first `frames`, as a mapping over a bus of so many asks.
+    /// Whether the table lies within a bus of `frames` frames, as `map` requires.
     pub fn is_within(&self, frames: u32) -> bool
         ensures { IsTrue result ↔ All (λ frame. frame < frames) self.now }
     {
@@ -62,7 +62,9 @@ impl Table {
 
     /// The place of the flags word of a reference's entry, if the reference is in the table.
     pub fn place(&self, gref: u32) -> Option<Place>
-        ensures { result ≡ entry_place self.now gref }
+        ensures place { result ≡ entry_place self.now gref }
+        ensures in_page { IfSome result (λ at. at.word + 1 < 1024) }
+        ensures in_table { IfSome result (λ at. Contains self.now at.frame) }
     {
         let frame = *self.frames[..self.count].get((gref / ENTRIES) as usize)?;
         Some(Place {

@@ -3,3 +3,4 @@ mod entries;
 mod fixtures;
 mod mappings;
 mod tables;
+mod threads;

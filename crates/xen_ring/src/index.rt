@@ -1,8 +1,7 @@
-// Indices of a ring. They run freely from 0 to 2^32 - 1 and wrap; ring.h calls them RING_IDX.
+//! Indices of a ring. They run freely from 0 to 2^32 - 1 and wrap; ring.h calls them RING_IDX.
 
-ghost use Rattle.std.specs.Prelude.{◌≡◌, ◌%◌, ◌≤◌};
-ghost use Rattle.std.specs.Result.{OkIff};
-ghost use Rattle.xen_ring.specs.Index.{distance, is_due, place_of};
+ghost use Rattle.std.specs.Prelude.{◌≡◌};
+ghost use Rattle.xen_ring.specs.Index.{is_due, place_of, unconsumed_of};
 
 use crate::overflow::Overflow;
 
@@ -15,12 +14,12 @@ pub const RING_SIZE: u32 = 256;
 /// a whole ring past it would overwrite requests that are still open: that is the `Overflow` of ring.h's
 /// RING_REQUEST_PROD_OVERFLOW.
 pub fn unconsumed(prod: u32, cons: u32, rsp: u32) -> Result<u32, Overflow>
-    ensures { OkIff result (distance rsp prod ≤ RING_SIZE) (distance cons prod) }
+    ensures { result ≡ unconsumed_of prod cons rsp }
 {
-    if prod.wrapping_sub(rsp) > RING_SIZE {
-        Err(Overflow)
-    } else {
+    if prod.wrapping_sub(rsp) <= RING_SIZE {
         Ok(prod.wrapping_sub(cons))
+    } else {
+        Err(Overflow)
     }
 }
 

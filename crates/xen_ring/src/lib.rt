@@ -1,7 +1,8 @@
-//! The arithmetic of a Xen I/O ring's indices, and the event ports of a domain.
+//! The arithmetic of a Xen I/O ring's indices, the words of a ring's page, and the event ports of a domain.
 #![tactic(auto)]
 
 pub mod index;
+pub mod layout;
 pub mod overflow;
 pub mod port;
 pub mod ports;
@@ -9,6 +10,10 @@ pub mod ports;
 mod tests;
 
 pub use index::{RING_SIZE, due, place, unconsumed};
+pub use layout::{
+    FIRST_ENTRY, REQ_EVENT, REQ_PROD, RSP_EVENT, RSP_PROD, RX_ENTRY_WORDS, TX_ENTRY_WORDS,
+    rx_entry_word, tx_entry_word,
+};
 pub use overflow::Overflow;
 pub use port::{PORTS, Port};
 pub use ports::Ports;

@@ -1,4 +1,4 @@
-// The fault of a ring.
+//! The fault of a ring.
 
 use std::error::Error;
 use std::fmt;

@@ -1,4 +1,4 @@
-// One event port.
+//! One event port.
 
 ghost use Rattle.std.specs.Prelude.{◌≡◌, ◌<◌};
 ghost use Rattle.std.specs.Option.{SomeIff};
@@ -16,21 +16,20 @@ pub struct Port {
 
 impl Model for Port {
     ghost use Rattle.std.specs.Prelude.{ℕ, ◌<◌};
-    ghost use Rattle.xen_ring.specs.declared.port.TheConstants.{PORTS};
 
     ghost Value = { ℕ };
 
     ghost view = { λ p. p.number };
 
-    ghost invariant = { λ p. p.number < PORTS };
+    ghost invariant = { λ p. p.number < 64 };
 
     ghost inverse = { λ n. record { number = n } };
 }
 
 impl Port {
-    /// The port of this number.
+    /// The port with this number, if it is below 64.
     pub fn of(number: u32) -> Option<Port>
-        ensures { SomeIff result (number < PORTS) number }
+        ensures { SomeIff result (number < 64) number }
     {
         if number < PORTS {
             Some(Port { number })
@@ -39,9 +38,10 @@ impl Port {
         }
     }
 
+    /// The port's number.
     pub fn number(&self) -> u32
         ensures number { result ≡ self.now }
-        ensures in_range { self.now < PORTS }
+        ensures in_range { self.now < 64 }
     {
         self.number
     }

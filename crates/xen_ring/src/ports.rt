@@ -1,11 +1,11 @@
-// The event ports of a domain, as the two bit fields of its shared information page.
+//! The event ports of a domain, as the two bit fields of its shared information page.
 
 ghost use Rattle.std.specs.Prelude.{◌≡◌, ◌^◌};
 
 use crate::port::Port;
 use std::sync::atomic::{AtomicU64, Ordering};
 
-/// 64 event ports, each with a pending bit and a mask bit. Threads share it by reference: each bit is set
+/// 64 event ports, each with a pending bit and a mask bit. Threads share them by reference: each bit is set
 /// or cleared in one step.
 ///
 /// Sends to a port that is still pending merge into one.
@@ -24,12 +24,12 @@ impl Ports {
         }
     }
 
-    /// Sends an event: the port is pending from now on, also where it is masked.
+    /// Sends an event: the port is pending from now on, even if it is masked.
     pub fn notify(&self, port: Port) {
         self.pending.fetch_or(bit(port), Ordering::SeqCst);
     }
 
-    /// Whether the port was unmasked and pending; if so, it is pending no longer.
+    /// Whether the port was unmasked and pending; if so, it is no longer pending.
     pub fn take(&self, port: Port) -> bool {
         let bit = bit(port);
         if self.masked.load(Ordering::SeqCst) & bit != 0 {

@@ -1,2 +1,4 @@
 mod index;
+mod layout;
 mod ports;
+mod threads;

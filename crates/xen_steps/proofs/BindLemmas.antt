@@ -1,5 +1,5 @@
 -- What a computation asks before another one, and where it goes.
-use Rattle.std.proofs.Common.{◌≡◌, ℕ, Bool, true, false, IsTrue, refl}
+use Rattle.std.proofs.Common.{◌≡◌, ℕ, IsTrue, refl}
 use Rattle.xen_steps.specs.Steps.{Steps, done, ask, never, bind, next_by, want_of, asks}
 use Rattle.xen_steps.specs.declared.want.Want.{Want}
 use Rattle.xen_steps.specs.declared.want.Want.TheVariants as want

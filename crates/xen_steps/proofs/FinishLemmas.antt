@@ -1,6 +1,6 @@
 -- Computations that come to an end.
-use Rattle.std.proofs.Common.{◌≡◌, ℕ, ◌+◌, ◌-◌, List, [], ◌∷◌, ◌++◌, refl, sym, arith, subst}
-use Rattle.xen_steps.specs.Drive.{Any, Bounded, Goes, Gone}
+use Rattle.std.proofs.Common.{◌≡◌, ℕ, ◌-◌, List, [], ◌∷◌, ◌++◌, refl, sym, arith, subst}
+use Rattle.xen_steps.specs.Drive.{Bounded, Goes, Gone}
 use Rattle.xen_steps.specs.Event.{Event, Occurs, Read, Write, Instr, Load, Add, Notify}
 use Rattle.xen_steps.specs.Finish.{Ends, Finishes, IsAsked}
 use Rattle.xen_steps.specs.Steps.{Steps, done, ask, never, bind, want_of, Runs}

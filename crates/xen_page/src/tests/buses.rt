@@ -1,4 +1,4 @@
-// What buses answer and tell.
+//! What buses answer and tell.
 
 ghost use Rattle.std.specs.Prelude.{◌≡◌, ◌≤◌};
 

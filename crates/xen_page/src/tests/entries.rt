@@ -1,4 +1,4 @@
-// Entries and their check.
+//! Entries and their check.
 
 use super::fixtures::{BACK, FRONT, owners};
 use crate::{Entry, GrantFault, check};

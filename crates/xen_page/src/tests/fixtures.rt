@@ -1,4 +1,4 @@
-// Two domains: the back, 0, owns frame 0, and the front, 1, owns frames 1 to 19.
+//! Two domains: the back, 0, owns frame 0, and the front, 1, owns frames 1 to 19.
 
 use crate::Owners;
 use std::alloc::{AllocError, Global};

@@ -1,4 +1,4 @@
-// Mapping a frame, and ending the mapping.
+//! Mapping a frame, and ending the mapping.
 
 use super::fixtures::{BACK, FRAMES, FRONT, owners};
 use crate::{Access, Bus, Frames, GrantFault, PageBus, Place, ScriptBus, Table, map, unmap};

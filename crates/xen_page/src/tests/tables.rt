@@ -1,8 +1,17 @@
-// Places, owners and grant tables.
+//! Places, owners and grant tables.
 
 use super::fixtures::{BACK, FRONT, owners};
-use crate::{Owners, Place, Table};
+use crate::{ENTRIES, MAX_FRAMES, MAX_TABLE_FRAMES, Owners, Place, Table, WORDS};
 use std::test::Fail;
+
+// grant_table.h: a page of 4,096 octets has 512 entries of eight octets.
+#[test]
+fn limits(rt: HostRuntime) {
+    assert_eq!(rt; WORDS, 1024);
+    assert_eq!(rt; ENTRIES, 512);
+    assert_eq!(rt; MAX_TABLE_FRAMES, 16);
+    assert_eq!(rt; MAX_FRAMES, 8192);
+}
 
 #[test]
 fn a_place_is_within_its_page(rt: HostRuntime) {

@@ -1,4 +1,4 @@
-// Triples of indices. Their values come from ring.h's macros, compiled by a C compiler.
+//! Triples of indices. Their values come from ring.h's macros, compiled by a C compiler.
 
 use crate::{Overflow, due, place, unconsumed};
 

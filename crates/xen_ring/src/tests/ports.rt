@@ -1,4 +1,4 @@
-// The bits of shared ports, of which no clause can speak.
+//! The bits of shared ports, of which no clause can speak.
 
 use crate::{Port, Ports};
 use std::test::Fail;

@@ -7,21 +7,21 @@ use Rattle.xen_page.proofs.TableLemmas.{entry_frame_in}
 use Rattle.xen_page.proofs.mapping.map.Goals as goal
 
 pub returns-in_default-clause-mapped : goal.returns-in_default-clause-mapped
-returns-in_default-clause-mapped g c = ([], outside (sym c.place.ensures ∙ c.in_default.is), performs_none g.B.Bus.log g.B.Bus.access_gives c.args.bus.now)
+returns-in_default-clause-mapped g c = ([], outside (sym c.place.ensures.place ∙ c.in_default.is), performs_none g.B.Bus.log g.B.Bus.access_gives c.args.bus.now)
 
 pub read-word-requires-clause-frame : goal.read-word-requires-clause-frame
 read-word-requires-clause-frame g c =
-    entry_frame_in (λ f. f < g.B.Bus.size c.args.bus.now) c.args.table.now c.args.gref c.in-Some.at (sym c.place.ensures ∙ c.in-Some.is) c.requires
+    entry_frame_in (λ f. f < g.B.Bus.size c.args.bus.now) c.args.table.now c.args.gref c.in-Some.at (sym c.place.ensures.place ∙ c.in-Some.is) c.requires.within
 
 pub read-frame-requires-clause-frame : goal.read-frame-requires-clause-frame
 read-frame-requires-clause-frame g c =
     rw (c.next.ensures, c.read-word.ensures.size)
-    (entry_frame_in (λ f. f < g.B.Bus.size c.args.bus.now) c.args.table.now c.args.gref c.in-Some.at (sym c.place.ensures ∙ c.in-Some.is) c.requires)
+    (entry_frame_in (λ f. f < g.B.Bus.size c.args.bus.now) c.args.table.now c.args.gref c.in-Some.at (sym c.place.ensures.place ∙ c.in-Some.is) c.requires.within)
 
 pub cas-found-requires-clause-frame : goal.cas-found-requires-clause-frame
 cas-found-requires-clause-frame g c =
     rw (c.read-frame.ensures.size, c.read-word.ensures.size)
-    (entry_frame_in (λ f. f < g.B.Bus.size c.args.bus.now) c.args.table.now c.args.gref c.in-Some.at (sym c.place.ensures ∙ c.in-Some.is) c.requires)
+    (entry_frame_in (λ f. f < g.B.Bus.size c.args.bus.now) c.args.table.now c.args.gref c.in-Some.at (sym c.place.ensures.place ∙ c.in-Some.is) c.requires.within)
 
 pub returns-in_err-frame-clause-mapped : goal.returns-in_err-frame-clause-mapped
 returns-in_err-frame-clause-mapped g c =
@@ -30,7 +30,7 @@ returns-in_err-frame-clause-mapped g c =
     let b = c.read-frame.result in
     rw (p.1, p.2) (
       reads_of c.in-Some.at a b [],
-      refused c.in-Some.at a b c.in_err-frame.field-0.0 (sym c.place.ensures ∙ c.in-Some.is)
+      refused c.in-Some.at a b c.in_err-frame.field-0.0 (sym c.place.ensures.place ∙ c.in-Some.is)
           (sym (rw c.of_words-entry.ensures.entry at c.check_unmarked.ensures.mappable) ∙ c.in_err-frame.was),
       performs_reads g.B.Bus.log g.B.Bus.access_gives c.args.bus.now c.read-word.new.self c.read-frame.new.self
           c.in-Some.at c.next.result a b c.next.ensures
@@ -43,7 +43,7 @@ returns-then-found-word-clause-mapped g c =
     let b = c.read-frame.result in
     let found = c.cas-found.result in (
       reads_of c.in-Some.at a b (marking c.in-Some.at a found c.args.write ∷ []),
-      changed c.in-Some.at a b c.in_ok-frame.frame found (sym c.place.ensures ∙ c.in-Some.is)
+      changed c.in-Some.at a b c.in_ok-frame.frame found (sym c.place.ensures.place ∙ c.in-Some.is)
           (sym (rw c.of_words-entry.ensures.entry at c.check_unmarked.ensures.mappable) ∙ c.in_ok-frame.was) c.if-found-word.true,
       performs_marking g.B.Bus.log g.B.Bus.access_gives c.args.bus.now c.read-frame.new.self c.cas-found.new.self
           c.in-Some.at a b found c.marks_for.result c.args.write c.marks_for.ensures
@@ -58,7 +58,7 @@ returns-clause-mapped g c =
     let a = c.read-word.result in
     let b = c.read-frame.result in (
       reads_of c.in-Some.at a b (marking c.in-Some.at a a c.args.write ∷ []),
-      mapped c.in-Some.at a b c.in_ok-frame.frame (sym c.place.ensures ∙ c.in-Some.is)
+      mapped c.in-Some.at a b c.in_ok-frame.frame (sym c.place.ensures.place ∙ c.in-Some.is)
           (sym (rw c.of_words-entry.ensures.entry at c.check_unmarked.ensures.mappable) ∙ c.in_ok-frame.was),
       performs_marking g.B.Bus.log g.B.Bus.access_gives c.args.bus.now c.read-frame.new.self c.cas-found.new.self
           c.in-Some.at a b a c.marks_for.result c.args.write c.marks_for.ensures
