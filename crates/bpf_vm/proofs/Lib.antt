@@ -8,4 +8,5 @@ pub mod CourseLemmas
 pub mod CounterLemmas
 mod MachineLemmas
 mod AfterLemmas
+mod AdvanceLemmas
 mod WholeLemmas
