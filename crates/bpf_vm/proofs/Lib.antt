@@ -9,4 +9,4 @@ pub mod CounterLemmas
 mod MachineLemmas
 mod AfterLemmas
 mod AdvanceLemmas
-mod WholeLemmas
+mod WalkLemmas
