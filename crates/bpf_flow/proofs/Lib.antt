@@ -21,3 +21,4 @@ pub mod CauseLemmas
 pub mod SetLemmas
 pub mod BehindLemmas
 pub mod ReadingLemmas
+pub mod KeptLemmas

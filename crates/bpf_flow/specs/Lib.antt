@@ -9,3 +9,4 @@ pub mod Sound
 pub mod Gives
 pub mod Causes
 pub mod Reading
+pub mod Kept

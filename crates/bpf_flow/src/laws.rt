@@ -3,11 +3,12 @@ ghost use Rattle.std.specs.Prelude.{◌≡◌, ◌↔◌, ℕ, List, Option, Err
 ghost use Rattle.bpf_insn.specs.declared.insn.Insn.{Insn};
 ghost use Rattle.bpf_insn.specs.declared.refusal.Cause.TheVariants.{Unset, FramePointer};
 ghost use Rattle.bpf_note.specs.Facts.{Facts};
-ghost use Rattle.bpf_note.specs.Shape.{Shape};
+ghost use Rattle.bpf_note.specs.Shape.{AreShapes, Shape};
 ghost use Rattle.bpf_note.specs.State.{State};
 ghost use Rattle.bpf_note.specs.declared.op.Op.{Op};
 ghost use Rattle.bpf_flow.specs.After.{after_of};
 ghost use Rattle.bpf_flow.specs.Graph.{Leads, writes};
+ghost use Rattle.bpf_flow.specs.Kept.{Kept, IsLabelOf};
 ghost use Rattle.bpf_flow.specs.Reading.{ReadsUnset};
 ghost use Rattle.bpf_flow.specs.Step.{Outcome, LeadsTo, Alike, Fits, exec, step};
 
@@ -41,4 +42,10 @@ pub fn unset_exactly_where_read()
 /// An instruction is refused for the frame pointer exactly where it writes `r10` and reads no unset register.
 pub fn frame_pointer_exactly_where_written()
     ensures { (i : Insn) (pc : ℕ) (n : Facts) (shapes : List Shape) → (after_of i pc n shapes ≡ Err FramePointer) ↔ (writes i 10 ≡ true) × (ReadsUnset i n → ⊥) }
+{}
+
+/// No step changes the maps or the length of the packet, and a step reads and adds to counters of the maps alone.
+pub fn steps_keep_the_maps()
+    ensures kept { (code : List Insn) (s : State) (label : Option Op) (t : State) → LeadsTo (step code s) label t → Kept s t }
+    ensures counters { (code : List Insn) (s : State) (label : Option Op) (t : State) → AreShapes s.shapes → LeadsTo (step code s) label t → IsLabelOf s.shapes label }
 {}

@@ -16,7 +16,7 @@ mod tests;
 
 pub use laws::{
     frame_pointer_exactly_where_written, labels_fit_their_instruction,
-    no_step_writes_the_frame_pointer, one_label_one_state, steps_follow_edges,
+    no_step_writes_the_frame_pointer, one_label_one_state, steps_follow_edges, steps_keep_the_maps,
     unset_exactly_where_read,
 };
 pub use registers::{jump_target, next_slot, reads, writes};

@@ -5,6 +5,8 @@ pub mod ExtendLemmas
 pub mod DescribeLemmas
 pub mod RunLemmas
 pub mod CourseLemmas
+pub mod CounterLemmas
 mod MachineLemmas
 mod AfterLemmas
-mod WholeLemmas
+mod AdvanceLemmas
+mod WalkLemmas
