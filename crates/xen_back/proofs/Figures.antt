@@ -1,4 +1,5 @@
 -- How many accesses a turn makes at most.
+use Rattle.xen_back.proofs.ChainLemmas.{is_open, open_beginning, standing_chain}
 use Rattle.xen_transmit.proofs.Figures.{n, n_append, n_notices, n_entry, n_transmit}
 use Rattle.std.proofs.Common.{◌≡◌, ℕ, suc, ◌+◌, ◌-◌, ◌*◌, ◌/◌, ◌%◌, ◌<◌, ◌≤◌, ◌^◌, Bool, true, false, IsTrue, List, [], ◌∷◌, ◌++◌, Option, Some, None, Result, Ok, Err, refl, sym, ◌∙◌, ap, length, map, take, drop, sum_by, arith, length-append, subst, nat_lt}
 use Rattle.std.specs.Prelude.{if◌then◌else◌, ◌==◌}
@@ -21,7 +22,7 @@ use Rattle.xen_ring.specs.Index.{is_due}
 use Rattle.bpf_vm.specs.Course.{start_state}
 use Rattle.xen_steps.specs.Drive.{accesses}
 use Rattle.xen_steps.specs.Event.{Event, Read, Write}
-use Rattle.xen_back.specs.Parts.{IsLook, once, twice, slot_reads, slots_reads, IsSlotRead, AllWords, is_open, behind, IsCopy, copied, denied, part, response_writes, IsRespond, HasRead}
+use Rattle.xen_back.specs.Parts.{IsLook, once, twice, slot_reads, slots_reads, IsSlotRead, AllWords, behind, IsCopy, copied, denied, part, response_writes, IsRespond, HasRead}
 use Rattle.xen_transmit.specs.Shared.{notices}
 use Rattle.xen_steps.specs.Pages.{page_reads}
 use Rattle.xen_steps.specs.Places.{add32}
@@ -168,7 +169,7 @@ n_read w s m p1 p2 slots h =
 -- of what precedes a response: at most 18 slots, and a packet of at most 65,535 bytes
 n_run : (w : Wiring) (s : State) (p : List Event) (slots : List Slot) (out : Left) → HasRun w s p slots out → (n p ≤ 16503) × (length slots ≤ 18) × (length out.packet ≤ 65535)
 n_run w s p slots out h =
-    let few = chain_few slots h.fragments h.read.read.words h.whole h.sizes in
+    let few = chain_few slots h.fragments h.read.read.words (standing_chain slots h.whole) h.sizes in
     let c = n_copy w h.fragments h.p3 (Some h.packet) h.copied in
     let r = n_read w s h.n h.p1 h.p2 slots h.read in
     let none : n h.p4 ≡ 0 = ap n h.ran.events ∙ n_program h.ran.labels in
@@ -184,14 +185,14 @@ pub turn_accesses : (w : Wiring) (s : State) (p : List Event) (new : State) (u :
 turn_accesses w s _ _ _ (still_halted cause h) = omega arith
 turn_accesses w s _ _ _ (idle p1 h l) = omega (arith, n_look w s.tx_index p1 (Some 0) l)
 turn_accesses w s _ _ _ (overflown p1 h l) = omega (arith, n_look w s.tx_index p1 None l)
-turn_accesses w s _ _ _ (short p1 p2 m slots a e v) = let r = n_read w s m p1 p2 slots a in omega (arith, n_append p1 p2, r.0, r.1, read_few slots a.read.wanted)
-turn_accesses w s _ _ _ (broken p1 p2 m slots fault a v) = let r = n_read w s m p1 p2 slots a in omega (arith, n_append p1 p2, r.0, r.1, read_few slots a.read.wanted)
+turn_accesses w s _ _ _ (short p1 p2 m slots a e v) = let r = n_read w s m p1 p2 slots a in omega (arith, n_append p1 p2, r.0, r.1, read_few slots (λ k l. open_beginning (take k slots) (a.read.wanted k l)))
+turn_accesses w s _ _ _ (broken p1 p2 m slots fault a v) = let r = n_read w s m p1 p2 slots a in omega (arith, n_append p1 p2, r.0, r.1, read_few slots (λ k l. open_beginning (take k slots) (a.read.wanted k l)))
 turn_accesses w s _ _ _ (refused_sizes p1 p2 p6 m slots fault a v f g) =
     let r = n_read w s m p1 p2 slots a in
-    omega (arith, n_append p1 (p2 ++ p6), n_append p2 p6, r.0, r.1, read_few slots a.read.wanted, n_respond w s.tx_index slots Error p6 g)
+    omega (arith, n_append p1 (p2 ++ p6), n_append p2 p6, r.0, r.1, read_few slots (λ k l. open_beginning (take k slots) (a.read.wanted k l)), n_respond w s.tx_index slots Error p6 g)
 turn_accesses w s _ _ _ (refused_grant p1 p2 p3 p6 m slots fragments a v f c g) =
     let r = n_read w s m p1 p2 slots a in
-    let few = chain_few slots fragments a.read.words v f in
+    let few = chain_few slots fragments a.read.words (standing_chain slots v) f in
     omega (arith, n_append p1 (p2 ++ (p3 ++ p6)), n_append p2 (p3 ++ p6), n_append p3 p6, r.0, r.1, few.0.count, few.0.size, few.1, n_copy w fragments p3 None c, n_respond w s.tx_index slots Error p6 g)
 turn_accesses w s _ _ _ (ran p p6 slots out a e g) =
     let r = n_run w s p slots out a in
