@@ -1,14 +1,21 @@
 -- Laws of runs, logs and bounds.
-use Rattle.xen_steps.proofs.DriveLemmas.{accesses_more, gone_more}
-use Rattle.std.proofs.Common.{◌≡◌, ℕ, ◌<◌, ◌^◌, List, [], ◌∷◌, ◌++◌, Option, refl, sym, ◌∙◌, ap, append_assoc}
+use Rattle.bpf_vm.specs.Advance.{after_steps}
+use Rattle.bpf_vm.specs.Course.{Course}
+use Rattle.xen_back.specs.Program.{instructions_alone}
+use Rattle.xen_back.specs.Queues.{IsSameWiring}
+use Rattle.xen_back.specs.Tree.{Left, program}
+use Rattle.xen_back.specs.Turned.{Ending}
+use Rattle.xen_back.specs.declared.queue.Queue.{Queue}
+use Rattle.xen_steps.proofs.DriveLemmas.{accesses-append, gone_append}
+use Rattle.std.proofs.Common.{◌≡◌, ℕ, ◌<◌, ◌^◌, List, [], ◌∷◌, ◌++◌, Option, refl, sym, ◌∙◌, ap, append_assoc, zero, suc, append-nil}
 use Rattle.bpf_note.specs.declared.op.Op.{Op}
 use Rattle.xen_page.specs.Access.{Performs}
 use Rattle.xen_page.specs.declared.access.Access.{Access}
 use Rattle.xen_page.specs.declared.place.Place.{Place}
 use Rattle.xen_page.proofs.AccessLemmas.{performs_none, performs_then}
 use Rattle.xen_steps.specs.Event.{Event, Occurs, Read, Write, Instr, Load, Add, Notify}
-use Rattle.xen_steps.specs.Steps.{Steps}
-use Rattle.xen_steps.specs.Drive.{Goes, accesses}
+use Rattle.xen_steps.specs.Steps.{Steps, bind}
+use Rattle.xen_steps.specs.Drive.{Goes, Gone, accesses}
 use Rattle.xen_back.specs.Drive.{Driven, labels, label_of}
 use Rattle.xen_steps.specs.declared.want.Want.{Want}
 use Rattle.xen_steps.specs.declared.want.Want.TheVariants as want
@@ -38,19 +45,52 @@ append_none (x ∷ l) = ap (λ t. x ∷ t) (append_none l)
 pub ops_none : (l : List Op) → l ≡ l ++ []
 ops_none l = sym (append_none l)
 
-labels_more : (t : List Event) (e : Event) → labels (t ++ e ∷ []) ≡ labels t ++ labels (e ∷ [])
-labels_more [] e = refl
-labels_more (x ∷ t) e = ap (λ l. label_of x ++ l) (labels_more t e) ∙ sym (append_assoc (label_of x) (labels t) (labels (e ∷ [])))
+labels-append : (t u : List Event) → labels (t ++ u) ≡ labels t ++ labels u
+labels-append [] u = refl
+labels-append (x ∷ t) u = ap (λ l. label_of x ++ l) (labels-append t u) ∙ sym (append_assoc (label_of x) (labels t) (labels u))
 
--- one event more
-pub driven_more : {A S : Type 0} (log : S → Option (List Access)) (gives : S → Access → S → Type 0) (s m s' : Steps A) (a b c : S) (x y z : List Op) (t : List Event) (e : Event) →
-    Driven log gives s m a b x y t → Goes m e s' → Performs log gives b (accesses (e ∷ [])) c → z ≡ y ++ labels (e ∷ []) → Driven log gives s s' a c x z (t ++ e ∷ [])
-driven_more log gives s m s' a b c x y z t e d g h i =
+-- what was driven, and then more
+pub driven_append : {A S : Type 0} (log : S → Option (List Access)) (gives : S → Access → S → Type 0) (s m s' : Steps A) (a b c : S) (x y z : List Op) (t u : List Event) →
+    Driven log gives s m a b x y t → Driven log gives m s' b c y z u → Driven log gives s s' a c x z (t ++ u)
+driven_append log gives s m s' a b c x y z t u d e =
     record {
-      gone = gone_more s m s' t e d.gone g;
-      performed = rw accesses_more (performs_then log gives a b c (accesses t) (accesses (e ∷ [])) d.performed h);
-      grown = i ∙ ap (λ l. l ++ labels (e ∷ [])) d.grown ∙ append_assoc x (labels t) (labels (e ∷ [])) ∙ sym (ap (λ l. x ++ l) (labels_more t e));
+      gone = gone_append s m s' t u d.gone e.gone;
+      performed = rw accesses-append (performs_then log gives a b c (accesses t) (accesses u) d.performed e.performed);
+      grown = e.grown ∙ ap (λ l. l ++ labels u) d.grown ∙ append_assoc x (labels t) (labels u) ∙ sym (ap (λ l. x ++ l) (labels-append t u));
     }
+
+-- one event
+pub driven_one : {A S : Type 0} (log : S → Option (List Access)) (gives : S → Access → S → Type 0) (s s' : Steps A) (a b : S) (x y : List Op) (e : Event) →
+    Goes s e s' → Performs log gives a (accesses (e ∷ [])) b → y ≡ x ++ labels (e ∷ []) → Driven log gives s s' a b x y (e ∷ [])
+driven_one log gives s s' a b x y e g p o = record { gone = (s', g, refl); performed = p; grown = o }
 
 pub driven_none : {A S : Type 0} (log : S → Option (List Access)) (gives : S → Access → S → Type 0) (s : Steps A) (a : S) (x : List Op) → Driven log gives s s a a x x []
 driven_none log gives s a x = record { gone = refl; performed = performs_none log gives a; grown = ops_none x }
+
+pub both_same : (a b c : Queue) → IsSameWiring a b → IsSameWiring b c → IsSameWiring a c
+both_same a b c h g = record { wiring = g.wiring ∙ h.wiring; tx_ring = g.tx_ring ∙ h.tx_ring; rx_ring = g.rx_ring ∙ h.rx_ring }
+
+alone_accesses : (n : ℕ) → accesses (instructions_alone n) ≡ []
+alone_accesses zero = refl
+alone_accesses (suc n) = alone_accesses n
+
+alone_labels : (n : ℕ) → labels (instructions_alone n) ≡ []
+alone_labels zero = refl
+alone_labels (suc n) = alone_labels n
+
+-- instructions that read no counter touch neither the bus nor the counters
+pub driven_alone : {A S : Type 0} (log : S → Option (List Access)) (gives : S → Access → S → Type 0) (s m s' : Steps A) (a b : S) (x y : List Op) (t : List Event) (n : ℕ) →
+    Driven log gives s m a b x y t → Gone m (instructions_alone n) s' → Driven log gives s s' a b x y (t ++ instructions_alone n)
+driven_alone log gives s m s' a b x y t n d g =
+    let none : accesses (t ++ instructions_alone n) ≡ accesses t = accesses-append t (instructions_alone n) ∙ ap (λ l. accesses t ++ l) (alone_accesses n) ∙ append-nil (accesses t) in
+    let same : labels (t ++ instructions_alone n) ≡ labels t = labels-append t (instructions_alone n) ∙ ap (λ l. labels t ++ l) (alone_labels n) ∙ append-nil (labels t) in
+    record {
+      gone = gone_append s m s' t (instructions_alone n) d.gone g;
+      performed = rw none d.performed;
+      grown = d.grown ∙ ap (λ l. x ++ l) (sym same);
+    }
+
+-- an interpreter that advances does so many instructions
+pub gone_alone : (c : Course) (n ops : ℕ) (f : Left → Steps Ending) → Gone (bind (program (after_steps n c) ops) f) (instructions_alone n) (bind (program c ops) f)
+gone_alone c zero ops f = refl
+gone_alone c (suc n) ops f = (bind (program (after_steps n c) ops) f, (0, (refl, refl), refl), gone_alone c n ops f)

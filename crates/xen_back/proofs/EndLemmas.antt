@@ -1,4 +1,5 @@
 -- A turn comes to an end, whatever it is answered, and so a queue between turns has a rest.
+use Rattle.xen_back.proofs.ChainLemmas.{is_open}
 use Rattle.xen_steps.proofs.FinishLemmas.{ends_bind, ends_by, ends_gone, finishes_any, some_run}
 use Rattle.xen_transmit.proofs.EndLemmas.{ends_entry, ends_transmit}
 use Rattle.std.proofs.Common.{◌≡◌, ℕ, zero, suc, ◌+◌, ◌%◌, ◌<◌, ◌^◌, Bool, true, false, IsTrue, List, [], ◌∷◌, ◌++◌, Option, Some, None, Result, Ok, Err, refl, length, arith, subst, take, drop, ◌≤◌, sum_by}
@@ -35,7 +36,7 @@ use Rattle.xen_transmit.specs.Entries.{entry}
 use Rattle.xen_back.specs.Tree.{Left, Scan, look, seen, after_look, read_slot, read_slots, judged, after_scan, after_chain, after_copy, after_run, after_transmit, moved, send, answer, notice, respond, responses, answered, copy, entered, program, run_of, status_of, unless_halted, whole_turn}
 use Rattle.xen_steps.specs.Pages.{copy_words, covered}
 use Rattle.xen_back.specs.Turned.{Ending, Turned, Ran, Refused}
-use Rattle.xen_back.specs.Parts.{AllWords, IsCopy, behind, copied, denied, is_open, part}
+use Rattle.xen_back.specs.Parts.{AllWords, IsCopy, behind, copied, denied, part}
 use Rattle.xen_transmit.specs.Transmit.{transmit}
 use Rattle.xen_transmit.specs.declared.phase.Outcome.{Outcome}
 use Rattle.xen_transmit.specs.declared.phase.Outcome.TheVariants as outcome

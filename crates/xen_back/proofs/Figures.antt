@@ -1,4 +1,11 @@
 -- How many accesses a turn makes at most.
+use Rattle.xen_transmit.specs.declared.phase.Outcome.{Outcome}
+use Rattle.bpf_verify.specs.Consistent.{instructions}
+use Rattle.xen_steps.proofs.FigureLemmas.{HasAtMost, most_append, most_more}
+use Rattle.xen_transmit.proofs.Figures.{most_entry, most_notices, most_transmit}
+use Rattle.xen_transmit.specs.Sending.{IsTransmit}
+use Rattle.std.proofs.Common.{append_assoc}
+use Rattle.xen_back.proofs.ChainLemmas.{is_open, open_beginning, standing_chain}
 use Rattle.xen_transmit.proofs.Figures.{n, n_append, n_notices, n_entry, n_transmit}
 use Rattle.std.proofs.Common.{◌≡◌, ℕ, suc, ◌+◌, ◌-◌, ◌*◌, ◌/◌, ◌%◌, ◌<◌, ◌≤◌, ◌^◌, Bool, true, false, IsTrue, List, [], ◌∷◌, ◌++◌, Option, Some, None, Result, Ok, Err, refl, sym, ◌∙◌, ap, length, map, take, drop, sum_by, arith, length-append, subst, nat_lt}
 use Rattle.std.specs.Prelude.{if◌then◌else◌, ◌==◌}
@@ -21,7 +28,7 @@ use Rattle.xen_ring.specs.Index.{is_due}
 use Rattle.bpf_vm.specs.Course.{start_state}
 use Rattle.xen_steps.specs.Drive.{accesses}
 use Rattle.xen_steps.specs.Event.{Event, Read, Write}
-use Rattle.xen_back.specs.Parts.{IsLook, once, twice, slot_reads, slots_reads, IsSlotRead, AllWords, is_open, behind, IsCopy, copied, denied, part, response_writes, IsRespond, HasRead}
+use Rattle.xen_back.specs.Parts.{IsLook, once, twice, slot_reads, slots_reads, IsSlotRead, AllWords, behind, IsCopy, copied, denied, part, response_writes, IsRespond, HasRead}
 use Rattle.xen_transmit.specs.Shared.{notices}
 use Rattle.xen_steps.specs.Pages.{page_reads}
 use Rattle.xen_steps.specs.Places.{add32}
@@ -168,7 +175,7 @@ n_read w s m p1 p2 slots h =
 -- of what precedes a response: at most 18 slots, and a packet of at most 65,535 bytes
 n_run : (w : Wiring) (s : State) (p : List Event) (slots : List Slot) (out : Left) → HasRun w s p slots out → (n p ≤ 16503) × (length slots ≤ 18) × (length out.packet ≤ 65535)
 n_run w s p slots out h =
-    let few = chain_few slots h.fragments h.read.read.words h.whole h.sizes in
+    let few = chain_few slots h.fragments h.read.read.words (standing_chain slots h.whole) h.sizes in
     let c = n_copy w h.fragments h.p3 (Some h.packet) h.copied in
     let r = n_read w s h.n h.p1 h.p2 slots h.read in
     let none : n h.p4 ≡ 0 = ap n h.ran.events ∙ n_program h.ran.labels in
@@ -184,14 +191,14 @@ pub turn_accesses : (w : Wiring) (s : State) (p : List Event) (new : State) (u :
 turn_accesses w s _ _ _ (still_halted cause h) = omega arith
 turn_accesses w s _ _ _ (idle p1 h l) = omega (arith, n_look w s.tx_index p1 (Some 0) l)
 turn_accesses w s _ _ _ (overflown p1 h l) = omega (arith, n_look w s.tx_index p1 None l)
-turn_accesses w s _ _ _ (short p1 p2 m slots a e v) = let r = n_read w s m p1 p2 slots a in omega (arith, n_append p1 p2, r.0, r.1, read_few slots a.read.wanted)
-turn_accesses w s _ _ _ (broken p1 p2 m slots fault a v) = let r = n_read w s m p1 p2 slots a in omega (arith, n_append p1 p2, r.0, r.1, read_few slots a.read.wanted)
+turn_accesses w s _ _ _ (short p1 p2 m slots a e v) = let r = n_read w s m p1 p2 slots a in omega (arith, n_append p1 p2, r.0, r.1, read_few slots (λ k l. open_beginning (take k slots) (a.read.wanted k l)))
+turn_accesses w s _ _ _ (broken p1 p2 m slots fault a v) = let r = n_read w s m p1 p2 slots a in omega (arith, n_append p1 p2, r.0, r.1, read_few slots (λ k l. open_beginning (take k slots) (a.read.wanted k l)))
 turn_accesses w s _ _ _ (refused_sizes p1 p2 p6 m slots fault a v f g) =
     let r = n_read w s m p1 p2 slots a in
-    omega (arith, n_append p1 (p2 ++ p6), n_append p2 p6, r.0, r.1, read_few slots a.read.wanted, n_respond w s.tx_index slots Error p6 g)
+    omega (arith, n_append p1 (p2 ++ p6), n_append p2 p6, r.0, r.1, read_few slots (λ k l. open_beginning (take k slots) (a.read.wanted k l)), n_respond w s.tx_index slots Error p6 g)
 turn_accesses w s _ _ _ (refused_grant p1 p2 p3 p6 m slots fragments a v f c g) =
     let r = n_read w s m p1 p2 slots a in
-    let few = chain_few slots fragments a.read.words v f in
+    let few = chain_few slots fragments a.read.words (standing_chain slots v) f in
     omega (arith, n_append p1 (p2 ++ (p3 ++ p6)), n_append p2 (p3 ++ p6), n_append p3 p6, r.0, r.1, few.0.count, few.0.size, few.1, n_copy w fragments p3 None c, n_respond w s.tx_index slots Error p6 g)
 turn_accesses w s _ _ _ (ran p p6 slots out a e g) =
     let r = n_run w s p slots out a in
@@ -208,3 +215,96 @@ turn_accesses w s _ _ _ (refused_rx p p5 p6 used slots out a e t g) =
 turn_accesses w s _ _ _ (ran_tx p p5 p6 used slots out a e t g) =
     let r = n_run w s p slots out a in
     omega (arith, n_append p (p5 ++ p6), n_append p5 p6, r.0, r.1, n_transmit w.vif s.rx_index out.packet p5 _ r.2 t, n_respond w s.tx_index slots Okay p6 g)
+
+-- the instructions and the notices
+most_look : (w : Wiring) (t : ℕ) (p : List Event) (o : Option ℕ) → IsLook w t p o → HasAtMost p 0 0
+most_look w t _ _ (once p l h) = record { steps = omega arith; told = omega arith }
+most_look w t _ _ (twice p q l m e) = record { steps = omega arith; told = omega arith }
+
+most_slot : (w : Wiring) (i : ℕ) (s : Slot) → HasAtMost (slot_reads w i s) 0 0
+most_slot w i [] = record { steps = omega arith; told = omega arith }
+most_slot w i (a ∷ []) = record { steps = omega arith; told = omega arith }
+most_slot w i (a ∷ b ∷ []) = record { steps = omega arith; told = omega arith }
+most_slot w i (a ∷ b ∷ c ∷ []) = record { steps = omega arith; told = omega arith }
+most_slot w i (a ∷ b ∷ c ∷ d ∷ s) = record { steps = omega arith; told = omega arith }
+
+most_slots : (w : Wiring) (t i : ℕ) (slots : List Slot) → HasAtMost (slots_reads w t i slots) 0 0
+most_slots w t i [] = record { steps = omega arith; told = omega arith }
+most_slots w t i (s ∷ slots) = most_append (slot_reads w (add32 t i) s) (slots_reads w t (i + 1) slots) 0 0 0 0 (most_slot w (add32 t i) s) (most_slots w t (i + 1) slots)
+
+most_read : (w : Wiring) (s : State) (m : ℕ) (p1 p2 : List Event) (slots : List Slot) → HasRead w s m p1 p2 slots → HasAtMost (p1 ++ p2) 0 0
+most_read w s m p1 p2 slots h =
+    most_append p1 p2 0 0 0 0 (most_look w s.tx_index p1 (Some m) h.look) (subst (λ q. HasAtMost q 0 0) (sym h.read.reads) (most_slots w s.tx_index 0 slots))
+
+most_responses : (w : Wiring) (t i : ℕ) (rs : List ℕ) → HasAtMost (response_writes w t i rs) 0 0
+most_responses w t i [] = record { steps = omega arith; told = omega arith }
+most_responses w t i (r ∷ rs) = let h = most_responses w t (i + 1) rs in record { steps = h.steps; told = h.told }
+
+most_respond : (w : Wiring) (t : ℕ) (slots : List Slot) (st : Status) (p : List Event) → IsRespond w t slots st p → HasAtMost p 0 1
+most_respond w t slots st p h =
+    let due = is_due t (add32 t (length slots)) h.0 in
+    let q : List Event = Write (tx_word w.vif 2) (add32 t (length slots)) ∷ Read (tx_word w.vif 3) h.0 ∷ notices w.vif due in
+    let told = most_notices w.vif due in
+    let last : HasAtMost q 0 1 = record { steps = told.steps; told = told.told } in
+    subst (λ l. HasAtMost l 0 1) (sym h.2) (most_append (response_writes w t 0 (responses st slots)) q 0 0 0 1 (most_responses w t 0 (responses st slots)) last)
+
+most_page : (frame place : ℕ) (vs : List ℕ) → HasAtMost (page_reads frame place vs) 0 0
+most_page frame place [] = record { steps = omega arith; told = omega arith }
+most_page frame place (v ∷ vs) = let h = most_page frame (place + 1) vs in record { steps = h.steps; told = h.told }
+
+most_copy : (w : Wiring) (fs : List Fragment) (p : List Event) (o : Option (List ℕ)) → IsCopy w fs p o → HasAtMost p 0 0
+most_copy w _ _ _ copied = record { steps = omega arith; told = omega arith }
+most_copy w _ _ _ (denied f fs p fault e) = most_entry w.vif false f.gref p (Err fault) e
+most_copy w _ _ _ (part f fs p q frame vs out e l b c) =
+    most_append p (page_reads frame (f.offset / 4) vs ++ q) 0 0 0 0 (most_entry w.vif false f.gref p (Ok frame) e)
+    (most_append (page_reads frame (f.offset / 4) vs) q 0 0 0 0 (most_page frame (f.offset / 4) vs) (most_copy w fs q out c))
+
+most_program : (labels : List (Option Op)) → HasAtMost (map event_of labels) (length labels) 0
+most_program [] = record { steps = omega arith; told = omega arith }
+most_program (None ∷ labels) = let h = most_program labels in record { steps = omega (arith, h.steps); told = h.told }
+most_program (Some (op.Load m k j v) ∷ labels) = let h = most_program labels in record { steps = omega (arith, h.steps); told = h.told }
+most_program (Some (op.Add m k j d v) ∷ labels) = let h = most_program labels in record { steps = omega (arith, h.steps); told = h.told }
+
+most_run : (w : Wiring) (s : State) (p : List Event) (slots : List Slot) (out : Left) → HasRun w s p slots out → HasAtMost p (instructions w.program.now.code) 0
+most_run w s p slots out h =
+    let n = instructions w.program.now.code in
+    let ran : HasAtMost h.p4 n 0 = most_more h.p4 (length h.ran.labels) 0 n 0 (subst (λ q. HasAtMost q (length h.ran.labels) 0) (sym h.ran.events) (most_program h.ran.labels)) h.ran.within (omega arith) in
+    let look : HasAtMost h.p1 0 0 = most_look w s.tx_index h.p1 (Some h.n) h.read.look in
+    let read : HasAtMost h.p2 0 0 = subst (λ q. HasAtMost q 0 0) (sym h.read.read.reads) (most_slots w s.tx_index 0 slots) in
+    let copied : HasAtMost h.p3 0 0 = most_copy w h.fragments h.p3 (Some h.packet) h.copied in
+    let all = most_append h.p1 (h.p2 ++ (h.p3 ++ h.p4)) 0 0 (0 + (0 + n)) (0 + (0 + 0)) look (most_append h.p2 (h.p3 ++ h.p4) 0 0 (0 + n) (0 + 0) read (most_append h.p3 h.p4 0 0 n 0 copied ran)) in
+    subst (λ q. HasAtMost q n 0) (sym h.joined) (most_more (h.p1 ++ (h.p2 ++ (h.p3 ++ h.p4))) _ _ n 0 all (omega arith) (omega arith))
+
+-- a run, a transmit and a response
+module _ (w : Wiring) (s : State) where
+  abbrev steps : ℕ
+  steps = instructions w.program.now.code
+
+  up : (p : List Event) (a b : ℕ) → HasAtMost p a b → a ≤ steps → b ≤ 2 → HasAtMost p steps 2
+  up p a b h l m = most_more p a b steps 2 h l m
+
+  most_sent : (p p5 p6 : List Event) (slots : List Slot) (out : Left) (o : Outcome) (st : Status) → HasRun w s p slots out → IsTransmit w.vif s.rx_index out.packet p5 o → IsRespond w s.tx_index slots st p6 →
+      HasAtMost (p ++ (p5 ++ p6)) steps 2
+  most_sent p p5 p6 slots out o st a t g =
+      up (p ++ (p5 ++ p6)) (steps + (0 + 0)) (0 + (1 + 1)) (most_append p (p5 ++ p6) steps 0 (0 + 0) (1 + 1) (most_run w s p slots out a)
+      (most_append p5 p6 0 1 0 1 (most_transmit w.vif s.rx_index out.packet p5 o t) (most_respond w s.tx_index slots st p6 g))) (omega arith) (omega arith)
+
+  pub turn_most : (p : List Event) (new : State) (u : Turned) → IsTurn w s p new u → HasAtMost p steps 2
+  turn_most _ _ _ (still_halted cause h) = record { steps = omega arith; told = omega arith }
+  turn_most _ _ _ (idle p1 h l) = up p1 0 0 (most_look w s.tx_index p1 (Some 0) l) (omega arith) (omega arith)
+  turn_most _ _ _ (overflown p1 h l) = up p1 0 0 (most_look w s.tx_index p1 None l) (omega arith) (omega arith)
+  turn_most _ _ _ (short p1 p2 m slots a e v) = up (p1 ++ p2) 0 0 (most_read w s m p1 p2 slots a) (omega arith) (omega arith)
+  turn_most _ _ _ (broken p1 p2 m slots fault a v) = up (p1 ++ p2) 0 0 (most_read w s m p1 p2 slots a) (omega arith) (omega arith)
+  turn_most _ _ _ (refused_sizes p1 p2 p6 m slots fault a v f g) =
+      let h = most_append (p1 ++ p2) p6 0 0 0 1 (most_read w s m p1 p2 slots a) (most_respond w s.tx_index slots Error p6 g) in
+      up (p1 ++ (p2 ++ p6)) (0 + 0) (0 + 1) (subst (λ q. HasAtMost q (0 + 0) (0 + 1)) (append_assoc p1 p2 p6) h) (omega arith) (omega arith)
+  turn_most _ _ _ (refused_grant p1 p2 p3 p6 m slots fragments a v f c g) =
+      let h = most_append (p1 ++ p2) (p3 ++ p6) 0 0 (0 + 0) (0 + 1) (most_read w s m p1 p2 slots a) (most_append p3 p6 0 0 0 1 (most_copy w fragments p3 None c) (most_respond w s.tx_index slots Error p6 g)) in
+      up (p1 ++ (p2 ++ (p3 ++ p6))) (0 + (0 + 0)) (0 + (0 + 1)) (subst (λ q. HasAtMost q (0 + (0 + 0)) (0 + (0 + 1))) (append_assoc p1 p2 (p3 ++ p6)) h) (omega arith) (omega arith)
+  turn_most _ _ _ (ran p p6 slots out a e g) =
+      up (p ++ p6) (steps + 0) (0 + 1) (most_append p p6 steps 0 0 1 (most_run w s p slots out a) (most_respond w s.tx_index slots (status_of out.number) p6 g)) (omega arith) (omega arith)
+  turn_most _ _ _ (halted_rx p p5 slots out a e t) =
+      up (p ++ p5) (steps + 0) (0 + 1) (most_append p p5 steps 0 0 1 (most_run w s p slots out a) (most_transmit w.vif s.rx_index out.packet p5 _ t)) (omega arith) (omega arith)
+  turn_most _ _ _ (refused_few p p5 p6 slots out a e t g) = most_sent p p5 p6 slots out _ Error a t g
+  turn_most _ _ _ (refused_rx p p5 p6 used slots out a e t g) = most_sent p p5 p6 slots out _ Error a t g
+  turn_most _ _ _ (ran_tx p p5 p6 used slots out a e t g) = most_sent p p5 p6 slots out _ Okay a t g

@@ -1,3 +1,4 @@
+pub mod ChainLemmas
 pub mod RestLemmas
 pub mod FeedLemmas
 pub mod ProgramLemmas

@@ -1,4 +1,5 @@
 -- Each run of a whole turn is a turn.
+use Rattle.xen_back.proofs.ChainLemmas.{beginning_by, chain_by, fault_by, is_open}
 use Rattle.std.proofs.Common.{◌≡◌, ℕ, zero, suc, ◌+◌, ◌<◌, ◌≤◌, ◌^◌, Bool, true, false, IsTrue, List, [], ◌∷◌, ◌++◌, Option, Some, None, Result, Ok, Err, refl, sym, ◌∙◌, ap, length, take, arith, append_assoc, length-append, subst}
 use Rattle.std.specs.Prelude.{◌==◌, if◌then◌else◌}
 use Rattle.std.proofs.lemmas.Bool.Decides.{nat_tests}
@@ -20,7 +21,7 @@ use Rattle.xen_transmit.specs.Places.{tx_slot, tx_word}
 use Rattle.xen_steps.specs.Steps.{Runs}
 use Rattle.xen_back.specs.Tree.{Left, Scan, look, seen, after_look, read_slot, read_slots, judged, after_scan, after_chain, after_copy, after_run, after_transmit, moved, send, answer, notice, respond, responses, answered, copy, program, run_of, status_of, unless_halted, whole_turn}
 use Rattle.xen_back.specs.Turned.{Ending, Turned, Ran, Refused}
-use Rattle.xen_back.specs.Parts.{IsLook, once, twice, slot_reads, slots_reads, IsSlotRead, AllWords, is_open, IsCopy, response_writes, IsRespond, HasRead}
+use Rattle.xen_back.specs.Parts.{IsLook, once, twice, slot_reads, slots_reads, IsSlotRead, AllWords, IsCopy, response_writes, IsRespond, HasRead}
 use Rattle.xen_transmit.specs.Shared.{notices}
 use Rattle.xen_transmit.specs.Transmit.{transmit}
 use Rattle.xen_back.specs.Turns.{HasRun, IsTurn, still_halted, idle, overflown, short, broken, refused_sizes, refused_grant, ran, halted_rx, refused_few, refused_rx, ran_tx}
@@ -198,7 +199,7 @@ module _ (w : Wiring) (s : State) where
       (o : Option (List ℕ)) → IsCopy w fragments p3 o → Runs (after_copy w s slots o) p r → IsTurn w s (p1 ++ (p2 ++ (p3 ++ p))) r.0 r.1
   program_rows p1 p2 p3 p n slots fragments r a v f None c h =
       let q = respond_parts w s slots Error (Refused refusal.Grant 0 (length slots)) p r h in
-      ended w s (p1 ++ (p2 ++ (p3 ++ p))) r _ _ q.1 (refused_grant p1 p2 p3 p n slots fragments a v f c q.0)
+      ended w s (p1 ++ (p2 ++ (p3 ++ p))) r _ _ q.1 (refused_grant p1 p2 p3 p n slots fragments a (chain_by slots v) f c q.0)
   program_rows p1 p2 p3 p n slots fragments r a v f (Some bytes) c h =
       let i = split (program (run_of w bytes) 0) (after_run w s slots) p r h in
       let run : HasRun w s (p1 ++ (p2 ++ (p3 ++ i.front))) slots i.mid = record {
@@ -211,7 +212,7 @@ module _ (w : Wiring) (s : State) where
         fragments = fragments;
         packet = bytes;
         read = a;
-        whole = v;
+        whole = chain_by slots v;
         sizes = f;
         copied = c;
         ran = program_parts w bytes i.front i.mid i.first;
@@ -223,16 +224,16 @@ module _ (w : Wiring) (s : State) where
       (o : Result (List Fragment) SizeFault) → fragments_of slots ≡ o → Runs (after_chain w s slots o) p r → IsTurn w s (p1 ++ (p2 ++ p)) r.0 r.1
   chain_rows p1 p2 p n slots r a v (Err fault) f h =
       let q = respond_parts w s slots Error (Refused (refusal.Size fault) 0 (length slots)) p r h in
-      ended w s (p1 ++ (p2 ++ p)) r _ _ q.1 (refused_sizes p1 p2 p n slots fault a v f q.0)
+      ended w s (p1 ++ (p2 ++ p)) r _ _ q.1 (refused_sizes p1 p2 p n slots fault a (chain_by slots v) f q.0)
   chain_rows p1 p2 p n slots r a v (Ok fragments) f h =
       let i = split (copy w fragments []) (after_copy w s slots) p r h in
       rw i.joined (program_rows p1 p2 i.front i.back n slots fragments r a v f i.mid (copy_parts w fragments i.front i.mid i.first) i.later)
 
   scan_rows : (p1 p2 p : List Event) (n : ℕ) (slots : List Slot) (x : Scan) (r : Ending) → HasRead w s n p1 p2 slots → ScanEnds n [] slots x → Runs (after_scan w s x) p r → IsTurn w s (p1 ++ (p2 ++ p)) r.0 r.1
   scan_rows p1 p2 p n slots _ r a (is_whole v) h = chain_rows p1 p2 p n slots r a v (fragments_of slots) refl h
-  scan_rows p1 p2 [] n slots _ r a (is_faulty fault v) h = ended w s (p1 ++ (p2 ++ [])) r _ _ h (rw append-nil (broken p1 p2 n slots fault a v))
+  scan_rows p1 p2 [] n slots _ r a (is_faulty fault v) h = ended w s (p1 ++ (p2 ++ [])) r _ _ h (rw append-nil (broken p1 p2 n slots fault a (fault_by slots fault v)))
   scan_rows p1 p2 (y ∷ p) n slots _ r a (is_faulty fault v) h = absurd h
-  scan_rows p1 p2 [] n slots _ r a (none_left e v) h = ended w s (p1 ++ (p2 ++ [])) r _ _ h (rw append-nil (short p1 p2 n slots a e v))
+  scan_rows p1 p2 [] n slots _ r a (none_left e v) h = ended w s (p1 ++ (p2 ++ [])) r _ _ h (rw append-nil (short p1 p2 n slots a e (beginning_by slots v)))
   scan_rows p1 p2 (y ∷ p) n slots _ r a (none_left e v) h = absurd h
 
   look_rows : s.halt ≡ None → (p1 p : List Event) (o : Option ℕ) (r : Ending) → IsLook w s.tx_index p1 o → Runs (after_look w s o) p r → IsTurn w s (p1 ++ p) r.0 r.1
@@ -244,7 +245,7 @@ module _ (w : Wiring) (s : State) where
       let i = split (read_slots w s.tx_index (suc n) []) (after_scan w s) p r h in
       let c = slots_parts w s.tx_index (suc n) [] i.front i.mid refl i.first in
       rw i.joined (scan_rows p1 i.front i.back (suc n) c.more i.mid r
-      (record { running = running; look = l; some = omega arith; read = record { reads = c.reads; words = c.words; wanted = c.wanted; within = c.within } }) c.ends i.later)
+      (record { running = running; look = l; some = omega arith; read = record { reads = c.reads; words = c.words; wanted = λ k l. beginning_by (take k c.more) (c.wanted k l); within = c.within } }) c.ends i.later)
 
 unless_parts : (w : Wiring) (s : State) (o : Option Halt) (p : List Event) (r : Ending) → s.halt ≡ o → Runs (unless_halted w s o) p r → IsTurn w s p r.0 r.1
 unless_parts w s (Some cause) [] r e h = ended w s [] r _ _ h (still_halted cause e)

@@ -1,4 +1,5 @@
 -- Each turn is a run of a whole turn.
+use Rattle.xen_back.proofs.ChainLemmas.{is_open, open_beginning, standing_chain, standing_fault}
 use Rattle.std.proofs.Common.{◌≡◌, ◌≢◌, ℕ, zero, suc, ◌+◌, ◌<◌, ◌≤◌, ◌^◌, Bool, true, false, IsTrue, List, [], ◌∷◌, ◌++◌, Option, Some, None, Result, Ok, Err, refl, sym, ◌∙◌, ap, length, take, arith, subst}
 use Rattle.std.specs.Prelude.{◌==◌, if◌then◌else◌}
 use Rattle.std.proofs.lemmas.Bool.Decides.{nat_tests}
@@ -20,7 +21,7 @@ use Rattle.xen_transmit.specs.Places.{tx_word}
 use Rattle.xen_steps.specs.Steps.{done, Runs}
 use Rattle.xen_back.specs.Tree.{Left, Scan, look, seen, after_look, read_slot, read_slots, judged, after_scan, after_chain, after_copy, after_run, after_transmit, moved, send, answer, notice, respond, responses, answered, copy, program, run_of, status_of, unless_halted, whole_turn}
 use Rattle.xen_back.specs.Turned.{Ending, Turned, Idle, Ran, Refused, Halted}
-use Rattle.xen_back.specs.Parts.{IsLook, once, twice, slot_reads, slots_reads, IsSlotRead, AllWords, is_open, AreRead, response_writes, IsRespond, HasRead}
+use Rattle.xen_back.specs.Parts.{IsLook, once, twice, slot_reads, slots_reads, IsSlotRead, AllWords, AreRead, response_writes, IsRespond, HasRead}
 use Rattle.xen_transmit.specs.Shared.{notices}
 use Rattle.xen_transmit.specs.Transmit.{transmit}
 use Rattle.xen_back.specs.Turns.{HasRun, IsTurn, still_halted, idle, overflown, short, broken, refused_sizes, refused_grant, ran, halted_rx, refused_few, refused_rx, ran_tx}
@@ -143,7 +144,7 @@ scanned_by : (w : Wiring) (s : State) (p1 p2 p : List Event) (n : ℕ) (slots : 
 scanned_by w s p1 p2 p zero slots x r a en n0 l v g = absurd (omega arith)
 scanned_by w s p1 p2 p (suc n) slots x r a en n0 l v g =
     looked_runs w s p1 (p2 ++ p) (Some (suc n)) r a.running l
-    (join (read_slots w s.tx_index (suc n) []) (after_scan w s) p2 p x r (rw v.reads (slots_runs w s.tx_index (suc n) [] slots x refl v.words v.wanted v.within en)) g)
+    (join (read_slots w s.tx_index (suc n) []) (after_scan w s) p2 p x r (rw v.reads (slots_runs w s.tx_index (suc n) [] slots x refl v.words (λ k l. open_beginning (take k slots) (v.wanted k l)) v.within en)) g)
 
 scanned_runs : (w : Wiring) (s : State) (p1 p2 p : List Event) (n : ℕ) (slots : List Slot) (x : Scan) (r : Ending) → HasRead w s n p1 p2 slots → ScanEnds n [] slots x →
     Runs (after_scan w s x) p r → Runs (whole_turn w s) (p1 ++ (p2 ++ p)) r
@@ -159,7 +160,7 @@ none_after w s p r h = subst (λ q. Runs (whole_turn w s) q r) (append-nil p) h
 run_runs : (w : Wiring) (s : State) (p q : List Event) (slots : List Slot) (out : Left) (r : Ending) → HasRun w s p slots out → Runs (after_run w s slots out) q r → Runs (whole_turn w s) (p ++ q) r
 run_runs w s p q slots out r a g =
     subst (λ t. Runs (whole_turn w s) t r) (sym (ap (λ l. l ++ q) a.joined ∙ sym (regroup a.p1 a.p2 a.p3 a.p4 q)))
-    (chain_runs w s a.p1 a.p2 (a.p3 ++ (a.p4 ++ q)) a.n slots (Ok a.fragments) r a.read a.whole a.sizes
+    (chain_runs w s a.p1 a.p2 (a.p3 ++ (a.p4 ++ q)) a.n slots (Ok a.fragments) r a.read (standing_chain slots a.whole) a.sizes
     (join (copy w a.fragments []) (after_copy w s slots) a.p3 (a.p4 ++ q) (Some a.packet) r (runs_copy w a.fragments a.p3 (Some a.packet) a.copied)
     (join (program (run_of w a.packet) 0) (after_run w s slots) a.p4 q out r (runs_program w a.packet a.p4 out a.ran) g)))
 
@@ -182,14 +183,14 @@ runs_turn w s _ _ _ (idle p1 h l) = none_after w s p1 (s, Idle) (looked_runs w s
 runs_turn w s _ _ _ (overflown p1 h l) = none_after w s p1 _ (looked_runs w s p1 [] None _ h l refl)
 runs_turn w s _ _ _ (short p1 p2 n slots a e v) =
     subst (λ q. Runs (whole_turn w s) (p1 ++ q) (record s { halt = Some halt.ShortChain }, Halted halt.ShortChain)) (append-nil p2)
-    (scanned_runs w s p1 p2 [] n slots (Err halt.ShortChain) _ a (none_left e v) refl)
+    (scanned_runs w s p1 p2 [] n slots (Err halt.ShortChain) _ a (none_left e (open_beginning slots v)) refl)
 runs_turn w s _ _ _ (broken p1 p2 n slots fault a v) =
     subst (λ q. Runs (whole_turn w s) (p1 ++ q) (record s { halt = Some (halt.Chain fault) }, Halted (halt.Chain fault))) (append-nil p2)
-    (scanned_runs w s p1 p2 [] n slots (Err (halt.Chain fault)) _ a (is_faulty fault v) refl)
+    (scanned_runs w s p1 p2 [] n slots (Err (halt.Chain fault)) _ a (is_faulty fault (standing_fault slots fault v)) refl)
 runs_turn w s _ _ _ (refused_sizes p1 p2 p6 n slots fault a v f r) =
-    chain_runs w s p1 p2 p6 n slots (Err fault) _ a v f (respond_runs w s slots Error (Refused (refusal.Size fault) 0 (length slots)) p6 r)
+    chain_runs w s p1 p2 p6 n slots (Err fault) _ a (standing_chain slots v) f (respond_runs w s slots Error (Refused (refusal.Size fault) 0 (length slots)) p6 r)
 runs_turn w s _ _ _ (refused_grant p1 p2 p3 p6 n slots fragments a v f c r) =
-    chain_runs w s p1 p2 (p3 ++ p6) n slots (Ok fragments) _ a v f
+    chain_runs w s p1 p2 (p3 ++ p6) n slots (Ok fragments) _ a (standing_chain slots v) f
     (join (copy w fragments []) (after_copy w s slots) p3 p6 None _ (runs_copy w fragments p3 None c) (respond_runs w s slots Error (Refused refusal.Grant 0 (length slots)) p6 r))
 runs_turn w s _ _ _ (ran p p6 slots out a n r) =
     run_runs w s p p6 slots out _ a

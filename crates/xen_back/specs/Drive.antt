@@ -7,7 +7,7 @@ use Rattle.xen_page.specs.declared.access.Access.{Access}
 use Rattle.xen_steps.specs.Drive.{Gone, accesses}
 use Rattle.xen_steps.specs.Event.{Event, Load, Add}
 use Rattle.xen_steps.specs.Steps.{Steps}
-use Rattle.xen_back.specs.Queues.{state_of, wiring_of, IsReady}
+use Rattle.xen_back.specs.Queues.{state_of, wiring_of, IsReady, IsSameWiring}
 use Rattle.xen_back.specs.Turned.{Turned, Shows}
 use Rattle.xen_back.specs.Turns.{IsTurn}
 use Rattle.xen_back.specs.declared.queue.Queue.{Queue}
@@ -38,4 +38,4 @@ pub record IsTurnOver {S : Type 0} (log : S → Option (List Access)) (gives : S
   pub grown : ops' ≡ ops ++ labels trace
   pub shows : Shows turned shown
   pub ready : IsReady new
-  pub same : wiring_of new ≡ wiring_of old
+  pub same : IsSameWiring old new

@@ -3,9 +3,9 @@ pub mod Turned
 pub mod Tree
 pub mod Rest
 pub mod Within
+pub mod Program
 pub mod Queues
 pub mod Making
-pub mod Program
 pub mod Parts
 pub mod Turns
 pub mod Drive

@@ -1,12 +1,14 @@
 -- A queue that was made.
 use Rattle.std.specs.Prelude.{◌≡◌, None}
 use Rattle.bpf_verify.specs.Consistent.{Accepted}
-use Rattle.xen_back.specs.Queues.{IsReady, state_of, wiring_of}
+use Rattle.xen_back.specs.Queues.{IsReady, rx_ring_of, state_of, tx_ring_of, wiring_of}
 use Rattle.xen_back.specs.declared.desc.QueueDesc.{QueueDesc}
 use Rattle.xen_back.specs.declared.queue.Queue.{Queue}
 use Rattle.xen_transmit.specs.Wired.{IsWired}
 
 pub record IsMade (program : Accepted) (desc : QueueDesc) (q : Queue) : Type 0 where
+  pub tx_ring : tx_ring_of q ≡ desc.tx
+  pub rx_ring : rx_ring_of q ≡ desc.rx
   pub tx : (wiring_of q).vif.tx ≡ desc.tx.frame
   pub rx : (wiring_of q).vif.rx ≡ desc.rx.frame
   pub table : (wiring_of q).vif.table.now ≡ desc.table.now

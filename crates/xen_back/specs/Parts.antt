@@ -1,11 +1,7 @@
 -- The parts of a turn's trace, each fixed by the answers before it.
-use Rattle.std.specs.Prelude.{ℕ, ◌≡◌, ◌≢◌, ◌<◌, ◌≤◌, ◌+◌, ◌/◌, ◌^◌, Bool, true, false, IsTrue, List, [], ◌∷◌, ◌++◌, Option, Some, None, Result, Ok, Err, length, take}
-use Rattle.xen_netif.specs.Chain.{Slot}
+use Rattle.std.specs.Prelude.{ℕ, ◌≡◌, ◌≢◌, ◌<◌, ◌≤◌, ◌+◌, ◌/◌, ◌^◌, ◌⊎◌, false, List, [], ◌∷◌, ◌++◌, Option, Some, None, Ok, Err, length, take}
+use Rattle.xen_netif.specs.Chain.{Slot, WantsData, WantsExtra}
 use Rattle.xen_netif.specs.Copy.{copy_of}
-use Rattle.xen_netif.specs.Standing.{standing}
-use Rattle.xen_netif.specs.declared.chain.ChainState.{ChainState}
-use Rattle.xen_netif.specs.declared.chain.ChainState.TheVariants as wanted
-use Rattle.xen_netif.specs.declared.fault.ChainFault.{ChainFault}
 use Rattle.xen_netif.specs.declared.fragment.Fragment.{Fragment}
 use Rattle.xen_netif.specs.declared.status.Status.{Status}
 use Rattle.xen_page.specs.declared.fault.GrantFault.{GrantFault}
@@ -43,17 +39,15 @@ abbrev pub AllWords : List Slot → Type 0
 AllWords [] = Unit {0}
 AllWords (slot ∷ slots) = IsSlotRead slot × AllWords slots
 
--- more slots are wanted
-abbrev pub is_open : Option (Result ChainState ChainFault) → Bool
-is_open (Some (Ok wanted.Data)) = true
-is_open (Some (Ok wanted.Extra)) = true
-is_open o = false
+-- a proper beginning of a chain, which wants a data slot or an extra
+abbrev pub IsBeginning : List Slot → Type 0
+IsBeginning slots = WantsData slots ⊎ WantsExtra slots
 
 -- Slots are read as long as those before want more, and none past the producer.
 pub record AreRead (w : Wiring) (t n : ℕ) (p : List Event) (slots : List Slot) : Type 0 where
   pub reads : p ≡ slots_reads w t 0 slots
   pub words : AllWords slots
-  pub wanted : (k : ℕ) → k < length slots → IsTrue (is_open (standing (take k slots)))
+  pub wanted : (k : ℕ) → k < length slots → IsBeginning (take k slots)
   pub within : length slots ≤ n
 
 abbrev pub behind : List ℕ → Option (List ℕ) → Option (List ℕ)

@@ -1,5 +1,5 @@
 -- The program's part of a turn's trace.
-use Rattle.std.specs.Prelude.{ℕ, suc, ◌≡◌, ◌≤◌, ◌%◌, ◌^◌, List, [], ◌∷◌, length, map, Option, None, Some}
+use Rattle.std.specs.Prelude.{ℕ, zero, suc, ◌≡◌, ◌≤◌, ◌%◌, ◌^◌, List, [], ◌∷◌, length, map, Option, None, Some}
 use Rattle.bpf_note.specs.declared.op.Op.{Op}
 use Rattle.bpf_note.specs.declared.op.Op.TheVariants as op
 use Rattle.bpf_verify.specs.Consistent.{instructions}
@@ -30,3 +30,8 @@ pub record IsProgram (w : Wiring) (packet : List ℕ) (p : List Event) (out : Le
   pub events : p ≡ map event_of labels
   pub number : out.number ≡ r0 % 2 ^ 32
   pub ops : out.ops ≡ ops_in labels
+
+-- so many instructions that read no counter
+abbrev pub instructions_alone : ℕ → List Event
+instructions_alone zero = []
+instructions_alone (suc n) = Instr ∷ instructions_alone n

@@ -1,7 +1,10 @@
 -- What contracts see of a queue.
-use Rattle.std.specs.Prelude.{◌≡◌, ◌≢◌, List}
+use Rattle.std.specs.Prelude.{ℕ, ◌≡◌, ◌≢◌, List}
 use Rattle.xen_steps.specs.Answers.{number}
+use Rattle.xen_page.specs.Mapping.{Mapping}
+use Rattle.xen_steps.specs.Drive.{Gone}
 use Rattle.xen_steps.specs.Event.{Event}
+use Rattle.xen_back.specs.Program.{instructions_alone}
 use Rattle.xen_steps.specs.declared.want.Answer.{Answer}
 use Rattle.xen_steps.specs.declared.want.Want.{Want}
 use Rattle.xen_steps.specs.declared.want.Want.TheVariants as wants
@@ -21,6 +24,19 @@ state_of q = q.state
 abbrev pub wiring_of : Queue → Wiring
 wiring_of q = q.wiring
 
+-- the mappings of the tx ring's page and of the rx ring's page
+abbrev pub tx_ring_of : Queue → Mapping
+tx_ring_of q = q.tx_ring
+
+abbrev pub rx_ring_of : Queue → Mapping
+rx_ring_of q = q.rx_ring
+
+-- Two queues are wired alike, over the same mappings.
+pub record IsSameWiring (old new : Queue) : Type 0 where
+  pub wiring : wiring_of new ≡ wiring_of old
+  pub tx_ring : tx_ring_of new ≡ tx_ring_of old
+  pub rx_ring : rx_ring_of new ≡ rx_ring_of old
+
 -- what is left of its turn
 abbrev pub rest : Queue → Steps Ending
 rest q = rest_in q.wiring q.state q.stage
@@ -33,7 +49,7 @@ IsReady q = rest q ≡ whole_turn q.wiring q.state
 pub record IsFed (answer : Answer) (old new : Queue) : Type 0 where
   pub rest : rest new ≡ next (rest old) (number answer)
   pub state : state_of new ≡ state_of old
-  pub same : wiring_of new ≡ wiring_of old
+  pub same : IsSameWiring old new
 
 -- A queue that was asked what it wants.
 pub record IsAsked (wanted : Want) (old new : Queue) : Type 0 where
@@ -41,7 +57,14 @@ pub record IsAsked (wanted : Want) (old new : Queue) : Type 0 where
   pub within : wanted ≢ wants.Done → may_want (wiring_of old) wanted
   pub rest : rest new ≡ rest old
   pub state : state_of new ≡ state_of old
-  pub same : wiring_of new ≡ wiring_of old
+  pub same : IsSameWiring old new
+
+-- The program of a queue did so many instructions that read no counter.
+pub record IsAdvanced (old new : Queue) : Type 0 where
+  pub steps : ℕ
+  pub gone : Gone (rest old) (instructions_alone steps) (rest new)
+  pub state : state_of new ≡ state_of old
+  pub same : IsSameWiring old new
 
 -- a way to the turn's end
 abbrev pub HasRest : Queue → Type 0
@@ -52,6 +75,6 @@ pub record IsOver (old new : Queue) (shown : Turn) : Type 0 where
   pub turned : Turned
   pub over : rest old ≡ done (state_of new, turned)
   pub ready : IsReady new
-  pub same : wiring_of new ≡ wiring_of old
+  pub same : IsSameWiring old new
   pub shows : Shows turned shown
   pub short : IsShort shown

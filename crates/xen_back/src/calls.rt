@@ -7,18 +7,20 @@ ghost use mir.Syntax.{named};
 ghost use mathlib.Core.Option.{none};
 ghost use Rattle.xen_steps.specs.Answers.{Fits};
 ghost use Rattle.xen_steps.specs.Steps.{done, want_of};
-ghost use Rattle.xen_back.specs.Queues.{HasRest, IsAsked, IsFed, IsOver, rest, wiring_of};
+ghost use Rattle.xen_back.specs.Queues.{HasRest, IsAdvanced, IsAsked, IsFed, IsOver, IsReady, rest, rx_ring_of, tx_ring_of, wiring_of};
 ghost use Rattle.xen_back.specs.Turned.{Ending};
 ghost use Rattle.xen_back.specs.Within.{may_want};
 ghost use Rattle.xen_back.specs.contracts.queue.Queue.{the_row};
 
 use crate::ending::{over, shown};
+use crate::executing::stage_advanced;
 use crate::feeding::stage_fed;
 use crate::queue::Queue;
 use crate::stage::Stage;
 use crate::turn::Turn;
 use crate::wanting::stage_want;
 use std::mem;
+use xen_page::Mapped;
 use xen_steps::{Answer, Want};
 
 impl<'p, 'b> Queue<'p, 'b> {
@@ -67,5 +69,31 @@ impl<'p, 'b> Queue<'p, 'b> {
         self.state = after;
         self.stage = stage;
         shown(&self.stage, kind)
+    }
+
+    /// Does the program's instructions up to the next one that reads a counter, or to its exit.
+    pub(crate) fn advance(&mut self)
+        ensures { IsAdvanced self.old self.new }
+    {
+        let _vif = &self.wiring.vif;
+        let stage = mem::replace(&mut self.stage, Stage::Gone);
+        self.stage = stage_advanced(&self.wiring, &self.state, stage);
+    }
+
+    /// Ends a queue that is between turns, and hands back the mappings of its tx ring and its rx ring, so that they can be
+    /// unmapped.
+    pub fn close(self) -> (Mapped, Mapped)
+        requires { IsReady self }
+        ensures tx { result.0 ≡ tx_ring_of self.entry }
+        ensures rx { result.1 ≡ rx_ring_of self.entry }
+    {
+        let Queue {
+            wiring: _,
+            tx_ring,
+            rx_ring,
+            state: _,
+            stage: _,
+        } = self;
+        (tx_ring, rx_ring)
     }
 }

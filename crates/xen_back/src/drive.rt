@@ -1,18 +1,16 @@
 //! A whole turn over a bus, counters and ports.
 
-ghost use Rattle.std.specs.Prelude.{◌≡◌, ◌++◌, ◌∷◌, [], List, length, ⊤};
+ghost use Rattle.std.specs.Prelude.{◌≡◌, ◌<◌, List, [], length, ⊤};
 ghost use Rattle.std.specs.Borrow.{sem};
 ghost use denote.Follow.{follows_so};
 ghost use mir.Syntax.{named};
 ghost use mathlib.Core.Option.{none};
 ghost use Rattle.bpf_maps.specs.Seats.{IsSeatOf};
-ghost use Rattle.xen_page.specs.Access.{Performs};
 ghost use Rattle.xen_back.specs.contracts.queue.Queue.{the_row};
-ghost use Rattle.xen_back.specs.Drive.{Driven, IsTurnOver, labels};
-ghost use Rattle.xen_steps.specs.Drive.{Goes, accesses};
+ghost use Rattle.xen_back.specs.Drive.{Driven, IsTurnOver};
 ghost use Rattle.xen_back.specs.Within.{IsWithin};
 ghost use Rattle.xen_steps.specs.Event.{Event};
-ghost use Rattle.xen_back.specs.Queues.{IsReady, rest, state_of, wiring_of};
+ghost use Rattle.xen_back.specs.Queues.{IsReady, IsSameWiring, rest, state_of, wiring_of};
 ghost use Rattle.xen_steps.specs.Steps.{want_of};
 ghost use Rattle.xen_back.specs.Tree.{whole_turn};
 
@@ -26,8 +24,8 @@ use xen_steps::{Answer, Want};
 /// More events than a turn has, beside those of its program. It ends a loop, and is no measure of a turn.
 const MAX_EVENTS: u64 = 287_383;
 
-/// One event.
-fn drive_event<B: Bus>(
+/// The next event, and after an instruction all others up to the next one that reads a counter, or to the exit.
+fn drive_some<B: Bus>(
     queue: &mut Queue,
     bus: &mut B,
     counters: &Counters,
@@ -37,12 +35,11 @@ fn drive_event<B: Bus>(
     requires within { IsWithin (B.size bus.old) counters.now.shapes (want_of (rest queue.old)) }
     requires seat { IsSeatOf counters.now seat.old }
     ensures size { B.size bus.new ≡ B.size bus.old }
-    ensures same { wiring_of queue.new ≡ wiring_of queue.old }
+    ensures same { IsSameWiring queue.old queue.new }
     ensures state { state_of queue.new ≡ state_of queue.old }
     ensures seat { seat.new ≡ record seat.old { ops = seat.new.ops } }
-    ensures event { (e : Event) × Goes (rest queue.old) e (rest queue.new)
-        × Performs B.log B.access_gives bus.old (accesses (e ∷ [])) bus.new
-        × (seat.new.ops ≡ seat.old.ops ++ labels (e ∷ [])) }
+    ensures events { (t : List Event) × (0 < length t)
+        × Driven B.log B.access_gives (rest queue.old) (rest queue.new) bus.old bus.new seat.old.ops seat.new.ops t }
 {
     match queue.want() {
         Want::Read(at) => {
@@ -53,7 +50,10 @@ fn drive_event<B: Bus>(
             bus.write(at, value);
             queue.feed(Answer::Went);
         }
-        Want::Instr => queue.feed(Answer::Went),
+        Want::Instr => {
+            queue.feed(Answer::Went);
+            queue.advance();
+        }
         Want::Load { m, k, j } => {
             let number = counters.load(seat, m, k, j);
             queue.feed(Answer::Counter(number));
@@ -83,7 +83,7 @@ fn drive_events<B: Bus>(
     requires shapes { counters.now.shapes ≡ (wiring_of queue.old).program.now.shapes }
     requires seat { IsSeatOf counters.now seat.old }
     ensures size { B.size bus.new ≡ B.size bus.old }
-    ensures same { wiring_of queue.new ≡ wiring_of queue.old }
+    ensures same { IsSameWiring queue.old queue.new }
     ensures state { state_of queue.new ≡ state_of queue.old }
     ensures seat { seat.new ≡ record seat.old { ops = seat.new.ops } }
     ensures over { want_of (rest queue.new) ≡ Want.Done }
@@ -93,7 +93,7 @@ fn drive_events<B: Bus>(
     for _event in 0..most {
         match queue.want() {
             Want::Done => return,
-            _ => drive_event(queue, bus, counters, seat, ports),
+            _ => drive_some(queue, bus, counters, seat, ports),
         }
     }
 }

@@ -1,9 +1,11 @@
 //! Running the program on the copy.
 
-ghost use Rattle.std.specs.Prelude.{◌≡◌, ◌+◌, ◌≤◌, length, IsTrue, Some};
+ghost use Rattle.std.specs.Prelude.{ℕ, ◌≡◌, ◌+◌, ◌≤◌, length, IsTrue, Some};
 ghost use Rattle.bpf_vm.specs.Course.{left};
 ghost use Rattle.xen_netif.specs.declared.status.Status.{Status};
 ghost use Rattle.xen_back.specs.Rest.{is_here, rest_in};
+ghost use Rattle.xen_steps.specs.Drive.{Gone};
+ghost use Rattle.xen_back.specs.Program.{instructions_alone};
 ghost use Rattle.xen_steps.specs.Steps.{bind, next_by, want_of};
 ghost use Rattle.xen_back.specs.Tree.{after_copy, after_run, program, status_of};
 
@@ -40,6 +42,26 @@ pub(crate) fn executing_want(wiring: &Wiring, state: &State, run: &Executing) ->
         VmWant::Exit { .. } => Want::Instr,
         VmWant::Load { m, k, j } => Want::Load { m, k, j },
         VmWant::Add { m, k, j, delta } => Want::Add { m, k, j, delta },
+    }
+}
+
+/// A stage after the instructions up to the next one that reads a counter, or to the exit.
+pub(crate) fn stage_advanced<'p, 'b>(
+    wiring: &Wiring<'p>,
+    state: &State,
+    stage: Stage<'p, 'b>,
+) -> Stage<'p, 'b>
+    requires { IsTrue (is_here stage) }
+    ensures here { IsTrue (is_here result) }
+    ensures gone { (n : ℕ) × Gone (rest_in wiring.now state.now stage.entry) (instructions_alone n) (rest_in wiring.now state.now result) }
+{
+    match stage {
+        Stage::Run(run) => {
+            let Executing { chain, mut vm, ops } = run;
+            vm.advance();
+            Stage::Run(Executing { chain, vm, ops })
+        }
+        stage => stage,
     }
 }
 

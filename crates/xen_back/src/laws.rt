@@ -1,12 +1,14 @@
 //! Laws of turns.
 
-ghost use Rattle.std.specs.Prelude.{ℕ, ◌<◌, ◌≤◌, ◌^◌, ◌++◌, List, [], Option, length};
+ghost use Rattle.std.specs.Prelude.{ℕ, ◌<◌, ◌≤◌, ◌^◌, ◌++◌, List, [], ◌∷◌, Option, length};
 ghost use Rattle.xen_netif.specs.declared.fragment.Fragment.{Fragment};
-ghost use Rattle.xen_steps.specs.Drive.{Gone, accesses};
-ghost use Rattle.bpf_verify.specs.Consistent.{IsConsistent};
+ghost use Rattle.bpf_verify.specs.Consistent.{IsConsistent, instructions};
+ghost use Rattle.xen_steps.specs.Answers.{Fits, counter_in, number, word_in};
+ghost use Rattle.xen_steps.specs.Drive.{Goes, Gone, accesses, notices_in, program_events};
 ghost use Rattle.xen_steps.specs.Event.{Event};
 ghost use Rattle.xen_back.specs.Program.{IsProgram};
-ghost use Rattle.xen_steps.specs.Steps.{Runs, Steps};
+ghost use Rattle.xen_steps.specs.Steps.{Runs, Steps, next, want_of};
+ghost use Rattle.xen_steps.specs.declared.want.Answer.{Answer};
 ghost use Rattle.xen_transmit.specs.Touched.{AllAllowed};
 ghost use Rattle.xen_back.specs.Tree.{Left, copy, program, run_of, whole_turn};
 ghost use Rattle.xen_back.specs.Turned.{Ending, Turned};
@@ -23,16 +25,30 @@ pub fn parts_are_runs()
     ensures ran { (w : Wiring) (packet : List ℕ) (p : List Event) (out : Left) → IsProgram w packet p out → Runs (program (run_of w packet) 0) p out }
 {}
 
-/// The rests of a queue between turns are its turns. A turn makes at most 33,026 accesses, and touches the rings, the table
-/// and frames that it was granted alone.
+/// The ways of a queue between turns to the turn's end are its turns.
 pub fn turns_are_rests()
     ensures turns { (w : Wiring) (s : State) (p : List Event) (new : State) (u : Turned) → Runs (whole_turn w s) p (new, u) → IsTurn w s p new u }
     ensures rests { (w : Wiring) (s : State) (p : List Event) (new : State) (u : Turned) → IsTurn w s p new u → Runs (whole_turn w s) p (new, u) }
+{}
+
+/// A turn makes at most 33,026 accesses, has at most as many program events as its program has instructions, and sends at
+/// most two notices. It touches the rings, the table and the frames that were granted to it in that turn, and nothing else.
+pub fn turns_are_bounded()
     ensures accesses { (w : Wiring) (s : State) (p : List Event) (new : State) (u : Turned) → IsTurn w s p new u → length (accesses p) ≤ 33026 }
+    ensures instructions { (w : Wiring) (s : State) (p : List Event) (new : State) (u : Turned) → IsTurn w s p new u → program_events p ≤ instructions w.program.now.code }
+    ensures notices { (w : Wiring) (s : State) (p : List Event) (new : State) (u : Turned) → IsTurn w s p new u → notices_in p ≤ 2 }
     ensures touches { (w : Wiring) (s : State) (p : List Event) (new : State) (u : Turned) → IsTurn w s p new u → AllAllowed w.vif p p }
 {}
 
-/// A queue inside a turn has a rest, at least one, whatever it was answered so far.
+/// A queue that is fed an answer has those ways to the turn's end that began with the answered event, without that event.
+pub fn feeding_takes_the_rests()
+    ensures kept { (s left : Steps Ending) (e : Event) (p : List Event) (end : Ending) → Goes s e left → Runs s (e ∷ p) end → Runs left p end }
+    ensures alone { (s left : Steps Ending) (e : Event) (p : List Event) (end : Ending) → Goes s e left → Runs left p end → Runs s (e ∷ p) end }
+    ensures fed { (s : Steps Ending) (answer : Answer) → Fits (want_of s) answer → word_in answer < 2 ^ 32 → counter_in answer < 2 ^ 64 →
+        (e : Event) × Goes s e (next s (number answer)) }
+{}
+
+/// A queue inside a turn has a way to the turn's end, at least one, whatever it was answered so far.
 pub fn queues_have_rests()
     ensures { (w : Wiring) (s : State) → IsConsistent w.program.now → w.ifindex < 2 ^ 32 → w.queue < 2 ^ 32 →
         (t : List Event) (rest : Steps Ending) → Gone (whole_turn w s) t rest →

@@ -48,6 +48,8 @@ impl<'p, 'b> Queue<'p, 'b> {
         let stage = Stage::At(PacketBuf::empty(buffer), Phase::Ready);
         Queue {
             wiring,
+            tx_ring: desc.tx,
+            rx_ring: desc.rx,
             state,
             stage,
         }

@@ -11,11 +11,14 @@ ghost use Rattle.xen_transmit.specs.Wired.{IsWired};
 use crate::stage::Stage;
 use crate::state::State;
 use crate::wiring::Wiring;
+use xen_page::Mapped;
 
 /// Netback's queue. It takes a turn one event at a time.
 #[derive(Drop)]
 pub struct Queue<'p, 'b> {
     pub(crate) wiring: Wiring<'p>,
+    pub(crate) tx_ring: Mapped,
+    pub(crate) rx_ring: Mapped,
     pub(crate) state: State,
     pub(crate) stage: Stage<'p, 'b>,
     ghost here: { IsTrue (is_here stage) },

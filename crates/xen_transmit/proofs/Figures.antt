@@ -1,5 +1,6 @@
 -- How many accesses a transmit makes at most.
-use Rattle.std.proofs.Common.{◌≡◌, ℕ, zero, suc, ◌+◌, ◌*◌, ◌≤◌, Bool, true, false, List, [], ◌∷◌, ◌++◌, Result, Ok, Err, refl, ◌∙◌, ap, length, arith}
+use Rattle.xen_steps.proofs.FigureLemmas.{HasAtMost, most_append}
+use Rattle.std.proofs.Common.{◌≡◌, ℕ, zero, suc, ◌+◌, ◌*◌, ◌≤◌, Bool, true, false, List, [], ◌∷◌, ◌++◌, Result, Ok, Err, refl, sym, subst, ◌∙◌, ap, length, arith}
 use Rattle.xen_page.specs.declared.fault.GrantFault.{GrantFault}
 use Rattle.xen_ring.specs.Index.{is_due}
 use Rattle.xen_steps.specs.Drive.{accesses}
@@ -67,3 +68,50 @@ n_transmit w x packet _ _ s (sent p m p1 p2 ts l e le a r) =
     let c = n_targets w x 0 (pages packet) p1 true ts a in
     let q : List Event = buffer_writes ts packet (words packet) 0 ++ p2 in
     omega (arith, c.0, c.1, n_append p1 q, n_append (buffer_writes ts packet (words packet) 0) p2, n_fill ts packet (words packet) 0, n_rx_respond w x packet true ts p2 r)
+
+-- no instruction, and at most one notice
+pub most_notices : (w : Vif) (due : Bool) → HasAtMost (notices w due) 0 1
+most_notices w false = record { steps = omega arith; told = omega arith }
+most_notices w true = record { steps = omega arith; told = omega arith }
+
+pub most_entry : (w : Vif) (write : Bool) (gref : ℕ) (p : List Event) (r : Result ℕ GrantFault) → IsEntry w write gref p r → HasAtMost p 0 0
+most_entry w write gref _ _ (outside e) = record { steps = omega arith; told = omega arith }
+most_entry w write gref _ _ (inside at a b e la lb) = record { steps = omega arith; told = omega arith }
+
+most_posted : (w : Vif) (i : ℕ) (p : List Event) (id : ℕ) (r : Result ℕ GrantFault) → IsPosted w i p id r → HasAtMost p 0 0
+most_posted w i _ _ _ (is_posted a g p r la lg e) = let h = most_entry w true _ p r e in record { steps = h.steps; told = h.told }
+
+most_targets : (w : Vif) (x i left : ℕ) (p : List Event) (ok : Bool) (ts : List Target) → AreTargets w x i left p ok ts → HasAtMost p 0 0
+most_targets w x _ _ _ _ _ (all i) = record { steps = omega arith; told = omega arith }
+most_targets w x _ _ _ _ _ (refusing i left id p fault o) = most_posted w (add32 x i) p id (Err fault) o
+most_targets w x _ _ _ _ _ (passing i left id frame p q ok ts o a) =
+    most_append p q 0 0 0 0 (most_posted w (add32 x i) p id (Ok frame) o) (most_targets w x (i + 1) left q ok ts a)
+
+most_fill : (ts : List Target) (packet : List ℕ) (m k : ℕ) → HasAtMost (buffer_writes ts packet m k) 0 0
+most_fill ts packet zero k = record { steps = omega arith; told = omega arith }
+most_fill ts packet (suc m) k = let h = most_fill ts packet m (k + 1) in record { steps = h.steps; told = h.told }
+
+most_rx_writes : (w : Vif) (x : ℕ) (packet : List ℕ) (passed : Bool) (m i : ℕ) (ts : List Target) → HasAtMost (rx_writes w x packet passed m i ts) 0 0
+most_rx_writes w x packet passed m i [] = record { steps = omega arith; told = omega arith }
+most_rx_writes w x packet passed m i (t ∷ ts) = let h = most_rx_writes w x packet passed m (i + 1) ts in record { steps = h.steps; told = h.told }
+
+most_rx_respond : (w : Vif) (x : ℕ) (packet : List ℕ) (passed : Bool) (ts : List Target) (p : List Event) → IsRxRespond w x packet passed ts p → HasAtMost p 0 1
+most_rx_respond w x packet passed ts p h =
+    let due = is_due x (add32 x (length ts)) h.0 in
+    let q : List Event = Write (rx_word w 2) (add32 x (length ts)) ∷ Read (rx_word w 3) h.0 ∷ notices w due in
+    let told = most_notices w due in
+    let last : HasAtMost q 0 1 = record { steps = told.steps; told = told.told } in
+    subst (λ l. HasAtMost l 0 1) (sym h.2) (most_append (rx_writes w x packet passed (length ts) 0 ts) q 0 0 0 1 (most_rx_writes w x packet passed (length ts) 0 ts) last)
+
+most_after : (w : Vif) (v : ℕ) (p : List Event) → HasAtMost p 0 1 → HasAtMost (Read (rx_word w 0) v ∷ p) 0 1
+most_after w v p h = record { steps = h.steps; told = h.told }
+
+pub most_transmit : (w : Vif) (x : ℕ) (packet : List ℕ) (p : List Event) (o : Outcome) → IsTransmit w x packet p o → HasAtMost p 0 1
+most_transmit w x packet _ _ (rx_overflow p l e) = record { steps = omega arith; told = omega arith }
+most_transmit w x packet _ _ (too_few p m l e h) = record { steps = omega arith; told = omega arith }
+most_transmit w x packet _ _ (refused p m p1 p2 ts l e le a r) =
+    most_after w p (p1 ++ p2) (most_append p1 p2 0 0 0 1 (most_targets w x 0 (pages packet) p1 false ts a) (most_rx_respond w x packet false ts p2 r))
+most_transmit w x packet _ _ (sent p m p1 p2 ts l e le a r) =
+    let fills = buffer_writes ts packet (words packet) 0 in
+    most_after w p (p1 ++ (fills ++ p2)) (most_append p1 (fills ++ p2) 0 0 0 1 (most_targets w x 0 (pages packet) p1 true ts a)
+    (most_append fills p2 0 0 0 1 (most_fill ts packet (words packet) 0) (most_rx_respond w x packet true ts p2 r)))

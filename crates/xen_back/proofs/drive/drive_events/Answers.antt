@@ -1,4 +1,4 @@
-use Rattle.std.proofs.Common.{◌≡◌, ◌+◌, ◌-◌, [], ◌∷◌, ◌++◌, length, refl, sym, ◌∙◌, ap, arith, subst}
+use Rattle.std.proofs.Common.{◌≡◌, ◌+◌, ◌-◌, ◌≤◌, [], ◌++◌, length, refl, sym, ◌∙◌, ap, arith, subst}
 use Rattle.bpf_maps.specs.Seats.{SeatView}
 use Rattle.bpf_note.specs.Shape.{AreShapes}
 use Rattle.bpf_verify.specs.Consistent.{instructions}
@@ -10,8 +10,8 @@ use Rattle.xen_back.specs.Tree.{whole_turn}
 use Rattle.xen_back.specs.Turned.{Ending}
 use Rattle.xen_steps.specs.Drive.{Any}
 use Rattle.xen_back.proofs.Bounds.{bounded_turn}
-use Rattle.xen_steps.proofs.DriveLemmas.{bounded_done, bounded_le, bounded_next}
-use Rattle.xen_back.proofs.DriveLemmas.{driven_more, driven_none}
+use Rattle.xen_steps.proofs.DriveLemmas.{bounded_done, bounded_gone, bounded_le}
+use Rattle.xen_back.proofs.DriveLemmas.{both_same, driven_append, driven_none}
 use Rattle.xen_back.proofs.drive.drive_events.Goals as goal
 
 pub loop-event-init : goal.loop-event-init
@@ -26,7 +26,7 @@ loop-event-init g c =
     record {
       bounded = subst (λ f. Bounded (IsWithin f shapes) Any (rest q) (287383 + n - 0)) (sym c.requires.size) (subst (λ (t : Steps Ending). Bounded (IsWithin (length w.vif.owners.now) shapes) Any t (287383 + n - 0)) (sym c.requires.ready) whole);
       size = refl;
-      same = refl;
+      same = record { wiring = refl; tx_ring = refl; rx_ring = refl };
       state = refl;
       seat = refl;
       driven = ([], rw c.requires.ready (driven_none g.B.Bus.log g.B.Bus.access_gives (whole_turn w s) c.args.bus.now c.args.seat.now.ops));
@@ -36,25 +36,27 @@ pub loop-event-preserved : goal.loop-event-preserved
 loop-event-preserved g c =
     let q = c.args.queue.now in
     let n = instructions (wiring_of q).program.now.code in
-    let d = c.drive_event.ensures in
-    let e = d.event.0 in
-    let goes = d.event.1 in
+    let d = c.drive_some.ensures in
+    let t = d.events.0 in
+    let driven = d.events.2 in
     let i = c.loop-event.invariant in
-    let t = i.driven.0 in
+    let before = i.driven.0 in
     let shapes = c.args.counters.now.shapes in
     let frames = g.B.Bus.size c.args.bus.now in
-    let count : 287383 + n - c.loop-event._event - 1 ≡ 287383 + n - (c.loop-event._event + 1) = omega arith in
+    let left = 287383 + n - c.loop-event._event in
+    let fewer : left - length t ≤ 287383 + n - (c.loop-event._event + 1) = omega (arith, d.events.1) in
+    let now = rest c.drive_some.new.queue in
     record {
-      bounded = subst (λ m. Bounded (IsWithin frames shapes) Any (rest c.drive_event.new.queue) m) count
-          (bounded_next (IsWithin frames shapes) Any (rest c.loop-event.queue) (rest c.drive_event.new.queue) e (287383 + n - c.loop-event._event) i.bounded goes);
+      bounded = bounded_le (IsWithin frames shapes) Any now (left - length t) (287383 + n - (c.loop-event._event + 1))
+          (bounded_gone (IsWithin frames shapes) Any (rest c.loop-event.queue) now t left i.bounded driven.gone) fewer;
       size = d.size ∙ i.size;
-      same = d.same ∙ i.same;
+      same = both_same q c.loop-event.queue c.drive_some.new.queue i.same d.same;
       state = d.state ∙ i.state;
-      seat = d.seat ∙ ap (λ (v : SeatView). record v { ops = c.drive_event.new.seat.ops }) i.seat;
+      seat = d.seat ∙ ap (λ (v : SeatView). record v { ops = c.drive_some.new.seat.ops }) i.seat;
       driven = (
-        t ++ e ∷ [],
-        driven_more g.B.Bus.log g.B.Bus.access_gives (whole_turn (wiring_of q) (state_of q)) (rest c.loop-event.queue) (rest c.drive_event.new.queue)
-            c.args.bus.now c.loop-event.bus c.drive_event.new.bus c.args.seat.now.ops c.loop-event.seat.ops c.drive_event.new.seat.ops t e i.driven.1 goes d.event.2 d.event.3,
+        before ++ t,
+        driven_append g.B.Bus.log g.B.Bus.access_gives (whole_turn (wiring_of q) (state_of q)) (rest c.loop-event.queue) now
+            c.args.bus.now c.loop-event.bus c.drive_some.new.bus c.args.seat.now.ops c.loop-event.seat.ops c.drive_some.new.seat.ops before t i.driven.1 driven,
       );
     }
 

@@ -1,8 +1,9 @@
-use Rattle.std.proofs.Common.{refl, ◌∙◌}
+use Rattle.std.proofs.Common.{refl}
 use Rattle.xen_back.specs.Queues.{rest, state_of, wiring_of}
 use Rattle.xen_back.specs.Tree.{whole_turn}
 use Rattle.xen_steps.proofs.DriveLemmas.{runs_of_gone}
 use Rattle.xen_back.proofs.TurnParts.{turn_parts}
+use Rattle.xen_back.proofs.DriveLemmas.{both_same}
 use Rattle.xen_back.proofs.queue.Queue.drive_turn.Goals as goal
 
 pub returns : goal.returns
@@ -25,7 +26,7 @@ returns g c =
           grown = d.driven.1.grown;
           shows = o.shows;
           ready = o.ready;
-          same = o.same ∙ d.same;
+          same = both_same q c.drive_events.new.queue n d.same o.same;
         },
       ),
       record { size = d.size; seat = d.seat; turn = tt },

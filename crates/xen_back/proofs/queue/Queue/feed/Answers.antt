@@ -40,5 +40,5 @@ returns c =
           ∙ ap (λ v. next_by s (word_in c.args.answer) v) c.counter-counter.ensures
           ∙ fed_by s c.args.answer c.requires;
       state = refl;
-      same = refl;
+      same = record { wiring = refl; tx_ring = refl; rx_ring = refl };
     }
