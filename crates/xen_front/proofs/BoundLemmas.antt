@@ -28,12 +28,12 @@ use Rattle.xen_front.specs.Fronts.{all_free, chosen, free_in}
 use Rattle.xen_front.specs.Given.{Ending}
 use Rattle.xen_front.specs.Slots.{buffer, covered_bytes, fault_of, gave, grant_place, grant_writes, in_flight, outstanding, page_writes, part_of, passes_page, piece_request, piece_words, piece_writes, place_or, post_writes, rx_writes, send_writes, slot_writes, filling, took, tx_writes}
 use Rattle.xen_front.specs.Tree.{Gathered, after_rx_look, after_tx_look, chained, checked, flown, grown, judged, look, notice, poll, poll_rx, post, publish, receive, seen, send, take_all}
-use Rattle.xen_front.specs.Wired.{AreInTable, IsWired, frame_of, frames_of}
+use Rattle.xen_buffers.specs.Wired.{AreInTable, IsWired, frame_of, frames_of}
 use Rattle.xen_front.specs.declared.state.Ring.{Ring}
 use Rattle.xen_front.specs.declared.state.State.{State}
 use Rattle.xen_front.specs.declared.turn.Halt.{Halt}
-use Rattle.xen_front.specs.declared.wiring.Buffer.{Buffer}
-use Rattle.xen_front.specs.declared.wiring.Wiring.{Wiring}
+use Rattle.xen_buffers.specs.declared.wiring.Buffer.{Buffer}
+use Rattle.xen_buffers.specs.declared.wiring.Wiring.{Wiring}
 use Rattle.xen_front.proofs.RestLemmas.{IsSound, sound}
 
 -- how many flags are set

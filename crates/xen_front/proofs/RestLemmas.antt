@@ -20,7 +20,7 @@ use Rattle.xen_front.specs.declared.state.Ring.{Ring}
 use Rattle.xen_front.specs.declared.state.State.{State}
 use Rattle.xen_front.specs.declared.turn.Halt.TheVariants as halt
 use Rattle.xen_front.specs.declared.turn.Kind.{Kind}
-use Rattle.xen_front.specs.declared.wiring.Wiring.{Wiring}
+use Rattle.xen_buffers.specs.declared.wiring.Wiring.{Wiring}
 
 -- a page at a word
 pub page_at : (p : List ℕ) (frame k n j : ℕ) → j < n →

@@ -9,11 +9,11 @@ use Rattle.xen_front.specs.Bound.{IsOwnWant}
 use Rattle.xen_front.specs.Given.{Ending}
 use Rattle.xen_front.specs.Rest.{rest_at}
 use Rattle.xen_front.specs.Short.{IsShort}
-use Rattle.xen_front.specs.Wired.{IsWired}
+use Rattle.xen_buffers.specs.Wired.{IsWired}
 use Rattle.xen_front.specs.declared.phase.Phase.{Phase}
 use Rattle.xen_front.specs.declared.phase.Phase.TheVariants as phase
 use Rattle.xen_front.specs.declared.state.State.{State}
-use Rattle.xen_front.specs.declared.wiring.Wiring.{Wiring}
+use Rattle.xen_buffers.specs.declared.wiring.Wiring.{Wiring}
 use Rattle.xen_front.proofs.BoundLemmas.{page_want}
 
 bounded_next_le : (within : Want → Type 0) (s : Steps Ending) (a n : ℕ) → Bounded within Any s n → Bounded within Any (next s a) n

@@ -6,9 +6,9 @@ use Rattle.xen_steps.specs.declared.want.Want.{Want}
 use Rattle.xen_steps.specs.declared.want.Want.TheVariants as want
 use Rattle.xen_front.specs.Activities.{IsSend, IsPost, IsPoll}
 use Rattle.xen_front.specs.Given.{Given}
-use Rattle.xen_front.specs.Wired.{IsWired, frames_of}
+use Rattle.xen_buffers.specs.Wired.{IsWired, frames_of}
 use Rattle.xen_front.specs.declared.state.State.{State}
-use Rattle.xen_front.specs.declared.wiring.Wiring.{Wiring}
+use Rattle.xen_buffers.specs.declared.wiring.Wiring.{Wiring}
 
 -- a word of one of the frames that the front was made with
 abbrev pub IsOwnPlace : Wiring → Place → Type 0

@@ -16,7 +16,7 @@ use Rattle.xen_front.specs.declared.turn.PostRefusal.TheVariants as post_refusal
 use Rattle.xen_front.specs.declared.turn.RxTurn.{RxTurn}
 use Rattle.xen_front.specs.declared.turn.SendRefusal.{SendRefusal}
 use Rattle.xen_front.specs.declared.turn.SendRefusal.TheVariants as send_refusal
-use Rattle.xen_front.specs.declared.wiring.Wiring.{Wiring}
+use Rattle.xen_buffers.specs.declared.wiring.Wiring.{Wiring}
 
 abbrev pub state_of : Front → State
 state_of f = f.state

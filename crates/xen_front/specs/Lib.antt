@@ -1,7 +1,6 @@
 pub mod Causes
 pub mod Given
 pub mod Slots
-pub mod Wired
 pub mod Tree
 pub mod Activities
 pub mod Bound

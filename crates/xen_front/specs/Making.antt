@@ -2,15 +2,9 @@
 use Rattle.std.specs.Prelude.{ℕ, ◌≡◌, false, None}
 use Rattle.xen_front.specs.Fronts.{busy, state_of, wiring_of}
 use Rattle.xen_front.specs.Slots.{in_flight}
-use Rattle.xen_front.specs.declared.desc.FrontDesc.{FrontDesc}
+use Rattle.xen_buffers.specs.declared.desc.FrontDesc.{FrontDesc}
 use Rattle.xen_front.specs.declared.front.Front.{Front}
 use Rattle.xen_front.specs.declared.state.Ring.{Ring}
-use Rattle.xen_front.specs.declared.wiring.Wiring.{Wiring}
-
--- what a front is wired to
-abbrev pub wiring_in : FrontDesc → Wiring
-wiring_in d =
-    record { frames = d.frames; tx_frame = d.tx_frame; rx_frame = d.rx_frame; table = d.table; tx = d.tx; rx = d.rx; back = d.back; port = d.port }
 
 -- a ring with nothing in flight, at this index
 pub record IsNew (r : Ring) (start : ℕ) : Type 0 where

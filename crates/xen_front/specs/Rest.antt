@@ -16,7 +16,7 @@ use Rattle.xen_front.specs.declared.phase.Phase.{Phase}
 use Rattle.xen_front.specs.declared.phase.Phase.TheVariants as phase
 use Rattle.xen_front.specs.declared.phase.Piece.{Piece}
 use Rattle.xen_front.specs.declared.state.State.{State}
-use Rattle.xen_front.specs.declared.wiring.Wiring.{Wiring}
+use Rattle.xen_buffers.specs.declared.wiring.Wiring.{Wiring}
 
 abbrev pub id_of : Piece → ℕ
 id_of r = get_or r.ids.items r.index 0

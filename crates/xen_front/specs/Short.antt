@@ -6,7 +6,7 @@ use Rattle.xen_front.specs.Given.{Ending}
 use Rattle.xen_front.specs.Rest.{rest_at}
 use Rattle.xen_front.specs.declared.phase.Phase.{Phase}
 use Rattle.xen_front.specs.declared.state.State.{State}
-use Rattle.xen_front.specs.declared.wiring.Wiring.{Wiring}
+use Rattle.xen_buffers.specs.declared.wiring.Wiring.{Wiring}
 
 -- What is left has at most 17,000 events, each an access to a word on the bus or a notice.
 unfoldable pub IsShort : Wiring → State → List ℕ → List ℕ → Phase → Type 0

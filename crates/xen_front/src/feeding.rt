@@ -17,7 +17,7 @@ ghost use Rattle.xen_steps.specs.Steps.{done, next_by, want_of};
 use crate::front::Front;
 use crate::packet::Packet;
 use crate::phase::Phase;
-use crate::places::{buffer_of, grant_flags, grant_frame};
+use xen_buffers::{buffer_of, grant_flags, grant_frame};
 use crate::posting::{
     begin_post, event_read, post_first, post_flags, post_frame, post_second, posted,
 };
@@ -26,7 +26,7 @@ use crate::sending::{filled, filling_want, first_piece, granted, page, slot_writ
 use crate::state::State;
 use crate::taking::{begin_poll, shown, tx_first_looked, tx_looked, tx_response_read};
 use crate::turn::{Kind, PollRefusal, PostRefusal, RxTurn, SendRefusal};
-use crate::wiring::Wiring;
+use xen_buffers::Wiring;
 use std::mem;
 use xen_page::Place;
 use xen_steps::{Answer, Want, header, rx_entry, tx_entry};

@@ -2,12 +2,12 @@
 
 ghost use Rattle.xen_front.specs.Rest.{HasSpace};
 ghost use Rattle.xen_front.specs.Short.{IsShort, IsShort-prop};
-ghost use Rattle.xen_front.specs.Wired.{IsWired};
+ghost use Rattle.xen_buffers.specs.Wired.{IsWired};
 
 use crate::packet::Packet;
 use crate::phase::Phase;
 use crate::state::State;
-use crate::wiring::Wiring;
+use xen_buffers::Wiring;
 
 /// Netfront's queue. It takes one activity at a time, a send, a post or a poll, and makes it one event at a time.
 #[derive(Drop)]

@@ -3,7 +3,6 @@
 #![tactic(auto)]
 
 mod beginning;
-pub mod desc;
 pub mod drive;
 mod feeding;
 pub mod front;
@@ -19,10 +18,8 @@ mod sending;
 pub mod state;
 mod taking;
 pub mod turn;
-pub mod wiring;
 
-pub use desc::FrontDesc;
 pub use front::Front;
 pub use state::{Counts, Ring, State};
 pub use turn::{Halt, PollRefusal, PostRefusal, RxTurn, SendRefusal};
-pub use wiring::{Buffer, Wiring};
+pub use xen_buffers::{Buffer, FrontDesc, Wiring};

@@ -1,15 +1,15 @@
 //! Making a front.
 
 ghost use Rattle.std.specs.Prelude.{◌≡◌, IfOk};
-ghost use Rattle.xen_front.specs.Making.{IsMade, IsNew, wiring_in};
-ghost use Rattle.xen_front.specs.Wired.{IsWired};
+ghost use Rattle.xen_front.specs.Making.{IsMade, IsNew};
+ghost use Rattle.xen_buffers.specs.Wired.{IsWired, wiring_in};
 
-use crate::desc::FrontDesc;
+use xen_buffers::FrontDesc;
 use crate::front::Front;
 use crate::packet::Packet;
 use crate::phase::Phase;
 use crate::state::{Counts, Ring, State};
-use crate::wiring::Wiring;
+use xen_buffers::Wiring;
 use std::alloc::{AllocError, Global};
 
 /// A ring at this index.

@@ -56,7 +56,7 @@ pub struct Paging {
 }
 
 /// One of the two rings, in a push.
-#[derive(Clone, Copy, Debug, PartialEq, Eq)]
+#[derive(Clone, Copy)]
 pub struct Push {
     pub frame: u32,
     pub old: u32,

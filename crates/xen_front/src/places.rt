@@ -4,36 +4,8 @@ ghost use Rattle.std.specs.Prelude.{◌≡◌, ◌<◌, ◌≤◌, ◌+◌, get_
 ghost use Rattle.xen_front.specs.Slots.{buffer, grant_place, piece_size as piece_size_lem, piece_words as piece_words_lem, word_at as word_at_lem};
 ghost use Rattle.xen_page.specs.Mapping.{frame_place};
 
-use crate::wiring::{Buffer, Wiring};
+use xen_buffers::{Buffer, Wiring};
 use xen_page::Place;
-
-/// The buffer of an id.
-pub(crate) fn buffer_of(buffers: &[Buffer], id: u16) -> Buffer
-    ensures { result ≡ buffer buffers.now id }
-{
-    match buffers.get(usize::from(id)) {
-        Some(buffer) => *buffer,
-        None => Buffer { gref: 0, frame: 0 },
-    }
-}
-
-/// The flags word of a buffer's grant.
-pub(crate) fn grant_flags(wiring: &Wiring, buffer: &Buffer) -> Place
-    ensures value { result ≡ grant_place wiring.now buffer.now }
-    ensures small { result.word < 1023 }
-{
-    match wiring.table.place(buffer.gref) {
-        Some(at) => at,
-        None => Place { frame: 0, word: 0 },
-    }
-}
-
-/// The frame word of a buffer's grant.
-pub(crate) fn grant_frame(wiring: &Wiring, buffer: &Buffer) -> Place
-    ensures { result ≡ frame_place (grant_place wiring.now buffer.now) }
-{
-    grant_flags(wiring, buffer).next()
-}
 
 /// A byte of a packet, 0 past its end.
 fn byte_at(bytes: &[u8], at: usize) -> u8

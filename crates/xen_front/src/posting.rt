@@ -10,10 +10,10 @@ ghost use Rattle.xen_steps.specs.Steps.{want_of};
 
 use crate::packet::Packet;
 use crate::phase::{Phase, Push};
-use crate::places::{buffer_of, grant_flags, grant_frame};
+use xen_buffers::{buffer_of, grant_flags, grant_frame};
 use crate::state::State;
 use crate::turn::Kind;
-use crate::wiring::Wiring;
+use xen_buffers::Wiring;
 use xen_netif::RxReq;
 use xen_ring::due;
 use xen_steps::{Want, rx_entry};

@@ -11,11 +11,11 @@ ghost use Rattle.xen_steps.specs.Steps.{bind};
 
 use crate::packet::Packet;
 use crate::phase::{Chained, Paging, Part, Phase};
-use crate::places::buffer_of;
+use xen_buffers::buffer_of;
 use crate::state::{Ring, State};
 use crate::taking::{halt, is_in_flight, land};
 use crate::turn::{Halt, Kind};
-use crate::wiring::{Buffer, Wiring};
+use xen_buffers::{Buffer, Wiring};
 use xen_netif::{Fragment, RxRsp};
 
 /// After the first look at the rx ring.

@@ -11,9 +11,10 @@ ghost use Rattle.xen_steps.specs.Steps.{next_by, want_of};
 
 use crate::packet::Packet;
 use crate::phase::{Filling, Phase, Piece, Push};
-use crate::places::{buffer_of, piece_size, piece_words, word_at};
+use crate::places::{piece_size, piece_words, word_at};
+use xen_buffers::{buffer_of};
 use crate::state::State;
-use crate::wiring::{Buffer, Wiring};
+use xen_buffers::{Buffer, Wiring};
 use arrayvec::ArrayVec;
 use xen_netif::{TxFlags, TxReq};
 use xen_page::Place;

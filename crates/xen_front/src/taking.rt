@@ -13,7 +13,7 @@ use crate::packet::Packet;
 use crate::phase::Phase;
 use crate::state::{Counts, Ring, State};
 use crate::turn::{Halt, Kind};
-use crate::wiring::Wiring;
+use xen_buffers::Wiring;
 use xen_netif::TxRsp;
 use xen_steps::responses_shown;
 

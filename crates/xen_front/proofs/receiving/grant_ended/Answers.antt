@@ -5,7 +5,7 @@ use Rattle.xen_steps.specs.Steps.{bind}
 use Rattle.xen_steps.proofs.CopyLemmas.{covered_count, covered_end}
 use Rattle.xen_front.specs.Rest.{part_rest}
 use Rattle.xen_front.specs.Slots.{buffer, part_of}
-use Rattle.xen_front.specs.declared.wiring.Buffer.{Buffer}
+use Rattle.xen_buffers.specs.declared.wiring.Buffer.{Buffer}
 use Rattle.xen_front.proofs.receiving.grant_ended.Goals as goal
 
 pub before_word-requires-clause-covers : goal.before_word-requires-clause-covers

@@ -1,4 +1,4 @@
-use Rattle.xen_front.specs.Making.{wiring_in}
+use Rattle.xen_buffers.specs.Wired.{wiring_in}
 use Rattle.xen_front.proofs.ShortLemmas.{short_ready}
 use Rattle.xen_front.proofs.front.Front.make.Goals as goal
 

@@ -2,8 +2,9 @@
 use Rattle.std.specs.Prelude.{ℕ, ◌≡◌, ◌≢◌, ◌<◌, List, ◌∷◌, ◌++◌, length, map, All, None}
 use Rattle.std.specs.List.{AllPairs}
 use Rattle.xen_page.specs.Table.{entry_place}
-use Rattle.xen_front.specs.declared.wiring.Buffer.{Buffer}
-use Rattle.xen_front.specs.declared.wiring.Wiring.{Wiring}
+use Rattle.xen_buffers.specs.declared.desc.FrontDesc.{FrontDesc}
+use Rattle.xen_buffers.specs.declared.wiring.Buffer.{Buffer}
+use Rattle.xen_buffers.specs.declared.wiring.Wiring.{Wiring}
 
 abbrev pub frame_of : Buffer → ℕ
 frame_of b = b.frame
@@ -36,3 +37,8 @@ pub record IsWired (w : Wiring) : Type 0 where
   pub on_bus : All (λ frame. frame < w.frames) (frames_of w)
   pub frames_apart : AreDistinct (frames_of w)
   pub references_apart : AreDistinct (references_of w)
+
+-- what a front is wired to
+abbrev pub wiring_in : FrontDesc → Wiring
+wiring_in d =
+    record { frames = d.frames; tx_frame = d.tx_frame; rx_frame = d.rx_frame; table = d.table; tx = d.tx; rx = d.rx; back = d.back; port = d.port }
