@@ -8,13 +8,22 @@ ghost use Rattle.xen_front.specs.Tree.{poll, post, send};
 use crate::feeding::is_busy;
 use crate::front::Front;
 use crate::ids::{choose, fly, pieces_of};
+use crate::packet::MAX_PACKET;
 use crate::posting::begin_post;
 use crate::sending::first_piece;
 use crate::taking::begin_poll;
 use crate::turn::{PollRefusal, PostRefusal, SendRefusal};
 
+/// The bytes of an Ethernet header, without which nothing is a packet.
+const MIN_PACKET: usize = 14;
+
 impl<'p> Front<'p> {
-    /// Begins to send a packet, which is copied.
+    /// Begins to send a packet. Its bytes are copied, so the caller keeps them.
+    ///
+    /// # Errors
+    ///
+    /// The first that applies of `Halted`, `Busy`, `TooShort` (below 14 bytes), `TooLong` (above 65,535) and `NoSlot`
+    /// (fewer free ids than pieces). The front is then as it was.
     pub fn send(&mut self, bytes: &[u8]) -> Result<(), SendRefusal>
         ensures answer { result ≡ send_answer self.old bytes.now }
         ensures ok { OnOk result (HasBegun self.old self.new (send (wiring_of self.old) (state_of self.old) bytes.now (chosen (pieces_of_lem (length bytes.now)) (state_of self.old).tx.out))) }
@@ -27,10 +36,10 @@ impl<'p> Front<'p> {
         if is_busy(&self.phase) {
             return Err(SendRefusal::Busy);
         }
-        if bytes.len() < 14 {
+        if bytes.len() < MIN_PACKET {
             return Err(SendRefusal::TooShort);
         }
-        if bytes.len() > 65535 {
+        if bytes.len() > MAX_PACKET {
             return Err(SendRefusal::TooLong);
         }
         let n = pieces_of(bytes.len());
@@ -52,7 +61,11 @@ impl<'p> Front<'p> {
         Ok(())
     }
 
-    /// Begins to post a buffer.
+    /// Begins to post the buffer with the lowest free id.
+    ///
+    /// # Errors
+    ///
+    /// The first that applies of `Halted`, `Busy` and `NoSlot` (no free id). The front is then as it was.
     pub fn post_rx(&mut self) -> Result<(), PostRefusal>
         ensures answer { result ≡ post_answer self.old }
         ensures ok { OnOk result (HasBegun self.old self.new (post (wiring_of self.old) (state_of self.old) (get_or (all_free (state_of self.old).rx.out) 0 0))) }
@@ -84,7 +97,11 @@ impl<'p> Front<'p> {
         }
     }
 
-    /// Begins a poll.
+    /// Begins a poll: it takes all tx responses and at most one packet.
+    ///
+    /// # Errors
+    ///
+    /// The first that applies of `Halted` and `Busy`. The front is then as it was.
     pub fn poll(&mut self) -> Result<(), PollRefusal>
         ensures answer { result ≡ poll_answer self.old }
         ensures ok { OnOk result (HasBegun self.old self.new (poll (wiring_of self.old) (state_of self.old))) }

@@ -19,7 +19,10 @@ use xen_page::Bus;
 use xen_ring::Ports;
 use xen_steps::{Answer, Want};
 
-/// One event.
+/// More events than an activity has: a send has at most 16,467 and a poll at most 16,951.
+const MOST_EVENTS: u32 = 17_000;
+
+/// Makes one event.
 fn drive_event<B: Bus>(front: &mut Front, bus: &mut B, ports: &Ports)
     requires { IsPageWant (B.size bus.old) (want_of (rest front.old)) }
     ensures size { B.size bus.new ≡ B.size bus.old }
@@ -47,7 +50,7 @@ fn drive_event<B: Bus>(front: &mut Front, bus: &mut B, ports: &Ports)
     }
 }
 
-/// Events until the activity is over.
+/// Makes events until the activity is over.
 fn drive_events<B: Bus>(front: &mut Front, bus: &mut B, ports: &Ports)
     requires { Bounded (IsPageWant (B.size bus.old)) Any (rest front.old) 17000 }
     ensures size { B.size bus.new ≡ B.size bus.old }
@@ -55,7 +58,7 @@ fn drive_events<B: Bus>(front: &mut Front, bus: &mut B, ports: &Ports)
     ensures over { want_of (rest front.new) ≡ Want.Done }
     ensures driven { (t : List Event) × Driven B.log B.access_gives (rest front.old) (rest front.new) bus.old bus.new t }
 {
-    for _event in 0..17_000u32 {
+    for _event in 0..MOST_EVENTS {
         match front.want() {
             Want::Done => return,
             _ => drive_event(front, bus, ports),

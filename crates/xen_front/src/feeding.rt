@@ -17,26 +17,28 @@ ghost use Rattle.xen_steps.specs.Steps.{done, next_by, want_of};
 use crate::front::Front;
 use crate::packet::Packet;
 use crate::phase::Phase;
-use xen_buffers::{buffer_of, grant_flags, grant_frame};
 use crate::posting::{
     begin_post, event_read, post_first, post_flags, post_frame, post_second, posted,
 };
 use crate::receiving::{grant_ended, page_read, response_read, rx_first_looked, rx_looked};
-use crate::sending::{filled, filling_want, first_piece, granted, page, slot_write, slot_written};
+use crate::sending::{
+    READ_GRANT, filled, filling_want, first_piece, granted, page, slot_write, slot_written,
+};
 use crate::state::State;
 use crate::taking::{begin_poll, shown, tx_first_looked, tx_looked, tx_response_read};
 use crate::turn::{Kind, PollRefusal, PostRefusal, RxTurn, SendRefusal};
-use xen_buffers::Wiring;
 use std::mem;
+use xen_buffers::{Wiring, buffer_of, grant_flags, grant_frame};
 use xen_page::Place;
+use xen_ring::{REQ_EVENT, REQ_PROD, RSP_EVENT, RSP_PROD};
 use xen_steps::{Answer, Want, header, rx_entry, tx_entry};
 
-/// The next tx response, or the rx ring's producer where none is left.
+/// The next tx response, or the rx ring's producer if none is left.
 fn taking(wiring: &Wiring, state: &State, n: u32) -> Want
     ensures { result ≡ want_of (take_all wiring.now n state.now) }
 {
     if n == 0 {
-        Want::Read(header(wiring.rx_frame, 2))
+        Want::Read(header(wiring.rx_frame, RSP_PROD))
     } else {
         Want::Read(tx_entry(wiring.tx_frame, state.tx.cons, 0))
     }
@@ -57,7 +59,7 @@ fn phase_want(wiring: &Wiring, state: &State, sent: &[u8], received: &Packet, ph
             let buffer = page(wiring, r);
             Want::Write(
                 grant_flags(wiring, &buffer),
-                5 + 0x1_0000 * u32::from(wiring.back),
+                READ_GRANT + 0x1_0000 * u32::from(wiring.back),
             )
         }
         Phase::Fill(f) => filling_want(wiring, state, sent, f),
@@ -67,16 +69,22 @@ fn phase_want(wiring: &Wiring, state: &State, sent: &[u8], received: &Packet, ph
         Phase::PostFlags(id, start) => post_flags(wiring, state, *id, *start),
         Phase::PostFirst(id, start) => post_first(wiring, state, *id, *start),
         Phase::PostSecond(id, start) => post_second(wiring, state, *id, *start),
-        Phase::Publish(x) => Want::Write(header(x.frame, 0), x.new),
-        Phase::ReadEvent(x) => Want::Read(header(x.frame, 1)),
+        Phase::Publish(push) => Want::Write(header(push.frame, REQ_PROD), push.new),
+        Phase::ReadEvent(push) => Want::Read(header(push.frame, REQ_EVENT)),
         Phase::Notice => Want::Notify(wiring.port),
-        Phase::TxLook => Want::Read(header(wiring.tx_frame, 2)),
-        Phase::TxAnnounce => Want::Write(header(wiring.tx_frame, 3), state.tx.cons.wrapping_add(1)),
-        Phase::TxLookAgain => Want::Read(header(wiring.tx_frame, 2)),
+        Phase::TxLook => Want::Read(header(wiring.tx_frame, RSP_PROD)),
+        Phase::TxAnnounce => Want::Write(
+            header(wiring.tx_frame, RSP_EVENT),
+            state.tx.cons.wrapping_add(1),
+        ),
+        Phase::TxLookAgain => Want::Read(header(wiring.tx_frame, RSP_PROD)),
         Phase::Take(n) => taking(wiring, state, *n),
         Phase::TxEnd(id, _) => Want::Write(grant_flags(wiring, &buffer_of(wiring.tx, *id)), 0),
-        Phase::RxAnnounce => Want::Write(header(wiring.rx_frame, 3), state.rx.cons.wrapping_add(1)),
-        Phase::RxLookAgain => Want::Read(header(wiring.rx_frame, 2)),
+        Phase::RxAnnounce => Want::Write(
+            header(wiring.rx_frame, RSP_EVENT),
+            state.rx.cons.wrapping_add(1),
+        ),
+        Phase::RxLookAgain => Want::Read(header(wiring.rx_frame, RSP_PROD)),
         Phase::RxFirst(_) => Want::Read(rx_entry(wiring.rx_frame, state.rx.cons, 0)),
         Phase::RxSecond(_, _) => Want::Read(rx_entry(wiring.rx_frame, state.rx.cons, 1)),
         Phase::RxEnd(x) => Want::Write(
@@ -91,7 +99,7 @@ fn phase_want(wiring: &Wiring, state: &State, sent: &[u8], received: &Packet, ph
     }
 }
 
-/// After a tx response, or the rx ring's producer where none was left.
+/// After the word of a tx response, or of the rx ring's producer if none was left.
 fn taken(
     wiring: &Wiring,
     state: &mut State,
@@ -165,6 +173,7 @@ fn phase_fed(
     }
 }
 
+/// What the activity gave, without the packet.
 fn ending(wiring: &Wiring, state: &State, sent: &[u8], received: &Packet, phase: Phase) -> Kind
     requires { want_of (rest_at wiring.now state.now sent.now received.now phase) ≡ Want.Done }
     ensures { rest_at wiring.now state.now sent.now received.now phase ≡ done (state.now, given result received.now) }
@@ -176,7 +185,7 @@ fn ending(wiring: &Wiring, state: &State, sent: &[u8], received: &Packet, phase:
     }
 }
 
-/// What was given, as it is shown.
+/// What an activity gave, as the host is shown it.
 fn show<'t>(received: &'t Packet, kind: Kind) -> RxTurn<'t>
     ensures { Shows (given kind received.now) result }
 {
@@ -188,7 +197,7 @@ fn show<'t>(received: &'t Packet, kind: Kind) -> RxTurn<'t>
     }
 }
 
-/// Whether the front is inside an activity, or what it gave was not yet asked for.
+/// Whether the front is inside an activity, or nobody has yet asked what it gave.
 pub(crate) fn is_busy(phase: &Phase) -> bool
     ensures { result ≡ busy_in phase.now }
 {
@@ -213,7 +222,7 @@ impl<'p> Front<'p> {
         )
     }
 
-    /// Takes the answer to what it wants.
+    /// Takes the answer to its want, and goes on by it.
     pub fn feed(&mut self, answer: Answer)
         requires { Fits (want_of (rest self.old)) answer }
         ensures { IsFed self.old answer self.new }
@@ -232,7 +241,7 @@ impl<'p> Front<'p> {
         );
     }
 
-    /// What the activity gave. The next may begin, once its packet is no longer looked at.
+    /// What the activity gave. The next activity may begin once the borrow of the packet has ended.
     pub fn received(&mut self) -> RxTurn<'_>
         requires { want_of (rest self.old) ≡ Want.Done }
         ensures* after { sem 𝓛 (follows_so
@@ -251,7 +260,7 @@ impl<'p> Front<'p> {
         show(&self.received, kind)
     }
 
-    /// How many tx responses were OKAY, DROPPED, ERROR or another number.
+    /// The numbers of tx responses that were OKAY, DROPPED, ERROR and anything else, each staying at 2^64 - 1 once there.
     pub fn statuses(&self) -> [u64; 4]
         ensures { let c = (state_of self.now).counts in result ≡ c.okay ∷ c.dropped ∷ c.error ∷ c.other ∷ [] }
     {

@@ -8,16 +8,19 @@ ghost use Rattle.xen_front.specs.Tree.{flown, fly as fly_lem};
 use crate::state::Ring;
 use arrayvec::ArrayVec;
 
-/// How many pieces a packet has.
+/// The bytes of a page.
+const PAGE: usize = 4096;
+
+/// The number of pieces of a packet.
 pub(crate) fn pieces_of(len: usize) -> u32
     requires { len ≤ 65535 }
     ensures value { result ≡ pieces_of_lem len }
     ensures few { result ≤ 16 }
 {
-    ((len + 4095) / 4096) as u32
+    len.div_ceil(PAGE) as u32
 }
 
-/// The lowest n free ids, or as many as there are.
+/// The lowest `n` free ids, or all if there are fewer.
 pub(crate) fn choose(ring: &Ring, n: u32) -> ArrayVec<u8, 16>
     requires { n ≤ 16 }
     ensures { result.items ≡ chosen n ring.now.out }
@@ -33,7 +36,7 @@ pub(crate) fn choose(ring: &Ring, n: u32) -> ArrayVec<u8, 16>
     ids
 }
 
-/// The ids are in flight from now on.
+/// Marks the ids as in flight, and advances the producer past their requests.
 pub(crate) fn fly(ring: &mut Ring, ids: &[u8])
     requires { length ids.now ≤ 256 }
     ensures { ring.new ≡ flown ring.old ids.now }
@@ -42,6 +45,7 @@ pub(crate) fn fly(ring: &mut Ring, ids: &[u8])
     ring.prod = ring.prod.wrapping_add(ids.len() as u32);
 }
 
+/// Marks the ids as in flight.
 fn fly_all(out: &mut [bool; 256], ids: &[u8])
     ensures { out.new ≡ fly_lem out.old ids.now }
 {

@@ -4,15 +4,14 @@ ghost use Rattle.std.specs.Prelude.{◌≡◌, IfOk};
 ghost use Rattle.xen_front.specs.Making.{IsMade, IsNew};
 ghost use Rattle.xen_buffers.specs.Wired.{IsWired, wiring_in};
 
-use xen_buffers::FrontDesc;
 use crate::front::Front;
 use crate::packet::Packet;
 use crate::phase::Phase;
 use crate::state::{Counts, Ring, State};
-use xen_buffers::Wiring;
 use std::alloc::{AllocError, Global};
+use xen_buffers::{FrontDesc, Wiring};
 
-/// A ring at this index.
+/// A ring with nothing in flight, at this index.
 fn new_ring(start: u32) -> Ring
     ensures { IsNew result start }
 {
@@ -24,7 +23,8 @@ fn new_ring(start: u32) -> Ring
 }
 
 impl<'p> Front<'p> {
-    /// A front between activities. It makes all the room that it ever needs.
+    /// A front between activities. All the memory that it ever needs is allocated here: room for a packet to be sent and
+    /// for one received. [`FrontDesc::is_wired`] is the test of its condition.
     pub fn make(alloc: Global, desc: FrontDesc<'p>) -> Result<Front<'p>, AllocError>
         requires { IsWired (wiring_in desc) }
         ensures { IfOk result (IsMade desc.entry) }

@@ -7,7 +7,7 @@ use crate::turn::Kind;
 use arrayvec::ArrayVec;
 use xen_netif::{Fragment, RxRsp};
 
-/// A piece of a packet that is being sent, and the ids of all its pieces. The first is the slot of this index.
+/// A piece of the packet that is being sent, and the ids of all its pieces. The first piece's slot has the index `start`.
 #[derive(Drop)]
 pub struct Piece {
     pub start: u32,
@@ -17,7 +17,7 @@ pub struct Piece {
     ghost few: { index ≤ 15 },
 }
 
-/// A page that is being written: so many words are.
+/// A page of which so many words are written.
 #[derive(Drop)]
 pub struct Filling {
     pub piece: Piece,
@@ -25,8 +25,8 @@ pub struct Filling {
     ghost most: { written ≤ 1024 },
 }
 
-/// A chain that is being received: its slots so far, whether a status was negative, and how many responses are left
-/// behind the one that is being read.
+/// A chain that is being received: how many responses are left behind the one that is being read, how many slots came
+/// before it, and whether one of their statuses was negative.
 #[derive(Clone, Copy)]
 pub struct Chained {
     pub left: u32,
@@ -43,7 +43,7 @@ pub struct Part {
     ghost room: { response.flags.more_data ≡ true → chained.slots ≤ 14 },
 }
 
-/// Before the word at a place of the part's page, behind which so many more are covered.
+/// Before the word at a place of the part's page, behind which `more` words are covered.
 #[derive(Clone, Copy)]
 pub struct Paging {
     pub part: Part,
@@ -55,7 +55,7 @@ pub struct Paging {
     ghost last: { place + more ≡ (fragment.offset + fragment.size - 1) / 4 },
 }
 
-/// One of the two rings, in a push.
+/// The push of requests on one of the two rings.
 #[derive(Clone, Copy)]
 pub struct Push {
     pub frame: u32,
@@ -63,6 +63,7 @@ pub struct Push {
     pub new: u32,
 }
 
+/// What the next event of an activity is.
 #[derive(Drop)]
 pub enum Phase {
     /// Between activities.
@@ -70,7 +71,7 @@ pub enum Phase {
     /// A piece's grant: its frame word, its flags word.
     GrantFrame(Piece),
     GrantFlags(Piece),
-    /// A word of its page, or where all are written its slot's first word.
+    /// A word of its page, or its slot's first word once all are written.
     Fill(Filling),
     Second(Piece),
     Third(Piece),
@@ -86,7 +87,7 @@ pub enum Phase {
     TxLook,
     TxAnnounce,
     TxLookAgain,
-    /// So many tx responses are left; where none is, the rx ring's producer.
+    /// So many tx responses are left; after them, the rx ring's producer.
     Take(u32),
     /// A taken response's grant.
     TxEnd(u16, u32),

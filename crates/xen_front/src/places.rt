@@ -1,4 +1,4 @@
-//! Where a front writes, and the words of its packets.
+//! The words of a packet's pages.
 
 ghost use Rattle.std.specs.Prelude.{◌≡◌, ◌<◌, ◌≤◌, ◌+◌, get_or};
 ghost use Rattle.xen_front.specs.Slots.{buffer, grant_place, piece_size as piece_size_lem, piece_words as piece_words_lem, word_at as word_at_lem};
@@ -28,7 +28,7 @@ pub(crate) fn word_at(bytes: &[u8], at: usize) -> u32
         + 0x100_0000 * u32::from(byte_at(bytes, at + 3))
 }
 
-/// How many bytes a packet's k-th page holds.
+/// The number of bytes in a packet's page `index`.
 pub(crate) fn piece_size(length: u32, index: u32) -> u32
     requires { index ≤ 16 }
     ensures value { result ≡ piece_size_lem length index }
@@ -38,7 +38,7 @@ pub(crate) fn piece_size(length: u32, index: u32) -> u32
     if left <= 4096 { left } else { 4096 }
 }
 
-/// How many words of it that is.
+/// The number of words that they take.
 pub(crate) fn piece_words(length: u32, index: u32) -> u32
     requires { index ≤ 16 }
     ensures value { result ≡ piece_words_lem length index }

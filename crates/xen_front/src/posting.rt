@@ -10,13 +10,15 @@ ghost use Rattle.xen_steps.specs.Steps.{want_of};
 
 use crate::packet::Packet;
 use crate::phase::{Phase, Push};
-use xen_buffers::{buffer_of, grant_flags, grant_frame};
 use crate::state::State;
 use crate::turn::Kind;
-use xen_buffers::Wiring;
+use xen_buffers::{Wiring, buffer_of, grant_flags, grant_frame};
 use xen_netif::RxReq;
 use xen_ring::due;
 use xen_steps::{Want, rx_entry};
+
+/// A grant's flags that let the back read and write: `GTF_permit_access`.
+pub(crate) const WRITE_GRANT: u32 = 1;
 
 /// Before a posted buffer's grant.
 pub(crate) fn begin_post(
@@ -48,11 +50,11 @@ pub(crate) fn post_flags(wiring: &Wiring, state: &State, id: u8, start: u32) -> 
     let buffer = buffer_of(wiring.rx, u16::from(id));
     Want::Write(
         grant_flags(wiring, &buffer),
-        1 + 0x1_0000 * u32::from(wiring.back),
+        WRITE_GRANT + 0x1_0000 * u32::from(wiring.back),
     )
 }
 
-/// The slot's words.
+/// The slot's first word: the buffer's id.
 pub(crate) fn post_first(wiring: &Wiring, state: &State, id: u8, start: u32) -> Want
     ensures { result ≡ want_of (posting wiring.now state.now id start 2) }
 {
@@ -64,6 +66,7 @@ pub(crate) fn post_first(wiring: &Wiring, state: &State, id: u8, start: u32) -> 
     )
 }
 
+/// The slot's second word: the buffer's reference.
 pub(crate) fn post_second(wiring: &Wiring, state: &State, id: u8, start: u32) -> Want
     ensures { result ≡ want_of (posting wiring.now state.now id start 3) }
 {
@@ -93,7 +96,7 @@ pub(crate) fn posted(
     })
 }
 
-/// After the event index.
+/// After the event index: a notice if it is due.
 pub(crate) fn event_read(
     wiring: &Wiring,
     state: &State,

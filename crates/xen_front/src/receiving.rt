@@ -11,11 +11,10 @@ ghost use Rattle.xen_steps.specs.Steps.{bind};
 
 use crate::packet::Packet;
 use crate::phase::{Chained, Paging, Part, Phase};
-use xen_buffers::buffer_of;
 use crate::state::{Ring, State};
 use crate::taking::{halt, is_in_flight, land};
 use crate::turn::{Halt, Kind};
-use xen_buffers::{Buffer, Wiring};
+use xen_buffers::{Buffer, Wiring, buffer_of};
 use xen_netif::{Fragment, RxRsp};
 
 /// After the first look at the rx ring.
@@ -73,13 +72,14 @@ fn covered_bytes(status: i16) -> u16
     if status < 0 { 0 } else { status as u16 }
 }
 
+/// Whether a status is an error's.
 fn is_negative(status: i16) -> bool
     ensures { result ≡ is_negative_lem status }
 {
     status < 0
 }
 
-/// Whether offset and status are above a page.
+/// Whether offset and status, added as whole numbers, are above a page's 4,096 bytes.
 fn passes_page(offset: u16, status: i16) -> bool
     ensures { result ≡ passes_page_lem offset status }
 {
@@ -136,7 +136,7 @@ pub(crate) fn response_read(
     }
 }
 
-/// The part of a packet that a response tells.
+/// The part of the packet that a response describes.
 fn part_of(buffer: &Buffer, response: &RxRsp) -> Fragment
     ensures { result ≡ part_of_lem buffer.now response.now }
 {
@@ -208,7 +208,7 @@ fn before_word(
     })
 }
 
-/// Before a response, with so many left behind it.
+/// Before a response, with `left` behind it.
 fn before_response(
     wiring: &Wiring,
     state: &State,
@@ -225,7 +225,7 @@ fn before_response(
     Phase::RxFirst(Chained { left, slots, bad })
 }
 
-/// Before a response that is wanted, where one is left.
+/// Before a further response of the chain, or the halt if the producer showed none.
 fn more_responses(
     wiring: &Wiring,
     state: &mut State,
@@ -314,6 +314,7 @@ pub(crate) fn page_read(
     }
 }
 
+/// Puts the bytes behind those that were received.
 fn push_all(received: &mut Packet, bytes: &[u8])
     requires { length received.old + length bytes.now ≤ 65535 }
     ensures { received.new ≡ received.old ++ bytes.now }

@@ -12,20 +12,24 @@ ghost use Rattle.xen_steps.specs.Steps.{next_by, want_of};
 use crate::packet::Packet;
 use crate::phase::{Filling, Phase, Piece, Push};
 use crate::places::{piece_size, piece_words, word_at};
-use xen_buffers::{buffer_of};
 use crate::state::State;
-use xen_buffers::{Buffer, Wiring};
 use arrayvec::ArrayVec;
+use xen_buffers::{Buffer, Wiring, buffer_of};
 use xen_netif::{TxFlags, TxReq};
 use xen_page::Place;
 use xen_steps::{Want, tx_entry};
 
+/// A grant's flags that let the back read: `GTF_permit_access` and `GTF_readonly`.
+pub(crate) const READ_GRANT: u32 = 5;
+
+/// The id of a piece.
 pub(crate) fn id(piece: &Piece) -> u8
     ensures { result ≡ id_of piece.now }
 {
     piece.ids.as_slice()[piece.index as usize]
 }
 
+/// The number of pieces.
 fn pieces(piece: &Piece) -> u32
     ensures value { result ≡ pieces_lem piece.now }
     ensures few { result ≤ 16 }
@@ -33,14 +37,14 @@ fn pieces(piece: &Piece) -> u32
     piece.ids.len() as u32
 }
 
-/// The page of a piece.
+/// The buffer of a piece.
 pub(crate) fn page(wiring: &Wiring, piece: &Piece) -> Buffer
     ensures { result ≡ buffer wiring.now.tx.now (id_of piece.now) }
 {
     buffer_of(wiring.tx, u16::from(id(piece)))
 }
 
-/// The size that a piece's slot tells.
+/// The size in a piece's slot: the packet's in the first, the piece's own in a later one.
 fn told_size(sent: &[u8], index: u32) -> u16
     requires length { length sent.now ≤ 65535 }
     requires few { index ≤ 15 }
@@ -85,7 +89,7 @@ pub(crate) fn slot_write(wiring: &Wiring, sent: &[u8], piece: &Piece, word: u32)
     )
 }
 
-/// The next word of a page, or its slot's first where all are written.
+/// The next word of a page, or its slot's first word once all are written.
 pub(crate) fn filling_want(wiring: &Wiring, state: &State, sent: &[u8], filling: &Filling) -> Want
     requires { length sent.now ≤ 65535 }
     ensures { result ≡ want_of (filling_from wiring.now state.now sent.now filling.now.piece filling.now.written) }

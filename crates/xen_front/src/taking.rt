@@ -17,7 +17,7 @@ use xen_buffers::Wiring;
 use xen_netif::TxRsp;
 use xen_steps::responses_shown;
 
-/// The activity ends, and the front halts.
+/// Ends the activity and halts the front.
 pub(crate) fn halt(
     wiring: &Wiring,
     state: &mut State,
@@ -32,7 +32,7 @@ pub(crate) fn halt(
     Phase::Ended(Kind::Halted { cause })
 }
 
-/// How many responses a ring's producer shows.
+/// The number of responses that a ring's producer shows, if so many are outstanding.
 pub(crate) fn shown(ring: &Ring, producer: u32) -> Option<u32>
     ensures { result ≡ fresh ring.now.cons (outstanding_lem ring.now) producer }
 {
@@ -100,7 +100,7 @@ fn count(counts: &mut Counts, status: i16)
     }
 }
 
-/// The response to an id in flight is taken.
+/// Takes the response to an id in flight.
 pub(crate) fn land(ring: &mut Ring, id: u16)
     requires { in_flight_lem ring.old id ≡ true }
     ensures { ring.new ≡ taken ring.old id }
@@ -109,6 +109,7 @@ pub(crate) fn land(ring: &mut Ring, id: u16)
     ring.out[usize::from(id)] = false;
 }
 
+/// Whether a request with this id is open.
 pub(crate) fn is_in_flight(ring: &Ring, id: u16) -> bool
     ensures { result ≡ in_flight_lem ring.now id }
 {

@@ -33,7 +33,7 @@ returns-then-len-n-clause-answer c =
     let taken : c.len.result ≡ length (take n free) = c.len.ensures.value ∙ ap length c.choose-ids.ensures ∙ ap (λ m. length (take m free)) c.pieces_of-n.ensures.value in
     let less : length (take n free) < n = rw (sym taken) (rw (sym c.pieces_of-n.ensures.value) c.if-len-n.true) in
     says f.state.halt (busy f) (nat_lt (length c.args.bytes.now) 14) (nat_lt 65535 (length c.args.bytes.now)) (nat_lt (length free) n) true
-    c.in-None.is (sym c.is_busy.ensures ∙ c.if-is_busy.false) (le-ltb (length c.args.bytes.now) 14 c.if-bytes-lt14.false) (le-ltb 65535 (length c.args.bytes.now) c.if-bytes-gt65535.false)
+    c.in-None.is (sym c.is_busy.ensures ∙ c.if-is_busy.false) (le-ltb (length c.args.bytes.now) 14 c.if-bytes-lt-MIN_PACKET.false) (le-ltb 65535 (length c.args.bytes.now) c.if-bytes-gt-MAX_PACKET.false)
     (lt-ltb (length free) n (few free n less))
 
 pub returns-clause-answer : goal.returns-clause-answer
@@ -44,7 +44,7 @@ returns-clause-answer c =
     let taken : c.len.result ≡ length (take n free) = c.len.ensures.value ∙ ap length c.choose-ids.ensures ∙ ap (λ m. length (take m free)) c.pieces_of-n.ensures.value in
     let enough : n ≤ length (take n free) = rw (sym taken) (rw (sym c.pieces_of-n.ensures.value) c.if-len-n.false) in
     says f.state.halt (busy f) (nat_lt (length c.args.bytes.now) 14) (nat_lt 65535 (length c.args.bytes.now)) (nat_lt (length free) n) false
-    c.in-None.is (sym c.is_busy.ensures ∙ c.if-is_busy.false) (le-ltb (length c.args.bytes.now) 14 c.if-bytes-lt14.false) (le-ltb 65535 (length c.args.bytes.now) c.if-bytes-gt65535.false)
+    c.in-None.is (sym c.is_busy.ensures ∙ c.if-is_busy.false) (le-ltb (length c.args.bytes.now) 14 c.if-bytes-lt-MIN_PACKET.false) (le-ltb 65535 (length c.args.bytes.now) c.if-bytes-gt-MAX_PACKET.false)
     (le-ltb (length free) n (many free n enough))
 
 positive : (m : ℕ) → 14 ≤ m → 0 < pieces_of m
@@ -96,5 +96,5 @@ first_piece-self-requires c =
     let n = pieces_of (length c.args.bytes.now) in
     let free = all_free s.tx.out in
     let ids : c.choose-ids.result.items ≡ take n free = c.choose-ids.ensures ∙ ap (λ m. take m free) c.pieces_of-n.ensures.value in
-    let more : 0 < n = (let k = c.if-bytes-lt14.false in positive (length c.args.bytes.now) k) in
+    let more : 0 < n = (let k = c.if-bytes-lt-MIN_PACKET.false in positive (length c.args.bytes.now) k) in
     omega (arith, more, c.if-len-n.false, c.pieces_of-n.ensures.value, c.len.ensures.value)
