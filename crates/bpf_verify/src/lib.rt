@@ -9,6 +9,7 @@ mod slot;
 mod structure;
 mod verified;
 mod verifier;
+mod wanting;
 
 pub use bpf_insn::{Cause, Refusal};
 pub use bpf_note::MapShape;
