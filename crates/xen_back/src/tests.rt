@@ -1,0 +1,10 @@
+//! Turns over a bus that answers from a list, and the same turns by hand.
+
+mod bounds;
+mod chains;
+mod copies;
+mod driving;
+mod fixtures;
+mod programs;
+mod slots;
+mod transmits;

@@ -1,0 +1,105 @@
+//! Turns whose frontend answers at random.
+
+use super::fixtures::{SENDS, owners, program, queue};
+use crate::{Answer, Queue, State, Want};
+use bpf_vm::Buffer;
+use std::test::Fail;
+use xen_page::{Place, Table};
+
+const QUEUES: u32 = 2_000;
+
+const TURNS: u32 = 50;
+
+/// How many events of each kind a turn had.
+#[derive(Clone, Copy)]
+struct Events {
+    accesses: u32,
+    instructions: u32,
+    notices: u32,
+}
+
+/// The next number of a generator (Marsaglia's xorshift with shifts 13, 17 and 5).
+fn next(number: u32) -> u32 {
+    let number = number ^ number << 13;
+    let number = number ^ number >> 17;
+    number ^ number << 5
+}
+
+/// For a producer mostly one just ahead, and else a number that often is small, a granted entry's word or a slot's.
+fn answer(at: Place, state: State, number: u32) -> u32 {
+    match (at.frame, at.word) {
+        (17, 0) => state.tx_index.wrapping_add(number / 8 % 258),
+        (18, 0) => state.rx_index.wrapping_add(number / 8 % 258),
+        _ => word(number),
+    }
+}
+
+fn word(number: u32) -> u32 {
+    match number % 8 {
+        0 => 1,
+        1 => number / 8 % 20,
+        2 => number / 8 % 300,
+        3 => 0x0010_0007,
+        4 => number / 8 % 8 * 0x1_0000,
+        5 => number,
+        _ => 2,
+    }
+}
+
+/// A turn fed with random answers, and the generator's next number.
+fn random_turn(queue: &mut Queue, seed: u32) -> Result<(Events, u32), Fail> {
+    let mut number = seed;
+    let state = queue.state;
+    let mut events = Events {
+        accesses: 0,
+        instructions: 0,
+        notices: 0,
+    };
+    for _event in 0..40_000u32 {
+        number = next(number);
+        match queue.wanted() {
+            Want::Read(at) => {
+                events.accesses = events.accesses.saturating_add(1);
+                queue.feed(Answer::Word(answer(at, state, number)));
+            }
+            Want::Write(..) => {
+                events.accesses = events.accesses.saturating_add(1);
+                queue.feed(Answer::Went);
+            }
+            Want::Instr => {
+                events.instructions = events.instructions.saturating_add(1);
+                queue.feed(Answer::Went);
+            }
+            Want::Load { .. } | Want::Add { .. } => queue.feed(Answer::Counter(0)),
+            Want::Notify(_) => {
+                events.notices = events.notices.saturating_add(1);
+                queue.feed(Answer::Went);
+            }
+            Want::Done => return Ok((events, number)),
+        }
+    }
+    Err("no end".into())
+}
+
+#[test]
+fn random_answers_stay_within_the_bounds(rt: HostRuntime) -> Result<(), Fail> {
+    let owners = owners(rt.alloc())?;
+    let table = Table::make(&owners, 1, &[1]).ok_or("no table")?;
+    let program = program(rt.alloc(), &SENDS, &[])?;
+    let mut buffer = Buffer::make(rt.alloc())?;
+    let mut seed = 2_463_534_242;
+    for number in 0..QUEUES {
+        let start = if number % 2 == 0 { 0 } else { 0xffff_ffff };
+        let mut queue = queue(rt.alloc(), &owners, &table, &program, start, &mut buffer)?;
+        for _turn in 0..TURNS {
+            let (events, later) = random_turn(&mut queue, seed)?;
+            seed = later;
+            assert!(rt; events.accesses <= 33_026);
+            assert!(rt; events.instructions <= 2);
+            assert!(rt; events.notices <= 2);
+            assert!(rt; queue.want() == Want::Done);
+            queue.turn();
+        }
+    }
+    Ok(())
+}

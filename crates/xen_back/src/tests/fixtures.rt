@@ -1,0 +1,258 @@
+//! A queue whose frontend answers from a list.
+
+ghost use Rattle.std.specs.Prelude.{◌≡◌, ◌×◌, IfSome, true};
+ghost use Rattle.xen_page.specs.Mapping.{IsMappedBy};
+ghost use Rattle.xen_page.specs.Table.{IsTable};
+ghost use Rattle.xen_back.specs.Queues.{IsReady, wiring_of};
+
+use crate::turn::Kind;
+use crate::{Answer, Queue, QueueDesc, Turn, Want};
+use bpf_insn::decode;
+use bpf_maps::Counters;
+use bpf_note::MapShape;
+use bpf_verify::{Verified, verify};
+use bpf_vm::Buffer;
+use std::alloc::Global;
+use std::test::Fail;
+use xen_page::{Access, Mapped, Owners, Place, ScriptBus, Table, map};
+use xen_ring::{Port, Ports};
+
+/// The backend, domain 0, owns frame 0. The frontend, domain 1, owns the others: frame 1 is its grant table, frame 17 its
+/// tx ring and frame 18 its rx ring.
+pub const FRAMES: u32 = 20;
+
+/// MOV r0, 2; EXIT: PASS.
+pub const PASSES: [u8; 16] = [0xb7, 0, 0, 0, 2, 0, 0, 0, 0x95, 0, 0, 0, 0, 0, 0, 0];
+
+/// MOV r0, 3; EXIT: TX.
+pub const SENDS: [u8; 16] = [0xb7, 0, 0, 0, 3, 0, 0, 0, 0x95, 0, 0, 0, 0, 0, 0, 0];
+
+/// A turn, without what it borrows.
+#[derive(Debug, PartialEq, Drop)]
+pub struct Seen {
+    pub kind: Kind,
+    pub packet: Vec<u8>,
+    pub accesses: Vec<Access>,
+    pub notified: bool,
+}
+
+pub fn read(frame: u32, word: u32, answer: u32) -> Access {
+    Access::Read {
+        at: Place { frame, word },
+        answer,
+    }
+}
+
+pub fn write(frame: u32, word: u32, value: u32) -> Access {
+    Access::Write {
+        at: Place { frame, word },
+        value,
+    }
+}
+
+pub fn owners(alloc: Global) -> Result<Owners, Fail> {
+    let mut domains = [1; 20];
+    domains[0] = 0;
+    Ok(Owners::make(alloc, &domains)?)
+}
+
+pub fn program(alloc: Global, bytes: &[u8], shapes: &[MapShape]) -> Result<Verified, Fail>
+    requires { length shapes.now ≤ 4 }
+    ensures { IfOk result (λ p. p.shapes ≡ shapes.now) }
+{
+    let Ok(code) = decode(alloc, bytes) else {
+        return Err("no code".into());
+    };
+    match verify(alloc, code, shapes) {
+        Ok(program) => Ok(program),
+        Err(_) => Err("no program".into()),
+    }
+}
+
+/// The ring under a reference, mapped for writing.
+fn ring(alloc: Global, owners: &Owners, table: &Table, gref: u32) -> Result<Mapped, Fail>
+    requires { IsTable owners.now 1 table.now }
+    ensures { IfOk result (λ m. IsMappedBy owners.now 1 m × (m.write ≡ true)) }
+{
+    if !table.is_within(FRAMES) {
+        return Err("no table".into());
+    }
+    let mut bus = ScriptBus::make(alloc, FRAMES, &[1, 17 + gref, 1], 0)?;
+    match map(&mut bus, table, owners, 1, 0, gref, true) {
+        Ok(mapped) => Ok(mapped),
+        Err(_) => Err("no ring".into()),
+    }
+}
+
+/// A queue between turns, of which both rings are at `start`.
+pub fn queue<'p, 'b>(
+    alloc: Global,
+    owners: &'p Owners,
+    table: &'p Table,
+    program: &'p Verified,
+    start: u32,
+    buffer: &'b mut Buffer,
+) -> Result<Queue<'p, 'b>, Fail>
+    requires { IsTable owners.now 1 table.now }
+    ensures ready { IfOk result IsReady }
+    ensures owners { IfOk result (λ q. (wiring_of q).vif.owners.now ≡ owners.now) }
+    ensures program { IfOk result (λ q. (wiring_of q).program.now ≡ program.now) }
+{
+    let desc = QueueDesc {
+        tx: ring(alloc, owners, table, 0)?,
+        rx: ring(alloc, owners, table, 1)?,
+        table,
+        owners,
+        granter: 1,
+        user: 0,
+        ifindex: 0,
+        queue: 0,
+        port: Port::of(1).ok_or("no port")?,
+        start,
+    };
+    Ok(Queue::make(program, desc, buffer))
+}
+
+/// What a turn came to.
+pub fn kind_of(turn: &Turn) -> Kind {
+    match turn {
+        Turn::Idle => Kind::Idle,
+        Turn::Ran {
+            number,
+            ops,
+            slots,
+            ..
+        } => Kind::Ran {
+            number: *number,
+            ops: *ops,
+            slots: *slots,
+        },
+        Turn::Refused { cause, ops, slots } => Kind::Refused {
+            cause: *cause,
+            ops: *ops,
+            slots: *slots,
+        },
+        Turn::Halted { cause } => Kind::Halted { cause: *cause },
+    }
+}
+
+/// The packet that a turn shows.
+pub fn packet_of(alloc: Global, turn: &Turn) -> Result<Vec<u8>, Fail> {
+    match turn {
+        Turn::Ran { packet, .. } => Ok(Vec::from_slice(alloc, packet)?),
+        _ => Ok(Vec::new(alloc)),
+    }
+}
+
+/// Feeds a queue until its turn is over; each counter holds 0. Returns the accesses, and whether a notice was sent.
+pub fn feed_turn(
+    alloc: Global,
+    queue: &mut Queue,
+    answers: &[u32],
+) -> Result<(Vec<Access>, bool), Fail> {
+    let mut accesses = Vec::new(alloc);
+    let mut given = answers.iter();
+    let mut notified = false;
+    for _event in 0..100_000u32 {
+        match queue.wanted() {
+            Want::Read(at) => {
+                let answer = given.next().copied().unwrap_or(0);
+                accesses.push(Access::Read { at, answer })?;
+                queue.feed(Answer::Word(answer));
+            }
+            Want::Write(at, value) => {
+                accesses.push(Access::Write { at, value })?;
+                queue.feed(Answer::Went);
+            }
+            Want::Instr => queue.feed(Answer::Went),
+            Want::Load { .. } | Want::Add { .. } => queue.feed(Answer::Counter(0)),
+            Want::Notify(_) => {
+                notified = true;
+                queue.feed(Answer::Went);
+            }
+            Want::Done => return Ok((accesses, notified)),
+        }
+    }
+    Err("no end".into())
+}
+
+/// A turn by `want` and `feed`.
+pub fn turn_by_hand(
+    alloc: Global,
+    bytes: &[u8],
+    shapes: &[MapShape],
+    start: u32,
+    answers: &[u32],
+) -> Result<Seen, Fail>
+    requires { length shapes.now ≤ 4 }
+{
+    let owners = owners(alloc)?;
+    let table = Table::make(&owners, 1, &[1]).ok_or("no table")?;
+    let program = program(alloc, bytes, shapes)?;
+    let mut buffer = Buffer::make(alloc)?;
+    let mut queue = queue(alloc, &owners, &table, &program, start, &mut buffer)?;
+    let (accesses, notified) = feed_turn(alloc, &mut queue, answers)?;
+    if queue.want() != Want::Done {
+        return Err("no end".into());
+    }
+    let turn = queue.turn();
+    Ok(Seen {
+        kind: kind_of(&turn),
+        packet: packet_of(alloc, &turn)?,
+        accesses,
+        notified,
+    })
+}
+
+/// A turn by `drive_turn`, whose counters are 0.
+pub fn turn_by_driver(
+    alloc: Global,
+    bytes: &[u8],
+    shapes: &[MapShape],
+    start: u32,
+    answers: &[u32],
+) -> Result<Seen, Fail>
+    requires { length shapes.now ≤ 4 }
+{
+    let owners = owners(alloc)?;
+    let table = Table::make(&owners, 1, &[1]).ok_or("no table")?;
+    let program = program(alloc, bytes, shapes)?;
+    let mut buffer = Buffer::make(alloc)?;
+    let mut queue = queue(alloc, &owners, &table, &program, start, &mut buffer)?;
+    let (counters, mut seats) = Counters::make(alloc, shapes, 1)?;
+    let mut seat = seats.pop().ok_or("no seat")?;
+    let mut bus = ScriptBus::make(alloc, FRAMES, answers, 34_000)?;
+    let ports = Ports::new();
+    let turn = queue.drive_turn(&mut bus, &counters, &mut seat, &ports);
+    let kind = kind_of(&turn);
+    let packet = packet_of(alloc, &turn)?;
+    Ok(Seen {
+        kind,
+        packet,
+        accesses: Vec::from_slice(alloc, bus.accesses())?,
+        notified: ports.take(Port::of(1).ok_or("no port")?),
+    })
+}
+
+/// The same turn both ways.
+pub fn turn(alloc: Global, bytes: &[u8], start: u32, answers: &[u32]) -> Result<Seen, Fail> {
+    let seen = turn_by_driver(alloc, bytes, &[], start, answers)?;
+    if turn_by_hand(alloc, bytes, &[], start, answers)? == seen {
+        Ok(seen)
+    } else {
+        Err("the two ways differ".into())
+    }
+}
+
+/// The writes to a frame, in order.
+pub fn writes_to(alloc: Global, accesses: &[Access], frame: u32) -> Result<Vec<Access>, Fail> {
+    let mut writes = Vec::new(alloc);
+    for access in accesses {
+        if let Access::Write { at, .. } = access
+            && at.frame == frame
+        {
+            writes.push(*access)?;
+        }
+    }
+    Ok(writes)
+}

@@ -1,0 +1,110 @@
+//! Turns whose program decides.
+
+use super::fixtures::{
+    Seen, feed_turn, owners, program, queue, turn, turn_by_driver, turn_by_hand, write, writes_to,
+};
+use super::slots::{STARTS, slot, tx};
+use crate::turn::Kind;
+use crate::{Action, Turn, Want};
+use bpf_note::MapShape;
+use bpf_vm::Buffer;
+use std::alloc::Global;
+use std::test::Fail;
+use xen_page::Table;
+
+/// Adds 1 to the counter of key 1: ST W [r10 - 4], 1; MOV r2, r10; ADD r2, -4; r1 = map 0; CALL 1; JEQ r0, 0, +2;
+/// MOV r1, 1; atomic ADD DW [r0], r1; MOV r0, 2; EXIT.
+const COUNTS: [u8; 88] = [
+    0x62, 0x0a, 0xfc, 0xff, 1, 0, 0, 0, 0xbf, 0xa2, 0, 0, 0, 0, 0, 0, 0x07, 0x02, 0, 0, 0xfc, 0xff,
+    0xff, 0xff, 0x18, 0x11, 0, 0, 0, 0, 0, 0, 0, 0, 0, 0, 0, 0, 0, 0, 0x85, 0, 0, 0, 1, 0, 0, 0,
+    0x15, 0, 2, 0, 0, 0, 0, 0, 0xb7, 1, 0, 0, 1, 0, 0, 0, 0xdb, 0x10, 0, 0, 0, 0, 0, 0, 0xb7, 0, 0,
+    0, 2, 0, 0, 0, 0x95, 0, 0, 0, 0, 0, 0, 0,
+];
+
+/// PASS for a packet of more than 14 bytes, whose byte 14 it reads, and DROP for others.
+const LOOKS_AT_BYTE_14: [u8; 80] = [
+    0x61, 0x12, 0, 0, 0, 0, 0, 0, 0x61, 0x13, 4, 0, 0, 0, 0, 0, 0xbf, 0x24, 0, 0, 0, 0, 0, 0, 0x07,
+    4, 0, 0, 14, 0, 0, 0, 0x3d, 0x34, 3, 0, 0, 0, 0, 0, 0x71, 0x20, 14, 0, 0, 0, 0, 0, 0xb7, 0, 0,
+    0, 2, 0, 0, 0, 0x95, 0, 0, 0, 0, 0, 0, 0, 0xb7, 0, 0, 0, 1, 0, 0, 0, 0x95, 0, 0, 0, 0, 0, 0, 0,
+];
+
+/// A packet of 14 bytes under a program that ends with a number.
+fn ends_with(alloc: Global, start: u32, number: u8) -> Result<Seen, Fail> {
+    let code = [0xb7, 0, 0, 0, number, 0, 0, 0, 0x95, 0, 0, 0, 0, 0, 0, 0];
+    let answers = [start.wrapping_add(1), 2, 0, slot(7, 14), 1, 19];
+    turn(alloc, &code, start, &answers)
+}
+
+#[test]
+fn the_response_says_what_the_program_decided(rt: HostRuntime) -> Result<(), Fail> {
+    for start in STARTS {
+        for (number, response) in [(0, 0xffff_0007), (1, 0xfffe_0007), (2, 7), (7, 0xffff_0007)] {
+            let seen = ends_with(rt.alloc(), start, number)?;
+            assert_eq!(rt;
+                seen.kind,
+                Kind::Ran {
+                    number: u32::from(number),
+                    ops: 0,
+                    slots: 1
+                }
+            );
+            let writes = [
+                write(17, tx(start, 0, 0), response),
+                write(17, 2, start.wrapping_add(1)),
+            ];
+            assert_eq!(rt;
+                writes_to(rt.alloc(), seen.accesses.as_slice(), 17)?.as_slice(),
+                writes.as_slice()
+            );
+        }
+    }
+    Ok(())
+}
+
+#[test]
+fn a_counter_operation_is_counted(rt: HostRuntime) -> Result<(), Fail> {
+    for start in STARTS {
+        let shapes = [MapShape::of(2, 1).ok_or("no shape")?];
+        let answers = [start.wrapping_add(1), 2, 0, slot(7, 14), 1, 19];
+        let driven = turn_by_driver(rt.alloc(), &COUNTS, &shapes, start, &answers)?;
+        assert_eq!(rt;
+            driven.kind,
+            Kind::Ran {
+                number: 2,
+                ops: 1,
+                slots: 1
+            }
+        );
+        let fed = turn_by_hand(rt.alloc(), &COUNTS, &shapes, start, &answers)?;
+        assert_eq!(rt; fed, driven);
+    }
+    Ok(())
+}
+
+#[test]
+fn no_byte_of_an_earlier_packet_is_seen(rt: HostRuntime) -> Result<(), Fail> {
+    let owners = owners(rt.alloc())?;
+    let table = Table::make(&owners, 1, &[1]).ok_or("no table")?;
+    let program = program(rt.alloc(), &LOOKS_AT_BYTE_14, &[])?;
+    let mut buffer = Buffer::make(rt.alloc())?;
+    let mut queue = queue(rt.alloc(), &owners, &table, &program, 0, &mut buffer)?;
+    feed_turn(
+        rt.alloc(),
+        &mut queue,
+        &[1, 2, 0, slot(7, 15), 1, 19, 1, 2, 3, 4],
+    )?;
+    assert!(rt; queue.want() == Want::Done);
+    let turn = queue.turn();
+    let Turn::Ran { action, packet, .. } = turn else {
+        return Err("no run".into());
+    };
+    assert_eq!(rt; (action, packet.len()), (Action::Pass, 15));
+    feed_turn(rt.alloc(), &mut queue, &[2, 2, 0, slot(8, 14), 1, 19])?;
+    assert!(rt; queue.want() == Want::Done);
+    let turn = queue.turn();
+    let Turn::Ran { action, packet, .. } = turn else {
+        return Err("no run".into());
+    };
+    assert_eq!(rt; (action, packet), (Action::Drop, [0; 14].as_slice()));
+    Ok(())
+}
