@@ -8,4 +8,5 @@ pub mod CourseLemmas
 pub mod CounterLemmas
 mod MachineLemmas
 mod AfterLemmas
-mod WholeLemmas
+mod AdvanceLemmas
+mod WalkLemmas

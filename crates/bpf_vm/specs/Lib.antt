@@ -4,3 +4,4 @@ pub mod Stands
 pub mod Wants
 pub mod Course
 pub mod Actions
+pub mod Advance

@@ -3,11 +3,12 @@ ghost use Rattle.std.specs.Prelude.{◌≡◌, ◌+◌, ◌≤◌, ◌%◌, ◌^
 ghost use Rattle.bpf_note.specs.State.{State, IsStart};
 ghost use Rattle.bpf_flow.specs.Step.{Exited, step};
 ghost use Rattle.bpf_verify.specs.Consistent.{instructions};
-ghost use Rattle.bpf_vm.specs.Course.{Begins, Exiting, course, left, start_state};
+ghost use Rattle.bpf_vm.specs.Advance.{Advanced, IsNoStep, IsWantOf};
+ghost use Rattle.bpf_vm.specs.Course.{Exiting, course, left, start_state};
 ghost use Rattle.bpf_vm.specs.Run.{IsStep};
 ghost use Rattle.bpf_vm.specs.Running.{Advances, Asks, first_numbers, state_of};
 ghost use Rattle.bpf_vm.specs.Stands.{Stands, now, own, exits, Ends, label_of};
-ghost use Rattle.bpf_vm.specs.Wants.{Answers, IsLoad, IsAdd, IsOfMaps};
+ghost use Rattle.bpf_vm.specs.Wants.{IsLoad, IsAdd};
 
 use crate::machine::Machine;
 use crate::packet::PacketBuf;
@@ -62,14 +63,24 @@ impl<'p, 'b> Vm<'p, 'b> {
 
     /// What comes next.
     pub fn want(&self) -> VmWant
-        ensures own { Answers result (now self.now) }
-        ensures itself { Stands self.now (own self.now) }
-        ensures stands { (s : State) → Stands self.now s → Answers result (step self.now.program.code s) }
-        ensures course { Begins result (left self.now) }
-        ensures counter { IsOfMaps self.now.program.shapes result }
+        ensures { IsWantOf result self.now }
     {
         let insn = *self.program.insn(self.machine.pc);
         self.machine.want(insn)
+    }
+
+    /// Does all instructions up to one that wants a counter's number, or the exit, and returns what that one wants.
+    pub fn advance(&mut self) -> VmWant
+        ensures advanced { Advanced self.old self.new }
+        ensures waits { IsNoStep result }
+        ensures want { IsWantOf result self.new }
+    {
+        loop {
+            match self.want() {
+                VmWant::Step => self.step(),
+                want => return want,
+            }
+        }
     }
 
     /// Does the next instruction.

@@ -1,4 +1,4 @@
-//! The places of the rings' pages, and what a producer shows.
+//! The places of words in the ring pages, and what a producer shows.
 
 ghost use Rattle.std.specs.Prelude.{◌≡◌, ◌<◌};
 ghost use Rattle.xen_steps.specs.Places.{available, fresh, page_word, rx_entry as rx_entry_place, tx_entry as tx_entry_place};
@@ -6,7 +6,7 @@ ghost use Rattle.xen_steps.specs.Places.{available, fresh, page_word, rx_entry a
 use xen_page::Place;
 use xen_ring::{rx_entry_word, tx_entry_word, unconsumed};
 
-/// A word of a ring's page before the entries, by its number in the page.
+/// A word of a ring page's header, by its number in the page.
 pub fn header(frame: u32, word: u32) -> Place
     ensures { result ≡ page_word frame word }
 {

@@ -1,0 +1,39 @@
+-- Taking an answer, and coming to the end of a turn.
+use Rattle.std.proofs.Common.{◌≡◌, ℕ, List, [], ◌∷◌, length, drop, refl, subst}
+use Rattle.bpf_vm.specs.Course.{Course, Begins}
+use Rattle.bpf_vm.specs.declared.want.VmWant.{VmWant}
+use Rattle.bpf_vm.specs.declared.want.VmWant.TheVariants as vm_want
+use Rattle.xen_back.specs.Rest.{rest_at}
+use Rattle.xen_steps.specs.Steps.{Steps, bind, want_of}
+use Rattle.xen_back.specs.Tree.{Left, answer, program}
+use Rattle.xen_back.specs.Turned.{Ending}
+use Rattle.xen_back.specs.declared.phase.Phase.{Phase}
+use Rattle.xen_back.specs.declared.phase.Phase.TheVariants as phase
+use Rattle.xen_back.specs.declared.state.State.{State}
+use Rattle.xen_back.specs.declared.turn.Kind.{Kind}
+use Rattle.xen_steps.specs.declared.want.Want.TheVariants as want
+use Rattle.xen_back.specs.declared.wiring.Wiring.{Wiring}
+
+-- a program that begins wants something
+pub program_asks : (v : VmWant) (c : Course) (ops : ℕ) (f : Left → Steps Ending) → Begins v c → want_of (bind (program c ops) f) ≡ want.Done → ⊥
+program_asks vm_want.Step c ops f b e = let g = subst (λ c. want_of (bind (program c ops) f) ≡ want.Done) b.1 e in cc
+program_asks (vm_want.Load m k j) c ops f b e = let g = subst (λ c. want_of (bind (program c ops) f) ≡ want.Done) b.1 e in cc
+program_asks (vm_want.Add m k j d) c ops f b e = let g = subst (λ c. want_of (bind (program c ops) f) ≡ want.Done) b.1 e in cc
+program_asks (vm_want.Exit r0) c ops f b e = let g = subst (λ c. want_of (bind (program c ops) f) ≡ want.Done) b.1 e in cc
+
+answer_asks : (w : Wiring) (t n i : ℕ) (rs : List ℕ) (e : Ending) → want_of (answer w t n i rs e) ≡ want.Done → ⊥
+answer_asks w t n i [] e h = cc
+answer_asks w t n i (r ∷ rs) e h = cc
+
+-- a phase that wants nothing is between turns, or at the end of one
+pub asks_nothing : (w : Wiring) (s : State) (packet : List ℕ) (p : Phase) → (p ≡ phase.Ready → ⊥) → ((after : State) (kind : Kind) → p ≡ phase.Ended after kind → ⊥) → want_of (rest_at w s packet p) ≡ want.Done → ⊥
+asks_nothing w s packet phase.Ready r e h = r refl
+asks_nothing w s packet phase.Announce r e h = cc
+asks_nothing w s packet phase.CheckAgain r e h = cc
+asks_nothing w s packet (phase.First x) r e h = cc
+asks_nothing w s packet (phase.Second x a) r e h = cc
+asks_nothing w s packet (phase.Third x a b) r e h = cc
+asks_nothing w s packet (phase.Answering at words i kind) r e h = answer_asks w at.tx_index (length words.items) i (drop i words.items) _ h
+asks_nothing w s packet (phase.ReadEvent at n kind) r e h = cc
+asks_nothing w s packet (phase.Notice after kind) r e h = cc
+asks_nothing w s packet (phase.Ended after kind) r e h = e after kind refl

@@ -1,0 +1,13 @@
+pub mod RestLemmas
+pub mod FeedLemmas
+pub mod ProgramLemmas
+pub mod CopyParts
+pub mod TurnParts
+pub mod TurnRuns
+pub mod DriveLemmas
+pub mod MapLemmas
+pub mod Bounds
+pub mod LengthLemmas
+pub mod Figures
+pub mod TouchedLemmas
+pub mod EndLemmas

@@ -1,0 +1,28 @@
+use Rattle.std.proofs.Common.{None, refl, ◌+◌, arith}
+use Rattle.bpf_verify.specs.Consistent.{instructions}
+use Rattle.xen_steps.specs.Drive.{Any}
+use Rattle.xen_steps.proofs.FinishLemmas.{finishes}
+use Rattle.xen_transmit.specs.Wired.{IsWired}
+use Rattle.xen_transmit.specs.declared.vif.Vif.{Vif}
+use Rattle.xen_back.specs.Tree.{whole_turn}
+use Rattle.xen_back.specs.Within.{Completes, may_want}
+use Rattle.xen_back.specs.declared.state.State.{State}
+use Rattle.xen_back.specs.declared.wiring.Wiring.{Wiring}
+use Rattle.xen_back.proofs.Bounds.{bounded_turn}
+use Rattle.xen_back.proofs.EndLemmas.{ends_turn, run_whole}
+use Rattle.xen_back.proofs.queue.Queue.make.Goals as goal
+
+pub invariant_of-result : goal.invariant_of-result
+invariant_of-result c =
+    let d = c.args.desc in
+    let vif : Vif = record { tx = c.frame.result; rx = c.frame-2.result; table = d.table; owners = d.owners; granter = d.granter; user = d.user; port = d.port } in
+    let w : Wiring = record { vif = vif; program = c.args.program; ifindex = d.ifindex; queue = d.queue } in
+    let wired : IsWired vif = record {
+      tx = rw c.frame.ensures c.requires.tx;
+      rx = rw c.frame-2.ensures c.requires.rx;
+      table = c.requires.table;
+    } in
+    let consistent = c.instructions.ensures.consistent in
+    let turns : (s : State) → Completes w (whole_turn w s) = λ s. finishes (may_want w) Any Any (whole_turn w s) (287383 + instructions w.program.now.code)
+    (bounded_turn w w.program.now.shapes wired consistent.maps refl s) (ends_turn w (run_whole w consistent (omega arith) (omega arith)) s) in
+    record { here = refl; wired = wired; turns = turns; left = turns (record { tx_index = d.start; rx_index = d.start; halt = None }) }

@@ -1,0 +1,12 @@
+pub mod Causes
+pub mod Turned
+pub mod Tree
+pub mod Rest
+pub mod Within
+pub mod Queues
+pub mod Making
+pub mod Program
+pub mod Parts
+pub mod Turns
+pub mod Drive
+pub mod Bytes

@@ -1,0 +1,22 @@
+-- A queue that was made.
+use Rattle.std.specs.Prelude.{◌≡◌, None}
+use Rattle.bpf_verify.specs.Consistent.{Accepted}
+use Rattle.xen_back.specs.Queues.{IsReady, state_of, wiring_of}
+use Rattle.xen_back.specs.declared.desc.QueueDesc.{QueueDesc}
+use Rattle.xen_back.specs.declared.queue.Queue.{Queue}
+use Rattle.xen_transmit.specs.Wired.{IsWired}
+
+pub record IsMade (program : Accepted) (desc : QueueDesc) (q : Queue) : Type 0 where
+  pub tx : (wiring_of q).vif.tx ≡ desc.tx.frame
+  pub rx : (wiring_of q).vif.rx ≡ desc.rx.frame
+  pub table : (wiring_of q).vif.table.now ≡ desc.table.now
+  pub owners : (wiring_of q).vif.owners.now ≡ desc.owners.now
+  pub granter : (wiring_of q).vif.granter ≡ desc.granter
+  pub user : (wiring_of q).vif.user ≡ desc.user
+  pub port : (wiring_of q).vif.port ≡ desc.port
+  pub accepted : (wiring_of q).program.now ≡ program
+  pub ifindex : (wiring_of q).ifindex ≡ desc.ifindex
+  pub queue : (wiring_of q).queue ≡ desc.queue
+  pub state : state_of q ≡ record { tx_index = desc.start; rx_index = desc.start; halt = None }
+  pub ready : IsReady q
+  pub wired : IsWired (wiring_of q).vif

@@ -1,0 +1,57 @@
+-- What contracts see of a queue.
+use Rattle.std.specs.Prelude.{◌≡◌, ◌≢◌, List}
+use Rattle.xen_steps.specs.Answers.{number}
+use Rattle.xen_steps.specs.Event.{Event}
+use Rattle.xen_steps.specs.declared.want.Answer.{Answer}
+use Rattle.xen_steps.specs.declared.want.Want.{Want}
+use Rattle.xen_steps.specs.declared.want.Want.TheVariants as wants
+use Rattle.xen_back.specs.Rest.{rest_in}
+use Rattle.xen_steps.specs.Steps.{Runs, Steps, done, next, want_of}
+use Rattle.xen_back.specs.Within.{may_want}
+use Rattle.xen_back.specs.Tree.{whole_turn}
+use Rattle.xen_back.specs.Turned.{Ending, IsShort, Turned, Shows}
+use Rattle.xen_back.specs.declared.queue.Queue.{Queue}
+use Rattle.xen_back.specs.declared.state.State.{State}
+use Rattle.xen_back.specs.declared.turn.Turn.{Turn}
+use Rattle.xen_back.specs.declared.wiring.Wiring.{Wiring}
+
+abbrev pub state_of : Queue → State
+state_of q = q.state
+
+abbrev pub wiring_of : Queue → Wiring
+wiring_of q = q.wiring
+
+-- what is left of its turn
+abbrev pub rest : Queue → Steps Ending
+rest q = rest_in q.wiring q.state q.stage
+
+-- between turns
+abbrev pub IsReady : Queue → Type 0
+IsReady q = rest q ≡ whole_turn q.wiring q.state
+
+-- A queue that was fed an answer: what it has left is what follows that answer.
+pub record IsFed (answer : Answer) (old new : Queue) : Type 0 where
+  pub rest : rest new ≡ next (rest old) (number answer)
+  pub state : state_of new ≡ state_of old
+  pub same : wiring_of new ≡ wiring_of old
+
+-- A queue that was asked what it wants.
+pub record IsAsked (wanted : Want) (old new : Queue) : Type 0 where
+  pub want : wanted ≡ want_of (rest old)
+  pub within : wanted ≢ wants.Done → may_want (wiring_of old) wanted
+  pub rest : rest new ≡ rest old
+  pub state : state_of new ≡ state_of old
+  pub same : wiring_of new ≡ wiring_of old
+
+-- a way to the turn's end
+abbrev pub HasRest : Queue → Type 0
+HasRest q = (t : List Event) × (end : Ending) × Runs (rest q) t end
+
+-- The turn is over, and the next begins.
+pub record IsOver (old new : Queue) (shown : Turn) : Type 0 where
+  pub turned : Turned
+  pub over : rest old ≡ done (state_of new, turned)
+  pub ready : IsReady new
+  pub same : wiring_of new ≡ wiring_of old
+  pub shows : Shows turned shown
+  pub short : IsShort shown

@@ -1,0 +1,67 @@
+-- What a queue has left of its turn.
+use Rattle.std.specs.Prelude.{ℕ, suc, ◌+◌, Bool, true, false, List, [], ◌∷◌, ◌++◌, length, drop, slice_index_or, Some}
+use Rattle.xen_netif.specs.Chain.{Slot}
+use Rattle.xen_netif.specs.Standing.{standing}
+use Rattle.xen_netif.specs.declared.fragment.Fragment.{Fragment}
+use Rattle.bpf_vm.specs.Course.{left}
+use Rattle.xen_steps.specs.Places.{add32}
+use Rattle.xen_transmit.specs.Rest.{rest_of}
+use Rattle.xen_steps.specs.Steps.{Steps, done, never, bind}
+use Rattle.xen_back.specs.Turned.{Ending, turned}
+use Rattle.xen_transmit.specs.Entries.{entry_at, entry_checked}
+use Rattle.xen_back.specs.Tree.{whole_turn, announce, check_again, after_look, after_scan, after_copy, after_run, after_transmit, read_slot, second, third, judged, read_slots, answer, answered, read_event, notice, entered, copy, program}
+use Rattle.xen_steps.specs.Pages.{copy_words}
+use Rattle.xen_back.specs.declared.phase.Phase.{Phase}
+use Rattle.xen_back.specs.declared.phase.Phase.TheVariants as phase
+use Rattle.xen_back.specs.declared.stage.Stage.{Stage}
+use Rattle.xen_back.specs.declared.stage.Stage.TheVariants as stage
+use Rattle.xen_back.specs.declared.state.State.{State}
+use Rattle.xen_back.specs.declared.wiring.Wiring.{Wiring}
+
+-- so many slots are left after the one that is being read
+abbrev pub rest_of_slot : Wiring → State → ℕ → List Slot → Steps Slot → Steps Ending
+rest_of_slot w s left slots reading =
+    bind (bind reading (λ slot. judged (slots ++ slot ∷ []) (standing (slots ++ slot ∷ [])) (read_slots w s.tx_index left (slots ++ slot ∷ [])))) (after_scan w s)
+
+abbrev pub rest_at : Wiring → State → List ℕ → Phase → Steps Ending
+rest_at w s packet phase.Ready = whole_turn w s
+rest_at w s packet phase.Announce = bind (announce w s.tx_index) (after_look w s)
+rest_at w s packet phase.CheckAgain = bind (check_again w s.tx_index) (after_look w s)
+rest_at w s packet (phase.First r) = rest_of_slot w s r.left r.chain (read_slot w (add32 s.tx_index (length r.chain)))
+rest_at w s packet (phase.Second r a) = rest_of_slot w s r.left r.chain (second w (add32 s.tx_index (length r.chain)) a)
+rest_at w s packet (phase.Third r a b) = rest_of_slot w s r.left r.chain (third w (add32 s.tx_index (length r.chain)) a b)
+rest_at w s packet (phase.Answering at words i kind) =
+    answer w at.tx_index (length words.items) i (drop i words.items) (answered at (length words.items), turned kind packet)
+rest_at w s packet (phase.ReadEvent at n kind) = read_event w at.tx_index (add32 at.tx_index n) (answered at n, turned kind packet)
+rest_at w s packet (phase.Notice after kind) = notice w true (after, turned kind packet)
+rest_at w s packet (phase.Ended after kind) = done (after, turned kind packet)
+
+-- the i-th fragment, which is there
+abbrev pub fragment_at : List Fragment → ℕ → Fragment
+fragment_at fragments i = slice_index_or fragments i (record { gref = 0; offset = 0; size = 0 })
+
+abbrev pub rest_in : Wiring → State → Stage → Steps Ending
+rest_in w s (stage.At packet phase) = rest_at w s packet phase
+rest_in w s (stage.EntryA e) =
+    bind (bind (entry_at w.vif false (Some e.at)) (entered (fragment_at e.fragments.items e.i) (copy w (drop (e.i + 1) e.fragments.items)) e.packet)) (after_copy w s e.chain)
+rest_in w s (stage.EntryB e a) =
+    bind (bind (entry_checked w.vif false e.at a) (entered (fragment_at e.fragments.items e.i) (copy w (drop (e.i + 1) e.fragments.items)) e.packet)) (after_copy w s e.chain)
+rest_in w s (stage.Page g) = bind (bind (copy_words g.fragment g.frame g.place (suc g.n) g.packet) (copy w (drop g.i g.fragments.items))) (after_copy w s g.chain)
+rest_in w s (stage.Run r) = bind (program (left r.vm) r.ops) (after_run w s r.chain)
+rest_in w s (stage.Send packet t) = bind (rest_of w.vif s.rx_index packet t.transmit.phase) (after_transmit w s t.chain packet t.ops)
+rest_in w s stage.Gone = never
+
+-- a stage is there
+abbrev pub is_here : Stage → Bool
+is_here stage.Gone = false
+is_here g = true
+
+-- the bytes of a stage's packet
+abbrev pub packet_at : Stage → List ℕ
+packet_at (stage.At packet phase) = packet
+packet_at (stage.EntryA e) = e.packet
+packet_at (stage.EntryB e a) = e.packet
+packet_at (stage.Page g) = g.packet
+packet_at (stage.Run r) = []
+packet_at (stage.Send packet t) = packet
+packet_at stage.Gone = []

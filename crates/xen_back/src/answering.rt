@@ -1,0 +1,159 @@
+//! Answering a chain: a response a slot, the push, and a notice where it is due.
+
+ghost use Rattle.std.specs.Prelude.{◌≡◌, ◌+◌, ◌≤◌, length, drop, map, IsTrue, Option, ℕ};
+ghost use Rattle.xen_netif.specs.Chain.{requests_of};
+ghost use Rattle.xen_netif.specs.declared.tx.TxReq.{TxReq};
+ghost use Rattle.xen_steps.specs.Places.{add32};
+ghost use Rattle.xen_back.specs.Rest.{is_here, rest_in};
+ghost use Rattle.xen_steps.specs.Steps.{next_by, want_of};
+ghost use Rattle.xen_back.specs.Tree.{answer, answered, notice, respond, response as response_lem, responses as responses_lem};
+ghost use Rattle.xen_back.specs.Turned.{Ending, turned};
+ghost use Rattle.xen_ring.specs.Index.{is_due};
+
+use crate::phase::Phase;
+use crate::stage::Stage;
+use crate::state::State;
+use crate::turn::Kind;
+use crate::wiring::Wiring;
+use arrayvec::ArrayVec;
+use bpf_vm::PacketBuf;
+use xen_netif::{Chain, Status, TxReq, TxRsp};
+use xen_ring::due;
+use xen_steps::{Want, header, tx_entry};
+
+/// The state after so many tx slots are answered.
+fn after_answers(state: &State, n: u32) -> State
+    ensures { result ≡ answered state.now n }
+{
+    State {
+        tx_index: state.tx_index.wrapping_add(n),
+        rx_index: state.rx_index,
+        halt: state.halt,
+    }
+}
+
+fn response(status: Status, request: &Option<TxReq>) -> u32
+    ensures { result ≡ response_lem status request.now }
+{
+    let response = match request {
+        Some(request) => TxRsp {
+            id: request.id,
+            status: status.code(),
+        },
+        None => TxRsp {
+            id: 0,
+            status: Status::Null.code(),
+        },
+    };
+    response.words()[0]
+}
+
+/// The responses to a chain'state slots.
+fn responses(status: Status, chain: &Chain) -> ArrayVec<u32, 23>
+    ensures words { result.items ≡ responses_lem status chain.now }
+    ensures len { length result.items ≡ length chain.now }
+{
+    let requests = chain.requests();
+    let mut words = ArrayVec::new();
+    for request in requests.as_slice() {
+        words.push(response(status, request));
+    }
+    words
+}
+
+/// Before the responses.
+pub(crate) fn begin_answers<'p, 'b>(
+    wiring: &Wiring<'p>,
+    state: &State,
+    packet: PacketBuf<'b>,
+    at: State,
+    chain: &Chain,
+    status: Status,
+    kind: Kind,
+) -> Stage<'p, 'b>
+    ensures here { IsTrue (is_here result) }
+    ensures rest { rest_in wiring.now state.now result ≡ respond wiring.now at chain.now status (turned kind packet.entry) }
+{
+    Stage::At(
+        packet,
+        Phase::Answering {
+            at,
+            words: responses(status, chain),
+            i: 0,
+            kind,
+        },
+    )
+}
+
+/// The next response, or the push where all are written.
+pub(crate) fn answering_want(
+    wiring: &Wiring,
+    at: &State,
+    words: &ArrayVec<u32, 23>,
+    i: usize,
+) -> Want
+    ensures { (e : Ending) → result ≡ want_of (answer wiring.now at.now.tx_index (length words.now.items) i (drop i words.now.items) e) }
+{
+    match words.as_slice().get(i) {
+        Some(word) => Want::Write(
+            tx_entry(wiring.vif.tx, at.tx_index.wrapping_add(i as u32), 0),
+            *word,
+        ),
+        None => Want::Write(
+            header(wiring.vif.tx, 2),
+            at.tx_index.wrapping_add(words.len() as u32),
+        ),
+    }
+}
+
+/// After a response, or after the push.
+pub(crate) fn answer_written<'p, 'b>(
+    wiring: &Wiring<'p>,
+    state: &State,
+    packet: PacketBuf<'b>,
+    at: State,
+    words: ArrayVec<u32, 23>,
+    i: usize,
+    kind: Kind,
+    word: u32,
+    counter: u64,
+) -> Stage<'p, 'b>
+    ensures here { IsTrue (is_here result) }
+    ensures rest { rest_in wiring.now state.now result ≡ next_by (answer wiring.now at.tx_index (length words.items) i (drop i words.items) (answered at (length words.items), turned kind packet.entry)) word counter }
+{
+    if i < words.len() {
+        Stage::At(
+            packet,
+            Phase::Answering {
+                at,
+                words,
+                i: i + 1,
+                kind,
+            },
+        )
+    } else {
+        let n = words.len() as u32;
+        Stage::At(packet, Phase::ReadEvent { at, n, kind })
+    }
+}
+
+/// After the event index.
+pub(crate) fn event_read<'p, 'b>(
+    wiring: &Wiring<'p>,
+    state: &State,
+    packet: PacketBuf<'b>,
+    at: State,
+    n: u32,
+    kind: Kind,
+    event: u32,
+) -> Stage<'p, 'b>
+    ensures here { IsTrue (is_here result) }
+    ensures rest { rest_in wiring.now state.now result ≡ notice wiring.now (is_due at.tx_index (add32 at.tx_index n) event) (answered at n, turned kind packet.entry) }
+{
+    let after = after_answers(&at, n);
+    if due(at.tx_index, at.tx_index.wrapping_add(n), event) {
+        Stage::At(packet, Phase::Notice { after, kind })
+    } else {
+        Stage::At(packet, Phase::Ended { after, kind })
+    }
+}

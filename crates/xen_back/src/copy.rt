@@ -1,0 +1,41 @@
+//! A copy that is under way.
+
+ghost use Rattle.std.specs.Prelude.{◌≡◌, ◌<◌, ◌≤◌, ◌+◌, ◌-◌, ◌/◌, length, drop, sum_by};
+ghost use Rattle.xen_netif.specs.Copy.{Covers};
+ghost use Rattle.xen_netif.specs.Fragments.{fragment_size};
+ghost use Rattle.xen_steps.specs.Pages.{HasRoom};
+
+use arrayvec::ArrayVec;
+use bpf_vm::PacketBuf;
+use xen_netif::{Chain, Fragment};
+use xen_page::Place;
+
+/// Before the entry of the i-th fragment, whose flags word is there.
+#[derive(Drop)]
+pub struct Entering<'b> {
+    pub chain: Chain,
+    pub fragments: ArrayVec<Fragment, 18>,
+    pub packet: PacketBuf<'b>,
+    pub i: usize,
+    pub at: Place,
+    ghost word: { at.word < 1023 },
+    ghost within: { i < length fragments.items },
+    ghost room: { length packet + sum_by fragment_size (drop i fragments.items) ≤ 65535 },
+}
+
+/// Before the word at a place of the fragment's page, behind which so many more are covered. The next fragment is the i-th.
+#[derive(Drop)]
+pub struct Paging<'b> {
+    pub chain: Chain,
+    pub fragments: ArrayVec<Fragment, 18>,
+    pub packet: PacketBuf<'b>,
+    pub i: usize,
+    pub fragment: Fragment,
+    pub frame: u32,
+    pub place: u32,
+    pub n: u32,
+    ghost within: { i ≤ length fragments.items },
+    ghost covers: { Covers fragment place },
+    ghost last: { place + n ≡ (fragment.offset + fragment.size - 1) / 4 },
+    ghost room: { HasRoom (length packet) fragment place (sum_by fragment_size (drop i fragments.items)) },
+}

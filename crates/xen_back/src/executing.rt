@@ -1,0 +1,117 @@
+//! Running the program on the copy.
+
+ghost use Rattle.std.specs.Prelude.{◌≡◌, ◌+◌, ◌≤◌, length, IsTrue, Some};
+ghost use Rattle.bpf_vm.specs.Course.{left};
+ghost use Rattle.xen_netif.specs.declared.status.Status.{Status};
+ghost use Rattle.xen_back.specs.Rest.{is_here, rest_in};
+ghost use Rattle.xen_steps.specs.Steps.{bind, next_by, want_of};
+ghost use Rattle.xen_back.specs.Tree.{after_copy, after_run, program, status_of};
+
+use crate::answering::begin_answers;
+use crate::sent::begin_send;
+use crate::stage::{Executing, Stage};
+use crate::state::State;
+use crate::turn::Kind;
+use crate::wiring::Wiring;
+use bpf_vm::{PacketBuf, Vm, VmWant};
+use xen_netif::{Chain, Status};
+use xen_steps::Want;
+
+/// After the copy.
+pub(crate) fn begin_run<'p, 'b>(
+    wiring: &Wiring<'p>,
+    state: &State,
+    packet: PacketBuf<'b>,
+    chain: Chain,
+) -> Stage<'p, 'b>
+    ensures here { IsTrue (is_here result) }
+    ensures rest { rest_in wiring.now state.now result ≡ after_copy wiring.now state.now chain (Some packet.entry) }
+{
+    let vm = Vm::start(wiring.program, packet, wiring.ifindex, wiring.queue);
+    Stage::Run(Executing { chain, vm, ops: 0 })
+}
+
+/// What the program wants.
+pub(crate) fn executing_want(wiring: &Wiring, state: &State, run: &Executing) -> Want
+    ensures { result ≡ want_of (bind (program (left run.now.vm) run.now.ops) (after_run wiring.now state.now run.now.chain)) }
+{
+    match run.vm.want() {
+        VmWant::Step => Want::Instr,
+        VmWant::Exit { .. } => Want::Instr,
+        VmWant::Load { m, k, j } => Want::Load { m, k, j },
+        VmWant::Add { m, k, j, delta } => Want::Add { m, k, j, delta },
+    }
+}
+
+/// After an instruction.
+pub(crate) fn executed<'p, 'b>(
+    wiring: &Wiring<'p>,
+    state: &State,
+    run: Executing<'p, 'b>,
+    word: u32,
+    counter: u64,
+) -> Stage<'p, 'b>
+    ensures here { IsTrue (is_here result) }
+    ensures rest { rest_in wiring.now state.now result ≡ next_by (bind (program (left run.entry.vm) run.entry.ops) (after_run wiring.now state.now run.entry.chain)) word counter }
+{
+    let Executing { chain, mut vm, ops } = run;
+    match vm.want() {
+        VmWant::Step => {
+            vm.step();
+            Stage::Run(Executing { chain, vm, ops })
+        }
+        VmWant::Load { .. } => {
+            vm.loaded(counter);
+            let _count = vm.count();
+            Stage::Run(Executing {
+                chain,
+                vm,
+                ops: ops + 1,
+            })
+        }
+        VmWant::Add { .. } => {
+            vm.added(counter);
+            let _count = vm.count();
+            Stage::Run(Executing {
+                chain,
+                vm,
+                ops: ops + 1,
+            })
+        }
+        VmWant::Exit { .. } => {
+            let (number, packet) = vm.finish();
+            ran(wiring, state, packet, chain, number, ops)
+        }
+    }
+}
+
+fn status(number: u32) -> Status
+    ensures { result ≡ status_of number }
+{
+    match number {
+        2 => Status::Okay,
+        1 => Status::Dropped,
+        _ => Status::Error,
+    }
+}
+
+/// After the run.
+fn ran<'p, 'b>(
+    wiring: &Wiring<'p>,
+    state: &State,
+    packet: PacketBuf<'b>,
+    chain: Chain,
+    number: u32,
+    ops: u32,
+) -> Stage<'p, 'b>
+    ensures here { IsTrue (is_here result) }
+    ensures rest { rest_in wiring.now state.now result ≡ after_run wiring.now state.now chain (record { number = number; packet = packet.entry; ops = ops }) }
+{
+    if number == 3 {
+        begin_send(wiring, state, packet, chain, ops)
+    } else {
+        let slots = chain.requests().len() as u32;
+        let kind = Kind::Ran { number, ops, slots };
+        begin_answers(wiring, state, packet, *state, &chain, status(number), kind)
+    }
+}

@@ -1,0 +1,78 @@
+//! A stage after an answer.
+
+ghost use Rattle.std.specs.Prelude.{◌≡◌, IsTrue};
+ghost use Rattle.std.specs.Prelude.{⊤, []};
+ghost use Rattle.std.specs.Borrow.{sem};
+ghost use denote.Follow.{follows_so};
+ghost use mir.Syntax.{named};
+ghost use mathlib.Core.Option.{none};
+ghost use Rattle.xen_back.specs.contracts.queue.Queue.{the_row};
+ghost use Rattle.xen_back.specs.Queues.{rest, state_of, wiring_of, IsOver};
+ghost use Rattle.xen_steps.specs.Answers.{Fits, number};
+ghost use Rattle.xen_back.specs.Rest.{is_here, packet_at, rest_at, rest_in};
+ghost use Rattle.xen_steps.specs.Answers.{counter_in as counter_in_lem, word_in as word_in_lem};
+ghost use Rattle.xen_steps.specs.Steps.{done, next, next_by, want_of};
+ghost use Rattle.xen_back.specs.Tree.{whole_turn};
+ghost use Rattle.xen_back.specs.Turned.{Shows, turned};
+
+use crate::answering::{answer_written, event_read};
+use crate::copying::{entry_read, flags_read, page_read};
+use crate::executing::executed;
+use crate::looking::{first_read, looked_again, second_read, slot_read, started};
+use crate::phase::Phase;
+use crate::sent::sent_fed;
+use crate::stage::Stage;
+use crate::state::State;
+use crate::wiring::Wiring;
+use bpf_vm::PacketBuf;
+
+/// The stage after a phase'state answer.
+fn phase_fed<'p, 'b>(
+    wiring: &Wiring<'p>,
+    state: &State,
+    packet: PacketBuf<'b>,
+    phase: Phase,
+    word: u32,
+    counter: u64,
+) -> Stage<'p, 'b>
+    ensures here { IsTrue (is_here result) }
+    ensures rest { rest_in wiring.now state.now result ≡ next_by (rest_at wiring.now state.now packet.entry phase) word counter }
+{
+    match phase {
+        Phase::Ready => started(wiring, state, packet, word),
+        Phase::Announce => Stage::At(packet, Phase::CheckAgain),
+        Phase::CheckAgain => looked_again(wiring, state, packet, word),
+        Phase::First(reading) => first_read(wiring, state, packet, reading, word),
+        Phase::Second(reading, a) => second_read(wiring, state, packet, reading, a, word),
+        Phase::Third(reading, a, b) => slot_read(wiring, state, packet, reading, [a, b, word]),
+        Phase::Answering { at, words, i, kind } => answer_written(
+            wiring, state, packet, at, words, i, kind, word, counter,
+        ),
+        Phase::ReadEvent { at, n, kind } => event_read(wiring, state, packet, at, n, kind, word),
+        Phase::Notice { after, kind } => Stage::At(packet, Phase::Ended { after, kind }),
+        Phase::Ended { after, kind } => Stage::At(packet, Phase::Ended { after, kind }),
+    }
+}
+
+/// The stage after an answer.
+pub(crate) fn stage_fed<'p, 'b>(
+    wiring: &Wiring<'p>,
+    state: &State,
+    stage: Stage<'p, 'b>,
+    word: u32,
+    counter: u64,
+) -> Stage<'p, 'b>
+    requires { IsTrue (is_here stage) }
+    ensures here { IsTrue (is_here result) }
+    ensures rest { rest_in wiring.now state.now result ≡ next_by (rest_in wiring.now state.now stage.entry) word counter }
+{
+    match stage {
+        Stage::At(packet, phase) => phase_fed(wiring, state, packet, phase, word, counter),
+        Stage::EntryA(entry) => flags_read(wiring, state, entry, word),
+        Stage::EntryB(entry, a) => entry_read(wiring, state, entry, a, word),
+        Stage::Page(page) => page_read(wiring, state, page, word),
+        Stage::Run(run) => executed(wiring, state, run, word, counter),
+        Stage::Send(packet, sent) => sent_fed(wiring, state, packet, sent, word, counter),
+        Stage::Gone => unreachable!(),
+    }
+}

@@ -1,0 +1,33 @@
+//! Netback's queue: each packet of another domain is copied, a verified program runs on the copy, and the packet is
+//! answered.
+#![tactic(auto)]
+
+mod answering;
+mod calls;
+mod copy;
+mod copying;
+mod desc;
+mod drive;
+mod ending;
+mod executing;
+mod feeding;
+pub mod laws;
+mod looking;
+mod making;
+mod phase;
+mod queue;
+mod sent;
+mod stage;
+mod state;
+mod turn;
+mod wanting;
+mod wiring;
+
+pub use bpf_vm::Action;
+pub use desc::QueueDesc;
+pub use queue::Queue;
+pub use state::State;
+pub use turn::{Halt, Refusal, Turn};
+pub use wiring::Wiring;
+pub use xen_steps::{Answer, Want};
+pub use xen_transmit::Vif;

@@ -1,0 +1,54 @@
+//! Making a queue.
+
+ghost use Rattle.std.specs.Prelude.{◌≡◌, None, Some, true, slice_get};
+ghost use Rattle.xen_page.specs.Table.{IsTable};
+ghost use Rattle.xen_back.specs.Making.{IsMade};
+
+use crate::desc::QueueDesc;
+use crate::phase::Phase;
+use crate::queue::Queue;
+use crate::stage::Stage;
+use crate::state::State;
+use crate::wiring::Wiring;
+use bpf_verify::Verified;
+use bpf_vm::{Buffer, PacketBuf};
+use xen_transmit::Vif;
+
+impl<'p, 'b> Queue<'p, 'b> {
+    /// A queue between turns, which keeps its packets in the buffer.
+    pub fn make(program: &'p Verified, desc: QueueDesc<'p>, buffer: &'b mut Buffer) -> Queue<'p, 'b>
+        requires tx { slice_get desc.owners.now desc.tx.frame ≡ Some desc.granter }
+        requires rx { slice_get desc.owners.now desc.rx.frame ≡ Some desc.granter }
+        requires writable { (desc.tx.write ≡ true) × (desc.rx.write ≡ true) }
+        requires table { IsTable desc.owners.now desc.granter desc.table.now }
+        ensures { IsMade program.now desc.entry result }
+    {
+        program.instructions();
+        let vif = Vif {
+            tx: desc.tx.frame(),
+            rx: desc.rx.frame(),
+            table: desc.table,
+            owners: desc.owners,
+            granter: desc.granter,
+            user: desc.user,
+            port: desc.port,
+        };
+        let wiring = Wiring {
+            vif,
+            program,
+            ifindex: desc.ifindex,
+            queue: desc.queue,
+        };
+        let state = State {
+            tx_index: desc.start,
+            rx_index: desc.start,
+            halt: None,
+        };
+        let stage = Stage::At(PacketBuf::empty(buffer), Phase::Ready);
+        Queue {
+            wiring,
+            state,
+            stage,
+        }
+    }
+}

@@ -1,0 +1,40 @@
+//! Where a queue is inside a turn, with its packet.
+
+ghost use Rattle.std.specs.Prelude.{◌≤◌, ℕ};
+
+use crate::copy::{Entering, Paging};
+use crate::phase::Phase;
+use bpf_vm::{PacketBuf, Vm};
+use xen_netif::Chain;
+use xen_transmit::Transmit;
+
+/// A program that runs on the chain's packet, with how many counter operations it did.
+#[derive(Drop)]
+pub struct Executing<'p, 'b> {
+    pub chain: Chain,
+    pub vm: Vm<'p, 'b>,
+    pub ops: u32,
+    ghost few: { ops ≤ vm.count },
+}
+
+/// A packet that is sent, with the chain that it came in and the counter operations of its run.
+#[derive(Drop)]
+pub struct Transmitting {
+    pub chain: Chain,
+    pub transmit: Transmit,
+    pub ops: u32,
+}
+
+#[derive(Drop)]
+pub enum Stage<'p, 'b> {
+    At(PacketBuf<'b>, Phase),
+    /// An entry's flags word is to be read.
+    EntryA(Entering<'b>),
+    /// An entry's frame word, after this flags word.
+    EntryB(Entering<'b>, u32),
+    Page(Paging<'b>),
+    Run(Executing<'p, 'b>),
+    Send(PacketBuf<'b>, Transmitting),
+    /// Nothing is here while a stage is made of another.
+    Gone,
+}

@@ -1,0 +1,79 @@
+//! What a queue wants next.
+
+ghost use Rattle.std.specs.Prelude.{◌≡◌, IsTrue};
+ghost use Rattle.std.specs.Prelude.{⊤, []};
+ghost use Rattle.std.specs.Borrow.{sem};
+ghost use denote.Follow.{follows_so};
+ghost use mir.Syntax.{named};
+ghost use mathlib.Core.Option.{none};
+ghost use Rattle.xen_back.specs.contracts.queue.Queue.{the_row};
+ghost use Rattle.xen_back.specs.Queues.{rest, state_of, wiring_of, IsOver};
+ghost use Rattle.xen_steps.specs.Answers.{Fits, number};
+ghost use Rattle.xen_back.specs.Rest.{is_here, packet_at, rest_at, rest_in};
+ghost use Rattle.xen_steps.specs.Answers.{counter_in as counter_in_lem, word_in as word_in_lem};
+ghost use Rattle.xen_steps.specs.Steps.{done, next, next_by, want_of};
+ghost use Rattle.xen_back.specs.Tree.{whole_turn};
+ghost use Rattle.xen_back.specs.Turned.{Shows, turned};
+
+use crate::answering::answering_want;
+use crate::executing::executing_want;
+use crate::looking::slot_index;
+use crate::phase::Phase;
+use crate::sent::sent_want;
+use crate::stage::Stage;
+use crate::state::State;
+use crate::wiring::Wiring;
+use bpf_vm::PacketBuf;
+use xen_page::Place;
+use xen_steps::{Want, header, tx_entry};
+
+/// What a phase wants.
+fn phase_want(wiring: &Wiring, state: &State, packet: &PacketBuf, phase: &Phase) -> Want
+    ensures { result ≡ want_of (rest_at wiring.now state.now packet.now phase.now) }
+{
+    match phase {
+        Phase::Ready => match state.halt {
+            Some(_) => Want::Done,
+            None => Want::Read(header(wiring.vif.tx, 0)),
+        },
+        Phase::Announce => Want::Write(header(wiring.vif.tx, 1), state.tx_index.wrapping_add(1)),
+        Phase::CheckAgain => Want::Read(header(wiring.vif.tx, 0)),
+        Phase::First(reading) => Want::Read(tx_entry(
+            wiring.vif.tx,
+            slot_index(state, &reading.chain),
+            0,
+        )),
+        Phase::Second(reading, _) => Want::Read(tx_entry(
+            wiring.vif.tx,
+            slot_index(state, &reading.chain),
+            1,
+        )),
+        Phase::Third(reading, _, _) => Want::Read(tx_entry(
+            wiring.vif.tx,
+            slot_index(state, &reading.chain),
+            2,
+        )),
+        Phase::Answering { at, words, i, .. } => answering_want(wiring, at, words, *i),
+        Phase::ReadEvent { .. } => Want::Read(header(wiring.vif.tx, 3)),
+        Phase::Notice { .. } => Want::Notify(wiring.vif.port),
+        Phase::Ended { .. } => Want::Done,
+    }
+}
+
+/// What a stage wants.
+pub(crate) fn stage_want(wiring: &Wiring, state: &State, stage: &Stage) -> Want
+    ensures { result ≡ want_of (rest_in wiring.now state.now stage.now) }
+{
+    match stage {
+        Stage::At(packet, phase) => phase_want(wiring, state, packet, phase),
+        Stage::EntryA(entry) => Want::Read(entry.at),
+        Stage::EntryB(entry, _) => Want::Read(entry.at.next()),
+        Stage::Page(page) => Want::Read(Place {
+            frame: page.frame,
+            word: page.place,
+        }),
+        Stage::Run(run) => executing_want(wiring, state, run),
+        Stage::Send(packet, sent) => sent_want(wiring, state, packet, sent),
+        Stage::Gone => Want::Done,
+    }
+}

@@ -1,0 +1,10 @@
+pub mod Places
+pub mod Entries
+pub mod Packets
+pub mod Transmit
+pub mod Going
+pub mod Rest
+pub mod Shared
+pub mod Sending
+pub mod Touched
+pub mod Wired

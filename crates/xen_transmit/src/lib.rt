@@ -1,0 +1,17 @@
+//! A packet sent back to the frontend: it is copied into posted buffers of the rx ring, one event at a time.
+#![tactic(auto)]
+
+mod feeding;
+pub mod laws;
+mod phase;
+mod reading;
+mod target;
+mod transmit;
+mod vif;
+mod wanting;
+mod words;
+mod writing;
+
+pub use phase::Outcome;
+pub use transmit::{Progress, Transmit};
+pub use vif::Vif;

@@ -1,0 +1,20 @@
+//! A transmit that is under way.
+
+ghost use Rattle.std.specs.Prelude.{IsTrue};
+ghost use Rattle.xen_transmit.specs.Going.{is_going};
+
+use crate::phase::{Outcome, Phase};
+
+/// A transmit that isn't over.
+#[derive(Drop)]
+pub struct Transmit {
+    pub(crate) phase: Phase,
+    ghost going: { IsTrue (is_going phase) },
+}
+
+/// A transmit after an event.
+#[derive(Drop)]
+pub enum Progress {
+    On(Transmit),
+    Over(Outcome),
+}

@@ -1,0 +1,101 @@
+//! What a transmit wants next.
+
+ghost use Rattle.std.specs.Prelude.{ℕ, ◌≡◌, ◌+◌, ◌*◌, ◌/◌, ◌%◌, ◌<◌, ◌≤◌, ◌++◌, [], ◌∷◌, length, drop, true, false, None, Some, slice_index};
+ghost use Rattle.xen_netif.specs.Slots.{rx_req_of};
+ghost use Rattle.xen_netif.specs.declared.rx.RxReq.{RxReq};
+ghost use Rattle.xen_page.specs.Entry.{entry_of};
+ghost use Rattle.xen_page.specs.Grant.{checked};
+ghost use Rattle.xen_ring.specs.Index.{is_due};
+ghost use Rattle.xen_transmit.specs.Entries.{entry_at, entry_checked};
+ghost use Rattle.xen_transmit.specs.Packets.{buffer_word, frame_in, pages, response_word, rx_response, size_at, status_at, target_at as target_at_lem, word_of, words};
+ghost use Rattle.xen_steps.specs.Places.{add32, available};
+ghost use Rattle.xen_transmit.specs.Places.{rx_slot, rx_word};
+ghost use Rattle.xen_transmit.specs.Rest.{rest_of};
+ghost use Rattle.xen_steps.specs.Steps.{ask, bind, next_by, want_of};
+ghost use Rattle.xen_transmit.specs.Transmit.{after_targets, fill_from, found as found_lem, outcome_of, posted_second, read_targets, requested as requested_lem, rx_answer, rx_notice, rx_respond, targeted};
+ghost use Rattle.xen_steps.specs.declared.want.Want.TheVariants as want;
+
+use crate::phase::Phase;
+use crate::target::Targets;
+use crate::vif::Vif;
+use crate::words::{buffer_at, packet_word, response, words_of};
+use xen_steps::{Want, header, rx_entry};
+
+/// The index of the slot that is read next.
+fn slot_index(rx_index: u32, targets: &Targets) -> u32
+    ensures { result ≡ add32 rx_index (length targets.now) }
+{
+    rx_index.wrapping_add(targets.len())
+}
+
+/// What a transmit wants.
+pub(crate) fn phase_want(vif: &Vif, rx_index: u32, bytes: &[u8], phase: &Phase) -> Want
+    requires { length bytes.now ≤ 65535 }
+    ensures { result ≡ want_of (rest_of vif.now rx_index bytes.now phase.now) }
+{
+    match phase {
+        Phase::Look => Want::Read(header(vif.rx, 0)),
+        Phase::First(posting) => Want::Read(rx_entry(
+            vif.rx,
+            slot_index(rx_index, &posting.targets),
+            0,
+        )),
+        Phase::Second(posting, _) => Want::Read(rx_entry(
+            vif.rx,
+            slot_index(rx_index, &posting.targets),
+            1,
+        )),
+        Phase::EntryA(granting) => Want::Read(granting.at),
+        Phase::EntryB(granting, _) => Want::Read(granting.at.next()),
+        Phase::Filling { targets, k } => filling_want(vif, rx_index, bytes, targets, *k),
+        Phase::Response { passed, targets, i } => {
+            response_want(vif, rx_index, bytes, *passed, targets, *i)
+        }
+        Phase::HalfResponse(responding) => {
+            let response = response(responding.passed, bytes, &responding.targets, responding.i);
+            Want::Write(
+                rx_entry(vif.rx, rx_index.wrapping_add(responding.i), 1),
+                response.words()[1],
+            )
+        }
+        Phase::ReadEvent { .. } => Want::Read(header(vif.rx, 3)),
+        Phase::Notice { .. } => Want::Notify(vif.port),
+        Phase::Over(_) => Want::Done,
+    }
+}
+
+/// The next word of the packet, or the first response.
+fn filling_want(vif: &Vif, rx_index: u32, bytes: &[u8], targets: &Targets, k: u32) -> Want
+    requires { length bytes.now ≤ 65535 }
+    ensures { result ≡ want_of (fill_from vif.now rx_index bytes.now targets.now k) }
+{
+    if k < words_of(bytes) {
+        Want::Write(buffer_at(targets, k), packet_word(bytes, k))
+    } else {
+        response_want(vif, rx_index, bytes, true, targets, 0)
+    }
+}
+
+/// The first word of the next response, or the push where all are written.
+fn response_want(
+    vif: &Vif,
+    rx_index: u32,
+    bytes: &[u8],
+    passed: bool,
+    targets: &Targets,
+    i: u32,
+) -> Want
+    requires { length bytes.now ≤ 65535 }
+    ensures { result ≡ want_of (rx_answer vif.now rx_index bytes.now passed (length targets.now) i (drop i targets.now)) }
+{
+    let n = targets.len();
+    if i < n {
+        let response = response(passed, bytes, targets, i);
+        Want::Write(
+            rx_entry(vif.rx, rx_index.wrapping_add(i), 0),
+            response.words()[0],
+        )
+    } else {
+        Want::Write(header(vif.rx, 2), rx_index.wrapping_add(n))
+    }
+}

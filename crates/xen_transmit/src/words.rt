@@ -1,0 +1,126 @@
+//! A packet's words in the posted buffers, and the responses.
+
+ghost use Rattle.std.specs.Prelude.{ℕ, ◌≡◌, ◌+◌, ◌*◌, ◌/◌, ◌%◌, ◌<◌, ◌≤◌, ◌++◌, [], ◌∷◌, length, drop, true, false, None, Some, slice_index};
+ghost use Rattle.xen_netif.specs.Slots.{rx_req_of};
+ghost use Rattle.xen_netif.specs.declared.rx.RxReq.{RxReq};
+ghost use Rattle.xen_page.specs.Entry.{entry_of};
+ghost use Rattle.xen_page.specs.Grant.{checked};
+ghost use Rattle.xen_ring.specs.Index.{is_due};
+ghost use Rattle.xen_transmit.specs.Entries.{entry_at, entry_checked};
+ghost use Rattle.xen_transmit.specs.Packets.{buffer_word, frame_in, pages, response_word, rx_response, size_at, status_at, target_at as target_at_lem, word_of, words};
+ghost use Rattle.xen_steps.specs.Places.{add32, available};
+ghost use Rattle.xen_transmit.specs.Places.{rx_slot, rx_word};
+ghost use Rattle.xen_transmit.specs.Rest.{rest_of};
+ghost use Rattle.xen_steps.specs.Steps.{ask, bind, next_by, want_of};
+ghost use Rattle.xen_transmit.specs.Transmit.{after_targets, fill_from, found as found_lem, outcome_of, posted_second, read_targets, requested as requested_lem, rx_answer, rx_notice, rx_respond, targeted};
+ghost use Rattle.xen_steps.specs.declared.want.Want.TheVariants as want;
+
+use crate::target::{Target, Targets};
+use xen_netif::{RxFlags, RxRsp, Status};
+use xen_page::Place;
+
+pub(crate) fn pages_of(bytes: &[u8]) -> u32
+    requires { length bytes.now ≤ 65535 }
+    ensures value { result ≡ pages bytes.now }
+    ensures few { result ≤ 16 }
+{
+    (bytes.len() as u32 + 4095) / 4096
+}
+
+pub(crate) fn words_of(bytes: &[u8]) -> u32
+    requires { length bytes.now ≤ 65535 }
+    ensures value { result ≡ words bytes.now }
+    ensures few { result ≤ 16384 }
+{
+    (bytes.len() as u32 + 3) / 4
+}
+
+/// A byte of the packet. Those past its end are 0.
+fn byte(bytes: &[u8], j: u32) -> u32
+    ensures value { result ≡ slice_index bytes.now j }
+    ensures small { result < 256 }
+{
+    match bytes.get(j as usize) {
+        Some(byte) => u32::from(*byte),
+        None => 0,
+    }
+}
+
+/// The k-th word of the packet.
+pub(crate) fn packet_word(bytes: &[u8], k: u32) -> u32
+    requires { k ≤ 16384 }
+    ensures { result ≡ word_of bytes.now k }
+{
+    byte(bytes, 4 * k)
+        + 0x100 * byte(bytes, 4 * k + 1)
+        + 0x1_0000 * byte(bytes, 4 * k + 2)
+        + 0x100_0000 * byte(bytes, 4 * k + 3)
+}
+
+fn target_at(targets: &Targets, i: u32) -> Target
+    ensures { result ≡ target_at_lem targets.now i }
+{
+    match targets.slots().get(i as usize) {
+        Some(target) => *target,
+        None => Target { id: 0, frame: None },
+    }
+}
+
+/// Where the k-th word of the packet goes.
+pub(crate) fn buffer_at(targets: &Targets, k: u32) -> Place
+    ensures { result ≡ buffer_word targets.now k }
+{
+    let target = target_at(targets, k / 1024);
+    Place {
+        frame: target.frame.unwrap_or(0),
+        word: k % 1024,
+    }
+}
+
+/// How many bytes lie in the i-th page.
+fn size_of(bytes: &[u8], i: u32) -> u32
+    requires short { length bytes.now ≤ 65535 }
+    requires within { i < 16 }
+    ensures value { result ≡ size_at bytes.now i }
+    ensures small { result ≤ 4096 }
+{
+    let len = bytes.len() as u32;
+    if len < 4096 * i + 4096 {
+        len.saturating_sub(4096 * i)
+    } else {
+        4096
+    }
+}
+
+fn status(passed: bool, bytes: &[u8], i: u32) -> i16
+    requires short { length bytes.now ≤ 65535 }
+    requires within { i < 16 }
+    ensures { result ≡ status_at passed bytes.now i }
+{
+    if passed {
+        size_of(bytes, i) as i16
+    } else {
+        Status::Error.code()
+    }
+}
+
+/// The i-th response.
+pub(crate) fn response(passed: bool, bytes: &[u8], targets: &Targets, i: u32) -> RxRsp
+    requires short { length bytes.now ≤ 65535 }
+    requires within { i < length targets.now }
+    ensures { result ≡ rx_response passed bytes.now (length targets.now) i (target_at_lem targets.now i).id }
+{
+    let n = targets.len();
+    RxRsp {
+        id: target_at(targets, i).id,
+        offset: 0,
+        flags: RxFlags {
+            data_validated: false,
+            csum_blank: false,
+            more_data: passed && i + 1 < n,
+            extra_info: false,
+            gso_prefix: false,
+        },
+        status: status(passed, bytes, i),
+    }
+}
