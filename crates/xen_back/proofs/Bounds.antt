@@ -48,7 +48,7 @@ use Rattle.xen_back.specs.declared.state.State.{State}
 use Rattle.xen_back.specs.declared.turn.Halt.{Halt}
 use Rattle.xen_back.specs.declared.wiring.Wiring.{Wiring}
 use Rattle.xen_steps.proofs.DriveLemmas.{bounded_le, bounded_bind}
-use Rattle.xen_back.proofs.MapLemmas.{IsOf, course_of}
+use Rattle.xen_back.proofs.WalkLemmas.{IsOf, course_of}
 
 -- how long a list of slots is that no fault ends
 pub data_length : (room : ℕ) (more : Bool) (slots : List Slot) (c : ChainState) → after_data room more slots ≡ Some (Ok c) → length slots ≤ room

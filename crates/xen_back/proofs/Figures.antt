@@ -34,7 +34,7 @@ use Rattle.xen_back.specs.Turns.{HasRun, IsTurn, still_halted, idle, overflown, 
 use Rattle.xen_back.specs.declared.state.State.{State}
 use Rattle.xen_back.specs.declared.wiring.Wiring.{Wiring}
 use Rattle.xen_back.proofs.Bounds.{data_length, standing_length, responses_length}
-use Rattle.xen_back.proofs.LengthLemmas.{walk_length}
+use Rattle.xen_back.proofs.WalkLemmas.{walk_length}
 
 n_look : (w : Wiring) (t : ℕ) (p : List Event) (o : Option ℕ) → IsLook w t p o → n p ≤ 3
 n_look w t _ _ (once p l h) = omega arith

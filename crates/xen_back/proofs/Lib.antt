@@ -5,9 +5,8 @@ pub mod CopyParts
 pub mod TurnParts
 pub mod TurnRuns
 pub mod DriveLemmas
-pub mod MapLemmas
+pub mod WalkLemmas
 pub mod Bounds
-pub mod LengthLemmas
 pub mod Figures
 pub mod TouchedLemmas
 pub mod EndLemmas

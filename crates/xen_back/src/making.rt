@@ -1,6 +1,7 @@
 //! Making a queue.
 
-ghost use Rattle.std.specs.Prelude.{◌≡◌, None, Some, true, slice_get};
+ghost use Rattle.std.specs.Prelude.{◌≡◌, true};
+ghost use Rattle.xen_page.specs.Mapping.{IsMappedBy};
 ghost use Rattle.xen_page.specs.Table.{IsTable};
 ghost use Rattle.xen_back.specs.Making.{IsMade};
 
@@ -17,8 +18,8 @@ use xen_transmit::Vif;
 impl<'p, 'b> Queue<'p, 'b> {
     /// A queue between turns, which keeps its packets in the buffer.
     pub fn make(program: &'p Verified, desc: QueueDesc<'p>, buffer: &'b mut Buffer) -> Queue<'p, 'b>
-        requires tx { slice_get desc.owners.now desc.tx.frame ≡ Some desc.granter }
-        requires rx { slice_get desc.owners.now desc.rx.frame ≡ Some desc.granter }
+        requires tx { IsMappedBy desc.owners.now desc.granter desc.tx }
+        requires rx { IsMappedBy desc.owners.now desc.granter desc.rx }
         requires writable { (desc.tx.write ≡ true) × (desc.rx.write ≡ true) }
         requires table { IsTable desc.owners.now desc.granter desc.table.now }
         ensures { IsMade program.now desc.entry result }

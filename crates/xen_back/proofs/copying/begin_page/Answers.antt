@@ -2,7 +2,7 @@ use Rattle.std.proofs.Common.{◌≡◌, ◌<◌, ◌-◌, ◌/◌, suc, ap, sym
 use Rattle.xen_steps.specs.Steps.{bind}
 use Rattle.xen_back.specs.Tree.{after_copy, copy}
 use Rattle.xen_steps.specs.Pages.{copy_words, covered}
-use Rattle.xen_steps.proofs.CopyLemmas.{covered_count, covered_end}
+use Rattle.xen_steps.proofs.CopyLemmas.{covered_end}
 use Rattle.xen_back.proofs.copying.begin_page.Goals as goal
 
 pub paging-requires-clause-covers : goal.paging-requires-clause-covers
@@ -25,8 +25,7 @@ returns-then-words-clause-rest c =
     let f = c.args.fragment in
     let r = c.covered_words-words.result in
     let e = c.covered_words-words.ensures in
-    let count = covered_count f r.start r.end e.start e.ordered e.covered in
-    let none : covered f ≡ 0 = omega (arith, count, c.if-words.true) in
+    let none : covered f ≡ 0 = omega (arith, e.count, c.if-words.true) in
     c.next_fragment.ensures.rest
     ∙ sym (ap (λ n. bind (bind (copy_words f c.args.frame (f.offset / 4) n c.args.packet) (copy w (drop c.args.i c.args.fragments.items))) (after_copy w c.args.state.now c.args.chain)) none)
 
@@ -36,8 +35,7 @@ returns-else-words-clause-rest c =
     let f = c.args.fragment in
     let r = c.covered_words-words.result in
     let e = c.covered_words-words.ensures in
-    let count = covered_count f r.start r.end e.start e.ordered e.covered in
-    let all : suc (r.end - r.start - 1) ≡ covered f = omega (arith, count, e.ordered, c.if-words.false) in
+    let all : suc (r.end - r.start - 1) ≡ covered f = omega (arith, e.count, e.ordered, c.if-words.false) in
     c.paging.ensures.rest
     ∙ ap (λ p. bind (bind (copy_words f c.args.frame p (suc (r.end - r.start - 1)) c.args.packet) (copy w (drop c.args.i c.args.fragments.items))) (after_copy w c.args.state.now c.args.chain)) e.start
     ∙ ap (λ n. bind (bind (copy_words f c.args.frame (f.offset / 4) n c.args.packet) (copy w (drop c.args.i c.args.fragments.items))) (after_copy w c.args.state.now c.args.chain)) all

@@ -4,7 +4,6 @@ use Rattle.xen_steps.specs.Steps.{bind}
 use Rattle.xen_transmit.specs.Entries.{entry_at}
 use Rattle.xen_back.specs.Tree.{after_copy, copy, entered}
 use Rattle.xen_back.proofs.RestLemmas.{copy_at}
-use Rattle.xen_transmit.proofs.Bounds.{entry_word_small}
 use Rattle.xen_back.proofs.copying.next_fragment.Goals as goal
 
 pub returns-in-Some-clause-rest : goal.returns-in-Some-clause-rest
@@ -15,7 +14,4 @@ returns-in-Some-clause-rest c =
     let i = c.args.i in
     let h : i < length fs = omega (arith, c.if-i-len.false, c.requires.within, c.len.ensures.value) in
     c.entering.ensures.rest
-    ∙ sym (ap (λ o. bind o (after_copy w s c.args.chain)) (copy_at w fs i c.args.packet h ∙ ap (λ p. bind (entry_at w.vif false p) (entered (fragment_at fs i) (copy w (drop (i + 1) fs)) c.args.packet)) (rw c.deref.ensures.0 at (sym c.place.ensures ∙ c.in-Some.is))))
-
-pub entering-requires-clause-word : goal.entering-requires-clause-word
-entering-requires-clause-word c = entry_word_small c.args.wiring.now.vif.table.now _ c.in-Some.at (sym c.place.ensures ∙ c.in-Some.is)
+    ∙ sym (ap (λ o. bind o (after_copy w s c.args.chain)) (copy_at w fs i c.args.packet h ∙ ap (λ p. bind (entry_at w.vif false p) (entered (fragment_at fs i) (copy w (drop (i + 1) fs)) c.args.packet)) (rw c.deref.ensures.0 at (sym c.place.ensures.place ∙ c.in-Some.is))))
