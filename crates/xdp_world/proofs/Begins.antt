@@ -15,7 +15,7 @@ use Rattle.xdp_world.specs.Core.{Turns, begun, started_at}
 use Rattle.xdp_world.specs.Stands.{SoFar, kept_in, kept_of}
 use Rattle.xdp_world.specs.declared.kept.Kept.{Kept}
 use Rattle.xdp_world.specs.declared.world.World.{World}
-use Rattle.xdp_world.proofs.Worlds.{open_by}
+use Rattle.xdp_world.proofs.Worlds.{has_rest, open_by}
 
 -- the i-th of a list, which is there
 pub queue_at : {A : Type 0} (l : List A) (i : ℕ) → i < length l → A
@@ -55,6 +55,7 @@ fresh_so_far accepted queues index start i w q kept f wired none =
         gone = sym ready;
         isnt_over = λ x o. open_by w (state_of q) (state_of q).halt x (ap (λ (t : Steps Ending). want_of t) (sym ready) ∙ o);
         stopped = λ cause is. refl;
+        completed = has_rest q;
       };
     }
 

@@ -12,7 +12,9 @@ use Rattle.bpf_note.specs.declared.op.Op.TheVariants as op
 use Rattle.xen_steps.specs.Drive.{Goes, Gone}
 use Rattle.xen_back.specs.Drive.{label_of}
 use Rattle.xen_steps.specs.Event.{Event}
-use Rattle.xen_back.specs.Queues.{rest, state_of, wiring_of, IsReady}
+use Rattle.xen_back.specs.Queues.{HasRest, rest, state_of, wiring_of, IsReady}
+use Rattle.xen_back.specs.Within.{may_want}
+use Rattle.xen_steps.proofs.FinishLemmas.{some_run}
 use Rattle.xen_steps.specs.Steps.{Steps, done, want_of}
 use Rattle.xen_back.specs.Tree.{unless_halted, whole_turn}
 use Rattle.xen_back.specs.Turned.{Ending, Turned}
@@ -35,6 +37,10 @@ use Rattle.xdp_world.specs.declared.kept.Kept.{Kept}
 pub comes_of : (a b c : Queue) (k : Option Kept) → Settles b c k → state_of b ≡ state_of a → Comes a (rest b) c k
 comes_of a b c None s e = (s.0, s.1, s.2 ∙ e)
 comes_of a b c (Some k) s e = s
+
+-- a queue has a way to its turn's end
+pub has_rest : (q : Queue) → HasRest q
+has_rest q = some_run (may_want (wiring_of q)) (rest q) q.left
 
 turns_event : (w : Wiring) (s : State) (ev : List Event) (ks : List Kept) (end : State) (front : List Event) (e : Event) → Turns w s ev ks end front → Turns w s (ev ++ e ∷ []) ks end (front ++ e ∷ [])
 turns_event w _ _ _ _ _ e (begun s front) = begun s (front ++ e ∷ [])
@@ -75,6 +81,7 @@ sofar_event w start ev ks q q' e m h g n r s wi =
         gone = rw (r, s) (gone_more (whole_turn w (state_of q)) (rest q) m h.front e h.unfinished.gone g);
         isnt_over = λ x d. n (ap (λ (t : Steps Ending). want_of t) (sym r) ∙ d);
         stopped = λ cause is. absurd (none_some (state_of q').halt cause (ap (λ (x : State). x.halt) s ∙ run) is);
+        completed = has_rest q';
       };
     }
 
@@ -94,6 +101,7 @@ sofar_turn w start ev ks q q' e m u k h g d keeps r wi =
         gone = sym ready;
         isnt_over = λ x o. open_by w (state_of q') (state_of q').halt x (ap (λ (t : Steps Ending). want_of t) (sym ready) ∙ o);
         stopped = λ cause is. refl;
+        completed = has_rest q';
       };
     }
 
@@ -113,6 +121,7 @@ sofar_rest w start ev ks q q' h r s wi =
         gone = rw (r, s) h.unfinished.gone;
         isnt_over = λ x d. h.unfinished.isnt_over (ap (λ (y : State). y.halt) (sym s) ∙ x) (ap (λ (t : Steps Ending). want_of t) (sym r) ∙ d);
         stopped = λ cause is. h.unfinished.stopped cause (ap (λ (y : State). y.halt) (sym s) ∙ is);
+        completed = has_rest q';
       };
     }
 

@@ -2,7 +2,7 @@
 use Rattle.std.specs.Prelude.{ℕ, ◌≡◌, ◌≢◌, List, [], ◌∷◌, ◌++◌, Option, Some, None, slice_get, take}
 use Rattle.xen_steps.specs.Drive.{Gone}
 use Rattle.xen_steps.specs.Event.{Event}
-use Rattle.xen_steps.specs.Steps.{Steps, want_of}
+use Rattle.xen_steps.specs.Steps.{Runs, Steps, want_of}
 use Rattle.xen_back.specs.Tree.{whole_turn}
 use Rattle.xen_back.specs.Turned.{Ending, Turned}
 use Rattle.xen_back.specs.Turns.{IsTurn}
@@ -25,11 +25,12 @@ pub data Turns (w : Wiring) : State → List Event → List Kept → State → L
       s.halt ≡ None → IsTurn w s t mid u → Keeps u k → Turns w mid more ks end front →
       Turns w s (t ++ more) (k ∷ ks) end front
 
--- The events after the last turn: events of one more turn, which isn't over by them, and none where the queue has halted.
+-- The events after the last turn: events with which one more turn begins, and which isn't over by them; none where the queue has halted.
 pub record IsUnfinished (w : Wiring) (s : State) (front : List Event) (left : Steps Ending) : Type 0 where
   pub gone : Gone (whole_turn w s) front left
   pub isnt_over : s.halt ≡ None → want_of left ≢ want.Done
   pub stopped : (cause : Halt) → s.halt ≡ Some cause → front ≡ []
+  pub completed : (t : List Event) × (end : Ending) × Runs left t end
 
 -- The queue has halted by these events.
 pub record IsHalted (w : Wiring) (start : ℕ) (events : List Event) : Type 0 where

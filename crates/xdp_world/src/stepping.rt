@@ -64,7 +64,7 @@ impl<'p, 'b> World<'p, 'b> {
     }
 
     /// Steps in order.
-    pub fn steps(&mut self, steps: &[(usize, u32)]) -> Result<(), AllocError>
+    pub(crate) fn steps(&mut self, steps: &[(usize, u32)]) -> Result<(), AllocError>
         requires { All (λ s. s.0 < vec_len self.old.queues) steps.now }
         ensures size { vec_len self.new.queues ≡ vec_len self.old.queues }
         ensures shapes { self.new.counters.shapes ≡ self.old.counters.shapes }

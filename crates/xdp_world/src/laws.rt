@@ -1,4 +1,4 @@
-//! Laws of unfinished turns.
+//! Laws of unfinished turns. Each is a function that does nothing, and whose contract is the law.
 ghost use Rattle.std.specs.Prelude.{◌++◌, List};
 ghost use Rattle.xen_steps.specs.Event.{Event};
 ghost use Rattle.xen_steps.specs.Steps.{Steps, Runs};
@@ -8,8 +8,10 @@ ghost use Rattle.xen_back.specs.declared.state.State.{State};
 ghost use Rattle.xen_back.specs.declared.wiring.Wiring.{Wiring};
 ghost use Rattle.xdp_world.specs.Core.{IsUnfinished};
 
-/// What a queue has left completes an unfinished turn, by each of its rests and by nothing else.
+/// An unfinished turn is the beginning of a turn. What a queue has left completes it, by each of its ways to the end and by
+/// nothing else.
 pub fn unfinished_turns()
+    ensures begins { (w : Wiring) (s : State) (front : List Event) (left : Steps Ending) → IsUnfinished w s front left → (t : List Event) × (new : State) × (u : Turned) × IsTurn w s (front ++ t) new u }
     ensures completed { (w : Wiring) (s : State) (front : List Event) (left : Steps Ending) → IsUnfinished w s front left → (t : List Event) (new : State) (u : Turned) → Runs left t (new, u) → IsTurn w s (front ++ t) new u }
     ensures else_not { (w : Wiring) (s : State) (front : List Event) (left : Steps Ending) → IsUnfinished w s front left → (t : List Event) (new : State) (u : Turned) → IsTurn w s (front ++ t) new u → Runs left t (new, u) }
 {}
