@@ -1,4 +1,4 @@
-//! Copying a chain'state fragments.
+//! Copying a chain's fragments.
 
 ghost use Rattle.std.specs.Prelude.{◌≡◌, ◌<◌, ◌≤◌, ◌+◌, ◌-◌, ◌/◌, ◌++◌, suc, length, drop, sum_by, false, IsTrue, Ok, Some};
 ghost use Rattle.xen_netif.specs.Copy.{Covers, bytes_in};
@@ -119,7 +119,7 @@ fn entering<'p, 'b>(
     })
 }
 
-/// After an entry'state flags word.
+/// After an entry's flags word.
 pub(crate) fn flags_read<'p, 'b>(
     wiring: &Wiring<'p>,
     state: &State,
@@ -174,7 +174,7 @@ pub(crate) fn entry_read<'p, 'b>(
     }
 }
 
-/// Before the words of a fragment'state page.
+/// Before the words of a fragment's page.
 fn begin_page<'p, 'b>(
     wiring: &Wiring<'p>,
     state: &State,
