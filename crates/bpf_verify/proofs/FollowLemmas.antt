@@ -19,8 +19,8 @@ use Rattle.bpf_verify.specs.Edges.{Edge}
 use Rattle.bpf_verify.specs.Consistent.{IsOrdered}
 use Rattle.bpf_verify.specs.Structure.{begins, jump_of, misses_target}
 use Rattle.bpf_verify.specs.FirstRefusal.{IsFine, IsStructured}
-use Rattle.bpf_verify.specs.Gathered.{Hears, rule_by, rule_at, allowed, told, AreAllowed, IsFirstCause}
-use Rattle.bpf_flow.specs.Gives.{Fails}
+use Rattle.bpf_verify.specs.Gathered.{Hears, rule_by, rule_at, allowed, told, AreAllowed, TakesMemory, IsFirstCause}
+use Rattle.bpf_flow.specs.Gives.{Fails, WantsMemory}
 use Rattle.bpf_verify.specs.Tables.{facts_at, LeadInside, IsMet}
 use Rattle.bpf_verify.proofs.GraphLemmas.{some_inside, begun, target_found}
 use Rattle.bpf_verify.proofs.GatherLemmas.{hears_append, hears_quiet}
@@ -45,10 +45,11 @@ pub record IsFollowing (code : List Insn) (shapes : List Shape) (pc i : ℕ) (ol
   pub here : new pc ≡ old pc
   pub rest : (q : ℕ) (r : List Facts) → Hears (new q) q (told code shapes pc (drop i (old pc))) r → Hears (old q) q (told code shapes pc (old pc)) r
   pub allowed : AreAllowed code shapes pc (drop i (old pc)) → AreAllowed code shapes pc (old pc)
+  pub takes : TakesMemory code shapes pc (drop i (old pc)) → TakesMemory code shapes pc (old pc)
   pub cause : (c : Cause) → IsFirstCause code shapes pc (drop i (old pc)) c → IsFirstCause code shapes pc (old pc) c
 
 pub following_first : (code : List Insn) (shapes : List Shape) (pc : ℕ) (old : ℕ → List Facts) → IsFollowing code shapes pc 0 old old
-following_first code shapes pc old = record { here = refl; rest = λ q r h. h; allowed = λ h. h; cause = λ c h. h }
+following_first code shapes pc old = record { here = refl; rest = λ q r h. h; allowed = λ h. h; takes = λ h. h; cause = λ c h. h }
 
 module _ (code : List Insn) (shapes : List Shape) (pc i : ℕ) (old new : ℕ → List Facts) (f : IsFollowing code shapes pc i old new) (n : Facts) (at : slice_get (old pc) i ≡ Some n) where
   told_split : (es : Edges) → rule_at code shapes pc n ≡ Ok es → told code shapes pc (drop i (old pc)) ≡ es ++ told code shapes pc (drop (i + 1) (old pc))
@@ -62,12 +63,17 @@ module _ (code : List Insn) (shapes : List Shape) (pc i : ℕ) (old new : ℕ �
     here = sym (hears_quiet (new pc) pc es (new' pc) quiet (hears pc)) ∙ f.here;
     rest = λ q r h. f.rest q r (subst (λ (gs : Edges). Hears (new q) q gs r) (sym (told_split es e)) (hears_append (new q) q es (told code shapes pc (drop (i + 1) (old pc))) (new' q) r (hears q) h));
     allowed = λ h. f.allowed (subst (λ (ns : List Facts). AreAllowed code shapes pc ns) (sym (drop_more (old pc) i n at)) ((es, e), h));
+    takes = λ h. f.takes (subst (λ (ns : List Facts). TakesMemory code shapes pc ns) (sym (drop_more (old pc) i n at)) (inr ((es, e), h)));
     cause = λ c h. f.cause c (subst (λ (ns : List Facts). IsFirstCause code shapes pc ns c) (sym (drop_more (old pc) i n at)) (inr ((es, e), h)));
   }
 
   -- this note is refused
   pub following_stops : (c : Cause) → rule_at code shapes pc n ≡ Err c → IsFirstCause code shapes pc (old pc) c
   following_stops c e = f.cause c (subst (λ (ns : List Facts). IsFirstCause code shapes pc ns c) (sym (drop_more (old pc) i n at)) (inl e))
+
+  -- an edge of this note takes memory
+  pub following_takes : WantsMemory (rule_at code shapes pc n) → TakesMemory code shapes pc (old pc)
+  following_takes w = f.takes (subst (λ (ns : List Facts). TakesMemory code shapes pc ns) (sym (drop_more (old pc) i n at)) (inl w))
 
 -- all have gone
 pub followed : (code : List Insn) (shapes : List Shape) (pc i : ℕ) (old new : ℕ → List Facts) → IsFollowing code shapes pc i old new → length (old pc) ≤ i →
@@ -146,55 +152,35 @@ rule_is code shapes pc i n a e h = ap (λ (o : Option Insn). rule_by o pc n shap
 pub ruled_at : (code : List Insn) (maps pc : ℕ) (i : Insn) → IsStructured code maps → slice_get code pc ≡ Some i → begins (slice_get code pc) ≡ true → IsRuled i pc maps
 ruled_at code maps pc i h e b = ruled code maps pc i (h pc i e) (subst (λ (o : Option Insn). begins o ≡ true) e b)
 
--- a cause that was met, whatever it is
-pub met : (c : Cause) (P : Type 0) → P → IsMet c P
-met Memory P h = tt
-met Length P h = h
-met Opcode P h = h
-met Register P h = h
-met Target P h = h
-met BackJump P h = h
-met EndCause P h = h
-met Unset P h = h
-met FramePointer P h = h
-met NoPointer P h = h
-met Packet P h = h
-met Stack P h = h
-met Context P h = h
-met MayBeNull P h = h
-met MapAccess P h = h
-met Helper P h = h
-met MapNumber P h = h
-met Argument P h = h
-met Unsupported P h = h
-
-met_fails : (c : Cause) (a : Answer) (P : Type 0) → Fails c a → (a ≡ Err c → P) → IsMet c P
-met_fails Memory a P g f = tt
-met_fails Length a P g f = f g
-met_fails Opcode a P g f = f g
-met_fails Register a P g f = f g
-met_fails Target a P g f = f g
-met_fails BackJump a P g f = f g
-met_fails EndCause a P g f = f g
-met_fails Unset a P g f = f g
-met_fails FramePointer a P g f = f g
-met_fails NoPointer a P g f = f g
-met_fails Packet a P g f = f g
-met_fails Stack a P g f = f g
-met_fails Context a P g f = f g
-met_fails MayBeNull a P g f = f g
-met_fails MapAccess a P g f = f g
-met_fails Helper a P g f = f g
-met_fails MapNumber a P g f = f g
-met_fails Argument a P g f = f g
-met_fails Unsupported a P g f = f g
+met_fails : (c : Cause) (a : Answer) (W P : Type 0) → Fails c a → (WantsMemory a → W) → (a ≡ Err c → P) → IsMet c W P
+met_fails Memory a W P g w f = w g
+met_fails Length a W P g w f = f g
+met_fails Opcode a W P g w f = f g
+met_fails Register a W P g w f = f g
+met_fails Target a W P g w f = f g
+met_fails BackJump a W P g w f = f g
+met_fails EndCause a W P g w f = f g
+met_fails Unset a W P g w f = f g
+met_fails FramePointer a W P g w f = f g
+met_fails NoPointer a W P g w f = f g
+met_fails Packet a W P g w f = f g
+met_fails Stack a W P g w f = f g
+met_fails Context a W P g w f = f g
+met_fails MayBeNull a W P g w f = f g
+met_fails MapAccess a W P g w f = f g
+met_fails Helper a W P g w f = f g
+met_fails MapNumber a W P g w f = f g
+met_fails Argument a W P g w f = f g
+met_fails Unsupported a W P g w f = f g
 
 -- the rule refused note i
 pub stopped_at : (code : List Insn) (shapes : List Shape) (pc i : ℕ) (old new : ℕ → List Facts) (n : Facts) (insn : Insn) (c : Cause) → IsFollowing code shapes pc i old new → slice_get (new pc) i ≡ Some n →
-    slice_get code pc ≡ Some insn → Fails c (after_of insn pc n shapes) → IsMet c (IsFirstCause code shapes pc (old pc) c)
+    slice_get code pc ≡ Some insn → Fails c (after_of insn pc n shapes) → IsMet c (TakesMemory code shapes pc (old pc)) (IsFirstCause code shapes pc (old pc) c)
 stopped_at code shapes pc i old new n insn c f at here g =
-    met_fails c (after_of insn pc n shapes) _ g (λ e.
-    following_stops code shapes pc i old new f n (subst (λ (ns : List Facts). slice_get ns i ≡ Some n) f.here at) c (rule_is code shapes pc insn n (Err c) here e))
+    let read : slice_get (old pc) i ≡ Some n = subst (λ (ns : List Facts). slice_get ns i ≡ Some n) f.here at in
+    met_fails c (after_of insn pc n shapes) _ _ g
+    (λ w. following_takes code shapes pc i old new f n read (subst WantsMemory (sym (rule_is code shapes pc insn n (after_of insn pc n shapes) here refl)) w))
+    (λ e. following_stops code shapes pc i old new f n read c (rule_is code shapes pc insn n (Err c) here e))
 
 any_default : {A : Type 0} (xs : List A) (k : ℕ) (d e : A) → k < length xs → slice_index_or xs k d ≡ slice_index_or xs k e
 any_default [] k d e h = absurd (omega arith)

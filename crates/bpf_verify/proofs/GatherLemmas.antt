@@ -19,7 +19,7 @@ hears_quiet ns q (e ∷ es) r quiet (inl (same, rest)) = absurd (quiet (inl same
 hears_quiet ns q (e ∷ es) r quiet (inr (other, h)) = hears_quiet ns q es r (λ s. quiet (inr s)) h
 
 module _ (code : List Insn) (shapes : List Shape) where
-  gathers_same : (notes notes' : ℕ → List Facts) (q : ℕ) (ns : List Facts) (ps : List ℕ) (r : List Facts) → ((p : ℕ) → Contains ps p → notes p ≡ notes' p) → Gathers code shapes notes q ns ps r → Gathers code shapes notes' q ns ps r
+  pub gathers_same : (notes notes' : ℕ → List Facts) (q : ℕ) (ns : List Facts) (ps : List ℕ) (r : List Facts) → ((p : ℕ) → Contains ps p → notes p ≡ notes' p) → Gathers code shapes notes q ns ps r → Gathers code shapes notes' q ns ps r
   gathers_same notes notes' q ns [] r same h = h
   gathers_same notes notes' q ns (p ∷ ps) r same (m, h, g) = (
     m,

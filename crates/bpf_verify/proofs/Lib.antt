@@ -21,3 +21,4 @@ mod AcceptedLemmas
 mod RefusalLemmas
 mod UnsetLemmas
 mod UnwrittenLemmas
+mod AnswerLemmas

@@ -1,6 +1,11 @@
 -- What lists hold.
 use Rattle.std.proofs.Common.{◌≡◌, ◌<◌, ℕ, zero, suc, List, [], ◌∷◌, ◌++◌, Some, length, map, refl, ap, ◌∙◌, arith}
-use Rattle.std.specs.Prelude.{slice_get, slice_set, Contains}
+use Rattle.std.specs.Prelude.{slice_get, slice_set, Contains, Result, Ok, Err, IfErr}
+
+-- what holds holds of every error
+pub any_error : {A E P : Type 0} (r : Result A E) → P → IfErr r (λ (e : E). P)
+any_error (Ok a) h = tt
+any_error (Err e) h = h
 
 -- an item is there, at its place
 pub found_at : {A B : Type 0} (f : A → B) (xs : List A) (y : B) → Contains (map f xs) y → (k : ℕ) × (x : A) × (slice_get xs k ≡ Some x) × (f x ≡ y)

@@ -15,10 +15,10 @@ use Rattle.bpf_flow.proofs.LeadLemmas.{Speaks}
 use Rattle.bpf_verify.specs.Edges.{Edge, Flows, IsPassOrder}
 use Rattle.bpf_verify.specs.Orders.{IsReady, Takes, none, more}
 use Rattle.bpf_verify.specs.Structure.{begins}
-use Rattle.bpf_verify.specs.FirstRefusal.{IsStructured, IsPassed, IsStopped, IsHalted}
+use Rattle.bpf_verify.specs.FirstRefusal.{IsStructured, IsPassed, IsStopped, IsFollowed, IsHalted}
 use Rattle.bpf_verify.specs.Tables.{IsMet}
 use Rattle.bpf_verify.proofs.GraphLemmas.{begun, some_inside}
-use Rattle.bpf_verify.specs.Gathered.{Hears, told, first_notes, AreNotes, AreAllowed, IsFirstCause}
+use Rattle.bpf_verify.specs.Gathered.{Hears, told, first_notes, AreNotes, AreAllowed, TakesMemory, IsFirstCause}
 use Rattle.bpf_verify.proofs.GatherLemmas.{hears_quiet, notes_more}
 use Rattle.bpf_verify.proofs.ToldLemmas.{told_edge}
 use Rattle.bpf_verify.proofs.RankLemmas.{taken_preds, last_length}
@@ -115,6 +115,20 @@ module _ (code : List Insn) (shapes : List Shape) (order : List ℕ) (laid : IsC
       refused = h;
     }
 
+    -- memory is wanted here
+    pub passing_takes : TakesMemory code shapes c (notes c) → IsFollowed code shapes c
+    passing_takes h = record {
+      order = order;
+      is_order = is;
+      before = take i order;
+      rest = drop (i + 1) order;
+      parts = parts_of order i c low at;
+      notes = notes;
+      are_notes = p.are_notes;
+      allowed = p.allowed;
+      takes = h;
+    }
+
   -- all have been taken
   pub passing_last : (i : ℕ) (notes : ℕ → List Facts) → length order ≤ i → IsPassing code shapes order i notes → IsPassed code shapes notes
   passing_last i notes all p =
@@ -133,23 +147,23 @@ order_begins code order i laid is low = let s = taken_at is.takes i low in flows
 pub begun_inside : (code : List Insn) (q : ℕ) → begins (slice_get code q) ≡ true → q < length code
 begun_inside code q b = let g = begun (slice_get code q) b in some_inside code q g.0 g.1
 
-pub halted_by : (code : List Insn) (shapes : List Shape) (pc : ℕ) (c : Cause) (P : Type 0) → pc < length code → IsMet c P → (P → IsStopped code shapes pc c) → IsHalted code shapes pc c
-halted_by code shapes pc Memory P low h f = low
-halted_by code shapes pc Length P low h f = f h
-halted_by code shapes pc Opcode P low h f = f h
-halted_by code shapes pc Register P low h f = f h
-halted_by code shapes pc Target P low h f = f h
-halted_by code shapes pc BackJump P low h f = f h
-halted_by code shapes pc End P low h f = f h
-halted_by code shapes pc Unset P low h f = f h
-halted_by code shapes pc FramePointer P low h f = f h
-halted_by code shapes pc NoPointer P low h f = f h
-halted_by code shapes pc Packet P low h f = f h
-halted_by code shapes pc Stack P low h f = f h
-halted_by code shapes pc Context P low h f = f h
-halted_by code shapes pc MayBeNull P low h f = f h
-halted_by code shapes pc MapAccess P low h f = f h
-halted_by code shapes pc Helper P low h f = f h
-halted_by code shapes pc MapNumber P low h f = f h
-halted_by code shapes pc Argument P low h f = f h
-halted_by code shapes pc Unsupported P low h f = f h
+pub halted_by : (code : List Insn) (shapes : List Shape) (pc : ℕ) (c : Cause) (W P : Type 0) → IsMet c W P → (W → IsFollowed code shapes pc) → (P → IsStopped code shapes pc c) → IsHalted code shapes pc c
+halted_by code shapes pc Memory W P h g f = inr (g h)
+halted_by code shapes pc Length W P h g f = f h
+halted_by code shapes pc Opcode W P h g f = f h
+halted_by code shapes pc Register W P h g f = f h
+halted_by code shapes pc Target W P h g f = f h
+halted_by code shapes pc BackJump W P h g f = f h
+halted_by code shapes pc End W P h g f = f h
+halted_by code shapes pc Unset W P h g f = f h
+halted_by code shapes pc FramePointer W P h g f = f h
+halted_by code shapes pc NoPointer W P h g f = f h
+halted_by code shapes pc Packet W P h g f = f h
+halted_by code shapes pc Stack W P h g f = f h
+halted_by code shapes pc Context W P h g f = f h
+halted_by code shapes pc MayBeNull W P h g f = f h
+halted_by code shapes pc MapAccess W P h g f = f h
+halted_by code shapes pc Helper W P h g f = f h
+halted_by code shapes pc MapNumber W P h g f = f h
+halted_by code shapes pc Argument W P h g f = f h
+halted_by code shapes pc Unsupported W P h g f = f h

@@ -10,14 +10,15 @@ use Rattle.bpf_note.specs.Facts.{Facts}
 use Rattle.bpf_flow.specs.Causes.{IsRuleCause}
 use Rattle.bpf_flow.proofs.CauseLemmas.{rule_causes}
 use Rattle.bpf_verify.specs.Structure.{begins}
-use Rattle.bpf_verify.specs.FirstRefusal.{IsStructured, IsStructureRefusal, IsStopped, IsHalted, ReadsUnset, IsSecondRefusal, IsRefusal}
+use Rattle.bpf_verify.specs.FirstRefusal.{IsStructured, IsStructureRefusal, IsStopped, IsHalted, ReadsUnset, IsSecondRefusal, IsRefusal, at_start, in_search, in_notes}
 use Rattle.bpf_verify.specs.Gathered.{rule_by, rule_at, IsFirstCause}
 use Rattle.bpf_verify.proofs.FollowLemmas.{ruled_at}
 use Rattle.bpf_verify.proofs.LawLemmas.{takes_within}
 use Rattle.bpf_verify.proofs.PassingLemmas.{flows_begins}
 
 pub fault_refusal : (code : List Insn) (shapes : List Shape) (pc : ℕ) (cause : Cause) → IsStructureRefusal code (length shapes) pc cause → IsRefusal code shapes cause pc
-fault_refusal code shapes pc Memory f = f
+fault_refusal code shapes pc Memory (inl first) = at_start first
+fault_refusal code shapes pc Memory (inr s) = in_search s
 fault_refusal code shapes pc Length f = absurd f.fault
 fault_refusal code shapes pc Opcode f = absurd f.fault
 fault_refusal code shapes pc Register f = absurd f.fault
@@ -69,7 +70,8 @@ module _ (code : List Insn) (shapes : List Shape) (pc : ℕ) (laid : IsCode code
   none c f s = f (stopped_cause code shapes pc c laid structured s)
 
   pub halted_refusal : (c : Cause) → (IsStopped code shapes pc Unset → ReadsUnset code pc) → IsHalted code shapes pc c → IsRefusal code shapes c pc
-  halted_refusal Memory f h = h
+  halted_refusal Memory f (inl first) = at_start first
+  halted_refusal Memory f (inr h) = in_notes structured h
   halted_refusal Length f h = absurd (none Length (λ x. x) h)
   halted_refusal Opcode f h = absurd (none Opcode (λ x. x) h)
   halted_refusal Register f h = absurd (none Register (λ x. x) h)

@@ -18,6 +18,16 @@ pub record Edge (code : List Insn) (p q : ℕ) : Type 0 where
 abbrev pub Flows : List Insn → ℕ → ℕ → Type 0
 Flows code p q = Reaches (Edge code) p q
 
+-- a jump to its own slot or below it
+pub record JumpsBack (code : List Insn) (p : ℕ) : Type 0 where
+  pub insn : Insn
+  pub here : slice_get code p ≡ Some insn
+  pub offset : ℤ
+  pub jumps : jump_of insn ≡ Some offset
+  pub to : ℕ
+  pub lands : target p offset ≡ Some to
+  pub back : to ≤ p
+
 -- a jump to its own slot or below it, from where the flow graph leads back to it
 pub record ClosesCycle (code : List Insn) (p : ℕ) : Type 0 where
   pub insn : Insn

@@ -1,14 +1,15 @@
 -- Why a program is refused: the first cause of the first pass that has one.
-use Rattle.std.specs.Prelude.{ℕ, ◌≡◌, ◌<◌, List, ◌∷◌, ◌++◌, length, Some, true, false, slice_get, Contains}
+use Rattle.std.specs.Prelude.{ℕ, ◌≡◌, ◌<◌, ◌⊎◌, List, ◌∷◌, ◌++◌, length, Some, true, false, slice_get, Contains}
 use Rattle.bpf_insn.specs.declared.insn.Insn.{Insn}
 use Rattle.bpf_insn.specs.declared.refusal.Cause.{Cause}
 use Rattle.bpf_insn.specs.declared.refusal.Cause.TheVariants.{Memory, Target, BackJump, End, Unset, FramePointer, NoPointer, Packet, Stack, Context, MayBeNull, MapAccess, Helper, MapNumber, Argument}
 use Rattle.bpf_note.specs.Shape.{Shape}
 use Rattle.bpf_note.specs.Facts.{Facts}
 use Rattle.bpf_flow.specs.Graph.{reads}
+use Rattle.bpf_verify.specs.Consistent.{IsOrdered}
 use Rattle.bpf_verify.specs.Structure.{jump_of, misses_target, runs_off, lacks_map}
-use Rattle.bpf_verify.specs.Edges.{ClosesCycle, IsPassOrder}
-use Rattle.bpf_verify.specs.Gathered.{AreNotes, AreAllowed, IsFirstCause}
+use Rattle.bpf_verify.specs.Edges.{JumpsBack, ClosesCycle, IsPassOrder}
+use Rattle.bpf_verify.specs.Gathered.{AreNotes, AreAllowed, TakesMemory, IsFirstCause}
 use Rattle.bpf_verify.specs.Unwritten.{Unwritten}
 
 -- nothing is wrong with the structure at slot pc, where instruction i stands
@@ -37,9 +38,17 @@ pub record IsFirstFault (code : List Insn) (maps pc : ℕ) (cause : Cause) : Typ
   pub fault : IsFault code maps pc insn cause
   pub before : (p : ℕ) (i : Insn) → p < pc → slice_get code p ≡ Some i → IsFine code maps p i
 
--- want of memory, or the first fault of structure
+-- whether the jump at slot pc closes a cycle takes a search where the program has no order, and that memory. Nothing is wrong
+-- below the slot, nor with the jump's target
+pub record IsSearching (code : List Insn) (maps pc : ℕ) : Type 0 where
+  pub jump : JumpsBack code pc
+  pub unordered : IsOrdered code → ⊥
+  pub found : misses_target code pc (jump_of jump.insn) ≡ false
+  pub before : (p : ℕ) (i : Insn) → p < pc → slice_get code p ≡ Some i → IsFine code maps p i
+
+-- want of memory before the first slot is treated or in a search, or the first fault of structure
 abbrev pub IsStructureRefusal : List Insn → ℕ → ℕ → Cause → Type 0
-IsStructureRefusal code maps pc Memory = pc < length code
+IsStructureRefusal code maps pc Memory = (pc ≡ 0) ⊎ IsSearching code maps pc
 IsStructureRefusal code maps pc cause = IsFirstFault code maps pc cause
 
 -- the second pass went over all reached slots in its order and the rule refused no note
@@ -61,9 +70,21 @@ pub record IsStopped (code : List Insn) (shapes : List Shape) (pc : ℕ) (cause 
   pub allowed : (p : ℕ) → Contains before p → AreAllowed code shapes p (notes p)
   pub refused : IsFirstCause code shapes pc (notes pc) cause
 
--- want of memory, or the second pass stopped there
+-- the second pass follows the notes of slot pc: the slots before it in its order have told theirs, and a note there takes memory
+pub record IsFollowed (code : List Insn) (shapes : List Shape) (pc : ℕ) : Type 0 where
+  pub order : List ℕ
+  pub is_order : IsPassOrder code order
+  pub before : List ℕ
+  pub rest : List ℕ
+  pub parts : order ≡ before ++ pc ∷ rest
+  pub notes : ℕ → List Facts
+  pub are_notes : AreNotes code shapes before notes
+  pub allowed : (p : ℕ) → Contains before p → AreAllowed code shapes p (notes p)
+  pub takes : TakesMemory code shapes pc (notes pc)
+
+-- want of memory before the first slot is treated or as notes are followed, or the second pass stopped there
 abbrev pub IsHalted : List Insn → List Shape → ℕ → Cause → Type 0
-IsHalted code shapes pc Memory = pc < length code
+IsHalted code shapes pc Memory = (pc ≡ 0) ⊎ IsFollowed code shapes pc
 IsHalted code shapes pc cause = IsStopped code shapes pc cause
 
 -- the instruction at a slot reads a register that some path leaves unwritten
@@ -79,9 +100,15 @@ pub record IsSecondRefusal (code : List Insn) (shapes : List Shape) (pc : ℕ) (
   pub structured : IsStructured code (length shapes)
   pub stopped : IsStopped code shapes pc cause
 
+-- memory may be wanted before the first slot is treated, by a search of the first pass, and as the second pass follows notes
+pub data IsWanting (code : List Insn) (shapes : List Shape) (pc : ℕ) : Type 0 where
+  at_start : pc ≡ 0 → IsWanting code shapes pc
+  in_search : IsSearching code (length shapes) pc → IsWanting code shapes pc
+  in_notes : IsStructured code (length shapes) → IsFollowed code shapes pc → IsWanting code shapes pc
+
 -- the refusal is the program's: want of memory, or the first cause of the first pass that has one
 abbrev pub IsRefusal : List Insn → List Shape → Cause → ℕ → Type 0
-IsRefusal code shapes Memory pc = pc < length code
+IsRefusal code shapes Memory pc = IsWanting code shapes pc
 IsRefusal code shapes Target pc = IsFirstFault code (length shapes) pc Target
 IsRefusal code shapes BackJump pc = IsFirstFault code (length shapes) pc BackJump
 IsRefusal code shapes End pc = IsFirstFault code (length shapes) pc End

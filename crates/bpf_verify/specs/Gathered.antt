@@ -7,6 +7,7 @@ use Rattle.bpf_note.specs.Facts.{Facts, entry}
 use Rattle.bpf_note.specs.Join.{joined}
 use Rattle.bpf_flow.specs.Edges.{Edges, Answer}
 use Rattle.bpf_flow.specs.After.{after_of}
+use Rattle.bpf_flow.specs.Gives.{WantsMemory}
 
 -- a note comes to a list. One that equals a note there is dropped, else it is appended; where eight stand it is joined into
 -- the eighth
@@ -54,6 +55,12 @@ AreNotes code shapes slots notes = (q : ℕ) → Gathers code shapes notes q (fi
 abbrev pub AreAllowed : List Insn → List Shape → ℕ → List Facts → Type 0
 AreAllowed code shapes pc [] = Unit {0}
 AreAllowed code shapes pc (n ∷ ns) = ((es : Edges) × (rule_at code shapes pc n ≡ Ok es)) × AreAllowed code shapes pc ns
+
+-- from a note of the list the rule leads on along an edge, and it refuses none before that note: what the edge's slot hears
+-- takes memory
+abbrev pub TakesMemory : List Insn → List Shape → ℕ → List Facts → Type 0
+TakesMemory code shapes pc [] = ⊥
+TakesMemory code shapes pc (n ∷ ns) = WantsMemory (rule_at code shapes pc n) ⊎ (((es : Edges) × (rule_at code shapes pc n ≡ Ok es)) × TakesMemory code shapes pc ns)
 
 -- the rule refuses the list's first note that it refuses with this cause
 abbrev pub IsFirstCause : List Insn → List Shape → ℕ → List Facts → Cause → Type 0

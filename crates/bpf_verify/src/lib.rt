@@ -2,16 +2,19 @@
 #![tactic(auto)]
 
 mod graph;
+mod laws;
 mod note_list;
 mod notes;
 mod slot;
 mod structure;
 mod verified;
 mod verifier;
+mod wanting;
 
 pub use bpf_insn::{Cause, Refusal};
 pub use bpf_note::MapShape;
 pub use graph::{pass_order_is_unique, pass_order_rises, runs_are_short};
+pub use laws::{faultless_programs_are_accepted, refusals_are_unique};
 pub use verified::Verified;
 pub use verifier::verify;
 

@@ -1,16 +1,17 @@
 //! The second pass: what is known at each slot that the flow graph reaches.
-ghost use Rattle.std.specs.Prelude.{◌≡◌, ◌<◌, ◌∷◌, [], ℕ, true, length, slice_get, vec_len, OnOk, IfOk, IfErr};
+ghost use Rattle.std.specs.Prelude.{◌≡◌, ◌<◌, ◌∷◌, [], ℕ, true, length, slice_get, vec_len, Ok, OnErr, OnOk, IfOk, IfErr};
 ghost use Rattle.bpf_insn.specs.Code.{IsCode};
-ghost use Rattle.bpf_flow.specs.Gives.{edges_of};
+ghost use Rattle.bpf_flow.specs.Gives.{edges_of, WantsMemory};
 ghost use Rattle.bpf_note.specs.Parts.{facts};
 ghost use Rattle.bpf_verify.specs.Consistent.{IsOrdered};
 ghost use Rattle.bpf_verify.specs.FirstRefusal.{IsStructured, IsPassed, IsHalted};
-ghost use Rattle.bpf_verify.specs.Gathered.{Hears, told, first_notes, AreAllowed, IsFirstCause};
+ghost use Rattle.bpf_verify.specs.Gathered.{Hears, told, first_notes, AreAllowed, TakesMemory, IsFirstCause};
 ghost use Rattle.bpf_verify.specs.Structure.{begins};
 ghost use Rattle.bpf_verify.specs.Tables.{facts_at, LeadInside, IsMet};
 
 use crate::graph::pass_order;
 use crate::note_list::NoteList;
+use crate::wanting::wanting;
 use bpf_flow::{Successor, Successors, after};
 use bpf_insn::{Cause, Insn, Refusal};
 use bpf_note::MapShape;
@@ -34,6 +35,7 @@ fn spread(
     requires { LeadInside (edges_of successors) (vec_len table.old) }
     ensures size { OnOk result (vec_len table.new ≡ vec_len table.old) }
     ensures hears { OnOk result ((q : ℕ) → Hears (facts_at table.old.items q) q (edges_of successors) (facts_at table.new.items q)) }
+    ensures err { OnErr result (WantsMemory (Ok (edges_of successors))) }
 {
     match successors {
         Successors::None => Ok(()),
@@ -62,7 +64,7 @@ fn follow(
     ensures size { OnOk result (vec_len table.new ≡ length code.now) }
     ensures hears { OnOk result ((q : ℕ) → Hears (facts_at table.old.items q) q (told code.now shapes.now pc (facts_at table.old.items pc)) (facts_at table.new.items q)) }
     ensures allowed { OnOk result (AreAllowed code.now shapes.now pc (facts_at table.old.items pc)) }
-    ensures err { IfErr result (λ c. IsMet c (IsFirstCause code.now shapes.now pc (facts_at table.old.items pc) c)) }
+    ensures err { IfErr result (λ c. IsMet c (TakesMemory code.now shapes.now pc (facts_at table.old.items pc)) (IsFirstCause code.now shapes.now pc (facts_at table.old.items pc) c)) }
 {
     let insn = code[pc as usize];
     for i in 0..table[pc as usize].notes().len() {
@@ -100,15 +102,13 @@ pub(crate) fn notes_of(
     ensures passed { IfOk result (λ v. IsPassed code.now shapes.now (facts_at v.items)) }
     ensures halted { IfErr result (λ r. IsHalted code.now shapes.now r.pc r.cause) }
 {
-    let wanting = Refusal {
-        cause: Cause::Memory,
-        pc: 0,
+    let order = match pass_order(alloc, code) {
+        Ok(order) => order,
+        Err(error) => return Err(wanting(error, 0)),
     };
-    let Ok(order) = pass_order(alloc, code) else {
-        return Err(wanting);
-    };
-    let Ok(mut table) = blank(alloc, code.len()) else {
-        return Err(wanting);
+    let mut table = match blank(alloc, code.len()) {
+        Ok(table) => table,
+        Err(error) => return Err(wanting(error, 0)),
     };
     for &pc in &order {
         if let Err(cause) = follow(alloc, code, shapes, &mut table, pc) {

@@ -1,12 +1,14 @@
 //! The first pass: the structure of a program, over all slots, reached or not.
-ghost use Rattle.std.specs.Prelude.{◌≡◌, ◌<◌, ◌≤◌, ℕ, Some, true, false, length, slice_get, IsTrue, IfOk, IfSome, IfNone};
+ghost use Rattle.std.specs.Prelude.{◌≡◌, ◌<◌, ◌≤◌, ◌↔◌, ℕ, Some, true, false, length, slice_get, IsTrue, IfOk, IfErr, IfSome, IfNone};
 ghost use Rattle.bpf_insn.specs.declared.insn.Insn.{Insn};
-ghost use Rattle.bpf_verify.specs.Structure.{lands, misses_target, runs_off, lacks_map};
+ghost use Rattle.bpf_verify.specs.Structure.{jump_of, lands, misses_target, runs_off, lacks_map};
 ghost use Rattle.bpf_verify.specs.Consistent.{IsOrdered};
+ghost use Rattle.bpf_verify.specs.Edges.{JumpsBack};
 ghost use Rattle.bpf_verify.specs.FirstRefusal.{IsFine, IsFault, IsStructured, IsStructureRefusal};
 
 use crate::graph::{closes_cycle_unless, is_ordered};
 use crate::slot::{begins, falls_through, insn_at, jump_of};
+use crate::wanting::wanting;
 use bpf_flow::{jump_target, next_slot};
 use bpf_insn::{Cause, Insn, Refusal};
 use std::alloc::{AllocError, Global};
@@ -61,9 +63,12 @@ fn fault_of(
 ) -> Result<Option<Cause>, AllocError>
     requires short { length code.now ≤ 4096 }
     requires inside { pc < length code.now }
-    requires ordered { IsTrue ordered → IsOrdered code.now }
+    requires ordered { IsTrue ordered ↔ IsOrdered code.now }
     ensures none { IfOk result (λ o. IfNone o (IsFine code.now maps pc insn)) }
     ensures some { IfOk result (λ o. IfSome o (IsFault code.now maps pc insn)) }
+    ensures target { IfErr result (λ _. misses_target code.now pc (jump_of insn) ≡ false) }
+    ensures search { IfErr result (λ _. JumpsBack code.now pc) }
+    ensures unordered { IfErr result (λ _. IsOrdered code.now → ⊥) }
 {
     if misses_target(code, pc, jump_of(insn)) {
         return Ok(Some(Cause::Target));
@@ -89,22 +94,15 @@ pub(crate) fn first_fault(alloc: Global, code: &[Insn], maps: u32) -> Option<Ref
     ensures ordered { IfNone result (IsOrdered code.now) }
     ensures some { IfSome result (λ r. IsStructureRefusal code.now maps r.pc r.cause) }
 {
-    let Ok(ordered) = is_ordered(alloc, code) else {
-        return Some(Refusal {
-            cause: Cause::Memory,
-            pc: 0,
-        });
+    let ordered = match is_ordered(alloc, code) {
+        Ok(ordered) => ordered,
+        Err(error) => return Some(wanting(error, 0)),
     };
     for pc in 0..code.len() as u32 {
         match fault_of(alloc, code, maps, ordered, pc, code[pc as usize]) {
             Ok(None) => {}
             Ok(Some(cause)) => return Some(Refusal { cause, pc }),
-            Err(_) => {
-                return Some(Refusal {
-                    cause: Cause::Memory,
-                    pc,
-                });
-            }
+            Err(error) => return Some(wanting(error, pc)),
         }
     }
     None

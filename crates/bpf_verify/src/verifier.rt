@@ -7,7 +7,8 @@ ghost use Rattle.bpf_verify.specs.FirstRefusal.{IsRefusal, IsFaultless};
 use crate::notes::notes_of;
 use crate::structure::first_fault;
 use crate::verified::Verified;
-use bpf_insn::{Cause, Code, Refusal};
+use crate::wanting::wanting;
+use bpf_insn::{Code, Refusal};
 use bpf_note::MapShape;
 use std::alloc::Global;
 
@@ -30,17 +31,15 @@ pub fn verify(alloc: Global, code: Code, shapes: &[MapShape]) -> Result<Verified
     ensures faultless { IfOk result (λ _. IsFaultless code shapes.now) }
     ensures refused { IfErr result (λ r. IsRefusal code shapes.now r.cause r.pc) }
 {
+    let maps = match shapes.to_vec(alloc) {
+        Ok(maps) => maps,
+        Err(error) => return Err(wanting(error, 0)),
+    };
     are_shapes(shapes);
     let insns = code.insns();
     if let Some(refusal) = first_fault(alloc, insns, shapes.len() as u32) {
         return Err(refusal);
     }
     let notes = notes_of(alloc, insns, shapes)?;
-    match shapes.to_vec(alloc) {
-        Ok(shapes) => Ok(Verified::of(code, shapes, notes)),
-        Err(_) => Err(Refusal {
-            cause: Cause::Memory,
-            pc: 0,
-        }),
-    }
+    Ok(Verified::of(code, maps, notes))
 }

@@ -10,6 +10,8 @@ mod machine;
 mod memory;
 mod packet;
 mod run;
+mod running;
+mod turn;
 mod vm;
 mod want;
 

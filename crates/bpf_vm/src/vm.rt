@@ -3,15 +3,16 @@ ghost use Rattle.std.specs.Prelude.{◌≡◌, ◌+◌, ◌≤◌, ◌%◌, ◌^
 ghost use Rattle.bpf_note.specs.State.{State, IsStart};
 ghost use Rattle.bpf_flow.specs.Step.{Exited, step};
 ghost use Rattle.bpf_verify.specs.Consistent.{instructions};
-ghost use Rattle.bpf_vm.specs.Advance.{Advanced, IsNoStep, IsWantOf};
+ghost use Rattle.bpf_vm.specs.Advance.{Advanced, IsWantOf};
 ghost use Rattle.bpf_vm.specs.Course.{Exiting, course, left, start_state};
 ghost use Rattle.bpf_vm.specs.Run.{IsStep};
 ghost use Rattle.bpf_vm.specs.Running.{Advances, Asks, first_numbers, state_of};
 ghost use Rattle.bpf_vm.specs.Stands.{Stands, now, own, exits, Ends, label_of};
-ghost use Rattle.bpf_vm.specs.Wants.{IsLoad, IsAdd};
+ghost use Rattle.bpf_vm.specs.Wants.{IsLoad, IsAdd, IsNoStep};
 
 use crate::machine::Machine;
 use crate::packet::PacketBuf;
+use crate::turn::{Stop, Turn};
 use crate::want::VmWant;
 use bpf_verify::Verified;
 use std::marker::Model;
@@ -21,6 +22,7 @@ use std::marker::Model;
 pub struct Vm<'p, 'b> {
     program: &'p Verified,
     machine: Machine<'p, 'b>,
+    pc: u32,
     count: u32,
 }
 
@@ -31,10 +33,10 @@ impl<'p, 'b> Model for Vm<'p, 'b> {
 
     ghost Value = { Running };
 
-    ghost view = { λ v. record { program = v.program.now; numbers = numbers_of v.machine; count = v.count } };
+    ghost view = { λ v. record { program = v.program.now; numbers = numbers_of v.pc v.machine; count = v.count } };
 
     ghost invariant = { λ v. (v.machine.shapes.now ≡ v.program.now.shapes)
-        × IsRunning (record { program = v.program.now; numbers = numbers_of v.machine; count = v.count }) };
+        × IsRunning (record { program = v.program.now; numbers = numbers_of v.pc v.machine; count = v.count }) };
 }
 
 impl<'p, 'b> Vm<'p, 'b> {
@@ -57,6 +59,7 @@ impl<'p, 'b> Vm<'p, 'b> {
         Vm {
             program,
             machine,
+            pc: 0,
             count: 0,
         }
     }
@@ -65,8 +68,8 @@ impl<'p, 'b> Vm<'p, 'b> {
     pub fn want(&self) -> VmWant
         ensures { IsWantOf result self.now }
     {
-        let insn = *self.program.insn(self.machine.pc);
-        self.machine.want(insn)
+        let insn = *self.program.insn(self.pc);
+        self.machine.want(self.pc, insn)
     }
 
     /// Does all instructions up to one that wants a counter's number, or the exit, and returns what that one wants.
@@ -75,12 +78,10 @@ impl<'p, 'b> Vm<'p, 'b> {
         ensures waits { IsNoStep result }
         ensures want { IsWantOf result self.new }
     {
-        loop {
-            match self.want() {
-                VmWant::Step => self.step(),
-                want => return want,
-            }
-        }
+        let Stop { want, pc, count } = self.machine.run(self.program, self.pc, self.count);
+        self.pc = pc;
+        self.count = count;
+        want
     }
 
     /// Does the next instruction.
@@ -88,10 +89,15 @@ impl<'p, 'b> Vm<'p, 'b> {
         requires { Advances (now self.old) }
         ensures { IsStep None self.old self.new }
     {
-        let insn = *self.program.insn(self.machine.pc);
-        self.machine.execute(insn);
-        self.machine.are_numbers();
-        self.count += 1;
+        let insn = *self.program.insn(self.pc);
+        match self.machine.turn(self.pc, insn) {
+            Turn::Goes(to) => {
+                self.machine.are_numbers();
+                self.pc = to;
+                self.count += 1;
+            }
+            Turn::Waits(_) => unreachable!(),
+        }
     }
 
     /// Goes on with a counter's number.
@@ -99,9 +105,10 @@ impl<'p, 'b> Vm<'p, 'b> {
         requires { Asks (now self.old) }
         ensures { IsStep (label_of (now self.old) number) self.old self.new }
     {
-        let insn = *self.program.insn(self.machine.pc);
-        self.machine.answer(insn, number);
+        let insn = *self.program.insn(self.pc);
+        let to = self.machine.answer(self.pc, insn, number);
         self.machine.are_numbers();
+        self.pc = to;
         self.count += 1;
     }
 
@@ -144,6 +151,7 @@ impl<'p, 'b> Vm<'p, 'b> {
                 let Vm {
                     program: _,
                     machine,
+                    pc: _,
                     count: _,
                 } = self;
                 ((r0 % 0x1_0000_0000) as u32, machine.into_packet())

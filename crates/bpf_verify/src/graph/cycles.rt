@@ -1,7 +1,7 @@
 //! Which jumps close a cycle, and whether any does.
-ghost use Rattle.std.specs.Prelude.{◌≡◌, ◌<◌, ◌≤◌, ◌↔◌, ℕ, Some, true, length, map, IfOk, IsTrue};
+ghost use Rattle.std.specs.Prelude.{◌≡◌, ◌<◌, ◌≤◌, ◌↔◌, ℕ, Some, true, length, map, IfErr, IfOk, IsTrue};
 ghost use Rattle.bpf_verify.specs.Consistent.{IsOrdered};
-ghost use Rattle.bpf_verify.specs.Edges.{ClosesCycle};
+ghost use Rattle.bpf_verify.specs.Edges.{ClosesCycle, JumpsBack};
 ghost use Rattle.bpf_verify.specs.Marks.{is_instruction, marked};
 
 use crate::graph::edges::jump_to;
@@ -41,7 +41,8 @@ fn is_clear(marks: &[bool]) -> bool
 fn closes_cycle(alloc: Global, code: &[Insn], pc: u32) -> Result<bool, AllocError>
     requires short { length code.now ≤ 4096 }
     requires inside { pc < length code.now }
-    ensures { IfOk result (λ b. IsTrue b ↔ ClosesCycle code.now pc) }
+    ensures closes { IfOk result (λ b. IsTrue b ↔ ClosesCycle code.now pc) }
+    ensures search { IfErr result (λ _. JumpsBack code.now pc) }
 {
     let Some(to) = jump_to(code, pc) else {
         return Ok(false);
@@ -73,8 +74,10 @@ pub(crate) fn closes_cycle_unless(
 ) -> Result<bool, AllocError>
     requires short { length code.now ≤ 4096 }
     requires inside { pc < length code.now }
-    requires ordered { IsTrue ordered → IsOrdered code.now }
-    ensures { IfOk result (λ b. IsTrue b ↔ ClosesCycle code.now pc) }
+    requires ordered { IsTrue ordered ↔ IsOrdered code.now }
+    ensures closes { IfOk result (λ b. IsTrue b ↔ ClosesCycle code.now pc) }
+    ensures search { IfErr result (λ _. JumpsBack code.now pc) }
+    ensures unordered { IfErr result (λ _. IsOrdered code.now → ⊥) }
 {
     if ordered {
         return Ok(false);

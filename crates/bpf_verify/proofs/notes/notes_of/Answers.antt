@@ -3,7 +3,7 @@ use Rattle.std.specs.Prelude.{slice_index_or}
 use Rattle.bpf_verify.specs.Edges.{IsPassOrder}
 use Rattle.bpf_verify.specs.Gathered.{IsFirstCause}
 use Rattle.bpf_verify.specs.Tables.{facts_at}
-use Rattle.bpf_verify.proofs.PassingLemmas.{passing_on, passing_stops, passing_last, order_begins, begun_inside, halted_by}
+use Rattle.bpf_verify.proofs.PassingLemmas.{passing_on, passing_stops, passing_takes, passing_last, order_begins, begun_inside, halted_by}
 use Rattle.bpf_verify.proofs.notes.notes_of.Goals as goal
 
 pub follow-requires-clause-there : goal.follow-requires-clause-there
@@ -16,21 +16,22 @@ follow-requires-clause-begins c =
     let is = subst (IsPassOrder c.args.code.now) (sym c.deref-pc-items.ensures.value) c.in-Ok.ensures in
     order_begins c.args.code.now c.deref-pc-items.result.now c.loop-pc.pc-index c.requires.laid is (omega arith)
 
-pub returns-in-Err-clause-halted : goal.returns-in-Err-clause-halted
-returns-in-Err-clause-halted c =
+pub returns-in-Err-follow-clause-halted : goal.returns-in-Err-follow-clause-halted
+returns-in-Err-follow-clause-halted c =
     let is = subst (IsPassOrder c.args.code.now) (sym c.deref-pc-items.ensures.value) c.in-Ok.ensures in
     let pc = slice_index_or c.deref-pc-items.result.now c.loop-pc.pc-index 0 in
-    halted_by c.args.code.now c.args.shapes.now pc c.in-Err.cause (IsFirstCause c.args.code.now c.args.shapes.now pc (facts_at c.loop-pc.table.items pc) c.in-Err.cause)
-    (begun_inside c.args.code.now _ (order_begins c.args.code.now c.deref-pc-items.result.now c.loop-pc.pc-index c.requires.laid is (omega arith))) c.in-Err.ensures.err
-    (passing_stops c.args.code.now c.args.shapes.now c.deref-pc-items.result.now c.requires.laid c.requires.structured is c.loop-pc.pc-index pc (omega arith) refl (facts_at c.loop-pc.table.items) c.loop-pc.invariant.1 c.in-Err.cause)
+    let taken = c.loop-pc.invariant.1 in
+    halted_by c.args.code.now c.args.shapes.now pc c.in-Err-follow.cause _ (IsFirstCause c.args.code.now c.args.shapes.now pc (facts_at c.loop-pc.table.items pc) c.in-Err-follow.cause) c.in-Err-follow.ensures.err
+    (passing_takes c.args.code.now c.args.shapes.now c.deref-pc-items.result.now c.requires.laid c.requires.structured is c.loop-pc.pc-index pc (omega arith) refl (facts_at c.loop-pc.table.items) taken)
+    (passing_stops c.args.code.now c.args.shapes.now c.deref-pc-items.result.now c.requires.laid c.requires.structured is c.loop-pc.pc-index pc (omega arith) refl (facts_at c.loop-pc.table.items) taken c.in-Err-follow.cause)
 
 pub loop-pc-preserved : goal.loop-pc-preserved
 loop-pc-preserved c =
     let is = subst (IsPassOrder c.args.code.now) (sym c.deref-pc-items.ensures.value) c.in-Ok.ensures in
     let pc = slice_index_or c.deref-pc-items.result.now c.loop-pc.pc-index 0 in (
-      c.in_default-follow.ensures.size,
+      c.in_default.ensures.size,
       passing_on c.args.code.now c.args.shapes.now c.deref-pc-items.result.now c.requires.laid c.requires.structured is c.loop-pc.pc-index pc (omega arith) refl (facts_at c.loop-pc.table.items) c.loop-pc.invariant.1
-          (facts_at c.follow.new.table.items) c.in_default-follow.ensures.hears c.in_default-follow.ensures.allowed,
+          (facts_at c.follow.new.table.items) c.in_default.ensures.hears c.in_default.ensures.allowed,
     )
 
 pub returns-clause-passed : goal.returns-clause-passed

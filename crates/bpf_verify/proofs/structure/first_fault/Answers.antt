@@ -1,18 +1,20 @@
-use Rattle.std.proofs.Common.{◌≡◌, ◌<◌, ◌≤◌, ◌+◌, length, inl, inr, ℕ, List, Some, arith, sym, subst, ap, ◌∙◌}
+use Rattle.std.proofs.Common.{◌≡◌, ◌<◌, ◌≤◌, ◌+◌, length, inl, inr, ℕ, List, Some, arith, sym, subst, ap, ◌∙◌, false}
 use Rattle.std.specs.Prelude.{slice_get}
 use Rattle.std.proofs.lemmas.Bool.{cases_lt}
 use Rattle.std.proofs.lemmas.Option.{slice_get-get_or}
 use Rattle.bpf_insn.specs.declared.insn.Insn.{Insn}
 use Rattle.bpf_insn.specs.declared.refusal.Cause.{Cause}
 use Rattle.bpf_insn.specs.declared.refusal.Cause.TheVariants.{Memory}
-use Rattle.bpf_verify.specs.Edges.{ClosesCycle}
+use Rattle.bpf_verify.specs.Consistent.{IsOrdered}
+use Rattle.bpf_verify.specs.Edges.{ClosesCycle, JumpsBack}
+use Rattle.bpf_verify.specs.Structure.{jump_of, misses_target}
 use Rattle.bpf_verify.specs.FirstRefusal.{IsFine, IsFault, IsStructureRefusal}
 use Rattle.bpf_verify.proofs.GraphLemmas.{some_inside}
 use Rattle.bpf_verify.proofs.structure.first_fault.Goals as goal
 
 first_refusal : (code : List Insn) (maps pc : ℕ) (i : Insn) (cause : Cause) → slice_get code pc ≡ Some i → IsFault code maps pc i cause →
     ((p : ℕ) (j : Insn) → p < pc → slice_get code p ≡ Some j → IsFine code maps p j) → IsStructureRefusal code maps pc cause
-first_refusal code maps pc i Memory e f before = some_inside code pc i e
+first_refusal code maps pc i Memory e f before = absurd f
 first_refusal code maps pc i cause e f before = record { insn = i; here = e; fault = f; before = before }
 
 one_more : (code : List Insn) (maps pc : ℕ) (i : Insn) → slice_get code pc ≡ Some i → IsFine code maps pc i →
@@ -47,3 +49,17 @@ returns-clause-none c = λ p i e.
 
 pub returns-clause-ordered : goal.returns-clause-ordered
 returns-clause-ordered c = c.in-Ok.ensures.acyclic (λ q low k. none_closes c.args.code.now c.args.maps c.loop-pc.pc (omega (arith, c.loop-pc-test.false)) c.loop-pc.invariant q k)
+
+searching : (code : List Insn) (maps pc : ℕ) (i : Insn) → slice_get code pc ≡ Some i → JumpsBack code pc → (IsOrdered code → ⊥) → misses_target code pc (jump_of i) ≡ false →
+    ((p : ℕ) (j : Insn) → p < pc → slice_get code p ≡ Some j → IsFine code maps p j) → IsStructureRefusal code maps pc Memory
+searching code maps pc i here jump unordered found before =
+    let both : Some i ≡ Some jump.insn = sym here ∙ jump.here in
+    let same : i ≡ jump.insn = cc in
+    inr (record { jump = jump; unordered = unordered; found = subst (λ (i : Insn). misses_target code pc (jump_of i) ≡ false) same found; before = before })
+
+pub returns-in-Err-fault_of-clause-some : goal.returns-in-Err-fault_of-clause-some
+returns-in-Err-fault_of-clause-some c =
+    let code = c.args.code.now in
+    let here = slice_get-get_or code c.loop-pc.pc _ (omega (arith, c.loop-pc-test.true)) in
+    let e = c.in-Err-fault_of.ensures in
+    rw (c.wanting-in-Err-fault_of.ensures.cause, c.wanting-in-Err-fault_of.ensures.slot) (searching code c.args.maps c.loop-pc.pc _ here e.search e.unordered e.target c.loop-pc.invariant)

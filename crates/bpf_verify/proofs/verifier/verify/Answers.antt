@@ -24,15 +24,15 @@ pub of-requires : goal.of-requires
 of-requires c =
     let same = c.insns-insns.ensures.same in
     let shapes = c.args.shapes.now in
-    let copied : c.in-Ok.shapes.items ≡ c.args.shapes.now = c.in-Ok.ensures.items_if_clones_equal (λ x y e. e) in
+    let copied : c.in-Ok.maps.items ≡ c.args.shapes.now = c.in-Ok.ensures.items_if_clones_equal (λ x y e. e) in
     let structured = subst (λ (code : List Insn). IsStructured code (length shapes)) same c.in_default.ensures.none in
     let ordered = subst IsOrdered same c.in_default.ensures.ordered in
     let passed = subst (λ (code : List Insn). IsPassed code shapes (facts_at c.in_ok-notes.notes.items)) same c.in_ok-notes.ensures.passed in
     let k = consistent c.args.code shapes c.in_ok-notes.notes.items c.insns-insns.ensures.code c.requires c.are_shapes.ensures structured ordered passed in
     record { consistent = subst (λ (shapes : List Shape). IsConsistent (record { code = c.args.code; shapes = shapes; notes = c.in_ok-notes.notes.items })) (sym copied) k }
 
-pub returns-in-Ok-clause-faultless : goal.returns-in-Ok-clause-faultless
-returns-in-Ok-clause-faultless c =
+pub returns-clause-faultless : goal.returns-clause-faultless
+returns-clause-faultless c =
     let same = c.insns-insns.ensures.same in
     let shapes = c.args.shapes.now in
     let structured = subst (λ (code : List Insn). IsStructured code (length shapes)) same c.in_default.ensures.none in

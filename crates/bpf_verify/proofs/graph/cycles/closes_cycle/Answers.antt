@@ -2,7 +2,8 @@ use Rattle.std.proofs.Common.{◌≡◌, ◌<◌, ℕ, zero, suc, List, [], ◌�
 use Rattle.std.specs.Prelude.{slice_index_or}
 use Rattle.bpf_verify.specs.Ways.{jump_to}
 use Rattle.bpf_verify.specs.Marks.{marked}
-use Rattle.bpf_verify.proofs.WayLemmas.{closes, closes_from, closes_nowhere}
+use Rattle.bpf_verify.proofs.WayLemmas.{jump_found, closes, closes_from, closes_nowhere}
+use Rattle.bpf_verify.proofs.ListLemmas.{any_error}
 use Rattle.bpf_verify.proofs.graph.cycles.closes_cycle.Goals as goal
 
 is_marked : (m : List Bool) (k : ℕ) (b : Bool) → b ≡ slice_index_or m k b → k < length m → b ≡ marked m k
@@ -10,15 +11,15 @@ is_marked [] k b e low = absurd (omega arith)
 is_marked (x ∷ m) zero b e low = e
 is_marked (x ∷ m) (suc k) b e low = is_marked m k b e (omega arith)
 
-pub returns-in_default : goal.returns-in_default
-returns-in_default c = (λ e. cc, λ k. absurd (closes_nowhere c.args.code.now c.args.pc (sym c.jump_to.ensures ∙ c.in_default.is) k))
+pub returns-in_default-clause-closes : goal.returns-in_default-clause-closes
+returns-in_default-clause-closes c = (λ e. cc, λ k. absurd (closes_nowhere c.args.code.now c.args.pc (sym c.jump_to.ensures ∙ c.in_default.is) k))
 
-pub returns-then-to-pc : goal.returns-then-to-pc
-returns-then-to-pc c =
+pub returns-then-to-pc-clause-closes : goal.returns-then-to-pc-clause-closes
+returns-then-to-pc-clause-closes c =
     (λ e. cc, λ k. let at = closes_from c.args.code.now c.args.pc c.in-Some.to (sym c.jump_to.ensures ∙ c.in-Some.is) k in absurd (omega (arith, at.0, c.if-to-pc.true)))
 
-pub returns : goal.returns
-returns c =
+pub returns-clause-closes : goal.returns-clause-closes
+returns-clause-closes c =
     let code = c.args.code.now in
     let jumps : jump_to code c.args.pc ≡ Some c.in-Some.to = sym c.jump_to.ensures ∙ c.in-Some.is in
     let exact = c.in_ok-marks.ensures.exact c.args.pc in
@@ -26,3 +27,8 @@ returns c =
       λ e. closes code c.args.pc c.in-Some.to jumps c.if-to-pc.false (exact.0 (sym is ∙ e)),
       λ k. is ∙ exact.1 (closes_from code c.args.pc c.in-Some.to jumps k).1,
     )
+
+pub returns-in_err-marks-clause-search : goal.returns-in_err-marks-clause-search
+returns-in_err-marks-clause-search c =
+    let found = jump_found c.args.code.now c.args.pc c.in-Some.to (sym c.jump_to.ensures ∙ c.in-Some.is) in
+    any_error c.from_residual.result (record { insn = found.insn; here = found.here; offset = found.offset; jumps = found.jumps; to = c.in-Some.to; lands = found.lands; back = omega (arith, c.if-to-pc.false) })

@@ -1,8 +1,8 @@
-use Rattle.bpf_vm.proofs.AdvanceLemmas.{advanced_here, advanced_step}
+use Rattle.bpf_vm.specs.Stands.{running_of}
+use Rattle.bpf_vm.proofs.AdvanceLemmas.{wanted_of}
 use Rattle.bpf_vm.proofs.vm.Vm.advance.Goals as goal
 
-pub loop-self-init : goal.loop-self-init
-loop-self-init c = advanced_here c.args.self.now
-
-pub loop-self-preserved : goal.loop-self-preserved
-loop-self-preserved c = advanced_step c.args.self.now c.loop-self.self c.step.new.self c.loop-self.invariant c.in-Step.ensures.course c.step.ensures
+pub returns-clause-want : goal.returns-clause-want
+returns-clause-want c =
+    let r = c.run-want in
+    wanted_of (running_of c.self.inside.program.now r.result.pc r.new.self r.result.count) r.result.want r.ensures.running r.ensures.want

@@ -4,10 +4,16 @@ use Rattle.bpf_vm.proofs.AfterLemmas.{after_step}
 use Rattle.bpf_vm.proofs.vm.Vm.step.Goals as goal
 
 pub are_numbers-requires-clause-few : goal.are_numbers-requires-clause-few
-are_numbers-requires-clause-few c = (after_step c.self.inside.program.now c.self.inside.machine c.execute.new.self c.self.invariant.1.consistent c.self.invariant.0 c.insn-insn.ensures.at c.self.invariant.1 c.execute.ensures).few
+are_numbers-requires-clause-few c =
+    let v = c.self.inside in
+    let r = c.self.invariant.1 in
+    (after_step v.program.now v.pc v.machine c.in-Goes.to c.turn.new.self r.consistent c.self.invariant.0 c.insn-insn.ensures.at r c.in-Goes.ensures).few
 
 pub are_numbers-requires-clause-shapes : goal.are_numbers-requires-clause-shapes
-are_numbers-requires-clause-shapes c = (after_step c.self.inside.program.now c.self.inside.machine c.execute.new.self c.self.invariant.1.consistent c.self.invariant.0 c.insn-insn.ensures.at c.self.invariant.1 c.execute.ensures).maps
+are_numbers-requires-clause-shapes c =
+    let v = c.self.inside in
+    let r = c.self.invariant.1 in
+    (after_step v.program.now v.pc v.machine c.in-Goes.to c.turn.new.self r.consistent c.self.invariant.0 c.insn-insn.ensures.at r c.in-Goes.ensures).maps
 
 pub overflow_add-self : goal.overflow_add-self
 overflow_add-self c =
@@ -17,8 +23,14 @@ overflow_add-self c =
 
 pub invariant_of-self : goal.invariant_of-self
 invariant_of-self c =
-    let after = after_step c.self.inside.program.now c.self.inside.machine c.execute.new.self c.self.invariant.1.consistent c.self.invariant.0 c.insn-insn.ensures.at c.self.invariant.1 c.execute.ensures in
-    (after.shapes, after.running c.are_numbers.ensures)
+    let v = c.self.inside in
+    let r = c.self.invariant.1 in
+    let after = after_step v.program.now v.pc v.machine c.in-Goes.to c.turn.new.self r.consistent c.self.invariant.0 c.insn-insn.ensures.at r c.in-Goes.ensures in
+    (after.shapes, after.running (c.are_numbers.ensures c.in-Goes.to))
 
 pub returns : goal.returns
-returns c = rw (← c.self.view_is) ((after_step c.self.inside.program.now c.self.inside.machine c.execute.new.self c.self.invariant.1.consistent c.self.invariant.0 c.insn-insn.ensures.at c.self.invariant.1 c.execute.ensures).is_step c.are_numbers.ensures)
+returns c =
+    let v = c.self.inside in
+    let r = c.self.invariant.1 in
+    let after = after_step v.program.now v.pc v.machine c.in-Goes.to c.turn.new.self r.consistent c.self.invariant.0 c.insn-insn.ensures.at r c.in-Goes.ensures in
+    rw (← c.self.view_is) (after.is_step (c.are_numbers.ensures c.in-Goes.to))
