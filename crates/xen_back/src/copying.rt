@@ -255,7 +255,7 @@ pub(crate) fn page_read<'p, 'b>(
         n,
     } = page;
     let bytes = fragment.bytes_in(place, word);
-    push_all(&mut packet, bytes.as_slice());
+    packet.push_all(bytes.as_slice());
     if n == 0 {
         next_fragment(wiring, state, packet, chain, fragments, i)
     } else {
@@ -271,14 +271,5 @@ pub(crate) fn page_read<'p, 'b>(
             place + 1,
             n - 1,
         )
-    }
-}
-
-fn push_all(packet: &mut PacketBuf, bytes: &[u8])
-    requires { length packet.old + length bytes.now ≤ 65535 }
-    ensures { packet.new ≡ packet.old ++ bytes.now }
-{
-    for byte in bytes {
-        packet.push(*byte);
     }
 }
