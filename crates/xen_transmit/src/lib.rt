@@ -15,3 +15,6 @@ mod writing;
 pub use phase::Outcome;
 pub use transmit::{Progress, Transmit};
 pub use vif::Vif;
+
+#[cfg(test)]
+mod tests;

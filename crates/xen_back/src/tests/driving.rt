@@ -26,6 +26,16 @@ const ONE_PACKET: [(u32, u32, u32); 12] = [
     (18, 3, 1),
 ];
 
+/// Writes the packet into the pages.
+fn fill(frames: &Frames) {
+    for (frame, word, value) in ONE_PACKET {
+        let mut pages = PageBus::of(frames);
+        if frame < pages.frames() && word < 1024 {
+            pages.write(Place { frame, word }, value);
+        }
+    }
+}
+
 #[test]
 fn a_turn_over_pages_is_the_turn_of_its_answers(rt: HostRuntime) -> Result<(), Fail> {
     let owners = owners(rt.alloc())?;
@@ -36,15 +46,10 @@ fn a_turn_over_pages_is_the_turn_of_its_answers(rt: HostRuntime) -> Result<(), F
     let mut domains = [1; 20];
     domains[0] = 0;
     let frames = Frames::make(rt.alloc(), &domains)?;
-    let mut pages = PageBus::of(&frames);
-    for (frame, word, value) in ONE_PACKET {
-        if frame < pages.frames() && word < 1024 {
-            pages.write(Place { frame, word }, value);
-        }
-    }
+    fill(&frames);
     let (counters, mut seats) = Counters::make(rt.alloc(), &[], 1)?;
     let mut seat = seats.pop().ok_or("no seat")?;
-    let mut bus = Recorder::make(rt.alloc(), pages, 100)?;
+    let mut bus = Recorder::make(rt.alloc(), PageBus::of(&frames), 100)?;
     let ports = Ports::new();
     let turn = queue.drive_turn(&mut bus, &counters, &mut seat, &ports);
     let kind = kind_of(&turn);

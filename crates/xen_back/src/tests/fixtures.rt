@@ -50,7 +50,9 @@ pub fn write(frame: u32, word: u32, value: u32) -> Access {
     }
 }
 
-pub fn owners(alloc: Global) -> Result<Owners, Fail> {
+pub fn owners(alloc: Global) -> Result<Owners, Fail>
+    ensures { IfOk result (λ owners. length owners ≡ 20) }
+{
     let mut domains = [1; 20];
     domains[0] = 0;
     Ok(Owners::make(alloc, &domains)?)
@@ -70,14 +72,20 @@ pub fn program(alloc: Global, bytes: &[u8], shapes: &[MapShape]) -> Result<Verif
 }
 
 /// The ring under a reference, mapped for writing.
-fn ring(alloc: Global, owners: &Owners, table: &Table, gref: u32) -> Result<Mapped, Fail>
+fn ring(
+    alloc: Global,
+    owners: &Owners,
+    table: &Table,
+    gref: u32,
+    frame: u32,
+) -> Result<Mapped, Fail>
     requires { IsTable owners.now 1 table.now }
     ensures { IfOk result (λ m. IsMappedBy owners.now 1 m × (m.write ≡ true)) }
 {
     if !table.is_within(FRAMES) {
         return Err("no table".into());
     }
-    let mut bus = ScriptBus::make(alloc, FRAMES, &[1, 17 + gref, 1], 0)?;
+    let mut bus = ScriptBus::make(alloc, FRAMES, &[1, frame, 1], 0)?;
     match map(&mut bus, table, owners, 1, 0, gref, true) {
         Ok(mapped) => Ok(mapped),
         Err(_) => Err("no ring".into()),
@@ -99,8 +107,8 @@ pub fn queue<'p, 'b>(
     ensures program { IfOk result (λ q. (wiring_of q).program.now ≡ program.now) }
 {
     let desc = QueueDesc {
-        tx: ring(alloc, owners, table, 0)?,
-        rx: ring(alloc, owners, table, 1)?,
+        tx: ring(alloc, owners, table, 0, 17)?,
+        rx: ring(alloc, owners, table, 1, 18)?,
         table,
         owners,
         granter: 1,

@@ -90,17 +90,6 @@ fn no_byte_of_an_earlier_packet_is_seen(rt: HostRuntime) -> Result<(), Fail> {
     let program = program(rt.alloc(), &LOOKS_AT_BYTE_14, &[])?;
     let mut buffer = Buffer::make(rt.alloc())?;
     let mut queue = queue(rt.alloc(), &owners, &table, &program, 0, &mut buffer)?;
-    feed_turn(
-        rt.alloc(),
-        &mut queue,
-        &[1, 2, 0, slot(7, 15), 1, 19, 1, 2, 3, 4],
-    )?;
-    assert!(rt; queue.want() == Want::Done);
-    let turn = queue.turn();
-    let Turn::Ran { action, packet, .. } = turn else {
-        return Err("no run".into());
-    };
-    assert_eq!(rt; (action, packet.len()), (Action::Pass, 15));
     let longer = [1, 2, 0, slot(7, 15), 1, 19, 1, 2, 3, 4];
     feed_turn(rt.alloc(), &mut queue, &longer)?;
     assert!(rt; queue.want() == Want::Done);
