@@ -4,11 +4,10 @@
 mod desc;
 mod distinct;
 mod grant;
-mod wired;
-mod wiring;
-
 #[cfg(test)]
 mod tests;
+mod wired;
+mod wiring;
 
 pub use desc::FrontDesc;
 pub use grant::{buffer_of, grant_flags, grant_frame};

@@ -9,26 +9,27 @@ ghost use Rattle.xen_front.specs.contracts.front.Front.{the_row};
 ghost use Rattle.xen_front.specs.Fronts.{IsFed, IsOver, rest, state_of, wiring_of};
 ghost use Rattle.xen_front.specs.Given.{Shows, given};
 ghost use Rattle.xen_front.specs.Rest.{HasSpace, busy_in, rest_at};
+ghost use Rattle.xen_front.specs.Slots.{ended};
 ghost use Rattle.xen_front.specs.Tree.{take_all};
+ghost use Rattle.xen_ring.specs.Layout.{rsp_event};
 ghost use Rattle.xen_steps.specs.Answers.{Fits};
 ghost use Rattle.xen_steps.specs.Drive.{IsPageWant};
+ghost use Rattle.xen_steps.specs.Places.{add32, page_word};
 ghost use Rattle.xen_steps.specs.Steps.{done, next_by, want_of};
 
 use crate::front::Front;
 use crate::packet::Packet;
 use crate::phase::Phase;
-use crate::posting::{
-    begin_post, event_read, post_first, post_flags, post_frame, post_second, posted,
-};
+use crate::posting::{event_read, post_first, post_flags, post_frame, post_second, posted};
 use crate::receiving::{grant_ended, page_read, response_read, rx_first_looked, rx_looked};
 use crate::sending::{
-    READ_GRANT, filled, filling_want, first_piece, granted, page, slot_write, slot_written,
+    filled, filling_want, granted, piece_flags, piece_frame, slot_write, slot_written,
 };
-use crate::state::State;
-use crate::taking::{begin_poll, shown, tx_first_looked, tx_looked, tx_response_read};
-use crate::turn::{Kind, PollRefusal, PostRefusal, RxTurn, SendRefusal};
+use crate::state::{Ring, State};
+use crate::taking::{shown, tx_first_looked, tx_looked, tx_response_read};
+use crate::turn::{Kind, RxTurn};
 use std::mem;
-use xen_buffers::{Wiring, buffer_of, grant_flags, grant_frame};
+use xen_buffers::{Buffer, Wiring, buffer_of, grant_flags};
 use xen_page::Place;
 use xen_ring::{REQ_EVENT, REQ_PROD, RSP_EVENT, RSP_PROD};
 use xen_steps::{Answer, Want, header, rx_entry, tx_entry};
@@ -44,6 +45,20 @@ fn taking(wiring: &Wiring, state: &State, n: u32) -> Want
     }
 }
 
+/// Asks for a notice of the next response on a ring.
+fn announce(frame: u32, ring: &Ring) -> Want
+    ensures { result ≡ Want.Write (page_word frame rsp_event) (add32 ring.now.cons 1) }
+{
+    Want::Write(header(frame, RSP_EVENT), ring.cons.wrapping_add(1))
+}
+
+/// Ends a buffer's grant.
+fn end_grant(wiring: &Wiring, buffer: &Buffer) -> Want
+    ensures { result ≡ Want.Write (ended wiring.now buffer.now).at 0 }
+{
+    Want::Write(grant_flags(wiring, buffer), 0)
+}
+
 /// What a phase wants.
 fn phase_want(wiring: &Wiring, state: &State, sent: &[u8], received: &Packet, phase: &Phase) -> Want
     requires { length sent.now ≤ 65535 }
@@ -51,20 +66,11 @@ fn phase_want(wiring: &Wiring, state: &State, sent: &[u8], received: &Packet, ph
 {
     match phase {
         Phase::Ready => Want::Done,
-        Phase::GrantFrame(r) => {
-            let buffer = page(wiring, r);
-            Want::Write(grant_frame(wiring, &buffer), buffer.frame)
-        }
-        Phase::GrantFlags(r) => {
-            let buffer = page(wiring, r);
-            Want::Write(
-                grant_flags(wiring, &buffer),
-                READ_GRANT + 0x1_0000 * u32::from(wiring.back),
-            )
-        }
-        Phase::Fill(f) => filling_want(wiring, state, sent, f),
-        Phase::Second(r) => slot_write(wiring, sent, r, 1),
-        Phase::Third(r) => slot_write(wiring, sent, r, 2),
+        Phase::GrantFrame(piece) => piece_frame(wiring, piece),
+        Phase::GrantFlags(piece) => piece_flags(wiring, piece),
+        Phase::Fill(filling) => filling_want(wiring, state, sent, filling),
+        Phase::Second(piece) => slot_write(wiring, sent, piece, 1),
+        Phase::Third(piece) => slot_write(wiring, sent, piece, 2),
         Phase::PostFrame(id, start) => post_frame(wiring, state, *id, *start),
         Phase::PostFlags(id, start) => post_flags(wiring, state, *id, *start),
         Phase::PostFirst(id, start) => post_first(wiring, state, *id, *start),
@@ -72,28 +78,18 @@ fn phase_want(wiring: &Wiring, state: &State, sent: &[u8], received: &Packet, ph
         Phase::Publish(push) => Want::Write(header(push.frame, REQ_PROD), push.new),
         Phase::ReadEvent(push) => Want::Read(header(push.frame, REQ_EVENT)),
         Phase::Notice => Want::Notify(wiring.port),
-        Phase::TxLook => Want::Read(header(wiring.tx_frame, RSP_PROD)),
-        Phase::TxAnnounce => Want::Write(
-            header(wiring.tx_frame, RSP_EVENT),
-            state.tx.cons.wrapping_add(1),
-        ),
-        Phase::TxLookAgain => Want::Read(header(wiring.tx_frame, RSP_PROD)),
-        Phase::Take(n) => taking(wiring, state, *n),
-        Phase::TxEnd(id, _) => Want::Write(grant_flags(wiring, &buffer_of(wiring.tx, *id)), 0),
-        Phase::RxAnnounce => Want::Write(
-            header(wiring.rx_frame, RSP_EVENT),
-            state.rx.cons.wrapping_add(1),
-        ),
+        Phase::TxLook | Phase::TxLookAgain => Want::Read(header(wiring.tx_frame, RSP_PROD)),
+        Phase::TxAnnounce => announce(wiring.tx_frame, &state.tx),
+        Phase::Take(left) => taking(wiring, state, *left),
+        Phase::TxEnd(id, _) => end_grant(wiring, &buffer_of(wiring.tx, *id)),
+        Phase::RxAnnounce => announce(wiring.rx_frame, &state.rx),
         Phase::RxLookAgain => Want::Read(header(wiring.rx_frame, RSP_PROD)),
         Phase::RxFirst(_) => Want::Read(rx_entry(wiring.rx_frame, state.rx.cons, 0)),
         Phase::RxSecond(_, _) => Want::Read(rx_entry(wiring.rx_frame, state.rx.cons, 1)),
-        Phase::RxEnd(x) => Want::Write(
-            grant_flags(wiring, &buffer_of(wiring.rx, x.response.id)),
-            0,
-        ),
-        Phase::RxPage(g) => Want::Read(Place {
-            frame: g.frame,
-            word: g.place,
+        Phase::RxEnd(part) => end_grant(wiring, &buffer_of(wiring.rx, part.response.id)),
+        Phase::RxPage(paging) => Want::Read(Place {
+            frame: paging.frame,
+            word: paging.place,
         }),
         Phase::Ended(_) => Want::Done,
     }
@@ -110,7 +106,8 @@ fn taken(
     counter: u64,
 ) -> Phase
     ensures space { HasSpace result received.new }
-    ensures rest { rest_at wiring.now state.new sent.now received.new result ≡ next_by (take_all wiring.now n state.old) word counter }
+    ensures rest { rest_at wiring.now state.new sent.now received.new result
+        ≡ next_by (take_all wiring.now n state.old) word counter }
 {
     if n == 0 {
         let shown = shown(&state.rx, word);
@@ -133,21 +130,22 @@ fn phase_fed(
     requires length { length sent.now ≤ 65535 }
     requires space { HasSpace phase received.old }
     ensures space { HasSpace result received.new }
-    ensures rest { rest_at wiring.now state.new sent.now received.new result ≡ next_by (rest_at wiring.now state.old sent.now received.old phase) word counter }
+    ensures rest { rest_at wiring.now state.new sent.now received.new result
+        ≡ next_by (rest_at wiring.now state.old sent.now received.old phase) word counter }
 {
     match phase {
         Phase::Ready => Phase::Ready,
-        Phase::GrantFrame(r) => Phase::GrantFlags(r),
-        Phase::GrantFlags(r) => granted(wiring, state, sent, received, r),
-        Phase::Fill(f) => filled(wiring, state, sent, received, f, word, counter),
-        Phase::Second(r) => Phase::Third(r),
-        Phase::Third(r) => slot_written(wiring, state, sent, received, r),
+        Phase::GrantFrame(piece) => Phase::GrantFlags(piece),
+        Phase::GrantFlags(piece) => granted(wiring, state, sent, received, piece),
+        Phase::Fill(filling) => filled(wiring, state, sent, received, filling, word, counter),
+        Phase::Second(piece) => Phase::Third(piece),
+        Phase::Third(piece) => slot_written(wiring, state, sent, received, piece),
         Phase::PostFrame(id, start) => Phase::PostFlags(id, start),
         Phase::PostFlags(id, start) => Phase::PostFirst(id, start),
         Phase::PostFirst(id, start) => Phase::PostSecond(id, start),
         Phase::PostSecond(_, start) => posted(wiring, state, sent, received, start),
-        Phase::Publish(x) => Phase::ReadEvent(x),
-        Phase::ReadEvent(x) => event_read(wiring, state, sent, received, x, word),
+        Phase::Publish(push) => Phase::ReadEvent(push),
+        Phase::ReadEvent(push) => event_read(wiring, state, sent, received, push, word),
         Phase::Notice => Phase::Ended(Kind::Idle),
         Phase::TxLook => {
             let shown = shown(&state.tx, word);
@@ -165,10 +163,12 @@ fn phase_fed(
             let shown = shown(&state.rx, word);
             rx_looked(wiring, state, sent, received, shown)
         }
-        Phase::RxFirst(c) => Phase::RxSecond(c, word),
-        Phase::RxSecond(c, a) => response_read(wiring, state, sent, received, c, a, word),
-        Phase::RxEnd(x) => grant_ended(wiring, state, sent, received, x),
-        Phase::RxPage(g) => page_read(wiring, state, sent, received, g, word),
+        Phase::RxFirst(chained) => Phase::RxSecond(chained, word),
+        Phase::RxSecond(chained, first) => response_read(
+            wiring, state, sent, received, chained, first, word,
+        ),
+        Phase::RxEnd(part) => grant_ended(wiring, state, sent, received, part),
+        Phase::RxPage(paging) => page_read(wiring, state, sent, received, paging, word),
         Phase::Ended(kind) => Phase::Ended(kind),
     }
 }

@@ -4,9 +4,6 @@ ghost use Rattle.std.specs.Prelude.{◌≡◌, ◌<◌, ◌≤◌, ◌+◌, get_
 ghost use Rattle.xen_front.specs.Slots.{buffer, grant_place, piece_size as piece_size_lem, piece_words as piece_words_lem, word_at as word_at_lem};
 ghost use Rattle.xen_page.specs.Mapping.{frame_place};
 
-use xen_buffers::{Buffer, Wiring};
-use xen_page::Place;
-
 /// A byte of a packet, 0 past its end.
 fn byte_at(bytes: &[u8], at: usize) -> u8
     ensures { result ≡ get_or bytes.now at 0 }

@@ -18,7 +18,7 @@ use xen_ring::due;
 use xen_steps::{Want, rx_entry};
 
 /// A grant's flags that let the back read and write: `GTF_permit_access`.
-pub(crate) const WRITE_GRANT: u32 = 1;
+const WRITE_GRANT: u32 = 1;
 
 /// Before a posted buffer's grant.
 pub(crate) fn begin_post(
@@ -87,7 +87,8 @@ pub(crate) fn posted(
     start: u32,
 ) -> Phase
     ensures space { HasSpace result received.now }
-    ensures rest { rest_at wiring.now state.now sent.now received.now result ≡ publish wiring.now wiring.now.rx_frame start (add32 start 1) state.now }
+    ensures rest { rest_at wiring.now state.now sent.now received.now result
+        ≡ publish wiring.now wiring.now.rx_frame start (add32 start 1) state.now }
 {
     Phase::Publish(Push {
         frame: wiring.rx_frame,
@@ -106,7 +107,8 @@ pub(crate) fn event_read(
     event: u32,
 ) -> Phase
     ensures space { HasSpace result received.now }
-    ensures rest { rest_at wiring.now state.now sent.now received.now result ≡ notice wiring.now (is_due push.old push.new event) state.now }
+    ensures rest { rest_at wiring.now state.now sent.now received.now result
+        ≡ notice wiring.now (is_due push.old push.new event) state.now }
 {
     if due(push.old, push.new, event) {
         Phase::Notice

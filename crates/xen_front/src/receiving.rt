@@ -26,7 +26,8 @@ pub(crate) fn rx_first_looked(
     n: Option<u32>,
 ) -> Phase
     ensures space { HasSpace result received.new }
-    ensures rest { rest_at wiring.now state.new sent.now received.new result ≡ bind (seen wiring.now.rx_frame state.old.rx n) (after_rx_look wiring.now state.old) }
+    ensures rest { rest_at wiring.now state.new sent.now received.new result
+        ≡ bind (seen wiring.now.rx_frame state.old.rx n) (after_rx_look wiring.now state.old) }
 {
     match n {
         None => rx_looked(wiring, state, sent, received, None),
@@ -116,7 +117,10 @@ pub(crate) fn response_read(
     second: u32,
 ) -> Phase
     ensures space { HasSpace result received.now }
-    ensures rest { rest_at wiring.now state.new sent.now received.now result ≡ checked wiring.now state.old (gathered chained received.now) (rx_rsp_of (first ∷ second ∷ [])) (fault_of state.old.rx chained.slots (length received.now) (rx_rsp_of (first ∷ second ∷ []))) (receive wiring.now chained.left) }
+    ensures rest { rest_at wiring.now state.new sent.now received.now result
+        ≡ checked wiring.now state.old (gathered chained received.now) (rx_rsp_of (first ∷ second ∷ []))
+        (fault_of state.old.rx chained.slots (length received.now) (rx_rsp_of (first ∷ second ∷ [])))
+        (receive wiring.now chained.left) }
 {
     let response = RxRsp::of_words([first, second]);
     match fault(
@@ -157,7 +161,9 @@ pub(crate) fn grant_ended(
 ) -> Phase
     requires { length received.now + covered_bytes_lem part.response.status ≤ 65535 }
     ensures space { HasSpace result received.now }
-    ensures rest { rest_at wiring.now state.new sent.now received.now result ≡ read_page wiring.now state.old (gathered part.chained received.now) part.response (receive wiring.now part.chained.left) }
+    ensures rest { rest_at wiring.now state.new sent.now received.now result
+        ≡ read_page wiring.now state.old (gathered part.chained received.now) part.response
+        (receive wiring.now part.chained.left) }
 {
     let buffer = buffer_of(wiring.rx, part.response.id);
     let fragment = part_of(&buffer, &part.response);
@@ -197,7 +203,8 @@ fn before_word(
     requires last { place + more ≡ (fragment.offset + fragment.size - 1) / 4 }
     requires room { length received.now + bytes_left fragment place ≤ 65535 }
     ensures space { HasSpace result received.now }
-    ensures rest { rest_at wiring.now state.now sent.now received.now result ≡ bind (copy_words fragment frame place (suc more) received.now) (part_rest wiring.now state.now part) }
+    ensures rest { rest_at wiring.now state.now sent.now received.now result
+        ≡ bind (copy_words fragment frame place (suc more) received.now) (part_rest wiring.now state.now part) }
 {
     Phase::RxPage(Paging {
         part,
@@ -220,7 +227,9 @@ fn before_response(
 ) -> Phase
     requires { slots ≤ 15 }
     ensures space { HasSpace result received.now }
-    ensures rest { rest_at wiring.now state.now sent.now received.now result ≡ first_word wiring.now state.now (record { slots = slots; bad = bad; bytes = received.now }) (receive wiring.now left) }
+    ensures rest { rest_at wiring.now state.now sent.now received.now result
+        ≡ first_word wiring.now state.now (record { slots = slots; bad = bad; bytes = received.now })
+        (receive wiring.now left) }
 {
     Phase::RxFirst(Chained { left, slots, bad })
 }
@@ -237,7 +246,8 @@ fn more_responses(
 ) -> Phase
     requires { slots ≤ 15 }
     ensures space { HasSpace result received.now }
-    ensures rest { rest_at wiring.now state.new sent.now received.now result ≡ receive wiring.now left state.old (record { slots = slots; bad = bad; bytes = received.now }) }
+    ensures rest { rest_at wiring.now state.new sent.now received.now result
+        ≡ receive wiring.now left state.old (record { slots = slots; bad = bad; bytes = received.now }) }
 {
     if left == 0 {
         halt(wiring, state, sent, received, Halt::ShortChain)
@@ -262,7 +272,8 @@ fn part_read(
     part: Part,
 ) -> Phase
     ensures space { HasSpace result received.now }
-    ensures rest { rest_at wiring.now state.new sent.now received.now result ≡ part_rest wiring.now state.old part received.now }
+    ensures rest { rest_at wiring.now state.new sent.now received.now result
+        ≡ part_rest wiring.now state.old part received.now }
 {
     let bad = is_bad(&part);
     if part.response.flags.more_data {
@@ -293,7 +304,10 @@ pub(crate) fn page_read(
 ) -> Phase
     requires { length received.old + bytes_left paging.fragment paging.place ≤ 65535 }
     ensures space { HasSpace result received.new }
-    ensures rest { rest_at wiring.now state.new sent.now received.new result ≡ bind (copy_words paging.fragment paging.frame (paging.place + 1) paging.more (received.old ++ bytes_in paging.fragment paging.place word)) (part_rest wiring.now state.old paging.part) }
+    ensures rest { rest_at wiring.now state.new sent.now received.new result
+        ≡ bind (copy_words paging.fragment paging.frame (paging.place + 1) paging.more
+        (received.old ++ bytes_in paging.fragment paging.place word))
+        (part_rest wiring.now state.old paging.part) }
 {
     let bytes = paging.fragment.bytes_in(paging.place, word);
     push_all(received, bytes.as_slice());

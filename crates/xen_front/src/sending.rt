@@ -2,8 +2,10 @@
 
 ghost use Rattle.std.specs.Prelude.{◌≡◌, ◌≤◌, ◌<◌, ◌+◌, ◌-◌, [], length, slice_index};
 ghost use Rattle.xen_front.specs.Rest.{HasSpace, filling_from, id_of, pieces as pieces_lem, rest_at, sending};
-ghost use Rattle.xen_front.specs.Slots.{buffer, filling as filling_lem, told_size as told_size_lem, piece_request as piece_request_lem, piece_words as piece_words_lem, send_writes};
+ghost use Rattle.xen_front.specs.Slots.{buffer, filling as filling_lem, grant_place, told_size as told_size_lem, piece_request as piece_request_lem, piece_words as piece_words_lem, send_writes};
 ghost use Rattle.xen_netif.specs.Slots.{tx_req_words};
+ghost use Rattle.xen_netif.specs.Words.{joined};
+ghost use Rattle.xen_page.specs.Mapping.{frame_place};
 ghost use Rattle.xen_front.specs.Tree.{publish};
 ghost use Rattle.xen_steps.specs.Pages.{write_all};
 ghost use Rattle.xen_steps.specs.Places.{add32, tx_entry as tx_entry_place};
@@ -14,16 +16,16 @@ use crate::phase::{Filling, Phase, Piece, Push};
 use crate::places::{piece_size, piece_words, word_at};
 use crate::state::State;
 use arrayvec::ArrayVec;
-use xen_buffers::{Buffer, Wiring, buffer_of};
+use xen_buffers::{Buffer, Wiring, buffer_of, grant_flags, grant_frame};
 use xen_netif::{TxFlags, TxReq};
 use xen_page::Place;
 use xen_steps::{Want, tx_entry};
 
 /// A grant's flags that let the back read: `GTF_permit_access` and `GTF_readonly`.
-pub(crate) const READ_GRANT: u32 = 5;
+const READ_GRANT: u32 = 5;
 
 /// The id of a piece.
-pub(crate) fn id(piece: &Piece) -> u8
+fn id(piece: &Piece) -> u8
     ensures { result ≡ id_of piece.now }
 {
     piece.ids.as_slice()[piece.index as usize]
@@ -38,10 +40,30 @@ fn pieces(piece: &Piece) -> u32
 }
 
 /// The buffer of a piece.
-pub(crate) fn page(wiring: &Wiring, piece: &Piece) -> Buffer
+fn page(wiring: &Wiring, piece: &Piece) -> Buffer
     ensures { result ≡ buffer wiring.now.tx.now (id_of piece.now) }
 {
     buffer_of(wiring.tx, u16::from(id(piece)))
+}
+
+/// The frame word of a piece's grant.
+pub(crate) fn piece_frame(wiring: &Wiring, piece: &Piece) -> Want
+    ensures { let b = buffer wiring.now.tx.now (id_of piece.now) in
+        result ≡ Want.Write (frame_place (grant_place wiring.now b)) b.frame }
+{
+    let buffer = page(wiring, piece);
+    Want::Write(grant_frame(wiring, &buffer), buffer.frame)
+}
+
+/// Its flags word: the back may read.
+pub(crate) fn piece_flags(wiring: &Wiring, piece: &Piece) -> Want
+    ensures { result ≡ Want.Write (grant_place wiring.now (buffer wiring.now.tx.now (id_of piece.now))) (joined 5 wiring.now.back) }
+{
+    let buffer = page(wiring, piece);
+    Want::Write(
+        grant_flags(wiring, &buffer),
+        READ_GRANT + 0x1_0000 * u32::from(wiring.back),
+    )
 }
 
 /// The size in a piece's slot: the packet's in the first, the piece's own in a later one.
@@ -123,7 +145,9 @@ pub(crate) fn first_piece(
 ) -> Phase
     requires { 0 < length ids.items }
     ensures space { HasSpace result received.now }
-    ensures rest { rest_at wiring.now state.now sent.now received.now result ≡ write_all (send_writes wiring.now start sent.now (length ids.items) 0 ids.items) (publish wiring.now wiring.now.tx_frame start (add32 start (length ids.items)) state.now) }
+    ensures rest { rest_at wiring.now state.now sent.now received.now result
+        ≡ write_all (send_writes wiring.now start sent.now (length ids.items) 0 ids.items)
+        (publish wiring.now wiring.now.tx_frame start (add32 start (length ids.items)) state.now) }
 {
     Phase::GrantFrame(Piece {
         start,
@@ -141,7 +165,9 @@ pub(crate) fn granted(
     piece: Piece,
 ) -> Phase
     ensures space { HasSpace result received.now }
-    ensures rest { rest_at wiring.now state.now sent.now received.now result ≡ sending wiring.now state.now sent.now piece (filling_lem wiring.now piece.start sent.now (pieces_lem piece) piece.index (id_of piece) (piece_words_lem (length sent.now) piece.index) 0) }
+    ensures rest { rest_at wiring.now state.now sent.now received.now result
+        ≡ sending wiring.now state.now sent.now piece (filling_lem wiring.now piece.start sent.now
+        (pieces_lem piece) piece.index (id_of piece) (piece_words_lem (length sent.now) piece.index) 0) }
 {
     Phase::Fill(Filling {
         piece: piece,
@@ -161,7 +187,8 @@ pub(crate) fn filled(
 ) -> Phase
     requires { length sent.now ≤ 65535 }
     ensures space { HasSpace result received.now }
-    ensures rest { rest_at wiring.now state.now sent.now received.now result ≡ next_by (filling_from wiring.now state.now sent.now filling.piece filling.written) word counter }
+    ensures rest { rest_at wiring.now state.now sent.now received.now result
+        ≡ next_by (filling_from wiring.now state.now sent.now filling.piece filling.written) word counter }
 {
     if filling.written < piece_words(sent.len() as u32, filling.piece.index) {
         let Filling { piece, written } = filling;
@@ -183,7 +210,8 @@ pub(crate) fn slot_written(
     piece: Piece,
 ) -> Phase
     ensures space { HasSpace result received.now }
-    ensures rest { rest_at wiring.now state.now sent.now received.now result ≡ sending wiring.now state.now sent.now piece [] }
+    ensures rest { rest_at wiring.now state.now sent.now received.now result
+        ≡ sending wiring.now state.now sent.now piece [] }
 {
     let Piece { start, index, ids } = piece;
     let n = ids.len() as u32;

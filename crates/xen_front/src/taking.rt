@@ -57,7 +57,8 @@ pub(crate) fn tx_first_looked(
     n: Option<u32>,
 ) -> Phase
     ensures space { HasSpace result received.now }
-    ensures rest { rest_at wiring.now state.new sent.now received.now result ≡ bind (seen wiring.now.tx_frame state.old.tx n) (after_tx_look wiring.now state.old) }
+    ensures rest { rest_at wiring.now state.new sent.now received.now result
+        ≡ bind (seen wiring.now.tx_frame state.old.tx n) (after_tx_look wiring.now state.old) }
 {
     match n {
         None => halt(wiring, state, sent, received, Halt::TxProducer),
@@ -130,7 +131,9 @@ pub(crate) fn tx_response_read(
 ) -> Phase
     requires { 0 < n }
     ensures space { HasSpace result received.now }
-    ensures rest { rest_at wiring.now state.new sent.now received.now result ≡ judged wiring.now state.old (tx_rsp_of (word ∷ [])) (in_flight_lem state.old.tx (tx_rsp_of (word ∷ [])).id) (take_all wiring.now (n - 1) (took_lem state.old (tx_rsp_of (word ∷ [])))) }
+    ensures rest { rest_at wiring.now state.new sent.now received.now result
+        ≡ judged wiring.now state.old (tx_rsp_of (word ∷ [])) (in_flight_lem state.old.tx (tx_rsp_of
+        (word ∷ [])).id) (take_all wiring.now (n - 1) (took_lem state.old (tx_rsp_of (word ∷ [])))) }
 {
     let response = TxRsp::of_words([word]);
     if is_in_flight(&state.tx, response.id) {

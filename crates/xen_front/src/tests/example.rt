@@ -38,6 +38,10 @@ fn a_packet_is_sent_and_answered(rt: HostRuntime) -> Result<(), Fail> {
 
     assert_eq!(rt; front.poll(), Ok(()));
     assert_eq!(rt; front.drive_front(&mut bus, &ports), RxTurn::Idle);
-    assert_eq!(rt; front.statuses(), [1, 0, 0, 0], "the back's answer was OKAY");
+    assert_eq!(rt;
+        front.statuses(),
+        [1, 0, 0, 0],
+        "the back's answer was OKAY"
+    );
     Ok(())
 }

@@ -1,5 +1,7 @@
 //! A front by lists, which makes up the answers that it takes: mostly those of an honest back.
 
+ghost use Rattle.std.specs.Prelude.{◌<◌};
+
 use super::fixtures::Got;
 use crate::Halt;
 use std::alloc::{AllocError, Global};
@@ -140,6 +142,18 @@ fn flags_and_status(left: u32, random: &mut Random) -> u32 {
     more | status << 16
 }
 
+/// Which count a status two below this number belongs to: OKAY, DROPPED, ERROR or another.
+fn place_of(status: u32) -> usize
+    ensures { result < 4 }
+{
+    match status {
+        0 => 1,
+        1 => 2,
+        2 => 0,
+        _ => 3,
+    }
+}
+
 impl Model {
     pub fn new(alloc: Global, start: u32) -> Model {
         Model {
@@ -196,14 +210,8 @@ impl Model {
             }
             self.tx.end(id);
             poll.wrote();
-            let [okay, dropped, error, other] = &mut self.statuses;
-            let count = match status {
-                0 => dropped,
-                1 => error,
-                2 => okay,
-                _ => other,
-            };
-            *count = count.saturating_add(1);
+            let place = place_of(status);
+            self.statuses[place] = self.statuses[place].saturating_add(1);
         }
         let Some(responses) = poll.look(&self.rx, random)? else {
             poll.got = Got::Halted(Halt::RxProducer);
