@@ -34,7 +34,7 @@ use Rattle.bpf_verify.proofs.FollowLemmas.{ruled_at}
 use Rattle.bpf_verify.proofs.GraphLemmas.{begun, some_inside}
 use Rattle.bpf_verify.proofs.LawLemmas.{takes_within}
 use Rattle.bpf_verify.proofs.PassingLemmas.{flows_begins}
-use Rattle.bpf_verify.proofs.ShapeLemmas.{KeepsMaps, exec_keeps_maps}
+use Rattle.bpf_flow.proofs.KeptLemmas.{Keeps, exec_keeps}
 use Rattle.bpf_verify.proofs.ToldLemmas.{told_edge}
 
 -- a slot has at most eight notes
@@ -133,10 +133,10 @@ module _ (code : List Insn) (shapes : List Shape) (lists : List (List Noted))
       let one = gathering_stands (λ n. Describes n t) (either t) code shapes (facts_at lists) t.pc passed.order (first_notes t.pc) (facts_at lists t.pc) p (passed.are_notes t.pc) in_order brought in
       (same, subst (λ (ns : List Noted). OneDescribes ns t) (sym (stands lists t.pc)) (one_describes (slice_index_or lists t.pc []) t one))
 
-  goes_on : (p : ℕ) (n : Facts) (es : Edges) (s : State) (o : Outcome) → Contains (facts_at lists p) n → rule_at code shapes p n ≡ Ok es → s.shapes ≡ shapes → KeepsMaps s o → Accounts es o → GoesOn program o
-  goes_on p n es s (Next t) at rule same keeps h = goes_to p n es t at rule (keeps ∙ same) h
-  goes_on p n es s (Loads m k j go) at rule same keeps h = λ x fits. goes_to p n es (go x) at rule (keeps x ∙ same) (h x fits)
-  goes_on p n es s (Adds m k j delta go) at rule same keeps h = λ x fits. goes_to p n es (go x) at rule (keeps x ∙ same) (h x fits)
+  goes_on : (p : ℕ) (n : Facts) (es : Edges) (s : State) (o : Outcome) → Contains (facts_at lists p) n → rule_at code shapes p n ≡ Ok es → s.shapes ≡ shapes → Keeps s o → Accounts es o → GoesOn program o
+  goes_on p n es s (Next t) at rule same keeps h = goes_to p n es t at rule (keeps.shapes ∙ same) h
+  goes_on p n es s (Loads m k j go) at rule same keeps h = λ x fits. goes_to p n es (go x) at rule ((keeps.1 x).shapes ∙ same) (h x fits)
+  goes_on p n es s (Adds m k j delta go) at rule same keeps h = λ x fits. goes_to p n es (go x) at rule ((keeps.1 x).shapes ∙ same) (h x fits)
   goes_on p n es s (Exited x) at rule same keeps h = tt
   goes_on p n es s Fault at rule same keeps h = h
 
@@ -154,7 +154,7 @@ module _ (code : List Insn) (shapes : List Shape) (lists : List (List Noted))
       let ruled = ruled_at code (length shapes) s.pc i.0 structured i.1 b in
       let accounts = after_sound n.0 s n.2 i.0 rule.0 (has_words i.0 spelled) small (subst (λ (ms : List Shape). IsRuled i.0 s.pc (length ms)) (sym h.0) ruled) after in
       subst (λ (o : Option Insn). GoesOn program (need o (λ i. exec i s))) (sym i.1)
-      (goes_on s.pc n.0 rule.0 s (exec i.0 s) n.1 rule.1 h.0 (exec_keeps_maps i.0 s) accounts)
+      (goes_on s.pc n.0 rule.0 s (exec i.0 s) n.1 rule.1 h.0 (exec_keeps s i.0) accounts)
 
   starts_described : (s : State) → IsStart s → s.shapes ≡ shapes → IsDescribed program s
   starts_described s h same =

@@ -48,7 +48,7 @@ fn response(status: Status, request: &Option<TxReq>) -> u32
     response.words()[0]
 }
 
-/// The responses to a chain'state slots.
+/// The responses to a chain's slots.
 fn responses(status: Status, chain: &Chain) -> ArrayVec<u32, 23>
     ensures words { result.items ≡ responses_lem status chain.now }
     ensures len { length result.items ≡ length chain.now }

@@ -1,4 +1,4 @@
-//! Copying a chain'state fragments.
+//! Copying a chain's fragments.
 
 ghost use Rattle.std.specs.Prelude.{◌≡◌, ◌<◌, ◌≤◌, ◌+◌, ◌-◌, ◌/◌, ◌++◌, suc, length, drop, sum_by, false, IsTrue, Ok, Some};
 ghost use Rattle.xen_netif.specs.Copy.{Covers, bytes_in};
@@ -119,7 +119,7 @@ fn entering<'p, 'b>(
     })
 }
 
-/// After an entry'state flags word.
+/// After an entry's flags word.
 pub(crate) fn flags_read<'p, 'b>(
     wiring: &Wiring<'p>,
     state: &State,
@@ -174,7 +174,7 @@ pub(crate) fn entry_read<'p, 'b>(
     }
 }
 
-/// Before the words of a fragment'state page.
+/// Before the words of a fragment's page.
 fn begin_page<'p, 'b>(
     wiring: &Wiring<'p>,
     state: &State,
@@ -255,7 +255,7 @@ pub(crate) fn page_read<'p, 'b>(
         n,
     } = page;
     let bytes = fragment.bytes_in(place, word);
-    push_all(&mut packet, bytes.as_slice());
+    packet.push_all(bytes.as_slice());
     if n == 0 {
         next_fragment(wiring, state, packet, chain, fragments, i)
     } else {
@@ -271,14 +271,5 @@ pub(crate) fn page_read<'p, 'b>(
             place + 1,
             n - 1,
         )
-    }
-}
-
-fn push_all(packet: &mut PacketBuf, bytes: &[u8])
-    requires { length packet.old + length bytes.now ≤ 65535 }
-    ensures { packet.new ≡ packet.old ++ bytes.now }
-{
-    for byte in bytes {
-        packet.push(*byte);
     }
 }

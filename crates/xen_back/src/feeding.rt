@@ -26,7 +26,7 @@ use crate::state::State;
 use crate::wiring::Wiring;
 use bpf_vm::PacketBuf;
 
-/// The stage after a phase'state answer.
+/// The stage after a phase's answer.
 fn phase_fed<'p, 'b>(
     wiring: &Wiring<'p>,
     state: &State,

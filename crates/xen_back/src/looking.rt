@@ -142,7 +142,7 @@ fn next_slot<'p, 'b>(
     Stage::At(packet, Phase::First(Reading { left, chain }))
 }
 
-/// After a slot'state first word.
+/// After a slot's first word.
 pub(crate) fn first_read<'p, 'b>(
     wiring: &Wiring<'p>,
     state: &State,

@@ -1,4 +1,4 @@
-//! Sending a packet back: a transmit, and the answer to the packet'state chain.
+//! Sending a packet back: a transmit, and the answer to the packet's chain.
 
 ghost use Rattle.std.specs.Prelude.{◌≡◌, ◌≤◌, length, IsTrue};
 ghost use Rattle.xen_back.specs.Rest.{is_here, rest_in};

@@ -17,6 +17,8 @@ mod receiving;
 mod sending;
 pub mod state;
 mod taking;
+#[cfg(test)]
+mod tests;
 pub mod turn;
 
 pub use front::Front;

@@ -1,6 +1,6 @@
 //! A queue whose frontend answers from a list.
 
-ghost use Rattle.std.specs.Prelude.{◌≡◌, ◌×◌, IfSome, true};
+ghost use Rattle.std.specs.Prelude.{◌≡◌, ◌≤◌, length, IfOk, true};
 ghost use Rattle.xen_page.specs.Mapping.{IsMappedBy};
 ghost use Rattle.xen_page.specs.Table.{IsTable};
 ghost use Rattle.xen_back.specs.Queues.{IsReady, wiring_of};

@@ -1,11 +1,12 @@
 //! Turns whose program decides.
 
 use super::fixtures::{
-    Seen, feed_turn, owners, program, queue, turn, turn_by_driver, turn_by_hand, write, writes_to,
+    Seen, feed_turn, kind_of, owners, packet_of, program, queue, turn, turn_by_driver,
+    turn_by_hand, write, writes_to,
 };
 use super::slots::{STARTS, slot, tx};
+use crate::Want;
 use crate::turn::Kind;
-use crate::{Action, Turn, Want};
 use bpf_note::MapShape;
 use bpf_vm::Buffer;
 use std::alloc::Global;
@@ -35,19 +36,20 @@ fn ends_with(alloc: Global, start: u32, number: u8) -> Result<Seen, Fail> {
     turn(alloc, &code, start, &answers)
 }
 
+fn ran(number: u32) -> Kind {
+    Kind::Ran {
+        number,
+        ops: 0,
+        slots: 1,
+    }
+}
+
 #[test]
 fn the_response_says_what_the_program_decided(rt: HostRuntime) -> Result<(), Fail> {
     for start in STARTS {
         for (number, response) in [(0, 0xffff_0007), (1, 0xfffe_0007), (2, 7), (7, 0xffff_0007)] {
             let seen = ends_with(rt.alloc(), start, number)?;
-            assert_eq!(rt;
-                seen.kind,
-                Kind::Ran {
-                    number: u32::from(number),
-                    ops: 0,
-                    slots: 1
-                }
-            );
+            assert_eq!(rt; seen.kind, ran(u32::from(number)));
             let writes = [
                 write(17, tx(start, 0, 0), response),
                 write(17, 2, start.wrapping_add(1)),
@@ -99,12 +101,19 @@ fn no_byte_of_an_earlier_packet_is_seen(rt: HostRuntime) -> Result<(), Fail> {
         return Err("no run".into());
     };
     assert_eq!(rt; (action, packet.len()), (Action::Pass, 15));
+    let longer = [1, 2, 0, slot(7, 15), 1, 19, 1, 2, 3, 4];
+    feed_turn(rt.alloc(), &mut queue, &longer)?;
+    assert!(rt; queue.want() == Want::Done);
+    let turn = queue.turn();
+    let kind = kind_of(&turn);
+    let packet = packet_of(rt.alloc(), &turn)?;
+    assert_eq!(rt; (kind, packet.len()), (ran(2), 15));
     feed_turn(rt.alloc(), &mut queue, &[2, 2, 0, slot(8, 14), 1, 19])?;
     assert!(rt; queue.want() == Want::Done);
     let turn = queue.turn();
-    let Turn::Ran { action, packet, .. } = turn else {
-        return Err("no run".into());
-    };
-    assert_eq!(rt; (action, packet), (Action::Drop, [0; 14].as_slice()));
+    let kind = kind_of(&turn);
+    let packet = packet_of(rt.alloc(), &turn)?;
+    assert_eq!(rt; kind, ran(1));
+    assert_eq!(rt; packet.as_slice(), [0; 14].as_slice());
     Ok(())
 }

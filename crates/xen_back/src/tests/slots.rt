@@ -1,5 +1,7 @@
 //! Words of the tx ring (ring.h, netif.h).
 
+ghost use Rattle.std.specs.Prelude.{◌<◌};
+
 /// A ring that begins at 0, and one whose indices wrap within the turn.
 pub const STARTS: [u32; 2] = [0, 0xffff_ffff];
 

@@ -1,5 +1,7 @@
 //! Turns that send the packet back.
 
+ghost use Rattle.std.specs.Prelude.{◌<◌};
+
 use super::fixtures::{SENDS, turn, write, writes_to};
 use super::slots::{STARTS, slot, tx};
 use crate::turn::Kind;
