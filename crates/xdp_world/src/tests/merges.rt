@@ -26,7 +26,7 @@ fn sum_of(history: &[(usize, Op)]) -> Option<u64> {
                 return None;
             },
             Op::Add { delta, old, .. } => {
-                if *old != sum || *delta != *queue as u64 + 1 {
+                if *old != sum || *delta != (*queue as u64).wrapping_add(1) {
                     return None;
                 }
                 sum = sum.wrapping_add(*delta);
@@ -62,8 +62,10 @@ fn every_order_is_one_history(rt: HostRuntime) -> Result<(), Fail> {
         steps.clear();
         add_turn(&mut steps, 0, 1, BEFORE - 10)?;
         add_turn(&mut steps, 1, 1, BEFORE - 10)?;
-        for event in 0..18 {
-            steps.push(((order >> event) as usize % 2, 0u32))?;
+        let mut queues = order;
+        for _event in 0..18 {
+            steps.push(((queues % 2) as usize, 0u32))?;
+            queues /= 2;
         }
         let report = report_of(
             rt.alloc(),
@@ -85,7 +87,7 @@ fn every_order_is_one_history(rt: HostRuntime) -> Result<(), Fail> {
                 "{order:b}"
             );
         }
-        orders += 1;
+        orders = orders.saturating_add(1);
     }
     assert_eq!(rt; orders, 48_620);
     Ok(())

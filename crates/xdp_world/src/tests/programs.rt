@@ -104,7 +104,7 @@ pub(crate) fn run_steps(
 {
     let layout = Layout::make(alloc, queues)?;
     let mut buffers = Vec::with_capacity(alloc, queues)?;
-    for _ in 0..queues {
+    for _queue in 0..queues {
         buffers.push_reserved(Buffer::make(alloc)?);
     }
     report_of(

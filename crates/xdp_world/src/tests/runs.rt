@@ -1,8 +1,11 @@
 //! Runs of a few steps.
+ghost use Rattle.std.specs.Prelude.{◌≤◌};
 
-use crate::tests::programs::{COUNT, PACKET, PASS, accepted, add_turn, run_steps};
+use crate::tests::programs::{COUNT, PASS, accepted, add_turn, run_steps};
 use crate::{Kept, Layout, Report, World};
+use bpf_verify::Verified;
 use bpf_vm::{Action, Buffer};
+use std::alloc::Global;
 use std::process::Abort;
 use std::test::Fail;
 use xen_back::Halt;
@@ -50,42 +53,42 @@ fn a_packet_passes_and_then_the_queue_halts(rt: HostRuntime) -> Result<(), Fail>
     assert_passes_and_halts(&rt, &report)
 }
 
+/// The report of a whole run.
+fn whole_run(
+    alloc: Global,
+    program: &Verified,
+    queues: usize,
+    start: u32,
+    steps: &[(usize, u32)],
+) -> Result<Report, Fail>
+    requires { (1 ≤ queues) × (queues ≤ 8) }
+{
+    if steps.iter().all(|step| step.0 < queues) {
+        Ok(World::run(alloc, program, queues, 0, start, steps)?)
+    } else {
+        Err("a queue that isn't there".into())
+    }
+}
+
 #[test]
 fn a_run_gives_the_same_report(rt: HostRuntime) -> Result<(), Fail> {
     let program = accepted(rt.alloc(), PASS)?;
-    let [a, b, c, d, e, f, g, h, i, j] = PACKET;
-    let steps = [
-        (0, a),
-        (0, b),
-        (0, c),
-        (0, d),
-        (0, e),
-        (0, f),
-        (0, g),
-        (0, h),
-        (0, i),
-        (0, j),
-        (0, 0),
-        (0, 0),
-        (0, 0),
-        (0, 0),
-        (0, 1),
-        (0, 0),
-        (0, 258),
-    ];
-    let report = World::run(rt.alloc(), &program, 1, 0, 0, &steps)?;
+    let mut steps = Vec::new(rt.alloc());
+    add_turn(&mut steps, 0, 1, 4)?;
+    steps.extend_from_slice(&[(0, 1), (0, 0), (0, 258)])?;
+    let report = whole_run(rt.alloc(), &program, 1, 0, steps.as_slice())?;
     assert_passes_and_halts(&rt, &report)
 }
 
 #[test]
 fn a_queue_that_finds_nothing_is_idle(rt: HostRuntime) -> Result<(), Fail> {
     let program = accepted(rt.alloc(), PASS)?;
-    let idle = World::run(rt.alloc(), &program, 1, 0, 0, &[(0, 0), (0, 7), (0, 0)])?;
+    let idle = whole_run(rt.alloc(), &program, 1, 0, &[(0, 0), (0, 7), (0, 0)])?;
     assert_eq!(rt;
         idle.turns.first().map(|turns| turns.as_slice()),
         Some([Kept::Idle].as_slice())
     );
-    let begun = World::run(rt.alloc(), &program, 1, 0, 0, &[(0, 1)])?;
+    let begun = whole_run(rt.alloc(), &program, 1, 0, &[(0, 1)])?;
     assert_eq!(rt; begun.turns.first().map(|turns| turns.len()), Some(0));
     Ok(())
 }
@@ -93,7 +96,7 @@ fn a_queue_that_finds_nothing_is_idle(rt: HostRuntime) -> Result<(), Fail> {
 #[test]
 fn each_queue_halts_by_itself(rt: HostRuntime) -> Result<(), Fail> {
     let program = accepted(rt.alloc(), PASS)?;
-    let report = World::run(rt.alloc(), &program, 2, 0, 0, &[(1, 300), (1, 1), (0, 0)])?;
+    let report = whole_run(rt.alloc(), &program, 2, 0, &[(1, 300), (1, 1), (0, 0)])?;
     assert_eq!(rt; report.turns.first().map(|turns| turns.len()), Some(0));
     let halted = Kept::Halted {
         cause: Halt::TxProducer,
@@ -110,12 +113,12 @@ fn rings_begin_where_they_are_told(rt: HostRuntime) -> Result<(), Fail> {
     let program = accepted(rt.alloc(), PASS)?;
     let start = 0xffff_ffff;
     let steps = [(0, start), (0, 0), (0, start)];
-    let wraps = World::run(rt.alloc(), &program, 1, 0, start, &steps)?;
+    let wraps = whole_run(rt.alloc(), &program, 1, start, &steps)?;
     assert_eq!(rt;
         wraps.turns.first().map(|turns| turns.as_slice()),
         Some([Kept::Idle].as_slice())
     );
-    let halts = World::run(rt.alloc(), &program, 1, 0, start, &[(0, 256)])?;
+    let halts = whole_run(rt.alloc(), &program, 1, start, &[(0, 256)])?;
     let halted = Kept::Halted {
         cause: Halt::TxProducer,
     };
