@@ -1,5 +1,5 @@
 -- A world that begins.
-use Rattle.std.proofs.Common.{◌≡◌, ℕ, zero, suc, ◌+◌, ◌<◌, List, [], ◌∷◌, ◌++◌, Option, Some, None, length, get_or, slice_get, refl, sym, ◌∙◌, ap, subst, arith}
+use Rattle.std.proofs.Common.{◌≡◌, ℕ, zero, suc, ◌+◌, ◌<◌, List, [], ◌∷◌, ◌++◌, length, get_or, refl, sym, ◌∙◌, ap, arith}
 use Rattle.std.specs.Global.{Vec}
 use Rattle.bpf_maps.specs.Seats.{total_at}
 use Rattle.bpf_verify.specs.Consistent.{Accepted}
@@ -8,11 +8,10 @@ use Rattle.xen_steps.specs.Steps.{Steps, want_of}
 use Rattle.xen_back.specs.Tree.{whole_turn}
 use Rattle.xen_back.specs.Turned.{Ending}
 use Rattle.xen_back.specs.declared.queue.Queue.{Queue}
-use Rattle.xen_back.specs.declared.state.State.{State}
 use Rattle.xen_back.specs.declared.wiring.Wiring.{Wiring}
 use Rattle.xdp_world.specs.Begin.{Begins, IsFresh}
-use Rattle.xdp_world.specs.Core.{Turns, begun, started_at}
-use Rattle.xdp_world.specs.Stands.{SoFar, kept_in, kept_of}
+use Rattle.xdp_world.specs.Core.{begun, started_at}
+use Rattle.xdp_world.specs.Stands.{SoFar, kept_in}
 use Rattle.xdp_world.specs.declared.kept.Kept.{Kept}
 use Rattle.xdp_world.specs.declared.world.World.{World}
 use Rattle.xdp_world.proofs.Worlds.{has_rest, open_by}

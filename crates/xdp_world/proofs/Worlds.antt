@@ -1,5 +1,5 @@
 -- A world goes on by one entry.
-use Rattle.std.proofs.Common.{◌≡◌, ◌≢◌, ℕ, zero, suc, ◌+◌, ◌%◌, ◌^◌, ◌<◌, ◌≤◌, Bool, true, false, cond, eqb, List, [], ◌∷◌, ◌++◌, Option, Some, None, length, take, get_or, set, slice_get, refl, sym, ◌∙◌, ap, subst, arith, append_assoc, get_or-set_same, get_or-set_other, ◌⊎◌, inl, inr, ⊎_elim, length-set}
+use Rattle.std.proofs.Common.{◌≡◌, ◌≢◌, ℕ, zero, suc, ◌+◌, ◌%◌, ◌<◌, true, false, cond, eqb, List, [], ◌∷◌, ◌++◌, Option, Some, None, length, take, get_or, set, slice_get, refl, sym, ◌∙◌, ap, subst, arith, append_assoc, get_or-set_same, get_or-set_other, ◌⊎◌, inl, inr, ⊎_elim, length-set}
 use Rattle.std.proofs.lemmas.Bool.Decides.{eqb_tells}
 use Rattle.std.proofs.lemmas.List.{append-nil, take-append-le}
 use Rattle.std.proofs.lemmas.Option.{slice_get_within}
@@ -10,7 +10,6 @@ use Rattle.bpf_note.specs.Shape.{IsCounter}
 use Rattle.bpf_note.specs.declared.op.Op.{Op}
 use Rattle.bpf_note.specs.declared.op.Op.TheVariants as op
 use Rattle.xen_steps.specs.Drive.{Goes, Gone}
-use Rattle.xen_back.specs.Drive.{label_of}
 use Rattle.xen_steps.specs.Event.{Event}
 use Rattle.xen_back.specs.Queues.{HasRest, rest, state_of, wiring_of, IsReady}
 use Rattle.xen_back.specs.Within.{may_want}
@@ -28,7 +27,7 @@ use Rattle.xen_steps.specs.declared.want.Want.{Want}
 use Rattle.xen_steps.specs.declared.want.Want.TheVariants as want
 use Rattle.xen_back.specs.declared.wiring.Wiring.{Wiring}
 use Rattle.xdp_world.specs.Core.{HaveEvents, IsHalted, IsUnfinished, Turns, begun, turned, started_at}
-use Rattle.xdp_world.specs.Entries.{Entry, listed, events_of, tagged, ops_of, history, Serves, ServesEntry, AllServe, steps_of}
+use Rattle.xdp_world.specs.Entries.{Entry, listed, events_of, tagged, ops_of, history, ServesEntry, AllServe, steps_of}
 use Rattle.xdp_world.specs.Happens.{Comes, Counts, Happens, Rests, Settles, kept_list, op_list}
 use Rattle.xdp_world.specs.Keeping.{Keeps}
 use Rattle.xdp_world.specs.Stands.{SoFar}

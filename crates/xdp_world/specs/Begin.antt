@@ -1,13 +1,12 @@
 -- Where a world begins.
-use Rattle.std.specs.Prelude.{ℕ, ◌≡◌, ◌<◌, ◌+◌, ◌*◌, List, [], length, slice_index_or}
-use Rattle.bpf_maps.specs.Seats.{total_at}
+use Rattle.std.specs.Prelude.{ℕ, ◌≡◌, ◌<◌, ◌+◌, ◌*◌, []}
 use Rattle.bpf_verify.specs.Consistent.{Accepted}
 use Rattle.xen_back.specs.Queues.{state_of, wiring_of, IsReady}
 use Rattle.xen_back.specs.declared.queue.Queue.{Queue}
 use Rattle.xen_back.specs.declared.wiring.Wiring.{Wiring}
 use Rattle.xdp_world.specs.Core.{started_at}
 use Rattle.xdp_world.specs.Frames.{frame_of, owners_of, table_frames}
-use Rattle.xdp_world.specs.Stands.{Stands, kept_in}
+use Rattle.xdp_world.specs.Stands.{Stands}
 use Rattle.xdp_world.specs.declared.world.World.{World}
 
 -- the wiring of queue n in a world of so many

@@ -1,5 +1,5 @@
 -- What a run reports.
-use Rattle.std.specs.Prelude.{ℕ, ◌≡◌, ◌<◌, List, [], ◌∷◌, length}
+use Rattle.std.specs.Prelude.{ℕ, ◌≡◌, ◌<◌, List, length}
 use Rattle.bpf_maps.specs.Seats.{total_at}
 use Rattle.bpf_note.specs.History.{IsLegal, left_in, share}
 use Rattle.bpf_note.specs.Shape.{IsCounter}

@@ -1,5 +1,5 @@
-use Rattle.std.proofs.Common.{◌≡◌, ℕ, ◌<◌, ◌^◌, [], ◌∷◌, refl, sym, ◌∙◌, ap, arith}
-use Rattle.xen_steps.specs.Event.{Event, Read, Write, Instr, Load, Add, Notify}
+use Rattle.std.proofs.Common.{◌≡◌, refl, sym, ◌∙◌, ap}
+use Rattle.xen_steps.specs.Event.{Read, Write, Instr, Load, Add, Notify}
 use Rattle.xen_back.specs.Queues.{rest}
 use Rattle.xen_steps.specs.Steps.{Steps, next, want_of}
 use Rattle.xen_back.specs.Turned.{Ending}

@@ -1,7 +1,7 @@
-use Rattle.std.proofs.Common.{◌≡◌, subst, sym, ◌∙◌}
+use Rattle.std.proofs.Common.{subst, ◌∙◌}
 use Rattle.xen_steps.specs.Drive.{Goes}
-use Rattle.xen_back.specs.Queues.{rest, state_of}
-use Rattle.xen_steps.specs.Steps.{Steps, want_of}
+use Rattle.xen_back.specs.Queues.{rest}
+use Rattle.xen_steps.specs.Steps.{Steps}
 use Rattle.xen_back.specs.Turned.{Ending}
 use Rattle.xdp_world.proofs.Worlds.{comes_of}
 use Rattle.xdp_world.proofs.serving.serve.Goals as goal
@@ -12,7 +12,7 @@ returns c =
     let b = c.event-op.new.queue in
     let v = c.event-op.ensures.event in
     record {
-      same = c.ended-kept.ensures.same ∙ c.event-op.ensures.same ∙ c.wanted.ensures.same;
+      same = c.ended-kept.ensures.same ∙ c.event-op.ensures.same ∙ c.wanted.ensures.same.wiring;
       shapes = c.event-op.ensures.shapes;
       empty = c.ended-kept.ensures.empty;
       halted = λ d. absurd (c.in_default.not-Done (c.wanted.ensures.want ∙ d));

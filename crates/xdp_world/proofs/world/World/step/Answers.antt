@@ -1,15 +1,13 @@
-use Rattle.std.proofs.Common.{◌≡◌, ◌<◌, ◌+◌, ℕ, [], ◌∷◌, ◌++◌, List, Option, Some, length, get_or, set, slice_get, sym, ◌∙◌, ap, arith, refl, subst}
+use Rattle.std.proofs.Common.{◌≡◌, ◌<◌, ℕ, ◌++◌, List, Option, length, set, sym, ◌∙◌, ap, arith}
 use Rattle.std.proofs.lemmas.List.{get_or_read}
 use Rattle.std.specs.Global.{Vec}
 use Rattle.xen_back.specs.Queues.{rest}
 use Rattle.xen_steps.specs.Steps.{want_of}
 use Rattle.xen_back.specs.declared.queue.Queue.{Queue}
-use Rattle.bpf_note.specs.declared.op.Op.{Op}
 use Rattle.xdp_world.specs.declared.kept.Kept.{Kept}
-use Rattle.xdp_world.specs.Entries.{Entry, history, tagged}
-use Rattle.xdp_world.specs.Stands.{Stands, kept_in, kept_of}
-use Rattle.xdp_world.specs.Happens.{kept_list, op_list}
-use Rattle.xdp_world.proofs.Worlds.{After, Each, get_set, get_set_other, get_some, is_done, stands_step}
+use Rattle.xdp_world.specs.Stands.{kept_in, kept_of}
+use Rattle.xdp_world.specs.Happens.{kept_list}
+use Rattle.xdp_world.proofs.Worlds.{After, get_set, get_set_other, get_some, is_done, stands_step}
 use Rattle.xdp_world.proofs.world.World.step.Goals as goal
 
 pub returns-clause-ok : goal.returns-clause-ok
