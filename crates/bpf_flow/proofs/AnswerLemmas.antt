@@ -3,7 +3,7 @@ use Rattle.std.proofs.Common.{◌≡◌, ℕ, Bool, true, false, ◌||◌, ◌&&
 use Rattle.std.specs.Prelude.{Result, Ok, Err}
 use Rattle.bpf_insn.specs.declared.refusal.Cause.{Cause}
 use Rattle.bpf_flow.specs.Edges.{Edges, unless, and_then}
-use Rattle.bpf_flow.specs.After.{at_target}
+use Rattle.bpf_flow.specs.Rule.{at_target}
 
 pub unless_ok : {A : Type 0} (b : Bool) (c : Cause) (go : Result A Cause) (x : A) → unless b c go ≡ Ok x → (b ≡ false) × (go ≡ Ok x)
 unless_ok true c go x h = cc

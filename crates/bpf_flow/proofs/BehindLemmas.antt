@@ -23,10 +23,11 @@ use Rattle.bpf_note.specs.Facts.{Facts, full, is_unset, with_reg, with_id, with_
 use Rattle.bpf_flow.specs.Step.{target, is_frame}
 use Rattle.bpf_flow.specs.Graph.{Leads, writes, loses}
 use Rattle.bpf_flow.specs.Edges.{Edges, and_then, goes_to, sets, sets_computed, with_computed}
-use Rattle.bpf_flow.specs.Computing.{exactly, constant, operand_value, any_number, any_of_width, result_of, negated_value, extended_value, swapped_value}
-use Rattle.bpf_flow.specs.Reaching.{reach, loaded_value, stores, with_store, with_bytes, is_slot, touches, adds_at}
-use Rattle.bpf_flow.specs.Learning.{opposite, raise, narrowed, compared, against_end, end_against, is_null, checked, learnt, learnt_if, taken, passed}
-use Rattle.bpf_flow.specs.After.{is_first_unset, at_target, is_key, with_call, looks_up, is_lookup, after_of}
+use Rattle.bpf_flow.specs.Alu.{exactly, constant, operand_value, any_number, any_of_width, result_of, negated_value, extended_value, swapped_value}
+use Rattle.bpf_flow.specs.Memory.{reach, loaded_value, stores, with_store, with_bytes, is_slot, touches, adds_at}
+use Rattle.bpf_flow.specs.Branch.{opposite, raise, narrowed, compared, against_end, end_against, is_null, checked, refined, refined_if, taken, passed}
+use Rattle.bpf_flow.specs.Rule.{is_first_unset, at_target, after_of}
+use Rattle.bpf_flow.specs.Call.{is_key, with_call, looks_up, is_lookup}
 use Rattle.bpf_flow.specs.declared.computed.Computed.{Computed}
 use Rattle.bpf_flow.specs.declared.computed.Computed.TheVariants.{Plain, Fresh}
 use Rattle.bpf_flow.specs.declared.access.Access.{Access}
@@ -176,7 +177,7 @@ learnt_checked Equal n m id = learnt_resolved n id (Num 0 0) refl
 learnt_checked NotEqual n m id = learnt_resolved n id (Value m) refl
 learnt_checked cond n m id = learnt_nothing n
 
-learnt_is : (cond : Condition) (n : Facts) (k : ℕ) (operand : Operand) (v w : Val) → n.reg k ≡ v → IsLearnt n (learnt cond n k operand v w)
+learnt_is : (cond : Condition) (n : Facts) (k : ℕ) (operand : Operand) (v w : Val) → n.reg k ≡ v → IsLearnt n (refined cond n k operand v w)
 learnt_is cond n k operand (Pkt id off) PktEnd e = learnt_against cond n id off
 learnt_is cond n k operand PktEnd (Pkt id off) e = learnt_end cond n id off
 learnt_is cond n k operand (Num lo hi) (Num c d) e =
@@ -184,7 +185,7 @@ learnt_is cond n k operand (Num lo hi) (Num c d) e =
 learnt_is cond n k operand (MaybeValue m id) w e = learnt_if_so (is_null operand) n (checked cond n m id) n (learnt_checked cond n m id) (learnt_nothing n)
 learnt_is cond n k operand v w e = learnt_nothing n
 
-learnt_opposite : (o : Option Condition) (n : Facts) (k : ℕ) (operand : Operand) (v w : Val) → n.reg k ≡ v → IsLearnt n (learnt_if o n k operand v w)
+learnt_opposite : (o : Option Condition) (n : Facts) (k : ℕ) (operand : Operand) (v w : Val) → n.reg k ≡ v → IsLearnt n (refined_if o n k operand v w)
 learnt_opposite None n k operand v w e = learnt_nothing n
 learnt_opposite (Some cond) n k operand v w e = learnt_is cond n k operand v w e
 

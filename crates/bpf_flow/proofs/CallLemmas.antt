@@ -14,8 +14,9 @@ use Rattle.bpf_note.specs.Facts.{Facts, full, packet_id, with_reg, with_id}
 use Rattle.bpf_note.specs.Describes.{Meaning, meaning, Describes, IsReading, Reads, IsValueOf}
 use Rattle.bpf_flow.specs.Step.{Next, Adds, Fault, need, at_slot, with_number, is_frame, add_to, map_at, key_in, value_or_null, called, looked_up, reached}
 use Rattle.bpf_flow.specs.Edges.{Edges, goes_to}
-use Rattle.bpf_flow.specs.Reaching.{place_in, is_counter, all_set, adds_at}
-use Rattle.bpf_flow.specs.After.{fetched, is_key, is_key_at, with_call, looks_up}
+use Rattle.bpf_flow.specs.Memory.{place_in, is_counter, all_set, adds_at}
+use Rattle.bpf_flow.specs.Rule.{fetched}
+use Rattle.bpf_flow.specs.Call.{is_key, is_key_at, with_call, looks_up}
 use Rattle.bpf_flow.specs.Sound.{Accounts}
 use Rattle.bpf_flow.specs.declared.access.Access.TheVariants.{AtValue}
 use Rattle.bpf_flow.proofs.AnswerLemmas.{unless_ok, same_some, flipped}

@@ -1,5 +1,5 @@
 -- Which causes the rule answers.
-use Rattle.std.proofs.Common.{◌≡◌, ◌+◌, ℕ, ℤ, pos, negsuc, ◌+ℤ◌, List, [], ◌∷◌, Option, Some, None, Bool, true, false, ◌&&◌, ◌||◌, not, refl, sym, ap, ◌∙◌, subst, length}
+use Rattle.std.proofs.Common.{◌≡◌, ◌+◌, ℕ, ℤ, pos, ◌+ℤ◌, List, Option, Some, None, Bool, true, false, ◌&&◌, ◌||◌, not, ap, subst, length}
 use Rattle.std.specs.Prelude.{Result, Ok, Err, if◌then◌else◌, IsSome, slice_get}
 use Rattle.bpf_insn.specs.Register.{number}
 use Rattle.bpf_insn.specs.Signed.{sign_extended}
@@ -15,10 +15,11 @@ use Rattle.bpf_note.specs.Shape.{Shape}
 use Rattle.bpf_note.specs.Facts.{Facts, is_unset}
 use Rattle.bpf_flow.specs.Causes.{IsRuleCause}
 use Rattle.bpf_flow.specs.Step.{target, is_frame}
-use Rattle.bpf_flow.specs.Edges.{Edges, Answer, unless, and_then, goes_to, sets}
-use Rattle.bpf_flow.specs.Computing.{exactly, operand_value}
-use Rattle.bpf_flow.specs.Reaching.{place_in, packet_place, in_packet, on_stack, reach, is_word, is_field, is_double, is_counter, all_set, loaded_value, stores, adds_at}
-use Rattle.bpf_flow.specs.After.{after_of, is_first_unset, at_target, is_key, is_lookup, looks_up, IsRuled}
+use Rattle.bpf_flow.specs.Edges.{Edges, unless, and_then, sets}
+use Rattle.bpf_flow.specs.Alu.{exactly, operand_value}
+use Rattle.bpf_flow.specs.Memory.{place_in, packet_place, in_packet, on_stack, reach, is_word, is_field, is_double, is_counter, all_set, loaded_value, stores, adds_at}
+use Rattle.bpf_flow.specs.Rule.{after_of, is_first_unset, at_target, IsRuled}
+use Rattle.bpf_flow.specs.Call.{is_key, is_lookup, looks_up}
 use Rattle.bpf_flow.specs.declared.access.Access.{Access}
 use Rattle.bpf_flow.specs.declared.access.Access.TheVariants.{InPacket, OnStack, InContext, AtValue}
 

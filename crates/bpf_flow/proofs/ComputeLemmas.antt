@@ -9,7 +9,7 @@ use Rattle.bpf_note.specs.declared.val.Val.TheVariants.{Pkt, Stack}
 use Rattle.bpf_note.specs.State.{packet_start, stack_end}
 use Rattle.bpf_note.specs.Facts.{full}
 use Rattle.bpf_note.specs.Describes.{Meaning, IsReading}
-use Rattle.bpf_flow.specs.Computing.{signed, packet_at, stack_at}
+use Rattle.bpf_flow.specs.Alu.{signed, packet_at, stack_at}
 use Rattle.bpf_flow.proofs.IdLemmas.{full_reads}
 
 -- sums and differences modulo 2 ^ 64

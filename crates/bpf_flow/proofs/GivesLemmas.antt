@@ -8,7 +8,7 @@ use Rattle.bpf_note.specs.State.{State}
 use Rattle.bpf_note.specs.Facts.{Facts}
 use Rattle.bpf_note.specs.Describes.{Describes}
 use Rattle.bpf_flow.specs.Step.{exec}
-use Rattle.bpf_flow.specs.After.{after_of, IsRuled}
+use Rattle.bpf_flow.specs.Rule.{after_of, IsRuled}
 use Rattle.bpf_flow.specs.Sound.{Accounts, HasWords}
 use Rattle.bpf_flow.specs.Gives.{Gives, edges_of}
 use Rattle.bpf_flow.specs.declared.successors.Successors.{Successors}

@@ -1,4 +1,4 @@
--- Ids: an instruction that makes one, and what is learnt of one.
+-- Ids: an instruction that makes one, and what is refined of one.
 use Rattle.std.proofs.Common.{◌≡◌, ℕ, zero, suc, ◌+◌, ◌*◌, ◌^◌, ◌<◌, ◌≤◌, Bool, true, false, refl, Option, Some, None, cond, length, nat_eq, ap, ◌∙◌, arith}
 use Rattle.std.specs.Prelude.{if◌then◌else◌, option_map}
 use Rattle.std.proofs.lemmas.Bool.Decides.{nat_tests}

@@ -13,7 +13,7 @@ use Rattle.bpf_note.specs.State.{State}
 use Rattle.bpf_note.specs.Facts.{Facts, with_reg, with_each, resolved}
 use Rattle.bpf_note.specs.Describes.{Meaning, meaning, Describes, IsReading, Reads}
 use Rattle.bpf_flow.specs.Step.{operand}
-use Rattle.bpf_flow.specs.Learning.{opposite, raised, raise, narrowed, compared, against_end, end_against, is_null, checked, learnt, learnt_if, taken, passed}
+use Rattle.bpf_flow.specs.Branch.{opposite, raised, raise, narrowed, compared, against_end, end_against, is_null, checked, refined, refined_if, taken, passed}
 use Rattle.bpf_flow.proofs.AnswerLemmas.{same_some}
 use Rattle.bpf_flow.proofs.IdLemmas.{same_id, resolved_describes}
 use Rattle.bpf_flow.proofs.SumLemmas.{the_one}
@@ -186,7 +186,7 @@ module _ (n : Facts) (s : State) (d : Describes n s) where
   value_by cond o m id x y false e at r h = d
 
   learnt_describes : (cond : Condition) (k : ℕ) (o : Operand) (v u : Val) (x y : ℕ) → s.reg k ≡ Some x → operand s o ≡ Some y → IsReading w v x → IsReading w u y → relation cond word x y ≡ true →
-      Describes (learnt cond n k o v u) s
+      Describes (refined cond n k o v u) s
   learnt_describes cond k o (Pkt id off) PktEnd x y e at rx ry h = against_describes cond id off x y rx ry h
   learnt_describes cond k o PktEnd (Pkt id off) x y e at rx ry h = end_describes cond id off x y rx ry h
   learnt_describes cond k o (Num lo hi) (Num c f) x y e at rx ry h = number_by cond k x y lo hi c f (nat_eq c f) refl e rx.0 rx.1 ry.0 ry.1 h
@@ -200,7 +200,7 @@ module _ (n : Facts) (s : State) (d : Describes n s) where
   taken_describes cond true k o v u x y e at fx fy rx ry h = learnt_describes cond k o v u x y e at rx ry (sym (met_is cond x y fx fy) ∙ h)
 
   passed_by : (cond : Condition) (other : Option Condition) (k : ℕ) (o : Operand) (v u : Val) (x y : ℕ) → opposite cond ≡ other → s.reg k ≡ Some x → operand s o ≡ Some y → IsReading w v x → IsReading w u y →
-      relation cond word x y ≡ false → Describes (learnt_if other n k o v u) s
+      relation cond word x y ≡ false → Describes (refined_if other n k o v u) s
   passed_by cond None k o v u x y f e at rx ry h = d
   passed_by cond (Some other) k o v u x y f e at rx ry h = learnt_describes other k o v u x y e at rx ry (opposite_holds cond other x y f h)
 

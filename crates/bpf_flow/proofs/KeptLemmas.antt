@@ -19,7 +19,7 @@ use Rattle.bpf_flow.specs.Kept.{Kept, IsLabelOf}
 use Rattle.bpf_flow.proofs.StoreLemmas.{spliced_length}
 
 -- what a step from s comes to keeps the maps and the packet's length, and waits for a counter of the maps
-abbrev Keeps : State → Outcome → Type 0
+abbrev pub Keeps : State → Outcome → Type 0
 Keeps s (Next t) = Kept s t
 Keeps s (Loads m k j to) = (AreShapes s.shapes → IsCounter s.shapes m k j) × ((v : ℕ) → Kept s (to v))
 Keeps s (Adds m k j delta to) = (AreShapes s.shapes → IsCounter s.shapes m k j) × ((v : ℕ) → Kept s (to v))
@@ -118,7 +118,7 @@ module _ (s : State) where
   there : (a : ℕ) (off : ℤ) (z : ℕ) → Lies (length s.packet) s.shapes z (reached s a off z)
   there a off z = region_lies (length s.packet) s.shapes (address a off) z
 
-  exec_keeps : (i : Insn) → Keeps s (exec i s)
+  pub exec_keeps : (i : Insn) → Keeps s (exec i s)
   exec_keeps (Alu op wide dst src) = needs s (operand s src) _ (λ x. needs s (first_operand op (s.reg (number dst))) _ (λ d. written_keeps s (s.pc + 1) (number dst) _))
   exec_keeps (Neg wide dst) = needs s (s.reg (number dst)) _ (λ d. written_keeps s (s.pc + 1) (number dst) _)
   exec_keeps (End kind width dst) = needs s (s.reg (number dst)) _ (λ d. written_keeps s (s.pc + 1) (number dst) _)

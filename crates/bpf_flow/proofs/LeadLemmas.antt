@@ -1,11 +1,10 @@
 -- The rule's edges are edges that the instruction has.
-use Rattle.std.proofs.Common.{◌≡◌, ◌⊎◌, inl, inr, ◌+◌, ◌<◌, ℕ, ℤ, pos, negsuc, List, [], ◌∷◌, ◌++◌, Option, Some, None, Bool, true, false, ◌&&◌, ◌||◌, not, refl, sym, ap, ◌∙◌, subst, length}
-use Rattle.std.specs.Prelude.{Result, Ok, Err}
+use Rattle.std.proofs.Common.{◌≡◌, ◌⊎◌, inl, inr, ◌+◌, ℕ, List, [], ◌∷◌, Option, Some, None, ◌&&◌, ◌||◌, not, sym, ap, subst}
+use Rattle.std.specs.Prelude.{Ok}
 use Rattle.bpf_insn.specs.Register.{number}
 use Rattle.bpf_insn.specs.declared.insn.Insn.{Insn}
 use Rattle.bpf_insn.specs.declared.insn.Insn.TheVariants.{Alu, Neg, End, MovSx, Const, MapRef, Ldx, St, Stx, AddCounter, Ja, Jump, Call, Exit, Second}
 use Rattle.bpf_insn.specs.declared.refusal.Cause.TheVariants as cause
-use Rattle.bpf_insn.specs.declared.refusal.Cause.{Cause}
 use Rattle.bpf_insn.specs.declared.size.Size.{Size}
 use Rattle.bpf_note.specs.declared.val.Val.{Val}
 use Rattle.bpf_note.specs.declared.val.Val.TheVariants as val
@@ -15,13 +14,14 @@ use Rattle.bpf_insn.specs.Size.{size_bytes}
 use Rattle.bpf_insn.specs.Signed.{sign_extended}
 use Rattle.bpf_flow.specs.Step.{target, is_frame}
 use Rattle.bpf_flow.specs.Graph.{Leads}
-use Rattle.bpf_flow.specs.Edges.{Edges, Answer, unless, and_then, goes_to, sets, sets_computed}
-use Rattle.bpf_flow.specs.Computing.{exactly, operand_value}
-use Rattle.bpf_flow.specs.Reaching.{reach, loaded_value, stores, adds_at}
-use Rattle.bpf_flow.specs.After.{after_of, is_first_unset, at_target, is_key, looks_up, is_lookup}
+use Rattle.bpf_flow.specs.Edges.{Edges, goes_to, sets}
+use Rattle.bpf_flow.specs.Alu.{exactly, operand_value}
+use Rattle.bpf_flow.specs.Memory.{reach, loaded_value, stores, adds_at}
+use Rattle.bpf_flow.specs.Rule.{after_of, is_first_unset, at_target}
+use Rattle.bpf_flow.specs.Call.{is_key, looks_up, is_lookup}
 use Rattle.bpf_flow.specs.declared.access.Access.{Access}
 use Rattle.bpf_flow.specs.declared.access.Access.TheVariants.{InPacket, OnStack, InContext, AtValue}
-use Rattle.bpf_flow.proofs.AnswerLemmas.{unless_ok, and_then_ok, at_target_ok, same_ok}
+use Rattle.bpf_flow.proofs.AnswerLemmas.{unless_ok, and_then_ok, same_ok}
 
 -- one of the edges leads to q
 abbrev pub Speaks : Edges → ℕ → Type 0

@@ -19,7 +19,7 @@ use Rattle.bpf_note.specs.Facts.{Facts, full, with_reg}
 use Rattle.bpf_note.specs.Describes.{Meaning, meaning, Describes, IsReading, Holds}
 use Rattle.bpf_flow.specs.Step.{Loads, Fault, need, written, with_number, is_frame, loaded, taken, load_from, field_at}
 use Rattle.bpf_flow.specs.Edges.{Edges, goes_to}
-use Rattle.bpf_flow.specs.Reaching.{is_field, is_counter, all_set, any_of_size, any_loaded, kept_or_full, stack_value, field_value, is_word, is_double, loaded_value}
+use Rattle.bpf_flow.specs.Memory.{is_field, is_counter, all_set, any_of_size, any_loaded, kept_or_full, stack_value, field_value, is_word, is_double, loaded_value}
 use Rattle.bpf_flow.specs.Sound.{Accounts}
 use Rattle.bpf_flow.specs.declared.access.Access.{Access}
 use Rattle.bpf_flow.specs.declared.access.Access.TheVariants.{InPacket, OnStack, InContext, AtValue}

@@ -13,7 +13,7 @@ use Rattle.bpf_note.specs.Facts.{Facts}
 use Rattle.bpf_note.specs.Describes.{meaning, Describes, IsReading, IsValueOf}
 use Rattle.bpf_note.proofs.RegionLemmas.{counter_at_address}
 use Rattle.bpf_flow.specs.Step.{address, reached}
-use Rattle.bpf_flow.specs.Reaching.{place_in, packet_place, in_packet, on_stack, reach}
+use Rattle.bpf_flow.specs.Memory.{place_in, packet_place, in_packet, on_stack, reach}
 use Rattle.bpf_flow.specs.declared.access.Access.{Access}
 use Rattle.bpf_flow.specs.declared.access.Access.TheVariants.{InPacket, OnStack, InContext, AtValue}
 use Rattle.bpf_flow.proofs.AnswerLemmas.{same_ok, same_some}

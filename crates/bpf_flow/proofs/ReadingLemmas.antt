@@ -22,10 +22,11 @@ use Rattle.bpf_note.specs.Facts.{Facts, full, is_unset, with_reg, with_id}
 use Rattle.bpf_flow.specs.Step.{target, is_frame}
 use Rattle.bpf_flow.specs.Graph.{reads, writes, is_operand}
 use Rattle.bpf_flow.specs.Edges.{Edges, Answer, unless, and_then, goes_to, with_computed}
-use Rattle.bpf_flow.specs.Computing.{exactly, operand_value, result_of, negated_value, extended_value, swapped_value}
-use Rattle.bpf_flow.specs.Reaching.{place_in, packet_place, in_packet, on_stack, reach, is_word, is_field, is_double, is_counter, all_set, stack_value, field_value, loaded_value, stores, adds_at}
-use Rattle.bpf_flow.specs.Learning.{taken, passed}
-use Rattle.bpf_flow.specs.After.{is_first_unset, at_target, fetched, is_key, with_call, looks_up, is_lookup, after_of}
+use Rattle.bpf_flow.specs.Alu.{exactly, operand_value, result_of, negated_value, extended_value, swapped_value}
+use Rattle.bpf_flow.specs.Memory.{place_in, packet_place, in_packet, on_stack, reach, is_word, is_field, is_double, is_counter, all_set, stack_value, field_value, loaded_value, stores, adds_at}
+use Rattle.bpf_flow.specs.Branch.{taken, passed}
+use Rattle.bpf_flow.specs.Rule.{is_first_unset, at_target, fetched, after_of}
+use Rattle.bpf_flow.specs.Call.{is_key, with_call, looks_up, is_lookup}
 use Rattle.bpf_flow.specs.Reading.{IsKnownCall, ReadsUnset}
 use Rattle.bpf_flow.specs.declared.access.Access.{Access}
 use Rattle.bpf_flow.specs.declared.access.Access.TheVariants.{InPacket, OnStack, InContext, AtValue}

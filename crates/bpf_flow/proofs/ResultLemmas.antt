@@ -20,7 +20,7 @@ use Rattle.bpf_note.specs.Facts.{Facts, full}
 use Rattle.bpf_note.specs.Describes.{Meaning, IsReading}
 use Rattle.bpf_flow.specs.declared.computed.Computed.{Computed}
 use Rattle.bpf_flow.specs.declared.computed.Computed.TheVariants.{Plain}
-use Rattle.bpf_flow.specs.Computing.{constant, any_number, range_by, ranged, unfolded, folded, result_of, folded_one, negated_value, extended_value, any_of_width, swapped_value}
+use Rattle.bpf_flow.specs.Alu.{constant, any_number, range_by, ranged, unfolded, folded, result_of, folded_one, negated_value, extended_value, any_of_width, swapped_value}
 use Rattle.bpf_flow.proofs.IdLemmas.{full_reads, same_id}
 use Rattle.bpf_flow.proofs.SumLemmas.{IsResult, the_one, sum_reads, difference_reads}
 

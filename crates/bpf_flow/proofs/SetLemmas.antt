@@ -20,8 +20,8 @@ use Rattle.bpf_flow.specs.declared.computed.Computed.{Computed}
 use Rattle.bpf_flow.specs.declared.computed.Computed.TheVariants.{Plain, Fresh}
 use Rattle.bpf_flow.specs.declared.access.Access.{Access}
 use Rattle.bpf_flow.specs.declared.access.Access.TheVariants.{InPacket, OnStack, InContext, AtValue}
-use Rattle.bpf_flow.specs.Computing.{constant, any_number, packet_at, stack_at, packet_sum, stack_sum, sum_of, difference_of, range_by, ranged, unfolded, folded, first_constant, result_of, folded_one, any_of_width, signed, most_base}
-use Rattle.bpf_flow.specs.Reaching.{any_of_size, any_loaded, is_slot, kept_or_full, stack_value, field_value, is_word, is_field, is_double, is_counter, all_set, loaded_value}
+use Rattle.bpf_flow.specs.Alu.{constant, any_number, packet_at, stack_at, packet_sum, stack_sum, sum_of, difference_of, range_by, ranged, unfolded, folded, first_constant, result_of, folded_one, any_of_width, signed, most_base}
+use Rattle.bpf_flow.specs.Memory.{any_of_size, any_loaded, is_slot, kept_or_full, stack_value, field_value, is_word, is_field, is_double, is_counter, all_set, loaded_value}
 
 -- a kept value isn't Unset
 abbrev pub IsSet : Option Val → Type 0

@@ -27,10 +27,11 @@ use Rattle.bpf_note.specs.Facts.{Facts, is_unset, packet_id, with_reg, with_id}
 use Rattle.bpf_note.specs.Describes.{Meaning, meaning, Describes, IsReading, Reads}
 use Rattle.bpf_flow.specs.Step.{Next, Exited, Fault, need, written, at_slot, is_frame, operand, target, jumped, reached, load_from, store_to, add_to, looked_up, exec}
 use Rattle.bpf_flow.specs.Edges.{Edges, unless, and_then, sets, sets_computed}
-use Rattle.bpf_flow.specs.Computing.{exactly, operand_value, result_of, folded, unfolded, constant, negated_value, extended_value, swapped_value}
-use Rattle.bpf_flow.specs.Reaching.{reach, loaded_value, stores, adds_at}
-use Rattle.bpf_flow.specs.Learning.{taken, passed}
-use Rattle.bpf_flow.specs.After.{looks_up, after_of, IsRuled}
+use Rattle.bpf_flow.specs.Alu.{exactly, operand_value, result_of, folded, unfolded, constant, negated_value, extended_value, swapped_value}
+use Rattle.bpf_flow.specs.Memory.{reach, loaded_value, stores, adds_at}
+use Rattle.bpf_flow.specs.Branch.{taken, passed}
+use Rattle.bpf_flow.specs.Rule.{after_of, IsRuled}
+use Rattle.bpf_flow.specs.Call.{looks_up}
 use Rattle.bpf_flow.specs.Sound.{Accounts, HasWords}
 use Rattle.bpf_flow.specs.declared.computed.Computed.{Computed}
 use Rattle.bpf_flow.specs.declared.computed.Computed.TheVariants.{Plain, Fresh}

@@ -7,8 +7,8 @@ use Rattle.bpf_note.specs.declared.val.Val.{Val}
 use Rattle.bpf_note.specs.declared.val.Val.TheVariants.{Unset, MaybeValue}
 use Rattle.bpf_note.specs.State.{put}
 use Rattle.bpf_note.specs.Facts.{Facts, with_reg, with_byte}
-use Rattle.bpf_flow.specs.Reaching.{all_set, touches, with_bytes}
-use Rattle.bpf_flow.specs.After.{with_call}
+use Rattle.bpf_flow.specs.Memory.{all_set, touches, with_bytes}
+use Rattle.bpf_flow.specs.Call.{with_call}
 
 -- the first of the bytes, and the rest
 pub all_set_step : (n : Facts) (i end : ℕ) → i < end → all_set n i (end - i) ≡ (n.set i && all_set n (i + 1) (end - (i + 1)))

@@ -15,7 +15,7 @@ use Rattle.bpf_note.specs.Facts.{Facts, with_kept}
 use Rattle.bpf_note.specs.Describes.{Meaning, meaning, Describes, IsReading, Reads, Holds}
 use Rattle.bpf_flow.specs.Step.{store_to, with_stack, with_packet, spliced}
 use Rattle.bpf_flow.specs.Edges.{Edges}
-use Rattle.bpf_flow.specs.Reaching.{touches, with_bytes, with_store, stores}
+use Rattle.bpf_flow.specs.Memory.{touches, with_bytes, with_store, stores}
 use Rattle.bpf_flow.specs.Sound.{Accounts}
 use Rattle.bpf_flow.specs.declared.access.Access.{Access}
 use Rattle.bpf_flow.specs.declared.access.Access.TheVariants.{InPacket, OnStack, InContext, AtValue}

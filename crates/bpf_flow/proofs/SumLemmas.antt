@@ -13,7 +13,7 @@ use Rattle.bpf_note.specs.Facts.{Facts, full}
 use Rattle.bpf_note.specs.Describes.{Meaning, IsReading}
 use Rattle.bpf_flow.specs.declared.computed.Computed.{Computed}
 use Rattle.bpf_flow.specs.declared.computed.Computed.TheVariants.{Plain, Fresh}
-use Rattle.bpf_flow.specs.Computing.{signed, most_base, packet_at, stack_at, packet_sum, stack_sum, sum_of, difference_of}
+use Rattle.bpf_flow.specs.Alu.{signed, most_base, packet_at, stack_at, packet_sum, stack_sum, sum_of, difference_of}
 use Rattle.bpf_flow.proofs.IdLemmas.{full_reads, same_id}
 use Rattle.bpf_flow.proofs.ComputeLemmas.{sum_is, sum_signed, difference_signed, packet_at_reads, stack_at_reads}
 

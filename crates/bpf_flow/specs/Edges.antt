@@ -1,5 +1,5 @@
 -- What the verifier's rule answers for an instruction: where it leads, with what is known there, or why it is refused.
-use Rattle.std.specs.Prelude.{ℕ, ◌+◌, List, [], ◌∷◌, Option, None, Some, Bool, if◌then◌else◌, Result, Ok, Err}
+use Rattle.std.specs.Prelude.{ℕ, ◌+◌, List, [], ◌∷◌, Bool, if◌then◌else◌, Result, Ok, Err}
 use Rattle.bpf_insn.specs.declared.refusal.Cause.{Cause}
 use Rattle.bpf_insn.specs.declared.refusal.Cause.TheVariants as cause
 use Rattle.bpf_note.specs.declared.val.Val.{Val}
@@ -23,11 +23,6 @@ unless b c go = if b then Err c else go
 abbrev pub and_then : {A B : Type 0} → Result A Cause → (A → Result B Cause) → Result B Cause
 and_then (Ok x) go = go x
 and_then (Err c) go = Err c
-
--- what is there, or c
-abbrev pub or_refuse : {A : Type 0} → Option A → Cause → Result A Cause
-or_refuse None c = Err c
-or_refuse (Some x) c = Ok x
 
 -- one edge
 abbrev pub goes_to : ℕ → Facts → Answer

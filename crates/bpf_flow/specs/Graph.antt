@@ -1,11 +1,10 @@
 -- The flow graph of a program, and which registers its instructions read and write (RFC 9669, sections 4 and 5).
-use Rattle.std.specs.Prelude.{ℕ, ◌+◌, ◌≡◌, ◌⊎◌, Some, Bool, true, false, ◌&&◌, ◌||◌, ◌==◌, nat_le}
+use Rattle.std.specs.Prelude.{ℕ, ◌+◌, ◌≡◌, ◌⊎◌, Some, Bool, false, ◌&&◌, ◌||◌, ◌==◌, nat_le}
 use Rattle.bpf_insn.specs.Register.{number}
 use Rattle.bpf_insn.specs.declared.insn.Insn.{Insn}
 use Rattle.bpf_insn.specs.declared.insn.Insn.TheVariants.{Alu, Neg, End, MovSx, Const, MapRef, Ldx, St, Stx, AddCounter, Ja, Jump, Call, Exit, Second}
 use Rattle.bpf_insn.specs.declared.operand.Operand.{Operand}
 use Rattle.bpf_insn.specs.declared.operand.Operand.TheVariants.{Register, Immediate}
-use Rattle.bpf_insn.specs.declared.alu_op.AluOp.{AluOp}
 use Rattle.bpf_insn.specs.declared.alu_op.AluOp.TheVariants.{Mov}
 use Rattle.bpf_flow.specs.Step.{target}
 
@@ -22,10 +21,6 @@ Leads (Jump cond wide dst src off) pc q = (q ≡ pc + 1) ⊎ (target pc off ≡ 
 Leads Exit pc q = ⊥
 Leads Second pc q = ⊥
 Leads i pc q = q ≡ next_slot i pc
-
-abbrev pub is_mov : AluOp → Bool
-is_mov Mov = true
-is_mov op = false
 
 abbrev pub is_operand : Operand → ℕ → Bool
 is_operand (Register r) k = k == number r

@@ -1,10 +1,11 @@
 pub mod Step
 pub mod Graph
 pub mod Edges
-pub mod Computing
-pub mod Reaching
-pub mod Learning
-pub mod After
+pub mod Alu
+pub mod Memory
+pub mod Branch
+pub mod Call
+pub mod Rule
 pub mod Sound
 pub mod Gives
 pub mod Causes

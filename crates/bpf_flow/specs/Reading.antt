@@ -4,7 +4,7 @@ use Rattle.bpf_insn.specs.declared.insn.Insn.{Insn}
 use Rattle.bpf_insn.specs.declared.insn.Insn.TheVariants.{Call}
 use Rattle.bpf_note.specs.Facts.{Facts, is_unset}
 use Rattle.bpf_flow.specs.Graph.{reads}
-use Rattle.bpf_flow.specs.After.{is_lookup}
+use Rattle.bpf_flow.specs.Call.{is_lookup}
 
 -- no call, or one of the helper that programs may call
 abbrev pub IsKnownCall : Insn → Type 0

@@ -6,7 +6,7 @@ ghost use Rattle.bpf_note.specs.Facts.{Facts};
 ghost use Rattle.bpf_note.specs.Shape.{AreShapes, Shape};
 ghost use Rattle.bpf_note.specs.State.{State};
 ghost use Rattle.bpf_note.specs.declared.op.Op.{Op};
-ghost use Rattle.bpf_flow.specs.After.{after_of};
+ghost use Rattle.bpf_flow.specs.Rule.{after_of};
 ghost use Rattle.bpf_flow.specs.Graph.{Leads, writes};
 ghost use Rattle.bpf_flow.specs.Kept.{Kept, IsLabelOf};
 ghost use Rattle.bpf_flow.specs.Reading.{ReadsUnset};

@@ -2,6 +2,8 @@
 use Rattle.std.specs.Prelude.{◌≡◌, ◌/◌, ◌%◌, ◌<◌, pos}
 use Rattle.bpf_insn.specs.Register.{number}
 use Rattle.bpf_insn.specs.declared.fields.Fields.{Fields}
+use Rattle.bpf_insn.specs.declared.insn.Insn.{Insn}
+use Rattle.bpf_insn.specs.declared.insn.Insn.TheVariants.{Ldx, St, Stx, AddCounter}
 use Rattle.bpf_insn.specs.declared.operand.Operand.{Operand}
 use Rattle.bpf_insn.specs.declared.operand.Operand.TheVariants.{Register, Immediate}
 
@@ -14,3 +16,11 @@ IsOperand f (Register r) = ((f.op / 8) % 2 ≡ 1) × (number r ≡ f.src) × (f.
 pub record HasRegisters (f : Fields) : Type 0 where
   pub dst : f.dst < 16
   pub src : f.src < 16
+
+-- an instruction that reads or writes memory (RFC 9669 section 5)
+abbrev pub IsAccess : Insn → Type 0
+IsAccess (Ldx size signed dst src off) = Unit {0}
+IsAccess (St size dst off imm) = Unit {0}
+IsAccess (Stx size dst src off) = Unit {0}
+IsAccess (AddCounter fetch dst src off) = Unit {0}
+IsAccess i = ⊥

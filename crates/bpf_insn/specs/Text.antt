@@ -1,5 +1,5 @@
 -- The text of instructions, in the notation of the Linux kernel's disassembler.
-use Rattle.std.specs.Prelude.{ℕ, suc, ℤ, pos, negsuc, Bool, true, false, List, ◌++◌, codes, if◌then◌else◌}
+use Rattle.std.specs.Prelude.{ℕ, suc, ℤ, pos, negsuc, Bool, true, false, List, [], ◌++◌, codes, if◌then◌else◌}
 use Rattle.std.specs.Fmt.{decimal, signed_decimal, digits}
 use Rattle.std.specs.Int.{cast_unsigned, w32}
 use Rattle.bpf_insn.specs.Register.{number}
@@ -78,33 +78,51 @@ size_text signed size = (if signed then codes "s" else codes "u") ++ decimal (si
 abbrev pub address_text : Register → ℤ → List ℕ
 address_text r off = codes "(" ++ register_text true r ++ codes " " ++ offset_text off ++ codes ")"
 
--- an addition to memory, `*(u64 *)(r10 -8) += r1`
-abbrev pub addition_text : Register → ℤ → Register → List ℕ
-addition_text dst off src = codes "*(u64 *)" ++ address_text dst off ++ codes " += " ++ register_text true src
+-- a number in memory, `*(u16 *)(r2 +12)`
+abbrev pub cell_text : Bool → Size → Register → ℤ → List ℕ
+cell_text signed size base off = codes "*(" ++ size_text signed size ++ codes " *)" ++ address_text base off
 
--- one that gives the old number, `atomic64_fetch_add((u64 *)(r10 -8), r1)`
+-- an addition that gives the old number, `atomic64_fetch_add((u64 *)(r10 -8), r1)`
 unfoldable pub fetch_text : Register → ℤ → Register → List ℕ
-fetch_text dst off src = codes "atomic64_fetch_add((u64 *)" ++ address_text dst off ++ codes ", " ++ register_text true src ++ codes ")"
+fetch_text base off src = codes "atomic64_fetch_add((u64 *)" ++ address_text base off ++ codes ", " ++ register_text true src ++ codes ")"
+
+-- an addition to memory, `lock *(u64 *)(r10 -8) += r1`; the old number of one that gives it goes to src
+abbrev pub addition_text : Bool → Register → ℤ → Register → List ℕ
+addition_text false base off src = codes "lock *(u64 *)" ++ address_text base off ++ codes " += " ++ register_text true src
+addition_text true base off src = register_text true src ++ codes " = " ++ fetch_text base off src
 
 -- what a conditional jump tests, `w0 s< 0x5`
 abbrev pub test_text : Condition → Bool → Register → Operand → List ℕ
 test_text cond wide dst src = register_text wide dst ++ codes " " ++ condition_text cond ++ codes " " ++ compared_text wide src
 
+-- arithmetic, a constant and a map's number
+abbrev pub arithmetic_text : Insn → List ℕ
+arithmetic_text (Alu op wide dst src) = register_text wide dst ++ codes " " ++ operation_text op ++ codes " " ++ source_text wide src
+arithmetic_text (Neg wide dst) = register_text wide dst ++ codes " = -" ++ register_text wide dst
+arithmetic_text (End kind width dst) = register_text true dst ++ codes " = " ++ swap_text kind ++ decimal (width_bits width) ++ codes " " ++ register_text true dst
+arithmetic_text (MovSx wide bits dst src) = register_text wide dst ++ codes " = (" ++ size_text true bits ++ codes ")" ++ register_text wide src
+arithmetic_text (Const dst value) = register_text true dst ++ codes " = 0x" ++ digits 16 false value
+arithmetic_text (MapRef dst m) = register_text true dst ++ codes " = map " ++ decimal m
+arithmetic_text i = []
+
+-- loads, stores and adds
+abbrev pub access_text : Insn → List ℕ
+access_text (Ldx size signed dst src off) = register_text true dst ++ codes " = " ++ cell_text signed size src off
+access_text (St size dst off imm) = cell_text false size dst off ++ codes " = " ++ signed_decimal imm
+access_text (Stx size dst src off) = cell_text false size dst off ++ codes " = " ++ register_text true src
+access_text (AddCounter fetch dst src off) = addition_text fetch dst off src
+access_text i = []
+
+-- jumps, calls and the exit
+abbrev pub control_text : Insn → List ℕ
+control_text (Ja false to) = codes "goto pc" ++ offset_text to
+control_text (Ja true to) = codes "gotol pc" ++ offset_text to
+control_text (Jump cond wide dst src off) = codes "if " ++ test_text cond wide dst src ++ codes " goto pc" ++ offset_text off
+control_text (Call helper) = codes "call " ++ signed_decimal helper
+control_text Exit = codes "exit"
+control_text Second = codes "second slot"
+control_text i = []
+
+-- an instruction has one of the three
 abbrev pub insn_text : Insn → List ℕ
-insn_text (Alu op wide dst src) = register_text wide dst ++ codes " " ++ operation_text op ++ codes " " ++ source_text wide src
-insn_text (Neg wide dst) = register_text wide dst ++ codes " = -" ++ register_text wide dst
-insn_text (End kind width dst) = register_text true dst ++ codes " = " ++ swap_text kind ++ decimal (width_bits width) ++ codes " " ++ register_text true dst
-insn_text (MovSx wide bits dst src) = register_text wide dst ++ codes " = (" ++ size_text true bits ++ codes ")" ++ register_text wide src
-insn_text (Const dst value) = register_text true dst ++ codes " = 0x" ++ digits 16 false value
-insn_text (MapRef dst m) = register_text true dst ++ codes " = map " ++ decimal m
-insn_text (Ldx size signed dst src off) = register_text true dst ++ codes " = *(" ++ size_text signed size ++ codes " *)" ++ address_text src off
-insn_text (St size dst off imm) = codes "*(" ++ size_text false size ++ codes " *)" ++ address_text dst off ++ codes " = " ++ signed_decimal imm
-insn_text (Stx size dst src off) = codes "*(" ++ size_text false size ++ codes " *)" ++ address_text dst off ++ codes " = " ++ register_text true src
-insn_text (AddCounter false dst src off) = codes "lock " ++ addition_text dst off src
-insn_text (AddCounter true dst src off) = register_text true src ++ codes " = " ++ fetch_text dst off src
-insn_text (Ja false to) = codes "goto pc" ++ offset_text to
-insn_text (Ja true to) = codes "gotol pc" ++ offset_text to
-insn_text (Jump cond wide dst src off) = codes "if " ++ test_text cond wide dst src ++ codes " goto pc" ++ offset_text off
-insn_text (Call helper) = codes "call " ++ signed_decimal helper
-insn_text Exit = codes "exit"
-insn_text Second = codes "second slot"
+insn_text i = arithmetic_text i ++ access_text i ++ control_text i

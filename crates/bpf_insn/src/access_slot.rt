@@ -1,3 +1,4 @@
+//! The slots of loads, stores and adds.
 ghost use Rattle.std.specs.Prelude.{◌≡◌, ◌%◌, Bool, ℤ, [], ◌∷◌, IfNone, IfSome};
 ghost use Rattle.bpf_insn.specs.Spelling.{slots};
 ghost use Rattle.bpf_insn.specs.declared.fields.Fields.{Fields};

@@ -1,3 +1,4 @@
+//! Arithmetic operations and their codes.
 use std::fmt;
 
 /// An arithmetic operation of two operands.

@@ -1,8 +1,9 @@
+//! What arithmetic instructions compute.
 ghost use Rattle.std.specs.Prelude.{◌≡◌, false, true};
 ghost use Rattle.bpf_insn.specs.Arithmetic.{computed, negated};
 
 use crate::alu_op::AluOp;
-use crate::halves::low_half;
+use crate::truncated::low_32;
 
 /// What an arithmetic instruction leaves in its destination, of the numbers in destination and source: on 64 bits if
 /// `wide`, else on the low 32, and then the upper half is 0.
@@ -12,7 +13,7 @@ pub fn alu(op: AluOp, wide: bool, dst: u64, src: u64) -> u64
     if wide {
         alu64(op, dst, src)
     } else {
-        u64::from(alu32(op, low_half(dst), low_half(src)))
+        u64::from(alu32(op, low_32(dst), low_32(src)))
     }
 }
 
@@ -24,7 +25,7 @@ pub fn negate(wide: bool, dst: u64) -> u64
     if wide {
         dst.wrapping_neg()
     } else {
-        u64::from(low_half(dst).wrapping_neg())
+        u64::from(low_32(dst).wrapping_neg())
     }
 }
 
@@ -40,16 +41,13 @@ fn alu64(op: AluOp, dst: u64, src: u64) -> u64
         AluOp::SignedDiv => signed_quotient(dst, src),
         AluOp::Or => dst | src,
         AluOp::And => dst & src,
-        AluOp::Lsh => dst.wrapping_shl(low_half(src)),
-        AluOp::Rsh => dst.wrapping_shr(low_half(src)),
+        AluOp::Lsh => dst.wrapping_shl(low_32(src)),
+        AluOp::Rsh => dst.wrapping_shr(low_32(src)),
         AluOp::Mod => if src == 0 { dst } else { dst % src },
         AluOp::SignedMod => signed_remainder(dst, src),
         AluOp::Xor => dst ^ src,
         AluOp::Mov => src,
-        AluOp::Arsh => dst
-            .cast_signed()
-            .wrapping_shr(low_half(src))
-            .cast_unsigned(),
+        AluOp::Arsh => dst.cast_signed().wrapping_shr(low_32(src)).cast_unsigned(),
     }
 }
 

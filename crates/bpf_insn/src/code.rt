@@ -1,3 +1,4 @@
+//! Programs.
 use crate::insn::Insn;
 use std::marker::Model;
 

@@ -1,3 +1,4 @@
+//! Conditions of jumps and their codes.
 use std::fmt;
 
 /// When a conditional jump is taken. `Set` is a non-zero AND; the `Signed` forms read their operands as signed.

@@ -1,18 +1,19 @@
+//! When a conditional jump is taken.
 ghost use Rattle.std.specs.Prelude.{◌≡◌, false, true};
 ghost use Rattle.bpf_insn.specs.Conditions.{is_met};
 
 use crate::condition::Condition;
-use crate::halves::low_half;
+use crate::truncated::low_32;
 
 /// Whether a conditional jump is taken, of the numbers in destination and source: on 64 bits if `wide`, else on the
-/// low halves.
+/// low truncated.
 pub fn holds(cond: Condition, wide: bool, a: u64, b: u64) -> bool
     ensures { result ≡ is_met cond wide a b }
 {
     if wide {
         holds64(cond, a, b)
     } else {
-        holds32(cond, low_half(a), low_half(b))
+        holds32(cond, low_32(a), low_32(b))
     }
 }
 

@@ -1,3 +1,4 @@
+//! Bytes to instructions, or the first refusal.
 ghost use Rattle.std.specs.Prelude.{ℕ, List, IsErrAnd, MatchResult, ◌≡◌, ◌≤◌, ◌*◌, ◌++◌, ◌↔◌, drop, length, IfErr, IfNone, IfOk, IfSome, IsTrue, OnOk};
 ghost use Rattle.bpf_insn.specs.Code.{Spells, takes};
 ghost use Rattle.bpf_insn.specs.Refusal.{HasCause, HasLength, IsNoCode, IsOpcode, IsRefusalOrMemory, IsRefused, IsSpelled, Stops, has_unsupported_field, is_unsupported};

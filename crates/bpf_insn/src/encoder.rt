@@ -1,17 +1,18 @@
+//! Instructions to bytes.
 ghost use Rattle.std.specs.Prelude.{◌≡◌, ◌+◌, ◌-◌, ◌++◌, [], ◌∷◌, if◌then◌else◌, length, option_to_list, replicate, IfSome};
 ghost use Rattle.bpf_insn.specs.Code.{takes};
-ghost use Rattle.bpf_insn.specs.Form.{HasRegisters};
+ghost use Rattle.bpf_insn.specs.Form.{HasRegisters, IsAccess};
 ghost use Rattle.bpf_insn.specs.Spelling.{HasSpelling, alu_class, jump_class, size_code, slot, slots, spelling};
 ghost use Rattle.bpf_insn.specs.declared.insn.Insn.{Insn};
 
 use crate::alu_op::AluOp;
 use crate::condition::Condition;
 use crate::fields::{Fields, bytes_of};
-use crate::halves::low_half;
 use crate::insn::Insn;
 use crate::operand::Operand;
 use crate::register::Register;
 use crate::size::Size;
+use crate::truncated::low_32;
 
 /// The bytes of an instruction that has a spelling, then zeros, and how many bytes it has: 8, or 16 of a wide load.
 pub fn encode(insn: &Insn) -> ([u8; 16], usize)
@@ -89,48 +90,24 @@ fn load_opcode(size: Size, signed: bool) -> u8
     (if signed { 0x81 } else { 0x61 }) + size.code()
 }
 
-/// The slot of an instruction that takes one.
-fn one_slot(insn: Insn) -> Fields
+/// The slot of a load, a store or an add.
+fn access_slot(insn: Insn) -> Fields
+    requires access { IsAccess insn }
     requires spelled { HasSpelling insn }
-    requires one { length (takes insn) ≡ 1 }
     ensures slot { slots insn ≡ result ∷ [] }
     ensures registers { HasRegisters result }
 {
     match insn {
-        Insn::Alu { op, wide, dst, src } => binary_slot(op, wide, dst, src),
-        Insn::Neg { wide, dst } => slot(arithmetic_class(wide) + 0x80, dst.number(), 0, 0, 0),
-        Insn::End { kind, width, dst } => slot(
-            kind.opcode(),
-            dst.number(),
-            0,
-            0,
-            i32::from(width.bits()),
-        ),
-        Insn::MovSx {
-            wide,
-            bits,
-            dst,
-            src,
-        } => slot(
-            arithmetic_class(wide) + 0xb8,
-            dst.number(),
-            src.number(),
-            8 * bits.bytes() as i16,
-            0,
-        ),
         Insn::Ldx {
             size,
             signed,
             dst,
             src,
             off,
-        } => slot(
-            load_opcode(size, signed),
-            dst.number(),
-            src.number(),
-            off,
-            0,
-        ),
+        } => {
+            let opcode = load_opcode(size, signed);
+            slot(opcode, dst.number(), src.number(), off, 0)
+        }
         Insn::St {
             size,
             dst,
@@ -149,14 +126,63 @@ fn one_slot(insn: Insn) -> Fields
             src,
             off,
         } => slot(0xdb, dst.number(), src.number(), off, i32::from(fetch)),
-        Insn::Ja {
-            wide_offset: false,
-            to,
-        } => slot(0x05, 0, 0, to as i16, 0),
-        Insn::Ja {
-            wide_offset: true,
-            to,
-        } => slot(0x06, 0, 0, 0, to),
+        _ => unreachable!(),
+    }
+}
+
+/// The slot of a jump by `to` slots, in the offset or in the immediate.
+fn ja_slot(wide_offset: bool, to: i32) -> Fields
+    requires { HasSpelling (Insn.Ja wide_offset to) }
+    ensures slot { slots (Insn.Ja wide_offset to) ≡ result ∷ [] }
+    ensures registers { HasRegisters result }
+{
+    if wide_offset {
+        slot(0x06, 0, 0, 0, to)
+    } else {
+        slot(0x05, 0, 0, to as i16, 0)
+    }
+}
+
+/// The slot of a sign-extending move.
+fn mov_sx_slot(wide: bool, bits: Size, dst: Register, src: Register) -> Fields
+    requires { HasSpelling (Insn.MovSx wide bits dst src) }
+    ensures slot { slots (Insn.MovSx wide bits dst src) ≡ result ∷ [] }
+    ensures registers { HasRegisters result }
+{
+    let opcode = arithmetic_class(wide) + 0xb8;
+    slot(
+        opcode,
+        dst.number(),
+        src.number(),
+        8 * bits.bytes() as i16,
+        0,
+    )
+}
+
+/// The slot of an instruction that takes one.
+fn one_slot(insn: Insn) -> Fields
+    requires spelled { HasSpelling insn }
+    requires one { length (takes insn) ≡ 1 }
+    ensures slot { slots insn ≡ result ∷ [] }
+    ensures registers { HasRegisters result }
+{
+    match insn {
+        Insn::Alu { op, wide, dst, src } => binary_slot(op, wide, dst, src),
+        Insn::Neg { wide, dst } => slot(arithmetic_class(wide) + 0x80, dst.number(), 0, 0, 0),
+        Insn::End { kind, width, dst } => {
+            let bits = i32::from(width.bits());
+            slot(kind.opcode(), dst.number(), 0, 0, bits)
+        }
+        Insn::MovSx {
+            wide,
+            bits,
+            dst,
+            src,
+        } => mov_sx_slot(wide, bits, dst, src),
+        Insn::Ldx { .. } | Insn::St { .. } | Insn::Stx { .. } | Insn::AddCounter { .. } => {
+            access_slot(insn)
+        }
+        Insn::Ja { wide_offset, to } => ja_slot(wide_offset, to),
         Insn::Jump {
             cond,
             wide,
@@ -179,8 +205,8 @@ fn slots_of_insn(insn: Insn) -> (Fields, Option<Fields>)
 {
     match insn {
         Insn::Const { dst, value } => {
-            let low = low_half(value).cast_signed();
-            let high = low_half(value >> 32).cast_signed();
+            let low = low_32(value).cast_signed();
+            let high = low_32(value >> 32).cast_signed();
             (
                 slot(0x18, dst.number(), 0, 0, low),
                 Some(slot(0, 0, 0, 0, high)),

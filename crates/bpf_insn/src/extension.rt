@@ -1,8 +1,9 @@
+//! Sign extension.
 ghost use Rattle.std.specs.Prelude.{◌≡◌};
 ghost use Rattle.bpf_insn.specs.Extension.{extended, moved_extended};
 
-use crate::halves::{low_byte, low_half, low_quarter};
 use crate::size::Size;
+use crate::truncated::{low_8, low_16, low_32};
 
 /// The low bytes of a number, read as signed, as 64 bits.
 #[tactic(auto, unfolding(crate::specs::Extension::extended))]
@@ -10,9 +11,9 @@ pub fn extend(size: Size, v: u64) -> u64
     ensures { result ≡ extended size v }
 {
     match size {
-        Size::Byte => i64::from(low_byte(v).cast_signed()).cast_unsigned(),
-        Size::Half => i64::from(low_quarter(v).cast_signed()).cast_unsigned(),
-        Size::Word => i64::from(low_half(v).cast_signed()).cast_unsigned(),
+        Size::Byte => i64::from(low_8(v).cast_signed()).cast_unsigned(),
+        Size::Half => i64::from(low_16(v).cast_signed()).cast_unsigned(),
+        Size::Word => i64::from(low_32(v).cast_signed()).cast_unsigned(),
         Size::Double => v,
     }
 }
@@ -26,6 +27,6 @@ pub fn move_extended(wide: bool, size: Size, v: u64) -> u64
     if wide {
         extended
     } else {
-        u64::from(low_half(extended))
+        u64::from(low_32(extended))
     }
 }

@@ -1,3 +1,4 @@
+//! The fields of a slot.
 ghost use Rattle.std.specs.Prelude.{◌≡◌, ◌<◌, length};
 ghost use Rattle.bpf_insn.specs.Fields.{FitsSlot, slot_bytes};
 

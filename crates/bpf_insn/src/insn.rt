@@ -1,3 +1,4 @@
+//! Instructions.
 use crate::alu_op::AluOp;
 use crate::condition::Condition;
 use crate::operand::Operand;

@@ -1,3 +1,4 @@
+//! Laws of spellings and operations.
 ghost use Rattle.std.specs.Prelude.{ℕ, ◌≡◌, ◌<◌, ◌^◌, Bool, List, ℤ};
 ghost use Rattle.bpf_insn.specs.Arithmetic.{computed, negated};
 ghost use Rattle.bpf_insn.specs.ByteOrder.{swapped};

@@ -12,7 +12,6 @@ mod decoder;
 mod encoder;
 mod extension;
 mod fields;
-mod halves;
 mod insn;
 mod laws;
 mod operand;
@@ -24,6 +23,8 @@ mod swap_kind;
 #[cfg(test)]
 mod tests;
 mod text;
+mod text_parts;
+mod truncated;
 mod width;
 
 pub use alu_op::AluOp;

@@ -1,3 +1,4 @@
+//! Second operands.
 use crate::register::Register;
 
 /// A second operand: a register, or a constant that the instruction holds.

@@ -1,3 +1,4 @@
+//! Refusals and their causes.
 use std::alloc::AllocError;
 use std::fmt;
 

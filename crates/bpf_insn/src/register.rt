@@ -1,3 +1,4 @@
+//! Registers.
 /// One of the eleven registers. `R10` holds the address of the stack's end and is never written.
 #[derive(Clone, Copy, Debug, PartialEq, Eq, Drop)]
 pub enum Register {

@@ -1,3 +1,4 @@
+//! Sizes of accesses.
 /// How many bytes a load, a store or a sign extension works on.
 #[derive(Clone, Copy, Debug, PartialEq, Eq, Drop)]
 pub enum Size {

@@ -1,3 +1,4 @@
+//! Slots to instructions.
 ghost use Rattle.std.specs.Prelude.{◌≡◌, ◌+◌, ◌/◌, ◌%◌, ◌⊎◌, Bool, ℤ, pos, [], ◌∷◌, IfNone, IfSome};
 ghost use Rattle.std.specs.Prelude.{◌^◌};
 ghost use Rattle.std.specs.Int.{cast_signed, w32};

@@ -1,3 +1,4 @@
+//! Kinds of byte swaps.
 use std::fmt;
 
 /// What a byte swap instruction does, on a little-endian machine.

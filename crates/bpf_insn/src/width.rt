@@ -1,3 +1,4 @@
+//! Widths of byte swaps.
 /// How many low bits a byte swap instruction works on; it zeroes the others.
 #[derive(Clone, Copy, Debug, PartialEq, Eq, Drop)]
 pub enum Width {

@@ -1,7 +1,7 @@
 -- What is known of a state, part by part. (The rules that make it are this verifier's own.)
 use Rattle.std.specs.Prelude.{ℕ, ◌/◌, Option, None, Some, Bool, true, false, ◌||◌, if◌then◌else◌, ◌==◌, pos, option_map}
 use Rattle.bpf_note.specs.declared.val.Val.{Val}
-use Rattle.bpf_note.specs.declared.val.Val.TheVariants.{Unset, Num, Pkt, PktEnd, Stack, Ctx, Map, MaybeValue, Value}
+use Rattle.bpf_note.specs.declared.val.Val.TheVariants.{Unset, Num, Pkt, Stack, Ctx, MaybeValue}
 use Rattle.bpf_note.specs.State.{put}
 
 -- the value of each register; the value that a slot of eight stack bytes keeps, if it keeps one; whether a stack byte is

@@ -1,5 +1,5 @@
 -- What is known where either of two notes may describe the state.
-use Rattle.std.specs.Prelude.{ℕ, ◌≡◌, min, max, Option, None, Some, Bool, true, false, ◌&&◌, if◌then◌else◌, ◌==◌, ℤ, pos, negsuc}
+use Rattle.std.specs.Prelude.{ℕ, min, max, Option, None, Some, Bool, true, false, ◌&&◌, if◌then◌else◌, ◌==◌, ℤ, pos, negsuc}
 use Rattle.bpf_note.specs.declared.val.Val.{Val}
 use Rattle.bpf_note.specs.declared.val.Val.TheVariants.{Unset, Num, Pkt, PktEnd, Stack, Ctx, Map, MaybeValue, Value}
 use Rattle.bpf_note.specs.Facts.{Facts, full}

@@ -3,6 +3,9 @@ use Rattle.std.specs.Prelude.{ℕ, ◌≡◌, ◌<◌, List, [], ◌∷◌, Bool
 use Rattle.bpf_note.specs.declared.val.Val.{Val}
 use Rattle.bpf_note.specs.declared.slot.Slot.{Slot}
 use Rattle.bpf_note.specs.declared.slot.Slot.TheVariants.{Kept, Bytes}
+use Rattle.bpf_note.specs.declared.replacement.Replacement.{Replacement}
+use Rattle.bpf_note.specs.declared.replacement.Replacement.TheVariants.{Forget, Resolve}
+use Rattle.bpf_note.specs.Facts.{forgotten, resolved}
 use Rattle.bpf_note.specs.Join.{joined_value, joined_kept}
 use Rattle.bpf_note.specs.Parts.{kept_of, set_of}
 
@@ -12,6 +15,11 @@ all_bytes = true ∷ true ∷ true ∷ true ∷ true ∷ true ∷ true ∷ true 
 abbrev pub set_bytes : Slot → List Bool
 set_bytes (Kept v) = all_bytes
 set_bytes (Bytes bytes) = bytes
+
+-- what a value becomes
+abbrev pub replaced : Replacement → Val → Val
+replaced (Forget id) v = forgotten id v
+replaced (Resolve id known) v = resolved id known v
 
 -- the value that is kept is replaced
 abbrev pub slot_with : (Val → Val) → Slot → Slot

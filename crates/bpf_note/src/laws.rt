@@ -1,13 +1,14 @@
 //! Laws of what is known.
 ghost use Rattle.std.specs.Prelude.{◌≡◌, ◌⊎◌, ◌↔◌};
 ghost use Rattle.bpf_note.specs.State.{State, IsStart};
-ghost use Rattle.bpf_note.specs.Facts.{Facts, entry};
+ghost use Rattle.bpf_note.specs.Facts.{Facts, entry, packet_id};
 ghost use Rattle.bpf_note.specs.Describes.{Describes, IsBegun};
 ghost use Rattle.bpf_note.specs.Join.{joined};
 ghost use Rattle.bpf_note.specs.Parts.{facts};
 
 use crate::note::Note;
 use crate::slots::{are_eleven, have_eight_bytes};
+use crate::val::PACKET_ID;
 
 /// Two notes that say the same are equal.
 pub fn notes_that_say_the_same_are_equal(a: &Note, b: &Note)
@@ -17,6 +18,13 @@ pub fn notes_that_say_the_same_are_equal(a: &Note, b: &Note)
     are_eleven(&b.regs);
     have_eight_bytes(&a.slots);
     have_eight_bytes(&b.slots);
+}
+
+/// The id of the packet's start, which the entry has with base 0 and no safe bound, is [`PACKET_ID`].
+pub fn the_packet_starts_at_its_id() -> u16
+    ensures { result ≡ packet_id }
+{
+    PACKET_ID
 }
 
 /// The join of what is known with itself is itself.

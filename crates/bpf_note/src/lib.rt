@@ -8,6 +8,7 @@ mod laws;
 mod layout;
 mod note;
 mod op;
+mod replacement;
 mod shape;
 mod slot;
 mod slots;
@@ -19,7 +20,7 @@ pub use joins::{covers, join};
 pub use laws::{
     joins_describe_what_either_does, joins_take_either_order, joins_with_itself_change_nothing,
     notes_that_say_the_same_are_equal, the_entry_describes_every_start,
-    the_entry_describes_what_is_begun,
+    the_entry_describes_what_is_begun, the_packet_starts_at_its_id,
 };
 pub use layout::{counters_are_found, found_counters_lie_there, packets_end};
 pub use note::Note;

@@ -5,10 +5,9 @@ ghost use Rattle.bpf_note.specs.Parts.{facts, no_bytes};
 
 use crate::bound::Bound;
 use crate::bounds::{safe_of, set_bound, top_of};
+use crate::replacement::Replacement;
 use crate::slot::Slot;
-use crate::slots::{
-    forget_in_registers, forget_in_stack, resolve_in_registers, resolve_in_stack, slot_with_byte,
-};
+use crate::slots::{replaced_registers, replaced_slots, slot_with_byte};
 use crate::val::Val;
 use std::alloc::{AllocError, Global};
 use std::marker::Model;
@@ -86,7 +85,7 @@ impl Note {
         self.slots[usize::from(slot)] = Slot::Kept(value);
     }
 
-    /// Sets a stack byte. Its slot keeps no value any more.
+    /// Sets a stack byte. Its slot no longer keeps a value.
     pub fn set_byte(&mut self, byte: u16)
         requires { byte < 512 }
         ensures { facts self.new ≡ with_byte (facts self.old) byte }
@@ -142,8 +141,9 @@ impl Note {
                 safe: None,
             },
         )?;
-        self.regs = forget_in_registers(&self.regs, id);
-        self.slots = forget_in_stack(&self.slots, id);
+        let change = Replacement::Forget { id };
+        self.regs = replaced_registers(&self.regs, change);
+        self.slots = replaced_slots(&self.slots, change);
         Ok(())
     }
 
@@ -151,8 +151,9 @@ impl Note {
     pub fn resolve(&mut self, id: u16, value: Val)
         ensures { facts self.new ≡ with_each (facts self.old) (resolved id value) }
     {
-        self.regs = resolve_in_registers(&self.regs, id, value);
-        self.slots = resolve_in_stack(&self.slots, id, value);
+        let change = Replacement::Resolve { id, known: value };
+        self.regs = replaced_registers(&self.regs, change);
+        self.slots = replaced_slots(&self.slots, change);
     }
 
     /// What is known before the first instruction. It takes no memory.

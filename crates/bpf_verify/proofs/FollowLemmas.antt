@@ -1,5 +1,5 @@
 -- While the notes of one slot are taken along its edges.
-use Rattle.std.proofs.Common.{◌≡◌, inl, inr, ◌<◌, ◌≤◌, ◌+◌, ℕ, zero, suc, List, [], ◌∷◌, ◌++◌, Option, Some, None, length, drop, map, refl, sym, ap, ◌∙◌, arith, subst, true, false}
+use Rattle.std.proofs.Common.{◌≡◌, inl, inr, ◌<◌, ◌≤◌, ◌+◌, ℕ, zero, suc, List, [], ◌∷◌, ◌++◌, Option, Some, None, length, drop, map, set, ◌≢◌, refl, sym, ap, ◌∙◌, arith, subst, true, false}
 use Rattle.std.specs.Prelude.{slice_get, slice_index_or, Ok, Err, IsSome}
 use Rattle.std.proofs.lemmas.Bool.Decides.{nat_tests}
 use Rattle.bpf_insn.specs.Code.{IsCode}
@@ -9,21 +9,19 @@ use Rattle.bpf_insn.specs.declared.refusal.Cause.{Cause}
 use Rattle.bpf_insn.specs.declared.refusal.Cause.TheVariants.{Memory, Length, Opcode, Register, Target, BackJump, End as EndCause, Unset, FramePointer, NoPointer, Packet, Stack, Context, MayBeNull, MapAccess, Helper, MapNumber, Argument, Unsupported}
 use Rattle.bpf_note.specs.Shape.{Shape}
 use Rattle.bpf_note.specs.Parts.{Noted, facts}
-use Rattle.std.proofs.lemmas.List.{length-map}
 use Rattle.bpf_note.specs.Facts.{Facts}
 use Rattle.bpf_flow.specs.Edges.{Edges, Answer}
-use Rattle.bpf_flow.specs.After.{after_of, IsRuled}
+use Rattle.bpf_flow.specs.Rule.{after_of, IsRuled}
 use Rattle.bpf_flow.specs.Step.{target}
 use Rattle.bpf_flow.proofs.LeadLemmas.{Speaks}
 use Rattle.bpf_verify.specs.Edges.{Edge}
-use Rattle.bpf_verify.specs.Consistent.{IsOrdered}
 use Rattle.bpf_verify.specs.Structure.{begins, jump_of, misses_target}
 use Rattle.bpf_verify.specs.FirstRefusal.{IsFine, IsStructured}
 use Rattle.bpf_verify.specs.Gathered.{Hears, rule_by, rule_at, allowed, told, AreAllowed, TakesMemory, IsFirstCause}
 use Rattle.bpf_flow.specs.Gives.{Fails, WantsMemory}
 use Rattle.bpf_verify.specs.Tables.{facts_at, LeadInside, IsMet}
 use Rattle.bpf_verify.proofs.GraphLemmas.{some_inside, begun, target_found}
-use Rattle.bpf_verify.proofs.GatherLemmas.{hears_append, hears_quiet}
+use Rattle.bpf_verify.proofs.GatherLemmas.{hears_append}
 use Rattle.bpf_verify.proofs.ToldLemmas.{told_edge}
 
 pub drop_more : {A : Type 0} (xs : List A) (i : ℕ) (x : A) → slice_get xs i ≡ Some x → drop i xs ≡ x ∷ drop (i + 1) xs
@@ -42,14 +40,13 @@ drop_all (x ∷ xs) (suc i) h = drop_all xs i (omega arith)
 
 -- the first i notes of slot pc have gone along its edges: what is left does the rest
 pub record IsFollowing (code : List Insn) (shapes : List Shape) (pc i : ℕ) (old new : ℕ → List Facts) : Type 0 where
-  pub here : new pc ≡ old pc
-  pub rest : (q : ℕ) (r : List Facts) → Hears (new q) q (told code shapes pc (drop i (old pc))) r → Hears (old q) q (told code shapes pc (old pc)) r
+  pub rest : (q : ℕ) → q ≢ pc → (r : List Facts) → Hears (new q) q (told code shapes pc (drop i (old pc))) r → Hears (old q) q (told code shapes pc (old pc)) r
   pub allowed : AreAllowed code shapes pc (drop i (old pc)) → AreAllowed code shapes pc (old pc)
   pub takes : TakesMemory code shapes pc (drop i (old pc)) → TakesMemory code shapes pc (old pc)
   pub cause : (c : Cause) → IsFirstCause code shapes pc (drop i (old pc)) c → IsFirstCause code shapes pc (old pc) c
 
-pub following_first : (code : List Insn) (shapes : List Shape) (pc : ℕ) (old : ℕ → List Facts) → IsFollowing code shapes pc 0 old old
-following_first code shapes pc old = record { here = refl; rest = λ q r h. h; allowed = λ h. h; takes = λ h. h; cause = λ c h. h }
+pub following_first : (code : List Insn) (shapes : List Shape) (pc : ℕ) (old new : ℕ → List Facts) → ((q : ℕ) → q ≢ pc → new q ≡ old q) → IsFollowing code shapes pc 0 old new
+following_first code shapes pc old new same = record { rest = λ q other r h. subst (λ (ns : List Facts). Hears ns q (told code shapes pc (old pc)) r) (same q other) h; allowed = λ h. h; takes = λ h. h; cause = λ c h. h }
 
 module _ (code : List Insn) (shapes : List Shape) (pc i : ℕ) (old new : ℕ → List Facts) (f : IsFollowing code shapes pc i old new) (n : Facts) (at : slice_get (old pc) i ≡ Some n) where
   told_split : (es : Edges) → rule_at code shapes pc n ≡ Ok es → told code shapes pc (drop i (old pc)) ≡ es ++ told code shapes pc (drop (i + 1) (old pc))
@@ -58,10 +55,9 @@ module _ (code : List Insn) (shapes : List Shape) (pc i : ℕ) (old new : ℕ �
       ∙ ap (λ (a : Answer). allowed a ++ told code shapes pc (drop (i + 1) (old pc))) e
 
   -- one note more
-  pub following_on : (es : Edges) (new' : ℕ → List Facts) → rule_at code shapes pc n ≡ Ok es → ((q : ℕ) → Hears (new q) q es (new' q)) → (Speaks es pc → ⊥) → IsFollowing code shapes pc (i + 1) old new'
-  following_on es new' e hears quiet = record {
-    here = sym (hears_quiet (new pc) pc es (new' pc) quiet (hears pc)) ∙ f.here;
-    rest = λ q r h. f.rest q r (subst (λ (gs : Edges). Hears (new q) q gs r) (sym (told_split es e)) (hears_append (new q) q es (told code shapes pc (drop (i + 1) (old pc))) (new' q) r (hears q) h));
+  pub following_on : (es : Edges) (new' : ℕ → List Facts) → rule_at code shapes pc n ≡ Ok es → ((q : ℕ) → Hears (new q) q es (new' q)) → IsFollowing code shapes pc (i + 1) old new'
+  following_on es new' e hears = record {
+    rest = λ q other r h. f.rest q other r (subst (λ (gs : Edges). Hears (new q) q gs r) (sym (told_split es e)) (hears_append (new q) q es (told code shapes pc (drop (i + 1) (old pc))) (new' q) r (hears q) h));
     allowed = λ h. f.allowed (subst (λ (ns : List Facts). AreAllowed code shapes pc ns) (sym (drop_more (old pc) i n at)) ((es, e), h));
     takes = λ h. f.takes (subst (λ (ns : List Facts). TakesMemory code shapes pc ns) (sym (drop_more (old pc) i n at)) (inr ((es, e), h)));
     cause = λ c h. f.cause c (subst (λ (ns : List Facts). IsFirstCause code shapes pc ns c) (sym (drop_more (old pc) i n at)) (inr ((es, e), h)));
@@ -77,10 +73,10 @@ module _ (code : List Insn) (shapes : List Shape) (pc i : ℕ) (old new : ℕ �
 
 -- all have gone
 pub followed : (code : List Insn) (shapes : List Shape) (pc i : ℕ) (old new : ℕ → List Facts) → IsFollowing code shapes pc i old new → length (old pc) ≤ i →
-    ((q : ℕ) → Hears (old q) q (told code shapes pc (old pc)) (new q)) × AreAllowed code shapes pc (old pc)
+    ((q : ℕ) → q ≢ pc → Hears (old q) q (told code shapes pc (old pc)) (new q)) × AreAllowed code shapes pc (old pc)
 followed code shapes pc i old new f all =
     let none = drop_all (old pc) i all in (
-      λ q. f.rest q (new q) (subst (λ (ns : List Facts). Hears (new q) q (told code shapes pc ns) (new q)) (sym none) refl),
+      λ q other. f.rest q other (new q) (subst (λ (ns : List Facts). Hears (new q) q (told code shapes pc ns) (new q)) (sym none) refl),
       f.allowed (subst (λ (ns : List Facts). AreAllowed code shapes pc ns) (sym none) tt),
     )
 
@@ -126,10 +122,7 @@ lead_inside (e ∷ es) n h = (h e.0 (inl refl), lead_inside es n (λ q s. h q (i
 pub edge_inside : (code : List Insn) (p q : ℕ) → Edge code p q → q < length code
 edge_inside code p q e = let b = begun (slice_get code q) e.lands in some_inside code q b.0 b.1
 
-self_edge : (code : List Insn) (p : ℕ) → IsOrdered code → Edge code p p → ⊥
-self_edge code p o e = let h = o.falls.falls p p e in omega (arith, h)
-
--- the edges of a note of slot pc lead inside, and to other slots
+-- the edges of a note of slot pc lead inside
 module _ (code : List Insn) (shapes : List Shape) (pc : ℕ) (n : Facts) (es : Edges) (laid : IsCode code) (structured : IsStructured code (length shapes)) (e : rule_at code shapes pc n ≡ Ok es) where
   edge_of : (q : ℕ) → Speaks es q → Edge code pc q
   edge_of q s = told_edge code shapes laid structured pc q (n ∷ []) (subst (λ (a : Answer). Speaks (allowed a ++ []) q) (sym e) (widen es q s))
@@ -141,9 +134,6 @@ module _ (code : List Insn) (shapes : List Shape) (pc : ℕ) (n : Facts) (es : E
 
   pub leads_inside : LeadInside es (length code)
   leads_inside = lead_inside es (length code) (λ q s. edge_inside code pc q (edge_of q s))
-
-  pub leads_elsewhere : IsOrdered code → Speaks es pc → ⊥
-  leads_elsewhere o s = self_edge code pc o (edge_of pc s)
 
 pub rule_is : (code : List Insn) (shapes : List Shape) (pc : ℕ) (i : Insn) (n : Facts) (a : Answer) → slice_get code pc ≡ Some i → after_of i pc n shapes ≡ a → rule_at code shapes pc n ≡ a
 unfolding rule_at
@@ -174,23 +164,32 @@ met_fails Argument a W P g w f = f g
 met_fails Unsupported a W P g w f = f g
 
 -- the rule refused note i
-pub stopped_at : (code : List Insn) (shapes : List Shape) (pc i : ℕ) (old new : ℕ → List Facts) (n : Facts) (insn : Insn) (c : Cause) → IsFollowing code shapes pc i old new → slice_get (new pc) i ≡ Some n →
+pub stopped_at : (code : List Insn) (shapes : List Shape) (pc i : ℕ) (old new : ℕ → List Facts) (n : Facts) (insn : Insn) (c : Cause) → IsFollowing code shapes pc i old new → slice_get (old pc) i ≡ Some n →
     slice_get code pc ≡ Some insn → Fails c (after_of insn pc n shapes) → IsMet c (TakesMemory code shapes pc (old pc)) (IsFirstCause code shapes pc (old pc) c)
 stopped_at code shapes pc i old new n insn c f at here g =
-    let read : slice_get (old pc) i ≡ Some n = subst (λ (ns : List Facts). slice_get ns i ≡ Some n) f.here at in
     met_fails c (after_of insn pc n shapes) _ _ g
-    (λ w. following_takes code shapes pc i old new f n read (subst WantsMemory (sym (rule_is code shapes pc insn n (after_of insn pc n shapes) here refl)) w))
-    (λ e. following_stops code shapes pc i old new f n read c (rule_is code shapes pc insn n (Err c) here e))
+    (λ w. following_takes code shapes pc i old new f n at (subst WantsMemory (sym (rule_is code shapes pc insn n (after_of insn pc n shapes) here refl)) w))
+    (λ e. following_stops code shapes pc i old new f n at c (rule_is code shapes pc insn n (Err c) here e))
 
-any_default : {A : Type 0} (xs : List A) (k : ℕ) (d e : A) → k < length xs → slice_index_or xs k d ≡ slice_index_or xs k e
-any_default [] k d e h = absurd (omega arith)
-any_default (x ∷ xs) zero d e h = refl
-any_default (x ∷ xs) (suc k) d e h = any_default xs k d e (omega arith)
+-- the list of a slot, taken out of a table
+list_at : (items : List (List Noted)) (pc : ℕ) (here : List Noted) → pc < length items → here ≡ slice_index_or items pc here → facts_at items pc ≡ map facts here
+list_at items pc here inside is = ap (map facts) (any_default items pc [] here inside ∙ sym is)
+  where
+    any_default : {A : Type 0} (xs : List A) (k : ℕ) (d e : A) → k < length xs → slice_index_or xs k d ≡ slice_index_or xs k e
+    any_default [] k d e h = absurd (omega arith)
+    any_default (x ∷ xs) zero d e h = refl
+    any_default (x ∷ xs) (suc k) d e h = any_default xs k d e (omega arith)
 
--- the note that is read
-pub note_there : (items : List (List Noted)) (pc i : ℕ) (here : List Noted) (n : Noted) → pc < length items → here ≡ slice_index_or items pc here → i < length (facts_at items pc) → n ≡ slice_index_or here i n →
+-- note i of that list
+pub note_at : (items : List (List Noted)) (pc i : ℕ) (there taken notes : List Noted) (n : Noted) → pc < length items → there ≡ slice_index_or items pc there → taken ≡ there → notes ≡ taken → i < length notes → n ≡ slice_index_or notes i n →
     slice_get (facts_at items pc) i ≡ Some (facts n)
-note_there items pc i here n inside is low at =
-    let list : slice_index_or items pc [] ≡ here = any_default items pc [] here inside ∙ sym is in
-    let size : length (facts_at items pc) ≡ length here = length-map (slice_index_or items pc []) facts ∙ ap length list in
-    subst (λ (ns : List Noted). slice_get (map facts ns) i ≡ Some (facts n)) (sym list) (get_map facts here i n (get_is here i n (omega (arith, low, size)) ∙ ap Some (sym at)))
+note_at items pc i there taken notes n inside is got listed low at =
+    let same : facts_at items pc ≡ map facts notes = list_at items pc there inside is ∙ ap (map facts) (sym (listed ∙ got)) in
+    subst (λ (ns : List Facts). slice_get ns i ≡ Some (facts n)) (sym same) (get_map facts notes i n (get_is notes i n low ∙ ap Some (sym at)))
+
+pub elsewhere : (items : List (List Noted)) (pc q : ℕ) (ns : List Noted) → q ≢ pc → facts_at (set items pc ns) q ≡ facts_at items q
+elsewhere [] pc q ns h = refl
+elsewhere (x ∷ xs) zero zero ns h = absurd (h refl)
+elsewhere (x ∷ xs) zero (suc q) ns h = refl
+elsewhere (x ∷ xs) (suc pc) zero ns h = refl
+elsewhere (x ∷ xs) (suc pc) (suc q) ns h = elsewhere xs pc q ns (λ e. h (ap suc e))

@@ -1,12 +1,12 @@
 -- What a structured program's edges are.
 use Rattle.std.proofs.Common.{◌≡◌, ◌<◌, inl, inr, ℕ, ℤ, List, Option, Some, None, length, refl, subst, arith, zero, suc, [], ◌∷◌, Bool, true, false}
-use Rattle.std.specs.Prelude.{slice_get, nat_lt, not, if◌then◌else◌}
+use Rattle.std.specs.Prelude.{slice_get, nat_lt, not, is_none, if◌then◌else◌}
 use Rattle.std.proofs.lemmas.Bool.Decides.{nat_tests}
 use Rattle.bpf_insn.specs.declared.insn.Insn.{Insn}
 use Rattle.bpf_insn.specs.declared.insn.Insn.TheVariants.{Alu, Neg, End, MovSx, Const, MapRef, Ldx, St, Stx, AddCounter, Ja, Jump, Call, Exit, Second}
 use Rattle.bpf_flow.specs.Step.{target}
 use Rattle.bpf_flow.specs.Graph.{Leads, next_slot}
-use Rattle.bpf_verify.specs.Structure.{misses_target, runs_off, lands, begins, jump_of, falls_through}
+use Rattle.bpf_verify.specs.Structure.{misses_target, runs_off, landing, begins, jump_of, falls_through}
 use Rattle.bpf_verify.specs.Consistent.{worth}
 
 pub some_inside : {A : Type 0} (xs : List A) (k : ℕ) (x : A) → slice_get xs k ≡ Some x → k < length xs
@@ -35,11 +35,11 @@ begun_worth (Call helper) e = refl
 begun_worth Exit e = refl
 begun_worth Second e = cc
 
-pub lands_of : (code : List Insn) (q : ℕ) (o : Option ℕ) → o ≡ Some q → not (lands code o) ≡ false → begins (slice_get code q) ≡ true
+pub lands_of : (code : List Insn) (q : ℕ) (o : Option ℕ) → o ≡ Some q → is_none (landing code o) ≡ false → begins (slice_get code q) ≡ true
 lands_of code q None e h = cc
 lands_of code q (Some to) e h = let same : to ≡ q = cc in subst (λ q. begins (slice_get code q) ≡ true) same (was (begins (slice_get code to)) h)
   where
-    was : (b : Bool) → not b ≡ false → b ≡ true
+    was : (b : Bool) → is_none (if b then Some to else None) ≡ false → b ≡ true
     was true e = refl
     was false e = cc
 
@@ -97,6 +97,6 @@ way Second pc q h = absurd h
 pub target_found : (code : List Insn) (pc : ℕ) (i : Insn) (off : ℤ) → jump_of i ≡ Some off → misses_target code pc (jump_of i) ≡ false → (q : ℕ) × (target pc off ≡ Some q)
 target_found code pc i off j h = by (target pc off) (subst (λ (o : Option ℤ). misses_target code pc o ≡ false) j h)
   where
-    by : (o : Option ℕ) → not (lands code o) ≡ false → (q : ℕ) × (o ≡ Some q)
+    by : (o : Option ℕ) → is_none (landing code o) ≡ false → (q : ℕ) × (o ≡ Some q)
     by None e = cc
     by (Some q) e = (q, refl)

@@ -16,7 +16,6 @@ mod ToldLemmas
 mod FollowLemmas
 mod PassingLemmas
 mod ArriveLemmas
-mod ShapeLemmas
 mod AcceptedLemmas
 mod RefusalLemmas
 mod UnsetLemmas

@@ -1,9 +1,9 @@
 -- While the slots of an order are taken.
-use Rattle.std.proofs.Common.{◌≡◌, inl, inr, ◌<◌, ◌≤◌, ◌+◌, ℕ, zero, suc, List, [], ◌∷◌, ◌++◌, length, take, drop, get_or, sym, ap, ◌∙◌, arith, subst, true}
+use Rattle.std.proofs.Common.{◌≡◌, ◌≢◌, ◌⊎◌, inl, inr, refl, ◌<◌, ◌≤◌, ◌+◌, ℕ, zero, suc, List, [], ◌∷◌, ◌++◌, length, take, drop, get_or, sym, ap, ◌∙◌, arith, subst, true}
 use Rattle.std.specs.Prelude.{Contains, slice_get}
 use Rattle.std.proofs.lemmas.Bool.{cases_lt}
 use Rattle.std.proofs.lemmas.List.{get_or_append_left, take-append-le, take_all, take_more}
-use Rattle.std.proofs.lemmas.List.Elements.{Contains-append_cases}
+use Rattle.std.proofs.lemmas.List.Elements.{Contains-append_cases, Contains-append_left, Contains-append_right}
 use Rattle.std.proofs.Math.Seq.{get_or-append_seam}
 use Rattle.bpf_insn.specs.Code.{IsCode}
 use Rattle.bpf_insn.specs.declared.insn.Insn.{Insn}
@@ -11,6 +11,7 @@ use Rattle.bpf_insn.specs.declared.refusal.Cause.{Cause}
 use Rattle.bpf_insn.specs.declared.refusal.Cause.TheVariants.{Memory, Length, Opcode, Register, Target, BackJump, End, Unset, FramePointer, NoPointer, Packet, Stack, Context, MayBeNull, MapAccess, Helper, MapNumber, Argument, Unsupported}
 use Rattle.bpf_note.specs.Shape.{Shape}
 use Rattle.bpf_note.specs.Facts.{Facts}
+use Rattle.bpf_flow.specs.Edges.{Edges}
 use Rattle.bpf_flow.proofs.LeadLemmas.{Speaks}
 use Rattle.bpf_verify.specs.Edges.{Edge, Flows, IsPassOrder}
 use Rattle.bpf_verify.specs.Orders.{IsReady, Takes, none, more}
@@ -23,6 +24,7 @@ use Rattle.bpf_verify.proofs.GatherLemmas.{hears_quiet, notes_more}
 use Rattle.bpf_verify.proofs.ToldLemmas.{told_edge}
 use Rattle.bpf_verify.proofs.RankLemmas.{taken_preds, last_length}
 use Rattle.bpf_verify.proofs.CodeLemmas.{first_begins}
+use Rattle.bpf_verify.proofs.LawLemmas.{contains_or}
 use Rattle.bpf_verify.specs.Paths as paths
 
 -- a beginning of an order is an order, and the next slot was ready
@@ -71,6 +73,21 @@ pub record IsPassing (code : List Insn) (shapes : List Shape) (order : List ℕ)
   pub are_notes : AreNotes code shapes (take i order) notes
   pub allowed : (p : ℕ) → Contains (take i order) p → AreAllowed code shapes p (notes p)
 
+-- the same, where the lists of those slots are gone: the others stand
+pub record IsPassingWith (code : List Insn) (shapes : List Shape) (order : List ℕ) (i : ℕ) (lists : ℕ → List Facts) : Type 0 where
+  pub notes : ℕ → List Facts
+  pub passing : IsPassing code shapes order i notes
+  pub same : (q : ℕ) → (Contains (take i order) q → ⊥) → lists q ≡ notes q
+
+-- the first where it is so, else the second
+abbrev kept_or : {P : Type 0} → P ⊎ (P → ⊥) → List Facts → List Facts → List Facts
+kept_or (inl h) ns ms = ns
+kept_or (inr h) ns ms = ms
+
+new_there : {P : Type 0} (d : P ⊎ (P → ⊥)) (ns ms : List Facts) → (P → ⊥) → ms ≡ kept_or d ns ms
+new_there (inl h) ns ms out = absurd (out h)
+new_there (inr h) ns ms out = refl
+
 pub passing_first : (code : List Insn) (shapes : List Shape) (order : List ℕ) (notes : ℕ → List Facts) → ((q : ℕ) → notes q ≡ first_notes q) → IsPassing code shapes order 0 notes
 passing_first code shapes order notes h = record { are_notes = λ q. sym (h q); allowed = λ p at. absurd (omega (arith, at.1)) }
 
@@ -100,6 +117,45 @@ module _ (code : List Insn) (shapes : List Shape) (order : List ℕ) (laid : IsC
             | inr new ↦ let here = the_one c q new in subst (λ (r : ℕ). AreAllowed code shapes r (notes' r)) (sym here) (subst (λ (ns : List Facts). AreAllowed code shapes c ns) same ok)
           ];
         }
+
+    hears_nothing : (ns : List Facts) (q : ℕ) (es : Edges) → (Speaks es q → ⊥) → Hears ns q es ns
+    hears_nothing ns q [] quiet = refl
+    hears_nothing ns q (e ∷ es) quiet = inr (λ at. quiet (inl at), hears_nothing ns q es (λ s. quiet (inr s)))
+
+    front : (q : ℕ) → Contains (take (i + 1) order) q → Speaks (told code shapes c (notes c)) q → ⊥
+    front q there s = elim (Contains-append_cases (take i order) (c ∷ []) q (subst (λ (ps : List ℕ). Contains ps q) longer there)) [
+      | inl before ↦ quiet q before s
+      | inr last ↦ self (subst (λ (q : ℕ). Speaks (told code shapes c (notes c)) q) (the_one c q last) s)
+    ]
+
+    not_taken : (q : ℕ) → (Contains (take (i + 1) order) q → ⊥) → (q ≢ c) × (Contains (take i order) q → ⊥)
+    not_taken q out =
+        let back : Contains (take i order ++ c ∷ []) q → Contains (take (i + 1) order) q = λ there. subst (λ (ps : List ℕ). Contains ps q) (sym longer) there in (
+          λ e. out (back (Contains-append_right (take i order) (c ∷ []) q (0, omega arith, sym e))),
+          λ there. out (back (Contains-append_left (take i order) (c ∷ []) q there)),
+        )
+
+    module _ (old new : ℕ → List Facts) (same : (q : ℕ) → (Contains (take i order) q → ⊥) → old q ≡ notes q) (hears : (q : ℕ) → q ≢ c → Hears (old q) q (told code shapes c (old c)) (new q)) where
+      kept_hears : (q : ℕ) (d : Contains (take (i + 1) order) q ⊎ (Contains (take (i + 1) order) q → ⊥)) → Hears (notes q) q (told code shapes c (notes c)) (kept_or d (notes q) (new q))
+      kept_hears q (inl there) = hears_nothing (notes q) q (told code shapes c (notes c)) (front q there)
+      kept_hears q (inr out) =
+          let away = not_taken q out in
+          let heard : Hears (notes q) q (told code shapes c (old c)) (new q) = subst (λ (ns : List Facts). Hears ns q (told code shapes c (old c)) (new q)) (same q away.1) (hears q away.0) in
+          subst (λ (ns : List Facts). Hears (notes q) q (told code shapes c ns) (new q)) (same c state.ready.open') heard
+
+      -- one slot more, whose list went once it was followed
+      pub passing_with : AreAllowed code shapes c (old c) → IsPassingWith code shapes order (i + 1) new
+      passing_with ok =
+          let after : ℕ → List Facts = λ q. kept_or (contains_or (take (i + 1) order) q) (notes q) (new q) in
+          record {
+            notes = after;
+            passing = passing_on after (λ q. kept_hears q (contains_or (take (i + 1) order) q)) (subst (λ (ns : List Facts). AreAllowed code shapes c ns) (same c state.ready.open') ok);
+            same = λ q out. new_there (contains_or (take (i + 1) order) q) (notes q) (new q) out;
+          }
+
+    -- the list of the slot that is followed still stands
+    pub list_there : (lists : ℕ → List Facts) → ((q : ℕ) → (Contains (take i order) q → ⊥) → lists q ≡ notes q) → lists c ≡ notes c
+    list_there lists same = same c state.ready.open'
 
     -- the pass stops here
     pub passing_stops : (cause : Cause) → IsFirstCause code shapes c (notes c) cause → IsStopped code shapes c cause

@@ -7,7 +7,7 @@ use Rattle.bpf_note.specs.Shape.{Shape}
 use Rattle.bpf_note.specs.Facts.{Facts}
 use Rattle.bpf_flow.specs.Graph.{Leads}
 use Rattle.bpf_flow.specs.Edges.{Edges, Answer}
-use Rattle.bpf_flow.specs.After.{after_of}
+use Rattle.bpf_flow.specs.Rule.{after_of}
 use Rattle.bpf_flow.proofs.LeadLemmas.{Speaks, rule_leads}
 use Rattle.bpf_verify.specs.Edges.{Edge}
 use Rattle.bpf_verify.specs.FirstRefusal.{IsStructured}

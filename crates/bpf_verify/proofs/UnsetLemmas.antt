@@ -12,7 +12,7 @@ use Rattle.bpf_note.specs.Facts.{Facts, is_unset, entry, entry_reg}
 use Rattle.bpf_note.specs.Join.{joined}
 use Rattle.bpf_flow.specs.Edges.{Edges}
 use Rattle.bpf_flow.specs.Graph.{Leads, writes, loses}
-use Rattle.bpf_flow.specs.After.{after_of}
+use Rattle.bpf_flow.specs.Rule.{after_of}
 use Rattle.bpf_flow.proofs.AnswerLemmas.{same_ok}
 use Rattle.bpf_flow.proofs.SetLemmas.{KeepsSet, joined_unset, joined_kept_set}
 use Rattle.bpf_flow.proofs.BehindLemmas.{Tells, AllTell, after_behind}

@@ -14,7 +14,8 @@ use Rattle.bpf_note.specs.Facts.{Facts, is_unset, entry_reg}
 use Rattle.bpf_note.specs.Join.{joined}
 use Rattle.bpf_flow.specs.Edges.{Edges, Answer}
 use Rattle.bpf_flow.specs.Graph.{Leads, writes, loses}
-use Rattle.bpf_flow.specs.After.{after_of, is_lookup}
+use Rattle.bpf_flow.specs.Rule.{after_of}
+use Rattle.bpf_flow.specs.Call.{is_lookup}
 use Rattle.bpf_flow.specs.Reading.{IsKnownCall}
 use Rattle.bpf_flow.proofs.AnswerLemmas.{unless_ok, flipped}
 use Rattle.bpf_flow.proofs.SetLemmas.{KeepsSet, joined_unset}

@@ -6,10 +6,10 @@ use Rattle.bpf_insn.specs.declared.insn.Insn.{Insn}
 use Rattle.bpf_insn.specs.declared.insn.Insn.TheVariants.{Alu, Neg, End, MovSx, Const, MapRef, Ldx, St, Stx, AddCounter, Ja, Jump, Call, Exit, Second}
 use Rattle.bpf_flow.specs.Step.{target}
 use Rattle.bpf_flow.specs.Graph.{Leads, next_slot}
-use Rattle.bpf_verify.specs.Structure.{begins, jump_of, falls_through}
+use Rattle.bpf_verify.specs.Structure.{begins, landing, jump_of, falls_through}
 use Rattle.bpf_verify.specs.Edges.{Edge, Flows, ClosesCycle}
 use Rattle.bpf_verify.specs.Paths.{here, along}
-use Rattle.bpf_verify.specs.Ways.{landing, target_by, fall_by, jump_by, fall_to, jump_to}
+use Rattle.bpf_verify.specs.Ways.{target_by, fall_by, jump_by, fall_to, jump_to}
 use Rattle.bpf_verify.proofs.GraphLemmas.{Falls, Jumps, way, next_above}
 
 -- an instruction stands at q

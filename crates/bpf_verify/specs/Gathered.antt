@@ -6,7 +6,7 @@ use Rattle.bpf_note.specs.Shape.{Shape}
 use Rattle.bpf_note.specs.Facts.{Facts, entry}
 use Rattle.bpf_note.specs.Join.{joined}
 use Rattle.bpf_flow.specs.Edges.{Edges, Answer}
-use Rattle.bpf_flow.specs.After.{after_of}
+use Rattle.bpf_flow.specs.Rule.{after_of}
 use Rattle.bpf_flow.specs.Gives.{WantsMemory}
 
 -- a note comes to a list. One that equals a note there is dropped, else it is appended; where eight stand it is joined into

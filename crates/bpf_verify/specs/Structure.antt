@@ -1,5 +1,5 @@
 -- The structure of a program: where its jumps land, what follows its instructions, which maps it names.
-use Rattle.std.specs.Prelude.{ℕ, ℤ, List, length, Option, None, Some, Bool, true, false, not, if◌then◌else◌, nat_lt, nat_le, slice_get}
+use Rattle.std.specs.Prelude.{ℕ, ℤ, List, length, Option, None, Some, Bool, true, false, not, is_none, if◌then◌else◌, nat_lt, nat_le, slice_get}
 use Rattle.bpf_insn.specs.declared.insn.Insn.{Insn}
 use Rattle.bpf_insn.specs.declared.insn.Insn.TheVariants.{MapRef, Ja, Jump, Exit, Second}
 use Rattle.bpf_flow.specs.Step.{target}
@@ -17,14 +17,15 @@ begins None = false
 begins (Some Second) = false
 begins (Some i) = true
 
-abbrev pub lands : List Insn → Option ℕ → Bool
-lands code None = false
-lands code (Some to) = begins (slice_get code to)
+-- the slot, if an instruction stands there
+abbrev pub landing : List Insn → Option ℕ → Option ℕ
+landing code None = None
+landing code (Some q) = if begins (slice_get code q) then Some q else None
 
 -- a jump whose target is no instruction of the program
 abbrev pub misses_target : List Insn → ℕ → Option ℤ → Bool
 misses_target code pc None = false
-misses_target code pc (Some off) = not (lands code (target pc off))
+misses_target code pc (Some off) = is_none (landing code (target pc off))
 
 -- after EXIT and JA nothing follows, and a second half is no instruction
 abbrev pub falls_through : Insn → Bool

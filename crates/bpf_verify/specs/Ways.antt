@@ -3,12 +3,7 @@ use Rattle.std.specs.Prelude.{ℕ, ℤ, List, Option, None, Some, if◌then◌el
 use Rattle.bpf_insn.specs.declared.insn.Insn.{Insn}
 use Rattle.bpf_flow.specs.Step.{target}
 use Rattle.bpf_flow.specs.Graph.{next_slot}
-use Rattle.bpf_verify.specs.Structure.{begins, jump_of, falls_through}
-
--- the slot, if an instruction stands there
-abbrev pub landing : List Insn → Option ℕ → Option ℕ
-landing code None = None
-landing code (Some q) = if begins (slice_get code q) then Some q else None
+use Rattle.bpf_verify.specs.Structure.{landing, jump_of, falls_through}
 
 abbrev pub target_by : ℕ → Option ℤ → Option ℕ
 target_by p None = None

@@ -1,7 +1,8 @@
 //! The second pass: what is known at each slot that the flow graph reaches.
-ghost use Rattle.std.specs.Prelude.{◌≡◌, ◌<◌, ◌∷◌, [], ℕ, true, length, slice_get, vec_len, Ok, OnErr, OnOk, IfOk, IfErr};
+ghost use Rattle.std.specs.Prelude.{◌≡◌, ◌≢◌, ◌<◌, ◌∷◌, [], ℕ, List, true, length, slice_get, vec_len, Ok, OnErr, OnOk, IfOk, IfErr};
 ghost use Rattle.bpf_insn.specs.Code.{IsCode};
 ghost use Rattle.bpf_flow.specs.Gives.{edges_of, WantsMemory};
+ghost use Rattle.bpf_note.specs.Facts.{Facts};
 ghost use Rattle.bpf_note.specs.Parts.{facts};
 ghost use Rattle.bpf_verify.specs.Consistent.{IsOrdered};
 ghost use Rattle.bpf_verify.specs.FirstRefusal.{IsStructured, IsPassed, IsHalted};
@@ -16,6 +17,7 @@ use bpf_flow::{Successor, Successors, after};
 use bpf_insn::{Cause, Insn, Refusal};
 use bpf_note::MapShape;
 use std::alloc::{AllocError, Global};
+use std::mem;
 
 /// Brings a note to its slot.
 fn tell(alloc: Global, table: &mut Vec<NoteList>, successor: Successor) -> Result<(), AllocError>
@@ -47,7 +49,7 @@ fn spread(
     }
 }
 
-/// Takes the notes of one slot along its edges.
+/// Takes the notes of one slot along its edges. Then they go: no slot after it asks for them.
 fn follow(
     alloc: Global,
     code: &[Insn],
@@ -57,18 +59,18 @@ fn follow(
 ) -> Result<(), Cause>
     requires laid { IsCode code.now }
     requires structured { IsStructured code.now (length shapes.now) }
-    requires ordered { IsOrdered code.now }
     requires there { pc < length code.now }
     requires begins { begins (slice_get code.now pc) ≡ true }
     requires size { vec_len table.old ≡ length code.now }
     ensures size { OnOk result (vec_len table.new ≡ length code.now) }
-    ensures hears { OnOk result ((q : ℕ) → Hears (facts_at table.old.items q) q (told code.now shapes.now pc (facts_at table.old.items pc)) (facts_at table.new.items q)) }
+    ensures hears { OnOk result ((q : ℕ) → q ≢ pc → Hears (facts_at table.old.items q) q (told code.now shapes.now pc (facts_at table.old.items pc)) (facts_at table.new.items q)) }
     ensures allowed { OnOk result (AreAllowed code.now shapes.now pc (facts_at table.old.items pc)) }
     ensures err { IfErr result (λ c. IsMet c (TakesMemory code.now shapes.now pc (facts_at table.old.items pc)) (IsFirstCause code.now shapes.now pc (facts_at table.old.items pc) c)) }
 {
     let insn = code[pc as usize];
-    for i in 0..table[pc as usize].notes().len() {
-        let successors = after(alloc, &insn, pc, &table[pc as usize].notes()[i], shapes)?;
+    let list = mem::replace(&mut table[pc as usize], NoteList::empty(alloc));
+    for note in list.notes() {
+        let successors = after(alloc, &insn, pc, note, shapes)?;
         spread(alloc, table, successors)?;
     }
     Ok(())
@@ -88,18 +90,13 @@ fn blank(alloc: Global, slots: usize) -> Result<Vec<NoteList>, AllocError>
     Ok(table)
 }
 
-/// The notes at each slot, or the first refusal in the order of the pass. Where memory is wanting, V0 with the slot that
-/// was treated, or 0.
-pub(crate) fn notes_of(
-    alloc: Global,
-    code: &[Insn],
-    shapes: &[MapShape],
-) -> Result<Vec<NoteList>, Refusal>
+/// The second pass: over the reached slots in their order, or up to the first refusal. Where memory is wanting, V0 with the
+/// slot that was treated, or 0.
+pub(crate) fn second_pass(alloc: Global, code: &[Insn], shapes: &[MapShape]) -> Result<(), Refusal>
     requires laid { IsCode code.now }
     requires structured { IsStructured code.now (length shapes.now) }
     requires ordered { IsOrdered code.now }
-    ensures size { IfOk result (λ v. vec_len v ≡ length code.now) }
-    ensures passed { IfOk result (λ v. IsPassed code.now shapes.now (facts_at v.items)) }
+    ensures passed { IfOk result (λ _. (notes : ℕ → List Facts) × IsPassed code.now shapes.now notes) }
     ensures halted { IfErr result (λ r. IsHalted code.now shapes.now r.pc r.cause) }
 {
     let order = match pass_order(alloc, code) {
@@ -115,5 +112,5 @@ pub(crate) fn notes_of(
             return Err(Refusal { cause, pc });
         }
     }
-    Ok(table)
+    Ok(())
 }

@@ -1,6 +1,6 @@
 //! What stands at a slot.
 ghost use Rattle.std.specs.Prelude.{◌≡◌, slice_get};
-ghost use Rattle.bpf_verify.specs.Structure.{begins, falls_through, jump_of};
+ghost use Rattle.bpf_verify.specs.Structure.{begins, falls_through, jump_of, landing};
 
 use bpf_insn::Insn;
 
@@ -18,6 +18,22 @@ pub(crate) fn insn_at(code: &[Insn], pc: u32) -> Option<Insn>
     ensures { result ≡ slice_get code.now pc }
 {
     code.get(pc as usize).copied()
+}
+
+/// The slot, if an instruction stands there.
+pub(crate) fn landing(code: &[Insn], to: Option<u32>) -> Option<u32>
+    ensures { result ≡ landing code.now to }
+{
+    match to {
+        None => None,
+        Some(to) => {
+            if begins(insn_at(code, to)) {
+                Some(to)
+            } else {
+                None
+            }
+        }
+    }
 }
 
 pub(crate) fn jump_of(insn: Insn) -> Option<i32>

@@ -1,26 +1,17 @@
 //! The first pass: the structure of a program, over all slots, reached or not.
 ghost use Rattle.std.specs.Prelude.{◌≡◌, ◌<◌, ◌≤◌, ◌↔◌, ℕ, Some, true, false, length, slice_get, IsTrue, IfOk, IfErr, IfSome, IfNone};
 ghost use Rattle.bpf_insn.specs.declared.insn.Insn.{Insn};
-ghost use Rattle.bpf_verify.specs.Structure.{jump_of, lands, misses_target, runs_off, lacks_map};
+ghost use Rattle.bpf_verify.specs.Structure.{jump_of, misses_target, runs_off, lacks_map};
 ghost use Rattle.bpf_verify.specs.Consistent.{IsOrdered};
 ghost use Rattle.bpf_verify.specs.Edges.{JumpsBack};
 ghost use Rattle.bpf_verify.specs.FirstRefusal.{IsFine, IsFault, IsStructured, IsStructureRefusal};
 
 use crate::graph::{closes_cycle_unless, is_ordered};
-use crate::slot::{begins, falls_through, insn_at, jump_of};
+use crate::slot::{falls_through, jump_of, landing};
 use crate::wanting::wanting;
 use bpf_flow::{jump_target, next_slot};
 use bpf_insn::{Cause, Insn, Refusal};
 use std::alloc::{AllocError, Global};
-
-fn lands(code: &[Insn], to: Option<u32>) -> bool
-    ensures { result ≡ lands code.now to }
-{
-    match to {
-        None => false,
-        Some(to) => begins(insn_at(code, to)),
-    }
-}
 
 fn misses_target(code: &[Insn], pc: u32, jump: Option<i32>) -> bool
     requires { pc < 4096 }
@@ -28,7 +19,7 @@ fn misses_target(code: &[Insn], pc: u32, jump: Option<i32>) -> bool
 {
     match jump {
         None => false,
-        Some(off) => !lands(code, jump_target(pc, off)),
+        Some(off) => landing(code, jump_target(pc, off)).is_none(),
     }
 }
 

@@ -4,7 +4,7 @@ ghost use Rattle.bpf_note.specs.Shape.{AreShapes};
 ghost use Rattle.bpf_verify.specs.Consistent.{IsConsistent};
 ghost use Rattle.bpf_verify.specs.FirstRefusal.{IsRefusal, IsFaultless};
 
-use crate::notes::notes_of;
+use crate::notes::second_pass;
 use crate::structure::first_fault;
 use crate::verified::Verified;
 use crate::wanting::wanting;
@@ -40,6 +40,6 @@ pub fn verify(alloc: Global, code: Code, shapes: &[MapShape]) -> Result<Verified
     if let Some(refusal) = first_fault(alloc, insns, shapes.len() as u32) {
         return Err(refusal);
     }
-    let notes = notes_of(alloc, insns, shapes)?;
-    Ok(Verified::of(code, maps, notes))
+    second_pass(alloc, insns, shapes)?;
+    Ok(Verified::of(code, maps))
 }

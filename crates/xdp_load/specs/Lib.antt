@@ -1,3 +1,4 @@
+pub mod Complete
 pub mod Document
 pub mod FaultNumber
 pub mod Gives

@@ -1,12 +1,19 @@
-//! A law of relocations.
+//! Laws of settings. Each is a function that does nothing, and whose contract is the law.
 ghost use Rattle.std.specs.Prelude.{ℕ, ◌≡◌, ◌<◌, ◌++◌, List, length};
 ghost use Rattle.bpf_insn.specs.Spelling.{spelling};
 ghost use Rattle.bpf_insn.specs.declared.insn.Insn.TheVariants.{Const, MapRef};
 ghost use Rattle.bpf_insn.specs.declared.register.Register.{Register};
-ghost use Rattle.xdp_load.specs.Setup.{with_map};
+ghost use Rattle.xdp_load.specs.Complete.{HasFields, IsWritten};
+ghost use Rattle.xdp_load.specs.Setup.{SetupView, with_map};
+ghost use Rattle.xdp_load.specs.Sound.{IsSound};
 
-/// A law: a wide load of 0, as compilers leave it for a map, becomes that of the map by its relocation, wherever it stands, and
-/// nothing else changes. It does nothing.
+/// A wide load of 0, as compilers leave it for a map, becomes that of the map by its relocation, wherever it stands, and
+/// nothing else changes.
 pub fn relocated_loads_are_of_maps()
     ensures { (front rest : List ℕ) (dst : Register) (m : ℕ) → m < 4 → with_map (front ++ (spelling (Const dst 0) ++ rest)) (length front) m ≡ front ++ (spelling (MapRef dst m) ++ rest) }
+{}
+
+/// Each setup within its limits is that of some document: nothing more is refused.
+pub fn sound_setups_are_written()
+    ensures { (s : SetupView) → IsSound s → HasFields s → IsWritten s }
 {}

@@ -14,7 +14,7 @@ mod setup;
 mod table;
 
 pub use fault::{Fault, LoadFault};
-pub use laws::relocated_loads_are_of_maps;
+pub use laws::{relocated_loads_are_of_maps, sound_setups_are_written};
 pub use packets::Packet;
 pub use setup::{Setup, load};
 

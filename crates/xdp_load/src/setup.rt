@@ -1,15 +1,17 @@
 //! The setup of a settings text.
-ghost use Rattle.std.specs.Prelude.{◌≡◌, ◌≤◌, if◌then◌else◌, IfOk, None, Some, map, option_map, string_bytes, vec_len};
+ghost use Rattle.std.specs.Prelude.{◌≡◌, ◌≤◌, if◌then◌else◌, IfOk, IsErrAnd, None, Some, false, map, option_map, string_bytes, vec_len};
 ghost use Rattle.std.specs.Bool.{OnFalse, OnTrue};
 ghost use Rattle.std.specs.Str.{is_utf8};
 ghost use Rattle.xdp_load.specs.Gives.{Gives};
-ghost use Rattle.xdp_load.specs.Limits.{limited_of};
+ghost use Rattle.xdp_load.specs.Limits.{are_names, limited_of};
 ghost use Rattle.xdp_load.specs.Written.{written_of};
 ghost use Rattle.xdp_load.specs.Seen.{written_seen};
 ghost use Rattle.xdp_load.specs.LimitsSeen.{limited_seen};
 ghost use Rattle.xdp_load.specs.Setup.{decoded_of, document_of, loaded_program, names_of, relocated_setup, setup_of, setup_of_limited, setup_of_table, text_of};
 ghost use Rattle.xdp_load.specs.Sound.{IsSound};
 ghost use Rattle.xdp_load.specs.SetupSeen.{packet_view, setup_view};
+ghost use Rattle.xdp_load.specs.declared.fault.Fault.TheVariants.{Name, Relocation, Text};
+ghost use Rattle.xdp_load.specs.declared.fault.LoadFault.TheVariants.{Refused};
 ghost use Rattle.toml.specs.View.{table_view};
 
 use crate::document::{Written, read_document};
@@ -87,7 +89,10 @@ fn relocated_setup(
     decoded: (Vec<u8>, Vec<Packet>),
 ) -> Result<Setup, LoadFault>
     requires { vec_len written.now.maps ≤ 4 }
-    ensures { Gives setup_view result (relocated_setup (written_seen written.now) (limited_seen limited.entry) (decoded.0.items, map packet_view decoded.1.items)) }
+    ensures gives { Gives setup_view result (relocated_setup (written_seen written.now) (limited_seen limited.entry) (decoded.0.items, map packet_view decoded.1.items)) }
+
+    // Relocations are checked before memory is taken.
+    ensures relocated { loaded_program (names_of (written_seen written.now).maps) (written_seen written.now).relocs decoded.0.items ≡ None → IsErrAnd result (λ e. e ≡ Refused Relocation) }
 {
     let (mut program, packets) = decoded;
     if !load_program(&mut program, written) {
@@ -114,7 +119,10 @@ fn setup_of_limited(
     limited: WithinLimits<'_>,
 ) -> Result<Setup, LoadFault>
     requires { vec_len written.now.maps ≤ 4 }
-    ensures { Gives setup_view result (setup_of_limited (written_seen written.now) (limited_seen limited.entry)) }
+    ensures gives { Gives setup_view result (setup_of_limited (written_seen written.now) (limited_seen limited.entry)) }
+
+    // Names are checked before memory is taken.
+    ensures named { are_names (names_of (written_seen written.now).maps) ≡ false → IsErrAnd result (λ e. e ≡ Refused Name) }
 {
     if !are_names(written.maps.as_slice()) {
         return Err(LoadFault::Refused(Fault::Name));
@@ -172,7 +180,8 @@ fn document_of(alloc: Global, text: &str) -> Result<Table, LoadFault>
 /// The setup of a settings text, read phase by phase.
 #[tactic(auto, unfolding(crate::specs::Setup::setup_of))]
 fn load_setup(alloc: Global, bytes: &[u8]) -> Result<Setup, LoadFault>
-    ensures { Gives setup_view result (setup_of bytes.now) }
+    ensures gives { Gives setup_view result (setup_of bytes.now) }
+    ensures text { text_of bytes.now ≡ None → IsErrAnd result (λ e. e ≡ Refused Text) }
 {
     let text = text_of(bytes).ok_or(Fault::Text)?;
     let table = document_of(alloc, text)?;
@@ -183,6 +192,9 @@ fn load_setup(alloc: Global, bytes: &[u8]) -> Result<Setup, LoadFault>
 /// the keys.
 pub fn load(alloc: Global, bytes: &[u8]) -> Result<Setup, LoadFault>
     ensures value { Gives setup_view result (setup_of bytes.now) }
+
+    // What is no text is refused before memory is taken.
+    ensures text { text_of bytes.now ≡ None → IsErrAnd result (λ e. e ≡ Refused Text) }
     ensures sound { IfOk result (λ s. IsSound (setup_view s)) }
 {
     load_setup(alloc, bytes)

@@ -1,2 +1,3 @@
 mod CommandLineLemmas
 mod InputLemmas
+pub mod CounterLineLemmas

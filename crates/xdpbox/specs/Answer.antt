@@ -1,18 +1,19 @@
 -- What a call prints, and its exit status.
-use Rattle.std.specs.Prelude.{ℕ, ◌≡◌, ◌<◌, ◌≤◌, ◌⊎◌, List, length, take, codes, Option, Some, None, IfSome, Result, Ok, Err}
+use Rattle.std.specs.Prelude.{ℕ, ◌≡◌, ◌≢◌, ◌<◌, ◌≤◌, ◌⊎◌, List, length, take, codes, Option, Some, None, IfSome, Result, Ok, Err}
 use Rattle.std.specs.Result.{result_ok}
 use Rattle.std.specs.Io.KnownBytes.{Appends, Consumes, IsAtEnd, Keeps}
 use Rattle.hex.specs.Hex.{decode_of}
 use Rattle.bpf_insn.specs.declared.refusal.Refusal.{Refusal}
 use Rattle.bpf_vm.specs.declared.run.Ended.{Ended}
-use Rattle.xdp_load.specs.Setup.{SetupView, setup_of}
+use Rattle.xdp_load.specs.Setup.{SetupView, setup_of, text_of}
 use Rattle.xdp_load.specs.declared.fault.Fault.{Fault}
 use Rattle.xdp_load.specs.declared.fault.LoadFault.{LoadFault}
 use Rattle.xdp_load.specs.declared.fault.LoadFault.TheVariants.{Memory, Refused}
+use Rattle.xdp_world.specs.declared.report.Report.{Report}
 use Rattle.xdpbox.specs.declared.executing.Accepted.{Accepted}
-use Rattle.xdpbox.specs.Executing.{Checks, Executes}
-use Rattle.xdpbox.specs.Lines.{checked_text, executed_text, settings_text}
-use Rattle.xdpbox.specs.Words.{Wanted, exec, check}
+use Rattle.xdpbox.specs.Executing.{Checks, Executes, Runs}
+use Rattle.xdpbox.specs.Lines.{checked_text, executed_text, ran_text, settings_text}
+use Rattle.xdpbox.specs.Words.{Wanted, exec, check, run}
 
 -- a text, and an exit status
 abbrev pub Said : Type 0
@@ -62,14 +63,21 @@ checked_answer c = (checked_text c, program_status c)
 abbrev pub SetupAnswer : SetupView → Said → Type 0
 SetupAnswer s said = (c : Result Accepted Refusal) × Checks s.program s.shapes c × (said ≡ checked_answer c)
 
--- the answer to what settings spell: a setup, or their first fault
-abbrev pub SpelledAnswer : Result SetupView Fault → Said → Type 0
-SpelledAnswer (Ok s) said = SetupAnswer s said
-SpelledAnswer (Err f) said = said ≡ settings_refused (Refused f)
+abbrev pub ran_answer : List (List ℕ) → Result Report Refusal → Said
+ran_answer names c = (ran_text names c, program_status c)
 
--- the answer of `check`; L0 where memory ran out while the settings were loaded
-abbrev pub CheckAnswer : List ℕ → Said → Type 0
-CheckAnswer settings said = SpelledAnswer (setup_of settings) said ⊎ (said ≡ settings_refused Memory)
+-- the answer to a setup: by a run of its queues through its script
+abbrev pub RunAnswer : SetupView → Said → Type 0
+RunAnswer s said = (c : Result Report Refusal) × Runs s c × (said ≡ ran_answer s.names c)
+
+-- the answer to what settings spell: to a setup, or their first fault
+abbrev pub SpelledAnswer : (SetupView → Said → Type 0) → Result SetupView Fault → Said → Type 0
+SpelledAnswer answer (Ok s) said = answer s said
+SpelledAnswer answer (Err f) said = said ≡ settings_refused (Refused f)
+
+-- the answer to settings; L0 where memory ran out while the settings, which are a text, were loaded
+abbrev pub SettingsAnswer : (SetupView → Said → Type 0) → List ℕ → Said → Type 0
+SettingsAnswer answer settings said = SpelledAnswer answer (setup_of settings) said ⊎ ((text_of settings ≢ None) × (said ≡ settings_refused Memory))
 
 -- the settings are what the reader gave, up to its end or 1,048,577 bytes
 pub record IsSettings (old new : Option (List ℕ)) (settings : List ℕ) : Type 0 where
@@ -78,27 +86,34 @@ pub record IsSettings (old new : Option (List ℕ)) (settings : List ℕ) : Type
   pub all : length settings < 1048577 → IsAtEnd new
   pub known : IfSome old (λ xs. settings ≡ take 1048577 xs)
 
+-- the answer to the settings that a reader gives
+abbrev pub InputAnswer : (SetupView → Said → Type 0) → Option (List ℕ) → Option (List ℕ) → Said → Type 0
+InputAnswer answer old new said = (settings : List ℕ) × IsSettings old new settings × SettingsAnswer answer settings said
+
 -- the answer to what the words ask for, over a reader before and after
 abbrev pub IsAnswer : Option Wanted → Option (List ℕ) → Option (List ℕ) → Said → Type 0
 IsAnswer None old new said = said ≡ words_refused
 IsAnswer (Some (exec program packet)) old new said = ExecAnswer program packet said
-IsAnswer (Some check) old new said = (settings : List ℕ) × IsSettings old new settings × CheckAnswer settings said
+IsAnswer (Some check) old new said = InputAnswer SetupAnswer old new said
+IsAnswer (Some run) old new said = InputAnswer RunAnswer old new said
 
 -- at most so many bytes are taken
 abbrev pub TakesAtMost : ℕ → Option (List ℕ) → Option (List ℕ) → Type 0
 TakesAtMost n old new = (taken : List ℕ) × Consumes old new taken × (length taken ≤ n)
 
--- what a call does to its reader, whatever it answers: `check` alone reads
+-- what a call does to its reader, whatever it answers: `check` and `run` alone read
 abbrev pub Takes : Option Wanted → Option (List ℕ) → Option (List ℕ) → Type 0
 Takes None old new = Keeps old new
 Takes (Some (exec program packet)) old new = Keeps old new
 Takes (Some check) old new = TakesAtMost 1048577 old new
+Takes (Some run) old new = TakesAtMost 1048577 old new
 
 -- a call that may end as a read failed, when nothing is printed
 abbrev pub Reads : Option Wanted → Type 0
 Reads None = ⊥
 Reads (Some (exec program packet)) = ⊥
 Reads (Some check) = Unit {0}
+Reads (Some run) = Unit {0}
 
 -- the text is printed and the status given; or a write failed, the status is 4, and a beginning of the text is printed
 abbrev pub Prints : Option (List ℕ) → Option (List ℕ) → Said → ℕ → Type 0

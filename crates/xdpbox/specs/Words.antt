@@ -15,13 +15,18 @@ exec_app = with_rule (with_rule (new_app (codes "exec")) (wanted (codes "program
 abbrev pub check_app : App
 check_app = new_app (codes "check")
 
+-- `run`
+abbrev pub run_app : App
+run_app = new_app (codes "run")
+
 unfoldable pub program_app : App
-program_app = with_subcommand (with_subcommand (new_app (codes "xdpbox")) exec_app.top) check_app.top
+program_app = with_subcommand (with_subcommand (with_subcommand (new_app (codes "xdpbox")) exec_app.top) check_app.top) run_app.top
 
 -- what a call asks for
 pub data Wanted : Type 0 where
   exec : Text → Text → Wanted
   check : Wanted
+  run : Wanted
 
 -- `exec`, by what was found for its words
 abbrev pub exec_of : List Row → Option Wanted
@@ -32,6 +37,7 @@ abbrev pub wanted_by : Text × List Row → Option Wanted
 wanted_by p =
     if bytes_eq p.0 (codes "exec") then exec_of p.1
     else if bytes_eq p.0 (codes "check") then Some check
+    else if bytes_eq p.0 (codes "run") then Some run
     else None
 
 -- the command line takes the words

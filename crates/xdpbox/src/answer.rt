@@ -1,13 +1,14 @@
 //! What the program answers.
 ghost use Rattle.std.specs.Prelude.{◌≡◌, ◌≤◌, IfOk, IfErr, Some, length, option_map};
 ghost use Rattle.xdp_load.specs.SetupSeen.{setup_view};
-ghost use Rattle.xdpbox.specs.Answer.{CheckAnswer, ExecAnswer, IsAnswer, PacketAnswer, Reads, SetupAnswer, Takes, TakesAtMost, checked_answer, executed_answer, hex_bytes, program_status, settings_refused, words_refused};
-ghost use Rattle.xdpbox.specs.Words.{check};
+ghost use Rattle.xdp_load.specs.Sound.{IsSound};
+ghost use Rattle.xdpbox.specs.Answer.{ExecAnswer, IsAnswer, PacketAnswer, Reads, RunAnswer, SettingsAnswer, SetupAnswer, Takes, TakesAtMost, checked_answer, executed_answer, hex_bytes, program_status, settings_refused, words_refused};
+ghost use Rattle.xdpbox.specs.Words as wanted;
 ghost use Rattle.xdpbox.specs.Seen.{said_of, wanted_of};
 
-use crate::executing::{Accepted, check, execute};
+use crate::executing::{Accepted, check, execute, run};
 use crate::input::read_settings;
-use crate::lines::{checked_text, executed_text, settings_text};
+use crate::lines::{checked_text, executed_text, ran_text, settings_text};
 use crate::request::Request;
 use crate::stop::Stop;
 use bpf_insn::Refusal;
@@ -68,7 +69,7 @@ fn hex_bytes(alloc: Global, word: &str) -> Result<Option<Vec<u8>>, AllocError>
 }
 
 /// The answer of a program's bytes on a packet's.
-fn run_answer(alloc: Global, program: &[u8], packet: &[u8]) -> Result<Answer, AllocError>
+fn packet_answer(alloc: Global, program: &[u8], packet: &[u8]) -> Result<Answer, AllocError>
     ensures { IfOk result (λ a. PacketAnswer program.now packet.now (said_of a)) }
 {
     let mut buffer = Buffer::make(alloc)?;
@@ -89,7 +90,7 @@ fn exec_answer(alloc: Global, program: &str, packet: &str) -> Result<Answer, All
     let Some(packet) = hex_bytes(alloc, packet)? else {
         return words_refused(alloc);
     };
-    run_answer(alloc, program.as_slice(), packet.as_slice())
+    packet_answer(alloc, program.as_slice(), packet.as_slice())
 }
 
 /// The answer of a check.
@@ -120,9 +121,22 @@ fn setup_answer(alloc: Global, setup: &Setup) -> Result<Answer, AllocError>
     checked_answer(alloc, &checked)
 }
 
+/// The answer to a setup whose queues are run.
+fn run_answer(alloc: Global, setup: &Setup) -> Result<Answer, AllocError>
+    requires { IsSound (setup_view setup.now) }
+    ensures { IfOk result (λ a. RunAnswer (setup_view setup.now) (said_of a)) }
+{
+    let ran = run(alloc, setup)?;
+    let text = ran_text(alloc, setup.names.as_slice(), setup.shapes.as_slice(), &ran)?;
+    Ok(Answer {
+        text,
+        status: program_status(&ran),
+    })
+}
+
 /// The answer of `check`.
 fn check_answer(alloc: Global, settings: &[u8]) -> Result<Answer, AllocError>
-    ensures { IfOk result (λ a. CheckAnswer settings.now (said_of a)) }
+    ensures { IfOk result (λ a. SettingsAnswer SetupAnswer settings.now (said_of a)) }
 {
     match load(alloc, settings) {
         Ok(setup) => setup_answer(alloc, &setup),
@@ -130,13 +144,32 @@ fn check_answer(alloc: Global, settings: &[u8]) -> Result<Answer, AllocError>
     }
 }
 
-/// The answer to the settings that the input gives.
-fn input_answer<R: Read>(alloc: Global, input: &mut R) -> Result<Answer, Stop>
-    ensures answer { IfOk result (λ a. IsAnswer (Some check) (R.remaining input.old) (R.remaining input.new) (said_of a)) }
+/// The answer of `run`.
+fn script_answer(alloc: Global, settings: &[u8]) -> Result<Answer, AllocError>
+    ensures { IfOk result (λ a. SettingsAnswer RunAnswer settings.now (said_of a)) }
+{
+    match load(alloc, settings) {
+        Ok(setup) => run_answer(alloc, &setup),
+        Err(fault) => settings_refused(alloc, fault),
+    }
+}
+
+/// The answer of `check` to the settings that the input gives.
+fn input_check<R: Read>(alloc: Global, input: &mut R) -> Result<Answer, Stop>
+    ensures answer { IfOk result (λ a. IsAnswer (Some wanted.check) (R.remaining input.old) (R.remaining input.new) (said_of a)) }
     ensures takes { TakesAtMost 1048577 (R.remaining input.old) (R.remaining input.new) }
 {
     let settings = read_settings(alloc, input)?;
     Ok(check_answer(alloc, settings.as_slice())?)
+}
+
+/// The answer of `run` to the settings that the input gives.
+fn input_run<R: Read>(alloc: Global, input: &mut R) -> Result<Answer, Stop>
+    ensures answer { IfOk result (λ a. IsAnswer (Some wanted.run) (R.remaining input.old) (R.remaining input.new) (said_of a)) }
+    ensures takes { TakesAtMost 1048577 (R.remaining input.old) (R.remaining input.new) }
+{
+    let settings = read_settings(alloc, input)?;
+    Ok(script_answer(alloc, settings.as_slice())?)
 }
 
 /// The answer to what the words ask for, if they ask for anything.
@@ -152,6 +185,7 @@ pub fn answer_to<R: Read>(
     match request {
         None => Ok(words_refused(alloc)?),
         Some(Request::Exec { program, packet }) => Ok(exec_answer(alloc, program, packet)?),
-        Some(Request::Check) => input_answer(alloc, input),
+        Some(Request::Check) => input_check(alloc, input),
+        Some(Request::Run) => input_run(alloc, input),
     }
 }

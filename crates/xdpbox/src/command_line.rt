@@ -23,7 +23,9 @@ pub fn program_command<'a>(alloc: Global) -> Result<Command<'a>, AllocError>
 {
     let exec = exec_command(alloc)?;
     let check = Command::new(alloc, "check");
+    let run = Command::new(alloc, "run");
     Command::new(alloc, "xdpbox")
         .subcommand(exec)?
-        .subcommand(check)
+        .subcommand(check)?
+        .subcommand(run)
 }

@@ -1,11 +1,25 @@
 //! What becomes of a program's bytes.
-ghost use Rattle.std.specs.Prelude.{◌≡◌, ◌≤◌, length};
-ghost use Rattle.xdpbox.specs.Executing.{Checks, Executes};
+ghost use Rattle.std.specs.Prelude.{◌≡◌, ◌≤◌, IfErr, IfOk, length};
+ghost use Rattle.xdp_load.specs.SetupSeen.{setup_view};
+ghost use Rattle.xdp_load.specs.Sound.{IsSound};
+ghost use Rattle.xdpbox.specs.Executing.{Checks, Executes, IsProgramOf, IsRefusalOfBytes, Runs};
 
 use bpf_insn::{Refusal, decode};
-use bpf_verify::{MapShape, verify};
+use bpf_verify::{MapShape, Verified, verify};
 use bpf_vm::{Ended, PacketBuf, run_to_end};
-use std::alloc::Global;
+use std::alloc::{AllocError, Global};
+use xdp_load::Setup;
+use xdp_world::{Report, World};
+
+/// Accepts a program with its maps, or refuses it.
+fn accept(alloc: Global, program: &[u8], shapes: &[MapShape]) -> Result<Verified, Refusal>
+    requires { length shapes.now ≤ 4 }
+    ensures ok { IfOk result (IsProgramOf program.now shapes.now) }
+    ensures err { IfErr result (IsRefusalOfBytes program.now shapes.now) }
+{
+    let code = decode(alloc, program)?;
+    verify(alloc, code, shapes)
+}
 
 /// Accepts a program without maps and runs it on a packet, with interface and queue 0.
 pub fn execute<'b>(
@@ -15,8 +29,7 @@ pub fn execute<'b>(
 ) -> Result<Ended<'b>, Refusal>
     ensures { Executes program.now packet.entry result }
 {
-    let code = decode(alloc, program)?;
-    let verified = verify(alloc, code, &[])?;
+    let verified = accept(alloc, program, &[])?;
     Ok(run_to_end(&verified, packet, 0, 0))
 }
 
@@ -32,10 +45,30 @@ pub fn check(alloc: Global, program: &[u8], shapes: &[MapShape]) -> Result<Accep
     requires { length shapes.now ≤ 4 }
     ensures { Checks program.now shapes.now result }
 {
-    let code = decode(alloc, program)?;
-    let verified = verify(alloc, code, shapes)?;
+    let verified = accept(alloc, program, shapes)?;
     Ok(Accepted {
         instructions: verified.instructions(),
         slots: verified.slots(),
     })
+}
+
+/// Accepts the program of a setup and runs the setup's queues through the steps of its script, or refuses the program.
+pub fn run(alloc: Global, setup: &Setup) -> Result<Result<Report, Refusal>, AllocError>
+    requires { IsSound (setup_view setup.now) }
+    ensures { IfOk result (Runs (setup_view setup.now)) }
+{
+    match accept(alloc, setup.program.as_slice(), setup.shapes.as_slice()) {
+        Ok(program) => {
+            let report = World::run(
+                alloc,
+                &program,
+                setup.queues,
+                setup.ifindex,
+                setup.start,
+                setup.script.as_slice(),
+            )?;
+            Ok(Ok(report))
+        }
+        Err(refusal) => Ok(Err(refusal)),
+    }
 }

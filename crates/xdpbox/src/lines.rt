@@ -1,24 +1,16 @@
 //! The lines that the program prints.
-ghost use Rattle.std.specs.Prelude.{◌≡◌, IfOk, string_bytes};
-ghost use Rattle.xdpbox.specs.Lines.{action_name, checked_text, ended_text, executed_text, refused_text, settings_text};
+ghost use Rattle.std.specs.Prelude.{◌≡◌, ◌<◌, IfOk, length, map, string_bytes};
+ghost use Rattle.xdpbox.specs.Lines.{checked_text, ended_text, executed_text, ran_text, refused_text, report_text, settings_text};
 
+use crate::counter_lines::add_counters;
 use crate::executing::Accepted;
+use crate::turn_lines::add_queues;
 use bpf_insn::Refusal;
-use bpf_vm::Ended;
+use bpf_note::MapShape;
+use bpf_vm::{Action, Ended};
 use std::alloc::{AllocError, Global};
 use xdp_load::LoadFault;
-
-/// The name of the action with a number.
-fn action_name(number: u32) -> &'static str
-    ensures { result.now ≡ action_name number }
-{
-    match number {
-        1 => "DROP",
-        2 => "PASS",
-        3 => "TX",
-        _ => "ABORTED",
-    }
-}
+use xdp_world::Report;
 
 /// The two lines of a run.
 fn ended_text(alloc: Global, ended: &Ended<'_>) -> Result<String, AllocError>
@@ -26,7 +18,7 @@ fn ended_text(alloc: Global, ended: &Ended<'_>) -> Result<String, AllocError>
 {
     let number = ended.number;
     let instructions = ended.instructions;
-    let name = action_name(number);
+    let name = Action::of(number).name();
     let packet = hex::encode(alloc, ended.packet.bytes())?;
     format!(in alloc;
         "action {name} number {number} instructions {instructions}\npacket {packet}\n"
@@ -76,4 +68,40 @@ pub fn settings_text(alloc: Global, fault: LoadFault) -> Result<String, AllocErr
 {
     let number = fault.number();
     format!(in alloc; "settings refused L{number}\n")
+}
+
+/// The lines of a run of queues whose maps have these names and shapes.
+fn report_text(
+    alloc: Global,
+    names: &[String],
+    shapes: &[MapShape],
+    report: &Report,
+) -> Result<String, AllocError>
+    requires named { length names.now ≡ length shapes.now }
+    requires few { length shapes.now < 5 }
+    requires shapes { report.now.totals.shapes ≡ shapes.now }
+    ensures { IfOk result (λ s. string_bytes s ≡ report_text (map string_bytes names.now) report.now) }
+{
+    let mut text = String::new(alloc);
+    add_queues(alloc, &mut text, report.turns.as_slice())?;
+    add_counters(alloc, &mut text, names, shapes, &report.totals)?;
+    Ok(text)
+}
+
+/// The lines of `run`.
+pub fn ran_text(
+    alloc: Global,
+    names: &[String],
+    shapes: &[MapShape],
+    ran: &Result<Report, Refusal>,
+) -> Result<String, AllocError>
+    requires named { length names.now ≡ length shapes.now }
+    requires few { length shapes.now < 5 }
+    requires shapes { IfOk ran.now (λ r. r.totals.shapes ≡ shapes.now) }
+    ensures { IfOk result (λ s. string_bytes s ≡ ran_text (map string_bytes names.now) ran.now) }
+{
+    match ran {
+        Ok(report) => report_text(alloc, names, shapes, report),
+        Err(refusal) => refused_text(alloc, refusal),
+    }
 }

@@ -3,6 +3,7 @@
 
 mod answer;
 mod command_line;
+mod counter_lines;
 mod executing;
 mod input;
 mod lines;
@@ -10,6 +11,7 @@ mod output;
 mod program;
 mod request;
 mod stop;
+mod turn_lines;
 
 use crate::program::{print_memory, run_words};
 use std::process::ExitCode;

@@ -17,6 +17,8 @@ pub enum Request<'a> {
     Exec { program: &'a str, packet: &'a str },
     /// Whether the program of the settings is accepted.
     Check,
+    /// What the queues of the settings do in the steps of their script.
+    Run,
 }
 
 /// The word of a positional.
@@ -45,6 +47,9 @@ fn request_in<'a>(matches: &ArgMatches<'a>) -> Option<Request<'a>>
     }
     if name == "check" {
         return Some(Request::Check);
+    }
+    if name == "run" {
+        return Some(Request::Run);
     }
     None
 }

@@ -4,4 +4,5 @@ mod exec;
 mod failing;
 mod programs;
 mod readers;
+mod run;
 mod words;

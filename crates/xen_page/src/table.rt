@@ -1,6 +1,6 @@
 //! A domain's grant table.
 
-ghost use Rattle.std.specs.Prelude.{◌≡◌, ◌+◌, ◌<◌, ◌↔◌, All, Contains, IfSome, IsTrue, slice_get};
+ghost use Rattle.std.specs.Prelude.{◌≡◌, ◌+◌, ◌<◌, ◌≤◌, ◌↔◌, All, Contains, IfSome, IsTrue, length, slice_get};
 ghost use Rattle.std.specs.Option.{SomeIff};
 ghost use Rattle.xen_page.specs.Table.{IsTable, entry_place};
 
@@ -49,6 +49,14 @@ impl Table {
             frames: kept,
             count,
         })
+    }
+
+    /// The frames of the table.
+    pub fn frames(&self) -> &[u32]
+        ensures frames { result.now ≡ self.now }
+        ensures few { length result.now ≤ 16 }
+    {
+        &self.frames[..self.count]
     }
 
     /// Whether the table lies within a bus of `frames` frames, as `map` requires.

@@ -1,6 +1,6 @@
 //! What arithmetic makes, by the table of docs/VERIFIER.md and RFC 9669, section 4.1.
 
-ghost use Rattle.bpf_flow.specs.After.{IsRuled};
+ghost use Rattle.bpf_flow.specs.Rule.{IsRuled};
 
 use crate::tests::steps::{alu, exactly, next};
 use crate::{Successors, after};

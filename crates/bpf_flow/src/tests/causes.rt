@@ -1,6 +1,6 @@
 //! The shortest program for each cause of the second pass, as docs/VERIFIER.md lists them.
 
-ghost use Rattle.bpf_flow.specs.After.{IsRuled};
+ghost use Rattle.bpf_flow.specs.Rule.{IsRuled};
 
 use crate::{Successor, Successors, after};
 use bpf_insn::{AluOp, Cause, Insn, Operand, Refusal, Register, Size, decode};

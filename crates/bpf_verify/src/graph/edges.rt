@@ -1,26 +1,10 @@
 //! Where an instruction leads.
 ghost use Rattle.std.specs.Prelude.{◌≡◌, ◌<◌, slice_get};
-ghost use Rattle.bpf_verify.specs.Ways.{landing, fall_to, jump_to};
+ghost use Rattle.bpf_verify.specs.Ways.{fall_to, jump_to};
 
-use crate::slot::{begins, falls_through, insn_at, jump_of};
+use crate::slot::{falls_through, insn_at, jump_of, landing};
 use bpf_flow::{jump_target, next_slot};
 use bpf_insn::Insn;
-
-/// The slot, if an instruction stands there.
-fn landing(code: &[Insn], to: Option<u32>) -> Option<u32>
-    ensures { result ≡ landing code.now to }
-{
-    match to {
-        None => None,
-        Some(to) => {
-            if begins(insn_at(code, to)) {
-                Some(to)
-            } else {
-                None
-            }
-        }
-    }
-}
 
 /// The slot of the instruction that follows the one at `pc`.
 #[tactic(auto, unfolding(crate::specs::Ways::fall_to))]

@@ -10,8 +10,20 @@ pub(crate) fn assert_check(
     status: u8,
     output: &mut Vec<u8>,
 ) {
+    assert_command(rt, "check", settings, text, status, output);
+}
+
+/// Runs a command on settings, and compares what is printed and the status.
+pub(crate) fn assert_command(
+    rt: &impl Abort,
+    command: &str,
+    settings: &[u8],
+    text: &str,
+    status: u8,
+    output: &mut Vec<u8>,
+) {
     output.clear();
-    let words = ["xdpbox", "check"];
+    let words = ["xdpbox", command];
     let mut input = settings;
     let given = run_words(*output.allocator(), &words, &mut input, output);
     assert_eq!(rt;

@@ -1,0 +1,250 @@
+//! Jumps, the exit, and what the edges of a conditional jump say.
+ghost use Rattle.std.specs.Prelude.{◌≡◌, ◌<◌, ◌≤◌, OnOk, OnErr, IfOk, IsSome, true};
+ghost use Rattle.bpf_insn.specs.Register.{number};
+ghost use Rattle.bpf_insn.specs.declared.insn.Insn.{Insn};
+ghost use Rattle.bpf_note.specs.Parts.{facts};
+ghost use Rattle.bpf_flow.specs.Alu.{operand_value};
+ghost use Rattle.bpf_flow.specs.Branch.{opposite, raise, narrowed, without, below, compared, against_end, end_against, is_null, checked, refined, refined_if, taken, passed};
+ghost use Rattle.bpf_flow.specs.Gives.{Gives};
+ghost use Rattle.bpf_flow.specs.Rule.{after_of};
+ghost use Rattle.bpf_flow.specs.Step.{target};
+
+use crate::alu::operand_value;
+use crate::graph::jump_target;
+use crate::point::{Point, is_unset};
+use crate::successors::{Successor, Successors};
+use bpf_insn::{Cause, Condition, Operand, Register};
+use bpf_note::{Note, Val};
+use std::alloc::{AllocError, Global};
+
+/// What holds where a condition doesn't, of those that teach.
+fn opposite(cond: Condition) -> Option<Condition>
+    ensures { result ≡ opposite cond }
+{
+    match cond {
+        Condition::Equal => Some(Condition::NotEqual),
+        Condition::NotEqual => Some(Condition::Equal),
+        Condition::Greater => Some(Condition::LessOrEqual),
+        Condition::LessOrEqual => Some(Condition::Greater),
+        Condition::GreaterOrEqual => Some(Condition::Less),
+        Condition::Less => Some(Condition::GreaterOrEqual),
+        _ => None,
+    }
+}
+
+/// Raises the safe bound of an id.
+fn raise(note: &mut Note, id: u16, safe: u32) -> Result<(), AllocError>
+    ensures { OnOk result (facts note.new ≡ raise (facts note.old) id safe) }
+{
+    let raised = match note.safe(id) {
+        None => safe,
+        Some(old) => old.max(safe),
+    };
+    note.set_safe(id, Some(raised))
+}
+
+/// A register lies from `lo` to `hi`, unless nothing does.
+fn narrow(note: &mut Note, number: u8, lo: u64, hi: u64)
+    requires { number < 11 }
+    ensures { facts note.new ≡ narrowed (facts note.old) number lo hi }
+{
+    if lo <= hi {
+        note.set_register(number, Val::Num { lo, hi });
+    }
+}
+
+/// A register that lies from `lo` to `hi` isn't `not`.
+fn leave_out(note: &mut Note, number: u8, lo: u64, hi: u64, not: u64)
+    requires { number < 11 }
+    ensures { facts note.new ≡ without (facts note.old) number lo hi not }
+{
+    if not == lo {
+        if lo < hi {
+            narrow(note, number, lo + 1, hi);
+        }
+    } else if not == hi && 0 < hi {
+        narrow(note, number, lo, hi - 1);
+    }
+}
+
+/// A register that lies from `lo` to `hi` stands in this condition to a constant.
+fn compare(note: &mut Note, cond: Condition, number: u8, lo: u64, hi: u64, with: u64)
+    requires { number < 11 }
+    ensures { facts note.new ≡ compared cond (facts note.old) number lo hi with }
+{
+    match cond {
+        Condition::Equal => narrow(note, number, lo.max(with), hi.min(with)),
+        Condition::NotEqual => leave_out(note, number, lo, hi, with),
+        Condition::Greater => if with < u64::MAX {
+            narrow(note, number, lo.max(with + 1), hi)
+        },
+        Condition::GreaterOrEqual => narrow(note, number, lo.max(with), hi),
+        Condition::Less => if 0 < with {
+            narrow(note, number, lo, hi.min(with - 1))
+        },
+        Condition::LessOrEqual => narrow(note, number, lo, hi.min(with)),
+        _ => {}
+    }
+}
+
+/// An address in the packet stands in this condition to the packet's end.
+fn against_end(note: &mut Note, cond: Condition, id: u16, off: u16) -> Result<(), AllocError>
+    ensures { OnOk result (facts note.new ≡ against_end cond (facts note.old) id off) }
+{
+    match cond {
+        Condition::LessOrEqual => raise(note, id, u32::from(off)),
+        Condition::Less => raise(note, id, u32::from(off) + 1),
+        _ => Ok(()),
+    }
+}
+
+/// The packet's end stands in this condition to an address in it.
+fn end_against(note: &mut Note, cond: Condition, id: u16, off: u16) -> Result<(), AllocError>
+    ensures { OnOk result (facts note.new ≡ end_against cond (facts note.old) id off) }
+{
+    match cond {
+        Condition::GreaterOrEqual => raise(note, id, u32::from(off)),
+        Condition::Greater => raise(note, id, u32::from(off) + 1),
+        _ => Ok(()),
+    }
+}
+
+fn is_null(operand: Operand) -> bool
+    ensures { result ≡ is_null operand }
+{
+    match operand {
+        Operand::Immediate(number) => number == 0,
+        Operand::Register(_) => false,
+    }
+}
+
+/// A lookup's result stands in this condition to 0.
+fn check(note: &mut Note, cond: Condition, m: u32, id: u16)
+    ensures { facts note.new ≡ checked cond (facts note.old) m id }
+{
+    match cond {
+        Condition::Equal => note.resolve(id, Val::Num { lo: 0, hi: 0 }),
+        Condition::NotEqual => note.resolve(id, Val::Value { m }),
+        _ => {}
+    }
+}
+
+/// The first operand of a comparison stands in this condition to the second.
+fn refine(note: &mut Note, cond: Condition, dst: Register, src: Operand) -> Result<(), AllocError>
+    ensures { OnOk result (facts note.new ≡ refined cond (facts note.old) (number dst) src ((facts note.old).reg (number dst)) (operand_value (facts note.old) src)) }
+{
+    let first = note.register(dst.number());
+    let second = operand_value(note, src);
+    match (first, second) {
+        (Val::Pkt { id, off }, Val::PktEnd) => against_end(note, cond, id, off)?,
+        (Val::PktEnd, Val::Pkt { id, off }) => end_against(note, cond, id, off)?,
+        (
+            Val::Num { lo, hi },
+            Val::Num {
+                lo: least,
+                hi: most,
+            },
+        ) => if least == most {
+            compare(note, cond, dst.number(), lo, hi, least);
+        },
+        (Val::MaybeValue { m, id }, _) => if is_null(src) {
+            check(note, cond, m, id);
+        },
+        _ => {}
+    }
+    Ok(())
+}
+
+/// What is known where a jump is taken.
+fn taken(
+    alloc: Global,
+    note: &Note,
+    cond: Condition,
+    wide: bool,
+    dst: Register,
+    src: Operand,
+) -> Result<Note, AllocError>
+    ensures { IfOk result (λ n. facts n ≡ taken cond wide (facts note.now) (number dst) src ((facts note.now).reg (number dst)) (operand_value (facts note.now) src)) }
+{
+    let mut there = note.copy(alloc)?;
+    if wide {
+        refine(&mut there, cond, dst, src)?;
+    }
+    Ok(there)
+}
+
+/// What is known where a jump isn't taken.
+fn passed(
+    alloc: Global,
+    note: &Note,
+    cond: Condition,
+    wide: bool,
+    dst: Register,
+    src: Operand,
+) -> Result<Note, AllocError>
+    ensures { IfOk result (λ n. facts n ≡ passed cond wide (facts note.now) (number dst) src ((facts note.now).reg (number dst)) (operand_value (facts note.now) src)) }
+{
+    let mut next = note.copy(alloc)?;
+    if wide {
+        if let Some(cond) = opposite(cond) {
+            refine(&mut next, cond, dst, src)?;
+        }
+    }
+    Ok(next)
+}
+
+impl Point<'_> {
+    pub fn ja(&self, to: i32) -> Result<Successors, Cause>
+        requires small { self.now.pc < 4096 }
+        requires there { IsSome (target self.now.pc to) }
+        ensures { Gives result (after_of (Insn.Ja true to) self.now.pc (facts self.now.note.now) self.now.shapes.now) }
+    {
+        let Some(pc) = jump_target(self.pc, to) else {
+            return Err(Cause::Target);
+        };
+        let note = self.note.copy(self.alloc)?;
+        Ok(Successors::One(Successor { pc, note }))
+    }
+
+    pub fn jump(
+        &self,
+        cond: Condition,
+        wide: bool,
+        dst: Register,
+        src: Operand,
+        off: i16,
+    ) -> Result<Successors, Cause>
+        requires small { self.now.pc < 4096 }
+        requires there { IsSome (target self.now.pc off) }
+        ensures { Gives result (after_of (Insn.Jump cond wide dst src off) self.now.pc (facts self.now.note.now) self.now.shapes.now) }
+    {
+        if is_unset(self.note.register(dst.number())) || is_unset(operand_value(self.note, src)) {
+            return Err(Cause::Unset);
+        }
+        let Some(to) = jump_target(self.pc, i32::from(off)) else {
+            return Err(Cause::Target);
+        };
+        let next = passed(self.alloc, self.note, cond, wide, dst, src)?;
+        let there = taken(self.alloc, self.note, cond, wide, dst, src)?;
+        Ok(Successors::Two(
+            Successor {
+                pc: self.pc + 1,
+                note: next,
+            },
+            Successor {
+                pc: to,
+                note: there,
+            },
+        ))
+    }
+
+    pub fn exit(&self) -> Result<Successors, Cause>
+        ensures { Gives result (after_of Insn.Exit self.now.pc (facts self.now.note.now) self.now.shapes.now) }
+    {
+        if is_unset(self.note.register(0)) {
+            Err(Cause::Unset)
+        } else {
+            Ok(Successors::None)
+        }
+    }
+}

@@ -1,8 +1,0 @@
-use Rattle.std.proofs.Common.{◌≡◌, ◌<◌, ℕ, length}
-use Rattle.std.specs.Prelude.{slice_index_or}
-use Rattle.bpf_note.specs.declared.val.Val.TheVariants.{Unset}
-use Rattle.bpf_note.specs.Facts.{forgotten}
-use Rattle.bpf_note.proofs.slots.forget_in_registers.Given as goal
-
-abbrev pub invariant-loop-i : goal.invariant-loop-i
-invariant-loop-i l = (length l.changed ≡ 11) × ((k : ℕ) → k < l.i → slice_index_or l.changed k Unset ≡ forgotten l.id (slice_index_or l.registers k Unset))

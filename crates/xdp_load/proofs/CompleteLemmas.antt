@@ -1,0 +1,201 @@
+-- Each sound setup is that of a document: the one that spells its fields.
+use Rattle.std.proofs.Common.{append-nil, ◌≡◌, ◌<◌, ◌≤◌, ◌/◌, ℕ, pos, List, [], ◌∷◌, length, map, codes, Option, Some, Ok, refl, ap, arith, suc}
+use Rattle.std.proofs.lemmas.Bool.{le-leb, lt-ltb}
+use Rattle.std.specs.List.{AllByRecursion}
+use Rattle.bpf_note.specs.Shape.{IsShape, Shape}
+use Rattle.hex.specs.Hex.{IsBytes, encode_lower}
+use Rattle.hex.proofs.HexLemmas.{decode_of-encode_lower, decode_of-ok}
+use Rattle.toml.specs.Data.{Data, string, integer, array, table, Members, no_members, member}
+use Rattle.toml.specs.View.{items_of}
+use Rattle.xdp_load.specs.Complete.{HasFields, IsWritten}
+use Rattle.xdp_load.specs.Document.{Text, MapText, PacketText, StepText, map_row, packet_row, step_row, rows}
+use Rattle.xdp_load.specs.Limits.{HexPacket, LimitedText, below, each, limited, limited_shape, limited_step, limited_packet, limited_of, limited_lists, limited_numbers}
+use Rattle.xdp_load.specs.Setup.{Packet, SetupView, packet_of, names_of, decoded_of, relocated_setup, setup_of_limited, setup_of_table}
+use Rattle.xdp_load.specs.Sound.{IsPacket, IsSound}
+use Rattle.xdp_load.specs.Written.{WrittenText, written_of, rows_of_table, program_of, rows_of}
+use Rattle.xdp_load.proofs.RowLemmas.{items_list-items_of}
+
+-- ---- rows
+
+rows_all : {A B : Type 0} (f : Data → Option B) (g : A → Data) (h : A → B) → ((x : A) → f (g x) ≡ Some (h x)) → (xs : List A) → rows f (map g xs) ≡ Some (map h xs)
+rows_all f g h e [] = refl
+rows_all f g h e (x ∷ xs) = rw (e x, rows_all f g h e xs) refl
+
+each_all_of : {A B : Type 0} (f : A → Option B) (g : B → A) (P : B → Type 0) → ((y : B) → P y → f (g y) ≡ Some y) → (ys : List B) → AllByRecursion P ys → each f (map g ys) ≡ Some ys
+each_all_of f g P e [] a = refl
+each_all_of f g P e (y ∷ ys) a = rw (e y a.0, each_all_of f g P e ys a.1) refl
+
+-- ---- what is written
+
+abbrev Named : Type 0
+Named = Text × Shape
+
+abbrev map_text : Named → MapText
+map_text p = record { name = p.0; entries = pos p.1.entries; counters = pos p.1.counters }
+
+abbrev map_data : Named → Data
+map_data p = table (member (codes "name") (string p.0) (member (codes "entries") (integer (pos p.1.entries)) (member (codes "counters") (integer (pos p.1.counters)) no_members)))
+
+map_read : (p : Named) → map_row (map_data p) ≡ Some (map_text p)
+map_read p = refl
+
+abbrev step_text : ℕ × ℕ → StepText
+step_text s = record { queue = pos s.0; answer = pos s.1 }
+
+abbrev step_data : ℕ × ℕ → Data
+step_data s = array (items_of (integer (pos s.0) ∷ integer (pos s.1) ∷ []))
+
+step_read : (s : ℕ × ℕ) → step_row (step_data s) ≡ Some (step_text s)
+step_read s = refl
+
+abbrev packet_text : Packet → PacketText
+packet_text p = record { queue = pos p.queue; bytes = encode_lower p.bytes; times = pos p.times }
+
+abbrev packet_data : Packet → Data
+packet_data p = table (member (codes "queue") (integer (pos p.queue)) (member (codes "bytes") (string (encode_lower p.bytes)) (member (codes "times") (integer (pos p.times)) no_members)))
+
+packet_read : (p : Packet) → packet_row (packet_data p) ≡ Some (packet_text p)
+packet_read p = refl
+
+abbrev named : List Text → List Shape → List Named
+named (n ∷ ns) (s ∷ ss) = (n, s) ∷ named ns ss
+named ns ss = []
+
+abbrev document : SetupView → Members
+document s =
+    member (codes "program") (array (items_of (string (encode_lower s.program) ∷ [])))
+    (member (codes "queues") (integer (pos s.queues))
+    (member (codes "ifindex") (integer (pos s.ifindex))
+    (member (codes "start") (integer (pos s.start))
+    (member (codes "map") (array (items_of (map map_data (named s.names s.shapes))))
+    (member (codes "script") (array (items_of (map step_data s.script)))
+    (member (codes "packet") (array (items_of (map packet_data s.packets))) no_members))))))
+
+abbrev written : SetupView → WrittenText
+written s = record {
+  program = encode_lower s.program ∷ [];
+  numbers = record { queues = pos s.queues; ifindex = pos s.ifindex; start = pos s.start };
+  maps = map map_text (named s.names s.shapes);
+  relocs = [];
+  script = map step_text s.script;
+  packets = map packet_text s.packets;
+}
+
+document_written : (s : SetupView) → written_of (document s) ≡ Ok (written s)
+unfolding written_of rows_of_table program_of rows_of
+document_written s =
+    rw (
+      items_list-items_of (map map_data (named s.names s.shapes)),
+      items_list-items_of (map step_data s.script),
+      items_list-items_of (map packet_data s.packets),
+      rows_all map_row map_data map_text map_read (named s.names s.shapes),
+      rows_all step_row step_data step_text step_read s.script,
+      rows_all packet_row packet_data packet_text packet_read s.packets,
+    ) refl
+
+-- ---- the limits
+
+limited_all : (least most n : ℕ) → least ≤ n → n ≤ most → limited least most (pos n) ≡ Some n
+limited_all least most n a b = rw (le-leb least n a, le-leb n most b) refl
+
+below_all : (k n : ℕ) → n < k → k ≤ 8 → below k (pos n) ≡ Some n
+below_all k n a b = rw (limited_all 0 4294967295 n (omega arith) (omega (arith, a, b)), lt-ltb n k a) refl
+
+shape_limited : (n : Text) (s : Shape) → IsShape s → limited_shape (map_text (n, s)) ≡ Some s
+shape_limited n s h = rw (limited_all 1 1024 s.entries h.some_entries h.most_entries, limited_all 1 8 s.counters h.some_counters h.most_counters) refl
+
+shapes_limited : (ns : List Text) (ss : List Shape) → length ns ≡ length ss → AllByRecursion IsShape ss → each limited_shape (map map_text (named ns ss)) ≡ Some ss
+shapes_limited [] [] e a = refl
+shapes_limited [] (s ∷ ss) e a = absurd (omega (arith, e))
+shapes_limited (n ∷ ns) [] e a = absurd (omega (arith, e))
+shapes_limited (n ∷ ns) (s ∷ ss) e a = rw (shape_limited n s a.0, shapes_limited ns ss (omega (arith, e)) a.1) refl
+
+names_back : (ns : List Text) (ss : List Shape) → length ns ≡ length ss → names_of (map map_text (named ns ss)) ≡ ns
+unfolding names_of
+names_back [] [] e = refl
+names_back [] (s ∷ ss) e = absurd (omega (arith, e))
+names_back (n ∷ ns) [] e = absurd (omega (arith, e))
+names_back (n ∷ ns) (s ∷ ss) e = ap (λ (xs : List Text). n ∷ xs) (names_back ns ss (omega (arith, e)))
+
+maps_counted : (ns : List Text) (ss : List Shape) → length ns ≡ length ss → length (map map_text (named ns ss)) ≡ length ss
+maps_counted [] [] e = refl
+maps_counted [] (s ∷ ss) e = absurd (omega (arith, e))
+maps_counted (n ∷ ns) [] e = absurd (omega (arith, e))
+maps_counted (n ∷ ns) (s ∷ ss) e = ap suc (maps_counted ns ss (omega (arith, e)))
+
+step_limited : (q : ℕ) (p : ℕ × ℕ) → q ≤ 8 → p.0 < q → p.1 < 4294967296 → limited_step q (step_text p) ≡ Some p
+step_limited q p few a b = rw (below_all q p.0 a few, limited_all 0 4294967295 p.1 (omega arith) (omega (arith, b))) refl
+
+steps_limited : (q : ℕ) (ps : List (ℕ × ℕ)) → q ≤ 8 → AllByRecursion (λ p. p.0 < q) ps → AllByRecursion (λ p. p.1 < 4294967296) ps → each (limited_step q) (map step_text ps) ≡ Some ps
+steps_limited q [] few a b = refl
+steps_limited q (p ∷ ps) few a b = rw (step_limited q p few a.0 b.0, steps_limited q ps few a.1 b.1) refl
+
+abbrev hex_packet : Packet → HexPacket
+hex_packet p = record { queue = p.queue; bytes = encode_lower p.bytes; times = p.times }
+
+-- two digits a byte
+digits_counted : (xs : List ℕ) → IsBytes xs → length (encode_lower xs) / 2 ≡ length xs
+digits_counted xs h =
+    let twice = (decode_of-ok (encode_lower xs) xs (decode_of-encode_lower xs h)).2 in
+    omega (arith, twice)
+
+packet_limited : (q : ℕ) (p : Packet) → q ≤ 8 → IsPacket q p → IsBytes p.bytes → limited_packet q (packet_text p) ≡ Some (hex_packet p)
+packet_limited q p few h b =
+    rw (below_all q p.queue h.queue few, limited_all 1 100000 p.times h.some_times h.few_times, digits_counted p.bytes b, le-leb 14 (length p.bytes) h.long, le-leb (length p.bytes) 65535 h.short) refl
+
+packets_limited : (q : ℕ) (ps : List Packet) → q ≤ 8 → AllByRecursion (IsPacket q) ps → AllByRecursion (λ p. IsBytes p.bytes) ps → each (limited_packet q) (map packet_text ps) ≡ Some (map hex_packet ps)
+packets_limited q [] few a b = refl
+packets_limited q (p ∷ ps) few a b = rw (packet_limited q p few a.0 b.0, packets_limited q ps few a.1 b.1) refl
+
+packet_decoded : (p : Packet) → IsBytes p.bytes → packet_of (hex_packet p) ≡ Some p
+packet_decoded p b = rw (decode_of-encode_lower p.bytes b) refl
+
+packets_decoded : (ps : List Packet) → AllByRecursion (λ p. IsBytes p.bytes) ps → each packet_of (map hex_packet ps) ≡ Some ps
+packets_decoded [] b = refl
+packets_decoded (p ∷ ps) b = rw (packet_decoded p b.0, packets_decoded ps b.1) refl
+
+-- ---- the whole
+
+abbrev limits_of : SetupView → LimitedText
+limits_of s = record {
+  numbers = record { queues = s.queues; ifindex = s.ifindex; start = s.start };
+  shapes = s.shapes;
+  script = s.script;
+  packets = map hex_packet s.packets;
+}
+
+numbers_limited : (s : SetupView) → IsSound s → HasFields s → limited_numbers (written s).numbers ≡ Some (limits_of s).numbers
+numbers_limited s h f =
+    let i = f.ifindex in
+    let b = f.start in
+    rw (limited_all 1 8 s.queues h.some_queues h.few_queues, limited_all 0 4294967295 s.ifindex (omega arith) (omega (arith, i)), limited_all 0 4294967295 s.start (omega arith) (omega (arith, b))) refl
+
+lists_limited : (s : SetupView) → IsSound s → HasFields s → limited_lists (written s) (limits_of s).numbers ≡ Ok (limits_of s)
+unfolding limited_lists
+lists_limited s h f =
+    rw (shapes_limited s.names s.shapes h.named h.shapes, steps_limited s.queues s.script h.few_queues h.script f.answers, packets_limited s.queues s.packets h.few_queues h.packets f.packets) refl
+
+written_limited : (s : SetupView) → IsSound s → HasFields s → limited_of (written s) ≡ Ok (limits_of s)
+unfolding limited_of
+written_limited s h f =
+    let few : length (map map_text (named s.names s.shapes)) ≤ 4 = rw (maps_counted s.names s.shapes h.named) h.few_maps in
+    rw (le-leb (length (map map_text (named s.names s.shapes))) 4 few, numbers_limited s h f) (lists_limited s h f)
+
+written_decoded : (s : SetupView) → HasFields s → decoded_of (written s) (limits_of s) ≡ Ok (s.program, s.packets)
+unfolding decoded_of
+written_decoded s f = rw (decode_of-encode_lower s.program f.program, append-nil s.program, packets_decoded s.packets f.packets) refl
+
+written_relocated : (s : SetupView) → IsSound s → relocated_setup (written s) (limits_of s) (s.program, s.packets) ≡ Ok s
+unfolding relocated_setup
+written_relocated s h = rw (names_back s.names s.shapes h.named) refl
+
+limited_setup : (s : SetupView) → IsSound s → HasFields s → setup_of_limited (written s) (limits_of s) ≡ Ok s
+unfolding setup_of_limited
+limited_setup s h f = rw (names_back s.names s.shapes h.named, h.names, written_decoded s f) (written_relocated s h)
+
+whole_setup : (s : SetupView) → IsSound s → HasFields s → setup_of_table (document s) ≡ Ok s
+unfolding setup_of_table
+whole_setup s h f = rw (document_written s, written_limited s h f) (limited_setup s h f)
+
+pub is_written : (s : SetupView) → IsSound s → HasFields s → IsWritten s
+is_written s h f = (document s, whole_setup s h f)

@@ -1,0 +1,84 @@
+-- A world that begins.
+use Rattle.std.proofs.Common.{◌≡◌, ℕ, zero, suc, ◌+◌, ◌<◌, List, [], ◌∷◌, ◌++◌, length, get_or, refl, sym, ◌∙◌, ap, arith}
+use Rattle.std.specs.Global.{Vec}
+use Rattle.bpf_maps.specs.Seats.{total_at}
+use Rattle.bpf_verify.specs.Consistent.{Accepted}
+use Rattle.xen_back.specs.Queues.{rest, state_of, wiring_of}
+use Rattle.xen_steps.specs.Steps.{Steps, want_of}
+use Rattle.xen_back.specs.Tree.{whole_turn}
+use Rattle.xen_back.specs.Turned.{Ending}
+use Rattle.xen_back.specs.declared.queue.Queue.{Queue}
+use Rattle.xen_back.specs.declared.wiring.Wiring.{Wiring}
+use Rattle.xdp_world.specs.Begin.{Begins, IsFresh}
+use Rattle.xdp_world.specs.Core.{begun, started_at}
+use Rattle.xdp_world.specs.Stands.{SoFar, kept_in}
+use Rattle.xdp_world.specs.declared.kept.Kept.{Kept}
+use Rattle.xdp_world.specs.declared.world.World.{World}
+use Rattle.xdp_world.proofs.Worlds.{has_rest, open_by}
+
+-- the i-th of a list, which is there
+pub queue_at : {A : Type 0} (l : List A) (i : ℕ) → i < length l → A
+queue_at [] i h = absurd (omega (arith, h))
+queue_at (x ∷ xs) zero h = x
+queue_at (x ∷ xs) (suc i) h = queue_at xs i (omega (arith, h))
+
+any_or : {A : Type 0} (l : List A) (i : ℕ) (d e : A) → i < length l → get_or l i d ≡ get_or l i e
+any_or [] i d e h = absurd (omega (arith, h))
+any_or (x ∷ xs) zero d e h = refl
+any_or (x ∷ xs) (suc i) d e h = any_or xs i d e (omega (arith, h))
+
+-- one more element
+pub get_last : {A : Type 0} (l : List A) (x d : A) → get_or (l ++ x ∷ []) (length l) d ≡ x
+get_last [] x d = refl
+get_last (y ∷ ys) x d = get_last ys x d
+
+pub get_before : {A : Type 0} (l : List A) (x d : A) (i : ℕ) → i < length l → get_or (l ++ x ∷ []) i d ≡ get_or l i d
+get_before [] x d i h = absurd (omega (arith, h))
+get_before (y ∷ ys) x d zero h = refl
+get_before (y ∷ ys) x d (suc i) h = get_before ys x d i (omega (arith, h))
+
+pub none_kept : (ts : List (Vec Kept)) (v : Vec Kept) → v.items ≡ [] → ((i : ℕ) → kept_in ts i ≡ []) → (i : ℕ) → kept_in (ts ++ v ∷ []) i ≡ []
+none_kept [] v e h zero = e
+none_kept [] v e h (suc i) = refl
+none_kept (t ∷ ts) v e h zero = h 0
+none_kept (t ∷ ts) v e h (suc i) = none_kept ts v e (λ j. h (suc j)) i
+
+fresh_so_far : (accepted : Accepted) (queues index start i : ℕ) (w : Wiring) (q : Queue) (kept : List Kept) → IsFresh accepted queues index start i q → wiring_of q ≡ w → kept ≡ [] → SoFar w start [] kept q
+fresh_so_far accepted queues index start i w q kept f wired none =
+    let ready : rest q ≡ whole_turn w (state_of q) = f.ready ∙ ap (λ (x : Wiring). whole_turn x (state_of q)) wired in
+    record {
+      wired = wired;
+      front = [];
+      joined = rw (none, f.state) (begun (started_at start) []);
+      unfinished = record {
+        gone = sym ready;
+        isnt_over = λ x o. open_by w (state_of q) (state_of q).halt x (ap (λ (t : Steps Ending). want_of t) (sym ready) ∙ o);
+        stopped = λ cause is. refl;
+        completed = has_rest q;
+      };
+    }
+
+pub begins : (accepted : Accepted) (queues index start : ℕ) (w : World) → 0 < length w.queues.items → length w.queues.items ≡ queues →
+    ((i : ℕ) (d : Queue) → i < queues → IsFresh accepted queues index start i (get_or w.queues.items i d)) → ((i : ℕ) → kept_in w.turns.items i ≡ []) → w.history.items ≡ [] →
+    ((m k j : ℕ) → total_at w.counters m k j ≡ 0) → Begins accepted queues index start w
+begins accepted queues index start w some count fresh none past zeros =
+    let qs = w.queues.items in
+    let q0 : Queue = queue_at qs 0 some in
+    record {
+      wirings = λ i. wiring_of (get_or qs i q0);
+      wired = λ i l. (fresh i q0 l).wired;
+      stands = record {
+        each = λ i d l. fresh_so_far accepted queues index start i (wiring_of (get_or qs i q0)) (get_or qs i d) (kept_in w.turns.items i) (fresh i d (omega (arith, l, count))) (ap (λ (q : Queue). wiring_of q) (any_or qs i d q0 l)) (none i);
+        events = λ i e at n. absurd (cc);
+        serve = tt;
+        past = past;
+        legal = λ i e at. absurd (cc);
+        leaves = λ m k j is. zeros m k j;
+      };
+    }
+
+pub all_more : {A : Type 0} (P : ℕ → A → Type 0) (l : List A) (x : A) → ((i : ℕ) (d : A) → i < length l → P i (get_or l i d)) → P (length l) x → (i : ℕ) (d : A) → i < length l + 1 → P i (get_or (l ++ x ∷ []) i d)
+all_more P [] x h p zero d l = p
+all_more P [] x h p (suc i) d l = absurd (omega (arith, l))
+all_more P (y ∷ ys) x h p zero d l = h 0 d (omega arith)
+all_more P (y ∷ ys) x h p (suc i) d l = all_more (λ j. P (suc j)) ys x (λ j e m. h (suc j) e (omega (arith, m))) p i d (omega (arith, l))

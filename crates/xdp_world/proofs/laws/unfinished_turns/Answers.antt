@@ -1,0 +1,26 @@
+use Rattle.std.proofs.Common.{List, [], ◌∷◌, ◌++◌, sym, subst}
+use Rattle.xen_steps.specs.Drive.{Gone}
+use Rattle.xen_steps.specs.Event.{Event}
+use Rattle.xen_steps.specs.Steps.{Steps, Runs}
+use Rattle.xen_back.specs.Tree.{whole_turn}
+use Rattle.xen_steps.proofs.DriveLemmas.{runs_alone, runs_more}
+use Rattle.xen_back.proofs.TurnParts.{turn_parts}
+use Rattle.xen_back.proofs.TurnRuns.{runs_turn}
+use Rattle.xdp_world.proofs.laws.unfinished_turns.Goals as goal
+
+runs_behind : {A : Type 0} (s m : Steps A) (t u : List Event) (r : A) → Gone s t m → Runs m u r → Runs s (t ++ u) r
+runs_behind s m [] u r g h = subst (λ x. Runs x u r) (sym g) h
+runs_behind s m (e ∷ t) u r g h = runs_more s g.0 e g.1 (t ++ u) r (runs_behind g.0 m t u r g.2 h)
+
+runs_left : {A : Type 0} (s m : Steps A) (t u : List Event) (r : A) → Gone s t m → Runs s (t ++ u) r → Runs m u r
+runs_left s m [] u r g h = subst (λ x. Runs x u r) g h
+runs_left s m (e ∷ t) u r g h = runs_left g.0 m t u r g.2 (runs_alone s g.0 e g.1 (t ++ u) r h)
+
+pub returns : goal.returns
+returns c = record {
+  begins = λ w s front left i.
+      let (t, end, r) = i.completed in
+      (t, end.0, end.1, turn_parts w s (front ++ t) end.0 end.1 (runs_behind (whole_turn w s) left front t end i.gone r));
+  completed = λ w s front left i t new u h. turn_parts w s (front ++ t) new u (runs_behind (whole_turn w s) left front t (new, u) i.gone h);
+  else_not = λ w s front left i t new u h. runs_left (whole_turn w s) left front t (new, u) i.gone (runs_turn w s (front ++ t) new u h);
+}

@@ -1,0 +1,9 @@
+use Rattle.std.proofs.Common.{◌≡◌, ◌≤◌, vec_len, vec_capacity}
+use Rattle.xdp_world.proofs.tests.programs.run_steps.Given as goal
+
+abbrev pub invariant-loop-queue : goal.invariant-loop-queue
+invariant-loop-queue l =
+    record {
+      count : vec_len l.buffers ≡ l._queue;
+      room : l.queues ≤ vec_capacity l.buffers;
+    }

@@ -1,0 +1,46 @@
+-- What a run reports.
+use Rattle.std.specs.Prelude.{ℕ, ◌≡◌, ◌<◌, List, length}
+use Rattle.bpf_maps.specs.Seats.{total_at}
+use Rattle.bpf_note.specs.History.{IsLegal, left_in, share}
+use Rattle.bpf_note.specs.Shape.{IsCounter}
+use Rattle.bpf_verify.specs.Consistent.{Accepted}
+use Rattle.xen_back.specs.Drive.{labels}
+use Rattle.xen_steps.specs.Event.{Event}
+use Rattle.xen_steps.specs.Steps.{Steps}
+use Rattle.xen_back.specs.Turned.{Ending}
+use Rattle.xen_back.specs.declared.state.State.{State}
+use Rattle.xen_back.specs.declared.wiring.Wiring.{Wiring}
+use Rattle.xdp_world.specs.Begin.{IsFor}
+use Rattle.xdp_world.specs.Core.{HaveEvents, IsUnfinished, Turns, started_at}
+use Rattle.xdp_world.specs.Entries.{AllServe, Entry, events_of, history, steps_of}
+use Rattle.xdp_world.specs.Stands.{kept_in}
+use Rattle.xdp_world.specs.declared.kept.Kept.{Kept}
+use Rattle.xdp_world.specs.declared.report.Report.{Report}
+
+-- A queue's events join into these turns and a beginning of one more.
+pub record IsShare (w : Wiring) (start : ℕ) (events : List Event) (kept : List Kept) : Type 0 where
+  pub end : State
+  pub front : List Event
+  pub left : Steps Ending
+  pub joined : Turns w (started_at start) events kept end front
+  pub unfinished : IsUnfinished w end front left
+
+-- The report is of these entries.
+pub record Reports (wirings : ℕ → Wiring) (start : ℕ) (es : List Entry) (r : Report) : Type 0 where
+  pub each : (i : ℕ) → i < length r.turns.items → IsShare (wirings i) start (events_of i es) (kept_in r.turns.items i)
+  pub events : HaveEvents wirings start es
+  pub serve : AllServe es
+  pub past : r.history.items ≡ history es
+  pub shares : (i : ℕ) → share i (history es) ≡ labels (events_of i es)
+  pub legal : IsLegal (history es)
+  pub leaves : (m k j : ℕ) → IsCounter r.totals.shapes m k j → total_at r.totals m k j ≡ left_in m k j (history es)
+
+-- The report of a run of a program's queues through these steps: there is a list of entries as asked.
+pub record IsCoreRun (program : Accepted) (queues ifindex start : ℕ) (steps : List (ℕ × ℕ)) (r : Report) : Type 0 where
+  pub wirings : ℕ → Wiring
+  pub wired : (i : ℕ) → i < queues → IsFor program queues ifindex i (wirings i)
+  pub entries : List Entry
+  pub steps_are : steps_of entries ≡ steps
+  pub count : length r.turns.items ≡ queues
+  pub shapes : r.totals.shapes ≡ program.shapes
+  pub reports : Reports wirings start entries r

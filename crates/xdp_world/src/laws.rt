@@ -1,0 +1,17 @@
+//! Laws of unfinished turns. Each is a function that does nothing, and whose contract is the law.
+ghost use Rattle.std.specs.Prelude.{◌++◌, List};
+ghost use Rattle.xen_steps.specs.Event.{Event};
+ghost use Rattle.xen_steps.specs.Steps.{Steps, Runs};
+ghost use Rattle.xen_back.specs.Turned.{Ending, Turned};
+ghost use Rattle.xen_back.specs.Turns.{IsTurn};
+ghost use Rattle.xen_back.specs.declared.state.State.{State};
+ghost use Rattle.xen_back.specs.declared.wiring.Wiring.{Wiring};
+ghost use Rattle.xdp_world.specs.Core.{IsUnfinished};
+
+/// An unfinished turn is the beginning of a turn. What a queue has left completes it, by each of its ways to the end and by
+/// nothing else.
+pub fn unfinished_turns()
+    ensures begins { (w : Wiring) (s : State) (front : List Event) (left : Steps Ending) → IsUnfinished w s front left → (t : List Event) × (new : State) × (u : Turned) × IsTurn w s (front ++ t) new u }
+    ensures completed { (w : Wiring) (s : State) (front : List Event) (left : Steps Ending) → IsUnfinished w s front left → (t : List Event) (new : State) (u : Turned) → Runs left t (new, u) → IsTurn w s (front ++ t) new u }
+    ensures else_not { (w : Wiring) (s : State) (front : List Event) (left : Steps Ending) → IsUnfinished w s front left → (t : List Event) (new : State) (u : Turned) → IsTurn w s (front ++ t) new u → Runs left t (new, u) }
+{}

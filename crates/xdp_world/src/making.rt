@@ -1,0 +1,155 @@
+//! Making a world, and running it.
+ghost use Rattle.std.specs.Prelude.{◌≡◌, ◌<◌, ◌≤◌, ℕ, List, All, IfOk, length, vec_len};
+ghost use Rattle.xen_back.specs.declared.wiring.Wiring.{Wiring};
+ghost use Rattle.xdp_world.specs.Begin.{Begins, IsFresh};
+ghost use Rattle.xdp_world.specs.Entries.{Entry};
+ghost use Rattle.xdp_world.specs.Report.{IsCoreRun, Reports};
+ghost use Rattle.xdp_world.specs.Stands.{Stands};
+
+use crate::kept::Kept;
+use crate::layout::{BACK, FRONT, Layout};
+use crate::report::Report;
+use crate::ring::ring;
+use crate::world::World;
+use bpf_maps::Totals;
+use bpf_verify::Verified;
+use bpf_vm::Buffer;
+use std::alloc::{AllocError, Global};
+use xen_back::{Queue, QueueDesc};
+use xen_ring::Port;
+
+/// How many references a queue has.
+const REFERENCES: u32 = 514;
+
+/// A queue before its first turn.
+fn queue<'p, 'b>(
+    alloc: Global,
+    layout: &'p Layout,
+    program: &'p Verified,
+    buffer: &'b mut Buffer,
+    number: u32,
+    ifindex: u32,
+    start: u32,
+) -> Result<Queue<'p, 'b>, AllocError>
+    requires { number < layout.now.queues }
+    ensures { IfOk result (λ q. IsFresh program.now layout.now.queues ifindex start number q) }
+{
+    let tx = ring(alloc, layout, REFERENCES * number)?;
+    let rx = ring(alloc, layout, REFERENCES * number + 1)?;
+    let Some(port) = Port::of(2 * number + 1) else {
+        unreachable!()
+    };
+    let desc = QueueDesc {
+        tx,
+        rx,
+        table: &layout.table,
+        owners: &layout.owners,
+        granter: FRONT,
+        user: BACK,
+        ifindex,
+        queue: number,
+        port,
+        start,
+    };
+    Ok(Queue::make(program, desc, buffer))
+}
+
+impl<'p, 'b> World<'p, 'b> {
+    /// So many queues of a program, before their first turns, with all counters 0. Their packets lie in the buffers.
+    pub fn make(
+        alloc: Global,
+        layout: &'p Layout,
+        program: &'p Verified,
+        buffers: &'b mut [Buffer],
+        queues: usize,
+        ifindex: u32,
+        start: u32,
+    ) -> Result<World<'p, 'b>, AllocError>
+        requires queues { (1 ≤ queues) × (queues ≤ 8) }
+        requires layout { layout.now.queues ≡ queues }
+        requires buffers { queues ≤ length buffers.now }
+        ensures size { IfOk result (λ w. vec_len w.queues ≡ queues) }
+        ensures shapes { IfOk result (λ w. w.counters.shapes ≡ program.now.shapes) }
+        ensures begins { IfOk result (Begins program.now queues ifindex start) }
+    {
+        let counters = Totals::make(alloc, program.shapes())?;
+        let mut all = Vec::with_capacity(alloc, queues)?;
+        let mut turns: Vec<Vec<Kept>> = Vec::with_capacity(alloc, queues)?;
+        let mut rest = buffers;
+        for number in 0..queues {
+            let (head, tail) = rest.split_at_mut(1);
+            let made = queue(
+                alloc,
+                layout,
+                program,
+                &mut head[0],
+                number as u32,
+                ifindex,
+                start,
+            )?;
+            all.push_reserved(made);
+            turns.push_reserved(Vec::new(alloc));
+            rest = tail;
+        }
+        Ok(World {
+            queues: all,
+            turns,
+            history: Vec::new(alloc),
+            counters,
+            spare: Vec::new(alloc),
+        })
+    }
+
+    /// What was done so far. It takes no memory.
+    pub fn report(self) -> Report
+        ensures count { vec_len result.turns ≡ vec_len self.entry.queues }
+        ensures shapes { result.totals.shapes ≡ self.entry.counters.shapes }
+        ensures reports { (wirings : ℕ → Wiring) (start : ℕ) (es : List Entry) → Stands self.entry wirings start es → Reports wirings start es result }
+    {
+        let World {
+            queues: _,
+            turns,
+            history,
+            counters,
+            spare: _,
+        } = self;
+        Report {
+            turns,
+            history,
+            totals: counters,
+        }
+    }
+}
+
+impl World<'_, '_> {
+    /// Makes a world, steps it, and reports.
+    pub fn run(
+        alloc: Global,
+        program: &Verified,
+        queues: usize,
+        ifindex: u32,
+        start: u32,
+        steps: &[(usize, u32)],
+    ) -> Result<Report, AllocError>
+        requires queues { (1 ≤ queues) × (queues ≤ 8) }
+        requires steps { All (λ s. s.0 < queues) steps.now }
+        ensures { IfOk result (IsCoreRun program.now queues ifindex start steps.now) }
+    {
+        let layout = Layout::make(alloc, queues)?;
+        let mut buffers = Vec::with_capacity(alloc, queues)?;
+        for _queue in 0..queues {
+            buffers.push_reserved(Buffer::make(alloc)?);
+        }
+        let mut world = World::make(
+            alloc,
+            &layout,
+            program,
+            buffers.as_mut_slice(),
+            queues,
+            ifindex,
+            start,
+        )?;
+        world.steps(steps)?;
+        Ok(world.report())
+    }
+}

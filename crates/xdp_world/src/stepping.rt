@@ -1,0 +1,78 @@
+//! Steps of a world.
+ghost use Rattle.std.specs.Prelude.{◌≡◌, ◌<◌, ◌≤◌, ◌+◌, ◌++◌, ◌∷◌, [], ℕ, List, Option, All, OnOk, OnErr, vec_len, vec_capacity, length, slice_get, slice_index_or};
+ghost use Rattle.xen_steps.specs.Event.{Event};
+ghost use Rattle.xen_back.specs.declared.wiring.Wiring.{Wiring};
+ghost use Rattle.xdp_world.specs.Entries.{Entry, tagged};
+ghost use Rattle.xdp_world.specs.Happens.{kept_list, op_list};
+ghost use Rattle.xdp_world.specs.Stands.{GoesOn, HasRoom, IsSame, Stands, kept_in};
+
+use crate::kept::{Kept, ROOM};
+use crate::serving::{Served, serve};
+use crate::world::World;
+use bpf_maps::Op;
+use std::alloc::AllocError;
+
+/// Keeps what a step gave. There is room.
+fn note(kept: &mut Vec<Kept>, history: &mut Vec<(usize, Op)>, queue: usize, served: Served)
+    requires kept { vec_len kept.old < vec_capacity kept.old }
+    requires history { vec_len history.old < vec_capacity history.old }
+    ensures kept { kept.new.items ≡ kept.old.items ++ kept_list served.kept }
+    ensures history { history.new.items ≡ history.old.items ++ tagged queue (op_list served.op) }
+{
+    let Served { op, kept: turn } = served;
+    if let Some(turn) = turn {
+        kept.push_reserved(turn);
+    }
+    if let Some(op) = op {
+        history.push_reserved((queue, op));
+    }
+}
+
+impl<'p, 'b> World<'p, 'b> {
+    /// Takes the room that a step of this queue may want.
+    fn make_room(&mut self, queue: usize) -> Result<(), AllocError>
+        requires { queue < vec_len self.old.queues }
+        ensures same { IsSame self.old self.new }
+        ensures room { OnOk result ((vec_len self.new.history < vec_capacity self.new.history) × (65535 ≤ vec_capacity self.new.spare)) }
+        ensures kept { OnOk result (HasRoom (slice_get self.new.turns.items queue)) }
+    {
+        self.turns[queue].reserve(1)?;
+        self.history.reserve(1)?;
+        self.spare.reserve(ROOM)?;
+        Ok(())
+    }
+
+    /// One event of a queue, or nothing where it has halted. The answer serves a read, and is ignored else. A turn that is over by it is
+    /// kept, and the next begins.
+    pub fn step(&mut self, queue: usize, answer: u32) -> Result<(), AllocError>
+        requires { queue < vec_len self.old.queues }
+        ensures size { vec_len self.new.queues ≡ vec_len self.old.queues }
+        ensures shapes { self.new.counters.shapes ≡ self.old.counters.shapes }
+        ensures ok { OnOk result ((wirings : ℕ → Wiring) (start : ℕ) (es : List Entry) → Stands self.old wirings start es →
+            (e : Option Event) × Stands self.new wirings start (es ++ record { queue = queue; answer = answer; event = e } ∷ [])) }
+        ensures err { OnErr result (IsSame self.old self.new) }
+    {
+        self.make_room(queue)?;
+        let served = serve(
+            &mut self.queues[queue],
+            &mut self.counters,
+            answer,
+            &mut self.spare,
+        );
+        note(&mut self.turns[queue], &mut self.history, queue, served);
+        Ok(())
+    }
+
+    /// Steps in order.
+    pub(crate) fn steps(&mut self, steps: &[(usize, u32)]) -> Result<(), AllocError>
+        requires { All (λ s. s.0 < vec_len self.old.queues) steps.now }
+        ensures size { vec_len self.new.queues ≡ vec_len self.old.queues }
+        ensures shapes { self.new.counters.shapes ≡ self.old.counters.shapes }
+        ensures goes { OnOk result (GoesOn self.old self.new steps.now) }
+    {
+        for (queue, answer) in steps {
+            self.step(*queue, *answer)?;
+        }
+        Ok(())
+    }
+}

@@ -1,0 +1,3 @@
+mod merges;
+mod programs;
+mod runs;

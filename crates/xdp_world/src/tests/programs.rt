@@ -1,0 +1,150 @@
+//! Programs of the tests, a slot a line, and their runs.
+ghost use Rattle.std.specs.Prelude.{◌≡◌, ◌≤◌, IfOk, Some, length, slice_get, vec_len};
+
+use crate::{Layout, Report, World};
+use bpf_insn::decode;
+use bpf_note::MapShape;
+use bpf_verify::{Verified, verify};
+use bpf_vm::Buffer;
+use std::alloc::Global;
+use std::test::Fail;
+
+/// Every packet passes.
+#[rattlefmt::skip]
+pub(crate) const PASS: &[u64] = &[
+    0xb7000000_02000000, // r0 = 2
+    0x95000000_00000000, // exit
+];
+
+/// The counter with key 1 grows by 1, and the packet passes.
+#[rattlefmt::skip]
+pub(crate) const COUNT: &[u64] = &[
+    0x620afcff_01000000, // *(u32 *)(r10 - 4) = 1
+    0xbfa20000_00000000, // r2 = r10
+    0x07020000_fcffffff, // r2 += -4
+    0x18110000_00000000, // r1 = map 0
+    0x00000000_00000000,
+    0x85000000_01000000, // call 1
+    0x15000200_00000000, // if r0 == 0 goto +2
+    0xb7010000_01000000, // r1 = 1
+    0xdb100000_00000000, // lock *(u64 *)(r0 + 0) += r1
+    0xb7000000_02000000, // r0 = 2
+    0x95000000_00000000, // exit
+];
+
+/// The counter with key 0 is read, then grows by the number of the queue and 1. The number is what was read.
+#[rattlefmt::skip]
+pub(crate) const READ_AND_ADD: &[u64] = &[
+    0x61161000_00000000, // r6 = rx_queue_index
+    0x07060000_01000000, // r6 += 1
+    0x620afcff_00000000, // *(u32 *)(r10 - 4) = 0
+    0xbfa20000_00000000, // r2 = r10
+    0x07020000_fcffffff, // r2 += -4
+    0x18110000_00000000, // r1 = map 0
+    0x00000000_00000000,
+    0x85000000_01000000, // call 1
+    0x55000200_00000000, // if r0 != 0 goto +2
+    0xb7000000_00000000, // r0 = 0
+    0x95000000_00000000, // exit
+    0x79070000_00000000, // r7 = *(u64 *)(r0 + 0)
+    0xdb600000_00000000, // lock *(u64 *)(r0 + 0) += r6
+    0xbf700000_00000000, // r0 = r7
+    0x95000000_00000000, // exit
+];
+
+/// The accepted program of these slots, with one map of two values of one counter.
+pub(crate) fn accepted(alloc: Global, slots: &[u64]) -> Result<Verified, Fail>
+    ensures { IfOk result (λ v. slice_get v.shapes 0 ≡ Some (record { entries = 2; counters = 1 })) }
+{
+    let mut bytes = Vec::new(alloc);
+    for slot in slots {
+        bytes.extend_from_slice(&slot.to_be_bytes())?;
+    }
+    let shape = MapShape::of(2, 1).ok_or("a shape")?;
+    let code = decode(alloc, bytes.as_slice()).map_err(|_| "refused bytes")?;
+    verify(alloc, code, &[shape]).map_err(|_| "a refused program".into())
+}
+
+/// The report of these steps in a layout; those of a queue that isn't there are left out.
+pub(crate) fn report_of(
+    alloc: Global,
+    layout: &Layout,
+    buffers: &mut [Buffer],
+    program: &Verified,
+    queues: usize,
+    start: u32,
+    steps: &[(usize, u32)],
+) -> Result<Report, Fail>
+    requires queues { (1 ≤ queues) × (queues ≤ 8) }
+    requires layout { layout.now.queues ≡ queues }
+    requires buffers { queues ≤ length buffers.now }
+    ensures count { IfOk result (λ r. vec_len r.turns ≡ queues) }
+    ensures shapes { IfOk result (λ r. r.totals.shapes ≡ program.now.shapes) }
+{
+    let mut world = World::make(alloc, layout, program, buffers, queues, 0, start)?;
+    for (queue, answer) in steps {
+        if *queue < world.queues.len() {
+            world.step(*queue, *answer)?;
+        }
+    }
+    Ok(world.report())
+}
+
+/// The report of these steps; those of a queue that isn't there are left out.
+pub(crate) fn run_steps(
+    alloc: Global,
+    program: &Verified,
+    queues: usize,
+    start: u32,
+    steps: &[(usize, u32)],
+) -> Result<Report, Fail>
+    requires { (1 ≤ queues) × (queues ≤ 8) }
+    ensures count { IfOk result (λ r. vec_len r.turns ≡ queues) }
+    ensures shapes { IfOk result (λ r. r.totals.shapes ≡ program.now.shapes) }
+{
+    let layout = Layout::make(alloc, queues)?;
+    let mut buffers = Vec::with_capacity(alloc, queues)?;
+    for _queue in 0..queues {
+        buffers.push_reserved(Buffer::make(alloc)?);
+    }
+    report_of(
+        alloc,
+        &layout,
+        buffers.as_mut_slice(),
+        program,
+        queues,
+        start,
+        steps,
+    )
+}
+
+/// What a turn reads of one slot of 14 bytes with id 7, until its program runs: the producer, the slot, the grant, the page.
+pub(crate) const PACKET: [u32; 10] = [
+    1,
+    2,
+    0,
+    917_511,
+    1,
+    19,
+    50_462_976,
+    117_835_012,
+    185_207_048,
+    252_579_084,
+];
+
+/// Adds the steps of a turn of one packet: what it reads, the producer being `producer`, then so many zeros.
+pub(crate) fn add_turn(
+    steps: &mut Vec<(usize, u32)>,
+    queue: usize,
+    producer: u32,
+    more: usize,
+) -> Result<(), Fail> {
+    steps.push((queue, producer))?;
+    for answer in &PACKET[1..] {
+        steps.push((queue, *answer))?;
+    }
+    for _ in 0..more {
+        steps.push((queue, 0u32))?;
+    }
+    Ok(())
+}

@@ -1,0 +1,18 @@
+-- The grants of a front's buffers.
+use Rattle.std.specs.Prelude.{ℕ, List, get_or, Option, Some, None}
+use Rattle.xen_page.specs.Table.{entry_place}
+use Rattle.xen_page.specs.declared.place.Place.{Place}
+use Rattle.xen_buffers.specs.declared.wiring.Buffer.{Buffer}
+use Rattle.xen_buffers.specs.declared.wiring.Wiring.{Wiring}
+
+-- the buffer of an id
+abbrev pub buffer : List Buffer → ℕ → Buffer
+buffer buffers id = get_or buffers id (record { gref = 0; frame = 0 })
+
+-- the place of the flags word of a buffer's grant; every buffer of a wired front has one
+abbrev pub place_or : Option Place → Place
+place_or (Some at) = at
+place_or None = record { frame = 0; word = 0 }
+
+abbrev pub grant_place : Wiring → Buffer → Place
+grant_place w b = place_or (entry_place w.table.now b.gref)

@@ -1,0 +1,14 @@
+//! The pages that a frontend lends: the buffers of both rings with the references that grant them.
+#![tactic(auto)]
+
+mod desc;
+mod distinct;
+mod grant;
+#[cfg(test)]
+mod tests;
+mod wired;
+mod wiring;
+
+pub use desc::FrontDesc;
+pub use grant::{buffer_of, grant_flags, grant_frame};
+pub use wiring::{Buffer, Wiring};

@@ -1,0 +1,4 @@
+pub mod RestLemmas
+pub mod ActivityLemmas
+pub mod BoundLemmas
+pub mod ShortLemmas

@@ -1,0 +1,12 @@
+pub mod Causes
+pub mod Given
+pub mod Slots
+pub mod Tree
+pub mod Activities
+pub mod Bound
+pub mod Rest
+pub mod Short
+pub mod Fronts
+pub mod Laws
+pub mod Making
+pub mod Drive

@@ -1,0 +1,84 @@
+//! A whole activity over a bus and ports.
+
+ghost use Rattle.std.specs.Prelude.{◌≡◌, ◌≤◌, ◌∷◌, ⊤, [], List};
+ghost use Rattle.std.specs.Borrow.{sem};
+ghost use denote.Follow.{follows_so};
+ghost use mir.Syntax.{named};
+ghost use mathlib.Core.Option.{none};
+ghost use Rattle.xen_front.specs.contracts.front.Front.{the_row};
+ghost use Rattle.xen_front.specs.Drive.{IsDriven};
+ghost use Rattle.xen_front.specs.Fronts.{rest, wiring_of};
+ghost use Rattle.xen_page.specs.Access.{Performs};
+ghost use Rattle.xen_steps.specs.Drive.{Any, Bounded, Driven, Goes, IsPageWant, accesses};
+ghost use Rattle.xen_steps.specs.Event.{Event};
+ghost use Rattle.xen_steps.specs.Steps.{want_of};
+
+use crate::front::Front;
+use crate::turn::RxTurn;
+use xen_page::Bus;
+use xen_ring::Ports;
+use xen_steps::{Answer, Want};
+
+/// More events than an activity has: a send has at most 16,467 and a poll at most 16,951.
+const MOST_EVENTS: u32 = 17_000;
+
+/// Makes one event.
+fn drive_event<B: Bus>(front: &mut Front, bus: &mut B, ports: &Ports)
+    requires { IsPageWant (B.size bus.old) (want_of (rest front.old)) }
+    ensures size { B.size bus.new ≡ B.size bus.old }
+    ensures same { wiring_of front.new ≡ wiring_of front.old }
+    ensures event { (e : Event) × Goes (rest front.old) e (rest front.new)
+        × Performs B.log B.access_gives bus.old (accesses (e ∷ [])) bus.new }
+{
+    match front.want() {
+        Want::Read(at) => {
+            let word = bus.read(at);
+            front.feed(Answer::Word(word));
+        }
+        Want::Write(at, value) => {
+            bus.write(at, value);
+            front.feed(Answer::Went);
+        }
+        Want::Notify(port) => {
+            ports.notify(port);
+            front.feed(Answer::Went);
+        }
+        Want::Instr => unreachable!(),
+        Want::Load { .. } => unreachable!(),
+        Want::Add { .. } => unreachable!(),
+        Want::Done => unreachable!(),
+    }
+}
+
+/// Makes events until the activity is over.
+fn drive_events<B: Bus>(front: &mut Front, bus: &mut B, ports: &Ports)
+    requires { Bounded (IsPageWant (B.size bus.old)) Any (rest front.old) 17000 }
+    ensures size { B.size bus.new ≡ B.size bus.old }
+    ensures same { wiring_of front.new ≡ wiring_of front.old }
+    ensures over { want_of (rest front.new) ≡ Want.Done }
+    ensures driven { (t : List Event) × Driven B.log B.access_gives (rest front.old) (rest front.new) bus.old bus.new t }
+{
+    for _event in 0..MOST_EVENTS {
+        match front.want() {
+            Want::Done => return,
+            _ => drive_event(front, bus, ports),
+        }
+    }
+}
+
+impl<'p> Front<'p> {
+    /// Makes all events of the activity that has begun, over the bus and to the ports, and says what it gave. The bus
+    /// has at least the frames that the front was made for.
+    pub fn drive_front<B: Bus>(&mut self, bus: &mut B, ports: &Ports) -> RxTurn<'_>
+        requires { (wiring_of self.old).frames ≤ B.size bus.old }
+        ensures size { B.size bus.new ≡ B.size bus.old }
+        ensures* over { sem 𝓛 (follows_so
+            (the_row (record { mir = named 1; lft = [] }))
+            (the_row (record { mir = named 1; lft = [] }))
+            self.entry.ghost_name none (λ _ _. ⊤)
+            (λ f. IsDriven B.log B.access_gives self.old f result bus.old bus.new)) }
+    {
+        drive_events(self, bus, ports);
+        self.received()
+    }
+}

@@ -1,0 +1,25 @@
+//! A front.
+
+ghost use Rattle.xen_front.specs.Rest.{HasSpace};
+ghost use Rattle.xen_front.specs.Short.{IsShort, IsShort-prop};
+ghost use Rattle.xen_buffers.specs.Wired.{IsWired};
+
+use crate::packet::Packet;
+use crate::phase::Phase;
+use crate::state::State;
+use xen_buffers::Wiring;
+
+/// Netfront's queue. It takes one activity at a time, a send, a post or a poll, and makes it one event at a time.
+#[derive(Drop)]
+pub struct Front<'p> {
+    pub(crate) wiring: Wiring<'p>,
+    pub(crate) state: State,
+    /// The packet that is being sent.
+    pub(crate) sent: Packet,
+    /// The bytes that were received so far.
+    pub(crate) received: Packet,
+    pub(crate) phase: Phase,
+    ghost space: { HasSpace phase received },
+    ghost wired: { IsWired wiring },
+    ghost short: { IsShort wiring state sent received phase } by { IsShort-prop wiring state sent received phase },
+}

@@ -1,0 +1,8 @@
+//! Fronts before honest and hostile backs.
+
+mod example;
+mod fixtures;
+mod hostile;
+mod model;
+mod random;
+mod sends;

@@ -1,0 +1,288 @@
+//! Two fronts that are played the same calls and answers: one by `drive_front` over a bus that answers from a list, one by
+//! `want` and `feed`.
+
+ghost use Rattle.std.specs.Prelude.{◌≡◌, IfOk};
+ghost use Rattle.xen_front.specs.Fronts.{wiring_of};
+
+use crate::{Buffer, Front, FrontDesc, Halt, PollRefusal, PostRefusal, RxTurn, SendRefusal};
+use std::alloc::{AllocError, Global};
+use std::test::Fail;
+use xen_page::{Access, Owners, Place, ScriptBus, Table};
+use xen_ring::{Port, Ports};
+use xen_steps::{Answer, Want};
+
+/// Both indices at which a ring may begin: that of a new ring, and the last one before it wraps.
+pub const STARTS: [u32; 2] = [0, 0xFFFF_FFFF];
+
+/// Frame 0 is the back's, 1 and 2 are the front's table, 17 and 18 its rings, 19 to 274 its tx buffers, 275 to 530 its rx
+/// buffers. Reference g grants frame 17 + g.
+const FRAMES: u32 = 531;
+
+/// The frames of the rings.
+pub const TX: u32 = 17;
+
+pub const RX: u32 = 18;
+
+/// The bytes 00 to 0d.
+pub const SMALL: [u8; 14] = [0, 1, 2, 3, 4, 5, 6, 7, 8, 9, 10, 11, 12, 13];
+
+/// A call that begins an activity.
+#[derive(Clone, Copy)]
+pub enum Call<'a> {
+    Send(&'a [u8]),
+    Post,
+    Poll,
+}
+
+/// What came of a call, the packet copied.
+#[derive(Debug, PartialEq, Eq, Drop)]
+pub enum Got {
+    Idle,
+    Packet(Vec<u8>),
+    Refused,
+    Halted(Halt),
+    NotSent(SendRefusal),
+    NotPosted(PostRefusal),
+    NotPolled(PollRefusal),
+}
+
+/// A call's outcome, its accesses, and whether it sent a notice.
+#[derive(Debug, PartialEq, Eq, Drop)]
+pub struct Played {
+    pub got: Got,
+    pub accesses: Vec<Access>,
+    pub noticed: bool,
+}
+
+pub fn read(frame: u32, word: u32, answer: u32) -> Access {
+    Access::Read {
+        at: Place { frame, word },
+        answer,
+    }
+}
+
+pub fn write(frame: u32, word: u32, value: u32) -> Access {
+    Access::Write {
+        at: Place { frame, word },
+        value,
+    }
+}
+
+/// The front's table, in frames 1 and 2.
+pub fn table(alloc: Global) -> Result<Table, Fail> {
+    let owners = Owners::make(alloc, &[1, 1, 1])?;
+    Ok(Table::make(&owners, 1, &[1, 2]).ok_or("a table")?)
+}
+
+/// The buffers with the references from `first` on.
+pub fn buffers(first: u16) -> [Buffer; 256] {
+    let mut buffers = [Buffer { gref: 0, frame: 0 }; 256];
+    let mut gref = u32::from(first);
+    for buffer in buffers.iter_mut() {
+        *buffer = Buffer {
+            gref,
+            frame: gref.saturating_add(17),
+        };
+        gref = gref.saturating_add(1);
+    }
+    buffers
+}
+
+/// A front between activities.
+pub fn front<'p>(
+    alloc: Global,
+    table: &'p Table,
+    tx: &'p [Buffer],
+    rx: &'p [Buffer],
+    start: u32,
+) -> Result<Front<'p>, Fail>
+    ensures { IfOk result (λ front. (wiring_of front).frames ≡ 531) }
+{
+    let desc = FrontDesc {
+        frames: FRAMES,
+        tx_frame: TX,
+        rx_frame: RX,
+        table,
+        tx,
+        rx,
+        back: 0,
+        port: Port::of(1).ok_or("a port")?,
+        start,
+    };
+    if !desc.is_wired() {
+        return Err("not wired".into());
+    }
+    Ok(Front::make(alloc, desc)?)
+}
+
+fn copied(alloc: Global, turn: RxTurn) -> Result<Got, AllocError> {
+    Ok(match turn {
+        RxTurn::Idle => Got::Idle,
+        RxTurn::Packet(bytes) => Got::Packet(bytes.to_vec(alloc)?),
+        RxTurn::Refused => Got::Refused,
+        RxTurn::Halted { cause } => Got::Halted(cause),
+    })
+}
+
+/// Begins a call's activity. What came of it, if it is refused.
+fn begin(front: &mut Front, call: Call) -> Option<Got>
+    ensures { wiring_of front.new ≡ wiring_of front.old }
+{
+    match call {
+        Call::Send(bytes) => match front.send(bytes) {
+            Ok(()) => None,
+            Err(refusal) => Some(Got::NotSent(refusal)),
+        },
+        Call::Post => match front.post_rx() {
+            Ok(()) => None,
+            Err(refusal) => Some(Got::NotPosted(refusal)),
+        },
+        Call::Poll => match front.poll() {
+            Ok(()) => None,
+            Err(refusal) => Some(Got::NotPolled(refusal)),
+        },
+    }
+}
+
+/// The activity over a bus that answers from a list.
+fn drive(alloc: Global, front: &mut Front, answers: &[u32]) -> Result<Played, Fail>
+    requires { (wiring_of front.old).frames ≡ 531 }
+    ensures { wiring_of front.new ≡ wiring_of front.old }
+{
+    let mut bus = ScriptBus::make(alloc, FRAMES, answers, 17_000)?;
+    let ports = Ports::new();
+    let port = Port::of(1).ok_or("a port")?;
+    let got = copied(alloc, front.drive_front(&mut bus, &ports))?;
+    Ok(Played {
+        got,
+        accesses: bus.accesses().to_vec(alloc)?,
+        noticed: ports.take(port),
+    })
+}
+
+/// One event by hand.
+enum Event {
+    Read(Access),
+    Wrote(Access),
+    Noticed,
+    Over,
+}
+
+/// Makes one event by hand, a read being answered by this word.
+fn feed_one(front: &mut Front, word: u32) -> Event
+    ensures { wiring_of front.new ≡ wiring_of front.old }
+{
+    match front.want() {
+        Want::Read(at) => {
+            front.feed(Answer::Word(word));
+            Event::Read(Access::Read { at, answer: word })
+        }
+        Want::Write(at, value) => {
+            front.feed(Answer::Went);
+            Event::Wrote(Access::Write { at, value })
+        }
+        Want::Notify(_) => {
+            front.feed(Answer::Went);
+            Event::Noticed
+        }
+        _ => Event::Over,
+    }
+}
+
+/// What the activity gave, if it is over.
+fn ended(alloc: Global, front: &mut Front) -> Result<Option<Got>, AllocError>
+    ensures { wiring_of front.new ≡ wiring_of front.old }
+{
+    match front.want() {
+        Want::Done => Ok(Some(copied(alloc, front.received())?)),
+        _ => Ok(None),
+    }
+}
+
+/// The activity by hand.
+fn feed(alloc: Global, front: &mut Front, answers: &[u32]) -> Result<Played, Fail>
+    ensures { wiring_of front.new ≡ wiring_of front.old }
+{
+    let mut accesses = Vec::new(alloc);
+    let mut noticed = false;
+    let mut next = 0;
+    for _event in 0..17_000u32 {
+        let word = answers.get(next).copied().unwrap_or(0);
+        match feed_one(front, word) {
+            Event::Read(access) => {
+                accesses.push(access)?;
+                next = next.saturating_add(1);
+            }
+            Event::Wrote(access) => accesses.push(access)?,
+            Event::Noticed => noticed = true,
+            Event::Over => break,
+        }
+    }
+    let got = ended(alloc, front)?.ok_or("no end")?;
+    Ok(Played {
+        got,
+        accesses,
+        noticed,
+    })
+}
+
+/// The two fronts.
+#[derive(Drop)]
+pub struct Fronts<'p> {
+    alloc: Global,
+    driven: Front<'p>,
+    fed: Front<'p>,
+    ghost on_bus: { (wiring_of driven).frames ≡ 531 },
+}
+
+impl<'p> Fronts<'p> {
+    pub fn make(
+        alloc: Global,
+        table: &'p Table,
+        tx: &'p [Buffer],
+        rx: &'p [Buffer],
+        start: u32,
+    ) -> Result<Fronts<'p>, Fail> {
+        let driven = front(alloc, table, tx, rx, start)?;
+        let fed = front(alloc, table, tx, rx, start)?;
+        Ok(Fronts { alloc, driven, fed })
+    }
+
+    /// Plays a call to both, with these answers. Both have to do the same.
+    pub fn play(&mut self, call: Call, answers: &[u32]) -> Result<Played, Fail> {
+        let refused = begin(&mut self.driven, call);
+        if begin(&mut self.fed, call) != refused {
+            return Err("one front refuses what the other takes".into());
+        }
+        if let Some(got) = refused {
+            return Ok(Played {
+                got,
+                accesses: Vec::new(self.alloc),
+                noticed: false,
+            });
+        }
+        let driven = drive(self.alloc, &mut self.driven, answers)?;
+        let fed = feed(self.alloc, &mut self.fed, answers)?;
+        if driven != fed {
+            return Err("driven and fed by hand, the fronts differ".into());
+        }
+        if self.driven.statuses() != self.fed.statuses() {
+            return Err("the counts differ".into());
+        }
+        Ok(driven)
+    }
+
+    /// What comes of a call with no answers but 0.
+    pub fn outcome(&mut self, call: Call) -> Result<Got, Fail> {
+        let Played {
+            got,
+            accesses: _,
+            noticed: _,
+        } = self.play(call, &[])?;
+        Ok(got)
+    }
+
+    pub fn statuses(&self) -> [u64; 4] {
+        self.driven.statuses()
+    }
+}

@@ -1,0 +1,260 @@
+//! What a front does before a back that breaks the protocol.
+
+use super::fixtures::{
+    Call, Fronts, Got, Played, RX, SMALL, STARTS, TX, buffers, read, table, write,
+};
+use crate::{Halt, PollRefusal, PostRefusal, SendRefusal};
+use std::alloc::Global;
+use std::test::Fail;
+
+/// Whether the front refuses every call for good.
+fn is_over(fronts: &mut Fronts) -> Result<bool, Fail> {
+    let send = fronts.outcome(Call::Send(&SMALL))?;
+    let post = fronts.outcome(Call::Post)?;
+    let poll = fronts.outcome(Call::Poll)?;
+    Ok(
+        send == Got::NotSent(SendRefusal::Halted)
+            && post == Got::NotPosted(PostRefusal::Halted)
+            && poll == Got::NotPolled(PollRefusal::Halted),
+    )
+}
+
+/// Polls a front with so many packets sent and buffers posted, which then has to be halted.
+fn halted(
+    alloc: Global,
+    start: u32,
+    sent: u32,
+    posted: u32,
+    answers: &[u32],
+) -> Result<Played, Fail> {
+    let table = table(alloc)?;
+    let (tx, rx) = (buffers(2), buffers(258));
+    let mut fronts = Fronts::make(alloc, &table, &tx, &rx, start)?;
+    for _send in 0..sent {
+        fronts.play(Call::Send(&SMALL), &[])?;
+    }
+    for _post in 0..posted {
+        fronts.play(Call::Post, &[])?;
+    }
+    let polled = fronts.play(Call::Poll, answers)?;
+    if is_over(&mut fronts)? {
+        Ok(polled)
+    } else {
+        Err("the front goes on".into())
+    }
+}
+
+/// The answers of a poll whose tx ring has nothing and whose rx producer is `shown` past the start, and then these words.
+fn rx_answers(alloc: Global, start: u32, shown: u32, words: &[u32]) -> Result<Vec<u32>, Fail> {
+    let mut answers = [start, start, start.wrapping_add(shown)].to_vec(alloc)?;
+    answers.extend_from_slice(words)?;
+    Ok(answers)
+}
+
+#[test]
+fn a_tx_producer_beyond_what_is_outstanding(rt: HostRuntime) -> Result<(), Fail> {
+    for start in STARTS {
+        let producer = start.wrapping_add(4);
+        let polled = halted(rt.alloc(), start, 3, 0, &[producer])?;
+        assert_eq!(rt; polled.got, Got::Halted(Halt::TxProducer));
+        assert_eq!(rt;
+            polled.accesses.as_slice(),
+            [read(TX, 2, producer)].as_slice()
+        );
+        let back = start.wrapping_sub(1);
+        let polled = halted(rt.alloc(), start, 3, 0, &[back])?;
+        assert_eq!(rt;
+            polled.got,
+            Got::Halted(Halt::TxProducer),
+            "a producer that goes back"
+        );
+        let polled = halted(rt.alloc(), start, 3, 0, &[start, producer])?;
+        assert_eq!(rt;
+            polled.got,
+            Got::Halted(Halt::TxProducer),
+            "at the second look"
+        );
+        assert_eq!(rt; polled.accesses.len(), 3);
+    }
+    Ok(())
+}
+
+#[test]
+fn a_tx_response_to_nothing(rt: HostRuntime) -> Result<(), Fail> {
+    for start in STARTS {
+        let slot = if start == 0 { 16 } else { 781 };
+        let producer = start.wrapping_add(1);
+        for id in [1, 255, 256, 0xFFFF] {
+            let polled = halted(rt.alloc(), start, 1, 0, &[producer, id])?;
+            assert_eq!(rt; polled.got, Got::Halted(Halt::TxId), "{id}");
+            let log = [read(TX, 2, producer), read(TX, slot, id)];
+            assert_eq!(rt;
+                polled.accesses.as_slice(),
+                log.as_slice(),
+                "no grant is ended"
+            );
+        }
+        let twice = [start.wrapping_add(2), 1, 1];
+        let polled = halted(rt.alloc(), start, 2, 0, &twice)?;
+        assert_eq!(rt;
+            polled.got,
+            Got::Halted(Halt::TxId),
+            "a second response to one request"
+        );
+        assert_eq!(rt; polled.accesses.len(), 4);
+    }
+    Ok(())
+}
+
+#[test]
+fn an_rx_producer_beyond_what_is_outstanding(rt: HostRuntime) -> Result<(), Fail> {
+    for start in STARTS {
+        let answers = rx_answers(rt.alloc(), start, 1, &[])?;
+        let polled = halted(rt.alloc(), start, 0, 0, answers.as_slice())?;
+        assert_eq!(rt; polled.got, Got::Halted(Halt::RxProducer));
+        assert_eq!(rt;
+            polled.accesses.last(),
+            Some(&read(RX, 2, start.wrapping_add(1)))
+        );
+    }
+    Ok(())
+}
+
+#[test]
+fn an_rx_response_with_a_wrong_id_or_flags(rt: HostRuntime) -> Result<(), Fail> {
+    for start in STARTS {
+        for (first, second) in [
+            (1, 0x000e_0000),
+            (256, 0x000e_0000),
+            (0, 0x000e_0008),
+            (0, 0x000e_0010),
+            // Before a size that passes the page.
+            (0, 0x1001_0008),
+        ] {
+            let answers = rx_answers(rt.alloc(), start, 1, &[first, second])?;
+            let polled = halted(rt.alloc(), start, 0, 1, answers.as_slice())?;
+            assert_eq!(rt; polled.got, Got::Halted(Halt::RxSlot), "{first} {second}");
+            assert_eq!(rt;
+                polled.accesses.len(),
+                6,
+                "no grant is ended and no page is read"
+            );
+        }
+    }
+    Ok(())
+}
+
+#[test]
+fn an_rx_response_past_its_page(rt: HostRuntime) -> Result<(), Fail> {
+    for start in STARTS {
+        for (first, second) in [
+            (0, 0x1001_0000),
+            (0x0001_0000, 0x1000_0000),
+            // Status -1 at offset 4,098.
+            (0x1002_0000, 0xFFFF_0000),
+            // Before a chain that the producer didn't show.
+            (0, 0x1001_0004),
+        ] {
+            let answers = rx_answers(rt.alloc(), start, 1, &[first, second])?;
+            let polled = halted(rt.alloc(), start, 0, 1, answers.as_slice())?;
+            assert_eq!(rt; polled.got, Got::Halted(Halt::RxSize), "{first} {second}");
+            assert_eq!(rt; polled.accesses.len(), 6);
+        }
+    }
+    Ok(())
+}
+
+#[test]
+fn a_chain_past_the_producer(rt: HostRuntime) -> Result<(), Fail> {
+    for start in STARTS {
+        let answers = rx_answers(rt.alloc(), start, 1, &[0, 0x0005_0004, 1, 2])?;
+        let polled = halted(rt.alloc(), start, 0, 2, answers.as_slice())?;
+        assert_eq!(rt; polled.got, Got::Halted(Halt::ShortChain));
+        let end = [write(1, 516, 0), read(275, 0, 1), read(275, 1, 2)];
+        assert_eq!(rt;
+            polled.accesses.get(6..),
+            Some(end.as_slice()),
+            "after the slot's page words"
+        );
+    }
+    Ok(())
+}
+
+#[test]
+fn a_seventeenth_slot(rt: HostRuntime) -> Result<(), Fail> {
+    for start in STARTS {
+        let mut answers = rx_answers(rt.alloc(), start, 17, &[])?;
+        for id in 0..17 {
+            answers.push(id)?;
+            answers.push(if id < 16 { 4 } else { 0 })?;
+        }
+        let polled = halted(rt.alloc(), start, 0, 17, answers.as_slice())?;
+        assert_eq!(rt; polled.got, Got::Halted(Halt::LongChain));
+        assert_eq!(rt;
+            polled.accesses.len(),
+            4 + 15 * 3 + 2,
+            "at the sixteenth, which wants another"
+        );
+    }
+    Ok(())
+}
+
+#[test]
+fn a_packet_of_more_than_65_535_bytes(rt: HostRuntime) -> Result<(), Fail> {
+    for start in STARTS {
+        let mut answers = rx_answers(rt.alloc(), start, 16, &[])?;
+        for id in 0..16 {
+            answers.push(id)?;
+            answers.push(if id < 15 { 0x1000_0004 } else { 0x1000_0000 })?;
+            for _word in 0..1024 {
+                answers.push(7)?;
+            }
+        }
+        let polled = halted(rt.alloc(), start, 0, 16, answers.as_slice())?;
+        assert_eq!(rt; polled.got, Got::Halted(Halt::LongChain));
+        assert_eq!(rt; polled.accesses.len(), 4 + 15 * 1027 + 2);
+    }
+    Ok(())
+}
+
+#[test]
+fn a_negative_status_refuses_the_packet(rt: HostRuntime) -> Result<(), Fail> {
+    let alloc = rt.alloc();
+    let table = table(alloc)?;
+    let (tx, rx) = (buffers(2), buffers(258));
+    for start in STARTS {
+        for words in [
+            [0, 0x000A_0004, 1, 2, 3, 1, 0xFFFF_0000],
+            [1, 0xFFFF_0004, 0, 0x000A_0000, 1, 2, 3],
+        ] {
+            let mut fronts = Fronts::make(alloc, &table, &tx, &rx, start)?;
+            fronts.play(Call::Post, &[])?;
+            fronts.play(Call::Post, &[])?;
+            let answers = rx_answers(alloc, start, 2, &words)?;
+            let polled = fronts.play(Call::Poll, answers.as_slice())?;
+            assert_eq!(rt; polled.got, Got::Refused);
+            assert_eq!(rt;
+                polled.accesses.len(),
+                4 + 3 + 3 + 3,
+                "three page words in all"
+            );
+            let after = start.wrapping_add(2);
+            let idle = fronts.play(Call::Poll, &[start, start, after, after])?;
+            assert_eq!(rt; idle.got, Got::Idle, "both slots are consumed");
+            assert_eq!(rt;
+                idle.accesses.get(4),
+                Some(&write(RX, 3, start.wrapping_add(3)))
+            );
+        }
+        let mut fronts = Fronts::make(alloc, &table, &tx, &rx, start)?;
+        fronts.play(Call::Post, &[])?;
+        let answers = rx_answers(alloc, start, 1, &[0x1001_0000, 0xFFFF_0000])?;
+        let polled = fronts.play(Call::Poll, answers.as_slice())?;
+        assert_eq!(rt;
+            polled.got,
+            Got::Refused,
+            "status -1 at offset 4,097 passes"
+        );
+    }
+    Ok(())
+}

@@ -1,0 +1,278 @@
+//! A front by lists, which makes up the answers that it takes: mostly those of an honest back.
+
+ghost use Rattle.std.specs.Prelude.{◌<◌};
+
+use super::fixtures::Got;
+use crate::Halt;
+use std::alloc::{AllocError, Global};
+
+/// Numbers that look random, the same in each run (Knuth's MMIX generator).
+#[derive(Clone, Copy)]
+pub struct Random(u64);
+
+impl Random {
+    pub fn new(seed: u64) -> Random {
+        Random(seed)
+    }
+
+    pub fn number(&mut self) -> u32 {
+        self.0 = self
+            .0
+            .wrapping_mul(6_364_136_223_846_793_005)
+            .wrapping_add(1_442_695_040_888_963_407);
+        (self.0 >> 32) as u32
+    }
+
+    /// A number below 8, 16 or another small power of two.
+    pub fn small(&mut self, mask: u32) -> u32 {
+        self.number() & mask
+    }
+
+    /// Whether the next answer is any number at all.
+    fn is_wild(&mut self) -> bool {
+        self.small(255) == 0
+    }
+}
+
+/// One ring: its two indices, and the ids in flight.
+#[derive(Drop)]
+struct Ring {
+    prod: u32,
+    cons: u32,
+    open: Vec<u32>,
+}
+
+impl Ring {
+    /// Takes the lowest free id.
+    fn begin(&mut self) -> Result<(), AllocError> {
+        for id in 0..256u32 {
+            if !self.open.contains(&id) {
+                self.open.push(id)?;
+                self.prod = self.prod.wrapping_add(1);
+                return Ok(());
+            }
+        }
+        Ok(())
+    }
+
+    fn end(&mut self, id: u32) {
+        self.open.retain(|other| *other != id);
+        self.cons = self.cons.wrapping_add(1);
+    }
+
+    /// An id in flight, mostly.
+    fn some_id(&self, random: &mut Random) -> u32 {
+        let wild = random.is_wild();
+        let at = random.small(15);
+        match self.open.get(at as usize) {
+            Some(id) if !wild => *id,
+            _ => match self.open.first() {
+                Some(id) if !wild => *id,
+                _ => random.small(0x1FF),
+            },
+        }
+    }
+}
+
+/// What a poll was answered, and what comes of it.
+#[derive(Drop)]
+pub struct Poll {
+    pub answers: Vec<u32>,
+    pub got: Got,
+    /// How many words it read or wrote.
+    pub accesses: usize,
+}
+
+#[derive(Drop)]
+pub struct Model {
+    alloc: Global,
+    tx: Ring,
+    rx: Ring,
+    pub statuses: [u64; 4],
+}
+
+impl Poll {
+    fn answer(&mut self, word: u32) -> Result<(), AllocError> {
+        self.answers.push(word)?;
+        self.accesses = self.accesses.saturating_add(1);
+        Ok(())
+    }
+
+    fn wrote(&mut self) {
+        self.accesses = self.accesses.saturating_add(1);
+    }
+
+    /// Looks for responses, and again if there is none: how many there are, or `None` if they are too many.
+    fn look(&mut self, ring: &Ring, random: &mut Random) -> Result<Option<u32>, AllocError> {
+        let open = ring.prod.wrapping_sub(ring.cons);
+        for second in [false, true] {
+            if second {
+                self.wrote();
+            }
+            let shown = if random.is_wild() {
+                random.number()
+            } else {
+                random.small(7).min(open)
+            };
+            self.answer(ring.cons.wrapping_add(shown))?;
+            if shown > open {
+                return Ok(None);
+            }
+            if shown > 0 || second {
+                return Ok(Some(shown));
+            }
+        }
+        Ok(None)
+    }
+}
+
+/// The word of an rx response's flags and status, mostly of a small one, with so many responses left behind it.
+fn flags_and_status(left: u32, random: &mut Random) -> u32 {
+    if random.is_wild() {
+        return random.number();
+    }
+    let wants_more = random.small(1) == 0 && (left > 0 || random.is_wild());
+    let more = if wants_more { 4 } else { 0 };
+    let status = match random.small(15) {
+        0 => 0xFFFF,
+        1 => 0,
+        2 => 4096,
+        _ => random.small(63),
+    };
+    more | status << 16
+}
+
+/// Which count a status two below this number belongs to: OKAY, DROPPED, ERROR or another.
+fn place_of(status: u32) -> usize
+    ensures { result < 4 }
+{
+    match status {
+        0 => 1,
+        1 => 2,
+        2 => 0,
+        _ => 3,
+    }
+}
+
+impl Model {
+    pub fn new(alloc: Global, start: u32) -> Model {
+        Model {
+            alloc,
+            tx: Ring {
+                prod: start,
+                cons: start,
+                open: Vec::new(alloc),
+            },
+            rx: Ring {
+                prod: start,
+                cons: start,
+                open: Vec::new(alloc),
+            },
+            statuses: [0; 4],
+        }
+    }
+
+    /// Whether so many ids are free.
+    pub fn has_room(&self, pieces: usize) -> bool {
+        self.tx.open.len().saturating_add(pieces) <= 256
+    }
+
+    pub fn can_post(&self) -> bool {
+        self.rx.open.len() < 256
+    }
+
+    pub fn send(&mut self) -> Result<(), AllocError> {
+        self.tx.begin()
+    }
+
+    pub fn post(&mut self) -> Result<(), AllocError> {
+        self.rx.begin()
+    }
+
+    pub fn poll(&mut self, random: &mut Random) -> Result<Poll, AllocError> {
+        let mut poll = Poll {
+            answers: Vec::new(self.alloc),
+            got: Got::Idle,
+            accesses: 0,
+        };
+        let Some(responses) = poll.look(&self.tx, random)? else {
+            poll.got = Got::Halted(Halt::TxProducer);
+            return Ok(poll);
+        };
+        for _response in 0..responses {
+            let id = self.tx.some_id(random);
+            let status = random.small(3);
+            let word = id | (status.wrapping_sub(2) & 0xFFFF) << 16;
+            poll.answer(word)?;
+            if !self.tx.open.contains(&id) {
+                poll.got = Got::Halted(Halt::TxId);
+                return Ok(poll);
+            }
+            self.tx.end(id);
+            poll.wrote();
+            let place = place_of(status);
+            self.statuses[place] = self.statuses[place].saturating_add(1);
+        }
+        let Some(responses) = poll.look(&self.rx, random)? else {
+            poll.got = Got::Halted(Halt::RxProducer);
+            return Ok(poll);
+        };
+        if responses > 0 {
+            poll.got = self.receive(responses, &mut poll, random)?;
+        }
+        Ok(poll)
+    }
+
+    /// A packet of at most so many responses.
+    fn receive(
+        &mut self,
+        responses: u32,
+        poll: &mut Poll,
+        random: &mut Random,
+    ) -> Result<Got, AllocError> {
+        let mut bytes = Vec::new(self.alloc);
+        let mut bad = false;
+        for slot in 0..responses {
+            let id = self.rx.some_id(random);
+            let offset = random.small(31);
+            let second = flags_and_status(responses.saturating_sub(slot + 1), random);
+            poll.answer(id | offset << 16)?;
+            poll.answer(second)?;
+            let status = second >> 16;
+            let negative = status >= 0x8000;
+            let size = if negative { 0 } else { status };
+            if !self.rx.open.contains(&id) || second & 24 != 0 {
+                return Ok(Got::Halted(Halt::RxSlot));
+            }
+            if !negative && offset.saturating_add(status) > 4096 {
+                return Ok(Got::Halted(Halt::RxSize));
+            }
+            if slot >= 15 && second & 4 != 0 || bytes.len().saturating_add(size as usize) > 65_535 {
+                return Ok(Got::Halted(Halt::LongChain));
+            }
+            self.rx.end(id);
+            poll.wrote();
+            bad = bad || negative;
+            let end = offset.saturating_add(size);
+            let mut at = offset - offset % 4;
+            while at < end && size > 0 {
+                let word = random.number();
+                poll.answer(word)?;
+                for byte in word.to_le_bytes() {
+                    if at >= offset && at < end {
+                        bytes.push(byte)?;
+                    }
+                    at = at.saturating_add(1);
+                }
+            }
+            if second & 4 == 0 {
+                return Ok(if bad {
+                    Got::Refused
+                } else {
+                    Got::Packet(bytes)
+                });
+            }
+        }
+        Ok(Got::Halted(Halt::ShortChain))
+    }
+}

@@ -1,0 +1,288 @@
+//! Sends, posts, and the polls of an honest back.
+
+use super::fixtures::{Call, Fronts, Got, RX, SMALL, STARTS, TX, buffers, read, table, write};
+use crate::{PollRefusal, PostRefusal, SendRefusal};
+use std::test::Fail;
+use xen_page::Access;
+
+#[test]
+fn a_send_lends_a_page_and_pushes_a_slot(rt: HostRuntime) -> Result<(), Fail> {
+    let alloc = rt.alloc();
+    let table = table(alloc)?;
+    let (tx, rx) = (buffers(2), buffers(258));
+    for start in STARTS {
+        let mut fronts = Fronts::make(alloc, &table, &tx, &rx, start)?;
+        let next = start.wrapping_add(1);
+        let slot = if start == 0 { 16 } else { 781 };
+        let sent = fronts.play(Call::Send(&SMALL), &[next])?;
+        let accesses = [
+            write(1, 5, 19),
+            write(1, 4, 5),
+            write(19, 0, 0x0302_0100),
+            write(19, 1, 0x0706_0504),
+            write(19, 2, 0x0b0a_0908),
+            write(19, 3, 0x0000_0d0c),
+            write(TX, slot, 2),
+            write(TX, slot + 1, 0),
+            write(TX, slot + 2, 0x000e_0000),
+            write(TX, 0, next),
+            read(TX, 1, next),
+        ];
+        assert_eq!(rt; sent.accesses.as_slice(), accesses.as_slice());
+        assert_eq!(rt; sent.got, Got::Idle);
+        assert!(rt; sent.noticed, "the back asked to be told of this slot");
+        let again = fronts.play(Call::Send(&SMALL), &[next])?;
+        assert!(rt;
+            !again.noticed,
+            "the back didn't ask to be told of the second"
+        );
+        assert_eq!(rt; again.accesses.len(), 11);
+        assert_eq!(rt; again.accesses.first(), Some(&write(1, 7, 20)), "id 1");
+    }
+    Ok(())
+}
+
+#[test]
+fn a_post_lends_a_page_for_writing(rt: HostRuntime) -> Result<(), Fail> {
+    let alloc = rt.alloc();
+    let table = table(alloc)?;
+    let (tx, rx) = (buffers(2), buffers(258));
+    for start in STARTS {
+        let mut fronts = Fronts::make(alloc, &table, &tx, &rx, start)?;
+        let next = start.wrapping_add(1);
+        let slot = if start == 0 { 16 } else { 526 };
+        let posted = fronts.play(Call::Post, &[next])?;
+        let accesses = [
+            write(1, 517, 275),
+            write(1, 516, 1),
+            write(RX, slot, 0),
+            write(RX, slot + 1, 258),
+            write(RX, 0, next),
+            read(RX, 1, next),
+        ];
+        assert_eq!(rt; posted.accesses.as_slice(), accesses.as_slice());
+        assert!(rt; posted.noticed);
+    }
+    Ok(())
+}
+
+#[test]
+fn a_poll_takes_responses_and_a_packet(rt: HostRuntime) -> Result<(), Fail> {
+    let alloc = rt.alloc();
+    let table = table(alloc)?;
+    let (tx, rx) = (buffers(2), buffers(258));
+    for start in STARTS {
+        let mut fronts = Fronts::make(alloc, &table, &tx, &rx, start)?;
+        let next = start.wrapping_add(1);
+        let (tx_slot, rx_slot) = if start == 0 { (16, 16) } else { (781, 526) };
+        fronts.play(Call::Send(&SMALL), &[next])?;
+        fronts.play(Call::Post, &[next])?;
+        let words = [0x0302_0100, 0x0706_0504, 0x0b0a_0908, 0x0000_0d0c];
+        let polled = fronts.play(
+            Call::Poll,
+            &[
+                next,
+                0,
+                next,
+                0,
+                0x000e_0000,
+                words[0],
+                words[1],
+                words[2],
+                words[3],
+            ],
+        )?;
+        let accesses = [
+            read(TX, 2, next),
+            read(TX, tx_slot, 0),
+            write(1, 4, 0),
+            read(RX, 2, next),
+            read(RX, rx_slot, 0),
+            read(RX, rx_slot + 1, 0x000e_0000),
+            write(1, 516, 0),
+            read(275, 0, words[0]),
+            read(275, 1, words[1]),
+            read(275, 2, words[2]),
+            read(275, 3, words[3]),
+        ];
+        assert_eq!(rt; polled.accesses.as_slice(), accesses.as_slice());
+        assert_eq!(rt; polled.got, Got::Packet(SMALL.to_vec(alloc)?));
+        assert_eq!(rt; fronts.statuses(), [1, 0, 0, 0]);
+    }
+    Ok(())
+}
+
+#[test]
+fn a_poll_of_nothing_looks_twice(rt: HostRuntime) -> Result<(), Fail> {
+    let alloc = rt.alloc();
+    let table = table(alloc)?;
+    let (tx, rx) = (buffers(2), buffers(258));
+    for start in STARTS {
+        let mut fronts = Fronts::make(alloc, &table, &tx, &rx, start)?;
+        let next = start.wrapping_add(1);
+        let polled = fronts.play(Call::Poll, &[start, start, start, start])?;
+        let accesses = [
+            read(TX, 2, start),
+            write(TX, 3, next),
+            read(TX, 2, start),
+            read(RX, 2, start),
+            write(RX, 3, next),
+            read(RX, 2, start),
+        ];
+        assert_eq!(rt; polled.accesses.as_slice(), accesses.as_slice());
+        assert_eq!(rt; polled.got, Got::Idle);
+    }
+    Ok(())
+}
+
+#[test]
+fn what_the_second_look_shows_is_taken(rt: HostRuntime) -> Result<(), Fail> {
+    let alloc = rt.alloc();
+    let table = table(alloc)?;
+    let (tx, rx) = (buffers(2), buffers(258));
+    for start in STARTS {
+        let mut fronts = Fronts::make(alloc, &table, &tx, &rx, start)?;
+        let next = start.wrapping_add(1);
+        fronts.play(Call::Send(&SMALL), &[next])?;
+        fronts.play(Call::Post, &[next])?;
+        let polled = fronts.play(
+            Call::Poll,
+            &[
+                start,
+                next,
+                0xFFFE_0000,
+                start,
+                next,
+                0x0004_0000,
+                0x0002_0000,
+                0x4433_2211,
+                0,
+            ],
+        )?;
+        assert_eq!(rt;
+            polled.got,
+            Got::Packet([0x11, 0x22].to_vec(alloc)?),
+            "at offset 4"
+        );
+        assert_eq!(rt; polled.accesses.len(), 12);
+        assert_eq!(rt; polled.accesses.last(), Some(&read(275, 1, 0x4433_2211)));
+        assert_eq!(rt; fronts.statuses(), [0, 1, 0, 0]);
+    }
+    Ok(())
+}
+
+#[test]
+fn each_status_is_counted(rt: HostRuntime) -> Result<(), Fail> {
+    let alloc = rt.alloc();
+    let table = table(alloc)?;
+    let (tx, rx) = (buffers(2), buffers(258));
+    let mut fronts = Fronts::make(alloc, &table, &tx, &rx, 0)?;
+    for next in 1..=6 {
+        fronts.play(Call::Send(&SMALL), &[next])?;
+    }
+    let responses = [6, 0, 0xFFFF_0001, 0xFFFE_0002, 0x0001_0003, 0xFFFD_0004, 5];
+    assert_eq!(rt; fronts.play(Call::Poll, &responses)?.got, Got::Idle);
+    assert_eq!(rt; fronts.statuses(), [2, 1, 1, 2]);
+    Ok(())
+}
+
+#[test]
+fn a_send_of_65_535_bytes_takes_sixteen_slots(rt: HostRuntime) -> Result<(), Fail> {
+    let alloc = rt.alloc();
+    let table = table(alloc)?;
+    let (tx, rx) = (buffers(2), buffers(258));
+    let bytes = vec![in alloc; 0xA5u8; 65_535]?;
+    for start in STARTS {
+        let mut fronts = Fronts::make(alloc, &table, &tx, &rx, start)?;
+        let sent = fronts.play(Call::Send(bytes.as_slice()), &[start])?;
+        assert_eq!(rt;
+            sent.accesses.len(),
+            16_466,
+            "16 times 2, 1,024 and 3 words, and the push"
+        );
+        let first = if start == 0 { 16 } else { 781 };
+        let slot = [
+            write(TX, first, 2),
+            write(TX, first + 1, 0x0004_0000),
+            write(TX, first + 2, 0xFFFF_0000),
+        ];
+        assert_eq!(rt;
+            sent.accesses.get(1026..1029),
+            Some(slot.as_slice()),
+            "the whole size"
+        );
+        let last = if start == 0 { 61 } else { 58 };
+        let end = [
+            write(34, 1022, 0xA5A5_A5A5),
+            write(34, 1023, 0x00A5_A5A5),
+            write(TX, last, 17),
+            write(TX, last + 1, 0),
+            write(TX, last + 2, 0x0FFF_000F),
+            write(TX, 0, start.wrapping_add(16)),
+            read(TX, 1, start),
+        ];
+        assert_eq!(rt; sent.accesses.get(16_459..), Some(end.as_slice()));
+    }
+    Ok(())
+}
+
+#[test]
+fn refusals_come_in_their_order(rt: HostRuntime) -> Result<(), Fail> {
+    let alloc = rt.alloc();
+    let table = table(alloc)?;
+    let (tx, rx) = (buffers(2), buffers(258));
+    let mut fronts = Fronts::make(alloc, &table, &tx, &rx, 0)?;
+    let long = vec![in alloc; 0u8; 65_536]?;
+    let short = fronts.play(Call::Send(&SMALL[..13]), &[])?;
+    assert_eq!(rt; short.got, Got::NotSent(SendRefusal::TooShort));
+    let long = fronts.play(Call::Send(long.as_slice()), &[])?;
+    assert_eq!(rt; long.got, Got::NotSent(SendRefusal::TooLong));
+    for next in 1..=256 {
+        let sent = fronts.play(Call::Send(&SMALL), &[next])?;
+        assert_eq!(rt; sent.got, Got::Idle);
+    }
+    let full = fronts.play(Call::Send(&SMALL), &[])?;
+    assert_eq!(rt; full.got, Got::NotSent(SendRefusal::NoSlot), "the 257th");
+    let short = fronts.play(Call::Send(&SMALL[..13]), &[])?;
+    assert_eq!(rt;
+        short.got,
+        Got::NotSent(SendRefusal::TooShort),
+        "before a want of ids"
+    );
+    assert_eq!(rt; fronts.play(Call::Poll, &[1, 9])?.got, Got::Idle);
+    let sent = fronts.play(Call::Send(&SMALL), &[257])?;
+    let slot = [
+        write(TX, 16, 11),
+        write(TX, 17, 0),
+        write(TX, 18, 0x000e_0009),
+    ];
+    assert_eq!(rt;
+        sent.accesses.get(6..9),
+        Some(slot.as_slice()),
+        "id 9 came back"
+    );
+    for next in 1..=256 {
+        assert_eq!(rt; fronts.play(Call::Post, &[next])?.got, Got::Idle);
+    }
+    let full = fronts.play(Call::Post, &[])?;
+    assert_eq!(rt; full.got, Got::NotPosted(PostRefusal::NoSlot));
+    Ok(())
+}
+
+#[test]
+fn one_activity_at_a_time(rt: HostRuntime) -> Result<(), Fail> {
+    let alloc = rt.alloc();
+    let table = table(alloc)?;
+    let (tx, rx) = (buffers(2), buffers(258));
+    let mut front = super::fixtures::front(alloc, &table, &tx, &rx, 0)?;
+    assert_eq!(rt; front.poll(), Ok(()));
+    assert_eq!(rt; front.poll(), Err(PollRefusal::Busy));
+    assert_eq!(rt; front.post_rx(), Err(PostRefusal::Busy));
+    assert_eq!(rt; front.send(&SMALL), Err(SendRefusal::Busy));
+    assert_eq!(rt;
+        front.send(&SMALL[..1]),
+        Err(SendRefusal::Busy),
+        "before its length"
+    );
+    Ok(())
+}
