@@ -15,7 +15,7 @@ use Rattle.xen_back.specs.Tree.{responses}
 use Rattle.xen_back.specs.declared.state.State.{State}
 use Rattle.xen_back.specs.declared.wiring.Wiring.{Wiring}
 
--- Looking for requests: the producer is read; where it shows nothing, the event index is stored and the producer read again.
+-- Looking for requests: the producer is read; if it shows nothing, the event index is stored and the producer read again.
 pub data IsLook (w : Wiring) (t : ℕ) : List Event → Option ℕ → Type 0 where
   once : (p : ℕ) → p < 2 ^ 32 → available t p ≢ Some 0 → IsLook w t (Read (tx_word w.vif 0) p ∷ []) (available t p)
   twice : (p q : ℕ) → p < 2 ^ 32 → q < 2 ^ 32 → available t p ≡ Some 0 →
@@ -54,7 +54,7 @@ abbrev pub behind : List ℕ → Option (List ℕ) → Option (List ℕ)
 behind bytes None = None
 behind bytes (Some later) = Some (bytes ++ later)
 
--- The copy of fragments: of each the entry, and where that grants a frame the covered words, once each; up to the first that is refused.
+-- The copy of fragments: of each its grant's entry and, if that grants a frame, the covered words, once each; up to the first that is refused.
 pub data IsCopy (w : Wiring) : List Fragment → List Event → Option (List ℕ) → Type 0 where
   copied : IsCopy w [] [] (Some [])
   denied : (f : Fragment) (fs : List Fragment) (p : List Event) (fault : GrantFault) → IsEntry w.vif false f.gref p (Err fault) → IsCopy w (f ∷ fs) p None
@@ -67,7 +67,7 @@ abbrev pub response_writes : Wiring → ℕ → ℕ → List ℕ → List Event
 response_writes w t i [] = []
 response_writes w t i (r ∷ rs) = Write (tx_slot w.vif (add32 t i) 0) r ∷ response_writes w t (i + 1) rs
 
--- A response a slot, then the push, the event index and a notice where it is due.
+-- One response per slot, then the push, the event index, and a notice if one is due.
 abbrev pub IsRespond : Wiring → ℕ → List Slot → Status → List Event → Type 0
 IsRespond w t slots st p =
     (event : ℕ) × (event < 2 ^ 32)

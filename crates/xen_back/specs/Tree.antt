@@ -37,7 +37,7 @@ use Rattle.xen_back.specs.declared.wiring.Wiring.{Wiring}
 abbrev pub halted : State → Halt → Steps Ending
 halted s cause = done (record s { halt = Some cause }, Halted cause)
 
--- the producer, and the final check where it shows nothing
+-- the producer, and the final check if it shows nothing
 abbrev pub check_again : Wiring → ℕ → Steps (Option ℕ)
 check_again w t = ask (want.Read (tx_word w.vif 0)) (λ p. done (available t p))
 
@@ -88,7 +88,7 @@ response s (Some req) = joined req.id (cast_unsigned w16 (status_code s))
 abbrev pub responses : Status → List Slot → List ℕ
 responses s slots = map (response s) (requests_of slots)
 
--- the push, the event index, and a notice where it is due
+-- the push, the event index, and a notice if one is due
 abbrev pub notice : Wiring → Bool → Ending → Steps Ending
 notice w false e = done e
 notice w true e = ask (want.Notify w.vif.port) (λ _. done e)
@@ -99,7 +99,7 @@ read_event w old new e = ask (want.Read (tx_word w.vif 3)) (λ event. notice w (
 abbrev pub publish : Wiring → ℕ → ℕ → Ending → Steps Ending
 publish w old new e = ask (want.Write (tx_word w.vif 2) new) (λ _. read_event w old new e)
 
--- one word a slot, from the i-th on, and the push of them all
+-- one word per slot, from the i-th on, and the push of them all
 abbrev pub answer : Wiring → ℕ → ℕ → ℕ → List ℕ → Ending → Steps Ending
 answer w t n i [] e = publish w t (add32 t n) e
 answer w t n i (r ∷ rs) e = ask (want.Write (tx_slot w.vif (add32 t i) 0) r) (λ _. answer w t n (i + 1) rs e)

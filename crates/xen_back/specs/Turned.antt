@@ -19,7 +19,7 @@ pub data Turned : Type 0 where
 abbrev pub Ending : Type 0
 Ending = State × Turned
 
--- the turn of this kind, with these bytes where a program ran
+-- the turn of this kind, with these bytes if a program ran
 abbrev pub turned : Kind → List ℕ → Turned
 turned kind.Idle packet = Idle
 turned (kind.Ran number ops slots) packet = Ran number packet ops slots

@@ -1,4 +1,4 @@
-//! Answering a chain: a response a slot, the push, and a notice where it is due.
+//! Answering a chain: one response per slot, the push, and a notice if one is due.
 
 ghost use Rattle.std.specs.Prelude.{◌≡◌, ◌+◌, ◌≤◌, length, drop, map, IsTrue, Option, ℕ};
 ghost use Rattle.xen_netif.specs.Chain.{requests_of};
@@ -85,7 +85,7 @@ pub(crate) fn begin_answers<'p, 'b>(
     )
 }
 
-/// The next response, or the push where all are written.
+/// The next response, or the push if all are written.
 pub(crate) fn answering_want(
     wiring: &Wiring,
     at: &State,
@@ -106,7 +106,7 @@ pub(crate) fn answering_want(
     }
 }
 
-/// After a response, or after the push.
+/// After a response, or after the push if all responses were written.
 pub(crate) fn answer_written<'p, 'b>(
     wiring: &Wiring<'p>,
     state: &State,

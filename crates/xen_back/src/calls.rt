@@ -34,10 +34,11 @@ impl<'p, 'b> Queue<'p, 'b> {
         stage_want(&self.wiring, &self.state, &self.stage)
     }
 
-    /// [`want`](Queue::want), of a queue that is lent for going on.
+    /// What the queue wants next, for a caller that holds it by `&mut`.
     pub fn wanted(&mut self) -> Want
         ensures { IsAsked result self.old self.new }
     {
+        // The borrow checker has to see this type in the body.
         let _vif = &self.wiring.vif;
         stage_want(&self.wiring, &self.state, &self.stage)
     }

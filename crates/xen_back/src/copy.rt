@@ -10,7 +10,7 @@ use bpf_vm::PacketBuf;
 use xen_netif::{Chain, Fragment};
 use xen_page::Place;
 
-/// Before the entry of the i-th fragment, whose flags word is there.
+/// Before the grant entry of the i-th fragment; its flags word is at `at`.
 #[derive(Drop)]
 pub struct Entering<'b> {
     pub chain: Chain,
@@ -23,7 +23,7 @@ pub struct Entering<'b> {
     ghost room: { length packet + sum_by fragment_size (drop i fragments.items) ≤ 65535 },
 }
 
-/// Before the word at a place of the fragment's page, behind which so many more are covered. The next fragment is the i-th.
+/// Before the word at `place` of the fragment's page, which covers `n` more words after it. The next fragment is the i-th.
 #[derive(Drop)]
 pub struct Paging<'b> {
     pub chain: Chain,

@@ -21,7 +21,7 @@ use xen_page::Bus;
 use xen_ring::Ports;
 use xen_steps::{Answer, Want};
 
-/// More events than a turn has, beside those of its program. It ends a loop, and is no measure of a turn.
+/// More events than a turn has apart from those of its program. It ends a loop, and is no tight bound.
 const MAX_EVENTS: u64 = 287_383;
 
 /// The next event, and after an instruction all others up to the next one that reads a counter, or to the exit.

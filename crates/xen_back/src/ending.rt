@@ -24,7 +24,7 @@ use crate::wiring::Wiring;
 use bpf_vm::{Action, PacketBuf};
 use xen_steps::Want;
 
-/// What a stage that wants nothing has come to, and the stage between turns.
+/// The stage between turns, the state and the turn of a stage that wants nothing more.
 pub(crate) fn over<'p, 'b>(
     wiring: &Wiring<'p>,
     state: &State,
@@ -67,7 +67,7 @@ fn ending(wiring: &Wiring, state: &State, packet: &PacketBuf, phase: Phase) -> (
     }
 }
 
-/// A turn as it is shown.
+/// The turn that a host is shown.
 pub(crate) fn shown<'t>(stage: &'t Stage<'_, '_>, kind: Kind) -> Turn<'t>
     ensures { Shows (turned kind (packet_at stage.now)) result }
 {

@@ -25,7 +25,7 @@ pub fn parts_are_runs()
     ensures ran { (w : Wiring) (packet : List ℕ) (p : List Event) (out : Left) → IsProgram w packet p out → Runs (program (run_of w packet) 0) p out }
 {}
 
-/// The ways of a queue between turns to the turn's end are its turns.
+/// The ways of a queue between turns to the next turn's end are exactly the turns.
 pub fn turns_are_rests()
     ensures turns { (w : Wiring) (s : State) (p : List Event) (new : State) (u : Turned) → Runs (whole_turn w s) p (new, u) → IsTurn w s p new u }
     ensures rests { (w : Wiring) (s : State) (p : List Event) (new : State) (u : Turned) → IsTurn w s p new u → Runs (whole_turn w s) p (new, u) }

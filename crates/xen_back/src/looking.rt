@@ -191,7 +191,7 @@ pub(crate) fn slot_read<'p, 'b>(
     }
 }
 
-/// Before a slot that is wanted, where one is left.
+/// Before the next slot of a chain that wants more, if the producer shows one.
 fn more_slots<'p, 'b>(
     wiring: &Wiring<'p>,
     state: &State,

@@ -1,4 +1,4 @@
-//! What comes of a turn.
+//! The result of a turn.
 
 ghost use Rattle.std.specs.Prelude.{◌≡◌};
 ghost use Rattle.xen_back.specs.Causes.{halt_number, refusal_number};
@@ -22,20 +22,20 @@ pub enum Halt {
 /// Why a packet is refused.
 #[derive(Clone, Copy, Debug, PartialEq, Eq)]
 pub enum Refusal {
-    /// The chain or its sizes.
+    /// The chain has an extra, or its sizes are wrong.
     Size(SizeFault),
-    /// The grant of a fragment.
+    /// A fragment's grant failed its check.
     Grant,
-    /// Too few rx slots are posted.
+    /// The frontend posted fewer rx slots than the packet needs.
     FewSlots,
-    /// The grant of an rx slot.
+    /// A posted rx slot's grant failed its check.
     RxGrant,
 }
 
-/// A turn. What a program ran on is lent, so the queue can't go on while it is looked at.
+/// A turn. It borrows the packet from the queue's buffer, so the queue can't go on while the packet is in use.
 #[derive(Debug, PartialEq, Eq, Drop)]
 pub enum Turn<'t> {
-    /// No request was there.
+    /// The ring had no request.
     Idle,
     /// A packet was copied, and the program ran on it.
     Ran {
@@ -45,7 +45,7 @@ pub enum Turn<'t> {
         ops: u32,
         slots: u32,
     },
-    /// The packet was refused, and its slots answered.
+    /// The packet was refused, and its slots were answered with ERROR.
     Refused {
         cause: Refusal,
         ops: u32,
@@ -77,7 +77,7 @@ pub enum Kind {
 }
 
 impl Halt {
-    /// The number by which the cause is told.
+    /// The cause's number in reports.
     pub fn number(self) -> u8
         ensures { result ≡ halt_number self }
     {
@@ -91,7 +91,7 @@ impl Halt {
 }
 
 impl Refusal {
-    /// The number by which the cause is told.
+    /// The cause's number in reports.
     pub fn number(self) -> u8
         ensures { result ≡ refusal_number self }
     {

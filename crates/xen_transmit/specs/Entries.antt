@@ -11,7 +11,7 @@ use Rattle.xen_steps.specs.Steps.{Steps, done, ask}
 use Rattle.xen_steps.specs.declared.want.Want.TheVariants as want
 use Rattle.xen_transmit.specs.declared.vif.Vif.{Vif}
 
--- an entry's two words and their check; none are read where the reference is outside the table
+-- an entry's two words and their check; none are read if the reference is outside the table
 abbrev pub entry_checked : Vif → Bool → Place → ℕ → Steps (Result ℕ GrantFault)
 entry_checked w write at a = ask (want.Read (frame_place at)) (λ b. done (checked w.owners.now w.granter w.user (entry_of a b) write))
 

@@ -32,7 +32,7 @@ abbrev pub frame_in : Option ℕ → ℕ
 frame_in None = 0
 frame_in (Some frame) = frame
 
--- where the k-th word of a packet goes: 1,024 words a buffer, in order
+-- where the k-th word of a packet goes: 1,024 words per buffer, in order
 abbrev pub buffer_word : List Target → ℕ → Place
 buffer_word targets k = page_word (frame_in (target_at targets (k / 1024)).frame) (k % 1024)
 

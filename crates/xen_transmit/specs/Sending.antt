@@ -13,7 +13,7 @@ use Rattle.xen_transmit.specs.declared.phase.Outcome.TheVariants as outcome
 use Rattle.xen_transmit.specs.declared.target.Target.{Target}
 use Rattle.xen_transmit.specs.declared.vif.Vif.{Vif}
 
--- A slot's two words and its grant's entry, checked for writing: the slot's id, and the check's answer.
+-- A slot's two words and its grant's entry, checked for writing: the slot's id, and the check's result.
 pub data IsPosted (w : Vif) (i : ℕ) : List Event → ℕ → Result ℕ GrantFault → Type 0 where
   is_posted : (a g : ℕ) (p : List Event) (r : Result ℕ GrantFault) → a < 2 ^ 32 → g < 2 ^ 32 → IsEntry w true (rx_req_of (a ∷ g ∷ [])).gref p r →
       IsPosted w i (Read (rx_slot w i 0) a ∷ Read (rx_slot w i 1) g ∷ p) (rx_req_of (a ∷ g ∷ [])).id r
@@ -37,14 +37,14 @@ rx_writes w x packet passed n i (t ∷ ts) =
     Write (rx_slot w (add32 x i) 0) (response_word passed packet n i t.id 0) ∷ Write (rx_slot w (add32 x i) 1) (response_word passed packet n i t.id 1)
     ∷ rx_writes w x packet passed n (i + 1) ts
 
--- Two words a response, then the push, the event index and a notice where it is due.
+-- Two words per response, then the push, the event index, and a notice if one is due.
 abbrev pub IsRxRespond : Vif → ℕ → List ℕ → Bool → List Target → List Event → Type 0
 IsRxRespond w x packet passed ts p =
     (event : ℕ) × (event < 2 ^ 32)
     × (p ≡ rx_writes w x packet passed (length ts) 0 ts ++ Write (rx_word w 2) (add32 x (length ts)) ∷ Read (rx_word w 3) event
     ∷ notices w (is_due x (add32 x (length ts)) event))
 
--- A transmit. Where a slot is refused nothing is written to any buffer.
+-- A transmit. If a slot is refused, nothing is written to any buffer.
 pub data IsTransmit (w : Vif) (x : ℕ) (packet : List ℕ) : List Event → Outcome → Type 0 where
   rx_overflow : (p : ℕ) → p < 2 ^ 32 → available x p ≡ None → IsTransmit w x packet (Read (rx_word w 0) p ∷ []) outcome.Overflow
   too_few : (p m : ℕ) → p < 2 ^ 32 → available x p ≡ Some m → m < pages packet → IsTransmit w x packet (Read (rx_word w 0) p ∷ []) outcome.TooFew

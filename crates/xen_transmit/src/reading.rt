@@ -22,7 +22,7 @@ use crate::words::pages_of;
 use xen_netif::RxReq;
 use xen_page::{Entry, Place, check};
 
-/// After the read of the producer.
+/// After the read of the producer, which shows this many slots.
 pub(crate) fn found(vif: &Vif, rx_index: u32, bytes: &[u8], shown: Option<u32>) -> Phase
     requires { length bytes.now ≤ 65535 }
     ensures { rest_of vif.now rx_index bytes.now result ≡ found_lem vif.now rx_index bytes.now shown }
@@ -40,7 +40,7 @@ pub(crate) fn found(vif: &Vif, rx_index: u32, bytes: &[u8], shown: Option<u32>) 
     }
 }
 
-/// Before a slot, or before the buffers.
+/// Before a slot, or before the buffers if none is left to read.
 fn slot_or_fill(vif: &Vif, rx_index: u32, bytes: &[u8], left: u32, targets: Targets) -> Phase
     requires { length targets + left ≤ 16 }
     ensures { rest_of vif.now rx_index bytes.now result ≡ bind (read_targets vif.now rx_index left targets) (after_targets vif.now rx_index bytes.now) }
@@ -143,7 +143,7 @@ pub(crate) fn entry_read(
     }
 }
 
-/// A slot that is refused.
+/// After a slot whose grant was refused.
 fn refused(vif: &Vif, rx_index: u32, bytes: &[u8], targets: Targets, id: u16) -> Phase
     requires { length targets < 16 }
     ensures { rest_of vif.now rx_index bytes.now result ≡ rx_respond vif.now rx_index bytes.now false (targets ++ record { id = id; frame = None } ∷ []) }
@@ -157,7 +157,7 @@ fn refused(vif: &Vif, rx_index: u32, bytes: &[u8], targets: Targets, id: u16) ->
     }
 }
 
-/// A slot that passed.
+/// After a slot whose grant passed its check.
 fn passed(
     vif: &Vif,
     rx_index: u32,

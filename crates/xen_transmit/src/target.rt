@@ -3,14 +3,14 @@
 use arrayvec::ArrayVec;
 use std::marker::Model;
 
-/// A posted slot: its id, and the frame that its grant lends for writing. A slot that is refused has none.
+/// A posted slot: its id, and the frame that its grant lends for writing, unless it was refused.
 #[derive(Clone, Copy, Debug, Default, PartialEq, Eq)]
 pub struct Target {
     pub id: u16,
     pub frame: Option<u32>,
 }
 
-/// At most 16 slots, as many as a packet has pages. Contracts see the list of them.
+/// At most 16 slots, one for each page of a packet. Contracts see the list of them.
 #[derive(Drop)]
 pub struct Targets {
     slots: ArrayVec<Target, 16>,

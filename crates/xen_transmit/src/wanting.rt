@@ -28,7 +28,7 @@ fn slot_index(rx_index: u32, targets: &Targets) -> u32
     rx_index.wrapping_add(targets.len())
 }
 
-/// What a transmit wants.
+/// What a transmit in this phase wants.
 pub(crate) fn phase_want(vif: &Vif, rx_index: u32, bytes: &[u8], phase: &Phase) -> Want
     requires { length bytes.now ≤ 65535 }
     ensures { result ≡ want_of (rest_of vif.now rx_index bytes.now phase.now) }
@@ -64,7 +64,7 @@ pub(crate) fn phase_want(vif: &Vif, rx_index: u32, bytes: &[u8], phase: &Phase) 
     }
 }
 
-/// The next word of the packet, or the first response.
+/// The next word of the packet, or the first response if all words are written.
 fn filling_want(vif: &Vif, rx_index: u32, bytes: &[u8], targets: &Targets, k: u32) -> Want
     requires { length bytes.now ≤ 65535 }
     ensures { result ≡ want_of (fill_from vif.now rx_index bytes.now targets.now k) }
@@ -76,7 +76,7 @@ fn filling_want(vif: &Vif, rx_index: u32, bytes: &[u8], targets: &Targets, k: u3
     }
 }
 
-/// The first word of the next response, or the push where all are written.
+/// The first word of the next response, or the push if all are written.
 fn response_want(
     vif: &Vif,
     rx_index: u32,

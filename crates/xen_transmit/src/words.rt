@@ -77,7 +77,7 @@ pub(crate) fn buffer_at(targets: &Targets, k: u32) -> Place
     }
 }
 
-/// How many bytes lie in the i-th page.
+/// The number of the packet's bytes in its i-th page.
 fn size_of(bytes: &[u8], i: u32) -> u32
     requires short { length bytes.now ≤ 65535 }
     requires within { i < 16 }

@@ -21,7 +21,7 @@ use crate::vif::Vif;
 use crate::words::words_of;
 use xen_ring::due;
 
-/// After a word of a buffer, or after a response's first word where all are written.
+/// After a word of a buffer, or after the first response's first word if all words were written.
 pub(crate) fn filled(vif: &Vif, rx_index: u32, bytes: &[u8], targets: Targets, k: u32) -> Phase
     requires { length bytes.now ≤ 65535 }
     ensures { rest_of vif.now rx_index bytes.now result ≡ next_by (fill_from vif.now rx_index bytes.now targets k) 0 0 }
@@ -33,7 +33,7 @@ pub(crate) fn filled(vif: &Vif, rx_index: u32, bytes: &[u8], targets: Targets, k
     }
 }
 
-/// After a response's first word, or after the push.
+/// After a response's first word, or after the push if all responses were written.
 pub(crate) fn responded(
     vif: &Vif,
     rx_index: u32,

@@ -212,3 +212,30 @@ fn a_fragment_past_its_page_is_refused(rt: HostRuntime) -> Result<(), Fail> {
     }
     Ok(())
 }
+
+#[test]
+fn causes_have_their_numbers(rt: HostRuntime) {
+    let halts = [
+        Halt::TxProducer,
+        Halt::ShortChain,
+        Halt::Chain(ChainFault::TooManySlots),
+        Halt::Chain(ChainFault::UnknownExtra),
+        Halt::Chain(ChainFault::TooManyExtras),
+        Halt::RxProducer,
+    ];
+    for (halt, number) in halts.iter().zip([1, 2, 3, 4, 5, 6]) {
+        assert_eq!(rt; halt.number(), number);
+    }
+    let refusals = [
+        Refusal::Size(SizeFault::ShortPacket),
+        Refusal::Size(SizeFault::LaterSizes),
+        Refusal::Size(SizeFault::PastPage),
+        Refusal::Grant,
+        Refusal::Size(SizeFault::ExtraInfo),
+        Refusal::FewSlots,
+        Refusal::RxGrant,
+    ];
+    for (refusal, number) in refusals.iter().zip([1, 2, 3, 4, 5, 6, 7]) {
+        assert_eq!(rt; refusal.number(), number);
+    }
+}

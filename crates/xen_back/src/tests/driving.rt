@@ -1,9 +1,11 @@
 //! Turns over pages, and turns in a row.
 
-use super::fixtures::{FRAMES, PASSES, kind_of, owners, packet_of, program, queue, turn_by_driver};
+use super::fixtures::{
+    FRAMES, PASSES, feed_turn, kind_of, owners, packet_of, program, queue, turn_by_driver,
+};
 use super::slots::slot;
 use crate::turn::Kind;
-use crate::{Halt, Turn};
+use crate::{Halt, Turn, Want};
 use bpf_maps::Counters;
 use bpf_vm::Buffer;
 use std::test::Fail;
@@ -128,5 +130,20 @@ fn a_due_notice_sets_the_port(rt: HostRuntime) -> Result<(), Fail> {
     );
     assert!(rt; ports.take(port));
     assert!(rt; !ports.take(port));
+    Ok(())
+}
+
+#[test]
+fn a_closed_queue_hands_its_rings_back(rt: HostRuntime) -> Result<(), Fail> {
+    let owners = owners(rt.alloc())?;
+    let table = Table::make(&owners, 1, &[1]).ok_or("no table")?;
+    let program = program(rt.alloc(), &PASSES, &[])?;
+    let mut buffer = Buffer::make(rt.alloc())?;
+    let mut queue = queue(rt.alloc(), &owners, &table, &program, 0, &mut buffer)?;
+    feed_turn(rt.alloc(), &mut queue, &[0, 0])?;
+    assert!(rt; queue.want() == Want::Done);
+    assert_eq!(rt; queue.turn(), Turn::Idle);
+    let (tx, rx) = queue.close();
+    assert_eq!(rt; (tx.frame(), rx.frame()), (17, 18));
     Ok(())
 }
