@@ -51,6 +51,33 @@ fn rx_answers(alloc: Global, start: u32, shown: u32, words: &[u32]) -> Result<Ve
     Ok(answers)
 }
 
+/// The shortest lists of answers that give each halt in a new ring, as docs/NETFRONT.md has them.
+#[test]
+fn the_shortest_scripts(rt: HostRuntime) -> Result<(), Fail> {
+    let alloc = rt.alloc();
+    let mut long = [0, 0, 16].to_vec(alloc)?;
+    for id in 0..16 {
+        long.extend_from_slice(&[id, 4])?;
+    }
+    let scripts: [(u32, u32, &[u32], Halt); 7] = [
+        (0, 0, &[1], Halt::TxProducer),
+        (1, 0, &[1, 5], Halt::TxId),
+        (0, 0, &[0, 0, 1], Halt::RxProducer),
+        (0, 1, &[0, 0, 1, 5, 0], Halt::RxSlot),
+        (0, 1, &[0, 0, 1, 0, 0x1001_0000], Halt::RxSize),
+        (0, 1, &[0, 0, 1, 0, 4], Halt::ShortChain),
+        (0, 16, long.as_slice(), Halt::LongChain),
+    ];
+    let mut number = 0u8;
+    for (sent, posted, answers, cause) in scripts {
+        let polled = halted(alloc, 0, sent, posted, answers)?;
+        assert_eq!(rt; polled.got, Got::Halted(cause));
+        number = number.saturating_add(1);
+        assert_eq!(rt; cause.number(), number);
+    }
+    Ok(())
+}
+
 #[test]
 fn a_tx_producer_beyond_what_is_outstanding(rt: HostRuntime) -> Result<(), Fail> {
     for start in STARTS {
