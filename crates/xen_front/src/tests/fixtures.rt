@@ -7,7 +7,7 @@ ghost use Rattle.xen_front.specs.Fronts.{wiring_of};
 use crate::{Buffer, Front, FrontDesc, Halt, PollRefusal, PostRefusal, RxTurn, SendRefusal};
 use std::alloc::{AllocError, Global};
 use std::test::Fail;
-use xen_page::{Access, Owners, Place, ScriptBus, Table};
+use xen_page::{Access, Owners, ScriptBus, Table};
 use xen_ring::{Port, Ports};
 use xen_steps::{Answer, Want};
 
@@ -56,17 +56,37 @@ pub struct Played {
     pub noticed: bool,
 }
 
-pub fn read(frame: u32, word: u32, answer: u32) -> Access {
-    Access::Read {
-        at: Place { frame, word },
-        answer,
+/// A read or a write, its frame and word, and the word that was read or written.
+pub type Row = (bool, u32, u32, u32);
+
+pub const READ: bool = false;
+
+pub const WRITE: bool = true;
+
+fn row(access: &Access) -> Row {
+    match access {
+        Access::Read { at, answer } => (READ, at.frame, at.word, *answer),
+        Access::Write { at, value } => (WRITE, at.frame, at.word, *value),
+        Access::Exchange { at, found, .. } => (READ, at.frame, at.word, *found),
     }
 }
 
-pub fn write(frame: u32, word: u32, value: u32) -> Access {
-    Access::Write {
-        at: Place { frame, word },
-        value,
+impl Played {
+    /// Whether these are the accesses from the `from`-th on.
+    pub fn ends_with(&self, from: usize, rows: &[Row]) -> bool {
+        self.accesses.len() == from.saturating_add(rows.len()) && self.has(from, rows)
+    }
+
+    /// Whether these are the accesses from the `from`-th on, and perhaps more.
+    pub fn has(&self, from: usize, rows: &[Row]) -> bool {
+        let mut at = from;
+        for wanted in rows {
+            match self.accesses.get(at) {
+                Some(access) if row(access) == *wanted => at = at.saturating_add(1),
+                _ => return false,
+            }
+        }
+        true
     }
 }
 
