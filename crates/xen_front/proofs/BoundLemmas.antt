@@ -1,5 +1,5 @@
 -- Each activity keeps to the front's frames, and is short.
-use Rattle.std.proofs.Common.{◌≡◌, ℕ, zero, suc, ◌+◌, ◌-◌, ◌*◌, ◌/◌, ◌<◌, ◌≤◌, Bool, true, false, List, [], ◌∷◌, ◌++◌, length, map, take, All, Contains, Option, Some, None, ℤ, pos, negsuc, refl, ◌∙◌, ap, arith, subst, get_or, set, length-append, length-take}
+use Rattle.std.proofs.Common.{◌≡◌, ℕ, zero, suc, ◌+◌, ◌-◌, ◌*◌, ◌/◌, ◌<◌, ◌≤◌, Bool, true, false, List, [], ◌∷◌, ◌++◌, length, map, Contains, Option, Some, None, ℤ, pos, negsuc, refl, ◌∙◌, ap, arith, subst, set, length-append}
 use Rattle.std.specs.Prelude.{◌==◌, nat_le, nat_lt, if◌then◌else◌}
 use Rattle.std.proofs.lemmas.List.{length-set}
 use Rattle.std.proofs.lemmas.List.Elements.{Contains-append_left, Contains-append_right}
@@ -24,7 +24,6 @@ use Rattle.xen_steps.specs.declared.want.Want.{Want}
 use Rattle.xen_steps.specs.declared.want.Want.TheVariants as want
 use Rattle.xen_steps.proofs.DriveLemmas.{bounded_le, bounded_bind}
 use Rattle.xen_front.specs.Bound.{AreOwn, HasFlags, IsOwnEvent, IsOwnPlace, IsOwnWant}
-use Rattle.xen_front.specs.Fronts.{all_free, chosen, free_in}
 use Rattle.xen_front.specs.Given.{Ending}
 use Rattle.xen_front.specs.Slots.{buffer, covered_bytes, fault_of, gave, grant_place, grant_writes, in_flight, outstanding, page_writes, part_of, passes_page, piece_request, piece_words, piece_writes, place_or, post_writes, rx_writes, send_writes, slot_writes, filling, took, tx_writes}
 use Rattle.xen_front.specs.Tree.{Gathered, after_rx_look, after_tx_look, chained, checked, flown, grown, judged, look, notice, poll, poll_rx, post, publish, receive, seen, send, take_all}
@@ -34,34 +33,8 @@ use Rattle.xen_front.specs.declared.state.State.{State}
 use Rattle.xen_front.specs.declared.turn.Halt.{Halt}
 use Rattle.xen_buffers.specs.declared.wiring.Buffer.{Buffer}
 use Rattle.xen_buffers.specs.declared.wiring.Wiring.{Wiring}
+use Rattle.xen_front.proofs.IdLemmas.{AreIds, count, count-cleared, count-le-length, flag_inside}
 use Rattle.xen_front.proofs.RestLemmas.{IsSound, sound}
-
--- how many flags are set
-unfoldable pub count : List Bool → ℕ
-count [] = 0
-count (true ∷ out) = suc (count out)
-count (false ∷ out) = count out
-
--- a flag that is set is one of the list's
-flag_inside : (out : List Bool) (id : ℕ) → get_or out id false ≡ true → id < length out
-flag_inside [] id h = cc
-flag_inside (b ∷ out) zero h = omega arith
-flag_inside (b ∷ out) (suc id) h = let r = flag_inside out id h in omega (arith, r)
-
--- clearing it takes one off
-pub count-cleared : (out : List Bool) (id : ℕ) → get_or out id false ≡ true → suc (count (set out id false)) ≡ count out
-unfolding count
-count-cleared [] id h = cc
-count-cleared (true ∷ out) zero h = refl
-count-cleared (false ∷ out) zero h = cc
-count-cleared (true ∷ out) (suc id) h = ap suc (count-cleared out id h)
-count-cleared (false ∷ out) (suc id) h = count-cleared out id h
-
-pub count-le-length : (out : List Bool) → count out ≤ length out
-unfolding count
-count-le-length [] = omega arith
-count-le-length (true ∷ out) = let r = count-le-length out in omega (arith, r)
-count-le-length (false ∷ out) = let r = count-le-length out in omega (arith, r)
 
 -- the buffer of an id is one of the list's
 buffer_in : (buffers : List Buffer) (id : ℕ) → id < length buffers → Contains (map frame_of buffers) (buffer buffers id).frame
@@ -94,47 +67,6 @@ covered-le b r h = by r.status h
             let inside : r.offset + n ≤ 4096 = grind (arith, nat_tests) in
             let some : 1 ≤ n = grind (arith, nat_tests) in
             omega (arith, inside, some)
-
--- each id is one of 256
-abbrev pub AreIds : List ℕ → Type 0
-AreIds [] = Unit {0}
-AreIds (id ∷ ids) = (id < 256) × AreIds ids
-
-pub AreIds-from_All : (ids : List ℕ) → All (λ id. id < 256) ids → AreIds ids
-AreIds-from_All [] a = tt
-AreIds-from_All (id ∷ ids) a = (a 0 0 (omega arith), AreIds-from_All ids (λ k d lt. a (suc k) d (omega (arith, lt))))
-
--- the free ids are such
-free_ids : (out : List Bool) (n i : ℕ) → i + n ≤ 256 → AreIds (free_in out n i)
-free_ids out zero i l = tt
-free_ids out (suc n) i l = by (get_or out i false) (free_ids out n (i + 1) (omega (arith, l)))
-  where
-    by : (b : Bool) → AreIds (free_in out n (i + 1)) → AreIds (if b then free_in out n (i + 1) else (i ∷ free_in out n (i + 1)))
-    by true later = later
-    by false later = (omega (arith, l), later)
-
-take_ids : (n : ℕ) (ids : List ℕ) → AreIds ids → AreIds (take n ids)
-take_ids zero ids a = tt
-take_ids (suc n) [] a = tt
-take_ids (suc n) (id ∷ ids) a = (a.0, take_ids n ids a.1)
-
-all_free_ids : (out : List Bool) → AreIds (all_free out)
-unfolding all_free
-all_free_ids out = free_ids out 256 0 (omega arith)
-
-pub chosen_ids : (n : ℕ) (out : List Bool) → AreIds (chosen n out)
-chosen_ids n out = take_ids n (all_free out) (all_free_ids out)
-
-pub chosen_few : (n : ℕ) (out : List Bool) → n ≤ 16 → length (chosen n out) ≤ 16
-chosen_few n out h = omega (arith, length-take n (all_free out), h)
-
--- and the first of them, or 0 if there is none
-pub first_id : (out : List Bool) → get_or (all_free out) 0 0 < 256
-first_id out = by (all_free out) (all_free_ids out)
-  where
-    by : (ids : List ℕ) → AreIds ids → get_or ids 0 0 < 256
-    by [] a = omega arith
-    by (id ∷ ids) a = a.0
 
 module _ (w : Wiring) (h : IsWired w) where
   abbrev within : Want → Type 0

@@ -1,8 +1,11 @@
 -- What contracts see of a front.
-use Rattle.std.specs.Prelude.{ℕ, zero, suc, ◌≡◌, ◌+◌, Bool, true, false, List, [], ◌∷◌, length, take, get_or, Option, Some, None, Result, Ok, Err, nat_lt, if◌then◌else◌}
+use Rattle.std.specs.Prelude.{ℕ, zero, suc, ◌≡◌, ◌≢◌, ◌+◌, Bool, true, false, List, [], ◌∷◌, length, take, get_or, Option, Some, None, Result, Ok, Err, nat_lt, if◌then◌else◌}
 use Rattle.xen_steps.specs.Answers.{number}
-use Rattle.xen_steps.specs.Steps.{Steps, done, next}
+use Rattle.xen_steps.specs.Drive.{IsPageWant}
+use Rattle.xen_steps.specs.Steps.{Steps, done, next, want_of}
 use Rattle.xen_steps.specs.declared.want.Answer.{Answer}
+use Rattle.xen_steps.specs.declared.want.Want.{Want}
+use Rattle.xen_steps.specs.declared.want.Want.TheVariants as wants
 use Rattle.xen_front.specs.Given.{Ending, Given, Shows}
 use Rattle.xen_front.specs.Rest.{busy_in, rest_at}
 use Rattle.xen_front.specs.Slots.{pieces_of}
@@ -74,8 +77,16 @@ poll_tests None false = Ok tt
 abbrev pub poll_answer : Front → Result (Unit {0}) PollRefusal
 poll_answer f = poll_tests f.state.halt (busy f)
 
+-- It has said what it wants, and is as it was.
+pub record IsAsked (wanted : Want) (old new : Front) : Type 0 where
+  pub want : wanted ≡ want_of (rest old)
+  pub within : wanted ≢ wants.Done → IsPageWant (wiring_of old).frames wanted
+  pub rest : rest new ≡ rest old
+  pub state : state_of new ≡ state_of old
+  pub wiring : wiring_of new ≡ wiring_of old
+
 -- It has taken the answer to its want, and goes on by it.
-pub record IsFed (old : Front) (answer : Answer) (new : Front) : Type 0 where
+pub record IsFed (answer : Answer) (old new : Front) : Type 0 where
   pub rest : rest new ≡ next (rest old) (number answer)
   pub wiring : wiring_of new ≡ wiring_of old
 

@@ -6,7 +6,7 @@ ghost use denote.Follow.{follows_so};
 ghost use mir.Syntax.{named};
 ghost use mathlib.Core.Option.{none};
 ghost use Rattle.xen_front.specs.contracts.front.Front.{the_row};
-ghost use Rattle.xen_front.specs.Fronts.{IsFed, IsOver, rest, state_of, wiring_of};
+ghost use Rattle.xen_front.specs.Fronts.{IsAsked, IsFed, IsOver, rest, state_of, wiring_of};
 ghost use Rattle.xen_front.specs.Given.{Shows, given};
 ghost use Rattle.xen_front.specs.Rest.{HasSpace, busy_in, rest_at};
 ghost use Rattle.xen_front.specs.Slots.{ended};
@@ -210,8 +210,21 @@ pub(crate) fn is_busy(phase: &Phase) -> bool
 impl<'p> Front<'p> {
     /// What the front wants next: an access to a page of its own, a notice, or `Done` when the activity is over.
     pub fn want(&self) -> Want
-        ensures wanted { result ≡ want_of (rest self.now) }
+        ensures want { result ≡ want_of (rest self.now) }
         ensures within { result ≢ Want.Done → IsPageWant (wiring_of self.now).frames result }
+    {
+        phase_want(
+            &self.wiring,
+            &self.state,
+            self.sent.bytes(),
+            &self.received,
+            &self.phase,
+        )
+    }
+
+    /// [`want`](Front::want), of a front that is lent for going on.
+    pub fn wanted(&mut self) -> Want
+        ensures { IsAsked result self.old self.new }
     {
         phase_want(
             &self.wiring,
@@ -225,7 +238,7 @@ impl<'p> Front<'p> {
     /// Takes the answer to its want, and goes on by it.
     pub fn feed(&mut self, answer: Answer)
         requires { Fits (want_of (rest self.old)) answer }
-        ensures { IsFed self.old answer self.new }
+        ensures { IsFed answer self.old self.new }
     {
         let word = answer.word();
         let counter = answer.counter();

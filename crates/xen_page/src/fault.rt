@@ -10,7 +10,7 @@ use std::fmt;
 pub enum GrantFault {
     /// The reference is outside the table, or its entry permits no access (GNTST_bad_gntref).
     BadGntref,
-    /// The entry is another domain's, or read-only where writing is wanted (GNTST_permission_denied).
+    /// The entry is another domain's, or read-only when writing is wanted (GNTST_permission_denied).
     PermissionDenied,
     /// The frame doesn't exist, or isn't the granter's (GNTST_bad_page).
     BadPage,

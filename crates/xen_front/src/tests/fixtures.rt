@@ -7,7 +7,7 @@ ghost use Rattle.xen_front.specs.Fronts.{wiring_of};
 use crate::{Buffer, Front, FrontDesc, Halt, PollRefusal, PostRefusal, RxTurn, SendRefusal};
 use std::alloc::{AllocError, Global};
 use std::test::Fail;
-use xen_page::{Access, Owners, Place, ScriptBus, Table};
+use xen_page::{Access, Owners, ScriptBus, Table};
 use xen_ring::{Port, Ports};
 use xen_steps::{Answer, Want};
 
@@ -44,6 +44,8 @@ pub enum Got {
     NotSent(SendRefusal),
     NotPosted(PostRefusal),
     NotPolled(PollRefusal),
+    /// More events than an activity may have.
+    Endless,
 }
 
 /// A call's outcome, its accesses, and whether it sent a notice.
@@ -54,17 +56,37 @@ pub struct Played {
     pub noticed: bool,
 }
 
-pub fn read(frame: u32, word: u32, answer: u32) -> Access {
-    Access::Read {
-        at: Place { frame, word },
-        answer,
+/// A read or a write, its frame and word, and the word that was read or written.
+pub type Row = (bool, u32, u32, u32);
+
+pub const READ: bool = false;
+
+pub const WRITE: bool = true;
+
+fn row(access: &Access) -> Row {
+    match access {
+        Access::Read { at, answer } => (READ, at.frame, at.word, *answer),
+        Access::Write { at, value } => (WRITE, at.frame, at.word, *value),
+        Access::Exchange { at, found, .. } => (READ, at.frame, at.word, *found),
     }
 }
 
-pub fn write(frame: u32, word: u32, value: u32) -> Access {
-    Access::Write {
-        at: Place { frame, word },
-        value,
+impl Played {
+    /// Whether these are the accesses from the `from`-th on.
+    pub fn ends_with(&self, from: usize, rows: &[Row]) -> bool {
+        self.accesses.len() == from.saturating_add(rows.len()) && self.has(from, rows)
+    }
+
+    /// Whether these are the accesses from the `from`-th on, and perhaps more.
+    pub fn has(&self, from: usize, rows: &[Row]) -> bool {
+        let mut at = from;
+        for wanted in rows {
+            match self.accesses.get(at) {
+                Some(access) if row(access) == *wanted => at = at.saturating_add(1),
+                _ => return false,
+            }
+        }
+        true
     }
 }
 
@@ -145,18 +167,21 @@ fn begin(front: &mut Front, call: Call) -> Option<Got>
 }
 
 /// The activity over a bus that answers from a list.
-fn drive(alloc: Global, front: &mut Front, answers: &[u32]) -> Result<Played, Fail>
+fn drive(alloc: Global, front: &mut Front, answers: &[u32]) -> Result<Played, AllocError>
     requires { (wiring_of front.old).frames ≡ 531 }
     ensures { wiring_of front.new ≡ wiring_of front.old }
 {
     let mut bus = ScriptBus::make(alloc, FRAMES, answers, 17_000)?;
     let ports = Ports::new();
-    let port = Port::of(1).ok_or("a port")?;
     let got = copied(alloc, front.drive_front(&mut bus, &ports))?;
+    let noticed = match Port::of(1) {
+        Some(port) => ports.take(port),
+        None => false,
+    };
     Ok(Played {
         got,
         accesses: bus.accesses().to_vec(alloc)?,
-        noticed: ports.take(port),
+        noticed,
     })
 }
 
@@ -172,7 +197,7 @@ enum Event {
 fn feed_one(front: &mut Front, word: u32) -> Event
     ensures { wiring_of front.new ≡ wiring_of front.old }
 {
-    match front.want() {
+    match front.wanted() {
         Want::Read(at) => {
             front.feed(Answer::Word(word));
             Event::Read(Access::Read { at, answer: word })
@@ -193,14 +218,14 @@ fn feed_one(front: &mut Front, word: u32) -> Event
 fn ended(alloc: Global, front: &mut Front) -> Result<Option<Got>, AllocError>
     ensures { wiring_of front.new ≡ wiring_of front.old }
 {
-    match front.want() {
+    match front.wanted() {
         Want::Done => Ok(Some(copied(alloc, front.received())?)),
         _ => Ok(None),
     }
 }
 
 /// The activity by hand.
-fn feed(alloc: Global, front: &mut Front, answers: &[u32]) -> Result<Played, Fail>
+fn feed(alloc: Global, front: &mut Front, answers: &[u32]) -> Result<Played, AllocError>
     ensures { wiring_of front.new ≡ wiring_of front.old }
 {
     let mut accesses = Vec::new(alloc);
@@ -218,12 +243,50 @@ fn feed(alloc: Global, front: &mut Front, answers: &[u32]) -> Result<Played, Fai
             Event::Over => break,
         }
     }
-    let got = ended(alloc, front)?.ok_or("no end")?;
+    let got = ended(alloc, front)?.unwrap_or(Got::Endless);
     Ok(Played {
         got,
         accesses,
         noticed,
     })
+}
+
+/// What came of a call to both fronts, if it is the same.
+fn compared(
+    driven: Result<Played, AllocError>,
+    fed: Result<Played, AllocError>,
+    refusals: (Option<Got>, Option<Got>),
+) -> Result<Played, Fail> {
+    let (refused, also) = refusals;
+    if refused != also {
+        return Err("one front refuses what the other takes".into());
+    }
+    let mut played = driven?;
+    if played != fed? {
+        return Err("driven and fed by hand, the events differ".into());
+    }
+    if let Some(got) = refused {
+        played.got = got;
+    }
+    Ok(played)
+}
+
+/// Plays a call to both fronts. A refused one makes no event.
+fn play_both(
+    alloc: Global,
+    driven: &mut Front,
+    fed: &mut Front,
+    call: Call,
+    answers: &[u32],
+) -> Result<Played, Fail>
+    requires { (wiring_of driven.old).frames ≡ 531 }
+    ensures { wiring_of driven.new ≡ wiring_of driven.old }
+{
+    let refused = begin(driven, call);
+    let also = begin(fed, call);
+    let by_drive = drive(alloc, driven, answers);
+    let by_hand = feed(alloc, fed, answers);
+    compared(by_drive, by_hand, (refused, also))
 }
 
 /// The two fronts.
@@ -250,26 +313,7 @@ impl<'p> Fronts<'p> {
 
     /// Plays a call to both, with these answers. Both have to do the same.
     pub fn play(&mut self, call: Call, answers: &[u32]) -> Result<Played, Fail> {
-        let refused = begin(&mut self.driven, call);
-        if begin(&mut self.fed, call) != refused {
-            return Err("one front refuses what the other takes".into());
-        }
-        if let Some(got) = refused {
-            return Ok(Played {
-                got,
-                accesses: Vec::new(self.alloc),
-                noticed: false,
-            });
-        }
-        let driven = drive(self.alloc, &mut self.driven, answers)?;
-        let fed = feed(self.alloc, &mut self.fed, answers)?;
-        if driven != fed {
-            return Err("driven and fed by hand, the fronts differ".into());
-        }
-        if self.driven.statuses() != self.fed.statuses() {
-            return Err("the counts differ".into());
-        }
-        Ok(driven)
+        play_both(self.alloc, &mut self.driven, &mut self.fed, call, answers)
     }
 
     /// What comes of a call with no answers but 0.
@@ -282,7 +326,9 @@ impl<'p> Fronts<'p> {
         Ok(got)
     }
 
-    pub fn statuses(&self) -> [u64; 4] {
-        self.driven.statuses()
+    /// The counts of tx responses by status, if both fronts have the same.
+    pub fn statuses(&self) -> Option<[u64; 4]> {
+        let driven = self.driven.statuses();
+        (driven == self.fed.statuses()).then_some(driven)
     }
 }

@@ -1,7 +1,7 @@
 //! What a front does before a back that breaks the protocol.
 
 use super::fixtures::{
-    Call, Fronts, Got, Played, RX, SMALL, STARTS, TX, buffers, read, table, write,
+    Call, Fronts, Got, Played, READ, RX, SMALL, STARTS, TX, WRITE, buffers, table,
 };
 use crate::{Halt, PollRefusal, PostRefusal, SendRefusal};
 use std::alloc::Global;
@@ -51,16 +51,40 @@ fn rx_answers(alloc: Global, start: u32, shown: u32, words: &[u32]) -> Result<Ve
     Ok(answers)
 }
 
+/// The shortest lists of answers that give each halt in a new ring, as docs/NETFRONT.md has them.
+#[test]
+fn the_shortest_scripts(rt: HostRuntime) -> Result<(), Fail> {
+    let alloc = rt.alloc();
+    let mut long = [0, 0, 16].to_vec(alloc)?;
+    for id in 0..16 {
+        long.extend_from_slice(&[id, 4])?;
+    }
+    let scripts: [(u32, u32, &[u32], Halt); 7] = [
+        (0, 0, &[1], Halt::TxProducer),
+        (1, 0, &[1, 5], Halt::TxId),
+        (0, 0, &[0, 0, 1], Halt::RxProducer),
+        (0, 1, &[0, 0, 1, 5, 0], Halt::RxSlot),
+        (0, 1, &[0, 0, 1, 0, 0x1001_0000], Halt::RxSize),
+        (0, 1, &[0, 0, 1, 0, 4], Halt::ShortChain),
+        (0, 16, long.as_slice(), Halt::LongChain),
+    ];
+    let mut number = 0u8;
+    for (sent, posted, answers, cause) in scripts {
+        let polled = halted(alloc, 0, sent, posted, answers)?;
+        assert_eq!(rt; polled.got, Got::Halted(cause));
+        number = number.saturating_add(1);
+        assert_eq!(rt; cause.number(), number);
+    }
+    Ok(())
+}
+
 #[test]
 fn a_tx_producer_beyond_what_is_outstanding(rt: HostRuntime) -> Result<(), Fail> {
     for start in STARTS {
         let producer = start.wrapping_add(4);
         let polled = halted(rt.alloc(), start, 3, 0, &[producer])?;
         assert_eq!(rt; polled.got, Got::Halted(Halt::TxProducer));
-        assert_eq!(rt;
-            polled.accesses.as_slice(),
-            [read(TX, 2, producer)].as_slice()
-        );
+        assert!(rt; polled.ends_with(0, &[(READ, TX, 2, producer)]));
         let back = start.wrapping_sub(1);
         let polled = halted(rt.alloc(), start, 3, 0, &[back])?;
         assert_eq!(rt;
@@ -87,12 +111,8 @@ fn a_tx_response_to_nothing(rt: HostRuntime) -> Result<(), Fail> {
         for id in [1, 255, 256, 0xFFFF] {
             let polled = halted(rt.alloc(), start, 1, 0, &[producer, id])?;
             assert_eq!(rt; polled.got, Got::Halted(Halt::TxId), "{id}");
-            let log = [read(TX, 2, producer), read(TX, slot, id)];
-            assert_eq!(rt;
-                polled.accesses.as_slice(),
-                log.as_slice(),
-                "no grant is ended"
-            );
+            let log = [(READ, TX, 2, producer), (READ, TX, slot, id)];
+            assert!(rt; polled.ends_with(0, &log), "no grant is ended");
         }
         let twice = [start.wrapping_add(2), 1, 1];
         let polled = halted(rt.alloc(), start, 2, 0, &twice)?;
@@ -112,10 +132,7 @@ fn an_rx_producer_beyond_what_is_outstanding(rt: HostRuntime) -> Result<(), Fail
         let answers = rx_answers(rt.alloc(), start, 1, &[])?;
         let polled = halted(rt.alloc(), start, 0, 0, answers.as_slice())?;
         assert_eq!(rt; polled.got, Got::Halted(Halt::RxProducer));
-        assert_eq!(rt;
-            polled.accesses.last(),
-            Some(&read(RX, 2, start.wrapping_add(1)))
-        );
+        assert!(rt; polled.ends_with(3, &[(READ, RX, 2, start.wrapping_add(1))]));
     }
     Ok(())
 }
@@ -170,12 +187,8 @@ fn a_chain_past_the_producer(rt: HostRuntime) -> Result<(), Fail> {
         let answers = rx_answers(rt.alloc(), start, 1, &[0, 0x0005_0004, 1, 2])?;
         let polled = halted(rt.alloc(), start, 0, 2, answers.as_slice())?;
         assert_eq!(rt; polled.got, Got::Halted(Halt::ShortChain));
-        let end = [write(1, 516, 0), read(275, 0, 1), read(275, 1, 2)];
-        assert_eq!(rt;
-            polled.accesses.get(6..),
-            Some(end.as_slice()),
-            "after the slot's page words"
-        );
+        let end = [(WRITE, 1, 516, 0), (READ, 275, 0, 1), (READ, 275, 1, 2)];
+        assert!(rt; polled.ends_with(6, &end), "after the slot's page words");
     }
     Ok(())
 }
@@ -241,10 +254,7 @@ fn a_negative_status_refuses_the_packet(rt: HostRuntime) -> Result<(), Fail> {
             let after = start.wrapping_add(2);
             let idle = fronts.play(Call::Poll, &[start, start, after, after])?;
             assert_eq!(rt; idle.got, Got::Idle, "both slots are consumed");
-            assert_eq!(rt;
-                idle.accesses.get(4),
-                Some(&write(RX, 3, start.wrapping_add(3)))
-            );
+            assert!(rt; idle.has(4, &[(WRITE, RX, 3, start.wrapping_add(3))]));
         }
         let mut fronts = Fronts::make(alloc, &table, &tx, &rx, start)?;
         fronts.play(Call::Post, &[])?;

@@ -253,18 +253,7 @@ impl Model {
             self.rx.end(id);
             poll.wrote();
             bad = bad || negative;
-            let end = offset.saturating_add(size);
-            let mut at = offset - offset % 4;
-            while at < end && size > 0 {
-                let word = random.number();
-                poll.answer(word)?;
-                for byte in word.to_le_bytes() {
-                    if at >= offset && at < end {
-                        bytes.push(byte)?;
-                    }
-                    at = at.saturating_add(1);
-                }
-            }
+            page(offset, size, &mut bytes, poll, random)?;
             if second & 4 == 0 {
                 return Ok(if bad {
                     Got::Refused
@@ -275,4 +264,33 @@ impl Model {
         }
         Ok(Got::Halted(Halt::ShortChain))
     }
+}
+
+/// The words that so many bytes from an offset on cover, and the bytes.
+fn page(
+    offset: u32,
+    size: u32,
+    bytes: &mut Vec<u8>,
+    poll: &mut Poll,
+    random: &mut Random,
+) -> Result<(), AllocError> {
+    let end = offset.saturating_add(size);
+    let first = offset / 4;
+    let words = if size == 0 {
+        0
+    } else {
+        end.div_ceil(4).saturating_sub(first)
+    };
+    let mut at = 4 * first;
+    for _word in 0..words {
+        let word = random.number();
+        poll.answer(word)?;
+        for byte in word.to_le_bytes() {
+            if at >= offset && at < end {
+                bytes.push(byte)?;
+            }
+            at = at.saturating_add(1);
+        }
+    }
+    Ok(())
 }

@@ -45,7 +45,7 @@ fn play(
                 if played.got != poll.got || played.accesses.len() != poll.accesses {
                     return Err("a poll differs from its model".into());
                 }
-                if fronts.statuses() != model.statuses {
+                if fronts.statuses() != Some(model.statuses) {
                     return Err("the counts differ".into());
                 }
                 match played.got {

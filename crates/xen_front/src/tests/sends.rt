@@ -1,6 +1,6 @@
 //! Sends, posts, and the polls of an honest back.
 
-use super::fixtures::{Call, Fronts, Got, RX, SMALL, STARTS, TX, buffers, read, table, write};
+use super::fixtures::{Call, Fronts, Got, READ, RX, SMALL, STARTS, TX, WRITE, buffers, table};
 use crate::{PollRefusal, PostRefusal, SendRefusal};
 use std::test::Fail;
 use xen_page::Access;
@@ -16,19 +16,19 @@ fn a_send_lends_a_page_and_pushes_a_slot(rt: HostRuntime) -> Result<(), Fail> {
         let slot = if start == 0 { 16 } else { 781 };
         let sent = fronts.play(Call::Send(&SMALL), &[next])?;
         let accesses = [
-            write(1, 5, 19),
-            write(1, 4, 5),
-            write(19, 0, 0x0302_0100),
-            write(19, 1, 0x0706_0504),
-            write(19, 2, 0x0b0a_0908),
-            write(19, 3, 0x0000_0d0c),
-            write(TX, slot, 2),
-            write(TX, slot + 1, 0),
-            write(TX, slot + 2, 0x000e_0000),
-            write(TX, 0, next),
-            read(TX, 1, next),
+            (WRITE, 1, 5, 19),
+            (WRITE, 1, 4, 5),
+            (WRITE, 19, 0, 0x0302_0100),
+            (WRITE, 19, 1, 0x0706_0504),
+            (WRITE, 19, 2, 0x0b0a_0908),
+            (WRITE, 19, 3, 0x0000_0d0c),
+            (WRITE, TX, slot, 2),
+            (WRITE, TX, slot + 1, 0),
+            (WRITE, TX, slot + 2, 0x000e_0000),
+            (WRITE, TX, 0, next),
+            (READ, TX, 1, next),
         ];
-        assert_eq!(rt; sent.accesses.as_slice(), accesses.as_slice());
+        assert!(rt; sent.ends_with(0, &accesses));
         assert_eq!(rt; sent.got, Got::Idle);
         assert!(rt; sent.noticed, "the back asked to be told of this slot");
         let again = fronts.play(Call::Send(&SMALL), &[next])?;
@@ -37,7 +37,7 @@ fn a_send_lends_a_page_and_pushes_a_slot(rt: HostRuntime) -> Result<(), Fail> {
             "the back didn't ask to be told of the second"
         );
         assert_eq!(rt; again.accesses.len(), 11);
-        assert_eq!(rt; again.accesses.first(), Some(&write(1, 7, 20)), "id 1");
+        assert!(rt; again.has(0, &[(WRITE, 1, 7, 20)]), "id 1");
     }
     Ok(())
 }
@@ -53,14 +53,14 @@ fn a_post_lends_a_page_for_writing(rt: HostRuntime) -> Result<(), Fail> {
         let slot = if start == 0 { 16 } else { 526 };
         let posted = fronts.play(Call::Post, &[next])?;
         let accesses = [
-            write(1, 517, 275),
-            write(1, 516, 1),
-            write(RX, slot, 0),
-            write(RX, slot + 1, 258),
-            write(RX, 0, next),
-            read(RX, 1, next),
+            (WRITE, 1, 517, 275),
+            (WRITE, 1, 516, 1),
+            (WRITE, RX, slot, 0),
+            (WRITE, RX, slot + 1, 258),
+            (WRITE, RX, 0, next),
+            (READ, RX, 1, next),
         ];
-        assert_eq!(rt; posted.accesses.as_slice(), accesses.as_slice());
+        assert!(rt; posted.ends_with(0, &accesses));
         assert!(rt; posted.noticed);
     }
     Ok(())
@@ -93,21 +93,21 @@ fn a_poll_takes_responses_and_a_packet(rt: HostRuntime) -> Result<(), Fail> {
             ],
         )?;
         let accesses = [
-            read(TX, 2, next),
-            read(TX, tx_slot, 0),
-            write(1, 4, 0),
-            read(RX, 2, next),
-            read(RX, rx_slot, 0),
-            read(RX, rx_slot + 1, 0x000e_0000),
-            write(1, 516, 0),
-            read(275, 0, words[0]),
-            read(275, 1, words[1]),
-            read(275, 2, words[2]),
-            read(275, 3, words[3]),
+            (READ, TX, 2, next),
+            (READ, TX, tx_slot, 0),
+            (WRITE, 1, 4, 0),
+            (READ, RX, 2, next),
+            (READ, RX, rx_slot, 0),
+            (READ, RX, rx_slot + 1, 0x000e_0000),
+            (WRITE, 1, 516, 0),
+            (READ, 275, 0, words[0]),
+            (READ, 275, 1, words[1]),
+            (READ, 275, 2, words[2]),
+            (READ, 275, 3, words[3]),
         ];
-        assert_eq!(rt; polled.accesses.as_slice(), accesses.as_slice());
+        assert!(rt; polled.ends_with(0, &accesses));
         assert_eq!(rt; polled.got, Got::Packet(SMALL.to_vec(alloc)?));
-        assert_eq!(rt; fronts.statuses(), [1, 0, 0, 0]);
+        assert_eq!(rt; fronts.statuses(), Some([1, 0, 0, 0]));
     }
     Ok(())
 }
@@ -122,14 +122,14 @@ fn a_poll_of_nothing_looks_twice(rt: HostRuntime) -> Result<(), Fail> {
         let next = start.wrapping_add(1);
         let polled = fronts.play(Call::Poll, &[start, start, start, start])?;
         let accesses = [
-            read(TX, 2, start),
-            write(TX, 3, next),
-            read(TX, 2, start),
-            read(RX, 2, start),
-            write(RX, 3, next),
-            read(RX, 2, start),
+            (READ, TX, 2, start),
+            (WRITE, TX, 3, next),
+            (READ, TX, 2, start),
+            (READ, RX, 2, start),
+            (WRITE, RX, 3, next),
+            (READ, RX, 2, start),
         ];
-        assert_eq!(rt; polled.accesses.as_slice(), accesses.as_slice());
+        assert!(rt; polled.ends_with(0, &accesses));
         assert_eq!(rt; polled.got, Got::Idle);
     }
     Ok(())
@@ -164,9 +164,8 @@ fn what_the_second_look_shows_is_taken(rt: HostRuntime) -> Result<(), Fail> {
             Got::Packet([0x11, 0x22].to_vec(alloc)?),
             "at offset 4"
         );
-        assert_eq!(rt; polled.accesses.len(), 12);
-        assert_eq!(rt; polled.accesses.last(), Some(&read(275, 1, 0x4433_2211)));
-        assert_eq!(rt; fronts.statuses(), [0, 1, 0, 0]);
+        assert!(rt; polled.ends_with(11, &[(READ, 275, 1, 0x4433_2211)]));
+        assert_eq!(rt; fronts.statuses(), Some([0, 1, 0, 0]));
     }
     Ok(())
 }
@@ -182,7 +181,7 @@ fn each_status_is_counted(rt: HostRuntime) -> Result<(), Fail> {
     }
     let responses = [6, 0, 0xFFFF_0001, 0xFFFE_0002, 0x0001_0003, 0xFFFD_0004, 5];
     assert_eq!(rt; fronts.play(Call::Poll, &responses)?.got, Got::Idle);
-    assert_eq!(rt; fronts.statuses(), [2, 1, 1, 2]);
+    assert_eq!(rt; fronts.statuses(), Some([2, 1, 1, 2]));
     Ok(())
 }
 
@@ -202,26 +201,22 @@ fn a_send_of_65_535_bytes_takes_sixteen_slots(rt: HostRuntime) -> Result<(), Fai
         );
         let first = if start == 0 { 16 } else { 781 };
         let slot = [
-            write(TX, first, 2),
-            write(TX, first + 1, 0x0004_0000),
-            write(TX, first + 2, 0xFFFF_0000),
+            (WRITE, TX, first, 2),
+            (WRITE, TX, first + 1, 0x0004_0000),
+            (WRITE, TX, first + 2, 0xFFFF_0000),
         ];
-        assert_eq!(rt;
-            sent.accesses.get(1026..1029),
-            Some(slot.as_slice()),
-            "the whole size"
-        );
+        assert!(rt; sent.has(1026, &slot), "the whole size");
         let last = if start == 0 { 61 } else { 58 };
         let end = [
-            write(34, 1022, 0xA5A5_A5A5),
-            write(34, 1023, 0x00A5_A5A5),
-            write(TX, last, 17),
-            write(TX, last + 1, 0),
-            write(TX, last + 2, 0x0FFF_000F),
-            write(TX, 0, start.wrapping_add(16)),
-            read(TX, 1, start),
+            (WRITE, 34, 1022, 0xA5A5_A5A5),
+            (WRITE, 34, 1023, 0x00A5_A5A5),
+            (WRITE, TX, last, 17),
+            (WRITE, TX, last + 1, 0),
+            (WRITE, TX, last + 2, 0x0FFF_000F),
+            (WRITE, TX, 0, start.wrapping_add(16)),
+            (READ, TX, 1, start),
         ];
-        assert_eq!(rt; sent.accesses.get(16_459..), Some(end.as_slice()));
+        assert!(rt; sent.ends_with(16_459, &end));
     }
     Ok(())
 }
@@ -252,15 +247,11 @@ fn refusals_come_in_their_order(rt: HostRuntime) -> Result<(), Fail> {
     assert_eq!(rt; fronts.play(Call::Poll, &[1, 9])?.got, Got::Idle);
     let sent = fronts.play(Call::Send(&SMALL), &[257])?;
     let slot = [
-        write(TX, 16, 11),
-        write(TX, 17, 0),
-        write(TX, 18, 0x000e_0009),
+        (WRITE, TX, 16, 11),
+        (WRITE, TX, 17, 0),
+        (WRITE, TX, 18, 0x000e_0009),
     ];
-    assert_eq!(rt;
-        sent.accesses.get(6..9),
-        Some(slot.as_slice()),
-        "id 9 came back"
-    );
+    assert!(rt; sent.has(6, &slot), "id 9 came back");
     for next in 1..=256 {
         assert_eq!(rt; fronts.play(Call::Post, &[next])?.got, Got::Idle);
     }

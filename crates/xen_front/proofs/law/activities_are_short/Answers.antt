@@ -3,7 +3,8 @@ use Rattle.xen_steps.specs.Drive.{Any}
 use Rattle.xen_front.specs.Bound.{IsOwnWant}
 use Rattle.xen_front.specs.Tree.{poll, post, send}
 use Rattle.xen_front.proofs.ActivityLemmas.{runs_send, runs_post, runs_poll}
-use Rattle.xen_front.proofs.BoundLemmas.{AreIds-from_All, bounded_poll, bounded_post, bounded_send, own_runs}
+use Rattle.xen_front.proofs.BoundLemmas.{bounded_poll, bounded_post, bounded_send, own_runs}
+use Rattle.xen_front.proofs.IdLemmas.{AreIds-from_All}
 use Rattle.xen_front.proofs.law.activities_are_short.Goals as goal
 
 pub returns : goal.returns

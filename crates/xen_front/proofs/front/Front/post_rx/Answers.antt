@@ -3,7 +3,8 @@ use Rattle.xen_front.specs.Fronts.{all_free}
 use Rattle.xen_front.specs.Rest.{posting, rest_at}
 use Rattle.xen_front.specs.Tree.{post}
 use Rattle.xen_front.specs.declared.state.Ring.{Ring}
-use Rattle.xen_front.proofs.BoundLemmas.{bounded_post, first_id}
+use Rattle.xen_front.proofs.BoundLemmas.{bounded_post}
+use Rattle.xen_front.proofs.IdLemmas.{first_id}
 use Rattle.xen_front.proofs.ShortLemmas.{short_begun}
 use Rattle.xen_front.proofs.front.Front.post_rx.Goals as goal
 

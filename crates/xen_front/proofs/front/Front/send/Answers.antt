@@ -8,7 +8,8 @@ use Rattle.xen_steps.specs.Places.{add32}
 use Rattle.xen_front.specs.declared.turn.Halt.{Halt}
 use Rattle.xen_front.specs.Rest.{rest_at}
 use Rattle.xen_front.specs.declared.state.Ring.{Ring}
-use Rattle.xen_front.proofs.BoundLemmas.{bounded_send, chosen_few, chosen_ids}
+use Rattle.xen_front.proofs.BoundLemmas.{bounded_send}
+use Rattle.xen_front.proofs.IdLemmas.{chosen_few, chosen_ids}
 use Rattle.xen_front.proofs.ShortLemmas.{short_begun}
 use Rattle.xen_front.proofs.front.Front.send.Goals as goal
 
