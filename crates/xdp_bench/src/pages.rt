@@ -1,0 +1,101 @@
+//! The pages of one interface, as a frontend fills them.
+ghost use Rattle.std.specs.Prelude.{◌≡◌, ◌≤◌, IfOk, length};
+
+use std::alloc::{AllocError, Global};
+use xen_page::{Bus, Frames, Owners, PageBus, Place};
+
+/// Frame 0 is the backend's, frame 1 the frontend's grant table, frames 2 and 3 its rings, and 4 to 19 a packet's pages.
+pub const FRAMES: usize = 20;
+/// The frontend's domain; the backend's is 0.
+pub const FRONT: u16 = 1;
+
+const TABLE: u32 = 1;
+
+const TX: u32 = 2;
+
+const FIRST_PAGE: u32 = 4;
+/// The words of a tx ring's page before its entries.
+const HEADER: u32 = 16;
+
+const PAGE: usize = 4096;
+
+const MORE_DATA: u32 = 4;
+
+/// The owner of each frame.
+pub fn domains() -> [u16; FRAMES]
+    ensures { length result ≡ 20 }
+{
+    let mut domains = [FRONT; FRAMES];
+    domains[0] = 0;
+    domains
+}
+
+pub fn owners(alloc: Global) -> Result<Owners, AllocError>
+    ensures { IfOk result (λ o. length o ≡ 20) }
+{
+    Owners::make(alloc, &domains())
+}
+
+/// Writes a word of a page.
+fn put(frames: &Frames, frame: u32, word: u32, value: u32) {
+    let mut pages = PageBus::of(frames);
+    if frame < pages.frames() && word < 1024 {
+        pages.write(Place { frame, word }, value);
+    }
+}
+
+/// Grants each frame under the reference of its number, and fills the packet's pages.
+pub fn fill(frames: &Frames) {
+    for frame in 0..FRAMES as u32 {
+        put(frames, TABLE, 2 * frame, 1);
+        put(frames, TABLE, 2 * frame + 1, frame);
+    }
+    for frame in FIRST_PAGE..FRAMES as u32 {
+        for word in 0..1024u32 {
+            put(frames, frame, word, word.wrapping_mul(0x0101_0101));
+        }
+    }
+    put(frames, TX, 1, 1);
+    put(frames, TX, 3, 1);
+}
+
+/// How many slots a packet takes, 1 to 16.
+pub fn slots_of(size: usize) -> u32
+    ensures { result ≤ 16 }
+{
+    let pages = (size.min(65_535) + PAGE - 1) / PAGE;
+    pages.max(1) as u32
+}
+
+/// Writes the slots of one packet from an index on.
+fn put_packet(frames: &Frames, index: u32, size: usize) {
+    let slots = slots_of(size);
+    for slot in 0..slots {
+        let at = HEADER + 3 * (index.wrapping_add(slot) % 256);
+        let more = if slot + 1 < slots { MORE_DATA } else { 0 };
+        let length = if slot == 0 {
+            size
+        } else {
+            PAGE.min(size.saturating_sub(PAGE * slot as usize))
+        };
+        put(frames, TX, at, FIRST_PAGE + slot);
+        put(frames, TX, at + 1, more * 0x1_0000);
+        put(
+            frames,
+            TX,
+            at + 2,
+            (length % 0x1_0000) as u32 * 0x1_0000 + slot,
+        );
+    }
+}
+
+/// Publishes so many packets from an index on, and returns the producer.
+pub fn publish(frames: &Frames, index: u32, size: usize, packets: u32) -> u32 {
+    let mut producer = index;
+    for _packet in 0..packets {
+        put_packet(frames, producer, size);
+        producer = producer.wrapping_add(slots_of(size));
+    }
+    put(frames, TX, 0, producer);
+    producer
+}

@@ -1,0 +1,30 @@
+//! Times, and their text.
+ghost use Rattle.std.specs.Prelude.{◌≡◌, ◌++◌, IfOk, codes, decimal, string_bytes};
+ghost use Rattle.xdp_bench.specs.Told.{told};
+
+use crate::fault::Fault;
+use std::alloc::{AllocError, Global};
+use std::time::{Clock, Instant};
+
+/// How often something was done, and in how many nanoseconds; none where nothing was timed.
+#[derive(Clone, Copy, Debug, PartialEq, Eq)]
+pub struct Timed {
+    pub done: u32,
+    pub nanoseconds: Option<u64>,
+}
+
+/// The time since `start`, in nanoseconds.
+pub fn since<R: Clock>(rt: &R, start: &Instant) -> Result<u64, Fault> {
+    let elapsed = start.elapsed(rt).map_err(|_| Fault::Clock)?;
+    u64::try_from(elapsed.as_nanos()).map_err(|_| Fault::Clock)
+}
+
+/// `done 1000 in 251000 ns`, or `done 1`: one that was done once isn't timed, so that it prints the same each time.
+pub fn told(alloc: Global, done: u32, nanoseconds: Option<u64>) -> Result<String, AllocError>
+    ensures { IfOk result (λ s. string_bytes s ≡ told done nanoseconds) }
+{
+    match nanoseconds {
+        Some(nanoseconds) => format!(in alloc; "done {done} in {nanoseconds} ns"),
+        None => format!(in alloc; "done {done}"),
+    }
+}
