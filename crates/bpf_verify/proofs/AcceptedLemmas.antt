@@ -1,5 +1,6 @@
 -- A program that both passes let through is consistent.
 use Rattle.std.proofs.Common.{◌≡◌, ◌⊎◌, inl, inr, ◌<◌, ◌≤◌, ℕ, List, [], ◌∷◌, Option, Some, length, refl, sym, ap, ◌∙◌, arith, subst, Bool, true, false}
+use Rattle.std.proofs.lemmas.Option.{slice_get_within}
 use Rattle.std.specs.Prelude.{Contains, slice_get, ◌==◌, if◌then◌else◌, Ok}
 use Rattle.std.proofs.lemmas.Bool.Decides.{nat_tests}
 use Rattle.std.proofs.lemmas.List.{length-append}
@@ -29,7 +30,7 @@ use Rattle.bpf_verify.proofs.ArriveLemmas.{OneHas, EachHas, Brings, BringsOnly, 
 use Rattle.bpf_verify.proofs.CodeLemmas.{spelled_at}
 use Rattle.bpf_verify.proofs.CycleLemmas.{one_more}
 use Rattle.bpf_verify.proofs.FollowLemmas.{ruled_at}
-use Rattle.bpf_verify.proofs.GraphLemmas.{begun, some_inside}
+use Rattle.bpf_verify.proofs.GraphLemmas.{begun}
 use Rattle.bpf_verify.proofs.LawLemmas.{takes_within}
 use Rattle.bpf_verify.proofs.PassingLemmas.{flows_begins}
 use Rattle.bpf_flow.proofs.KeptLemmas.{Keeps, exec_keeps}
@@ -150,7 +151,7 @@ module _ (code : List Insn) (shapes : List Shape) (notes : ℕ → List Facts)
       let i = begun (slice_get code s.pc) b in
       let spelled = spelled_at code s.pc i.0 laid i.1 (subst (λ (o : Option Insn). begins o ≡ true) i.1 b) in
       let rule = allowed_at code shapes s.pc (notes s.pc) (passed.allowed s.pc (passed.is_order.whole s.pc flows)) n.0 n.1 in
-      let small : s.pc < 4096 = omega (arith, some_inside code s.pc i.0 i.1, laid.short) in
+      let small : s.pc < 4096 = omega (arith, slice_get_within code s.pc i.0 i.1, laid.short) in
       let after : after_of i.0 s.pc n.0 s.shapes ≡ Ok rule.0 = ap (after_of i.0 s.pc n.0) h.0 ∙ rule_of code shapes s.pc i.0 n.0 rule.0 i.1 rule.1 in
       let ruled = ruled_at code (length shapes) s.pc i.0 structured i.1 b in
       let accounts = after_sound n.0 s n.2 i.0 rule.0 (has_words i.0 spelled) small (subst (λ (ms : List Shape). IsRuled i.0 s.pc (length ms)) (sym h.0) ruled) after in

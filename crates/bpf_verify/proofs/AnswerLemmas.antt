@@ -1,5 +1,5 @@
 -- A program has one answer.
-use Rattle.std.proofs.Common.{◌≡◌, inl, inr, ◌<◌, ◌≤◌, ◌+◌, ℕ, zero, suc, List, [], ◌∷◌, ◌++◌, length, take, drop, get_or, refl, sym, ap, ◌∙◌, arith, subst, Some}
+use Rattle.std.proofs.Common.{◌≡◌, inl, inr, ◌<◌, ◌≤◌, ℕ, zero, suc, List, [], ◌∷◌, ◌++◌, length, take, drop, get_or, refl, sym, ap, ◌∙◌, arith, subst, Some}
 use Rattle.std.specs.Prelude.{Contains, slice_get, Ok, Err}
 use Rattle.std.proofs.lemmas.Bool.{cases_lt}
 use Rattle.std.proofs.lemmas.List.{take_all}
@@ -17,6 +17,7 @@ use Rattle.bpf_verify.specs.FirstRefusal.{IsFine, IsFault, IsFirstFault, IsStruc
 use Rattle.bpf_verify.specs.Gathered.{Arrives, dropped, appended, merged, Hears, told, Gathers, first_notes, AreNotes, AreAllowed, IsFirstCause}
 use Rattle.bpf_verify.proofs.GatherLemmas.{hears_quiet, gathers_same}
 use Rattle.bpf_verify.proofs.ToldLemmas.{told_edge}
+use Rattle.bpf_verify.proofs.RankLemmas.{last_length}
 use Rattle.bpf_verify.proofs.LawLemmas.{one_order}
 use Rattle.bpf_verify.proofs.PassingLemmas.{taken_at}
 
@@ -31,12 +32,8 @@ last_same (a ∷ xs) (b ∷ ys) x y h e =
     let r = last_same xs ys x y (omega arith) tail in
     (cc (head, r.0), r.1)
 
-last_long : {A : Type 0} (xs : List A) (x : A) → length (xs ++ x ∷ []) ≡ length xs + 1
-last_long [] x = refl
-last_long (y ∷ xs) x = let r = last_long xs x in omega (arith, r)
-
 too_long : (ns first : List Facts) (e : Facts) → length ns < 8 → length first ≡ 7 → ns ≡ first ++ e ∷ [] → ⊥
-too_long ns first e low seven is = let same : length ns ≡ length (first ++ e ∷ []) = ap length is in let r = last_long first e in omega (arith, low, seven, same, r)
+too_long ns first e low seven is = let same : length ns ≡ length (first ++ e ∷ []) = ap length is in let r = last_length first e in omega (arith, low, seven, same, r)
 
 -- what a note's coming makes of a list
 arrives_one : (ns : List Facts) (n : Facts) (r r' : List Facts) → Arrives ns n r → Arrives ns n r' → r ≡ r'

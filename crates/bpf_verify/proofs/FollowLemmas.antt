@@ -1,5 +1,6 @@
 -- While the notes of one slot are taken along its edges.
 use Rattle.std.proofs.Common.{◌≡◌, inl, inr, ◌<◌, ◌≤◌, ◌+◌, ℕ, zero, suc, List, [], ◌∷◌, ◌++◌, Option, Some, None, length, drop, map, set, ◌≢◌, refl, sym, ap, ◌∙◌, arith, subst, true, false}
+use Rattle.std.proofs.lemmas.Option.{slice_get_within}
 use Rattle.std.specs.Prelude.{slice_get, slice_index_or, Ok, Err, IsSome}
 use Rattle.std.proofs.lemmas.Bool.Decides.{nat_tests}
 use Rattle.bpf_insn.specs.Code.{IsCode}
@@ -20,7 +21,7 @@ use Rattle.bpf_verify.specs.FirstRefusal.{IsFine, IsStructured}
 use Rattle.bpf_verify.specs.Gathered.{Hears, rule_by, rule_at, allowed, told, AreAllowed, TakesMemory, IsFirstCause}
 use Rattle.bpf_flow.specs.Gives.{Fails, WantsMemory}
 use Rattle.bpf_verify.specs.Tables.{facts_at, LeadInside, IsMet}
-use Rattle.bpf_verify.proofs.GraphLemmas.{some_inside, begun, target_found}
+use Rattle.bpf_verify.proofs.GraphLemmas.{begun, target_found}
 use Rattle.bpf_verify.proofs.GatherLemmas.{hears_append}
 use Rattle.bpf_verify.proofs.ToldLemmas.{told_edge}
 
@@ -120,7 +121,7 @@ lead_inside [] n h = tt
 lead_inside (e ∷ es) n h = (h e.0 (inl refl), lead_inside es n (λ q s. h q (inr s)))
 
 pub edge_inside : (code : List Insn) (p q : ℕ) → Edge code p q → q < length code
-edge_inside code p q e = let b = begun (slice_get code q) e.lands in some_inside code q b.0 b.1
+edge_inside code p q e = let b = begun (slice_get code q) e.lands in slice_get_within code q b.0 b.1
 
 -- the edges of a note of slot pc lead inside
 module _ (code : List Insn) (shapes : List Shape) (pc : ℕ) (n : Facts) (es : Edges) (laid : IsCode code) (structured : IsStructured code (length shapes)) (e : rule_at code shapes pc n ≡ Ok es) where

@@ -1,5 +1,5 @@
 -- What a structured program's edges are.
-use Rattle.std.proofs.Common.{◌≡◌, ◌<◌, inl, inr, ℕ, ℤ, List, Option, Some, None, length, refl, subst, arith, zero, suc, [], ◌∷◌, Bool, true, false}
+use Rattle.std.proofs.Common.{◌≡◌, ◌<◌, inl, inr, ℕ, ℤ, List, Option, Some, None, length, refl, subst, arith, Bool, true, false}
 use Rattle.std.specs.Prelude.{slice_get, nat_lt, not, is_none, if◌then◌else◌}
 use Rattle.std.proofs.lemmas.Bool.Decides.{nat_tests}
 use Rattle.bpf_insn.specs.declared.insn.Insn.{Insn}
@@ -8,11 +8,6 @@ use Rattle.bpf_flow.specs.Step.{target}
 use Rattle.bpf_flow.specs.Graph.{Leads, next_slot}
 use Rattle.bpf_verify.specs.Structure.{misses_target, runs_off, landing, begins, jump_of, falls_through}
 use Rattle.bpf_verify.specs.Consistent.{worth}
-
-pub some_inside : {A : Type 0} (xs : List A) (k : ℕ) (x : A) → slice_get xs k ≡ Some x → k < length xs
-some_inside [] k x e = cc
-some_inside (y ∷ ys) zero x e = omega arith
-some_inside (y ∷ ys) (suc k) x e = let r = some_inside ys k x e in omega (arith, r)
 
 pub begun : (o : Option Insn) → begins o ≡ true → (i : Insn) × (o ≡ Some i)
 begun None e = cc

@@ -1,5 +1,6 @@
 -- While the slots of an order are taken.
 use Rattle.std.proofs.Common.{◌≡◌, ◌≢◌, ◌⊎◌, inl, inr, refl, ◌<◌, ◌≤◌, ◌+◌, ℕ, zero, suc, List, [], ◌∷◌, ◌++◌, length, take, drop, get_or, sym, ap, ◌∙◌, arith, subst, true}
+use Rattle.std.proofs.lemmas.Option.{slice_get_within}
 use Rattle.std.specs.Prelude.{Contains, slice_get}
 use Rattle.std.proofs.lemmas.Bool.{cases_lt}
 use Rattle.std.proofs.lemmas.List.{get_or_append_left, take-append-le, take_all, take_more}
@@ -18,12 +19,13 @@ use Rattle.bpf_verify.specs.Orders.{IsReady, Takes, none, more}
 use Rattle.bpf_verify.specs.Structure.{begins}
 use Rattle.bpf_verify.specs.FirstRefusal.{IsStructured, IsPassed, IsStopped, IsFollowed, IsHalted}
 use Rattle.bpf_verify.specs.Tables.{IsMet}
-use Rattle.bpf_verify.proofs.GraphLemmas.{begun, some_inside}
+use Rattle.bpf_verify.proofs.GraphLemmas.{begun}
 use Rattle.bpf_verify.specs.Gathered.{Hears, told, first_notes, AreNotes, AreAllowed, TakesMemory, IsFirstCause}
 use Rattle.bpf_verify.proofs.GatherLemmas.{hears_quiet, notes_more}
 use Rattle.bpf_verify.proofs.ToldLemmas.{told_edge}
 use Rattle.bpf_verify.proofs.RankLemmas.{taken_preds, last_length}
 use Rattle.bpf_verify.proofs.CodeLemmas.{first_begins}
+use Rattle.bpf_verify.proofs.SearchLemmas.{the_one}
 use Rattle.bpf_verify.proofs.LawLemmas.{contains_or}
 use Rattle.bpf_verify.specs.Paths as paths
 
@@ -47,10 +49,6 @@ taken_at {Edge = Edge} {In = In} (more {taken = taken} {p = c} t ready first) i 
           let front : take i (taken ++ c ∷ []) ≡ taken = ap (λ (k : ℕ). take k (taken ++ c ∷ [])) last ∙ (take-append-le (length taken) taken (c ∷ []) (omega arith) ∙ take_all (length taken) taken (omega arith)) in
           subst (λ (q : ℕ). IsTaken Edge In (take i (taken ++ c ∷ [])) q) (sym at) (subst (λ (xs : List ℕ). IsTaken Edge In xs c) (sym front) (record { takes = t; ready = ready }))
     ]
-
-the_one : (c q : ℕ) → Contains (c ∷ []) q → q ≡ c
-the_one c q (zero, low, e) = sym e
-the_one c q (suc k, low, e) = absurd (omega arith)
 
 parts_of : (xs : List ℕ) (i c : ℕ) → i < length xs → get_or xs i 0 ≡ c → xs ≡ take i xs ++ c ∷ drop (i + 1) xs
 parts_of [] i c low e = absurd (omega arith)
@@ -201,7 +199,7 @@ pub order_begins : (code : List Insn) (order : List ℕ) (i : ℕ) → IsCode co
 order_begins code order i laid is low = let s = taken_at is.takes i low in flows_begins code (get_or order i 0) laid s.ready.within
 
 pub begun_inside : (code : List Insn) (q : ℕ) → begins (slice_get code q) ≡ true → q < length code
-begun_inside code q b = let g = begun (slice_get code q) b in some_inside code q g.0 g.1
+begun_inside code q b = let g = begun (slice_get code q) b in slice_get_within code q g.0 g.1
 
 pub halted_by : (code : List Insn) (shapes : List Shape) (pc : ℕ) (c : Cause) (W P : Type 0) → IsMet c W P → (W → IsFollowed code shapes pc) → (P → IsStopped code shapes pc c) → IsHalted code shapes pc c
 halted_by code shapes pc Memory W P h g f = inr (g h)

@@ -42,7 +42,7 @@ taken_preds {Edge = Edge} (more {taken = taken} {p = c} t ready low) p q on e at
   | inr new ↦ Contains-append_left taken (c ∷ []) p (ready.preds p on (subst (λ (r : ℕ). Edge p r) (the_one c q new) e))
 ]
 
-pub last_length : (taken : List ℕ) (c : ℕ) → length (taken ++ c ∷ []) ≡ length taken + 1
+pub last_length : {A : Type 0} (taken : List A) (c : A) → length (taken ++ c ∷ []) ≡ length taken + 1
 last_length taken c = simp length-append
 
 -- an order numbers what is taken

@@ -46,7 +46,7 @@ pub record IsSearching (code : List Insn) (maps pc : ℕ) : Type 0 where
   pub found : misses_target code pc (jump_of jump.insn) ≡ false
   pub before : (p : ℕ) (i : Insn) → p < pc → slice_get code p ≡ Some i → IsFine code maps p i
 
--- want of memory before the first slot is treated or in a search, or the first fault of structure
+-- out of memory before the first slot is checked or in a search, or the first fault of structure
 abbrev pub IsStructureRefusal : List Insn → ℕ → ℕ → Cause → Type 0
 IsStructureRefusal code maps pc Memory = (pc ≡ 0) ⊎ IsSearching code maps pc
 IsStructureRefusal code maps pc cause = IsFirstFault code maps pc cause
@@ -82,7 +82,7 @@ pub record IsFollowed (code : List Insn) (shapes : List Shape) (pc : ℕ) : Type
   pub allowed : (p : ℕ) → Contains before p → AreAllowed code shapes p (notes p)
   pub takes : TakesMemory code shapes pc (notes pc)
 
--- want of memory before the first slot is treated or as notes are followed, or the second pass stopped there
+-- out of memory before the first slot is checked or as notes are followed, or the second pass stopped there
 abbrev pub IsHalted : List Insn → List Shape → ℕ → Cause → Type 0
 IsHalted code shapes pc Memory = (pc ≡ 0) ⊎ IsFollowed code shapes pc
 IsHalted code shapes pc cause = IsStopped code shapes pc cause
@@ -100,13 +100,13 @@ pub record IsSecondRefusal (code : List Insn) (shapes : List Shape) (pc : ℕ) (
   pub structured : IsStructured code (length shapes)
   pub stopped : IsStopped code shapes pc cause
 
--- memory may be wanted before the first slot is treated, by a search of the first pass, and as the second pass follows notes
+-- memory may run out before the first slot is checked, in a search of the first pass, and as the second pass follows notes
 pub data IsWanting (code : List Insn) (shapes : List Shape) (pc : ℕ) : Type 0 where
   at_start : pc ≡ 0 → IsWanting code shapes pc
   in_search : IsSearching code (length shapes) pc → IsWanting code shapes pc
   in_notes : IsStructured code (length shapes) → IsFollowed code shapes pc → IsWanting code shapes pc
 
--- the refusal is the program's: want of memory, or the first cause of the first pass that has one
+-- the refusal is the program's: out of memory, or the first cause of the first pass that has one
 abbrev pub IsRefusal : List Insn → List Shape → Cause → ℕ → Type 0
 IsRefusal code shapes Memory pc = IsWanting code shapes pc
 IsRefusal code shapes Target pc = IsFirstFault code (length shapes) pc Target

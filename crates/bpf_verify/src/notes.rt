@@ -90,8 +90,8 @@ fn blank(alloc: Global, slots: usize) -> Result<Vec<NoteList>, AllocError>
     Ok(table)
 }
 
-/// The second pass: over the reached slots in their order, or up to the first refusal. Where memory is wanting, V0 with the
-/// slot that was treated, or 0.
+/// The second pass: over the reached slots in their order, or up to the first refusal. Out of memory is V0 at the slot being
+/// checked, or at 0 before the first.
 pub(crate) fn second_pass(alloc: Global, code: &[Insn], shapes: &[MapShape]) -> Result<(), Refusal>
     requires laid { IsCode code.now }
     requires structured { IsStructured code.now (length shapes.now) }

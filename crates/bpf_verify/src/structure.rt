@@ -76,8 +76,8 @@ fn fault_of(
     Ok(None)
 }
 
-/// The lowest slot at which something is wrong with the structure; a program without such a slot is ordered. Where
-/// memory is wanting, V0 with the slot that was treated, or 0.
+/// The lowest slot at which something is wrong with the structure; a program without such a slot is ordered. Out of
+/// memory is V0 at the slot being checked, or at 0 before the first.
 pub(crate) fn first_fault(alloc: Global, code: &[Insn], maps: u32) -> Option<Refusal>
     requires short { length code.now ≤ 4096 }
     requires some { 0 < length code.now }

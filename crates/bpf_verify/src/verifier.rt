@@ -22,7 +22,7 @@ fn are_shapes(shapes: &[MapShape])
 }
 
 /// Accepts a program with its maps, at most four of them, or refuses it with the first cause of the first pass that has
-/// one. On a refusal the code is dropped. Want of memory is V0.
+/// one. On a refusal the code is dropped. Out of memory is V0.
 pub fn verify(alloc: Global, code: Code, shapes: &[MapShape]) -> Result<Verified, Refusal>
     requires { length shapes.now ≤ 4 }
     ensures code { IfOk result (λ v. v.code ≡ code) }

@@ -7,6 +7,8 @@ ghost use Rattle.bpf_vm.specs.Course.{IsCourseOf, IsWhole, course};
 /// An accepted program comes to an exit within its number of instructions and without a fault, whatever the counters answer,
 /// and asks for counters of its maps alone.
 pub fn accepted_programs_end()
-    ensures end { (p : Accepted) → IsConsistent p → (s : State) → IsStart s → s.shapes ≡ p.shapes → IsWhole (course (instructions p.code) p.code s) }
-    ensures counters { (p : Accepted) → IsConsistent p → (s : State) → s.shapes ≡ p.shapes → IsCourseOf p.shapes (course (instructions p.code) p.code s) }
+    ensures end { (p : Accepted) → IsConsistent p → (s : State) → IsStart s → s.shapes ≡ p.shapes →
+        IsWhole (course (instructions p.code) p.code s) }
+    ensures counters { (p : Accepted) → IsConsistent p → (s : State) → s.shapes ≡ p.shapes →
+        IsCourseOf p.shapes (course (instructions p.code) p.code s) }
 {}

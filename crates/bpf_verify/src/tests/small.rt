@@ -1,6 +1,7 @@
 //! Small programs.
 use crate::tests::{add_slots, answer, refusal};
 use crate::{Cause, MapShape};
+use bpf_insn::Insn;
 use std::test::Fail;
 
 #[rattlefmt::skip]
@@ -18,6 +19,9 @@ fn a_number_and_an_exit(rt: HostRuntime) -> Result<(), Fail> {
             assert_eq!(rt; program.instructions(), 2);
             assert_eq!(rt; program.slots(), 2);
             assert!(rt; program.shapes().is_empty());
+            if program.slots() == 2 {
+                assert_eq!(rt; *program.insn(1), Insn::Exit);
+            }
         }
         Err(_) => assert!(rt; false),
     }

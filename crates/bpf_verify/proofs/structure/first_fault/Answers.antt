@@ -1,4 +1,5 @@
 use Rattle.std.proofs.Common.{◌≡◌, ◌<◌, ◌≤◌, ◌+◌, length, inl, inr, ℕ, List, Some, arith, sym, subst, ap, ◌∙◌, false}
+use Rattle.std.proofs.lemmas.Option.{slice_get_within}
 use Rattle.std.specs.Prelude.{slice_get}
 use Rattle.std.proofs.lemmas.Bool.{cases_lt}
 use Rattle.std.proofs.lemmas.Option.{slice_get-get_or}
@@ -9,7 +10,6 @@ use Rattle.bpf_verify.specs.Consistent.{IsOrdered}
 use Rattle.bpf_verify.specs.Edges.{ClosesCycle, JumpsBack}
 use Rattle.bpf_verify.specs.Structure.{jump_of, misses_target}
 use Rattle.bpf_verify.specs.FirstRefusal.{IsFine, IsFault, IsStructureRefusal}
-use Rattle.bpf_verify.proofs.GraphLemmas.{some_inside}
 use Rattle.bpf_verify.proofs.structure.first_fault.Goals as goal
 
 first_refusal : (code : List Insn) (maps pc : ℕ) (i : Insn) (cause : Cause) → slice_get code pc ≡ Some i → IsFault code maps pc i cause →
@@ -28,7 +28,7 @@ one_more code maps pc i here f before p j low e = elim (cases_lt p pc) [
 ]
 
 none_closes : (code : List Insn) (maps pc : ℕ) → length code ≤ pc → ((p : ℕ) (j : Insn) → p < pc → slice_get code p ≡ Some j → IsFine code maps p j) → (q : ℕ) → ClosesCycle code q → ⊥
-none_closes code maps pc h before q k = let low = some_inside code q k.insn k.here in (before q k.insn (omega (arith, low)) k.here).cycle k
+none_closes code maps pc h before q k = let low = slice_get_within code q k.insn k.here in (before q k.insn (omega (arith, low)) k.here).cycle k
 
 pub returns-in-Ok-Some-clause-some : goal.returns-in-Ok-Some-clause-some
 returns-in-Ok-Some-clause-some c =
@@ -44,7 +44,7 @@ loop-pc-preserved c = λ p i low e.
 
 pub returns-clause-none : goal.returns-clause-none
 returns-clause-none c = λ p i e.
-    let low = some_inside c.args.code.now p i e in
+    let low = slice_get_within c.args.code.now p i e in
     c.loop-pc.invariant p i (omega (arith, low)) e
 
 pub returns-clause-ordered : goal.returns-clause-ordered
