@@ -94,3 +94,8 @@ driven_alone log gives s m s' a b x y t n d g =
 pub gone_alone : (c : Course) (n ops : ℕ) (f : Left → Steps Ending) → Gone (bind (program (after_steps n c) ops) f) (instructions_alone n) (bind (program c ops) f)
 gone_alone c zero ops f = refl
 gone_alone c (suc n) ops f = (bind (program (after_steps n c) ops) f, (0, (refl, refl), refl), gone_alone c n ops f)
+
+-- what counts nothing leaves any list of operations as it was
+pub driven_silent : {A S : Type 0} (log : S → Option (List Access)) (gives : S → Access → S → Type 0) (s s' : Steps A) (a b : S) (x : List Op) (t : List Event) →
+    Driven log gives s s' a b [] [] t → Driven log gives s s' a b x x t
+driven_silent log gives s s' a b x t d = record { gone = d.gone; performed = d.performed; grown = ops_none x ∙ ap (λ l. x ++ l) d.grown }

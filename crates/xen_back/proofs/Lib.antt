@@ -1,4 +1,5 @@
 pub mod ChainLemmas
+pub mod PageSteps
 pub mod RestLemmas
 pub mod FeedLemmas
 pub mod ProgramLemmas

@@ -40,6 +40,11 @@ rest_at w s packet (phase.Ended after kind) = done (after, turned kind packet)
 abbrev pub fragment_at : List Fragment → ℕ → Fragment
 fragment_at fragments i = slice_index_or fragments i (record { gref = 0; offset = 0; size = 0 })
 
+-- before the word at a place of a fragment's page, which covers n words more; the next fragment is the i-th
+abbrev pub rest_of_page : Wiring → State → List Slot → List Fragment → ℕ → Fragment → ℕ → ℕ → ℕ → List ℕ → Steps Ending
+rest_of_page w s chain fragments i f frame place n packet =
+    bind (bind (copy_words f frame place (suc n) packet) (copy w (drop i fragments))) (after_copy w s chain)
+
 abbrev pub rest_in : Wiring → State → Stage → Steps Ending
 rest_in w s (stage.At packet phase) = rest_at w s packet phase
 rest_in w s (stage.EntryA e) =

@@ -14,9 +14,12 @@ ghost use Rattle.xen_back.specs.Queues.{IsReady, IsSameWiring, rest, state_of, w
 ghost use Rattle.xen_steps.specs.Steps.{want_of};
 ghost use Rattle.xen_back.specs.Tree.{whole_turn};
 
+use crate::pages::stage_read;
 use crate::queue::Queue;
+use crate::stage::Stage;
 use crate::turn::Turn;
 use bpf_maps::{CounterSeat, Counters};
+use std::mem;
 use xen_page::Bus;
 use xen_ring::Ports;
 use xen_steps::{Answer, Want};
@@ -24,7 +27,8 @@ use xen_steps::{Answer, Want};
 /// More events than a turn has apart from those of its program. It ends a loop, and is no tight bound.
 const MAX_EVENTS: u64 = 287_383;
 
-/// The next event, and after an instruction all others up to the next one that reads a counter, or to the exit.
+/// The next event; after an instruction also those up to the next one that reads a counter, or to the exit, and after a
+/// page's first word its others but the last.
 fn drive_some<B: Bus>(
     queue: &mut Queue,
     bus: &mut B,
@@ -32,6 +36,7 @@ fn drive_some<B: Bus>(
     seat: &mut CounterSeat,
     ports: &Ports,
 )
+    requires size { B.size bus.old ≡ length (wiring_of queue.old).vif.owners.now }
     requires within { IsWithin (B.size bus.old) counters.now.shapes (want_of (rest queue.old)) }
     requires seat { IsSeatOf counters.now seat.old }
     ensures size { B.size bus.new ≡ B.size bus.old }
@@ -45,6 +50,7 @@ fn drive_some<B: Bus>(
         Want::Read(at) => {
             let word = bus.read(at);
             queue.feed(Answer::Word(word));
+            queue.read_page(bus);
         }
         Want::Write(at, value) => {
             bus.write(at, value);
@@ -99,6 +105,20 @@ fn drive_events<B: Bus>(
 }
 
 impl<'p, 'b> Queue<'p, 'b> {
+    /// Reads the words of the page that is being copied, but for the last.
+    fn read_page<B: Bus>(&mut self, bus: &mut B)
+        requires { B.size bus.old ≡ length (wiring_of self.old).vif.owners.now }
+        ensures size { B.size bus.new ≡ B.size bus.old }
+        ensures same { IsSameWiring self.old self.new }
+        ensures state { state_of self.new ≡ state_of self.old }
+        ensures driven { (t : List Event) × Driven B.log B.access_gives (rest self.old) (rest self.new) bus.old bus.new [] [] t }
+    {
+        // The borrow checker has to see this type in the body.
+        let _vif = &self.wiring.vif;
+        let stage = mem::replace(&mut self.stage, Stage::Gone);
+        self.stage = stage_read(&self.wiring, &self.state, bus, stage);
+    }
+
     /// A whole turn: its events over the bus, at the counters and to the ports.
     pub fn drive_turn<B: Bus>(
         &mut self,

@@ -14,6 +14,7 @@ mod feeding;
 pub mod laws;
 mod looking;
 mod making;
+mod pages;
 mod phase;
 mod queue;
 mod sent;

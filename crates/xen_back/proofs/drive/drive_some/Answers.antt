@@ -1,6 +1,6 @@
 use Rattle.xen_steps.specs.Event.{Event}
 use Rattle.xen_back.specs.Program.{instructions_alone}
-use Rattle.xen_back.proofs.DriveLemmas.{driven_alone, driven_one}
+use Rattle.xen_back.proofs.DriveLemmas.{driven_alone, driven_append, driven_one, driven_silent}
 use Rattle.std.proofs.Common.{List, [], ◌∷◌, sym, ◌∙◌, ap, arith}
 use Rattle.bpf_maps.specs.Seats.{SeatView}
 use Rattle.bpf_note.specs.declared.op.Op.{Op}
@@ -20,11 +20,19 @@ pub returns-in-Read-clause-events : goal.returns-in-Read-clause-events
 returns-in-Read-clause-events g c =
     let w = want_of (rest c.args.queue.now) in
     let is = sym c.want.ensures.want ∙ c.in-Read.is in
-    let e : Event = Read c.in-Read.at c.read-word.result in (
-      e ∷ [],
+    let e : Event = Read c.in-Read.at c.read-word.result in
+    let ops = c.args.seat.now.ops in
+    let old = rest c.args.queue.now in
+    let mid = rest c.feed.new.self in
+    let new = rest c.read_page.new.self in
+    let page = c.read_page.ensures.driven in
+    let one = driven_one g.B.Bus.log g.B.Bus.access_gives old mid c.args.bus.now c.read-word.new.self ops ops e
+    (c.read-word.result, occurs_read w c.in-Read.at c.read-word.result is c.read-word.type_inv, c.feed.ensures.rest)
+    (performs_one g.B.Bus.log g.B.Bus.access_gives c.args.bus.now (access.Read c.in-Read.at c.read-word.result) c.read-word.new.self c.read-word.ensures.told c.read-word.ensures.given) (ops_none ops) in (
+      e ∷ page.0,
       omega arith,
-      driven_one g.B.Bus.log g.B.Bus.access_gives (rest c.args.queue.now) (rest c.feed.new.self) c.args.bus.now c.read-word.new.self c.args.seat.now.ops c.args.seat.now.ops e
-          (c.read-word.result, occurs_read w c.in-Read.at c.read-word.result is c.read-word.type_inv, c.feed.ensures.rest) (performs_one g.B.Bus.log g.B.Bus.access_gives c.args.bus.now (access.Read c.in-Read.at c.read-word.result) c.read-word.new.self c.read-word.ensures.told c.read-word.ensures.given) (ops_none c.args.seat.now.ops),
+      driven_append g.B.Bus.log g.B.Bus.access_gives old mid new c.args.bus.now c.read-word.new.self c.read_page.new.bus ops ops ops (e ∷ []) page.0 one
+          (driven_silent g.B.Bus.log g.B.Bus.access_gives mid new c.read-word.new.self c.read_page.new.bus ops page.0 page.1),
     )
 
 pub returns-in-Write-clause-events : goal.returns-in-Write-clause-events
