@@ -6,7 +6,7 @@ ghost use Rattle.bpf_note.specs.History.{added};
 ghost use Rattle.bpf_note.specs.Shape.{IsCounter};
 
 use crate::place;
-use crate::plays::{Both, Fetched, First, Loaded, Looked};
+use crate::plays::{Fetched, JoinBoth, Loaded, Look, SplitFirst};
 use crate::rule::{Plan, Rule};
 use crate::seat::CounterSeat;
 use crate::totals::Totals;
@@ -59,7 +59,7 @@ impl Counters {
         let mut dealt = Vec::with_capacity(alloc, seats)?;
         let (table, mut rest) = Table::of_words(alloc, words.as_slice(), &plan)?;
         for _number in 0..seats {
-            let seat = table.shared.split_seat::<First>(&mut rest);
+            let seat = table.shared.split_seat::<SplitFirst>(&mut rest);
             dealt.push(CounterSeat { seat })?;
         }
         Ok((Counters { table, plan, room }, dealt))
@@ -96,9 +96,9 @@ impl Counters {
     {
         let CounterSeat { seat: mut one } = first;
         let CounterSeat { seat: two } = second;
-        self.table.shared.join_seat::<Both>(&mut one, two);
-        self.table.shared.load::<Looked>(&mut one, 0);
-        let two = self.table.shared.split_seat::<First>(&mut one);
+        self.table.shared.join_seat::<JoinBoth>(&mut one, two);
+        self.table.shared.load::<Look>(&mut one, 0);
+        let two = self.table.shared.split_seat::<SplitFirst>(&mut one);
         (CounterSeat { seat: one }, CounterSeat { seat: two })
     }
 
@@ -121,7 +121,7 @@ impl Counters {
         let CounterSeat { seat: mut all } = last;
         while let Some(next) = seats.pop() {
             let CounterSeat { seat } = next;
-            table.shared.join_seat::<Both>(&mut all, seat);
+            table.shared.join_seat::<JoinBoth>(&mut all, seat);
         }
         let closed = table.close_with(all);
         room.take_words(&closed);

@@ -20,25 +20,25 @@ impl Play<(), View> for Fetched {
 }
 
 /// Nothing changed, and the seat's lists stand in one history: how a fact is read off the rule.
-pub(crate) struct Looked;
+pub(crate) struct Look;
 
-impl Play<(), View> for Looked {
+impl Play<(), View> for Look {
     ghost then = { looked };
 }
 
 /// The first number goes to the new seat.
-pub(crate) struct First;
+pub(crate) struct SplitFirst;
 
-impl Split<View> for First {
+impl Split<View> for SplitFirst {
     ghost left = { λ v. view v.shapes (rest_of v.parts) };
 
     ghost right = { λ v. view v.shapes (first_of v.parts) };
 }
 
 /// The other's numbers come before the seat's own.
-pub(crate) struct Both;
+pub(crate) struct JoinBoth;
 
-impl Join<View> for Both {
+impl Join<View> for JoinBoth {
     ghost both = { λ v w. view v.shapes (w.parts ++ v.parts) };
 
     ghost spent = { view [] [] };

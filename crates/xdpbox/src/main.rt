@@ -1,4 +1,4 @@
-//! `xdpbox`: checks a BPF program, or runs it on a packet, and prints how that ended.
+//! `xdpbox`: checks a BPF program, or runs it on a packet or in queues, and prints how that ended.
 #![tactic(auto)]
 
 mod answer;
@@ -17,21 +17,22 @@ use crate::program::{print_memory, run_words};
 use std::process::ExitCode;
 use std::{env, io};
 
+/// The words of the command line, or no words if one of them isn't UTF-8; nothing if memory ran out.
+fn words_of(rt: &HostRuntime) -> Option<Vec<String>> {
+    match env::args(rt) {
+        Ok(args) => args.collect(rt.alloc()).ok(),
+        Err(error) if error.kind() == io::ErrorKind::OutOfMemory => None,
+        Err(_) => Some(Vec::new(rt.alloc())),
+    }
+}
+
 fn main(rt: HostRuntime) -> ExitCode {
-    let alloc = rt.alloc();
     let mut input = rt.reader();
     let mut output = io::writer(&rt);
-    let words: Vec<String> = match env::args(&rt) {
-        Ok(args) => match args.collect(alloc) {
-            Ok(words) => words,
-            Err(_) => return ExitCode::from(print_memory(&mut output)),
-        },
-        Err(error) if error.kind() == io::ErrorKind::OutOfMemory => return ExitCode::from(
-            print_memory(&mut output),
-        ),
-        Err(_) => Vec::new(alloc),
-    };
-    ExitCode::from(run_words(alloc, words.as_slice(), &mut input, &mut output))
+    ExitCode::from(match words_of(&rt) {
+        Some(words) => run_words(rt.alloc(), words.as_slice(), &mut input, &mut output),
+        None => print_memory(&mut output),
+    })
 }
 
 #[cfg(test)]

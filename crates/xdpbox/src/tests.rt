@@ -1,4 +1,5 @@
 mod check;
+mod counting;
 mod examples;
 mod exec;
 mod failing;

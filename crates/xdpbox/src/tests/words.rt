@@ -70,3 +70,8 @@ fn takes_words_after_two_dashes(rt: HostRuntime) -> Result<(), Fail> {
     );
     Ok(())
 }
+
+#[test]
+fn the_first_word_is_the_name_of_the_program(rt: HostRuntime) {
+    assert!(rt; crate::words_of(&rt).is_some_and(|words| !words.is_empty()));
+}
