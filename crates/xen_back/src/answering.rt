@@ -1,7 +1,6 @@
 //! Answering a chain: one response per slot, the push, and a notice if one is due.
 
-ghost use Rattle.std.specs.Prelude.{◌≡◌, ◌+◌, ◌≤◌, length, drop, map, IsTrue, Option, ℕ};
-ghost use Rattle.xen_netif.specs.Chain.{requests_of};
+ghost use Rattle.std.specs.Prelude.{◌≡◌, ◌+◌, length, drop, IsTrue, Option};
 ghost use Rattle.xen_netif.specs.declared.tx.TxReq.{TxReq};
 ghost use Rattle.xen_steps.specs.Places.{add32};
 ghost use Rattle.xen_back.specs.Rest.{is_here, rest_in};

@@ -1,17 +1,10 @@
 //! The end of a turn.
 
 ghost use Rattle.std.specs.Prelude.{◌≡◌, IsTrue};
-ghost use Rattle.std.specs.Prelude.{⊤, []};
-ghost use Rattle.std.specs.Borrow.{sem};
-ghost use denote.Follow.{follows_so};
-ghost use mir.Syntax.{named};
-ghost use mathlib.Core.Option.{none};
-ghost use Rattle.xen_back.specs.contracts.queue.Queue.{the_row};
-ghost use Rattle.xen_back.specs.Queues.{rest, state_of, wiring_of, IsOver};
-ghost use Rattle.xen_steps.specs.Answers.{Fits, number};
+ghost use Rattle.std.specs.Prelude.{[]};
+ghost use Rattle.xen_steps.specs.Answers.{number};
 ghost use Rattle.xen_back.specs.Rest.{is_here, packet_at, rest_at, rest_in};
-ghost use Rattle.xen_steps.specs.Answers.{counter_in as counter_in_lem, word_in as word_in_lem};
-ghost use Rattle.xen_steps.specs.Steps.{done, next, next_by, want_of};
+ghost use Rattle.xen_steps.specs.Steps.{done, want_of};
 ghost use Rattle.xen_back.specs.Tree.{whole_turn};
 ghost use Rattle.xen_back.specs.Turned.{Shows, turned};
 

@@ -1,6 +1,6 @@
 //! Running the program on the copy.
 
-ghost use Rattle.std.specs.Prelude.{ℕ, ◌≡◌, ◌+◌, ◌≤◌, length, IsTrue, Some};
+ghost use Rattle.std.specs.Prelude.{ℕ, ◌≡◌, ◌+◌, IsTrue, Some};
 ghost use Rattle.bpf_vm.specs.Course.{left};
 ghost use Rattle.xen_netif.specs.declared.status.Status.{Status};
 ghost use Rattle.xen_back.specs.Rest.{is_here, rest_in};

@@ -1,10 +1,9 @@
 //! Looking for requests, and reading the slots of a chain.
 
-ghost use Rattle.std.specs.Prelude.{◌≡◌, ◌≢◌, ◌+◌, ◌-◌, ◌<◌, ◌++◌, ◌∷◌, [], suc, length, IsTrue, Ok, Some, Option, ℕ};
+ghost use Rattle.std.specs.Prelude.{◌≡◌, ◌≢◌, ◌+◌, ◌-◌, ◌<◌, ◌++◌, ◌∷◌, [], suc, length, IsTrue, Ok, Some, Option};
 ghost use Rattle.xen_netif.specs.Standing.{standing};
 ghost use Rattle.xen_netif.specs.declared.chain.ChainState.TheVariants.{Complete};
 ghost use Rattle.xen_steps.specs.Places.{add32, available};
-ghost use Rattle.xen_transmit.specs.Places.{tx_slot, tx_word};
 ghost use Rattle.xen_back.specs.Rest.{is_here, rest_in, rest_of_slot};
 ghost use Rattle.xen_steps.specs.Steps.{bind, next_by};
 ghost use Rattle.xen_back.specs.Tree.{after_look, after_scan, halted, judged, read_slots, second, seen, third, whole_turn};

@@ -1,6 +1,6 @@
 //! Sending a packet back: a transmit, and the answer to the packet's chain.
 
-ghost use Rattle.std.specs.Prelude.{◌≡◌, ◌≤◌, length, IsTrue};
+ghost use Rattle.std.specs.Prelude.{◌≡◌, IsTrue};
 ghost use Rattle.xen_back.specs.Rest.{is_here, rest_in};
 ghost use Rattle.xen_transmit.specs.Rest.{rest_after, rest_of};
 ghost use Rattle.xen_steps.specs.Steps.{bind, next_by, want_of};

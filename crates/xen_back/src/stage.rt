@@ -1,6 +1,6 @@
 //! Where a queue is inside a turn, with its packet.
 
-ghost use Rattle.std.specs.Prelude.{◌≤◌, ℕ};
+ghost use Rattle.std.specs.Prelude.{◌≤◌};
 
 use crate::copy::{Entering, Paging};
 use crate::phase::Phase;

@@ -1,18 +1,9 @@
 //! A transmit, one event at a time.
 
-ghost use Rattle.std.specs.Prelude.{ℕ, ◌≡◌, ◌+◌, ◌*◌, ◌/◌, ◌%◌, ◌<◌, ◌≤◌, ◌++◌, [], ◌∷◌, length, drop, true, false, None, Some, slice_index};
-ghost use Rattle.xen_netif.specs.Slots.{rx_req_of};
+ghost use Rattle.std.specs.Prelude.{ℕ, ◌≡◌, ◌≤◌, length, true, false};
 ghost use Rattle.xen_netif.specs.declared.rx.RxReq.{RxReq};
-ghost use Rattle.xen_page.specs.Entry.{entry_of};
-ghost use Rattle.xen_page.specs.Grant.{checked};
-ghost use Rattle.xen_ring.specs.Index.{is_due};
-ghost use Rattle.xen_transmit.specs.Entries.{entry_at, entry_checked};
-ghost use Rattle.xen_transmit.specs.Packets.{buffer_word, frame_in, pages, response_word, rx_response, size_at, status_at, target_at as target_at_lem, word_of, words};
-ghost use Rattle.xen_steps.specs.Places.{add32, available};
-ghost use Rattle.xen_transmit.specs.Places.{rx_slot, rx_word};
 ghost use Rattle.xen_transmit.specs.Rest.{rest_of};
-ghost use Rattle.xen_steps.specs.Steps.{ask, bind, next_by, want_of};
-ghost use Rattle.xen_transmit.specs.Transmit.{after_targets, fill_from, found as found_lem, outcome_of, posted_second, read_targets, requested as requested_lem, rx_answer, rx_notice, rx_respond, targeted};
+ghost use Rattle.xen_steps.specs.Steps.{next_by, want_of};
 ghost use Rattle.xen_steps.specs.declared.want.Want.TheVariants as want;
 ghost use Rattle.std.specs.Prelude.{IsTrue};
 ghost use Rattle.xen_steps.specs.Steps.{asks};
