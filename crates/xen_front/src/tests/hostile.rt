@@ -235,15 +235,16 @@ fn a_negative_status_refuses_the_packet(rt: HostRuntime) -> Result<(), Fail> {
     let alloc = rt.alloc();
     let table = table(alloc)?;
     let (tx, rx) = (buffers(2), buffers(258));
+    let chains: [&[u32]; 2] = [
+        &[0, 0x000A_0004, 1, 2, 3, 1, 0xFFFF_0000],
+        &[1, 0xFFFF_0004, 0, 0x000A_0000, 1, 2, 3],
+    ];
     for start in STARTS {
-        for words in [
-            [0, 0x000A_0004, 1, 2, 3, 1, 0xFFFF_0000],
-            [1, 0xFFFF_0004, 0, 0x000A_0000, 1, 2, 3],
-        ] {
+        for words in chains {
             let mut fronts = Fronts::make(alloc, &table, &tx, &rx, start)?;
             fronts.play(Call::Post, &[])?;
             fronts.play(Call::Post, &[])?;
-            let answers = rx_answers(alloc, start, 2, &words)?;
+            let answers = rx_answers(alloc, start, 2, words)?;
             let polled = fronts.play(Call::Poll, answers.as_slice())?;
             assert_eq!(rt; polled.got, Got::Refused);
             assert_eq!(rt;
