@@ -50,6 +50,14 @@ fn is_wired(
     Ok(desc.is_wired())
 }
 
+/// The buffers without the first.
+fn all_but_one(buffers: &[Buffer]) -> &[Buffer] {
+    match buffers.split_first() {
+        Some((_, others)) => others,
+        None => buffers,
+    }
+}
+
 /// These buffers, that of an id replaced.
 fn with(buffers: &[Buffer; 256], id: usize, buffer: Buffer) -> [Buffer; 256] {
     let mut changed = *buffers;
@@ -69,11 +77,11 @@ fn distinct_pages_in_the_table_and_on_the_bus(rt: HostRuntime) -> Result<(), Fai
         "the last frame is 530"
     );
     assert!(rt;
-        !is_wired(alloc, &tx[..255], &rx, [17, 18], 531)?,
+        !is_wired(alloc, all_but_one(&tx), &rx, [17, 18], 531)?,
         "255 tx buffers"
     );
     assert!(rt;
-        !is_wired(alloc, &tx, &rx[..255], [17, 18], 531)?,
+        !is_wired(alloc, &tx, all_but_one(&rx), [17, 18], 531)?,
         "255 rx buffers"
     );
     assert!(rt;
