@@ -1,3 +1,4 @@
 mod merges;
 mod programs;
 mod runs;
+mod scripts;
