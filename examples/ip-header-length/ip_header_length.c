@@ -18,7 +18,7 @@ int ip_header_length(struct xdp_md *ctx)
 	struct ethhdr *eth = data;
 	struct iphdr *ip = (void *)(eth + 1);
 	struct udphdr *udp;
-	unsigned long first, length;
+	unsigned long length;
 
 	if ((void *)(ip + 1) > data_end)
 		return XDP_PASS;
@@ -26,10 +26,7 @@ int ip_header_length(struct xdp_md *ctx)
 		return XDP_PASS;
 	if (ip->frag_off & __builtin_bswap16(FRAGMENT_OFFSET))
 		return XDP_PASS;
-	first = ip->ihl_version;
-	/* Without this clang masks the low half alone, from which the verifier learns no range. */
-	asm volatile("" : "+r"(first));
-	length = (first & 15) * 4;
+	length = (ip->ihl_version & 15) * 4;
 	if (length < sizeof(*ip))
 		return XDP_DROP;
 	udp = (void *)ip + length;

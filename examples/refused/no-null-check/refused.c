@@ -1,0 +1,15 @@
+/* Counts every packet, without a look at whether the lookup found a value. */
+#include "../../headers.h"
+#include "../../xdp.h"
+
+extern char hits[];	/* a map of four counters */
+static unsigned long long *(*map_lookup)(void *map, const void *key) = (void *)1;
+
+__attribute__((section("xdp"), used))
+int f(struct xdp_md *ctx)
+{
+	unsigned int key = 0;
+
+	__sync_fetch_and_add(map_lookup(hits, &key), 1);
+	return XDP_PASS;
+}

@@ -1,0 +1,24 @@
+/* Counts packets by the first byte of their ethertype, with a key of which one byte alone is written. */
+#include "../../headers.h"
+#include "../../xdp.h"
+
+extern char hits[];	/* a map of four counters */
+static unsigned long long *(*map_lookup)(void *map, const void *key) = (void *)1;
+
+__attribute__((section("xdp"), used))
+int f(struct xdp_md *ctx)
+{
+	void *data = (void *)(long)ctx->data;
+	void *data_end = (void *)(long)ctx->data_end;
+	struct ethhdr *eth = data;
+	unsigned char key[4];
+	unsigned long long *counter;
+
+	if ((void *)(eth + 1) > data_end)
+		return XDP_DROP;
+	key[0] = eth->h_proto;
+	counter = map_lookup(hits, key);
+	if (counter)
+		__sync_fetch_and_add(counter, 1);
+	return XDP_PASS;
+}
