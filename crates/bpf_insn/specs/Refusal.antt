@@ -86,6 +86,6 @@ pub record RunsOut (bytes : List ℕ) (pc : ℕ) : Type 0 where
 abbrev pub IsNoCode : List ℕ → Refusal → Type 0
 IsNoCode bytes r = IsRefused bytes r.cause r.pc ⊎ ((r.cause ≡ Memory) × RunsOut bytes r.pc)
 
--- that refusal, or want of memory
+-- that refusal, or out of memory
 abbrev pub IsRefusalOrMemory : Refusal → Cause → ℕ → Type 0
 IsRefusalOrMemory r cause pc = ((r.cause ≡ cause) × (r.pc ≡ pc)) ⊎ (r.cause ≡ Memory)

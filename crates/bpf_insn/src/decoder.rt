@@ -188,7 +188,7 @@ pub fn decode(alloc: Global, bytes: &[u8]) -> Result<Code, Refusal>
     ensures ok { IfOk result (λ code. Spells code bytes.now) }
     ensures err { IfErr result (λ r. IsNoCode bytes.now r) }
 
-    // Want of memory takes the place of the code alone, never of a refusal.
+    // Out of memory takes the place of the code alone, never of a refusal.
     ensures spelled { (code : List Insn) → Spells code bytes.now → MatchResult result (λ c. c ≡ code) (λ r. r.cause ≡ Cause.Memory) }
     ensures refused { (cause : Cause) (pc : ℕ) → IsRefused bytes.now cause pc → IsErrAnd result (λ r. (r.cause ≡ cause) × (r.pc ≡ pc)) }
 {

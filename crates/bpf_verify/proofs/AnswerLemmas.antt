@@ -348,7 +348,7 @@ first_fault_once code maps pc pc' c d f g = elim (cases_lt pc pc') [
   ]
 ]
 
--- a refusal other than for want of memory is of the first pass or of the second
+-- a refusal other than V0 is of the first pass or of the second
 data Reason (code : List Insn) (shapes : List Shape) (cause : Cause) (pc : ℕ) : Type 0 where
   Structure : IsFirstFault code (length shapes) pc cause → Reason code shapes cause pc
   Rule : IsSecondRefusal code shapes pc cause → Reason code shapes cause pc

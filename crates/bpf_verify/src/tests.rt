@@ -1,4 +1,4 @@
-//! Programs and the verifier's answers. A program stands a slot a line, with its text beside it.
+//! Programs and the verifier's answers. A program has one slot per line, with its text beside it.
 ghost use Rattle.std.specs.Prelude.{◌≤◌, length};
 
 use crate::{Cause, MapShape, Refusal, Verified, verify};

@@ -120,7 +120,7 @@ abbrev pub Prints : Option (List ℕ) → Option (List ℕ) → Said → ℕ →
 Prints held written said status =
     ((status ≡ said.1) × Appends held written said.0) ⊎ ((status ≡ 4) × ((n : ℕ) × (n < length said.0) × Appends held written (take n said.0)))
 
--- a call ends with its answer, for want of memory, or as a read failed
+-- a call ends with its answer, out of memory, or as a read failed
 abbrev pub Ends : Option Wanted → Option (List ℕ) → Option (List ℕ) → Option (List ℕ) → Option (List ℕ) → ℕ → Type 0
 Ends wanted old new held written status =
     ((said : Said) × IsAnswer wanted old new said × Prints held written said status)

@@ -1,4 +1,4 @@
-//! Runs of whole programs. A program stands a slot a line, with its text beside it.
+//! Runs of whole programs. A program has one slot per line, with its text beside it.
 ghost use Rattle.std.specs.Prelude.{◌≡◌, ◌≤◌, [], IfOk, length};
 
 use crate::{Buffer, PacketBuf, Vm, VmWant, run_to_end};
@@ -201,7 +201,7 @@ fn signs_of_loads_and_stores(rt: HostRuntime) -> Result<(), Fail> {
     Ok(())
 }
 
-/// What is wanted of counters, the number and the instructions, where each counter holds 7, an instruction at a time.
+/// What is wanted of counters, the number and the instructions, where each counter holds 7, one instruction at a time.
 fn counted(alloc: Global, start: Vm<'_, '_>) -> Result<(Vec<VmWant>, u32, u32), Fail> {
     let mut vm = start;
     let mut wants = Vec::new(alloc);

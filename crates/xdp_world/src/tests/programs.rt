@@ -1,4 +1,4 @@
-//! Programs of the tests, a slot a line, and their runs.
+//! Programs of the tests, one slot per line, and their runs.
 ghost use Rattle.std.specs.Prelude.{◌≡◌, ◌≤◌, IfOk, Some, length, slice_get, vec_len};
 
 use crate::{Layout, Report, World};

@@ -2,7 +2,7 @@
 use crate::tests::check::assert_check;
 use std::test::Fail;
 
-/// Programs over one map of two values: what is told apart, the program, the counters of a value, the line and the status.
+/// Programs over one map of two values: what the row is about, the program, the counters of a value, the line and the status.
 const CHECKED: [(&str, &str, u32, &str, u8); 11] = [
     (
         "a counter",
