@@ -2,7 +2,9 @@
 use crate::program::run_words;
 use std::alloc::Global;
 use std::process::Abort;
+use std::sync::Wait;
 use std::test::Fail;
+use std::thread::Threads;
 use xdp_load::load;
 
 /// examples/drop-ipv6/settings.toml
@@ -248,15 +250,15 @@ fn checks_the_examples(rt: HostRuntime) {
     for (settings, text) in CHECKED {
         let mut output = Vec::new(alloc);
         let words = ["xdpbox", "check"];
-        let given = run_words(alloc, &words, &mut settings.as_bytes(), &mut output);
+        let given = run_words(&rt, alloc, &words, &mut settings.as_bytes(), &mut output);
         assert_eq!(rt; output.as_slice(), text.as_bytes(), "{settings}");
         assert_eq!(rt; given, 0, "{settings}");
     }
 }
 
 /// Runs the program of the settings on each packet, and compares what is printed.
-fn assert_runs(
-    rt: &impl Abort,
+fn assert_runs<R: Abort + Threads + Wait + Sync>(
+    rt: &R,
     alloc: Global,
     settings: &str,
     runs: &[(&str, &str)],
@@ -266,7 +268,7 @@ fn assert_runs(
     for (packet, text) in runs {
         let mut output = Vec::new(alloc);
         let words = ["xdpbox", "exec", program.as_str(), packet];
-        let given = run_words(alloc, &words, &mut b"".as_slice(), &mut output);
+        let given = run_words(rt, alloc, &words, &mut b"".as_slice(), &mut output);
         assert_eq!(rt; output.as_slice(), text.as_bytes(), "{settings} {packet}");
         assert_eq!(rt; given, 0, "{settings} {packet}");
     }
