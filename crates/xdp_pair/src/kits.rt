@@ -6,7 +6,6 @@ ghost use Rattle.xen_front.specs.Fronts.{wiring_of};
 ghost use Rattle.xdp_pair.specs.Kits.{IsBackOf, IsFrontOf, granted_from, number_of};
 
 use crate::fault::PairFault;
-use crate::lane::Lane;
 use crate::rings::{FIRST_GRANTED, REFERENCES, make_ring};
 use crate::shared::Shared;
 use bpf_maps::CounterSeat;
@@ -47,28 +46,8 @@ pub(crate) struct FrontPages {
     pub queue: usize,
     pub tx: Vec<Buffer>,
     pub rx: Vec<Buffer>,
-    ghost tx: { tx.items ≡ granted_from (514 * queue + 2) },
-    ghost rx: { rx.items ≡ granted_from (514 * queue + 258) },
-}
-
-/// The two flags and unparkers of each queue, and the parkers, the fronts' first.
-pub(crate) fn make_lanes(
-    alloc: Global,
-    count: usize,
-) -> Result<(Vec<Lane>, Vec<Parker>, Vec<Parker>), AllocError>
-    ensures { IfOk result (λ r. (vec_len r.0 ≡ count) × (vec_len r.1 ≡ count) × (vec_len r.2 ≡ count)) }
-{
-    let mut lanes = Vec::with_capacity(alloc, count)?;
-    let mut fronts = Vec::with_capacity(alloc, count)?;
-    let mut backs = Vec::with_capacity(alloc, count)?;
-    for _queue in 0..count {
-        let front = Parker::new(alloc)?;
-        let back = Parker::new(alloc)?;
-        lanes.push(Lane::new(front.unparker().clone()?, back.unparker().clone()?))?;
-        fronts.push(front)?;
-        backs.push(back)?;
-    }
-    Ok((lanes, fronts, backs))
+    ghost tx_granted: { tx.items ≡ granted_from (514 * queue + 2) },
+    ghost rx_granted: { rx.items ≡ granted_from (514 * queue + 258) },
 }
 
 /// What each back is given. Its rings are mapped.

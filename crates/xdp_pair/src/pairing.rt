@@ -10,10 +10,10 @@ use crate::fault::PairFault;
 use crate::gate::Gate;
 use crate::inbox::{Discard, Inbox};
 use crate::joining::{empty_rows, join_backs, join_fronts};
-use crate::kits::{BackKit, FrontKit, make_backs, make_fronts, make_lanes, make_pages};
+use crate::kits::{BackKit, FrontKit, make_backs, make_fronts, make_pages};
 use crate::lane::end_all;
 use crate::report::{PairReport, PairRow};
-use crate::shared::Shared;
+use crate::shared::{Parkers, Shared};
 use crate::starting::{start_backs, start_fronts};
 use bpf_maps::{CounterSeat, Counters};
 use bpf_verify::Verified;
@@ -24,7 +24,7 @@ use std::thread::Threads;
 use xdp_load::{Packet, Setup};
 
 /// The bytes of a front thread's stack.
-const STACK: usize = 0x10_0000;
+pub(crate) const STACK: usize = 0x10_0000;
 
 /// Both threads of each queue, and what they hand back. All threads have ended when it returns.
 fn run_all<R: Threads + Wait + Sync, G: Gate + Sync, I: Inbox + Sync>(
@@ -89,18 +89,20 @@ pub(crate) fn pair_over<R: Threads + Wait + Sync, G: Gate + Sync, I: Inbox + Syn
     gate: &G,
     inbox: &I,
     stack: usize,
+    shared: &Shared,
+    parkers: Parkers,
 ) -> Result<PairReport, PairFault>
-    requires { (1 ≤ setup.now.queues) × (setup.now.queues ≤ 8) }
+    requires queues { (1 ≤ setup.now.queues) × (setup.now.queues ≤ 8) }
+    requires shared { shared.now.layout.queues ≡ setup.now.queues }
+    requires parkers { (vec_len parkers.fronts ≡ setup.now.queues) × (vec_len parkers.backs ≡ setup.now.queues) }
     ensures rows { IfOk result (λ r. vec_len r.rows ≡ setup.now.queues) }
     ensures shapes { IfOk result (λ r. r.totals.shapes ≡ program.now.shapes) }
     ensures account { IfOk result (λ r. (seats : List SeatView) × Account seats r.totals) }
 {
-    let (lanes, front_parkers, back_parkers) = make_lanes(alloc, setup.queues)?;
-    let shared = Shared::make(alloc, lanes, setup.ifindex, setup.start)?;
     let (counters, seats) = Counters::make(alloc, program.shapes(), setup.queues)?;
-    let backs = make_backs(alloc, &shared, seats, back_parkers)?;
+    let backs = make_backs(alloc, shared, seats, parkers.backs)?;
     let pages = make_pages(alloc, setup.queues)?;
-    let fronts = make_fronts(alloc, &shared, pages.as_slice(), front_parkers)?;
+    let fronts = make_fronts(alloc, shared, pages.as_slice(), parkers.fronts)?;
     let rows = empty_rows(alloc, setup.queues)?;
     let (seats, rows) = run_all(
         rt,
@@ -111,7 +113,7 @@ pub(crate) fn pair_over<R: Threads + Wait + Sync, G: Gate + Sync, I: Inbox + Syn
         stack,
         program,
         setup.packets.as_slice(),
-        &shared,
+        shared,
         &counters,
         backs,
         fronts,
@@ -142,5 +144,8 @@ pub fn pair_with<R: Threads + Wait + Sync, G: Gate + Sync>(
     ensures shapes { IfOk result (λ r. r.totals.shapes ≡ program.now.shapes) }
     ensures account { IfOk result (λ r. (seats : List SeatView) × Account seats r.totals) }
 {
-    pair_over(rt, alloc, setup, program, turns, gate, &Discard, STACK)
+    let (shared, parkers) = Shared::make(alloc, setup)?;
+    pair_over(
+        rt, alloc, setup, program, turns, gate, &Discard, STACK, &shared, parkers,
+    )
 }

@@ -3,7 +3,9 @@ ghost use Rattle.std.specs.Prelude.{◌≡◌, ◌≤◌, ◌*◌, IfOk, length,
 ghost use Rattle.xdp_world.specs.Frames.{owners_of};
 
 use crate::lane::Lane;
+use crossbeam_utils::sync::Parker;
 use std::alloc::{AllocError, Global};
+use xdp_load::Setup;
 use xdp_world::Layout;
 use xen_page::Frames;
 use xen_ring::Ports;
@@ -20,30 +22,53 @@ pub(crate) struct Shared {
     pub ifindex: u32,
     /// The index at which each ring begins.
     pub start: u32,
-    ghost frames: { frames ≡ length (owners_of layout.queues) },
-    ghost lanes: { vec_len lanes ≡ layout.queues },
+    ghost sized: { frames ≡ length (owners_of layout.queues) },
+    ghost laned: { vec_len lanes ≡ layout.queues },
+}
+
+/// What the workers sleep on, in the queues' order.
+#[derive(Drop)]
+pub(crate) struct Parkers {
+    pub fronts: Vec<Parker>,
+    pub backs: Vec<Parker>,
+}
+
+/// The two flags and unparkers of each queue, with the parkers.
+fn make_lanes(alloc: Global, count: usize) -> Result<(Vec<Lane>, Parkers), AllocError>
+    ensures lanes { IfOk result (λ r. vec_len r.0 ≡ count) }
+    ensures parkers { IfOk result (λ r. (vec_len r.1.fronts ≡ count) × (vec_len r.1.backs ≡ count)) }
+{
+    let mut lanes = Vec::with_capacity(alloc, count)?;
+    let mut fronts = Vec::with_capacity(alloc, count)?;
+    let mut backs = Vec::with_capacity(alloc, count)?;
+    for _queue in 0..count {
+        let front = Parker::new(alloc)?;
+        let back = Parker::new(alloc)?;
+        lanes.push(Lane::new(front.unparker().clone()?, back.unparker().clone()?))?;
+        fronts.push(front)?;
+        backs.push(back)?;
+    }
+    Ok((lanes, Parkers { fronts, backs }))
 }
 
 impl Shared {
-    /// Pages of zeros, for as many queues as there are lanes.
-    pub fn make(
-        alloc: Global,
-        lanes: Vec<Lane>,
-        ifindex: u32,
-        start: u32,
-    ) -> Result<Shared, AllocError>
-        requires { vec_len lanes ≤ 8 }
-        ensures { IfOk result (λ s. s.layout.queues ≡ vec_len lanes) }
+    /// Pages of zeros for the setup's queues, and what their workers sleep on.
+    pub fn make(alloc: Global, setup: &Setup) -> Result<(Shared, Parkers), AllocError>
+        requires { setup.now.queues ≤ 8 }
+        ensures queues { IfOk result (λ r. r.0.layout.queues ≡ setup.now.queues) }
+        ensures parkers { IfOk result (λ r. (vec_len r.1.fronts ≡ setup.now.queues) × (vec_len r.1.backs ≡ setup.now.queues)) }
     {
-        let layout = Layout::make(alloc, lanes.len())?;
+        let (lanes, parkers) = make_lanes(alloc, setup.queues)?;
+        let layout = Layout::make(alloc, setup.queues)?;
         let frames = layout.frames(alloc)?;
-        Ok(Shared {
+        let shared = Shared {
             layout,
             frames,
             ports: Ports::new(),
             lanes,
-            ifindex,
-            start,
-        })
+            ifindex: setup.ifindex,
+            start: setup.start,
+        };
+        Ok((shared, parkers))
     }
 }
