@@ -1,7 +1,7 @@
 -- What the threads are given.
 use Rattle.std.specs.Prelude.{ℕ, ◌+◌, ◌*◌, ◌<◌, ◌≡◌, List, map, length, true}
 use Rattle.std.specs.List.{range_with_len}
-use Rattle.bpf_maps.specs.Seats.{CountersView, IsSeatOf}
+use Rattle.bpf_maps.specs.Seats.{CountersView, new_seat}
 use Rattle.xdp_world.specs.Frames.{frame_of, owners_of}
 use Rattle.xen_buffers.specs.declared.wiring.Buffer.{Buffer}
 use Rattle.xen_front.specs.Fronts.{wiring_of}
@@ -21,14 +21,14 @@ granted_from first = map granted (range_with_len first 256)
 abbrev pub number_of : BackKit → ℕ
 number_of k = k.seat.number
 
--- A back's kit among so many queues: rings that the front lent for writing, and a seat at the counters.
+-- A back's kit among so many queues: rings that the front lent for writing, and its queue's new seat at the counters.
 pub record IsBackOf (c : CountersView) (queues : ℕ) (k : BackKit) : Type 0 where
   pub queue : k.queue < queues
   pub tx : IsMappedBy (owners_of queues) 1 k.tx
   pub rx : IsMappedBy (owners_of queues) 1 k.rx
   pub tx_writable : k.tx.write ≡ true
   pub rx_writable : k.rx.write ≡ true
-  pub seat : IsSeatOf c k.seat
+  pub seat : k.seat ≡ new_seat c k.queue
 
 -- a front's kit among so many queues: a front whose pages are among their frames
 pub record IsFrontOf (queues : ℕ) (k : FrontKit) : Type 0 where

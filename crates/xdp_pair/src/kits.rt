@@ -1,6 +1,6 @@
 //! What the threads are given, all of it made before the first of them starts.
 ghost use Rattle.std.specs.Prelude.{◌≡◌, ◌<◌, ◌≤◌, ◌*◌, ◌+◌, ℕ, All, Contains, map, length, vec_len, IfOk};
-ghost use Rattle.bpf_maps.specs.Seats.{IsSeatOf, CountersView};
+ghost use Rattle.bpf_maps.specs.Seats.{CountersView, new_seats};
 ghost use Rattle.xdp_world.specs.Frames.{frame_of, owners_of};
 ghost use Rattle.xen_front.specs.Fronts.{wiring_of};
 ghost use Rattle.xdp_pair.specs.Kits.{IsBackOf, IsFrontOf, granted_from, number_of};
@@ -60,7 +60,7 @@ pub(crate) fn make_backs(
     requires seats { vec_len seats ≡ shared.now.layout.queues }
     requires parkers { vec_len parkers ≡ shared.now.layout.queues }
     ensures count { IfOk result (λ v. vec_len v ≡ vec_len seats) }
-    ensures own { (c : CountersView) → All (IsSeatOf c) seats.items → IfOk result (λ v. All (IsBackOf c shared.now.layout.queues) v.items) }
+    ensures own { (c : CountersView) → seats.items ≡ new_seats c shared.now.layout.queues → IfOk result (λ v. All (IsBackOf c shared.now.layout.queues) v.items) }
     ensures numbers { IfOk result (λ v. (q : ℕ) → Contains (map (λ s. s.number) seats.items) q → Contains (map number_of v.items) q) }
 {
     let mut backs = Vec::with_capacity(alloc, seats.len())?;
