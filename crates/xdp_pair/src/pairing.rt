@@ -1,17 +1,17 @@
 //! Running a pair of threads for each queue.
-ghost use Rattle.std.specs.Prelude.{◌≡◌, ◌*◌, ◌≤◌, ℕ, List, All, Contains, map, length, vec_len, IfOk};
+ghost use Rattle.std.specs.Prelude.{◌≡◌, ◌*◌, ◌≤◌, ℕ, All, Contains, map, length, vec_len, IfOk};
 ghost use Rattle.std.specs.Thread.{IsSync};
-ghost use Rattle.bpf_maps.specs.Seats.{Account, IsSeatOf, SeatView};
+ghost use Rattle.bpf_maps.specs.Seats.{IsSeatOf};
 ghost use Rattle.xdp_load.specs.SetupSeen.{setup_view};
 ghost use Rattle.xdp_load.specs.Sound.{IsSound};
 ghost use Rattle.xdp_pair.specs.Kits.{IsBackOf, IsFrontOf, number_of};
+ghost use Rattle.xdp_pair.specs.Leaving.{AreLeft};
 
 use crate::fault::PairFault;
 use crate::gate::Gate;
 use crate::inbox::{Discard, Inbox};
 use crate::joining::{empty_rows, join_backs, join_fronts};
 use crate::kits::{BackKit, FrontKit, make_backs, make_fronts, make_pages};
-use crate::lane::end_all;
 use crate::report::{PairReport, PairRow};
 use crate::shared::{Parkers, Shared};
 use crate::starting::{start_backs, start_fronts};
@@ -60,7 +60,7 @@ fn run_all<R: Threads + Wait + Sync, G: Gate + Sync, I: Inbox + Sync>(
             let backs = match backs {
                 Ok(backs) => backs,
                 Err(fault) => {
-                    end_all(shared.lanes.as_slice());
+                    shared.end_all();
                     return Err(fault);
                 }
             };
@@ -68,12 +68,12 @@ fn run_all<R: Threads + Wait + Sync, G: Gate + Sync, I: Inbox + Sync>(
             let fronts = match fronts {
                 Ok(fronts) => fronts,
                 Err(fault) => {
-                    end_all(shared.lanes.as_slice());
+                    shared.end_all();
                     return Err(fault);
                 }
             };
-            join_fronts(rt, fronts, rows.as_mut_slice());
-            let seats = join_backs(rt, alloc, backs, rows.as_mut_slice())?;
+            join_fronts(rt, fronts, &mut rows);
+            let seats = join_backs(rt, alloc, backs, &mut rows)?;
             Ok((seats, rows))
         },
     )
@@ -97,7 +97,7 @@ pub(crate) fn pair_over<R: Threads + Wait + Sync, G: Gate + Sync, I: Inbox + Syn
     requires parkers { (vec_len parkers.fronts ≡ setup.now.queues) × (vec_len parkers.backs ≡ setup.now.queues) }
     ensures rows { IfOk result (λ r. vec_len r.rows ≡ setup.now.queues) }
     ensures shapes { IfOk result (λ r. r.totals.shapes ≡ program.now.shapes) }
-    ensures account { IfOk result (λ r. (seats : List SeatView) × Account seats r.totals) }
+    ensures account { IfOk result (λ r. AreLeft setup.now.queues r.totals) }
 {
     let (counters, seats) = Counters::make(alloc, program.shapes(), setup.queues)?;
     let backs = make_backs(alloc, shared, seats, parkers.backs)?;
@@ -142,7 +142,7 @@ pub fn pair_with<R: Threads + Wait + Sync, G: Gate + Sync>(
     requires { IsSound (setup_view setup.now) }
     ensures rows { IfOk result (λ r. vec_len r.rows ≡ setup.now.queues) }
     ensures shapes { IfOk result (λ r. r.totals.shapes ≡ program.now.shapes) }
-    ensures account { IfOk result (λ r. (seats : List SeatView) × Account seats r.totals) }
+    ensures account { IfOk result (λ r. AreLeft setup.now.queues r.totals) }
 {
     let (shared, parkers) = Shared::make(alloc, setup)?;
     pair_over(

@@ -71,4 +71,12 @@ impl Shared {
         };
         Ok((shared, parkers))
     }
+
+    /// Ends both workers of each queue.
+    pub fn end_all(&self) {
+        for lane in self.lanes.iter() {
+            lane.end_front();
+            lane.end_back();
+        }
+    }
 }

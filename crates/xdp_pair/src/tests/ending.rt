@@ -129,6 +129,9 @@ fn a_halted_back_ends_its_queue(rt: HostRuntime) -> Result<(), Fail> {
     for row in report.rows.iter() {
         ends.push((row.halted, row.copied))?;
     }
-    assert_eq!(rt; ends.as_slice(), [(Some(Halt::TxProducer), 0), (None, 50)].as_slice());
+    assert_eq!(rt;
+        ends.as_slice(),
+        [(Some(Halt::TxProducer), 0), (None, 50)].as_slice()
+    );
     Ok(())
 }

@@ -40,16 +40,10 @@ pub const COUNTS_BY_QUEUE: &[&str] = &[
 ];
 
 /// Passes each packet on.
-pub const PASSES: &[&str] = &[
-    "b700000002000000",
-    "9500000000000000",
-];
+pub const PASSES: &[&str] = &["b700000002000000", "9500000000000000"];
 
 /// Sends each packet back.
-pub const SENDS_BACK: &[&str] = &[
-    "b700000003000000",
-    "9500000000000000",
-];
+pub const SENDS_BACK: &[&str] = &["b700000003000000", "9500000000000000"];
 
 /// More turns than any test needs.
 pub const TURNS: u32 = 1_000_000;

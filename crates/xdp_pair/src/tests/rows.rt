@@ -1,9 +1,9 @@
 //! Counters that several queues' threads add to.
 
 use super::fixtures::{COUNTS_BY_QUEUE, TURNS, packets, program, setup};
-use crate::shared::Shared;
 use crate::inbox::Discard;
 use crate::pairing::{STACK, pair_over};
+use crate::shared::Shared;
 use crate::{Open, PairRow, pair_with};
 use bpf_insn::decode;
 use bpf_maps::MapShape;
@@ -61,7 +61,10 @@ fn two_queues_count_1500(rt: HostRuntime) -> Result<(), Fail> {
     let code = decode(alloc, setup.program.as_slice()).map_err(|_| Fail::from("decode"))?;
     let program = verify(alloc, code, &shapes).map_err(|_| Fail::from("verify"))?;
     let report = pair_with(&rt, alloc, &setup, &program, TURNS, &Open)?;
-    assert_eq!(rt; report.rows.as_slice(), [passed(1000), passed(500)].as_slice());
+    assert_eq!(rt;
+        report.rows.as_slice(),
+        [passed(1000), passed(500)].as_slice()
+    );
     assert_eq!(rt; report.totals.at(0, 0, 0), 0);
     assert_eq!(rt; report.totals.at(0, 1, 0), 1500);
     Ok(())
@@ -78,7 +81,10 @@ fn adds_of_two_queues_come_to_2000(rt: HostRuntime) -> Result<(), Fail> {
     let report = pair_over(
         &rt, alloc, &setup, &program, TURNS, &Open, &Discard, STACK, &shared, parkers,
     )?;
-    assert_eq!(rt; report.rows.as_slice(), [passed(1000), passed(500)].as_slice());
+    assert_eq!(rt;
+        report.rows.as_slice(),
+        [passed(1000), passed(500)].as_slice()
+    );
     assert_eq!(rt; report.totals.at(0, 1, 0), 2000);
     Ok(())
 }

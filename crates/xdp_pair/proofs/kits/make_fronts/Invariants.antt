@@ -5,7 +5,7 @@ use Rattle.xdp_pair.proofs.kits.make_fronts.Given as goal
 
 abbrev pub invariant-loop-parker : goal.invariant-loop-parker
 invariant-loop-parker l =
-    (vec_len l.parkers ≤ length l.fn.pages.now) × All (λ (p : FrontPages). p.queue < l.shared.layout.queues) l.fn.pages.now × All (IsFrontOf l.shared.layout.queues) l.fronts.items
+    (vec_len l.parkers ≤ length l.fn.pages) × All (λ (p : FrontPages). p.queue < l.shared.layout.queues) l.fn.pages × All (IsFrontOf l.shared.layout.queues) l.fronts.items
 
 abbrev pub decreases-loop-parker : goal.decreases-loop-parker
 decreases-loop-parker l = vec_len l.parkers
