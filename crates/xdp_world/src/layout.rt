@@ -1,9 +1,9 @@
 //! Who owns which frame in a world's memory, and the grants.
-ghost use Rattle.std.specs.Prelude.{◌≡◌, ◌≤◌, IfOk};
+ghost use Rattle.std.specs.Prelude.{◌≡◌, ◌≤◌, IfOk, length};
 ghost use Rattle.xdp_world.specs.Frames.{owners_of, table_frames};
 
 use std::alloc::{AllocError, Global};
-use xen_page::{Owners, Table};
+use xen_page::{Frames, Owners, Table};
 
 /// The back's domain, which owns frame 0 alone.
 pub const BACK: u16 = 0;
@@ -21,14 +21,14 @@ pub struct Layout {
     ghost granted: { table ≡ table_frames },
 }
 
-/// The owners of the frames.
-fn owners(alloc: Global, queues: usize) -> Result<Owners, AllocError>
+/// The domain that owns each frame.
+fn domains(alloc: Global, queues: usize) -> Result<Vec<u16>, AllocError>
     requires { queues ≤ 8 }
-    ensures { IfOk result (λ o. o ≡ owners_of queues) }
+    ensures { IfOk result (λ d. d.items ≡ owners_of queues) }
 {
     let mut domains = Vec::from_elem(alloc, FRONT, 17 + 514 * queues)?;
     domains[0] = BACK;
-    Owners::make(alloc, domains.as_slice())
+    Ok(domains)
 }
 
 impl Layout {
@@ -37,7 +37,8 @@ impl Layout {
         requires { queues ≤ 8 }
         ensures { IfOk result (λ l. l.queues ≡ queues) }
     {
-        let owners = owners(alloc, queues)?;
+        let domains = domains(alloc, queues)?;
+        let owners = Owners::make(alloc, domains.as_slice())?;
         let Some(table) = Table::make(
             &owners,
             FRONT,
@@ -50,5 +51,27 @@ impl Layout {
             table,
             queues,
         })
+    }
+
+    /// The domain that owns each frame.
+    pub fn owners(&self) -> &Owners
+        ensures { result.now ≡ owners_of self.now.queues }
+    {
+        &self.owners
+    }
+
+    /// The front's grant table.
+    pub fn table(&self) -> &Table
+        ensures { result.now ≡ table_frames }
+    {
+        &self.table
+    }
+
+    /// The frames of this layout, all words 0.
+    pub fn frames(&self, alloc: Global) -> Result<Frames, AllocError>
+        ensures { IfOk result (λ f. f ≡ length (owners_of self.now.queues)) }
+    {
+        let domains = domains(alloc, self.queues)?;
+        Frames::make(alloc, domains.as_slice())
     }
 }

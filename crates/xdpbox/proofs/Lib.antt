@@ -1,3 +1,4 @@
 mod CommandLineLemmas
 mod InputLemmas
 pub mod CounterLineLemmas
+mod TurnsLemmas

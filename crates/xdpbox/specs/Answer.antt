@@ -13,7 +13,10 @@ use Rattle.xdp_world.specs.declared.report.Report.{Report}
 use Rattle.xdpbox.specs.declared.executing.Accepted.{Accepted}
 use Rattle.xdpbox.specs.Executing.{Checks, Executes, Runs}
 use Rattle.xdpbox.specs.Lines.{checked_text, executed_text, ran_text, settings_text}
-use Rattle.xdpbox.specs.Words.{Wanted, exec, check, run}
+use Rattle.xdpbox.specs.PairLines.{paired_status, paired_text}
+use Rattle.xdpbox.specs.Pairing.{IsPaired}
+use Rattle.xdpbox.specs.declared.pairing.Paired.{Paired}
+use Rattle.xdpbox.specs.Words.{Wanted, exec, check, run, pair}
 
 -- a text, and an exit status
 abbrev pub Said : Type 0
@@ -70,6 +73,13 @@ ran_answer names c = (ran_text names c, program_status c)
 abbrev pub RunAnswer : SetupView → Said → Type 0
 RunAnswer s said = (c : Result Report Refusal) × Runs s c × (said ≡ ran_answer s.names c)
 
+abbrev pub paired_answer : List (List ℕ) → Paired → Said
+paired_answer names p = (paired_text names p, paired_status p)
+
+-- the answer to a setup: by a run of its queues on threads
+abbrev pub PairAnswer : SetupView → Said → Type 0
+PairAnswer s said = (p : Paired) × IsPaired s p × (said ≡ paired_answer s.names p)
+
 -- the answer to what settings spell: to a setup, or their first fault
 abbrev pub SpelledAnswer : (SetupView → Said → Type 0) → Result SetupView Fault → Said → Type 0
 SpelledAnswer answer (Ok s) said = answer s said
@@ -96,17 +106,19 @@ IsAnswer None old new said = said ≡ words_refused
 IsAnswer (Some (exec program packet)) old new said = ExecAnswer program packet said
 IsAnswer (Some check) old new said = InputAnswer SetupAnswer old new said
 IsAnswer (Some run) old new said = InputAnswer RunAnswer old new said
+IsAnswer (Some (pair turns)) old new said = InputAnswer PairAnswer old new said
 
 -- at most so many bytes are taken
 abbrev pub TakesAtMost : ℕ → Option (List ℕ) → Option (List ℕ) → Type 0
 TakesAtMost n old new = (taken : List ℕ) × Consumes old new taken × (length taken ≤ n)
 
--- what a call does to its reader, whatever it answers: `check` and `run` alone read
+-- what a call does to its reader, whatever it answers: `exec` alone reads nothing
 abbrev pub Takes : Option Wanted → Option (List ℕ) → Option (List ℕ) → Type 0
 Takes None old new = Keeps old new
 Takes (Some (exec program packet)) old new = Keeps old new
 Takes (Some check) old new = TakesAtMost 1048577 old new
 Takes (Some run) old new = TakesAtMost 1048577 old new
+Takes (Some (pair turns)) old new = TakesAtMost 1048577 old new
 
 -- a call that may end as a read failed, when nothing is printed
 abbrev pub Reads : Option Wanted → Type 0
@@ -114,6 +126,7 @@ Reads None = ⊥
 Reads (Some (exec program packet)) = ⊥
 Reads (Some check) = Unit {0}
 Reads (Some run) = Unit {0}
+Reads (Some (pair turns)) = Unit {0}
 
 -- the text is printed and the status given; or a write failed, the status is 4, and a beginning of the text is printed
 abbrev pub Prints : Option (List ℕ) → Option (List ℕ) → Said → ℕ → Type 0

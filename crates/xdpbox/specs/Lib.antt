@@ -5,3 +5,5 @@ pub mod Executing
 pub mod Answer
 pub mod CounterLines
 pub mod Seen
+pub mod Pairing
+pub mod PairLines

@@ -4,12 +4,13 @@ use Rattle.xdpbox.specs.declared.request.Request.{Request}
 use Rattle.xdpbox.specs.declared.request.Request.TheVariants as code
 use Rattle.xdpbox.specs.declared.answer.Answer.{Answer}
 use Rattle.xdpbox.specs.Answer.{Said}
-use Rattle.xdpbox.specs.Words.{Wanted, exec, check, run}
+use Rattle.xdpbox.specs.Words.{Wanted, exec, check, run, pair}
 
 abbrev pub wanted_of : Request → Wanted
 wanted_of (code.Exec program packet) = exec program.now packet.now
 wanted_of code.Check = check
 wanted_of code.Run = run
+wanted_of (code.Pair turns) = pair turns
 
 abbrev pub said_of : Answer → Said
 said_of a = (string_bytes a.text, a.status)

@@ -1,7 +1,11 @@
 -- The program's command line, as data of `clap`, and what its words ask for.
-use Rattle.std.specs.Prelude.{ℕ, codes, true, List, [], ◌∷◌, Option, Some, None, option_map, option_and_then, Bool, false, if◌then◌else◌}
+use Rattle.std.specs.Prelude.{ℕ, ◌&&◌, codes, length, nat_lt, pos, true, List, [], ◌∷◌, Option, Some, None, option_map, option_and_then, Bool, false, if◌then◌else◌}
+use Rattle.std.specs.Char.{digit_value}
+use Rattle.std.specs.List.{list_all}
 use Rattle.std.specs.Str.{bytes_eq}
-use Rattle.clap.specs.Words.{App, Kinds, Row, Rule, Text, fault_of, first_of, subcommand_of, new_app, new_rule, with_rule, with_subcommand}
+use Rattle.std.specs.Str.Parse.{digits_value, without_leading_plus}
+use Rattle.clap.specs.Words.{App, Kinds, Row, Rule, Text, fault_of, first_of, one_of, subcommand_of, new_app, new_rule, with_rule, with_subcommand}
+use Rattle.clap.specs.declared.builder.value_parser.ValueParser.TheVariants.{Signed}
 
 -- a word that has to be there
 abbrev pub wanted : List ℕ → Rule
@@ -19,18 +23,46 @@ check_app = new_app (codes "check")
 abbrev pub run_app : App
 run_app = new_app (codes "run")
 
+-- `--turns N`: a number from 1 to 1000000, which is 100000 where no word says it
+abbrev pub turns_rule : Rule
+turns_rule = record (new_rule (codes "turns")) { long = Some (codes "turns"); defaults = codes "100000" ∷ []; parser = Some (Signed (pos 1) (pos 1000000)) }
+
+-- `pair --turns N`
+abbrev pub pair_app : App
+pair_app = with_rule (new_app (codes "pair")) turns_rule
+
+-- the commands that run nothing on threads
+unfoldable pub single_app : App
+single_app = with_subcommand (with_subcommand (with_subcommand (new_app (codes "xdpbox")) exec_app.top) check_app.top) run_app.top
+
 unfoldable pub program_app : App
-program_app = with_subcommand (with_subcommand (with_subcommand (new_app (codes "xdpbox")) exec_app.top) check_app.top) run_app.top
+program_app = with_subcommand single_app pair_app.top
 
 -- what a call asks for
 pub data Wanted : Type 0 where
   exec : Text → Text → Wanted
   check : Wanted
   run : Wanted
+  -- at most so many turns of each queue
+  pair : ℕ → Wanted
 
 -- `exec`, by what was found for its words
 abbrev pub exec_of : List Row → Option Wanted
 exec_of rows = option_and_then (λ program. option_map (λ packet. exec program packet) (first_of (codes "packet") rows)) (first_of (codes "program") rows)
+
+-- the text is one decimal digit or more
+abbrev pub is_decimal : Text → Bool
+is_decimal digits = nat_lt 0 (length digits) && list_all (λ d. nat_lt (digit_value d) 10) digits
+
+-- the number of 32 bits that a text writes, a plus in front or not
+abbrev pub number_of : Text → Option ℕ
+number_of text =
+    let digits = without_leading_plus text in
+    if is_decimal digits && nat_lt (digits_value 10 digits) 4294967296 then Some (digits_value 10 digits) else None
+
+-- `pair`, by what was found for its option
+abbrev pub pair_of : List Row → Option Wanted
+pair_of rows = option_map pair (option_and_then number_of (one_of (codes "turns") rows))
 
 -- the subcommand that the words name, with what was found for its own words
 abbrev pub wanted_by : Text × List Row → Option Wanted
@@ -38,6 +70,7 @@ wanted_by p =
     if bytes_eq p.0 (codes "exec") then exec_of p.1
     else if bytes_eq p.0 (codes "check") then Some check
     else if bytes_eq p.0 (codes "run") then Some run
+    else if bytes_eq p.0 (codes "pair") then pair_of p.1
     else None
 
 -- the command line takes the words

@@ -2,13 +2,15 @@
 ghost use Rattle.std.specs.Prelude.{◌≡◌, ◌≤◌, IfOk, IfErr, Some, length, option_map};
 ghost use Rattle.xdp_load.specs.SetupSeen.{setup_view};
 ghost use Rattle.xdp_load.specs.Sound.{IsSound};
-ghost use Rattle.xdpbox.specs.Answer.{ExecAnswer, IsAnswer, PacketAnswer, Reads, RunAnswer, SettingsAnswer, SetupAnswer, Takes, TakesAtMost, checked_answer, executed_answer, hex_bytes, program_status, settings_refused, words_refused};
+ghost use Rattle.xdpbox.specs.Answer.{ExecAnswer, IsAnswer, PacketAnswer, PairAnswer, Reads, RunAnswer, SettingsAnswer, SetupAnswer, Takes, TakesAtMost, checked_answer, executed_answer, hex_bytes, program_status, settings_refused, words_refused};
 ghost use Rattle.xdpbox.specs.Words as wanted;
 ghost use Rattle.xdpbox.specs.Seen.{said_of, wanted_of};
 
 use crate::executing::{Accepted, check, execute, run};
 use crate::input::read_settings;
 use crate::lines::{checked_text, executed_text, ran_text, settings_text};
+use crate::pair_lines::{paired_status, paired_text};
+use crate::pairing::pair;
 use crate::request::Request;
 use crate::stop::Stop;
 use bpf_insn::Refusal;
@@ -16,6 +18,8 @@ use bpf_vm::{Buffer, Ended, PacketBuf};
 use hex::FromHexError;
 use std::alloc::{AllocError, Global};
 use std::io::Read;
+use std::sync::Wait;
+use std::thread::Threads;
 use xdp_load::{LoadFault, Setup, load};
 
 /// A text that is printed, and the exit status.
@@ -134,6 +138,29 @@ fn run_answer(alloc: Global, setup: &Setup) -> Result<Answer, AllocError>
     })
 }
 
+/// The answer to a setup whose queues are run on threads.
+fn pair_answer<T: Threads + Wait + Sync>(
+    rt: &T,
+    alloc: Global,
+    setup: &Setup,
+    turns: u32,
+) -> Result<Answer, AllocError>
+    requires { IsSound (setup_view setup.now) }
+    ensures { IfOk result (λ a. PairAnswer (setup_view setup.now) (said_of a)) }
+{
+    let paired = pair(rt, alloc, setup, turns)?;
+    let text = paired_text(
+        alloc,
+        setup.names.as_slice(),
+        setup.shapes.as_slice(),
+        &paired,
+    )?;
+    Ok(Answer {
+        text,
+        status: paired_status(&paired),
+    })
+}
+
 /// The answer of `check`.
 fn check_answer(alloc: Global, settings: &[u8]) -> Result<Answer, AllocError>
     ensures { IfOk result (λ a. SettingsAnswer SetupAnswer settings.now (said_of a)) }
@@ -150,6 +177,21 @@ fn script_answer(alloc: Global, settings: &[u8]) -> Result<Answer, AllocError>
 {
     match load(alloc, settings) {
         Ok(setup) => run_answer(alloc, &setup),
+        Err(fault) => settings_refused(alloc, fault),
+    }
+}
+
+/// The answer of `pair`.
+fn threads_answer<T: Threads + Wait + Sync>(
+    rt: &T,
+    alloc: Global,
+    turns: u32,
+    settings: &[u8],
+) -> Result<Answer, AllocError>
+    ensures { IfOk result (λ a. SettingsAnswer PairAnswer settings.now (said_of a)) }
+{
+    match load(alloc, settings) {
+        Ok(setup) => pair_answer(rt, alloc, &setup, turns),
         Err(fault) => settings_refused(alloc, fault),
     }
 }
@@ -172,8 +214,23 @@ fn input_run<R: Read>(alloc: Global, input: &mut R) -> Result<Answer, Stop>
     Ok(script_answer(alloc, settings.as_slice())?)
 }
 
+/// The answer of `pair` to the settings that the input gives.
+fn input_pair<T: Threads + Wait + Sync, R: Read>(
+    rt: &T,
+    alloc: Global,
+    turns: u32,
+    input: &mut R,
+) -> Result<Answer, Stop>
+    ensures answer { IfOk result (λ a. IsAnswer (Some (wanted.pair turns)) (R.remaining input.old) (R.remaining input.new) (said_of a)) }
+    ensures takes { TakesAtMost 1048577 (R.remaining input.old) (R.remaining input.new) }
+{
+    let settings = read_settings(alloc, input)?;
+    Ok(threads_answer(rt, alloc, turns, settings.as_slice())?)
+}
+
 /// The answer to what the words ask for, if they ask for anything.
-pub fn answer_to<R: Read>(
+pub fn answer_to<T: Threads + Wait + Sync, R: Read>(
+    rt: &T,
     alloc: Global,
     request: Option<Request<'_>>,
     input: &mut R,
@@ -187,5 +244,6 @@ pub fn answer_to<R: Read>(
         Some(Request::Exec { program, packet }) => Ok(exec_answer(alloc, program, packet)?),
         Some(Request::Check) => input_check(alloc, input),
         Some(Request::Run) => input_run(alloc, input),
+        Some(Request::Pair { turns }) => input_pair(rt, alloc, turns, input),
     }
 }

@@ -12,7 +12,7 @@ use xdp_load::Setup;
 use xdp_world::{Report, World};
 
 /// Accepts a program with its maps, or refuses it.
-fn accept(alloc: Global, program: &[u8], shapes: &[MapShape]) -> Result<Verified, Refusal>
+pub fn accept(alloc: Global, program: &[u8], shapes: &[MapShape]) -> Result<Verified, Refusal>
     requires { length shapes.now ≤ 4 }
     ensures ok { IfOk result (IsProgramOf program.now shapes.now) }
     ensures err { IfErr result (IsRefusalOfBytes program.now shapes.now) }

@@ -26,7 +26,7 @@ fn ended_text(alloc: Global, ended: &Ended<'_>) -> Result<String, AllocError>
 }
 
 /// The line of a refused program.
-fn refused_text(alloc: Global, refusal: &Refusal) -> Result<String, AllocError>
+pub fn refused_text(alloc: Global, refusal: &Refusal) -> Result<String, AllocError>
     ensures { IfOk result (λ s. string_bytes s ≡ refused_text refusal.now) }
 {
     format!(in alloc; "refused {refusal}\n")

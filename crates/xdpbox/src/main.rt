@@ -8,6 +8,8 @@ mod executing;
 mod input;
 mod lines;
 mod output;
+mod pair_lines;
+mod pairing;
 mod program;
 mod request;
 mod stop;
@@ -30,7 +32,7 @@ fn main(rt: HostRuntime) -> ExitCode {
     let mut input = rt.reader();
     let mut output = io::writer(&rt);
     ExitCode::from(match words_of(&rt) {
-        Some(words) => run_words(rt.alloc(), words.as_slice(), &mut input, &mut output),
+        Some(words) => run_words(&rt, rt.alloc(), words.as_slice(), &mut input, &mut output),
         None => print_memory(&mut output),
     })
 }

@@ -1,7 +1,7 @@
 //! What the words of a call ask for.
-ghost use Rattle.std.specs.Prelude.{◌≡◌, ◌↔◌, IfOk, IsTrue, map, option_map, option_and_then};
-ghost use Rattle.clap.specs.Words.{first_of, found_of, kind_of, rows_of, subcommand_rows_of};
-ghost use Rattle.xdpbox.specs.Words.{exec_of, wanted_by, wanted_of_words};
+ghost use Rattle.std.specs.Prelude.{◌≡◌, ◌↔◌, IfOk, IsTrue, codes, map, option_map, option_and_then};
+ghost use Rattle.clap.specs.Words.{first_of, found_of, kind_of, one_of, rows_of, subcommand_rows_of};
+ghost use Rattle.xdpbox.specs.Words.{exec_of, number_of, pair_of, wanted_by, wanted_of_words};
 ghost use Rattle.xdpbox.specs.Seen.{wanted_of};
 
 use crate::command_line::program_command;
@@ -19,6 +19,8 @@ pub enum Request<'a> {
     Check,
     /// What the queues of the settings do in the steps of their script.
     Run,
+    /// What the queues of the settings do on threads, in at most so many turns each.
+    Pair { turns: u32 },
 }
 
 /// The word of a positional.
@@ -28,6 +30,13 @@ fn word_at<'a>(matches: &ArgMatches<'a>, id: &str) -> Option<&'a str>
     matches.get_str(id)
 }
 
+/// The number that was found for `--turns`.
+fn turns_in(matches: &ArgMatches<'_>) -> Option<u32>
+    ensures { result ≡ option_and_then number_of (one_of (codes "turns") (rows_of (found_of matches.now))) }
+{
+    matches.get_one("turns")
+}
+
 /// The two words of `exec`.
 fn exec_in<'a>(matches: &ArgMatches<'a>) -> Option<Request<'a>>
     ensures { option_map wanted_of result ≡ exec_of (rows_of (found_of matches.now)) }
@@ -35,6 +44,14 @@ fn exec_in<'a>(matches: &ArgMatches<'a>) -> Option<Request<'a>>
     let program = word_at(matches, "program")?;
     let packet = word_at(matches, "packet")?;
     Some(Request::Exec { program, packet })
+}
+
+/// The number of turns of `pair`.
+fn pair_in<'a>(matches: &ArgMatches<'a>) -> Option<Request<'a>>
+    ensures { option_map wanted_of result ≡ pair_of (rows_of (found_of matches.now)) }
+{
+    let turns = turns_in(matches)?;
+    Some(Request::Pair { turns })
 }
 
 /// What the matches ask for.
@@ -50,6 +67,9 @@ fn request_in<'a>(matches: &ArgMatches<'a>) -> Option<Request<'a>>
     }
     if name == "run" {
         return Some(Request::Run);
+    }
+    if name == "pair" {
+        return pair_in(inner);
     }
     None
 }

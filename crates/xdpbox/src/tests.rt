@@ -3,6 +3,8 @@ mod counting;
 mod examples;
 mod exec;
 mod failing;
+mod hosting;
+mod pair;
 mod programs;
 mod readers;
 mod run;

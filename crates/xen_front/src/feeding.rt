@@ -9,7 +9,7 @@ ghost use Rattle.xen_front.specs.contracts.front.Front.{the_row};
 ghost use Rattle.xen_front.specs.Fronts.{IsAsked, IsFed, IsOver, rest, state_of, wiring_of};
 ghost use Rattle.xen_front.specs.Given.{Shows, given};
 ghost use Rattle.xen_front.specs.Rest.{HasSpace, busy_in, rest_at};
-ghost use Rattle.xen_front.specs.Slots.{ended};
+ghost use Rattle.xen_front.specs.Slots.{ended, outstanding};
 ghost use Rattle.xen_front.specs.Tree.{take_all};
 ghost use Rattle.xen_ring.specs.Layout.{rsp_event};
 ghost use Rattle.xen_steps.specs.Answers.{Fits};
@@ -279,5 +279,16 @@ impl<'p> Front<'p> {
     {
         let c = &self.state.counts;
         [c.okay, c.dropped, c.error, c.other]
+    }
+
+    /// How many requests of the tx ring and of the rx ring aren't answered, as far as the polls have seen.
+    pub fn unanswered(&self) -> (u32, u32)
+        ensures { let s = state_of self.now in result ≡ (outstanding s.tx, outstanding s.rx) }
+    {
+        let State { tx, rx, .. } = &self.state;
+        (
+            tx.prod.wrapping_sub(tx.cons),
+            rx.prod.wrapping_sub(rx.cons),
+        )
     }
 }

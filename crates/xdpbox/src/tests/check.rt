@@ -1,10 +1,12 @@
 use crate::program::run_words;
 use std::process::Abort;
+use std::sync::Wait;
 use std::test::Fail;
+use std::thread::Threads;
 
 /// Runs `check` on settings, and compares what is printed and the status.
-pub(crate) fn assert_check(
-    rt: &impl Abort,
+pub(crate) fn assert_check<R: Abort + Threads + Wait + Sync>(
+    rt: &R,
     settings: &[u8],
     text: &str,
     status: u8,
@@ -14,8 +16,8 @@ pub(crate) fn assert_check(
 }
 
 /// Runs a command on settings, and compares what is printed and the status.
-pub(crate) fn assert_command(
-    rt: &impl Abort,
+pub(crate) fn assert_command<R: Abort + Threads + Wait + Sync>(
+    rt: &R,
     command: &str,
     settings: &[u8],
     text: &str,
@@ -25,7 +27,7 @@ pub(crate) fn assert_command(
     output.clear();
     let words = ["xdpbox", command];
     let mut input = settings;
-    let given = run_words(*output.allocator(), &words, &mut input, output);
+    let given = run_words(rt, *output.allocator(), &words, &mut input, output);
     assert_eq!(rt;
         output.as_slice(),
         text.as_bytes(),

@@ -2,23 +2,25 @@
 use crate::program::run_words;
 use std::alloc::Global;
 use std::process::Abort;
+use std::sync::Wait;
 use std::test::Fail;
+use std::thread::Threads;
 use xdp_load::load;
 
 /// examples/drop-ipv6/settings.toml
 const DROP_IPV6: &str = "\
-# Drops IPv6 and passes all else: the bytes of drop_ipv6.c, a slot a text.
+# tools/settings-from-c examples/drop-ipv6/drop_ipv6.c
 program = [
-  \"b400000001000000\",
+  \"b700000001000000\",
   \"6112040000000000\",
   \"6111000000000000\",
   \"bf13000000000000\",
   \"070300000e000000\",
   \"2d23040000000000\",
   \"69110c0000000000\",
-  \"b400000001000000\",
-  \"1601010086dd0000\",
-  \"b400000002000000\",
+  \"b700000001000000\",
+  \"1501010086dd0000\",
+  \"b700000002000000\",
   \"9500000000000000\",
 ]
 ";
@@ -41,7 +43,7 @@ const DROP_IPV6_RUNS: [(&str, &str); 3] = [
 
 /// examples/count-protocols/settings.toml
 const COUNT_PROTOCOLS: &str = "\
-# Counts IPv4 packets by protocol: the bytes of count_protocols.c, a slot a text.
+# tools/settings-from-c examples/count-protocols/count_protocols.c protocols=256
 program = [
   \"6112040000000000\",
   \"6111000000000000\",
@@ -49,7 +51,7 @@ program = [
   \"0703000022000000\",
   \"2d230c0000000000\",
   \"69120c0000000000\",
-  \"56020a0008000000\",
+  \"55020a0008000000\",
   \"7111170000000000\",
   \"631afcff00000000\",
   \"bfa2000000000000\",
@@ -60,7 +62,7 @@ program = [
   \"1500020000000000\",
   \"b701000001000000\",
   \"db10000000000000\",
-  \"b400000002000000\",
+  \"b700000002000000\",
   \"9500000000000000\",
 ]
 
@@ -75,39 +77,39 @@ map = \"protocols\"
 
 /// examples/ip-header-length/settings.toml
 const IP_HEADER_LENGTH: &str = "\
-# Drops UDP to port 53 over IPv4, however long the IPv4 header is, and passes all else: the bytes of ip_header_length.c, a slot a text.
+# tools/settings-from-c examples/ip-header-length/ip_header_length.c
 program = [
-  \"b400000002000000\",
+  \"b700000002000000\",
   \"6112040000000000\",
   \"6111000000000000\",
   \"bf13000000000000\",
   \"0703000022000000\",
   \"2d23190000000000\",
   \"69130c0000000000\",
-  \"b400000002000000\",
-  \"5603160008000000\",
+  \"b700000002000000\",
+  \"5503160008000000\",
   \"7113170000000000\",
-  \"b400000002000000\",
-  \"5603130011000000\",
+  \"b700000002000000\",
+  \"5503130011000000\",
   \"6913140000000000\",
-  \"540300001fff0000\",
-  \"b400000002000000\",
-  \"56030f0000000000\",
+  \"570300001fff0000\",
+  \"b700000002000000\",
+  \"55030f0000000000\",
+  \"b700000001000000\",
   \"71130e0000000000\",
-  \"b400000001000000\",
-  \"6403000002000000\",
+  \"6703000002000000\",
   \"570300003c000000\",
   \"a5030a0014000000\",
   \"0f31000000000000\",
   \"bf13000000000000\",
   \"0703000016000000\",
-  \"b400000002000000\",
+  \"b700000002000000\",
   \"2d23050000000000\",
   \"070100000e000000\",
   \"6911020000000000\",
-  \"b400000001000000\",
-  \"1601010000350000\",
-  \"b400000002000000\",
+  \"b700000001000000\",
+  \"1501010000350000\",
+  \"b700000002000000\",
   \"9500000000000000\",
 ]
 ";
@@ -138,31 +140,31 @@ const IP_HEADER_LENGTH_RUNS: [(&str, &str); 5] = [
 
 /// examples/two-tags/settings.toml
 const TWO_TAGS: &str = "\
-# Passes IPv4 behind at most two VLAN tags, and drops all else: the bytes of two_tags.c, a slot a text.
+# tools/settings-from-c examples/two-tags/two_tags.c
 program = [
-  \"b400000001000000\",
+  \"b700000001000000\",
   \"6112040000000000\",
   \"6111000000000000\",
   \"bf13000000000000\",
   \"070300000e000000\",
   \"2d23110000000000\",
   \"69130c0000000000\",
-  \"1603010088a80000\",
-  \"56030a0081000000\",
+  \"1503010088a80000\",
+  \"55030a0081000000\",
   \"bf13000000000000\",
   \"0703000012000000\",
   \"2d230b0000000000\",
   \"6913100000000000\",
-  \"1603010088a80000\",
-  \"5603040081000000\",
+  \"1503010088a80000\",
+  \"5503040081000000\",
   \"bf13000000000000\",
   \"0703000016000000\",
   \"2d23050000000000\",
   \"6913140000000000\",
   \"bf31000000000000\",
-  \"b400000002000000\",
-  \"1601010008000000\",
-  \"b400000001000000\",
+  \"b700000002000000\",
+  \"1501010008000000\",
+  \"b700000001000000\",
   \"9500000000000000\",
 ]
 ";
@@ -189,9 +191,9 @@ const TWO_TAGS_RUNS: [(&str, &str); 4] = [
 
 /// examples/swap-addresses/settings.toml
 const SWAP_ADDRESSES: &str = "\
-# Swaps the two Ethernet addresses and sends the packet back: the bytes of swap_addresses.c, a slot a text.
+# tools/settings-from-c examples/swap-addresses/swap_addresses.c
 program = [
-  \"b400000001000000\",
+  \"b700000001000000\",
   \"6112040000000000\",
   \"6111000000000000\",
   \"bf13000000000000\",
@@ -200,9 +202,9 @@ program = [
   \"6912040000000000\",
   \"6b2afcff00000000\",
   \"6912020000000000\",
-  \"6402000010000000\",
+  \"6702000010000000\",
   \"6913000000000000\",
-  \"4c32000000000000\",
+  \"4f32000000000000\",
   \"632af8ff00000000\",
   \"6912060000000000\",
   \"6b21000000000000\",
@@ -214,9 +216,9 @@ program = [
   \"6b210a0000000000\",
   \"61a2f8ff00000000\",
   \"6b21060000000000\",
-  \"7402000010000000\",
+  \"7702000010000000\",
   \"6b21080000000000\",
-  \"b400000003000000\",
+  \"b700000003000000\",
   \"9500000000000000\",
 ]
 ";
@@ -248,15 +250,15 @@ fn checks_the_examples(rt: HostRuntime) {
     for (settings, text) in CHECKED {
         let mut output = Vec::new(alloc);
         let words = ["xdpbox", "check"];
-        let given = run_words(alloc, &words, &mut settings.as_bytes(), &mut output);
+        let given = run_words(&rt, alloc, &words, &mut settings.as_bytes(), &mut output);
         assert_eq!(rt; output.as_slice(), text.as_bytes(), "{settings}");
         assert_eq!(rt; given, 0, "{settings}");
     }
 }
 
 /// Runs the program of the settings on each packet, and compares what is printed.
-fn assert_runs(
-    rt: &impl Abort,
+fn assert_runs<R: Abort + Threads + Wait + Sync>(
+    rt: &R,
     alloc: Global,
     settings: &str,
     runs: &[(&str, &str)],
@@ -266,7 +268,7 @@ fn assert_runs(
     for (packet, text) in runs {
         let mut output = Vec::new(alloc);
         let words = ["xdpbox", "exec", program.as_str(), packet];
-        let given = run_words(alloc, &words, &mut b"".as_slice(), &mut output);
+        let given = run_words(rt, alloc, &words, &mut b"".as_slice(), &mut output);
         assert_eq!(rt; output.as_slice(), text.as_bytes(), "{settings} {packet}");
         assert_eq!(rt; given, 0, "{settings} {packet}");
     }

@@ -1,11 +1,13 @@
 use crate::program::run_words;
 use std::alloc::AllocError;
 use std::process::Abort;
+use std::sync::Wait;
 use std::test::Fail;
+use std::thread::Threads;
 
 /// Runs `exec` on two words, and compares what is printed and the status.
-pub(crate) fn assert_exec(
-    rt: &impl Abort,
+pub(crate) fn assert_exec<R: Abort + Threads + Wait + Sync>(
+    rt: &R,
     program: &str,
     packet: &str,
     text: &str,
@@ -14,7 +16,7 @@ pub(crate) fn assert_exec(
 ) {
     output.clear();
     let words = ["xdpbox", "exec", program, packet];
-    let given = run_words(*output.allocator(), &words, &mut b"".as_slice(), output);
+    let given = run_words(rt, *output.allocator(), &words, &mut b"".as_slice(), output);
     assert_eq!(rt; given, status, "{program} {packet}");
     assert_eq!(rt; output.as_slice(), text.as_bytes(), "{program} {packet}");
 }

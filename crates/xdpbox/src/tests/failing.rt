@@ -22,7 +22,10 @@ fn ends_at_the_first_failed_write(rt: HostRuntime) -> Result<(), Fail> {
                 held: Vec::new(alloc),
                 fails_at,
             };
-            assert_eq!(rt; run_words(alloc, &words, &mut Unreadable, &mut output), 4);
+            assert_eq!(rt;
+                run_words(&rt, alloc, &words, &mut Unreadable, &mut output),
+                4
+            );
             assert_eq!(rt; output.held.as_slice(), &text.as_bytes()[..fails_at]);
         }
         let mut output = Narrow {
@@ -30,11 +33,14 @@ fn ends_at_the_first_failed_write(rt: HostRuntime) -> Result<(), Fail> {
             fails_at: 1_000,
         };
         assert_eq!(rt;
-            run_words(alloc, &words, &mut Unreadable, &mut output),
+            run_words(&rt, alloc, &words, &mut Unreadable, &mut output),
             status
         );
         assert_eq!(rt; output.held.as_slice(), text.as_bytes());
-        assert_eq!(rt; run_words(alloc, &words, &mut Unreadable, &mut Full), 4);
+        assert_eq!(rt;
+            run_words(&rt, alloc, &words, &mut Unreadable, &mut Full),
+            4
+        );
     }
     Ok(())
 }
@@ -71,7 +77,7 @@ fn ends_at_the_first_failed_read(rt: HostRuntime) -> Result<(), Fail> {
                 left: settings,
                 fails_at,
             };
-            assert_eq!(rt; run_words(alloc, &CHECK, &mut input, &mut output), 4);
+            assert_eq!(rt; run_words(&rt, alloc, &CHECK, &mut input, &mut output), 4);
             assert_eq!(rt; output.len(), 0);
             assert_eq!(rt; input.left, &settings[fails_at..]);
         }
@@ -80,7 +86,10 @@ fn ends_at_the_first_failed_read(rt: HostRuntime) -> Result<(), Fail> {
             left: settings,
             fails_at: 1_000,
         };
-        assert_eq!(rt; run_words(alloc, &CHECK, &mut input, &mut output), status);
+        assert_eq!(rt;
+            run_words(&rt, alloc, &CHECK, &mut input, &mut output),
+            status
+        );
         assert_eq!(rt; output.as_slice(), text.as_bytes());
     }
     Ok(())
@@ -96,7 +105,7 @@ fn a_check_ends_at_the_first_failed_write(rt: HostRuntime) {
                 fails_at,
             };
             let mut input = settings;
-            assert_eq!(rt; run_words(alloc, &CHECK, &mut input, &mut output), 4);
+            assert_eq!(rt; run_words(&rt, alloc, &CHECK, &mut input, &mut output), 4);
             assert_eq!(rt; output.held.as_slice(), &text.as_bytes()[..fails_at]);
         }
     }
@@ -107,13 +116,13 @@ fn reads_one_byte_more_than_settings_may_have(rt: HostRuntime) -> Result<(), Fai
     let alloc = rt.alloc();
     let mut output = Vec::new(alloc);
     let mut endless = Endless { reads: 0 };
-    assert_eq!(rt; run_words(alloc, &CHECK, &mut endless, &mut output), 2);
+    assert_eq!(rt; run_words(&rt, alloc, &CHECK, &mut endless, &mut output), 2);
     assert_eq!(rt; output.as_slice(), b"settings refused L1\n".as_slice());
     assert_eq!(rt; endless.reads, 1_048_577);
     let long = Vec::from_elem(alloc, b'#', 2_000_000)?;
     let mut input = long.as_slice();
     output.clear();
-    assert_eq!(rt; run_words(alloc, &CHECK, &mut input, &mut output), 2);
+    assert_eq!(rt; run_words(&rt, alloc, &CHECK, &mut input, &mut output), 2);
     assert_eq!(rt; input.len(), 2_000_000 - 1_048_577);
     Ok(())
 }
@@ -123,7 +132,10 @@ fn reads_nothing_where_words_are_refused(rt: HostRuntime) {
     let mut output = Vec::new(rt.alloc());
     let mut input = b"program = [".as_slice();
     let words = ["xdpbox", "check", "all"];
-    assert_eq!(rt; run_words(rt.alloc(), &words, &mut input, &mut output), 2);
+    assert_eq!(rt;
+        run_words(&rt, rt.alloc(), &words, &mut input, &mut output),
+        2
+    );
     assert_eq!(rt; output.as_slice(), b"words refused\n".as_slice());
     assert_eq!(rt; input.len(), 11);
 }

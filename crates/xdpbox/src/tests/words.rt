@@ -34,6 +34,7 @@ fn refuses_words(rt: HostRuntime) -> Result<(), Fail> {
         let words: Vec<&str> = row.split(',').collect(rt.alloc())?;
         let mut output = Vec::new(rt.alloc());
         let status = run_words(
+            &rt,
             rt.alloc(),
             words.as_slice(),
             &mut b"".as_slice(),
@@ -45,7 +46,7 @@ fn refuses_words(rt: HostRuntime) -> Result<(), Fail> {
     let none: [&str; 0] = [];
     let mut output = Vec::new(rt.alloc());
     assert_eq!(rt;
-        run_words(rt.alloc(), &none, &mut b"".as_slice(), &mut output),
+        run_words(&rt, rt.alloc(), &none, &mut b"".as_slice(), &mut output),
         2
     );
     assert_eq!(rt; output.as_slice(), REFUSED);
@@ -62,7 +63,7 @@ fn takes_words_after_two_dashes(rt: HostRuntime) -> Result<(), Fail> {
         "00",
     ];
     let mut output = Vec::new(rt.alloc());
-    let status = run_words(rt.alloc(), &words, &mut b"".as_slice(), &mut output);
+    let status = run_words(&rt, rt.alloc(), &words, &mut b"".as_slice(), &mut output);
     assert_eq!(rt; status, 0);
     assert_eq!(rt;
         output.as_slice(),

@@ -1,0 +1,3 @@
+mod ReturnLemmas
+mod SeatLemmas
+mod WiringLemmas

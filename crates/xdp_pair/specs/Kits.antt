@@ -1,0 +1,36 @@
+-- What the threads are given.
+use Rattle.std.specs.Prelude.{ℕ, ◌+◌, ◌*◌, ◌<◌, ◌≡◌, List, map, length, true}
+use Rattle.std.specs.List.{range_with_len}
+use Rattle.bpf_maps.specs.Seats.{CountersView, new_seat}
+use Rattle.xdp_world.specs.Frames.{frame_of, owners_of}
+use Rattle.xen_buffers.specs.declared.wiring.Buffer.{Buffer}
+use Rattle.xen_front.specs.Fronts.{wiring_of}
+use Rattle.xen_page.specs.Mapping.{IsMappedBy}
+use Rattle.xdp_pair.specs.declared.kits.BackKit.{BackKit}
+use Rattle.xdp_pair.specs.declared.kits.FrontKit.{FrontKit}
+
+-- the buffer that a reference grants
+abbrev pub granted : ℕ → Buffer
+granted gref = record { gref = gref; frame = frame_of gref }
+
+-- the 256 buffers with the references from this one on
+abbrev pub granted_from : ℕ → List Buffer
+granted_from first = map granted (range_with_len first 256)
+
+-- the number of a kit's seat
+abbrev pub number_of : BackKit → ℕ
+number_of k = k.seat.number
+
+-- A back's kit among so many queues: rings that the front lent for writing, and its queue's new seat at the counters.
+pub record IsBackOf (c : CountersView) (queues : ℕ) (k : BackKit) : Type 0 where
+  pub queue : k.queue < queues
+  pub tx : IsMappedBy (owners_of queues) 1 k.tx
+  pub rx : IsMappedBy (owners_of queues) 1 k.rx
+  pub tx_writable : k.tx.write ≡ true
+  pub rx_writable : k.rx.write ≡ true
+  pub seat : k.seat ≡ new_seat c k.queue
+
+-- a front's kit among so many queues: a front whose pages are among their frames
+pub record IsFrontOf (queues : ℕ) (k : FrontKit) : Type 0 where
+  pub queue : k.queue < queues
+  pub frames : (wiring_of k.front).frames ≡ length (owners_of queues)

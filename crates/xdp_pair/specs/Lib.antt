@@ -1,0 +1,3 @@
+pub mod Kits
+pub mod Promised
+pub mod Leaving

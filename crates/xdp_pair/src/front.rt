@@ -1,0 +1,210 @@
+//! A front thread.
+ghost use Rattle.std.specs.Prelude.{◌≡◌, ◌≤◌};
+ghost use Rattle.xen_front.specs.Fronts.{wiring_of};
+ghost use Rattle.xdp_pair.specs.Kits.{IsFrontOf};
+
+use crate::inbox::Inbox;
+use crate::kits::FrontKit;
+use crate::outbox::Outbox;
+use crate::report::FrontRow;
+use crate::shared::Shared;
+use std::sync::Wait;
+use xdp_load::Packet;
+use xen_front::{Front, RxTurn};
+use xen_page::{Bus, PageBus};
+use xen_ring::Ports;
+
+/// How many rx requests a front keeps posted.
+const POSTED: u32 = 16;
+
+/// The bytes of a page.
+const PAGE: usize = 4096;
+
+/// What a front did, with its queue's number.
+#[derive(Drop)]
+pub(crate) struct FrontDone {
+    pub queue: usize,
+    pub row: FrontRow,
+}
+
+/// What a front does after an activity.
+enum Next {
+    Goes,
+    Rests,
+    Ends,
+}
+
+/// What a poll gave.
+enum Polled {
+    Idle,
+    Packet,
+    Ended,
+}
+
+/// A front's own account.
+#[derive(Drop)]
+struct Desk<'p> {
+    queue: usize,
+    outbox: Outbox<'p>,
+    row: FrontRow,
+    /// Posted rx slots that no packet on its way can need.
+    spare: u32,
+}
+
+impl<'p> Desk<'p> {
+    fn new(queue: usize, packets: &'p [Packet]) -> Desk<'p> {
+        Desk {
+            queue,
+            outbox: Outbox::new(queue, packets),
+            row: FrontRow {
+                sent: 0,
+                received: 0,
+            },
+            spare: 0,
+        }
+    }
+
+    /// What comes after a poll that gave nothing, by the numbers of unanswered tx requests before and after it, and of
+    /// posted rx slots.
+    fn after_idle(&mut self, before: u32, open: u32, posted: u32, last: bool) -> Next {
+        let spare = posted.saturating_sub(open);
+        let moved = open < before || spare > self.spare;
+        self.spare = spare;
+        if last {
+            Next::Ends
+        } else if moved {
+            Next::Goes
+        } else if open == 0 && self.outbox.next().is_none() {
+            Next::Ends
+        } else {
+            Next::Rests
+        }
+    }
+}
+
+/// How many slots a packet takes, in either direction.
+fn slots_of(bytes: usize) -> u32 {
+    let pages = bytes / PAGE + if bytes % PAGE == 0 { 0 } else { 1 };
+    pages.min(POSTED as usize) as u32
+}
+
+/// Begins to post a buffer, if fewer are posted than should be.
+fn begin_post(front: &mut Front<'_>, desk: &mut Desk<'_>, posted: u32) -> bool
+    ensures { wiring_of front.new ≡ wiring_of front.old }
+{
+    if posted >= POSTED || front.post_rx().is_err() {
+        return false;
+    }
+    desk.spare = desk.spare.saturating_add(1);
+    true
+}
+
+/// Begins to send the next packet, if one is left, and if it can come back whole with all that are on their way.
+fn begin_send(front: &mut Front<'_>, desk: &mut Desk<'_>) -> bool
+    ensures { wiring_of front.new ≡ wiring_of front.old }
+{
+    let Some(packet) = desk.outbox.next() else {
+        return false;
+    };
+    let slots = slots_of(packet.len());
+    if slots > desk.spare || front.send(packet).is_err() {
+        return false;
+    }
+    desk.outbox.pass();
+    desk.spare = desk.spare.saturating_sub(slots);
+    desk.row.sent = desk.row.sent.saturating_add(1);
+    true
+}
+
+/// Takes what has come back.
+fn poll<B: Bus, I: Inbox>(
+    front: &mut Front<'_>,
+    bus: &mut B,
+    ports: &Ports,
+    inbox: &I,
+    desk: &mut Desk<'_>,
+) -> Polled
+    requires { (wiring_of front.old).frames ≤ B.size bus.old }
+    ensures size { B.size bus.new ≡ B.size bus.old }
+    ensures same { wiring_of front.new ≡ wiring_of front.old }
+{
+    if front.poll().is_err() {
+        return Polled::Ended;
+    }
+    match front.drive_front(bus, ports) {
+        RxTurn::Packet(bytes) => {
+            inbox.take(desk.queue, bytes);
+            desk.row.received = desk.row.received.saturating_add(1);
+            Polled::Packet
+        }
+        RxTurn::Refused => Polled::Packet,
+        RxTurn::Idle => Polled::Idle,
+        RxTurn::Halted { .. } => Polled::Ended,
+    }
+}
+
+/// One activity: a post, a send, or else a poll. Once the back has ended, only polls are left.
+fn act<B: Bus, I: Inbox>(
+    front: &mut Front<'_>,
+    bus: &mut B,
+    ports: &Ports,
+    inbox: &I,
+    desk: &mut Desk<'_>,
+    last: bool,
+) -> Next
+    requires { (wiring_of front.old).frames ≤ B.size bus.old }
+    ensures size { B.size bus.new ≡ B.size bus.old }
+    ensures same { wiring_of front.new ≡ wiring_of front.old }
+{
+    let (open, posted) = front.unanswered();
+    if !last && (begin_post(front, desk, posted) || begin_send(front, desk)) {
+        return match front.drive_front(bus, ports) {
+            RxTurn::Halted { .. } => Next::Ends,
+            _ => Next::Goes,
+        };
+    }
+    match poll(front, bus, ports, inbox, desk) {
+        Polled::Packet => Next::Goes,
+        Polled::Ended => Next::Ends,
+        Polled::Idle => {
+            let (still_open, posted) = front.unanswered();
+            desk.after_idle(open, still_open, posted, last)
+        }
+    }
+}
+
+/// Sends the packets of its queue, and takes what comes back. It ends once every tx slot is answered and nothing more is
+/// there, or once the back has ended and nothing more is there. The back is woken after each activity.
+pub(crate) fn work_front<R: Wait, I: Inbox>(
+    rt: &R,
+    inbox: &I,
+    packets: &[Packet],
+    shared: &Shared,
+    kit: FrontKit<'_>,
+) -> FrontDone
+    requires { IsFrontOf shared.now.layout.queues kit }
+{
+    let FrontKit {
+        queue,
+        mut front,
+        parker,
+    } = kit;
+    let lane = &shared.lanes[queue];
+    let mut bus = PageBus::of(&shared.frames);
+    let mut desk = Desk::new(queue, packets);
+    for _ in rt.forever() {
+        let last = lane.has_back_ended();
+        let next = act(&mut front, &mut bus, &shared.ports, inbox, &mut desk, last);
+        lane.wake_back();
+        match next {
+            Next::Goes => {}
+            Next::Rests => parker.park(rt),
+            Next::Ends => break,
+        }
+    }
+    lane.end_front();
+    FrontDone {
+        queue,
+        row: desk.row,
+    }
+}

@@ -1,0 +1,15 @@
+//! What a back passes before each turn.
+
+/// Is passed before each turn of each back, and may hold it.
+pub trait Gate {
+    /// Queue number `queue` comes to its turn number `call`, counted from 1.
+    fn pass(&self, queue: usize, call: u32);
+}
+
+/// Holds nobody.
+#[derive(Drop)]
+pub struct Open;
+
+impl Gate for Open {
+    fn pass(&self, _queue: usize, _call: u32) {}
+}

@@ -1,0 +1,173 @@
+//! What the threads are given, all of it made before the first of them starts.
+ghost use Rattle.std.specs.Prelude.{◌≡◌, ◌<◌, ◌≤◌, ◌*◌, ◌+◌, ℕ, All, Contains, map, length, vec_len, IfOk};
+ghost use Rattle.bpf_maps.specs.Seats.{CountersView, new_seats};
+ghost use Rattle.xdp_world.specs.Frames.{frame_of, owners_of};
+ghost use Rattle.xen_front.specs.Fronts.{wiring_of};
+ghost use Rattle.xdp_pair.specs.Kits.{IsBackOf, IsFrontOf, granted_from, number_of};
+
+use crate::fault::PairFault;
+use crate::rings::{FIRST_GRANTED, REFERENCES, make_ring};
+use crate::shared::Shared;
+use bpf_maps::CounterSeat;
+use bpf_vm::Buffer as PacketRoom;
+use crossbeam_utils::sync::Parker;
+use std::alloc::{AllocError, Global};
+use xdp_world::BACK;
+use xen_front::{Buffer, Front, FrontDesc};
+use xen_page::Mapped;
+use xen_ring::Port;
+
+/// How many buffers a ring has.
+const BUFFERS: u32 = 256;
+
+/// The first buffers' references of a queue, after those of its two rings.
+const TX_BUFFERS: u32 = 2;
+
+const RX_BUFFERS: u32 = 258;
+
+/// What the back thread of a queue is given: its rings, room for a packet, what it sleeps on, and its seat at the
+/// counters.
+#[derive(Drop)]
+pub(crate) struct BackKit {
+    pub queue: usize,
+    pub tx: Mapped,
+    pub rx: Mapped,
+    pub room: PacketRoom,
+    pub parker: Parker,
+    pub seat: CounterSeat,
+}
+
+/// What the front thread of a queue is given.
+#[derive(Drop)]
+pub(crate) struct FrontKit<'p> {
+    pub queue: usize,
+    pub front: Front<'p>,
+    pub parker: Parker,
+}
+
+/// The buffers of a queue's front.
+#[derive(Drop)]
+pub(crate) struct FrontPages {
+    pub queue: usize,
+    pub tx: Vec<Buffer>,
+    pub rx: Vec<Buffer>,
+    ghost tx_granted: { tx.items ≡ granted_from (514 * queue + 2) },
+    ghost rx_granted: { rx.items ≡ granted_from (514 * queue + 258) },
+}
+
+/// What each back is given. Its rings are mapped.
+pub(crate) fn make_backs(
+    alloc: Global,
+    shared: &Shared,
+    mut seats: Vec<CounterSeat>,
+    mut parkers: Vec<Parker>,
+) -> Result<Vec<BackKit>, PairFault>
+    requires seats { vec_len seats ≡ shared.now.layout.queues }
+    requires parkers { vec_len parkers ≡ shared.now.layout.queues }
+    ensures own { (c : CountersView) → seats.items ≡ new_seats c shared.now.layout.queues → IfOk result (λ v. All (IsBackOf c shared.now.layout.queues) v.items) }
+    ensures numbers { IfOk result (λ v. (q : ℕ) → Contains (map (λ s. s.number) seats.items) q → Contains (map number_of v.items) q) }
+{
+    let mut backs = Vec::with_capacity(alloc, seats.len())?;
+    while let Some(seat) = seats.pop() {
+        let queue = seats.len();
+        let Some(parker) = parkers.pop() else {
+            unreachable!()
+        };
+        let first = REFERENCES * queue as u32;
+        let tx = make_ring(shared, first)?;
+        let rx = make_ring(shared, first + 1)?;
+        let room = PacketRoom::make(alloc)?;
+        backs.push(BackKit {
+            queue,
+            tx,
+            rx,
+            room,
+            parker,
+            seat,
+        })?;
+    }
+    Ok(backs)
+}
+
+/// The buffers with the references from `first` on.
+fn buffers(alloc: Global, first: u32) -> Result<Vec<Buffer>, AllocError>
+    requires { first ≤ 8192 }
+    ensures { IfOk result (λ v. v.items ≡ granted_from first) }
+{
+    let mut buffers = Vec::with_capacity(alloc, BUFFERS as usize)?;
+    for id in 0..BUFFERS {
+        let gref = first + id;
+        buffers.push(Buffer {
+            gref,
+            frame: FIRST_GRANTED + gref,
+        })?;
+    }
+    Ok(buffers)
+}
+
+/// The buffers of each front, in the queues' order.
+pub(crate) fn make_pages(alloc: Global, count: usize) -> Result<Vec<FrontPages>, AllocError>
+    requires { count ≤ 8 }
+    ensures count { IfOk result (λ v. vec_len v ≡ count) }
+    ensures below { IfOk result (λ v. All (λ p. p.queue < count) v.items) }
+{
+    let mut pages = Vec::with_capacity(alloc, count)?;
+    for queue in 0..count {
+        let first = REFERENCES * queue as u32;
+        let tx = buffers(alloc, first + TX_BUFFERS)?;
+        let rx = buffers(alloc, first + RX_BUFFERS)?;
+        pages.push(FrontPages { queue, tx, rx })?;
+    }
+    Ok(pages)
+}
+
+/// A front over these buffers.
+fn make_front<'p>(
+    alloc: Global,
+    shared: &'p Shared,
+    pages: &'p FrontPages,
+) -> Result<Front<'p>, AllocError>
+    requires { pages.now.queue < shared.now.layout.queues }
+    ensures { IfOk result (λ f. (wiring_of f).frames ≡ length (owners_of shared.now.layout.queues)) }
+{
+    let first = FIRST_GRANTED + REFERENCES * pages.queue as u32;
+    let Some(port) = Port::of(2 * pages.queue as u32) else {
+        unreachable!()
+    };
+    let desc = FrontDesc {
+        frames: shared.frames.count(),
+        tx_frame: first,
+        rx_frame: first + 1,
+        table: shared.layout.table(),
+        tx: pages.tx.as_slice(),
+        rx: pages.rx.as_slice(),
+        back: BACK,
+        port,
+        start: shared.start,
+    };
+    Front::make(alloc, desc)
+}
+
+/// What each front is given.
+pub(crate) fn make_fronts<'p>(
+    alloc: Global,
+    shared: &'p Shared,
+    pages: &'p [FrontPages],
+    mut parkers: Vec<Parker>,
+) -> Result<Vec<FrontKit<'p>>, AllocError>
+    requires count { vec_len parkers ≤ length pages.now }
+    requires below { All (λ p. p.queue < shared.now.layout.queues) pages.now }
+    ensures { IfOk result (λ v. All (IsFrontOf shared.now.layout.queues) v.items) }
+{
+    let mut fronts = Vec::with_capacity(alloc, parkers.len())?;
+    while let Some(parker) = parkers.pop() {
+        let pages = &pages[parkers.len()];
+        let front = make_front(alloc, shared, pages)?;
+        fronts.push(FrontKit {
+            queue: pages.queue,
+            front,
+            parker,
+        })?;
+    }
+    Ok(fronts)
+}

@@ -1,0 +1,151 @@
+//! Running a pair of threads for each queue.
+ghost use Rattle.std.specs.Prelude.{◌≡◌, ◌*◌, ◌≤◌, ℕ, All, Contains, map, length, vec_len, IfOk};
+ghost use Rattle.std.specs.Thread.{IsSync};
+ghost use Rattle.bpf_maps.specs.Seats.{IsSeatOf};
+ghost use Rattle.xdp_load.specs.SetupSeen.{setup_view};
+ghost use Rattle.xdp_load.specs.Sound.{IsSound};
+ghost use Rattle.xdp_pair.specs.Kits.{IsBackOf, IsFrontOf, number_of};
+ghost use Rattle.xdp_pair.specs.Leaving.{AreLeft};
+
+use crate::fault::PairFault;
+use crate::gate::Gate;
+use crate::inbox::{Discard, Inbox};
+use crate::joining::{empty_rows, join_backs, join_fronts};
+use crate::kits::{BackKit, FrontKit, make_backs, make_fronts, make_pages};
+use crate::report::{PairReport, PairRow};
+use crate::shared::{Parkers, Shared};
+use crate::starting::{start_backs, start_fronts};
+use bpf_maps::{CounterSeat, Counters};
+use bpf_verify::Verified;
+use std::alloc::Global;
+use std::sync::Wait;
+use std::thread;
+use std::thread::Threads;
+use xdp_load::{Packet, Setup};
+
+/// The bytes of a front thread's stack.
+pub(crate) const STACK: usize = 0x10_0000;
+
+/// Both threads of each queue, and what they hand back. All threads have ended when it returns.
+fn run_all<R: Threads + Wait + Sync, G: Gate + Sync, I: Inbox + Sync>(
+    rt: &R,
+    alloc: Global,
+    gate: &G,
+    inbox: &I,
+    turns: u32,
+    stack: usize,
+    program: &Verified,
+    packets: &[Packet],
+    shared: &Shared,
+    counters: &Counters,
+    backs: Vec<BackKit>,
+    fronts: Vec<FrontKit<'_>>,
+    mut rows: Vec<PairRow>,
+) -> Result<(Vec<CounterSeat>, Vec<PairRow>), PairFault>
+    requires backs { All (IsBackOf counters.now shared.now.layout.queues) backs.items }
+    requires fronts { All (IsFrontOf shared.now.layout.queues) fronts.items }
+    requires shapes { counters.now.shapes ≡ program.now.shapes }
+    ensures { IfOk result (λ v. All (IsSeatOf counters.entry.now) v.0.items × ((q : ℕ) → Contains (map number_of backs.items) q → Contains (map (λ s. s.number) v.0.items) q) × (vec_len v.1 ≡ vec_len rows)) }
+{
+    thread::scope(
+        thread::scope_env(),
+        rt,
+        |scope| -> Result<(Vec<CounterSeat>, Vec<PairRow>), PairFault>
+            requires { IsSync R.row × IsSync G.row × IsSync I.row × All (IsBackOf counters.now shared.now.layout.queues) backs.items × All (IsFrontOf shared.now.layout.queues) fronts.items × (counters.now.shapes ≡ program.now.shapes) }
+            ensures { IfOk result (λ v. All (IsSeatOf counters.entry.now) v.0.items × ((q : ℕ) → Contains (map number_of backs.items) q → Contains (map (λ s. s.number) v.0.items) q) × (vec_len v.1 ≡ vec_len rows)) }
+        {
+            let backs = start_backs(
+                alloc, scope, rt, gate, turns, program, shared, counters, backs,
+            );
+            let backs = match backs {
+                Ok(backs) => backs,
+                Err(fault) => {
+                    shared.end_all();
+                    return Err(fault);
+                }
+            };
+            let fronts = start_fronts(alloc, scope, rt, inbox, stack, packets, shared, fronts);
+            let fronts = match fronts {
+                Ok(fronts) => fronts,
+                Err(fault) => {
+                    shared.end_all();
+                    return Err(fault);
+                }
+            };
+            join_fronts(rt, fronts, &mut rows);
+            let seats = join_backs(rt, alloc, backs, &mut rows)?;
+            Ok((seats, rows))
+        },
+    )
+}
+
+/// Runs a pair of threads for each queue over this memory. The fronts have stacks of so many bytes.
+pub(crate) fn pair_over<R: Threads + Wait + Sync, G: Gate + Sync, I: Inbox + Sync>(
+    rt: &R,
+    alloc: Global,
+    setup: &Setup,
+    program: &Verified,
+    turns: u32,
+    gate: &G,
+    inbox: &I,
+    stack: usize,
+    shared: &Shared,
+    parkers: Parkers,
+) -> Result<PairReport, PairFault>
+    requires queues { (1 ≤ setup.now.queues) × (setup.now.queues ≤ 8) }
+    requires shared { shared.now.layout.queues ≡ setup.now.queues }
+    requires parkers { (vec_len parkers.fronts ≡ setup.now.queues) × (vec_len parkers.backs ≡ setup.now.queues) }
+    ensures rows { IfOk result (λ r. vec_len r.rows ≡ setup.now.queues) }
+    ensures shapes { IfOk result (λ r. r.totals.shapes ≡ program.now.shapes) }
+    ensures account { IfOk result (λ r. AreLeft setup.now.queues r.totals) }
+{
+    let (counters, seats) = Counters::make(alloc, program.shapes(), setup.queues)?;
+    let backs = make_backs(alloc, shared, seats, parkers.backs)?;
+    let pages = make_pages(alloc, setup.queues)?;
+    let fronts = make_fronts(alloc, shared, pages.as_slice(), parkers.fronts)?;
+    let rows = empty_rows(alloc, setup.queues)?;
+    let (seats, rows) = run_all(
+        rt,
+        alloc,
+        gate,
+        inbox,
+        turns,
+        stack,
+        program,
+        setup.packets.as_slice(),
+        shared,
+        &counters,
+        backs,
+        fronts,
+        rows,
+    )?;
+    Ok(PairReport {
+        rows,
+        totals: counters.close(seats),
+    })
+}
+
+/// Runs the setup's queues, a front thread and a back thread for each: the front sends the setup's packets, and the back
+/// drives at most `turns` turns of the program, and passes the gate before each. All threads have ended when it returns.
+///
+/// # Errors
+///
+/// `Memory`, `Map` if the page of a ring can't be mapped, and `Thread` if a thread can't be started.
+pub fn pair_with<R: Threads + Wait + Sync, G: Gate + Sync>(
+    rt: &R,
+    alloc: Global,
+    setup: &Setup,
+    program: &Verified,
+    turns: u32,
+    gate: &G,
+) -> Result<PairReport, PairFault>
+    requires { IsSound (setup_view setup.now) }
+    ensures rows { IfOk result (λ r. vec_len r.rows ≡ setup.now.queues) }
+    ensures shapes { IfOk result (λ r. r.totals.shapes ≡ program.now.shapes) }
+    ensures account { IfOk result (λ r. AreLeft setup.now.queues r.totals) }
+{
+    let (shared, parkers) = Shared::make(alloc, setup)?;
+    pair_over(
+        rt, alloc, setup, program, turns, gate, &Discard, STACK, &shared, parkers,
+    )
+}

@@ -1,0 +1,66 @@
+//! The rings' pages: their headers and grants, and their mappings.
+ghost use Rattle.std.specs.Prelude.{◌≡◌, ◌<◌, ◌*◌, IfOk, true};
+ghost use Rattle.xen_page.specs.Mapping.{IsMappedBy};
+ghost use Rattle.xdp_world.specs.Frames.{owners_of};
+
+use crate::fault::PairFault;
+use crate::shared::Shared;
+use xdp_world::{BACK, FRONT};
+use xen_page::{Bus, Mapped, PageBus, Place, map};
+use xen_ring::{REQ_EVENT, REQ_PROD, RSP_EVENT, RSP_PROD};
+
+/// How many references a queue has.
+pub(crate) const REFERENCES: u32 = 514;
+
+/// The frame that reference 0 grants.
+pub(crate) const FIRST_GRANTED: u32 = 17;
+
+/// The flags word of an entry that permits the back to read and write: `GTF_permit_access`, with the back's domain 0.
+const PERMIT: u32 = 1;
+
+/// Writes a word of a page.
+fn put(bus: &mut PageBus<'_>, frame: u32, word: u32, value: u32)
+    requires frame { frame < bus.old }
+    requires word { word < 1024 }
+    ensures { bus.new ≡ bus.old }
+{
+    bus.write(Place { frame, word }, value);
+}
+
+/// Writes the header of a new ring, and the entry that grants its page.
+fn write_ring(shared: &Shared, bus: &mut PageBus<'_>, gref: u32)
+    requires gref { gref < 514 * shared.now.layout.queues }
+    requires size { bus.old ≡ shared.now.frames }
+    ensures { bus.new ≡ bus.old }
+{
+    let frame = FIRST_GRANTED + gref;
+    let event = shared.start.wrapping_add(1);
+    put(bus, frame, REQ_PROD, shared.start);
+    put(bus, frame, REQ_EVENT, event);
+    put(bus, frame, RSP_PROD, shared.start);
+    put(bus, frame, RSP_EVENT, event);
+    if let Some(entry) = shared.layout.table().place(gref) {
+        bus.write(entry, PERMIT);
+        bus.write(entry.next(), frame);
+    }
+}
+
+/// A new ring in the page of a reference, mapped for writing.
+pub(crate) fn make_ring(shared: &Shared, gref: u32) -> Result<Mapped, PairFault>
+    requires { gref < 514 * shared.now.layout.queues }
+    ensures lent { IfOk result (IsMappedBy (owners_of shared.now.layout.queues) 1) }
+    ensures write { IfOk result (λ m. m.write ≡ true) }
+{
+    let mut bus = PageBus::of(&shared.frames);
+    write_ring(shared, &mut bus, gref);
+    map(
+        &mut bus,
+        shared.layout.table(),
+        shared.layout.owners(),
+        FRONT,
+        BACK,
+        gref,
+        true,
+    )
+    .map_err(|_| PairFault::Map)
+}
