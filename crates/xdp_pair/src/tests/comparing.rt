@@ -11,7 +11,7 @@ use std::test::Fail;
 use xdp_load::Packet;
 
 /// The different packets of a queue.
-const KINDS: u32 = 20;
+const KINDS: u32 = 100;
 /// How often each of them is sent.
 const TIMES: u32 = 100;
 
