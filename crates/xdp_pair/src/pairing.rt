@@ -67,14 +67,7 @@ fn run_all<R: Threads + Wait + Sync, G: Gate + Sync, I: Inbox + Sync>(
                 counters,
                 backs,
                 started_backs,
-            );
-            let backs = match backs {
-                Ok(backs) => backs,
-                Err(fault) => {
-                    shared.end_all();
-                    return Err(fault);
-                }
-            };
+            )?;
             let fronts = start_fronts(
                 scope,
                 rt,
@@ -84,14 +77,7 @@ fn run_all<R: Threads + Wait + Sync, G: Gate + Sync, I: Inbox + Sync>(
                 shared,
                 fronts,
                 started_fronts,
-            );
-            let fronts = match fronts {
-                Ok(fronts) => fronts,
-                Err(fault) => {
-                    shared.end_all();
-                    return Err(fault);
-                }
-            };
+            )?;
             join_fronts(rt, fronts, &mut rows);
             let seats = join_backs(rt, backs, &mut rows, seats);
             Ok((seats, rows))

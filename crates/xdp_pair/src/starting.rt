@@ -17,7 +17,7 @@ use std::sync::Wait;
 use std::thread::{Builder, Scope};
 use xdp_load::Packet;
 
-/// Starts a thread for each back. There is room for their handles.
+/// Starts a thread for each back. There is room for their handles. If one can't be started, all workers are told to end.
 pub(crate) fn start_backs<'s, E, R: Wait + Sync, G: Gate + Sync>(
     scope: &Scope<'s, E>,
     rt: &'s R,
@@ -44,6 +44,7 @@ pub(crate) fn start_backs<'s, E, R: Wait + Sync, G: Gate + Sync>(
                 ensures { IsSeatOf counters.entry.now result.seat × (result.seat.number ≡ kit.seat.number) }
             { work_back(rt, gate, turns, program, shared, counters, kit) },
         ) else {
+            shared.end_all();
             return Err(PairFault::Thread);
         };
         backs.push_reserved(back);
@@ -51,7 +52,8 @@ pub(crate) fn start_backs<'s, E, R: Wait + Sync, G: Gate + Sync>(
     Ok(backs)
 }
 
-/// Starts a thread for each front, with stacks of so many bytes. There is room for their handles.
+/// Starts a thread for each front, with stacks of so many bytes. There is room for their handles. If one
+/// can't be started, all workers are told to end.
 pub(crate) fn start_fronts<'s, E, R: Wait + Sync, I: Inbox + Sync>(
     scope: &Scope<'s, E>,
     rt: &'s R,
@@ -73,6 +75,7 @@ pub(crate) fn start_fronts<'s, E, R: Wait + Sync, I: Inbox + Sync>(
             { work_front(rt, inbox, packets, shared, kit) },
         )
         else {
+            shared.end_all();
             return Err(PairFault::Thread);
         };
         fronts.push_reserved(front);
