@@ -11,7 +11,7 @@ use bpf_maps::{CounterSeat, Counters};
 use bpf_verify::Verified;
 use std::snapshot::Snapshot;
 use std::sync::Wait;
-use std::thread::Promise;
+use std::thread::{Promise, PromisedHandle};
 use xdp_world::{BACK, FRONT};
 use xen_back::{Queue, QueueDesc, Turn};
 use xen_page::PageBus;
@@ -40,6 +40,9 @@ impl SeatBack {
 impl Promise<BackDone> for SeatBack {
     ghost kept_by = { λ p d. (d.seat.table ≡ p.0.value.table) × (d.seat.shapes ≡ p.0.value.shapes) × (d.seat.number ≡ p.0.value.number) };
 }
+
+/// The thread of a back.
+pub(crate) type BackThread = PromisedHandle<BackDone, SeatBack>;
 
 /// What a back does after a turn.
 enum Next {

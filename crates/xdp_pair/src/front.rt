@@ -9,6 +9,7 @@ use crate::outbox::Outbox;
 use crate::report::FrontRow;
 use crate::shared::Shared;
 use std::sync::Wait;
+use std::thread::JoinHandle;
 use xdp_load::Packet;
 use xen_front::{Front, RxTurn};
 use xen_page::{Bus, PageBus};
@@ -26,6 +27,9 @@ pub(crate) struct FrontDone {
     pub queue: usize,
     pub row: FrontRow,
 }
+
+/// The thread of a front.
+pub(crate) type FrontThread = JoinHandle<FrontDone>;
 
 /// What a front does after an activity.
 enum Next {

@@ -1,14 +1,14 @@
 //! Waiting for the threads.
-ghost use Rattle.std.specs.Prelude.{◌≡◌, ℕ, All, Contains, map, vec_len, IfOk};
+ghost use Rattle.std.specs.Prelude.{◌≡◌, ◌*◌, ◌≤◌, ℕ, [], All, Contains, map, vec_len, vec_capacity, IfOk};
 ghost use Rattle.bpf_maps.specs.Seats.{CountersView, IsSeatOf};
 ghost use Rattle.xdp_pair.specs.Promised.{PromisesSeatOf, promised_number};
 
-use crate::back::{BackDone, SeatBack};
-use crate::front::FrontDone;
+use crate::back::{BackDone, BackThread};
+use crate::front::{FrontDone, FrontThread};
 use crate::report::{BackRow, FrontRow, PairRow};
 use bpf_maps::CounterSeat;
 use std::alloc::{AllocError, Global};
-use std::thread::{JoinHandle, PromisedHandle, Threads};
+use std::thread::Threads;
 
 /// A row for each queue, before anything is done.
 pub(crate) fn empty_rows(alloc: Global, queues: usize) -> Result<Vec<PairRow>, AllocError>
@@ -45,36 +45,36 @@ fn note_front(rows: &mut Vec<PairRow>, queue: usize, done: &FrontRow)
     }
 }
 
-/// Waits for each back, takes its seat back, and notes what it did.
+/// Waits for each back, takes its seat back, and notes what it did. There is room for the seats.
 pub(crate) fn join_backs<R: Threads>(
     rt: &R,
-    alloc: Global,
-    mut children: Vec<PromisedHandle<BackDone, SeatBack>>,
+    mut threads: Vec<BackThread>,
     rows: &mut Vec<PairRow>,
-) -> Result<Vec<CounterSeat>, AllocError>
-    ensures own { (c : CountersView) → All (PromisesSeatOf c) children.items → IfOk result (λ v. All (IsSeatOf c) v.items) }
-    ensures numbers { IfOk result (λ v. (q : ℕ) → Contains (map promised_number children.items) q → Contains (map (λ s. s.number) v.items) q) }
+    mut seats: Vec<CounterSeat>,
+) -> Vec<CounterSeat>
+    requires room { (seats.items ≡ []) × (vec_len threads ≤ vec_capacity seats) }
+    ensures own { (c : CountersView) → All (PromisesSeatOf c) threads.items → All (IsSeatOf c) result.items }
+    ensures numbers { (q : ℕ) → Contains (map promised_number threads.items) q → Contains (map (λ s. s.number) result.items) q }
     ensures rows { vec_len rows.new ≡ vec_len rows.old }
 {
-    let mut seats = Vec::with_capacity(alloc, children.len())?;
-    while let Some(child) = children.pop() {
-        let BackDone { queue, seat, row } = child.join(rt);
+    while let Some(thread) = threads.pop() {
+        let BackDone { queue, seat, row } = thread.join(rt);
         note_back(rows, queue, &row);
-        seats.push(seat)?;
+        seats.push_reserved(seat);
     }
-    Ok(seats)
+    seats
 }
 
 /// Waits for each front, and notes what it did.
 pub(crate) fn join_fronts<R: Threads>(
     rt: &R,
-    mut children: Vec<JoinHandle<FrontDone>>,
+    mut threads: Vec<FrontThread>,
     rows: &mut Vec<PairRow>,
 )
     ensures { vec_len rows.new ≡ vec_len rows.old }
 {
-    while let Some(child) = children.pop() {
-        let FrontDone { queue, row } = child.join(rt);
+    while let Some(thread) = threads.pop() {
+        let FrontDone { queue, row } = thread.join(rt);
         note_front(rows, queue, &row);
     }
 }

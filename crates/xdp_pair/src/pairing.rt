@@ -54,26 +54,32 @@ fn run_all<R: Threads + Wait + Sync, G: Gate + Sync, I: Inbox + Sync>(
             requires { IsSync R.row × IsSync G.row × IsSync I.row × All (IsBackOf counters.now shared.now.layout.queues) backs.items × All (IsFrontOf shared.now.layout.queues) fronts.items × (counters.now.shapes ≡ program.now.shapes) }
             ensures { IfOk result (λ v. All (IsSeatOf counters.entry.now) v.0.items × ((q : ℕ) → Contains (map number_of backs.items) q → Contains (map (λ s. s.number) v.0.items) q) × (vec_len v.1 ≡ vec_len rows)) }
         {
+            let started_backs = Vec::with_capacity(alloc, backs.len())?;
+            let started_fronts = Vec::with_capacity(alloc, fronts.len())?;
+            let seats = Vec::with_capacity(alloc, backs.len())?;
             let backs = start_backs(
-                alloc, scope, rt, gate, turns, program, shared, counters, backs,
-            );
-            let backs = match backs {
-                Ok(backs) => backs,
-                Err(fault) => {
-                    shared.end_all();
-                    return Err(fault);
-                }
-            };
-            let fronts = start_fronts(alloc, scope, rt, inbox, stack, packets, shared, fronts);
-            let fronts = match fronts {
-                Ok(fronts) => fronts,
-                Err(fault) => {
-                    shared.end_all();
-                    return Err(fault);
-                }
-            };
+                scope,
+                rt,
+                gate,
+                turns,
+                program,
+                shared,
+                counters,
+                backs,
+                started_backs,
+            )?;
+            let fronts = start_fronts(
+                scope,
+                rt,
+                inbox,
+                stack,
+                packets,
+                shared,
+                fronts,
+                started_fronts,
+            )?;
             join_fronts(rt, fronts, &mut rows);
-            let seats = join_backs(rt, alloc, backs, &mut rows)?;
+            let seats = join_backs(rt, backs, &mut rows, seats);
             Ok((seats, rows))
         },
     )

@@ -39,14 +39,3 @@ pub struct PairReport {
     pub rows: Vec<PairRow>,
     pub totals: Totals,
 }
-
-/// The row of a queue.
-pub(crate) fn row_of(back: &BackRow, front: &FrontRow) -> PairRow {
-    PairRow {
-        sent: front.sent,
-        copied: back.copied,
-        refused: back.refused,
-        halted: back.halted,
-        received: front.received,
-    }
-}

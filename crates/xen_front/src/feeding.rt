@@ -286,9 +286,6 @@ impl<'p> Front<'p> {
         ensures { let s = state_of self.now in result ≡ (outstanding s.tx, outstanding s.rx) }
     {
         let State { tx, rx, .. } = &self.state;
-        (
-            tx.prod.wrapping_sub(tx.cons),
-            rx.prod.wrapping_sub(rx.cons),
-        )
+        (tx.prod.wrapping_sub(tx.cons), rx.prod.wrapping_sub(rx.cons))
     }
 }
