@@ -12,3 +12,5 @@ pub mod Bounds
 pub mod Figures
 pub mod TouchedLemmas
 pub mod EndLemmas
+pub mod ReadLemmas
+pub mod BulkLemmas

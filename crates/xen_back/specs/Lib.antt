@@ -10,3 +10,4 @@ pub mod Parts
 pub mod Turns
 pub mod Drive
 pub mod Bytes
+pub mod Reads
