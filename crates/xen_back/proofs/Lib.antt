@@ -14,3 +14,4 @@ pub mod TouchedLemmas
 pub mod EndLemmas
 pub mod ReadLemmas
 pub mod BulkLemmas
+pub mod OnceLemmas

@@ -1,8 +1,7 @@
 -- Words of a page that were read one after another, and the bytes of them.
 use Rattle.std.specs.Prelude.{nat_lt}
 use Rattle.std.proofs.lemmas.Bool.Decides.{nat_tests}
-use Rattle.std.proofs.Common.{Bool, true, false, ◌≡◌, ℕ, zero, suc, ◌+◌, ◌-◌, ◌*◌, ◌<◌, ◌≤◌, ◌^◌, List, [], ◌∷◌, ◌++◌, Option, length, take, drop, refl, sym, ◌∙◌, ap, append_assoc, append-nil, arith, subst}
-use Rattle.std.proofs.lemmas.List.{length-append}
+use Rattle.std.proofs.Common.{Bool, true, false, ◌≡◌, ℕ, zero, suc, ◌+◌, ◌-◌, ◌*◌, ◌<◌, ◌≤◌, ◌^◌, List, [], ◌∷◌, ◌++◌, Option, length, take, drop, refl, sym, ◌∙◌, ap, append_assoc, arith, subst}
 use Rattle.std.specs.Int.{w32, to_le_bytes}
 use Rattle.xen_netif.specs.Copy.{bytes_from, bytes_in, bytes_of}
 use Rattle.xen_netif.specs.declared.fragment.Fragment.{Fragment}

@@ -11,3 +11,4 @@ pub mod Turns
 pub mod Drive
 pub mod Bytes
 pub mod Reads
+pub mod Once

@@ -1,18 +1,15 @@
-use Rattle.std.proofs.Common.{◌≡◌, ◌<◌, ◌≤◌, ◌+◌, ◌/◌, List, [], None, Some, length, refl, sym, ◌∙◌, ap, arith, subst}
-use Rattle.std.specs.Prelude.{slice_index_or}
+use Rattle.std.proofs.Common.{◌≡◌, ◌<◌, ◌≤◌, ◌+◌, ◌/◌, [], length, sym, ◌∙◌, ap, arith, subst}
 use Rattle.xen_netif.specs.Copy.{covered}
 use Rattle.xen_page.specs.Table.{entry_place}
 use Rattle.xen_netif.specs.declared.fragment.Fragment.{Fragment}
 use Rattle.xen_steps.proofs.FinishLemmas.{finishes_gone}
-use Rattle.xen_steps.specs.Steps.{Steps, bind}
+use Rattle.xen_steps.specs.Steps.{Steps}
 use Rattle.xen_back.specs.Drive.{Driven}
 use Rattle.xen_back.specs.Rest.{fragment_at, rest_in}
-use Rattle.xen_back.specs.Tree.{after_copy, copy}
 use Rattle.xen_back.specs.Turned.{Ending}
-use Rattle.xen_back.specs.Within.{Completes, may_want}
+use Rattle.xen_back.specs.Within.{may_want}
 use Rattle.xen_back.specs.declared.stage.Stage.TheVariants as stages
 use Rattle.xen_back.proofs.BulkLemmas.{IsFragmentRead, denied_on, fragment_on, fragment_short, fragment_within, last_fragment, next_entry, no_entry, rest_of_entry}
-use Rattle.xen_back.proofs.DriveLemmas.{driven_none}
 use Rattle.xen_back.proofs.driving.copy_fragments.Goals as goal
 
 pub returns-in-Err-clause-driven : goal.returns-in-Err-clause-driven

@@ -1,4 +1,4 @@
-use Rattle.std.proofs.Common.{◌≡◌, ◌≤◌, ◌<◌, ◌+◌, ◌-◌, List, [], Some, false, length, drop, sum_by}
+use Rattle.std.proofs.Common.{◌≡◌, ◌≤◌, ◌<◌, ◌+◌, ◌-◌, List, [], length, drop, sum_by}
 use Rattle.xen_netif.specs.Fragments.{fragment_size}
 use Rattle.xen_steps.specs.Event.{Event}
 use Rattle.xen_back.specs.Drive.{Driven}

@@ -1,10 +1,7 @@
-use Rattle.std.proofs.Common.{◌≡◌, ◌+◌, ◌-◌, ◌<◌, List, [], ◌∷◌, ◌++◌, Some, Ok, Err, Option, Result, ℕ, length, refl, sym, ◌∙◌, ap, arith, subst}
-use Rattle.xen_netif.specs.Chain.{Slot}
+use Rattle.std.proofs.Common.{◌≡◌, ◌-◌, ◌<◌, [], ◌∷◌, ◌++◌, Some, Ok, Err, ℕ, length, sym, ◌∙◌, ap, arith, subst}
 use Rattle.xen_netif.specs.Fragments.{fragments_of}
 use Rattle.xen_netif.specs.Standing.{standing}
-use Rattle.xen_netif.specs.declared.chain.ChainState.{ChainState}
 use Rattle.xen_netif.specs.declared.chain.ChainState.TheVariants as wanted
-use Rattle.xen_netif.specs.declared.fault.ChainFault.{ChainFault}
 use Rattle.xen_steps.specs.Places.{add32}
 use Rattle.xen_steps.specs.Steps.{Steps, bind}
 use Rattle.xen_back.specs.Drive.{Driven}

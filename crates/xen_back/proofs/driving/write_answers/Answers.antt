@@ -1,4 +1,4 @@
-use Rattle.std.proofs.Common.{◌≡◌, ◌≤◌, ◌+◌, ◌<◌, List, ℕ, [], ◌∷◌, get_or, length, sym, ◌∙◌, arith, ap, subst}
+use Rattle.std.proofs.Common.{◌≡◌, ◌≤◌, ◌<◌, List, ℕ, [], ◌∷◌, get_or, length, sym, ◌∙◌, arith, ap, subst}
 use Rattle.xen_page.specs.Access.{Performs}
 use Rattle.xen_page.specs.declared.access.Access.TheVariants as access
 use Rattle.xen_ring.specs.Index.{is_due}

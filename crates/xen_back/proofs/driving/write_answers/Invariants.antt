@@ -1,4 +1,4 @@
-use Rattle.std.proofs.Common.{◌≡◌, ◌≤◌, ◌-◌, List, [], length, drop}
+use Rattle.std.proofs.Common.{◌≡◌, ◌-◌, List, [], length, drop}
 use Rattle.xen_steps.specs.Event.{Event}
 use Rattle.xen_back.specs.Drive.{Driven}
 use Rattle.xen_back.specs.Rest.{rest_in}

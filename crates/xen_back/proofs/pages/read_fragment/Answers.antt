@@ -1,6 +1,4 @@
-use Rattle.std.proofs.Common.{◌≡◌, ◌≤◌, ◌<◌, ◌+◌, ◌-◌, ◌*◌, ◌/◌, ◌++◌, ℕ, Bool, true, false, length, length-append, append_assoc, refl, sym, ◌∙◌, ap, arith, subst}
-use Rattle.std.specs.Prelude.{nat_le, nat_lt}
-use Rattle.std.proofs.lemmas.Bool.Decides.{nat_tests}
+use Rattle.std.proofs.Common.{◌≡◌, ◌+◌, ◌-◌, ◌*◌, ◌/◌, ◌++◌, length, length-append, append_assoc, sym, ◌∙◌, ap, arith, subst}
 use Rattle.xen_netif.specs.Copy.{bytes_from, bytes_of}
 use Rattle.xen_netif.proofs.CopyLemmas.{length-bytes_of}
 use Rattle.xen_steps.specs.Pages.{HasRoom}

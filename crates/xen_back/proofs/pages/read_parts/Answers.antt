@@ -1,4 +1,4 @@
-use Rattle.std.proofs.Common.{◌≡◌, ◌+◌, ◌-◌, ◌++◌, List, ℕ, [], ◌∷◌, length, length-append, append-nil, append_assoc, refl, sym, ◌∙◌, ap, arith, subst}
+use Rattle.std.proofs.Common.{◌≡◌, ◌+◌, ◌++◌, [], ◌∷◌, length, length-append, append-nil, append_assoc, refl, sym, ◌∙◌, ap, arith, subst}
 use Rattle.xen_netif.specs.Copy.{bytes_from, bytes_in}
 use Rattle.xen_page.specs.declared.access.Access.TheVariants as access
 use Rattle.xen_page.proofs.AccessLemmas.{performs_one}

@@ -1,4 +1,4 @@
-use Rattle.std.proofs.Common.{◌≡◌, ◌+◌, ◌-◌, ◌++◌, List, ℕ, [], ◌∷◌, length, length-append, append-nil, append_assoc, refl, sym, ◌∙◌, ap, arith}
+use Rattle.std.proofs.Common.{◌≡◌, ◌+◌, ◌++◌, [], ◌∷◌, length, length-append, append-nil, append_assoc, sym, ◌∙◌, ap, arith}
 use Rattle.std.specs.Int.{w32, to_le_bytes}
 use Rattle.xen_netif.specs.Copy.{bytes_of}
 use Rattle.xen_netif.proofs.CopyLemmas.{length-bytes_of}
