@@ -1,4 +1,4 @@
--- A turn comes to an end, whatever it is answered, and so a queue between turns has a rest.
+-- A turn ends, whatever it is answered, and so a queue between turns has a rest.
 use Rattle.xen_back.proofs.ChainLemmas.{is_open}
 use Rattle.xen_steps.proofs.FinishLemmas.{ends_bind, ends_by, ends_gone, finishes_any, some_run}
 use Rattle.xen_transmit.proofs.EndLemmas.{ends_entry, ends_transmit}
@@ -283,7 +283,7 @@ run_whole w c i q packet l b =
     })
     refl
 
--- what is left of a turn that comes to an end has a run
+-- what is left of a turn that ends has a run
 ends_run : {A : Type 0} (P : A → Type 0) (s : Steps A) → Ends P s → (t : List Event) × (r : A) × Runs s t r
 ends_run P s h = some_run (λ w. Unit {0}) s (finishes_any P s h)
 

@@ -12,3 +12,6 @@ pub mod Bounds
 pub mod Figures
 pub mod TouchedLemmas
 pub mod EndLemmas
+pub mod ReadLemmas
+pub mod BulkLemmas
+pub mod OnceLemmas

@@ -10,3 +10,5 @@ pub mod Parts
 pub mod Turns
 pub mod Drive
 pub mod Bytes
+pub mod Reads
+pub mod Once

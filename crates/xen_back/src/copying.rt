@@ -19,7 +19,6 @@ ghost use Rattle.xen_back.specs.Turned.{Refused};
 use crate::answering::begin_answers;
 use crate::copy::{Entering, Paging};
 use crate::executing::begin_run;
-use crate::pages;
 use crate::stage::Stage;
 use crate::state::State;
 use crate::turn::{Kind, Refusal};
@@ -51,7 +50,7 @@ pub(crate) fn begin_copy<'p, 'b>(
 }
 
 /// The chain is answered with ERROR.
-fn refuse<'p, 'b>(
+pub(crate) fn refuse<'p, 'b>(
     wiring: &Wiring<'p>,
     state: &State,
     packet: PacketBuf<'b>,
@@ -223,7 +222,16 @@ fn paging<'p, 'b>(
     ensures here { IsTrue (is_here result) }
     ensures rest { rest_in wiring.now state.now result ≡ bind (bind (copy_words fragment frame place (suc n) packet.entry) (copy wiring.now (drop i fragments.items))) (after_copy wiring.now state.now chain) }
 {
-    Stage::Page(pages::paging(chain, fragments, packet, i, fragment, frame, place, n))
+    Stage::Page(Paging {
+        chain,
+        fragments,
+        packet,
+        i,
+        fragment,
+        frame,
+        place,
+        n,
+    })
 }
 
 /// After a word of a page.

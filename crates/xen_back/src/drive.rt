@@ -14,7 +14,7 @@ ghost use Rattle.xen_back.specs.Queues.{IsReady, IsSameWiring, rest, state_of, w
 ghost use Rattle.xen_steps.specs.Steps.{want_of};
 ghost use Rattle.xen_back.specs.Tree.{whole_turn};
 
-use crate::pages::stage_read;
+use crate::driving::stage_driven;
 use crate::queue::Queue;
 use crate::stage::Stage;
 use crate::turn::Turn;
@@ -27,8 +27,8 @@ use xen_steps::{Answer, Want};
 /// More events than a turn has apart from those of its program. It ends a loop, and is no tight bound.
 const MAX_EVENTS: u64 = 287_383;
 
-/// The next event; after an instruction also those up to the next one that reads a counter, or to the exit, and after a
-/// page's first word its others but the last.
+/// The next event, and what can be done in one go after it: a whole chain's slots and fragments, the instructions up to
+/// the next one that reads a counter or to the exit, a chain's responses and their push.
 fn drive_some<B: Bus>(
     queue: &mut Queue,
     bus: &mut B,
@@ -50,7 +50,7 @@ fn drive_some<B: Bus>(
         Want::Read(at) => {
             let word = bus.read(at);
             queue.feed(Answer::Word(word));
-            queue.read_page(bus);
+            queue.go_on(bus);
         }
         Want::Write(at, value) => {
             bus.write(at, value);
@@ -59,6 +59,7 @@ fn drive_some<B: Bus>(
         Want::Instr => {
             queue.feed(Answer::Went);
             queue.advance();
+            queue.go_on(bus);
         }
         Want::Load { m, k, j } => {
             let number = counters.load(seat, m, k, j);
@@ -105,8 +106,8 @@ fn drive_events<B: Bus>(
 }
 
 impl<'p, 'b> Queue<'p, 'b> {
-    /// Reads the words of the page that is being copied, but for the last.
-    fn read_page<B: Bus>(&mut self, bus: &mut B)
+    /// Does what can be done in one go.
+    fn go_on<B: Bus>(&mut self, bus: &mut B)
         requires { B.size bus.old ≡ length (wiring_of self.old).vif.owners.now }
         ensures size { B.size bus.new ≡ B.size bus.old }
         ensures same { IsSameWiring self.old self.new }
@@ -116,7 +117,7 @@ impl<'p, 'b> Queue<'p, 'b> {
         // The borrow checker has to see this type in the body.
         let _vif = &self.wiring.vif;
         let stage = mem::replace(&mut self.stage, Stage::Gone);
-        self.stage = stage_read(&self.wiring, &self.state, bus, stage);
+        self.stage = stage_driven(&self.wiring, &self.state, bus, stage);
     }
 
     /// A whole turn: its events over the bus, at the counters and to the ports.

@@ -12,6 +12,7 @@ ghost use Rattle.xen_steps.specs.declared.want.Answer.{Answer};
 ghost use Rattle.xen_transmit.specs.Touched.{AllAllowed};
 ghost use Rattle.xen_back.specs.Tree.{Left, copy, program, run_of, whole_turn};
 ghost use Rattle.xen_back.specs.Turned.{Ending, Turned};
+ghost use Rattle.xen_back.specs.Once.{CoveredDistinct, FragmentsOnce, SlotsOnce, TurnsOnce};
 ghost use Rattle.xen_back.specs.Parts.{IsCopy};
 ghost use Rattle.xen_back.specs.Turns.{IsTurn};
 ghost use Rattle.xen_back.specs.declared.state.State.{State};
@@ -38,6 +39,15 @@ pub fn turns_are_bounded()
     ensures instructions { (w : Wiring) (s : State) (p : List Event) (new : State) (u : Turned) → IsTurn w s p new u → program_events p ≤ instructions w.program.now.code }
     ensures notices { (w : Wiring) (s : State) (p : List Event) (new : State) (u : Turned) → IsTurn w s p new u → notices_in p ≤ 2 }
     ensures touches { (w : Wiring) (s : State) (p : List Event) (new : State) (u : Turned) → IsTurn w s p new u → AllAllowed w.vif p p }
+{}
+
+/// A turn reads each word of a slot once, each word of a fragment's entry and each word that the fragment covers; and if
+/// its packet isn't sent back, it reads nothing else but the ring's producer and event index.
+pub fn words_are_read_once()
+    ensures slots { SlotsOnce }
+    ensures fragments { FragmentsOnce }
+    ensures covered { CoveredDistinct }
+    ensures turns { TurnsOnce }
 {}
 
 /// A queue that is fed an answer has those ways to the turn's end that began with the answered event, without that event.

@@ -8,6 +8,7 @@ mod copy;
 mod copying;
 mod desc;
 mod drive;
+mod driving;
 mod ending;
 mod executing;
 mod feeding;

@@ -24,6 +24,7 @@ impl<'p, 'b> Queue<'p, 'b> {
         requires table { IsTable desc.owners.now desc.granter desc.table.now }
         ensures { IsMade program.now desc.entry result }
     {
+        // Only the proof uses what this call ensures: every accepted program is consistent.
         program.instructions();
         let vif = Vif {
             tx: desc.tx.frame(),

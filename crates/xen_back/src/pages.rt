@@ -1,102 +1,99 @@
-//! The words of a fragment's page that a driver copies in one go.
+//! The words of a fragment's page, read in one go.
 
-ghost use Rattle.std.specs.Prelude.{IsTrue, ◌≡◌, ◌≤◌, ◌+◌, ◌-◌, ◌/◌, List, [], length, drop, sum_by};
-ghost use Rattle.xen_netif.specs.Copy.{Covers};
-ghost use Rattle.xen_netif.specs.Fragments.{fragment_size};
-ghost use Rattle.xen_steps.specs.Event.{Event};
+ghost use Rattle.std.specs.Prelude.{◌≡◌, ◌≤◌, ◌<◌, ◌+◌, ◌-◌, ◌*◌, ◌/◌, ◌++◌, List, ℕ, length};
+ghost use Rattle.xen_netif.specs.Copy.{Covers, bytes_from, bytes_of, covered};
 ghost use Rattle.xen_steps.specs.Pages.{HasRoom};
-ghost use Rattle.xen_back.specs.Drive.{Driven};
-ghost use Rattle.xen_back.specs.Rest.{is_here, rest_in, rest_of_page};
-ghost use Rattle.xen_back.specs.Within.{Completes};
-ghost use Rattle.xen_back.specs.declared.stage.Stage.TheVariants as stages;
-ghost use Rattle.xen_back.specs.declared.state.State.{State as StateOf};
-ghost use Rattle.xen_back.specs.declared.wiring.Wiring.{Wiring as WiringOf};
+ghost use Rattle.xen_back.specs.Reads.{AreReadFrom};
 
-use crate::copy::Paging;
-use crate::stage::Stage;
-use crate::state::State;
-use crate::wiring::Wiring;
-use arrayvec::ArrayVec;
 use bpf_vm::PacketBuf;
-use xen_netif::{Chain, Fragment};
+use std::ops::Range;
+use xen_netif::Fragment;
 use xen_page::{Bus, Place};
 
-/// A stage after the words of the page that is being copied, but for the last.
-pub(crate) fn stage_read<'p, 'b, B: Bus>(
-    wiring: &Wiring<'p>,
-    state: &State,
+/// Puts whole words of a page behind a packet's bytes.
+fn read_whole<'b, B: Bus>(
     bus: &mut B,
-    stage: Stage<'p, 'b>,
-) -> Stage<'p, 'b>
-    requires here { IsTrue (is_here stage) }
-    requires size { B.size bus.old ≡ length wiring.now.vif.owners.now }
-    requires left { Completes wiring.now (rest_in wiring.now state.now stage) }
-    ensures here { IsTrue (is_here result) }
+    frame: u32,
+    from: u32,
+    to: u32,
+    packet: PacketBuf<'b>,
+) -> PacketBuf<'b>
+    requires frame { from < to → frame < B.size bus.old }
+    requires ordered { from ≤ to }
+    requires within { from < to → to ≤ 1024 }
+    requires room { length packet + 4 * (to - from) ≤ 65535 }
     ensures size { B.size bus.new ≡ B.size bus.old }
-    ensures driven { (t : List Event) × Driven B.log B.access_gives (rest_in wiring.now state.now stage.entry) (rest_in wiring.now state.now result) bus.old bus.new [] [] t }
+    ensures read { (words : List ℕ) × (length words ≡ to - from)
+        × AreReadFrom B.log B.access_gives frame from words bus.old bus.new
+        × (result ≡ packet.entry ++ bytes_of words) }
 {
-    match stage {
-        Stage::Page(page) => Stage::Page(read_words(wiring, state, bus, page)),
-        stage => stage,
+    let mut packet = packet;
+    for place in from..to {
+        let word = bus.read(Place { frame, word: place });
+        packet.push_all(&word.to_le_bytes());
     }
+    packet
 }
 
-/// Reads all words of a fragment's page but the last.
-pub(crate) fn read_words<'b, B: Bus>(
-    wiring: &Wiring,
-    state: &State,
+/// Puts a fragment's bytes in words of its page behind a packet's bytes.
+fn read_parts<'b, B: Bus>(
     bus: &mut B,
-    page: Paging<'b>,
-) -> Paging<'b>
-    requires size { B.size bus.old ≡ length wiring.now.vif.owners.now }
-    requires left { Completes wiring.now (rest_in wiring.now state.now (stages.Page page)) }
+    fragment: &Fragment,
+    frame: u32,
+    from: u32,
+    to: u32,
+    packet: PacketBuf<'b>,
+) -> PacketBuf<'b>
+    requires frame { from < to → frame < B.size bus.old }
+    requires ordered { from ≤ to }
+    requires within { from < to → to ≤ 1024 }
+    requires covers { (place : ℕ) → from ≤ place → place < to → Covers fragment.now place }
+    requires room { HasRoom (length packet) fragment.now from 0 }
     ensures size { B.size bus.new ≡ B.size bus.old }
-    ensures driven { (t : List Event) × Driven B.log B.access_gives (rest_in wiring.now state.now (stages.Page page.entry)) (rest_in wiring.now state.now (stages.Page result)) bus.old bus.new [] [] t }
+    ensures room { HasRoom (length result) fragment.now to 0 }
+    ensures read { (words : List ℕ) × (length words ≡ to - from)
+        × AreReadFrom B.log B.access_gives frame from words bus.old bus.new
+        × (result ≡ packet.entry ++ bytes_from fragment.now from words) }
 {
-    let Paging {
-        chain,
-        fragments,
-        mut packet,
-        i,
-        fragment,
-        frame,
-        mut place,
-        mut n,
-    } = page;
-    while n > 0 {
+    let mut packet = packet;
+    for place in from..to {
         let word = bus.read(Place { frame, word: place });
         packet.push_all(fragment.bytes_in(place, word).as_slice());
-        place += 1;
-        n -= 1;
     }
-    paging(chain, fragments, packet, i, fragment, frame, place, n)
+    packet
 }
 
-/// Before a word of a page.
-pub(crate) fn paging<'b>(
-    chain: Chain,
-    fragments: ArrayVec<Fragment, 18>,
-    packet: PacketBuf<'b>,
-    i: usize,
-    fragment: Fragment,
-    frame: u32,
-    place: u32,
-    n: u32,
-) -> Paging<'b>
-    requires within { i ≤ length fragments.items }
-    requires covers { Covers fragment place }
-    requires last { place + n ≡ (fragment.offset + fragment.size - 1) / 4 }
-    requires room { HasRoom (length packet) fragment place (sum_by fragment_size (drop i fragments.items)) }
-    ensures { (w : WiringOf) (s : StateOf) → rest_in w s (stages.Page result) ≡ rest_of_page w s chain fragments.items i fragment frame place n packet.entry }
+/// Of the words that a fragment covers, those that lie whole in it.
+fn whole_words(fragment: &Fragment, words: &Range<u32>) -> Range<u32>
+    requires start { words.now.start ≡ fragment.now.offset / 4 }
+    requires end { words.now.end ≡ words.now.start + covered fragment.now }
+    ensures inside { (words.now.start ≤ result.start) × (result.start ≤ result.end) × (result.end ≤ words.now.end) }
+    ensures whole { result.start < result.end → (fragment.now.offset ≤ 4 * result.start) × (4 * result.end ≤ fragment.now.offset + fragment.now.size) }
 {
-    Paging {
-        chain,
-        fragments,
-        packet,
-        i,
-        fragment,
-        frame,
-        place,
-        n,
-    }
+    let offset = u32::from(fragment.offset);
+    let start = ((offset + 3) / 4).min(words.end);
+    let end = (offset + u32::from(fragment.size)) / 4;
+    start..end.max(start)
+}
+
+/// Puts a fragment's bytes behind a packet's bytes. Each word of the page that the fragment covers is read once.
+pub(crate) fn read_fragment<'b, B: Bus>(
+    bus: &mut B,
+    fragment: &Fragment,
+    frame: u32,
+    packet: PacketBuf<'b>,
+) -> PacketBuf<'b>
+    requires frame { 0 < covered fragment.now → frame < B.size bus.old }
+    requires within { 0 < covered fragment.now → fragment.now.offset / 4 + covered fragment.now ≤ 1024 }
+    requires room { length packet + fragment.now.size ≤ 65535 }
+    ensures size { B.size bus.new ≡ B.size bus.old }
+    ensures read { (words : List ℕ) × (length words ≡ covered fragment.now)
+        × AreReadFrom B.log B.access_gives frame (fragment.now.offset / 4) words bus.old bus.new
+        × (result ≡ packet.entry ++ bytes_from fragment.now (fragment.now.offset / 4) words) }
+{
+    let words = fragment.covered_words();
+    let whole = whole_words(fragment, &words);
+    let packet = read_parts(bus, fragment, frame, words.start, whole.start, packet);
+    let packet = read_whole(bus, frame, whole.start, whole.end, packet);
+    read_parts(bus, fragment, frame, whole.end, words.end, packet)
 }

@@ -7,7 +7,7 @@ pub mod drive;
 mod feeding;
 pub mod front;
 mod ids;
-pub mod law;
+pub mod laws;
 mod making;
 mod packet;
 mod phase;

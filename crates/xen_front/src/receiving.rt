@@ -132,10 +132,7 @@ pub(crate) fn response_read(
         Some(cause) => halt(wiring, state, sent, received, cause),
         None => {
             land(&mut state.rx, response.id);
-            Phase::RxEnd(Part {
-                chained: chained,
-                response,
-            })
+            Phase::RxEnd(Part { chained, response })
         }
     }
 }

@@ -169,10 +169,7 @@ pub(crate) fn granted(
         ≡ sending wiring.now state.now sent.now piece (filling_lem wiring.now piece.start sent.now
         (pieces_lem piece) piece.index (id_of piece) (piece_words_lem (length sent.now) piece.index) 0) }
 {
-    Phase::Fill(Filling {
-        piece: piece,
-        written: 0,
-    })
+    Phase::Fill(Filling { piece, written: 0 })
 }
 
 /// After a word of the page, or after the slot's first.

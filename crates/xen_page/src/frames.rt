@@ -1,6 +1,6 @@
 //! Pages of shared words.
 
-ghost use Rattle.std.specs.Prelude.{◌≡◌, ◌≤◌, ◌<◌, length, IfOk};
+ghost use Rattle.std.specs.Prelude.{◌≡◌, ◌≤◌, ◌*◌, length, IfOk};
 
 use crate::place::{Place, WORDS};
 use std::alloc::{AllocError, Global};
@@ -49,10 +49,11 @@ impl Frames {
         self.count
     }
 
-    pub(crate) fn word(&self, at: Place) -> &AtomicU32
-        requires frame { at.frame < self.now }
-        requires word { at.word < 1024 }
+    /// The words of all frames, one frame after another.
+    pub(crate) fn words(&self) -> &[AtomicU32]
+        ensures count { self.now ≤ 8192 }
+        ensures words { length result.now ≡ self.now * 1024 }
     {
-        &self.words[at.frame as usize * WORDS as usize + at.word as usize]
+        self.words.as_slice()
     }
 }

@@ -5,3 +5,4 @@ pub mod Bounds
 pub mod EndLemmas
 pub mod Figures
 pub mod TouchedLemmas
+pub mod ByteLemmas

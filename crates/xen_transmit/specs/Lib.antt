@@ -8,3 +8,4 @@ pub mod Shared
 pub mod Sending
 pub mod Touched
 pub mod Wired
+pub mod Bytes

@@ -5,6 +5,7 @@ ghost use Rattle.xen_steps.specs.Drive.{Any, Bounded, IsPageWant, accesses};
 ghost use Rattle.xen_steps.specs.Event.{Event};
 ghost use Rattle.xen_steps.specs.Finish.{Ends};
 ghost use Rattle.xen_steps.specs.Steps.{Runs};
+ghost use Rattle.xen_transmit.specs.Bytes.{SentBytes};
 ghost use Rattle.xen_transmit.specs.Sending.{IsTransmit};
 ghost use Rattle.xen_transmit.specs.Touched.{AllAllowed};
 ghost use Rattle.xen_transmit.specs.Transmit.{transmit};
@@ -29,4 +30,10 @@ pub fn transmits_are_bounded()
 pub fn transmits_end()
     ensures ends { (w : Vif) (x : ℕ) (packet : List ℕ) → Ends Any (transmit w x packet) }
     ensures within { (w : Vif) (x : ℕ) (packet : List ℕ) → IsWired w → Bounded (IsPageWant (length w.owners.now)) Any (transmit w x packet) 263684 }
+{}
+
+/// The words that a transmit writes into the posted buffers are the packet's bytes, each word's lowest first, and then
+/// zeros.
+pub fn sent_words_are_the_packet()
+    ensures { SentBytes }
 {}

@@ -1,7 +1,7 @@
 use Rattle.xen_steps.specs.Event.{Event}
 use Rattle.xen_back.specs.Program.{instructions_alone}
 use Rattle.xen_back.proofs.DriveLemmas.{driven_alone, driven_append, driven_one, driven_silent}
-use Rattle.std.proofs.Common.{List, [], ◌∷◌, sym, ◌∙◌, ap, arith}
+use Rattle.std.proofs.Common.{List, [], ◌∷◌, ◌++◌, sym, ◌∙◌, ap, arith}
 use Rattle.bpf_maps.specs.Seats.{SeatView}
 use Rattle.bpf_note.specs.declared.op.Op.{Op}
 use Rattle.xen_page.specs.declared.access.Access.TheVariants as access
@@ -24,15 +24,15 @@ returns-in-Read-clause-events g c =
     let ops = c.args.seat.now.ops in
     let old = rest c.args.queue.now in
     let mid = rest c.feed.new.self in
-    let new = rest c.read_page.new.self in
-    let page = c.read_page.ensures.driven in
+    let new = rest c.go_on.new.self in
+    let page = c.go_on.ensures.driven in
     let one = driven_one g.B.Bus.log g.B.Bus.access_gives old mid c.args.bus.now c.read-word.new.self ops ops e
     (c.read-word.result, occurs_read w c.in-Read.at c.read-word.result is c.read-word.type_inv, c.feed.ensures.rest)
     (performs_one g.B.Bus.log g.B.Bus.access_gives c.args.bus.now (access.Read c.in-Read.at c.read-word.result) c.read-word.new.self c.read-word.ensures.told c.read-word.ensures.given) (ops_none ops) in (
       e ∷ page.0,
       omega arith,
-      driven_append g.B.Bus.log g.B.Bus.access_gives old mid new c.args.bus.now c.read-word.new.self c.read_page.new.bus ops ops ops (e ∷ []) page.0 one
-          (driven_silent g.B.Bus.log g.B.Bus.access_gives mid new c.read-word.new.self c.read_page.new.bus ops page.0 page.1),
+      driven_append g.B.Bus.log g.B.Bus.access_gives old mid new c.args.bus.now c.read-word.new.self c.go_on.new.bus ops ops ops (e ∷ []) page.0 one
+          (driven_silent g.B.Bus.log g.B.Bus.access_gives mid new c.read-word.new.self c.go_on.new.bus ops page.0 page.1),
     )
 
 pub returns-in-Write-clause-events : goal.returns-in-Write-clause-events
@@ -53,11 +53,17 @@ returns-in-Instr-clause-events g c =
     let n = c.advance.ensures.steps in
     let bus = c.args.bus.now in
     let ops = c.args.seat.now.ops in
-    let first = driven_one g.B.Bus.log g.B.Bus.access_gives (rest c.args.queue.now) (rest c.feed-in-Instr.new.self) bus bus ops ops Instr
-    (0, occurs_instr w is, c.feed-in-Instr.ensures.rest) (performs_none g.B.Bus.log g.B.Bus.access_gives bus) (ops_none ops) in (
-      Instr ∷ instructions_alone n,
+    let old = rest c.args.queue.now in
+    let mid = rest c.advance.new.self in
+    let first = driven_one g.B.Bus.log g.B.Bus.access_gives old (rest c.feed-in-Instr.new.self) bus bus ops ops Instr
+    (0, occurs_instr w is, c.feed-in-Instr.ensures.rest) (performs_none g.B.Bus.log g.B.Bus.access_gives bus) (ops_none ops) in
+    let alone = driven_alone g.B.Bus.log g.B.Bus.access_gives old (rest c.feed-in-Instr.new.self) mid bus bus ops ops (Instr ∷ []) n first c.advance.ensures.gone in
+    let done = c.go_on-in-Instr.ensures.driven in
+    let new = c.go_on-in-Instr.new.bus in (
+      Instr ∷ (instructions_alone n ++ done.0),
       omega arith,
-      driven_alone g.B.Bus.log g.B.Bus.access_gives (rest c.args.queue.now) (rest c.feed-in-Instr.new.self) (rest c.advance.new.self) bus bus ops ops (Instr ∷ []) n first c.advance.ensures.gone,
+      driven_append g.B.Bus.log g.B.Bus.access_gives old mid (rest c.go_on-in-Instr.new.self) bus bus new ops ops ops (Instr ∷ instructions_alone n) done.0 alone
+          (driven_silent g.B.Bus.log g.B.Bus.access_gives mid (rest c.go_on-in-Instr.new.self) bus new ops done.0 done.1),
     )
 
 pub returns-in-Load-clause-events : goal.returns-in-Load-clause-events

@@ -5,7 +5,7 @@ use Rattle.xen_front.specs.Tree.{poll, post, send}
 use Rattle.xen_front.proofs.ActivityLemmas.{runs_send, runs_post, runs_poll}
 use Rattle.xen_front.proofs.BoundLemmas.{bounded_poll, bounded_post, bounded_send, own_runs}
 use Rattle.xen_front.proofs.IdLemmas.{AreIds-from_All}
-use Rattle.xen_front.proofs.law.activities_are_short.Goals as goal
+use Rattle.xen_front.proofs.laws.activities_are_short.Goals as goal
 
 pub returns : goal.returns
 returns c = record {
