@@ -4,7 +4,7 @@ use Rattle.std.proofs.lemmas.List.{append-nil}
 use Rattle.xen_steps.specs.Event.{Event}
 use Rattle.xen_back.specs.declared.wiring.Wiring.{Wiring}
 use Rattle.xdp_world.specs.Entries.{Entry}
-use Rattle.xdp_world.specs.Stands.{GoesOn, Stands}
+use Rattle.xdp_world.specs.Stands.{GoesOn, IsStep}
 use Rattle.xdp_world.specs.declared.world.World.{World}
 use Rattle.xdp_world.proofs.Worlds.{steps_more}
 
@@ -12,9 +12,9 @@ pub goes_none : (a : World) → GoesOn a a []
 goes_none a wirings start es h = ([], refl, rw append-nil h)
 
 pub goes_more : (a b c : World) (steps : List (ℕ × ℕ)) (q n : ℕ) → GoesOn a b steps →
-    ((wirings : ℕ → Wiring) (start : ℕ) (es : List Entry) → Stands b wirings start es → (e : Option Event) × Stands c wirings start (es ++ record { queue = q; answer = n; event = e } ∷ [])) → GoesOn a c (steps ++ (q, n) ∷ [])
+    IsStep b c q n → GoesOn a c (steps ++ (q, n) ∷ [])
 goes_more a b c steps q n g f wirings start es h =
     let m = g wirings start es h in
-    let r = f wirings start (es ++ m.0) m.2 in
-    let entry : Entry = record { queue = q; answer = n; event = r.0 } in
-    (m.0 ++ entry ∷ [], steps_more m.0 entry ∙ ap (λ l. l ++ (q, n) ∷ []) m.1, rw (← append_assoc es m.0 (entry ∷ [])) r.1)
+    let r = f.stands wirings start (es ++ m.0) m.2 in
+    let entry : Entry = record { queue = q; answer = n; event = f.event } in
+    (m.0 ++ entry ∷ [], steps_more m.0 entry ∙ ap (λ l. l ++ (q, n) ∷ []) m.1, rw (← append_assoc es m.0 (entry ∷ [])) r)

@@ -28,7 +28,7 @@ use Rattle.xen_steps.specs.declared.want.Want.TheVariants as want
 use Rattle.xen_back.specs.declared.wiring.Wiring.{Wiring}
 use Rattle.xdp_world.specs.Core.{HaveEvents, IsHalted, IsUnfinished, Turns, begun, turned, started_at}
 use Rattle.xdp_world.specs.Entries.{Entry, listed, events_of, tagged, ops_of, history, ServesEntry, AllServe, steps_of}
-use Rattle.xdp_world.specs.Happens.{Comes, Counts, Happens, Rests, Settles, kept_list, op_list}
+use Rattle.xdp_world.specs.Happens.{Comes, Counts, Happens, Moved, Rests, Settles, kept_list, op_list}
 use Rattle.xdp_world.specs.Keeping.{Keeps}
 use Rattle.xdp_world.specs.Stands.{SoFar}
 use Rattle.xdp_world.specs.declared.kept.Kept.{Kept}
@@ -131,7 +131,7 @@ halted_by w start ev ks s front left (Some cause) e j u d =
     record { kept = ks; end = s; cause = cause; halted = e; joined = subst (λ (l : List Event). Turns w (started_at start) ev ks s l) (u.stopped cause e) j }
 
 -- a queue that wants nothing has halted
-halted : (w : Wiring) (start : ℕ) (ev : List Event) (ks : List Kept) (q : Queue) → SoFar w start ev ks q → want_of (rest q) ≡ want.Done → IsHalted w start ev
+pub halted : (w : Wiring) (start : ℕ) (ev : List Event) (ks : List Kept) (q : Queue) → SoFar w start ev ks q → want_of (rest q) ≡ want.Done → IsHalted w start ev
 halted w start ev ks q h d = halted_by w start ev ks (state_of q) h.front (rest q) (state_of q).halt refl h.joined h.unfinished d
 
 events_more : (q : ℕ) (es : List Entry) (e : Entry) → events_of q (es ++ e ∷ []) ≡ events_of q es ++ cond (eqb e.queue q) (listed e.event) []
@@ -220,6 +220,16 @@ pub record After (wirings : ℕ → Wiring) (start : ℕ) (qs : List Queue) (kep
   pub legal : IsLegal (history es)
   pub leaves : (m k j : ℕ) → IsCounter d.shapes m k j → total_at d m k j ≡ left_in m k j (history es)
 
+-- the event of a step of a queue, if it hadn't halted
+abbrev pub event_of : (q q' : Queue) (c d : TotalsView) (a : ℕ) (o : Option Op) (k : Option Kept) → Dec (want_of (rest q) ≡ want.Done) → ((want_of (rest q) ≡ want.Done → ⊥) → Happens q q' c d a o k) → Option Event
+event_of q q' c d a o k (yes p) v = None
+event_of q q' c d a o k (no n) v = Some (v n).event
+
+pub moved_step : (q q' : Queue) (c d : TotalsView) (a : ℕ) (o : Option Op) (k : Option Kept) → wiring_of q' ≡ wiring_of q → (t : Dec (want_of (rest q) ≡ want.Done)) →
+    (want_of (rest q) ≡ want.Done → Rests q q' c d o k) → (v : (want_of (rest q) ≡ want.Done → ⊥) → Happens q q' c d a o k) → Moved a q (event_of q q' c d a o k t v) q'
+moved_step q q' c d a o k w (yes p) r v = (p, (r p).rest, w)
+moved_step q q' c d a o k w (no n) r v = let h = v n in (h.mid, k, h.goes, h.serves, h.comes, w)
+
 module _ (wirings : ℕ → Wiring) (start i a : ℕ) (qs : List Queue) (kept kept' : ℕ → List Kept) (past : List (ℕ × Op)) (c d : TotalsView) (es : List Entry) (q q' : Queue) (o : Option Op) (k : Option Kept)
     (l : i < length qs) (at : (x : Queue) → get_or qs i x ≡ q) (h : After wirings start qs kept past c es)
     (mine : kept' i ≡ kept i ++ kept_list k) (others : (j : ℕ) → (j ≡ i → ⊥) → kept' j ≡ kept j) (wi : wiring_of q' ≡ wiring_of q) (shapes : d.shapes ≡ c.shapes) where
@@ -258,10 +268,10 @@ module _ (wirings : ℕ → Wiring) (start i a : ℕ) (qs : List Queue) (kept ke
         leaves = λ m x j is. leaves_op i c d (history es) o shapes h.leaves v.counts m x j is ∙ ap (left_in m x j) (sym grown);
       }
 
-  pub stands_step : Dec (want_of (rest q) ≡ want.Done) → (want_of (rest q) ≡ want.Done → Rests q q' c d o k) → ((want_of (rest q) ≡ want.Done → ⊥) → Happens q q' c d a o k) →
-      (e : Option Event) × After wirings start (set qs i q') kept' (past ++ tagged i (op_list o)) d (es ++ entry e ∷ [])
-  stands_step (yes p) r v = (None, stands_halted p (r p))
-  stands_step (no n) r v = (Some (v n).event, stands_event (v n))
+  pub stands_step : (t : Dec (want_of (rest q) ≡ want.Done)) → (want_of (rest q) ≡ want.Done → Rests q q' c d o k) → (v : (want_of (rest q) ≡ want.Done → ⊥) → Happens q q' c d a o k) →
+      After wirings start (set qs i q') kept' (past ++ tagged i (op_list o)) d (es ++ entry (event_of q q' c d a o k t v) ∷ [])
+  stands_step (yes p) r v = stands_halted p (r p)
+  stands_step (no n) r v = stands_event (v n)
 
 pub is_done : (w : Want) → Dec (w ≡ want.Done)
 is_done (want.Read at) = no (λ e. cc)

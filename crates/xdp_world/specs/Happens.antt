@@ -7,7 +7,7 @@ use Rattle.bpf_note.specs.declared.op.Op.TheVariants as op
 use Rattle.xen_steps.specs.Drive.{Goes}
 use Rattle.xen_back.specs.Drive.{label_of}
 use Rattle.xen_steps.specs.Event.{Event}
-use Rattle.xen_back.specs.Queues.{rest, state_of, IsReady}
+use Rattle.xen_back.specs.Queues.{rest, state_of, wiring_of, IsReady}
 use Rattle.xen_steps.specs.Steps.{Steps, done, want_of}
 use Rattle.xen_back.specs.Turned.{Ending, Turned}
 use Rattle.xen_back.specs.declared.queue.Queue.{Queue}
@@ -58,3 +58,9 @@ pub record Rests (old new : Queue) (c d : TotalsView) (op : Option Op) (kept : O
   pub counters : d ≡ c
   pub op_none : op ≡ None
   pub kept_none : kept ≡ None
+
+-- What a step with this event, or with none where it has halted, does to a queue.
+abbrev pub Moved : ℕ → Queue → Option Event → Queue → Type 0
+Moved answer old None new = (want_of (rest old) ≡ want.Done) × (rest new ≡ rest old) × (wiring_of new ≡ wiring_of old)
+Moved answer old (Some e) new =
+    (m : Steps Ending) × (kept : Option Kept) × Goes (rest old) e m × Serves e answer × Comes old m new kept × (wiring_of new ≡ wiring_of old)

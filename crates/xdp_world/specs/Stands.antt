@@ -1,5 +1,5 @@
 -- What a world stands for.
-use Rattle.std.specs.Prelude.{ℕ, ◌≡◌, ◌<◌, ◌++◌, List, [], Option, Some, None, length, slice_get, slice_index_or, vec_len, vec_capacity}
+use Rattle.std.specs.Prelude.{ℕ, ◌≡◌, ◌<◌, ◌++◌, ◌∷◌, List, [], Option, Some, None, length, slice_get, slice_index_or, vec_len, vec_capacity}
 use Rattle.std.specs.Global.{Vec}
 use Rattle.bpf_maps.specs.Seats.{total_at}
 use Rattle.bpf_note.specs.History.{IsLegal, left_in}
@@ -10,6 +10,7 @@ use Rattle.xen_back.specs.declared.queue.Queue.{Queue}
 use Rattle.xen_back.specs.declared.wiring.Wiring.{Wiring}
 use Rattle.xdp_world.specs.Core.{HaveEvents, IsUnfinished, Turns, started_at}
 use Rattle.xdp_world.specs.Entries.{AllServe, Entry, events_of, history, steps_of}
+use Rattle.xdp_world.specs.Happens.{Moved}
 use Rattle.xdp_world.specs.declared.kept.Kept.{Kept}
 use Rattle.xdp_world.specs.declared.world.World.{World}
 
@@ -43,6 +44,13 @@ pub record IsSame (old new : World) : Type 0 where
   pub turns : (i : ℕ) → kept_in new.turns.items i ≡ kept_in old.turns.items i
   pub history : new.history.items ≡ old.history.items
   pub counters : new.counters ≡ old.counters
+
+-- The world made one step of a queue, and goes on by its event, where it has one.
+pub record IsStep (old new : World) (queue answer : ℕ) : Type 0 where
+  pub event : Option Event
+  pub moved : (d : Queue) → Moved answer (slice_index_or old.queues.items queue d) event (slice_index_or new.queues.items queue d)
+  pub stands : (wirings : ℕ → Wiring) (start : ℕ) (es : List Entry) → Stands old wirings start es →
+      Stands new wirings start (es ++ record { queue = queue; answer = answer; event = event } ∷ [])
 
 -- The world goes on by these steps.
 abbrev pub GoesOn : World → World → List (ℕ × ℕ) → Type 0

@@ -54,6 +54,17 @@ fn queue<'p, 'b>(
     Ok(Queue::make(program, desc, buffer))
 }
 
+/// A buffer for each queue.
+pub(crate) fn buffers(alloc: Global, queues: usize) -> Result<Vec<Buffer>, AllocError>
+    ensures { IfOk result (λ buffers. vec_len buffers ≡ queues) }
+{
+    let mut buffers = Vec::with_capacity(alloc, queues)?;
+    for _queue in 0..queues {
+        buffers.push_reserved(Buffer::make(alloc)?);
+    }
+    Ok(buffers)
+}
+
 impl<'p, 'b> World<'p, 'b> {
     /// So many queues of a program, before their first turns, with all counters 0. Their packets lie in the buffers.
     pub fn make(
@@ -103,6 +114,7 @@ impl<'p, 'b> World<'p, 'b> {
     /// What was done so far. It takes no memory.
     pub fn report(self) -> Report
         ensures count { vec_len result.turns ≡ vec_len self.entry.queues }
+        ensures turns { result.turns.items ≡ self.entry.turns.items }
         ensures shapes { result.totals.shapes ≡ self.entry.counters.shapes }
         ensures reports { (wirings : ℕ → Wiring) (start : ℕ) (es : List Entry) → Stands self.entry wirings start es → Reports wirings start es result }
     {
@@ -136,10 +148,7 @@ impl World<'_, '_> {
         ensures { IfOk result (IsCoreRun program.now queues ifindex start steps.now) }
     {
         let layout = Layout::make(alloc, queues)?;
-        let mut buffers = Vec::with_capacity(alloc, queues)?;
-        for _queue in 0..queues {
-            buffers.push_reserved(Buffer::make(alloc)?);
-        }
+        let mut buffers = buffers(alloc, queues)?;
         let mut world = World::make(
             alloc,
             &layout,

@@ -1,10 +1,8 @@
 //! Steps of a world.
-ghost use Rattle.std.specs.Prelude.{◌≡◌, ◌<◌, ◌≤◌, ◌+◌, ◌++◌, ◌∷◌, [], ℕ, List, Option, All, OnOk, OnErr, vec_len, vec_capacity, length, slice_get, slice_index_or};
-ghost use Rattle.xen_steps.specs.Event.{Event};
-ghost use Rattle.xen_back.specs.declared.wiring.Wiring.{Wiring};
-ghost use Rattle.xdp_world.specs.Entries.{Entry, tagged};
+ghost use Rattle.std.specs.Prelude.{◌≡◌, ◌<◌, ◌≤◌, ◌++◌, All, OnOk, OnErr, vec_len, vec_capacity, length, slice_get};
+ghost use Rattle.xdp_world.specs.Entries.{tagged};
 ghost use Rattle.xdp_world.specs.Happens.{kept_list, op_list};
-ghost use Rattle.xdp_world.specs.Stands.{GoesOn, HasRoom, IsSame, Stands, kept_in};
+ghost use Rattle.xdp_world.specs.Stands.{GoesOn, HasRoom, IsSame, IsStep, kept_in};
 
 use crate::kept::{Kept, ROOM};
 use crate::serving::{Served, serve};
@@ -48,8 +46,7 @@ impl<'p, 'b> World<'p, 'b> {
         requires { queue < vec_len self.old.queues }
         ensures size { vec_len self.new.queues ≡ vec_len self.old.queues }
         ensures shapes { self.new.counters.shapes ≡ self.old.counters.shapes }
-        ensures ok { OnOk result ((wirings : ℕ → Wiring) (start : ℕ) (es : List Entry) → Stands self.old wirings start es →
-            (e : Option Event) × Stands self.new wirings start (es ++ record { queue = queue; answer = answer; event = e } ∷ [])) }
+        ensures ok { OnOk result (IsStep self.old self.new queue answer) }
         ensures err { OnErr result (IsSame self.old self.new) }
     {
         self.make_room(queue)?;

@@ -1,3 +1,4 @@
 pub mod AccessLemmas
 pub mod TableLemmas
 pub mod MappingLemmas
+pub mod RewriteLemmas

@@ -1,7 +1,9 @@
 pub mod Access
+pub mod Answered
 pub mod Log
 pub mod Script
 pub mod Recorded
+pub mod Rewritten
 pub mod Entry
 pub mod Grant
 pub mod Table

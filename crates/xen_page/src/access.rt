@@ -1,5 +1,8 @@
 //! One access to a page word.
 
+ghost use Rattle.std.specs.Prelude.{◌≡◌};
+ghost use Rattle.xen_page.specs.Answered.{answer_of};
+
 use crate::place::Place;
 
 /// An access to a page word, with its answer.
@@ -20,4 +23,17 @@ pub enum Access {
         new: u32,
         found: u32,
     },
+}
+
+impl Access {
+    /// What a read or a compare-exchange returned.
+    pub fn answer(&self) -> Option<u32>
+        ensures { result ≡ answer_of self.now }
+    {
+        match self {
+            Access::Read { answer, .. } => Some(*answer),
+            Access::Write { .. } => None,
+            Access::Exchange { found, .. } => Some(*found),
+        }
+    }
 }

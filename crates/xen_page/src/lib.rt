@@ -15,6 +15,8 @@ pub mod owners;
 pub mod page_bus;
 pub mod place;
 pub mod recorder;
+pub mod rewriter;
+mod rewriting;
 pub mod script_bus;
 pub mod table;
 #[cfg(test)]
@@ -32,5 +34,6 @@ pub use owners::{MAX_FRAMES, Owners};
 pub use page_bus::PageBus;
 pub use place::{Place, WORDS};
 pub use recorder::Recorder;
+pub use rewriter::Rewriter;
 pub use script_bus::ScriptBus;
 pub use table::{ENTRIES, MAX_TABLE_FRAMES, Table};

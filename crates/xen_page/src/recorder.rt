@@ -1,8 +1,10 @@
 //! A bus that keeps the accesses of another.
 
 ghost use Rattle.std.specs.Prelude.{◌≡◌, IfOk};
+ghost use Rattle.std.specs.List.{filter_map};
 ghost use Rattle.xen_page.specs.Log.{empty_log, told};
 ghost use Rattle.xen_page.specs.Recorded.{Records, bus_of, log_of};
+ghost use Rattle.xen_page.specs.Answered.{answer_of};
 
 use crate::access::Access;
 use crate::bus::Bus;
@@ -41,6 +43,16 @@ impl<B> Recorder<B> {
         ensures { result.now ≡ (log_of self.now).kept }
     {
         self.log.kept()
+    }
+
+    /// What the kept reads and compare-exchanges returned, in order: a `ScriptBus` of these answers the same.
+    pub fn answers(&self, alloc: Global) -> Result<Vec<u32>, AllocError>
+        ensures { IfOk result (λ answers. answers.items ≡ filter_map answer_of (log_of self.now).kept) }
+    {
+        self.accesses()
+            .iter()
+            .filter_map(|access| access.answer())
+            .collect(alloc)
     }
 }
 

@@ -2,7 +2,7 @@
 
 ghost use Rattle.std.specs.Prelude.{◌≡◌, ◌≤◌};
 
-use crate::{Access, Bus, Frames, PageBus, Place, Recorder, ScriptBus};
+use crate::{Access, Bus, Frames, PageBus, Place, Recorder, Rewriter, ScriptBus};
 use std::test::Fail;
 
 const A: Place = Place { frame: 0, word: 5 };
@@ -142,5 +142,57 @@ fn a_recorder_of_a_script_keeps_the_first(rt: HostRuntime) -> Result<(), Fail> {
     assert_eq!(rt; answers, [9, 8, 0, 0]);
     assert!(rt; bus.full());
     assert_eq!(rt; bus.accesses(), &visited(answers)[..1]);
+    Ok(())
+}
+
+#[test]
+fn a_rewriter_writes_before_the_accesses_of_its_list(rt: HostRuntime) -> Result<(), Fail> {
+    let frames = Frames::make(rt.alloc(), &[0, 1])?;
+    let writes = [
+        (3, B, 9),
+        (0, A, 4),
+        (2, B, 5),
+        (3, B, 77),
+        (2, A, 1),
+        (5, A, 3),
+    ];
+    let mut bus = Recorder::make(rt.alloc(), Rewriter::make(PageBus::of(&frames), &writes), 6)?;
+    assert_eq!(rt; bus.frames(), 2);
+    let answers = visit(&mut bus);
+    assert_eq!(rt;
+        answers,
+        [4, 5, 77, 78],
+        "9 was overwritten before the exchange"
+    );
+    assert_eq!(rt;
+        bus.accesses(),
+        visited(answers).as_slice(),
+        "no write of the list is told"
+    );
+    assert_eq!(rt;
+        bus.answers(rt.alloc())?.as_slice(),
+        [4, 5, 77, 78].as_slice(),
+        "a write has no answer"
+    );
+    assert_eq!(rt; bus.read(A), 3);
+    Ok(())
+}
+
+#[test]
+fn a_rewriter_stops_after_the_last_number(rt: HostRuntime) -> Result<(), Fail> {
+    let frames = Frames::make(rt.alloc(), &[0, 1])?;
+    let writes = [(u32::MAX, A, 4), (0, A, 5)];
+    let mut bus = Rewriter {
+        bus: PageBus::of(&frames),
+        writes: &writes,
+        next: Some(u32::MAX),
+    };
+    assert_eq!(rt; bus.read(A), 4);
+    bus.write(A, 6);
+    assert_eq!(rt;
+        [bus.read(A), bus.read(A)],
+        [6, 6],
+        "accesses without a number"
+    );
     Ok(())
 }
