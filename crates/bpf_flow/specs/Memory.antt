@@ -115,7 +115,7 @@ loaded_value n shapes false size (AtValue m o) = if is_double size && is_counter
 abbrev pub touches : ℕ → ℕ → ℕ → Bool
 touches p z j = nat_lt (max p (8 * j)) (min (p + z) (8 * j + 8))
 
--- z bytes of the stack from p on are stored: they are set, and a slot that they touch keeps no value any more
+-- z bytes of the stack from p on are stored: they are set, and a slot that they touch no longer keeps a value
 abbrev pub with_bytes : Facts → ℕ → ℕ → Facts
 with_bytes n p z = record {
   reg = n.reg;

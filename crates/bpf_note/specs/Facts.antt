@@ -32,7 +32,7 @@ with_reg n k v = record { reg = put n.reg k v; kept = n.kept; set = n.set; top =
 abbrev pub with_kept : Facts → ℕ → Val → Facts
 with_kept n j v = record { reg = n.reg; kept = put n.kept j (Some v); set = λ i. (i / 8 == j) || n.set i; top = n.top; safe = n.safe }
 
--- byte i is set, and its slot keeps no value any more
+-- byte i is set, and its slot no longer keeps a value
 abbrev pub with_byte : Facts → ℕ → Facts
 with_byte n i = record { reg = n.reg; kept = put n.kept (i / 8) None; set = put n.set i true; top = n.top; safe = n.safe }
 

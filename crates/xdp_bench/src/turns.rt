@@ -15,6 +15,14 @@ use xen_ring::{Port, Ports};
 /// How many packets are published at once.
 const BATCH: u32 = 16;
 
+/// Only turns that ran the program are timed.
+fn ran(turn: Turn<'_>) -> Result<(), Fault> {
+    match turn {
+        Turn::Ran { .. } => Ok(()),
+        _ => Err(Fault::Unexpected),
+    }
+}
+
 /// Times so many turns, of a packet of so many bytes each. Filling the pages isn't timed.
 pub fn time(rt: &HostRuntime, size: usize, times: u32, program: &[u8]) -> Result<Timed, Fault> {
     let program = accepted(rt.alloc(), program)?;
@@ -48,10 +56,7 @@ pub fn time(rt: &HostRuntime, size: usize, times: u32, program: &[u8]) -> Result
         producer = publish(&frames, producer, size, BATCH);
         let start = Instant::now(rt).map_err(|_| Fault::Clock)?;
         for _turn in 0..BATCH {
-            match queue.drive_turn(&mut bus, &counters, &mut seat, &ports) {
-                Turn::Ran { .. } => {}
-                _ => return Err(Fault::Unexpected),
-            }
+            ran(queue.drive_turn(&mut bus, &counters, &mut seat, &ports))?;
         }
         nanoseconds = nanoseconds.saturating_add(since(rt, &start)?);
     }
