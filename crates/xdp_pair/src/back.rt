@@ -1,5 +1,8 @@
 //! A back thread.
-ghost use Rattle.std.specs.Prelude.{◌≡◌, ◌≤◌, length};
+ghost use Rattle.std.specs.Prelude.{◌≡◌, ◌<◌, ◌*◌, true};
+ghost use Rattle.xdp_world.specs.Frames.{owners_of};
+ghost use Rattle.xen_back.specs.Queues.{IsReady, wiring_of};
+ghost use Rattle.xen_page.specs.Mapping.{IsMappedBy};
 ghost use Rattle.bpf_maps.specs.Seats.{IsSeatOf};
 ghost use Rattle.xdp_pair.specs.Kits.{IsBackOf};
 
@@ -9,12 +12,13 @@ use crate::report::BackRow;
 use crate::shared::Shared;
 use bpf_maps::{CounterSeat, Counters};
 use bpf_verify::Verified;
+use bpf_vm::Buffer;
 use std::snapshot::Snapshot;
 use std::sync::Wait;
 use std::thread::{Promise, PromisedHandle};
 use xdp_world::{BACK, FRONT};
 use xen_back::{Queue, QueueDesc, Turn};
-use xen_page::PageBus;
+use xen_page::{Mapped, PageBus};
 use xen_ring::Port;
 
 /// A back's seat, and what it did.
@@ -81,6 +85,40 @@ impl BackRow {
     }
 }
 
+/// A queue before its first turn, over these rings. Its packets lie in the room.
+fn make_queue<'p, 'b>(
+    program: &'p Verified,
+    shared: &'p Shared,
+    number: usize,
+    tx: Mapped,
+    rx: Mapped,
+    room: &'b mut Buffer,
+) -> Queue<'p, 'b>
+    requires number { number < shared.now.layout.queues }
+    requires tx { IsMappedBy (owners_of shared.now.layout.queues) 1 tx × (tx.write ≡ true) }
+    requires rx { IsMappedBy (owners_of shared.now.layout.queues) 1 rx × (rx.write ≡ true) }
+    ensures ready { IsReady result }
+    ensures owners { (wiring_of result).vif.owners.now ≡ owners_of shared.now.layout.queues }
+    ensures program { (wiring_of result).program.now ≡ program.now }
+{
+    let Some(port) = Port::of(2 * number as u32 + 1) else {
+        unreachable!()
+    };
+    let desc = QueueDesc {
+        tx,
+        rx,
+        table: shared.layout.table(),
+        owners: shared.layout.owners(),
+        granter: FRONT,
+        user: BACK,
+        ifindex: shared.ifindex,
+        queue: number as u32,
+        port,
+        start: shared.start,
+    };
+    Queue::make(program, desc, room)
+}
+
 /// Drives turns until the front has ended and a later turn is idle, or so many are done, or the queue has halted. The
 /// front is woken after each turn.
 pub(crate) fn work_back<R: Wait, G: Gate>(
@@ -106,22 +144,7 @@ pub(crate) fn work_back<R: Wait, G: Gate>(
         mut seat,
     } = kit;
     let lane = &shared.lanes[number];
-    let Some(port) = Port::of(2 * number as u32 + 1) else {
-        unreachable!()
-    };
-    let desc = QueueDesc {
-        tx,
-        rx,
-        table: shared.layout.table(),
-        owners: shared.layout.owners(),
-        granter: FRONT,
-        user: BACK,
-        ifindex: shared.ifindex,
-        queue: number as u32,
-        port,
-        start: shared.start,
-    };
-    let mut queue = Queue::make(program, desc, &mut room);
+    let mut queue = make_queue(program, shared, number, tx, rx, &mut room);
     let mut bus = PageBus::of(&shared.frames);
     let mut row = BackRow::new();
     for done in 0..turns {

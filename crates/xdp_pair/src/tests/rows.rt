@@ -70,6 +70,7 @@ fn two_queues_count_1500(rt: HostRuntime) -> Result<(), Fail> {
     Ok(())
 }
 
+/// No contract knows which of the front's pages a ring is mapped in: both rings of a back in one page come out here alone.
 /// Queue 0 makes 1,000 adds of 1 and queue 1 makes 500 adds of 2, from the last index before a ring wraps.
 #[test]
 fn adds_of_two_queues_come_to_2000(rt: HostRuntime) -> Result<(), Fail> {

@@ -2,9 +2,9 @@ use Rattle.std.proofs.Common.{List, ℕ, sym, subst}
 use Rattle.xen_page.specs.Table.{IsTable}
 use Rattle.xdp_world.specs.Frames.{owners_of}
 use Rattle.xdp_world.proofs.FrameLemmas.{is_table}
-use Rattle.xdp_pair.proofs.back.work_back.Goals as goal
+use Rattle.xdp_pair.proofs.back.make_queue.Goals as goal
 
-pub make-queue-requires-clause-table : goal.make-queue-requires-clause-table
-make-queue-requires-clause-table g c =
+pub make-requires-clause-table : goal.make-requires-clause-table
+make-requires-clause-table c =
     let queues = c.args.shared.now.layout.queues in
     subst (λ (o : List ℕ). IsTable o 1 c.table.result.now) (sym c.owners.ensures) (subst (IsTable (owners_of queues) 1) (sym c.table.ensures) (is_table queues))
