@@ -70,22 +70,23 @@ pub(crate) fn fill(frames: &Frames, words: &[(u32, u32, u32)]) {
     }
 }
 
+/// Makes a word of the pages 0.
+fn clear_word(frames: &Frames, at: Place) {
+    let mut pages = PageBus::of(frames);
+    if at.frame < pages.frames() && at.word < 1024 {
+        pages.write(at, 0);
+    }
+}
+
 /// Makes the words 0 again that a turn may have changed.
 pub(crate) fn clear(frames: &Frames, accesses: &[Access], writes: &[Rewrite]) {
-    let mut pages = PageBus::of(frames);
-    let count = pages.frames();
     for access in accesses {
-        if let Access::Write { at, .. } = access
-            && at.frame < count
-            && at.word < 1024
-        {
-            pages.write(*at, 0);
+        if let Access::Write { at, .. } = access {
+            clear_word(frames, *at);
         }
     }
     for (_, at, _) in writes {
-        if at.frame < count && at.word < 1024 {
-            pages.write(*at, 0);
-        }
+        clear_word(frames, *at);
     }
 }
 
@@ -203,7 +204,8 @@ fn notices(alloc: Global, bench: &Bench, buffer: &mut Buffer, answers: &[u32]) -
         match queue.wanted() {
             Want::Read(_) => queue.feed(Answer::Word(given.next().copied().unwrap_or(0))),
             Want::Load { .. } | Want::Add { .. } => queue.feed(Answer::Counter(0)),
-            Want::Write(..) | Want::Instr => queue.feed(Answer::Went),
+            Want::Write(..) => queue.feed(Answer::Went),
+            Want::Instr => queue.feed(Answer::Went),
             Want::Notify(_) => {
                 sent = sent.saturating_add(1);
                 queue.feed(Answer::Went);
