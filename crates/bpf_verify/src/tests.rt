@@ -6,6 +6,7 @@ use bpf_insn::decode;
 use std::alloc::Global;
 use std::test::Fail;
 
+mod beginnings;
 mod far;
 mod flow;
 mod full;

@@ -22,7 +22,7 @@ use xen_ring::Port;
 const REFERENCES: u32 = 514;
 
 /// A queue before its first turn.
-fn queue<'p, 'b>(
+pub(crate) fn queue<'p, 'b>(
     alloc: Global,
     layout: &'p Layout,
     program: &'p Verified,

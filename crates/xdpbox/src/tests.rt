@@ -3,6 +3,7 @@ mod counting;
 mod examples;
 mod exec;
 mod failing;
+mod failing_runs;
 mod hosting;
 mod pair;
 mod programs;

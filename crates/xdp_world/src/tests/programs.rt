@@ -52,6 +52,28 @@ pub(crate) const READ_AND_ADD: &[u64] = &[
     0x95000000_00000000, // exit
 ];
 
+/// Every packet is sent back.
+#[rattlefmt::skip]
+pub(crate) const SEND: &[u64] = &[
+    0xb7000000_03000000, // r0 = 3
+    0x95000000_00000000, // exit
+];
+
+/// The first byte of a packet of 14 or more becomes 255, and the packet is sent back; a shorter one is dropped.
+#[rattlefmt::skip]
+pub(crate) const SET_FIRST: &[u64] = &[
+    0x61120000_00000000, // r2 = data
+    0x61130400_00000000, // r3 = data_end
+    0xbf240000_00000000, // r4 = r2
+    0x07040000_0e000000, // r4 += 14
+    0x2d340300_00000000, // if r4 > r3 goto +3
+    0x72020000_ff000000, // *(u8 *)(r2 + 0) = 255
+    0xb7000000_03000000, // r0 = 3
+    0x95000000_00000000, // exit
+    0xb7000000_01000000, // r0 = 1
+    0x95000000_00000000, // exit
+];
+
 /// The accepted program of these slots, with one map of two values of one counter.
 pub(crate) fn accepted(alloc: Global, slots: &[u64]) -> Result<Verified, Fail>
     ensures { IfOk result (λ v. slice_get v.shapes 0 ≡ Some (record { entries = 2; counters = 1 })) }

@@ -7,15 +7,19 @@ use crate::{Halt, PollRefusal, PostRefusal, SendRefusal};
 use std::alloc::Global;
 use std::test::Fail;
 
-/// Whether the front refuses every call for good.
+/// Whether the front refuses every call for good, without an access.
 fn is_over(fronts: &mut Fronts) -> Result<bool, Fail> {
-    let send = fronts.outcome(Call::Send(&SMALL))?;
-    let post = fronts.outcome(Call::Post)?;
-    let poll = fronts.outcome(Call::Poll)?;
+    let send = fronts.play(Call::Send(&SMALL), &[])?;
+    let post = fronts.play(Call::Post, &[])?;
+    let poll = fronts.play(Call::Poll, &[])?;
+    let silent = [&send, &post, &poll]
+        .iter()
+        .all(|played| played.accesses.is_empty());
     Ok(
-        send == Got::NotSent(SendRefusal::Halted)
-            && post == Got::NotPosted(PostRefusal::Halted)
-            && poll == Got::NotPolled(PollRefusal::Halted),
+        silent
+            && send.got == Got::NotSent(SendRefusal::Halted)
+            && post.got == Got::NotPosted(PostRefusal::Halted)
+            && poll.got == Got::NotPolled(PollRefusal::Halted),
     )
 }
 
