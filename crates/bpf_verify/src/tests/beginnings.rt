@@ -38,11 +38,11 @@ fn each_beginning_has_its_refusal(rt: HostRuntime) -> Result<(), Fail> {
     let mut bytes = Vec::new(rt.alloc());
     add_slots(&mut bytes, &COUNT)?;
     let shape = MapShape::of(2, 1).ok_or("a shape")?;
-    for length in 0..88 {
-        let wanted = if length % 8 == 0 && length > 0 {
-            REFUSED.get(length / 8 - 1).copied()
-        } else {
-            Some((Cause::Length, 0))
+    assert_eq!(rt; bytes.len(), 88);
+    for length in 0..bytes.len() {
+        let wanted = match (length / 8).checked_sub(1) {
+            Some(last) if length % 8 == 0 => REFUSED.get(last).copied(),
+            _ => Some((Cause::Length, 0)),
         };
         let given = answer(rt.alloc(), &bytes[..length], &[shape]).err();
         assert_eq!(rt;

@@ -40,7 +40,7 @@ script = [[0,1],[0,2],[0,0],[0,917511],[0,1],[0,19],[0,50462976],[0,117835012],[
 #[test]
 fn every_beginning_of_a_script_ends_in_a_setup_or_a_fault(rt: HostRuntime) {
     let bytes = RUN.as_bytes();
-    for end in 0..=bytes.len() {
+    for end in 0..bytes.len() {
         let fault = load(rt.alloc(), &bytes[..end]).err();
         assert_ne!(rt; fault, Some(LoadFault::Memory), "{end} bytes");
     }
