@@ -1,9 +1,11 @@
 /* Refuses one allocation of a process: the one whose number, from 1, is in REFUSE. At the end it writes to standard error how many
    there were. To be preloaded. */
+#define _GNU_SOURCE
 #include <errno.h>
 #include <stddef.h>
 #include <stdio.h>
 #include <stdlib.h>
+#include <sys/syscall.h>
 #include <unistd.h>
 
 void *__libc_malloc(size_t size);
@@ -21,7 +23,10 @@ static int is_refused(void)
 		const char *text = getenv("REFUSE");
 		refused = text ? atol(text) : 0;
 	}
-	return ++number == refused;
+	if (++number != refused)
+		return 0;
+	errno = ENOMEM;
+	return 1;
 }
 
 void *malloc(size_t size)
@@ -58,5 +63,13 @@ __attribute__((destructor)) static void tell(void)
 	int length = snprintf(text, sizeof text, "%ld\n", number);
 
 	if (write(STDERR_FILENO, text, length) < 0)
-		_exit(5);
+		syscall(SYS_exit_group, 5);
+}
+
+/* A program that may start threads ends here, without its destructors. */
+void _exit(int status)
+{
+	tell();
+	syscall(SYS_exit_group, status);
+	__builtin_unreachable();
 }
