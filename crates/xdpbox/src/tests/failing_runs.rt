@@ -30,7 +30,10 @@ fn a_run_ends_at_the_first_failed_write(rt: HostRuntime) -> Result<(), Fail> {
         }
         let mut output = Vec::new(alloc);
         let mut input = settings;
-        assert_eq!(rt; run_words(&rt, alloc, &RUN, &mut input, &mut output), status);
+        assert_eq!(rt;
+            run_words(&rt, alloc, &RUN, &mut input, &mut output),
+            status
+        );
         assert_eq!(rt; output.as_slice(), text.as_bytes());
     }
     Ok(())
