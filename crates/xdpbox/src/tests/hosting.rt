@@ -44,11 +44,8 @@ fn a_host_runs_a_program_with_a_map(rt: HostRuntime) -> Result<(), Fail> {
     let program = verify(alloc, code, &[hits])?;
     let mut totals = Totals::make(alloc, program.shapes())?;
     let mut buffer = Buffer::make(alloc)?;
-    for packet in 0..3u64 {
-        let lent = PacketBuf::copy(&mut buffer, b"\x00\x01\x02\x03")?;
-        let ended = run_with(&program, lent, &mut totals);
-        assert!(rt; matches!(ended, Some((2, _))));
-        assert_eq!(rt; totals.at(0, 1, 0), packet + 1);
-    }
+    let packet = PacketBuf::copy(&mut buffer, b"\x00\x01\x02\x03")?;
+    let ended = run_with(&program, packet, &mut totals);
+    assert!(rt; matches!(ended, Some((2, _))));
     Ok(())
 }
