@@ -2,7 +2,7 @@
 
 /// Is passed before each turn of each back, and may hold it.
 pub trait Gate {
-    /// Queue number `queue` comes to its turn number `call`, counted from 1.
+    /// Queue number `queue` is about to begin its turn number `call`, counted from 1.
     fn pass(&self, queue: usize, call: u32);
 }
 

@@ -20,7 +20,7 @@ struct Meet<R: Clock> {
 }
 
 impl<R: Clock> Meet<R> {
-    /// Whether this queue comes to its second turn within 10,000 looks.
+    /// Whether this queue reaches its second turn within 10,000 looks.
     fn sees(&self, queue: usize) -> bool {
         for _look in 0..10_000 {
             for _load in 0..1000 {
