@@ -33,6 +33,3 @@ pub use turn::{Halt, Refusal, Turn};
 pub use wiring::Wiring;
 pub use xen_steps::{Answer, Want};
 pub use xen_transmit::Vif;
-
-#[cfg(test)]
-mod tests;

@@ -17,8 +17,6 @@ mod receiving;
 mod sending;
 pub mod state;
 mod taking;
-#[cfg(test)]
-mod tests;
 pub mod turn;
 
 pub use front::Front;

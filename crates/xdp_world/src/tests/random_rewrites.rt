@@ -1,12 +1,14 @@
 //! Random writes of a frontend between the accesses of turns of random chains.
+ghost use Rattle.std.specs.Prelude.{◌≡◌};
 
 use crate::Layout;
 use crate::tests::pages::{BUFFER, Bench, RX, Rewrite, TABLE, TX, agreed, clear, fill, frames};
 use crate::tests::programs::{COUNT, PASS, READ_AND_ADD, SEND, SET_FIRST, accepted};
+use bpf_verify::Verified;
 use bpf_vm::Buffer;
 use std::alloc::Global;
 use std::test::Fail;
-use xen_page::Place;
+use xen_page::{Frames, Place};
 
 /// How many lists of writes there are.
 const LISTS: u64 = 2_000;
@@ -217,39 +219,53 @@ fn random_attack(alloc: Global, seed: u64) -> Result<Attack, Fail> {
     Ok(attack)
 }
 
+/// The programs that the lists go through in turn.
+fn programs(alloc: Global) -> Result<Vec<Verified>, Fail> {
+    let mut programs = Vec::new(alloc);
+    for slots in [PASS, SEND, COUNT, READ_AND_ADD, SET_FIRST] {
+        programs.push(accepted(alloc, slots)?)?;
+    }
+    Ok(programs)
+}
+
+/// How the ways to a random turn differ, if they do.
+fn difference(
+    alloc: Global,
+    layout: &Layout,
+    frames: &Frames,
+    buffer: &mut Buffer,
+    program: &Verified,
+    seed: u64,
+) -> Result<Option<&'static str>, Fail>
+    requires { layout.now.queues ≡ 1 }
+{
+    let attack = random_attack(alloc, seed)?;
+    let bench = Bench {
+        layout,
+        frames,
+        program,
+        start: attack.start,
+    };
+    fill(frames, attack.words.as_slice());
+    let seen = agreed(alloc, &bench, buffer, attack.writes.as_slice())?;
+    clear(frames, seen.accesses.as_slice(), attack.writes.as_slice());
+    Ok(seen.difference)
+}
+
 #[test]
 fn random_writes_give_one_turn(rt: HostRuntime) -> Result<(), Fail> {
     let layout = Layout::make(rt.alloc(), 1)?;
     let frames = frames(rt.alloc())?;
     let mut buffer = Buffer::make(rt.alloc())?;
-    let programs = [
-        accepted(rt.alloc(), PASS)?,
-        accepted(rt.alloc(), SEND)?,
-        accepted(rt.alloc(), COUNT)?,
-        accepted(rt.alloc(), READ_AND_ADD)?,
-        accepted(rt.alloc(), SET_FIRST)?,
-    ];
-    let mut wrong: Vec<(u64, &'static str)> = Vec::new(rt.alloc());
+    let programs = programs(rt.alloc())?;
     let mut seed = 0u64;
     for _list in 0..LISTS / 5 {
         for program in &programs {
-            let attack = random_attack(rt.alloc(), seed)?;
-            let bench = Bench {
-                layout: &layout,
-                frames: &frames,
-                program,
-                start: attack.start,
-            };
-            fill(&frames, attack.words.as_slice());
-            let seen = agreed(rt.alloc(), &bench, &mut buffer, attack.writes.as_slice())?;
-            clear(&frames, seen.accesses.as_slice(), attack.writes.as_slice());
-            if let Some(difference) = seen.difference {
-                wrong.push((seed, difference))?;
-            }
+            let found = difference(rt.alloc(), &layout, &frames, &mut buffer, program, seed)?;
+            assert_eq!(rt; found, None, "seed {seed}");
             seed = seed.wrapping_add(1);
         }
     }
-    assert_eq!(rt; wrong.as_slice(), [].as_slice(), "seeds and what differs");
     assert_eq!(rt; seed, LISTS);
     Ok(())
 }

@@ -5,8 +5,7 @@ ghost use Rattle.xen_page.specs.Mapping.{IsMappedBy};
 ghost use Rattle.xen_page.specs.Table.{IsTable};
 ghost use Rattle.xen_back.specs.Queues.{IsReady, wiring_of};
 
-use crate::turn::Kind;
-use crate::{Answer, Queue, QueueDesc, Turn, Want};
+use super::kind::{Kind, kind_of};
 use bpf_insn::decode;
 use bpf_maps::Counters;
 use bpf_note::MapShape;
@@ -14,6 +13,7 @@ use bpf_verify::{Verified, verify};
 use bpf_vm::Buffer;
 use std::alloc::Global;
 use std::test::Fail;
+use xen_back::{Answer, Queue, QueueDesc, Turn, Want};
 use xen_page::{Access, Mapped, Owners, Place, ScriptBus, Table, map};
 use xen_ring::{Port, Ports};
 
@@ -119,29 +119,6 @@ pub fn queue<'p, 'b>(
         start,
     };
     Ok(Queue::make(program, desc, buffer))
-}
-
-/// What a turn came to.
-pub fn kind_of(turn: &Turn) -> Kind {
-    match turn {
-        Turn::Idle => Kind::Idle,
-        Turn::Ran {
-            number,
-            ops,
-            slots,
-            ..
-        } => Kind::Ran {
-            number: *number,
-            ops: *ops,
-            slots: *slots,
-        },
-        Turn::Refused { cause, ops, slots } => Kind::Refused {
-            cause: *cause,
-            ops: *ops,
-            slots: *slots,
-        },
-        Turn::Halted { cause } => Kind::Halted { cause: *cause },
-    }
 }
 
 /// The packet that a turn shows.

@@ -1,11 +1,11 @@
 //! Turns that copy a packet.
 
 use super::fixtures::{PASSES, Seen, read, turn, write, writes_to};
+use super::kind::Kind;
 use super::slots::{STARTS, slot, tx};
-use crate::Refusal;
-use crate::turn::Kind;
 use std::alloc::Global;
 use std::test::Fail;
+use xen_back::Refusal;
 
 /// A packet of one slot, id 7, whose entry and page words are these.
 fn one_slot(

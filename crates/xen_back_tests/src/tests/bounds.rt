@@ -1,9 +1,10 @@
 //! Turns whose frontend answers at random.
 
 use super::fixtures::{SENDS, owners, program, queue};
-use crate::{Answer, Queue, State, Want};
 use bpf_vm::Buffer;
+use std::process::Abort;
 use std::test::Fail;
+use xen_back::{Answer, Queue, Want};
 use xen_page::{Place, Table};
 
 const QUEUES: u32 = 2_000;
@@ -18,6 +19,13 @@ struct Events {
     notices: u32,
 }
 
+/// The indices of the next request of each ring, as the response producers show them.
+#[derive(Clone, Copy)]
+struct Indices {
+    tx: u32,
+    rx: u32,
+}
+
 /// The next number of a generator (Marsaglia's xorshift with shifts 13, 17 and 5).
 fn next(number: u32) -> u32 {
     let number = number ^ number << 13;
@@ -26,10 +34,10 @@ fn next(number: u32) -> u32 {
 }
 
 /// For a producer mostly one just ahead, and else a number that often is small, a granted entry's word or a slot's.
-fn answer(at: Place, state: State, number: u32) -> u32 {
+fn answer(at: Place, indices: &Indices, number: u32) -> u32 {
     match (at.frame, at.word) {
-        (17, 0) => state.tx_index.wrapping_add(number / 8 % 258),
-        (18, 0) => state.rx_index.wrapping_add(number / 8 % 258),
+        (17, 0) => indices.tx.wrapping_add(number / 8 % 258),
+        (18, 0) => indices.rx.wrapping_add(number / 8 % 258),
         _ => word(number),
     }
 }
@@ -47,9 +55,8 @@ fn word(number: u32) -> u32 {
 }
 
 /// A turn fed with random answers, and the generator's next number.
-fn random_turn(queue: &mut Queue, seed: u32) -> Result<(Events, u32), Fail> {
+fn random_turn(queue: &mut Queue, indices: &mut Indices, seed: u32) -> Result<(Events, u32), Fail> {
     let mut number = seed;
-    let state = queue.state;
     let mut events = Events {
         accesses: 0,
         instructions: 0,
@@ -60,9 +67,14 @@ fn random_turn(queue: &mut Queue, seed: u32) -> Result<(Events, u32), Fail> {
         match queue.wanted() {
             Want::Read(at) => {
                 events.accesses = events.accesses.saturating_add(1);
-                queue.feed(Answer::Word(answer(at, state, number)));
+                queue.feed(Answer::Word(answer(at, indices, number)));
             }
-            Want::Write(..) => {
+            Want::Write(at, value) => {
+                match (at.frame, at.word) {
+                    (17, 2) => indices.tx = value,
+                    (18, 2) => indices.rx = value,
+                    _ => {}
+                }
                 events.accesses = events.accesses.saturating_add(1);
                 queue.feed(Answer::Went);
             }
@@ -81,6 +93,25 @@ fn random_turn(queue: &mut Queue, seed: u32) -> Result<(Events, u32), Fail> {
     Err("no end".into())
 }
 
+/// Turns of one queue, each within the bounds. The generator's next number.
+fn random_turns<R: Abort>(rt: &R, queue: &mut Queue, start: u32, seed: u32) -> Result<u32, Fail> {
+    let mut indices = Indices {
+        tx: start,
+        rx: start,
+    };
+    let mut seed = seed;
+    for _turn in 0..TURNS {
+        let (events, later) = random_turn(queue, &mut indices, seed)?;
+        seed = later;
+        assert!(rt; events.accesses <= 33_026);
+        assert!(rt; events.instructions <= 2);
+        assert!(rt; events.notices <= 2);
+        assert!(rt; queue.wanted() == Want::Done);
+        queue.turn();
+    }
+    Ok(seed)
+}
+
 #[test]
 fn random_answers_stay_within_the_bounds(rt: HostRuntime) -> Result<(), Fail> {
     let owners = owners(rt.alloc())?;
@@ -91,15 +122,7 @@ fn random_answers_stay_within_the_bounds(rt: HostRuntime) -> Result<(), Fail> {
     for number in 0..QUEUES {
         let start = if number % 2 == 0 { 0 } else { 0xffff_ffff };
         let mut queue = queue(rt.alloc(), &owners, &table, &program, start, &mut buffer)?;
-        for _turn in 0..TURNS {
-            let (events, later) = random_turn(&mut queue, seed)?;
-            seed = later;
-            assert!(rt; events.accesses <= 33_026);
-            assert!(rt; events.instructions <= 2);
-            assert!(rt; events.notices <= 2);
-            assert!(rt; queue.want() == Want::Done);
-            queue.turn();
-        }
+        seed = random_turns(&rt, &mut queue, start, seed)?;
     }
     Ok(())
 }

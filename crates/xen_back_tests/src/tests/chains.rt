@@ -1,11 +1,11 @@
 //! Turns that end with what their slots say.
 
 use super::fixtures::{PASSES, read, turn, write, writes_to};
+use super::kind::Kind;
 use super::slots::{STARTS, slot, tx};
-use crate::turn::Kind;
-use crate::{Halt, Refusal};
 use std::alloc::Global;
 use std::test::Fail;
+use xen_back::{Halt, Refusal};
 use xen_netif::{ChainFault, SizeFault};
 
 /// What a queue answers a chain of two slots with, ids 7 and 8, if it is refused.

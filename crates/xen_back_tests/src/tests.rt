@@ -5,6 +5,7 @@ mod chains;
 mod copies;
 mod driving;
 mod fixtures;
+mod kind;
 mod programs;
 mod slots;
 mod transmits;

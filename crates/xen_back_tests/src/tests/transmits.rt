@@ -3,11 +3,11 @@
 ghost use Rattle.std.specs.Prelude.{◌<◌};
 
 use super::fixtures::{SENDS, turn, write, writes_to};
+use super::kind::Kind;
 use super::slots::{STARTS, slot, tx};
-use crate::turn::Kind;
-use crate::{Halt, Refusal};
 use std::alloc::Global;
 use std::test::Fail;
+use xen_back::{Halt, Refusal};
 
 /// Where word `word` of the i-th rx slot from `start` lies in the rx ring's page.
 fn rx(start: u32, i: u32, word: u32) -> u32

@@ -3,8 +3,8 @@
 ghost use Rattle.std.specs.Prelude.{◌<◌};
 
 use super::fixtures::Got;
-use crate::Halt;
 use std::alloc::{AllocError, Global};
+use xen_front::Halt;
 
 /// Numbers that look random, the same in each run (Knuth's MMIX generator).
 #[derive(Clone, Copy)]

@@ -1,26 +1,36 @@
 //! What a front does before a back that breaks the protocol.
 
-use super::fixtures::{
-    Call, Fronts, Got, Played, READ, RX, SMALL, STARTS, TX, WRITE, buffers, table,
-};
-use crate::{Halt, PollRefusal, PostRefusal, SendRefusal};
+use super::fixtures::{Bench, Call, Fronts, Got, Played, READ, RX, SMALL, STARTS, TX, WRITE};
 use std::alloc::Global;
 use std::test::Fail;
+use xen_front::{Halt, PollRefusal, PostRefusal, SendRefusal};
+
+/// Whether the front refuses a call for good, without an access.
+fn is_refused(fronts: &mut Fronts, call: Call, refusal: &Got) -> Result<bool, Fail> {
+    let played = fronts.play(call, &[])?;
+    Ok(played.accesses.is_empty() && played.got == *refusal)
+}
 
 /// Whether the front refuses every call for good, without an access.
 fn is_over(fronts: &mut Fronts) -> Result<bool, Fail> {
-    let send = fronts.play(Call::Send(&SMALL), &[])?;
-    let post = fronts.play(Call::Post, &[])?;
-    let poll = fronts.play(Call::Poll, &[])?;
-    let silent = [&send, &post, &poll]
-        .iter()
-        .all(|played| played.accesses.is_empty());
+    let send = Got::NotSent(SendRefusal::Halted);
+    let post = Got::NotPosted(PostRefusal::Halted);
+    let poll = Got::NotPolled(PollRefusal::Halted);
     Ok(
-        silent
-            && send.got == Got::NotSent(SendRefusal::Halted)
-            && post.got == Got::NotPosted(PostRefusal::Halted)
-            && poll.got == Got::NotPolled(PollRefusal::Halted),
+        is_refused(fronts, Call::Send(&SMALL), &send)?
+            && is_refused(fronts, Call::Post, &post)?
+            && is_refused(fronts, Call::Poll, &poll)?,
     )
+}
+
+/// A poll after which the front has to be halted.
+fn last_poll(fronts: &mut Fronts, answers: &[u32]) -> Result<Played, Fail> {
+    let polled = fronts.play(Call::Poll, answers)?;
+    if is_over(fronts)? {
+        Ok(polled)
+    } else {
+        Err("the front goes on".into())
+    }
 }
 
 /// Polls a front with so many packets sent and buffers posted, which then has to be halted.
@@ -31,21 +41,11 @@ fn halted(
     posted: u32,
     answers: &[u32],
 ) -> Result<Played, Fail> {
-    let table = table(alloc)?;
-    let (tx, rx) = (buffers(2), buffers(258));
-    let mut fronts = Fronts::make(alloc, &table, &tx, &rx, start)?;
-    for _send in 0..sent {
-        fronts.play(Call::Send(&SMALL), &[])?;
-    }
-    for _post in 0..posted {
-        fronts.play(Call::Post, &[])?;
-    }
-    let polled = fronts.play(Call::Poll, answers)?;
-    if is_over(&mut fronts)? {
-        Ok(polled)
-    } else {
-        Err("the front goes on".into())
-    }
+    let bench = Bench::make(alloc)?;
+    let mut fronts = bench.fronts(start)?;
+    fronts.send_all(sent)?;
+    fronts.post_all(posted)?;
+    last_poll(&mut fronts, answers)
 }
 
 /// The answers of a poll whose tx ring has nothing and whose rx producer is `shown` past the start, and then these words.
@@ -234,42 +234,70 @@ fn a_packet_of_more_than_65_535_bytes(rt: HostRuntime) -> Result<(), Fail> {
     Ok(())
 }
 
+/// Two posted buffers, of which one answer has a negative status.
+fn refuses(alloc: Global, fronts: &mut Fronts, start: u32, words: &[u32]) -> Result<Played, Fail> {
+    fronts.post_all(2)?;
+    let answers = rx_answers(alloc, start, 2, words)?;
+    fronts.play(Call::Poll, answers.as_slice())
+}
+
 #[test]
 fn a_negative_status_refuses_the_packet(rt: HostRuntime) -> Result<(), Fail> {
-    let alloc = rt.alloc();
-    let table = table(alloc)?;
-    let (tx, rx) = (buffers(2), buffers(258));
+    let bench = Bench::make(rt.alloc())?;
     let chains: [&[u32]; 2] = [
         &[0, 0x000A_0004, 1, 2, 3, 1, 0xFFFF_0000],
         &[1, 0xFFFF_0004, 0, 0x000A_0000, 1, 2, 3],
     ];
-    for start in STARTS {
-        for words in chains {
-            let mut fronts = Fronts::make(alloc, &table, &tx, &rx, start)?;
-            fronts.play(Call::Post, &[])?;
-            fronts.play(Call::Post, &[])?;
-            let answers = rx_answers(alloc, start, 2, words)?;
-            let polled = fronts.play(Call::Poll, answers.as_slice())?;
-            assert_eq!(rt; polled.got, Got::Refused);
-            assert_eq!(rt;
-                polled.accesses.len(),
-                4 + 3 + 3 + 3,
-                "three page words in all"
-            );
-            let after = start.wrapping_add(2);
-            let idle = fronts.play(Call::Poll, &[start, start, after, after])?;
-            assert_eq!(rt; idle.got, Got::Idle, "both slots are consumed");
-            assert!(rt; idle.has(4, &[(WRITE, RX, 3, start.wrapping_add(3))]));
-        }
-        let mut fronts = Fronts::make(alloc, &table, &tx, &rx, start)?;
-        fronts.play(Call::Post, &[])?;
-        let answers = rx_answers(alloc, start, 1, &[0x1001_0000, 0xFFFF_0000])?;
-        let polled = fronts.play(Call::Poll, answers.as_slice())?;
+    for (start, words) in [
+        (STARTS[0], chains[0]),
+        (STARTS[0], chains[1]),
+        (STARTS[1], chains[0]),
+        (STARTS[1], chains[1]),
+    ] {
+        let mut fronts = bench.fronts(start)?;
+        let polled = refuses(rt.alloc(), &mut fronts, start, words)?;
+        assert_eq!(rt; polled.got, Got::Refused);
         assert_eq!(rt;
-            polled.got,
-            Got::Refused,
-            "status -1 at offset 4,097 passes"
+            polled.accesses.len(),
+            4 + 3 + 3 + 3,
+            "three page words in all"
         );
+    }
+    Ok(())
+}
+
+/// What a poll of nothing does after a packet that was refused.
+fn polls_nothing(alloc: Global, fronts: &mut Fronts, start: u32) -> Result<Played, Fail> {
+    refuses(
+        alloc,
+        fronts,
+        start,
+        &[0, 0x000A_0004, 1, 2, 3, 1, 0xFFFF_0000],
+    )?;
+    let after = start.wrapping_add(2);
+    fronts.play(Call::Poll, &[start, start, after, after])
+}
+
+#[test]
+fn the_slots_of_a_refused_packet_are_consumed(rt: HostRuntime) -> Result<(), Fail> {
+    let bench = Bench::make(rt.alloc())?;
+    for start in STARTS {
+        let idle = polls_nothing(rt.alloc(), &mut bench.fronts(start)?, start)?;
+        assert_eq!(rt; idle.got, Got::Idle);
+        assert!(rt; idle.has(4, &[(WRITE, RX, 3, start.wrapping_add(3))]));
+    }
+    Ok(())
+}
+
+#[test]
+fn a_status_of_minus_1_at_offset_4_097(rt: HostRuntime) -> Result<(), Fail> {
+    let bench = Bench::make(rt.alloc())?;
+    for start in STARTS {
+        let mut fronts = bench.fronts(start)?;
+        fronts.post_all(1)?;
+        let answers = rx_answers(rt.alloc(), start, 1, &[0x1001_0000, 0xFFFF_0000])?;
+        let got = fronts.outcome(Call::Poll, answers.as_slice())?;
+        assert_eq!(rt; got, Got::Refused, "at offset 4,097");
     }
     Ok(())
 }

@@ -4,9 +4,9 @@
 ghost use Rattle.std.specs.Prelude.{◌≡◌, IfOk};
 ghost use Rattle.xen_front.specs.Fronts.{wiring_of};
 
-use crate::{Buffer, Front, FrontDesc, Halt, PollRefusal, PostRefusal, RxTurn, SendRefusal};
 use std::alloc::{AllocError, Global};
 use std::test::Fail;
+use xen_front::{Buffer, Front, FrontDesc, Halt, PollRefusal, PostRefusal, RxTurn, SendRefusal};
 use xen_page::{Access, Owners, ScriptBus, Table};
 use xen_ring::{Port, Ports};
 use xen_steps::{Answer, Want};
@@ -71,6 +71,16 @@ fn row(access: &Access) -> Row {
     }
 }
 
+impl Got {
+    /// Whether a packet of these bytes was received.
+    pub fn is_packet(&self, bytes: &[u8]) -> bool {
+        match self {
+            Got::Packet(received) => received.as_slice() == bytes,
+            _ => false,
+        }
+    }
+}
+
 impl Played {
     /// Whether these are the accesses from the `from`-th on.
     pub fn ends_with(&self, from: usize, rows: &[Row]) -> bool {
@@ -90,12 +100,6 @@ impl Played {
     }
 }
 
-/// The front's table, in frames 1 and 2.
-pub fn table(alloc: Global) -> Result<Table, Fail> {
-    let owners = Owners::make(alloc, &[1, 1, 1])?;
-    Ok(Table::make(&owners, 1, &[1, 2]).ok_or("a table")?)
-}
-
 /// The buffers with the references from `first` on.
 pub fn buffers(first: u16) -> [Buffer; 256] {
     let mut buffers = [Buffer { gref: 0, frame: 0 }; 256];
@@ -110,31 +114,55 @@ pub fn buffers(first: u16) -> [Buffer; 256] {
     buffers
 }
 
-/// A front between activities.
-pub fn front<'p>(
+/// What fronts stand on: their table, in frames 1 and 2, and their buffers.
+#[derive(Drop)]
+pub struct Bench {
     alloc: Global,
-    table: &'p Table,
-    tx: &'p [Buffer],
-    rx: &'p [Buffer],
-    start: u32,
-) -> Result<Front<'p>, Fail>
-    ensures { IfOk result (λ front. (wiring_of front).frames ≡ 531) }
-{
-    let desc = FrontDesc {
-        frames: FRAMES,
-        tx_frame: TX,
-        rx_frame: RX,
-        table,
-        tx,
-        rx,
-        back: 0,
-        port: Port::of(1).ok_or("a port")?,
-        start,
-    };
-    if !desc.is_wired() {
-        return Err("not wired".into());
+    table: Table,
+    tx: [Buffer; 256],
+    rx: [Buffer; 256],
+}
+
+impl Bench {
+    pub fn make(alloc: Global) -> Result<Bench, Fail> {
+        let owners = Owners::make(alloc, &[1, 1, 1])?;
+        Ok(Bench {
+            alloc,
+            table: Table::make(&owners, 1, &[1, 2]).ok_or("a table")?,
+            tx: buffers(2),
+            rx: buffers(258),
+        })
     }
-    Ok(Front::make(alloc, desc)?)
+
+    /// A front between activities.
+    pub fn front(&self, start: u32) -> Result<Front<'_>, Fail>
+        ensures { IfOk result (λ front. (wiring_of front).frames ≡ 531) }
+    {
+        let desc = FrontDesc {
+            frames: FRAMES,
+            tx_frame: TX,
+            rx_frame: RX,
+            table: &self.table,
+            tx: &self.tx,
+            rx: &self.rx,
+            back: 0,
+            port: Port::of(1).ok_or("a port")?,
+            start,
+        };
+        if !desc.is_wired() {
+            return Err("not wired".into());
+        }
+        Ok(Front::make(self.alloc, desc)?)
+    }
+
+    /// Two of them.
+    pub fn fronts(&self, start: u32) -> Result<Fronts<'_>, Fail> {
+        Ok(Fronts {
+            alloc: self.alloc,
+            driven: self.front(start)?,
+            fed: self.front(start)?,
+        })
+    }
 }
 
 fn copied(alloc: Global, turn: RxTurn) -> Result<Got, AllocError> {
@@ -298,32 +326,61 @@ pub struct Fronts<'p> {
     ghost on_bus: { (wiring_of driven).frames ≡ 531 },
 }
 
-impl<'p> Fronts<'p> {
-    pub fn make(
-        alloc: Global,
-        table: &'p Table,
-        tx: &'p [Buffer],
-        rx: &'p [Buffer],
-        start: u32,
-    ) -> Result<Fronts<'p>, Fail> {
-        let driven = front(alloc, table, tx, rx, start)?;
-        let fed = front(alloc, table, tx, rx, start)?;
-        Ok(Fronts { alloc, driven, fed })
-    }
-
+impl Fronts<'_> {
     /// Plays a call to both, with these answers. Both have to do the same.
     pub fn play(&mut self, call: Call, answers: &[u32]) -> Result<Played, Fail> {
         play_both(self.alloc, &mut self.driven, &mut self.fed, call, answers)
     }
 
-    /// What comes of a call with no answers but 0.
-    pub fn outcome(&mut self, call: Call) -> Result<Got, Fail> {
+    /// What comes of a call with these answers.
+    pub fn outcome(&mut self, call: Call, answers: &[u32]) -> Result<Got, Fail> {
         let Played {
             got,
             accesses: _,
             noticed: _,
-        } = self.play(call, &[])?;
+        } = self.play(call, answers)?;
         Ok(got)
+    }
+
+    /// Sends so many packets.
+    pub fn send_all(&mut self, packets: u32) -> Result<(), Fail> {
+        for _packet in 0..packets {
+            if self.outcome(Call::Send(&SMALL), &[])? != Got::Idle {
+                return Err("a send is refused".into());
+            }
+        }
+        Ok(())
+    }
+
+    /// Posts so many buffers.
+    pub fn post_all(&mut self, buffers: u32) -> Result<(), Fail> {
+        for _buffer in 0..buffers {
+            if self.outcome(Call::Post, &[])? != Got::Idle {
+                return Err("a post is refused".into());
+            }
+        }
+        Ok(())
+    }
+
+    /// Plays a call to both, whose accesses have to be these rows from the `from`-th access on. What came of it, and whether the
+    /// back has a notice.
+    pub fn shows(
+        &mut self,
+        call: Call,
+        answers: &[u32],
+        from: usize,
+        rows: &[Row],
+    ) -> Result<(Got, bool), Fail> {
+        let played = self.play(call, answers)?;
+        if !played.ends_with(from, rows) {
+            return Err("other accesses".into());
+        }
+        let Played {
+            got,
+            accesses: _,
+            noticed,
+        } = played;
+        Ok((got, noticed))
     }
 
     /// The counts of tx responses by status, if both fronts have the same.

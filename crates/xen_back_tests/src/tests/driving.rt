@@ -1,14 +1,14 @@
 //! Turns over pages, and turns in a row.
 
 use super::fixtures::{
-    FRAMES, PASSES, feed_turn, kind_of, owners, packet_of, program, queue, turn_by_driver,
+    FRAMES, PASSES, feed_turn, owners, packet_of, program, queue, turn_by_driver,
 };
+use super::kind::{Kind, kind_of};
 use super::slots::slot;
-use crate::turn::Kind;
-use crate::{Halt, Turn, Want};
 use bpf_maps::Counters;
 use bpf_vm::Buffer;
 use std::test::Fail;
+use xen_back::{Halt, Turn, Want};
 use xen_page::{Access, Bus, Frames, PageBus, Place, Recorder, ScriptBus, Table};
 use xen_ring::{Port, Ports};
 

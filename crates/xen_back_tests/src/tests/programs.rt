@@ -1,16 +1,16 @@
 //! Turns whose program decides.
 
 use super::fixtures::{
-    Seen, feed_turn, kind_of, owners, packet_of, program, queue, turn, turn_by_driver,
-    turn_by_hand, write, writes_to,
+    Seen, feed_turn, owners, packet_of, program, queue, turn, turn_by_driver, turn_by_hand, write,
+    writes_to,
 };
+use super::kind::{Kind, kind_of};
 use super::slots::{STARTS, slot, tx};
-use crate::Want;
-use crate::turn::Kind;
 use bpf_note::MapShape;
 use bpf_vm::Buffer;
 use std::alloc::Global;
 use std::test::Fail;
+use xen_back::Want;
 use xen_page::Table;
 
 /// Adds 1 to the counter of key 1: ST W [r10 - 4], 1; MOV r2, r10; ADD r2, -4; r1 = map 0; CALL 1; JEQ r0, 0, +2;

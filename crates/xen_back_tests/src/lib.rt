@@ -1,0 +1,5 @@
+//! Tests of [`xen_back`] by what it makes public. They are a crate of their own so that the gate proves xen_back once.
+#![tactic(auto)]
+
+#[cfg(test)]
+mod tests;

@@ -1,0 +1,44 @@
+//! A turn without its packet.
+
+use xen_back::{Halt, Refusal, Turn};
+
+#[derive(Clone, Copy, Debug, PartialEq, Eq)]
+pub enum Kind {
+    Idle,
+    Ran {
+        number: u32,
+        ops: u32,
+        slots: u32,
+    },
+    Refused {
+        cause: Refusal,
+        ops: u32,
+        slots: u32,
+    },
+    Halted {
+        cause: Halt,
+    },
+}
+
+/// What a turn came to.
+pub fn kind_of(turn: &Turn) -> Kind {
+    match turn {
+        Turn::Idle => Kind::Idle,
+        Turn::Ran {
+            number,
+            ops,
+            slots,
+            ..
+        } => Kind::Ran {
+            number: *number,
+            ops: *ops,
+            slots: *slots,
+        },
+        Turn::Refused { cause, ops, slots } => Kind::Refused {
+            cause: *cause,
+            ops: *ops,
+            slots: *slots,
+        },
+        Turn::Halted { cause } => Kind::Halted { cause: *cause },
+    }
+}
