@@ -1,11 +1,11 @@
 //! Turns whose frontend answers at random.
 
-use super::fixtures::{SENDS, owners, program, queue};
+use super::fixtures::{Bench, SENDS};
 use bpf_vm::Buffer;
 use std::process::Abort;
 use std::test::Fail;
 use xen_back::{Answer, Queue, Want};
-use xen_page::{Place, Table};
+use xen_page::Place;
 
 const QUEUES: u32 = 2_000;
 
@@ -114,14 +114,12 @@ fn random_turns<R: Abort>(rt: &R, queue: &mut Queue, start: u32, seed: u32) -> R
 
 #[test]
 fn random_answers_stay_within_the_bounds(rt: HostRuntime) -> Result<(), Fail> {
-    let owners = owners(rt.alloc())?;
-    let table = Table::make(&owners, 1, &[1]).ok_or("no table")?;
-    let program = program(rt.alloc(), &SENDS, &[])?;
+    let bench = Bench::make(rt.alloc(), &SENDS, &[])?;
     let mut buffer = Buffer::make(rt.alloc())?;
     let mut seed = 2_463_534_242;
     for number in 0..QUEUES {
         let start = if number % 2 == 0 { 0 } else { 0xffff_ffff };
-        let mut queue = queue(rt.alloc(), &owners, &table, &program, start, &mut buffer)?;
+        let mut queue = bench.queue(rt.alloc(), start, &mut buffer)?;
         seed = random_turns(&rt, &mut queue, start, seed)?;
     }
     Ok(())

@@ -1,15 +1,16 @@
 //! Turns over pages, and turns in a row.
 
-use super::fixtures::{
-    FRAMES, PASSES, feed_turn, owners, packet_of, program, queue, turn_by_driver,
-};
+ghost use Rattle.std.specs.Prelude.{◌≡◌, [], length, IfOk};
+ghost use Rattle.xen_back.specs.Queues.{IsReady, wiring_of};
+
+use super::fixtures::{Bench, FRAMES, PASSES, Seen, feed_turn, seated, seen_of, turn_by_driver};
 use super::kind::{Kind, kind_of};
 use super::slots::slot;
-use bpf_maps::Counters;
 use bpf_vm::Buffer;
+use std::alloc::Global;
 use std::test::Fail;
-use xen_back::{Halt, Turn, Want};
-use xen_page::{Access, Bus, Frames, PageBus, Place, Recorder, ScriptBus, Table};
+use xen_back::{Halt, Queue, Turn, Want};
+use xen_page::{Bus, Frames, PageBus, Place, Recorder, ScriptBus};
 use xen_ring::{Port, Ports};
 
 /// A packet of 14 bytes on a new tx ring, whose response is to be told: frame, word and value of each word that isn't 0.
@@ -38,48 +39,51 @@ fn fill(frames: &Frames) {
     }
 }
 
-#[test]
-fn a_turn_over_pages_is_the_turn_of_its_answers(rt: HostRuntime) -> Result<(), Fail> {
-    let owners = owners(rt.alloc())?;
-    let table = Table::make(&owners, 1, &[1]).ok_or("no table")?;
-    let program = program(rt.alloc(), &PASSES, &[])?;
-    let mut buffer = Buffer::make(rt.alloc())?;
-    let mut queue = queue(rt.alloc(), &owners, &table, &program, 0, &mut buffer)?;
+/// Pages with the packet.
+fn pages(alloc: Global) -> Result<Frames, Fail>
+    ensures { IfOk result (λ frames. frames ≡ 20) }
+{
     let mut domains = [1; 20];
     domains[0] = 0;
-    let frames = Frames::make(rt.alloc(), &domains)?;
+    let frames = Frames::make(alloc, &domains)?;
     fill(&frames);
-    let (counters, mut seats) = Counters::make(rt.alloc(), &[], 1)?;
-    let mut seat = seats.pop().ok_or("no seat")?;
-    let mut bus = Recorder::make(rt.alloc(), PageBus::of(&frames), 100)?;
+    Ok(frames)
+}
+
+/// The turn, with its accesses and the answers that they found.
+fn turn_over_pages(alloc: Global, queue: &mut Queue) -> Result<(Seen, Vec<u32>), Fail>
+    requires ready { IsReady queue.old }
+    requires owners { length (wiring_of queue.old).vif.owners.now ≡ 20 }
+    requires program { (wiring_of queue.old).program.now.shapes ≡ [] }
+{
+    let frames = pages(alloc)?;
+    let (counters, mut seat) = seated(alloc, &[])?;
+    let mut bus = Recorder::make(alloc, PageBus::of(&frames), 100)?;
     let ports = Ports::new();
     let turn = queue.drive_turn(&mut bus, &counters, &mut seat, &ports);
-    let kind = kind_of(&turn);
-    let packet = packet_of(rt.alloc(), &turn)?;
-    assert!(rt; !bus.full());
-    let mut answers = Vec::new(rt.alloc());
-    for access in bus.accesses() {
-        if let Access::Read { answer, .. } = access {
-            answers.push(*answer)?;
-        }
-    }
+    let seen = seen_of(alloc, &turn, bus.accesses(), &ports)?;
+    let answers = bus.answers(alloc)?;
+    Ok((seen, answers))
+}
+
+#[test]
+fn a_turn_over_pages_is_the_turn_of_its_answers(rt: HostRuntime) -> Result<(), Fail> {
+    let bench = Bench::make(rt.alloc(), &PASSES, &[])?;
+    let mut buffer = Buffer::make(rt.alloc())?;
+    let mut queue = bench.queue(rt.alloc(), 0, &mut buffer)?;
+    let (seen, answers) = turn_over_pages(rt.alloc(), &mut queue)?;
     let replayed = turn_by_driver(rt.alloc(), &PASSES, &[], 0, answers.as_slice())?;
-    assert_eq!(rt; replayed.kind, kind);
-    assert_eq!(rt; replayed.packet, packet);
-    assert_eq!(rt; replayed.accesses.as_slice(), bus.accesses());
-    assert_eq!(rt; packet.len(), 14);
+    assert_eq!(rt; replayed, seen);
+    assert_eq!(rt; seen.packet.len(), 14);
     Ok(())
 }
 
 #[test]
 fn a_halted_queue_makes_no_more_accesses(rt: HostRuntime) -> Result<(), Fail> {
-    let owners = owners(rt.alloc())?;
-    let table = Table::make(&owners, 1, &[1]).ok_or("no table")?;
-    let program = program(rt.alloc(), &PASSES, &[])?;
+    let bench = Bench::make(rt.alloc(), &PASSES, &[])?;
     let mut buffer = Buffer::make(rt.alloc())?;
-    let mut queue = queue(rt.alloc(), &owners, &table, &program, 0, &mut buffer)?;
-    let (counters, mut seats) = Counters::make(rt.alloc(), &[], 1)?;
-    let mut seat = seats.pop().ok_or("no seat")?;
+    let mut queue = bench.queue(rt.alloc(), 0, &mut buffer)?;
+    let (counters, mut seat) = seated(rt.alloc(), &[])?;
     let mut bus = ScriptBus::make(rt.alloc(), FRAMES, &[257], 100)?;
     let ports = Ports::new();
     let halted = Turn::Halted {
@@ -95,13 +99,10 @@ fn a_halted_queue_makes_no_more_accesses(rt: HostRuntime) -> Result<(), Fail> {
 
 #[test]
 fn a_due_notice_sets_the_port(rt: HostRuntime) -> Result<(), Fail> {
-    let owners = owners(rt.alloc())?;
-    let table = Table::make(&owners, 1, &[1]).ok_or("no table")?;
-    let program = program(rt.alloc(), &PASSES, &[])?;
+    let bench = Bench::make(rt.alloc(), &PASSES, &[])?;
     let mut buffer = Buffer::make(rt.alloc())?;
-    let mut queue = queue(rt.alloc(), &owners, &table, &program, 0, &mut buffer)?;
-    let (counters, mut seats) = Counters::make(rt.alloc(), &[], 1)?;
-    let mut seat = seats.pop().ok_or("no seat")?;
+    let mut queue = bench.queue(rt.alloc(), 0, &mut buffer)?;
+    let (counters, mut seat) = seated(rt.alloc(), &[])?;
     let answers = [
         1,
         2,
@@ -135,11 +136,9 @@ fn a_due_notice_sets_the_port(rt: HostRuntime) -> Result<(), Fail> {
 
 #[test]
 fn a_closed_queue_hands_its_rings_back(rt: HostRuntime) -> Result<(), Fail> {
-    let owners = owners(rt.alloc())?;
-    let table = Table::make(&owners, 1, &[1]).ok_or("no table")?;
-    let program = program(rt.alloc(), &PASSES, &[])?;
+    let bench = Bench::make(rt.alloc(), &PASSES, &[])?;
     let mut buffer = Buffer::make(rt.alloc())?;
-    let mut queue = queue(rt.alloc(), &owners, &table, &program, 0, &mut buffer)?;
+    let mut queue = bench.queue(rt.alloc(), 0, &mut buffer)?;
     feed_turn(rt.alloc(), &mut queue, &[0, 0])?;
     assert!(rt; queue.want() == Want::Done);
     assert_eq!(rt; queue.turn(), Turn::Idle);

@@ -1,13 +1,14 @@
 //! A queue whose frontend answers from a list.
 
 ghost use Rattle.std.specs.Prelude.{◌≡◌, ◌≤◌, length, IfOk, true};
+ghost use Rattle.bpf_maps.specs.Seats.{IsSeatOf};
 ghost use Rattle.xen_page.specs.Mapping.{IsMappedBy};
 ghost use Rattle.xen_page.specs.Table.{IsTable};
 ghost use Rattle.xen_back.specs.Queues.{IsReady, wiring_of};
 
 use super::kind::{Kind, kind_of};
 use bpf_insn::decode;
-use bpf_maps::Counters;
+use bpf_maps::{CounterSeat, Counters};
 use bpf_note::MapShape;
 use bpf_verify::{Verified, verify};
 use bpf_vm::Buffer;
@@ -50,7 +51,7 @@ pub fn write(frame: u32, word: u32, value: u32) -> Access {
     }
 }
 
-pub fn owners(alloc: Global) -> Result<Owners, Fail>
+fn owners(alloc: Global) -> Result<Owners, Fail>
     ensures { IfOk result (λ owners. length owners ≡ 20) }
 {
     let mut domains = [1; 20];
@@ -58,7 +59,7 @@ pub fn owners(alloc: Global) -> Result<Owners, Fail>
     Ok(Owners::make(alloc, &domains)?)
 }
 
-pub fn program(alloc: Global, bytes: &[u8], shapes: &[MapShape]) -> Result<Verified, Fail>
+fn program(alloc: Global, bytes: &[u8], shapes: &[MapShape]) -> Result<Verified, Fail>
     requires { length shapes.now ≤ 4 }
     ensures { IfOk result (λ p. p.shapes ≡ shapes.now) }
 {
@@ -92,33 +93,67 @@ fn ring(
     }
 }
 
-/// A queue between turns, of which both rings are at `start`.
-pub fn queue<'p, 'b>(
-    alloc: Global,
-    owners: &'p Owners,
-    table: &'p Table,
-    program: &'p Verified,
-    start: u32,
-    buffer: &'b mut Buffer,
-) -> Result<Queue<'p, 'b>, Fail>
-    requires { IsTable owners.now 1 table.now }
-    ensures ready { IfOk result IsReady }
-    ensures owners { IfOk result (λ q. (wiring_of q).vif.owners.now ≡ owners.now) }
-    ensures program { IfOk result (λ q. (wiring_of q).program.now ≡ program.now) }
+/// What a queue stands on: the frames' owners, the frontend's table, in frame 1, and the program.
+#[derive(Drop)]
+pub struct Bench {
+    owners: Owners,
+    table: Table,
+    program: Verified,
+    ghost granted: { IsTable owners 1 table },
+    ghost size: { length owners ≡ 20 },
+}
+
+impl Bench {
+    pub fn make(alloc: Global, bytes: &[u8], shapes: &[MapShape]) -> Result<Bench, Fail>
+        requires { length shapes.now ≤ 4 }
+        ensures { IfOk result (λ bench. bench.program.shapes ≡ shapes.now) }
+    {
+        let owners = owners(alloc)?;
+        let table = Table::make(&owners, 1, &[1]).ok_or("no table")?;
+        let program = program(alloc, bytes, shapes)?;
+        Ok(Bench {
+            owners,
+            table,
+            program,
+        })
+    }
+
+    /// A queue between turns, of which both rings are at `start`.
+    pub fn queue<'p, 'b>(
+        &'p self,
+        alloc: Global,
+        start: u32,
+        buffer: &'b mut Buffer,
+    ) -> Result<Queue<'p, 'b>, Fail>
+        ensures ready { IfOk result IsReady }
+        ensures owners { IfOk result (λ q. length (wiring_of q).vif.owners.now ≡ 20) }
+        ensures program { IfOk result (λ q. (wiring_of q).program.now.shapes ≡ self.now.program.shapes) }
+    {
+        let desc = QueueDesc {
+            tx: ring(alloc, &self.owners, &self.table, 0, 17)?,
+            rx: ring(alloc, &self.owners, &self.table, 1, 18)?,
+            table: &self.table,
+            owners: &self.owners,
+            granter: 1,
+            user: 0,
+            ifindex: 0,
+            queue: 0,
+            port: Port::of(1).ok_or("no port")?,
+            start,
+        };
+        Ok(Queue::make(&self.program, desc, buffer))
+    }
+}
+
+/// Counters that are 0, and their only seat.
+pub fn seated(alloc: Global, shapes: &[MapShape]) -> Result<(Counters, CounterSeat), Fail>
+    requires { length shapes.now ≤ 4 }
+    ensures shapes { IfOk result (λ r. r.0.shapes ≡ shapes.now) }
+    ensures seat { IfOk result (λ r. IsSeatOf r.0 r.1) }
 {
-    let desc = QueueDesc {
-        tx: ring(alloc, owners, table, 0, 17)?,
-        rx: ring(alloc, owners, table, 1, 18)?,
-        table,
-        owners,
-        granter: 1,
-        user: 0,
-        ifindex: 0,
-        queue: 0,
-        port: Port::of(1).ok_or("no port")?,
-        start,
-    };
-    Ok(Queue::make(program, desc, buffer))
+    let (counters, mut seats) = Counters::make(alloc, shapes, 1)?;
+    let seat = seats.pop().ok_or("no seat")?;
+    Ok((counters, seat))
 }
 
 /// The packet that a turn shows.
@@ -161,6 +196,22 @@ pub fn feed_turn(
     Err("no end".into())
 }
 
+/// A turn, with the accesses of its bus and its notice.
+pub fn seen_of(
+    alloc: Global,
+    turn: &Turn,
+    accesses: &[Access],
+    ports: &Ports,
+) -> Result<Seen, Fail> {
+    let port = Port::of(1).ok_or("no port")?;
+    Ok(Seen {
+        kind: kind_of(turn),
+        packet: packet_of(alloc, turn)?,
+        accesses: Vec::from_slice(alloc, accesses)?,
+        notified: ports.take(port),
+    })
+}
+
 /// A turn by `want` and `feed`.
 pub fn turn_by_hand(
     alloc: Global,
@@ -171,11 +222,9 @@ pub fn turn_by_hand(
 ) -> Result<Seen, Fail>
     requires { length shapes.now ≤ 4 }
 {
-    let owners = owners(alloc)?;
-    let table = Table::make(&owners, 1, &[1]).ok_or("no table")?;
-    let program = program(alloc, bytes, shapes)?;
+    let bench = Bench::make(alloc, bytes, shapes)?;
     let mut buffer = Buffer::make(alloc)?;
-    let mut queue = queue(alloc, &owners, &table, &program, start, &mut buffer)?;
+    let mut queue = bench.queue(alloc, start, &mut buffer)?;
     let (accesses, notified) = feed_turn(alloc, &mut queue, answers)?;
     if queue.want() != Want::Done {
         return Err("no end".into());
@@ -189,7 +238,26 @@ pub fn turn_by_hand(
     })
 }
 
-/// A turn by `drive_turn`, whose counters are 0.
+/// A turn by `drive_turn`, of which the counters are 0.
+fn driven(
+    alloc: Global,
+    queue: &mut Queue,
+    shapes: &[MapShape],
+    answers: &[u32],
+) -> Result<Seen, Fail>
+    requires few { length shapes.now ≤ 4 }
+    requires ready { IsReady queue.old }
+    requires owners { length (wiring_of queue.old).vif.owners.now ≡ 20 }
+    requires program { (wiring_of queue.old).program.now.shapes ≡ shapes.now }
+{
+    let (counters, mut seat) = seated(alloc, shapes)?;
+    let mut bus = ScriptBus::make(alloc, FRAMES, answers, 34_000)?;
+    let ports = Ports::new();
+    let turn = queue.drive_turn(&mut bus, &counters, &mut seat, &ports);
+    seen_of(alloc, &turn, bus.accesses(), &ports)
+}
+
+/// The turn of a new queue by `drive_turn`, of which the counters are 0.
 pub fn turn_by_driver(
     alloc: Global,
     bytes: &[u8],
@@ -199,24 +267,10 @@ pub fn turn_by_driver(
 ) -> Result<Seen, Fail>
     requires { length shapes.now ≤ 4 }
 {
-    let owners = owners(alloc)?;
-    let table = Table::make(&owners, 1, &[1]).ok_or("no table")?;
-    let program = program(alloc, bytes, shapes)?;
+    let bench = Bench::make(alloc, bytes, shapes)?;
     let mut buffer = Buffer::make(alloc)?;
-    let mut queue = queue(alloc, &owners, &table, &program, start, &mut buffer)?;
-    let (counters, mut seats) = Counters::make(alloc, shapes, 1)?;
-    let mut seat = seats.pop().ok_or("no seat")?;
-    let mut bus = ScriptBus::make(alloc, FRAMES, answers, 34_000)?;
-    let ports = Ports::new();
-    let turn = queue.drive_turn(&mut bus, &counters, &mut seat, &ports);
-    let kind = kind_of(&turn);
-    let packet = packet_of(alloc, &turn)?;
-    Ok(Seen {
-        kind,
-        packet,
-        accesses: Vec::from_slice(alloc, bus.accesses())?,
-        notified: ports.take(Port::of(1).ok_or("no port")?),
-    })
+    let mut queue = bench.queue(alloc, start, &mut buffer)?;
+    driven(alloc, &mut queue, shapes, answers)
 }
 
 /// The same turn both ways.

@@ -1,8 +1,7 @@
 //! Turns whose program decides.
 
 use super::fixtures::{
-    Seen, feed_turn, owners, packet_of, program, queue, turn, turn_by_driver, turn_by_hand, write,
-    writes_to,
+    Bench, Seen, feed_turn, packet_of, turn, turn_by_driver, turn_by_hand, write, writes_to,
 };
 use super::kind::{Kind, kind_of};
 use super::slots::{STARTS, slot, tx};
@@ -10,8 +9,7 @@ use bpf_note::MapShape;
 use bpf_vm::Buffer;
 use std::alloc::Global;
 use std::test::Fail;
-use xen_back::Want;
-use xen_page::Table;
+use xen_back::{Queue, Want};
 
 /// Adds 1 to the counter of key 1: ST W [r10 - 4], 1; MOV r2, r10; ADD r2, -4; r1 = map 0; CALL 1; JEQ r0, 0, +2;
 /// MOV r1, 1; atomic ADD DW [r0], r1; MOV r0, 2; EXIT.
@@ -83,25 +81,25 @@ fn a_counter_operation_is_counted(rt: HostRuntime) -> Result<(), Fail> {
     Ok(())
 }
 
+/// What a turn comes to, and its packet, with these answers.
+fn fed(alloc: Global, queue: &mut Queue, answers: &[u32]) -> Result<(Kind, Vec<u8>), Fail> {
+    feed_turn(alloc, queue, answers)?;
+    if queue.wanted() != Want::Done {
+        return Err("no end".into());
+    }
+    let turn = queue.turn();
+    Ok((kind_of(&turn), packet_of(alloc, &turn)?))
+}
+
 #[test]
 fn no_byte_of_an_earlier_packet_is_seen(rt: HostRuntime) -> Result<(), Fail> {
-    let owners = owners(rt.alloc())?;
-    let table = Table::make(&owners, 1, &[1]).ok_or("no table")?;
-    let program = program(rt.alloc(), &LOOKS_AT_BYTE_14, &[])?;
+    let bench = Bench::make(rt.alloc(), &LOOKS_AT_BYTE_14, &[])?;
     let mut buffer = Buffer::make(rt.alloc())?;
-    let mut queue = queue(rt.alloc(), &owners, &table, &program, 0, &mut buffer)?;
+    let mut queue = bench.queue(rt.alloc(), 0, &mut buffer)?;
     let longer = [1, 2, 0, slot(7, 15), 1, 19, 1, 2, 3, 4];
-    feed_turn(rt.alloc(), &mut queue, &longer)?;
-    assert!(rt; queue.want() == Want::Done);
-    let turn = queue.turn();
-    let kind = kind_of(&turn);
-    let packet = packet_of(rt.alloc(), &turn)?;
+    let (kind, packet) = fed(rt.alloc(), &mut queue, &longer)?;
     assert_eq!(rt; (kind, packet.len()), (ran(2), 15));
-    feed_turn(rt.alloc(), &mut queue, &[2, 2, 0, slot(8, 14), 1, 19])?;
-    assert!(rt; queue.want() == Want::Done);
-    let turn = queue.turn();
-    let kind = kind_of(&turn);
-    let packet = packet_of(rt.alloc(), &turn)?;
+    let (kind, packet) = fed(rt.alloc(), &mut queue, &[2, 2, 0, slot(8, 14), 1, 19])?;
     assert_eq!(rt; kind, ran(1));
     assert_eq!(rt; packet.as_slice(), [0; 14].as_slice());
     Ok(())
