@@ -1,6 +1,6 @@
 //! The note of a refusal.
+use crate::MapShape;
 use crate::tests::{add_slots, explained};
-use crate::{Explained, MapShape};
 use bpf_note::{Note, Val};
 use std::alloc::Global;
 use std::test::Fail;
@@ -10,16 +10,10 @@ fn refused_note(alloc: Global, slots: &[[u8; 8]]) -> Result<Note, Fail> {
     let mut bytes = Vec::new(alloc);
     add_slots(&mut bytes, slots)?;
     let shape = MapShape::of(1, 1).ok_or("a shape")?;
-    let Some(
-        Explained {
-            note: Some(note),
-            ..
-        },
-    ) = explained(alloc, &bytes, &[shape])?
-    else {
-        return Err("no note".into());
-    };
-    Ok(note)
+    match explained(alloc, &bytes, &[shape])? {
+        None => Err("no refusal".into()),
+        Some(refused) => Ok(refused.note.ok_or("no note")?),
+    }
 }
 
 #[rattlefmt::skip]
@@ -47,7 +41,7 @@ fn an_address_that_may_be_null(rt: HostRuntime) -> Result<(), Fail> {
 
 /// The offset is read from the packet and has 32 bits.
 #[rattlefmt::skip]
-pub(super) const WIDE_OFFSET: [[u8; 8]; 16] = [
+const WIDE_OFFSET: [[u8; 8]; 16] = [
     [0xb4, 0, 0, 0, 1, 0, 0, 0], // w0 = 1
     [0x61, 0x12, 4, 0, 0, 0, 0, 0], // r2 = *(u32 *)(r1 + 4)
     [0x61, 0x11, 0, 0, 0, 0, 0, 0], // r1 = *(u32 *)(r1 + 0)
