@@ -105,7 +105,7 @@ fn a_store_through_a_number(rt: HostRuntime) -> Result<(), Fail> {
     };
     assert_eq!(rt;
         text(rt.alloc(), &STORE, refusal, &note)?.as_str(),
-        ">  0: *(u8 *)(r1 +0) = r2\n       R1=scalar()  R2=scalar(umin=0,umax=60)\nrefused V9 at 0\nwrite instead: keep the address: add and subtract alone, in 64 bits, and a number of at most 65535 to a packet's address\n"
+        ">  0: *(u8 *)(r1 +0) = r2\n       R1=scalar()  R2=scalar(umin=0,umax=60)\nrefused V9 at 0\nwrite instead: only add to an address and subtract from it, in 64 bits: constants, or to a packet's address a number of at most 65535\n"
     );
     Ok(())
 }
