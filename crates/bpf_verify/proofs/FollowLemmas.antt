@@ -1,7 +1,7 @@
 -- While the notes of one slot are taken along its edges.
 use Rattle.std.proofs.Common.{◌≡◌, inl, inr, ◌<◌, ◌≤◌, ◌+◌, ℕ, zero, suc, List, [], ◌∷◌, ◌++◌, Option, Some, None, length, drop, map, set, ◌≢◌, refl, sym, ap, ◌∙◌, arith, subst, true, false}
 use Rattle.std.proofs.lemmas.Option.{slice_get_within}
-use Rattle.std.specs.Prelude.{slice_get, slice_index_or, Ok, Err, IsSome}
+use Rattle.std.specs.Prelude.{slice_get, slice_index_or, Ok, Err, IsSome, IfSome, ◌↔◌}
 use Rattle.std.proofs.lemmas.Bool.Decides.{nat_tests}
 use Rattle.bpf_insn.specs.Code.{IsCode}
 use Rattle.bpf_insn.specs.declared.insn.Insn.{Insn}
@@ -11,6 +11,7 @@ use Rattle.bpf_insn.specs.declared.refusal.Cause.TheVariants.{Memory, Length, Op
 use Rattle.bpf_note.specs.Shape.{Shape}
 use Rattle.bpf_note.specs.Parts.{Noted, facts}
 use Rattle.bpf_note.specs.Facts.{Facts}
+use Rattle.bpf_flow.specs.Causes.{IsRuleCause}
 use Rattle.bpf_flow.specs.Edges.{Edges, Answer}
 use Rattle.bpf_flow.specs.Rule.{after_of, IsRuled}
 use Rattle.bpf_flow.specs.Step.{target}
@@ -18,7 +19,7 @@ use Rattle.bpf_flow.proofs.LeadLemmas.{Speaks}
 use Rattle.bpf_verify.specs.Edges.{Edge}
 use Rattle.bpf_verify.specs.Structure.{begins, jump_of, misses_target}
 use Rattle.bpf_verify.specs.FirstRefusal.{IsFine, IsStructured}
-use Rattle.bpf_verify.specs.Gathered.{Hears, rule_by, rule_at, allowed, told, AreAllowed, TakesMemory, IsFirstCause}
+use Rattle.bpf_verify.specs.Gathered.{Hears, rule_by, rule_at, allowed, told, AreAllowed, TakesMemory, IsFirstCause, IsFirstRefused}
 use Rattle.bpf_flow.specs.Gives.{Fails, WantsMemory}
 use Rattle.bpf_verify.specs.Tables.{facts_at, LeadInside, IsMet}
 use Rattle.bpf_verify.proofs.GraphLemmas.{begun, target_found}
@@ -44,10 +45,10 @@ pub record IsFollowing (code : List Insn) (shapes : List Shape) (pc i : ℕ) (ol
   pub rest : (q : ℕ) → q ≢ pc → (r : List Facts) → Hears (new q) q (told code shapes pc (drop i (old pc))) r → Hears (old q) q (told code shapes pc (old pc)) r
   pub allowed : AreAllowed code shapes pc (drop i (old pc)) → AreAllowed code shapes pc (old pc)
   pub takes : TakesMemory code shapes pc (drop i (old pc)) → TakesMemory code shapes pc (old pc)
-  pub cause : (c : Cause) → IsFirstCause code shapes pc (drop i (old pc)) c → IsFirstCause code shapes pc (old pc) c
+  pub first : (c : Cause) (n : Facts) → IsFirstRefused code shapes pc (drop i (old pc)) c n → IsFirstRefused code shapes pc (old pc) c n
 
 pub following_first : (code : List Insn) (shapes : List Shape) (pc : ℕ) (old new : ℕ → List Facts) → ((q : ℕ) → q ≢ pc → new q ≡ old q) → IsFollowing code shapes pc 0 old new
-following_first code shapes pc old new same = record { rest = λ q other r h. subst (λ (ns : List Facts). Hears ns q (told code shapes pc (old pc)) r) (same q other) h; allowed = λ h. h; takes = λ h. h; cause = λ c h. h }
+following_first code shapes pc old new same = record { rest = λ q other r h. subst (λ (ns : List Facts). Hears ns q (told code shapes pc (old pc)) r) (same q other) h; allowed = λ h. h; takes = λ h. h; first = λ c n h. h }
 
 module _ (code : List Insn) (shapes : List Shape) (pc i : ℕ) (old new : ℕ → List Facts) (f : IsFollowing code shapes pc i old new) (n : Facts) (at : slice_get (old pc) i ≡ Some n) where
   told_split : (es : Edges) → rule_at code shapes pc n ≡ Ok es → told code shapes pc (drop i (old pc)) ≡ es ++ told code shapes pc (drop (i + 1) (old pc))
@@ -61,12 +62,24 @@ module _ (code : List Insn) (shapes : List Shape) (pc i : ℕ) (old new : ℕ �
     rest = λ q other r h. f.rest q other r (subst (λ (gs : Edges). Hears (new q) q gs r) (sym (told_split es e)) (hears_append (new q) q es (told code shapes pc (drop (i + 1) (old pc))) (new' q) r (hears q) h));
     allowed = λ h. f.allowed (subst (λ (ns : List Facts). AreAllowed code shapes pc ns) (sym (drop_more (old pc) i n at)) ((es, e), h));
     takes = λ h. f.takes (subst (λ (ns : List Facts). TakesMemory code shapes pc ns) (sym (drop_more (old pc) i n at)) (inr ((es, e), h)));
-    cause = λ c h. f.cause c (subst (λ (ns : List Facts). IsFirstCause code shapes pc ns c) (sym (drop_more (old pc) i n at)) (inr ((es, e), h)));
+    first = λ c m h. f.first c m (subst (λ (ns : List Facts). IsFirstRefused code shapes pc ns c m) (sym (drop_more (old pc) i n at)) (record {
+      before = n ∷ h.before;
+      rest = h.rest;
+      parts = ap (λ (ns : List Facts). n ∷ ns) h.parts;
+      allowed = ((es, e), h.allowed);
+      refused = h.refused;
+    }));
   }
 
   -- this note is refused
-  pub following_stops : (c : Cause) → rule_at code shapes pc n ≡ Err c → IsFirstCause code shapes pc (old pc) c
-  following_stops c e = f.cause c (subst (λ (ns : List Facts). IsFirstCause code shapes pc ns c) (sym (drop_more (old pc) i n at)) (inl e))
+  pub following_stops : (c : Cause) → rule_at code shapes pc n ≡ Err c → IsFirstRefused code shapes pc (old pc) c n
+  following_stops c e = f.first c n (subst (λ (ns : List Facts). IsFirstRefused code shapes pc ns c n) (sym (drop_more (old pc) i n at)) (record {
+    before = [];
+    rest = drop (i + 1) (old pc);
+    parts = refl;
+    allowed = tt;
+    refused = e;
+  }))
 
   -- an edge of this note takes memory
   pub following_takes : WantsMemory (rule_at code shapes pc n) → TakesMemory code shapes pc (old pc)
@@ -164,13 +177,52 @@ met_fails MapNumber a W P g w f = f g
 met_fails Argument a W P g w f = f g
 met_fails Unsupported a W P g w f = f g
 
--- the rule refused note i
-pub stopped_at : (code : List Insn) (shapes : List Shape) (pc i : ℕ) (old new : ℕ → List Facts) (n : Facts) (insn : Insn) (c : Cause) → IsFollowing code shapes pc i old new → slice_get (old pc) i ≡ Some n →
-    slice_get code pc ≡ Some insn → Fails c (after_of insn pc n shapes) → IsMet c (TakesMemory code shapes pc (old pc)) (IsFirstCause code shapes pc (old pc) c)
-stopped_at code shapes pc i old new n insn c f at here g =
-    met_fails c (after_of insn pc n shapes) _ _ g
-    (λ w. following_takes code shapes pc i old new f n at (subst WantsMemory (sym (rule_is code shapes pc insn n (after_of insn pc n shapes) here refl)) w))
-    (λ e. following_stops code shapes pc i old new f n at c (rule_is code shapes pc insn n (Err c) here e))
+-- the first note that is refused gives the first cause
+cause_at : (code : List Insn) (shapes : List Shape) (pc : ℕ) (before rest : List Facts) (n : Facts) (c : Cause) → AreAllowed code shapes pc before → rule_at code shapes pc n ≡ Err c → IsFirstCause code shapes pc (before ++ n ∷ rest) c
+cause_at code shapes pc [] rest n c a e = inl e
+cause_at code shapes pc (m ∷ ms) rest n c a e = inr (a.0, cause_at code shapes pc ms rest n c a.1 e)
+
+pub first_is_cause : (code : List Insn) (shapes : List Shape) (pc : ℕ) (ns : List Facts) (c : Cause) (n : Facts) → IsFirstRefused code shapes pc ns c n → IsFirstCause code shapes pc ns c
+first_is_cause code shapes pc ns c n h = subst (λ (ns : List Facts). IsFirstCause code shapes pc ns c) (sym h.parts) (cause_at code shapes pc h.before h.rest n c h.allowed h.refused)
+
+-- note i could not be followed
+pub stopped_at : (code : List Insn) (shapes : List Shape) (pc i : ℕ) (old new : ℕ → List Facts) (n : Facts) (c : Cause) → IsFollowing code shapes pc i old new → slice_get (old pc) i ≡ Some n →
+    Fails c (rule_at code shapes pc n) → IsMet c (TakesMemory code shapes pc (old pc)) (IsFirstCause code shapes pc (old pc) c)
+stopped_at code shapes pc i old new n c f at g =
+    met_fails c (rule_at code shapes pc n) _ _ g
+    (λ w. following_takes code shapes pc i old new f n at w)
+    (λ e. first_is_cause code shapes pc (old pc) c n (following_stops code shapes pc i old new f n at c e))
+
+fails_err : (c : Cause) (a : Answer) → IsRuleCause c → Fails c a → a ≡ Err c
+fails_err Memory a r g = absurd r
+fails_err Length a r g = g
+fails_err Opcode a r g = g
+fails_err Register a r g = g
+fails_err Target a r g = g
+fails_err BackJump a r g = g
+fails_err EndCause a r g = g
+fails_err Unset a r g = g
+fails_err FramePointer a r g = g
+fails_err NoPointer a r g = g
+fails_err Packet a r g = g
+fails_err Stack a r g = g
+fails_err Context a r g = g
+fails_err MayBeNull a r g = g
+fails_err MapAccess a r g = g
+fails_err Helper a r g = g
+fails_err MapNumber a r g = g
+fails_err Argument a r g = g
+fails_err Unsupported a r g = g
+
+-- note i is the first that is refused
+pub refused_at : (code : List Insn) (shapes : List Shape) (pc i : ℕ) (old new : ℕ → List Facts) (n : Facts) (c : Cause) → IsFollowing code shapes pc i old new → slice_get (old pc) i ≡ Some n →
+    Fails c (rule_at code shapes pc n) → IsRuleCause c → IsFirstRefused code shapes pc (old pc) c n
+refused_at code shapes pc i old new n c f at g r = following_stops code shapes pc i old new f n at c (fails_err c (rule_at code shapes pc n) r g)
+
+-- what is there exactly for a rule's cause, and is x, has what x has for such a cause
+pub there_has : {A : Type 0} (o : Option A) (x : A) (P : A → Type 0) (R : Type 0) → (IsSome o ↔ R) → IfSome o (λ y. y ≡ x) → (R → P x) → IfSome o P
+there_has None x P R there same h = tt
+there_has (Some y) x P R there same h = subst P (sym same) (h (there.0 refl))
 
 -- the list of a slot, taken out of a table
 list_at : (items : List (List Noted)) (pc : ℕ) (here : List Noted) → pc < length items → here ≡ slice_index_or items pc here → facts_at items pc ≡ map facts here

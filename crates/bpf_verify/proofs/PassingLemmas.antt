@@ -17,10 +17,11 @@ use Rattle.bpf_flow.proofs.LeadLemmas.{Speaks}
 use Rattle.bpf_verify.specs.Edges.{Edge, Flows, IsPassOrder}
 use Rattle.bpf_verify.specs.Orders.{IsReady, Takes, none, more}
 use Rattle.bpf_verify.specs.Structure.{begins}
-use Rattle.bpf_verify.specs.FirstRefusal.{IsStructured, IsPassed, IsStopped, IsFollowed, IsHalted}
+use Rattle.bpf_verify.specs.FirstRefusal.{IsStructured, IsPassed, IsStopped, IsStoppedBy, IsFollowed, IsHalted}
 use Rattle.bpf_verify.specs.Tables.{IsMet}
 use Rattle.bpf_verify.proofs.GraphLemmas.{begun}
-use Rattle.bpf_verify.specs.Gathered.{Hears, told, first_notes, AreNotes, AreAllowed, TakesMemory, IsFirstCause}
+use Rattle.bpf_verify.specs.Gathered.{Hears, told, first_notes, AreNotes, AreAllowed, TakesMemory, IsFirstCause, IsFirstRefused}
+use Rattle.bpf_verify.proofs.FollowLemmas.{first_is_cause}
 use Rattle.bpf_verify.proofs.GatherLemmas.{hears_quiet, notes_more}
 use Rattle.bpf_verify.proofs.ToldLemmas.{told_edge}
 use Rattle.bpf_verify.proofs.RankLemmas.{taken_preds, last_length}
@@ -168,6 +169,11 @@ module _ (code : List Insn) (shapes : List Shape) (order : List ℕ) (laid : IsC
       allowed = p.allowed;
       refused = h;
     }
+
+    -- at this note
+    pub passing_stops_by : (cause : Cause) (n : Facts) → IsFirstRefused code shapes c (notes c) cause n → IsStoppedBy code shapes c cause n
+    unfolding passing_stops
+    passing_stops_by cause n h = record { stopped = passing_stops cause (first_is_cause code shapes c (notes c) cause n h); first = h }
 
     -- memory is wanted here
     pub passing_takes : TakesMemory code shapes c (notes c) → IsFollowed code shapes c

@@ -9,7 +9,7 @@ use Rattle.bpf_flow.specs.Graph.{reads}
 use Rattle.bpf_verify.specs.Consistent.{IsOrdered}
 use Rattle.bpf_verify.specs.Structure.{jump_of, misses_target, runs_off, lacks_map}
 use Rattle.bpf_verify.specs.Edges.{JumpsBack, ClosesCycle, IsPassOrder}
-use Rattle.bpf_verify.specs.Gathered.{AreNotes, AreAllowed, TakesMemory, IsFirstCause}
+use Rattle.bpf_verify.specs.Gathered.{AreNotes, AreAllowed, TakesMemory, IsFirstCause, IsFirstRefused}
 use Rattle.bpf_verify.specs.Unwritten.{Unwritten}
 
 -- nothing is wrong with the structure at slot pc, where instruction i stands
@@ -69,6 +69,11 @@ pub record IsStopped (code : List Insn) (shapes : List Shape) (pc : ℕ) (cause 
   pub are_notes : AreNotes code shapes before notes
   pub allowed : (p : ℕ) → Contains before p → AreAllowed code shapes p (notes p)
   pub refused : IsFirstCause code shapes pc (notes pc) cause
+
+-- the second pass stops at slot pc, and of the notes there this one is the first that the rule refuses
+pub record IsStoppedBy (code : List Insn) (shapes : List Shape) (pc : ℕ) (cause : Cause) (note : Facts) : Type 0 where
+  pub stopped : IsStopped code shapes pc cause
+  pub first : IsFirstRefused code shapes pc (stopped.notes pc) cause note
 
 -- the second pass follows the notes of slot pc: the slots before it in its order have told theirs, and a note there takes memory
 pub record IsFollowed (code : List Insn) (shapes : List Shape) (pc : ℕ) : Type 0 where

@@ -67,3 +67,11 @@ abbrev pub IsFirstCause : List Insn → List Shape → ℕ → List Facts → Ca
 IsFirstCause code shapes pc [] cause = ⊥
 IsFirstCause code shapes pc (n ∷ ns) cause =
     (rule_at code shapes pc n ≡ Err cause) ⊎ (((es : Edges) × (rule_at code shapes pc n ≡ Ok es)) × IsFirstCause code shapes pc ns cause)
+
+-- the rule refuses this note of the list with this cause, and none before it
+pub record IsFirstRefused (code : List Insn) (shapes : List Shape) (pc : ℕ) (ns : List Facts) (cause : Cause) (note : Facts) : Type 0 where
+  pub before : List Facts
+  pub rest : List Facts
+  pub parts : ns ≡ before ++ note ∷ rest
+  pub allowed : AreAllowed code shapes pc before
+  pub refused : rule_at code shapes pc note ≡ Err cause

@@ -6,6 +6,7 @@ mod laws;
 mod note_list;
 mod notes;
 mod slot;
+mod stopped;
 mod structure;
 mod verified;
 mod verifier;
@@ -16,7 +17,7 @@ pub use bpf_note::MapShape;
 pub use graph::{pass_order_is_unique, pass_order_rises, runs_are_short};
 pub use laws::{faultless_programs_are_accepted, refusals_are_unique};
 pub use verified::Verified;
-pub use verifier::verify;
+pub use verifier::{Explained, explain, verify};
 
 #[cfg(test)]
 mod tests;

@@ -56,10 +56,10 @@ impl NoteList {
     }
 
     /// The notes.
-    pub(crate) fn notes(&self) -> &[Note]
-        ensures { result.now ≡ self.now }
+    pub(crate) fn into_notes(self) -> Vec<Note>
+        ensures { result.items ≡ self }
     {
-        self.notes.as_slice()
+        self.notes
     }
 
     /// Whether a note of the list says the same as this one.

@@ -1,21 +1,24 @@
 //! The second pass: what is known at each slot that the flow graph reaches.
-ghost use Rattle.std.specs.Prelude.{◌≡◌, ◌≢◌, ◌<◌, ◌∷◌, [], ℕ, List, true, length, slice_get, vec_len, Ok, OnErr, OnOk, IfOk, IfErr};
+ghost use Rattle.std.specs.Prelude.{◌≡◌, ◌≢◌, ◌<◌, ◌∷◌, [], ℕ, List, true, length, slice_get, vec_len, Ok, OnErr, OnOk, IfOk, IfErr, IsSome, IfSome, ◌↔◌};
 ghost use Rattle.bpf_insn.specs.Code.{IsCode};
-ghost use Rattle.bpf_flow.specs.Gives.{edges_of, WantsMemory};
+ghost use Rattle.bpf_flow.specs.Causes.{IsRuleCause};
+ghost use Rattle.bpf_flow.specs.Edges.{Edges};
+ghost use Rattle.bpf_flow.specs.Gives.{Fails, edges_of, WantsMemory};
 ghost use Rattle.bpf_note.specs.Facts.{Facts};
 ghost use Rattle.bpf_note.specs.Parts.{facts};
 ghost use Rattle.bpf_verify.specs.Consistent.{IsOrdered};
-ghost use Rattle.bpf_verify.specs.FirstRefusal.{IsStructured, IsPassed, IsHalted};
-ghost use Rattle.bpf_verify.specs.Gathered.{Hears, told, first_notes, AreAllowed, TakesMemory, IsFirstCause};
+ghost use Rattle.bpf_verify.specs.FirstRefusal.{IsStructured, IsPassed, IsHalted, IsStoppedBy};
+ghost use Rattle.bpf_verify.specs.Gathered.{Hears, rule_at, told, first_notes, AreAllowed, TakesMemory, IsFirstCause, IsFirstRefused};
 ghost use Rattle.bpf_verify.specs.Structure.{begins};
 ghost use Rattle.bpf_verify.specs.Tables.{facts_at, LeadInside, IsMet};
 
 use crate::graph::pass_order;
 use crate::note_list::NoteList;
+use crate::stopped::Stopped;
 use crate::wanting::wanting;
 use bpf_flow::{Successor, Successors, after};
-use bpf_insn::{Cause, Insn, Refusal};
-use bpf_note::MapShape;
+use bpf_insn::{Cause, Insn};
+use bpf_note::{MapShape, Note};
 use std::alloc::{AllocError, Global};
 use std::mem;
 
@@ -49,6 +52,29 @@ fn spread(
     }
 }
 
+/// Takes one note of a slot along its edges.
+fn follow_note(
+    alloc: Global,
+    code: &[Insn],
+    shapes: &[MapShape],
+    table: &mut Vec<NoteList>,
+    pc: u32,
+    note: &Note,
+) -> Result<(), Cause>
+    requires laid { IsCode code.now }
+    requires structured { IsStructured code.now (length shapes.now) }
+    requires there { pc < length code.now }
+    requires begins { begins (slice_get code.now pc) ≡ true }
+    requires size { vec_len table.old ≡ length code.now }
+    ensures size { OnOk result (vec_len table.new ≡ length code.now) }
+    ensures hears { OnOk result ((es : Edges) × (rule_at code.now shapes.now pc (facts note.now) ≡ Ok es) × ((q : ℕ) → Hears (facts_at table.old.items q) q es (facts_at table.new.items q))) }
+    ensures err { IfErr result (λ c. Fails c (rule_at code.now shapes.now pc (facts note.now))) }
+{
+    let successors = after(alloc, &code[pc as usize], pc, note, shapes)?;
+    spread(alloc, table, successors)?;
+    Ok(())
+}
+
 /// Takes the notes of one slot along its edges. Then they go: no slot after it asks for them.
 fn follow(
     alloc: Global,
@@ -56,7 +82,7 @@ fn follow(
     shapes: &[MapShape],
     table: &mut Vec<NoteList>,
     pc: u32,
-) -> Result<(), Cause>
+) -> Result<(), Stopped>
     requires laid { IsCode code.now }
     requires structured { IsStructured code.now (length shapes.now) }
     requires there { pc < length code.now }
@@ -65,13 +91,16 @@ fn follow(
     ensures size { OnOk result (vec_len table.new ≡ length code.now) }
     ensures hears { OnOk result ((q : ℕ) → q ≢ pc → Hears (facts_at table.old.items q) q (told code.now shapes.now pc (facts_at table.old.items pc)) (facts_at table.new.items q)) }
     ensures allowed { OnOk result (AreAllowed code.now shapes.now pc (facts_at table.old.items pc)) }
-    ensures err { IfErr result (λ c. IsMet c (TakesMemory code.now shapes.now pc (facts_at table.old.items pc)) (IsFirstCause code.now shapes.now pc (facts_at table.old.items pc) c)) }
+    ensures slot { IfErr result (λ s. s.refusal.pc ≡ pc) }
+    ensures err { IfErr result (λ s. IsMet s.refusal.cause (TakesMemory code.now shapes.now pc (facts_at table.old.items pc)) (IsFirstCause code.now shapes.now pc (facts_at table.old.items pc) s.refusal.cause)) }
+    ensures there { IfErr result (λ s. IsSome s.note ↔ IsRuleCause s.refusal.cause) }
+    ensures note { IfErr result (λ s. IfSome s.note (λ n. IsFirstRefused code.now shapes.now pc (facts_at table.old.items pc) s.refusal.cause (facts n))) }
 {
-    let insn = code[pc as usize];
-    let list = mem::replace(&mut table[pc as usize], NoteList::empty(alloc));
-    for note in list.notes() {
-        let successors = after(alloc, &insn, pc, note, shapes)?;
-        spread(alloc, table, successors)?;
+    let mut notes = mem::replace(&mut table[pc as usize], NoteList::empty(alloc)).into_notes();
+    for (i, note) in notes.iter().enumerate() {
+        if let Err(cause) = follow_note(alloc, code, shapes, table, pc, note) {
+            return Err(Stopped::at_note(cause, pc, notes.swap_remove(i)));
+        }
     }
     Ok(())
 }
@@ -92,25 +121,25 @@ fn blank(alloc: Global, slots: usize) -> Result<Vec<NoteList>, AllocError>
 
 /// The second pass: over the reached slots in their order, or up to the first refusal. Out of memory is V0 at the slot being
 /// checked, or at 0 before the first.
-pub(crate) fn second_pass(alloc: Global, code: &[Insn], shapes: &[MapShape]) -> Result<(), Refusal>
+pub(crate) fn second_pass(alloc: Global, code: &[Insn], shapes: &[MapShape]) -> Result<(), Stopped>
     requires laid { IsCode code.now }
     requires structured { IsStructured code.now (length shapes.now) }
     requires ordered { IsOrdered code.now }
     ensures passed { IfOk result (λ _. (notes : ℕ → List Facts) × IsPassed code.now shapes.now notes) }
-    ensures halted { IfErr result (λ r. IsHalted code.now shapes.now r.pc r.cause) }
+    ensures halted { IfErr result (λ s. IsHalted code.now shapes.now s.refusal.pc s.refusal.cause) }
+    ensures there { IfErr result (λ s. IsSome s.note ↔ IsRuleCause s.refusal.cause) }
+    ensures note { IfErr result (λ s. IfSome s.note (λ n. IsStoppedBy code.now shapes.now s.refusal.pc s.refusal.cause (facts n))) }
 {
     let order = match pass_order(alloc, code) {
         Ok(order) => order,
-        Err(error) => return Err(wanting(error, 0)),
+        Err(error) => return Err(Stopped::from(wanting(error, 0))),
     };
     let mut table = match blank(alloc, code.len()) {
         Ok(table) => table,
-        Err(error) => return Err(wanting(error, 0)),
+        Err(error) => return Err(Stopped::from(wanting(error, 0))),
     };
     for &pc in &order {
-        if let Err(cause) = follow(alloc, code, shapes, &mut table, pc) {
-            return Err(Refusal { cause, pc });
-        }
+        follow(alloc, code, shapes, &mut table, pc)?;
     }
     Ok(())
 }

@@ -1,7 +1,7 @@
 //! Programs and the verifier's answers. A program has one slot per line, with its text beside it.
 ghost use Rattle.std.specs.Prelude.{◌≤◌, length};
 
-use crate::{Cause, MapShape, Refusal, Verified, verify};
+use crate::{Cause, Explained, MapShape, Refusal, Verified, explain, verify};
 use bpf_insn::decode;
 use std::alloc::Global;
 use std::test::Fail;
@@ -10,12 +10,23 @@ mod beginnings;
 mod far;
 mod flow;
 mod full;
+mod notes;
 mod small;
 
 fn answer(alloc: Global, bytes: &[u8], shapes: &[MapShape]) -> Result<Verified, Refusal>
     requires { length shapes.now ≤ 4 }
 {
     verify(alloc, decode(alloc, bytes)?, shapes)
+}
+
+/// What `explain` says of a program that it refuses.
+fn explained(alloc: Global, bytes: &[u8], shapes: &[MapShape]) -> Result<Option<Explained>, Fail>
+    requires { length shapes.now ≤ 4 }
+{
+    let Ok(code) = decode(alloc, bytes) else {
+        return Err("no code".into());
+    };
+    Ok(explain(alloc, code, shapes).err())
 }
 
 /// Adds slots to a program's bytes.

@@ -1,15 +1,19 @@
 //! Both passes.
-ghost use Rattle.std.specs.Prelude.{◌≡◌, ◌≤◌, length, IfOk, IfErr};
+ghost use Rattle.std.specs.Prelude.{◌≡◌, ◌≤◌, ◌↔◌, length, IfOk, IfErr, IsSome, IfSome};
+ghost use Rattle.bpf_insn.specs.Code.{IsCode};
+ghost use Rattle.bpf_note.specs.Parts.{facts};
 ghost use Rattle.bpf_note.specs.Shape.{AreShapes};
-ghost use Rattle.bpf_verify.specs.Consistent.{IsConsistent};
-ghost use Rattle.bpf_verify.specs.FirstRefusal.{IsRefusal, IsFaultless};
+ghost use Rattle.bpf_flow.specs.Causes.{IsRuleCause};
+ghost use Rattle.bpf_verify.specs.Consistent.{IsConsistent, IsOrdered};
+ghost use Rattle.bpf_verify.specs.FirstRefusal.{IsRefusal, IsFaultless, IsStoppedBy, IsStructured};
 
 use crate::notes::second_pass;
+use crate::stopped::Stopped;
 use crate::structure::first_fault;
 use crate::verified::Verified;
 use crate::wanting::wanting;
-use bpf_insn::{Code, Refusal};
-use bpf_note::MapShape;
+use bpf_insn::{Code, Insn, Refusal};
+use bpf_note::{MapShape, Note};
 use std::alloc::Global;
 
 /// Every shape is within the limits. It does nothing.
@@ -18,6 +22,64 @@ fn are_shapes(shapes: &[MapShape])
 {
     for shape in shapes {
         let _entries = shape.entries();
+    }
+}
+
+/// Both passes. Gives a copy of the maps.
+fn both_passes(alloc: Global, code: &[Insn], shapes: &[MapShape]) -> Result<Vec<MapShape>, Stopped>
+    requires laid { IsCode code.now }
+    requires few { length shapes.now ≤ 4 }
+    ensures maps { IfOk result (λ v. v.items ≡ shapes.now) }
+    ensures consistent { IfOk result (λ _. IsConsistent (record { code = code.now; shapes = shapes.now })) }
+    ensures faultless { IfOk result (λ _. IsFaultless code.now shapes.now) }
+    ensures refused { IfErr result (λ s. IsRefusal code.now shapes.now s.refusal.cause s.refusal.pc) }
+    ensures there { IfErr result (λ s. IsSome s.note ↔ IsRuleCause s.refusal.cause) }
+    ensures note { IfErr result (λ s. IfSome s.note (λ n. IsStoppedBy code.now shapes.now s.refusal.pc s.refusal.cause (facts n))) }
+    ensures structured { IfErr result (λ s. IfSome s.note (λ _. IsStructured code.now (length shapes.now))) }
+    ensures ordered { IfErr result (λ s. IfSome s.note (λ _. IsOrdered code.now)) }
+{
+    let maps = match shapes.to_vec(alloc) {
+        Ok(maps) => maps,
+        Err(error) => return Err(Stopped::from(wanting(error, 0))),
+    };
+    are_shapes(shapes);
+    if let Some(refusal) = first_fault(alloc, code, shapes.len() as u32) {
+        return Err(Stopped::from(refusal));
+    }
+    second_pass(alloc, code, shapes)?;
+    Ok(maps)
+}
+
+/// A refused program: its code, the refusal, and the note that the rule refuses. There is a note for V7 to V15 and V17, no
+/// note for the others.
+#[derive(Drop)]
+pub struct Explained {
+    pub code: Code,
+    pub refusal: Refusal,
+    pub note: Option<Note>,
+}
+
+/// [`verify`], and on a refusal the code and the note at fault: of the notes at the refused slot the first that the rule refuses.
+pub fn explain(alloc: Global, code: Code, shapes: &[MapShape]) -> Result<Verified, Explained>
+    requires { length shapes.now ≤ 4 }
+    ensures code { IfOk result (λ v. v.code ≡ code) }
+    ensures shapes { IfOk result (λ v. v.shapes ≡ shapes.now) }
+    ensures consistent { IfOk result IsConsistent }
+    ensures faultless { IfOk result (λ _. IsFaultless code shapes.now) }
+    ensures returned { IfErr result (λ e. e.code ≡ code) }
+    ensures refused { IfErr result (λ e. IsRefusal code shapes.now e.refusal.cause e.refusal.pc) }
+    ensures there { IfErr result (λ e. IsSome e.note ↔ IsRuleCause e.refusal.cause) }
+    ensures note { IfErr result (λ e. IfSome e.note (λ n. IsStoppedBy code shapes.now e.refusal.pc e.refusal.cause (facts n))) }
+    ensures structured { IfErr result (λ e. IfSome e.note (λ _. IsStructured code (length shapes.now))) }
+    ensures ordered { IfErr result (λ e. IfSome e.note (λ _. IsOrdered code)) }
+{
+    match both_passes(alloc, code.insns(), shapes) {
+        Ok(maps) => Ok(Verified::of(code, maps)),
+        Err(Stopped { refusal, note }) => Err(Explained {
+            code,
+            refusal,
+            note,
+        }),
     }
 }
 
@@ -31,15 +93,8 @@ pub fn verify(alloc: Global, code: Code, shapes: &[MapShape]) -> Result<Verified
     ensures faultless { IfOk result (λ _. IsFaultless code shapes.now) }
     ensures refused { IfErr result (λ r. IsRefusal code shapes.now r.cause r.pc) }
 {
-    let maps = match shapes.to_vec(alloc) {
-        Ok(maps) => maps,
-        Err(error) => return Err(wanting(error, 0)),
-    };
-    are_shapes(shapes);
-    let insns = code.insns();
-    if let Some(refusal) = first_fault(alloc, insns, shapes.len() as u32) {
-        return Err(refusal);
+    match explain(alloc, code, shapes) {
+        Ok(verified) => Ok(verified),
+        Err(explained) => Err(explained.refusal),
     }
-    second_pass(alloc, insns, shapes)?;
-    Ok(Verified::of(code, maps))
 }

@@ -12,11 +12,13 @@ use Rattle.xdp_load.specs.declared.fault.LoadFault.TheVariants.{Memory, Refused}
 use Rattle.xdp_world.specs.declared.report.Report.{Report}
 use Rattle.xdpbox.specs.declared.executing.Accepted.{Accepted}
 use Rattle.xdpbox.specs.Executing.{Checks, Executes, Runs}
+use Rattle.xdpbox.specs.Explaining.{IsOutcome, outcome_status, outcome_text}
+use Rattle.xdpbox.specs.declared.explaining.Outcome.{Outcome}
 use Rattle.xdpbox.specs.Lines.{checked_text, executed_text, ran_text, settings_text}
 use Rattle.xdpbox.specs.PairLines.{paired_status, paired_text}
 use Rattle.xdpbox.specs.Pairing.{IsPaired}
 use Rattle.xdpbox.specs.declared.pairing.Paired.{Paired}
-use Rattle.xdpbox.specs.Words.{Wanted, exec, check, run, pair}
+use Rattle.xdpbox.specs.Words.{Wanted, exec, check, explain, run, pair}
 
 -- a text, and an exit status
 abbrev pub Said : Type 0
@@ -66,6 +68,13 @@ checked_answer c = (checked_text c, program_status c)
 abbrev pub SetupAnswer : SetupView → Said → Type 0
 SetupAnswer s said = (c : Result Accepted Refusal) × Checks s.program s.shapes c × (said ≡ checked_answer c)
 
+abbrev pub outcome_answer : List (List ℕ) → Outcome → Said
+outcome_answer names o = (outcome_text names o, outcome_status o)
+
+-- the answer to a setup: by an explanation of what becomes of its program with its maps
+abbrev pub ExplainAnswer : SetupView → Said → Type 0
+ExplainAnswer s said = (o : Outcome) × IsOutcome s.program s.shapes o × (said ≡ outcome_answer s.names o)
+
 abbrev pub ran_answer : List (List ℕ) → Result Report Refusal → Said
 ran_answer names c = (ran_text names c, program_status c)
 
@@ -105,6 +114,7 @@ abbrev pub IsAnswer : Option Wanted → Option (List ℕ) → Option (List ℕ) 
 IsAnswer None old new said = said ≡ words_refused
 IsAnswer (Some (exec program packet)) old new said = ExecAnswer program packet said
 IsAnswer (Some check) old new said = InputAnswer SetupAnswer old new said
+IsAnswer (Some explain) old new said = InputAnswer ExplainAnswer old new said
 IsAnswer (Some run) old new said = InputAnswer RunAnswer old new said
 IsAnswer (Some (pair turns)) old new said = InputAnswer PairAnswer old new said
 
@@ -117,6 +127,7 @@ abbrev pub Takes : Option Wanted → Option (List ℕ) → Option (List ℕ) →
 Takes None old new = Keeps old new
 Takes (Some (exec program packet)) old new = Keeps old new
 Takes (Some check) old new = TakesAtMost 1048577 old new
+Takes (Some explain) old new = TakesAtMost 1048577 old new
 Takes (Some run) old new = TakesAtMost 1048577 old new
 Takes (Some (pair turns)) old new = TakesAtMost 1048577 old new
 
@@ -125,6 +136,7 @@ abbrev pub Reads : Option Wanted → Type 0
 Reads None = ⊥
 Reads (Some (exec program packet)) = ⊥
 Reads (Some check) = Unit {0}
+Reads (Some explain) = Unit {0}
 Reads (Some run) = Unit {0}
 Reads (Some (pair turns)) = Unit {0}
 

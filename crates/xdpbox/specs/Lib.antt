@@ -2,6 +2,7 @@ pub mod Words
 pub mod TurnLines
 pub mod Lines
 pub mod Executing
+pub mod Explaining
 pub mod Answer
 pub mod CounterLines
 pub mod Seen

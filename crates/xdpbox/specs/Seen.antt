@@ -4,11 +4,12 @@ use Rattle.xdpbox.specs.declared.request.Request.{Request}
 use Rattle.xdpbox.specs.declared.request.Request.TheVariants as code
 use Rattle.xdpbox.specs.declared.answer.Answer.{Answer}
 use Rattle.xdpbox.specs.Answer.{Said}
-use Rattle.xdpbox.specs.Words.{Wanted, exec, check, run, pair}
+use Rattle.xdpbox.specs.Words.{Wanted, exec, check, explain, run, pair}
 
 abbrev pub wanted_of : Request → Wanted
 wanted_of (code.Exec program packet) = exec program.now packet.now
 wanted_of code.Check = check
+wanted_of code.Explain = explain
 wanted_of code.Run = run
 wanted_of (code.Pair turns) = pair turns
 

@@ -19,6 +19,10 @@ exec_app = with_rule (with_rule (new_app (codes "exec")) (wanted (codes "program
 abbrev pub check_app : App
 check_app = new_app (codes "check")
 
+-- `explain`
+abbrev pub explain_app : App
+explain_app = new_app (codes "explain")
+
 -- `run`
 abbrev pub run_app : App
 run_app = new_app (codes "run")
@@ -33,7 +37,8 @@ pair_app = with_rule (new_app (codes "pair")) turns_rule
 
 -- the commands that run nothing on threads
 unfoldable pub single_app : App
-single_app = with_subcommand (with_subcommand (with_subcommand (new_app (codes "xdpbox")) exec_app.top) check_app.top) run_app.top
+single_app =
+    with_subcommand (with_subcommand (with_subcommand (with_subcommand (new_app (codes "xdpbox")) exec_app.top) check_app.top) explain_app.top) run_app.top
 
 unfoldable pub program_app : App
 program_app = with_subcommand single_app pair_app.top
@@ -42,6 +47,7 @@ program_app = with_subcommand single_app pair_app.top
 pub data Wanted : Type 0 where
   exec : Text → Text → Wanted
   check : Wanted
+  explain : Wanted
   run : Wanted
   -- at most so many turns of each queue
   pair : ℕ → Wanted
@@ -69,6 +75,7 @@ abbrev pub wanted_by : Text × List Row → Option Wanted
 wanted_by p =
     if bytes_eq p.0 (codes "exec") then exec_of p.1
     else if bytes_eq p.0 (codes "check") then Some check
+    else if bytes_eq p.0 (codes "explain") then Some explain
     else if bytes_eq p.0 (codes "run") then Some run
     else if bytes_eq p.0 (codes "pair") then pair_of p.1
     else None

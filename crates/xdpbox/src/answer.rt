@@ -2,11 +2,12 @@
 ghost use Rattle.std.specs.Prelude.{◌≡◌, ◌≤◌, IfOk, IfErr, Some, length, option_map};
 ghost use Rattle.xdp_load.specs.SetupSeen.{setup_view};
 ghost use Rattle.xdp_load.specs.Sound.{IsSound};
-ghost use Rattle.xdpbox.specs.Answer.{ExecAnswer, IsAnswer, PacketAnswer, PairAnswer, Reads, RunAnswer, SettingsAnswer, SetupAnswer, Takes, TakesAtMost, checked_answer, executed_answer, hex_bytes, program_status, settings_refused, words_refused};
+ghost use Rattle.xdpbox.specs.Answer.{ExecAnswer, ExplainAnswer, IsAnswer, PacketAnswer, PairAnswer, Reads, RunAnswer, SettingsAnswer, SetupAnswer, Takes, TakesAtMost, checked_answer, executed_answer, hex_bytes, program_status, settings_refused, words_refused};
 ghost use Rattle.xdpbox.specs.Words as wanted;
 ghost use Rattle.xdpbox.specs.Seen.{said_of, wanted_of};
 
 use crate::executing::{Accepted, check, execute, run};
+use crate::explaining::{outcome_of, outcome_status, outcome_text};
 use crate::input::read_settings;
 use crate::lines::{checked_text, executed_text, ran_text, settings_text};
 use crate::pair_lines::{paired_status, paired_text};
@@ -125,6 +126,19 @@ fn setup_answer(alloc: Global, setup: &Setup) -> Result<Answer, AllocError>
     checked_answer(alloc, &checked)
 }
 
+/// The answer to a setup whose program is explained.
+fn explain_answer(alloc: Global, setup: &Setup) -> Result<Answer, AllocError>
+    requires { length setup.now.shapes.items ≤ 4 }
+    ensures { IfOk result (λ a. ExplainAnswer (setup_view setup.now) (said_of a)) }
+{
+    let outcome = outcome_of(alloc, setup.program.as_slice(), setup.shapes.as_slice());
+    let text = outcome_text(alloc, setup.names.as_slice(), &outcome)?;
+    Ok(Answer {
+        text,
+        status: outcome_status(&outcome),
+    })
+}
+
 /// The answer to a setup whose queues are run.
 fn run_answer(alloc: Global, setup: &Setup) -> Result<Answer, AllocError>
     requires { IsSound (setup_view setup.now) }
@@ -171,6 +185,16 @@ fn check_answer(alloc: Global, settings: &[u8]) -> Result<Answer, AllocError>
     }
 }
 
+/// The answer of `explain`.
+fn explanation_answer(alloc: Global, settings: &[u8]) -> Result<Answer, AllocError>
+    ensures { IfOk result (λ a. SettingsAnswer ExplainAnswer settings.now (said_of a)) }
+{
+    match load(alloc, settings) {
+        Ok(setup) => explain_answer(alloc, &setup),
+        Err(fault) => settings_refused(alloc, fault),
+    }
+}
+
 /// The answer of `run`.
 fn script_answer(alloc: Global, settings: &[u8]) -> Result<Answer, AllocError>
     ensures { IfOk result (λ a. SettingsAnswer RunAnswer settings.now (said_of a)) }
@@ -203,6 +227,15 @@ fn input_check<R: Read>(alloc: Global, input: &mut R) -> Result<Answer, Stop>
 {
     let settings = read_settings(alloc, input)?;
     Ok(check_answer(alloc, settings.as_slice())?)
+}
+
+/// The answer of `explain` to the settings that the input gives.
+fn input_explain<R: Read>(alloc: Global, input: &mut R) -> Result<Answer, Stop>
+    ensures answer { IfOk result (λ a. IsAnswer (Some wanted.explain) (R.remaining input.old) (R.remaining input.new) (said_of a)) }
+    ensures takes { TakesAtMost 1048577 (R.remaining input.old) (R.remaining input.new) }
+{
+    let settings = read_settings(alloc, input)?;
+    Ok(explanation_answer(alloc, settings.as_slice())?)
 }
 
 /// The answer of `run` to the settings that the input gives.
@@ -243,6 +276,7 @@ pub fn answer_to<T: Threads + Wait + Sync, R: Read>(
         None => Ok(words_refused(alloc)?),
         Some(Request::Exec { program, packet }) => Ok(exec_answer(alloc, program, packet)?),
         Some(Request::Check) => input_check(alloc, input),
+        Some(Request::Explain) => input_explain(alloc, input),
         Some(Request::Run) => input_run(alloc, input),
         Some(Request::Pair { turns }) => input_pair(rt, alloc, turns, input),
     }

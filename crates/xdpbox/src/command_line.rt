@@ -40,10 +40,12 @@ fn single_commands<'a>(alloc: Global) -> Result<Command<'a>, AllocError>
 {
     let exec = exec_command(alloc)?;
     let check = Command::new(alloc, "check");
+    let explain = Command::new(alloc, "explain");
     let run = Command::new(alloc, "run");
     Command::new(alloc, "xdpbox")
         .subcommand(exec)?
         .subcommand(check)?
+        .subcommand(explain)?
         .subcommand(run)
 }
 

@@ -5,6 +5,7 @@ mod answer;
 mod command_line;
 mod counter_lines;
 mod executing;
+mod explaining;
 mod input;
 mod lines;
 mod output;

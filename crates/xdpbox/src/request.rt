@@ -17,6 +17,8 @@ pub enum Request<'a> {
     Exec { program: &'a str, packet: &'a str },
     /// Whether the program of the settings is accepted.
     Check,
+    /// Why the program of the settings is refused.
+    Explain,
     /// What the queues of the settings do in the steps of their script.
     Run,
     /// What the queues of the settings do on threads, in at most so many turns each.
@@ -64,6 +66,9 @@ fn request_in<'a>(matches: &ArgMatches<'a>) -> Option<Request<'a>>
     }
     if name == "check" {
         return Some(Request::Check);
+    }
+    if name == "explain" {
+        return Some(Request::Explain);
     }
     if name == "run" {
         return Some(Request::Run);

@@ -2,6 +2,7 @@ mod check;
 mod counting;
 mod examples;
 mod exec;
+mod explain;
 mod failing;
 mod failing_runs;
 mod hosting;

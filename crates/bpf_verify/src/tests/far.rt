@@ -1,11 +1,12 @@
 //! Each cause of the two passes beyond slot 4,000: the slot is that of the instruction, a wide load counting twice.
-use crate::tests::{add_slots, answer};
-use crate::{Cause, MapShape};
+use crate::tests::{add_slots, explained};
+use crate::{Cause, Explained, MapShape};
 use std::alloc::Global;
 use std::test::Fail;
 
-/// What is refused of a program that sets `r0` 4,000 times and goes on with these slots, over one map of a value.
-fn refused_after(alloc: Global, tail: &[[u8; 8]]) -> Result<Option<(Cause, u32)>, Fail> {
+/// What is refused of a program that sets `r0` 4,000 times and goes on with these slots, over one map of a value; and
+/// whether there is a note.
+fn refused_after(alloc: Global, tail: &[[u8; 8]]) -> Result<Option<(Cause, u32, bool)>, Fail> {
     let mut bytes = Vec::new(alloc);
     for _ in 0..4000 {
         // r0 = 2
@@ -13,9 +14,11 @@ fn refused_after(alloc: Global, tail: &[[u8; 8]]) -> Result<Option<(Cause, u32)>
     }
     add_slots(&mut bytes, tail)?;
     let shape = MapShape::of(1, 1).ok_or("a shape")?;
-    match answer(alloc, &bytes, &[shape]) {
-        Ok(_) => Ok(None),
-        Err(refusal) => Ok(Some((refusal.cause, refusal.pc))),
+    match explained(alloc, &bytes, &[shape])? {
+        None => Ok(None),
+        Some(Explained { refusal, note, .. }) => {
+            Ok(Some((refusal.cause, refusal.pc, note.is_some())))
+        }
     }
 }
 
@@ -40,7 +43,7 @@ const OUT: [[u8; 8]; 2] = [
 fn a_jump_out_of_the_program(rt: HostRuntime) -> Result<(), Fail> {
     assert_eq!(rt;
         refused_after(rt.alloc(), &OUT)?,
-        Some((Cause::Target, 4000))
+        Some((Cause::Target, 4000, false))
     );
     Ok(())
 }
@@ -55,7 +58,7 @@ const CYCLE: [[u8; 8]; 2] = [
 fn a_jump_that_closes_a_cycle(rt: HostRuntime) -> Result<(), Fail> {
     assert_eq!(rt;
         refused_after(rt.alloc(), &CYCLE)?,
-        Some((Cause::BackJump, 4000))
+        Some((Cause::BackJump, 4000, false))
     );
     Ok(())
 }
@@ -67,7 +70,10 @@ const END: [[u8; 8]; 1] = [
 
 #[test]
 fn an_end_without_an_exit(rt: HostRuntime) -> Result<(), Fail> {
-    assert_eq!(rt; refused_after(rt.alloc(), &END)?, Some((Cause::End, 4000)));
+    assert_eq!(rt;
+        refused_after(rt.alloc(), &END)?,
+        Some((Cause::End, 4000, false))
+    );
     Ok(())
 }
 
@@ -81,7 +87,7 @@ const UNSET: [[u8; 8]; 2] = [
 fn an_unset_register(rt: HostRuntime) -> Result<(), Fail> {
     assert_eq!(rt;
         refused_after(rt.alloc(), &UNSET)?,
-        Some((Cause::Unset, 4000))
+        Some((Cause::Unset, 4000, true))
     );
     Ok(())
 }
@@ -96,7 +102,7 @@ const FRAME: [[u8; 8]; 2] = [
 fn a_write_to_the_frame_pointer(rt: HostRuntime) -> Result<(), Fail> {
     assert_eq!(rt;
         refused_after(rt.alloc(), &FRAME)?,
-        Some((Cause::FramePointer, 4000))
+        Some((Cause::FramePointer, 4000, true))
     );
     Ok(())
 }
@@ -111,7 +117,7 @@ const NUMBER: [[u8; 8]; 2] = [
 fn a_load_through_a_number(rt: HostRuntime) -> Result<(), Fail> {
     assert_eq!(rt;
         refused_after(rt.alloc(), &NUMBER)?,
-        Some((Cause::NoPointer, 4000))
+        Some((Cause::NoPointer, 4000, true))
     );
     Ok(())
 }
@@ -127,7 +133,7 @@ const PACKET: [[u8; 8]; 3] = [
 fn a_load_past_the_packet(rt: HostRuntime) -> Result<(), Fail> {
     assert_eq!(rt;
         refused_after(rt.alloc(), &PACKET)?,
-        Some((Cause::Packet, 4001))
+        Some((Cause::Packet, 4001, true))
     );
     Ok(())
 }
@@ -142,7 +148,7 @@ const STACK: [[u8; 8]; 2] = [
 fn a_load_of_unset_stack(rt: HostRuntime) -> Result<(), Fail> {
     assert_eq!(rt;
         refused_after(rt.alloc(), &STACK)?,
-        Some((Cause::Stack, 4000))
+        Some((Cause::Stack, 4000, true))
     );
     Ok(())
 }
@@ -157,7 +163,7 @@ const CONTEXT: [[u8; 8]; 2] = [
 fn a_load_of_part_of_a_field(rt: HostRuntime) -> Result<(), Fail> {
     assert_eq!(rt;
         refused_after(rt.alloc(), &CONTEXT)?,
-        Some((Cause::Context, 4000))
+        Some((Cause::Context, 4000, true))
     );
     Ok(())
 }
@@ -178,7 +184,7 @@ const NULL: [[u8; 8]; 8] = [
 fn a_load_through_what_may_be_null(rt: HostRuntime) -> Result<(), Fail> {
     assert_eq!(rt;
         refused_after(rt.alloc(), &NULL)?,
-        Some((Cause::MayBeNull, 4006))
+        Some((Cause::MayBeNull, 4006, true))
     );
     Ok(())
 }
@@ -200,7 +206,7 @@ const COUNTER: [[u8; 8]; 9] = [
 fn a_load_of_half_a_counter(rt: HostRuntime) -> Result<(), Fail> {
     assert_eq!(rt;
         refused_after(rt.alloc(), &COUNTER)?,
-        Some((Cause::MapAccess, 4007))
+        Some((Cause::MapAccess, 4007, true))
     );
     Ok(())
 }
@@ -215,7 +221,7 @@ const HELPER: [[u8; 8]; 2] = [
 fn a_helper_that_is_not_known(rt: HostRuntime) -> Result<(), Fail> {
     assert_eq!(rt;
         refused_after(rt.alloc(), &HELPER)?,
-        Some((Cause::Helper, 4000))
+        Some((Cause::Helper, 4000, true))
     );
     Ok(())
 }
@@ -231,7 +237,7 @@ const MAP: [[u8; 8]; 3] = [
 fn a_map_past_the_last(rt: HostRuntime) -> Result<(), Fail> {
     assert_eq!(rt;
         refused_after(rt.alloc(), &MAP)?,
-        Some((Cause::MapNumber, 4000))
+        Some((Cause::MapNumber, 4000, false))
     );
     Ok(())
 }
@@ -247,7 +253,7 @@ const ARGUMENT: [[u8; 8]; 3] = [
 fn a_lookup_in_the_context(rt: HostRuntime) -> Result<(), Fail> {
     assert_eq!(rt;
         refused_after(rt.alloc(), &ARGUMENT)?,
-        Some((Cause::Argument, 4001))
+        Some((Cause::Argument, 4001, true))
     );
     Ok(())
 }

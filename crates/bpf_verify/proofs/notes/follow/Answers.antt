@@ -1,57 +1,41 @@
-use Rattle.std.proofs.Common.{◌<◌, ◌∙◌, ℕ, length, Ok, sym, subst, false, arith}
-use Rattle.std.specs.Prelude.{slice_index_or}
-use Rattle.std.proofs.lemmas.Result.{err_from_is_err_and}
-use Rattle.bpf_insn.specs.declared.insn.Insn.{Insn}
-use Rattle.bpf_insn.specs.declared.insn.Insn.TheVariants.{Alu}
-use Rattle.bpf_insn.specs.declared.alu_op.AluOp.TheVariants.{Add}
-use Rattle.bpf_insn.specs.declared.register.Register.TheVariants.{R0}
-use Rattle.bpf_insn.specs.declared.operand.Operand.TheVariants.{Register}
-use Rattle.bpf_note.specs.Parts.{facts}
-use Rattle.bpf_flow.specs.Gives.{edges_of, WantsMemory}
-use Rattle.bpf_verify.specs.Tables.{facts_at, LeadInside}
-use Rattle.bpf_verify.proofs.FollowLemmas.{get_is, note_at, ruled_at, rule_is, following_on, following_takes, stopped_at, leads_inside}
+use Rattle.std.proofs.Common.{◌≡◌, ◌<◌, ◌∙◌, List, length, Some, sym, subst, arith}
+use Rattle.bpf_note.specs.Facts.{Facts}
+use Rattle.bpf_note.specs.Parts.{Noted, facts}
+use Rattle.bpf_flow.specs.Causes.{IsRuleCause}
+use Rattle.bpf_flow.specs.Gives.{Fails}
+use Rattle.bpf_verify.specs.Gathered.{rule_at, IsFirstRefused}
+use Rattle.bpf_verify.specs.Tables.{facts_at}
+use Rattle.bpf_verify.proofs.FollowLemmas.{note_at, following_on, stopped_at, refused_at, there_has}
 use Rattle.bpf_verify.proofs.notes.follow.Goals as goal
 
-abbrev first : Insn
-first = Alu Add false R0 (Register R0)
+same_facts : (o : _) (a b : Facts) → o ≡ Some a → o ≡ Some b → a ≡ b
+same_facts o a b e f = let both : Some a ≡ Some b = sym e ∙ f in cc
 
-pub after-requires-clause-ruled : goal.after-requires-clause-ruled
-after-requires-clause-ruled c =
-    ruled_at c.args.code.now (length c.args.shapes.now) c.args.pc (slice_index_or c.args.code.now c.args.pc first) c.requires.structured (get_is c.args.code.now c.args.pc first c.requires.there) c.requires.begins
-
-pub returns-in_err-successors-clause-err : goal.returns-in_err-successors-clause-err
-returns-in_err-successors-clause-err c =
+pub returns-in-Err-clause-err : goal.returns-in-Err-clause-err
+returns-in-Err-clause-err c =
     let inside : c.args.pc < length c.args.table.now.items = omega (arith, c.args.table.now.ok.0, c.requires.size, c.requires.there) in
-    let at = note_at c.args.table.now.items c.args.pc c.loop-note.note-index c.index_mut.result.now c.replace-list.result c.notes-note-items.result.now c.note-item.result inside c.index_mut.ensures.value c.replace-list.ensures.value c.notes-note-items.ensures c.loop-note-test.true c.note-item.is in
-    let p = err_from_is_err_and c.from_residual.result c.from_residual.ensures.1 in
-    rw (p.1, p.2) (stopped_at c.args.code.now c.args.shapes.now c.args.pc c.loop-note.note-index (facts_at c.args.table.now.items) (facts_at c.loop-note.table.items) (facts c.note-item.result)
-    (slice_index_or c.args.code.now c.args.pc first) c.in_err-successors.field-0.0 c.loop-note.invariant.1 at (get_is c.args.code.now c.args.pc first c.requires.there) c.in_err-successors.ensures.gives)
+    let at = note_at c.args.table.now.items c.args.pc c.loop-i.i c.index_mut.result.now c.replace.result c.deref-note-items.result.now c.note-item.result inside c.index_mut.ensures.value c.replace.ensures.value (c.deref-note-items.ensures.value ∙ c.into_notes-notes.ensures) c.loop-i-test.true c.note-item.is in
+    rw c.at_note.ensures.cause (stopped_at c.args.code.now c.args.shapes.now c.args.pc c.loop-i.i (facts_at c.args.table.now.items) (facts_at c.loop-i.table.items) (facts c.note-item.result) c.in-Err.cause c.loop-i.invariant.1 at c.in-Err.ensures.err)
 
-pub returns-in_err-spread-clause-err : goal.returns-in_err-spread-clause-err
-returns-in_err-spread-clause-err c =
-    let rule = rule_is c.args.code.now c.args.shapes.now c.args.pc (slice_index_or c.args.code.now c.args.pc first) (facts c.note-item.result) (Ok (edges_of c.in_ok-successors.successors))
-    (get_is c.args.code.now c.args.pc first c.requires.there) c.in_ok-successors.ensures.gives in
+pub returns-in-Err-clause-note : goal.returns-in-Err-clause-note
+returns-in-Err-clause-note c =
     let inside : c.args.pc < length c.args.table.now.items = omega (arith, c.args.table.now.ok.0, c.requires.size, c.requires.there) in
-    let at = note_at c.args.table.now.items c.args.pc c.loop-note.note-index c.index_mut.result.now c.replace-list.result c.notes-note-items.result.now c.note-item.result inside c.index_mut.ensures.value c.replace-list.ensures.value c.notes-note-items.ensures c.loop-note-test.true c.note-item.is in
-    let takes = following_takes c.args.code.now c.args.shapes.now c.args.pc c.loop-note.note-index (facts_at c.args.table.now.items) (facts_at c.loop-note.table.items) c.loop-note.invariant.1 (facts c.note-item.result) at
-    (subst WantsMemory (sym rule) c.in_err-spread.ensures.err) in
-    let p = err_from_is_err_and c.from_residual-in_err-spread.result c.from_residual-in_err-spread.ensures.1 in
-    rw (p.1, p.2) takes
+    let items = c.into_notes-notes.result.items in
+    let low : c.loop-i.i < length items = subst (λ (ns : List Noted). c.loop-i.i < length ns) c.deref-note-items.ensures.value c.loop-i-test.true in
+    let at = note_at c.args.table.now.items c.args.pc c.loop-i.i c.index_mut.result.now c.replace.result c.deref-note-items.result.now c.note-item.result inside c.index_mut.ensures.value c.replace.ensures.value (c.deref-note-items.ensures.value ∙ c.into_notes-notes.ensures) c.loop-i-test.true c.note-item.is in
+    let moved = note_at c.args.table.now.items c.args.pc c.loop-i.i c.index_mut.result.now c.replace.result items c.swap_remove.result inside c.index_mut.ensures.value c.replace.ensures.value c.into_notes-notes.ensures low c.swap_remove.ensures.value in
+    let same = same_facts _ (facts c.note-item.result) (facts c.swap_remove.result) at moved in
+    let fails : Fails c.in-Err.cause (rule_at c.args.code.now c.args.shapes.now c.args.pc (facts c.swap_remove.result)) = subst (λ (n : Facts). Fails c.in-Err.cause (rule_at c.args.code.now c.args.shapes.now c.args.pc n)) same c.in-Err.ensures.err in
+    rw c.at_note.ensures.cause (there_has c.at_note.result.note c.swap_remove.result
+    (λ n. IsFirstRefused c.args.code.now c.args.shapes.now c.args.pc (facts_at c.args.table.now.items c.args.pc) c.in-Err.cause (facts n)) (IsRuleCause c.in-Err.cause) c.at_note.ensures.there c.at_note.ensures.same
+    (λ r. refused_at c.args.code.now c.args.shapes.now c.args.pc c.loop-i.i (facts_at c.args.table.now.items) (facts_at c.loop-i.table.items) (facts c.swap_remove.result) c.in-Err.cause c.loop-i.invariant.1 moved fails r))
 
-pub spread-requires : goal.spread-requires
-spread-requires c =
-    let rule = rule_is c.args.code.now c.args.shapes.now c.args.pc (slice_index_or c.args.code.now c.args.pc first) (facts c.note-item.result) (Ok (edges_of c.in_ok-successors.successors))
-    (get_is c.args.code.now c.args.pc first c.requires.there) c.in_ok-successors.ensures.gives in
-    subst (λ (n : ℕ). LeadInside (edges_of c.in_ok-successors.successors) n) (sym c.loop-note.invariant.0)
-    (leads_inside c.args.code.now c.args.shapes.now c.args.pc (facts c.note-item.result) (edges_of c.in_ok-successors.successors) c.requires.laid c.requires.structured rule)
-
-pub loop-note-preserved : goal.loop-note-preserved
-loop-note-preserved c =
-    let rule = rule_is c.args.code.now c.args.shapes.now c.args.pc (slice_index_or c.args.code.now c.args.pc first) (facts c.note-item.result) (Ok (edges_of c.in_ok-successors.successors))
-    (get_is c.args.code.now c.args.pc first c.requires.there) c.in_ok-successors.ensures.gives in
+pub loop-i-preserved : goal.loop-i-preserved
+loop-i-preserved c =
     let inside : c.args.pc < length c.args.table.now.items = omega (arith, c.args.table.now.ok.0, c.requires.size, c.requires.there) in
-    let at = note_at c.args.table.now.items c.args.pc c.loop-note.note-index c.index_mut.result.now c.replace-list.result c.notes-note-items.result.now c.note-item.result inside c.index_mut.ensures.value c.replace-list.ensures.value c.notes-note-items.ensures c.loop-note-test.true c.note-item.is in (
-      c.in_ok-spread.ensures.size ∙ c.loop-note.invariant.0,
-      following_on c.args.code.now c.args.shapes.now c.args.pc c.loop-note.note-index (facts_at c.args.table.now.items) (facts_at c.loop-note.table.items) c.loop-note.invariant.1 (facts c.note-item.result) at
-          (edges_of c.in_ok-successors.successors) (facts_at c.spread.new.table.items) rule c.in_ok-spread.ensures.hears,
+    let at = note_at c.args.table.now.items c.args.pc c.loop-i.i c.index_mut.result.now c.replace.result c.deref-note-items.result.now c.note-item.result inside c.index_mut.ensures.value c.replace.ensures.value (c.deref-note-items.ensures.value ∙ c.into_notes-notes.ensures) c.loop-i-test.true c.note-item.is in
+    let h = c.in_default.ensures.hears in (
+      c.in_default.ensures.size,
+      following_on c.args.code.now c.args.shapes.now c.args.pc c.loop-i.i (facts_at c.args.table.now.items) (facts_at c.loop-i.table.items) c.loop-i.invariant.1 (facts c.note-item.result) at
+          h.0 (facts_at c.follow_note.new.table.items) h.1 h.2,
     )

@@ -1,0 +1,28 @@
+-- Through which register an instruction reaches memory.
+use Rattle.std.specs.Prelude.{ℕ, pos, Option, None, Some}
+use Rattle.bpf_insn.specs.Size.{size_bytes}
+use Rattle.bpf_insn.specs.Register.{number}
+use Rattle.bpf_insn.specs.declared.insn.Insn.{Insn}
+use Rattle.bpf_insn.specs.declared.insn.Insn.TheVariants.{Ldx, St, Stx, AddCounter, Call}
+use Rattle.bpf_insn.specs.declared.register.Register.TheVariants.{R2}
+use Rattle.bpf_note.specs.Facts.{Facts}
+use Rattle.bpf_note.specs.declared.val.Val.{Val}
+use Rattle.bpf_note.specs.declared.val.Val.TheVariants.{Unset}
+use Rattle.bpf_explain.specs.declared.access.Access.{Access}
+
+-- the address's register, the offset from it, and how many bytes; a call reaches the key of four bytes that r2 is to point to
+abbrev pub access_of : Insn → Option Access
+access_of (Ldx size signed dst src off) = Some (record { base = src; off = off; bytes = size_bytes size })
+access_of (St size dst off imm) = Some (record { base = dst; off = off; bytes = size_bytes size })
+access_of (Stx size dst src off) = Some (record { base = dst; off = off; bytes = size_bytes size })
+access_of (AddCounter fetch dst src off) = Some (record { base = dst; off = off; bytes = 8 })
+access_of (Call helper) = Some (record { base = R2; off = pos 0; bytes = 4 })
+access_of i = None
+
+-- what is known of the address
+abbrev pub address_at : Facts → Option Access → Val
+address_at n None = Unset
+address_at n (Some a) = n.reg (number a.base)
+
+abbrev pub address_of : Facts → Insn → Val
+address_of n i = address_at n (access_of i)

@@ -1,0 +1,64 @@
+-- What to write instead of what a cause refuses.
+use Rattle.std.specs.Prelude.{ℕ, List, codes, Option, None, Some}
+use Rattle.bpf_insn.specs.declared.insn.Insn.{Insn}
+use Rattle.bpf_insn.specs.declared.insn.Insn.TheVariants.{St, Stx, AddCounter}
+use Rattle.bpf_insn.specs.declared.refusal.Cause.{Cause}
+use Rattle.bpf_insn.specs.declared.refusal.Cause.TheVariants.{Memory, Length, Opcode, Register, Target, BackJump, End, Unset, FramePointer, NoPointer, Packet, Stack, Context, MayBeNull, MapAccess, Helper, MapNumber, Argument, Unsupported}
+use Rattle.bpf_note.specs.Facts.{Facts}
+use Rattle.bpf_note.specs.declared.val.Val.{Val}
+use Rattle.bpf_note.specs.declared.val.Val.TheVariants as val
+use Rattle.bpf_explain.specs.Accesses.{address_of}
+
+-- by the cause alone
+abbrev pub cause_advice : Cause → List ℕ
+cause_advice Memory = codes "the same program, with more memory: memory ran out"
+cause_advice Length = codes "1 to 4096 slots of eight bytes"
+cause_advice Opcode = codes "an instruction's opcode, with each field as its form wants it"
+cause_advice Register = codes "a register from r0 to r10"
+cause_advice Target = codes "a jump to a slot of the program that is no second half of a wide load"
+cause_advice BackJump = codes "the loop's body as often as it may run, each time left by a forward jump"
+cause_advice End = codes "exit at the end of each way through the program"
+cause_advice Unset = codes "set the register on each way that leads here; a call leaves r1 to r5 unset"
+cause_advice FramePointer = codes "copy r10 to another register, and change the copy"
+cause_advice NoPointer = codes "only add to an address and subtract from it, in 64 bits: constants, or to a packet's address a number of at most 65535"
+cause_advice Packet = codes "compare the address past the last byte with data_end on each way that leads here, after the last addition"
+cause_advice Stack = codes "store these bytes first, within the 512 bytes below r10"
+cause_advice Context = codes "load four bytes of a field: at 0, 4, 8, 12 or 16"
+cause_advice MayBeNull = codes "compare the lookup's result with 0 first; the check frees the copies of that lookup alone"
+cause_advice MapAccess = codes "load or atomically add eight bytes at 8*j of a value, j below its number of counters"
+cause_advice Helper = codes "call 1, the map lookup: it is the one helper"
+cause_advice MapNumber = codes "the number of a map of the settings, or a relocation"
+cause_advice Argument = codes "a wide load of a map in r1, and in r2 the address of a key of four stored bytes"
+cause_advice Unsupported = codes "other instructions: this profile leaves this one out"
+
+-- V9: an access through the packet's end, or through a number
+abbrev pub pointer_advice : Val → List ℕ
+pointer_advice val.PktEnd = codes "access the packet through data: data_end serves comparisons alone"
+pointer_advice v = cause_advice NoPointer
+
+-- V14: through a map's reference; an add elsewhere than to a counter; a store to a value; or a load
+abbrev pub map_advice : Insn → Val → List ℕ
+map_advice i (val.Map m) = codes "look a key up first: the reference to a map is no address"
+map_advice (AddCounter fetch dst src off) (val.Value m) = codes "add at 8*j of the value, j below its number of counters"
+map_advice (AddCounter fetch dst src off) v = codes "add atomically to a map's counter alone; elsewhere load, add and store"
+map_advice (St size dst off imm) v = codes "add to the counter in one step, as __sync_fetch_and_add: a store loses what another queue counts"
+map_advice (Stx size dst src off) v = codes "add to the counter in one step, as __sync_fetch_and_add: a store loses what another queue counts"
+map_advice i v = codes "load eight bytes, unsigned, at 8*j of the value, j below its number of counters"
+
+-- V17: r1 is no map; or r2 is no address of the stack; or the key isn't there
+abbrev pub argument_advice : Val → Val → List ℕ
+argument_advice (val.Map m) (val.Stack off) = codes "set all four bytes of the key that r2 points to, within the stack: an unsigned int"
+argument_advice (val.Map m) v = codes "the key on the stack, and its address in r2"
+argument_advice v w = codes "a wide load of a map in r1"
+
+-- by the cause, and for V9, V14 and V17 by the values that the instruction finds
+abbrev pub value_advice : Cause → Insn → Facts → List ℕ
+value_advice NoPointer i n = pointer_advice (address_of n i)
+value_advice MapAccess i n = map_advice i (address_of n i)
+value_advice Argument i n = argument_advice (n.reg 1) (n.reg 2)
+value_advice c i n = cause_advice c
+
+-- where the instruction and what is known there are at hand
+abbrev pub advice_text : Cause → Option Insn → Option Facts → List ℕ
+advice_text c (Some i) (Some n) = value_advice c i n
+advice_text c i n = cause_advice c

@@ -1,0 +1,52 @@
+-- What is printed of a refused program.
+use Rattle.std.specs.Prelude.{ℕ, List, [], ◌++◌, codes, Option, None, Some, Bool, true, false, slice_get, if◌then◌else◌}
+use Rattle.bpf_insn.specs.Cause.{refusal_text}
+use Rattle.bpf_insn.specs.declared.insn.Insn.{Insn}
+use Rattle.bpf_insn.specs.declared.refusal.Cause.{Cause}
+use Rattle.bpf_insn.specs.declared.refusal.Cause.TheVariants.{FramePointer, Helper, Stack, Argument}
+use Rattle.bpf_insn.specs.declared.refusal.Refusal.{Refusal}
+use Rattle.bpf_note.specs.Facts.{Facts}
+use Rattle.bpf_explain.specs.Accesses.{access_of}
+use Rattle.bpf_explain.specs.Advice.{advice_text, cause_advice}
+use Rattle.bpf_explain.specs.Listing.{listing_text}
+use Rattle.bpf_explain.specs.Stack.{stack_text}
+use Rattle.bpf_explain.specs.Values.{all_registers, reads_text}
+
+-- what the instruction reads has to do with the cause: not with V8 and V15
+abbrev pub is_about_values : Cause → Bool
+is_about_values FramePointer = false
+is_about_values Helper = false
+is_about_values c = true
+
+-- so have the bytes of the stack that it reaches: with V11 and V17
+abbrev pub is_about_stack : Cause → Bool
+is_about_stack Stack = true
+is_about_stack Argument = true
+is_about_stack c = false
+
+abbrev pub reached_text : List (List ℕ) → Cause → Insn → Facts → List ℕ
+reached_text names c i n = if is_about_stack c then stack_text names n (access_of i) else []
+
+-- the line below the refused one: each register that it reads, and the stack's slots that it touches
+abbrev pub values_text : List (List ℕ) → Cause → Insn → Facts → List ℕ
+values_text names c i n =
+    if is_about_values c then codes "     " ++ reads_text names i n all_registers ++ reached_text names c i n ++ codes "\n" else []
+
+-- where the instruction and what is known there are at hand
+abbrev pub below_text : List (List ℕ) → Cause → Option Insn → Option Facts → List ℕ
+below_text names c (Some i) (Some n) = values_text names c i n
+below_text names c i n = []
+
+-- the refusal, and what to write instead
+abbrev pub verdict_text : Refusal → List ℕ → List ℕ
+verdict_text r advice = codes "refused " ++ (refusal_text r ++ (codes "\nwrite instead: " ++ (advice ++ codes "\n")))
+
+-- of bytes that spell no program
+abbrev pub undecoded_text : Refusal → List ℕ
+undecoded_text r = verdict_text r (cause_advice r.cause)
+
+-- of a program whose maps have these names: the listing with what is known at the refused slot, and the verdict
+abbrev pub explained_text : List Insn → List (List ℕ) → Refusal → Option Facts → List ℕ
+explained_text code names r note =
+    listing_text (Some r.pc) (below_text names r.cause (slice_get code r.pc) note) 0 code
+    ++ verdict_text r (advice_text r.cause (slice_get code r.pc) note)

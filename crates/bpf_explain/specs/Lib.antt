@@ -1,0 +1,6 @@
+pub mod Values
+pub mod Accesses
+pub mod Stack
+pub mod Advice
+pub mod Listing
+pub mod Explained

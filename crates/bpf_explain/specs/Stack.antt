@@ -1,0 +1,48 @@
+-- The text of the stack's slots that an access touches.
+use Rattle.std.specs.Prelude.{ℕ, zero, suc, ◌+◌, ◌-◌, ◌*◌, ◌/◌, ℤ, pos, ◌+ℤ◌, Bool, List, [], ◌++◌, codes, Option, None, Some, ◌==◌, if◌then◌else◌}
+use Rattle.std.specs.Fmt.{decimal}
+use Rattle.bpf_insn.specs.Register.{number}
+use Rattle.bpf_note.specs.Facts.{Facts}
+use Rattle.bpf_note.specs.declared.val.Val.{Val}
+use Rattle.bpf_note.specs.declared.val.Val.TheVariants.{Stack}
+use Rattle.bpf_flow.specs.Memory.{place_in}
+use Rattle.bpf_explain.specs.declared.access.Access.{Access}
+use Rattle.bpf_explain.specs.Values.{known_text}
+
+-- a byte that is set, and one that is not
+abbrev pub byte_text : Bool → List ℕ
+byte_text set = if set then codes "#" else codes "?"
+
+-- so many bytes of the stack from a place on
+abbrev pub bytes_text : Facts → ℕ → ℕ → List ℕ
+bytes_text n place zero = []
+bytes_text n place (suc z) = byte_text (n.set place) ++ bytes_text n (place + 1) z
+
+-- the value that slot j keeps, or its bytes from the lowest address up
+abbrev pub content_text : List (List ℕ) → Facts → ℕ → Option Val → List ℕ
+content_text names n j None = bytes_text n (8 * j) 8
+content_text names n j (Some v) = known_text names n v
+
+-- slot j by its distance from the stack's end: `fp-8=????##??`
+abbrev pub slot_text : List (List ℕ) → Facts → ℕ → List ℕ
+slot_text names n j = codes "  fp-" ++ (decimal (512 - 8 * j) ++ (codes "=" ++ content_text names n j (n.kept j)))
+
+-- the slot of the last byte, where it isn't that of the first one
+abbrev pub further_text : List (List ℕ) → Facts → ℕ → ℕ → List ℕ
+further_text names n first last = if first == last then [] else slot_text names n last
+
+-- the slots that so many bytes from a place on touch; at most eight bytes touch two
+abbrev pub touched_text : List (List ℕ) → Facts → Option ℕ → ℕ → List ℕ
+touched_text names n None bytes = []
+touched_text names n (Some place) bytes =
+    slot_text names n (place / 8) ++ further_text names n (place / 8) ((place + bytes - 1) / 8)
+
+-- the place of so many bytes behind an address of the stack, where they lie in the stack
+abbrev pub stack_place : Val → ℤ → ℕ → Option ℕ
+stack_place (Stack from) off bytes = place_in (pos 512 +ℤ from +ℤ off) bytes 512
+stack_place v off bytes = None
+
+-- the slots that an access touches
+abbrev pub stack_text : List (List ℕ) → Facts → Option Access → List ℕ
+stack_text names n None = []
+stack_text names n (Some a) = touched_text names n (stack_place (n.reg (number a.base)) a.off a.bytes) a.bytes

@@ -1,0 +1,68 @@
+//! Through which register an instruction reaches memory.
+ghost use Rattle.std.specs.Prelude.{◌≡◌, ◌≤◌, IfSome};
+ghost use Rattle.bpf_insn.specs.Size.{size_bytes};
+ghost use Rattle.bpf_note.specs.Parts.{facts};
+ghost use Rattle.bpf_explain.specs.Accesses.{access_of, address_of};
+
+use bpf_insn::{Insn, Register, Size};
+use bpf_note::{Note, Val};
+
+/// An access to `bytes` bytes, `off` bytes behind the address in `base`.
+#[derive(Clone, Copy)]
+pub(crate) struct Access {
+    pub base: Register,
+    pub off: i16,
+    pub bytes: u32,
+}
+
+/// How many bytes a counter has.
+const COUNTER: u32 = 8;
+
+/// How many bytes a key has.
+const KEY: u32 = 4;
+
+fn access_at(base: Register, off: i16, size: Size) -> Access
+    ensures base { result.base ≡ base }
+    ensures off { result.off ≡ off }
+    ensures bytes { result.bytes ≡ size_bytes size }
+{
+    Access {
+        base,
+        off,
+        bytes: size.bytes() as u32,
+    }
+}
+
+/// The access of a load, a store, an add or a lookup.
+pub(crate) fn access_of(insn: Insn) -> Option<Access>
+    ensures value { result ≡ access_of insn }
+    ensures some { IfSome result (λ a. 1 ≤ a.bytes) }
+    ensures few { IfSome result (λ a. a.bytes ≤ 8) }
+{
+    match insn {
+        Insn::Ldx { size, src, off, .. } => Some(access_at(src, off, size)),
+        Insn::St { size, dst, off, .. } => Some(access_at(dst, off, size)),
+        Insn::Stx { size, dst, off, .. } => Some(access_at(dst, off, size)),
+        Insn::AddCounter { dst, off, .. } => Some(Access {
+            base: dst,
+            off,
+            bytes: COUNTER,
+        }),
+        Insn::Call { .. } => Some(Access {
+            base: Register::R2,
+            off: 0,
+            bytes: KEY,
+        }),
+        _ => None,
+    }
+}
+
+/// What is known of the address through which an instruction reaches memory.
+pub(crate) fn address_of(note: &Note, insn: Insn) -> Val
+    ensures { result ≡ address_of (facts note.now) insn }
+{
+    match access_of(insn) {
+        None => Val::Unset,
+        Some(access) => note.register(access.base.number()),
+    }
+}

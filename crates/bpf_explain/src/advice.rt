@@ -1,0 +1,102 @@
+//! What to write instead.
+ghost use Rattle.std.specs.Prelude.{◌≡◌, option_map};
+ghost use Rattle.bpf_note.specs.Parts.{facts};
+ghost use Rattle.bpf_explain.specs.Advice.{advice_text, argument_advice, cause_advice, map_advice, pointer_advice, value_advice};
+
+use crate::access::address_of;
+use bpf_insn::{Cause, Insn};
+use bpf_note::{Note, Val};
+
+/// What to write instead of what a cause refuses.
+pub(crate) fn cause_advice(cause: Cause) -> &'static str
+    ensures { result.now ≡ cause_advice cause }
+{
+    match cause {
+        Cause::Memory => "the same program, with more memory: memory ran out",
+        Cause::Length => "1 to 4096 slots of eight bytes",
+        Cause::Opcode => "an instruction's opcode, with each field as its form wants it",
+        Cause::Register => "a register from r0 to r10",
+        Cause::Target => "a jump to a slot of the program that is no second half of a wide load",
+        Cause::BackJump =>
+            "the loop's body as often as it may run, each time left by a forward jump",
+        Cause::End => "exit at the end of each way through the program",
+        Cause::Unset =>
+            "set the register on each way that leads here; a call leaves r1 to r5 unset",
+        Cause::FramePointer => "copy r10 to another register, and change the copy",
+        Cause::NoPointer =>
+            "only add to an address and subtract from it, in 64 bits: constants, or to a packet's address a number of at most 65535",
+        Cause::Packet =>
+            "compare the address past the last byte with data_end on each way that leads here, after the last addition",
+        Cause::Stack => "store these bytes first, within the 512 bytes below r10",
+        Cause::Context => "load four bytes of a field: at 0, 4, 8, 12 or 16",
+        Cause::MayBeNull =>
+            "compare the lookup's result with 0 first; the check frees the copies of that lookup alone",
+        Cause::MapAccess =>
+            "load or atomically add eight bytes at 8*j of a value, j below its number of counters",
+        Cause::Helper => "call 1, the map lookup: it is the one helper",
+        Cause::MapNumber => "the number of a map of the settings, or a relocation",
+        Cause::Argument =>
+            "a wide load of a map in r1, and in r2 the address of a key of four stored bytes",
+        Cause::Unsupported => "other instructions: this profile leaves this one out",
+    }
+}
+
+/// V9: by the value through which the access goes.
+fn pointer_advice(address: Val) -> &'static str
+    ensures { result.now ≡ pointer_advice address }
+{
+    match address {
+        Val::PktEnd => "access the packet through data: data_end serves comparisons alone",
+        _ => cause_advice(Cause::NoPointer),
+    }
+}
+
+/// V14: by the instruction and the value through which it goes.
+fn map_advice(insn: Insn, address: Val) -> &'static str
+    ensures { result.now ≡ map_advice insn address }
+{
+    match (insn, address) {
+        (_, Val::Map { .. }) => "look a key up first: the reference to a map is no address",
+        (Insn::AddCounter { .. }, Val::Value { .. }) =>
+            "add at 8*j of the value, j below its number of counters",
+        (Insn::AddCounter { .. }, _) =>
+            "add atomically to a map's counter alone; elsewhere load, add and store",
+        (Insn::St { .. } | Insn::Stx { .. }, _) =>
+            "add to the counter in one step, as __sync_fetch_and_add: a store loses what another queue counts",
+        _ => "load eight bytes, unsigned, at 8*j of the value, j below its number of counters",
+    }
+}
+
+/// V17: by the arguments.
+fn argument_advice(map: Val, key: Val) -> &'static str
+    ensures { result.now ≡ argument_advice map key }
+{
+    match (map, key) {
+        (Val::Map { .. }, Val::Stack { .. }) =>
+            "set all four bytes of the key that r2 points to, within the stack: an unsigned int",
+        (Val::Map { .. }, _) => "the key on the stack, and its address in r2",
+        _ => "a wide load of a map in r1",
+    }
+}
+
+/// By the cause, and for V9, V14 and V17 by the values that the instruction finds.
+fn value_advice(cause: Cause, insn: Insn, note: &Note) -> &'static str
+    ensures { result.now ≡ value_advice cause insn (facts note.now) }
+{
+    match cause {
+        Cause::NoPointer => pointer_advice(address_of(note, insn)),
+        Cause::MapAccess => map_advice(insn, address_of(note, insn)),
+        Cause::Argument => argument_advice(note.register(1), note.register(2)),
+        _ => cause_advice(cause),
+    }
+}
+
+/// What to write instead, where the instruction and what is known there are at hand or not.
+pub(crate) fn advice(cause: Cause, insn: Option<Insn>, note: Option<&Note>) -> &'static str
+    ensures { result.now ≡ advice_text cause insn (option_map (λ n. facts n.now) note.entry) }
+{
+    match (insn, note) {
+        (Some(insn), Some(note)) => value_advice(cause, insn, note),
+        _ => cause_advice(cause),
+    }
+}

@@ -1,0 +1,128 @@
+//! What is printed of a refused program.
+ghost use Rattle.std.specs.Prelude.{◌≡◌, ◌≤◌, ◌++◌, IfOk, OnOk, length, map, option_map, slice_get, string_bytes};
+ghost use Rattle.bpf_note.specs.Parts.{facts};
+ghost use Rattle.bpf_explain.specs.Explained.{below_text, explained_text, is_about_stack, is_about_values, reached_text, undecoded_text, values_text, verdict_text};
+
+use crate::access::access_of;
+use crate::advice::{advice, cause_advice};
+use crate::listing::add_listing;
+use crate::stack::stack_text;
+use crate::values::add_reads;
+use bpf_insn::{Cause, Code, Insn, Refusal, Register};
+use bpf_note::Note;
+use std::alloc::{AllocError, Global};
+
+/// The registers, rising.
+const REGISTERS: [Register; 11] = [
+    Register::R0,
+    Register::R1,
+    Register::R2,
+    Register::R3,
+    Register::R4,
+    Register::R5,
+    Register::R6,
+    Register::R7,
+    Register::R8,
+    Register::R9,
+    Register::R10,
+];
+
+/// Whether what the instruction reads has to do with the cause.
+fn is_about_values(cause: Cause) -> bool
+    ensures { result ≡ is_about_values cause }
+{
+    !matches!(cause, Cause::FramePointer | Cause::Helper)
+}
+
+/// Whether the bytes of the stack that the instruction reaches have to do with the cause.
+fn is_about_stack(cause: Cause) -> bool
+    ensures { result ≡ is_about_stack cause }
+{
+    matches!(cause, Cause::Stack | Cause::Argument)
+}
+
+/// The stack's slots that the instruction touches, where the cause is about them.
+fn reached_text(
+    alloc: Global,
+    names: &[String],
+    cause: Cause,
+    insn: Insn,
+    note: &Note,
+) -> Result<String, AllocError>
+    ensures { IfOk result (λ s. string_bytes s ≡ reached_text (map string_bytes names.now) cause insn (facts note.now)) }
+{
+    match access_of(insn) {
+        Some(access) if is_about_stack(cause) => stack_text(alloc, names, note, access),
+        _ => Ok(String::new(alloc)),
+    }
+}
+
+/// The line below the refused one.
+fn values_text(
+    alloc: Global,
+    names: &[String],
+    cause: Cause,
+    insn: Insn,
+    note: &Note,
+) -> Result<String, AllocError>
+    ensures { IfOk result (λ s. string_bytes s ≡ values_text (map string_bytes names.now) cause insn (facts note.now)) }
+{
+    if !is_about_values(cause) {
+        return Ok(String::new(alloc));
+    }
+    let mut text = String::from_str(alloc, "     ")?;
+    add_reads(alloc, &mut text, names, insn, note, &REGISTERS)?;
+    text.push_str(reached_text(alloc, names, cause, insn, note)?.as_str())?;
+    text.push_str("\n")?;
+    Ok(text)
+}
+
+fn below_text(
+    alloc: Global,
+    names: &[String],
+    cause: Cause,
+    insn: Option<Insn>,
+    note: Option<&Note>,
+) -> Result<String, AllocError>
+    ensures { IfOk result (λ s. string_bytes s ≡ below_text (map string_bytes names.now) cause insn (option_map (λ n. facts n.now) note.entry)) }
+{
+    match (insn, note) {
+        (Some(insn), Some(note)) => values_text(alloc, names, cause, insn, note),
+        _ => Ok(String::new(alloc)),
+    }
+}
+
+/// The refusal, and what to write instead.
+fn verdict_text(alloc: Global, refusal: Refusal, advice: &str) -> Result<String, AllocError>
+    ensures { IfOk result (λ s. string_bytes s ≡ verdict_text refusal advice.now) }
+{
+    format!(in alloc; "refused {refusal}\nwrite instead: {advice}\n")
+}
+
+/// What is printed of bytes that spell no program.
+pub fn undecoded_text(alloc: Global, refusal: Refusal) -> Result<String, AllocError>
+    ensures { IfOk result (λ s. string_bytes s ≡ undecoded_text refusal) }
+{
+    verdict_text(alloc, refusal, cause_advice(refusal.cause))
+}
+
+/// What is printed of a refused program: its listing, below the refused slot what is known of the values that it reads, and
+/// what to write instead. `names` are those of the maps; a map without a name is told by its number.
+pub fn explained_text(
+    alloc: Global,
+    code: &Code,
+    names: &[String],
+    refusal: Refusal,
+    note: Option<&Note>,
+) -> Result<String, AllocError>
+    ensures { IfOk result (λ s. string_bytes s ≡ explained_text code.now (map string_bytes names.now) refusal (option_map (λ n. facts n.now) note.entry)) }
+{
+    let insns = code.insns();
+    let insn = insns.get(refusal.pc as usize).copied();
+    let below = below_text(alloc, names, refusal.cause, insn, note)?;
+    let verdict = verdict_text(alloc, refusal, advice(refusal.cause, insn, note))?;
+    let mut text = String::new(alloc);
+    add_listing(alloc, &mut text, insns, Some(refusal.pc), below.as_str())?;
+    text.push_str(verdict.as_str())?;
+    Ok(text)
+}

@@ -1,0 +1,14 @@
+//! Why a program is refused, as text: its listing, what is known at the refused slot, and what to write instead.
+#![tactic(auto)]
+
+mod access;
+mod advice;
+mod explained;
+mod listing;
+mod stack;
+#[cfg(test)]
+mod tests;
+mod values;
+
+pub use explained::{explained_text, undecoded_text};
+pub use listing::add_listing;

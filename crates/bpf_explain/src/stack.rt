@@ -1,0 +1,132 @@
+//! The stack's slots that an access touches.
+ghost use Rattle.std.specs.Prelude.{◌≡◌, ◌+◌, ◌<◌, ◌≤◌, ◌++◌, IfOk, IfSome, OnOk, Option, map, string_bytes};
+ghost use Rattle.bpf_note.specs.Parts.{facts};
+ghost use Rattle.bpf_explain.specs.Stack.{byte_text, bytes_text, content_text, further_text, slot_text, stack_place, stack_text, touched_text};
+
+use crate::access::Access;
+use crate::values::known_text;
+use bpf_note::{Note, Val};
+use std::alloc::{AllocError, Global};
+
+/// How many bytes the stack has.
+const STACK: u32 = 512;
+
+fn byte_text(set: bool) -> &'static str
+    ensures { result.now ≡ byte_text set }
+{
+    if set { "#" } else { "?" }
+}
+
+/// Which of the eight bytes from a place on are set.
+fn bytes_text(alloc: Global, note: &Note, place: u16) -> Result<String, AllocError>
+    requires { place < 512 }
+    ensures { IfOk result (λ s. string_bytes s ≡ bytes_text (facts note.now) place 8) }
+{
+    let mut text = String::new(alloc);
+    for byte in place..place + 8 {
+        text.push_str(byte_text(note.is_set(byte)))?;
+    }
+    Ok(text)
+}
+
+/// What is known of a slot's eight bytes.
+fn content_text(
+    alloc: Global,
+    names: &[String],
+    note: &Note,
+    slot: u8,
+) -> Result<String, AllocError>
+    requires { slot < 64 }
+    ensures { IfOk result (λ s. string_bytes s ≡ content_text (map string_bytes names.now) (facts note.now) slot ((facts note.now).kept slot)) }
+{
+    match note.kept(slot) {
+        None => bytes_text(alloc, note, 8 * u16::from(slot)),
+        Some(value) => known_text(alloc, names, note, value),
+    }
+}
+
+/// A slot of the stack, by its distance from the stack's end.
+fn slot_text(alloc: Global, names: &[String], note: &Note, slot: u8) -> Result<String, AllocError>
+    requires { slot < 64 }
+    ensures { IfOk result (λ s. string_bytes s ≡ slot_text (map string_bytes names.now) (facts note.now) slot) }
+{
+    let below = STACK - 8 * u32::from(slot);
+    let content = content_text(alloc, names, note, slot)?;
+    format!(in alloc; "  fp-{below}={content}")
+}
+
+/// The slot of the last byte, where it isn't that of the first one.
+fn further_text(
+    alloc: Global,
+    names: &[String],
+    note: &Note,
+    first: u8,
+    last: u8,
+) -> Result<String, AllocError>
+    requires { last < 64 }
+    ensures { IfOk result (λ s. string_bytes s ≡ further_text (map string_bytes names.now) (facts note.now) first last) }
+{
+    if first == last {
+        Ok(String::new(alloc))
+    } else {
+        slot_text(alloc, names, note, last)
+    }
+}
+
+/// The slots that so many bytes from a place on touch.
+fn touched_text(
+    alloc: Global,
+    names: &[String],
+    note: &Note,
+    place: u32,
+    bytes: u32,
+) -> Result<String, AllocError>
+    requires some { 1 ≤ bytes }
+    requires inside { place + bytes ≤ 512 }
+    ensures { IfOk result (λ s. string_bytes s ≡ touched_text (map string_bytes names.now) (facts note.now) (Option.Some place) bytes) }
+{
+    let first = (place / 8) as u8;
+    let last = ((place + bytes - 1) / 8) as u8;
+    let one = slot_text(alloc, names, note, first)?;
+    let other = further_text(alloc, names, note, first, last)?;
+    format!(in alloc; "{one}{other}")
+}
+
+/// The place of so many bytes behind an address of the stack, where they lie in the stack.
+fn stack_place(value: Val, off: i16, bytes: u32) -> Option<u32>
+    requires { bytes ≤ 8 }
+    ensures place { result ≡ stack_place value off bytes }
+    ensures inside { IfSome result (λ p. p + bytes ≤ 512) }
+{
+    let Val::Stack { off: from } = value else {
+        return None;
+    };
+    let at = 512 + i32::from(from) + i32::from(off);
+    if at < 0 {
+        return None;
+    }
+    let place = at as u32;
+    if place + bytes <= STACK {
+        Some(place)
+    } else {
+        None
+    }
+}
+
+/// The slots that an access touches.
+pub(crate) fn stack_text(
+    alloc: Global,
+    names: &[String],
+    note: &Note,
+    access: Access,
+) -> Result<String, AllocError>
+    requires some { 1 ≤ access.bytes }
+    requires few { access.bytes ≤ 8 }
+    ensures { IfOk result (λ s. string_bytes s ≡ stack_text (map string_bytes names.now) (facts note.now) (Option.Some access)) }
+{
+    let value = note.register(access.base.number());
+    match stack_place(value, access.off, access.bytes) {
+        None => Ok(String::new(alloc)),
+        Some(place) => touched_text(alloc, names, note, place, access.bytes),
+    }
+}

@@ -1,0 +1,177 @@
+//! Refused programs and what is printed of them. A program has one slot per line, with its text beside it.
+use crate::advice::advice;
+use crate::{explained_text, undecoded_text};
+use bpf_insn::{Cause, Insn, Refusal, Register, Size, decode};
+use bpf_note::{Note, PACKET_ID, Val};
+use std::alloc::Global;
+use std::test::Fail;
+
+/// What is printed of a program, with one map that has a name.
+fn text(alloc: Global, bytes: &[u8], refusal: Refusal, note: &Note) -> Result<String, Fail> {
+    let code = decode(alloc, bytes).ok().ok_or("a program")?;
+    let mut names = Vec::new(alloc);
+    names.push(String::from_str(alloc, "hits")?)?;
+    Ok(explained_text(alloc, &code, names.as_slice(), refusal, Some(note))?)
+}
+
+#[rattlefmt::skip]
+const NO_CHECK: [u8; 24] = [
+    0x61, 0x11, 0, 0, 0, 0, 0, 0,    // r1 = *(u32 *)(r1 +0)
+    0x69, 0x11, 0x0c, 0, 0, 0, 0, 0, // r1 = *(u16 *)(r1 +12)
+    0x95, 0, 0, 0, 0, 0, 0, 0,       // exit
+];
+
+#[test]
+fn a_packet_without_a_check(rt: HostRuntime) -> Result<(), Fail> {
+    let mut note = Note::entry(rt.alloc());
+    note.set_register(
+        1,
+        Val::Pkt {
+            id: PACKET_ID,
+            off: 14,
+        },
+    );
+    note.set_safe(PACKET_ID, Some(20))?;
+    let refusal = Refusal {
+        cause: Cause::Packet,
+        pc: 1,
+    };
+    assert_eq!(rt;
+        text(rt.alloc(), &NO_CHECK, refusal, &note)?.as_str(),
+        "   0: r1 = *(u32 *)(r1 +0)\n>  1: r1 = *(u16 *)(r1 +12)\n       R1=pkt(id=0,off=14,r=20)\n   2: exit\nrefused V10 at 1\nwrite instead: compare the address past the last byte with data_end on each way that leads here, after the last addition\n"
+    );
+    Ok(())
+}
+
+#[rattlefmt::skip]
+const LOOKUP: [u8; 32] = [
+    0x18, 0x11, 0, 0, 0, 0, 0, 0, // r1 = map 0
+    0, 0, 0, 0, 0, 0, 0, 0,
+    0x85, 0, 0, 0, 1, 0, 0, 0,    // call 1
+    0x95, 0, 0, 0, 0, 0, 0, 0,    // exit
+];
+
+#[test]
+fn a_key_that_is_half_set(rt: HostRuntime) -> Result<(), Fail> {
+    let mut note = Note::entry(rt.alloc());
+    note.set_register(1, Val::Map { m: 0 });
+    note.set_register(2, Val::Stack { off: -4 });
+    note.set_byte(508);
+    note.set_byte(509);
+    let refusal = Refusal {
+        cause: Cause::Argument,
+        pc: 2,
+    };
+    assert_eq!(rt;
+        text(rt.alloc(), &LOOKUP, refusal, &note)?.as_str(),
+        "   0: r1 = map 0\n>  2: call 1\n       R1=map_ptr(map=hits)  R2=fp-4  fp-8=????##??\n   3: exit\nrefused V17 at 2\nwrite instead: set all four bytes of the key that r2 points to, within the stack: an unsigned int\n"
+    );
+    Ok(())
+}
+
+#[rattlefmt::skip]
+const SPLIT_LOAD: [u8; 8] = [
+    0x79, 0xa0, 0xf4, 0xff, 0, 0, 0, 0, // r0 = *(u64 *)(r10 -12)
+];
+
+#[test]
+fn a_load_of_two_slots(rt: HostRuntime) -> Result<(), Fail> {
+    let mut note = Note::entry(rt.alloc());
+    note.keep(62, Val::MaybeValue { m: 1, id: 6 });
+    let refusal = Refusal {
+        cause: Cause::Stack,
+        pc: 0,
+    };
+    assert_eq!(rt;
+        text(rt.alloc(), &SPLIT_LOAD, refusal, &note)?.as_str(),
+        ">  0: r0 = *(u64 *)(r10 -12)\n       R10=fp0  fp-16=map_value_or_null(id=6,map=1)  fp-8=????????\nrefused V11 at 0\nwrite instead: store these bytes first, within the 512 bytes below r10\n"
+    );
+    Ok(())
+}
+
+#[rattlefmt::skip]
+const STORE: [u8; 8] = [
+    0x73, 0x21, 0, 0, 0, 0, 0, 0, // *(u8 *)(r1 +0) = r2
+];
+
+#[test]
+fn a_store_through_a_number(rt: HostRuntime) -> Result<(), Fail> {
+    let mut note = Note::entry(rt.alloc());
+    note.set_register(1, Val::FULL);
+    note.set_register(2, Val::Num { lo: 0, hi: 60 });
+    let refusal = Refusal {
+        cause: Cause::NoPointer,
+        pc: 0,
+    };
+    assert_eq!(rt;
+        text(rt.alloc(), &STORE, refusal, &note)?.as_str(),
+        ">  0: *(u8 *)(r1 +0) = r2\n       R1=scalar()  R2=scalar(umin=0,umax=60)\nrefused V9 at 0\nwrite instead: only add to an address and subtract from it, in 64 bits: constants, or to a packet's address a number of at most 65535\n"
+    );
+    Ok(())
+}
+
+#[rattlefmt::skip]
+const FRAME: [u8; 8] = [
+    0xbf, 0x1a, 0, 0, 0, 0, 0, 0, // r10 = r1
+];
+
+#[test]
+fn a_write_of_the_frame_pointer(rt: HostRuntime) -> Result<(), Fail> {
+    let refusal = Refusal {
+        cause: Cause::FramePointer,
+        pc: 0,
+    };
+    assert_eq!(rt;
+        text(rt.alloc(), &FRAME, refusal, &Note::entry(rt.alloc()))?.as_str(),
+        ">  0: r10 = r1\nrefused V8 at 0\nwrite instead: copy r10 to another register, and change the copy\n"
+    );
+    Ok(())
+}
+
+#[test]
+fn bytes_of_no_program(rt: HostRuntime) -> Result<(), Fail> {
+    let refusal = Refusal {
+        cause: Cause::Register,
+        pc: 7,
+    };
+    assert_eq!(rt;
+        undecoded_text(rt.alloc(), refusal)?.as_str(),
+        "refused V3 at 7\nwrite instead: a register from r0 to r10\n"
+    );
+    Ok(())
+}
+
+const ADD: Insn = Insn::AddCounter {
+    fetch: false,
+    dst: Register::R0,
+    src: Register::R1,
+    off: 0,
+};
+
+const COUNT: Insn = Insn::Stx {
+    size: Size::Double,
+    dst: Register::R0,
+    src: Register::R1,
+    off: 0,
+};
+
+#[test]
+fn advice_by_the_address(rt: HostRuntime) -> Result<(), Fail> {
+    let mut note = Note::entry(rt.alloc());
+    note.set_register(0, Val::Value { m: 0 });
+    assert_eq!(rt;
+        advice(Cause::MapAccess, Some(COUNT), Some(&note)),
+        "add to the counter in one step, as __sync_fetch_and_add: a store loses what another queue counts"
+    );
+    note.set_register(0, Val::Map { m: 0 });
+    assert_eq!(rt;
+        advice(Cause::MapAccess, Some(ADD), Some(&note)),
+        "look a key up first: the reference to a map is no address"
+    );
+    note.set_register(0, Val::PktEnd);
+    assert_eq!(rt;
+        advice(Cause::NoPointer, Some(COUNT), Some(&note)),
+        "access the packet through data: data_end serves comparisons alone"
+    );
+    Ok(())
+}
