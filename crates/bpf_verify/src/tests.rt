@@ -10,6 +10,7 @@ mod beginnings;
 mod far;
 mod flow;
 mod full;
+mod growth;
 mod small;
 
 fn answer(alloc: Global, bytes: &[u8], shapes: &[MapShape]) -> Result<Verified, Refusal>
