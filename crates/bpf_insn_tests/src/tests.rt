@@ -1,4 +1,5 @@
 mod arithmetic;
 mod encoding;
+mod growth;
 mod prefixes;
 mod spelling;

@@ -1,4 +1,5 @@
 mod eight_threads;
+mod growth;
 mod seats;
 mod totals;
 mod two_threads;

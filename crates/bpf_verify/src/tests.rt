@@ -10,6 +10,7 @@ mod beginnings;
 mod far;
 mod flow;
 mod full;
+mod growth;
 mod notes;
 mod small;
 

@@ -1,5 +1,6 @@
 mod beginnings;
 mod faults;
+mod growth;
 mod setups;
 
 /// Settings of forty lines, with every key.

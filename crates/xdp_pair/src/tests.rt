@@ -3,5 +3,6 @@
 mod comparing;
 mod ending;
 mod fixtures;
+mod growth;
 mod meeting;
 mod rows;

@@ -1,3 +1,4 @@
+mod growth;
 mod merges;
 mod pages;
 mod programs;

@@ -1,6 +1,7 @@
 mod buses;
 mod entries;
 mod fixtures;
+mod growth;
 mod mappings;
 mod tables;
 mod threads;
