@@ -1,7 +1,7 @@
 //! The note of a refusal.
 use crate::tests::{add_slots, explained};
-use crate::{MapShape, lost_at};
-use bpf_insn::Register;
+use crate::{Lost, MapShape, explain, lost_at};
+use bpf_insn::{Register, decode};
 use bpf_note::{Note, Val};
 use std::alloc::Global;
 use std::test::Fail;
@@ -105,19 +105,30 @@ fn the_first_of_two_refused_notes(rt: HostRuntime) -> Result<(), Fail> {
     Ok(())
 }
 
+/// Where a register of a program without maps was an address last, before the refusal.
+fn lost(alloc: Global, bytes: &[u8], register: Register) -> Result<Option<Lost>, Fail> {
+    let Ok(code) = decode(alloc, bytes) else {
+        return Err("no code".into());
+    };
+    match explain(alloc, code, &[]) {
+        Ok(_) => Err("no refusal".into()),
+        Err(refused) => match refused.note {
+            None => Err("no note".into()),
+            Some(_) => Ok(lost_at(alloc, &refused.code, &[], refused.refusal.pc, register)?),
+        },
+    }
+}
+
 #[test]
 fn the_slot_that_lost_an_address(rt: HostRuntime) -> Result<(), Fail> {
-    let alloc = rt.alloc();
-    let mut bytes = Vec::new(alloc);
+    let mut bytes = Vec::new(rt.alloc());
     add_slots(&mut bytes, &WIDE_OFFSET)?;
-    let refused = explained(alloc, &bytes, &[])?.ok_or("no refusal")?;
-    if refused.note.is_none() {
-        return Err("no note".into());
+    match lost(rt.alloc(), &bytes, Register::R1)? {
+        None => Err("nothing lost".into()),
+        Some(lost) => {
+            assert_eq!(rt; lost.pc, 7);
+            assert_eq!(rt; lost.note.register(1), Val::Pkt { id: 0xffff, off: 0 });
+            Ok(())
+        }
     }
-    let pc = refused.refusal.pc;
-    let lost = lost_at(alloc, &refused.code, &[], pc, Register::R1).ok();
-    let lost = lost.flatten().ok_or("nothing lost")?;
-    assert_eq!(rt; lost.pc, 7);
-    assert_eq!(rt; lost.note.register(1), Val::Pkt { id: 0xffff, off: 0 });
-    Ok(())
 }

@@ -6,7 +6,7 @@ use Rattle.bpf_note.specs.Facts.{Facts}
 use Rattle.bpf_note.specs.Parts.{facts}
 use Rattle.bpf_verify.specs.FirstRefusal.{IsStructured}
 use Rattle.bpf_verify.specs.Lost.{IsLastWrite, ComesWith, Loses}
-use Rattle.bpf_verify.proofs.AnswerLemmas.{comes_once}
+use Rattle.bpf_verify.proofs.ComeLemmas.{comes_once}
 use Rattle.bpf_verify.proofs.LostLemmas.{writes_begins, one_write}
 use Rattle.bpf_verify.proofs.PassingLemmas.{begun_inside}
 use Rattle.bpf_verify.proofs.lost.lost_at.Goals as goal

@@ -5,7 +5,7 @@ use Rattle.bpf_note.specs.Parts.{facts}
 use Rattle.bpf_verify.specs.Edges.{IsPassOrder}
 use Rattle.bpf_verify.specs.Gathered.{IsFirstCause}
 use Rattle.bpf_verify.specs.Tables.{facts_at}
-use Rattle.bpf_verify.proofs.AnswerLemmas.{comes_inside, comes_before}
+use Rattle.bpf_verify.proofs.ComeLemmas.{comes_inside, comes_before}
 use Rattle.bpf_verify.proofs.FollowLemmas.{list_at}
 use Rattle.bpf_verify.proofs.LostLemmas.{met_memory, met_rule, away_next}
 use Rattle.bpf_verify.proofs.PassingLemmas.{passing_first, passing_with, passing_comes, list_there, order_begins, begun_inside}
