@@ -111,18 +111,17 @@ fn first_lost(
     shapes: &[MapShape],
     at: u32,
     register: Register,
-    list: Vec<Note>,
+    mut notes: Vec<Note>,
 ) -> Result<Option<Note>, Cause>
     requires laid { IsCode code.now }
     requires structured { IsStructured code.now (length shapes.now) }
     requires there { at < length code.now }
     requires begins { begins (slice_get code.now at) ≡ true }
-    ensures there { IfOk result (λ o. IfSome o (λ n. Contains (map facts list.items) (facts n))) }
+    ensures there { IfOk result (λ o. IfSome o (λ n. Contains (map facts notes.items) (facts n))) }
     ensures loses { IfOk result (λ o. IfSome o (λ n. Loses code.now shapes.now at (number register) (facts n))) }
-    ensures none { IfOk result (λ o. IfNone o ((n : Facts) → Contains (map facts list.items) n → Loses code.now shapes.now at (number register) n → ⊥)) }
+    ensures none { IfOk result (λ o. IfNone o ((n : Facts) → Contains (map facts notes.items) n → Loses code.now shapes.now at (number register) n → ⊥)) }
     ensures err { IfErr result (λ c. c ≡ Memory) }
 {
-    let mut notes = list;
     for (i, note) in notes.iter().enumerate() {
         if loses(alloc, code, shapes, at, register, note)? {
             return Ok(Some(notes.swap_remove(i)));
