@@ -135,7 +135,7 @@ module _ (code : List Insn) (shapes : List Shape) where
       agree_below zero j h a b inside = absurd (omega arith)
       agree_below (suc n) j h a b inside = agree_at j a b inside (λ i l. agree_below n i (omega arith) (omega arith) (omega arith) (omega arith))
 
-      agree : (j : ℕ) → j ≤ k → j ≤ k' → j < length order → notes (get_or order j 0) ≡ notes' (get_or order j 0)
+      pub agree : (j : ℕ) → j ≤ k → j ≤ k' → j < length order → notes (get_or order j 0) ≡ notes' (get_or order j 0)
       agree j a b inside = agree_below (suc j) j (omega arith) a b inside
 
   allowed_all : (pc : ℕ) (ns : List Facts) (c : Cause) → AreAllowed code shapes pc ns → IsFirstCause code shapes pc ns c → ⊥
@@ -151,7 +151,7 @@ module _ (code : List Insn) (shapes : List Shape) where
   one_cause pc (n ∷ ns) c c' (inr (h, f)) (inr (k, g)) = one_cause pc ns c c' f g
 
 -- the parts of an order
-front_of : (order before rest : List ℕ) (pc : ℕ) → order ≡ before ++ pc ∷ rest → (take (length before) order ≡ before) × (length before < length order) × (get_or order (length before) 0 ≡ pc)
+pub front_of : (order before rest : List ℕ) (pc : ℕ) → order ≡ before ++ pc ∷ rest → (take (length before) order ≡ before) × (length before < length order) × (get_or order (length before) 0 ≡ pc)
 front_of order before rest pc e = subst (λ (xs : List ℕ). (take (length before) xs ≡ before) × (length before < length xs) × (get_or xs (length before) 0 ≡ pc)) (sym e) (by before)
   where
     by : (before : List ℕ) → (take (length before) (before ++ pc ∷ rest) ≡ before) × (length before < length (before ++ pc ∷ rest)) × (get_or (before ++ pc ∷ rest) (length before) 0 ≡ pc)
@@ -159,7 +159,7 @@ front_of order before rest pc e = subst (λ (xs : List ℕ). (take (length befor
     by (x ∷ xs) = let r = by xs in (ap (λ (ys : List ℕ). x ∷ ys) r.0, (let l = r.1 in omega (arith, l)), r.2)
 
 -- a pass that stopped, its order cut by a number
-record Cut (code : List Insn) (shapes : List Shape) (order : List ℕ) (pc : ℕ) (cause : Cause) : Type 0 where
+pub record Cut (code : List Insn) (shapes : List Shape) (order : List ℕ) (pc : ℕ) (cause : Cause) : Type 0 where
   pub at : ℕ
   pub low : at < length order
   pub here : get_or order at 0 ≡ pc
@@ -169,7 +169,7 @@ record Cut (code : List Insn) (shapes : List Shape) (order : List ℕ) (pc : ℕ
   pub refused : IsFirstCause code shapes pc (notes pc) cause
 
 module _ (code : List Insn) (shapes : List Shape) (laid : IsCode code) (structured : IsStructured code (length shapes)) where
-  same_pass : (xs ys : List ℕ) → IsPassOrder code xs → IsPassOrder code ys → xs ≡ ys
+  pub same_pass : (xs ys : List ℕ) → IsPassOrder code xs → IsPassOrder code ys → xs ≡ ys
   same_pass xs ys a b = one_order a.takes a.whole b.takes b.whole
 
   cut_of : (order : List ℕ) → IsPassOrder code order → (pc : ℕ) (cause : Cause) → IsStopped code shapes pc cause → Cut code shapes order pc cause
@@ -187,7 +187,7 @@ module _ (code : List Insn) (shapes : List Shape) (laid : IsCode code) (structur
 
   module _ (order : List ℕ) (is : IsPassOrder code order) where
     -- a pass that took more slots allowed the notes of this one
-    passed_by : (pc : ℕ) (cause : Cause) (c : Cut code shapes order pc cause) (k : ℕ) (notes : ℕ → List Facts) → c.at < k → AreNotes code shapes (take k order) notes → ((p : ℕ) → Contains (take k order) p → AreAllowed code shapes p (notes p)) → ⊥
+    pub passed_by : (pc : ℕ) (cause : Cause) (c : Cut code shapes order pc cause) (k : ℕ) (notes : ℕ → List Facts) → c.at < k → AreNotes code shapes (take k order) notes → ((p : ℕ) → Contains (take k order) p → AreAllowed code shapes p (notes p)) → ⊥
     passed_by pc cause c k notes low are ok =
         let same : c.notes (get_or order c.at 0) ≡ notes (get_or order c.at 0) = agree code shapes order laid structured is c.notes notes c.at k c.are_notes are c.at (omega arith) (omega arith) c.low in
         let mine : c.notes pc ≡ notes pc = subst (λ (q : ℕ). c.notes q ≡ notes q) c.here same in

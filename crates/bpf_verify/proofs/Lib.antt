@@ -21,3 +21,5 @@ mod RefusalLemmas
 mod UnsetLemmas
 mod UnwrittenLemmas
 mod AnswerLemmas
+mod ComeLemmas
+mod LostLemmas

@@ -70,8 +70,8 @@ pub fn explain(alloc: Global, code: Code, shapes: &[MapShape]) -> Result<Verifie
     ensures refused { IfErr result (λ e. IsRefusal code shapes.now e.refusal.cause e.refusal.pc) }
     ensures there { IfErr result (λ e. IsSome e.note ↔ IsRuleCause e.refusal.cause) }
     ensures note { IfErr result (λ e. IfSome e.note (λ n. IsStoppedBy code shapes.now e.refusal.pc e.refusal.cause (facts n))) }
-    ensures structured { IfErr result (λ e. IfSome e.note (λ _. IsStructured code (length shapes.now))) }
-    ensures ordered { IfErr result (λ e. IfSome e.note (λ _. IsOrdered code)) }
+    ensures structured { IfErr result (λ e. IfSome e.note (λ _. IsStructured e.code (length shapes.now))) }
+    ensures ordered { IfErr result (λ e. IfSome e.note (λ _. IsOrdered e.code)) }
 {
     match both_passes(alloc, code.insns(), shapes) {
         Ok(maps) => Ok(Verified::of(code, maps)),

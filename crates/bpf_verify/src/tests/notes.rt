@@ -1,6 +1,7 @@
 //! The note of a refusal.
-use crate::MapShape;
 use crate::tests::{add_slots, explained};
+use crate::{Lost, MapShape, explain, lost_at};
+use bpf_insn::{Register, decode};
 use bpf_note::{Note, Val};
 use std::alloc::Global;
 use std::test::Fail;
@@ -102,4 +103,32 @@ fn the_first_of_two_refused_notes(rt: HostRuntime) -> Result<(), Fail> {
     let note = refused_note(rt.alloc(), &BOTH_OF_TWO)?;
     assert_eq!(rt; note.register(3), Val::Num { lo: 2, hi: 2 });
     Ok(())
+}
+
+/// Where a register of a program without maps was an address last, before the refusal.
+fn lost(alloc: Global, bytes: &[u8], register: Register) -> Result<Option<Lost>, Fail> {
+    let Ok(code) = decode(alloc, bytes) else {
+        return Err("no code".into());
+    };
+    match explain(alloc, code, &[]) {
+        Ok(_) => Err("no refusal".into()),
+        Err(refused) => match refused.note {
+            None => Err("no note".into()),
+            Some(_) => Ok(lost_at(alloc, &refused.code, &[], refused.refusal.pc, register)?),
+        },
+    }
+}
+
+#[test]
+fn the_slot_that_lost_an_address(rt: HostRuntime) -> Result<(), Fail> {
+    let mut bytes = Vec::new(rt.alloc());
+    add_slots(&mut bytes, &WIDE_OFFSET)?;
+    match lost(rt.alloc(), &bytes, Register::R1)? {
+        None => Err("nothing lost".into()),
+        Some(lost) => {
+            assert_eq!(rt; lost.pc, 7);
+            assert_eq!(rt; lost.note.register(1), Val::Pkt { id: 0xffff, off: 0 });
+            Ok(())
+        }
+    }
 }
