@@ -13,6 +13,9 @@ mod memory;
 mod point;
 mod rule;
 mod successors;
+#[cfg(test)]
+mod tests;
+
 pub use graph::{jump_target, next_slot, reads, writes};
 pub use laws::{
     frame_pointer_exactly_where_written, labels_fit_their_instruction,

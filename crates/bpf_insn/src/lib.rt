@@ -20,6 +20,8 @@ mod register;
 mod size;
 mod slot;
 mod swap_kind;
+#[cfg(test)]
+mod tests;
 mod text;
 mod text_parts;
 mod truncated;

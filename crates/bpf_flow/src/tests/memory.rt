@@ -1,7 +1,7 @@
 //! Loads and stores: the stack, the context and the packet.
 
+use crate::after;
 use crate::tests::steps::{cause, exactly, load, load_signed, next, store, store_five};
-use bpf_flow::after;
 use bpf_insn::{Cause, Insn, Register, Size};
 use bpf_note::{Note, PACKET_ID, Val};
 use std::test::Fail;

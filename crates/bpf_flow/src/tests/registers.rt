@@ -1,6 +1,6 @@
 //! Registers that are read and written, and slots that follow.
 
-use bpf_flow::{jump_target, next_slot, reads, writes};
+use crate::{jump_target, next_slot, reads, writes};
 use bpf_insn::{AluOp, Insn, Operand, Register};
 
 /// `r2 op= r3`.

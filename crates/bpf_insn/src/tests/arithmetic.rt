@@ -2,7 +2,7 @@
 //! by -1, zero divisors), R for RFC 9669 section 4, K for values worked by hand from it, P for Python 3's integers reduced
 //! modulo 2 ^ 64 or 2 ^ 32.
 
-use bpf_insn::{
+use crate::{
     AluOp, Condition, Size, SwapKind, Width, alu, extend, holds, move_extended, negate, swap,
 };
 

@@ -1,6 +1,6 @@
 //! Refusals, at the shortest bytes that give each; and each cut of a program.
 
-use bpf_insn::{Cause, Refusal, decode, refusal_of};
+use crate::{Cause, Refusal, decode, refusal_of};
 use std::alloc::Global;
 use std::test::Fail;
 

@@ -1,6 +1,6 @@
 //! Single steps at slot 7, for the tests.
 
-use bpf_flow::{Successors, after};
+use crate::{Successors, after};
 use bpf_insn::{AluOp, Cause, Condition, Insn, Operand, Register, Size};
 use bpf_note::{MapShape, Note, Val};
 use std::alloc::Global;

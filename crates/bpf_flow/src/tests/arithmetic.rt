@@ -3,7 +3,7 @@
 ghost use Rattle.bpf_flow.specs.Rule.{IsRuled};
 
 use crate::tests::steps::{alu, exactly, next};
-use bpf_flow::{Successors, after};
+use crate::{Successors, after};
 use bpf_insn::{AluOp, Insn, Operand, Register, Size, SwapKind, Width};
 use bpf_note::{MapShape, Note, PACKET_ID, Val};
 use std::test::Fail;

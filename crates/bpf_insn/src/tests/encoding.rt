@@ -2,7 +2,7 @@
 
 ghost use Rattle.bpf_insn.specs.Spelling.{HasSpelling};
 
-use bpf_insn::{AluOp, Condition, Insn, Operand, Register, Size, SwapKind, Width, decode, encode};
+use crate::{AluOp, Condition, Insn, Operand, Register, Size, SwapKind, Width, decode, encode};
 
 /// Whether the bytes of an instruction are decoded to it, and the others are 0.
 fn is_decoded_again(rt: &HostRuntime, insn: Insn) -> bool

@@ -1,7 +1,7 @@
 //! What the edges of a conditional jump teach of numbers and of lookups.
 
 use crate::tests::steps::{edges, exactly};
-use bpf_flow::{Successors, after};
+use crate::{Successors, after};
 use bpf_insn::{Condition, Insn, Operand, Register};
 use bpf_note::{Note, Val};
 use std::test::Fail;

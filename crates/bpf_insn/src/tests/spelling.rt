@@ -3,7 +3,7 @@
 //! 4.2 for the unconditional swap, section 4.3 for JSET and the jump by the immediate, sections 5.1 to 5.4 for ST, MEMSX,
 //! FETCH and map references. The texts are in the notation of the kernel's disasm.c.
 
-use bpf_insn::decode;
+use crate::decode;
 use std::alloc::Global;
 use std::test::Fail;
 

@@ -1,7 +1,7 @@
 //! Lookups and counters.
 
 use crate::tests::steps::{add, call, cause, exactly, next};
-use bpf_flow::{Successors, after};
+use crate::{Successors, after};
 use bpf_insn::{Cause, Insn, Register, Size};
 use bpf_note::{MapShape, Note, PACKET_ID, Val};
 use std::alloc::Global;

@@ -2,7 +2,7 @@
 
 ghost use Rattle.bpf_flow.specs.Rule.{IsRuled};
 
-use bpf_flow::{Successor, Successors, after};
+use crate::{Successor, Successors, after};
 use bpf_insn::{AluOp, Cause, Insn, Operand, Refusal, Register, Size, decode};
 use bpf_note::{MapShape, Note, Val};
 use std::alloc::Global;

@@ -1,5 +1,0 @@
-//! Tests of [`bpf_flow`] by what it makes public. They are a crate of their own so that the gate proves bpf_flow once.
-#![tactic(auto)]
-
-#[cfg(test)]
-mod tests;
