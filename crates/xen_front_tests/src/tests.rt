@@ -2,6 +2,7 @@
 
 mod example;
 mod fixtures;
+mod growth;
 mod hostile;
 mod model;
 mod random;
