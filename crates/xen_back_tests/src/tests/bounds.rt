@@ -1,6 +1,7 @@
 //! Turns whose frontend answers at random.
 
-use super::fixtures::{Bench, SENDS};
+use super::fixtures::SENDS;
+use crate::bench::Bench;
 use bpf_vm::Buffer;
 use std::process::Abort;
 use std::test::Fail;

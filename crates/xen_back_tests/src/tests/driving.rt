@@ -3,9 +3,10 @@
 ghost use Rattle.std.specs.Prelude.{◌≡◌, [], length, IfOk};
 ghost use Rattle.xen_back.specs.Queues.{IsReady, wiring_of};
 
-use super::fixtures::{Bench, FRAMES, PASSES, Seen, feed_turn, seated, seen_of, turn_by_driver};
+use super::fixtures::{PASSES, Seen, feed_turn, seen_of, turn_by_driver};
 use super::kind::{Kind, kind_of};
 use super::slots::slot;
+use crate::bench::{Bench, FRAMES, seated};
 use bpf_vm::Buffer;
 use std::alloc::Global;
 use std::test::Fail;

@@ -1,10 +1,11 @@
 //! Turns whose program decides.
 
 use super::fixtures::{
-    Bench, Seen, feed_turn, packet_of, turn, turn_by_driver, turn_by_hand, write, writes_to,
+    Seen, feed_turn, packet_of, turn, turn_by_driver, turn_by_hand, write, writes_to,
 };
 use super::kind::{Kind, kind_of};
 use super::slots::{STARTS, slot, tx};
+use crate::bench::Bench;
 use bpf_note::MapShape;
 use bpf_vm::Buffer;
 use std::alloc::Global;

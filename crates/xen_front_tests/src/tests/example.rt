@@ -1,6 +1,6 @@
 //! The example of docs/NETFRONT.md.
 
-use super::fixtures::Bench;
+use crate::bench::Bench;
 use std::test::Fail;
 use xen_front::RxTurn;
 use xen_page::ScriptBus;

@@ -1,27 +1,19 @@
 //! Two fronts that are played the same calls and answers: one by `drive_front` over a bus that answers from a list, one by
 //! `want` and `feed`.
 
-ghost use Rattle.std.specs.Prelude.{◌≡◌, IfOk};
+ghost use Rattle.std.specs.Prelude.{◌≡◌};
 ghost use Rattle.xen_front.specs.Fronts.{wiring_of};
 
+use crate::bench::{Bench, FRAMES};
 use std::alloc::{AllocError, Global};
 use std::test::Fail;
-use xen_front::{Buffer, Front, FrontDesc, Halt, PollRefusal, PostRefusal, RxTurn, SendRefusal};
-use xen_page::{Access, Owners, ScriptBus, Table};
+use xen_front::{Front, Halt, PollRefusal, PostRefusal, RxTurn, SendRefusal};
+use xen_page::{Access, ScriptBus};
 use xen_ring::{Port, Ports};
 use xen_steps::{Answer, Want};
 
 /// Both indices at which a ring may begin: that of a new ring, and the last one before it wraps.
 pub const STARTS: [u32; 2] = [0, 0xFFFF_FFFF];
-
-/// Frame 0 is the back's, 1 and 2 are the front's table, 17 and 18 its rings, 19 to 274 its tx buffers, 275 to 530 its rx
-/// buffers. Reference g grants frame 17 + g.
-const FRAMES: u32 = 531;
-
-/// The frames of the rings.
-pub const TX: u32 = 17;
-
-pub const RX: u32 = 18;
 
 /// The bytes 00 to 0d.
 pub const SMALL: [u8; 14] = [0, 1, 2, 3, 4, 5, 6, 7, 8, 9, 10, 11, 12, 13];
@@ -100,62 +92,8 @@ impl Played {
     }
 }
 
-/// The buffers with the references from `first` on.
-pub fn buffers(first: u16) -> [Buffer; 256] {
-    let mut buffers = [Buffer { gref: 0, frame: 0 }; 256];
-    let mut gref = u32::from(first);
-    for buffer in buffers.iter_mut() {
-        *buffer = Buffer {
-            gref,
-            frame: gref.saturating_add(17),
-        };
-        gref = gref.saturating_add(1);
-    }
-    buffers
-}
-
-/// What fronts stand on: their table, in frames 1 and 2, and their buffers.
-#[derive(Drop)]
-pub struct Bench {
-    alloc: Global,
-    table: Table,
-    tx: [Buffer; 256],
-    rx: [Buffer; 256],
-}
-
 impl Bench {
-    pub fn make(alloc: Global) -> Result<Bench, Fail> {
-        let owners = Owners::make(alloc, &[1, 1, 1])?;
-        Ok(Bench {
-            alloc,
-            table: Table::make(&owners, 1, &[1, 2]).ok_or("a table")?,
-            tx: buffers(2),
-            rx: buffers(258),
-        })
-    }
-
-    /// A front between activities.
-    pub fn front(&self, start: u32) -> Result<Front<'_>, Fail>
-        ensures { IfOk result (λ front. (wiring_of front).frames ≡ 531) }
-    {
-        let desc = FrontDesc {
-            frames: FRAMES,
-            tx_frame: TX,
-            rx_frame: RX,
-            table: &self.table,
-            tx: &self.tx,
-            rx: &self.rx,
-            back: 0,
-            port: Port::of(1).ok_or("a port")?,
-            start,
-        };
-        if !desc.is_wired() {
-            return Err("not wired".into());
-        }
-        Ok(Front::make(self.alloc, desc)?)
-    }
-
-    /// Two of them.
+    /// Two fronts between activities.
     pub fn fronts(&self, start: u32) -> Result<Fronts<'_>, Fail> {
         Ok(Fronts {
             alloc: self.alloc,

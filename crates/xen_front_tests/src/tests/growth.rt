@@ -1,7 +1,7 @@
 //! A front, asked for again after it was refused memory. `tools/refuse-growths` refuses each allocation of this test in
 //! turn, and counts the runs that print `refused`.
 
-use super::fixtures::Bench;
+use crate::bench::Bench;
 use std::alloc::Global;
 use std::test::Fail;
 

@@ -1,6 +1,7 @@
 //! What a front does before a back that breaks the protocol.
 
-use super::fixtures::{Bench, Call, Fronts, Got, Played, READ, RX, SMALL, STARTS, TX, WRITE};
+use super::fixtures::{Call, Fronts, Got, Played, READ, SMALL, STARTS, WRITE};
+use crate::bench::{Bench, RX, TX};
 use std::alloc::Global;
 use std::test::Fail;
 use xen_front::{Halt, PollRefusal, PostRefusal, SendRefusal};

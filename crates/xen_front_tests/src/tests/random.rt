@@ -1,7 +1,8 @@
 //! Calls and answers that look random, beside a model by lists.
 
-use super::fixtures::{Bench, Call, Fronts, Got};
+use super::fixtures::{Call, Fronts, Got};
 use super::model::{Model, Poll, Random};
+use crate::bench::Bench;
 use std::alloc::Global;
 use std::test::Fail;
 

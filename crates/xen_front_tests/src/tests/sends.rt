@@ -1,6 +1,7 @@
 //! Sends, posts, and the polls of an honest back.
 
-use super::fixtures::{Bench, Call, Fronts, Got, READ, RX, SMALL, STARTS, TX, WRITE};
+use super::fixtures::{Call, Fronts, Got, READ, SMALL, STARTS, WRITE};
+use crate::bench::{Bench, RX, TX};
 use std::process::Abort;
 use std::test::Fail;
 use xen_front::{PollRefusal, PostRefusal, SendRefusal};

@@ -1,0 +1,74 @@
+//! What fronts of the tests stand on.
+ghost use Rattle.std.specs.Prelude.{◌≡◌, IfOk};
+ghost use Rattle.xen_front.specs.Fronts.{wiring_of};
+
+use std::alloc::Global;
+use std::test::Fail;
+use xen_front::{Buffer, Front, FrontDesc};
+use xen_page::{Owners, Table};
+use xen_ring::Port;
+
+/// Frame 0 is the back's, 1 and 2 are the front's table, 17 and 18 its rings, 19 to 274 its tx buffers, 275 to 530 its rx
+/// buffers. Reference g grants frame 17 + g.
+pub const FRAMES: u32 = 531;
+
+/// The frames of the rings.
+pub const TX: u32 = 17;
+
+pub const RX: u32 = 18;
+
+/// The buffers with the references from `first` on.
+pub fn buffers(first: u16) -> [Buffer; 256] {
+    let mut buffers = [Buffer { gref: 0, frame: 0 }; 256];
+    let mut gref = u32::from(first);
+    for buffer in buffers.iter_mut() {
+        *buffer = Buffer {
+            gref,
+            frame: gref.saturating_add(17),
+        };
+        gref = gref.saturating_add(1);
+    }
+    buffers
+}
+
+/// What fronts stand on: their table, in frames 1 and 2, and their buffers.
+#[derive(Drop)]
+pub struct Bench {
+    pub(crate) alloc: Global,
+    table: Table,
+    tx: [Buffer; 256],
+    rx: [Buffer; 256],
+}
+
+impl Bench {
+    pub fn make(alloc: Global) -> Result<Bench, Fail> {
+        let owners = Owners::make(alloc, &[1, 1, 1])?;
+        Ok(Bench {
+            alloc,
+            table: Table::make(&owners, 1, &[1, 2]).ok_or("a table")?,
+            tx: buffers(2),
+            rx: buffers(258),
+        })
+    }
+
+    /// A front between activities.
+    pub fn front(&self, start: u32) -> Result<Front<'_>, Fail>
+        ensures { IfOk result (λ front. (wiring_of front).frames ≡ 531) }
+    {
+        let desc = FrontDesc {
+            frames: FRAMES,
+            tx_frame: TX,
+            rx_frame: RX,
+            table: &self.table,
+            tx: &self.tx,
+            rx: &self.rx,
+            back: 0,
+            port: Port::of(1).ok_or("a port")?,
+            start,
+        };
+        if !desc.is_wired() {
+            return Err("not wired".into());
+        }
+        Ok(Front::make(self.alloc, desc)?)
+    }
+}
