@@ -2,7 +2,7 @@
 ghost use Rattle.std.specs.Prelude.{◌≡◌, IfOk};
 ghost use Rattle.xen_front.specs.Fronts.{wiring_of};
 
-use std::alloc::Global;
+use std::alloc::{AllocError, Global};
 use std::test::Fail;
 use xen_front::{Buffer, Front, FrontDesc};
 use xen_page::{Owners, Table};
@@ -41,21 +41,27 @@ pub struct Bench {
 }
 
 impl Bench {
-    pub fn make(alloc: Global) -> Result<Bench, Fail> {
+    pub fn make(alloc: Global) -> Result<Bench, AllocError> {
         let owners = Owners::make(alloc, &[1, 1, 1])?;
+        let Some(table) = Table::make(&owners, 1, &[1, 2]) else {
+            unreachable!()
+        };
         Ok(Bench {
             alloc,
-            table: Table::make(&owners, 1, &[1, 2]).ok_or("a table")?,
+            table,
             tx: buffers(2),
             rx: buffers(258),
         })
     }
 
-    /// A front between activities.
-    pub fn front(&self, start: u32) -> Result<Front<'_>, Fail>
-        ensures { IfOk result (λ front. (wiring_of front).frames ≡ 531) }
+    /// What a front is made with.
+    pub fn desc(&self, start: u32) -> FrontDesc<'_>
+        ensures { result.frames ≡ 531 }
     {
-        let desc = FrontDesc {
+        let Some(port) = Port::of(1) else {
+            unreachable!()
+        };
+        FrontDesc {
             frames: FRAMES,
             tx_frame: TX,
             rx_frame: RX,
@@ -63,9 +69,16 @@ impl Bench {
             tx: &self.tx,
             rx: &self.rx,
             back: 0,
-            port: Port::of(1).ok_or("a port")?,
+            port,
             start,
-        };
+        }
+    }
+
+    /// A front between activities.
+    pub fn front(&self, start: u32) -> Result<Front<'_>, Fail>
+        ensures { IfOk result (λ front. (wiring_of front).frames ≡ 531) }
+    {
+        let desc = self.desc(start);
         if !desc.is_wired() {
             return Err("not wired".into());
         }
