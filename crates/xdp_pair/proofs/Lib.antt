@@ -1,3 +1,4 @@
 mod ReturnLemmas
 mod SeatLemmas
 mod WiringLemmas
+mod SendingLemmas

@@ -1,3 +1,4 @@
 pub mod Kits
 pub mod Promised
 pub mod Leaving
+pub mod Sending

@@ -1,5 +1,6 @@
 //! The packets that a front has still to send.
-ghost use Rattle.std.specs.Prelude.{◌≡◌, length};
+ghost use Rattle.std.specs.Prelude.{◌≡◌, ◌<◌, IsSome, drop, option_map, slice_get};
+ghost use Rattle.xdp_pair.specs.Sending.{IsNext, left_of, still_to_send};
 
 use xdp_load::Packet;
 
@@ -13,7 +14,9 @@ pub(crate) struct Outbox<'p> {
 }
 
 impl<'p> Outbox<'p> {
-    pub fn new(queue: usize, packets: &'p [Packet]) -> Outbox<'p> {
+    pub fn new(queue: usize, packets: &'p [Packet]) -> Outbox<'p>
+        ensures { still_to_send result ≡ left_of queue 0 packets.now }
+    {
         Outbox {
             queue,
             left: packets,
@@ -22,7 +25,12 @@ impl<'p> Outbox<'p> {
     }
 
     /// The next packet, if one is left.
-    pub fn next(&mut self) -> Option<&'p [u8]> {
+    pub fn next(&mut self) -> Option<&'p [u8]>
+        ensures same { still_to_send self.new ≡ still_to_send self.old }
+        ensures first { option_map (λ b. b.now) result ≡ slice_get (still_to_send self.old) 0 }
+        ensures next { IsNext self.new }
+        ensures counts { IsSome result → self.new.sent < 4294967295 }
+    {
         while let Some((packet, later)) = self.left.split_first() {
             if packet.queue == self.queue && self.sent < packet.times {
                 return Some(packet.bytes.as_slice());
@@ -34,7 +42,9 @@ impl<'p> Outbox<'p> {
     }
 
     /// The next packet was sent, or can't be.
-    pub fn pass(&mut self) {
+    pub fn pass(&mut self)
+        ensures { IsNext self.old → self.old.sent < 4294967295 → still_to_send self.new ≡ drop 1 (still_to_send self.old) }
+    {
         self.sent = self.sent.saturating_add(1);
     }
 }
