@@ -193,7 +193,7 @@ stopped_at code shapes pc i old new n c f at g =
     (λ w. following_takes code shapes pc i old new f n at w)
     (λ e. first_is_cause code shapes pc (old pc) c n (following_stops code shapes pc i old new f n at c e))
 
-fails_err : (c : Cause) (a : Answer) → IsRuleCause c → Fails c a → a ≡ Err c
+pub fails_err : (c : Cause) (a : Answer) → IsRuleCause c → Fails c a → a ≡ Err c
 fails_err Memory a r g = absurd r
 fails_err Length a r g = g
 fails_err Opcode a r g = g
@@ -225,7 +225,7 @@ there_has None x P R there same h = tt
 there_has (Some y) x P R there same h = subst P (sym same) (h (there.0 refl))
 
 -- the list of a slot, taken out of a table
-list_at : (items : List (List Noted)) (pc : ℕ) (here : List Noted) → pc < length items → here ≡ slice_index_or items pc here → facts_at items pc ≡ map facts here
+pub list_at : (items : List (List Noted)) (pc : ℕ) (here : List Noted) → pc < length items → here ≡ slice_index_or items pc here → facts_at items pc ≡ map facts here
 list_at items pc here inside is = ap (map facts) (any_default items pc [] here inside ∙ sym is)
   where
     any_default : {A : Type 0} (xs : List A) (k : ℕ) (d e : A) → k < length xs → slice_index_or xs k d ≡ slice_index_or xs k e

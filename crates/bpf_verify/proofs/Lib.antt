@@ -21,3 +21,4 @@ mod RefusalLemmas
 mod UnsetLemmas
 mod UnwrittenLemmas
 mod AnswerLemmas
+mod LostLemmas

@@ -18,6 +18,7 @@ use Rattle.bpf_verify.specs.Edges.{Edge, Flows, IsPassOrder}
 use Rattle.bpf_verify.specs.Orders.{IsReady, Takes, none, more}
 use Rattle.bpf_verify.specs.Structure.{begins}
 use Rattle.bpf_verify.specs.FirstRefusal.{IsStructured, IsPassed, IsStopped, IsStoppedBy, IsFollowed, IsHalted}
+use Rattle.bpf_verify.specs.Lost.{ComesWith}
 use Rattle.bpf_verify.specs.Tables.{IsMet}
 use Rattle.bpf_verify.proofs.GraphLemmas.{begun}
 use Rattle.bpf_verify.specs.Gathered.{Hears, told, first_notes, AreNotes, AreAllowed, TakesMemory, IsFirstCause, IsFirstRefused}
@@ -174,6 +175,20 @@ module _ (code : List Insn) (shapes : List Shape) (order : List ℕ) (laid : IsC
     pub passing_stops_by : (cause : Cause) (n : Facts) → IsFirstRefused code shapes c (notes c) cause n → IsStoppedBy code shapes c cause n
     unfolding passing_stops
     passing_stops_by cause n h = record { stopped = passing_stops cause (first_is_cause code shapes c (notes c) cause n h); first = h }
+
+    -- the pass comes here
+    pub passing_comes : (list : List Facts) → notes c ≡ list → ComesWith code shapes c list
+    passing_comes list h = record {
+      order = order;
+      is_order = is;
+      before = take i order;
+      rest = drop (i + 1) order;
+      parts = parts_of order i c low at;
+      notes = notes;
+      are_notes = p.are_notes;
+      allowed = p.allowed;
+      here = h;
+    }
 
     -- memory is wanted here
     pub passing_takes : TakesMemory code shapes c (notes c) → IsFollowed code shapes c

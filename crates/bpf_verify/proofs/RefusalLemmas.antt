@@ -47,11 +47,11 @@ insn_cause code shapes pc n c None structured e b h = absurd (cc)
 insn_cause code shapes pc n c (Some i) structured e b h =
     rule_causes i pc n shapes c (ruled_at code (length shapes) pc i structured e (subst (λ (o : Option Insn). begins o ≡ true) (sym e) b)) h
 
-rule_cause : (code : List Insn) (shapes : List Shape) (pc : ℕ) (n : Facts) (c : Cause) → IsStructured code (length shapes) → begins (slice_get code pc) ≡ true → rule_at code shapes pc n ≡ Err c → IsRuleCause c
+pub rule_cause : (code : List Insn) (shapes : List Shape) (pc : ℕ) (n : Facts) (c : Cause) → IsStructured code (length shapes) → begins (slice_get code pc) ≡ true → rule_at code shapes pc n ≡ Err c → IsRuleCause c
 unfolding rule_at
 rule_cause code shapes pc n c structured b h = insn_cause code shapes pc n c (slice_get code pc) structured refl b h
 
-first_cause : (code : List Insn) (shapes : List Shape) (pc : ℕ) (ns : List Facts) (c : Cause) → IsStructured code (length shapes) → begins (slice_get code pc) ≡ true → IsFirstCause code shapes pc ns c → IsRuleCause c
+pub first_cause : (code : List Insn) (shapes : List Shape) (pc : ℕ) (ns : List Facts) (c : Cause) → IsStructured code (length shapes) → begins (slice_get code pc) ≡ true → IsFirstCause code shapes pc ns c → IsRuleCause c
 first_cause code shapes pc [] c structured b h = absurd h
 first_cause code shapes pc (n ∷ ns) c structured b (inl e) = rule_cause code shapes pc n c structured b e
 first_cause code shapes pc (n ∷ ns) c structured b (inr h) = first_cause code shapes pc ns c structured b h.1

@@ -10,3 +10,4 @@ pub mod Consistent
 pub mod Gathered
 pub mod Tables
 pub mod FirstRefusal
+pub mod Lost

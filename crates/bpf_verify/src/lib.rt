@@ -3,6 +3,7 @@
 
 mod graph;
 mod laws;
+mod lost;
 mod note_list;
 mod notes;
 mod slot;
@@ -16,6 +17,7 @@ pub use bpf_insn::{Cause, Refusal};
 pub use bpf_note::MapShape;
 pub use graph::{pass_order_is_unique, pass_order_rises, runs_are_short};
 pub use laws::{faultless_programs_are_accepted, refusals_are_unique};
+pub use lost::{Lost, lost_at};
 pub use verified::Verified;
 pub use verifier::{Explained, explain, verify};
 

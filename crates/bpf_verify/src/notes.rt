@@ -1,6 +1,7 @@
 //! The second pass: what is known at each slot that the flow graph reaches.
-ghost use Rattle.std.specs.Prelude.{◌≡◌, ◌≢◌, ◌<◌, ◌∷◌, [], ℕ, List, true, length, slice_get, vec_len, Ok, OnErr, OnOk, IfOk, IfErr, IsSome, IfSome, ◌↔◌};
+ghost use Rattle.std.specs.Prelude.{◌≡◌, ◌≢◌, ◌<◌, ◌∷◌, [], ℕ, List, true, length, slice_get, vec_len, Ok, OnErr, OnOk, IfOk, IfErr, IsSome, IfSome, IfNone, ◌↔◌, map};
 ghost use Rattle.bpf_insn.specs.Code.{IsCode};
+ghost use Rattle.bpf_insn.specs.declared.refusal.Cause.TheVariants.{Memory};
 ghost use Rattle.bpf_flow.specs.Causes.{IsRuleCause};
 ghost use Rattle.bpf_flow.specs.Edges.{Edges};
 ghost use Rattle.bpf_flow.specs.Gives.{Fails, edges_of, WantsMemory};
@@ -9,12 +10,13 @@ ghost use Rattle.bpf_note.specs.Parts.{facts};
 ghost use Rattle.bpf_verify.specs.Consistent.{IsOrdered};
 ghost use Rattle.bpf_verify.specs.FirstRefusal.{IsStructured, IsPassed, IsHalted, IsStoppedBy};
 ghost use Rattle.bpf_verify.specs.Gathered.{Hears, rule_at, told, first_notes, AreAllowed, TakesMemory, IsFirstCause, IsFirstRefused};
+ghost use Rattle.bpf_verify.specs.Lost.{ComesWith};
 ghost use Rattle.bpf_verify.specs.Structure.{begins};
 ghost use Rattle.bpf_verify.specs.Tables.{facts_at, LeadInside, IsMet};
 
 use crate::graph::pass_order;
 use crate::note_list::NoteList;
-use crate::stopped::Stopped;
+use crate::stopped::{Stopped, is_rule_cause};
 use crate::wanting::wanting;
 use bpf_flow::{Successor, Successors, after};
 use bpf_insn::{Cause, Insn};
@@ -142,4 +144,35 @@ pub(crate) fn second_pass(alloc: Global, code: &[Insn], shapes: &[MapShape]) -> 
         follow(alloc, code, shapes, &mut table, pc)?;
     }
     Ok(())
+}
+
+/// The notes of a slot as the second pass comes to it, if it does. An `Err` is out of memory.
+pub(crate) fn notes_at(
+    alloc: Global,
+    code: &[Insn],
+    shapes: &[MapShape],
+    at: u32,
+) -> Result<Option<Vec<Note>>, Cause>
+    requires laid { IsCode code.now }
+    requires structured { IsStructured code.now (length shapes.now) }
+    requires ordered { IsOrdered code.now }
+    ensures some { IfOk result (λ o. IfSome o (λ v. ComesWith code.now shapes.now at (map facts v.items))) }
+    ensures none { IfOk result (λ o. IfNone o ((list : List Facts) → ComesWith code.now shapes.now at list → ⊥)) }
+    ensures err { IfErr result (λ c. c ≡ Memory) }
+{
+    let order = pass_order(alloc, code)?;
+    let mut table = blank(alloc, code.len())?;
+    for &pc in &order {
+        if pc == at {
+            let list = mem::replace(&mut table[at as usize], NoteList::empty(alloc));
+            return Ok(Some(list.into_notes()));
+        }
+        if let Err(stopped) = follow(alloc, code, shapes, &mut table, pc) {
+            if is_rule_cause(stopped.refusal.cause) {
+                return Ok(None);
+            }
+            return Err(stopped.refusal.cause);
+        }
+    }
+    Ok(None)
 }

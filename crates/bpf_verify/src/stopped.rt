@@ -26,7 +26,7 @@ impl From<Refusal> for Stopped {
 }
 
 /// Whether the rule for an instruction may answer the cause.
-fn is_rule_cause(cause: Cause) -> bool
+pub(crate) fn is_rule_cause(cause: Cause) -> bool
     ensures { IsTrue result ↔ IsRuleCause cause }
 {
     matches!(

@@ -1,6 +1,7 @@
 //! The note of a refusal.
-use crate::MapShape;
 use crate::tests::{add_slots, explained};
+use crate::{MapShape, lost_at};
+use bpf_insn::Register;
 use bpf_note::{Note, Val};
 use std::alloc::Global;
 use std::test::Fail;
@@ -101,5 +102,22 @@ const BOTH_OF_TWO: [[u8; 8]; 6] = [
 fn the_first_of_two_refused_notes(rt: HostRuntime) -> Result<(), Fail> {
     let note = refused_note(rt.alloc(), &BOTH_OF_TWO)?;
     assert_eq!(rt; note.register(3), Val::Num { lo: 2, hi: 2 });
+    Ok(())
+}
+
+#[test]
+fn the_slot_that_lost_an_address(rt: HostRuntime) -> Result<(), Fail> {
+    let alloc = rt.alloc();
+    let mut bytes = Vec::new(alloc);
+    add_slots(&mut bytes, &WIDE_OFFSET)?;
+    let refused = explained(alloc, &bytes, &[])?.ok_or("no refusal")?;
+    if refused.note.is_none() {
+        return Err("no note".into());
+    }
+    let pc = refused.refusal.pc;
+    let lost = lost_at(alloc, &refused.code, &[], pc, Register::R1).ok();
+    let lost = lost.flatten().ok_or("nothing lost")?;
+    assert_eq!(rt; lost.pc, 7);
+    assert_eq!(rt; lost.note.register(1), Val::Pkt { id: 0xffff, off: 0 });
     Ok(())
 }
