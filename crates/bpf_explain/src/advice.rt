@@ -59,7 +59,8 @@ pub(crate) fn lost_advice(address: Val) -> &'static str
         Val::Pkt { .. } =>
             "narrow the number that is added to at most 65535, in 64 bits, and compare the sum with data_end",
         Val::Value { .. } => "make the number the key, or choose among constant places by if",
-        _ => "choose among constant places by if",
+        Val::Stack { .. } => "choose among constant places by if",
+        _ => "keep a copy of the address",
     }
 }
 
