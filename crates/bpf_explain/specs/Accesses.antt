@@ -1,9 +1,10 @@
 -- Through which register an instruction reaches memory.
-use Rattle.std.specs.Prelude.{ℕ, pos, Option, None, Some}
+use Rattle.std.specs.Prelude.{ℕ, pos, Option, None, Some, option_map}
 use Rattle.bpf_insn.specs.Size.{size_bytes}
 use Rattle.bpf_insn.specs.Register.{number}
 use Rattle.bpf_insn.specs.declared.insn.Insn.{Insn}
 use Rattle.bpf_insn.specs.declared.insn.Insn.TheVariants.{Ldx, St, Stx, AddCounter, Call}
+use Rattle.bpf_insn.specs.declared.register.Register.{Register}
 use Rattle.bpf_insn.specs.declared.register.Register.TheVariants.{R2}
 use Rattle.bpf_note.specs.Facts.{Facts}
 use Rattle.bpf_note.specs.declared.val.Val.{Val}
@@ -18,6 +19,10 @@ access_of (Stx size dst src off) = Some (record { base = dst; off = off; bytes =
 access_of (AddCounter fetch dst src off) = Some (record { base = dst; off = off; bytes = 8 })
 access_of (Call helper) = Some (record { base = R2; off = pos 0; bytes = 4 })
 access_of i = None
+
+-- the address's register
+abbrev pub base_of : Insn → Option Register
+base_of i = option_map (λ (a : Access). a.base) (access_of i)
 
 -- what is known of the address
 abbrev pub address_at : Facts → Option Access → Val

@@ -36,6 +36,13 @@ abbrev pub pointer_advice : Val → List ℕ
 pointer_advice val.PktEnd = codes "access the packet through data: data_end serves comparisons alone"
 pointer_advice v = cause_advice NoPointer
 
+-- V9, where the register was an address of this kind before
+abbrev pub lost_advice : Val → List ℕ
+lost_advice (val.Pkt id off) = codes "narrow the number that is added to at most 65535, in 64 bits, and compare the sum with data_end"
+lost_advice (val.Value m) = codes "make the number the key, or choose among constant places by if"
+lost_advice (val.Stack off) = codes "choose among constant places by if"
+lost_advice v = codes "keep a copy of the address"
+
 -- V14: through a map's reference; an add elsewhere than to a counter; a store to a value; or a load
 abbrev pub map_advice : Insn → Val → List ℕ
 map_advice i (val.Map m) = codes "look a key up first: the reference to a map is no address"

@@ -1,16 +1,19 @@
 -- What is printed of a refused program.
 use Rattle.std.specs.Prelude.{ℕ, List, [], ◌++◌, codes, Option, None, Some, Bool, true, false, slice_get, if◌then◌else◌}
+use Rattle.std.specs.Fmt.{decimal}
 use Rattle.bpf_insn.specs.Cause.{refusal_text}
+use Rattle.bpf_insn.specs.Register.{number}
+use Rattle.bpf_insn.specs.declared.register.Register.{Register}
 use Rattle.bpf_insn.specs.declared.insn.Insn.{Insn}
 use Rattle.bpf_insn.specs.declared.refusal.Cause.{Cause}
-use Rattle.bpf_insn.specs.declared.refusal.Cause.TheVariants.{FramePointer, Helper, Stack, Argument}
+use Rattle.bpf_insn.specs.declared.refusal.Cause.TheVariants.{FramePointer, NoPointer, Helper, Stack, Argument}
 use Rattle.bpf_insn.specs.declared.refusal.Refusal.{Refusal}
 use Rattle.bpf_note.specs.Facts.{Facts}
-use Rattle.bpf_explain.specs.Accesses.{access_of}
-use Rattle.bpf_explain.specs.Advice.{advice_text, cause_advice}
+use Rattle.bpf_explain.specs.Accesses.{access_of, base_of}
+use Rattle.bpf_explain.specs.Advice.{advice_text, cause_advice, lost_advice}
 use Rattle.bpf_explain.specs.Listing.{listing_text}
 use Rattle.bpf_explain.specs.Stack.{stack_text}
-use Rattle.bpf_explain.specs.Values.{all_registers, reads_text}
+use Rattle.bpf_explain.specs.Values.{all_registers, known_text, reads_text}
 
 -- what the instruction reads has to do with the cause: not with V8 and V15
 abbrev pub is_about_values : Cause → Bool
@@ -50,3 +53,13 @@ abbrev pub explained_text : List Insn → List (List ℕ) → Refusal → Option
 explained_text code names r note =
     listing_text (Some r.pc) (below_text names r.cause (slice_get code r.pc) note) 0 code
     ++ verdict_text r (advice_text r.cause (slice_get code r.pc) note)
+
+-- the register of which V9 asks since when it is no address: the one that its access goes through
+abbrev pub asked_register : Cause → Option Insn → Option Register
+asked_register NoPointer (Some i) = base_of i
+asked_register c i = None
+
+-- since when a register is no address: what it was before slot pc made it a number
+abbrev pub was_text : List (List ℕ) → Register → ℕ → Facts → List ℕ
+was_text names r pc n =
+    codes "R" ++ (decimal (number r) ++ (codes " was " ++ (known_text names n (n.reg (number r)) ++ (codes " before " ++ (decimal pc ++ (codes ": " ++ (lost_advice (n.reg (number r)) ++ codes "\n")))))))

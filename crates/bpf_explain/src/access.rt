@@ -2,7 +2,7 @@
 ghost use Rattle.std.specs.Prelude.{◌≡◌, ◌≤◌, IfSome};
 ghost use Rattle.bpf_insn.specs.Size.{size_bytes};
 ghost use Rattle.bpf_note.specs.Parts.{facts};
-ghost use Rattle.bpf_explain.specs.Accesses.{access_of, address_of};
+ghost use Rattle.bpf_explain.specs.Accesses.{access_of, address_of, base_of};
 
 use bpf_insn::{Insn, Register, Size};
 use bpf_note::{Note, Val};
@@ -55,6 +55,14 @@ pub(crate) fn access_of(insn: Insn) -> Option<Access>
         }),
         _ => None,
     }
+}
+
+/// The register through which an instruction reaches memory.
+pub(crate) fn base_of(insn: Insn) -> Option<Register>
+    ensures { result ≡ base_of insn }
+{
+    let access = access_of(insn)?;
+    Some(access.base)
 }
 
 /// What is known of the address through which an instruction reaches memory.

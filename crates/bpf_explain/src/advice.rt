@@ -1,7 +1,7 @@
 //! What to write instead.
 ghost use Rattle.std.specs.Prelude.{◌≡◌, option_map};
 ghost use Rattle.bpf_note.specs.Parts.{facts};
-ghost use Rattle.bpf_explain.specs.Advice.{advice_text, argument_advice, cause_advice, map_advice, pointer_advice, value_advice};
+ghost use Rattle.bpf_explain.specs.Advice.{advice_text, argument_advice, cause_advice, lost_advice, map_advice, pointer_advice, value_advice};
 
 use crate::access::address_of;
 use bpf_insn::{Cause, Insn};
@@ -48,6 +48,19 @@ fn pointer_advice(address: Val) -> &'static str
     match address {
         Val::PktEnd => "access the packet through data: data_end serves comparisons alone",
         _ => cause_advice(Cause::NoPointer),
+    }
+}
+
+/// V9, where the register was an address before.
+pub(crate) fn lost_advice(address: Val) -> &'static str
+    ensures { result.now ≡ lost_advice address }
+{
+    match address {
+        Val::Pkt { .. } =>
+            "narrow the number that is added to at most 65535, in 64 bits, and compare the sum with data_end",
+        Val::Value { .. } => "make the number the key, or choose among constant places by if",
+        Val::Stack { .. } => "choose among constant places by if",
+        _ => "keep a copy of the address",
     }
 }
 

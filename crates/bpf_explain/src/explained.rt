@@ -1,13 +1,13 @@
 //! What is printed of a refused program.
 ghost use Rattle.std.specs.Prelude.{◌≡◌, ◌≤◌, ◌++◌, IfOk, OnOk, length, map, option_map, slice_get, string_bytes};
 ghost use Rattle.bpf_note.specs.Parts.{facts};
-ghost use Rattle.bpf_explain.specs.Explained.{below_text, explained_text, is_about_stack, is_about_values, reached_text, undecoded_text, values_text, verdict_text};
+ghost use Rattle.bpf_explain.specs.Explained.{asked_register, below_text, explained_text, is_about_stack, is_about_values, reached_text, undecoded_text, values_text, verdict_text, was_text};
 
-use crate::access::access_of;
-use crate::advice::{advice, cause_advice};
+use crate::access::{access_of, base_of};
+use crate::advice::{advice, cause_advice, lost_advice};
 use crate::listing::add_listing;
 use crate::stack::stack_text;
-use crate::values::add_reads;
+use crate::values::{add_reads, known_text};
 use bpf_insn::{Cause, Code, Insn, Refusal, Register};
 use bpf_note::Note;
 use std::alloc::{AllocError, Global};
@@ -97,6 +97,34 @@ fn verdict_text(alloc: Global, refusal: Refusal, advice: &str) -> Result<String,
     ensures { IfOk result (λ s. string_bytes s ≡ verdict_text refusal advice.now) }
 {
     format!(in alloc; "refused {refusal}\nwrite instead: {advice}\n")
+}
+
+/// The register of which V9 asks since when it is no address: the one that its access goes through.
+pub fn asked_register(code: &Code, refusal: Refusal) -> Option<Register>
+    ensures { result ≡ asked_register refusal.cause (slice_get code.now refusal.pc) }
+{
+    let insn = code.insns().get(refusal.pc as usize)?;
+    match refusal.cause {
+        Cause::NoPointer => base_of(*insn),
+        _ => None,
+    }
+}
+
+/// Since when a register is no address: what a note says of it before slot `pc`, which made it a number.
+pub fn was_text(
+    alloc: Global,
+    names: &[String],
+    register: Register,
+    pc: u32,
+    note: &Note,
+) -> Result<String, AllocError>
+    ensures { IfOk result (λ s. string_bytes s ≡ was_text (map string_bytes names.now) register pc (facts note.now)) }
+{
+    let number = register.number();
+    let value = note.register(number);
+    let known = known_text(alloc, names, note, value)?;
+    let advice = lost_advice(value);
+    format!(in alloc; "R{number} was {known} before {pc}: {advice}\n")
 }
 
 /// What is printed of bytes that spell no program.

@@ -10,5 +10,5 @@ mod stack;
 mod tests;
 mod values;
 
-pub use explained::{explained_text, undecoded_text};
+pub use explained::{asked_register, explained_text, undecoded_text, was_text};
 pub use listing::add_listing;

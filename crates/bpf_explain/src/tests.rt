@@ -1,6 +1,6 @@
 //! Refused programs and what is printed of them. A program has one slot per line, with its text beside it.
 use crate::advice::advice;
-use crate::{explained_text, undecoded_text};
+use crate::{asked_register, explained_text, undecoded_text, was_text};
 use bpf_insn::{Cause, Insn, Refusal, Register, Size, decode};
 use bpf_note::{Note, PACKET_ID, Val};
 use std::alloc::Global;
@@ -125,6 +125,35 @@ fn a_write_of_the_frame_pointer(rt: HostRuntime) -> Result<(), Fail> {
         text(rt.alloc(), &FRAME, refusal, &Note::entry(rt.alloc()))?.as_str(),
         ">  0: r10 = r1\nrefused V8 at 0\nwrite instead: copy r10 to another register, and change the copy\n"
     );
+    Ok(())
+}
+
+#[test]
+fn since_when_it_is_no_address(rt: HostRuntime) -> Result<(), Fail> {
+    let mut note = Note::entry(rt.alloc());
+    note.set_register(
+        1,
+        Val::Pkt {
+            id: PACKET_ID,
+            off: 0,
+        },
+    );
+    let names = Vec::new(rt.alloc());
+    assert_eq!(rt;
+        was_text(rt.alloc(), names.as_slice(), Register::R1, 7, &note)?.as_str(),
+        "R1 was pkt(id=0,off=0,r=0) before 7: narrow the number that is added to at most 65535, in 64 bits, and compare the sum with data_end\n"
+    );
+    Ok(())
+}
+
+#[test]
+fn an_access_through_a_number_asks(rt: HostRuntime) -> Result<(), Fail> {
+    let code = decode(rt.alloc(), &STORE).ok().ok_or("a program")?;
+    let refusal = Refusal {
+        cause: Cause::NoPointer,
+        pc: 0,
+    };
+    assert_eq!(rt; asked_register(&code, refusal), Some(Register::R1));
     Ok(())
 }
 

@@ -1,4 +1,5 @@
 mod CommandLineLemmas
+mod ExplainLemmas
 mod InputLemmas
 pub mod CounterLineLemmas
 mod TurnsLemmas

@@ -131,7 +131,7 @@ fn explain_answer(alloc: Global, setup: &Setup) -> Result<Answer, AllocError>
     requires { length setup.now.shapes.items ≤ 4 }
     ensures { IfOk result (λ a. ExplainAnswer (setup_view setup.now) (said_of a)) }
 {
-    let outcome = outcome_of(alloc, setup.program.as_slice(), setup.shapes.as_slice());
+    let outcome = outcome_of(alloc, setup.program.as_slice(), setup.shapes.as_slice())?;
     let text = outcome_text(alloc, setup.names.as_slice(), &outcome)?;
     Ok(Answer {
         text,
