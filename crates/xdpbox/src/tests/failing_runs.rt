@@ -1,6 +1,10 @@
 use crate::program::run_words;
 use crate::tests::readers::{Drip, Narrow};
+use std::alloc::Global;
+use std::process::Abort;
+use std::sync::Wait;
 use std::test::Fail;
+use std::thread::Threads;
 
 const RUN: [&str; 2] = ["xdpbox", "run"];
 
@@ -55,4 +59,60 @@ fn a_run_ends_at_the_first_failed_read(rt: HostRuntime) -> Result<(), Fail> {
         }
     }
     Ok(())
+}
+
+/// A command's status is 4 and nothing is printed, whichever of its reads fails.
+fn assert_failed_reads<R: Abort + Threads + Wait + Sync>(
+    rt: &R,
+    alloc: Global,
+    command: &str,
+    settings: &[u8],
+) {
+    for fails_at in 0..=settings.len() {
+        let mut output = Vec::new(alloc);
+        let mut input = Drip {
+            left: settings,
+            fails_at,
+        };
+        let words = ["xdpbox", command];
+        assert_eq!(rt; run_words(rt, alloc, &words, &mut input, &mut output), 4);
+        assert_eq!(rt; output.len(), 0);
+    }
+}
+
+/// A command's status is 4 and a beginning of its text is printed, whichever of its writes fails.
+fn assert_failed_writes<R: Abort + Threads + Wait + Sync>(
+    rt: &R,
+    alloc: Global,
+    command: &str,
+    settings: &[u8],
+    text: &str,
+) {
+    for fails_at in 0..text.len() {
+        let mut output = Narrow {
+            held: Vec::new(alloc),
+            fails_at,
+        };
+        let mut input = settings;
+        let words = ["xdpbox", command];
+        assert_eq!(rt; run_words(rt, alloc, &words, &mut input, &mut output), 4);
+        assert_eq!(rt; output.held.as_slice(), &text.as_bytes()[..fails_at]);
+    }
+}
+
+/// Settings of a program that passes every packet.
+const PASSES: &[u8] = b"program = [\"b7000000020000009500000000000000\"]";
+
+#[test]
+fn pairs_end_at_the_first_failed_read_or_write(rt: HostRuntime) {
+    let text = "queue 0 sent 0 copied 0 refused 0 halted 0 received 0\n";
+    assert_failed_reads(&rt, rt.alloc(), "pair", PASSES);
+    assert_failed_writes(&rt, rt.alloc(), "pair", PASSES, text);
+}
+
+#[test]
+fn an_explanation_ends_at_the_first_failed_read_or_write(rt: HostRuntime) {
+    let text = "   0: r0 = 2\n   1: exit\naccepted, 2 instructions, 2 slots\n";
+    assert_failed_reads(&rt, rt.alloc(), "explain", PASSES);
+    assert_failed_writes(&rt, rt.alloc(), "explain", PASSES, text);
 }
