@@ -258,14 +258,18 @@ fn random_writes_give_one_turn(rt: HostRuntime) -> Result<(), Fail> {
     let frames = frames(rt.alloc())?;
     let mut buffer = Buffer::make(rt.alloc())?;
     let programs = programs(rt.alloc())?;
+    let mut wrong: Vec<(u64, &'static str)> = Vec::new(rt.alloc());
     let mut seed = 0u64;
     for _list in 0..LISTS / 5 {
         for program in &programs {
             let found = difference(rt.alloc(), &layout, &frames, &mut buffer, program, seed)?;
-            assert_eq!(rt; found, None, "seed {seed}");
+            if let Some(found) = found {
+                wrong.push((seed, found))?;
+            }
             seed = seed.wrapping_add(1);
         }
     }
+    assert_eq!(rt; wrong.as_slice(), [].as_slice(), "seeds and what differs");
     assert_eq!(rt; seed, LISTS);
     Ok(())
 }
