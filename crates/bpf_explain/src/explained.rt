@@ -135,7 +135,7 @@ pub fn undecoded_text(alloc: Global, refusal: Refusal) -> Result<String, AllocEr
 }
 
 /// What is printed of a refused program: its listing, below the refused slot what is known of the values that it reads, and
-/// what to write instead. `names` are those of the maps; a map without a name is told by its number.
+/// what to write instead. `names` are those of the maps; a map without a name goes by its number.
 pub fn explained_text(
     alloc: Global,
     code: &Code,

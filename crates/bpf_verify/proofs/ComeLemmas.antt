@@ -1,4 +1,4 @@
--- With which notes the second pass comes to a slot.
+-- Which notes the second pass finds at a slot.
 use Rattle.std.proofs.Common.{◌≡◌, inl, inr, ◌<◌, ◌+◌, ℕ, List, length, take, get_or, sym, ◌∙◌, arith, subst}
 use Rattle.std.specs.Prelude.{Contains}
 use Rattle.std.proofs.lemmas.Bool.{cases_lt}
@@ -17,7 +17,7 @@ module _ (code : List Insn) (shapes : List Shape) (laid : IsCode code) (structur
   come_parts : (order : List ℕ) → IsPassOrder code order → (p : ℕ) (list : List Facts) (h : ComesWith code shapes p list) → (take (length h.before) order ≡ h.before) × (length h.before < length order) × (get_or order (length h.before) 0 ≡ p)
   come_parts order is p list h = front_of order h.before h.rest p (same_pass code shapes laid structured order h.order is h.is_order ∙ h.parts)
 
-  -- the pass comes to a slot with one list of notes
+  -- the list of notes that the pass finds at a slot is one alone
   pub comes_once : (p : ℕ) (list list' : List Facts) → ComesWith code shapes p list → ComesWith code shapes p list' → list ≡ list'
   comes_once p list list' h g =
       let a = come_parts h.order h.is_order p list h in

@@ -144,6 +144,7 @@ pub fn lost_at(
     ensures some { IfOk result (λ o. IfSome o (λ l. IsLost code.now shapes.now pc (number register) l.pc (facts l.note))) }
     ensures none { IfOk result (λ o. IfNone o ((p : ℕ) (n : Facts) → IsLost code.now shapes.now pc (number register) p n → ⊥)) }
     ensures err { IfErr result (λ c. c ≡ Memory) }
+    ensures written { IfErr result (λ _. (p : ℕ) × IsLastWrite code.now (number register) pc p) }
 {
     let insns = code.insns();
     let Some(at) = last_write(insns, pc, register) else {
