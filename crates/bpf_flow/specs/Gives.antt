@@ -2,9 +2,12 @@
 use Rattle.std.specs.Prelude.{ℕ, ◌+◌, ◌≡◌, ◌≤◌, [], ◌∷◌, Result, Ok, Err}
 use Rattle.bpf_insn.specs.declared.refusal.Cause.{Cause}
 use Rattle.bpf_insn.specs.declared.refusal.Cause.TheVariants.{Memory}
+use Rattle.bpf_note.specs.Facts.{Facts}
 use Rattle.bpf_note.specs.Parts.{facts}
 use Rattle.bpf_flow.specs.declared.successors.Successors.{Successors}
 use Rattle.bpf_flow.specs.declared.successors.Successors.TheVariants.{None, One, Two}
+use Rattle.bpf_flow.specs.declared.successors.Ways.{Ways}
+use Rattle.bpf_flow.specs.declared.successors.Ways.TheVariants as ways
 use Rattle.bpf_flow.specs.Edges.{Edges, Answer}
 use Rattle.bpf_flow.specs.declared.access.Access.{Access}
 use Rattle.bpf_flow.specs.declared.access.Access.TheVariants.{InPacket, OnStack, InContext, AtValue}
@@ -19,8 +22,14 @@ IsInside (AtValue m o) z = Unit {0}
 -- the edges, the next slot before a jump's target
 abbrev pub edges_of : Successors → Edges
 edges_of None = []
-edges_of (One e) = (e.pc, facts e.note) ∷ []
-edges_of (Two e f) = (e.pc, facts e.note) ∷ (f.pc, facts f.note) ∷ []
+edges_of (One e) = (e.pc, facts e.note.value) ∷ []
+edges_of (Two e f) = (e.pc, facts e.note.value) ∷ (f.pc, facts f.note.value) ∷ []
+
+-- the same, where n is known at the slot that the first edge leads to
+abbrev pub edges_along : Ways → Facts → Edges
+edges_along ways.None n = []
+edges_along (ways.One pc) n = (pc, n) ∷ []
+edges_along (ways.Two pc f) n = (pc, n) ∷ (f.pc, facts f.note.value) ∷ []
 
 -- an answer that takes memory: it has an edge
 abbrev pub WantsMemory : Answer → Type 0

@@ -7,6 +7,7 @@ pub mod Branch
 pub mod Call
 pub mod Rule
 pub mod Sound
+pub mod Effect
 pub mod Gives
 pub mod Causes
 pub mod Reading

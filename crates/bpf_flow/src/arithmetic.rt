@@ -6,13 +6,13 @@ ghost use Rattle.bpf_insn.specs.declared.refusal.Cause.{Cause};
 ghost use Rattle.bpf_note.specs.Facts.{is_unset};
 ghost use Rattle.bpf_note.specs.Parts.{facts};
 ghost use Rattle.bpf_flow.specs.Edges.{unless, sets, sets_computed};
-ghost use Rattle.bpf_flow.specs.Gives.{Gives};
+ghost use Rattle.bpf_flow.specs.Effect.{Decides};
 ghost use Rattle.bpf_flow.specs.Rule.{after_of, is_first_unset};
 
 use crate::alu::{extended_value, negated_value, operand_value, result_of, swapped_value};
 use crate::computed::Computed;
+use crate::effect::Effect;
 use crate::point::{Point, is_frame, is_unset};
-use crate::successors::{Successor, Successors};
 use bpf_insn::{AluOp, Cause, Operand, Register, Size, SwapKind, Width};
 use bpf_note::Val;
 
@@ -27,9 +27,9 @@ fn is_first_unset(op: AluOp, value: Val) -> bool
 
 impl Point<'_> {
     /// A register gets what the instruction computes.
-    fn sets_computed(&self, dst: Register, computed: Computed) -> Result<Successors, Cause>
+    fn sets_computed(&self, dst: Register, computed: Computed) -> Result<Effect, Cause>
         requires { self.now.pc < 4096 }
-        ensures { Gives result (sets_computed (facts self.now.note.now) self.now.pc (number dst) computed) }
+        ensures { Decides result self.now.pc (facts self.now.note.now) (sets_computed (facts self.now.note.now) self.now.pc (number dst) computed) }
     {
         match computed {
             Computed::Plain(value) => self.sets(self.pc + 1, dst, value),
@@ -37,27 +37,14 @@ impl Point<'_> {
                 if is_frame(dst) {
                     return Err(Cause::FramePointer);
                 }
-                let mut next = self.note.copy(self.alloc)?;
-                let id = self.pc as u16;
-                next.make_id(id, top)?;
-                next.set_register(dst.number(), Val::Pkt { id, off: 0 });
-                Ok(Successors::One(Successor {
-                    pc: self.pc + 1,
-                    note: next,
-                }))
+                Ok(Effect::SetsFresh { dst, top })
             }
         }
     }
 
-    pub fn alu(
-        &self,
-        op: AluOp,
-        wide: bool,
-        dst: Register,
-        src: Operand,
-    ) -> Result<Successors, Cause>
+    pub fn alu(&self, op: AluOp, wide: bool, dst: Register, src: Operand) -> Result<Effect, Cause>
         requires { self.now.pc < 4096 }
-        ensures { Gives result (after_of (Insn.Alu op wide dst src) self.now.pc (facts self.now.note.now) self.now.shapes.now) }
+        ensures { Decides result self.now.pc (facts self.now.note.now) (after_of (Insn.Alu op wide dst src) self.now.pc (facts self.now.note.now) self.now.shapes.now) }
     {
         let first = self.note.register(dst.number());
         let second = operand_value(self.note, src);
@@ -68,9 +55,9 @@ impl Point<'_> {
     }
 
     /// Sets `dst` to `made`, or refuses with V7 if `from` is unset.
-    fn made_of(&self, from: Val, dst: Register, made: Val) -> Result<Successors, Cause>
+    fn made_of(&self, from: Val, dst: Register, made: Val) -> Result<Effect, Cause>
         requires { self.now.pc < 4096 }
-        ensures { Gives result (unless (is_unset from) Cause.Unset (sets (facts self.now.note.now) (self.now.pc + 1) (number dst) made)) }
+        ensures { Decides result self.now.pc (facts self.now.note.now) (unless (is_unset from) Cause.Unset (sets (facts self.now.note.now) (self.now.pc + 1) (number dst) made)) }
     {
         if is_unset(from) {
             return Err(Cause::Unset);
@@ -78,17 +65,17 @@ impl Point<'_> {
         self.sets(self.pc + 1, dst, made)
     }
 
-    pub fn neg(&self, wide: bool, dst: Register) -> Result<Successors, Cause>
+    pub fn neg(&self, wide: bool, dst: Register) -> Result<Effect, Cause>
         requires { self.now.pc < 4096 }
-        ensures { Gives result (after_of (Insn.Neg wide dst) self.now.pc (facts self.now.note.now) self.now.shapes.now) }
+        ensures { Decides result self.now.pc (facts self.now.note.now) (after_of (Insn.Neg wide dst) self.now.pc (facts self.now.note.now) self.now.shapes.now) }
     {
         let value = self.note.register(dst.number());
         self.made_of(value, dst, negated_value(wide, value))
     }
 
-    pub fn end(&self, kind: SwapKind, width: Width, dst: Register) -> Result<Successors, Cause>
+    pub fn end(&self, kind: SwapKind, width: Width, dst: Register) -> Result<Effect, Cause>
         requires { self.now.pc < 4096 }
-        ensures { Gives result (after_of (Insn.End kind width dst) self.now.pc (facts self.now.note.now) self.now.shapes.now) }
+        ensures { Decides result self.now.pc (facts self.now.note.now) (after_of (Insn.End kind width dst) self.now.pc (facts self.now.note.now) self.now.shapes.now) }
     {
         let value = self.note.register(dst.number());
         self.made_of(value, dst, swapped_value(kind, width, value))
@@ -100,9 +87,9 @@ impl Point<'_> {
         bits: Size,
         dst: Register,
         src: Register,
-    ) -> Result<Successors, Cause>
+    ) -> Result<Effect, Cause>
         requires { self.now.pc < 4096 }
-        ensures { Gives result (after_of (Insn.MovSx wide bits dst src) self.now.pc (facts self.now.note.now) self.now.shapes.now) }
+        ensures { Decides result self.now.pc (facts self.now.note.now) (after_of (Insn.MovSx wide bits dst src) self.now.pc (facts self.now.note.now) self.now.shapes.now) }
     {
         let value = self.note.register(src.number());
         self.made_of(value, dst, extended_value(wide, bits, value))

@@ -4,18 +4,30 @@ ghost use Rattle.bpf_insn.specs.Register.{number};
 ghost use Rattle.bpf_insn.specs.declared.insn.Insn.{Insn};
 ghost use Rattle.bpf_note.specs.Parts.{facts};
 ghost use Rattle.bpf_flow.specs.Alu.{operand_value};
-ghost use Rattle.bpf_flow.specs.Branch.{opposite, raise, narrowed, without, below, compared, against_end, end_against, is_null, checked, refined, refined_if, taken, passed};
-ghost use Rattle.bpf_flow.specs.Gives.{Gives};
+ghost use Rattle.bpf_flow.specs.Branch.{opposite, raise, narrowed, without, below, compared, against_end, end_against, is_null, checked, refined, refined_if};
+ghost use Rattle.bpf_flow.specs.Effect.{Decides, edges_by, met, missed};
+ghost use Rattle.bpf_flow.specs.Gives.{edges_along};
+ghost use Rattle.bpf_flow.specs.declared.effect.Effect.TheVariants.{Branches};
 ghost use Rattle.bpf_flow.specs.Rule.{after_of};
 ghost use Rattle.bpf_flow.specs.Step.{target};
 
 use crate::alu::operand_value;
+use crate::effect::{Effect, copied};
 use crate::graph::jump_target;
 use crate::point::{Point, is_unset};
-use crate::successors::{Successor, Successors};
+use crate::successors::{Successor, Ways};
 use bpf_insn::{Cause, Condition, Operand, Register};
 use bpf_note::{Note, Val};
 use std::alloc::{AllocError, Global};
+
+/// The test of a conditional jump.
+#[derive(Clone, Copy, Drop)]
+pub(crate) struct Test {
+    pub cond: Condition,
+    pub wide: bool,
+    pub dst: Register,
+    pub src: Operand,
+}
 
 /// What holds where a condition doesn't, of those that teach.
 fn opposite(cond: Condition) -> Option<Condition>
@@ -155,55 +167,63 @@ fn refine(note: &mut Note, cond: Condition, dst: Register, src: Operand) -> Resu
     Ok(())
 }
 
-/// What is known where a jump is taken.
-fn taken(
-    alloc: Global,
-    note: &Note,
-    cond: Condition,
-    wide: bool,
-    dst: Register,
-    src: Operand,
-) -> Result<Note, AllocError>
-    ensures { IfOk result (λ n. facts n ≡ taken cond wide (facts note.now) (number dst) src ((facts note.now).reg (number dst)) (operand_value (facts note.now) src)) }
-{
-    let mut there = note.copy(alloc)?;
-    if wide {
-        refine(&mut there, cond, dst, src)?;
+impl Test {
+    /// Makes what is known that which is known where the test is met.
+    fn meet(self, note: &mut Note) -> Result<(), AllocError>
+        ensures { OnOk result (facts note.new ≡ met self (facts note.old)) }
+    {
+        if self.wide {
+            refine(note, self.cond, self.dst, self.src)?;
+        }
+        Ok(())
     }
-    Ok(there)
+
+    /// Makes what is known that which is known where the test isn't met.
+    fn miss(self, note: &mut Note) -> Result<(), AllocError>
+        ensures { OnOk result (facts note.new ≡ missed self (facts note.old)) }
+    {
+        if self.wide {
+            if let Some(cond) = opposite(self.cond) {
+                refine(note, cond, self.dst, self.src)?;
+            }
+        }
+        Ok(())
+    }
 }
 
-/// What is known where a jump isn't taken.
-fn passed(
+/// Takes a note to the next slot, and a copy to a jump's target.
+pub(crate) fn branch(
     alloc: Global,
-    note: &Note,
-    cond: Condition,
-    wide: bool,
-    dst: Register,
-    src: Operand,
-) -> Result<Note, AllocError>
-    ensures { IfOk result (λ n. facts n ≡ passed cond wide (facts note.now) (number dst) src ((facts note.now).reg (number dst)) (operand_value (facts note.now) src)) }
+    pc: u32,
+    to: u32,
+    note: &mut Note,
+    test: Test,
+) -> Result<Ways, AllocError>
+    requires { pc < 4096 }
+    ensures { IfOk result (λ w. edges_along w (facts note.new) ≡ edges_by (Branches to test) pc (facts note.old)) }
 {
-    let mut next = note.copy(alloc)?;
-    if wide {
-        if let Some(cond) = opposite(cond) {
-            refine(&mut next, cond, dst, src)?;
-        }
-    }
-    Ok(next)
+    let mut there = copied(alloc, note)?;
+    test.meet(&mut there)?;
+    test.miss(note)?;
+    Ok(Ways::Two(
+        pc + 1,
+        Successor {
+            pc: to,
+            note: there,
+        },
+    ))
 }
 
 impl Point<'_> {
-    pub fn ja(&self, to: i32) -> Result<Successors, Cause>
+    pub fn ja(&self, to: i32) -> Result<Effect, Cause>
         requires small { self.now.pc < 4096 }
         requires there { IsSome (target self.now.pc to) }
-        ensures { Gives result (after_of (Insn.Ja true to) self.now.pc (facts self.now.note.now) self.now.shapes.now) }
+        ensures { Decides result self.now.pc (facts self.now.note.now) (after_of (Insn.Ja true to) self.now.pc (facts self.now.note.now) self.now.shapes.now) }
     {
         let Some(pc) = jump_target(self.pc, to) else {
             return Err(Cause::Target);
         };
-        let note = self.note.copy(self.alloc)?;
-        Ok(Successors::One(Successor { pc, note }))
+        self.goes_to(pc)
     }
 
     pub fn jump(
@@ -213,10 +233,10 @@ impl Point<'_> {
         dst: Register,
         src: Operand,
         off: i16,
-    ) -> Result<Successors, Cause>
+    ) -> Result<Effect, Cause>
         requires small { self.now.pc < 4096 }
         requires there { IsSome (target self.now.pc off) }
-        ensures { Gives result (after_of (Insn.Jump cond wide dst src off) self.now.pc (facts self.now.note.now) self.now.shapes.now) }
+        ensures { Decides result self.now.pc (facts self.now.note.now) (after_of (Insn.Jump cond wide dst src off) self.now.pc (facts self.now.note.now) self.now.shapes.now) }
     {
         if is_unset(self.note.register(dst.number())) || is_unset(operand_value(self.note, src)) {
             return Err(Cause::Unset);
@@ -224,27 +244,22 @@ impl Point<'_> {
         let Some(to) = jump_target(self.pc, i32::from(off)) else {
             return Err(Cause::Target);
         };
-        let next = passed(self.alloc, self.note, cond, wide, dst, src)?;
-        let there = taken(self.alloc, self.note, cond, wide, dst, src)?;
-        Ok(Successors::Two(
-            Successor {
-                pc: self.pc + 1,
-                note: next,
-            },
-            Successor {
-                pc: to,
-                note: there,
-            },
-        ))
+        let test = Test {
+            cond,
+            wide,
+            dst,
+            src,
+        };
+        Ok(Effect::Branches { to, test })
     }
 
-    pub fn exit(&self) -> Result<Successors, Cause>
-        ensures { Gives result (after_of Insn.Exit self.now.pc (facts self.now.note.now) self.now.shapes.now) }
+    pub fn exit(&self) -> Result<Effect, Cause>
+        ensures { Decides result self.now.pc (facts self.now.note.now) (after_of Insn.Exit self.now.pc (facts self.now.note.now) self.now.shapes.now) }
     {
         if is_unset(self.note.register(0)) {
             Err(Cause::Unset)
         } else {
-            Ok(Successors::None)
+            Ok(Effect::Ends)
         }
     }
 }

@@ -3,13 +3,13 @@ ghost use Rattle.std.specs.Prelude.{◌≡◌, ◌<◌};
 ghost use Rattle.bpf_insn.specs.declared.insn.Insn.{Insn};
 ghost use Rattle.bpf_note.specs.Parts.{facts};
 ghost use Rattle.bpf_flow.specs.Call.{is_key, is_lookup, looks_up, with_call};
-ghost use Rattle.bpf_flow.specs.Gives.{Gives};
+ghost use Rattle.bpf_flow.specs.Effect.{Decides};
 ghost use Rattle.bpf_flow.specs.Rule.{after_of};
 
 use crate::access::place_in;
+use crate::effect::Effect;
 use crate::memory::all_set;
 use crate::point::{Point, is_unset};
-use crate::successors::{Successor, Successors};
 use bpf_insn::Cause;
 use bpf_note::{Note, Val};
 
@@ -20,7 +20,7 @@ fn is_lookup(helper: i32) -> bool
 }
 
 /// What is known after a lookup in map `m` by the call at slot `id`.
-fn call(note: &mut Note, m: u32, id: u16)
+pub(crate) fn call(note: &mut Note, m: u32, id: u16)
     ensures { facts note.new ≡ with_call (facts note.old) m id }
 {
     note.set_register(0, Val::MaybeValue { m, id });
@@ -44,31 +44,24 @@ fn is_key(note: &Note, value: Val) -> bool
 
 impl Point<'_> {
     /// A lookup in the map that `map` names.
-    fn looks_up(&self, map: Val, key: Val) -> Result<Successors, Cause>
+    fn looks_up(&self, map: Val, key: Val) -> Result<Effect, Cause>
         requires { self.now.pc < 4096 }
-        ensures { Gives result (looks_up (facts self.now.note.now) self.now.pc map key) }
+        ensures { Decides result self.now.pc (facts self.now.note.now) (looks_up (facts self.now.note.now) self.now.pc map key) }
     {
         match map {
             Val::Map { m } => {
                 if !is_key(self.note, key) {
                     return Err(Cause::Argument);
                 }
-                let mut note = self.note.copy(self.alloc)?;
-                let id = self.pc as u16;
-                note.make_id(id, 0)?;
-                call(&mut note, m, id);
-                Ok(Successors::One(Successor {
-                    pc: self.pc + 1,
-                    note,
-                }))
+                Ok(Effect::LooksUp { m })
             }
             _ => Err(Cause::Argument),
         }
     }
 
-    pub fn call(&self, helper: i32) -> Result<Successors, Cause>
+    pub fn call(&self, helper: i32) -> Result<Effect, Cause>
         requires { self.now.pc < 4096 }
-        ensures { Gives result (after_of (Insn.Call helper) self.now.pc (facts self.now.note.now) self.now.shapes.now) }
+        ensures { Decides result self.now.pc (facts self.now.note.now) (after_of (Insn.Call helper) self.now.pc (facts self.now.note.now) self.now.shapes.now) }
     {
         if !is_lookup(helper) {
             return Err(Cause::Helper);

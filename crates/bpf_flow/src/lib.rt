@@ -7,6 +7,7 @@ mod arithmetic;
 mod branch;
 mod call;
 mod computed;
+mod effect;
 mod graph;
 mod laws;
 mod memory;
@@ -22,5 +23,5 @@ pub use laws::{
     no_step_writes_the_frame_pointer, one_label_one_state, steps_follow_edges, steps_keep_the_maps,
     unset_exactly_where_read,
 };
-pub use rule::after;
-pub use successors::{Successor, Successors};
+pub use rule::{after, transfer};
+pub use successors::{Successor, Successors, Ways};

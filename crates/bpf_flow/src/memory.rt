@@ -5,13 +5,14 @@ ghost use Rattle.bpf_insn.specs.Size.{size_bytes};
 ghost use Rattle.bpf_insn.specs.declared.insn.Insn.{Insn};
 ghost use Rattle.bpf_note.specs.Parts.{facts};
 ghost use Rattle.bpf_flow.specs.Rule.{after_of};
-ghost use Rattle.bpf_flow.specs.Gives.{Gives, IsInside};
+ghost use Rattle.bpf_flow.specs.Effect.{Decides};
+ghost use Rattle.bpf_flow.specs.Gives.{IsInside};
 ghost use Rattle.bpf_flow.specs.Memory.{is_field, is_counter, all_set, any_of_size, any_loaded, is_slot, stack_value, field_value, loaded_value, with_bytes, with_store, stores, adds_at};
 
 use crate::access::{Access, reach};
 use crate::alu::immediate;
+use crate::effect::Effect;
 use crate::point::{Point, is_frame, is_unset};
-use crate::successors::{Successor, Successors};
 use bpf_insn::{Cause, Register, Size};
 use bpf_note::{MapShape, Note, PACKET_ID, Val};
 
@@ -162,7 +163,7 @@ fn store_bytes(note: &mut Note, place: u32, bytes: u32)
 }
 
 /// What a store to the stack changes.
-fn store(note: &mut Note, place: u32, size: Size, value: Val)
+pub(crate) fn store(note: &mut Note, place: u32, size: Size, value: Val)
     requires { place + size_bytes size ≤ 512 }
     ensures { facts note.new ≡ with_store (facts note.old) place size value }
 {
@@ -194,9 +195,9 @@ impl Point<'_> {
         dst: Register,
         src: Register,
         off: i16,
-    ) -> Result<Successors, Cause>
+    ) -> Result<Effect, Cause>
         requires { self.now.pc < 4096 }
-        ensures { Gives result (after_of (Insn.Ldx size signed dst src off) self.now.pc (facts self.now.note.now) self.now.shapes.now) }
+        ensures { Decides result self.now.pc (facts self.now.note.now) (after_of (Insn.Ldx size signed dst src off) self.now.pc (facts self.now.note.now) self.now.shapes.now) }
     {
         let pointer = self.note.register(src.number());
         if is_unset(pointer) {
@@ -210,29 +211,22 @@ impl Point<'_> {
         self.sets(self.pc + 1, dst, value)
     }
 
-    fn stores(&self, size: Size, value: Val, access: Access) -> Result<Successors, Cause>
+    fn stores(&self, size: Size, value: Val, access: Access) -> Result<Effect, Cause>
         requires small { self.now.pc < 4096 }
         requires inside { IsInside access (size_bytes size) }
-        ensures { Gives result (stores (facts self.now.note.now) (self.now.pc + 1) size value access) }
+        ensures { Decides result self.now.pc (facts self.now.note.now) (stores (facts self.now.note.now) (self.now.pc + 1) size value access) }
     {
         match access {
             Access::InPacket => self.goes_to(self.pc + 1),
-            Access::OnStack(place) => {
-                let mut note = self.note.copy(self.alloc)?;
-                store(&mut note, place, size, value);
-                Ok(Successors::One(Successor {
-                    pc: self.pc + 1,
-                    note,
-                }))
-            }
+            Access::OnStack(place) => Ok(Effect::Stores { place, size, value }),
             Access::InContext(_) => Err(Cause::Context),
             Access::AtValue { .. } => Err(Cause::MapAccess),
         }
     }
 
-    pub fn st(&self, size: Size, dst: Register, off: i16, imm: i32) -> Result<Successors, Cause>
+    pub fn st(&self, size: Size, dst: Register, off: i16, imm: i32) -> Result<Effect, Cause>
         requires { self.now.pc < 4096 }
-        ensures { Gives result (after_of (Insn.St size dst off imm) self.now.pc (facts self.now.note.now) self.now.shapes.now) }
+        ensures { Decides result self.now.pc (facts self.now.note.now) (after_of (Insn.St size dst off imm) self.now.pc (facts self.now.note.now) self.now.shapes.now) }
     {
         let pointer = self.note.register(dst.number());
         if is_unset(pointer) {
@@ -242,15 +236,9 @@ impl Point<'_> {
         self.stores(size, immediate(imm), access)
     }
 
-    pub fn stx(
-        &self,
-        size: Size,
-        dst: Register,
-        src: Register,
-        off: i16,
-    ) -> Result<Successors, Cause>
+    pub fn stx(&self, size: Size, dst: Register, src: Register, off: i16) -> Result<Effect, Cause>
         requires { self.now.pc < 4096 }
-        ensures { Gives result (after_of (Insn.Stx size dst src off) self.now.pc (facts self.now.note.now) self.now.shapes.now) }
+        ensures { Decides result self.now.pc (facts self.now.note.now) (after_of (Insn.Stx size dst src off) self.now.pc (facts self.now.note.now) self.now.shapes.now) }
     {
         let value = self.note.register(src.number());
         let pointer = self.note.register(dst.number());
@@ -267,9 +255,9 @@ impl Point<'_> {
         dst: Register,
         src: Register,
         off: i16,
-    ) -> Result<Successors, Cause>
+    ) -> Result<Effect, Cause>
         requires { self.now.pc < 4096 }
-        ensures { Gives result (after_of (Insn.AddCounter fetch dst src off) self.now.pc (facts self.now.note.now) self.now.shapes.now) }
+        ensures { Decides result self.now.pc (facts self.now.note.now) (after_of (Insn.AddCounter fetch dst src off) self.now.pc (facts self.now.note.now) self.now.shapes.now) }
     {
         let pointer = self.note.register(dst.number());
         if is_unset(self.note.register(src.number())) || is_unset(pointer) {

@@ -5,17 +5,15 @@ ghost use Rattle.bpf_note.specs.Facts.{is_unset};
 ghost use Rattle.bpf_note.specs.Parts.{facts};
 ghost use Rattle.bpf_flow.specs.Step.{is_frame};
 ghost use Rattle.bpf_flow.specs.Edges.{sets, goes_to};
-ghost use Rattle.bpf_flow.specs.Gives.{Gives};
+ghost use Rattle.bpf_flow.specs.Effect.{Decides};
 
-use crate::successors::{Successor, Successors};
+use crate::effect::Effect;
 use bpf_insn::{Cause, Register};
 use bpf_note::{MapShape, Note, Val};
-use std::alloc::Global;
 
 /// A point of a program: a slot, what is known there, and the maps.
 #[derive(Drop)]
 pub(crate) struct Point<'a> {
-    pub alloc: Global,
     pub pc: u32,
     pub note: &'a Note,
     pub shapes: &'a [MapShape],
@@ -34,23 +32,20 @@ pub(crate) fn is_frame(register: Register) -> bool
 }
 
 impl Point<'_> {
-    /// The same is known at slot `pc`.
-    pub fn goes_to(&self, pc: u32) -> Result<Successors, Cause>
-        ensures { Gives result (goes_to pc (facts self.now.note.now)) }
+    /// Slot `to` follows, and the same is known there.
+    pub fn goes_to(&self, to: u32) -> Result<Effect, Cause>
+        ensures { Decides result self.now.pc (facts self.now.note.now) (goes_to to (facts self.now.note.now)) }
     {
-        let note = self.note.copy(self.alloc)?;
-        Ok(Successors::One(Successor { pc, note }))
+        Ok(Effect::Goes { to })
     }
 
-    /// A register gets a value, and slot `pc` follows.
-    pub fn sets(&self, pc: u32, dst: Register, value: Val) -> Result<Successors, Cause>
-        ensures { Gives result (sets (facts self.now.note.now) pc (number dst) value) }
+    /// A register gets a value, and slot `to` follows.
+    pub fn sets(&self, to: u32, dst: Register, value: Val) -> Result<Effect, Cause>
+        ensures { Decides result self.now.pc (facts self.now.note.now) (sets (facts self.now.note.now) to (number dst) value) }
     {
         if is_frame(dst) {
             return Err(Cause::FramePointer);
         }
-        let mut note = self.note.copy(self.alloc)?;
-        note.set_register(dst.number(), value);
-        Ok(Successors::One(Successor { pc, note }))
+        Ok(Effect::Sets { to, dst, value })
     }
 }

@@ -1,28 +1,31 @@
 //! The verifier's rule for one instruction.
-ghost use Rattle.std.specs.Prelude.{◌≡◌, ◌<◌, IfOk, length};
+ghost use Rattle.std.specs.Prelude.{◌≡◌, ◌≢◌, ◌<◌, IfOk, IfErr, Ok, length};
 ghost use Rattle.bpf_insn.specs.Form.{IsAccess};
 ghost use Rattle.bpf_insn.specs.declared.insn.Insn.{Insn};
+ghost use Rattle.bpf_insn.specs.declared.refusal.Cause.TheVariants.{Memory};
 ghost use Rattle.bpf_note.specs.Describes.{Describes};
 ghost use Rattle.bpf_note.specs.Parts.{facts};
 ghost use Rattle.bpf_note.specs.State.{State};
-ghost use Rattle.bpf_flow.specs.Gives.{Gives, edges_of};
+ghost use Rattle.bpf_flow.specs.Effect.{Decides};
+ghost use Rattle.bpf_flow.specs.Gives.{Fails, Gives, edges_along, edges_of};
 ghost use Rattle.bpf_flow.specs.Rule.{after_of, IsRuled};
 ghost use Rattle.bpf_flow.specs.Sound.{Accounts, HasWords};
 ghost use Rattle.bpf_flow.specs.Step.{exec};
 
 use crate::alu::exactly;
+use crate::effect::Effect;
 use crate::point::Point;
-use crate::successors::Successors;
+use crate::successors::{Successors, Ways};
 use bpf_insn::{Cause, Insn};
 use bpf_note::{MapShape, Note, Val};
 use std::alloc::Global;
 
 impl Point<'_> {
-    /// Where an access leads from this point.
-    fn follow_access(&self, insn: Insn) -> Result<Successors, Cause>
+    /// What an access does from this point.
+    fn decide_access(&self, insn: Insn) -> Result<Effect, Cause>
         requires small { self.now.pc < 4096 }
         requires access { IsAccess insn }
-        ensures { Gives result (after_of insn self.now.pc (facts self.now.note.now) self.now.shapes.now) }
+        ensures { Decides result self.now.pc (facts self.now.note.now) (after_of insn self.now.pc (facts self.now.note.now) self.now.shapes.now) }
     {
         match insn {
             Insn::Ldx {
@@ -54,11 +57,11 @@ impl Point<'_> {
         }
     }
 
-    /// Where an instruction leads from this point.
-    fn follow(&self, insn: Insn) -> Result<Successors, Cause>
+    /// What an instruction does from this point.
+    fn decide(&self, insn: Insn) -> Result<Effect, Cause>
         requires small { self.now.pc < 4096 }
         requires ruled { IsRuled insn self.now.pc (length self.now.shapes.now) }
-        ensures { Gives result (after_of insn self.now.pc (facts self.now.note.now) self.now.shapes.now) }
+        ensures { Decides result self.now.pc (facts self.now.note.now) (after_of insn self.now.pc (facts self.now.note.now) self.now.shapes.now) }
     {
         match insn {
             Insn::Alu { op, wide, dst, src } => self.alu(op, wide, dst, src),
@@ -73,7 +76,7 @@ impl Point<'_> {
             Insn::Const { dst, value } => self.sets(self.pc + 2, dst, exactly(value)),
             Insn::MapRef { dst, m } => self.sets(self.pc + 2, dst, Val::Map { m }),
             Insn::Ldx { .. } | Insn::St { .. } | Insn::Stx { .. } | Insn::AddCounter { .. } => {
-                self.follow_access(insn)
+                self.decide_access(insn)
             }
             Insn::Ja { to, .. } => self.ja(to),
             Insn::Jump {
@@ -88,6 +91,15 @@ impl Point<'_> {
             Insn::Second => unreachable!(),
         }
     }
+}
+
+/// What an instruction does at a slot, or the first cause against it.
+fn decide(insn: &Insn, pc: u32, note: &Note, shapes: &[MapShape]) -> Result<Effect, Cause>
+    requires small { pc < 4096 }
+    requires ruled { IsRuled insn.now pc (length shapes.now) }
+    ensures { Decides result pc (facts note.now) (after_of insn.now pc (facts note.now) shapes.now) }
+{
+    Point { pc, note, shapes }.decide(*insn)
 }
 
 /// An instruction's constant has 64 bits. It does nothing.
@@ -109,12 +121,28 @@ pub fn after(
     ensures gives { Gives result (after_of insn.now pc (facts note.now) shapes.now) }
     ensures sound { IfOk result (λ e. (s : State) → Describes (facts note.now) s → s.pc ≡ pc → s.shapes ≡ shapes.now → Accounts (edges_of e) (exec insn.now s)) }
 {
-    let point = Point {
-        alloc,
-        pc,
-        note,
-        shapes,
-    };
     has_words(*insn);
-    point.follow(*insn)
+    let effect = decide(insn, pc, note, shapes)?;
+    Ok(effect.applied(alloc, pc, note)?)
+}
+
+/// [`after`] in place: the note becomes what is known where the first way leads. A refused note stays as it is; when memory
+/// runs out it may be changed.
+pub fn transfer(
+    alloc: Global,
+    insn: &Insn,
+    pc: u32,
+    note: &mut Note,
+    shapes: &[MapShape],
+) -> Result<Ways, Cause>
+    requires small { pc < 4096 }
+    requires ruled { IsRuled insn.now pc (length shapes.now) }
+    ensures ok { IfOk result (λ w. after_of insn.now pc (facts note.old) shapes.now ≡ Ok (edges_along w (facts note.new))) }
+    ensures err { IfErr result (λ c. Fails c (after_of insn.now pc (facts note.old) shapes.now)) }
+    ensures kept { IfErr result (λ c. c ≢ Memory → note.new ≡ note.old) }
+    ensures sound { IfOk result (λ w. (s : State) → Describes (facts note.old) s → s.pc ≡ pc → s.shapes ≡ shapes.now → Accounts (edges_along w (facts note.new)) (exec insn.now s)) }
+{
+    has_words(*insn);
+    let effect = decide(insn, pc, note, shapes)?;
+    Ok(effect.apply(alloc, pc, note)?)
 }

@@ -6,7 +6,7 @@ use bpf_note::Note;
 #[derive(Drop)]
 pub struct Successor {
     pub pc: u32,
-    pub note: Note,
+    pub note: Box<Note>,
 }
 
 /// Where an instruction leads: the next slot stands before a jump's target.
@@ -15,4 +15,14 @@ pub enum Successors {
     None,
     One(Successor),
     Two(Successor, Successor),
+}
+
+/// Where an instruction leads, if the note at hand goes on along the first way.
+#[derive(Drop)]
+pub enum Ways {
+    None,
+    /// To this slot, with the note.
+    One(u32),
+    /// To the next slot with the note, and to a jump's target with another.
+    Two(u32, Successor),
 }

@@ -43,7 +43,7 @@ fn refusal(rt: &HostRuntime, shape: MapShape, slots: &[u64]) -> Result<Option<Re
                 Err(cause) => return Ok(Some(Refusal { cause, pc })),
                 Ok(next) => {
                     pc = next.pc;
-                    note = next.note;
+                    note = Box::into_inner(next.note);
                 }
             }
         }

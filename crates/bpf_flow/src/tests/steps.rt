@@ -15,7 +15,7 @@ pub(crate) fn exactly(number: u64) -> Val {
 /// What is known at the next slot, where an instruction leads there alone.
 pub(crate) fn next(step: Result<Successors, Cause>) -> Result<Note, Cause> {
     match step? {
-        Successors::One(next) if next.pc == 8 => Ok(next.note),
+        Successors::One(next) if next.pc == 8 => Ok(Box::into_inner(next.note)),
         _ => Err(Cause::Target),
     }
 }
@@ -54,7 +54,7 @@ pub(crate) fn edges(
     };
     match after(alloc, &insn, 7, note, &[])? {
         Successors::Two(next, target) if next.pc == 8 && target.pc == 10 => {
-            Ok((next.note, target.note))
+            Ok((Box::into_inner(next.note), Box::into_inner(target.note)))
         }
         _ => Err(Cause::Target),
     }

@@ -1,6 +1,12 @@
+use Rattle.std.proofs.Common.{◌≡◌, ap, sym, ◌∙◌}
+use Rattle.std.specs.Prelude.{Ok}
 use Rattle.bpf_note.specs.Parts.{facts}
-use Rattle.bpf_flow.proofs.GivesLemmas.{gives_sound}
+use Rattle.bpf_flow.specs.Gives.{edges_of}
+use Rattle.bpf_flow.specs.Rule.{after_of}
+use Rattle.bpf_flow.proofs.GivesLemmas.{edges_sound}
 use Rattle.bpf_flow.proofs.rule.after.Goals as goal
 
 pub returns-clause-sound : goal.returns-clause-sound
-returns-clause-sound c = gives_sound c.follow.result c.args.insn.now c.args.pc (facts c.args.note.now) c.args.shapes.now c.has_words.ensures c.requires.small c.requires.ruled c.follow.ensures
+returns-clause-sound c =
+    let gives : after_of c.args.insn.now c.args.pc (facts c.args.note.now) c.args.shapes.now ≡ Ok (edges_of c.in_ok-applied.field-0) = c.in_ok-effect.ensures.0 ∙ ap Ok (sym c.in_ok-applied.ensures.ok) in
+    edges_sound (edges_of c.in_ok-applied.field-0) c.args.insn.now c.args.pc (facts c.args.note.now) c.args.shapes.now c.has_words.ensures c.requires.small c.requires.ruled gives
