@@ -153,6 +153,10 @@ pub rule_is : (code : List Insn) (shapes : List Shape) (pc : ℕ) (i : Insn) (n 
 unfolding rule_at
 rule_is code shapes pc i n a e h = ap (λ (o : Option Insn). rule_by o pc n shapes) e ∙ h
 
+-- the same of a note that was lent to the rule
+pub rule_lent : (code : List Insn) (shapes : List Shape) (pc : ℕ) (i : Insn) (lent n : Noted) (a : Answer) → slice_get code pc ≡ Some i → lent ≡ n → after_of i pc (facts lent) shapes ≡ a → rule_at code shapes pc (facts n) ≡ a
+rule_lent code shapes pc i lent n a e same h = rule_is code shapes pc i (facts n) a e (ap (λ (m : Noted). after_of i pc (facts m) shapes) (sym same) ∙ h)
+
 pub ruled_at : (code : List Insn) (maps pc : ℕ) (i : Insn) → IsStructured code maps → slice_get code pc ≡ Some i → begins (slice_get code pc) ≡ true → IsRuled i pc maps
 ruled_at code maps pc i h e b = ruled code maps pc i (h pc i e) (subst (λ (o : Option Insn). begins o ≡ true) e b)
 
@@ -219,10 +223,10 @@ pub refused_at : (code : List Insn) (shapes : List Shape) (pc i : ℕ) (old new 
     Fails c (rule_at code shapes pc n) → IsRuleCause c → IsFirstRefused code shapes pc (old pc) c n
 refused_at code shapes pc i old new n c f at g r = following_stops code shapes pc i old new f n at c (fails_err c (rule_at code shapes pc n) r g)
 
--- what is there exactly for a rule's cause, and is x, has what x has for such a cause
-pub there_has : {A : Type 0} (o : Option A) (x : A) (P : A → Type 0) (R : Type 0) → (IsSome o ↔ R) → IfSome o (λ y. y ≡ x) → (R → P x) → IfSome o P
-there_has None x P R there same h = tt
-there_has (Some y) x P R there same h = subst P (sym same) (h (there.0 refl))
+-- what is there exactly for a rule's cause, and holds x, holds what x has for such a cause
+pub there_has : {A B : Type 0} (o : Option A) (v : A → B) (x : B) (P : B → Type 0) (R : Type 0) → (IsSome o ↔ R) → IfSome o (λ y. v y ≡ x) → (R → P x) → IfSome o (λ y. P (v y))
+there_has None v x P R there same h = tt
+there_has (Some y) v x P R there same h = subst P (sym same) (h (there.0 refl))
 
 -- the list of a slot, taken out of a table
 pub list_at : (items : List (List Noted)) (pc : ℕ) (here : List Noted) → pc < length items → here ≡ slice_index_or items pc here → facts_at items pc ≡ map facts here
@@ -232,13 +236,6 @@ list_at items pc here inside is = ap (map facts) (any_default items pc [] here i
     any_default [] k d e h = absurd (omega arith)
     any_default (x ∷ xs) zero d e h = refl
     any_default (x ∷ xs) (suc k) d e h = any_default xs k d e (omega arith)
-
--- note i of that list
-pub note_at : (items : List (List Noted)) (pc i : ℕ) (there taken notes : List Noted) (n : Noted) → pc < length items → there ≡ slice_index_or items pc there → taken ≡ there → notes ≡ taken → i < length notes → n ≡ slice_index_or notes i n →
-    slice_get (facts_at items pc) i ≡ Some (facts n)
-note_at items pc i there taken notes n inside is got listed low at =
-    let same : facts_at items pc ≡ map facts notes = list_at items pc there inside is ∙ ap (map facts) (sym (listed ∙ got)) in
-    subst (λ (ns : List Facts). slice_get ns i ≡ Some (facts n)) (sym same) (get_map facts notes i n (get_is notes i n low ∙ ap Some (sym at)))
 
 pub elsewhere : (items : List (List Noted)) (pc q : ℕ) (ns : List Noted) → q ≢ pc → facts_at (set items pc ns) q ≡ facts_at items q
 elsewhere [] pc q ns h = refl

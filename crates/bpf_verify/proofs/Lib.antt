@@ -14,6 +14,7 @@ mod ArrivalLemmas
 mod GatherLemmas
 mod ToldLemmas
 mod FollowLemmas
+mod BoxLemmas
 mod PassingLemmas
 mod ArriveLemmas
 mod AcceptedLemmas

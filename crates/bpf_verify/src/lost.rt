@@ -41,7 +41,7 @@ fn is_address(value: Val) -> bool
 
 /// Whether a register is a number at a successor.
 fn is_number_at(successor: &Successor, register: Register) -> bool
-    ensures { result ≡ is_number ((facts successor.now.note).reg (number register)) }
+    ensures { result ≡ is_number ((facts successor.now.note.value).reg (number register)) }
 {
     matches!(successor.note.register(register.number()), Val::Num { .. })
 }
@@ -111,20 +111,20 @@ fn first_lost(
     shapes: &[MapShape],
     at: u32,
     register: Register,
-    mut notes: Vec<Note>,
+    mut notes: Vec<Box<Note>>,
 ) -> Result<Option<Note>, Cause>
     requires laid { IsCode code.now }
     requires structured { IsStructured code.now (length shapes.now) }
     requires there { at < length code.now }
     requires begins { begins (slice_get code.now at) ≡ true }
-    ensures there { IfOk result (λ o. IfSome o (λ n. Contains (map facts notes.items) (facts n))) }
+    ensures there { IfOk result (λ o. IfSome o (λ n. Contains (map (λ b. facts b.value) notes.items) (facts n))) }
     ensures loses { IfOk result (λ o. IfSome o (λ n. Loses code.now shapes.now at (number register) (facts n))) }
-    ensures none { IfOk result (λ o. IfNone o ((n : Facts) → Contains (map facts notes.items) n → Loses code.now shapes.now at (number register) n → ⊥)) }
+    ensures none { IfOk result (λ o. IfNone o ((n : Facts) → Contains (map (λ b. facts b.value) notes.items) n → Loses code.now shapes.now at (number register) n → ⊥)) }
     ensures err { IfErr result (λ c. c ≡ Memory) }
 {
     for (i, note) in notes.iter().enumerate() {
         if loses(alloc, code, shapes, at, register, note)? {
-            return Ok(Some(notes.swap_remove(i)));
+            return Ok(Some(Box::into_inner(notes.swap_remove(i))));
         }
     }
     Ok(None)

@@ -1,6 +1,7 @@
 //! The notes at a slot.
 ghost use Rattle.std.specs.Prelude.{◌≡◌, ◌↔◌, map, Contains, IsTrue, OnOk, IfOk, [], ◌∷◌};
 ghost use Rattle.bpf_note.specs.Facts.{entry};
+ghost use Rattle.bpf_note.specs.Join.{joined};
 ghost use Rattle.bpf_note.specs.Parts.{facts};
 ghost use Rattle.bpf_verify.specs.Gathered.{Arrives};
 
@@ -14,16 +15,16 @@ const MOST_NOTES: usize = 8;
 /// The notes at a slot, in the order in which they came.
 #[derive(Drop)]
 pub(crate) struct NoteList {
-    notes: Vec<Note>,
+    notes: Vec<Box<Note>>,
 }
 
 impl Model for NoteList {
-    ghost use Rattle.std.specs.Prelude.{List, length, ◌≤◌};
+    ghost use Rattle.std.specs.Prelude.{List, length, map, ◌≤◌};
     ghost use Rattle.bpf_note.specs.Parts.{Noted};
 
     ghost Value = { List Noted };
 
-    ghost view = { λ l. l.notes.items };
+    ghost view = { λ l. map (λ b. b.value) l.notes.items };
 
     ghost invariant = { λ l. length l.notes.items ≤ 8 };
 }
@@ -34,6 +35,14 @@ fn say_the_same(a: &Note, b: &Note) -> bool
 {
     notes_that_say_the_same_are_equal(a, b);
     a.same_as(b)
+}
+
+/// Joins a note into another one, in place.
+fn merge(alloc: Global, into: &mut Note, note: &Note) -> Result<(), AllocError>
+    ensures { OnOk result (facts into.new ≡ joined (facts into.old) (facts note.now)) }
+{
+    *into = join(alloc, into, note)?;
+    Ok(())
 }
 
 impl NoteList {
@@ -51,13 +60,13 @@ impl NoteList {
         ensures { IfOk result (λ l. map facts l ≡ entry ∷ []) }
     {
         let mut notes = Vec::new(alloc);
-        notes.push(Note::entry(alloc))?;
+        notes.push(Box::new(alloc, Note::entry(alloc))?)?;
         Ok(NoteList { notes })
     }
 
     /// The notes.
-    pub(crate) fn into_notes(self) -> Vec<Note>
-        ensures { result.items ≡ self }
+    pub(crate) fn into_notes(self) -> Vec<Box<Note>>
+        ensures { map (λ b. b.value) result.items ≡ self }
     {
         self.notes
     }
@@ -75,8 +84,8 @@ impl NoteList {
     }
 
     /// A note comes to the list.
-    pub(crate) fn arrive(&mut self, alloc: Global, note: Note) -> Result<(), AllocError>
-        ensures { OnOk result (Arrives (map facts self.old) (facts note) (map facts self.new)) }
+    pub(crate) fn arrive(&mut self, alloc: Global, note: Box<Note>) -> Result<(), AllocError>
+        ensures { OnOk result (Arrives (map facts self.old) (facts note.value) (map facts self.new)) }
     {
         if self.holds(&note) {
             return Ok(());
@@ -85,8 +94,6 @@ impl NoteList {
             self.notes.push(note)?;
             return Ok(());
         }
-        let merged = join(alloc, &self.notes[MOST_NOTES - 1], &note)?;
-        self.notes[MOST_NOTES - 1] = merged;
-        Ok(())
+        merge(alloc, &mut self.notes[MOST_NOTES - 1], &note)
     }
 }

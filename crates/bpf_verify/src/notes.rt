@@ -4,7 +4,7 @@ ghost use Rattle.bpf_insn.specs.Code.{IsCode};
 ghost use Rattle.bpf_insn.specs.declared.refusal.Cause.TheVariants.{Memory};
 ghost use Rattle.bpf_flow.specs.Causes.{IsRuleCause};
 ghost use Rattle.bpf_flow.specs.Edges.{Edges};
-ghost use Rattle.bpf_flow.specs.Gives.{Fails, edges_of, WantsMemory};
+ghost use Rattle.bpf_flow.specs.Gives.{Fails, edges_along, WantsMemory};
 ghost use Rattle.bpf_note.specs.Facts.{Facts};
 ghost use Rattle.bpf_note.specs.Parts.{facts};
 ghost use Rattle.bpf_verify.specs.Consistent.{IsOrdered};
@@ -18,66 +18,79 @@ use crate::graph::pass_order;
 use crate::note_list::NoteList;
 use crate::stopped::{Stopped, is_rule_cause};
 use crate::wanting::wanting;
-use bpf_flow::{Successor, Successors, after};
+use bpf_flow::{Ways, transfer};
 use bpf_insn::{Cause, Insn};
 use bpf_note::{MapShape, Note};
 use std::alloc::{AllocError, Global};
 use std::mem;
 
-/// Brings a note to its slot.
-fn tell(alloc: Global, table: &mut Vec<NoteList>, successor: Successor) -> Result<(), AllocError>
-    requires { successor.pc < vec_len table.old }
+/// Brings a note to a slot.
+fn tell(
+    alloc: Global,
+    table: &mut Vec<NoteList>,
+    pc: u32,
+    note: Box<Note>,
+) -> Result<(), AllocError>
+    requires { pc < vec_len table.old }
     ensures size { OnOk result (vec_len table.new ≡ vec_len table.old) }
-    ensures hears { OnOk result ((q : ℕ) → Hears (facts_at table.old.items q) q ((successor.pc, facts successor.note) ∷ []) (facts_at table.new.items q)) }
+    ensures hears { OnOk result ((q : ℕ) → Hears (facts_at table.old.items q) q ((pc, facts note.value) ∷ []) (facts_at table.new.items q)) }
 {
-    table[successor.pc as usize].arrive(alloc, successor.note)
+    table[pc as usize].arrive(alloc, note)
 }
 
-/// Brings notes to the slots that an instruction leads to.
+/// Brings notes to the slots that an instruction leads to: this one to the first of them.
 fn spread(
     alloc: Global,
     table: &mut Vec<NoteList>,
-    successors: Successors,
+    note: Box<Note>,
+    ways: Ways,
 ) -> Result<(), AllocError>
-    requires { LeadInside (edges_of successors) (vec_len table.old) }
+    requires { LeadInside (edges_along ways (facts note.value)) (vec_len table.old) }
     ensures size { OnOk result (vec_len table.new ≡ vec_len table.old) }
-    ensures hears { OnOk result ((q : ℕ) → Hears (facts_at table.old.items q) q (edges_of successors) (facts_at table.new.items q)) }
-    ensures err { OnErr result (WantsMemory (Ok (edges_of successors))) }
+    ensures hears { OnOk result ((q : ℕ) → Hears (facts_at table.old.items q) q (edges_along ways (facts note.value)) (facts_at table.new.items q)) }
+    ensures err { OnErr result (WantsMemory (Ok (edges_along ways (facts note.value)))) }
 {
-    match successors {
-        Successors::None => Ok(()),
-        Successors::One(next) => tell(alloc, table, next),
-        Successors::Two(next, target) => {
-            tell(alloc, table, next)?;
-            tell(alloc, table, target)
+    match ways {
+        Ways::None => Ok(()),
+        Ways::One(next) => tell(alloc, table, next, note),
+        Ways::Two(next, target) => {
+            tell(alloc, table, next, note)?;
+            tell(alloc, table, target.pc, target.note)
         }
     }
 }
 
-/// Takes one note of a slot along its edges.
+/// Takes one note of a slot along its edges. A refused note comes back as it was.
 fn follow_note(
     alloc: Global,
     code: &[Insn],
     shapes: &[MapShape],
     table: &mut Vec<NoteList>,
     pc: u32,
-    note: &Note,
-) -> Result<(), Cause>
+    mut note: Box<Note>,
+) -> Result<(), Stopped>
     requires laid { IsCode code.now }
     requires structured { IsStructured code.now (length shapes.now) }
     requires there { pc < length code.now }
     requires begins { begins (slice_get code.now pc) ≡ true }
     requires size { vec_len table.old ≡ length code.now }
     ensures size { OnOk result (vec_len table.new ≡ length code.now) }
-    ensures hears { OnOk result ((es : Edges) × (rule_at code.now shapes.now pc (facts note.now) ≡ Ok es) × ((q : ℕ) → Hears (facts_at table.old.items q) q es (facts_at table.new.items q))) }
-    ensures err { IfErr result (λ c. Fails c (rule_at code.now shapes.now pc (facts note.now))) }
+    ensures hears { OnOk result ((es : Edges) × (rule_at code.now shapes.now pc (facts note.value) ≡ Ok es) × ((q : ℕ) → Hears (facts_at table.old.items q) q es (facts_at table.new.items q))) }
+    ensures slot { IfErr result (λ s. s.refusal.pc ≡ pc) }
+    ensures err { IfErr result (λ s. Fails s.refusal.cause (rule_at code.now shapes.now pc (facts note.value))) }
+    ensures there { IfErr result (λ s. IsSome s.note ↔ IsRuleCause s.refusal.cause) }
+    ensures kept { IfErr result (λ s. IfSome s.note (λ n. n.value ≡ note.value)) }
 {
-    let successors = after(alloc, &code[pc as usize], pc, note, shapes)?;
-    spread(alloc, table, successors)?;
-    Ok(())
+    match transfer(alloc, &code[pc as usize], pc, &mut note, shapes) {
+        Ok(ways) => match spread(alloc, table, note, ways) {
+            Ok(()) => Ok(()),
+            Err(error) => Err(Stopped::from(wanting(error, pc))),
+        },
+        Err(cause) => Err(Stopped::at_note(cause, pc, note)),
+    }
 }
 
-/// Takes the notes of one slot along its edges. Then they go: no slot after it asks for them.
+/// Takes the notes of one slot along its edges. No slot after it asks for them, so the notes themselves go.
 fn follow(
     alloc: Global,
     code: &[Insn],
@@ -96,13 +109,11 @@ fn follow(
     ensures slot { IfErr result (λ s. s.refusal.pc ≡ pc) }
     ensures err { IfErr result (λ s. IsMet s.refusal.cause (TakesMemory code.now shapes.now pc (facts_at table.old.items pc)) (IsFirstCause code.now shapes.now pc (facts_at table.old.items pc) s.refusal.cause)) }
     ensures there { IfErr result (λ s. IsSome s.note ↔ IsRuleCause s.refusal.cause) }
-    ensures note { IfErr result (λ s. IfSome s.note (λ n. IsFirstRefused code.now shapes.now pc (facts_at table.old.items pc) s.refusal.cause (facts n))) }
+    ensures note { IfErr result (λ s. IfSome s.note (λ n. IsFirstRefused code.now shapes.now pc (facts_at table.old.items pc) s.refusal.cause (facts n.value))) }
 {
-    let mut notes = mem::replace(&mut table[pc as usize], NoteList::empty(alloc)).into_notes();
-    for (i, note) in notes.iter().enumerate() {
-        if let Err(cause) = follow_note(alloc, code, shapes, table, pc, note) {
-            return Err(Stopped::at_note(cause, pc, notes.swap_remove(i)));
-        }
+    let notes = mem::replace(&mut table[pc as usize], NoteList::empty(alloc)).into_notes();
+    for note in notes {
+        follow_note(alloc, code, shapes, table, pc, note)?;
     }
     Ok(())
 }
@@ -130,7 +141,7 @@ pub(crate) fn second_pass(alloc: Global, code: &[Insn], shapes: &[MapShape]) -> 
     ensures passed { IfOk result (λ _. (notes : ℕ → List Facts) × IsPassed code.now shapes.now notes) }
     ensures halted { IfErr result (λ s. IsHalted code.now shapes.now s.refusal.pc s.refusal.cause) }
     ensures there { IfErr result (λ s. IsSome s.note ↔ IsRuleCause s.refusal.cause) }
-    ensures note { IfErr result (λ s. IfSome s.note (λ n. IsStoppedBy code.now shapes.now s.refusal.pc s.refusal.cause (facts n))) }
+    ensures note { IfErr result (λ s. IfSome s.note (λ n. IsStoppedBy code.now shapes.now s.refusal.pc s.refusal.cause (facts n.value))) }
 {
     let order = match pass_order(alloc, code) {
         Ok(order) => order,
@@ -152,11 +163,11 @@ pub(crate) fn notes_at(
     code: &[Insn],
     shapes: &[MapShape],
     at: u32,
-) -> Result<Option<Vec<Note>>, Cause>
+) -> Result<Option<Vec<Box<Note>>>, Cause>
     requires laid { IsCode code.now }
     requires structured { IsStructured code.now (length shapes.now) }
     requires ordered { IsOrdered code.now }
-    ensures some { IfOk result (λ o. IfSome o (λ v. ComesWith code.now shapes.now at (map facts v.items))) }
+    ensures some { IfOk result (λ o. IfSome o (λ v. ComesWith code.now shapes.now at (map (λ b. facts b.value) v.items))) }
     ensures none { IfOk result (λ o. IfNone o ((list : List Facts) → ComesWith code.now shapes.now at list → ⊥)) }
     ensures err { IfErr result (λ c. c ≡ Memory) }
 {

@@ -9,7 +9,7 @@ use bpf_note::Note;
 #[derive(Drop)]
 pub(crate) struct Stopped {
     pub(crate) refusal: Refusal,
-    pub(crate) note: Option<Note>,
+    pub(crate) note: Option<Box<Note>>,
 }
 
 impl From<Refusal> for Stopped {
@@ -46,7 +46,7 @@ pub(crate) fn is_rule_cause(cause: Cause) -> bool
 
 impl Stopped {
     /// A note of a slot could not be followed. When memory ran out the note is dropped.
-    pub(crate) fn at_note(cause: Cause, pc: u32, note: Note) -> Stopped
+    pub(crate) fn at_note(cause: Cause, pc: u32, note: Box<Note>) -> Stopped
         ensures cause { result.refusal.cause ≡ cause }
         ensures slot { result.refusal.pc ≡ pc }
         ensures there { IsSome result.note ↔ IsRuleCause cause }

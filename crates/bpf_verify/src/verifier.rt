@@ -34,7 +34,7 @@ fn both_passes(alloc: Global, code: &[Insn], shapes: &[MapShape]) -> Result<Vec<
     ensures faultless { IfOk result (λ _. IsFaultless code.now shapes.now) }
     ensures refused { IfErr result (λ s. IsRefusal code.now shapes.now s.refusal.cause s.refusal.pc) }
     ensures there { IfErr result (λ s. IsSome s.note ↔ IsRuleCause s.refusal.cause) }
-    ensures note { IfErr result (λ s. IfSome s.note (λ n. IsStoppedBy code.now shapes.now s.refusal.pc s.refusal.cause (facts n))) }
+    ensures note { IfErr result (λ s. IfSome s.note (λ n. IsStoppedBy code.now shapes.now s.refusal.pc s.refusal.cause (facts n.value))) }
     ensures structured { IfErr result (λ s. IfSome s.note (λ _. IsStructured code.now (length shapes.now))) }
     ensures ordered { IfErr result (λ s. IfSome s.note (λ _. IsOrdered code.now)) }
 {
@@ -78,7 +78,7 @@ pub fn explain(alloc: Global, code: Code, shapes: &[MapShape]) -> Result<Verifie
         Err(Stopped { refusal, note }) => Err(Explained {
             code,
             refusal,
-            note,
+            note: note.map(Box::into_inner),
         }),
     }
 }

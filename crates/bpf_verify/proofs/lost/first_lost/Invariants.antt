@@ -7,4 +7,4 @@ use Rattle.bpf_verify.specs.Lost.{Loses}
 use Rattle.bpf_verify.proofs.lost.first_lost.Given as goal
 
 abbrev pub invariant-loop-i : goal.invariant-loop-i
-invariant-loop-i l = (j : ℕ) (n : Facts) → j < l.i → slice_get (map facts l.fn.notes.items) j ≡ Some n → Loses l.code l.shapes l.at (number l.register) n → ⊥
+invariant-loop-i l = (j : ℕ) (n : Facts) → j < l.i → slice_get (map (λ b. facts b.value) l.fn.notes.items) j ≡ Some n → Loses l.code l.shapes l.at (number l.register) n → ⊥

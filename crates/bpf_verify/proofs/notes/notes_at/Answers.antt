@@ -5,6 +5,7 @@ use Rattle.bpf_note.specs.Parts.{facts}
 use Rattle.bpf_verify.specs.Edges.{IsPassOrder}
 use Rattle.bpf_verify.specs.Gathered.{IsFirstCause}
 use Rattle.bpf_verify.specs.Tables.{facts_at}
+use Rattle.bpf_verify.proofs.BoxLemmas.{said}
 use Rattle.bpf_verify.proofs.ComeLemmas.{comes_inside, comes_before}
 use Rattle.bpf_verify.proofs.FollowLemmas.{list_at}
 use Rattle.bpf_verify.proofs.LostLemmas.{met_memory, met_rule, away_next}
@@ -34,8 +35,8 @@ returns-then-pc-at-clause-some c =
     let inside : c.args.at < length c.loop-pc.table.items = omega (arith, c.loop-pc.table.ok.0, c.loop-pc.invariant.0, begins) in
     let here = list_there c.args.code.now c.args.shapes.now order c.requires.laid c.requires.structured is c.loop-pc.pc-index c.args.at (omega arith) c.if-pc-at.true taken.notes taken.passing (facts_at c.loop-pc.table.items) taken.same in
     let listed = list_at c.loop-pc.table.items c.args.at c.index_mut.result.now inside c.index_mut.ensures.value in
-    passing_comes c.args.code.now c.args.shapes.now order c.requires.laid c.requires.structured is c.loop-pc.pc-index c.args.at (omega arith) c.if-pc-at.true taken.notes taken.passing (map facts c.into_notes.result.items)
-    (sym here ∙ listed ∙ ap (map facts) (sym (c.into_notes.ensures ∙ c.replace-list.ensures.value)))
+    passing_comes c.args.code.now c.args.shapes.now order c.requires.laid c.requires.structured is c.loop-pc.pc-index c.args.at (omega arith) c.if-pc-at.true taken.notes taken.passing (map (λ b. facts b.value) c.into_notes.result.items)
+    (sym here ∙ listed ∙ ap (map facts) (sym (c.into_notes.ensures ∙ c.replace-list.ensures.value)) ∙ said c.into_notes.result.items)
 
 pub follow-requires-clause-there : goal.follow-requires-clause-there
 follow-requires-clause-there c =

@@ -1,6 +1,7 @@
 use Rattle.std.proofs.Common.{ℕ, List, sym, subst, refl, arith}
 use Rattle.std.proofs.lemmas.Option.{IfSome_then}
 use Rattle.std.proofs.lemmas.Result.{err_from_is_err_and}
+use Rattle.std.specs.Global.{Box}
 use Rattle.std.specs.Prelude.{slice_index_or}
 use Rattle.bpf_verify.specs.Edges.{IsPassOrder}
 use Rattle.bpf_verify.specs.Gathered.{TakesMemory, IsFirstCause, IsFirstRefused}
@@ -42,10 +43,10 @@ returns-in_err-follow-clause-note c =
     let s = c.in_err-follow.field-0.0 in
     let p = err_from_is_err_and c.from_residual.result c.from_residual.ensures.1 in
     let here = list_there c.args.code.now c.args.shapes.now c.deref-pc-items.result.now c.requires.laid c.requires.structured is c.loop-pc.pc-index pc (omega arith) refl taken.notes taken.passing (facts_at c.loop-pc.table.items) taken.same in
-    let by : (n : Noted) → IsFirstRefused c.args.code.now c.args.shapes.now pc (facts_at c.loop-pc.table.items pc) s.refusal.cause (facts n) → IsStoppedBy c.args.code.now c.args.shapes.now s.refusal.pc s.refusal.cause (facts n) =
-    λ n h. subst (λ (pc : ℕ). IsStoppedBy c.args.code.now c.args.shapes.now pc s.refusal.cause (facts n)) (sym c.in_err-follow.ensures.slot)
-    (passing_stops_by c.args.code.now c.args.shapes.now c.deref-pc-items.result.now c.requires.laid c.requires.structured is c.loop-pc.pc-index pc (omega arith) refl taken.notes taken.passing s.refusal.cause (facts n)
-    (subst (λ (ns : List Facts). IsFirstRefused c.args.code.now c.args.shapes.now pc ns s.refusal.cause (facts n)) here h)) in
+    let by : (b : Box Noted) → IsFirstRefused c.args.code.now c.args.shapes.now pc (facts_at c.loop-pc.table.items pc) s.refusal.cause (facts b.value) → IsStoppedBy c.args.code.now c.args.shapes.now s.refusal.pc s.refusal.cause (facts b.value) =
+    λ b h. subst (λ (pc : ℕ). IsStoppedBy c.args.code.now c.args.shapes.now pc s.refusal.cause (facts b.value)) (sym c.in_err-follow.ensures.slot)
+    (passing_stops_by c.args.code.now c.args.shapes.now c.deref-pc-items.result.now c.requires.laid c.requires.structured is c.loop-pc.pc-index pc (omega arith) refl taken.notes taken.passing s.refusal.cause (facts b.value)
+    (subst (λ (ns : List Facts). IsFirstRefused c.args.code.now c.args.shapes.now pc ns s.refusal.cause (facts b.value)) here h)) in
     rw (p.1, p.2) (IfSome_then s.note c.in_err-follow.ensures.note by)
 
 pub loop-pc-init : goal.loop-pc-init

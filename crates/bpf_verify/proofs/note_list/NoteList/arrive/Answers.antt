@@ -1,28 +1,28 @@
-use Rattle.std.proofs.Common.{rules, ◌≡◌, ◌<◌, List, length, map, arith, Some, ap, subst, refl}
-use Rattle.std.specs.Prelude.{slice_get, slice_set, Contains}
-use Rattle.std.proofs.lemmas.Option.{slice_get_read}
+use Rattle.std.proofs.Common.{rules, ◌≡◌, ◌∙◌, length, map, ap, subst, sym}
+use Rattle.std.proofs.lemmas.Result.{on_ok_weaker}
+use Rattle.std.specs.Box.{with_value}
+use Rattle.std.specs.Prelude.{Contains}
+use Rattle.bpf_note.specs.Join.{joined}
 use Rattle.bpf_note.specs.Parts.{Noted, facts}
 use Rattle.bpf_verify.specs.Gathered.{Arrives, dropped}
-use Rattle.bpf_verify.proofs.ArrivalLemmas.{arrives_appended, arrives_merged}
+use Rattle.bpf_verify.proofs.BoxLemmas.{arrives_in_box, merges_in_box}
 use Rattle.bpf_verify.proofs.note_list.NoteList.arrive.Goals as goal
 
 pub returns-then-holds : goal.returns-then-holds
-returns-then-holds c = dropped (c.holds.ensures.0 c.if-holds.true)
+returns-then-holds c = subst (λ (n : Noted). Arrives (map facts c.args.self.now) (facts n) (map facts c.args.self.now)) c.deref.ensures (dropped (c.holds.ensures.0 c.if-holds.true))
 
 pub returns-then-len-lt-MOST_NOTES : goal.returns-then-len-lt-MOST_NOTES
 returns-then-len-lt-MOST_NOTES c =
-    let room : length c.args.self.now < 8 = search rules in
-    subst (λ (ys : List Noted). Arrives (map facts c.args.self.now) (facts c.args.note) (map facts ys)) (search rules)
-    (arrives_appended c.args.self.now c.args.note (λ h. let t = c.holds.ensures.1 h in cc (t, c.if-holds.false)) room)
+    let new : Contains (map facts c.args.self.now) (facts c.args.note.value) → ⊥ =
+    λ h. let t = c.holds.ensures.1 (subst (λ (n : Noted). Contains (map facts c.args.self.now) (facts n)) (sym c.deref.ensures) h) in cc (t, c.if-holds.false) in
+    arrives_in_box c.args.self.now c.self.inside.notes.items c.push.new.self.items c.args.note c.self.view_is (search rules) c.in_ok-push.ensures.items new
 
 pub returns : goal.returns
 returns c =
-    let xs = c.self.inside.notes.items in
-    let same : c.self.inside.notes.items ≡ c.args.self.now = search rules in
-    let full : length c.args.self.now ≡ 8 = search rules in
-    let there : 7 < length c.self.inside.notes.items = omega (arith, full, ap length same) in
-    let at : slice_get c.self.inside.notes.items 7 ≡ Some c.index.result.now = slice_get_read xs (length xs) 7 c.index.result.now refl there c.index.ensures in
-    let new : Contains (map facts c.self.inside.notes.items) (facts c.args.note) → ⊥ =
-    λ h. let t = c.holds.ensures.1 (subst (λ (ys : List Noted). Contains (map facts ys) (facts c.args.note)) same h) in cc (t, c.if-holds.false) in
-    subst (λ (ys : List Noted). Arrives (map facts ys) (facts c.args.note) (map facts (slice_set c.self.inside.notes.items 7 c.in_ok-merged.merged))) same
-    (arrives_merged c.self.inside.notes.items c.args.note c.in_ok-merged.merged c.index.result.now new (omega (arith, full, ap length same)) at c.in_ok-merged.ensures.joined)
+    let new : Contains (map facts c.args.self.now) (facts c.args.note.value) → ⊥ =
+    λ h. let t = c.holds.ensures.1 (subst (λ (n : Noted). Contains (map facts c.args.self.now) (facts n)) (sym c.deref.ensures) h) in cc (t, c.if-holds.false) in
+    let full : length c.self.inside.notes.items ≡ 8 = search rules in
+    let eighth = c.index_mut.result.now in
+    let same : joined (facts c.deref_mut.result.now) (facts c.deref-2.result.now) ≡ joined (facts eighth.value) (facts c.args.note.value) =
+    ap (λ (n : Noted). joined (facts n) (facts c.deref-2.result.now)) c.deref_mut.ensures.value ∙ ap (λ (n : Noted). joined (facts eighth.value) (facts n)) c.deref-2.ensures in
+    on_ok_weaker c.merge.result (λ e. merges_in_box c.args.self.now c.self.inside.notes.items eighth (with_value eighth c.merge.new.into) c.args.note.value c.self.view_is full c.index_mut.ensures.value new (e ∙ same)) c.merge.ensures
