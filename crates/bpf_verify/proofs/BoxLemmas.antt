@@ -31,7 +31,7 @@ taken_at items pc i there taken boxes b inside is got view at =
     let here : facts_at items pc ≡ map facts taken = list_at items pc there inside is ∙ ap (map facts) (sym got) in
     subst (λ (ns : List Facts). slice_get ns i ≡ Some (facts b.value)) (sym here) (get_map facts taken i b.value (in_box_at taken boxes boxes i b view refl at.0 at.1))
 
--- a note in a box comes to a list with room
+-- a list with room gets a note in a box
 pub arrives_in_box : (notes : List Noted) (boxes items : List (Box Noted)) (b : Box Noted) → map (λ b. b.value) boxes ≡ notes → length boxes < 8 → items ≡ boxes ++ b ∷ [] → (Contains (map facts notes) (facts b.value) → ⊥) →
     Arrives (map facts notes) (facts b.value) (map facts (map (λ b. b.value) items))
 arrives_in_box notes boxes items b view room pushed new =
@@ -39,7 +39,7 @@ arrives_in_box notes boxes items b view room pushed new =
     let is : map (λ b. b.value) items ≡ notes ++ b.value ∷ [] = ap (map (λ b. b.value)) pushed ∙ (map-append (λ b. b.value) boxes (b ∷ []) ∙ ap (λ (ns : List Noted). ns ++ b.value ∷ []) view) in
     subst (λ (ns : List Noted). Arrives (map facts notes) (facts b.value) (map facts ns)) (sym is) (arrives_appended notes b.value new few)
 
--- or to a full one, where the eighth box gets the join
+-- the eighth box of a full list gets the join with a note
 pub merges_in_box : (notes : List Noted) (boxes : List (Box Noted)) (eighth joint : Box Noted) (n : Noted) → map (λ b. b.value) boxes ≡ notes → length boxes ≡ 8 → eighth ≡ slice_index_or boxes 7 eighth → (Contains (map facts notes) (facts n) → ⊥) →
     facts joint.value ≡ joined (facts eighth.value) (facts n) → Arrives (map facts notes) (facts n) (map facts (map (λ b. b.value) (slice_set boxes 7 joint)))
 merges_in_box notes boxes eighth joint n view full at new is =

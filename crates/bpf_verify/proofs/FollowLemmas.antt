@@ -223,7 +223,7 @@ pub refused_at : (code : List Insn) (shapes : List Shape) (pc i : ℕ) (old new 
     Fails c (rule_at code shapes pc n) → IsRuleCause c → IsFirstRefused code shapes pc (old pc) c n
 refused_at code shapes pc i old new n c f at g r = following_stops code shapes pc i old new f n at c (fails_err c (rule_at code shapes pc n) r g)
 
--- what is there exactly for a rule's cause, and holds x, holds what x has for such a cause
+-- something is there exactly for a rule's cause, and v of it is x: what is so of x for such a cause is so of v of it
 pub there_has : {A B : Type 0} (o : Option A) (v : A → B) (x : B) (P : B → Type 0) (R : Type 0) → (IsSome o ↔ R) → IfSome o (λ y. v y ≡ x) → (R → P x) → IfSome o (λ y. P (v y))
 there_has None v x P R there same h = tt
 there_has (Some y) v x P R there same h = subst P (sym same) (h (there.0 refl))
