@@ -1,5 +1,5 @@
 -- How a note is kept, and what it says.
-use Rattle.std.specs.Prelude.{ℕ, ◌+◌, ◌/◌, ◌%◌, ◌≢◌, ◌<◌, ◌⊎◌, List, [], ◌∷◌, Option, None, Some, Bool, true, false, if◌then◌else◌, ◌==◌, slice_index_or}
+use Rattle.std.specs.Prelude.{ℕ, ◌+◌, ◌/◌, ◌%◌, ◌≡◌, ◌≢◌, ◌<◌, ◌≤◌, ◌⊎◌, List, [], ◌∷◌, Option, None, Some, Bool, true, false, if◌then◌else◌, ◌==◌, slice_index_or}
 use Rattle.bpf_note.specs.declared.val.Val.{Val}
 use Rattle.bpf_note.specs.declared.val.Val.TheVariants.{Unset}
 use Rattle.bpf_note.specs.declared.slot.Slot.{Slot}
@@ -39,6 +39,10 @@ IsNormalFrom least (b ∷ bs) = (least < b.id + 1) × Says b × IsNormalFrom (b.
 
 abbrev pub IsNormal : List Bound → Type 0
 IsNormal bounds = IsNormalFrom 0 bounds
+
+-- no byte of the slots below this one is set
+abbrev pub IsBlankBelow : ℕ → List Slot → Type 0
+IsBlankBelow floor slots = (floor ≤ 64) × ((j : ℕ) → j < floor → slice_index_or slots j no_bytes ≡ no_bytes)
 
 -- a note as it is kept
 pub record Noted : Type 0 where

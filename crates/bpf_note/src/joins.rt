@@ -3,7 +3,7 @@ ghost use Rattle.std.specs.Prelude.{◌≡◌, ◌⊎◌, ◌↔◌, ◌&&◌, �
 ghost use Rattle.bpf_note.specs.State.{State};
 ghost use Rattle.bpf_note.specs.Describes.{Describes};
 ghost use Rattle.bpf_note.specs.Join.{joined, joined_value, is_same_pointer};
-ghost use Rattle.bpf_note.specs.Parts.{facts, no_bytes};
+ghost use Rattle.bpf_note.specs.Parts.{facts, no_bytes, IsBlankBelow};
 ghost use Rattle.bpf_note.specs.Slots.{both, joined_slot, IsCovered};
 
 use crate::bounds::{covers_bounds, join_bounds};
@@ -19,9 +19,11 @@ pub fn join(alloc: Global, a: &Note, b: &Note) -> Result<Note, AllocError>
     ensures describes { IfOk result (λ n. (s : State) → Describes (facts a.now) s ⊎ Describes (facts b.now) s → Describes (facts n) s) }
 {
     let bounds = join_bounds(alloc, &a.bounds, &b.bounds)?;
+    let floor = a.floor.min(b.floor);
     Ok(Note {
         regs: join_registers(&a.regs, &b.regs),
-        slots: join_stacks(&a.slots, &b.slots),
+        slots: join_stacks(&a.slots, &b.slots, floor),
+        floor,
         bounds,
     })
 }
@@ -32,7 +34,7 @@ pub fn covers(a: &Note, b: &Note) -> bool
     ensures describes { IsTrue result → (s : State) → Describes (facts b.now) s → Describes (facts a.now) s }
 {
     covers_registers(&a.regs, &b.regs)
-        && covers_stack(&a.slots, &b.slots)
+        && covers_stack(&a.slots, &b.slots, a.floor.min(b.floor))
         && covers_bounds(&a.bounds, &b.bounds)
 }
 
@@ -124,11 +126,14 @@ fn join_registers(a: &[Val; 11], b: &[Val; 11]) -> [Val; 11]
     joined
 }
 
-fn join_stacks(a: &[Slot; 64], b: &[Slot; 64]) -> [Slot; 64]
+/// Joins the stacks slot by slot. No byte of the slots below `floor` is set.
+fn join_stacks(a: &[Slot; 64], b: &[Slot; 64], floor: usize) -> [Slot; 64]
+    requires a { IsBlankBelow floor a.now }
+    requires b { IsBlankBelow floor b.now }
     ensures { (j : ℕ) → slice_index_or result j no_bytes ≡ joined_slot (slice_index_or a.now j no_bytes) (slice_index_or b.now j no_bytes) }
 {
     let mut joined = *a;
-    for i in 0..64 {
+    for i in floor..64 {
         joined[i] = join_slots(a[i], b[i]);
     }
     joined
@@ -153,11 +158,13 @@ fn covers_value(a: Val, b: Val) -> bool
     join_value(a, b) == a
 }
 
-/// Whether each slot of the first is the join of the two.
-fn covers_stack(a: &[Slot; 64], b: &[Slot; 64]) -> bool
+/// Whether each slot of the first is the join of the two. No byte of the slots below `floor` is set.
+fn covers_stack(a: &[Slot; 64], b: &[Slot; 64], floor: usize) -> bool
+    requires a { IsBlankBelow floor a.now }
+    requires b { IsBlankBelow floor b.now }
     ensures { IsTrue result ↔ ((j : ℕ) → IsCovered (slice_index_or a.now j no_bytes) (slice_index_or b.now j no_bytes)) }
 {
-    for i in 0..64 {
+    for i in floor..64 {
         if !covers_slot(a[i], b[i]) {
             return false;
         }

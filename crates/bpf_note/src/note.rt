@@ -7,7 +7,7 @@ use crate::bound::Bound;
 use crate::bounds::{safe_of, set_bound, top_of};
 use crate::replacement::Replacement;
 use crate::slot::Slot;
-use crate::slots::{replaced_registers, replaced_slots, slot_with_byte};
+use crate::slots::{are_equal, replaced_registers, replaced_slots, slot_with_byte};
 use crate::val::Val;
 use std::alloc::{AllocError, Global};
 use std::marker::Model;
@@ -19,17 +19,19 @@ use std::marker::Model;
 pub struct Note {
     pub(crate) regs: [Val; 11],
     pub(crate) slots: [Slot; 64],
+    /// No byte of the slots below this one is set, so they needn't be gone through.
+    pub(crate) floor: usize,
     pub(crate) bounds: Vec<Bound>,
 }
 
 impl Model for Note {
-    ghost use Rattle.bpf_note.specs.Parts.{Noted, IsNormal};
+    ghost use Rattle.bpf_note.specs.Parts.{Noted, IsBlankBelow, IsNormal};
 
     ghost Value = { Noted };
 
     ghost view = { λ n. record { regs = n.regs; slots = n.slots; bounds = n.bounds.items } };
 
-    ghost invariant = { λ n. IsNormal n.bounds.items };
+    ghost invariant = { λ n. IsNormal n.bounds.items × IsBlankBelow n.floor n.slots };
 }
 
 impl Note {
@@ -82,7 +84,9 @@ impl Note {
         requires { slot < 64 }
         ensures { facts self.new ≡ with_kept (facts self.old) slot value }
     {
-        self.slots[usize::from(slot)] = Slot::Kept(value);
+        let at = usize::from(slot);
+        self.slots[at] = Slot::Kept(value);
+        self.floor = self.floor.min(at);
     }
 
     /// Sets a stack byte. Its slot no longer keeps a value.
@@ -92,6 +96,7 @@ impl Note {
     {
         let at = usize::from(byte / 8);
         self.slots[at] = slot_with_byte(self.slots[at], byte % 8);
+        self.floor = self.floor.min(at);
     }
 
     /// The greatest base of an id.
@@ -143,7 +148,7 @@ impl Note {
         )?;
         let change = Replacement::Forget { id };
         self.regs = replaced_registers(&self.regs, change);
-        self.slots = replaced_slots(&self.slots, change);
+        self.slots = replaced_slots(&self.slots, self.floor, change);
         Ok(())
     }
 
@@ -153,7 +158,7 @@ impl Note {
     {
         let change = Replacement::Resolve { id, known: value };
         self.regs = replaced_registers(&self.regs, change);
-        self.slots = replaced_slots(&self.slots, change);
+        self.slots = replaced_slots(&self.slots, self.floor, change);
     }
 
     /// What is known before the first instruction. It takes no memory.
@@ -163,6 +168,7 @@ impl Note {
         Note {
             regs: entry_registers(),
             slots: no_slots(),
+            floor: 64,
             bounds: Vec::new(alloc),
         }
     }
@@ -175,6 +181,7 @@ impl Note {
         Ok(Note {
             regs: self.regs,
             slots: self.slots,
+            floor: self.floor,
             bounds,
         })
     }
@@ -183,7 +190,9 @@ impl Note {
     pub fn same_as(&self, other: &Note) -> bool
         ensures { IsTrue result ↔ (self.now ≡ other.now) }
     {
-        self.regs == other.regs && self.slots == other.slots && self.bounds == other.bounds
+        self.regs == other.regs
+            && are_equal(&self.slots, &other.slots, self.floor.min(other.floor))
+            && self.bounds == other.bounds
     }
 }
 

@@ -1,8 +1,8 @@
 //! What is done to values, registers and slots of the stack.
-ghost use Rattle.std.specs.Prelude.{◌≡◌, ◌<◌, ℕ, None, true, slice_index_or, length};
+ghost use Rattle.std.specs.Prelude.{◌≡◌, ◌<◌, ◌↔◌, IsTrue, ℕ, None, true, slice_index_or, length};
 ghost use Rattle.bpf_note.specs.Slots.{replaced, set_bytes, slot_with};
 ghost use Rattle.bpf_note.specs.State.{put};
-ghost use Rattle.bpf_note.specs.Parts.{no_bytes, kept_of, set_of};
+ghost use Rattle.bpf_note.specs.Parts.{no_bytes, kept_of, set_of, IsBlankBelow};
 
 use crate::replacement::Replacement;
 use crate::slot::Slot;
@@ -41,14 +41,37 @@ pub(crate) fn replaced_registers(registers: &[Val; 11], change: Replacement) -> 
     changed
 }
 
-pub(crate) fn replaced_slots(slots: &[Slot; 64], change: Replacement) -> [Slot; 64]
+/// No byte of the slots below `floor` is set.
+pub(crate) fn replaced_slots(slots: &[Slot; 64], floor: usize, change: Replacement) -> [Slot; 64]
+    requires { IsBlankBelow floor slots.now }
     ensures { (j : ℕ) → slice_index_or result j no_bytes ≡ slot_with (replaced change) (slice_index_or slots.now j no_bytes) }
 {
     let mut changed = *slots;
-    for i in 0..64 {
+    for i in floor..64 {
         changed[i] = replaced_slot(change, slots[i]);
     }
     changed
+}
+
+#[tactic(auto, using(crate::proofs::EqualLemmas::slots_equal))]
+fn is_same(a: Slot, b: Slot) -> bool
+    ensures { IsTrue result ↔ (a ≡ b) }
+{
+    a == b
+}
+
+/// Whether the slots are equal. No byte of the slots below `floor` is set.
+pub(crate) fn are_equal(a: &[Slot; 64], b: &[Slot; 64], floor: usize) -> bool
+    requires a { IsBlankBelow floor a.now }
+    requires b { IsBlankBelow floor b.now }
+    ensures { IsTrue result ↔ (a.now ≡ b.now) }
+{
+    for i in floor..64 {
+        if !is_same(a[i], b[i]) {
+            return false;
+        }
+    }
+    true
 }
 
 /// The bytes of a slot that are set.

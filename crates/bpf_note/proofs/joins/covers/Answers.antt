@@ -24,7 +24,7 @@ returns-then-covers_stack-clause-exact c =
       | then-covers_registers w ↦ (
         λ t. covers_all a b (c.covers_registers.ensures.0 w.if-covers_registers.true) (w.covers_stack.ensures.0 (sym w.value-is ∙ c.if-covers_stack.true))
             (moved _ _ _ _ c.deref.ensures.value c.deref-then-covers_stack.ensures.value (c.covers_bounds.ensures.0 t)),
-        λ e. c.covers_bounds.ensures.1 (moved _ _ _ _ (sym c.deref.ensures.value) (sym c.deref-then-covers_stack.ensures.value) (bounds_covered a b c.a.invariant e)),
+        λ e. c.covers_bounds.ensures.1 (moved _ _ _ _ (sym c.deref.ensures.value) (sym c.deref-then-covers_stack.ensures.value) (bounds_covered a b c.a.invariant.0 e)),
       )
       | else-covers_registers w ↦ never (sym w.if-covers_registers.false ∙ sym w.value-is ∙ c.if-covers_stack.true)
     ])
