@@ -12,7 +12,7 @@ ghost use Rattle.bpf_flow.specs.Rule.{after_of};
 ghost use Rattle.bpf_flow.specs.Step.{target};
 
 use crate::alu::operand_value;
-use crate::effect::{Effect, copied};
+use crate::effect::Effect;
 use crate::graph::jump_target;
 use crate::point::{Point, is_unset};
 use crate::successors::{Successor, Ways};
@@ -202,7 +202,7 @@ pub(crate) fn branch(
     requires { pc < 4096 }
     ensures { IfOk result (λ w. edges_along w (facts note.new) ≡ edges_by (Branches to test) pc (facts note.old)) }
 {
-    let mut there = copied(alloc, note)?;
+    let mut there = note.boxed(alloc)?;
     test.meet(&mut there)?;
     test.miss(note)?;
     Ok(Ways::Two(

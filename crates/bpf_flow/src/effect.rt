@@ -35,13 +35,6 @@ pub(crate) enum Effect {
     Ends,
 }
 
-/// A copy of a note.
-pub(crate) fn copied(alloc: Global, note: &Note) -> Result<Box<Note>, AllocError>
-    ensures { IfOk result (λ n. facts n.value ≡ facts note.now) }
-{
-    Ok(Box::new(alloc, note.copy(alloc)?)?)
-}
-
 /// A register gets an address in the packet with a base of its own.
 fn set_fresh(note: &mut Note, id: u16, dst: Register, top: u32) -> Result<(), AllocError>
     ensures { OnOk result (facts note.new ≡ with_reg (with_id (facts note.old) id top) (number dst) (Pkt id 0)) }
@@ -93,7 +86,7 @@ impl Effect {
         if matches!(self, Effect::Ends) {
             return Ok(Successors::None);
         }
-        let mut next = copied(alloc, note)?;
+        let mut next = note.boxed(alloc)?;
         match self.apply(alloc, pc, &mut next)? {
             Ways::None => Ok(Successors::None),
             Ways::One(pc) => Ok(Successors::One(Successor { pc, note: next })),

@@ -30,6 +30,17 @@ pub filled_from : {A : Type 0} (xs ys zs : List A) (f : A → A → A) (d e x : 
 filled_from {A = A} xs ys zs f d e x i n len ly lz lt h is =
     filled xs ys zs f d x i n len lt h (is ∙ ap (λ (y : A). f y (get_or zs i e)) (same_read ys i e d (omega arith)) ∙ ap (λ (z : A). f (get_or ys i d) z) (same_read zs i e d (omega arith)))
 
+-- one more place is changed, and those after it aren't yet, whatever the default of the reads
+pub changed_from : {A : Type 0} (xs ys zs : List A) (f : A → A → A) (d e x : A) (i n : ℕ) → length xs ≡ n → length ys ≡ n → length zs ≡ n → i < n →
+    ((k : ℕ) → k < i → get_or xs k d ≡ f (get_or ys k d) (get_or zs k d)) → ((k : ℕ) → i ≤ k → get_or xs k d ≡ get_or ys k d) → x ≡ f (get_or xs i e) (get_or zs i e) →
+    (length (set xs i x) ≡ n) × ((k : ℕ) → k < i + 1 → get_or (set xs i x) k d ≡ f (get_or ys k d) (get_or zs k d)) × ((k : ℕ) → i + 1 ≤ k → get_or (set xs i x) k d ≡ get_or ys k d)
+changed_from {A = A} xs ys zs f d e x i n len ly lz lt done left is =
+    let old : get_or xs i e ≡ get_or ys i e = same_read xs i e d (omega arith) ∙ left i (omega arith) ∙ same_read ys i d e (omega arith) in
+    let base = filled_from xs ys zs f d e x i n len ly lz lt done (is ∙ ap (λ (y : A). f y (get_or zs i e)) old) in (
+      base.0, base.1,
+      λ k after. let ne : k ≢ i = omega arith in get_or-set_other xs i k x d ne ∙ left k (omega arith),
+    )
+
 pub le_cases : (n k : ℕ) → (n ≤ k) ⊎ (k < n)
 le_cases zero k = inl (omega arith)
 le_cases (suc n) zero = inr (omega arith)

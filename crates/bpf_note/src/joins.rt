@@ -1,5 +1,5 @@
 //! What is known where either of two notes may describe the state.
-ghost use Rattle.std.specs.Prelude.{◌≡◌, ◌⊎◌, ◌↔◌, ◌&&◌, ◌<◌, ℕ, slice_index_or, false, IfOk, IsTrue};
+ghost use Rattle.std.specs.Prelude.{◌≡◌, ◌⊎◌, ◌↔◌, ◌&&◌, ◌<◌, ℕ, slice_index_or, false, IfOk, OnOk, OnErr, IsTrue};
 ghost use Rattle.bpf_note.specs.State.{State};
 ghost use Rattle.bpf_note.specs.Describes.{Describes};
 ghost use Rattle.bpf_note.specs.Join.{joined, joined_value, is_same_pointer};
@@ -18,14 +18,23 @@ pub fn join(alloc: Global, a: &Note, b: &Note) -> Result<Note, AllocError>
     ensures joined { IfOk result (λ n. facts n ≡ joined (facts a.now) (facts b.now)) }
     ensures describes { IfOk result (λ n. (s : State) → Describes (facts a.now) s ⊎ Describes (facts b.now) s → Describes (facts n) s) }
 {
+    let mut joined = a.copy(alloc)?;
+    join_in_place(alloc, &mut joined, b)?;
+    Ok(joined)
+}
+
+/// [`join`], in the first note. An `Err` changes nothing.
+pub fn join_in_place(alloc: Global, a: &mut Note, b: &Note) -> Result<(), AllocError>
+    ensures ok { OnOk result (facts a.new ≡ joined (facts a.old) (facts b.now)) }
+    ensures err { OnErr result (a.new ≡ a.old) }
+{
     let bounds = join_bounds(alloc, &a.bounds, &b.bounds)?;
     let floor = a.floor.min(b.floor);
-    Ok(Note {
-        regs: join_registers(&a.regs, &b.regs),
-        slots: join_stacks(&a.slots, &b.slots, floor),
-        floor,
-        bounds,
-    })
+    join_registers(&mut a.regs, &b.regs);
+    join_stacks(&mut a.slots, &b.slots, floor);
+    a.floor = floor;
+    a.bounds = bounds;
+    Ok(())
 }
 
 /// Whether the join of the two is the first.
@@ -116,27 +125,23 @@ fn and(a: bool, b: bool) -> bool
     a && b
 }
 
-fn join_registers(a: &[Val; 11], b: &[Val; 11]) -> [Val; 11]
-    ensures { (k : ℕ) → slice_index_or result k Val.Unset ≡ joined_value (slice_index_or a.now k Val.Unset) (slice_index_or b.now k Val.Unset) }
+fn join_registers(a: &mut [Val; 11], b: &[Val; 11])
+    ensures { (k : ℕ) → slice_index_or a.new k Val.Unset ≡ joined_value (slice_index_or a.old k Val.Unset) (slice_index_or b.now k Val.Unset) }
 {
-    let mut joined = *a;
     for i in 0..11 {
-        joined[i] = join_value(a[i], b[i]);
+        a[i] = join_value(a[i], b[i]);
     }
-    joined
 }
 
 /// Joins the stacks slot by slot. No byte of the slots below `floor` is set.
-fn join_stacks(a: &[Slot; 64], b: &[Slot; 64], floor: usize) -> [Slot; 64]
-    requires a { IsBlankBelow floor a.now }
+fn join_stacks(a: &mut [Slot; 64], b: &[Slot; 64], floor: usize)
+    requires a { IsBlankBelow floor a.old }
     requires b { IsBlankBelow floor b.now }
-    ensures { (j : ℕ) → slice_index_or result j no_bytes ≡ joined_slot (slice_index_or a.now j no_bytes) (slice_index_or b.now j no_bytes) }
+    ensures { (j : ℕ) → slice_index_or a.new j no_bytes ≡ joined_slot (slice_index_or a.old j no_bytes) (slice_index_or b.now j no_bytes) }
 {
-    let mut joined = *a;
     for i in floor..64 {
-        joined[i] = join_slots(a[i], b[i]);
+        a[i] = join_slots(a[i], b[i]);
     }
-    joined
 }
 
 /// Whether each register of the first is the join of the two.

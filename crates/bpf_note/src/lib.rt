@@ -16,7 +16,7 @@ mod slots;
 mod tests;
 mod val;
 
-pub use joins::{covers, join};
+pub use joins::{covers, join, join_in_place};
 pub use laws::{
     joins_describe_what_either_does, joins_take_either_order, joins_with_itself_change_nothing,
     notes_that_say_the_same_are_equal, the_entry_describes_every_start,

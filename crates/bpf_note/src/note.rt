@@ -177,13 +177,21 @@ impl Note {
     pub fn copy(&self, alloc: Global) -> Result<Note, AllocError>
         ensures { IfOk result (λ n. n ≡ self.now) }
     {
+        Ok(Box::into_inner(self.boxed(alloc)?))
+    }
+
+    /// The same note again, in a box.
+    pub fn boxed(&self, alloc: Global) -> Result<Box<Note>, AllocError>
+        ensures { IfOk result (λ n. n.value ≡ self.now) }
+    {
         let bounds = self.bounds.to_vec(alloc)?;
-        Ok(Note {
+        let note = Note {
             regs: self.regs,
             slots: self.slots,
             floor: self.floor,
             bounds,
-        })
+        };
+        Ok(Box::new(alloc, note)?)
     }
 
     /// Whether the two notes are equal: they say the same.

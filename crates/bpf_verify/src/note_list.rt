@@ -1,11 +1,10 @@
 //! The notes at a slot.
 ghost use Rattle.std.specs.Prelude.{◌≡◌, ◌↔◌, map, Contains, IsTrue, OnOk, IfOk, [], ◌∷◌};
 ghost use Rattle.bpf_note.specs.Facts.{entry};
-ghost use Rattle.bpf_note.specs.Join.{joined};
 ghost use Rattle.bpf_note.specs.Parts.{facts};
 ghost use Rattle.bpf_verify.specs.Gathered.{Arrives};
 
-use bpf_note::{Note, join, notes_that_say_the_same_are_equal};
+use bpf_note::{Note, join_in_place, notes_that_say_the_same_are_equal};
 use std::alloc::{AllocError, Global};
 use std::marker::Model;
 
@@ -35,14 +34,6 @@ fn say_the_same(a: &Note, b: &Note) -> bool
 {
     notes_that_say_the_same_are_equal(a, b);
     a.same_as(b)
-}
-
-/// Joins a note into another one, in place.
-fn merge(alloc: Global, into: &mut Note, note: &Note) -> Result<(), AllocError>
-    ensures { OnOk result (facts into.new ≡ joined (facts into.old) (facts note.now)) }
-{
-    *into = join(alloc, into, note)?;
-    Ok(())
 }
 
 impl NoteList {
@@ -94,6 +85,6 @@ impl NoteList {
             self.notes.push(note)?;
             return Ok(());
         }
-        merge(alloc, &mut self.notes[MOST_NOTES - 1], &note)
+        join_in_place(alloc, &mut self.notes[MOST_NOTES - 1], &note)
     }
 }

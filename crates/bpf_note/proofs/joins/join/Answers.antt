@@ -1,17 +1,12 @@
-use Rattle.std.proofs.Common.{sym, subst, List}
-use Rattle.bpf_note.specs.declared.bound.Bound.{Bound}
-use Rattle.bpf_note.specs.Bounds.{AreJoined}
+use Rattle.std.proofs.Common.{◌≡◌, ◌∙◌, ap, sym, subst}
 use Rattle.bpf_note.specs.Facts.{Facts}
 use Rattle.bpf_note.specs.Describes.{Describes}
-use Rattle.bpf_note.proofs.FactLemmas.{facts_joined}
+use Rattle.bpf_note.specs.Join.{joined}
+use Rattle.bpf_note.specs.Parts.{Noted, facts}
 use Rattle.bpf_note.proofs.JoinDescribes.{joined_describes}
 use Rattle.bpf_note.proofs.joins.join.Goals as goal
 
-pub returns-clause-joined : goal.returns-clause-joined
-returns-clause-joined c =
-    let bounds = subst (λ (ys : List Bound). AreJoined c.a.inside.bounds.items ys c.in_ok-bounds.bounds.items) c.deref-2.ensures.value
-    (subst (λ (xs : List Bound). AreJoined xs c.deref-2.result.now c.in_ok-bounds.bounds.items) c.deref.ensures.value c.in_ok-bounds.ensures) in
-    rw (← c.a.view_is, ← c.b.view_is) (facts_joined _ _ _ c.join_registers.ensures c.join_stacks.ensures bounds)
-
 pub returns-clause-describes : goal.returns-clause-describes
-returns-clause-describes c = λ s d. subst (λ (f : Facts). Describes f s) (sym (returns-clause-joined c)) (joined_describes _ _ s d)
+returns-clause-describes c = λ s d.
+    let same : facts c.join_in_place.new.a ≡ joined (facts c.args.a.now) (facts c.args.b.now) = c.in_ok-join_in_place.ensures.ok ∙ ap (λ (n : Noted). joined (facts n) (facts c.args.b.now)) c.in_ok-joined.ensures in
+    subst (λ (f : Facts). Describes f s) (sym same) (joined_describes _ _ s d)

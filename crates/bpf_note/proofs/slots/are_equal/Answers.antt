@@ -1,4 +1,4 @@
-use Rattle.std.proofs.Common.{◌≡◌, ◌<◌, ◌≤◌, ◌⊎◌, ℕ, List, arith, ap, sym, ◌∙◌, inl, inr, refl, length, get_or}
+use Rattle.std.proofs.Common.{◌≡◌, ◌<◌, ◌≤◌, ◌⊎◌, ℕ, List, arith, sym, ◌∙◌, inl, inr, refl, length, get_or}
 use Rattle.bpf_note.specs.declared.slot.Slot.{Slot}
 use Rattle.bpf_note.specs.Parts.{no_bytes}
 use Rattle.bpf_note.proofs.PlaceLemmas.{le_cases, past_end, same_places}
