@@ -74,6 +74,11 @@ fn load_program(program: &mut Vec<u8>, written: &Written<'_>) -> bool
 {
     let maps = written.maps.as_slice();
     let relocs = written.relocs.as_slice();
+
+    // Of more relocations than slots, two have one slot or one lies outside: refused with no pair compared.
+    if relocs.len() > program.len() / 8 {
+        return false;
+    }
     if !have_own_slots(relocs) {
         return false;
     }

@@ -178,6 +178,21 @@ fn l7_relocations(rt: HostRuntime) {
             b"program = [\"1801000000000000\"]\n[[map]]\nname = \"a\"\nentries = 1\n[[reloc]]\nslot = 9223372036854775807\nmap = \"a\"",
             b"program = [\"9500000000000000\"]\n[[map]]\nname = \"a\"\nentries = 1\n[[reloc]]\nslot = 0\nmap = \"a\"",
             b"program = [\"1801000000000000\"]\n[[map]]\nname = \"a\"\nentries = 1\n[[reloc]]\nslot = 0\nmap = \"a\"\n[[reloc]]\nslot = 0\nmap = \"a\"",
+            b"program = [\"18010000000000001801000000000000\"]\nmap = [{name = \"a\", entries = 1}]\nreloc = [{slot = 0, map = \"a\"}, {slot = 0, map = \"a\"}]",
+        ],
+    );
+}
+
+#[test]
+fn l7_more_relocations_than_slots(rt: HostRuntime) {
+    assert_refused(
+        &rt,
+        rt.alloc(),
+        7,
+        &[
+            b"program = []\nmap = [{name = \"a\", entries = 1}]\nreloc = [{slot = 0, map = \"a\"}]",
+            b"program = [\"180100000000000018010000000000\"]\nmap = [{name = \"a\", entries = 1}]\nreloc = [{slot = 0, map = \"a\"}, {slot = 1, map = \"a\"}]",
+            b"program = [\"18010000000000001801000000000000\"]\nmap = [{name = \"a\", entries = 1}]\nreloc = [{slot = 0, map = \"a\"}, {slot = 1, map = \"a\"}, {slot = 2, map = \"a\"}]",
         ],
     );
 }

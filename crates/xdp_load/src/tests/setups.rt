@@ -80,3 +80,14 @@ fn takes_the_limits_themselves(rt: HostRuntime) -> Result<(), Fail> {
     assert!(rt; load(rt.alloc(), text.as_bytes()).is_ok());
     Ok(())
 }
+
+#[test]
+fn takes_a_relocation_of_each_slot(rt: HostRuntime) -> Result<(), Fail> {
+    let alloc = rt.alloc();
+    let text =
+        "program = [\"18010000000000001801000000000000\"]\nmap = [{name = \"a\", entries = 1}]\nreloc = [{slot = 1, map = \"a\"}, {slot = 0, map = \"a\"}]";
+    let setup = load(alloc, text.as_bytes())?;
+    let program = hex::encode(alloc, setup.program.as_slice())?;
+    assert_eq!(rt; program.as_str(), "18110000000000001811000000000000");
+    Ok(())
+}
