@@ -37,7 +37,8 @@ pub changed_from : {A : Type 0} (xs ys zs : List A) (f : A → A → A) (d e x :
 changed_from {A = A} xs ys zs f d e x i n len ly lz lt done left is =
     let old : get_or xs i e ≡ get_or ys i e = same_read xs i e d (omega arith) ∙ left i (omega arith) ∙ same_read ys i d e (omega arith) in
     let base = filled_from xs ys zs f d e x i n len ly lz lt done (is ∙ ap (λ (y : A). f y (get_or zs i e)) old) in (
-      base.0, base.1,
+      base.0,
+      base.1,
       λ k after. let ne : k ≢ i = omega arith in get_or-set_other xs i k x d ne ∙ left k (omega arith),
     )
 

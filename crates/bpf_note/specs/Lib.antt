@@ -9,3 +9,4 @@ pub mod Join
 pub mod Parts
 pub mod Slots
 pub mod Bounds
+pub mod Shared

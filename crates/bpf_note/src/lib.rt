@@ -10,6 +10,7 @@ mod note;
 mod op;
 mod replacement;
 mod shape;
+mod shared;
 mod slot;
 mod slots;
 #[cfg(test)]

@@ -4,8 +4,9 @@ ghost use Rattle.bpf_note.specs.Facts.{Facts, with_reg, with_kept, with_byte, wi
 ghost use Rattle.bpf_note.specs.Parts.{facts, no_bytes};
 
 use crate::bound::Bound;
-use crate::bounds::{safe_of, set_bound, top_of};
+use crate::bounds::{safe_of, top_of};
 use crate::replacement::Replacement;
+use crate::shared::SharedBounds;
 use crate::slot::Slot;
 use crate::slots::{are_equal, replaced_registers, replaced_slots, slot_with_byte};
 use crate::val::Val;
@@ -21,7 +22,7 @@ pub struct Note {
     pub(crate) slots: [Slot; 64],
     /// No byte of the slots below this one is set, so they needn't be gone through.
     pub(crate) floor: usize,
-    pub(crate) bounds: Vec<Bound>,
+    pub(crate) bounds: SharedBounds,
 }
 
 impl Model for Note {
@@ -29,9 +30,9 @@ impl Model for Note {
 
     ghost Value = { Noted };
 
-    ghost view = { λ n. record { regs = n.regs; slots = n.slots; bounds = n.bounds.items } };
+    ghost view = { λ n. record { regs = n.regs; slots = n.slots; bounds = n.bounds } };
 
-    ghost invariant = { λ n. IsNormal n.bounds.items × IsBlankBelow n.floor n.slots };
+    ghost invariant = { λ n. IsNormal n.bounds × IsBlankBelow n.floor n.slots };
 }
 
 impl Note {
@@ -104,7 +105,7 @@ impl Note {
     pub fn top(&self, id: u16) -> u32
         ensures { result ≡ (facts self.now).top id }
     {
-        top_of(&self.bounds, id)
+        top_of(self.bounds.as_slice(), id)
     }
 
     /// How many bytes from an id's base on lie in the packet, if that is known.
@@ -112,7 +113,7 @@ impl Note {
     pub fn safe(&self, id: u16) -> Option<u32>
         ensures { result ≡ (facts self.now).safe id }
     {
-        safe_of(&self.bounds, id)
+        safe_of(self.bounds.as_slice(), id)
     }
 
     /// Sets the greatest base of an id. An `Err` changes nothing.
@@ -120,8 +121,8 @@ impl Note {
         ensures ok { OnOk result (facts self.new ≡ with_top (facts self.old) id top) }
         ensures err { OnErr result (self.new ≡ self.old) }
     {
-        let safe = safe_of(&self.bounds, id);
-        set_bound(&mut self.bounds, Bound { id, top, safe })
+        let safe = safe_of(self.bounds.as_slice(), id);
+        self.bounds.set(Bound { id, top, safe })
     }
 
     /// Sets the safe bound of an id. An `Err` changes nothing.
@@ -129,8 +130,8 @@ impl Note {
         ensures ok { OnOk result (facts self.new ≡ with_safe (facts self.old) id safe) }
         ensures err { OnErr result (self.new ≡ self.old) }
     {
-        let top = top_of(&self.bounds, id);
-        set_bound(&mut self.bounds, Bound { id, top, safe })
+        let top = top_of(self.bounds.as_slice(), id);
+        self.bounds.set(Bound { id, top, safe })
     }
 
     /// Makes an id: what carried it before is any number, and nothing but its greatest base is known. An `Err` changes nothing.
@@ -138,14 +139,11 @@ impl Note {
         ensures ok { OnOk result (facts self.new ≡ with_id (facts self.old) id top) }
         ensures err { OnErr result (self.new ≡ self.old) }
     {
-        set_bound(
-            &mut self.bounds,
-            Bound {
-                id,
-                top,
-                safe: None,
-            },
-        )?;
+        self.bounds.set(Bound {
+            id,
+            top,
+            safe: None,
+        })?;
         let change = Replacement::Forget { id };
         self.regs = replaced_registers(&self.regs, change);
         self.slots = replaced_slots(&self.slots, self.floor, change);
@@ -169,7 +167,7 @@ impl Note {
             regs: entry_registers(),
             slots: no_slots(),
             floor: 64,
-            bounds: Vec::new(alloc),
+            bounds: SharedBounds::none(alloc),
         }
     }
 
@@ -184,7 +182,7 @@ impl Note {
     pub fn boxed(&self, alloc: Global) -> Result<Box<Note>, AllocError>
         ensures { IfOk result (λ n. n.value ≡ self.now) }
     {
-        let bounds = self.bounds.to_vec(alloc)?;
+        let bounds = self.bounds.share()?;
         let note = Note {
             regs: self.regs,
             slots: self.slots,
@@ -200,7 +198,7 @@ impl Note {
     {
         self.regs == other.regs
             && are_equal(&self.slots, &other.slots, self.floor.min(other.floor))
-            && self.bounds == other.bounds
+            && self.bounds.same_as(&other.bounds)
     }
 }
 

@@ -18,21 +18,21 @@ moved us vs xs ys e f h = subst (λ (zs : List Bound). AreJoined xs zs xs) f (su
 
 pub returns-then-covers_stack-clause-exact : goal.returns-then-covers_stack-clause-exact
 returns-then-covers_stack-clause-exact c =
-    let a = noted c.a.inside.regs c.a.inside.slots c.a.inside.bounds.items in
-    let b = noted c.b.inside.regs c.b.inside.slots c.b.inside.bounds.items in
+    let a = noted c.a.inside.regs c.a.inside.slots c.a.inside.bounds in
+    let b = noted c.b.inside.regs c.b.inside.slots c.b.inside.bounds in
     rw (← c.a.view_is, ← c.b.view_is) (elim c.if-covers_registers.branch [
       | then-covers_registers w ↦ (
         λ t. covers_all a b (c.covers_registers.ensures.0 w.if-covers_registers.true) (w.covers_stack.ensures.0 (sym w.value-is ∙ c.if-covers_stack.true))
-            (moved _ _ _ _ c.deref.ensures.value c.deref-then-covers_stack.ensures.value (c.covers_bounds.ensures.0 t)),
-        λ e. c.covers_bounds.ensures.1 (moved _ _ _ _ (sym c.deref.ensures.value) (sym c.deref-then-covers_stack.ensures.value) (bounds_covered a b c.a.invariant.0 e)),
+            (moved _ _ _ _ c.as_slice.ensures.same c.as_slice-then-covers_stack.ensures.same (c.covers_bounds.ensures.0 t)),
+        λ e. c.covers_bounds.ensures.1 (moved _ _ _ _ (sym c.as_slice.ensures.same) (sym c.as_slice-then-covers_stack.ensures.same) (bounds_covered a b c.a.invariant.0 e)),
       )
       | else-covers_registers w ↦ never (sym w.if-covers_registers.false ∙ sym w.value-is ∙ c.if-covers_stack.true)
     ])
 
 pub returns-else-covers_stack-clause-exact : goal.returns-else-covers_stack-clause-exact
 returns-else-covers_stack-clause-exact c =
-    let a = noted c.a.inside.regs c.a.inside.slots c.a.inside.bounds.items in
-    let b = noted c.b.inside.regs c.b.inside.slots c.b.inside.bounds.items in
+    let a = noted c.a.inside.regs c.a.inside.slots c.a.inside.bounds in
+    let b = noted c.b.inside.regs c.b.inside.slots c.b.inside.bounds in
     rw (← c.a.view_is, ← c.b.view_is) (elim c.if-covers_registers.branch [
       | then-covers_registers w ↦ (λ t. never (sym c.if-covers_stack.false ∙ t), λ e. w.value-is ∙ w.covers_stack.ensures.1 (slots_covered a b e))
       | else-covers_registers w ↦ (λ t. never (sym c.if-covers_stack.false ∙ t), λ e. w.value-is ∙ c.covers_registers.ensures.1 (registers_covered a b e))

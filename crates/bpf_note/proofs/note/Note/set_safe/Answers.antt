@@ -6,5 +6,5 @@ use Rattle.bpf_note.proofs.note.Note.set_safe.Goals as goal
 
 pub returns-clause-ok : goal.returns-clause-ok
 returns-clause-ok c =
-    let top = c.top_of-top.ensures ∙ ap (λ (bs : List Bound). top_in bs c.args.id) c.deref.ensures.value in
-    rw (← c.self.view_is) (on_ok c.set_bound.result (λ s. facts_safe c.self.inside.regs c.self.inside.slots c.self.inside.bounds.items c.set_bound.new.bounds.items _ s top) c.set_bound.ensures.ok)
+    let top = c.top_of-top.ensures ∙ ap (λ (bs : List Bound). top_in bs c.args.id) c.as_slice.ensures.same in
+    rw (← c.self.view_is) (on_ok c.set.result (λ s. facts_safe c.self.inside.regs c.self.inside.slots c.self.inside.bounds c.set.new.self _ s top) c.set.ensures.ok)
