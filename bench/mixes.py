@@ -1,0 +1,154 @@
+#!/usr/bin/env python3
+"""Programs to measure with. Without a name: a line `NAME-SLOTS PROGRAM` for each mix in each of three sizes. With one:
+
+    bench/mixes.py NAME [SLOTS]              the program in hex
+    bench/mixes.py --settings NAME [SLOTS]   settings for `xdpbox check`
+
+NAME is a mix, `hostile-ids`, `far-jumps` or `far-jumps-of-eight`; SLOTS is 4096 if it isn't given. The last three are
+made for the memory that our verifier takes, and no peer is measured on them."""
+import sys
+
+sys.dont_write_bytecode = True
+from assembler import assembled
+
+SIZES = (100, 1000, 4000)
+MOST_SLOTS = 4096
+
+# What all mixes begin with: r2 is the packet's start, r3 its first byte, which the verifiers don't know, and r0 is 0.
+# A packet of less than 64 bytes is dropped.
+BEGIN = ["r0 = 0", "r2 = *(u32 *)(r1 + 0)", "r4 = *(u32 *)(r1 + 4)", "r5 = r2", "r5 += 64", "if r5 <= r4 goto +1",
+         "exit", "r3 = *(u8 *)(r2 + 0)"]
+END = ["r0 &= 1", "exit"]
+
+# What the mixes run on. The first byte is in the middle of its range, so that comparisons with it go either way.
+PACKET = bytes((128 + 37 * at) % 256 for at in range(64))
+
+
+def alu(at):
+    """Arithmetic of 64 and 32 bits, with registers and constants."""
+    return ["r0 += r3", "r5 = r0", "w5 ^= 85", "r5 <<= 3", "r0 *= 7", "w0 += w5", "r5 -= r3", "r0 ^= r5", "w5 = 9",
+            "r5 |= r0", "w5 >>= 2", "r0 += r5"]
+
+
+def mem(at):
+    """Loads and stores of packet and stack, of each size."""
+    word, half, kept, byte = 4 * at % 60, 2 * at % 62, 8 + at % 64 // 8 * 8, 72 + at % 64
+    return [f"r4 = *(u32 *)(r2 + {word})", f"*(u64 *)(r10 - {kept}) = r4", f"r5 = *(u16 *)(r2 + {half})",
+            f"*(u8 *)(r10 - {byte}) = r5", f"r5 = *(u64 *)(r10 - {kept})", f"*(u32 *)(r2 + {word}) = r5",
+            f"r3 = *(u8 *)(r10 - {byte})", f"*(u16 *)(r2 + {half}) = r3"]
+
+
+def branch(at):
+    """Comparisons of the packet's bytes with constants that vary, each with a jump over one instruction."""
+    return [f"r3 = *(u8 *)(r2 + {at % 64})", f"if r3 > {7 * at % 251} goto +1", "r0 += 1"]
+
+
+def pkt(at):
+    """Loads of the packet."""
+    return [f"r3 = *(u8 *)(r2 + {at % 64})", f"r3 = *(u16 *)(r2 + {at % 62})", f"r3 = *(u32 *)(r2 + {at % 60})",
+            "r0 += r3"]
+
+
+def stack(at):
+    """Eight bytes to the stack and back."""
+    return [f"*(u64 *)(r10 - {8 + 4 * at % 64}) = r3", f"r3 = *(u64 *)(r10 - {8 + 4 * at % 64})"]
+
+
+def stackbyte(at):
+    """A byte to the stack and back."""
+    return [f"*(u8 *)(r10 - {1 + at // 2 % 64}) = r3", f"r3 = *(u8 *)(r10 - {1 + at // 2 % 64})"]
+
+
+def imm32(at):
+    """Arithmetic of 32 bits with constants."""
+    return [f"w0 ^= {at}", f"w0 += {at + 1}"]
+
+
+def jump(at):
+    """Jumps with and without a condition."""
+    return [f"r3 = *(u8 *)(r2 + {at % 64})", f"if r3 > {7 * at % 251} goto +1", "goto +1", "r0 += 1"]
+
+
+def straight(at):
+    return ["r0 += 1"]
+
+
+def diamonds(at):
+    """The same comparison over and over."""
+    return ["if r3 == 1 goto +1", "r0 += 1"]
+
+
+def mixed(at):
+    """What a filter does: fields of headers, comparisons, a value that is kept on the stack."""
+    return ["r3 = *(u8 *)(r2 + 12)", "r4 = *(u8 *)(r2 + 13)", "r3 <<= 8", "r3 |= r4", "if r3 == 34525 goto +1",
+            "r0 += 1", "*(u64 *)(r10 - 8) = r3", "r4 = *(u16 *)(r2 + 14)", "r4 = be16 r4", "r4 &= 4095",
+            "r5 = *(u64 *)(r10 - 8)", "if r5 == r4 goto +1", "r0 += r5", "r3 >>= 4", "w3 ^= 85", "r4 = r3"]
+
+
+MIXES = {block.__name__: block for block in
+         (alu, mem, branch, pkt, stack, stackbyte, imm32, jump, straight, diamonds, mixed)}
+
+
+def mix(name, slots):
+    """So many slots: the beginning, as many whole blocks as there is room for, `r0 += 1` for the rest, the end."""
+    lines = list(BEGIN)
+    while len(lines) < slots - len(END):
+        block = MIXES[name](len(lines))
+        lines += block if len(lines) + len(block) <= slots - len(END) else ["r0 += 1"]
+    return lines + END
+
+
+# Three bits, each in a register of its own: eight notes that differ from there on. It takes nine slots.
+EIGHT = [line for register in (6, 7, 8) for line in
+         (f"r{register} = 0", f"if r3 > {30 * register} goto +1", f"r{register} = 1")]
+
+
+def hostile_ids(slots):
+    """Eight notes, then an address in the packet with an id of its own in each slot."""
+    lines = [*BEGIN, "r5 = r2", *EIGHT]
+    return lines + ["r5 += r3"] * (slots - len(lines) - len(END)) + END
+
+
+def far_jumps(slots, differ=()):
+    """Ids in half of the slots; in a quarter jumps, each to a slot of its own in the last quarter. All these slots wait
+    at once, each for notes that have all the ids."""
+    far = slots // 4
+    begin = ["r2 = *(u32 *)(r1 + 0)", "r3 = *(u32 *)(r1 + 16)", "r3 &= 255", "r5 = r2", *differ]
+    ids = ["r5 += r3"] * (slots - len(begin) - 2 * far - 1)
+    jumps = [f"if r3 > {at % 255} goto +{far - 1}" for at in range(far)]
+    return begin + ids + jumps + ["r0 = 0"] * far + ["exit"]
+
+
+def far_jumps_of_eight(slots):
+    """The same with eight notes."""
+    return far_jumps(slots, EIGHT)
+
+
+MADE = {"hostile-ids": hostile_ids, "far-jumps": far_jumps, "far-jumps-of-eight": far_jumps_of_eight}
+
+
+def program(name, slots):
+    """The bytes of a program."""
+    lines = MADE[name](slots) if name in MADE else mix(name, slots)
+    return b"".join(map(assembled, lines))
+
+
+def print_lines():
+    for name in MIXES:
+        for slots in SIZES:
+            print(f"{name}-{slots}", program(name, slots).hex())
+
+
+def main(words):
+    settings = words[:1] == ["--settings"]
+    name, slots = (words[settings:] + [None, None])[:2]
+    if not words:
+        return print_lines()
+    if name not in {**MIXES, **MADE} or slots and not slots.isdigit():
+        sys.exit(__doc__)
+    code = program(name, int(slots or MOST_SLOTS)).hex()
+    print(f'program = ["{code}"]' if settings else code)
+
+
+if __name__ == "__main__":
+    main(sys.argv[1:])
