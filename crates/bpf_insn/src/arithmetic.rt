@@ -7,7 +7,6 @@ use crate::truncated::low_32;
 
 /// What an arithmetic instruction leaves in its destination, of the numbers in destination and source: on 64 bits if
 /// `wide`, else on the low 32, and then the upper half is 0.
-#[inline(always)]
 pub fn alu(op: AluOp, wide: bool, dst: u64, src: u64) -> u64
     ensures { result ≡ computed op wide dst src }
 {
@@ -31,7 +30,6 @@ pub fn negate(wide: bool, dst: u64) -> u64
 }
 
 #[tactic(auto, unfolding(crate::specs::Arithmetic::computed))]
-#[inline(always)]
 fn alu64(op: AluOp, dst: u64, src: u64) -> u64
     ensures { result ≡ computed op true dst src }
 {
@@ -80,7 +78,6 @@ fn signed_remainder(dst: u64, src: u64) -> u64
 }
 
 #[tactic(auto, unfolding(crate::specs::Arithmetic::computed))]
-#[inline(always)]
 fn alu32(op: AluOp, dst: u32, src: u32) -> u32
     ensures { result ≡ computed op false dst src }
 {

@@ -7,7 +7,6 @@ use crate::truncated::low_32;
 
 /// Whether a conditional jump is taken, of the numbers in destination and source: on 64 bits if `wide`, else on the
 /// low truncated.
-#[inline(always)]
 pub fn holds(cond: Condition, wide: bool, a: u64, b: u64) -> bool
     ensures { result ≡ is_met cond wide a b }
 {
@@ -19,7 +18,6 @@ pub fn holds(cond: Condition, wide: bool, a: u64, b: u64) -> bool
 }
 
 #[tactic(auto, unfolding(crate::specs::Conditions::is_met))]
-#[inline(always)]
 fn holds64(cond: Condition, a: u64, b: u64) -> bool
     ensures { result ≡ is_met cond true a b }
 {
@@ -39,7 +37,6 @@ fn holds64(cond: Condition, a: u64, b: u64) -> bool
 }
 
 #[tactic(auto, unfolding(crate::specs::Conditions::is_met))]
-#[inline(always)]
 fn holds32(cond: Condition, a: u32, b: u32) -> bool
     ensures { result ≡ is_met cond false a b }
 {
