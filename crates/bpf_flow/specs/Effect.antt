@@ -2,6 +2,8 @@
 use Rattle.std.specs.Prelude.{ℕ, ◌+◌, ◌≡◌, ◌≤◌, [], ◌∷◌, Result, Ok, Err}
 use Rattle.bpf_insn.specs.Register.{number}
 use Rattle.bpf_insn.specs.Size.{size_bytes}
+use Rattle.bpf_insn.specs.declared.insn.Insn.{Insn}
+use Rattle.bpf_insn.specs.declared.insn.Insn.TheVariants.{Alu, Jump, Call}
 use Rattle.bpf_insn.specs.declared.refusal.Cause.{Cause}
 use Rattle.bpf_note.specs.declared.val.Val.TheVariants.{Pkt}
 use Rattle.bpf_note.specs.Facts.{Facts, with_reg, with_id}
@@ -9,7 +11,6 @@ use Rattle.bpf_flow.specs.Alu.{operand_value}
 use Rattle.bpf_flow.specs.Branch.{taken, passed}
 use Rattle.bpf_flow.specs.Call.{with_call}
 use Rattle.bpf_flow.specs.Edges.{Edges, Answer}
-use Rattle.bpf_flow.specs.Gives.{Fails}
 use Rattle.bpf_flow.specs.Memory.{with_store}
 use Rattle.bpf_flow.specs.declared.branch.Test.{Test}
 use Rattle.bpf_flow.specs.declared.effect.Effect.{Effect}
@@ -40,4 +41,18 @@ Fits e = Unit {0}
 -- what the code decides at slot pc, where n is known, is the rule's answer
 abbrev pub Decides : Result Effect Cause → ℕ → Facts → Answer → Type 0
 Decides (Ok e) pc n a = (a ≡ Ok (edges_by e pc n)) × Fits e
-Decides (Err c) pc n a = Fails c a
+Decides (Err c) pc n a = a ≡ Err c
+
+-- an effect that takes memory: a new id for an address, a lookup's result, or a copy of what is known
+abbrev pub Allocates : Effect → Type 0
+Allocates (SetsFresh dst top) = Unit {0}
+Allocates (LooksUp m) = Unit {0}
+Allocates (Branches to t) = Unit {0}
+Allocates e = ⊥
+
+-- an instruction that can have such an effect
+abbrev pub MayAllocate : Insn → Type 0
+MayAllocate (Alu op wide dst src) = Unit {0}
+MayAllocate (Jump cond wide dst src off) = Unit {0}
+MayAllocate (Call helper) = Unit {0}
+MayAllocate i = ⊥

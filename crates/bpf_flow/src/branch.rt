@@ -5,7 +5,7 @@ ghost use Rattle.bpf_insn.specs.declared.insn.Insn.{Insn};
 ghost use Rattle.bpf_note.specs.Parts.{facts};
 ghost use Rattle.bpf_flow.specs.Alu.{operand_value};
 ghost use Rattle.bpf_flow.specs.Branch.{opposite, raise, narrowed, without, below, compared, against_end, end_against, is_null, checked, refined, refined_if};
-ghost use Rattle.bpf_flow.specs.Effect.{Decides, edges_by, met, missed};
+ghost use Rattle.bpf_flow.specs.Effect.{Allocates, Decides, edges_by, met, missed};
 ghost use Rattle.bpf_flow.specs.Gives.{edges_along};
 ghost use Rattle.bpf_flow.specs.declared.effect.Effect.TheVariants.{Branches};
 ghost use Rattle.bpf_flow.specs.Rule.{after_of};
@@ -218,7 +218,8 @@ impl Point<'_> {
     pub fn ja(&self, to: i32) -> Result<Effect, Cause>
         requires small { self.now.pc < 4096 }
         requires there { IsSome (target self.now.pc to) }
-        ensures { Decides result self.now.pc (facts self.now.note.now) (after_of (Insn.Ja true to) self.now.pc (facts self.now.note.now) self.now.shapes.now) }
+        ensures gives { Decides result self.now.pc (facts self.now.note.now) (after_of (Insn.Ja true to) self.now.pc (facts self.now.note.now) self.now.shapes.now) }
+        ensures spare { IfOk result (λ e. Allocates e → ⊥) }
     {
         let Some(pc) = jump_target(self.pc, to) else {
             return Err(Cause::Target);
@@ -236,7 +237,7 @@ impl Point<'_> {
     ) -> Result<Effect, Cause>
         requires small { self.now.pc < 4096 }
         requires there { IsSome (target self.now.pc off) }
-        ensures { Decides result self.now.pc (facts self.now.note.now) (after_of (Insn.Jump cond wide dst src off) self.now.pc (facts self.now.note.now) self.now.shapes.now) }
+        ensures gives { Decides result self.now.pc (facts self.now.note.now) (after_of (Insn.Jump cond wide dst src off) self.now.pc (facts self.now.note.now) self.now.shapes.now) }
     {
         if is_unset(self.note.register(dst.number())) || is_unset(operand_value(self.note, src)) {
             return Err(Cause::Unset);
@@ -254,7 +255,8 @@ impl Point<'_> {
     }
 
     pub fn exit(&self) -> Result<Effect, Cause>
-        ensures { Decides result self.now.pc (facts self.now.note.now) (after_of Insn.Exit self.now.pc (facts self.now.note.now) self.now.shapes.now) }
+        ensures gives { Decides result self.now.pc (facts self.now.note.now) (after_of Insn.Exit self.now.pc (facts self.now.note.now) self.now.shapes.now) }
+        ensures spare { IfOk result (λ e. Allocates e → ⊥) }
     {
         if is_unset(self.note.register(0)) {
             Err(Cause::Unset)

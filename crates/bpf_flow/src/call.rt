@@ -46,7 +46,7 @@ impl Point<'_> {
     /// A lookup in the map that `map` names.
     fn looks_up(&self, map: Val, key: Val) -> Result<Effect, Cause>
         requires { self.now.pc < 4096 }
-        ensures { Decides result self.now.pc (facts self.now.note.now) (looks_up (facts self.now.note.now) self.now.pc map key) }
+        ensures gives { Decides result self.now.pc (facts self.now.note.now) (looks_up (facts self.now.note.now) self.now.pc map key) }
     {
         match map {
             Val::Map { m } => {
@@ -61,7 +61,7 @@ impl Point<'_> {
 
     pub fn call(&self, helper: i32) -> Result<Effect, Cause>
         requires { self.now.pc < 4096 }
-        ensures { Decides result self.now.pc (facts self.now.note.now) (after_of (Insn.Call helper) self.now.pc (facts self.now.note.now) self.now.shapes.now) }
+        ensures gives { Decides result self.now.pc (facts self.now.note.now) (after_of (Insn.Call helper) self.now.pc (facts self.now.note.now) self.now.shapes.now) }
     {
         if !is_lookup(helper) {
             return Err(Cause::Helper);

@@ -5,7 +5,7 @@ ghost use Rattle.bpf_note.specs.declared.val.Val.TheVariants.{Pkt};
 ghost use Rattle.bpf_note.specs.Facts.{with_reg, with_id};
 ghost use Rattle.bpf_note.specs.Parts.{facts};
 ghost use Rattle.bpf_flow.specs.Call.{with_call};
-ghost use Rattle.bpf_flow.specs.Effect.{Fits, edges_by};
+ghost use Rattle.bpf_flow.specs.Effect.{Allocates, Fits, edges_by};
 ghost use Rattle.bpf_flow.specs.Gives.{WantsMemory, edges_along, edges_of};
 
 use crate::branch::{Test, branch};
@@ -60,6 +60,7 @@ impl Effect {
         requires fits { Fits self }
         ensures ok { IfOk result (λ w. edges_along w (facts note.new) ≡ edges_by self pc (facts note.old)) }
         ensures err { OnErr result (WantsMemory (Ok (edges_by self pc (facts note.old)))) }
+        ensures spare { OnErr result (Allocates self) }
     {
         match self {
             Effect::Goes { to } => return Ok(Ways::One(to)),

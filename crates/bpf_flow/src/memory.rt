@@ -1,11 +1,11 @@
 //! Loads, stores and adds to counters.
-ghost use Rattle.std.specs.Prelude.{◌≡◌, ◌+◌, ◌<◌, ◌≤◌, IsTrue, slice_get, option_map};
+ghost use Rattle.std.specs.Prelude.{◌≡◌, ◌+◌, ◌<◌, ◌≤◌, IfOk, IsTrue, slice_get, option_map};
 ghost use Rattle.bpf_insn.specs.Register.{number};
 ghost use Rattle.bpf_insn.specs.Size.{size_bytes};
 ghost use Rattle.bpf_insn.specs.declared.insn.Insn.{Insn};
 ghost use Rattle.bpf_note.specs.Parts.{facts};
 ghost use Rattle.bpf_flow.specs.Rule.{after_of};
-ghost use Rattle.bpf_flow.specs.Effect.{Decides};
+ghost use Rattle.bpf_flow.specs.Effect.{Allocates, Decides};
 ghost use Rattle.bpf_flow.specs.Gives.{IsInside};
 ghost use Rattle.bpf_flow.specs.Memory.{is_field, is_counter, all_set, any_of_size, any_loaded, is_slot, stack_value, field_value, loaded_value, with_bytes, with_store, stores, adds_at};
 
@@ -197,7 +197,8 @@ impl Point<'_> {
         off: i16,
     ) -> Result<Effect, Cause>
         requires { self.now.pc < 4096 }
-        ensures { Decides result self.now.pc (facts self.now.note.now) (after_of (Insn.Ldx size signed dst src off) self.now.pc (facts self.now.note.now) self.now.shapes.now) }
+        ensures gives { Decides result self.now.pc (facts self.now.note.now) (after_of (Insn.Ldx size signed dst src off) self.now.pc (facts self.now.note.now) self.now.shapes.now) }
+        ensures spare { IfOk result (λ e. Allocates e → ⊥) }
     {
         let pointer = self.note.register(src.number());
         if is_unset(pointer) {
@@ -214,7 +215,8 @@ impl Point<'_> {
     fn stores(&self, size: Size, value: Val, access: Access) -> Result<Effect, Cause>
         requires small { self.now.pc < 4096 }
         requires inside { IsInside access (size_bytes size) }
-        ensures { Decides result self.now.pc (facts self.now.note.now) (stores (facts self.now.note.now) (self.now.pc + 1) size value access) }
+        ensures gives { Decides result self.now.pc (facts self.now.note.now) (stores (facts self.now.note.now) (self.now.pc + 1) size value access) }
+        ensures spare { IfOk result (λ e. Allocates e → ⊥) }
     {
         match access {
             Access::InPacket => self.goes_to(self.pc + 1),
@@ -226,7 +228,8 @@ impl Point<'_> {
 
     pub fn st(&self, size: Size, dst: Register, off: i16, imm: i32) -> Result<Effect, Cause>
         requires { self.now.pc < 4096 }
-        ensures { Decides result self.now.pc (facts self.now.note.now) (after_of (Insn.St size dst off imm) self.now.pc (facts self.now.note.now) self.now.shapes.now) }
+        ensures gives { Decides result self.now.pc (facts self.now.note.now) (after_of (Insn.St size dst off imm) self.now.pc (facts self.now.note.now) self.now.shapes.now) }
+        ensures spare { IfOk result (λ e. Allocates e → ⊥) }
     {
         let pointer = self.note.register(dst.number());
         if is_unset(pointer) {
@@ -238,7 +241,8 @@ impl Point<'_> {
 
     pub fn stx(&self, size: Size, dst: Register, src: Register, off: i16) -> Result<Effect, Cause>
         requires { self.now.pc < 4096 }
-        ensures { Decides result self.now.pc (facts self.now.note.now) (after_of (Insn.Stx size dst src off) self.now.pc (facts self.now.note.now) self.now.shapes.now) }
+        ensures gives { Decides result self.now.pc (facts self.now.note.now) (after_of (Insn.Stx size dst src off) self.now.pc (facts self.now.note.now) self.now.shapes.now) }
+        ensures spare { IfOk result (λ e. Allocates e → ⊥) }
     {
         let value = self.note.register(src.number());
         let pointer = self.note.register(dst.number());
@@ -257,7 +261,8 @@ impl Point<'_> {
         off: i16,
     ) -> Result<Effect, Cause>
         requires { self.now.pc < 4096 }
-        ensures { Decides result self.now.pc (facts self.now.note.now) (after_of (Insn.AddCounter fetch dst src off) self.now.pc (facts self.now.note.now) self.now.shapes.now) }
+        ensures gives { Decides result self.now.pc (facts self.now.note.now) (after_of (Insn.AddCounter fetch dst src off) self.now.pc (facts self.now.note.now) self.now.shapes.now) }
+        ensures spare { IfOk result (λ e. Allocates e → ⊥) }
     {
         let pointer = self.note.register(dst.number());
         if is_unset(self.note.register(src.number())) || is_unset(pointer) {

@@ -6,7 +6,7 @@ ghost use Rattle.bpf_insn.specs.declared.refusal.Cause.TheVariants.{Memory};
 ghost use Rattle.bpf_note.specs.Describes.{Describes};
 ghost use Rattle.bpf_note.specs.Parts.{facts};
 ghost use Rattle.bpf_note.specs.State.{State};
-ghost use Rattle.bpf_flow.specs.Effect.{Decides};
+ghost use Rattle.bpf_flow.specs.Effect.{Allocates, Decides, MayAllocate};
 ghost use Rattle.bpf_flow.specs.Gives.{Fails, Gives, edges_along, edges_of};
 ghost use Rattle.bpf_flow.specs.Rule.{after_of, IsRuled};
 ghost use Rattle.bpf_flow.specs.Sound.{Accounts, HasWords};
@@ -25,7 +25,8 @@ impl Point<'_> {
     fn decide_access(&self, insn: Insn) -> Result<Effect, Cause>
         requires small { self.now.pc < 4096 }
         requires access { IsAccess insn }
-        ensures { Decides result self.now.pc (facts self.now.note.now) (after_of insn self.now.pc (facts self.now.note.now) self.now.shapes.now) }
+        ensures gives { Decides result self.now.pc (facts self.now.note.now) (after_of insn self.now.pc (facts self.now.note.now) self.now.shapes.now) }
+        ensures spare { IfOk result (λ e. Allocates e → ⊥) }
     {
         match insn {
             Insn::Ldx {
@@ -61,7 +62,8 @@ impl Point<'_> {
     fn decide(&self, insn: Insn) -> Result<Effect, Cause>
         requires small { self.now.pc < 4096 }
         requires ruled { IsRuled insn self.now.pc (length self.now.shapes.now) }
-        ensures { Decides result self.now.pc (facts self.now.note.now) (after_of insn self.now.pc (facts self.now.note.now) self.now.shapes.now) }
+        ensures gives { Decides result self.now.pc (facts self.now.note.now) (after_of insn self.now.pc (facts self.now.note.now) self.now.shapes.now) }
+        ensures spare { IfOk result (λ e. Allocates e → MayAllocate insn) }
     {
         match insn {
             Insn::Alu { op, wide, dst, src } => self.alu(op, wide, dst, src),
@@ -97,7 +99,8 @@ impl Point<'_> {
 fn decide(insn: &Insn, pc: u32, note: &Note, shapes: &[MapShape]) -> Result<Effect, Cause>
     requires small { pc < 4096 }
     requires ruled { IsRuled insn.now pc (length shapes.now) }
-    ensures { Decides result pc (facts note.now) (after_of insn.now pc (facts note.now) shapes.now) }
+    ensures gives { Decides result pc (facts note.now) (after_of insn.now pc (facts note.now) shapes.now) }
+    ensures spare { IfOk result (λ e. Allocates e → MayAllocate insn.now) }
 {
     Point { pc, note, shapes }.decide(*insn)
 }
@@ -127,7 +130,7 @@ pub fn after(
 }
 
 /// [`after`] in place: the note becomes what is known where the first way leads. A refused note stays as it is; when memory
-/// runs out it may be changed.
+/// runs out, as it can at arithmetic, a conditional jump or a call alone, it may be changed.
 pub fn transfer(
     alloc: Global,
     insn: &Insn,
@@ -140,6 +143,7 @@ pub fn transfer(
     ensures ok { IfOk result (λ w. after_of insn.now pc (facts note.old) shapes.now ≡ Ok (edges_along w (facts note.new))) }
     ensures err { IfErr result (λ c. Fails c (after_of insn.now pc (facts note.old) shapes.now)) }
     ensures kept { IfErr result (λ c. c ≢ Memory → note.new ≡ note.old) }
+    ensures spare { IfErr result (λ c. c ≡ Memory → MayAllocate insn.now) }
     ensures sound { IfOk result (λ w. (s : State) → Describes (facts note.old) s → s.pc ≡ pc → s.shapes ≡ shapes.now → Accounts (edges_along w (facts note.new)) (exec insn.now s)) }
 {
     has_words(*insn);

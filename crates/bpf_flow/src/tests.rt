@@ -6,3 +6,4 @@ mod maps;
 mod memory;
 mod registers;
 mod steps;
+mod transfers;
