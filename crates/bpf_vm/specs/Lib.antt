@@ -1,3 +1,4 @@
+pub mod Packet
 pub mod Running
 pub mod Run
 pub mod Stands

@@ -48,12 +48,13 @@ impl<'p, 'b> Vm<'p, 'b> {
         queue: u32,
     ) -> Vm<'p, 'b>
         ensures program { result.program ≡ program.now }
-        ensures stands { (s : State) → IsStart s → s.packet ≡ packet.entry → s.ifindex ≡ ifindex →
+        ensures stands { (s : State) → IsStart s → s.packet ≡ packet.entry.bytes → s.ifindex ≡ ifindex →
             s.queue ≡ queue → s.shapes ≡ program.now.shapes → Stands result s }
         ensures own { own result ≡ state_of program.now.shapes (first_numbers packet.entry ifindex queue) }
         ensures itself { Stands result (own result) }
         ensures course { left result ≡ course (instructions program.now.code) program.now.code
-            (start_state program.now.shapes packet.entry ifindex queue) }
+            (start_state program.now.shapes packet.entry.bytes ifindex queue) }
+        ensures room { result.numbers.packet.room ≡ packet.entry.room }
         ensures count { result.count ≡ 0 }
     {
         let machine = Machine::new(packet, ifindex, queue, program.shapes());
@@ -145,10 +146,11 @@ impl<'p, 'b> Vm<'p, 'b> {
     pub fn finish(self) -> (u32, PacketBuf<'b>)
         requires { Ends (now self) }
         ensures stands { (s : State) → Stands self.entry s → (r0 : ℕ) ×
-            (step self.entry.program.code s ≡ Exited r0) × (result.0 ≡ r0 % 2 ^ 32) × (result.1 ≡ s.packet) }
+            (step self.entry.program.code s ≡ Exited r0) × (result.0 ≡ r0 % 2 ^ 32) × (result.1.bytes ≡ s.packet) }
         ensures own { (r0 : ℕ) × (now self.entry ≡ Exited r0) ×
-            (result.0 ≡ r0 % 2 ^ 32) × (result.1 ≡ (own self.entry).packet) }
-        ensures course { (r0 : ℕ) × (left self.entry ≡ Exiting r0 result.1) × (result.0 ≡ r0 % 2 ^ 32) }
+            (result.0 ≡ r0 % 2 ^ 32) × (result.1.bytes ≡ (own self.entry).packet) }
+        ensures course { (r0 : ℕ) × (left self.entry ≡ Exiting r0 result.1.bytes) × (result.0 ≡ r0 % 2 ^ 32) }
+        ensures room { result.1.room ≡ self.entry.numbers.packet.room }
     {
         match self.want() {
             VmWant::Exit { r0 } => {

@@ -20,7 +20,7 @@ pub record IsRunOfBytes (program packet : List ℕ) (ended : Ended) : Type 0 whe
   pub code : List Insn
   pub spelled : Spells code program
   pub faultless : IsFaultless code []
-  pub run : IsRunOf code packet 0 0 ended.number ended.packet ended.instructions
+  pub run : IsRunOf code packet 0 0 ended.number ended.packet.bytes ended.instructions
   pub bound : ended.instructions ≤ instructions code
 
 -- the bytes spell a program that is refused so with these maps

@@ -16,7 +16,7 @@ use Rattle.xdpbox.specs.declared.executing.Accepted.{Accepted}
 abbrev pub ended_text : Ended → List ℕ
 ended_text e =
     codes "action " ++ (action_name (action_of e.number) ++ (codes " number " ++ (decimal e.number ++ (codes " instructions " ++ (decimal e.instructions
-    ++ (codes "\npacket " ++ (encode_lower e.packet ++ codes "\n")))))))
+    ++ (codes "\npacket " ++ (encode_lower e.packet.bytes ++ codes "\n")))))))
 
 abbrev pub refused_text : Refusal → List ℕ
 refused_text r = codes "refused " ++ (refusal_text r ++ codes "\n")

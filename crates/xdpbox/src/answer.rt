@@ -15,7 +15,7 @@ use crate::pairing::pair;
 use crate::request::Request;
 use crate::stop::Stop;
 use bpf_insn::Refusal;
-use bpf_vm::{Buffer, Ended, PacketBuf};
+use bpf_vm::{Ended, PacketBuf};
 use hex::FromHexError;
 use std::alloc::{AllocError, Global};
 use std::io::Read;
@@ -73,12 +73,11 @@ fn hex_bytes(alloc: Global, word: &str) -> Result<Option<Vec<u8>>, AllocError>
     }
 }
 
-/// The answer of a program's bytes on a packet's.
-fn packet_answer(alloc: Global, program: &[u8], packet: &[u8]) -> Result<Answer, AllocError>
-    ensures { IfOk result (λ a. PacketAnswer program.now packet.now (said_of a)) }
+/// The answer of a program's bytes on a packet's, which it may change.
+fn packet_answer(alloc: Global, program: &[u8], packet: &mut [u8]) -> Result<Answer, AllocError>
+    ensures { IfOk result (λ a. PacketAnswer program.now packet.old (said_of a)) }
 {
-    let mut buffer = Buffer::make(alloc)?;
-    let Ok(packet) = PacketBuf::copy(&mut buffer, packet) else {
+    let Ok(packet) = PacketBuf::over(packet) else {
         return words_refused(alloc);
     };
     let executed = execute(alloc, program, packet);
@@ -92,10 +91,10 @@ fn exec_answer(alloc: Global, program: &str, packet: &str) -> Result<Answer, All
     let Some(program) = hex_bytes(alloc, program)? else {
         return words_refused(alloc);
     };
-    let Some(packet) = hex_bytes(alloc, packet)? else {
+    let Some(mut packet) = hex_bytes(alloc, packet)? else {
         return words_refused(alloc);
     };
-    packet_answer(alloc, program.as_slice(), packet.as_slice())
+    packet_answer(alloc, program.as_slice(), &mut packet)
 }
 
 /// The answer of a check.

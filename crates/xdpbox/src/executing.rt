@@ -27,7 +27,7 @@ pub fn execute<'b>(
     program: &[u8],
     packet: PacketBuf<'b>,
 ) -> Result<Ended<'b>, Refusal>
-    ensures { Executes program.now packet.entry result }
+    ensures { Executes program.now packet.entry.bytes result }
 {
     let verified = accept(alloc, program, &[])?;
     Ok(run_to_end(&verified, packet, 0, 0))

@@ -9,13 +9,13 @@ ghost use Rattle.xen_back.specs.Tree.{answer, answered, notice, respond, respons
 ghost use Rattle.xen_back.specs.Turned.{Ending, turned};
 ghost use Rattle.xen_ring.specs.Index.{is_due};
 
+use crate::copy_buf::CopyBuf;
 use crate::phase::Phase;
 use crate::stage::Stage;
 use crate::state::State;
 use crate::turn::Kind;
 use crate::wiring::Wiring;
 use arrayvec::ArrayVec;
-use bpf_vm::PacketBuf;
 use xen_netif::{Chain, Status, TxReq, TxRsp};
 use xen_ring::due;
 use xen_steps::{Want, header, tx_entry};
@@ -64,7 +64,7 @@ fn responses(status: Status, chain: &Chain) -> ArrayVec<u32, 23>
 pub(crate) fn begin_answers<'p, 'b>(
     wiring: &Wiring<'p>,
     state: &State,
-    packet: PacketBuf<'b>,
+    packet: CopyBuf<'b>,
     at: State,
     chain: &Chain,
     status: Status,
@@ -109,7 +109,7 @@ pub(crate) fn answering_want(
 pub(crate) fn answer_written<'p, 'b>(
     wiring: &Wiring<'p>,
     state: &State,
-    packet: PacketBuf<'b>,
+    packet: CopyBuf<'b>,
     at: State,
     words: ArrayVec<u32, 23>,
     i: usize,
@@ -140,7 +140,7 @@ pub(crate) fn answer_written<'p, 'b>(
 pub(crate) fn event_read<'p, 'b>(
     wiring: &Wiring<'p>,
     state: &State,
-    packet: PacketBuf<'b>,
+    packet: CopyBuf<'b>,
     at: State,
     n: u32,
     kind: Kind,

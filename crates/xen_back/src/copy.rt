@@ -5,8 +5,8 @@ ghost use Rattle.xen_netif.specs.Copy.{Covers};
 ghost use Rattle.xen_netif.specs.Fragments.{fragment_size};
 ghost use Rattle.xen_steps.specs.Pages.{HasRoom};
 
+use crate::copy_buf::CopyBuf;
 use arrayvec::ArrayVec;
-use bpf_vm::PacketBuf;
 use xen_netif::{Chain, Fragment};
 use xen_page::Place;
 
@@ -15,7 +15,7 @@ use xen_page::Place;
 pub struct Entering<'b> {
     pub chain: Chain,
     pub fragments: ArrayVec<Fragment, 18>,
-    pub packet: PacketBuf<'b>,
+    pub packet: CopyBuf<'b>,
     pub i: usize,
     pub at: Place,
     ghost word: { at.word < 1023 },
@@ -28,7 +28,7 @@ pub struct Entering<'b> {
 pub struct Paging<'b> {
     pub chain: Chain,
     pub fragments: ArrayVec<Fragment, 18>,
-    pub packet: PacketBuf<'b>,
+    pub packet: CopyBuf<'b>,
     pub i: usize,
     pub fragment: Fragment,
     pub frame: u32,

@@ -18,13 +18,13 @@ ghost use Rattle.xen_back.specs.Turned.{Refused};
 
 use crate::answering::begin_answers;
 use crate::copy::{Entering, Paging};
+use crate::copy_buf::CopyBuf;
 use crate::executing::begin_run;
 use crate::stage::Stage;
 use crate::state::State;
 use crate::turn::{Kind, Refusal};
 use crate::wiring::Wiring;
 use arrayvec::ArrayVec;
-use bpf_vm::PacketBuf;
 use xen_netif::{Chain, Fragment, Status};
 use xen_page::{Entry, Place, check};
 
@@ -32,7 +32,7 @@ use xen_page::{Entry, Place, check};
 pub(crate) fn begin_copy<'p, 'b>(
     wiring: &Wiring<'p>,
     state: &State,
-    packet: PacketBuf<'b>,
+    packet: CopyBuf<'b>,
     chain: Chain,
 ) -> Stage<'p, 'b>
     requires { standing chain ≡ Some (Ok Complete) }
@@ -53,7 +53,7 @@ pub(crate) fn begin_copy<'p, 'b>(
 pub(crate) fn refuse<'p, 'b>(
     wiring: &Wiring<'p>,
     state: &State,
-    packet: PacketBuf<'b>,
+    packet: CopyBuf<'b>,
     chain: Chain,
     cause: Refusal,
 ) -> Stage<'p, 'b>
@@ -73,7 +73,7 @@ pub(crate) fn refuse<'p, 'b>(
 fn next_fragment<'p, 'b>(
     wiring: &Wiring<'p>,
     state: &State,
-    packet: PacketBuf<'b>,
+    packet: CopyBuf<'b>,
     chain: Chain,
     fragments: ArrayVec<Fragment, 18>,
     i: usize,
@@ -98,7 +98,7 @@ fn next_fragment<'p, 'b>(
 fn entering<'p, 'b>(
     wiring: &Wiring<'p>,
     state: &State,
-    packet: PacketBuf<'b>,
+    packet: CopyBuf<'b>,
     chain: Chain,
     fragments: ArrayVec<Fragment, 18>,
     i: usize,
@@ -178,7 +178,7 @@ pub(crate) fn entry_read<'p, 'b>(
 fn begin_page<'p, 'b>(
     wiring: &Wiring<'p>,
     state: &State,
-    packet: PacketBuf<'b>,
+    packet: CopyBuf<'b>,
     chain: Chain,
     fragments: ArrayVec<Fragment, 18>,
     i: usize,
@@ -206,7 +206,7 @@ fn begin_page<'p, 'b>(
 fn paging<'p, 'b>(
     wiring: &Wiring<'p>,
     state: &State,
-    packet: PacketBuf<'b>,
+    packet: CopyBuf<'b>,
     chain: Chain,
     fragments: ArrayVec<Fragment, 18>,
     i: usize,

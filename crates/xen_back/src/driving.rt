@@ -17,6 +17,7 @@ ghost use Rattle.xen_transmit.specs.Wired.{IsWired};
 
 use crate::answering::event_read;
 use crate::copy::Entering;
+use crate::copy_buf::CopyBuf;
 use crate::copying::{begin_copy, refuse};
 use crate::executing::begin_run;
 use crate::looking::{halt, slot_index};
@@ -27,7 +28,6 @@ use crate::state::State;
 use crate::turn::{Halt, Kind, Refusal};
 use crate::wiring::Wiring;
 use arrayvec::ArrayVec;
-use bpf_vm::PacketBuf;
 use xen_netif::ChainState;
 use xen_page::{Bus, Entry, GrantFault, Place, check};
 use xen_steps::{header, tx_entry};
@@ -115,7 +115,7 @@ fn read_chain<'p, 'b, B: Bus>(
     wiring: &Wiring<'p>,
     state: &State,
     bus: &mut B,
-    packet: PacketBuf<'b>,
+    packet: CopyBuf<'b>,
     reading: Reading,
 ) -> Stage<'p, 'b>
     requires size { B.size bus.old ≡ length wiring.now.vif.owners.now }
@@ -172,7 +172,7 @@ fn write_answers<'p, 'b, B: Bus>(
     wiring: &Wiring<'p>,
     state: &State,
     bus: &mut B,
-    packet: PacketBuf<'b>,
+    packet: CopyBuf<'b>,
     at: State,
     words: ArrayVec<u32, 23>,
     i: usize,
@@ -219,7 +219,7 @@ fn phase_driven<'p, 'b, B: Bus>(
     wiring: &Wiring<'p>,
     state: &State,
     bus: &mut B,
-    packet: PacketBuf<'b>,
+    packet: CopyBuf<'b>,
     phase: Phase,
 ) -> Stage<'p, 'b>
     requires size { B.size bus.old ≡ length wiring.now.vif.owners.now }

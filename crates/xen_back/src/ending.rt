@@ -8,13 +8,14 @@ ghost use Rattle.xen_steps.specs.Steps.{done, want_of};
 ghost use Rattle.xen_back.specs.Tree.{whole_turn};
 ghost use Rattle.xen_back.specs.Turned.{Shows, turned};
 
+use crate::copy_buf::CopyBuf;
 use crate::phase::Phase;
 use crate::sent::sent_want;
 use crate::stage::Stage;
 use crate::state::State;
 use crate::turn::{Kind, Turn};
 use crate::wiring::Wiring;
-use bpf_vm::{Action, PacketBuf};
+use bpf_vm::Action;
 use xen_steps::Want;
 
 /// The stage between turns, the state and the turn of a stage that wants nothing more.
@@ -46,7 +47,7 @@ pub(crate) fn over<'p, 'b>(
     }
 }
 
-fn ending(wiring: &Wiring, state: &State, packet: &PacketBuf, phase: Phase) -> (State, Kind)
+fn ending(wiring: &Wiring, state: &State, packet: &CopyBuf, phase: Phase) -> (State, Kind)
     requires { want_of (rest_at wiring.now state.now packet.now phase) ≡ Want.Done }
     ensures { rest_at wiring.now state.now packet.now phase ≡ done (result.0, turned result.1 packet.now) }
 {

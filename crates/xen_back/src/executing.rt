@@ -10,12 +10,13 @@ ghost use Rattle.xen_steps.specs.Steps.{bind, next_by, want_of};
 ghost use Rattle.xen_back.specs.Tree.{after_copy, after_run, program, status_of};
 
 use crate::answering::begin_answers;
+use crate::copy_buf::CopyBuf;
 use crate::sent::begin_send;
 use crate::stage::{Executing, Stage};
 use crate::state::State;
 use crate::turn::Kind;
 use crate::wiring::Wiring;
-use bpf_vm::{PacketBuf, Vm, VmWant};
+use bpf_vm::{Vm, VmWant};
 use xen_netif::{Chain, Status};
 use xen_steps::Want;
 
@@ -23,13 +24,18 @@ use xen_steps::Want;
 pub(crate) fn begin_run<'p, 'b>(
     wiring: &Wiring<'p>,
     state: &State,
-    packet: PacketBuf<'b>,
+    packet: CopyBuf<'b>,
     chain: Chain,
 ) -> Stage<'p, 'b>
     ensures here { IsTrue (is_here result) }
     ensures rest { rest_in wiring.now state.now result ≡ after_copy wiring.now state.now chain (Some packet.entry) }
 {
-    let vm = Vm::start(wiring.program, packet, wiring.ifindex, wiring.queue);
+    let vm = Vm::start(
+        wiring.program,
+        packet.into_packet(),
+        wiring.ifindex,
+        wiring.queue,
+    );
     Stage::Run(Executing { chain, vm, ops: 0 })
 }
 
@@ -102,7 +108,7 @@ pub(crate) fn executed<'p, 'b>(
         }
         VmWant::Exit { .. } => {
             let (number, packet) = vm.finish();
-            ran(wiring, state, packet, chain, number, ops)
+            ran(wiring, state, CopyBuf::of(packet), chain, number, ops)
         }
     }
 }
@@ -121,7 +127,7 @@ fn status(number: u32) -> Status
 fn ran<'p, 'b>(
     wiring: &Wiring<'p>,
     state: &State,
-    packet: PacketBuf<'b>,
+    packet: CopyBuf<'b>,
     chain: Chain,
     number: u32,
     ops: u32,

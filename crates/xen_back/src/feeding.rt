@@ -6,6 +6,7 @@ ghost use Rattle.xen_back.specs.Rest.{is_here, rest_at, rest_in};
 ghost use Rattle.xen_steps.specs.Steps.{next_by};
 
 use crate::answering::{answer_written, event_read};
+use crate::copy_buf::CopyBuf;
 use crate::copying::{entry_read, flags_read, page_read};
 use crate::executing::executed;
 use crate::looking::{first_read, looked_again, second_read, slot_read, started};
@@ -14,13 +15,12 @@ use crate::sent::sent_fed;
 use crate::stage::Stage;
 use crate::state::State;
 use crate::wiring::Wiring;
-use bpf_vm::PacketBuf;
 
 /// The stage after a phase's answer.
 fn phase_fed<'p, 'b>(
     wiring: &Wiring<'p>,
     state: &State,
-    packet: PacketBuf<'b>,
+    packet: CopyBuf<'b>,
     phase: Phase,
     word: u32,
     counter: u64,

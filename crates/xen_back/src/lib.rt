@@ -5,6 +5,7 @@
 mod answering;
 mod calls;
 mod copy;
+mod copy_buf;
 mod copying;
 mod desc;
 mod drive;

@@ -8,13 +8,13 @@ ghost use Rattle.xen_back.specs.Rest.{is_here, rest_in, rest_of_slot};
 ghost use Rattle.xen_steps.specs.Steps.{bind, next_by};
 ghost use Rattle.xen_back.specs.Tree.{after_look, after_scan, halted, judged, read_slots, second, seen, third, whole_turn};
 
+use crate::copy_buf::CopyBuf;
 use crate::copying::begin_copy;
 use crate::phase::{Phase, Reading};
 use crate::stage::Stage;
 use crate::state::State;
 use crate::turn::{Halt, Kind};
 use crate::wiring::Wiring;
-use bpf_vm::PacketBuf;
 use xen_netif::{Chain, ChainState};
 use xen_steps::requests_shown;
 
@@ -28,7 +28,7 @@ pub(crate) fn slot_index(state: &State, chain: &Chain) -> u32
 pub(crate) fn halt<'p, 'b>(
     wiring: &Wiring<'p>,
     state: &State,
-    packet: PacketBuf<'b>,
+    packet: CopyBuf<'b>,
     cause: Halt,
 ) -> Stage<'p, 'b>
     ensures here { IsTrue (is_here result) }
@@ -52,7 +52,7 @@ pub(crate) fn halt<'p, 'b>(
 pub(crate) fn started<'p, 'b>(
     wiring: &Wiring<'p>,
     state: &State,
-    packet: PacketBuf<'b>,
+    packet: CopyBuf<'b>,
     word: u32,
 ) -> Stage<'p, 'b>
     ensures here { IsTrue (is_here result) }
@@ -68,7 +68,7 @@ pub(crate) fn started<'p, 'b>(
 fn first_looked<'p, 'b>(
     wiring: &Wiring<'p>,
     state: &State,
-    packet: PacketBuf<'b>,
+    packet: CopyBuf<'b>,
     n: Option<u32>,
 ) -> Stage<'p, 'b>
     ensures here { IsTrue (is_here result) }
@@ -90,7 +90,7 @@ fn first_looked<'p, 'b>(
 pub(crate) fn looked_again<'p, 'b>(
     wiring: &Wiring<'p>,
     state: &State,
-    packet: PacketBuf<'b>,
+    packet: CopyBuf<'b>,
     word: u32,
 ) -> Stage<'p, 'b>
     ensures here { IsTrue (is_here result) }
@@ -102,7 +102,7 @@ pub(crate) fn looked_again<'p, 'b>(
 fn looked<'p, 'b>(
     wiring: &Wiring<'p>,
     state: &State,
-    packet: PacketBuf<'b>,
+    packet: CopyBuf<'b>,
     n: Option<u32>,
 ) -> Stage<'p, 'b>
     ensures here { IsTrue (is_here result) }
@@ -130,7 +130,7 @@ fn looked<'p, 'b>(
 fn next_slot<'p, 'b>(
     wiring: &Wiring<'p>,
     state: &State,
-    packet: PacketBuf<'b>,
+    packet: CopyBuf<'b>,
     left: u32,
     chain: Chain,
 ) -> Stage<'p, 'b>
@@ -145,7 +145,7 @@ fn next_slot<'p, 'b>(
 pub(crate) fn first_read<'p, 'b>(
     wiring: &Wiring<'p>,
     state: &State,
-    packet: PacketBuf<'b>,
+    packet: CopyBuf<'b>,
     reading: Reading,
     a: u32,
 ) -> Stage<'p, 'b>
@@ -159,7 +159,7 @@ pub(crate) fn first_read<'p, 'b>(
 pub(crate) fn second_read<'p, 'b>(
     wiring: &Wiring<'p>,
     state: &State,
-    packet: PacketBuf<'b>,
+    packet: CopyBuf<'b>,
     reading: Reading,
     a: u32,
     b: u32,
@@ -174,7 +174,7 @@ pub(crate) fn second_read<'p, 'b>(
 pub(crate) fn slot_read<'p, 'b>(
     wiring: &Wiring<'p>,
     state: &State,
-    packet: PacketBuf<'b>,
+    packet: CopyBuf<'b>,
     reading: Reading,
     slot: [u32; 3],
 ) -> Stage<'p, 'b>
@@ -194,7 +194,7 @@ pub(crate) fn slot_read<'p, 'b>(
 fn more_slots<'p, 'b>(
     wiring: &Wiring<'p>,
     state: &State,
-    packet: PacketBuf<'b>,
+    packet: CopyBuf<'b>,
     left: u32,
     chain: Chain,
 ) -> Stage<'p, 'b>

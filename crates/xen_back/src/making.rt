@@ -5,6 +5,7 @@ ghost use Rattle.xen_page.specs.Mapping.{IsMappedBy};
 ghost use Rattle.xen_page.specs.Table.{IsTable};
 ghost use Rattle.xen_back.specs.Making.{IsMade};
 
+use crate::copy_buf::CopyBuf;
 use crate::desc::QueueDesc;
 use crate::phase::Phase;
 use crate::queue::Queue;
@@ -12,7 +13,7 @@ use crate::stage::Stage;
 use crate::state::State;
 use crate::wiring::Wiring;
 use bpf_verify::Verified;
-use bpf_vm::{Buffer, PacketBuf};
+use bpf_vm::Buffer;
 use xen_transmit::Vif;
 
 impl<'p, 'b> Queue<'p, 'b> {
@@ -46,7 +47,7 @@ impl<'p, 'b> Queue<'p, 'b> {
             rx_index: desc.start,
             halt: None,
         };
-        let stage = Stage::At(PacketBuf::empty(buffer), Phase::Ready);
+        let stage = Stage::At(CopyBuf::empty(buffer), Phase::Ready);
         Queue {
             wiring,
             tx_ring: desc.tx,

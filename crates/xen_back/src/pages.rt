@@ -5,7 +5,7 @@ ghost use Rattle.xen_netif.specs.Copy.{Covers, bytes_from, bytes_of, covered};
 ghost use Rattle.xen_steps.specs.Pages.{HasRoom};
 ghost use Rattle.xen_back.specs.Reads.{AreReadFrom};
 
-use bpf_vm::PacketBuf;
+use crate::copy_buf::CopyBuf;
 use std::ops::Range;
 use xen_netif::Fragment;
 use xen_page::{Bus, Place};
@@ -16,8 +16,8 @@ fn read_whole<'b, B: Bus>(
     frame: u32,
     from: u32,
     to: u32,
-    packet: PacketBuf<'b>,
-) -> PacketBuf<'b>
+    packet: CopyBuf<'b>,
+) -> CopyBuf<'b>
     requires frame { from < to → frame < B.size bus.old }
     requires ordered { from ≤ to }
     requires within { from < to → to ≤ 1024 }
@@ -42,8 +42,8 @@ fn read_parts<'b, B: Bus>(
     frame: u32,
     from: u32,
     to: u32,
-    packet: PacketBuf<'b>,
-) -> PacketBuf<'b>
+    packet: CopyBuf<'b>,
+) -> CopyBuf<'b>
     requires frame { from < to → frame < B.size bus.old }
     requires ordered { from ≤ to }
     requires within { from < to → to ≤ 1024 }
@@ -81,8 +81,8 @@ pub(crate) fn read_fragment<'b, B: Bus>(
     bus: &mut B,
     fragment: &Fragment,
     frame: u32,
-    packet: PacketBuf<'b>,
-) -> PacketBuf<'b>
+    packet: CopyBuf<'b>,
+) -> CopyBuf<'b>
     requires frame { 0 < covered fragment.now → frame < B.size bus.old }
     requires within { 0 < covered fragment.now → fragment.now.offset / 4 + covered fragment.now ≤ 1024 }
     requires room { length packet + fragment.now.size ≤ 65535 }

@@ -7,12 +7,12 @@ ghost use Rattle.xen_steps.specs.Steps.{bind, next_by, want_of};
 ghost use Rattle.xen_back.specs.Tree.{after_transmit, moved, send};
 
 use crate::answering::begin_answers;
+use crate::copy_buf::CopyBuf;
 use crate::looking::halt;
 use crate::stage::{Stage, Transmitting};
 use crate::state::State;
 use crate::turn::{Halt, Kind, Refusal};
 use crate::wiring::Wiring;
-use bpf_vm::PacketBuf;
 use xen_netif::{Chain, Status};
 use xen_steps::Want;
 use xen_transmit::{Outcome, Progress, Transmit};
@@ -21,7 +21,7 @@ use xen_transmit::{Outcome, Progress, Transmit};
 pub(crate) fn begin_send<'p, 'b>(
     wiring: &Wiring<'p>,
     state: &State,
-    packet: PacketBuf<'b>,
+    packet: CopyBuf<'b>,
     chain: Chain,
     ops: u32,
 ) -> Stage<'p, 'b>
@@ -43,7 +43,7 @@ pub(crate) fn begin_send<'p, 'b>(
 pub(crate) fn sent_want(
     wiring: &Wiring,
     state: &State,
-    packet: &PacketBuf,
+    packet: &CopyBuf,
     sent: &Transmitting,
 ) -> Want
     ensures { result ≡ want_of (bind (rest_of wiring.now.vif state.now.rx_index packet.now sent.now.transmit.phase) (after_transmit wiring.now state.now sent.now.chain packet.now sent.now.ops)) }
@@ -56,7 +56,7 @@ pub(crate) fn sent_want(
 pub(crate) fn sent_fed<'p, 'b>(
     wiring: &Wiring<'p>,
     state: &State,
-    packet: PacketBuf<'b>,
+    packet: CopyBuf<'b>,
     sent: Transmitting,
     word: u32,
     counter: u64,
@@ -77,7 +77,7 @@ pub(crate) fn sent_fed<'p, 'b>(
 fn progressed<'p, 'b>(
     wiring: &Wiring<'p>,
     state: &State,
-    packet: PacketBuf<'b>,
+    packet: CopyBuf<'b>,
     chain: Chain,
     ops: u32,
     progress: Progress,
@@ -113,7 +113,7 @@ fn after_slots(state: &State, n: u32) -> State
 fn transmitted<'p, 'b>(
     wiring: &Wiring<'p>,
     state: &State,
-    packet: PacketBuf<'b>,
+    packet: CopyBuf<'b>,
     chain: Chain,
     ops: u32,
     outcome: Outcome,

@@ -1,10 +1,11 @@
 //! Where a queue is inside a turn, with its packet.
 
-ghost use Rattle.std.specs.Prelude.{◌≤◌};
+ghost use Rattle.std.specs.Prelude.{◌≡◌, ◌≤◌};
 
 use crate::copy::{Entering, Paging};
+use crate::copy_buf::CopyBuf;
 use crate::phase::Phase;
-use bpf_vm::{PacketBuf, Vm};
+use bpf_vm::Vm;
 use xen_netif::Chain;
 use xen_transmit::Transmit;
 
@@ -15,6 +16,7 @@ pub struct Executing<'p, 'b> {
     pub vm: Vm<'p, 'b>,
     pub ops: u32,
     ghost few: { ops ≤ vm.count },
+    ghost room: { vm.numbers.packet.room ≡ 65535 },
 }
 
 /// A packet that is sent, with the chain that it came in and the counter operations of its run.
@@ -27,14 +29,14 @@ pub struct Transmitting {
 
 #[derive(Drop)]
 pub enum Stage<'p, 'b> {
-    At(PacketBuf<'b>, Phase),
+    At(CopyBuf<'b>, Phase),
     /// An entry's flags word is to be read.
     EntryA(Entering<'b>),
     /// An entry's frame word, after this flags word.
     EntryB(Entering<'b>, u32),
     Page(Paging<'b>),
     Run(Executing<'p, 'b>),
-    Send(PacketBuf<'b>, Transmitting),
+    Send(CopyBuf<'b>, Transmitting),
     /// Nothing is here while a stage is made of another.
     Gone,
 }

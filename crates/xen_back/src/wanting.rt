@@ -5,6 +5,7 @@ ghost use Rattle.xen_back.specs.Rest.{rest_at, rest_in};
 ghost use Rattle.xen_steps.specs.Steps.{next, want_of};
 
 use crate::answering::answering_want;
+use crate::copy_buf::CopyBuf;
 use crate::executing::executing_want;
 use crate::looking::slot_index;
 use crate::phase::Phase;
@@ -12,12 +13,11 @@ use crate::sent::sent_want;
 use crate::stage::Stage;
 use crate::state::State;
 use crate::wiring::Wiring;
-use bpf_vm::PacketBuf;
 use xen_page::Place;
 use xen_steps::{Want, header, tx_entry};
 
 /// What a phase wants.
-fn phase_want(wiring: &Wiring, state: &State, packet: &PacketBuf, phase: &Phase) -> Want
+fn phase_want(wiring: &Wiring, state: &State, packet: &CopyBuf, phase: &Phase) -> Want
     ensures { result ≡ want_of (rest_at wiring.now state.now packet.now phase.now) }
 {
     match phase {

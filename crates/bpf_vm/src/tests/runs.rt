@@ -1,7 +1,7 @@
 //! Runs of whole programs. A program has one slot per line, with its text beside it.
 ghost use Rattle.std.specs.Prelude.{◌≡◌, ◌≤◌, [], IfOk, length};
 
-use crate::{Buffer, PacketBuf, Vm, VmWant, run_to_end};
+use crate::{Buffer, Ended, PacketBuf, Vm, VmWant, run_to_end};
 use bpf_insn::decode;
 use bpf_verify::{MapShape, Refusal, Verified, verify};
 use std::alloc::Global;
@@ -153,6 +153,26 @@ fn stores_have_the_lowest_byte_first(rt: HostRuntime) -> Result<(), Fail> {
     ];
     assert_eq!(rt; packet.as_slice(), left.as_slice());
     assert_eq!(rt; number, 0xee02_01ee);
+    Ok(())
+}
+
+#[test]
+fn a_program_runs_on_a_hosts_own_bytes(rt: HostRuntime) -> Result<(), Fail> {
+    let bytes = bytes_of(rt.alloc(), &STORES)?;
+    let Ok(program) = program(rt.alloc(), &bytes) else {
+        return Err("refused".into());
+    };
+    let mut own = [0xee; 16];
+    let packet = PacketBuf::over(&mut own).map_err(|_| "too long")?;
+    let Ended { number, packet, .. } = run_to_end(&program, packet, 0, 0);
+    assert_eq!(rt; number, 0xee02_01ee);
+    if let Some(first) = packet.into_bytes().get_mut(0) {
+        *first = 0xff;
+    }
+    let left = [
+        0xff, 2, 3, 4, 5, 6, 7, 8, 0xee, 1, 2, 0xee, 0xee, 0xee, 0xee, 1,
+    ];
+    assert_eq!(rt; own, left);
     Ok(())
 }
 

@@ -10,5 +10,6 @@ returns-in-Exit-clause-rest c =
     let r = c.args.run in
     let f = c.finish-number.ensures.course in
     c.ran.ensures.rest
-    ∙ ap (λ n. after_run w s r.chain (record { number = n; packet = c.finish-number.result.1; ops = r.ops })) f.2
+    ∙ ap (λ bytes. after_run w s r.chain (record { number = c.finish-number.result.0; packet = bytes; ops = r.ops })) c.of.ensures
+    ∙ ap (λ n. after_run w s r.chain (record { number = n; packet = c.finish-number.result.1.bytes; ops = r.ops })) f.2
     ∙ sym (ap (λ cs. next_by (bind (program cs r.ops) (after_run w s r.chain)) c.args.word c.args.counter) f.1)

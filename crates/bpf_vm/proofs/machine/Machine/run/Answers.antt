@@ -32,12 +32,12 @@ turn-requires-clause-fine c =
 pub are_numbers-requires-clause-few : goal.are_numbers-requires-clause-few
 are_numbers-requires-clause-few c =
     let i = c.loop-to.invariant in
-    (after_step c.args.program.now c.loop-to.at c.loop-to.self c.in-Goes.to c.turn.new.self i.running.consistent i.maps c.insn.ensures.at i.running c.in-Goes.ensures).few
+    (after_step c.args.program.now c.loop-to.at c.loop-to.self c.in-Goes.to c.turn.new.self i.running.consistent i.maps c.insn.ensures.at i.running c.in-Goes.ensures.turn c.in-Goes.ensures.room).few
 
 pub are_numbers-requires-clause-shapes : goal.are_numbers-requires-clause-shapes
 are_numbers-requires-clause-shapes c =
     let i = c.loop-to.invariant in
-    (after_step c.args.program.now c.loop-to.at c.loop-to.self c.in-Goes.to c.turn.new.self i.running.consistent i.maps c.insn.ensures.at i.running c.in-Goes.ensures).maps
+    (after_step c.args.program.now c.loop-to.at c.loop-to.self c.in-Goes.to c.turn.new.self i.running.consistent i.maps c.insn.ensures.at i.running c.in-Goes.ensures.turn c.in-Goes.ensures.room).maps
 
 pub overflow_add-done : goal.overflow_add-done
 overflow_add-done c =
@@ -54,29 +54,29 @@ pub loop-to-preserved : goal.loop-to-preserved
 loop-to-preserved c =
     let i = c.loop-to.invariant in
     let p = c.args.program.now in
-    let after = after_step p c.loop-to.at c.loop-to.self c.in-Goes.to c.turn.new.self i.running.consistent i.maps c.insn.ensures.at i.running c.in-Goes.ensures in
+    let after = after_step p c.loop-to.at c.loop-to.self c.in-Goes.to c.turn.new.self i.running.consistent i.maps c.insn.ensures.at i.running c.in-Goes.ensures.turn c.in-Goes.ensures.room in
     let st = c.are_numbers.ensures c.in-Goes.to in
     record {
       maps = after.shapes;
       running = after.running st;
-      advanced = advanced_after p c.args.pc c.args.self.now c.args.count c.loop-to.at c.loop-to.self c.loop-to.done c.in-Goes.to c.turn.new.self i.running i.maps c.insn.ensures.at c.in-Goes.ensures i.advanced (after.is_step st);
+      advanced = advanced_after p c.args.pc c.args.self.now c.args.count c.loop-to.at c.loop-to.self c.loop-to.done c.in-Goes.to c.turn.new.self i.running i.maps c.insn.ensures.at c.in-Goes.ensures.turn i.advanced (after.is_step st);
     }
 
 pub returns-in-Waits-clause-maps : goal.returns-in-Waits-clause-maps
-returns-in-Waits-clause-maps c = ap (λ (m : Machine). m.shapes.now) c.in-Waits.ensures.2 ∙ c.loop-to.invariant.maps
+returns-in-Waits-clause-maps c = ap (λ (m : Machine). m.shapes.now) c.in-Waits.ensures.turn.2 ∙ c.loop-to.invariant.maps
 
 pub returns-in-Waits-clause-running : goal.returns-in-Waits-clause-running
 returns-in-Waits-clause-running c =
-    subst (λ (m : Machine). IsRunning (running_of c.args.program.now c.loop-to.at m c.loop-to.done)) (sym c.in-Waits.ensures.2) c.loop-to.invariant.running
+    subst (λ (m : Machine). IsRunning (running_of c.args.program.now c.loop-to.at m c.loop-to.done)) (sym c.in-Waits.ensures.turn.2) c.loop-to.invariant.running
 
 pub returns-in-Waits-clause-advanced : goal.returns-in-Waits-clause-advanced
 returns-in-Waits-clause-advanced c =
     let p = c.args.program.now in
-    subst (λ (m : Machine). Advanced (running_of p c.args.pc c.args.self.now c.args.count) (running_of p c.loop-to.at m c.loop-to.done)) (sym c.in-Waits.ensures.2) c.loop-to.invariant.advanced
+    subst (λ (m : Machine). Advanced (running_of p c.args.pc c.args.self.now c.args.count) (running_of p c.loop-to.at m c.loop-to.done)) (sym c.in-Waits.ensures.turn.2) c.loop-to.invariant.advanced
 
 pub returns-in-Waits-clause-want : goal.returns-in-Waits-clause-want
 returns-in-Waits-clause-want c =
     let p = c.args.program.now in
     let i = c.loop-to.invariant in
-    let wants = subst (λ (o : Outcome). Answers c.in-Waits.want o) (here p c.loop-to.at c.loop-to.self c.insn.result.now i.running.consistent i.maps c.insn.ensures.at) c.in-Waits.ensures.0 in
-    subst (λ (m : Machine). Answers c.in-Waits.want (now (running_of p c.loop-to.at m c.loop-to.done))) (sym c.in-Waits.ensures.2) wants
+    let wants = subst (λ (o : Outcome). Answers c.in-Waits.want o) (here p c.loop-to.at c.loop-to.self c.insn.result.now i.running.consistent i.maps c.insn.ensures.at) c.in-Waits.ensures.turn.0 in
+    subst (λ (m : Machine). Answers c.in-Waits.want (now (running_of p c.loop-to.at m c.loop-to.done))) (sym c.in-Waits.ensures.turn.2) wants

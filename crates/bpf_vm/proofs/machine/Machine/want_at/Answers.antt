@@ -10,17 +10,17 @@ use Rattle.bpf_vm.proofs.machine.Machine.want_at.Goals as goal
 
 pub counter_at-m-requires-clause-there : goal.counter_at-m-requires-clause-there
 counter_at-m-requires-clause-there c =
-    let len = length c.args.self.now.packet in
+    let len = length c.args.self.now.packet.bytes in
     let shapes = c.args.self.now.shapes.now in
     let p = counter_above len shapes c.args.address (size_bytes c.args.size) (omega (arith, c.bytes-packet.ensures.short, ap length c.bytes-packet.ensures.same)) (some_bytes c.args.size) (omega arith) c.requires.there in
     subst (λ (z : ℕ). IsInCounter (region len shapes c.args.address z)) p.0 p.1
 
 pub returns-then-address-lt-VALUES_START : goal.returns-then-address-lt-VALUES_START
-returns-then-address-lt-VALUES_START c = want_below (length c.args.self.now.packet) c.args.self.now.shapes.now c.args.address (size_bytes c.args.size) (omega arith) c.requires.there
+returns-then-address-lt-VALUES_START c = want_below (length c.args.self.now.packet.bytes) c.args.self.now.shapes.now c.args.address (size_bytes c.args.size) (omega arith) c.requires.there
 
 pub returns-else-address-lt-VALUES_START : goal.returns-else-address-lt-VALUES_START
 returns-else-address-lt-VALUES_START c =
-    let len = length c.args.self.now.packet in
+    let len = length c.args.self.now.packet.bytes in
     let shapes = c.args.self.now.shapes.now in
     let p = counter_above len shapes c.args.address (size_bytes c.args.size) (omega (arith, c.bytes-packet.ensures.short, ap length c.bytes-packet.ensures.same)) (some_bytes c.args.size) (omega arith) c.requires.there in
     let at = ap (λ (z : ℕ). region len shapes c.args.address z) p.0 ∙ c.counter_at-m.ensures in

@@ -15,7 +15,7 @@ counter_at-m-requires-clause-there c =
     let i = c.args in
     let fits : FitsSigned w16 i.off = search rules in
     let there : (a : ℕ) × (slice_get c.args.self.now.registers (number i.dst) ≡ Some a) × (c.address.result ≡ address a i.off) = simp to_z-of_z at c.address.ensures.there in
-    subst (λ (a : ℕ). IsInCounter (region (length c.args.self.now.packet) c.args.self.now.shapes.now a 8)) (sym there.2) (add_there s i.fetch i.dst i.src i.off there.0 c.register-delta.result there.1 c.register-delta.ensures c.requires.fine)
+    subst (λ (a : ℕ). IsInCounter (region (length c.args.self.now.packet.bytes) c.args.self.now.shapes.now a 8)) (sym there.2) (add_there s i.fetch i.dst i.src i.off there.0 c.register-delta.result there.1 c.register-delta.ensures c.requires.fine)
 
 pub returns-clause-want : goal.returns-clause-want
 returns-clause-want c =
@@ -24,5 +24,5 @@ returns-clause-want c =
     let fits : FitsSigned w16 i.off = search rules in
     let there : (a : ℕ) × (slice_get c.args.self.now.registers (number i.dst) ≡ Some a) × (c.address.result ≡ address a i.off) = simp to_z-of_z at c.address.ensures.there in
     let r = c.counter_at-m.result in
-    let at = subst (λ (a : ℕ). region (length c.args.self.now.packet) c.args.self.now.shapes.now a 8 ≡ InCounter r.0 r.1 r.2) there.2 c.counter_at-m.ensures in
+    let at = subst (λ (a : ℕ). region (length c.args.self.now.packet.bytes) c.args.self.now.shapes.now a 8 ≡ InCounter r.0 r.1 r.2) there.2 c.counter_at-m.ensures in
     want_of_add s i.fetch i.dst i.src i.off there.0 c.register-delta.result r.0 r.1 r.2 there.1 c.register-delta.ensures at c.requires.fine
