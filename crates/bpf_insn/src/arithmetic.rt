@@ -7,7 +7,31 @@ use crate::truncated::low_32;
 
 /// What an arithmetic instruction leaves in its destination, of the numbers in destination and source: on 64 bits if
 /// `wide`, else on the low 32, and then the upper half is 0.
+#[inline(always)]
 pub fn alu(op: AluOp, wide: bool, dst: u64, src: u64) -> u64
+    ensures { result ≡ computed op wide dst src }
+{
+    // An arm each, so that one jump finds the operation.
+    match op {
+        AluOp::Add => either(AluOp::Add, wide, dst, src),
+        AluOp::Sub => either(AluOp::Sub, wide, dst, src),
+        AluOp::Mul => either(AluOp::Mul, wide, dst, src),
+        AluOp::Or => either(AluOp::Or, wide, dst, src),
+        AluOp::And => either(AluOp::And, wide, dst, src),
+        AluOp::Xor => either(AluOp::Xor, wide, dst, src),
+        AluOp::Lsh => either(AluOp::Lsh, wide, dst, src),
+        AluOp::Rsh => either(AluOp::Rsh, wide, dst, src),
+        AluOp::Arsh => either(AluOp::Arsh, wide, dst, src),
+        AluOp::Mov => either(AluOp::Mov, wide, dst, src),
+        AluOp::Div | AluOp::SignedDiv | AluOp::Mod | AluOp::SignedMod => {
+            quotient(op, wide, dst, src)
+        }
+    }
+}
+
+/// The same of an operation that is known where this is inlined.
+#[inline(always)]
+fn either(op: AluOp, wide: bool, dst: u64, src: u64) -> u64
     ensures { result ≡ computed op wide dst src }
 {
     if wide {
@@ -15,6 +39,14 @@ pub fn alu(op: AluOp, wide: bool, dst: u64, src: u64) -> u64
     } else {
         u64::from(alu32(op, low_32(dst), low_32(src)))
     }
+}
+
+/// The same of an operation that takes long anyway, so that it is no part of its caller's loop.
+#[inline(never)]
+fn quotient(op: AluOp, wide: bool, dst: u64, src: u64) -> u64
+    ensures { result ≡ computed op wide dst src }
+{
+    either(op, wide, dst, src)
 }
 
 /// What NEG leaves in its destination.
@@ -29,6 +61,7 @@ pub fn negate(wide: bool, dst: u64) -> u64
     }
 }
 
+#[inline(always)]
 #[tactic(auto, unfolding(crate::specs::Arithmetic::computed))]
 fn alu64(op: AluOp, dst: u64, src: u64) -> u64
     ensures { result ≡ computed op true dst src }
@@ -77,6 +110,7 @@ fn signed_remainder(dst: u64, src: u64) -> u64
     }
 }
 
+#[inline(always)]
 #[tactic(auto, unfolding(crate::specs::Arithmetic::computed))]
 fn alu32(op: AluOp, dst: u32, src: u32) -> u32
     ensures { result ≡ computed op false dst src }

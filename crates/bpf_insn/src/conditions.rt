@@ -7,7 +7,29 @@ use crate::truncated::low_32;
 
 /// Whether a conditional jump is taken, of the numbers in destination and source: on 64 bits if `wide`, else on the
 /// low truncated.
+#[inline(always)]
 pub fn holds(cond: Condition, wide: bool, a: u64, b: u64) -> bool
+    ensures { result ≡ is_met cond wide a b }
+{
+    // An arm each, so that one jump finds the condition.
+    match cond {
+        Condition::Equal => either(Condition::Equal, wide, a, b),
+        Condition::Greater => either(Condition::Greater, wide, a, b),
+        Condition::GreaterOrEqual => either(Condition::GreaterOrEqual, wide, a, b),
+        Condition::Set => either(Condition::Set, wide, a, b),
+        Condition::NotEqual => either(Condition::NotEqual, wide, a, b),
+        Condition::SignedGreater => either(Condition::SignedGreater, wide, a, b),
+        Condition::SignedGreaterOrEqual => either(Condition::SignedGreaterOrEqual, wide, a, b),
+        Condition::Less => either(Condition::Less, wide, a, b),
+        Condition::LessOrEqual => either(Condition::LessOrEqual, wide, a, b),
+        Condition::SignedLess => either(Condition::SignedLess, wide, a, b),
+        Condition::SignedLessOrEqual => either(Condition::SignedLessOrEqual, wide, a, b),
+    }
+}
+
+/// The same of a condition that is known where this is inlined.
+#[inline(always)]
+fn either(cond: Condition, wide: bool, a: u64, b: u64) -> bool
     ensures { result ≡ is_met cond wide a b }
 {
     if wide {
@@ -17,6 +39,7 @@ pub fn holds(cond: Condition, wide: bool, a: u64, b: u64) -> bool
     }
 }
 
+#[inline(always)]
 #[tactic(auto, unfolding(crate::specs::Conditions::is_met))]
 fn holds64(cond: Condition, a: u64, b: u64) -> bool
     ensures { result ≡ is_met cond true a b }
@@ -36,6 +59,7 @@ fn holds64(cond: Condition, a: u64, b: u64) -> bool
     }
 }
 
+#[inline(always)]
 #[tactic(auto, unfolding(crate::specs::Conditions::is_met))]
 fn holds32(cond: Condition, a: u32, b: u32) -> bool
     ensures { result ≡ is_met cond false a b }

@@ -10,3 +10,4 @@ mod MachineLemmas
 mod AfterLemmas
 mod AdvanceLemmas
 mod WalkLemmas
+mod OperandLemmas

@@ -92,8 +92,8 @@ impl<'p, 'b> Vm<'p, 'b> {
         requires { Advances (now self.old) }
         ensures { IsStep None self.old self.new }
     {
-        let insn = *self.program.insn(self.pc);
-        match self.machine.turn(self.pc, insn) {
+        let insn = self.program.insn(self.pc);
+        match self.machine.turn::<true>(self.pc, insn) {
             Turn::Goes(to) => {
                 self.machine.are_numbers();
                 self.pc = to;
