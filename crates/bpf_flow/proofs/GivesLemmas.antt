@@ -1,4 +1,4 @@
--- An answer that is the rule's accounts for what the instruction does, and a refusal that is the rule's is no want of memory.
+-- An answer that is the rule's accounts for what the instruction does, and a refusal that is the rule's isn't out of memory.
 use Rattle.std.proofs.Common.{◌≡◌, ℕ, ◌<◌, List, length, refl, subst, sym, ap, ◌∙◌}
 use Rattle.std.specs.Prelude.{Ok, Err}
 use Rattle.bpf_insn.specs.declared.insn.Insn.{Insn}
@@ -23,11 +23,11 @@ edges_sound es i pc n shapes words small ruled g = λ s d p m.
     (subst (λ (q : ℕ). IsRuled i q (length s.shapes)) (sym p) (subst (λ (ms : List Shape). IsRuled i pc (length ms)) (sym m) ruled))
     (ap (λ (q : ℕ). after_of i q n s.shapes) p ∙ (ap (λ (ms : List Shape). after_of i pc n ms) m ∙ g))
 
--- the rule's own causes are not want of memory
+-- the rule itself never answers out of memory
 pub never_memory : (i : Insn) (pc : ℕ) (n : Facts) (shapes : List Shape) → IsRuled i pc (length shapes) → after_of i pc n shapes ≡ Err Memory → ⊥
 never_memory i pc n shapes ruled h = rule_causes i pc n shapes Memory ruled h
 
--- what the rule refuses fails, where the cause isn't want of memory
+-- what the rule refuses fails, where the cause isn't out of memory
 pub refused_fails : (c : Cause) (a : Answer) → (c ≡ Memory → ⊥) → a ≡ Err c → Fails c a
 refused_fails Memory a other h = absurd (other refl)
 refused_fails Length a other h = h

@@ -13,25 +13,25 @@ pub fn alu(op: AluOp, wide: bool, dst: u64, src: u64) -> u64
 {
     // An arm each, so that one jump finds the operation.
     match op {
-        AluOp::Add => either(AluOp::Add, wide, dst, src),
-        AluOp::Sub => either(AluOp::Sub, wide, dst, src),
-        AluOp::Mul => either(AluOp::Mul, wide, dst, src),
-        AluOp::Or => either(AluOp::Or, wide, dst, src),
-        AluOp::And => either(AluOp::And, wide, dst, src),
-        AluOp::Xor => either(AluOp::Xor, wide, dst, src),
-        AluOp::Lsh => either(AluOp::Lsh, wide, dst, src),
-        AluOp::Rsh => either(AluOp::Rsh, wide, dst, src),
-        AluOp::Arsh => either(AluOp::Arsh, wide, dst, src),
-        AluOp::Mov => either(AluOp::Mov, wide, dst, src),
+        AluOp::Add => at_width(AluOp::Add, wide, dst, src),
+        AluOp::Sub => at_width(AluOp::Sub, wide, dst, src),
+        AluOp::Mul => at_width(AluOp::Mul, wide, dst, src),
+        AluOp::Or => at_width(AluOp::Or, wide, dst, src),
+        AluOp::And => at_width(AluOp::And, wide, dst, src),
+        AluOp::Xor => at_width(AluOp::Xor, wide, dst, src),
+        AluOp::Lsh => at_width(AluOp::Lsh, wide, dst, src),
+        AluOp::Rsh => at_width(AluOp::Rsh, wide, dst, src),
+        AluOp::Arsh => at_width(AluOp::Arsh, wide, dst, src),
+        AluOp::Mov => at_width(AluOp::Mov, wide, dst, src),
         AluOp::Div | AluOp::SignedDiv | AluOp::Mod | AluOp::SignedMod => {
-            quotient(op, wide, dst, src)
+            division(op, wide, dst, src)
         }
     }
 }
 
 /// The same of an operation that is known where this is inlined.
 #[inline(always)]
-fn either(op: AluOp, wide: bool, dst: u64, src: u64) -> u64
+fn at_width(op: AluOp, wide: bool, dst: u64, src: u64) -> u64
     ensures { result ≡ computed op wide dst src }
 {
     if wide {
@@ -41,12 +41,12 @@ fn either(op: AluOp, wide: bool, dst: u64, src: u64) -> u64
     }
 }
 
-/// The same of an operation that takes long anyway, so that it is no part of its caller's loop.
+/// The same of a division or its remainder, which take long anyway: a call, so that a caller's loop stays small.
 #[inline(never)]
-fn quotient(op: AluOp, wide: bool, dst: u64, src: u64) -> u64
+fn division(op: AluOp, wide: bool, dst: u64, src: u64) -> u64
     ensures { result ≡ computed op wide dst src }
 {
-    either(op, wide, dst, src)
+    at_width(op, wide, dst, src)
 }
 
 /// What NEG leaves in its destination.

@@ -6,30 +6,30 @@ use crate::condition::Condition;
 use crate::truncated::low_32;
 
 /// Whether a conditional jump is taken, of the numbers in destination and source: on 64 bits if `wide`, else on the
-/// low truncated.
+/// low 32.
 #[inline(always)]
 pub fn holds(cond: Condition, wide: bool, a: u64, b: u64) -> bool
     ensures { result ≡ is_met cond wide a b }
 {
     // An arm each, so that one jump finds the condition.
     match cond {
-        Condition::Equal => either(Condition::Equal, wide, a, b),
-        Condition::Greater => either(Condition::Greater, wide, a, b),
-        Condition::GreaterOrEqual => either(Condition::GreaterOrEqual, wide, a, b),
-        Condition::Set => either(Condition::Set, wide, a, b),
-        Condition::NotEqual => either(Condition::NotEqual, wide, a, b),
-        Condition::SignedGreater => either(Condition::SignedGreater, wide, a, b),
-        Condition::SignedGreaterOrEqual => either(Condition::SignedGreaterOrEqual, wide, a, b),
-        Condition::Less => either(Condition::Less, wide, a, b),
-        Condition::LessOrEqual => either(Condition::LessOrEqual, wide, a, b),
-        Condition::SignedLess => either(Condition::SignedLess, wide, a, b),
-        Condition::SignedLessOrEqual => either(Condition::SignedLessOrEqual, wide, a, b),
+        Condition::Equal => at_width(Condition::Equal, wide, a, b),
+        Condition::Greater => at_width(Condition::Greater, wide, a, b),
+        Condition::GreaterOrEqual => at_width(Condition::GreaterOrEqual, wide, a, b),
+        Condition::Set => at_width(Condition::Set, wide, a, b),
+        Condition::NotEqual => at_width(Condition::NotEqual, wide, a, b),
+        Condition::SignedGreater => at_width(Condition::SignedGreater, wide, a, b),
+        Condition::SignedGreaterOrEqual => at_width(Condition::SignedGreaterOrEqual, wide, a, b),
+        Condition::Less => at_width(Condition::Less, wide, a, b),
+        Condition::LessOrEqual => at_width(Condition::LessOrEqual, wide, a, b),
+        Condition::SignedLess => at_width(Condition::SignedLess, wide, a, b),
+        Condition::SignedLessOrEqual => at_width(Condition::SignedLessOrEqual, wide, a, b),
     }
 }
 
 /// The same of a condition that is known where this is inlined.
 #[inline(always)]
-fn either(cond: Condition, wide: bool, a: u64, b: u64) -> bool
+fn at_width(cond: Condition, wide: bool, a: u64, b: u64) -> bool
     ensures { result ≡ is_met cond wide a b }
 {
     if wide {
