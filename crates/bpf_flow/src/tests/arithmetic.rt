@@ -163,8 +163,8 @@ fn addresses(rt: HostRuntime) -> Result<(), Fail> {
     Ok(())
 }
 
-/// A packet's address and a range to add to it, beside older values of id 7 and of id 6.
-fn before_a_sum(rt: &HostRuntime) -> Result<Note, Fail> {
+#[test]
+fn a_sum_with_a_range_has_an_id_of_its_own(rt: HostRuntime) -> Result<(), Fail> {
     let mut note = Note::entry(rt.alloc());
     note.set_register(2, packet(14));
     note.set_register(3, range(0, 60));
@@ -173,36 +173,18 @@ fn before_a_sum(rt: &HostRuntime) -> Result<Note, Fail> {
     note.set_register(6, Val::MaybeValue { m: 0, id: 7 });
     note.keep(3, Val::Pkt { id: 7, off: 0 });
     note.set_safe(7, Some(20))?;
-    Ok(note)
-}
-
-#[test]
-fn a_sum_with_a_range_has_an_id_of_its_own(rt: HostRuntime) -> Result<(), Fail> {
-    let note = before_a_sum(&rt)?;
     for (dst, src) in [(Register::R2, Register::R3), (Register::R3, Register::R2)] {
         let src = Operand::Register(src);
         let note = next(alu(rt.alloc(), &note, AluOp::Add, true, dst, src))?;
         assert_eq!(rt; note.register(dst.number()), Val::Pkt { id: 7, off: 0 });
-        assert_eq!(rt; (note.top(7), note.safe(7)), (74, None));
-        // older values of the id are any number
-        let older = (note.register(4), note.register(6), note.kept(3));
-        assert_eq!(rt; older, (Val::FULL, Val::FULL, Some(Val::FULL)));
+        assert_eq!(rt; note.top(7), 74);
+        assert_eq!(rt; note.safe(7), None);
+        assert_eq!(rt; note.register(4), Val::FULL);
         assert_eq!(rt; note.register(5), Val::Pkt { id: 6, off: 2 });
+        assert_eq!(rt; note.register(6), Val::FULL);
+        assert_eq!(rt; note.kept(3), Some(Val::FULL));
     }
     Ok(())
-}
-
-/// What is known after an add of 0 to `hi` to an address `off` bytes behind id 5's base, which is at most `top`. There
-/// is an older address of id 7 in `r4`.
-fn summed(rt: &HostRuntime, top: u32, off: u16, hi: u64) -> Result<Note, Fail> {
-    let mut note = Note::entry(rt.alloc());
-    note.set_top(5, top)?;
-    note.set_top(7, 9)?;
-    note.set_register(2, Val::Pkt { id: 5, off });
-    note.set_register(3, range(0, hi));
-    note.set_register(4, Val::Pkt { id: 7, off: 0 });
-    let src = Operand::Register(Register::R3);
-    Ok(next(alu(rt.alloc(), &note, AluOp::Add, true, Register::R2, src))?)
 }
 
 #[test]
@@ -215,7 +197,14 @@ fn bases_have_a_greatest(rt: HostRuntime) -> Result<(), Fail> {
         (0xf_0000, 0xffff, 1, Val::FULL, 9),
     ];
     for (top, off, hi, wanted, wanted_top) in rows {
-        let note = summed(&rt, top, off, hi)?;
+        let mut note = Note::entry(rt.alloc());
+        note.set_top(5, top)?;
+        note.set_top(7, 9)?;
+        note.set_register(2, Val::Pkt { id: 5, off });
+        note.set_register(3, range(0, hi));
+        note.set_register(4, fresh);
+        let src = Operand::Register(Register::R3);
+        let note = next(alu(rt.alloc(), &note, AluOp::Add, true, Register::R2, src))?;
         assert_eq!(rt; note.register(2), wanted);
         assert_eq!(rt; note.top(7), wanted_top);
         assert_eq!(rt; note.register(4) == fresh, wanted == Val::FULL);

@@ -91,23 +91,18 @@ fn registers_that_are_compared(rt: HostRuntime) -> Result<(), Fail> {
         learnt(&rt, less, true, exactly(4), other_range)?,
         (exactly(4), exactly(4))
     );
+    // nothing is learnt of the second operand
+    let mut note = Note::entry(rt.alloc());
+    note.set_register(2, exactly(4));
+    note.set_register(4, range(2, 7));
+    for cond in [Condition::Equal, Condition::Less, Condition::Greater] {
+        let (passed, taken) = edges(rt.alloc(), &note, cond, true, Register::R2, other_range)?;
+        assert!(rt; passed.same_as(&note) && taken.same_as(&note), "{cond:?}");
+    }
     assert_eq!(rt;
         learnt(&rt, less, true, Val::Ctx, constant)?,
         (Val::Ctx, Val::Ctx)
     );
-    Ok(())
-}
-
-#[test]
-fn nothing_is_learnt_of_the_second_operand(rt: HostRuntime) -> Result<(), Fail> {
-    let mut note = Note::entry(rt.alloc());
-    note.set_register(2, exactly(4));
-    note.set_register(4, range(2, 7));
-    let second = Operand::Register(Register::R4);
-    for cond in [Condition::Equal, Condition::Less, Condition::Greater] {
-        let (passed, taken) = edges(rt.alloc(), &note, cond, true, Register::R2, second)?;
-        assert!(rt; passed.same_as(&note) && taken.same_as(&note), "{cond:?}");
-    }
     Ok(())
 }
 
@@ -122,30 +117,19 @@ fn lookups(rt: &HostRuntime) -> Note {
     note
 }
 
-/// What is known of the first lookup's two copies and of the one on the stack, and of the other lookup.
-fn known(note: &Note) -> (Val, Val, Option<Val>, Val) {
-    (
-        note.register(2),
-        note.register(6),
-        note.kept(63),
-        note.register(7),
-    )
-}
-
 #[test]
 fn a_null_check_frees_its_id_alone(rt: HostRuntime) -> Result<(), Fail> {
-    let other = Val::MaybeValue { m: 1, id: 4 };
-    let value = Val::Value { m: 1 };
-    let null = exactly(0);
+    let note = lookups(&rt);
     let zero = Operand::Immediate(0);
-    for (cond, passed, taken) in [
-        (Condition::Equal, value, null),
-        (Condition::NotEqual, null, value),
-    ] {
-        let note = lookups(&rt);
-        let (next, target) = edges(rt.alloc(), &note, cond, true, Register::R2, zero)?;
-        assert_eq!(rt; known(&next), (passed, passed, Some(passed), other));
-        assert_eq!(rt; known(&target), (taken, taken, Some(taken), other));
+    let r2 = Register::R2;
+    let (is_null, is_value) = edges(rt.alloc(), &note, Condition::Equal, true, r2, zero)?;
+    let (null_too, value_too) = edges(rt.alloc(), &note, Condition::NotEqual, true, r2, zero)?;
+    assert!(rt; is_null.same_as(&value_too) && is_value.same_as(&null_too));
+    for (note, wanted) in [(&is_value, exactly(0)), (&is_null, Val::Value { m: 1 })] {
+        assert_eq!(rt; note.register(2), wanted);
+        assert_eq!(rt; note.register(6), wanted);
+        assert_eq!(rt; note.kept(63), Some(wanted));
+        assert_eq!(rt; note.register(7), Val::MaybeValue { m: 1, id: 4 });
     }
     Ok(())
 }
@@ -164,12 +148,7 @@ fn no_null_check(rt: HostRuntime) -> Result<(), Fail> {
         let (passed, taken) = edges(rt.alloc(), &note, cond, wide, Register::R2, src)?;
         assert!(rt; passed.same_as(&note) && taken.same_as(&note), "{cond:?}");
     }
-    Ok(())
-}
-
-#[test]
-fn no_null_check_with_0_first(rt: HostRuntime) -> Result<(), Fail> {
-    let note = lookups(&rt);
+    // 0 first
     let r2 = Operand::Register(Register::R2);
     let (passed, taken) = edges(rt.alloc(), &note, Condition::Equal, true, Register::R5, r2)?;
     assert!(rt; passed.same_as(&note) && taken.same_as(&note));

@@ -1,7 +1,7 @@
 //! Lookups and counters.
 
-use crate::after;
 use crate::tests::steps::{add, call, cause, exactly, next};
+use crate::{Successors, after};
 use bpf_insn::{Cause, Insn, Register, Size};
 use bpf_note::{MapShape, Note, PACKET_ID, Val};
 use std::alloc::Global;
@@ -18,21 +18,16 @@ fn before_a_lookup(alloc: Global) -> Note {
     note
 }
 
-/// What is known after a lookup at slot 7, with older values of id 7 and of id 6.
-fn after_a_lookup(alloc: Global) -> Result<Note, Cause> {
-    let mut note = before_a_lookup(alloc);
+#[test]
+fn a_lookup_gives_a_value_or_null(rt: HostRuntime) -> Result<(), Fail> {
+    let mut note = before_a_lookup(rt.alloc());
     note.set_register(3, exactly(1));
     note.set_register(6, Val::MaybeValue { m: 1, id: 7 });
     note.set_register(7, Val::MaybeValue { m: 1, id: 6 });
     note.keep(0, Val::Pkt { id: 7, off: 0 });
     note.set_top(7, 9)?;
     note.set_safe(7, Some(3))?;
-    next(call(alloc, &note, 1))
-}
-
-#[test]
-fn a_lookup_gives_a_value_or_null(rt: HostRuntime) -> Result<(), Fail> {
-    let note = after_a_lookup(rt.alloc())?;
+    let note = next(call(rt.alloc(), &note, 1))?;
     assert_eq!(rt; note.register(0), Val::MaybeValue { m: 1, id: 7 });
     for lost in 1..6 {
         assert_eq!(rt; note.register(lost), Val::Unset);
@@ -46,16 +41,9 @@ fn a_lookup_gives_a_value_or_null(rt: HostRuntime) -> Result<(), Fail> {
     Ok(())
 }
 
-/// The cause against a call with two arguments.
-fn refused_call(alloc: Global, r1: Val, r2: Val, helper: i32) -> Option<Cause> {
-    let mut note = before_a_lookup(alloc);
-    note.set_register(1, r1);
-    note.set_register(2, r2);
-    cause(call(alloc, &note, helper))
-}
-
 #[test]
 fn arguments_of_a_call(rt: HostRuntime) {
+    let good = before_a_lookup(rt.alloc());
     for (r1, r2, wanted) in [
         (Val::Map { m: 1 }, Val::Stack { off: -4 }, None),
         (Val::Ctx, Val::Stack { off: -4 }, Some(Cause::Argument)),
@@ -74,17 +62,13 @@ fn arguments_of_a_call(rt: HostRuntime) {
         (Val::Unset, Val::Stack { off: -4 }, Some(Cause::Unset)),
         (Val::Ctx, Val::Unset, Some(Cause::Unset)),
     ] {
-        let refused = refused_call(rt.alloc(), r1, r2, 1);
-        assert_eq!(rt; refused, wanted, "{r1:?} {r2:?}");
+        let mut note = before_a_lookup(rt.alloc());
+        note.set_register(1, r1);
+        note.set_register(2, r2);
+        assert_eq!(rt; cause(call(rt.alloc(), &note, 1)), wanted, "{r1:?} {r2:?}");
         // the helper's number comes first
-        let refused = refused_call(rt.alloc(), r1, r2, 2);
-        assert_eq!(rt; refused, Some(Cause::Helper));
+        assert_eq!(rt; cause(call(rt.alloc(), &note, 2)), Some(Cause::Helper));
     }
-}
-
-#[test]
-fn other_helpers(rt: HostRuntime) {
-    let good = before_a_lookup(rt.alloc());
     for helper in [-1, 0, 2] {
         assert_eq!(rt; cause(call(rt.alloc(), &good, helper)), Some(Cause::Helper));
     }
@@ -104,19 +88,6 @@ fn refusal(alloc: Global, shape: MapShape, size: Size, signed: bool, off: i16) -
     cause(after(alloc, &insn, 7, &note, &[shape]))
 }
 
-/// A note with the address of map 0's first counter in `r2`, and 1 in `r3`.
-fn at_a_counter(alloc: Global) -> Note {
-    let mut note = Note::entry(alloc);
-    note.set_register(2, Val::Value { m: 0 });
-    note.set_register(3, exactly(1));
-    note
-}
-
-/// The cause against an add to a value of map 0.
-fn refused_add(alloc: Global, shape: MapShape, fetch: bool, off: i16) -> Option<Cause> {
-    cause(add(alloc, &at_a_counter(alloc), &[shape], fetch, off))
-}
-
 #[test]
 fn counters_of_a_value(rt: HostRuntime) -> Result<(), Fail> {
     let alloc = rt.alloc();
@@ -134,8 +105,12 @@ fn counters_of_a_value(rt: HostRuntime) -> Result<(), Fail> {
         (8, -1, refused),
     ] {
         let shape = MapShape::of(2, counters).expect(&rt, "a shape");
+        let mut note = Note::entry(alloc);
+        note.set_register(2, Val::Value { m: 0 });
+        note.set_register(3, exactly(1));
         for fetch in [false, true] {
-            assert_eq!(rt; refused_add(alloc, shape, fetch, off), wanted, "{off}");
+            let added = add(alloc, &note, &[shape], fetch, off);
+            assert_eq!(rt; cause(added), wanted, "{off}");
         }
         assert_eq!(rt;
             refusal(alloc, shape, Size::Double, false, off),
@@ -181,25 +156,16 @@ fn adds_elsewhere(rt: HostRuntime) {
 }
 
 #[test]
-fn an_add_leaves_the_note(rt: HostRuntime) -> Result<(), Fail> {
+fn what_an_add_leaves(rt: HostRuntime) -> Result<(), Fail> {
+    let alloc = rt.alloc();
     let shape = MapShape::of(1, 1).expect(&rt, "a shape");
-    let note = at_a_counter(rt.alloc());
-    let added = next(add(rt.alloc(), &note, &[shape], false, 0))?;
+    let mut note = Note::entry(alloc);
+    note.set_register(2, Val::Value { m: 0 });
+    note.set_register(3, exactly(1));
+    let added = next(add(alloc, &note, &[shape], false, 0))?;
     assert!(rt; added.same_as(&note));
-    Ok(())
-}
-
-#[test]
-fn an_add_fetches_any_number(rt: HostRuntime) -> Result<(), Fail> {
-    let shape = MapShape::of(1, 1).expect(&rt, "a shape");
-    let fetched = next(add(rt.alloc(), &at_a_counter(rt.alloc()), &[shape], true, 0))?;
+    let fetched = next(add(alloc, &note, &[shape], true, 0))?;
     assert_eq!(rt; fetched.register(3), Val::FULL);
-    Ok(())
-}
-
-#[test]
-fn a_counter_holds_any_number(rt: HostRuntime) -> Result<(), Fail> {
-    let shape = MapShape::of(1, 1).expect(&rt, "a shape");
     let load = Insn::Ldx {
         size: Size::Double,
         signed: false,
@@ -207,7 +173,9 @@ fn a_counter_holds_any_number(rt: HostRuntime) -> Result<(), Fail> {
         src: Register::R2,
         off: 0,
     };
-    let loaded = next(after(rt.alloc(), &load, 7, &at_a_counter(rt.alloc()), &[shape]))?;
-    assert_eq!(rt; loaded.register(4), Val::FULL);
+    match after(alloc, &load, 7, &note, &[shape])? {
+        Successors::One(next) => assert_eq!(rt; next.note.register(4), Val::FULL),
+        _ => assert!(rt; false),
+    }
     Ok(())
 }

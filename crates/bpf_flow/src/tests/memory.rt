@@ -1,10 +1,9 @@
 //! Loads and stores: the stack, the context and the packet.
 
+use crate::after;
 use crate::tests::steps::{cause, exactly, load, load_signed, next, store, store_five};
-use crate::{Successors, after};
 use bpf_insn::{Cause, Insn, Register, Size};
 use bpf_note::{Note, PACKET_ID, Val};
-use std::alloc::Global;
 use std::test::Fail;
 
 const R1: Register = Register::R1;
@@ -19,11 +18,6 @@ const SIZES: [(Size, i16, u64); 4] = [
     (Size::Word, 4, 0xffff_ffff),
     (Size::Double, 8, u64::MAX),
 ];
-
-/// What is in `r0` where an instruction leads to the next slot alone.
-fn loaded(step: Result<Successors, Cause>) -> Result<Val, Cause> {
-    Ok(next(step)?.register(0))
-}
 
 #[test]
 fn the_stack_has_512_bytes(rt: HostRuntime) -> Result<(), Fail> {
@@ -81,44 +75,32 @@ fn a_load_wants_every_byte_set(rt: HostRuntime) -> Result<(), Fail> {
     Ok(())
 }
 
-/// A note with `r1`, the context, in slot 62.
-fn with_the_context_in_slot_62(alloc: Global) -> Result<Note, Cause> {
-    next(store(alloc, &Note::entry(alloc), Size::Double, R10, -16, R1))
-}
-
 #[test]
 fn a_slot_keeps_what_is_stored_to_the_whole_of_it(rt: HostRuntime) -> Result<(), Fail> {
     let alloc = rt.alloc();
-    let whole = with_the_context_in_slot_62(alloc)?;
+    let whole = next(store(alloc, &Note::entry(alloc), Size::Double, R10, -16, R1))?;
     assert_eq!(rt; whole.kept(62), Some(Val::Ctx));
-    let value = loaded(load(alloc, &whole, Size::Double, R10, -16))?;
-    assert_eq!(rt; value, Val::Ctx);
-    let value = loaded(load(alloc, &whole, Size::Word, R10, -16))?;
+    let loaded = next(load(alloc, &whole, Size::Double, R10, -16))?;
+    assert_eq!(rt; loaded.register(0), Val::Ctx);
+    let part = next(load(alloc, &whole, Size::Word, R10, -16))?;
     assert_eq!(rt;
-        value,
+        part.register(0),
         Val::Num {
             lo: 0,
             hi: 0xffff_ffff
         }
     );
-    Ok(())
-}
-
-#[test]
-fn a_slot_keeps_a_constant(rt: HostRuntime) -> Result<(), Fail> {
-    let alloc = rt.alloc();
-    let whole = with_the_context_in_slot_62(alloc)?;
     let five = next(store_five(alloc, &whole, Size::Double, R10, -16))?;
     assert_eq!(rt; five.kept(62), Some(exactly(5)));
-    let value = loaded(load(alloc, &five, Size::Byte, R10, -16))?;
-    assert_eq!(rt; value, Val::Num { lo: 0, hi: 0xff });
+    let byte = next(load(alloc, &five, Size::Byte, R10, -16))?;
+    assert_eq!(rt; byte.register(0), Val::Num { lo: 0, hi: 0xff });
     Ok(())
 }
 
 #[test]
 fn a_store_to_part_of_a_slot_forgets_it(rt: HostRuntime) -> Result<(), Fail> {
     let alloc = rt.alloc();
-    let whole = with_the_context_in_slot_62(alloc)?;
+    let whole = next(store(alloc, &Note::entry(alloc), Size::Double, R10, -16, R1))?;
     for (size, off) in [
         (Size::Byte, -16),
         (Size::Byte, -9),
@@ -129,16 +111,9 @@ fn a_store_to_part_of_a_slot_forgets_it(rt: HostRuntime) -> Result<(), Fail> {
     ] {
         let note = next(store_five(alloc, &whole, size, R10, off))?;
         assert_eq!(rt; note.kept(62), None, "{off}");
-        let value = loaded(load(alloc, &note, Size::Double, R10, -16))?;
-        assert_eq!(rt; value, Val::FULL, "{off}");
+        let note = next(load(alloc, &note, Size::Double, R10, -16))?;
+        assert_eq!(rt; note.register(0), Val::FULL, "{off}");
     }
-    Ok(())
-}
-
-#[test]
-fn a_store_beside_a_slot_leaves_it(rt: HostRuntime) -> Result<(), Fail> {
-    let alloc = rt.alloc();
-    let whole = with_the_context_in_slot_62(alloc)?;
     for off in [-24, -8] {
         let note = next(store_five(alloc, &whole, Size::Double, R10, off))?;
         assert_eq!(rt; note.kept(62), Some(Val::Ctx), "{off}");
@@ -164,8 +139,8 @@ fn fields_of_the_context(rt: HostRuntime) -> Result<(), Fail> {
         (12, word),
         (16, word),
     ] {
-        let field = loaded(load(rt.alloc(), &note, Size::Word, R1, off))?;
-        assert_eq!(rt; field, wanted, "{off}");
+        let loaded = next(load(rt.alloc(), &note, Size::Word, R1, off))?;
+        assert_eq!(rt; loaded.register(0), wanted, "{off}");
     }
     Ok(())
 }
@@ -204,38 +179,28 @@ fn no_fields_of_the_context(rt: HostRuntime) {
     }
 }
 
-/// A note in which the eight bytes from `r2` on lie in the packet.
-fn eight_bytes(alloc: Global) -> Result<Note, Cause> {
-    let mut note = Note::entry(alloc);
-    note.set_safe(5, Some(8))?;
-    note.set_register(2, Val::Pkt { id: 5, off: 0 });
-    Ok(note)
-}
-
 #[test]
 fn loads_from_the_packet(rt: HostRuntime) -> Result<(), Fail> {
     let alloc = rt.alloc();
-    let note = eight_bytes(alloc)?;
+    let mut note = Note::entry(alloc);
+    note.set_safe(5, Some(8))?;
+    note.set_register(2, Val::Pkt { id: 5, off: 0 });
     for (size, bytes, most) in SIZES {
-        let value = loaded(load(alloc, &note, size, R2, 8 - bytes))?;
-        assert_eq!(rt; value, Val::Num { lo: 0, hi: most });
-        let value = loaded(load_signed(alloc, &note, size, R2, 0))?;
-        assert_eq!(rt; value, Val::FULL);
-        let refused = cause(load(alloc, &note, size, R2, -1));
-        assert_eq!(rt; refused, Some(Cause::Packet));
-    }
-    Ok(())
-}
-
-#[test]
-fn stores_to_the_packet(rt: HostRuntime) -> Result<(), Fail> {
-    let alloc = rt.alloc();
-    let note = eight_bytes(alloc)?;
-    for (size, bytes, _) in SIZES {
+        let loaded = next(load(alloc, &note, size, R2, 8 - bytes))?;
+        assert_eq!(rt; loaded.register(0), Val::Num { lo: 0, hi: most });
+        let loaded = next(load_signed(alloc, &note, size, R2, 0))?;
+        assert_eq!(rt; loaded.register(0), Val::FULL);
         let stored = next(store(alloc, &note, size, R2, 0, R1))?;
         assert!(rt; stored.same_as(&note));
-        let refused = cause(store_five(alloc, &note, size, R2, 9 - bytes));
-        assert_eq!(rt; refused, Some(Cause::Packet));
+        let past = 9 - bytes;
+        assert_eq!(rt;
+            cause(store_five(alloc, &note, size, R2, past)),
+            Some(Cause::Packet)
+        );
+        assert_eq!(rt;
+            cause(load(alloc, &note, size, R2, -1)),
+            Some(Cause::Packet)
+        );
     }
     Ok(())
 }

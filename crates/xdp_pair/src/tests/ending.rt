@@ -1,40 +1,25 @@
 //! How runs end, and their notices.
-ghost use Rattle.std.specs.Prelude.{◌≤◌, length};
 
 use super::fixtures::{PASSES, TURNS, packets, program, setup};
 use crate::gate::Gate;
 use crate::inbox::Discard;
 use crate::pairing::{STACK, pair_over};
 use crate::shared::Shared;
-use crate::{Open, PairFault, PairReport};
-use std::alloc::Global;
-use std::sync::Wait;
+use crate::{Open, PairFault};
 use std::test::Fail;
-use std::thread::Threads;
 use xen_back::Halt;
 use xen_page::{Bus, PageBus, Place};
 use xen_ring::Port;
 
-/// The report of queues whose packets are passed on, each queue's so many times, in so many turns at most.
-fn passed<R: Threads + Wait + Sync>(
-    rt: &R,
-    alloc: Global,
-    times: &[u32],
-    turns: u32,
-) -> Result<PairReport, Fail>
-    requires { (1 ≤ length times.now) × (length times.now ≤ 8) }
-{
-    let program = program(alloc, PASSES, &[])?;
-    let setup = setup(alloc, times.len(), 0, packets(alloc, times)?);
-    let (shared, parkers) = Shared::make(alloc, &setup)?;
-    Ok(pair_over(
-        rt, alloc, &setup, &program, turns, &Open, &Discard, STACK, &shared, parkers,
-    )?)
-}
-
 #[test]
 fn the_last_turn_ends_the_front(rt: HostRuntime) -> Result<(), Fail> {
-    let report = passed(&rt, rt.alloc(), &[5000, 5000], 3)?;
+    let alloc = rt.alloc();
+    let program = program(alloc, PASSES, &[])?;
+    let setup = setup(alloc, 2, 0, packets(alloc, &[5000, 5000])?);
+    let (shared, parkers) = Shared::make(alloc, &setup)?;
+    let report = pair_over(
+        &rt, alloc, &setup, &program, 3, &Open, &Discard, STACK, &shared, parkers,
+    )?;
     for row in report.rows.iter() {
         assert!(rt; row.copied <= 3);
         assert!(rt; row.sent < 5000);
@@ -44,7 +29,13 @@ fn the_last_turn_ends_the_front(rt: HostRuntime) -> Result<(), Fail> {
 
 #[test]
 fn no_turn_ends_the_front(rt: HostRuntime) -> Result<(), Fail> {
-    let report = passed(&rt, rt.alloc(), &[5000], 0)?;
+    let alloc = rt.alloc();
+    let program = program(alloc, PASSES, &[])?;
+    let setup = setup(alloc, 1, 0, packets(alloc, &[5000])?);
+    let (shared, parkers) = Shared::make(alloc, &setup)?;
+    let report = pair_over(
+        &rt, alloc, &setup, &program, 0, &Open, &Discard, STACK, &shared, parkers,
+    )?;
     for row in report.rows.iter() {
         assert_eq!(rt; row.copied, 0);
     }
@@ -54,8 +45,14 @@ fn no_turn_ends_the_front(rt: HostRuntime) -> Result<(), Fail> {
 /// Queue 1 has nothing to send, and its back ends once its front has.
 #[test]
 fn a_front_that_ends_early_ends_its_back(rt: HostRuntime) -> Result<(), Fail> {
-    let report = passed(&rt, rt.alloc(), &[300, 0, 1], TURNS)?;
-    let mut sent = Vec::new(rt.alloc());
+    let alloc = rt.alloc();
+    let program = program(alloc, PASSES, &[])?;
+    let setup = setup(alloc, 3, 0, packets(alloc, &[300, 0, 1])?);
+    let (shared, parkers) = Shared::make(alloc, &setup)?;
+    let report = pair_over(
+        &rt, alloc, &setup, &program, TURNS, &Open, &Discard, STACK, &shared, parkers,
+    )?;
+    let mut sent = Vec::new(alloc);
     for row in report.rows.iter() {
         sent.push((row.sent, row.copied))?;
     }
@@ -73,10 +70,13 @@ fn both_ends_get_notices(rt: HostRuntime) -> Result<(), Fail> {
     pair_over(
         &rt, alloc, &setup, &program, TURNS, &Open, &Discard, STACK, &shared, parkers,
     )?;
-    for number in 0..64 {
+    for number in 0..16 {
         let port = Port::of(number).ok_or("no port")?;
-        let is_used = number < 16;
-        assert_eq!(rt; shared.ports.take(port), is_used, "port {number}");
+        assert!(rt; shared.ports.take(port), "port {number}");
+    }
+    for number in 16..64 {
+        let port = Port::of(number).ok_or("no port")?;
+        assert!(rt; !shared.ports.take(port), "port {number}");
     }
     Ok(())
 }
