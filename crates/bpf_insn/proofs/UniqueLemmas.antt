@@ -9,7 +9,7 @@ use Rattle.bpf_insn.proofs.ProgressLemmas.{length_spelling, slots_written}
 use Rattle.bpf_insn.proofs.SpellingLemmas.{second_slot, slots_fit}
 use Rattle.bpf_insn.specs.Code.{takes, Spells}
 use Rattle.bpf_insn.specs.Fields.{slot_bytes, FitsSlot}
-use Rattle.bpf_insn.specs.Refusal.{HasLength, HasCause, IsNoCode, IsRefusalOrMemory, IsRefused, unsupported_opcode, unknown_opcode, no_register, unsupported_field, other_field}
+use Rattle.bpf_insn.specs.Refusal.{HasLength, HasCause, IsNoCode, IsRefused, unsupported_opcode, unknown_opcode, no_register, unsupported_field, other_field}
 use Rattle.bpf_insn.specs.Spelling.{slots, spelling, HasSpelling, ContinuesNone}
 use Rattle.bpf_insn.specs.declared.fields.Fields.{Fields}
 use Rattle.bpf_insn.specs.declared.insn.Insn.{Insn}
@@ -169,7 +169,3 @@ encoded i h =
 pub memory_alone : (bytes : List ℕ) (r : Refusal) (code : List Insn) → IsNoCode bytes r → Spells code bytes → r.cause ≡ Memory
 memory_alone bytes r code (inl h) s = absurd (code_or_none code bytes r.cause r.pc s h)
 memory_alone bytes r code (inr h) s = h.0
-
-pub same_or_memory : (bytes : List ℕ) (r : Refusal) (cause : Cause) (pc : ℕ) → IsNoCode bytes r → IsRefused bytes cause pc → IsRefusalOrMemory r cause pc
-same_or_memory bytes r cause pc (inl h) k = inl (one_refusal bytes r.cause cause r.pc pc h k)
-same_or_memory bytes r cause pc (inr h) k = inr h.0

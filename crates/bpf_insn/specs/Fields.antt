@@ -1,5 +1,6 @@
 -- The five fields of a slot and its eight bytes (RFC 9669 section 3.1: opcode, regs, offset, imm; little-endian, the destination in
 -- the low four bits of regs).
+-- Rows from LLVM guard it: `text` of crates/outside_rows.
 use Rattle.std.specs.Prelude.{ℕ, ◌+◌, ◌*◌, ◌/◌, ◌%◌, ◌<◌, List, [], ◌∷◌, FitsSigned}
 use Rattle.std.specs.Int.{cast_unsigned, w16, w32}
 use Rattle.bpf_insn.specs.declared.fields.Fields.{Fields}

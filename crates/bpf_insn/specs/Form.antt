@@ -1,4 +1,5 @@
 -- Parts of a slot.
+-- Rows from LLVM guard it: `text` of crates/outside_rows.
 use Rattle.std.specs.Prelude.{◌≡◌, ◌/◌, ◌%◌, ◌<◌, pos}
 use Rattle.bpf_insn.specs.Register.{number}
 use Rattle.bpf_insn.specs.declared.fields.Fields.{Fields}

@@ -1,4 +1,6 @@
 -- Which bytes are refused, at which slot and why. The order of the causes is this project's own.
+-- Rows from LLVM guard which instructions are left out: `text` of crates/outside_rows. Rows worked by hand guard the
+-- order: src/tests/prefixes.rt.
 use Rattle.std.specs.Prelude.{ℕ, ◌≡◌, ◌≢◌, ◌<◌, ◌≤◌, ◌%◌, ◌⊎◌, ◌==◌, ◌&&◌, ◌||◌, not, nat_le, int_le, Bool, true, false, pos, List, [], ◌∷◌, ◌++◌, flat_map, length}
 use Rattle.std.specs.List.{AllByRecursion, list_any}
 use Rattle.bpf_insn.specs.Fields.{slot_bytes, FitsSlot}
@@ -85,7 +87,3 @@ pub record RunsOut (bytes : List ℕ) (pc : ℕ) : Type 0 where
 -- what `decode` answers where it gives no code
 abbrev pub IsNoCode : List ℕ → Refusal → Type 0
 IsNoCode bytes r = IsRefused bytes r.cause r.pc ⊎ ((r.cause ≡ Memory) × RunsOut bytes r.pc)
-
--- that refusal, or out of memory
-abbrev pub IsRefusalOrMemory : Refusal → Cause → ℕ → Type 0
-IsRefusalOrMemory r cause pc = ((r.cause ≡ cause) × (r.pc ≡ pc)) ⊎ (r.cause ≡ Memory)

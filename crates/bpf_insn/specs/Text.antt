@@ -1,4 +1,5 @@
 -- The text of instructions, in the notation of the Linux kernel's disassembler.
+-- Rows from LLVM guard it: `text` of crates/outside_rows.
 use Rattle.std.specs.Prelude.{ℕ, suc, ℤ, pos, negsuc, Bool, true, false, List, [], ◌++◌, codes, if◌then◌else◌}
 use Rattle.std.specs.Fmt.{decimal, signed_decimal, digits}
 use Rattle.std.specs.Int.{cast_unsigned, w32}

@@ -1,7 +1,7 @@
 //! Bytes to instructions, or the first refusal.
 ghost use Rattle.std.specs.Prelude.{ℕ, List, IsErrAnd, MatchResult, ◌≡◌, ◌≤◌, ◌*◌, ◌++◌, ◌↔◌, drop, length, IfErr, IfNone, IfOk, IfSome, IsTrue, OnOk};
 ghost use Rattle.bpf_insn.specs.Code.{Spells, takes};
-ghost use Rattle.bpf_insn.specs.Refusal.{HasCause, HasLength, IsNoCode, IsOpcode, IsRefusalOrMemory, IsRefused, IsSpelled, Stops, has_unsupported_field, is_unsupported};
+ghost use Rattle.bpf_insn.specs.Refusal.{HasCause, HasLength, IsNoCode, IsOpcode, IsRefused, IsSpelled, Stops, has_unsupported_field, is_unsupported};
 ghost use Rattle.bpf_insn.specs.declared.insn.Insn.{Insn};
 ghost use Rattle.bpf_insn.specs.declared.refusal.Cause.{Cause};
 ghost use Rattle.bpf_insn.specs.Spelling.{ContinuesNone, HasSpelling, spelling};
@@ -11,7 +11,7 @@ use crate::fields::{Fields, fields_of};
 use crate::insn::Insn;
 use crate::refusal::{Cause, Refusal};
 use crate::slot::{narrow, wide};
-use std::alloc::Global;
+use std::alloc::{AllocError, Global};
 
 /// The opcode of a wide load, the one instruction of two slots.
 const WIDE_LOAD: u8 = 0x18;
@@ -36,19 +36,29 @@ fn first(bytes: &[u8]) -> Option<Insn>
     wide(fields, fields_of(&bytes[8..16]))
 }
 
+/// Adds the slots of an instruction.
+fn add(insns: &mut Vec<Insn>, insn: Insn) -> Result<(), AllocError>
+    ensures { OnOk result (insns.new.items ≡ insns.old.items ++ takes insn) }
+{
+    insns.push(insn)?;
+    if insn.slot_count() == 2 {
+        insns.push(Insn::Second)?;
+    }
+    Ok(())
+}
+
 /// Adds the slots of an instruction, the first of them at `pc`.
 fn push(insns: &mut Vec<Insn>, insn: Insn, pc: u32) -> Result<(), Refusal>
     ensures ok { OnOk result (insns.new.items ≡ insns.old.items ++ takes insn) }
     ensures err { IfErr result (λ r. r ≡ record { cause = Cause.Memory; pc = pc }) }
 {
-    let second = insn.slot_count() == 2;
-    if insns.push(insn).is_err() || (second && insns.push(Insn::Second).is_err()) {
-        return Err(Refusal {
-            cause: Cause::Memory,
+    match add(insns, insn) {
+        Ok(()) => Ok(()),
+        Err(error) => Err(Refusal {
+            cause: Cause::from(error),
             pc,
-        });
+        }),
     }
-    Ok(())
 }
 
 /// Whether bytes are a positive number of slots, at most 4,096.

@@ -1,5 +1,6 @@
 -- The words of a ring's page (ring.h, DEFINE_RING_TYPES: the two producers and the two event indices, padding up to
 -- octet 64, and then the ring's entries).
+-- Rows from ring.h and netif.h guard it: `header`, `sizes` and `entries` of crates/outside_rows.
 use Rattle.std.specs.Prelude.{ℕ, ◌+◌, ◌*◌}
 use Rattle.xen_ring.specs.Index.{place_of}
 

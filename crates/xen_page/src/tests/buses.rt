@@ -188,6 +188,7 @@ fn a_rewriter_stops_after_the_last_number(rt: HostRuntime) -> Result<(), Fail> {
         next: Some(u32::MAX),
     };
     assert_eq!(rt; bus.read(A), 4);
+    assert_eq!(rt; bus.read(A), 4, "the numbers don't begin again");
     bus.write(A, 6);
     assert_eq!(rt;
         [bus.read(A), bus.read(A)],

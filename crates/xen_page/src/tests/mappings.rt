@@ -117,6 +117,23 @@ fn a_changed_entry_stays_mapped(rt: HostRuntime) -> Result<(), Fail> {
 }
 
 #[test]
+fn a_mapping_takes_its_own_marks_away(rt: HostRuntime) -> Result<(), Fail> {
+    let owners = owners(rt.alloc())?;
+    let table = Table::make(&owners, FRONT, &[1]).ok_or("a table")?;
+    assert!(rt; table.is_within(FRAMES));
+    for (write, marked) in [(true, 25), (false, 9)] {
+        let mut bus = ScriptBus::make(rt.alloc(), FRAMES, &[1, 17, 1, marked], 4)?;
+        let Ok(mapped) = map(&mut bus, &table, &owners, FRONT, BACK, 5, write) else {
+            return Err("the grant was refused".into());
+        };
+        assert!(rt; unmap(&mut bus, mapped).is_ok());
+        let last = [exchange(marked, 1, marked)];
+        assert_eq!(rt; bus.accesses().get(3..), Some(last.as_slice()));
+    }
+    Ok(())
+}
+
+#[test]
 fn pages_are_mapped_and_unmapped(rt: HostRuntime) -> Result<(), Fail> {
     let owners = owners(rt.alloc())?;
     let table = Table::make(&owners, FRONT, &[1]).ok_or("a table")?;
