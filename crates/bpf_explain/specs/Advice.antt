@@ -8,6 +8,7 @@ use Rattle.bpf_note.specs.Facts.{Facts}
 use Rattle.bpf_note.specs.declared.val.Val.{Val}
 use Rattle.bpf_note.specs.declared.val.Val.TheVariants as val
 use Rattle.bpf_explain.specs.Accesses.{address_of}
+use Rattle.bpf_explain.specs.Stack.{place_of}
 
 -- by the cause alone
 abbrev pub cause_advice : Cause → List ℕ
@@ -20,7 +21,7 @@ cause_advice BackJump = codes "the loop's body as often as it may run, each time
 cause_advice End = codes "exit at the end of each way through the program"
 cause_advice Unset = codes "set the register on each way that leads here; a call leaves r1 to r5 unset"
 cause_advice FramePointer = codes "copy r10 to another register, and change the copy"
-cause_advice NoPointer = codes "only add to an address and subtract from it, in 64 bits: constants, or to a packet's address a number of at most 65535"
+cause_advice NoPointer = codes "only add to an address and subtract from it, in 64 bits: constants, or to a packet's address a number of at most 65535; where more than eight ways meet, keep the offset as a number and add it to data anew"
 cause_advice Packet = codes "compare the address past the last byte with data_end on each way that leads here, after the last addition"
 cause_advice Stack = codes "store these bytes first, within the 512 bytes below r10"
 cause_advice Context = codes "load four bytes of a field: at 0, 4, 8, 12 or 16"
@@ -58,9 +59,28 @@ argument_advice (val.Map m) (val.Stack off) = codes "set all four bytes of the k
 argument_advice (val.Map m) v = codes "the key on the stack, and its address in r2"
 argument_advice v w = codes "a wide load of a map in r1"
 
--- by the cause, and for V9, V14 and V17 by the values that the instruction finds
+-- V11 of a load: it lies outside the stack, or its bytes aren't set
+abbrev pub load_advice : Option ℕ → List ℕ
+load_advice None = codes "load within the 512 bytes below r10: from r10-512 to r10-1"
+load_advice (Some place) = cause_advice Stack
+
+-- V11: a store lies outside the stack; a load may also be of bytes that aren't set
+abbrev pub stack_advice : Insn → Facts → List ℕ
+stack_advice (St size dst off imm) n = codes "store within the 512 bytes below r10: from r10-512 to r10-1"
+stack_advice (Stx size dst src off) n = codes "store within the 512 bytes below r10: from r10-512 to r10-1"
+stack_advice i n = load_advice (place_of n i)
+
+-- V12: a store to the context, or a load
+abbrev pub context_advice : Insn → List ℕ
+context_advice (St size dst off imm) = codes "store to the packet or the stack: the context is only read"
+context_advice (Stx size dst src off) = codes "store to the packet or the stack: the context is only read"
+context_advice i = cause_advice Context
+
+-- by the cause, for V11 and V12 by the instruction too, and for V9, V11, V14 and V17 by the values that the instruction finds
 abbrev pub value_advice : Cause → Insn → Facts → List ℕ
 value_advice NoPointer i n = pointer_advice (address_of n i)
+value_advice Stack i n = stack_advice i n
+value_advice Context i n = context_advice i
 value_advice MapAccess i n = map_advice i (address_of n i)
 value_advice Argument i n = argument_advice (n.reg 1) (n.reg 2)
 value_advice c i n = cause_advice c

@@ -6,12 +6,13 @@ use Rattle.bpf_insn.specs.Register.{number}
 use Rattle.bpf_insn.specs.declared.register.Register.{Register}
 use Rattle.bpf_insn.specs.declared.insn.Insn.{Insn}
 use Rattle.bpf_insn.specs.declared.refusal.Cause.{Cause}
-use Rattle.bpf_insn.specs.declared.refusal.Cause.TheVariants.{FramePointer, NoPointer, Helper, Stack, Argument}
+use Rattle.bpf_insn.specs.declared.refusal.Cause.TheVariants.{Target, FramePointer, NoPointer, Packet, Helper, Stack, Argument}
 use Rattle.bpf_insn.specs.declared.refusal.Refusal.{Refusal}
 use Rattle.bpf_note.specs.Facts.{Facts}
-use Rattle.bpf_explain.specs.Accesses.{access_of, base_of}
+use Rattle.bpf_explain.specs.Accesses.{access_of, address_of, base_of}
 use Rattle.bpf_explain.specs.Advice.{advice_text, cause_advice, lost_advice}
 use Rattle.bpf_explain.specs.Listing.{listing_text}
+use Rattle.bpf_explain.specs.Span.{jump_of, span_text, target_text}
 use Rattle.bpf_explain.specs.Stack.{stack_text}
 use Rattle.bpf_explain.specs.Values.{all_registers, known_text, reads_text}
 
@@ -21,24 +22,23 @@ is_about_values FramePointer = false
 is_about_values Helper = false
 is_about_values c = true
 
--- so have the bytes of the stack that it reaches: with V11 and V17
-abbrev pub is_about_stack : Cause → Bool
-is_about_stack Stack = true
-is_about_stack Argument = true
-is_about_stack c = false
-
+-- what it reaches: the stack's slots with V11 and V17, the packet's bytes with V10
 abbrev pub reached_text : List (List ℕ) → Cause → Insn → Facts → List ℕ
-reached_text names c i n = if is_about_stack c then stack_text names n (access_of i) else []
+reached_text names Stack i n = stack_text names n (access_of i)
+reached_text names Argument i n = stack_text names n (access_of i)
+reached_text names Packet i n = span_text (address_of n i) (access_of i)
+reached_text names c i n = []
 
--- the line below the refused one: each register that it reads, and the stack's slots that it touches
+-- the line below the refused one: each register that it reads, and what it reaches
 abbrev pub values_text : List (List ℕ) → Cause → Insn → Facts → List ℕ
 values_text names c i n =
     if is_about_values c then codes "     " ++ reads_text names i n all_registers ++ reached_text names c i n ++ codes "\n" else []
 
--- where the instruction and what is known there are at hand
-abbrev pub below_text : List (List ℕ) → Cause → Option Insn → Option Facts → List ℕ
-below_text names c (Some i) (Some n) = values_text names c i n
-below_text names c i n = []
+-- where a jump goes with V4; else where the instruction and what is known there are at hand
+abbrev pub below_text : List (List ℕ) → ℕ → Cause → Option Insn → Option Facts → List ℕ
+below_text names pc Target (Some i) n = target_text pc (jump_of i)
+below_text names pc c (Some i) (Some n) = values_text names c i n
+below_text names pc c i n = []
 
 -- the refusal, and what to write instead
 abbrev pub verdict_text : Refusal → List ℕ → List ℕ
@@ -51,7 +51,7 @@ undecoded_text r = verdict_text r (cause_advice r.cause)
 -- of a program whose maps have these names: the listing with what is known at the refused slot, and the verdict
 abbrev pub explained_text : List Insn → List (List ℕ) → Refusal → Option Facts → List ℕ
 explained_text code names r note =
-    listing_text (Some r.pc) (below_text names r.cause (slice_get code r.pc) note) 0 code
+    listing_text (Some r.pc) (below_text names r.pc r.cause (slice_get code r.pc) note) 0 code
     ++ verdict_text r (advice_text r.cause (slice_get code r.pc) note)
 
 -- the register of which V9 asks since when it is no address: the one that its access goes through

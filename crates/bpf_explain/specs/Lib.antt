@@ -4,3 +4,4 @@ pub mod Stack
 pub mod Advice
 pub mod Listing
 pub mod Explained
+pub mod Span

@@ -2,11 +2,13 @@
 use Rattle.std.specs.Prelude.{ℕ, zero, suc, ◌+◌, ◌-◌, ◌*◌, ◌/◌, ℤ, pos, ◌+ℤ◌, Bool, List, [], ◌++◌, codes, Option, None, Some, ◌==◌, if◌then◌else◌}
 use Rattle.std.specs.Fmt.{decimal}
 use Rattle.bpf_insn.specs.Register.{number}
+use Rattle.bpf_insn.specs.declared.insn.Insn.{Insn}
 use Rattle.bpf_note.specs.Facts.{Facts}
 use Rattle.bpf_note.specs.declared.val.Val.{Val}
 use Rattle.bpf_note.specs.declared.val.Val.TheVariants.{Stack}
 use Rattle.bpf_flow.specs.Memory.{place_in}
 use Rattle.bpf_explain.specs.declared.access.Access.{Access}
+use Rattle.bpf_explain.specs.Accesses.{access_of}
 use Rattle.bpf_explain.specs.Values.{known_text}
 
 -- a byte that is set, and one that is not
@@ -41,6 +43,14 @@ touched_text names n (Some place) bytes =
 abbrev pub stack_place : Val → ℤ → ℕ → Option ℕ
 stack_place (Stack from) off bytes = place_in (pos 512 +ℤ from +ℤ off) bytes 512
 stack_place v off bytes = None
+
+-- the place of an instruction's access, where it lies in the stack
+abbrev pub place_at : Facts → Option Access → Option ℕ
+place_at n None = None
+place_at n (Some a) = stack_place (n.reg (number a.base)) a.off a.bytes
+
+abbrev pub place_of : Facts → Insn → Option ℕ
+place_of n i = place_at n (access_of i)
 
 -- the slots that an access touches
 abbrev pub stack_text : List (List ℕ) → Facts → Option Access → List ℕ

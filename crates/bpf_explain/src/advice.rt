@@ -1,9 +1,10 @@
 //! What to write instead.
 ghost use Rattle.std.specs.Prelude.{◌≡◌, option_map};
 ghost use Rattle.bpf_note.specs.Parts.{facts};
-ghost use Rattle.bpf_explain.specs.Advice.{advice_text, argument_advice, cause_advice, lost_advice, map_advice, pointer_advice, value_advice};
+ghost use Rattle.bpf_explain.specs.Advice.{advice_text, argument_advice, cause_advice, lost_advice, map_advice, pointer_advice, value_advice, context_advice, load_advice, stack_advice};
 
 use crate::access::address_of;
+use crate::stack::place_of;
 use bpf_insn::{Cause, Insn};
 use bpf_note::{Note, Val};
 
@@ -24,7 +25,7 @@ pub(crate) fn cause_advice(cause: Cause) -> &'static str
             "set the register on each way that leads here; a call leaves r1 to r5 unset",
         Cause::FramePointer => "copy r10 to another register, and change the copy",
         Cause::NoPointer =>
-            "only add to an address and subtract from it, in 64 bits: constants, or to a packet's address a number of at most 65535",
+            "only add to an address and subtract from it, in 64 bits: constants, or to a packet's address a number of at most 65535; where more than eight ways meet, keep the offset as a number and add it to data anew",
         Cause::Packet =>
             "compare the address past the last byte with data_end on each way that leads here, after the last addition",
         Cause::Stack => "store these bytes first, within the 512 bytes below r10",
@@ -92,12 +93,46 @@ fn argument_advice(map: Val, key: Val) -> &'static str
     }
 }
 
-/// By the cause, and for V9, V14 and V17 by the values that the instruction finds.
+/// V11 of a load: it lies outside the stack, or its bytes aren't set.
+fn load_advice(place: Option<u32>) -> &'static str
+    ensures { result.now ≡ load_advice place }
+{
+    match place {
+        None => "load within the 512 bytes below r10: from r10-512 to r10-1",
+        Some(_) => cause_advice(Cause::Stack),
+    }
+}
+
+/// V11: a store lies outside the stack; a load may also be of bytes that aren't set.
+fn stack_advice(insn: Insn, note: &Note) -> &'static str
+    ensures { result.now ≡ stack_advice insn (facts note.now) }
+{
+    match insn {
+        Insn::St { .. } | Insn::Stx { .. } =>
+            "store within the 512 bytes below r10: from r10-512 to r10-1",
+        _ => load_advice(place_of(note, insn)),
+    }
+}
+
+/// V12: a store to the context, or a load.
+fn context_advice(insn: Insn) -> &'static str
+    ensures { result.now ≡ context_advice insn }
+{
+    match insn {
+        Insn::St { .. } | Insn::Stx { .. } =>
+            "store to the packet or the stack: the context is only read",
+        _ => cause_advice(Cause::Context),
+    }
+}
+
+/// By the cause, for V11 and V12 by the instruction too, and for V9, V11, V14 and V17 by the values that the instruction finds.
 fn value_advice(cause: Cause, insn: Insn, note: &Note) -> &'static str
     ensures { result.now ≡ value_advice cause insn (facts note.now) }
 {
     match cause {
         Cause::NoPointer => pointer_advice(address_of(note, insn)),
+        Cause::Stack => stack_advice(insn, note),
+        Cause::Context => context_advice(insn),
         Cause::MapAccess => map_advice(insn, address_of(note, insn)),
         Cause::Argument => argument_advice(note.register(1), note.register(2)),
         _ => cause_advice(cause),

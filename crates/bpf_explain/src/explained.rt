@@ -1,11 +1,12 @@
 //! What is printed of a refused program.
 ghost use Rattle.std.specs.Prelude.{◌≡◌, ◌≤◌, ◌++◌, IfOk, OnOk, length, map, option_map, slice_get, string_bytes};
 ghost use Rattle.bpf_note.specs.Parts.{facts};
-ghost use Rattle.bpf_explain.specs.Explained.{asked_register, below_text, explained_text, is_about_stack, is_about_values, reached_text, undecoded_text, values_text, verdict_text, was_text};
+ghost use Rattle.bpf_explain.specs.Explained.{asked_register, below_text, explained_text, is_about_values, reached_text, undecoded_text, values_text, verdict_text, was_text};
 
-use crate::access::{access_of, base_of};
+use crate::access::{access_of, address_of, base_of};
 use crate::advice::{advice, cause_advice, lost_advice};
 use crate::listing::add_listing;
+use crate::span::{span_text, target_text};
 use crate::stack::stack_text;
 use crate::values::{add_reads, known_text};
 use bpf_insn::{Cause, Code, Insn, Refusal, Register};
@@ -34,14 +35,7 @@ fn is_about_values(cause: Cause) -> bool
     !matches!(cause, Cause::FramePointer | Cause::Helper)
 }
 
-/// Whether the bytes of the stack that the instruction reaches have to do with the cause.
-fn is_about_stack(cause: Cause) -> bool
-    ensures { result ≡ is_about_stack cause }
-{
-    matches!(cause, Cause::Stack | Cause::Argument)
-}
-
-/// The stack's slots that the instruction touches, where the cause is about them.
+/// What the instruction reaches: the stack's slots, or the packet's bytes, where the cause is about them.
 fn reached_text(
     alloc: Global,
     names: &[String],
@@ -51,8 +45,9 @@ fn reached_text(
 ) -> Result<String, AllocError>
     ensures { IfOk result (λ s. string_bytes s ≡ reached_text (map string_bytes names.now) cause insn (facts note.now)) }
 {
-    match access_of(insn) {
-        Some(access) if is_about_stack(cause) => stack_text(alloc, names, note, access),
+    match (cause, access_of(insn)) {
+        (Cause::Stack | Cause::Argument, Some(access)) => stack_text(alloc, names, note, access),
+        (Cause::Packet, Some(access)) => span_text(alloc, address_of(note, insn), access),
         _ => Ok(String::new(alloc)),
     }
 }
@@ -80,14 +75,16 @@ fn values_text(
 fn below_text(
     alloc: Global,
     names: &[String],
+    pc: u32,
     cause: Cause,
     insn: Option<Insn>,
     note: Option<&Note>,
 ) -> Result<String, AllocError>
-    ensures { IfOk result (λ s. string_bytes s ≡ below_text (map string_bytes names.now) cause insn (option_map (λ n. facts n.now) note.entry)) }
+    ensures { IfOk result (λ s. string_bytes s ≡ below_text (map string_bytes names.now) pc cause insn (option_map (λ n. facts n.now) note.entry)) }
 {
-    match (insn, note) {
-        (Some(insn), Some(note)) => values_text(alloc, names, cause, insn, note),
+    match (cause, insn, note) {
+        (Cause::Target, Some(insn), _) => target_text(alloc, pc, insn),
+        (_, Some(insn), Some(note)) => values_text(alloc, names, cause, insn, note),
         _ => Ok(String::new(alloc)),
     }
 }
@@ -147,7 +144,7 @@ pub fn explained_text(
 {
     let insns = code.insns();
     let insn = insns.get(refusal.pc as usize).copied();
-    let below = below_text(alloc, names, refusal.cause, insn, note)?;
+    let below = below_text(alloc, names, refusal.pc, refusal.cause, insn, note)?;
     let verdict = verdict_text(alloc, refusal, advice(refusal.cause, insn, note))?;
     let mut text = String::new(alloc);
     add_listing(alloc, &mut text, insns, Some(refusal.pc), below.as_str())?;

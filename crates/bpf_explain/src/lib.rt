@@ -5,6 +5,7 @@ mod access;
 mod advice;
 mod explained;
 mod listing;
+mod span;
 mod stack;
 #[cfg(test)]
 mod tests;

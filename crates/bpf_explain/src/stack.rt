@@ -1,10 +1,11 @@
 //! The stack's slots that an access touches.
 ghost use Rattle.std.specs.Prelude.{◌≡◌, ◌+◌, ◌<◌, ◌≤◌, ◌++◌, IfOk, IfSome, OnOk, Option, map, string_bytes};
 ghost use Rattle.bpf_note.specs.Parts.{facts};
-ghost use Rattle.bpf_explain.specs.Stack.{byte_text, bytes_text, content_text, further_text, slot_text, stack_place, stack_text, touched_text};
+ghost use Rattle.bpf_explain.specs.Stack.{byte_text, bytes_text, content_text, further_text, place_of, slot_text, stack_place, stack_text, touched_text};
 
-use crate::access::Access;
+use crate::access::{Access, access_of};
 use crate::values::known_text;
+use bpf_insn::Insn;
 use bpf_note::{Note, Val};
 use std::alloc::{AllocError, Global};
 
@@ -110,6 +111,20 @@ fn stack_place(value: Val, off: i16, bytes: u32) -> Option<u32>
         Some(place)
     } else {
         None
+    }
+}
+
+/// The place of an instruction's access, where it lies in the stack.
+pub(crate) fn place_of(note: &Note, insn: Insn) -> Option<u32>
+    ensures { result ≡ place_of (facts note.now) insn }
+{
+    match access_of(insn) {
+        None => None,
+        Some(access) => stack_place(
+            note.register(access.base.number()),
+            access.off,
+            access.bytes,
+        ),
     }
 }
 

@@ -6,6 +6,8 @@ use bpf_note::{Note, PACKET_ID, Val};
 use std::alloc::Global;
 use std::test::Fail;
 
+mod texts;
+
 /// What is printed of a program, with one map that has a name.
 fn text(alloc: Global, bytes: &[u8], refusal: Refusal, note: &Note) -> Result<String, Fail> {
     let code = decode(alloc, bytes).ok().ok_or("a program")?;
@@ -38,7 +40,7 @@ fn a_packet_without_a_check(rt: HostRuntime) -> Result<(), Fail> {
     };
     assert_eq!(rt;
         text(rt.alloc(), &NO_CHECK, refusal, &note)?.as_str(),
-        "   0: r1 = *(u32 *)(r1 +0)\n>  1: r1 = *(u16 *)(r1 +12)\n       R1=pkt(id=0,off=14,r=20)\n   2: exit\nrefused V10 at 1\nwrite instead: compare the address past the last byte with data_end on each way that leads here, after the last addition\n"
+        "   0: r1 = *(u32 *)(r1 +0)\n>  1: r1 = *(u16 *)(r1 +12)\n       R1=pkt(id=0,off=14,r=20)  access=26..28\n   2: exit\nrefused V10 at 1\nwrite instead: compare the address past the last byte with data_end on each way that leads here, after the last addition\n"
     );
     Ok(())
 }
@@ -105,7 +107,7 @@ fn a_store_through_a_number(rt: HostRuntime) -> Result<(), Fail> {
     };
     assert_eq!(rt;
         text(rt.alloc(), &STORE, refusal, &note)?.as_str(),
-        ">  0: *(u8 *)(r1 +0) = r2\n       R1=scalar()  R2=scalar(umin=0,umax=60)\nrefused V9 at 0\nwrite instead: only add to an address and subtract from it, in 64 bits: constants, or to a packet's address a number of at most 65535\n"
+        ">  0: *(u8 *)(r1 +0) = r2\n       R1=scalar()  R2=scalar(umin=0,umax=60)\nrefused V9 at 0\nwrite instead: only add to an address and subtract from it, in 64 bits: constants, or to a packet's address a number of at most 65535; where more than eight ways meet, keep the offset as a number and add it to data anew\n"
     );
     Ok(())
 }

@@ -7,12 +7,14 @@ use Rattle.bpf_insn.specs.declared.insn.Insn.TheVariants.{Alu, Jump, Call}
 use Rattle.bpf_insn.specs.declared.refusal.Cause.{Cause}
 use Rattle.bpf_note.specs.declared.val.Val.TheVariants.{Pkt}
 use Rattle.bpf_note.specs.Facts.{Facts, with_reg, with_id}
-use Rattle.bpf_flow.specs.Alu.{operand_value}
+use Rattle.bpf_flow.specs.Alu.{operand_value, result_of}
 use Rattle.bpf_flow.specs.Branch.{taken, passed}
 use Rattle.bpf_flow.specs.Call.{with_call}
 use Rattle.bpf_flow.specs.Edges.{Edges, Answer}
 use Rattle.bpf_flow.specs.Memory.{with_store}
 use Rattle.bpf_flow.specs.declared.branch.Test.{Test}
+use Rattle.bpf_flow.specs.declared.computed.Computed.{Computed}
+use Rattle.bpf_flow.specs.declared.computed.Computed.TheVariants.{Plain, Fresh}
 use Rattle.bpf_flow.specs.declared.effect.Effect.{Effect}
 use Rattle.bpf_flow.specs.declared.effect.Effect.TheVariants.{Goes, Sets, SetsFresh, Stores, LooksUp, Branches, Ends}
 
@@ -50,9 +52,15 @@ Allocates (LooksUp m) = Unit {0}
 Allocates (Branches to t) = Unit {0}
 Allocates e = ⊥
 
--- an instruction that can have such an effect
-abbrev pub MayAllocate : Insn → Type 0
-MayAllocate (Alu op wide dst src) = Unit {0}
-MayAllocate (Jump cond wide dst src off) = Unit {0}
-MayAllocate (Call helper) = Unit {0}
-MayAllocate i = ⊥
+-- an address in the packet with a base of its own
+abbrev pub IsFresh : Computed → Type 0
+IsFresh (Plain v) = ⊥
+IsFresh (Fresh top) = Unit {0}
+
+-- an instruction that can have such an effect where n is known: arithmetic that makes an address with a base of its own, a
+-- conditional jump, a call
+abbrev pub MayAllocate : Insn → Facts → Type 0
+MayAllocate (Alu op wide dst src) n = IsFresh (result_of n op wide (n.reg (number dst)) (operand_value n src))
+MayAllocate (Jump cond wide dst src off) n = Unit {0}
+MayAllocate (Call helper) n = Unit {0}
+MayAllocate i n = ⊥

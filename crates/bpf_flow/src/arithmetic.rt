@@ -6,7 +6,7 @@ ghost use Rattle.bpf_insn.specs.declared.refusal.Cause.{Cause};
 ghost use Rattle.bpf_note.specs.Facts.{is_unset};
 ghost use Rattle.bpf_note.specs.Parts.{facts};
 ghost use Rattle.bpf_flow.specs.Edges.{unless, sets, sets_computed};
-ghost use Rattle.bpf_flow.specs.Effect.{Allocates, Decides};
+ghost use Rattle.bpf_flow.specs.Effect.{Allocates, Decides, IsFresh, MayAllocate};
 ghost use Rattle.bpf_flow.specs.Rule.{after_of, is_first_unset};
 
 use crate::alu::{extended_value, negated_value, operand_value, result_of, swapped_value};
@@ -30,6 +30,7 @@ impl Point<'_> {
     fn sets_computed(&self, dst: Register, computed: Computed) -> Result<Effect, Cause>
         requires { self.now.pc < 4096 }
         ensures gives { Decides result self.now.pc (facts self.now.note.now) (sets_computed (facts self.now.note.now) self.now.pc (number dst) computed) }
+        ensures spare { IfOk result (λ e. Allocates e → IsFresh computed) }
     {
         match computed {
             Computed::Plain(value) => self.sets(self.pc + 1, dst, value),
@@ -45,6 +46,7 @@ impl Point<'_> {
     pub fn alu(&self, op: AluOp, wide: bool, dst: Register, src: Operand) -> Result<Effect, Cause>
         requires { self.now.pc < 4096 }
         ensures gives { Decides result self.now.pc (facts self.now.note.now) (after_of (Insn.Alu op wide dst src) self.now.pc (facts self.now.note.now) self.now.shapes.now) }
+        ensures spare { IfOk result (λ e. Allocates e → MayAllocate (Insn.Alu op wide dst src) (facts self.now.note.now)) }
     {
         let first = self.note.register(dst.number());
         let second = operand_value(self.note, src);

@@ -14,8 +14,6 @@ mod memory;
 mod point;
 mod rule;
 mod successors;
-#[cfg(test)]
-mod tests;
 
 pub use graph::{jump_target, next_slot, reads, writes};
 pub use laws::{

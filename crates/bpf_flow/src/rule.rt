@@ -63,7 +63,7 @@ impl Point<'_> {
         requires small { self.now.pc < 4096 }
         requires ruled { IsRuled insn self.now.pc (length self.now.shapes.now) }
         ensures gives { Decides result self.now.pc (facts self.now.note.now) (after_of insn self.now.pc (facts self.now.note.now) self.now.shapes.now) }
-        ensures spare { IfOk result (λ e. Allocates e → MayAllocate insn) }
+        ensures spare { IfOk result (λ e. Allocates e → MayAllocate insn (facts self.now.note.now)) }
     {
         match insn {
             Insn::Alu { op, wide, dst, src } => self.alu(op, wide, dst, src),
@@ -100,7 +100,7 @@ fn decide(insn: &Insn, pc: u32, note: &Note, shapes: &[MapShape]) -> Result<Effe
     requires small { pc < 4096 }
     requires ruled { IsRuled insn.now pc (length shapes.now) }
     ensures gives { Decides result pc (facts note.now) (after_of insn.now pc (facts note.now) shapes.now) }
-    ensures spare { IfOk result (λ e. Allocates e → MayAllocate insn.now) }
+    ensures spare { IfOk result (λ e. Allocates e → MayAllocate insn.now (facts note.now)) }
 {
     Point { pc, note, shapes }.decide(*insn)
 }
@@ -130,7 +130,8 @@ pub fn after(
 }
 
 /// [`after`] in place: the note becomes what is known where the first way leads. A refused note stays as it is; when memory
-/// runs out, as it can at arithmetic, a conditional jump or a call alone, it may be changed.
+/// runs out, as it can at arithmetic that makes an address with a base of its own, a conditional jump or a call alone, it may
+/// be changed.
 pub fn transfer(
     alloc: Global,
     insn: &Insn,
@@ -143,7 +144,7 @@ pub fn transfer(
     ensures ok { IfOk result (λ w. after_of insn.now pc (facts note.old) shapes.now ≡ Ok (edges_along w (facts note.new))) }
     ensures err { IfErr result (λ c. Fails c (after_of insn.now pc (facts note.old) shapes.now)) }
     ensures kept { IfErr result (λ c. c ≢ Memory → note.new ≡ note.old) }
-    ensures spare { IfErr result (λ c. c ≡ Memory → MayAllocate insn.now) }
+    ensures spare { IfErr result (λ c. c ≡ Memory → MayAllocate insn.now (facts note.old)) }
     ensures sound { IfOk result (λ w. (s : State) → Describes (facts note.old) s → s.pc ≡ pc → s.shapes ≡ shapes.now → Accounts (edges_along w (facts note.new)) (exec insn.now s)) }
 {
     has_words(*insn);

@@ -1,5 +1,5 @@
 pub mod HistoryLemmas
-mod PlaceLemmas
+pub mod PlaceLemmas
 mod ViewLemmas
 mod StepLemmas
 mod GrowthLemmas

@@ -5,7 +5,7 @@ ghost use Rattle.bpf_maps.specs.Seats.{IsSeatOf, new_seats, StandTogether, Accou
 ghost use Rattle.bpf_note.specs.History.{added};
 ghost use Rattle.bpf_note.specs.Shape.{IsCounter};
 
-use crate::place;
+use crate::layout;
 use crate::plays::{Fetched, JoinBoth, Loaded, Look, SplitFirst};
 use crate::rule::{Plan, Rule};
 use crate::seat::CounterSeat;
@@ -51,9 +51,9 @@ impl Counters {
         ensures seats { IfOk result (λ r. r.1.items ≡ new_seats r.0 seats) }
     {
         let room = Totals::make(alloc, shapes)?;
-        let words = Vec::from_elem(alloc, 0, place::total(shapes) + 1)?;
+        let words = Vec::from_elem(alloc, 0, layout::total(shapes) + 1)?;
         let plan = Plan {
-            shapes: place::copied(alloc, shapes)?,
+            shapes: layout::copied(alloc, shapes)?,
             seats,
         };
         let mut dealt = Vec::with_capacity(alloc, seats)?;
@@ -71,7 +71,7 @@ impl Counters {
         requires place { IsCounter self.now.shapes m k j }
         ensures { seat.new ≡ record seat.old { ops = seat.old.ops ++ Load m k j result ∷ [] } }
     {
-        let place = place::place(self.plan.shapes.as_slice(), m, k, j);
+        let place = layout::place(self.plan.shapes.as_slice(), m, k, j);
         self.table.shared.load::<Loaded>(&mut seat.seat, place + 1)
     }
 
@@ -81,7 +81,7 @@ impl Counters {
         requires place { IsCounter self.now.shapes m k j }
         ensures { seat.new ≡ record seat.old { ops = seat.old.ops ++ Add m k j delta result ∷ [] } }
     {
-        let place = place::place(self.plan.shapes.as_slice(), m, k, j);
+        let place = layout::place(self.plan.shapes.as_slice(), m, k, j);
         self.table
             .shared
             .fetch_add::<Fetched>(&mut seat.seat, place + 1, delta)

@@ -2,7 +2,7 @@
 #![tactic(auto)]
 
 mod counters;
-mod place;
+mod layout;
 mod plays;
 mod rule;
 mod seat;
@@ -11,6 +11,7 @@ mod view;
 
 pub use bpf_note::{MapShape, Op};
 pub use counters::Counters;
+pub use layout::{place, total};
 pub use seat::CounterSeat;
 pub use totals::Totals;
 

@@ -5,7 +5,7 @@ ghost use Rattle.bpf_maps.specs.Seats.{total_at};
 ghost use Rattle.bpf_note.specs.Shape.{IsCounter};
 ghost use Rattle.bpf_maps.specs.Layout.{total as all};
 
-use crate::place;
+use crate::layout;
 use atomic_table::Closed;
 use bpf_note::MapShape;
 use std::alloc::{AllocError, Global};
@@ -37,8 +37,8 @@ impl Totals {
         ensures shapes { IfOk result (λ t. t.shapes ≡ shapes.now) }
         ensures zeros { IfOk result (λ t. (m k j : ℕ) → total_at t m k j ≡ 0) }
     {
-        let count = place::total(shapes);
-        let shapes = place::copied(alloc, shapes)?;
+        let count = layout::total(shapes);
+        let shapes = layout::copied(alloc, shapes)?;
         let values = Vec::from_elem(alloc, 0, count)?;
         Ok(Totals { shapes, values })
     }
@@ -48,7 +48,7 @@ impl Totals {
         requires { IsCounter self.now.shapes m k j }
         ensures { result ≡ total_at self.now m k j }
     {
-        self.values[place::place(self.shapes.as_slice(), m, k, j)]
+        self.values[layout::place(self.shapes.as_slice(), m, k, j)]
     }
 
     /// Adds to counter `j` of value `k` of map `m`, and answers what it was. The sum wraps.
@@ -59,7 +59,7 @@ impl Totals {
         ensures here { total_at self.new m k j ≡ (result + delta) % 2 ^ 64 }
         ensures others { (a b c : ℕ) → IsCounter self.old.shapes a b c → ¬ ((a ≡ m) × (b ≡ k) × (c ≡ j)) → total_at self.new a b c ≡ total_at self.old a b c }
     {
-        let place = place::place(self.shapes.as_slice(), m, k, j);
+        let place = layout::place(self.shapes.as_slice(), m, k, j);
         let old = self.values[place];
         self.values[place] = old.wrapping_add(delta);
         old

@@ -176,18 +176,18 @@ set_missing xs b d n h =
 same_bound : (x y : Bound) → x.id ≡ y.id → x.top ≡ y.top → x.safe ≡ y.safe → x ≡ y
 same_bound x y a b c = λ i. record { id = a i; top = b i; safe = c i }
 
-speaks : (x : Bound) → Says x → x.top ≡ 0 → x.safe ≡ None → ⊥
+pub speaks : (x : Bound) → Says x → x.top ≡ 0 → x.safe ≡ None → ⊥
 speaks x (inl h) a b = h a
 speaks x (inr h) a b = h b
 
-here_is : (x : Bound) (xs : List Bound) → (top_in (x ∷ xs) x.id ≡ x.top) × (safe_in (x ∷ xs) x.id ≡ x.safe)
+pub here_is : (x : Bound) (xs : List Bound) → (top_in (x ∷ xs) x.id ≡ x.top) × (safe_in (x ∷ xs) x.id ≡ x.safe)
 here_is x xs = by (nat_eq x.id x.id) refl
   where
     by : (b : Bool) → b ≡ nat_eq x.id x.id → (cond b x.top (top_in xs x.id) ≡ x.top) × (cond b x.safe (safe_in xs x.id) ≡ x.safe)
     by true e = (refl, refl)
     by false e = absurd (grind (arith, nat_tests))
 
-there_is : (x : Bound) (xs : List Bound) (id : ℕ) → x.id ≢ id → (top_in (x ∷ xs) id ≡ top_in xs id) × (safe_in (x ∷ xs) id ≡ safe_in xs id)
+pub there_is : (x : Bound) (xs : List Bound) (id : ℕ) → x.id ≢ id → (top_in (x ∷ xs) id ≡ top_in xs id) × (safe_in (x ∷ xs) id ≡ safe_in xs id)
 there_is x xs id h = by (nat_eq id x.id) refl
   where
     by : (b : Bool) → b ≡ nat_eq id x.id → (cond b x.top (top_in xs id) ≡ top_in xs id) × (cond b x.safe (safe_in xs id) ≡ safe_in xs id)
@@ -309,3 +309,66 @@ set_not xs p b n e h s =
     let t = id_not_there xs q b.id b (ap (λ (k : ℕ). has_id (slice_get xs k) b.id) (sym e) ∙ h) in
     let same : take q xs ++ with_said b (drop q xs) ≡ xs = ap (λ (ys : List Bound). take q xs ++ ys) (said_false b (drop q xs) s) ∙ whole q xs in
     subst (IsSet xs b) same (set_missing xs b b n t)
+
+-- the place of an id, by halves
+least_of : (least m : ℕ) (xs : List Bound) (d : Bound) → IsNormalFrom least xs → m < length xs → least ≤ (get_or xs m d).id
+least_of least m [] d n lt = absurd (omega arith)
+least_of least zero (x ∷ xs) d n lt = omega arith
+least_of least (suc m) (x ∷ xs) d n lt = let ih = least_of (x.id + 1) m xs d n.2 (omega arith) in omega arith
+
+pub below_place : (least m id : ℕ) (xs : List Bound) (d : Bound) → IsNormalFrom least xs → m < length xs → (get_or xs m d).id < id → m < place_of xs id
+below_place least m id [] d n lt h = absurd (omega arith)
+below_place least zero id (x ∷ xs) d n lt h = by (nat_lt x.id id) refl
+  where
+    by : (less : Bool) → less ≡ nat_lt x.id id → 0 < cond less (suc (place_of xs id)) 0
+    by true e = omega arith
+    by false e = absurd (grind (arith, nat_tests))
+below_place least (suc m) id (x ∷ xs) d n lt h =
+    let at : x.id + 1 ≤ (get_or xs m d).id = least_of (x.id + 1) m xs d n.2 (omega arith) in
+    let ih : m < place_of xs id = below_place (x.id + 1) m id xs d n.2 (omega arith) h in
+    by (nat_lt x.id id) refl (omega arith) ih
+  where
+    by : (less : Bool) → less ≡ nat_lt x.id id → x.id < id → m < place_of xs id → suc m < cond less (suc (place_of xs id)) 0
+    by true e lt2 ih = omega arith
+    by false e lt2 ih = absurd (grind (arith, nat_tests))
+
+pub place_up_to : (m id : ℕ) (xs : List Bound) (d : Bound) → m < length xs → id ≤ (get_or xs m d).id → place_of xs id ≤ m
+place_up_to m id [] d lt h = absurd (omega arith)
+place_up_to zero id (x ∷ xs) d lt h = by (nat_lt x.id id) refl
+  where
+    by : (less : Bool) → less ≡ nat_lt x.id id → cond less (suc (place_of xs id)) 0 ≤ 0
+    by true e = absurd (grind (arith, nat_tests))
+    by false e = omega arith
+place_up_to (suc m) id (x ∷ xs) d lt h = by (nat_lt x.id id) (place_up_to m id xs d (omega arith) h)
+  where
+    by : (less : Bool) → place_of xs id ≤ m → cond less (suc (place_of xs id)) 0 ≤ suc m
+    by true ih = omega arith
+    by false ih = omega arith
+
+-- what is said of an id, at its place
+pub said_there : (least id : ℕ) (xs : List Bound) (d : Bound) → IsNormalFrom least xs → has_id (slice_get xs (place_of xs id)) id ≡ true →
+    (top_in xs id ≡ (get_or xs (place_of xs id) d).top) × (safe_in xs id ≡ (get_or xs (place_of xs id) d).safe)
+said_there least id [] d n h = absurd (let wrong : false ≡ true = h in cc)
+said_there least id (x ∷ xs) d n h = by (nat_lt x.id id) (nat_eq id x.id) refl refl (said_there (x.id + 1) id xs d n.2) h
+  where
+    by : (less here : Bool) → less ≡ nat_lt x.id id → here ≡ nat_eq id x.id →
+        (has_id (slice_get xs (place_of xs id)) id ≡ true → (top_in xs id ≡ (get_or xs (place_of xs id) d).top) × (safe_in xs id ≡ (get_or xs (place_of xs id) d).safe)) →
+        has_id (slice_get (x ∷ xs) (cond less (suc (place_of xs id)) 0)) id ≡ true →
+        (cond here x.top (top_in xs id) ≡ (get_or (x ∷ xs) (cond less (suc (place_of xs id)) 0) d).top) × (cond here x.safe (safe_in xs id) ≡ (get_or (x ∷ xs) (cond less (suc (place_of xs id)) 0) d).safe)
+    by true true e f ih g = absurd (grind (arith, nat_tests))
+    by true false e f ih g = ih g
+    by false true e f ih g = (refl, refl)
+    by false false e f ih g = absurd (grind (arith, nat_tests))
+
+pub unsaid_there : (least id : ℕ) (xs : List Bound) → IsNormalFrom least xs → has_id (slice_get xs (place_of xs id)) id ≡ false → (top_in xs id ≡ 0) × (safe_in xs id ≡ None)
+unsaid_there least id [] n h = (refl, refl)
+unsaid_there least id (x ∷ xs) n h = by (nat_lt x.id id) (nat_eq id x.id) refl refl (unsaid_there (x.id + 1) id xs n.2) h
+  where
+    by : (less here : Bool) → less ≡ nat_lt x.id id → here ≡ nat_eq id x.id →
+        (has_id (slice_get xs (place_of xs id)) id ≡ false → (top_in xs id ≡ 0) × (safe_in xs id ≡ None)) →
+        has_id (slice_get (x ∷ xs) (cond less (suc (place_of xs id)) 0)) id ≡ false →
+        (cond here x.top (top_in xs id) ≡ 0) × (cond here x.safe (safe_in xs id) ≡ None)
+    by true true e f ih g = absurd (grind (arith, nat_tests))
+    by true false e f ih g = ih g
+    by false true e f ih g = absurd (grind (arith, nat_tests))
+    by false false e f ih g = absent (x.id + 1) xs id n.2 (grind (arith, nat_tests))

@@ -5,3 +5,6 @@ pub mod FactLemmas
 pub mod MergeLemmas
 pub mod EqualLemmas
 pub mod JoinDescribes
+pub mod ChunkLemmas
+pub mod PartLemmas
+pub mod JoinedParts

@@ -10,3 +10,4 @@ pub mod Parts
 pub mod Slots
 pub mod Bounds
 pub mod Shared
+pub mod Chunks

@@ -1,5 +1,5 @@
 //! Lists of what is known of ids: rising ids, each with something to say.
-ghost use Rattle.std.specs.Prelude.{◌≡◌, ◌↔◌, [], IsTrue, All, None, IfOk, OnOk, OnErr, ◌++◌, ◌≤◌, length, slice_get};
+ghost use Rattle.std.specs.Prelude.{◌≡◌, ◌↔◌, [], IsTrue, All, None, IfOk, IfSome, IfNone, OnOk, OnErr, ◌++◌, ◌≤◌, length, slice_get};
 ghost use Rattle.bpf_note.specs.Join.{lesser};
 ghost use Rattle.bpf_note.specs.Parts.{top_in, safe_in, IsNormal};
 ghost use Rattle.bpf_note.specs.Bounds.{place_of, has_id, IsSet, AreJoined, says, alone, paired, with_said, all_alone};
@@ -9,26 +9,38 @@ use std::alloc::{AllocError, Global};
 
 /// The greatest base of an id.
 pub(crate) fn top_of(bounds: &[Bound], id: u16) -> u32
+    requires { IsNormal bounds.now }
     ensures { result ≡ top_in bounds.now id }
 {
-    for bound in bounds {
-        if id == bound.id {
-            return bound.top;
-        }
+    match find(bounds, id) {
+        Some(bound) => bound.top,
+        None => 0,
     }
-    0
 }
 
 /// The safe bound of an id.
 pub(crate) fn safe_of(bounds: &[Bound], id: u16) -> Option<u32>
+    requires { IsNormal bounds.now }
     ensures { result ≡ safe_in bounds.now id }
 {
-    for bound in bounds {
-        if id == bound.id {
-            return bound.safe;
-        }
+    match find(bounds, id) {
+        Some(bound) => bound.safe,
+        None => None,
     }
-    None
+}
+
+/// The bound of an id, if there is one.
+fn find(bounds: &[Bound], id: u16) -> Option<Bound>
+    requires { IsNormal bounds.now }
+    ensures some { IfSome result (λ b. (top_in bounds.now id ≡ b.top) × (safe_in bounds.now id ≡ b.safe)) }
+    ensures none { IfNone result ((top_in bounds.now id ≡ 0) × (safe_in bounds.now id ≡ None)) }
+{
+    let at = place(bounds, id);
+    if is_at(bounds, at, id) {
+        Some(bounds[at])
+    } else {
+        None
+    }
 }
 
 /// Sets what is known of an id. An `Err` changes nothing.
@@ -49,17 +61,44 @@ pub(crate) fn set_bound(bounds: &mut Vec<Bound>, new: Bound) -> Result<(), Alloc
     Ok(())
 }
 
+/// Whether the bounds say of an id what this one does.
+pub(crate) fn stands(bounds: &[Bound], bound: Bound) -> bool
+    requires { IsNormal bounds.now }
+    ensures { IsTrue result → IsSet bounds.now bound bounds.now }
+{
+    let (top, safe) = match find(bounds, bound.id) {
+        Some(known) => (known.top, known.safe),
+        None => (0, None),
+    };
+    top == bound.top && safe == bound.safe
+}
+
+/// The same bounds, with room for one more.
+pub(crate) fn with_room(alloc: Global, bounds: &[Bound]) -> Result<Vec<Bound>, AllocError>
+    ensures { IfOk result (λ c. c.items ≡ bounds.now) }
+{
+    let mut copy = Vec::with_capacity(alloc, bounds.len() + 1)?;
+    copy.extend_from_slice(bounds)?;
+    Ok(copy)
+}
+
 /// How many bounds are of lesser ids.
 fn place(bounds: &[Bound], id: u16) -> usize
+    requires { IsNormal bounds.now }
     ensures value { result ≡ place_of bounds.now id }
     ensures inside { result ≤ length bounds.now }
 {
-    for i in 0..bounds.len() {
-        if id <= bounds[i].id {
-            return i;
+    let mut low = 0;
+    let mut high = bounds.len();
+    while low < high {
+        let middle = low + (high - low) / 2;
+        if bounds[middle].id < id {
+            low = middle + 1;
+        } else {
+            high = middle;
         }
     }
-    bounds.len()
+    low
 }
 
 /// Whether the bound at a place is of the id.
@@ -77,6 +116,13 @@ fn says(bound: Bound) -> bool
     ensures { result ≡ says bound }
 {
     bound.top != 0 || bound.safe.is_some()
+}
+
+/// Whether the bounds are equal.
+pub(crate) fn are_same(a: &[Bound], b: &[Bound]) -> bool
+    ensures { IsTrue result ↔ (a.now ≡ b.now) }
+{
+    a == b
 }
 
 /// What is known of each id where either list may be true.

@@ -6,9 +6,7 @@ ghost use Rattle.bpf_note.specs.Join.{joined, joined_value, is_same_pointer};
 ghost use Rattle.bpf_note.specs.Parts.{facts, no_bytes, IsBlankBelow};
 ghost use Rattle.bpf_note.specs.Slots.{both, joined_slot, IsCovered};
 
-use crate::bounds::{covers_bounds, join_bounds};
 use crate::note::Note;
-use crate::shared::SharedBounds;
 use crate::slot::Slot;
 use crate::slots::set_bytes;
 use crate::val::Val;
@@ -29,8 +27,7 @@ pub fn join_in_place(alloc: Global, a: &mut Note, b: &Note) -> Result<(), AllocE
     ensures ok { OnOk result (facts a.new ≡ joined (facts a.old) (facts b.now)) }
     ensures err { OnErr result (a.new ≡ a.old) }
 {
-    let bounds = join_bounds(alloc, a.bounds.as_slice(), b.bounds.as_slice())?;
-    let bounds = SharedBounds::of(alloc, bounds)?;
+    let bounds = a.bounds.joined(&b.bounds)?;
     let floor = a.floor.min(b.floor);
     join_registers(&mut a.regs, &b.regs);
     join_stacks(&mut a.slots, &b.slots, floor);
@@ -46,7 +43,7 @@ pub fn covers(a: &Note, b: &Note) -> bool
 {
     covers_registers(&a.regs, &b.regs)
         && covers_stack(&a.slots, &b.slots, a.floor.min(b.floor))
-        && covers_bounds(a.bounds.as_slice(), b.bounds.as_slice())
+        && a.bounds.covers(&b.bounds)
 }
 
 fn join_value(a: Val, b: Val) -> Val

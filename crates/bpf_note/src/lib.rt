@@ -3,6 +3,8 @@
 
 mod bound;
 mod bounds;
+mod chunk;
+mod chunks;
 mod joins;
 mod laws;
 mod layout;

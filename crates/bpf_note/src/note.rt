@@ -4,7 +4,6 @@ ghost use Rattle.bpf_note.specs.Facts.{Facts, with_reg, with_kept, with_byte, wi
 ghost use Rattle.bpf_note.specs.Parts.{facts, no_bytes};
 
 use crate::bound::Bound;
-use crate::bounds::{safe_of, top_of};
 use crate::replacement::Replacement;
 use crate::shared::SharedBounds;
 use crate::slot::Slot;
@@ -105,7 +104,7 @@ impl Note {
     pub fn top(&self, id: u16) -> u32
         ensures { result ≡ (facts self.now).top id }
     {
-        top_of(self.bounds.as_slice(), id)
+        self.bounds.top(id)
     }
 
     /// How many bytes from an id's base on lie in the packet, if that is known.
@@ -113,7 +112,7 @@ impl Note {
     pub fn safe(&self, id: u16) -> Option<u32>
         ensures { result ≡ (facts self.now).safe id }
     {
-        safe_of(self.bounds.as_slice(), id)
+        self.bounds.safe(id)
     }
 
     /// Sets the greatest base of an id. An `Err` changes nothing.
@@ -121,7 +120,7 @@ impl Note {
         ensures ok { OnOk result (facts self.new ≡ with_top (facts self.old) id top) }
         ensures err { OnErr result (self.new ≡ self.old) }
     {
-        let safe = safe_of(self.bounds.as_slice(), id);
+        let safe = self.bounds.safe(id);
         self.bounds.set(Bound { id, top, safe })
     }
 
@@ -130,7 +129,7 @@ impl Note {
         ensures ok { OnOk result (facts self.new ≡ with_safe (facts self.old) id safe) }
         ensures err { OnErr result (self.new ≡ self.old) }
     {
-        let top = top_of(self.bounds.as_slice(), id);
+        let top = self.bounds.top(id);
         self.bounds.set(Bound { id, top, safe })
     }
 

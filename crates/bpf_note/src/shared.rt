@@ -1,32 +1,39 @@
 //! Bounds that notes share until one of them changes its own.
 ghost use Rattle.std.specs.Prelude.{◌≡◌, ◌↔◌, [], IfOk, IsTrue, OnOk, OnErr};
-ghost use Rattle.bpf_note.specs.Bounds.{IsSet};
-ghost use Rattle.bpf_note.specs.Parts.{IsNormal};
+ghost use Rattle.bpf_note.specs.Bounds.{IsSet, AreJoined};
+ghost use Rattle.bpf_note.specs.Parts.{IsNormal, top_in, safe_in};
 
 use crate::bound::Bound;
-use crate::bounds::set_bound;
+use crate::bounds::{are_same, covers_bounds, safe_of, stands, top_of};
+use crate::chunk::Chunk;
+use crate::chunks::Chunks;
 use std::alloc::{AllocError, Global};
 use std::marker::Model;
-use std::rc::Rc;
 
-/// What is known of ids. A copy has the same list until one of the two is changed, and then lists of their own.
+/// The first id that isn't in the chunks: a slot's number is less.
+const HIGH: u16 = 4096;
+
+/// What is known of ids. A copy shares each part until one of the two changes it: a change copies one chunk, and a list of
+/// references to the others.
 #[derive(Drop)]
 pub(crate) struct SharedBounds {
     alloc: Global,
-    list: Option<Rc<Vec<Bound>>>,
+    /// The ids of slots.
+    low: Chunks,
+    /// The ids past them, the packet's start.
+    high: Chunk,
 }
 
 impl Model for SharedBounds {
-    ghost use Rattle.std.specs.Prelude.{List};
+    ghost use Rattle.std.specs.Prelude.{List, ◌++◌};
     ghost use Rattle.bpf_note.specs.declared.bound.Bound.{Bound};
-    ghost use Rattle.bpf_note.specs.Parts.{IsNormal};
-    ghost use Rattle.bpf_note.specs.Shared.{listed};
+    ghost use Rattle.bpf_note.specs.Chunks.{AreChunks, together};
 
     ghost Value = { List Bound };
 
-    ghost view = { λ s. listed (λ r. r.value.items) s.list };
+    ghost view = { λ s. together s.low ++ s.high };
 
-    ghost invariant = { λ s. IsNormal (listed (λ r. r.value.items) s.list) };
+    ghost invariant = { λ s. AreChunks s.low s.high };
 }
 
 impl SharedBounds {
@@ -34,51 +41,74 @@ impl SharedBounds {
     pub(crate) fn none(alloc: Global) -> SharedBounds
         ensures { result ≡ [] }
     {
-        SharedBounds { alloc, list: None }
-    }
-
-    /// These bounds.
-    pub(crate) fn of(alloc: Global, bounds: Vec<Bound>) -> Result<SharedBounds, AllocError>
-        requires { IsNormal bounds.items }
-        ensures { IfOk result (λ s. s ≡ bounds.items) }
-    {
-        let list = Rc::new(alloc, bounds)?;
-        Ok(SharedBounds {
+        SharedBounds {
             alloc,
-            list: Some(list),
-        })
+            low: Chunks::none(),
+            high: Chunk::none(),
+        }
     }
 
     /// The same bounds again, shared.
     pub(crate) fn share(&self) -> Result<SharedBounds, AllocError>
         ensures { IfOk result (λ s. s ≡ self.now) }
     {
-        let list = match &self.list {
-            Some(list) => Some(list.clone()?),
-            None => None,
-        };
         Ok(SharedBounds {
             alloc: self.alloc,
-            list,
+            low: self.low.share()?,
+            high: self.high.share()?,
         })
     }
 
-    /// The bounds, by rising ids.
-    pub(crate) fn as_slice(&self) -> &[Bound]
-        ensures same { result.now ≡ self.now }
-        ensures normal { IsNormal self.now }
+    /// Bounds that say of an id what these do.
+    fn near(&self, id: u16) -> &[Bound]
+        ensures top { top_in result.now id ≡ top_in self.now id }
+        ensures safe { safe_in result.now id ≡ safe_in self.now id }
+        ensures normal { IsNormal result.now }
     {
-        match &self.list {
-            Some(list) => list.as_slice(),
-            None => &[],
+        if id < HIGH {
+            self.low.of_id(id)
+        } else {
+            self.high.as_slice()
         }
     }
 
-    /// Whether the bounds are equal.
+    /// The greatest base of an id.
+    pub(crate) fn top(&self, id: u16) -> u32
+        ensures { result ≡ top_in self.now id }
+    {
+        top_of(self.near(id), id)
+    }
+
+    /// The safe bound of an id.
+    pub(crate) fn safe(&self, id: u16) -> Option<u32>
+        ensures { result ≡ safe_in self.now id }
+    {
+        safe_of(self.near(id), id)
+    }
+
+    /// Whether the bounds are equal. What is known of the packet's start differs the most often, and is compared first.
     pub(crate) fn same_as(&self, other: &SharedBounds) -> bool
         ensures { IsTrue result ↔ (self.now ≡ other.now) }
     {
-        self.as_slice() == other.as_slice()
+        are_same(self.high.as_slice(), other.high.as_slice()) && self.low.same_as(&other.low)
+    }
+
+    /// Whether the join of the two is the first.
+    pub(crate) fn covers(&self, other: &SharedBounds) -> bool
+        ensures { IsTrue result ↔ AreJoined self.now other.now self.now }
+    {
+        covers_bounds(self.high.as_slice(), other.high.as_slice()) && self.low.covers(&other.low)
+    }
+
+    /// What is known of each id where either may be true.
+    pub(crate) fn joined(&self, other: &SharedBounds) -> Result<SharedBounds, AllocError>
+        ensures { IfOk result (λ s. AreJoined self.now other.now s) }
+    {
+        Ok(SharedBounds {
+            alloc: self.alloc,
+            low: self.low.joined(self.alloc, &other.low)?,
+            high: self.high.joined(self.alloc, other.high.as_slice())?,
+        })
     }
 
     /// Sets what is known of an id. An `Err` changes nothing.
@@ -86,14 +116,13 @@ impl SharedBounds {
         ensures ok { OnOk result (IsSet self.old new self.new) }
         ensures err { OnErr result (self.new ≡ self.old) }
     {
-        match &mut self.list {
-            Some(list) => set_bound(Rc::make_mut(list)?, new),
-            None => {
-                let mut bounds = Vec::new(self.alloc);
-                set_bound(&mut bounds, new)?;
-                self.list = Some(Rc::new(self.alloc, bounds)?);
-                Ok(())
-            }
+        if stands(self.near(new.id), new) {
+            return Ok(());
+        }
+        if new.id < HIGH {
+            self.low.set(self.alloc, new)
+        } else {
+            self.high.set(self.alloc, new)
         }
     }
 }

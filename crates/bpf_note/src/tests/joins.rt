@@ -84,10 +84,13 @@ fn stacks(rt: HostRuntime) -> Result<(), Fail> {
     a.set_byte(9);
     b.set_byte(9);
     b.set_byte(10);
+    a.set_byte(15);
+    b.set_byte(15);
     let joined = join(rt.alloc(), &a, &b)?;
     assert_eq!(rt; joined.kept(0), None);
     assert!(rt; !joined.is_set(0) && joined.is_set(1) && !joined.is_set(2));
     assert!(rt; !joined.is_set(8) && joined.is_set(9) && !joined.is_set(10));
+    assert!(rt; joined.is_set(15));
     assert!(rt; covers(&joined, &a) && covers(&joined, &b));
     assert!(rt; !covers(&a, &b) && !covers(&b, &a));
     Ok(())

@@ -23,7 +23,11 @@ fn bytes_of(alloc: Global, slots: &[[u8; 8]]) -> Result<Vec<u8>, Fail> {
 }
 
 /// An accepted program over some maps.
-fn with_maps(alloc: Global, slots: &[[u8; 8]], shapes: &[MapShape]) -> Result<Verified, Fail>
+pub(super) fn with_maps(
+    alloc: Global,
+    slots: &[[u8; 8]],
+    shapes: &[MapShape],
+) -> Result<Verified, Fail>
     requires { length shapes.now ≤ 4 }
 {
     let bytes = bytes_of(alloc, slots)?;
@@ -191,6 +195,38 @@ fn fields_of_the_context(rt: HostRuntime) -> Result<(), Fail> {
     assert_eq!(rt; field(rt.alloc(), 8)?, 0x1000_0000, "data_meta");
     assert_eq!(rt; field(rt.alloc(), 12)?, 3, "ingress_ifindex");
     assert_eq!(rt; field(rt.alloc(), 16)?, 4, "rx_queue_index");
+    Ok(())
+}
+
+/// The low 32 bits of what a register holds at the start.
+fn held(alloc: Global, register: u8) -> Result<u32, Fail> {
+    // r0 = the register
+    let copy = [0xbf, 0x10 * (register % 16), 0, 0, 0, 0, 0, 0];
+    let exit = [0x95, 0, 0, 0, 0, 0, 0, 0];
+    Ok(ended(alloc, &[copy, exit], &[])?.0)
+}
+
+#[test]
+fn the_context_and_the_frame_pointer(rt: HostRuntime) -> Result<(), Fail> {
+    assert_eq!(rt; held(rt.alloc(), 1)?, 0x3000_0000, "the context");
+    assert_eq!(rt; held(rt.alloc(), 10)?, 0x2000_0200, "the end of the stack");
+    Ok(())
+}
+
+/// Jumps behind its end and back.
+#[rattlefmt::skip]
+const BACKWARDS: [[u8; 8]; 5] = [
+    [5, 0, 2, 0, 0, 0, 0, 0], // goto +2
+    [7, 0, 0, 0, 5, 0, 0, 0], // r0 += 5
+    [0x95, 0, 0, 0, 0, 0, 0, 0], // exit
+    [0xb7, 0, 0, 0, 1, 0, 0, 0], // r0 = 1
+    [5, 0, 0xfc, 0xff, 0, 0, 0, 0], // goto -4
+];
+
+#[test]
+fn a_jump_goes_back(rt: HostRuntime) -> Result<(), Fail> {
+    let (number, instructions, _packet) = ended(rt.alloc(), &BACKWARDS, &[])?;
+    assert_eq!(rt; (number, instructions), (6, 5));
     Ok(())
 }
 

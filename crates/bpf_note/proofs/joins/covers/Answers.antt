@@ -12,10 +12,6 @@ use Rattle.bpf_note.proofs.joins.covers.Goals as goal
 never : {P : Type 0} → false ≡ true → P
 never e = absurd (cc)
 
--- the bounds behind the slices that were passed
-moved : (us vs xs ys : List Bound) → us ≡ xs → vs ≡ ys → AreJoined us vs us → AreJoined xs ys xs
-moved us vs xs ys e f h = subst (λ (zs : List Bound). AreJoined xs zs xs) f (subst (λ (zs : List Bound). AreJoined zs vs zs) e h)
-
 pub returns-then-covers_stack-clause-exact : goal.returns-then-covers_stack-clause-exact
 returns-then-covers_stack-clause-exact c =
     let a = noted c.a.inside.regs c.a.inside.slots c.a.inside.bounds in
@@ -23,8 +19,8 @@ returns-then-covers_stack-clause-exact c =
     rw (← c.a.view_is, ← c.b.view_is) (elim c.if-covers_registers.branch [
       | then-covers_registers w ↦ (
         λ t. covers_all a b (c.covers_registers.ensures.0 w.if-covers_registers.true) (w.covers_stack.ensures.0 (sym w.value-is ∙ c.if-covers_stack.true))
-            (moved _ _ _ _ c.as_slice.ensures.same c.as_slice-then-covers_stack.ensures.same (c.covers_bounds.ensures.0 t)),
-        λ e. c.covers_bounds.ensures.1 (moved _ _ _ _ (sym c.as_slice.ensures.same) (sym c.as_slice-then-covers_stack.ensures.same) (bounds_covered a b c.a.invariant.0 e)),
+            (c.covers.ensures.0 t),
+        λ e. c.covers.ensures.1 (bounds_covered a b c.a.invariant.0 e),
       )
       | else-covers_registers w ↦ never (sym w.if-covers_registers.false ∙ sym w.value-is ∙ c.if-covers_stack.true)
     ])

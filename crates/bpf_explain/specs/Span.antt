@@ -1,0 +1,27 @@
+-- Numbers that decide a refusal: which bytes of the packet an access reaches, and where a jump goes.
+use Rattle.std.specs.Prelude.{ℕ, ◌+◌, ℤ, pos, ◌+ℤ◌, List, [], ◌++◌, codes, Option, None, Some}
+use Rattle.std.specs.Fmt.{signed_decimal}
+use Rattle.bpf_insn.specs.declared.insn.Insn.{Insn}
+use Rattle.bpf_insn.specs.declared.insn.Insn.TheVariants.{Ja, Jump}
+use Rattle.bpf_note.specs.declared.val.Val.{Val}
+use Rattle.bpf_note.specs.declared.val.Val.TheVariants.{Pkt}
+use Rattle.bpf_explain.specs.declared.access.Access.{Access}
+
+-- from the first byte to the one behind the last, counted from the base of the address's id: `  access=13..14`
+abbrev pub bytes_from : ℤ → ℕ → List ℕ
+bytes_from first bytes = codes "  access=" ++ (signed_decimal first ++ (codes ".." ++ signed_decimal (first +ℤ pos bytes)))
+
+abbrev pub span_text : Val → Option Access → List ℕ
+span_text (Pkt id off) (Some a) = bytes_from (pos off +ℤ a.off) a.bytes
+span_text v a = []
+
+-- by how much a jump goes on from the next slot
+abbrev pub jump_of : Insn → Option ℤ
+jump_of (Ja wide_offset to) = Some to
+jump_of (Jump cond wide dst src off) = Some off
+jump_of i = None
+
+-- the slot to which the jump at slot pc goes: `       to 12`
+abbrev pub target_text : ℕ → Option ℤ → List ℕ
+target_text pc None = []
+target_text pc (Some off) = codes "       to " ++ (signed_decimal (pos (pc + 1) +ℤ off) ++ codes "\n")

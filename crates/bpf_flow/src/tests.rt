@@ -1,9 +1,0 @@
-mod arithmetic;
-mod bounds;
-mod causes;
-mod jumps;
-mod maps;
-mod memory;
-mod registers;
-mod steps;
-mod transfers;

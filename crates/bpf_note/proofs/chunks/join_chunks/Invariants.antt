@@ -1,0 +1,6 @@
+use Rattle.std.proofs.Common.{◌≡◌, ◌<◌, ℕ, [], get_or, length}
+use Rattle.bpf_note.specs.Bounds.{AreJoined}
+use Rattle.bpf_note.proofs.chunks.join_chunks.Given as goal
+
+abbrev pub invariant-loop-k : goal.invariant-loop-k
+invariant-loop-k l = (length l.joined.items ≡ l.k) × ((j : ℕ) → j < l.k → AreJoined (get_or l.a j []) (get_or l.b j []) (get_or l.joined.items j []))
