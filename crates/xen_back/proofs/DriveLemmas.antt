@@ -45,7 +45,7 @@ append_none (x ∷ l) = ap (λ t. x ∷ t) (append_none l)
 pub ops_none : (l : List Op) → l ≡ l ++ []
 ops_none l = sym (append_none l)
 
-labels-append : (t u : List Event) → labels (t ++ u) ≡ labels t ++ labels u
+pub labels-append : (t u : List Event) → labels (t ++ u) ≡ labels t ++ labels u
 labels-append [] u = refl
 labels-append (x ∷ t) u = ap (λ l. label_of x ++ l) (labels-append t u) ∙ sym (append_assoc (label_of x) (labels t) (labels u))
 
@@ -70,11 +70,11 @@ driven_none log gives s a x = record { gone = refl; performed = performs_none lo
 pub both_same : (a b c : Queue) → IsSameWiring a b → IsSameWiring b c → IsSameWiring a c
 both_same a b c h g = record { wiring = g.wiring ∙ h.wiring; tx_ring = g.tx_ring ∙ h.tx_ring; rx_ring = g.rx_ring ∙ h.rx_ring }
 
-alone_accesses : (n : ℕ) → accesses (instructions_alone n) ≡ []
+pub alone_accesses : (n : ℕ) → accesses (instructions_alone n) ≡ []
 alone_accesses zero = refl
 alone_accesses (suc n) = alone_accesses n
 
-alone_labels : (n : ℕ) → labels (instructions_alone n) ≡ []
+pub alone_labels : (n : ℕ) → labels (instructions_alone n) ≡ []
 alone_labels zero = refl
 alone_labels (suc n) = alone_labels n
 

@@ -27,7 +27,6 @@ use Rattle.xen_netif.specs.declared.status.Status.TheVariants as status
 use Rattle.xen_page.specs.declared.fault.GrantFault.{GrantFault}
 use Rattle.xen_page.specs.Table.{entry_place}
 use Rattle.xen_ring.specs.Index.{is_due}
-use Rattle.xen_back.specs.Bytes.{AllBytes}
 use Rattle.xen_steps.specs.Finish.{Ends}
 use Rattle.xen_steps.specs.Event.{Event}
 use Rattle.xen_steps.specs.Places.{add32, available}
@@ -88,6 +87,10 @@ standing_more [] s h = extra_some 5 (extra_info s) (more_data s)
 standing_more (x ∷ slots) s h = extra_more 5 (extra_info x) (more_data x) slots s h
 
 -- the bytes of a copy
+abbrev pub AllBytes : List ℕ → Type 0
+AllBytes [] = Unit {0}
+AllBytes (b ∷ bytes) = (b < 256) × AllBytes bytes
+
 all_append : (l m : List ℕ) → AllBytes l → AllBytes m → AllBytes (l ++ m)
 all_append [] m h i = i
 all_append (b ∷ l) m h i = (h.0, all_append l m h.1 i)

@@ -15,3 +15,4 @@ pub mod EndLemmas
 pub mod ReadLemmas
 pub mod BulkLemmas
 pub mod OnceLemmas
+pub mod AloneLemmas

@@ -108,3 +108,9 @@ whole_bytes f from to [] e h whole = refl
 whole_bytes f from to (w ∷ ws) e h whole =
     let in_it = whole (omega (arith, e)) in
     bytes_from-whole f from (w ∷ ws) in_it.0 (omega (arith, e, in_it.1))
+
+-- and the whole words fit
+pub whole_room : (f : Fragment) (from to len : ℕ) → (from < to → (f.offset ≤ 4 * from) × (4 * to ≤ f.offset + f.size)) → HasRoom len f from 0 → from < to → len + 4 * (to - from) ≤ 65535
+whole_room f from to len whole r lt =
+    let in_it = whole lt in
+    omega (arith, r.0 in_it.0, in_it.0, in_it.1)

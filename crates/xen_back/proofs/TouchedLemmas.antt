@@ -66,7 +66,7 @@ of_copy w _ _ _ h (part f fs p q frame vs out e l b c) =
     let g = granted_on w.vif false p t frame (front p (reads ++ q)) (grants_by w.vif false f.gref p (Ok frame) frame e refl) in
     append w.vif t p (reads ++ q) (of_entry w.vif t false f.gref p (Ok frame) e)
     (append w.vif t reads q (of_page w t frame (f.offset / 4) vs g (omega (arith, l, covered_inside f h.0)))
-    (all_on w.vif q t q (λ e i. back p (reads ++ q) e (back reads q e i)) (of_copy w fs q out h.1 c)))
+    (all_on w.vif q t q (λ e f i. back p (reads ++ q) e f (back reads q e f i)) (of_copy w fs q out h.1 c)))
 
 of_program : (w : Wiring) (t : List Event) (labels : List (Option Op)) → AllAllowed w.vif t (map event_of labels)
 of_program w t [] = tt

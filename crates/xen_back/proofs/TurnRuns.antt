@@ -164,10 +164,10 @@ run_runs w s p q slots out r a g =
     (join (copy w a.fragments []) (after_copy w s slots) a.p3 (a.p4 ++ q) (Some a.packet) r (runs_copy w a.fragments a.p3 (Some a.packet) a.copied)
     (join (program (run_of w a.packet) 0) (after_run w s slots) a.p4 q out r (runs_program w a.packet a.p4 out a.ran) g)))
 
-is_three : (n : ℕ) → n ≡ 3 → (n == 3) ≡ true
+pub is_three : (n : ℕ) → n ≡ 3 → (n == 3) ≡ true
 is_three n e = grind (arith, nat_tests)
 
-not_three : (n : ℕ) → n ≢ 3 → (n == 3) ≡ false
+pub not_three : (n : ℕ) → n ≢ 3 → (n == 3) ≡ false
 not_three n e = grind (arith, nat_tests)
 
 transmit_runs : (w : Wiring) (s : State) (p p5 p6 : List Event) (slots : List Slot) (out : Left) (o : Outcome) (r : Ending) → HasRun w s p slots out → out.number ≡ 3 → IsTransmit w.vif s.rx_index out.packet p5 o →

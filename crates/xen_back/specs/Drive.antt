@@ -8,7 +8,7 @@ use Rattle.xen_steps.specs.Drive.{Gone, accesses}
 use Rattle.xen_steps.specs.Event.{Event, Load, Add}
 use Rattle.xen_steps.specs.Steps.{Steps}
 use Rattle.xen_back.specs.Queues.{state_of, wiring_of, IsReady, IsSameWiring}
-use Rattle.xen_back.specs.Turned.{Turned, Shows}
+use Rattle.xen_back.specs.Turned.{IsShort, Shows, Turned}
 use Rattle.xen_back.specs.Turns.{IsTurn}
 use Rattle.xen_back.specs.declared.queue.Queue.{Queue}
 use Rattle.xen_back.specs.declared.turn.Turn.{Turn}
@@ -37,5 +37,6 @@ pub record IsTurnOver {S : Type 0} (log : S → Option (List Access)) (gives : S
   pub performed : Performs log gives bus (accesses trace) bus'
   pub grown : ops' ≡ ops ++ labels trace
   pub shows : Shows turned shown
+  pub short : IsShort shown
   pub ready : IsReady new
   pub same : IsSameWiring old new

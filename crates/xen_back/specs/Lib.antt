@@ -1,5 +1,6 @@
 pub mod Causes
 pub mod Turned
+pub mod Responses
 pub mod Tree
 pub mod Rest
 pub mod Within
@@ -9,6 +10,7 @@ pub mod Making
 pub mod Parts
 pub mod Turns
 pub mod Drive
-pub mod Bytes
 pub mod Reads
 pub mod Once
+pub mod Alone
+pub mod Ran

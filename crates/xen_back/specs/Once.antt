@@ -1,5 +1,5 @@
 -- Which words a turn reads, in order, and that it reads each once.
-use Rattle.std.specs.Prelude.{ℕ, zero, suc, ◌≡◌, ◌≢◌, ◌+◌, ◌/◌, ◌⊎◌, List, [], ◌∷◌, ◌++◌, Option, None, Some, Ok, length}
+use Rattle.std.specs.Prelude.{ℕ, zero, suc, ◌≡◌, ◌≢◌, ◌≤◌, ◌+◌, ◌/◌, ◌⊎◌, Bool, List, [], ◌∷◌, ◌++◌, Option, None, Some, Ok, length}
 use Rattle.xen_netif.specs.Chain.{Slot}
 use Rattle.xen_netif.specs.Copy.{covered}
 use Rattle.xen_netif.specs.Fragments.{fragments_of}
@@ -9,11 +9,15 @@ use Rattle.xen_page.specs.Table.{entry_place}
 use Rattle.xen_page.specs.declared.place.Place.{Place}
 use Rattle.xen_steps.specs.Event.{Event, Read}
 use Rattle.xen_steps.specs.Places.{add32, page_word}
-use Rattle.xen_transmit.specs.Places.{tx_slot, tx_word}
-use Rattle.xen_back.specs.Parts.{HasRead, IsCopy}
-use Rattle.xen_back.specs.Turned.{Turned, Ran}
+use Rattle.xen_transmit.specs.Packets.{pages}
+use Rattle.xen_transmit.specs.Places.{rx_slot, rx_word, tx_slot, tx_word}
+use Rattle.xen_transmit.specs.Sending.{AreTargets}
+use Rattle.xen_transmit.specs.declared.target.Target.{Target}
+use Rattle.xen_back.specs.Parts.{HasRead, IsCopy, slots_reads}
+use Rattle.xen_back.specs.Turned.{Turned, Ran, Refused}
 use Rattle.xen_back.specs.Turns.{IsTurn}
 use Rattle.xen_back.specs.declared.state.State.{State}
+use Rattle.xen_back.specs.declared.turn.Refusal.TheVariants as refusal
 use Rattle.xen_back.specs.declared.wiring.Wiring.{Wiring}
 
 -- the places of a trace's reads
@@ -63,25 +67,60 @@ abbrev pub FragmentsOnce : Type 0
 FragmentsOnce = (w : Wiring) (fs : List Fragment) (p : List Event) (out : Option (List ℕ)) → IsCopy w fs p out →
     (frames : List ℕ) × (places_read p ≡ copy_places w fs frames) × (out ≢ None → length frames ≡ length fs)
 
+-- the two words of each of so many rx slots, the first of them the i-th from x, and of each its entry's words
+abbrev pub target_places : Wiring → ℕ → ℕ → List ℕ → List Place
+target_places w x i [] = []
+target_places w x i (gref ∷ grefs) =
+    rx_slot w.vif (add32 x i) 0 ∷ rx_slot w.vif (add32 x i) 1 ∷ (entry_places (entry_place w.vif.table.now gref) ++ target_places w x (i + 1) grefs)
+
+-- Of the rx slots that a transmit takes both words are read, and its entry's words, one after another and nothing else.
+abbrev pub TargetsOnce : Type 0
+TargetsOnce = (w : Wiring) (x i left : ℕ) (p : List Event) (ok : Bool) (ts : List Target) → AreTargets w.vif x i left p ok ts →
+    (grefs : List ℕ) × (length grefs ≡ length ts) × (places_read p ≡ target_places w x i grefs)
+
 -- The covered words of one frame are different words.
 abbrev pub CoveredDistinct : Type 0
 CoveredDistinct = (frame place n : ℕ) → AreDistinct (page_places frame place n)
 
--- All that a turn reads: the producer once or twice, the slots, the fragments, and the event index.
-pub record TurnReads (w : Wiring) (s : State) (p : List Event) (count : ℕ) : Type 0 where
-  pub looks : List Place
-  pub looked : (looks ≡ tx_word w.vif 0 ∷ []) ⊎ (looks ≡ tx_word w.vif 0 ∷ tx_word w.vif 0 ∷ [])
+-- the two words of each of so many rx slots, the first of them the i-th from x, without their entries
+abbrev pub posted_places : Wiring → ℕ → ℕ → ℕ → List Place
+posted_places w x i zero = []
+posted_places w x i (suc n) = rx_slot w.vif (add32 x i) 0 ∷ rx_slot w.vif (add32 x i) 1 ∷ posted_places w x (i + 1) n
+
+-- The words of the rx slots that one ring has room for are different words.
+abbrev pub PostedDistinct : Type 0
+PostedDistinct = (w : Wiring) (x n : ℕ) → n ≤ 256 → AreDistinct (posted_places w x 0 n)
+
+-- what a transmit into rx slots of these references reads: the producer, the slots with their entries, and the event index
+abbrev pub sent_places : Wiring → ℕ → List ℕ → List Place
+sent_places w x grefs = rx_word w.vif 0 ∷ (target_places w x 0 grefs ++ rx_word w.vif 3 ∷ [])
+
+-- All that a turn reads: the producer once or twice, the slots, whose words are what these reads were answered, the fragments, and what is
+-- read last.
+pub record TurnReads (w : Wiring) (s : State) (p : List Event) (count : ℕ) (last : List Place) : Type 0 where
+  pub before : List Event
+  pub looked : (places_read before ≡ tx_word w.vif 0 ∷ []) ⊎ (places_read before ≡ tx_word w.vif 0 ∷ tx_word w.vif 0 ∷ [])
   pub slots : List Slot
   pub counted : length slots ≡ count
+  pub later : List Event
+  pub answered : p ≡ before ++ (slots_reads w s.tx_index 0 slots ++ later)
   pub fragments : List Fragment
   pub sizes : fragments_of slots ≡ Ok fragments
   pub frames : List ℕ
   pub granted : length frames ≡ length fragments
-  pub read : places_read p ≡ looks ++ (slot_places w s.tx_index 0 count ++ (copy_places w fragments frames ++ tx_word w.vif 3 ∷ []))
+  pub read : places_read p ≡ places_read before ++ (slot_places w s.tx_index 0 count ++ (copy_places w fragments frames ++ last))
 
--- a packet that isn't sent back
+-- the event index of the responses
+abbrev pub told : Wiring → List Place
+told w = tx_word w.vif 3 ∷ []
+
+-- A packet that isn't sent back; one that is, of which each page takes an rx slot; and those that can't be sent.
 abbrev pub ReadsOf : Wiring → State → List Event → Turned → Type 0
-ReadsOf w s p (Ran number packet ops count) = number ≢ 3 → TurnReads w s p count
+ReadsOf w s p (Ran number packet ops count) =
+    (number ≢ 3 → TurnReads w s p count (told w))
+    × (number ≡ 3 → (grefs : List ℕ) × (length grefs ≡ pages packet) × TurnReads w s p count (sent_places w s.rx_index grefs ++ told w))
+ReadsOf w s p (Refused refusal.FewSlots ops count) = TurnReads w s p count (rx_word w.vif 0 ∷ told w)
+ReadsOf w s p (Refused refusal.RxGrant ops count) = (grefs : List ℕ) × TurnReads w s p count (sent_places w s.rx_index grefs ++ told w)
 ReadsOf w s p u = Unit {0}
 
 abbrev pub TurnsOnce : Type 0

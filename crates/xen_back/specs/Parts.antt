@@ -11,7 +11,7 @@ use Rattle.xen_steps.specs.Places.{add32, available}
 use Rattle.xen_transmit.specs.Places.{tx_slot, tx_word}
 use Rattle.xen_steps.specs.Pages.{AreWords, covered, page_reads}
 use Rattle.xen_transmit.specs.Shared.{IsEntry, notices}
-use Rattle.xen_back.specs.Tree.{responses}
+use Rattle.xen_back.specs.Responses.{responses}
 use Rattle.xen_back.specs.declared.state.State.{State}
 use Rattle.xen_back.specs.declared.wiring.Wiring.{Wiring}
 

@@ -6,7 +6,7 @@ use Rattle.bpf_verify.specs.Consistent.{instructions}
 use Rattle.bpf_vm.specs.Course.{start_state}
 use Rattle.bpf_vm.specs.Run.{Walk}
 use Rattle.xen_steps.specs.Event.{Event, Instr, Load, Add}
-use Rattle.xen_back.specs.Tree.{Left}
+use Rattle.xen_back.specs.Responses.{Left}
 use Rattle.xen_back.specs.declared.wiring.Wiring.{Wiring}
 
 -- the event of a step: its label, or an instruction that nothing else takes part in

@@ -40,16 +40,11 @@ rest_at w s packet (phase.Ended after kind) = done (after, turned kind packet)
 abbrev pub fragment_at : List Fragment → ℕ → Fragment
 fragment_at fragments i = slice_index_or fragments i (record { gref = 0; offset = 0; size = 0 })
 
--- before the word at a place of a fragment's page, which covers n words more; the next fragment is the i-th
-abbrev pub rest_of_page : Wiring → State → List Slot → List Fragment → ℕ → Fragment → ℕ → ℕ → ℕ → List ℕ → Steps Ending
-rest_of_page w s chain fragments i f frame place n packet =
-    bind (bind (copy_words f frame place (suc n) packet) (copy w (drop i fragments))) (after_copy w s chain)
-
 abbrev pub rest_in : Wiring → State → Stage → Steps Ending
 rest_in w s (stage.At packet phase) = rest_at w s packet phase
-rest_in w s (stage.EntryA e) =
+rest_in w s (stage.EntryFlags e) =
     bind (bind (entry_at w.vif false (Some e.at)) (entered (fragment_at e.fragments.items e.i) (copy w (drop (e.i + 1) e.fragments.items)) e.packet)) (after_copy w s e.chain)
-rest_in w s (stage.EntryB e a) =
+rest_in w s (stage.EntryFrame e a) =
     bind (bind (entry_checked w.vif false e.at a) (entered (fragment_at e.fragments.items e.i) (copy w (drop (e.i + 1) e.fragments.items)) e.packet)) (after_copy w s e.chain)
 rest_in w s (stage.Page g) = bind (bind (copy_words g.fragment g.frame g.place (suc g.n) g.packet) (copy w (drop g.i g.fragments.items))) (after_copy w s g.chain)
 rest_in w s (stage.Run r) = bind (program (left r.vm) r.ops) (after_run w s r.chain)
@@ -64,8 +59,8 @@ is_here g = true
 -- the bytes of a stage's packet
 abbrev pub packet_at : Stage → List ℕ
 packet_at (stage.At packet phase) = packet
-packet_at (stage.EntryA e) = e.packet
-packet_at (stage.EntryB e a) = e.packet
+packet_at (stage.EntryFlags e) = e.packet
+packet_at (stage.EntryFrame e a) = e.packet
 packet_at (stage.Page g) = g.packet
 packet_at (stage.Run r) = []
 packet_at (stage.Send packet t) = packet

@@ -1,14 +1,11 @@
 -- One turn of a back queue, as a computation that asks.
-use Rattle.std.specs.Prelude.{ℕ, zero, suc, ◌+◌, ◌/◌, ◌%◌, ◌^◌, Bool, true, false, ◌==◌, List, [], ◌∷◌, ◌++◌, length, map, Option, Some, None, Result, Ok, Err, if◌then◌else◌}
-use Rattle.std.specs.Int.{w16, cast_unsigned}
+use Rattle.std.specs.Prelude.{ℕ, zero, suc, ◌+◌, ◌/◌, ◌%◌, ◌^◌, Bool, true, false, ◌==◌, List, [], ◌∷◌, ◌++◌, length, Option, Some, None, Result, Ok, Err, if◌then◌else◌}
 use Rattle.bpf_verify.specs.Consistent.{instructions}
 use Rattle.bpf_vm.specs.Course.{Course, Exiting, Stepping, Loading, Adding, Broken, course, start_state}
-use Rattle.xen_netif.specs.Chain.{Slot, requests_of}
+use Rattle.xen_netif.specs.Chain.{Slot}
 use Rattle.xen_steps.specs.Pages.{copy_words, covered}
 use Rattle.xen_netif.specs.Fragments.{fragments_of}
-use Rattle.xen_netif.specs.Slots.{status_code}
 use Rattle.xen_netif.specs.Standing.{standing}
-use Rattle.xen_netif.specs.Words.{joined}
 use Rattle.xen_netif.specs.declared.chain.ChainState.{ChainState}
 use Rattle.xen_netif.specs.declared.chain.ChainState.TheVariants as wanted
 use Rattle.xen_netif.specs.declared.fault.ChainFault.{ChainFault}
@@ -16,7 +13,6 @@ use Rattle.xen_netif.specs.declared.fault.SizeFault.{SizeFault}
 use Rattle.xen_netif.specs.declared.fragment.Fragment.{Fragment}
 use Rattle.xen_netif.specs.declared.status.Status.{Status}
 use Rattle.xen_netif.specs.declared.status.Status.TheVariants as status
-use Rattle.xen_netif.specs.declared.tx.TxReq.{TxReq}
 use Rattle.xen_page.specs.declared.fault.GrantFault.{GrantFault}
 use Rattle.xen_ring.specs.Index.{is_due}
 use Rattle.xen_transmit.specs.Entries.{entry}
@@ -24,6 +20,7 @@ use Rattle.xen_steps.specs.Places.{add32, available}
 use Rattle.xen_transmit.specs.Places.{tx_slot, tx_word}
 use Rattle.xen_steps.specs.Steps.{Steps, done, ask, never, bind}
 use Rattle.xen_transmit.specs.Transmit.{transmit}
+pub use Rattle.xen_back.specs.Responses.{Left, answered, moved, response, responses, status_of}
 use Rattle.xen_back.specs.Turned.{Ending, Turned, Idle, Ran, Refused, Halted}
 use Rattle.xen_transmit.specs.declared.phase.Outcome.{Outcome}
 use Rattle.xen_transmit.specs.declared.phase.Outcome.TheVariants as outcome
@@ -80,14 +77,6 @@ read_slots w t zero slots = done (Err halt.ShortChain)
 read_slots w t (suc left) slots =
     bind (read_slot w (add32 t (length slots))) (λ s. judged (slots ++ s ∷ []) (standing (slots ++ s ∷ [])) (read_slots w t left (slots ++ s ∷ [])))
 
--- the response to a request: its id and the status; to an extra, id 0 and NULL
-abbrev pub response : Status → Option TxReq → ℕ
-response s None = joined 0 (cast_unsigned w16 (status_code status.Null))
-response s (Some req) = joined req.id (cast_unsigned w16 (status_code s))
-
-abbrev pub responses : Status → List Slot → List ℕ
-responses s slots = map (response s) (requests_of slots)
-
 -- the push, the event index, and a notice if one is due
 abbrev pub notice : Wiring → Bool → Ending → Steps Ending
 notice w false e = done e
@@ -104,10 +93,6 @@ abbrev pub answer : Wiring → ℕ → ℕ → ℕ → List ℕ → Ending → S
 answer w t n i [] e = publish w t (add32 t n) e
 answer w t n i (r ∷ rs) e = ask (want.Write (tx_slot w.vif (add32 t i) 0) r) (λ _. answer w t n (i + 1) rs e)
 
--- so many tx slots are answered
-abbrev pub answered : State → ℕ → State
-answered s n = record s { tx_index = add32 s.tx_index n }
-
 abbrev pub respond : Wiring → State → List Slot → Status → Turned → Steps Ending
 respond w s slots st u = answer w s.tx_index (length slots) 0 (responses st slots) (answered s (length slots), u)
 
@@ -119,26 +104,12 @@ abbrev pub copy : Wiring → List Fragment → List ℕ → Steps (Option (List 
 copy w [] bytes = done (Some bytes)
 copy w (f ∷ fs) bytes = bind (entry w.vif false f.gref) (entered f (copy w fs) bytes)
 
--- what a program left: r0's low half, the packet, and how many counter operations it did
-pub record Left : Type 0 where
-  pub number : ℕ
-  pub packet : List ℕ
-  pub ops : ℕ
-
 abbrev pub program : Course → ℕ → Steps Left
 program (Exiting r0 packet) ops = ask want.Instr (λ _. done (record { number = r0 % 2 ^ 32; packet = packet; ops = ops }))
 program (Stepping c) ops = ask want.Instr (λ _. program c ops)
 program (Loading m k j to) ops = ask (want.Load m k j) (λ v. program (to v) (ops + 1))
 program (Adding m k j delta to) ops = ask (want.Add m k j delta) (λ v. program (to v) (ops + 1))
 program Broken ops = never
-
--- PASS is OKAY, DROP is DROPPED, all else that isn't TX is ERROR
-abbrev pub status_of : ℕ → Status
-status_of n = if n == 2 then status.Okay else if n == 1 then status.Dropped else status.Error
-
--- so many rx slots are answered
-abbrev pub moved : State → ℕ → State
-moved s n = record s { rx_index = add32 s.rx_index n }
 
 abbrev pub after_transmit : Wiring → State → List Slot → List ℕ → ℕ → Outcome → Steps Ending
 after_transmit w s slots packet ops outcome.Overflow = halted s halt.RxProducer

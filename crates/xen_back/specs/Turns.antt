@@ -10,7 +10,7 @@ use Rattle.xen_steps.specs.Event.{Event}
 use Rattle.xen_back.specs.Parts.{IsLook, IsBeginning, HasRead, IsCopy, IsRespond}
 use Rattle.xen_back.specs.Program.{IsProgram}
 use Rattle.xen_transmit.specs.Sending.{IsTransmit}
-use Rattle.xen_back.specs.Tree.{Left, answered, moved, status_of}
+use Rattle.xen_back.specs.Responses.{Left, answered, moved, status_of}
 use Rattle.xen_back.specs.Turned.{Turned, Idle, Ran, Refused, Halted}
 use Rattle.xen_transmit.specs.declared.phase.Outcome.TheVariants as outcome
 use Rattle.xen_back.specs.declared.state.State.{State}

@@ -1,4 +1,6 @@
 //! Answering a chain: one response per slot, the push, and a notice if one is due.
+//!
+//! Some functions take `wiring` and `state` for their contracts alone: both fix what the queue has left.
 
 ghost use Rattle.std.specs.Prelude.{◌≡◌, ◌+◌, length, drop, IsTrue, Option};
 ghost use Rattle.xen_netif.specs.declared.tx.TxReq.{TxReq};
@@ -17,11 +19,11 @@ use crate::turn::Kind;
 use crate::wiring::Wiring;
 use arrayvec::ArrayVec;
 use xen_netif::{Chain, Status, TxReq, TxRsp};
-use xen_ring::due;
+use xen_ring::{RSP_PROD, due};
 use xen_steps::{Want, header, tx_entry};
 
 /// The state after so many tx slots are answered.
-fn after_answers(state: &State, n: u32) -> State
+pub(crate) fn after_answers(state: &State, n: u32) -> State
     ensures { result ≡ answered state.now n }
 {
     State {
@@ -31,7 +33,7 @@ fn after_answers(state: &State, n: u32) -> State
     }
 }
 
-fn response(status: Status, request: &Option<TxReq>) -> u32
+pub(crate) fn response(status: Status, request: &Option<TxReq>) -> u32
     ensures { result ≡ response_lem status request.now }
 {
     let response = match request {
@@ -99,7 +101,7 @@ pub(crate) fn answering_want(
             *word,
         ),
         None => Want::Write(
-            header(wiring.vif.tx, 2),
+            header(wiring.vif.tx, RSP_PROD),
             at.tx_index.wrapping_add(words.len() as u32),
         ),
     }

@@ -65,10 +65,8 @@ impl<'p, 'b> Queue<'p, 'b> {
             self.entry.ghost_name none (λ _ _. ⊤) (λ q. IsOver self.old q result)) }
     {
         let _vif = &self.wiring.vif;
-        let stage = mem::replace(&mut self.stage, Stage::Gone);
-        let (stage, after, kind) = over(&self.wiring, &self.state, stage);
+        let (after, kind) = over(&self.wiring, &self.state, &mut self.stage);
         self.state = after;
-        self.stage = stage;
         shown(&self.stage, kind)
     }
 

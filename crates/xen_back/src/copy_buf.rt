@@ -1,9 +1,24 @@
 //! The copy of a packet.
 
-ghost use Rattle.std.specs.Prelude.{◌≡◌, ◌≤◌, ◌+◌, ◌++◌, [], length};
+ghost use Rattle.std.specs.Prelude.{◌≡◌, ◌≤◌, ◌<◌, ◌+◌, ◌-◌, ◌*◌, ◌++◌, [], List, ℕ, length};
+ghost use Rattle.bpf_maps.specs.Seats.{IsSeatOf};
+ghost use Rattle.xen_netif.specs.Copy.{bytes_of};
+ghost use Rattle.xen_back.specs.Ran.{HasRunOn};
+ghost use Rattle.xen_back.specs.Reads.{AreReadFrom};
 
-use bpf_vm::{Buffer, PacketBuf};
+use crate::wiring::Wiring;
+use bpf_maps::{CounterSeat, Counters};
+use bpf_vm::{Buffer, PacketBuf, Vm, VmWant};
 use std::marker::Model;
+use std::mem;
+use xen_page::{Bus, Place};
+
+/// What a run left beside the packet.
+#[derive(Clone, Copy)]
+pub struct Ended {
+    pub number: u32,
+    pub ops: u32,
+}
 
 /// A packet in the queue's buffer, which has room for the longest.
 #[derive(Drop)]
@@ -18,7 +33,71 @@ impl<'b> Model for CopyBuf<'b> {
 
     ghost view = { λ c. c.packet.bytes };
 
-    ghost invariant = { λ c. c.packet.room ≡ 65535 };
+    ghost invariant = { λ c. c.packet.room.size ≡ 65535 };
+}
+
+/// Runs the program on a packet.
+fn run_on<'b>(
+    wiring: &Wiring,
+    counters: &Counters,
+    seat: &mut CounterSeat,
+    packet: PacketBuf<'b>,
+) -> (Ended, PacketBuf<'b>)
+    requires shapes { counters.now.shapes ≡ wiring.now.program.now.shapes }
+    requires seat { IsSeatOf counters.now seat.old }
+    ensures room { result.1.room ≡ packet.entry.room }
+    ensures seat { seat.new ≡ record seat.old { ops = seat.new.ops } }
+    ensures ran { HasRunOn wiring.now packet.entry.bytes result.1.bytes result.0.number result.0.ops seat.old.ops seat.new.ops }
+{
+    let mut vm = Vm::start(wiring.program, packet, wiring.ifindex, wiring.queue);
+    let mut ops = 0;
+    loop {
+        match vm.advance() {
+            VmWant::Load { m, k, j } => {
+                let number = counters.load(seat, m, k, j);
+                vm.loaded(number);
+                let _count = vm.count();
+                ops += 1;
+            }
+            VmWant::Add { m, k, j, delta } => {
+                let old = counters.add(seat, m, k, j, delta);
+                vm.added(old);
+                let _count = vm.count();
+                ops += 1;
+            }
+            VmWant::Exit { .. } => {
+                let (number, packet) = vm.finish();
+                return (Ended { number, ops }, packet);
+            }
+            VmWant::Step => unreachable!(),
+        }
+    }
+}
+
+/// Puts whole words of a page behind a packet's bytes. The packet is taken by value, so that its length stays in a register.
+fn words_behind<'b, B: Bus>(
+    bus: &mut B,
+    frame: u32,
+    from: u32,
+    to: u32,
+    packet: PacketBuf<'b>,
+) -> PacketBuf<'b>
+    requires frame { from < to → frame < B.size bus.old }
+    requires ordered { from ≤ to }
+    requires within { from < to → to ≤ 1024 }
+    requires room { from < to → length packet.bytes + 4 * (to - from) ≤ packet.room.size }
+    ensures size { B.size bus.new ≡ B.size bus.old }
+    ensures room { result.room ≡ packet.entry.room }
+    ensures read { (words : List ℕ) × (length words ≡ to - from)
+        × AreReadFrom B.log B.access_gives frame from words bus.old bus.new
+        × (result.bytes ≡ packet.entry.bytes ++ bytes_of words) }
+{
+    let mut packet = packet;
+    for place in from..to {
+        let word = bus.read(Place { frame, word: place });
+        packet.push_all(&word.to_le_bytes());
+    }
+    packet
 }
 
 impl<'b> CopyBuf<'b> {
@@ -33,7 +112,7 @@ impl<'b> CopyBuf<'b> {
 
     /// The packet that a program has left.
     pub fn of(packet: PacketBuf<'b>) -> CopyBuf<'b>
-        requires { packet.room ≡ 65535 }
+        requires { packet.room.size ≡ 65535 }
         ensures { result ≡ packet.entry.bytes }
     {
         CopyBuf { packet }
@@ -42,9 +121,42 @@ impl<'b> CopyBuf<'b> {
     /// The packet that a program runs on.
     pub fn into_packet(self) -> PacketBuf<'b>
         ensures bytes { result.bytes ≡ self.entry }
-        ensures room { result.room ≡ 65535 }
+        ensures room { result.room.size ≡ 65535 }
     {
         self.packet
+    }
+
+    /// Runs the program on the packet, where it lies.
+    pub(crate) fn run(
+        &mut self,
+        wiring: &Wiring,
+        counters: &Counters,
+        seat: &mut CounterSeat,
+    ) -> Ended
+        requires shapes { counters.now.shapes ≡ wiring.now.program.now.shapes }
+        requires seat { IsSeatOf counters.now seat.old }
+        ensures seat { seat.new ≡ record seat.old { ops = seat.new.ops } }
+        ensures ran { HasRunOn wiring.now self.old self.new result.number result.ops seat.old.ops seat.new.ops }
+    {
+        let packet = mem::replace(&mut self.packet, PacketBuf::nothing());
+        let (ended, packet) = run_on(wiring, counters, seat, packet);
+        self.packet = packet;
+        ended
+    }
+
+    /// Puts whole words of a page behind the packet's bytes, each read once.
+    pub(crate) fn read_whole<B: Bus>(&mut self, bus: &mut B, frame: u32, from: u32, to: u32)
+        requires frame { from < to → frame < B.size bus.old }
+        requires ordered { from ≤ to }
+        requires within { from < to → to ≤ 1024 }
+        requires room { from < to → length self.old + 4 * (to - from) ≤ 65535 }
+        ensures size { B.size bus.new ≡ B.size bus.old }
+        ensures read { (words : List ℕ) × (length words ≡ to - from)
+            × AreReadFrom B.log B.access_gives frame from words bus.old bus.new
+            × (self.new ≡ self.old ++ bytes_of words) }
+    {
+        let packet = mem::replace(&mut self.packet, PacketBuf::nothing());
+        self.packet = words_behind(bus, frame, from, to, packet);
     }
 
     /// More bytes at the end.

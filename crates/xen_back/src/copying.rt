@@ -1,4 +1,6 @@
 //! Copying a chain's fragments.
+//!
+//! Some functions take `wiring` and `state` for their contracts alone: both fix what the queue has left.
 
 ghost use Rattle.std.specs.Prelude.{◌≡◌, ◌<◌, ◌≤◌, ◌+◌, ◌-◌, ◌/◌, ◌++◌, suc, length, drop, sum_by, false, IsTrue, Ok, Some};
 ghost use Rattle.xen_netif.specs.Copy.{Covers, bytes_in};
@@ -110,7 +112,7 @@ fn entering<'p, 'b>(
     ensures here { IsTrue (is_here result) }
     ensures rest { rest_in wiring.now state.now result ≡ bind (bind (entry_at wiring.now.vif false (Some at)) (entered (fragment_at fragments.items i) (copy wiring.now (drop (i + 1) fragments.items)) packet.entry)) (after_copy wiring.now state.now chain) }
 {
-    Stage::EntryA(Entering {
+    Stage::EntryFlags(Entering {
         chain,
         fragments,
         packet,
@@ -124,12 +126,12 @@ pub(crate) fn flags_read<'p, 'b>(
     wiring: &Wiring<'p>,
     state: &State,
     entry: Entering<'b>,
-    a: u32,
+    flags_word: u32,
 ) -> Stage<'p, 'b>
     ensures here { IsTrue (is_here result) }
-    ensures rest { rest_in wiring.now state.now result ≡ bind (bind (entry_checked wiring.now.vif false entry.entry.at a) (entered (fragment_at entry.entry.fragments.items entry.entry.i) (copy wiring.now (drop (entry.entry.i + 1) entry.entry.fragments.items)) entry.entry.packet)) (after_copy wiring.now state.now entry.entry.chain) }
+    ensures rest { rest_in wiring.now state.now result ≡ bind (bind (entry_checked wiring.now.vif false entry.entry.at flags_word) (entered (fragment_at entry.entry.fragments.items entry.entry.i) (copy wiring.now (drop (entry.entry.i + 1) entry.entry.fragments.items)) entry.entry.packet)) (after_copy wiring.now state.now entry.entry.chain) }
 {
-    Stage::EntryB(entry, a)
+    Stage::EntryFrame { entry, flags_word }
 }
 
 /// After an entry.
@@ -137,11 +139,11 @@ pub(crate) fn entry_read<'p, 'b>(
     wiring: &Wiring<'p>,
     state: &State,
     entry: Entering<'b>,
-    a: u32,
-    b: u32,
+    flags_word: u32,
+    frame_word: u32,
 ) -> Stage<'p, 'b>
     ensures here { IsTrue (is_here result) }
-    ensures rest { rest_in wiring.now state.now result ≡ bind (entered (fragment_at entry.entry.fragments.items entry.entry.i) (copy wiring.now (drop (entry.entry.i + 1) entry.entry.fragments.items)) entry.entry.packet (checked wiring.now.vif.owners.now wiring.now.vif.granter wiring.now.vif.user (entry_of a b) false)) (after_copy wiring.now state.now entry.entry.chain) }
+    ensures rest { rest_in wiring.now state.now result ≡ bind (entered (fragment_at entry.entry.fragments.items entry.entry.i) (copy wiring.now (drop (entry.entry.i + 1) entry.entry.fragments.items)) entry.entry.packet (checked wiring.now.vif.owners.now wiring.now.vif.granter wiring.now.vif.user (entry_of flags_word frame_word) false)) (after_copy wiring.now state.now entry.entry.chain) }
 {
     let Entering {
         chain,
@@ -154,7 +156,7 @@ pub(crate) fn entry_read<'p, 'b>(
         wiring.vif.owners,
         wiring.vif.granter,
         wiring.vif.user,
-        Entry::of_words(a, b),
+        Entry::of_words(flags_word, frame_word),
         false,
     ) {
         Err(_) => refuse(wiring, state, packet, chain, Refusal::Grant),

@@ -30,10 +30,11 @@ use crate::wiring::Wiring;
 use arrayvec::ArrayVec;
 use xen_netif::ChainState;
 use xen_page::{Bus, Entry, GrantFault, Place, check};
+use xen_ring::{RSP_EVENT, RSP_PROD};
 use xen_steps::{header, tx_entry};
 
 /// Reads the two words of a grant's entry, and checks it.
-fn read_entry<B: Bus>(wiring: &Wiring, bus: &mut B, at: Place) -> Result<u32, GrantFault>
+pub(crate) fn read_entry<B: Bus>(wiring: &Wiring, bus: &mut B, at: Place) -> Result<u32, GrantFault>
     requires frame { at.frame < B.size bus.old }
     requires word { at.word + 1 < 1024 }
     ensures size { B.size bus.new ≡ B.size bus.old }
@@ -60,10 +61,10 @@ fn copy_fragments<'p, 'b, B: Bus>(
     entry: Entering<'b>,
 ) -> Stage<'p, 'b>
     requires size { B.size bus.old ≡ length wiring.now.vif.owners.now }
-    requires left { Completes wiring.now (rest_in wiring.now state.now (stages.EntryA entry)) }
+    requires left { Completes wiring.now (rest_in wiring.now state.now (stages.EntryFlags entry)) }
     ensures here { IsTrue (is_here result) }
     ensures size { B.size bus.new ≡ B.size bus.old }
-    ensures driven { (t : List Event) × Driven B.log B.access_gives (rest_in wiring.now state.now (stages.EntryA entry.entry)) (rest_in wiring.now state.now result) bus.old bus.new [] [] t }
+    ensures driven { (t : List Event) × Driven B.log B.access_gives (rest_in wiring.now state.now (stages.EntryFlags entry.entry)) (rest_in wiring.now state.now result) bus.old bus.new [] [] t }
 {
     let Entering {
         chain,
@@ -76,7 +77,7 @@ fn copy_fragments<'p, 'b, B: Bus>(
         let fragment = fragments[i];
         match read_entry(wiring, bus, at) {
             Err(_) => return refuse(wiring, state, packet, chain, Refusal::Grant),
-            Ok(frame) => packet = read_fragment(bus, &fragment, frame, packet),
+            Ok(frame) => read_fragment(bus, &fragment, frame, &mut packet),
         }
         i += 1;
         if i == fragments.len() {
@@ -146,7 +147,7 @@ fn read_chain<'p, 'b, B: Bus>(
 }
 
 /// Writes the i-th response of a chain.
-fn write_answer<B: Bus>(wiring: &Wiring, bus: &mut B, at: &State, i: usize, word: u32)
+pub(crate) fn write_answer<B: Bus>(wiring: &Wiring, bus: &mut B, at: &State, i: usize, word: u32)
     requires frame { wiring.now.vif.tx < B.size bus.old }
     requires few { i < 23 }
     ensures size { B.size bus.new ≡ B.size bus.old }
@@ -157,14 +158,14 @@ fn write_answer<B: Bus>(wiring: &Wiring, bus: &mut B, at: &State, i: usize, word
 }
 
 /// Pushes so many responses, and reads the event index.
-fn push_answers<B: Bus>(wiring: &Wiring, bus: &mut B, at: &State, n: u32) -> u32
+pub(crate) fn push_answers<B: Bus>(wiring: &Wiring, bus: &mut B, at: &State, n: u32) -> u32
     requires frame { wiring.now.vif.tx < B.size bus.old }
     ensures size { B.size bus.new ≡ B.size bus.old }
     ensures word { result < 2 ^ 32 }
     ensures pushed { Performs B.log B.access_gives bus.old (accesses.Write (page_word wiring.now.vif.tx 2) (add32 at.now.tx_index n) ∷ accesses.Read (page_word wiring.now.vif.tx 3) result ∷ []) bus.new }
 {
-    bus.write(header(wiring.vif.tx, 2), at.tx_index.wrapping_add(n));
-    bus.read(header(wiring.vif.tx, 3))
+    bus.write(header(wiring.vif.tx, RSP_PROD), at.tx_index.wrapping_add(n));
+    bus.read(header(wiring.vif.tx, RSP_EVENT))
 }
 
 /// Writes the responses from the i-th on, and pushes them all.
@@ -209,7 +210,7 @@ fn stage_copied<'p, 'b, B: Bus>(
     ensures driven { (t : List Event) × Driven B.log B.access_gives (rest_in wiring.now state.now stage.entry) (rest_in wiring.now state.now result) bus.old bus.new [] [] t }
 {
     match stage {
-        Stage::EntryA(entry) => copy_fragments(wiring, state, bus, entry),
+        Stage::EntryFlags(entry) => copy_fragments(wiring, state, bus, entry),
         stage => stage,
     }
 }

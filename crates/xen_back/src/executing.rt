@@ -1,4 +1,6 @@
 //! Running the program on the copy.
+//!
+//! Some functions take `wiring` and `state` for their contracts alone: both fix what the queue has left.
 
 ghost use Rattle.std.specs.Prelude.{ℕ, ◌≡◌, ◌+◌, IsTrue, Some};
 ghost use Rattle.bpf_vm.specs.Course.{left};
@@ -113,7 +115,7 @@ pub(crate) fn executed<'p, 'b>(
     }
 }
 
-fn status(number: u32) -> Status
+pub(crate) fn status(number: u32) -> Status
     ensures { result ≡ status_of number }
 {
     match number {

@@ -58,8 +58,10 @@ pub(crate) fn stage_fed<'p, 'b>(
 {
     match stage {
         Stage::At(packet, phase) => phase_fed(wiring, state, packet, phase, word, counter),
-        Stage::EntryA(entry) => flags_read(wiring, state, entry, word),
-        Stage::EntryB(entry, a) => entry_read(wiring, state, entry, a, word),
+        Stage::EntryFlags(entry) => flags_read(wiring, state, entry, word),
+        Stage::EntryFrame { entry, flags_word } => {
+            entry_read(wiring, state, entry, flags_word, word)
+        },
         Stage::Page(page) => page_read(wiring, state, page, word),
         Stage::Run(run) => executed(wiring, state, run, word, counter),
         Stage::Send(packet, sent) => sent_fed(wiring, state, packet, sent, word, counter),

@@ -12,7 +12,7 @@ ghost use Rattle.xen_steps.specs.declared.want.Answer.{Answer};
 ghost use Rattle.xen_transmit.specs.Touched.{AllAllowed};
 ghost use Rattle.xen_back.specs.Tree.{Left, copy, program, run_of, whole_turn};
 ghost use Rattle.xen_back.specs.Turned.{Ending, Turned};
-ghost use Rattle.xen_back.specs.Once.{CoveredDistinct, FragmentsOnce, SlotsOnce, TurnsOnce};
+ghost use Rattle.xen_back.specs.Once.{CoveredDistinct, FragmentsOnce, PostedDistinct, SlotsOnce, TargetsOnce, TurnsOnce};
 ghost use Rattle.xen_back.specs.Parts.{IsCopy};
 ghost use Rattle.xen_back.specs.Turns.{IsTurn};
 ghost use Rattle.xen_back.specs.declared.state.State.{State};
@@ -41,11 +41,14 @@ pub fn turns_are_bounded()
     ensures touches { (w : Wiring) (s : State) (p : List Event) (new : State) (u : Turned) → IsTurn w s p new u → AllAllowed w.vif p p }
 {}
 
-/// A turn reads each word of a slot once, each word of a fragment's entry and each word that the fragment covers; and if
-/// its packet isn't sent back, it reads nothing else but the ring's producer and event index.
+/// A turn reads each word of a slot once, each word of a fragment's entry and each word that the fragment covers; and, if its
+/// packet is to be sent back, each word of an rx slot and of its entry. A turn whose packet was run on, and that doesn't
+/// halt, reads nothing else but the rings' producers and event indices.
 pub fn words_are_read_once()
     ensures slots { SlotsOnce }
     ensures fragments { FragmentsOnce }
+    ensures targets { TargetsOnce }
+    ensures posted { PostedDistinct }
     ensures covered { CoveredDistinct }
     ensures turns { TurnsOnce }
 {}

@@ -1,4 +1,6 @@
 //! Looking for requests, and reading the slots of a chain.
+//!
+//! Some functions take `wiring` and `state` for their contracts alone: both fix what the queue has left.
 
 ghost use Rattle.std.specs.Prelude.{◌≡◌, ◌≢◌, ◌+◌, ◌-◌, ◌<◌, ◌++◌, ◌∷◌, [], suc, length, IsTrue, Ok, Some, Option};
 ghost use Rattle.xen_netif.specs.Standing.{standing};

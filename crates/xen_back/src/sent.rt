@@ -1,4 +1,6 @@
 //! Sending a packet back: a transmit, and the answer to the packet's chain.
+//!
+//! Some functions take `wiring` and `state` for their contracts alone: both fix what the queue has left.
 
 ghost use Rattle.std.specs.Prelude.{◌≡◌, IsTrue};
 ghost use Rattle.xen_back.specs.Rest.{is_here, rest_in};

@@ -16,7 +16,7 @@ pub struct Executing<'p, 'b> {
     pub vm: Vm<'p, 'b>,
     pub ops: u32,
     ghost few: { ops ≤ vm.count },
-    ghost room: { vm.numbers.packet.room ≡ 65535 },
+    ghost room: { vm.numbers.packet.room.size ≡ 65535 },
 }
 
 /// A packet that is sent, with the chain that it came in and the counter operations of its run.
@@ -31,9 +31,12 @@ pub struct Transmitting {
 pub enum Stage<'p, 'b> {
     At(CopyBuf<'b>, Phase),
     /// An entry's flags word is to be read.
-    EntryA(Entering<'b>),
+    EntryFlags(Entering<'b>),
     /// An entry's frame word, after this flags word.
-    EntryB(Entering<'b>, u32),
+    EntryFrame {
+        entry: Entering<'b>,
+        flags_word: u32,
+    },
     Page(Paging<'b>),
     Run(Executing<'p, 'b>),
     Send(CopyBuf<'b>, Transmitting),

@@ -14,6 +14,7 @@ use crate::stage::Stage;
 use crate::state::State;
 use crate::wiring::Wiring;
 use xen_page::Place;
+use xen_ring::{REQ_EVENT, REQ_PROD, RSP_EVENT};
 use xen_steps::{Want, header, tx_entry};
 
 /// What a phase wants.
@@ -23,10 +24,13 @@ fn phase_want(wiring: &Wiring, state: &State, packet: &CopyBuf, phase: &Phase) -
     match phase {
         Phase::Ready => match state.halt {
             Some(_) => Want::Done,
-            None => Want::Read(header(wiring.vif.tx, 0)),
+            None => Want::Read(header(wiring.vif.tx, REQ_PROD)),
         },
-        Phase::Announce => Want::Write(header(wiring.vif.tx, 1), state.tx_index.wrapping_add(1)),
-        Phase::CheckAgain => Want::Read(header(wiring.vif.tx, 0)),
+        Phase::Announce => Want::Write(
+            header(wiring.vif.tx, REQ_EVENT),
+            state.tx_index.wrapping_add(1),
+        ),
+        Phase::CheckAgain => Want::Read(header(wiring.vif.tx, REQ_PROD)),
         Phase::First(reading) => Want::Read(tx_entry(
             wiring.vif.tx,
             slot_index(state, &reading.chain),
@@ -43,7 +47,7 @@ fn phase_want(wiring: &Wiring, state: &State, packet: &CopyBuf, phase: &Phase) -
             2,
         )),
         Phase::Answering { at, words, i, .. } => answering_want(wiring, at, words, *i),
-        Phase::ReadEvent { .. } => Want::Read(header(wiring.vif.tx, 3)),
+        Phase::ReadEvent { .. } => Want::Read(header(wiring.vif.tx, RSP_EVENT)),
         Phase::Notice { .. } => Want::Notify(wiring.vif.port),
         Phase::Ended { .. } => Want::Done,
     }
@@ -55,8 +59,8 @@ pub(crate) fn stage_want(wiring: &Wiring, state: &State, stage: &Stage) -> Want
 {
     match stage {
         Stage::At(packet, phase) => phase_want(wiring, state, packet, phase),
-        Stage::EntryA(entry) => Want::Read(entry.at),
-        Stage::EntryB(entry, _) => Want::Read(entry.at.next()),
+        Stage::EntryFlags(entry) => Want::Read(entry.at),
+        Stage::EntryFrame { entry, .. } => Want::Read(entry.at.next()),
         Stage::Page(page) => Want::Read(Place {
             frame: page.frame,
             word: page.place,

@@ -20,6 +20,11 @@ use xen_ring::Port;
 /// tx ring and frame 18 its rx ring.
 pub const FRAMES: u32 = 20;
 
+/// The numbers of the interface and of the queue, as the program sees them.
+pub const IFINDEX: u32 = 7;
+
+pub const QUEUE: u32 = 5;
+
 fn owners(alloc: Global) -> Result<Owners, Fail>
     ensures { IfOk result (λ owners. length owners ≡ 20) }
 {
@@ -105,8 +110,8 @@ impl Bench {
             owners: &self.owners,
             granter: 1,
             user: 0,
-            ifindex: 0,
-            queue: 0,
+            ifindex: IFINDEX,
+            queue: QUEUE,
             port: Port::of(1).ok_or("no port")?,
             start,
         };

@@ -6,6 +6,7 @@ mod copies;
 mod driving;
 mod fixtures;
 mod kind;
+mod later_turns;
 mod programs;
 mod slots;
 mod transmits;

@@ -19,7 +19,7 @@ use Rattle.xen_front.specs.declared.phase.Phase.TheVariants as phase
 use Rattle.xen_front.specs.declared.state.Ring.{Ring}
 use Rattle.xen_front.specs.declared.state.State.{State}
 use Rattle.xen_front.specs.declared.turn.Halt.TheVariants as halt
-use Rattle.xen_front.specs.declared.turn.Kind.{Kind}
+use Rattle.xen_front.specs.declared.turn.Outcome.{Outcome}
 use Rattle.xen_buffers.specs.declared.wiring.Wiring.{Wiring}
 
 -- a page at a word
@@ -91,7 +91,7 @@ take_asks w zero s h = cc
 take_asks w (suc n) s h = cc
 
 -- a phase that wants nothing is between activities, or at the end of one
-pub asks_nothing : (w : Wiring) (s : State) (p q : List ℕ) (x : Phase) → (x ≡ phase.Ready → ⊥) → ((k : Kind) → x ≡ phase.Ended k → ⊥) → want_of (rest_at w s p q x) ≡ want.Done → ⊥
+pub asks_nothing : (w : Wiring) (s : State) (p q : List ℕ) (x : Phase) → (x ≡ phase.Ready → ⊥) → ((k : Outcome) → x ≡ phase.Ended k → ⊥) → want_of (rest_at w s p q x) ≡ want.Done → ⊥
 asks_nothing w s p q phase.Ready a b h = a refl
 asks_nothing w s p q (phase.GrantFrame r) a b h = cc
 asks_nothing w s p q (phase.GrantFlags r) a b h = cc

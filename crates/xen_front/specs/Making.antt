@@ -1,5 +1,5 @@
 -- What a front may be made of, and what it is then.
-use Rattle.std.specs.Prelude.{ℕ, ◌≡◌, false, None}
+use Rattle.std.specs.Prelude.{ℕ, ◌≡◌, false, length, None}
 use Rattle.xen_front.specs.Fronts.{busy, state_of, wiring_of}
 use Rattle.xen_front.specs.Slots.{in_flight}
 use Rattle.xen_buffers.specs.declared.desc.FrontDesc.{FrontDesc}
@@ -11,6 +11,7 @@ pub record IsNew (r : Ring) (start : ℕ) : Type 0 where
   pub prod : r.prod ≡ start
   pub cons : r.cons ≡ start
   pub out : (id : ℕ) → in_flight r id ≡ false
+  pub size : length r.out ≡ 256
 
 pub record IsMade (d : FrontDesc) (f : Front) : Type 0 where
   pub frames : (wiring_of f).frames ≡ d.frames

@@ -1,4 +1,7 @@
 //! The calls that begin an activity.
+//!
+//! What answers a phase takes the wiring, the state, the packet that is being sent and the one that is being received, since its
+//! contract speaks of them all. Its body may need fewer.
 
 ghost use Rattle.std.specs.Prelude.{◌≡◌, length, get_or, OnErr, OnOk};
 ghost use Rattle.xen_front.specs.Fronts.{HasBegun, IsSame, all_free, chosen, poll_answer, post_answer, send_answer, state_of, wiring_of};

@@ -27,7 +27,7 @@ use crate::sending::{
 };
 use crate::state::{Ring, State};
 use crate::taking::{shown, tx_first_looked, tx_looked, tx_response_read};
-use crate::turn::{Kind, RxTurn};
+use crate::turn::{Outcome, RxTurn};
 use std::mem;
 use xen_buffers::{Buffer, Wiring, buffer_of, grant_flags};
 use xen_page::Place;
@@ -71,21 +71,21 @@ fn phase_want(wiring: &Wiring, state: &State, sent: &[u8], received: &Packet, ph
         Phase::Fill(filling) => filling_want(wiring, state, sent, filling),
         Phase::Second(piece) => slot_write(wiring, sent, piece, 1),
         Phase::Third(piece) => slot_write(wiring, sent, piece, 2),
-        Phase::PostFrame(id, start) => post_frame(wiring, state, *id, *start),
-        Phase::PostFlags(id, start) => post_flags(wiring, state, *id, *start),
-        Phase::PostFirst(id, start) => post_first(wiring, state, *id, *start),
-        Phase::PostSecond(id, start) => post_second(wiring, state, *id, *start),
+        Phase::PostFrame { id, start } => post_frame(wiring, state, *id, *start),
+        Phase::PostFlags { id, start } => post_flags(wiring, state, *id, *start),
+        Phase::PostFirst { id, start } => post_first(wiring, state, *id, *start),
+        Phase::PostSecond { id, start } => post_second(wiring, state, *id, *start),
         Phase::Publish(push) => Want::Write(header(push.frame, REQ_PROD), push.new),
         Phase::ReadEvent(push) => Want::Read(header(push.frame, REQ_EVENT)),
         Phase::Notice => Want::Notify(wiring.port),
         Phase::TxLook | Phase::TxLookAgain => Want::Read(header(wiring.tx_frame, RSP_PROD)),
         Phase::TxAnnounce => announce(wiring.tx_frame, &state.tx),
         Phase::Take(left) => taking(wiring, state, *left),
-        Phase::TxEnd(id, _) => end_grant(wiring, &buffer_of(wiring.tx, *id)),
+        Phase::TxEnd { id, .. } => end_grant(wiring, &buffer_of(wiring.tx, *id)),
         Phase::RxAnnounce => announce(wiring.rx_frame, &state.rx),
         Phase::RxLookAgain => Want::Read(header(wiring.rx_frame, RSP_PROD)),
         Phase::RxFirst(_) => Want::Read(rx_entry(wiring.rx_frame, state.rx.cons, 0)),
-        Phase::RxSecond(_, _) => Want::Read(rx_entry(wiring.rx_frame, state.rx.cons, 1)),
+        Phase::RxSecond { .. } => Want::Read(rx_entry(wiring.rx_frame, state.rx.cons, 1)),
         Phase::RxEnd(part) => end_grant(wiring, &buffer_of(wiring.rx, part.response.id)),
         Phase::RxPage(paging) => Want::Read(Place {
             frame: paging.frame,
@@ -140,13 +140,13 @@ fn phase_fed(
         Phase::Fill(filling) => filled(wiring, state, sent, received, filling, word, counter),
         Phase::Second(piece) => Phase::Third(piece),
         Phase::Third(piece) => slot_written(wiring, state, sent, received, piece),
-        Phase::PostFrame(id, start) => Phase::PostFlags(id, start),
-        Phase::PostFlags(id, start) => Phase::PostFirst(id, start),
-        Phase::PostFirst(id, start) => Phase::PostSecond(id, start),
-        Phase::PostSecond(_, start) => posted(wiring, state, sent, received, start),
+        Phase::PostFrame { id, start } => Phase::PostFlags { id, start },
+        Phase::PostFlags { id, start } => Phase::PostFirst { id, start },
+        Phase::PostFirst { id, start } => Phase::PostSecond { id, start },
+        Phase::PostSecond { start, .. } => posted(wiring, state, sent, received, start),
         Phase::Publish(push) => Phase::ReadEvent(push),
         Phase::ReadEvent(push) => event_read(wiring, state, sent, received, push, word),
-        Phase::Notice => Phase::Ended(Kind::Idle),
+        Phase::Notice => Phase::Ended(Outcome::Idle),
         Phase::TxLook => {
             let shown = shown(&state.tx, word);
             tx_first_looked(wiring, state, sent, received, shown)
@@ -157,43 +157,46 @@ fn phase_fed(
             tx_looked(wiring, state, sent, received, shown)
         }
         Phase::Take(n) => taken(wiring, state, sent, received, n, word, counter),
-        Phase::TxEnd(_, n) => Phase::Take(n),
+        Phase::TxEnd { left, .. } => Phase::Take(left),
         Phase::RxAnnounce => Phase::RxLookAgain,
         Phase::RxLookAgain => {
             let shown = shown(&state.rx, word);
             rx_looked(wiring, state, sent, received, shown)
         }
-        Phase::RxFirst(chained) => Phase::RxSecond(chained, word),
-        Phase::RxSecond(chained, first) => response_read(
+        Phase::RxFirst(chained) => Phase::RxSecond {
+            chained,
+            first: word,
+        },
+        Phase::RxSecond { chained, first } => response_read(
             wiring, state, sent, received, chained, first, word,
         ),
         Phase::RxEnd(part) => grant_ended(wiring, state, sent, received, part),
         Phase::RxPage(paging) => page_read(wiring, state, sent, received, paging, word),
-        Phase::Ended(kind) => Phase::Ended(kind),
+        Phase::Ended(outcome) => Phase::Ended(outcome),
     }
 }
 
 /// What the activity gave, without the packet.
-fn ending(wiring: &Wiring, state: &State, sent: &[u8], received: &Packet, phase: Phase) -> Kind
+fn ending(wiring: &Wiring, state: &State, sent: &[u8], received: &Packet, phase: Phase) -> Outcome
     requires { want_of (rest_at wiring.now state.now sent.now received.now phase) ≡ Want.Done }
     ensures { rest_at wiring.now state.now sent.now received.now phase ≡ done (state.now, given result received.now) }
 {
     match phase {
-        Phase::Ended(kind) => kind,
-        Phase::Ready => Kind::Idle,
+        Phase::Ended(outcome) => outcome,
+        Phase::Ready => Outcome::Idle,
         _ => unreachable!(),
     }
 }
 
 /// What an activity gave, as the host is shown it.
-fn show<'t>(received: &'t Packet, kind: Kind) -> RxTurn<'t>
-    ensures { Shows (given kind received.now) result }
+fn show<'t>(received: &'t Packet, outcome: Outcome) -> RxTurn<'t>
+    ensures { Shows (given outcome received.now) result }
 {
-    match kind {
-        Kind::Idle => RxTurn::Idle,
-        Kind::Packet => RxTurn::Packet(received.bytes()),
-        Kind::Refused => RxTurn::Refused,
-        Kind::Halted { cause } => RxTurn::Halted { cause },
+    match outcome {
+        Outcome::Idle => RxTurn::Idle,
+        Outcome::Packet => RxTurn::Packet(received.bytes()),
+        Outcome::Refused => RxTurn::Refused,
+        Outcome::Halted { cause } => RxTurn::Halted { cause },
     }
 }
 
@@ -263,14 +266,14 @@ impl<'p> Front<'p> {
             self.entry.ghost_name none (λ _ _. ⊤) (λ f. IsOver self.old f result)) }
     {
         let phase = mem::replace(&mut self.phase, Phase::Ready);
-        let kind = ending(
+        let outcome = ending(
             &self.wiring,
             &self.state,
             self.sent.bytes(),
             &self.received,
             phase,
         );
-        show(&self.received, kind)
+        show(&self.received, outcome)
     }
 
     /// The numbers of tx responses that were OKAY, DROPPED, ERROR and anything else, each staying at 2^64 - 1 once there.

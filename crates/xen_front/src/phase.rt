@@ -3,7 +3,7 @@
 ghost use Rattle.std.specs.Prelude.{◌<◌, ◌≤◌, ◌≡◌, ◌+◌, ◌-◌, ◌/◌, length, true};
 ghost use Rattle.xen_netif.specs.Copy.{Covers};
 
-use crate::turn::Kind;
+use crate::turn::Outcome;
 use arrayvec::ArrayVec;
 use xen_netif::{Fragment, RxRsp};
 
@@ -76,10 +76,10 @@ pub enum Phase {
     Second(Piece),
     Third(Piece),
     /// A posted buffer's grant and the slot's words.
-    PostFrame(u8, u32),
-    PostFlags(u8, u32),
-    PostFirst(u8, u32),
-    PostSecond(u8, u32),
+    PostFrame { id: u8, start: u32 },
+    PostFlags { id: u8, start: u32 },
+    PostFirst { id: u8, start: u32 },
+    PostSecond { id: u8, start: u32 },
     Publish(Push),
     ReadEvent(Push),
     Notice,
@@ -90,12 +90,12 @@ pub enum Phase {
     /// So many tx responses are left; after them, the rx ring's producer.
     Take(u32),
     /// A taken response's grant.
-    TxEnd(u16, u32),
+    TxEnd { id: u16, left: u32 },
     RxAnnounce,
     RxLookAgain,
     RxFirst(Chained),
-    RxSecond(Chained, u32),
+    RxSecond { chained: Chained, first: u32 },
     RxEnd(Part),
     RxPage(Paging),
-    Ended(Kind),
+    Ended(Outcome),
 }

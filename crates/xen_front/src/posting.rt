@@ -1,4 +1,7 @@
 //! Posting a buffer, and the push of requests.
+//!
+//! What answers a phase takes the wiring, the state, the packet that is being sent and the one that is being received, since its
+//! contract speaks of them all. Its body may need fewer.
 
 ghost use Rattle.std.specs.Prelude.{◌≡◌};
 ghost use Rattle.xen_front.specs.Rest.{HasSpace, posting, rest_at};
@@ -11,7 +14,7 @@ ghost use Rattle.xen_steps.specs.Steps.{want_of};
 use crate::packet::Packet;
 use crate::phase::{Phase, Push};
 use crate::state::State;
-use crate::turn::Kind;
+use crate::turn::Outcome;
 use xen_buffers::{Wiring, buffer_of, grant_flags, grant_frame};
 use xen_netif::RxReq;
 use xen_ring::due;
@@ -32,7 +35,7 @@ pub(crate) fn begin_post(
     ensures space { HasSpace result received.now }
     ensures rest { rest_at wiring.now state.now sent.now received.now result ≡ posting wiring.now state.now id start 0 }
 {
-    Phase::PostFrame(id, start)
+    Phase::PostFrame { id, start }
 }
 
 /// The frame word of a posted buffer's grant.
@@ -113,6 +116,6 @@ pub(crate) fn event_read(
     if due(push.old, push.new, event) {
         Phase::Notice
     } else {
-        Phase::Ended(Kind::Idle)
+        Phase::Ended(Outcome::Idle)
     }
 }

@@ -1,4 +1,7 @@
 //! A poll's packet: the responses of the rx ring, checked one by one, and their pages.
+//!
+//! What answers a phase takes the wiring, the state, the packet that is being sent and the one that is being received, since its
+//! contract speaks of them all. Its body may need fewer.
 
 ghost use Rattle.std.specs.Prelude.{◌≡◌, ◌<◌, ◌≤◌, ◌+◌, ◌-◌, ◌/◌, ◌++◌, ◌∷◌, [], ◌||◌, suc, length, true};
 ghost use Rattle.xen_front.specs.Rest.{HasSpace, bytes_left, gathered, part_rest, rest_at};
@@ -13,7 +16,7 @@ use crate::packet::Packet;
 use crate::phase::{Chained, Paging, Part, Phase};
 use crate::state::{Ring, State};
 use crate::taking::{halt, is_in_flight, land};
-use crate::turn::{Halt, Kind};
+use crate::turn::{Halt, Outcome};
 use xen_buffers::{Buffer, Wiring, buffer_of};
 use xen_netif::{Fragment, RxRsp};
 
@@ -56,7 +59,7 @@ pub(crate) fn rx_looked(
         None => halt(wiring, state, sent, received, Halt::RxProducer),
         Some(n) => {
             if n == 0 {
-                Phase::Ended(Kind::Idle)
+                Phase::Ended(Outcome::Idle)
             } else {
                 received.clear();
                 before_response(wiring, state, sent, received, n - 1, 0, false)
@@ -284,9 +287,9 @@ fn part_read(
             bad,
         )
     } else if bad {
-        Phase::Ended(Kind::Refused)
+        Phase::Ended(Outcome::Refused)
     } else {
-        Phase::Ended(Kind::Packet)
+        Phase::Ended(Outcome::Packet)
     }
 }
 

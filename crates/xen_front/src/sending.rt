@@ -1,4 +1,7 @@
 //! Sending a packet: the pieces' writes.
+//!
+//! What answers a phase takes the wiring, the state, the packet that is being sent and the one that is being received, since its
+//! contract speaks of them all. Its body may need fewer.
 
 ghost use Rattle.std.specs.Prelude.{◌≡◌, ◌≤◌, ◌<◌, ◌+◌, ◌-◌, [], length, slice_index};
 ghost use Rattle.xen_front.specs.Rest.{HasSpace, filling_from, id_of, pieces as pieces_lem, rest_at, sending};

@@ -1,4 +1,7 @@
 //! A poll: looking for responses, and taking those of the tx ring.
+//!
+//! What answers a phase takes the wiring, the state, the packet that is being sent and the one that is being received, since its
+//! contract speaks of them all. Its body may need fewer.
 
 ghost use Rattle.std.specs.Prelude.{◌≡◌, ◌<◌, ◌-◌, ◌∷◌, [], true};
 ghost use Rattle.xen_front.specs.Bound.{HasFlags};
@@ -12,7 +15,7 @@ ghost use Rattle.xen_steps.specs.Steps.{bind};
 use crate::packet::Packet;
 use crate::phase::Phase;
 use crate::state::{Counts, Ring, State};
-use crate::turn::{Halt, Kind};
+use crate::turn::{Halt, Outcome};
 use xen_buffers::Wiring;
 use xen_netif::TxRsp;
 use xen_steps::responses_shown;
@@ -29,7 +32,7 @@ pub(crate) fn halt(
     ensures rest { rest_at wiring.now state.new sent.now received.now result ≡ halted state.old cause }
 {
     state.halt = Some(cause);
-    Phase::Ended(Kind::Halted { cause })
+    Phase::Ended(Outcome::Halted { cause })
 }
 
 /// The number of responses that a ring's producer shows, if so many are outstanding.
@@ -139,7 +142,10 @@ pub(crate) fn tx_response_read(
     if is_in_flight(&state.tx, response.id) {
         land(&mut state.tx, response.id);
         count(&mut state.counts, response.status);
-        Phase::TxEnd(response.id, n - 1)
+        Phase::TxEnd {
+            id: response.id,
+            left: n - 1,
+        }
     } else {
         halt(wiring, state, sent, received, Halt::TxId)
     }

@@ -54,8 +54,14 @@ impl Bench {
         })
     }
 
-    /// What a front is made with.
+    /// What a front is made with, whose back is domain 0.
     pub fn desc(&self, start: u32) -> FrontDesc<'_>
+        ensures { result.frames ≡ 531 }
+    {
+        self.desc_of(start, 0)
+    }
+
+    fn desc_of(&self, start: u32, back: u16) -> FrontDesc<'_>
         ensures { result.frames ≡ 531 }
     {
         let Some(port) = Port::of(1) else {
@@ -68,7 +74,7 @@ impl Bench {
             table: &self.table,
             tx: &self.tx,
             rx: &self.rx,
-            back: 0,
+            back,
             port,
             start,
         }
@@ -79,6 +85,15 @@ impl Bench {
         ensures { IfOk result (λ front. (wiring_of front).frames ≡ 531) }
     {
         let desc = self.desc(start);
+        if !desc.is_wired() {
+            return Err("not wired".into());
+        }
+        Ok(Front::make(self.alloc, desc)?)
+    }
+
+    /// A front whose back is this domain.
+    pub fn front_of(&self, back: u16) -> Result<Front<'_>, Fail> {
+        let desc = self.desc_of(0, back);
         if !desc.is_wired() {
             return Err("not wired".into());
         }

@@ -1,5 +1,6 @@
 //! Fronts before honest and hostile backs.
 
+mod buffers;
 mod example;
 mod fixtures;
 mod growth;

@@ -52,8 +52,8 @@ pub going_asks : (w : Vif) (x : ℕ) (packet : List ℕ) (s : Phase) → IsTrue 
 going_asks w x packet phase.Look h = refl
 going_asks w x packet (phase.First r) h = refl
 going_asks w x packet (phase.Second r a) h = refl
-going_asks w x packet (phase.EntryA g) h = refl
-going_asks w x packet (phase.EntryB g a) h = refl
+going_asks w x packet (phase.EntryFlags g) h = refl
+going_asks w x packet (phase.EntryFrame g a) h = refl
 going_asks w x packet (phase.Filling ts k) h = fill_asks w x packet ts (words packet - k) k
 going_asks w x packet (phase.Response passed ts i) h = rx_answer_asks w x packet passed (length ts) i (drop i ts)
 going_asks w x packet (phase.HalfResponse r) h = refl
@@ -66,8 +66,8 @@ pub no_number : (w : Vif) (x : ℕ) (packet : List ℕ) (s : Phase) (a b : ℕ) 
 no_number w x packet phase.Look a b = refl
 no_number w x packet (phase.First r) a b = refl
 no_number w x packet (phase.Second r v) a b = refl
-no_number w x packet (phase.EntryA g) a b = refl
-no_number w x packet (phase.EntryB g v) a b = refl
+no_number w x packet (phase.EntryFlags g) a b = refl
+no_number w x packet (phase.EntryFrame g v) a b = refl
 no_number w x packet (phase.Filling ts k) a b = sym (fill_by w x packet ts k a 0) ∙ fill_by w x packet ts k a b
 no_number w x packet (phase.Response passed ts i) a b =
     sym (rx_answer_by w x packet passed (length ts) i (drop i ts) a 0) ∙ rx_answer_by w x packet passed (length ts) i (drop i ts) a b

@@ -9,32 +9,32 @@ use Rattle.xen_transmit.specs.Packets.{frame_in, pages, response_word, target_at
 use Rattle.xen_transmit.specs.Places.{rx_slot, rx_word}
 use Rattle.xen_transmit.specs.Sending.{IsPosted, is_posted, AreTargets, all, refusing, passing, buffer_writes, rx_writes, IsRxRespond, IsTransmit, rx_overflow, too_few, refused, sent}
 use Rattle.xen_transmit.specs.Shared.{IsEntry, outside, inside, notices}
-use Rattle.xen_transmit.specs.Touched.{IsIn, here, later, IsGranted, IsAllowed, ring, entry_flags, entry_frame, source, tx_response, rx_response, pushed, announced, buffer, notified, instruction, loaded, added, AllAllowed}
+use Rattle.xen_transmit.specs.Touched.{AreNext, here, later, IsGranted, IsAllowed, ring, entry_flags, entry_frame, source, tx_response, rx_response, pushed, announced, buffer, notified, instruction, loaded, added, AllAllowed}
 use Rattle.xen_transmit.specs.declared.phase.Outcome.{Outcome}
 use Rattle.xen_transmit.specs.declared.target.Target.{Target}
 use Rattle.xen_transmit.specs.declared.vif.Vif.{Vif}
 
--- a trace that has all events of another
+-- a trace that has all pairs of neighbours of another
 abbrev pub Has : List Event → List Event → Type 0
-Has p t = (e : Event) → IsIn e p → IsIn e t
+Has p t = (e f : Event) → AreNext e f p → AreNext e f t
 
-in_front : (e : Event) (p q : List Event) → IsIn e p → IsIn e (p ++ q)
-in_front e _ q (here t) = here (t ++ q)
-in_front e _ q (later x t h) = later x (t ++ q) (in_front e t q h)
+in_front : (e f : Event) (p q : List Event) → AreNext e f p → AreNext e f (p ++ q)
+in_front e f _ q (here t) = here (t ++ q)
+in_front e f _ q (later x t h) = later x (t ++ q) (in_front e f t q h)
 
 pub front : (p q : List Event) → Has p (p ++ q)
-front p q e h = in_front e p q h
+front p q e f h = in_front e f p q h
 
-in_back : (e : Event) (p q : List Event) → IsIn e q → IsIn e (p ++ q)
-in_back e [] q h = h
-in_back e (x ∷ p) q h = later x (p ++ q) (in_back e p q h)
+in_back : (e f : Event) (p q : List Event) → AreNext e f q → AreNext e f (p ++ q)
+in_back e f [] q h = h
+in_back e f (x ∷ p) q h = later x (p ++ q) (in_back e f p q h)
 
 pub back : (p q : List Event) → Has q (p ++ q)
-back p q e h = in_back e p q h
+back p q e f h = in_back e f p q h
 
 pub granted_on : (w : Vif) (write : Bool) (p t : List Event) (frame : ℕ) → Has p t → IsGranted w write p frame → IsGranted w write t frame
 granted_on w write p t frame h g =
-    record { gref = g.gref; at = g.at; a = g.a; b = g.b; place = g.place; flags = h (Read g.at g.a) g.flags; lends = h (Read (frame_place g.at) g.b) g.lends; grants = g.grants }
+    record { gref = g.gref; at = g.at; a = g.a; b = g.b; place = g.place; read = h (Read g.at g.a) (Read (frame_place g.at) g.b) g.read; grants = g.grants }
 
 allowed_on : (w : Vif) (p t : List Event) (e : Event) → Has p t → IsAllowed w p e → IsAllowed w t e
 allowed_on w p t _ h (ring frame k v r l) = ring frame k v r l
@@ -75,7 +75,7 @@ of_entry w t write gref _ _ (inside at a b e la lb) = (entry_flags gref a at e, 
 pub grants_by : (w : Vif) (write : Bool) (gref : ℕ) (p : List Event) (r : Result ℕ GrantFault) (frame : ℕ) → IsEntry w write gref p r → r ≡ Ok frame → IsGranted w write p frame
 grants_by w write gref _ _ frame (outside e) h = cc
 grants_by w write gref _ _ frame (inside at a b e la lb) h =
-    record { gref = gref; at = at; a = a; b = b; place = e; flags = here (Read (frame_place at) b ∷ []); lends = later (Read at a) (Read (frame_place at) b ∷ []) (here []); grants = h }
+    record { gref = gref; at = at; a = a; b = b; place = e; read = here []; grants = h }
 
 -- the transmit
 of_posted : (w : Vif) (t : List Event) (i : ℕ) (p : List Event) (id : ℕ) (r : Result ℕ GrantFault) → IsPosted w i p id r → AllAllowed w t p
@@ -134,7 +134,7 @@ of_transmit w x packet _ _ (sent p m p1 p2 ts l e le a r) =
     let q : List Event = fills ++ p2 in
     let t : List Event = Read (rx_word w 0) p ∷ (p1 ++ q) in
     let n : length ts ≡ pages packet = targets_count w x 0 (pages packet) p1 true ts a refl in
-    let on : Has p1 t = λ e i. later (Read (rx_word w 0) p) (p1 ++ q) (front p1 q e i) in (
+    let on : Has p1 t = λ e f i. later (Read (rx_word w 0) p) (p1 ++ q) (front p1 q e f i) in (
       ring w.rx 0 p (inr refl) (omega arith),
       append w t p1 q (of_targets w t x 0 (pages packet) p1 true ts a)
           (append w t fills p2

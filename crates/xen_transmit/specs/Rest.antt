@@ -20,9 +20,9 @@ rest_of w x packet (phase.First r) =
     bind (posted w (add32 x (length r.targets)) (targeted r.targets (read_targets w x r.left))) (after_targets w x packet)
 rest_of w x packet (phase.Second r a) =
     bind (posted_second w (add32 x (length r.targets)) (targeted r.targets (read_targets w x r.left)) a) (after_targets w x packet)
-rest_of w x packet (phase.EntryA g) =
+rest_of w x packet (phase.EntryFlags g) =
     bind (bind (entry_at w true (Some g.at)) (targeted g.targets (read_targets w x g.left) g.id)) (after_targets w x packet)
-rest_of w x packet (phase.EntryB g a) =
+rest_of w x packet (phase.EntryFrame g a) =
     bind (bind (entry_checked w true g.at a) (targeted g.targets (read_targets w x g.left) g.id)) (after_targets w x packet)
 rest_of w x packet (phase.Filling targets k) = fill_from w x packet targets k
 rest_of w x packet (phase.Response passed targets i) = rx_answer w x packet passed (length targets) i (drop i targets)

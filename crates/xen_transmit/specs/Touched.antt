@@ -10,19 +10,19 @@ use Rattle.xen_steps.specs.Places.{page_word}
 use Rattle.xen_transmit.specs.Places.{rx_slot, tx_slot, tx_word}
 use Rattle.xen_transmit.specs.declared.vif.Vif.{Vif}
 
-pub data IsIn (e : Event) : List Event → Type 0 where
-  here : (t : List Event) → IsIn e (e ∷ t)
-  later : (x : Event) (t : List Event) → IsIn e t → IsIn e (x ∷ t)
+-- A trace has two events, the second right after the first.
+pub data AreNext (e f : Event) : List Event → Type 0 where
+  here : (t : List Event) → AreNext e f (e ∷ f ∷ t)
+  later : (x : Event) (t : List Event) → AreNext e f t → AreNext e f (x ∷ t)
 
--- The trace has the two words of an entry of the table, by whose check the frame is granted.
+-- The trace reads the two words of an entry of the table, one after the other, and by their check the frame is granted.
 pub record IsGranted (w : Vif) (write : Bool) (t : List Event) (frame : ℕ) : Type 0 where
   pub gref : ℕ
   pub at : Place
   pub a : ℕ
   pub b : ℕ
   pub place : entry_place w.table.now gref ≡ Some at
-  pub flags : IsIn (Read at a) t
-  pub lends : IsIn (Read (frame_place at) b) t
+  pub read : AreNext (Read at a) (Read (frame_place at) b) t
   pub grants : checked w.owners.now w.granter w.user (entry_of a b) write ≡ Ok frame
 
 -- What a queue may do. It reads words of the rings, entries of the table, and words of a frame that is granted in the same

@@ -1,4 +1,6 @@
 //! A transmit, one event at a time.
+//!
+//! Some functions take `vif`, `rx_index` and `bytes` for their contracts alone: these fix what the transmit has left.
 
 ghost use Rattle.std.specs.Prelude.{ℕ, ◌≡◌, ◌≤◌, length, true, false};
 ghost use Rattle.xen_netif.specs.declared.rx.RxReq.{RxReq};
@@ -35,8 +37,11 @@ pub(crate) fn phase_fed(vif: &Vif, rx_index: u32, bytes: &[u8], phase: Phase, wo
             posting,
             RxReq::of_words([a, word]),
         ),
-        Phase::EntryA(granting) => flags_read(vif, rx_index, bytes, granting, word),
-        Phase::EntryB(granting, a) => entry_read(vif, rx_index, bytes, granting, a, word),
+        Phase::EntryFlags(granting) => flags_read(vif, rx_index, bytes, granting, word),
+        Phase::EntryFrame {
+            granting,
+            flags_word,
+        } => entry_read(vif, rx_index, bytes, granting, flags_word, word),
         Phase::Filling { targets, k } => filled(vif, rx_index, bytes, targets, k),
         Phase::Response { passed, targets, i } => responded(
             vif, rx_index, bytes, passed, targets, i,

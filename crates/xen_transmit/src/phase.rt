@@ -56,9 +56,12 @@ pub enum Phase {
     /// Read its second word, after this first one.
     Second(Posting, u32),
     /// Read a grant entry's flags word.
-    EntryA(Granting),
+    EntryFlags(Granting),
     /// Read the entry's frame word, after this flags word.
-    EntryB(Granting, u32),
+    EntryFrame {
+        granting: Granting,
+        flags_word: u32,
+    },
     /// Write the k-th word of the packet, or the first response if all are written.
     Filling {
         targets: Targets,

@@ -1,4 +1,6 @@
 //! Reading the posted slots and their grants.
+//!
+//! Some functions take `vif`, `rx_index` and `bytes` for their contracts alone: these fix what the transmit has left.
 
 ghost use Rattle.std.specs.Prelude.{◌≡◌, ◌+◌, ◌<◌, ◌≤◌, ◌++◌, [], ◌∷◌, length, true, false, None, Some};
 ghost use Rattle.xen_netif.specs.declared.rx.RxReq.{RxReq};
@@ -90,7 +92,7 @@ fn granting(
     requires word { at.word < 1023 }
     ensures { rest_of vif.now rx_index bytes.now result ≡ bind (bind (entry_at vif.now true (Some at)) (targeted targets (read_targets vif.now rx_index left) id)) (after_targets vif.now rx_index bytes.now) }
 {
-    Phase::EntryA(Granting {
+    Phase::EntryFlags(Granting {
         left,
         targets,
         id,
@@ -104,11 +106,14 @@ pub(crate) fn flags_read(
     rx_index: u32,
     bytes: &[u8],
     granting: Granting,
-    a: u32,
+    flags_word: u32,
 ) -> Phase
-    ensures { rest_of vif.now rx_index bytes.now result ≡ bind (bind (entry_checked vif.now true granting.at a) (targeted granting.targets (read_targets vif.now rx_index granting.left) granting.id)) (after_targets vif.now rx_index bytes.now) }
+    ensures { rest_of vif.now rx_index bytes.now result ≡ bind (bind (entry_checked vif.now true granting.at flags_word) (targeted granting.targets (read_targets vif.now rx_index granting.left) granting.id)) (after_targets vif.now rx_index bytes.now) }
 {
-    Phase::EntryB(granting, a)
+    Phase::EntryFrame {
+        granting,
+        flags_word,
+    }
 }
 
 /// After an entry.
@@ -117,10 +122,10 @@ pub(crate) fn entry_read(
     rx_index: u32,
     bytes: &[u8],
     granting: Granting,
-    a: u32,
-    b: u32,
+    flags_word: u32,
+    frame_word: u32,
 ) -> Phase
-    ensures { rest_of vif.now rx_index bytes.now result ≡ bind (targeted granting.targets (read_targets vif.now rx_index granting.left) granting.id (checked vif.now.owners.now vif.now.granter vif.now.user (entry_of a b) true)) (after_targets vif.now rx_index bytes.now) }
+    ensures { rest_of vif.now rx_index bytes.now result ≡ bind (targeted granting.targets (read_targets vif.now rx_index granting.left) granting.id (checked vif.now.owners.now vif.now.granter vif.now.user (entry_of flags_word frame_word) true)) (after_targets vif.now rx_index bytes.now) }
 {
     let Granting {
         left,
@@ -132,7 +137,7 @@ pub(crate) fn entry_read(
         vif.owners,
         vif.granter,
         vif.user,
-        Entry::of_words(a, b),
+        Entry::of_words(flags_word, frame_word),
         true,
     ) {
         Err(_) => refused(vif, rx_index, bytes, targets, id),

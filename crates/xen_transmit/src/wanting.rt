@@ -12,6 +12,7 @@ use crate::phase::Phase;
 use crate::target::Targets;
 use crate::vif::Vif;
 use crate::words::{buffer_at, packet_word, response, words_of};
+use xen_ring::{REQ_PROD, RSP_EVENT, RSP_PROD};
 use xen_steps::{Want, header, rx_entry};
 
 /// The index of the slot that is read next.
@@ -27,7 +28,7 @@ pub(crate) fn phase_want(vif: &Vif, rx_index: u32, bytes: &[u8], phase: &Phase) 
     ensures { result ≡ want_of (rest_of vif.now rx_index bytes.now phase.now) }
 {
     match phase {
-        Phase::Look => Want::Read(header(vif.rx, 0)),
+        Phase::Look => Want::Read(header(vif.rx, REQ_PROD)),
         Phase::First(posting) => Want::Read(rx_entry(
             vif.rx,
             slot_index(rx_index, &posting.targets),
@@ -38,8 +39,8 @@ pub(crate) fn phase_want(vif: &Vif, rx_index: u32, bytes: &[u8], phase: &Phase) 
             slot_index(rx_index, &posting.targets),
             1,
         )),
-        Phase::EntryA(granting) => Want::Read(granting.at),
-        Phase::EntryB(granting, _) => Want::Read(granting.at.next()),
+        Phase::EntryFlags(granting) => Want::Read(granting.at),
+        Phase::EntryFrame { granting, .. } => Want::Read(granting.at.next()),
         Phase::Filling { targets, k } => filling_want(vif, rx_index, bytes, targets, *k),
         Phase::Response { passed, targets, i } => {
             response_want(vif, rx_index, bytes, *passed, targets, *i)
@@ -51,7 +52,7 @@ pub(crate) fn phase_want(vif: &Vif, rx_index: u32, bytes: &[u8], phase: &Phase) 
                 response.words()[1],
             )
         }
-        Phase::ReadEvent { .. } => Want::Read(header(vif.rx, 3)),
+        Phase::ReadEvent { .. } => Want::Read(header(vif.rx, RSP_EVENT)),
         Phase::Notice { .. } => Want::Notify(vif.port),
         Phase::Over(_) => Want::Done,
     }
@@ -89,6 +90,6 @@ fn response_want(
             response.words()[0],
         )
     } else {
-        Want::Write(header(vif.rx, 2), rx_index.wrapping_add(n))
+        Want::Write(header(vif.rx, RSP_PROD), rx_index.wrapping_add(n))
     }
 }

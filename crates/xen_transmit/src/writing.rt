@@ -1,4 +1,6 @@
 //! Writing the buffers and the responses.
+//!
+//! Some functions take `vif`, `rx_index` and `bytes` for their contracts alone: these fix what the transmit has left.
 
 ghost use Rattle.std.specs.Prelude.{◌≡◌, ◌+◌, ◌<◌, ◌≤◌, length, drop, true};
 ghost use Rattle.xen_ring.specs.Index.{is_due};

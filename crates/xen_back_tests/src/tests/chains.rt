@@ -42,6 +42,26 @@ fn nothing_shown_is_idle_after_a_second_look(rt: HostRuntime) -> Result<(), Fail
 }
 
 #[test]
+fn a_packet_that_the_second_look_shows_is_taken(rt: HostRuntime) -> Result<(), Fail> {
+    for start in STARTS {
+        let one = start.wrapping_add(1);
+        let answers = [start, one, 2, 0, slot(7, 14), 1, 19, 0, 0, 0, 0, one];
+        let seen = turn(rt.alloc(), &PASSES, start, &answers)?;
+        assert_eq!(rt;
+            seen.kind,
+            Kind::Ran {
+                number: 2,
+                ops: 0,
+                slots: 1
+            }
+        );
+        assert_eq!(rt; seen.packet.as_slice(), [0; 14].as_slice());
+        assert!(rt; seen.notified);
+    }
+    Ok(())
+}
+
+#[test]
 fn a_producer_past_the_ring_halts(rt: HostRuntime) -> Result<(), Fail> {
     for start in STARTS {
         let beyond = start.wrapping_add(257);
@@ -165,6 +185,27 @@ fn a_packet_below_fourteen_bytes_is_refused(rt: HostRuntime) -> Result<(), Fail>
                 slots: 1
             }
         );
+    }
+    Ok(())
+}
+
+#[test]
+fn a_refusal_is_told_where_a_notice_is_due(rt: HostRuntime) -> Result<(), Fail> {
+    for start in STARTS {
+        let one = start.wrapping_add(1);
+        for (event, notified) in [(one, true), (start, false)] {
+            let answers = [one, 2, 0, slot(7, 13), event];
+            let seen = turn(rt.alloc(), &PASSES, start, &answers)?;
+            assert_eq!(rt;
+                seen.kind,
+                Kind::Refused {
+                    cause: Refusal::Size(SizeFault::ShortPacket),
+                    ops: 0,
+                    slots: 1
+                }
+            );
+            assert_eq!(rt; seen.notified, notified);
+        }
     }
     Ok(())
 }

@@ -302,3 +302,40 @@ fn a_status_of_minus_1_at_offset_4_097(rt: HostRuntime) -> Result<(), Fail> {
     }
     Ok(())
 }
+
+/// A sixteenth slot that wants another and also passes its page: the page comes first.
+#[test]
+fn a_page_is_passed_before_a_chain_is_too_long(rt: HostRuntime) -> Result<(), Fail> {
+    for start in STARTS {
+        let mut answers = rx_answers(rt.alloc(), start, 16, &[])?;
+        for id in 0..16 {
+            answers.push(id)?;
+            answers.push(if id < 15 { 4 } else { 0x1001_0004 })?;
+        }
+        let polled = halted(rt.alloc(), start, 0, 16, answers.as_slice())?;
+        assert_eq!(rt; polled.got, Got::Halted(Halt::RxSize));
+    }
+    Ok(())
+}
+
+/// Fifteen full pages and one of 4,095 bytes.
+#[test]
+fn a_packet_of_65_535_bytes_is_received(rt: HostRuntime) -> Result<(), Fail> {
+    let bench = Bench::make(rt.alloc())?;
+    for start in STARTS {
+        let mut fronts = bench.fronts(start)?;
+        fronts.post_all(16)?;
+        let mut answers = rx_answers(rt.alloc(), start, 16, &[])?;
+        for id in 0..16 {
+            answers.push(id)?;
+            answers.push(if id < 15 { 0x1000_0004 } else { 0x0FFF_0000 })?;
+            for _word in 0..1024 {
+                answers.push(0x0707_0707)?;
+            }
+        }
+        let got = fronts.outcome(Call::Poll, answers.as_slice())?;
+        let bytes = vec![in rt.alloc(); 7u8; 65_535]?;
+        assert!(rt; got.is_packet(bytes.as_slice()));
+    }
+    Ok(())
+}

@@ -5,6 +5,7 @@ use crate::bench::{Bench, RX, TX};
 use std::process::Abort;
 use std::test::Fail;
 use xen_front::{PollRefusal, PostRefusal, SendRefusal};
+use xen_steps::{Answer, Want};
 
 /// The first send of fronts, and the second.
 fn sends<R: Abort>(rt: &R, fronts: &mut Fronts, start: u32) -> Result<(), Fail> {
@@ -286,5 +287,22 @@ fn one_activity_at_a_time(rt: HostRuntime) -> Result<(), Fail> {
         Err(SendRefusal::Busy),
         "before its length"
     );
+    Ok(())
+}
+
+/// A front that has halted is still busy until it was asked what it gave: `Halted` comes first.
+#[test]
+fn a_halted_front_is_halted_before_it_is_busy(rt: HostRuntime) -> Result<(), Fail> {
+    let bench = Bench::make(rt.alloc())?;
+    let mut front = bench.front(0)?;
+    assert_eq!(rt; front.poll(), Ok(()));
+    match front.wanted() {
+        Want::Read(_) => front.feed(Answer::Word(1)),
+        _ => return Err("no read".into()),
+    }
+    assert_eq!(rt; front.wanted(), Want::Done);
+    assert_eq!(rt; front.send(&SMALL), Err(SendRefusal::Halted));
+    assert_eq!(rt; front.post_rx(), Err(PostRefusal::Halted));
+    assert_eq!(rt; front.poll(), Err(PollRefusal::Halted));
     Ok(())
 }

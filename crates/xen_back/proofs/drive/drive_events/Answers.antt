@@ -1,70 +1,49 @@
-use Rattle.std.proofs.Common.{◌≡◌, ◌+◌, ◌-◌, ◌≤◌, [], ◌++◌, length, refl, sym, ◌∙◌, ap, arith, subst}
-use Rattle.bpf_maps.specs.Seats.{SeatView}
+use Rattle.std.proofs.Common.{◌+◌, ◌-◌, ◌++◌, length, sym, arith, subst, Some, Option}
 use Rattle.bpf_note.specs.Shape.{AreShapes}
 use Rattle.bpf_verify.specs.Consistent.{instructions}
-use Rattle.xen_steps.specs.Drive.{Bounded}
+use Rattle.xen_steps.specs.Drive.{Any, Bounded, Gone}
+use Rattle.xen_steps.specs.Steps.{Steps}
+use Rattle.xen_back.specs.Alone.{rest_over}
+use Rattle.xen_back.specs.Drive.{Driven}
 use Rattle.xen_back.specs.Within.{IsWithin}
 use Rattle.xen_back.specs.Queues.{rest, state_of, wiring_of}
-use Rattle.xen_steps.specs.Steps.{Steps}
 use Rattle.xen_back.specs.Tree.{whole_turn}
 use Rattle.xen_back.specs.Turned.{Ending}
-use Rattle.xen_steps.specs.Drive.{Any}
+use Rattle.xen_back.specs.declared.turn.Kind.{Kind}
+use Rattle.xen_back.specs.declared.wiring.Wiring.{Wiring}
 use Rattle.xen_back.proofs.Bounds.{bounded_turn}
-use Rattle.xen_steps.proofs.DriveLemmas.{bounded_done, bounded_gone, bounded_le}
-use Rattle.xen_back.proofs.DriveLemmas.{both_same, driven_append, driven_none}
+use Rattle.xen_steps.proofs.DriveLemmas.{bounded_gone, bounded_le}
+use Rattle.xen_back.proofs.DriveLemmas.{driven_append}
 use Rattle.xen_back.proofs.drive.drive_events.Goals as goal
 
-pub loop-event-init : goal.loop-event-init
-loop-event-init g c =
+pub drive_rest-requires-clause-bounded : goal.drive_rest-requires-clause-bounded
+drive_rest-requires-clause-bounded g c =
     let q = c.args.queue.now in
     let w = wiring_of q in
     let s = state_of q in
     let shapes = c.args.counters.now.shapes in
     let n = instructions w.program.now.code in
-    let maps : AreShapes shapes = subst AreShapes (sym c.requires.shapes) c.instructions.ensures.consistent.maps in
-    let whole = bounded_le (IsWithin (length w.vif.owners.now) shapes) Any (whole_turn w s) (287383 + n) (287383 + n - 0) (bounded_turn w shapes q.wired maps (sym c.requires.shapes) s) (omega arith) in
-    record {
-      bounded = subst (λ f. Bounded (IsWithin f shapes) Any (rest q) (287383 + n - 0)) (sym c.requires.size) (subst (λ (t : Steps Ending). Bounded (IsWithin (length w.vif.owners.now) shapes) Any t (287383 + n - 0)) (sym c.requires.ready) whole);
-      size = refl;
-      same = record { wiring = refl; tx_ring = refl; rx_ring = refl };
-      state = refl;
-      seat = refl;
-      driven = ([], rw c.requires.ready (driven_none g.B.Bus.log g.B.Bus.access_gives (whole_turn w s) c.args.bus.now c.args.seat.now.ops));
-    }
-
-pub loop-event-preserved : goal.loop-event-preserved
-loop-event-preserved g c =
-    let q = c.args.queue.now in
-    let n = instructions (wiring_of q).program.now.code in
-    let d = c.drive_some.ensures in
-    let t = d.events.0 in
-    let driven = d.events.2 in
-    let i = c.loop-event.invariant in
-    let before = i.driven.0 in
-    let shapes = c.args.counters.now.shapes in
+    let maps : AreShapes shapes = subst AreShapes (sym c.requires.shapes) c.instructions-count.ensures.consistent.maps in
+    let whole = bounded_le (IsWithin (length w.vif.owners.now) shapes) Any (whole_turn w s) (287383 + n) (287383 + n) (bounded_turn w shapes q.wired maps (sym c.requires.shapes) s) (omega arith) in
     let frames = g.B.Bus.size c.args.bus.now in
-    let left = 287383 + n - c.loop-event._event in
-    let fewer : left - length t ≤ 287383 + n - (c.loop-event._event + 1) = omega (arith, d.events.1) in
-    let now = rest c.drive_some.new.queue in
-    record {
-      bounded = bounded_le (IsWithin frames shapes) Any now (left - length t) (287383 + n - (c.loop-event._event + 1))
-          (bounded_gone (IsWithin frames shapes) Any (rest c.loop-event.queue) now t left i.bounded driven.gone) fewer;
-      size = d.size ∙ i.size;
-      same = both_same q c.loop-event.queue c.drive_some.new.queue i.same d.same;
-      state = d.state ∙ i.state;
-      seat = d.seat ∙ ap (λ (v : SeatView). record v { ops = c.drive_some.new.seat.ops }) i.seat;
-      driven = (
-        before ++ t,
-        driven_append g.B.Bus.log g.B.Bus.access_gives (whole_turn (wiring_of q) (state_of q)) (rest c.loop-event.queue) now
-            c.args.bus.now c.loop-event.bus c.drive_some.new.bus c.args.seat.now.ops c.loop-event.seat.ops c.drive_some.new.seat.ops before t i.driven.1 driven,
-      );
-    }
+    let a = c.go_alone in
+    let d = a.ensures.driven in
+    let new = rest a.new.self in
+    let gone = subst (λ (r : Option Kind). Gone (rest q) d.0 (rest_over a.new.self r)) c.in-None.is d.1.gone in
+    let begun : Bounded (IsWithin frames shapes) Any (rest q) (287383 + n) = subst (λ f. Bounded (IsWithin f shapes) Any (rest q) (287383 + n)) (sym c.requires.size) (subst (λ (t : Steps Ending). Bounded (IsWithin (length w.vif.owners.now) shapes) Any t (287383 + n)) (sym c.requires.ready) whole) in
+    let found : Bounded (IsWithin (g.B.Bus.size a.new.bus) shapes) Any new (287383 + n) = subst (λ f. Bounded (IsWithin f shapes) Any new (287383 + n)) (sym a.ensures.size) (bounded_le (IsWithin frames shapes) Any new (287383 + n - length d.0) (287383 + n) (bounded_gone (IsWithin frames shapes) Any (rest q) new d.0 (287383 + n) begun gone) (omega arith)) in
+    subst (λ (v : Wiring). Bounded (IsWithin (g.B.Bus.size a.new.bus) shapes) Any new (287383 + instructions v.program.now.code)) (sym a.ensures.same.wiring) found
 
-pub returns-clause-over : goal.returns-clause-over
-returns-clause-over g c =
+pub returns-in-None-clause-driven : goal.returns-in-None-clause-driven
+returns-in-None-clause-driven g c =
     let q = c.args.queue.now in
-    let n = instructions (wiring_of q).program.now.code in
-    let none : 287383 + n - c.loop-event._event ≡ 0 = omega (arith, c.instructions.ensures.count, c.from-most.ensures, c.loop-event-test.false) in
-    let frames = g.B.Bus.size c.args.bus.now in
-    let shapes = c.args.counters.now.shapes in
-    bounded_done (IsWithin frames shapes) Any (rest c.loop-event.queue) (subst (λ m. Bounded (IsWithin frames shapes) Any (rest c.loop-event.queue) m) none c.loop-event.invariant.bounded)
+    let a = c.go_alone in
+    let d = a.ensures.driven in
+    let first = subst (λ (r : Option Kind). Driven g.B.Bus.log g.B.Bus.access_gives (rest q) (rest_over a.new.self r) c.args.bus.now a.new.bus c.args.seat.now.ops a.new.seat.ops d.0) c.in-None.is d.1 in
+    let r = c.drive_rest in
+    let e = r.ensures.driven in
+    let end = rest_over r.new.queue (Some r.result) in (
+      d.0 ++ e.0,
+      subst (λ (t : Steps Ending). Driven g.B.Bus.log g.B.Bus.access_gives t end c.args.bus.now r.new.bus c.args.seat.now.ops r.new.seat.ops (d.0 ++ e.0)) c.requires.ready
+          (driven_append g.B.Bus.log g.B.Bus.access_gives (rest q) (rest a.new.self) end c.args.bus.now a.new.bus r.new.bus c.args.seat.now.ops a.new.seat.ops r.new.seat.ops d.0 e.0 first e.1),
+    )

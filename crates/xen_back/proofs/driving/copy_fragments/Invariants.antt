@@ -17,7 +17,7 @@ invariant-loop-packet g l =
       room : length l.packet + sum_by fragment_size (drop l.i l.fragments.items) ≤ 65535;
       size : g.B.Bus.size l.bus ≡ g.B.Bus.size l.fn.bus;
       left : Completes l.wiring now;
-      driven : (t : List Event) × Driven g.B.Bus.log g.B.Bus.access_gives (rest_in l.wiring l.state (stages.EntryA l.fn.entry)) now l.fn.bus l.bus [] [] t;
+      driven : (t : List Event) × Driven g.B.Bus.log g.B.Bus.access_gives (rest_in l.wiring l.state (stages.EntryFlags l.fn.entry)) now l.fn.bus l.bus [] [] t;
     }
 
 abbrev pub decreases-loop-packet : goal.decreases-loop-packet

@@ -1,28 +1,19 @@
-use Rattle.std.proofs.Common.{◌≡◌, subst}
-use Rattle.bpf_vm.specs.Course.{left}
-use Rattle.xen_back.specs.Rest.{rest_in}
-use Rattle.xen_transmit.specs.Rest.{rest_of}
-use Rattle.xen_steps.specs.Steps.{want_of}
-use Rattle.xen_back.specs.Tree.{after_run, after_transmit}
-use Rattle.xen_back.specs.declared.stage.Stage.{Stage}
-use Rattle.xen_steps.specs.declared.want.Want.TheVariants as want
-use Rattle.xen_back.proofs.FeedLemmas.{program_asks}
-use Rattle.xen_steps.proofs.BindLemmas.{asks_on}
-use Rattle.xen_transmit.proofs.SendLemmas.{going_asks}
+use Rattle.std.proofs.Common.{List, ℕ, ◌∙◌, ap}
+use Rattle.xen_back.specs.Turned.{turned}
+use Rattle.xen_steps.specs.Steps.{done}
+use Rattle.xen_back.specs.declared.phase.Phase.TheVariants as phases
+use Rattle.xen_back.proofs.AloneLemmas.{here_at_phase, packet_at_phase, ready_at_phase}
 use Rattle.xen_back.proofs.ending.over.Goals as goal
 
-pub unreachable-requires : goal.unreachable-requires
-unreachable-requires c =
-    let w = c.args.wiring.now in
-    let s = c.args.state.now in
-    let r = c.in-Run.run' in
-    program_asks c.want-want.result (left r.vm) r.ops (after_run w s r.chain) c.want-want.ensures.course (subst (λ (g : Stage). want_of (rest_in w s g) ≡ want.Done) c.in-Run.is c.requires.over)
+pub returns-clause-here : goal.returns-clause-here
+returns-clause-here c = here_at_phase c.args.stage.now phases.Ready c.set_phase.new.stage c.set_phase.ensures c.requires.here
 
-pub unreachable-requires-in-Send : goal.unreachable-requires-in-Send
-unreachable-requires-in-Send c =
-    let w = c.args.wiring.now in
-    let s = c.args.state.now in
-    let packet = c.in-Send.packet in
-    let t = c.in-Send.sent in
-    asks_on (rest_of w.vif s.rx_index packet t.transmit.phase) (after_transmit w s t.chain packet t.ops) (going_asks w.vif s.rx_index packet t.transmit.phase t.transmit.going)
-    (subst (λ (g : Stage). want_of (rest_in w s g) ≡ want.Done) c.in-Send.is c.requires.over)
+pub returns-clause-over : goal.returns-clause-over
+returns-clause-over c =
+    let e = c.ended-end.result in
+    c.ended-end.ensures.over ∙ ap (λ (p : List ℕ). done (e.0, turned e.1 p)) (packet_at_phase c.args.stage.now phases.Ready c.set_phase.new.stage c.set_phase.ensures)
+
+pub returns-clause-ready : goal.returns-clause-ready
+returns-clause-ready c =
+    let at = c.ended-end.ensures.at in
+    ready_at_phase c.args.wiring.now c.ended-end.result.0 c.args.stage.now c.set_phase.new.stage at.0 at.1 at.2 c.set_phase.ensures

@@ -42,8 +42,8 @@ loop-place-preserved g c =
         read_then g.B.Bus.log g.B.Bus.access_gives c.args.frame c.args.from place ws (v ∷ []) c.args.bus.now c.loop-place.bus c.read-word.new.self at i.read.2 one,
         same
             ∙ ap (λ l. l ++ bytes_in f place v) i.read.3
-            ∙ append_assoc c.args.packet (bytes_from f c.args.from ws) (bytes_in f place v)
-            ∙ ap (λ l. c.args.packet ++ (bytes_from f c.args.from ws ++ l)) (ap (λ p. bytes_in f p v) at ∙ sym (append-nil (bytes_in f (c.args.from + length ws) v)))
-            ∙ sym (ap (λ l. c.args.packet ++ l) (bytes_from-append f c.args.from ws (v ∷ []))),
+            ∙ append_assoc c.args.packet.now (bytes_from f c.args.from ws) (bytes_in f place v)
+            ∙ ap (λ l. c.args.packet.now ++ (bytes_from f c.args.from ws ++ l)) (ap (λ p. bytes_in f p v) at ∙ sym (append-nil (bytes_in f (c.args.from + length ws) v)))
+            ∙ sym (ap (λ l. c.args.packet.now ++ l) (bytes_from-append f c.args.from ws (v ∷ []))),
       );
     }

@@ -1,16 +1,35 @@
-use Rattle.std.proofs.Common.{sym, subst}
+use Rattle.std.proofs.Common.{refl, sym, subst}
+use Rattle.xen_back.specs.Rest.{packet_at}
 use Rattle.xen_steps.specs.Steps.{Steps}
-use Rattle.xen_back.specs.Turned.{Ending}
+use Rattle.xen_back.specs.Turned.{Ending, turned}
 use Rattle.xen_back.specs.Within.{Completes}
 use Rattle.xen_back.proofs.queue.Queue.turn.Goals as goal
 
 pub invariant_of-self : goal.invariant_of-self
 invariant_of-self c =
     let q = c.args.self.now in
-    let o = c.over-stage in
+    let o = c.over-kind in
     record {
       here = o.ensures.here;
       wired = q.wired;
       turns = q.turns;
-      left = subst (λ (s : Steps Ending). Completes q.wiring s) (sym o.ensures.ready) (q.turns o.result.1);
+      left = subst (λ (s : Steps Ending). Completes q.wiring s) (sym o.ensures.ready) (q.turns o.result.0);
     }
+
+pub returns : goal.returns
+returns c =
+    let o = c.over-kind in (
+      (
+        refl,
+        λ v. tt,
+        record {
+          turned = turned o.result.1 (packet_at o.new.stage);
+          over = o.ensures.over;
+          ready = o.ensures.ready;
+          same = record { wiring = refl; tx_ring = refl; rx_ring = refl };
+          shows = c.shown.ensures.shows;
+          short = c.shown.ensures.short;
+        },
+      ),
+      record { after = tt },
+    )

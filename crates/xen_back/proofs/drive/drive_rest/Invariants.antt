@@ -4,9 +4,8 @@ use Rattle.xen_steps.specs.Drive.{Any, Bounded}
 use Rattle.xen_back.specs.Within.{IsWithin}
 use Rattle.xen_back.specs.Drive.{Driven}
 use Rattle.xen_steps.specs.Event.{Event}
-use Rattle.xen_back.specs.Queues.{IsSameWiring, rest, state_of, wiring_of}
-use Rattle.xen_back.specs.Tree.{whole_turn}
-use Rattle.xen_back.proofs.drive.drive_events.Given as goal
+use Rattle.xen_back.specs.Queues.{IsSameWiring, rest, wiring_of}
+use Rattle.xen_back.proofs.drive.drive_rest.Given as goal
 
 abbrev pub invariant-loop-event : goal.invariant-loop-event
 invariant-loop-event g l =
@@ -15,7 +14,6 @@ invariant-loop-event g l =
       bounded : Bounded (IsWithin (g.B.Bus.size l.fn.bus) l.counters.shapes) Any (rest l.queue) (287383 + instructions (wiring_of q).program.now.code - l._event);
       size : g.B.Bus.size l.bus ≡ g.B.Bus.size l.fn.bus;
       same : IsSameWiring q l.queue;
-      state : state_of l.queue ≡ state_of q;
       seat : l.seat ≡ record l.fn.seat { ops = l.seat.ops };
-      driven : (t : List Event) × Driven g.B.Bus.log g.B.Bus.access_gives (whole_turn (wiring_of q) (state_of q)) (rest l.queue) l.fn.bus l.bus l.fn.seat.ops l.seat.ops t;
+      driven : (t : List Event) × Driven g.B.Bus.log g.B.Bus.access_gives (rest q) (rest l.queue) l.fn.bus l.bus l.fn.seat.ops l.seat.ops t;
     }

@@ -1,0 +1,252 @@
+-- What is done in one go where a packet is in one slot is what a turn asks, event by event.
+use Rattle.std.proofs.Common.{◌≡◌, ◌≢◌, ℕ, zero, suc, ◌+◌, ◌-◌, ◌<◌, ◌≤◌, ◌^◌, ◌%◌, Bool, true, false, List, [], ◌∷◌, ◌++◌, length, Option, Some, None, Ok, Err, refl, sym, ◌∙◌, ap, append_assoc, append-nil, subst, arith}
+use Rattle.std.proofs.lemmas.Bool.Decides.{nat_tests}
+use Rattle.std.specs.Prelude.{IsTrue, nat_le, if◌then◌else◌}
+use Rattle.bpf_flow.specs.Step.{Outcome, Next, Loads, Adds, Exited, Fault}
+use Rattle.bpf_note.specs.declared.op.Op.{Op}
+use Rattle.bpf_vm.specs.Advance.{after_steps}
+use Rattle.bpf_vm.specs.Course.{Course, Exiting, Loading, Adding, after, number_in}
+use Rattle.bpf_vm.specs.Stands.{label_of as label_at}
+use Rattle.bpf_vm.specs.Wants.{IsAddOf, IsLoadOf}
+use Rattle.xen_netif.specs.Chain.{Slot, extra_info, more_data}
+use Rattle.xen_netif.specs.Fragments.{fragments_of, is_in_page}
+use Rattle.xen_netif.specs.Slots.{tx_req_of}
+use Rattle.xen_netif.specs.Standing.{after_data, after_extra, standing}
+use Rattle.xen_netif.specs.declared.chain.ChainState.TheVariants as wanted
+use Rattle.xen_netif.specs.declared.fragment.Fragment.{Fragment}
+use Rattle.xen_netif.specs.declared.status.Status.{Status}
+use Rattle.xen_page.specs.Access.{Performs}
+use Rattle.xen_page.specs.Entry.{entry_of}
+use Rattle.xen_page.specs.Grant.{checked}
+use Rattle.xen_page.specs.Mapping.{frame_place}
+use Rattle.xen_page.specs.Table.{entry_place}
+use Rattle.xen_page.specs.declared.access.Access.{Access}
+use Rattle.xen_page.specs.declared.access.Access.TheVariants as access
+use Rattle.xen_page.specs.declared.fault.GrantFault.{GrantFault}
+use Rattle.xen_page.specs.declared.place.Place.{Place}
+use Rattle.xen_page.proofs.AccessLemmas.{performs_none, performs_then}
+use Rattle.xen_ring.specs.Index.{is_due}
+use Rattle.xen_steps.proofs.DriveLemmas.{accesses-append, gone_append}
+use Rattle.xen_steps.specs.Drive.{Goes, Gone, accesses, accesses_of}
+use Rattle.xen_steps.specs.Event.{Event, Instr, Load, Add, Read, Write, Notify}
+use Rattle.xen_steps.specs.Places.{add32, available}
+use Rattle.xen_steps.specs.Steps.{Steps, bind, done}
+use Rattle.xen_transmit.specs.Places.{tx_slot, tx_word}
+use Rattle.xen_back.specs.Drive.{Driven, label_of, labels}
+use Rattle.xen_back.specs.Program.{instructions_alone}
+use Rattle.xen_back.specs.Ran.{HasRunTo}
+use Rattle.xen_back.specs.Alone.{at_phase}
+use Rattle.xen_back.specs.Rest.{is_here, packet_at, rest_in, rest_of_slot}
+use Rattle.xen_back.specs.declared.phase.Phase.{Phase}
+use Rattle.xen_back.specs.declared.phase.Phase.TheVariants as phases
+use Rattle.xen_back.specs.declared.stage.Stage.{Stage}
+use Rattle.xen_back.specs.declared.stage.Stage.TheVariants as stages
+use Rattle.xen_back.specs.Tree.{Left, after_chain, after_copy, after_look, after_run, announce, answered, copy, look, notice, program, respond, response, seen, send, status_of, third, whole_turn}
+use Rattle.xen_back.specs.Turned.{Ending, Ran, Turned}
+use Rattle.xen_back.specs.declared.state.State.{State}
+use Rattle.xen_back.specs.declared.wiring.Wiring.{Wiring}
+use Rattle.xen_back.proofs.BulkLemmas.{IsFragmentRead, answer_on, denied_on, fragment_on, next_entry, push_on, rest_of_entry, slot_on}
+use Rattle.xen_back.proofs.DriveLemmas.{alone_accesses, alone_labels, driven_append, driven_none, gone_alone, labels-append}
+use Rattle.xen_back.proofs.TurnRuns.{is_three, not_three}
+
+-- a run goes on by instructions that read no counter
+pub run_alone : (start : Steps Left) (x y : Course) (ops n : ℕ) (a b : List Op) → HasRunTo start (program x ops) a b → x ≡ after_steps n y → HasRunTo start (program y ops) a b
+run_alone start x y ops n a b r e =
+    record {
+      trace = r.trace ++ instructions_alone n;
+      alone = accesses-append r.trace (instructions_alone n) ∙ ap (λ l. l ++ accesses (instructions_alone n)) r.alone ∙ alone_accesses n;
+      grown = r.grown ∙ ap (λ l. a ++ l) (sym (labels-append r.trace (instructions_alone n) ∙ ap (λ l. labels r.trace ++ l) (alone_labels n) ∙ append-nil (labels r.trace)));
+      gone = λ f. gone_append (bind start f) (bind (program x ops) f) (bind (program y ops) f) r.trace (instructions_alone n) (r.gone f)
+          (subst (λ (c : Course). Gone (bind (program c ops) f) (instructions_alone n) (bind (program y ops) f)) (sym e) (gone_alone y n ops f));
+    }
+
+-- and by one event that is no access
+pub run_event : (start s s' : Steps Left) (e : Event) (a b c : List Op) → HasRunTo start s a b → ((f : Left → Steps Ending) → Goes (bind s f) e (bind s' f)) → accesses_of e ≡ [] → c ≡ b ++ label_of e → HasRunTo start s' a c
+run_event start s s' e a b c r g n h =
+    record {
+      trace = r.trace ++ e ∷ [];
+      alone = accesses-append r.trace (e ∷ []) ∙ ap (λ l. l ++ accesses (e ∷ [])) r.alone ∙ ap (λ l. l ++ []) n;
+      grown = h ∙ ap (λ l. l ++ label_of e) r.grown ∙ append_assoc a (labels r.trace) (label_of e) ∙ ap (λ l. a ++ l) (sym (labels-append r.trace (e ∷ []) ∙ ap (λ l. labels r.trace ++ l) (append-nil (label_of e))));
+      gone = λ f. gone_append (bind start f) (bind s f) (bind s' f) r.trace (e ∷ []) (r.gone f) (bind s' f, g f, refl);
+    }
+
+pub load_number : (m k j : ℕ) (o : Outcome) (v : ℕ) → IsLoadOf m k j o → number_in (label_at o v) ≡ v
+load_number m k j (Next t) v h = absurd h
+load_number m k j (Loads m' k' j' go) v h = refl
+load_number m k j (Adds m' k' j' d go) v h = absurd h
+load_number m k j (Exited r) v h = absurd h
+load_number m k j Fault v h = absurd h
+
+pub add_number : (m k j d : ℕ) (o : Outcome) (v : ℕ) → IsAddOf m k j d o → number_in (label_at o v) ≡ v
+add_number m k j d (Next t) v h = absurd h
+add_number m k j d (Loads m' k' j' go) v h = absurd h
+add_number m k j d (Adds m' k' j' d' go) v h = refl
+add_number m k j d (Exited r) v h = absurd h
+add_number m k j d Fault v h = absurd h
+
+pub goes_load : (c d : Course) (m k j v ops : ℕ) (to : ℕ → Course) → c ≡ Loading m k j to → d ≡ after c v → v < 2 ^ 64 → (f : Left → Steps Ending) → Goes (bind (program c ops) f) (Load m k j v) (bind (program d (ops + 1)) f)
+goes_load c d m k j v ops to e h l f =
+    let same : d ≡ to v = h ∙ ap (λ c. after c v) e in
+    rw e (v, (l, refl), ap (λ d. bind (program d (ops + 1)) f) same)
+
+pub goes_add : (c d : Course) (m k j delta v ops : ℕ) (to : ℕ → Course) → c ≡ Adding m k j delta to → d ≡ after c v → v < 2 ^ 64 → (f : Left → Steps Ending) → Goes (bind (program c ops) f) (Add m k j delta v) (bind (program d (ops + 1)) f)
+goes_add c d m k j delta v ops to e h l f =
+    let same : d ≡ to v = h ∙ ap (λ c. after c v) e in
+    rw e (v, (l, refl), ap (λ d. bind (program d (ops + 1)) f) same)
+
+pub goes_exit : (c : Course) (r0 ops : ℕ) (packet : List ℕ) → c ≡ Exiting r0 packet → (f : Left → Steps Ending) →
+    Goes (bind (program c ops) f) Instr (bind (done (record { number = r0 % 2 ^ 32; packet = packet; ops = ops })) f)
+goes_exit c r0 ops packet e f = rw e (0, (refl, refl), refl)
+
+-- A slot that asks for no other is a whole chain.
+pub alone_stands : (slot : Slot) → extra_info slot ≡ false → more_data slot ≡ false → standing (slot ∷ []) ≡ Some (Ok wanted.Complete)
+alone_stands slot p m = ap (λ b. after_extra 5 b (more_data slot) []) p ∙ ap (λ b. after_data 17 b []) m
+
+-- before a lone fragment's entry, by its place
+abbrev pub before_entry : Wiring → State → List Slot → Fragment → Steps Ending
+before_entry w s chain f = bind (copy w (f ∷ []) []) (after_copy w s chain)
+
+pub at_entry : (w : Wiring) (s : State) (chain : List Slot) (f : Fragment) (at : Place) → entry_place w.vif.table.now f.gref ≡ Some at → before_entry w s chain f ≡ rest_of_entry w s chain (f ∷ []) 0 at []
+at_entry w s chain f at e = next_entry w s chain (f ∷ []) 0 at [] (omega arith) e
+
+pub denied_alone : {S : Type 0} (log : S → Option (List Access)) (gives : S → Access → S → Type 0) (w : Wiring) (s : State) (chain : List Slot) (f : Fragment) (at : Place) (a b : ℕ) (fault : GrantFault) (bus new : S) →
+    entry_place w.vif.table.now f.gref ≡ Some at → a < 2 ^ 32 → b < 2 ^ 32 → Performs log gives bus (access.Read at a ∷ access.Read (frame_place at) b ∷ []) new →
+    checked w.vif.owners.now w.vif.granter w.vif.user (entry_of a b) false ≡ Err fault → (t : List Event) × Driven log gives (before_entry w s chain f) (after_copy w s chain None) bus new [] [] t
+denied_alone log gives w s chain f at a b fault bus new e la lb p c =
+    let start = before_entry w s chain f in
+    let none : Driven log gives start (rest_of_entry w s chain (f ∷ []) 0 at []) bus bus [] [] [] =
+    subst (λ (q : Steps Ending). Driven log gives start q bus bus [] [] []) (at_entry w s chain f at e) (driven_none log gives start bus []) in
+    denied_on log gives w s chain (f ∷ []) 0 at [] a b fault start bus bus new [] none la lb p c
+
+pub fetched_alone : {S : Type 0} (log : S → Option (List Access)) (gives : S → Access → S → Type 0) (w : Wiring) (s : State) (chain : List Slot) (f : Fragment) (at : Place) (out : List ℕ) (a b frame : ℕ) (bus mid new : S) →
+    entry_place w.vif.table.now f.gref ≡ Some at → a < 2 ^ 32 → b < 2 ^ 32 → Performs log gives bus (access.Read at a ∷ access.Read (frame_place at) b ∷ []) mid →
+    checked w.vif.owners.now w.vif.granter w.vif.user (entry_of a b) false ≡ Ok frame → IsFragmentRead log gives frame f [] out mid new →
+    (t : List Event) × Driven log gives (before_entry w s chain f) (after_copy w s chain (Some out)) bus new [] [] t
+fetched_alone log gives w s chain f at out a b frame bus mid new e la lb p c r =
+    let start = before_entry w s chain f in
+    let none : Driven log gives start (rest_of_entry w s chain (f ∷ []) 0 at []) bus bus [] [] [] =
+    subst (λ (q : Steps Ending). Driven log gives start q bus bus [] [] []) (at_entry w s chain f at e) (driven_none log gives start bus []) in
+    fragment_on log gives w s chain (f ∷ []) 0 at [] out a b frame start bus bus mid new [] none la lb p c r
+
+-- a notice, if one is due
+pub notice_driven : {S : Type 0} (log : S → Option (List Access)) (gives : S → Access → S → Type 0) (w : Wiring) (is : Bool) (e : Ending) (bus : S) → (t : List Event) × Driven log gives (notice w is e) (done e) bus bus [] [] t
+notice_driven log gives w false e bus = ([], driven_none log gives (done e) bus [])
+notice_driven log gives w true e bus = (Notify w.vif.port ∷ [], record { gone = (done e, (0, (refl, refl), refl), refl); performed = performs_none log gives bus; grown = refl })
+
+-- A slot is answered.
+pub answered_alone : {S : Type 0} (log : S → Option (List Access)) (gives : S → Access → S → Type 0) (w : Wiring) (s : State) (slot : Slot) (st : Status) (u : Turned) (word event : ℕ) (bus mid new : S) →
+    word ≡ response st (Some (tx_req_of slot)) → event < 2 ^ 32 → Performs log gives bus (access.Write (tx_slot w.vif (add32 s.tx_index 0) 0) word ∷ []) mid →
+    Performs log gives mid (access.Write (tx_word w.vif 2) (add32 s.tx_index 1) ∷ access.Read (tx_word w.vif 3) event ∷ []) new →
+    (t : List Event) × Driven log gives (respond w s (slot ∷ []) st u) (done (answered s 1, u)) bus new [] [] t
+answered_alone log gives w s slot st u word event bus mid new is l p q =
+    let rs : List ℕ = response st (Some (tx_req_of slot)) ∷ [] in
+    let e : Ending = (answered s 1, u) in
+    let start = respond w s (slot ∷ []) st u in
+    let first = subst (λ (v : ℕ). Performs log gives bus (access.Write (tx_slot w.vif (add32 s.tx_index 0) 0) v ∷ []) mid) is p in
+    let one = answer_on log gives w s.tx_index 1 0 rs e start bus bus mid [] (driven_none log gives start bus []) (omega arith) first in
+    let two = push_on log gives w s.tx_index 1 rs event e start bus mid new one.0 one.1 (omega arith) l q in
+    let last = notice_driven log gives w (is_due s.tx_index (add32 s.tx_index 1) event) e new in
+    (two.0 ++ last.0, driven_append log gives start (notice w (is_due s.tx_index (add32 s.tx_index 1) event) e) (done e) bus new new [] [] [] two.0 last.0 two.1 last.1)
+
+-- the program ran
+pub ran_driven : {S : Type 0} (log : S → Option (List Access)) (gives : S → Access → S → Type 0) (start : Steps Left) (out : Left) (f : Left → Steps Ending) (bus : S) (a b : List Op) (r : HasRunTo start (done out) a b) →
+    Driven log gives (bind start f) (f out) bus bus a b r.trace
+ran_driven log gives start out f bus a b r =
+    record { gone = r.gone f; performed = subst (λ (l : List Access). Performs log gives bus l bus) (sym r.alone) (performs_none log gives bus); grown = r.grown }
+
+pub ran_to_send : (w : Wiring) (s : State) (chain : List Slot) (n ops : ℕ) (packet : List ℕ) → n ≡ 3 → after_run w s chain (record { number = n; packet = packet; ops = ops }) ≡ send w s chain packet ops
+ran_to_send w s chain n ops packet e = ap (λ b. if b then send w s chain packet ops else respond w s chain (status_of n) (Ran n packet ops (length chain))) (is_three n e)
+
+pub ran_to_answer : (w : Wiring) (s : State) (chain : List Slot) (n ops : ℕ) (packet : List ℕ) → n ≢ 3 →
+    after_run w s chain (record { number = n; packet = packet; ops = ops }) ≡ respond w s chain (status_of n) (Ran n packet ops (length chain))
+ran_to_answer w s chain n ops packet h = ap (λ b. if b then send w s chain packet ops else respond w s chain (status_of n) (Ran n packet ops (length chain))) (not_three n h)
+
+-- Two words of the next slot are read.
+pub two_read : {S : Type 0} (log : S → Option (List Access)) (gives : S → Access → S → Type 0) (w : Wiring) (s : State) (left a b : ℕ) (bus new : S) → a < 2 ^ 32 → b < 2 ^ 32 →
+    Performs log gives bus (access.Read (tx_slot w.vif (add32 s.tx_index 0) 0) a ∷ access.Read (tx_slot w.vif (add32 s.tx_index 0) 1) b ∷ []) new →
+    Driven log gives (after_look w s (Some (suc left))) (rest_of_slot w s left [] (third w (add32 s.tx_index 0) a b)) bus new [] []
+    (Read (tx_slot w.vif (add32 s.tx_index 0) 0) a ∷ Read (tx_slot w.vif (add32 s.tx_index 0) 1) b ∷ [])
+two_read log gives w s left a b bus new la lb p = record { gone = (_, (a, (la, refl), refl), (_, (b, (lb, refl), refl), refl)); performed = p; grown = refl }
+
+-- The next slot is read, and is a whole chain.
+pub slot_alone_read : {S : Type 0} (log : S → Option (List Access)) (gives : S → Access → S → Type 0) (w : Wiring) (s : State) (left a b c : ℕ) (bus mid new : S) → a < 2 ^ 32 → b < 2 ^ 32 → c < 2 ^ 32 →
+    Performs log gives bus (access.Read (tx_slot w.vif (add32 s.tx_index 0) 0) a ∷ access.Read (tx_slot w.vif (add32 s.tx_index 0) 1) b ∷ []) mid →
+    Performs log gives mid (access.Read (tx_slot w.vif (add32 s.tx_index 0) 2) c ∷ []) new → extra_info (a ∷ b ∷ c ∷ []) ≡ false → more_data (a ∷ b ∷ c ∷ []) ≡ false →
+    (t : List Event) × Driven log gives (after_look w s (Some (suc left))) (after_chain w s ((a ∷ b ∷ c ∷ []) ∷ []) (fragments_of ((a ∷ b ∷ c ∷ []) ∷ []))) bus new [] [] t
+slot_alone_read log gives w s left a b c bus mid new la lb lc p q plain last =
+    let i = add32 s.tx_index 0 in
+    let start = after_look w s (Some (suc left)) in
+    let all = performs_then log gives bus mid new (access.Read (tx_slot w.vif i 0) a ∷ access.Read (tx_slot w.vif i 1) b ∷ []) (access.Read (tx_slot w.vif i 2) c ∷ []) p q in
+    slot_on log gives w s left [] i (a ∷ b ∷ c ∷ []) (Some (Ok wanted.Complete)) start bus bus new [] (driven_none log gives start bus [])
+    (a, b, c, la, lb, lc, refl, all) (alone_stands (a ∷ b ∷ c ∷ []) plain last)
+
+-- what the producer shows is looked at, unless that is nothing
+pub seen_else : (w : Wiring) (s : State) (o : Option ℕ) → o ≢ Some 0 → bind (seen w s.tx_index o) (after_look w s) ≡ after_look w s o
+seen_else w s None h = refl
+seen_else w s (Some zero) h = absurd (h refl)
+seen_else w s (Some (suc n)) h = refl
+
+-- requests are there
+pub looked_some : (w : Wiring) (s : State) (n : ℕ) → n ≢ 0 → after_look w s (Some n) ≡ after_look w s (Some (suc (n - 1)))
+looked_some w s zero h = absurd (h refl)
+looked_some w s (suc n) h =
+    let same : n ≡ suc n - 1 = omega arith in
+    ap (λ (m : ℕ). after_look w s (Some (suc m))) same
+
+-- The producer is read.
+pub look_read : {S : Type 0} (log : S → Option (List Access)) (gives : S → Access → S → Type 0) (w : Wiring) (s : State) (p : ℕ) (bus new : S) → p < 2 ^ 32 →
+    Performs log gives bus (access.Read (tx_word w.vif 0) p ∷ []) new →
+    Driven log gives (bind (look w s.tx_index) (after_look w s)) (bind (seen w s.tx_index (available s.tx_index p)) (after_look w s)) bus new [] [] (Read (tx_word w.vif 0) p ∷ [])
+look_read log gives w s p bus new l q = record { gone = (_, (p, (l, refl), refl), refl); performed = q; grown = refl }
+
+-- The producer is read, and doesn't show nothing.
+pub looked_at : {S : Type 0} (log : S → Option (List Access)) (gives : S → Access → S → Type 0) (w : Wiring) (s : State) (p : ℕ) (o : Option ℕ) (bus new : S) → p < 2 ^ 32 →
+    Performs log gives bus (access.Read (tx_word w.vif 0) p ∷ []) new → o ≡ available s.tx_index p → o ≢ Some 0 →
+    Driven log gives (bind (look w s.tx_index) (after_look w s)) (after_look w s o) bus new [] [] (Read (tx_word w.vif 0) p ∷ [])
+looked_at log gives w s p o bus new l q e h =
+    let start = bind (look w s.tx_index) (after_look w s) in
+    let t : List Event = Read (tx_word w.vif 0) p ∷ [] in
+    let same : bind (seen w s.tx_index (available s.tx_index p)) (after_look w s) ≡ after_look w s o = ap (λ (x : Option ℕ). bind (seen w s.tx_index x) (after_look w s)) (sym e) ∙ seen_else w s o h in
+    subst (λ (x : Steps Ending). Driven log gives start x bus new [] [] t) same (look_read log gives w s p bus new l q)
+
+-- The event index is stored, and the producer read again.
+pub look_again_read : {S : Type 0} (log : S → Option (List Access)) (gives : S → Access → S → Type 0) (w : Wiring) (s : State) (p : ℕ) (bus new : S) → p < 2 ^ 32 →
+    Performs log gives bus (access.Write (tx_word w.vif 1) (add32 s.tx_index 1) ∷ access.Read (tx_word w.vif 0) p ∷ []) new →
+    Driven log gives (bind (announce w s.tx_index) (after_look w s)) (after_look w s (available s.tx_index p)) bus new [] [] (Write (tx_word w.vif 1) (add32 s.tx_index 1) ∷ Read (tx_word w.vif 0) p ∷ [])
+look_again_read log gives w s p bus new l q = record { gone = (_, (0, (refl, refl), refl), (_, (p, (l, refl), refl), refl)); performed = q; grown = refl }
+
+pub in_page_short : (f : Fragment) → IsTrue (is_in_page f) → f.size ≤ 65535
+in_page_short f h = by (nat_le (f.offset + f.size) 4096) refl h
+  where
+    by : (b : Bool) → nat_le (f.offset + f.size) 4096 ≡ b → IsTrue b → f.size ≤ 65535
+    by true e h =
+        let le : f.offset + f.size ≤ 4096 = grind (arith, nat_tests) in
+        omega (arith, le)
+    by false e h = cc
+
+pub here_at_phase : (g : Stage) (x : Phase) (new : Stage) → new ≡ at_phase g x → IsTrue (is_here g) → IsTrue (is_here new)
+here_at_phase g x new e h = subst (λ (q : Stage). IsTrue (is_here q)) (sym e) (by g h)
+  where
+    by : (g : Stage) → IsTrue (is_here g) → IsTrue (is_here (at_phase g x))
+    by (stages.At p y) h = h
+    by (stages.EntryFlags a) h = h
+    by (stages.EntryFrame a n) h = h
+    by (stages.Page a) h = h
+    by (stages.Run a) h = h
+    by (stages.Send p t) h = h
+    by stages.Gone h = h
+
+pub packet_at_phase : (g : Stage) (x : Phase) (new : Stage) → new ≡ at_phase g x → packet_at g ≡ packet_at new
+packet_at_phase g x new e = by g ∙ sym (ap packet_at e)
+  where
+    by : (g : Stage) → packet_at g ≡ packet_at (at_phase g x)
+    by (stages.At p y) = refl
+    by (stages.EntryFlags a) = refl
+    by (stages.EntryFrame a n) = refl
+    by (stages.Page a) = refl
+    by (stages.Run a) = refl
+    by (stages.Send p t) = refl
+    by stages.Gone = refl
+
+pub ready_at_phase : (w : Wiring) (s : State) (g new : Stage) (p : List ℕ) (y : Phase) → g ≡ stages.At p y → new ≡ at_phase g phases.Ready → rest_in w s new ≡ whole_turn w s
+ready_at_phase w s g new p y e h = ap (λ (q : Stage). rest_in w s q) (h ∙ ap (λ (q : Stage). at_phase q phases.Ready) e)
