@@ -28,7 +28,7 @@ use Rattle.xen_steps.specs.declared.want.Want.TheVariants as want
 use Rattle.xen_back.specs.declared.wiring.Wiring.{Wiring}
 use Rattle.xdp_world.specs.Core.{HaveEvents, IsHalted, IsUnfinished, Turns, begun, turned, started_at}
 use Rattle.xdp_world.specs.Entries.{Entry, listed, events_of, tagged, ops_of, history, ServesEntry, AllServe, steps_of}
-use Rattle.xdp_world.specs.Happens.{Comes, Counts, Happens, Moved, Rests, Settles, kept_list, op_list}
+use Rattle.xdp_world.specs.Happens.{Comes, Counts, Happens, Moved, Rests, Settles, kept_list, op_list, MovedBy}
 use Rattle.xdp_world.specs.Keeping.{Keeps}
 use Rattle.xdp_world.specs.Stands.{SoFar}
 use Rattle.xdp_world.specs.declared.kept.Kept.{Kept}
@@ -229,6 +229,11 @@ pub moved_step : (q q' : Queue) (c d : TotalsView) (a : ℕ) (o : Option Op) (k 
     (want_of (rest q) ≡ want.Done → Rests q q' c d o k) → (v : (want_of (rest q) ≡ want.Done → ⊥) → Happens q q' c d a o k) → Moved a q (event_of q q' c d a o k t v) q'
 moved_step q q' c d a o k w (yes p) r v = (p, (r p).rest, w)
 moved_step q q' c d a o k w (no n) r v = let h = v n in (h.mid, k, h.goes, h.serves, h.comes, w)
+
+pub moved_by_step : (q q' : Queue) (c d : TotalsView) (a : ℕ) (o : Option Op) (k : Option Kept) → wiring_of q' ≡ wiring_of q → (t : Dec (want_of (rest q) ≡ want.Done)) →
+    (want_of (rest q) ≡ want.Done → Rests q q' c d o k) → (v : (want_of (rest q) ≡ want.Done → ⊥) → Happens q q' c d a o k) → MovedBy a q (event_of q q' c d a o k t v) k q'
+moved_by_step q q' c d a o k w (yes p) r v = let h = r p in (p, h.rest, h.state, w, h.kept_none)
+moved_by_step q q' c d a o k w (no n) r v = let h = v n in (h.mid, h.goes, h.serves, h.comes, w)
 
 module _ (wirings : ℕ → Wiring) (start i a : ℕ) (qs : List Queue) (kept kept' : ℕ → List Kept) (past : List (ℕ × Op)) (c d : TotalsView) (es : List Entry) (q q' : Queue) (o : Option Op) (k : Option Kept)
     (l : i < length qs) (at : (x : Queue) → get_or qs i x ≡ q) (h : After wirings start qs kept past c es)

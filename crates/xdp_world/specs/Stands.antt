@@ -10,7 +10,7 @@ use Rattle.xen_back.specs.declared.queue.Queue.{Queue}
 use Rattle.xen_back.specs.declared.wiring.Wiring.{Wiring}
 use Rattle.xdp_world.specs.Core.{HaveEvents, IsUnfinished, Turns, started_at}
 use Rattle.xdp_world.specs.Entries.{AllServe, Entry, events_of, history, steps_of}
-use Rattle.xdp_world.specs.Happens.{Moved}
+use Rattle.xdp_world.specs.Happens.{Moved, MovedBy, kept_list}
 use Rattle.xdp_world.specs.declared.kept.Kept.{Kept}
 use Rattle.xdp_world.specs.declared.world.World.{World}
 
@@ -45,10 +45,13 @@ pub record IsSame (old new : World) : Type 0 where
   pub history : new.history.items ≡ old.history.items
   pub counters : new.counters ≡ old.counters
 
--- The world made one step of a queue, and goes on by its event, where it has one.
+-- The world made one step of a queue, and goes on by its event, where it has one. A turn that is over by it is kept.
 pub record IsStep (old new : World) (queue answer : ℕ) : Type 0 where
   pub event : Option Event
   pub moved : (d : Queue) → Moved answer (slice_index_or old.queues.items queue d) event (slice_index_or new.queues.items queue d)
+  pub kept : Option Kept
+  pub moved_by : (d : Queue) → MovedBy answer (slice_index_or old.queues.items queue d) event kept (slice_index_or new.queues.items queue d)
+  pub turns : kept_in new.turns.items queue ≡ kept_in old.turns.items queue ++ kept_list kept
   pub stands : (wirings : ℕ → Wiring) (start : ℕ) (es : List Entry) → Stands old wirings start es →
       Stands new wirings start (es ++ record { queue = queue; answer = answer; event = event } ∷ [])
 

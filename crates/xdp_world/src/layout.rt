@@ -2,6 +2,7 @@
 ghost use Rattle.std.specs.Prelude.{◌≡◌, ◌≤◌, IfOk, length};
 ghost use Rattle.xdp_world.specs.Frames.{owners_of, table_frames};
 
+use crate::places::{FIRST_GRANTED, REFERENCES};
 use std::alloc::{AllocError, Global};
 use xen_page::{Frames, Owners, Table};
 
@@ -26,7 +27,8 @@ fn domains(alloc: Global, queues: usize) -> Result<Vec<u16>, AllocError>
     requires { queues ≤ 8 }
     ensures { IfOk result (λ d. d.items ≡ owners_of queues) }
 {
-    let mut domains = Vec::from_elem(alloc, FRONT, 17 + 514 * queues)?;
+    let frames = FIRST_GRANTED as usize + REFERENCES as usize * queues;
+    let mut domains = Vec::from_elem(alloc, FRONT, frames)?;
     domains[0] = BACK;
     Ok(domains)
 }

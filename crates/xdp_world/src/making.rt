@@ -16,10 +16,6 @@ use bpf_verify::Verified;
 use bpf_vm::Buffer;
 use std::alloc::{AllocError, Global};
 use xen_back::{Queue, QueueDesc};
-use xen_ring::Port;
-
-/// How many references a queue has.
-const REFERENCES: u32 = 514;
 
 /// A queue before its first turn.
 pub(crate) fn queue<'p, 'b>(
@@ -27,18 +23,15 @@ pub(crate) fn queue<'p, 'b>(
     layout: &'p Layout,
     program: &'p Verified,
     buffer: &'b mut Buffer,
-    number: u32,
+    number: usize,
     ifindex: u32,
     start: u32,
 ) -> Result<Queue<'p, 'b>, AllocError>
     requires { number < layout.now.queues }
     ensures { IfOk result (λ q. IsFresh program.now layout.now.queues ifindex start number q) }
 {
-    let tx = ring(alloc, layout, REFERENCES * number)?;
-    let rx = ring(alloc, layout, REFERENCES * number + 1)?;
-    let Some(port) = Port::of(2 * number + 1) else {
-        unreachable!()
-    };
+    let tx = ring(alloc, layout, Layout::tx_ring(number))?;
+    let rx = ring(alloc, layout, Layout::rx_ring(number))?;
     let desc = QueueDesc {
         tx,
         rx,
@@ -47,8 +40,8 @@ pub(crate) fn queue<'p, 'b>(
         granter: FRONT,
         user: BACK,
         ifindex,
-        queue: number,
-        port,
+        queue: number as u32,
+        port: Layout::back_port(number),
         start,
     };
     Ok(Queue::make(program, desc, buffer))
@@ -89,15 +82,7 @@ impl<'p, 'b> World<'p, 'b> {
         let mut rest = buffers;
         for number in 0..queues {
             let (head, tail) = rest.split_at_mut(1);
-            let made = queue(
-                alloc,
-                layout,
-                program,
-                &mut head[0],
-                number as u32,
-                ifindex,
-                start,
-            )?;
+            let made = queue(alloc, layout, program, &mut head[0], number, ifindex, start)?;
             all.push_reserved(made);
             turns.push_reserved(Vec::new(alloc));
             rest = tail;

@@ -20,7 +20,7 @@ pub(crate) fn ring(alloc: Global, layout: &Layout, gref: u32) -> Result<Mapped, 
     let mut bus = ScriptBus::make(
         alloc,
         layout.owners.count(),
-        &[PERMIT, 17 + gref, PERMIT],
+        &[PERMIT, Layout::frame_of(gref), PERMIT],
         0,
     )?;
     match map(

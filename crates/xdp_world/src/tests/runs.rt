@@ -172,3 +172,28 @@ fn a_world_is_made_and_reported_without_a_step(rt: HostRuntime) -> Result<(), Fa
     assert_eq!(rt; report.totals.at(0, 1, 0), 0);
     Ok(())
 }
+
+/// The number of the interface is what a program answers.
+#[rattlefmt::skip]
+const INTERFACE: &[u64] = &[
+    0x61100c00_00000000, // r0 = ingress_ifindex
+    0x95000000_00000000, // exit
+];
+
+#[test]
+fn programs_see_the_interface_of_the_run(rt: HostRuntime) -> Result<(), Fail> {
+    let program = accepted(rt.alloc(), INTERFACE)?;
+    let mut steps = Vec::new(rt.alloc());
+    add_turn(&mut steps, 0, 1, 4)?;
+    steps.extend_from_slice(&[(0, 1), (0, 0)])?;
+    let report = if steps.iter().all(|step| step.0 < 1) {
+        World::run(rt.alloc(), &program, 1, 7, 0, steps.as_slice())?
+    } else {
+        return Err("a queue that isn't there".into());
+    };
+    match report.turns.first().map(|turns| turns.as_slice()) {
+        Some([Kept::Ran { number, .. }]) => assert_eq!(rt; *number, 7),
+        _ => return Err("no packet".into()),
+    }
+    Ok(())
+}

@@ -7,8 +7,8 @@ use Rattle.xen_steps.specs.Steps.{want_of}
 use Rattle.xen_back.specs.declared.queue.Queue.{Queue}
 use Rattle.xdp_world.specs.declared.kept.Kept.{Kept}
 use Rattle.xdp_world.specs.Stands.{kept_in, kept_of}
-use Rattle.xdp_world.specs.Happens.{Moved, kept_list}
-use Rattle.xdp_world.proofs.Worlds.{After, event_of, get_set, get_set_other, get_some, is_done, moved_step, stands_step}
+use Rattle.xdp_world.specs.Happens.{Moved, MovedBy, kept_list}
+use Rattle.xdp_world.proofs.Worlds.{After, event_of, get_set, get_set_other, get_some, is_done, moved_by_step, moved_step, stands_step}
 use Rattle.xdp_world.proofs.world.World.step.Goals as goal
 
 pub returns-clause-ok : goal.returns-clause-ok
@@ -35,8 +35,15 @@ returns-clause-ok c =
     let t = is_done (want_of (rest q)) in
     let e : Option Event = event_of q q' b.counters s.new.counters a s.result.op s.result.kept t s.ensures.event in
     let moved : Moved a q e q' = moved_step q q' b.counters s.new.counters a s.result.op s.result.kept s.ensures.same t s.ensures.halted s.ensures.event in
+    let moved_by : MovedBy a q e s.result.kept q' = moved_by_step q q' b.counters s.new.counters a s.result.op s.result.kept s.ensures.same t s.ensures.halted s.ensures.event in
     record {
       event = e;
+      kept = s.result.kept;
+      moved_by = λ d.
+          let before : get_or w.queues.items i d ≡ q = ap (λ (x : List Queue). get_or x i d) (sym same.queues) ∙ at d in
+          let after : get_or (set qs i q') i d ≡ q' = get_or-set_same qs i q' d l in
+          subst (λ (x : Queue). MovedBy a x e s.result.kept (get_or (set qs i q') i d)) (sym before) (subst (λ (x : Queue). MovedBy a q e s.result.kept x) (sym after) moved_by);
+      turns = mine ∙ ap (λ (x : List Kept). x ++ kept_list s.result.kept) (same.turns i);
       moved = λ d.
           let before : get_or w.queues.items i d ≡ q = ap (λ (x : List Queue). get_or x i d) (sym same.queues) ∙ at d in
           let after : get_or (set qs i q') i d ≡ q' = get_or-set_same qs i q' d l in

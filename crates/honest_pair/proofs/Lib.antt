@@ -1,0 +1,6 @@
+pub mod WiringLemmas
+pub mod BackLemmas
+pub mod WordLemmas
+pub mod FrontLemmas
+pub mod CopyLemmas
+pub mod RunLemmas

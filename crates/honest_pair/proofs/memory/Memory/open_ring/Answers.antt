@@ -1,0 +1,11 @@
+use Rattle.std.proofs.Common.{◌≡◌, ◌∙◌, ap, ℕ}
+use Rattle.pair_machine.specs.Memory.{Memory, put}
+use Rattle.xen_steps.specs.Places.{add32, page_word}
+use Rattle.honest_pair.proofs.memory.Memory.open_ring.Goals as goal
+
+pub returns : goal.returns
+returns c =
+    let f = c.args.frame in
+    let s = c.args.start in
+    let wrote : ℕ → ℕ → Memory → Memory = λ k v m. record m { word = put m.word (page_word f k) v } in
+    c.write-4.ensures ∙ ap (wrote 3 (add32 s 1)) (c.write-3.ensures ∙ ap (wrote 2 s) (c.write-2.ensures ∙ ap (wrote 1 (add32 s 1)) c.write.ensures))

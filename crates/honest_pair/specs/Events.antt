@@ -1,0 +1,16 @@
+-- The events of a pair, as calls have them.
+use Rattle.std.specs.Prelude.{ℕ, List, [], ◌∷◌}
+use Rattle.pair_machine.specs.Pair.{PairEvent, Send, Post, Poll, FrontStep, BackStep}
+use Rattle.honest_pair.specs.declared.event.PairEvent.{PairEvent as Called}
+use Rattle.honest_pair.specs.declared.event.PairEvent.TheVariants as called
+
+abbrev pub event_in : Called → PairEvent
+event_in (called.Send packet) = Send packet.items
+event_in called.Post = Post
+event_in called.Poll = Poll
+event_in called.FrontStep = FrontStep
+event_in called.BackStep = BackStep
+
+abbrev pub events_in : List Called → List PairEvent
+events_in [] = []
+events_in (e ∷ es) = event_in e ∷ events_in es

@@ -1,0 +1,14 @@
+//! One front and one back queue over one memory, event by event.
+#![tactic(auto)]
+
+mod buffers;
+mod event;
+mod making;
+mod memory;
+mod pair;
+mod running;
+mod stepping;
+
+pub use event::PairEvent;
+pub use pair::Pair;
+pub use running::PairRun;

@@ -1,0 +1,6 @@
+mod growth;
+mod looks;
+mod programs;
+mod random;
+mod rows;
+mod wrapped;

@@ -1,0 +1,133 @@
+//! What a run copied, sent back and received, beside what was sent.
+
+use honest_pair::{PairEvent, PairRun};
+use std::process::Abort;
+use std::test::Fail;
+use xdp_world::Kept;
+
+/// What was seen of a run.
+#[derive(Clone, Copy, Debug)]
+pub(crate) struct Seen {
+    /// Turns that weren't idle.
+    pub(crate) turns: usize,
+    pub(crate) refused: usize,
+    /// Packets that were sent back.
+    pub(crate) sent_back: usize,
+    pub(crate) received: usize,
+}
+
+pub(crate) const NOTHING: Seen = Seen {
+    turns: 0,
+    refused: 0,
+    sent_back: 0,
+    received: 0,
+};
+
+impl Seen {
+    /// What was seen of both.
+    pub(crate) fn and(self, other: Seen) -> Seen {
+        Seen {
+            turns: self.turns.saturating_add(other.turns),
+            refused: self.refused.saturating_add(other.refused),
+            sent_back: self.sent_back.saturating_add(other.sent_back),
+            received: self.received.saturating_add(other.received),
+        }
+    }
+}
+
+/// The turns of the one queue.
+pub(crate) fn turns(run: &PairRun) -> &[Kept] {
+    match run.report.turns.first() {
+        Some(turns) => turns.as_slice(),
+        None => &[],
+    }
+}
+
+/// The packet of the first send at or after a place, and the place after it.
+fn next_send(events: &[PairEvent], from: usize) -> Option<(usize, &[u8])> {
+    for i in from..events.len() {
+        if let PairEvent::Send { packet } = &events[i] {
+            return Some((i + 1, packet.as_slice()));
+        }
+    }
+    None
+}
+
+/// The place after the first send of this packet at or after a place. Where each send was taken, that has to be the next one.
+fn place_of(events: &[PairEvent], from: usize, packet: &[u8], each: bool) -> Option<usize> {
+    let mut at = from;
+    for _send in from..events.len() {
+        let (after, sent) = next_send(events, at)?;
+        if sent == packet {
+            return Some(after);
+        }
+        if each {
+            return None;
+        }
+        at = after;
+    }
+    None
+}
+
+/// The copies are packets that were sent, in order and once each, and none was refused but for want of rx slots.
+fn copies(rt: &impl Abort, events: &[PairEvent], turns: &[Kept], each: bool) -> Result<Seen, Fail> {
+    let mut at = 0;
+    let mut seen = NOTHING;
+    for turn in turns {
+        match turn {
+            Kept::Idle => continue,
+            Kept::Ran { number, packet, .. } => {
+                at = place_of(events, at, packet.as_slice(), each).ok_or("another packet")?;
+                if *number == 3 {
+                    seen.sent_back = seen.sent_back.saturating_add(1);
+                }
+            }
+            Kept::Refused { cause, .. } => {
+                assert_eq!(rt; cause.number(), 6);
+                at = next_send(events, at).ok_or("a refusal of nothing")?.0;
+                seen.refused = seen.refused.saturating_add(1);
+            }
+            Kept::Halted { cause: _ } => return Err("a halted back".into()),
+        }
+        seen.turns = seen.turns.saturating_add(1);
+    }
+    Ok(seen)
+}
+
+/// The place after the first turn at or after a place that sent a packet back, and the packet.
+fn next_back(turns: &[Kept], from: usize) -> Option<(usize, &[u8])> {
+    for i in from..turns.len() {
+        if let Kept::Ran {
+            number: 3,
+            packet,
+            ..
+        } = &turns[i]
+        {
+            return Some((i + 1, packet.as_slice()));
+        }
+    }
+    None
+}
+
+/// What was received is a beginning of what was sent back, after which no turn is unfinished.
+fn receptions(rt: &impl Abort, run: &PairRun) -> Result<usize, Fail> {
+    let mut at = 0;
+    for packet in &run.received {
+        let (after, back) = next_back(turns(run), at).ok_or("a packet that wasn't sent back")?;
+        assert!(rt; packet.as_slice() == back, "received another packet");
+        at = after;
+    }
+    Ok(run.received.len())
+}
+
+/// Looks at a run whose back sleeps in the end. With `each` all sends were taken.
+pub(crate) fn look(
+    rt: &impl Abort,
+    events: &[PairEvent],
+    run: &PairRun,
+    each: bool,
+) -> Result<Seen, Fail> {
+    let mut seen = copies(rt, events, turns(run), each)?;
+    seen.received = receptions(rt, run)?;
+    Ok(seen)
+}

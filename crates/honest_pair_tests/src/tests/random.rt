@@ -1,0 +1,223 @@
+//! Random runs: what each copied, sent back and received.
+//!
+//! At the end of each run the front gets as many steps as its activity may need, and then the back as many as all its turns may: so a
+//! notice that was lost on the way would leave a packet uncopied.
+
+use crate::plan::Plan;
+use crate::tests::looks::{NOTHING, Seen, look};
+use crate::tests::programs::{DROP, FIRST_BYTE, PASS, SEND, accepted};
+use honest_pair::{Pair, PairEvent};
+use std::alloc::{AllocError, Global};
+use std::process::Abort;
+use std::test::Fail;
+
+/// Numbers by xorshift.
+#[derive(Drop)]
+struct Random {
+    state: u32,
+}
+
+impl Random {
+    fn next(&mut self) -> u32 {
+        let mut x = self.state;
+        x ^= x << 13;
+        x ^= x >> 17;
+        x ^= x << 5;
+        self.state = x;
+        x
+    }
+
+    /// A number below a limit; 0 where that is 0.
+    fn below(&mut self, limit: usize) -> usize {
+        if limit == 0 {
+            0
+        } else {
+            self.next() as usize % limit
+        }
+    }
+
+    /// The size of a packet: most are short, and some have many pieces.
+    fn size(&mut self) -> usize {
+        let more = match self.below(20) {
+            0 => 65_522,
+            1 | 2 => 12_000,
+            3..=5 => 4_200,
+            _ => 60,
+        };
+        self.below(more).saturating_add(14)
+    }
+
+    /// How many steps come in a row.
+    fn burst(&mut self) -> usize {
+        match self.below(12) {
+            0 => 3_000,
+            1 | 2 => 300,
+            3..=5 => 20,
+            _ => 1,
+        }
+    }
+}
+
+/// The most events of a send of so many bytes: five words a piece, the page words, and the push.
+fn most_of_send(size: usize) -> usize {
+    size / 4 + 6 * (size / 4_096) + 10
+}
+
+/// The most events of a post, and of a poll.
+const MOST_OF_POST: usize = 7;
+
+const MOST_OF_POLL: usize = 16_951;
+
+/// A run that is made up. In a patient one each activity of the front gets all the steps that it may need before the next begins, so all
+/// sends are taken.
+#[derive(Drop)]
+struct Chooser {
+    random: Random,
+    plan: Plan,
+    patient: bool,
+    sends: usize,
+    /// The words and slots of all sends, which the back may read.
+    words: usize,
+}
+
+impl Chooser {
+    /// Steps of the front, with steps of the back between them.
+    fn mixed(&mut self, front: usize) -> Result<(), AllocError> {
+        let mut left = front;
+        for _burst in 0..front {
+            let burst = self.random.burst().min(left);
+            self.plan.front_steps(burst)?;
+            let back = self.random.burst();
+            self.plan.back_steps(back)?;
+            left = left.saturating_sub(burst);
+            if left == 0 {
+                break;
+            }
+        }
+        Ok(())
+    }
+
+    /// The steps after a call whose activity may need so many.
+    fn follow(&mut self, most: usize) -> Result<(), AllocError> {
+        let count = if self.patient {
+            most
+        } else {
+            self.random.below(most.min(2_000).saturating_mul(2))
+        };
+        self.mixed(count)
+    }
+
+    fn send(&mut self) -> Result<(), AllocError> {
+        let size = self.random.size();
+        let first = (self.random.next() & 3) as u8;
+        let seed = self.random.next();
+        self.plan.send(size, first, seed)?;
+        self.sends = self.sends.saturating_add(1);
+        self.words = self.words.saturating_add(most_of_send(size));
+        self.follow(most_of_send(size))
+    }
+
+    /// One call of the front and its steps.
+    fn call(&mut self) -> Result<(), AllocError> {
+        match self.random.below(5) {
+            0 | 1 => self.send(),
+            2 | 3 => {
+                self.plan.add(PairEvent::Post)?;
+                self.follow(MOST_OF_POST)
+            }
+            _ => {
+                self.plan.add(PairEvent::Poll)?;
+                self.follow(MOST_OF_POLL)
+            }
+        }
+    }
+
+    /// The steps that let both ends finish.
+    fn finish(&mut self) -> Result<(), AllocError> {
+        self.plan.front_steps(MOST_OF_POLL)?;
+        // Each word may be read and written again, and each packet has a program and responses.
+        let words = self.words.saturating_mul(2);
+        let others = self.sends.saturating_mul(100);
+        self.plan
+            .back_steps(words.saturating_add(others).saturating_add(100))
+    }
+}
+
+/// So many calls at random.
+fn chosen(alloc: Global, seed: u32, calls: usize, patient: bool) -> Result<Chooser, AllocError> {
+    let mut chooser = Chooser {
+        random: Random { state: seed },
+        plan: Plan::new(alloc),
+        patient,
+        sends: 0,
+        words: 0,
+    };
+    for _call in 0..calls {
+        chooser.call()?;
+    }
+    chooser.finish()?;
+    Ok(chooser)
+}
+
+/// A run of random calls, and what was seen of it. A patient run has copied all that was sent.
+fn random_run(
+    rt: &impl Abort,
+    alloc: Global,
+    slots: &[u64],
+    start: u32,
+    chooser: &Chooser,
+) -> Result<Seen, Fail> {
+    let program = accepted(alloc, slots)?;
+    let events = chooser.plan.events();
+    let run = Pair::run(alloc, &program, start, events)?;
+    let seen = look(rt, events, &run, chooser.patient)?;
+    if chooser.patient {
+        assert_eq!(rt; seen.turns, chooser.sends);
+    }
+    Ok(seen)
+}
+
+/// Runs over all programs and several starts.
+fn random_runs(
+    rt: &impl Abort,
+    alloc: Global,
+    seeds: [u32; 3],
+    calls: usize,
+    patient: bool,
+) -> Result<Seen, Fail> {
+    let mut all = NOTHING;
+    for seed in seeds {
+        for (slots, start) in [
+            (PASS, 0),
+            (DROP, 0xFFFF_FFFF),
+            (SEND, 0xFFFF_FFF0),
+            (FIRST_BYTE, 0x7FFF_FFFF),
+        ] {
+            let chooser = chosen(alloc, seed, calls, patient)?;
+            all = all.and(random_run(rt, alloc, slots, start, &chooser)?);
+        }
+    }
+    Ok(all)
+}
+
+#[test]
+fn patient_runs_copy_all_that_was_sent(rt: HostRuntime) -> Result<(), Fail> {
+    let seeds = [0x1234_5678, 0x9ABC_DEF1, 0x0F1E_2D3C];
+    let seen = random_runs(&rt, rt.alloc(), seeds, 40, true)?;
+    assert!(rt;
+        seen.turns > 100 && seen.refused > 0 && seen.received > 10,
+        "{seen:?}"
+    );
+    Ok(())
+}
+
+#[test]
+fn hasty_runs_copy_in_order(rt: HostRuntime) -> Result<(), Fail> {
+    let seeds = [0x5555_1111, 0x2468_ACE1, 0x1357_9BDF];
+    let seen = random_runs(&rt, rt.alloc(), seeds, 60, false)?;
+    assert!(rt;
+        seen.turns > 100 && seen.refused > 0 && seen.received > 0,
+        "{seen:?}"
+    );
+    Ok(())
+}

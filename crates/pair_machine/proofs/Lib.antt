@@ -1,0 +1,6 @@
+pub mod SafeLemmas
+pub mod HalfLemmas
+pub mod LogLemmas
+pub mod Pairs
+pub mod CopyLemmas
+pub mod TraceLemmas

@@ -1,0 +1,379 @@
+-- The pair's events keep what stands, by the laws of its two ends.
+use Rattle.std.proofs.Common.{◌≡◌, ℕ, zero, suc, ◌+◌, ◌<◌, ◌^◌, ◌⊎◌, inl, inr, refl, sym, ◌∙◌, ap, subst, arith, Bool, true, false, List, [], ◌∷◌, ◌++◌, All, Option, Some, None, Result, Ok, Err}
+use Rattle.std.specs.Prelude.{◌==◌, if◌then◌else◌, flat_map}
+use Rattle.std.proofs.lemmas.List.{append-nil, append_assoc}
+use Rattle.std.proofs.lemmas.Bool.Decides.{nat_tests}
+use Rattle.xen_steps.specs.Places.{page_word}
+use Rattle.xen_steps.specs.Steps.{Steps, done, ask, never}
+use Rattle.xen_back.specs.Tree.{Left, after_run}
+use Rattle.xen_back.specs.Turned.{Turned, Idle, Ran, Refused, Halted, Ending}
+use Rattle.xen_back.specs.declared.state.State.{State as BackState}
+use Rattle.xen_back.specs.declared.turn.Refusal.{Refusal}
+use Rattle.xen_back.specs.declared.turn.Refusal.TheVariants as refusal
+use Rattle.xen_back.specs.declared.wiring.Wiring.{Wiring as BackWiring}
+use Rattle.xen_buffers.specs.declared.wiring.Wiring.{Wiring as FrontWiring}
+use Rattle.xen_front.specs.Given.{Ending as FrontEnding}
+use Rattle.xen_front.specs.Tree.{poll}
+use Rattle.xen_front.specs.declared.state.State.{State as FrontState}
+use Rattle.xen_front.specs.declared.turn.PollRefusal.{PollRefusal}
+use Rattle.xen_front.specs.declared.turn.PostRefusal.{PostRefusal}
+use Rattle.xen_front.specs.declared.turn.SendRefusal.{SendRefusal}
+use Rattle.pair_machine.specs.Halves.{Half, Over, HasRun, half_turn}
+use Rattle.pair_machine.specs.Law.{AreFit, HaveCopies, none, idle, ran, few, Honest, IsByte, IsBytes, IsSending, all_given, given_by, given_now, left_by, sent_back}
+use Rattle.pair_machine.specs.Memory.{Memory, after, answer, opening_memory}
+use Rattle.pair_machine.specs.Pair.{Activity, Free, Sending, Posting, Polling, BackAt, Asleep, First, Second, Pair, PairEvent, Send, Post, Poll, FrontStep, BackStep, Past, packets_of, ended, sending, posting, polling, send_result, post_result, poll_result, send_tree, post_tree, begin_send, begin_post, begin_poll, on_send, on_post, on_poll, on_front, next_at, turned, second, halved, first, wake, on_back, step, run, opening}
+use Rattle.pair_machine.specs.Safe.{Safe}
+
+abbrev Packets : Type 0
+Packets = List (List ℕ)
+
+-- Rest: the front between activities, of which these packets were sent and received. Sendings, Quiet: inside a send, or inside a post or a
+-- poll. Says: what is known of it at any time; Windowless: it has no push whose notice is undecided. Ready, Slept: the back between turns,
+-- that has made these copies and given these packets.
+module _ (bw : BackWiring) (fw : FrontWiring) {Front Back : Type 0} (Inv : Memory → Front → Back → Type 0)
+    (Rest : FrontState → Packets → Packets → Front → Type 0) (Sendings Quiet Says : Packets → Packets → Front → Type 0) (Windowless : Front → Type 0)
+    (Ready Slept : BackState → Packets → Packets → Back → Type 0) (givens : Back → Packets) where
+  abbrev pub BackInv : Memory → Back → Front → Type 0
+  BackInv m b f = Inv m f b
+
+  abbrev pub FrontEnd : Packets → Packets → Front → FrontEnding → Type 0
+  FrontEnd w r f e = Rest e.0 w (r ++ packets_of e.1) f
+
+  abbrev pub TurnEnd : Packets → Packets → Back → BackState → Turned → Type 0
+  TurnEnd c g b s Idle = ⊥
+  TurnEnd c g b s (Ran number packet ops k) = Ready s c (if number == 3 then g ++ packet ∷ [] else g) b
+  TurnEnd c g b s (Refused (refusal.Size fault) ops k) = ⊥
+  TurnEnd c g b s (Refused refusal.Grant ops k) = ⊥
+  TurnEnd c g b s (Refused refusal.FewSlots ops k) = Ready s c g b
+  TurnEnd c g b s (Refused refusal.RxGrant ops k) = ⊥
+  TurnEnd c g b s (Halted cause) = ⊥
+
+  abbrev pub EndedTurn : Packets → Packets → Back → Ending → Type 0
+  EndedTurn c g b e = TurnEnd c g b e.0 e.1
+
+  abbrev pub GivenAll : Packets → Back → Type 0
+  GivenAll g b = givens b ≡ g
+
+  abbrev pub GivesLeft : Packets → Left → Back → Type 0
+  GivesLeft g l b = (givens b ≡ g) ⊎ ((l.number ≡ 3) × (givens b ≡ g ++ l.packet ∷ []))
+
+  abbrev pub OverAs : BackState → Packets → Packets → Back → BackState → Turned → Type 0
+  OverAs s c g b t Idle = (t ≡ s) × Slept s c g b
+  OverAs s c g b t (Ran number packet ops k) = ⊥
+  OverAs s c g b t (Refused cause ops k) = ⊥
+  OverAs s c g b t (Halted cause) = ⊥
+
+  abbrev pub HalfEnd : BackState → Packets → Packets → Back → Half → Type 0
+  HalfEnd s c g b (Over e) = OverAs s c g b e.0 e.1
+  HalfEnd s c g b (HasRun slots packet l) = Safe BackInv (GivesLeft g l) (EndedTurn (c ++ packet ∷ []) g) b (after_run bw s slots l)
+
+  -- what the two ends keep to
+  pub record EndLaws : Type 0 where
+    pub begin_send : (s : FrontState) (w r : Packets) (p : List ℕ) (f : Front) → Rest s w r f → send_result s p ≡ Ok tt → All IsByte p → (m : Memory) (b : Back) → Inv m f b →
+        (f' : Front) × Inv m f' b × Sendings (w ++ p ∷ []) r f' × Safe Inv (Sendings (w ++ p ∷ []) r) (FrontEnd (w ++ p ∷ []) r) f' (send_tree fw s p)
+    pub begin_post : (s : FrontState) (w r : Packets) (f : Front) → Rest s w r f → post_result s ≡ Ok tt → Quiet w r f × Safe Inv (Quiet w r) (FrontEnd w r) f (post_tree fw s)
+    pub begin_poll : (s : FrontState) (w r : Packets) (f : Front) → Rest s w r f → poll_result s ≡ Ok tt → Quiet w r f × Safe Inv (Quiet w r) (FrontEnd w r) f (poll fw s)
+    pub running : (s : FrontState) (w r : Packets) (f : Front) → Rest s w r f → s.halt ≡ None
+    pub rest_says : (s : FrontState) (w r : Packets) (f : Front) → Rest s w r f → Says w r f × Windowless f
+    pub sending_says : (w r : Packets) (f : Front) → Sendings w r f → Says w r f
+    pub quiet_says : (w r : Packets) (f : Front) → Quiet w r f → Says w r f × Windowless f
+    pub wakes : (s : BackState) (c g : Packets) (b : Back) (m : Memory) (f : Front) → Slept s c g b → Inv m f b → (b' : Back) × Inv (record m { pending = false }) f b' × Ready s c g b'
+    pub half_safe : (s : BackState) (c g : Packets) (b : Back) → Ready s c g b → Safe BackInv (GivenAll g) (HalfEnd s c g) b (half_turn bw s)
+    pub ready_runs : (s : BackState) (c g : Packets) (b : Back) → Ready s c g b → (givens b ≡ g) × (s.halt ≡ None)
+    pub slept_runs : (s : BackState) (c g : Packets) (b : Back) → Slept s c g b → (givens b ≡ g) × (s.halt ≡ None)
+    pub copied : (s : BackState) (w r c g : Packets) (m : Memory) (f : Front) (b : Back) → Says w r f → Inv m f b → Ready s c g b → (more : Packets) × (w ≡ c ++ more)
+    pub got : (w r : Packets) (m : Memory) (f : Front) (b : Back) → Says w r f → Inv m f b → (more : Packets) × (givens b ≡ r ++ more)
+    pub hears : (s : BackState) (c g : Packets) (m : Memory) (f : Front) (b : Back) → Inv m f b → Slept s c g b → Windowless f → m.pending ≡ false → m.word (page_word 17 0) ≡ s.tx_index
+
+  abbrev FrontStands : Activity → FrontState → Packets → Packets → Front → Type 0
+  FrontStands Free s w r f = Rest s w r f
+  FrontStands (Sending t) s w r f = Sendings w r f × Safe Inv (Sendings w r) (FrontEnd w r) f t × (s.halt ≡ None)
+  FrontStands (Posting t) s w r f = Quiet w r f × Safe Inv (Quiet w r) (FrontEnd w r) f t × (s.halt ≡ None)
+  FrontStands (Polling t) s w r f = Quiet w r f × Safe Inv (Quiet w r) (FrontEnd w r) f t × (s.halt ≡ None)
+
+  abbrev BackStands : BackAt → BackState → Packets → Packets → Back → Type 0
+  BackStands Asleep s c g b = Slept s c g b
+  BackStands (First t) s c g b = GivenAll g b × Safe BackInv (GivenAll g) (HalfEnd s c g) b t
+  BackStands (Second packet l t) s c g b = GivesLeft g l b × Safe BackInv (GivesLeft g l) (EndedTurn (c ++ packet ∷ []) g) b t
+
+  -- c are the copies of the turns that are over
+  pub record Stands (p : Pair) (c : Packets) (f : Front) (b : Back) : Type 0 where
+    pub inv : Inv p.memory f b
+    pub front : FrontStands p.activity p.front p.sent p.received f
+    pub back : BackStands p.at p.back c (flat_map given_by p.turns) b
+    pub running : p.back.halt ≡ None
+    pub copies : HaveCopies p.turns c
+    pub sent : (more : Packets) × (p.sent ≡ c ++ more)
+
+  abbrev pub Fit : List (PairEvent × ℕ) → Type 0
+  Fit [] = Unit {0}
+  Fit (e ∷ es) = (IsBytes e.0 × (e.1 < 2 ^ 64)) × Fit es
+
+  abbrev pub Good : Pair → Type 0
+  Good p = (c : Packets) × (f : Front) × (b : Back) × Stands p c f b
+
+  module _ (l : EndLaws) where
+    says : (a : Activity) (s : FrontState) (w r : Packets) (f : Front) → FrontStands a s w r f → Says w r f
+    says Free s w r f h = (l.rest_says s w r f h).0
+    says (Sending t) s w r f h = l.sending_says w r f h.0
+    says (Posting t) s w r f h = (l.quiet_says w r f h.0).0
+    says (Polling t) s w r f h = (l.quiet_says w r f h.0).0
+
+    no_window : (a : Activity) (s : FrontState) (w r : Packets) (f : Front) → (IsSending a → ⊥) → FrontStands a s w r f → Windowless f
+    no_window Free s w r f n h = (l.rest_says s w r f h).1
+    no_window (Sending t) s w r f n h = absurd (n (t, refl))
+    no_window (Posting t) s w r f n h = (l.quiet_says w r f h.0).1
+    no_window (Polling t) s w r f n h = (l.quiet_says w r f h.0).1
+
+    no_halt : (a : Activity) (s : FrontState) (w r : Packets) (f : Front) → FrontStands a s w r f → s.halt ≡ None
+    no_halt Free s w r f h = l.running s w r f h
+    no_halt (Sending t) s w r f h = h.2
+    no_halt (Posting t) s w r f h = h.2
+    no_halt (Polling t) s w r f h = h.2
+
+    -- the front's activities
+    sent_stands : (p : Pair) (c : Packets) (f : Front) (b : Back) (t : Steps FrontEnding) → Inv p.memory f b → Sendings p.sent p.received f →
+        Safe Inv (Sendings p.sent p.received) (FrontEnd p.sent p.received) f t → p.front.halt ≡ None → BackStands p.at p.back c (flat_map given_by p.turns) b → p.back.halt ≡ None →
+        HaveCopies p.turns c → ((more : Packets) × (p.sent ≡ c ++ more)) → Good (sending p t)
+    sent_stands p c f b (done e) i k h n r q v u = (c, f, b, record { inv = i; front = h; back = r; running = q; copies = v; sent = u })
+    sent_stands p c f b (ask w g) i k h n r q v u = (c, f, b, record { inv = i; front = (k, h, n); back = r; running = q; copies = v; sent = u })
+    sent_stands p c f b never i k h n r q v u = absurd h
+
+    posted_stands : (p : Pair) (c : Packets) (f : Front) (b : Back) (t : Steps FrontEnding) → Inv p.memory f b → Quiet p.sent p.received f →
+        Safe Inv (Quiet p.sent p.received) (FrontEnd p.sent p.received) f t → p.front.halt ≡ None → BackStands p.at p.back c (flat_map given_by p.turns) b → p.back.halt ≡ None →
+        HaveCopies p.turns c → ((more : Packets) × (p.sent ≡ c ++ more)) → Good (posting p t)
+    posted_stands p c f b (done e) i k h n r q v u = (c, f, b, record { inv = i; front = h; back = r; running = q; copies = v; sent = u })
+    posted_stands p c f b (ask w g) i k h n r q v u = (c, f, b, record { inv = i; front = (k, h, n); back = r; running = q; copies = v; sent = u })
+    posted_stands p c f b never i k h n r q v u = absurd h
+
+    polled_stands : (p : Pair) (c : Packets) (f : Front) (b : Back) (t : Steps FrontEnding) → Inv p.memory f b → Quiet p.sent p.received f →
+        Safe Inv (Quiet p.sent p.received) (FrontEnd p.sent p.received) f t → p.front.halt ≡ None → BackStands p.at p.back c (flat_map given_by p.turns) b → p.back.halt ≡ None →
+        HaveCopies p.turns c → ((more : Packets) × (p.sent ≡ c ++ more)) → Good (polling p t)
+    polled_stands p c f b (done e) i k h n r q v u = (c, f, b, record { inv = i; front = h; back = r; running = q; copies = v; sent = u })
+    polled_stands p c f b (ask w g) i k h n r q v u = (c, f, b, record { inv = i; front = (k, h, n); back = r; running = q; copies = v; sent = u })
+    polled_stands p c f b never i k h n r q v u = absurd h
+
+    free : (p : Pair) (f : Front) → p.activity ≡ Free → FrontStands p.activity p.front p.sent p.received f → Rest p.front p.sent p.received f
+    free p f a h = subst (λ x. FrontStands x p.front p.sent p.received f) a h
+
+    begun_send : (p : Pair) (bytes : List ℕ) (c : Packets) (f : Front) (b : Back) (r : Result (Unit {0}) SendRefusal) → send_result p.front bytes ≡ r → All IsByte bytes → p.activity ≡ Free →
+        Stands p c f b → Good (begin_send fw r p bytes)
+    begun_send p bytes c f b (Ok u) e q a g =
+        let rest = free p f a g.front in
+        let z = l.begin_send p.front p.sent p.received bytes f rest e q p.memory b g.inv in
+        sent_stands (record p { sent = p.sent ++ bytes ∷ [] }) c z.0 b (send_tree fw p.front bytes) z.1 z.2 z.3 (l.running p.front p.sent p.received f rest) g.back g.running g.copies
+        (g.sent.0 ++ bytes ∷ [], ap (λ x. x ++ bytes ∷ []) g.sent.1 ∙ append_assoc c g.sent.0 (bytes ∷ []))
+    begun_send p bytes c f b (Err x) e q a g = (c, f, b, g)
+
+    begun_post : (p : Pair) (c : Packets) (f : Front) (b : Back) (r : Result (Unit {0}) PostRefusal) → post_result p.front ≡ r → p.activity ≡ Free → Stands p c f b → Good (begin_post fw r p)
+    begun_post p c f b (Ok u) e a g =
+        let rest = free p f a g.front in
+        let z = l.begin_post p.front p.sent p.received f rest e in
+        posted_stands p c f b (post_tree fw p.front) g.inv z.0 z.1 (l.running p.front p.sent p.received f rest) g.back g.running g.copies g.sent
+    begun_post p c f b (Err x) e a g = (c, f, b, g)
+
+    begun_poll : (p : Pair) (c : Packets) (f : Front) (b : Back) (r : Result (Unit {0}) PollRefusal) → poll_result p.front ≡ r → p.activity ≡ Free → Stands p c f b → Good (begin_poll fw r p)
+    begun_poll p c f b (Ok u) e a g =
+        let rest = free p f a g.front in
+        let z = l.begin_poll p.front p.sent p.received f rest e in
+        polled_stands p c f b (poll fw p.front) g.inv z.0 z.1 (l.running p.front p.sent p.received f rest) g.back g.running g.copies g.sent
+    begun_poll p c f b (Err x) e a g = (c, f, b, g)
+
+    send_stands : (p : Pair) (bytes : List ℕ) (c : Packets) (f : Front) (b : Back) (a : Activity) → p.activity ≡ a → All IsByte bytes → Stands p c f b → Good (on_send fw a p bytes)
+    send_stands p bytes c f b Free a q g = begun_send p bytes c f b (send_result p.front bytes) refl q a g
+    send_stands p bytes c f b (Sending t) a q g = (c, f, b, g)
+    send_stands p bytes c f b (Posting t) a q g = (c, f, b, g)
+    send_stands p bytes c f b (Polling t) a q g = (c, f, b, g)
+
+    post_stands : (p : Pair) (c : Packets) (f : Front) (b : Back) (a : Activity) → p.activity ≡ a → Stands p c f b → Good (on_post fw a p)
+    post_stands p c f b Free a g = begun_post p c f b (post_result p.front) refl a g
+    post_stands p c f b (Sending t) a g = (c, f, b, g)
+    post_stands p c f b (Posting t) a g = (c, f, b, g)
+    post_stands p c f b (Polling t) a g = (c, f, b, g)
+
+    poll_stands : (p : Pair) (c : Packets) (f : Front) (b : Back) (a : Activity) → p.activity ≡ a → Stands p c f b → Good (on_poll fw a p)
+    poll_stands p c f b Free a g = begun_poll p c f b (poll_result p.front) refl a g
+    poll_stands p c f b (Sending t) a g = (c, f, b, g)
+    poll_stands p c f b (Posting t) a g = (c, f, b, g)
+    poll_stands p c f b (Polling t) a g = (c, f, b, g)
+
+    front_stands : (p : Pair) (n : ℕ) (c : Packets) (f : Front) (b : Back) (a : Activity) → p.activity ≡ a → n < 2 ^ 64 → Stands p c f b → Good (on_front a p n)
+    front_stands p n c f b Free a s g = (c, f, b, g)
+    front_stands p n c f b (Sending (done e)) a s g = (c, f, b, g)
+    front_stands p n c f b (Sending never) a s g = (c, f, b, g)
+    front_stands p n c f b (Sending (ask w k)) a s g =
+        let h : FrontStands (Sending (ask w k)) p.front p.sent p.received f = subst (λ x. FrontStands x p.front p.sent p.received f) a g.front in
+        let r = h.1 p.memory b g.inv in
+        sent_stands (record p { memory = after w p.memory }) c r.0 b (k (answer w p.memory n)) r.1 r.2 (r.3 n s) h.2 g.back g.running g.copies g.sent
+    front_stands p n c f b (Posting (done e)) a s g = (c, f, b, g)
+    front_stands p n c f b (Posting never) a s g = (c, f, b, g)
+    front_stands p n c f b (Posting (ask w k)) a s g =
+        let h : FrontStands (Posting (ask w k)) p.front p.sent p.received f = subst (λ x. FrontStands x p.front p.sent p.received f) a g.front in
+        let r = h.1 p.memory b g.inv in
+        posted_stands (record p { memory = after w p.memory }) c r.0 b (k (answer w p.memory n)) r.1 r.2 (r.3 n s) h.2 g.back g.running g.copies g.sent
+    front_stands p n c f b (Polling (done e)) a s g = (c, f, b, g)
+    front_stands p n c f b (Polling never) a s g = (c, f, b, g)
+    front_stands p n c f b (Polling (ask w k)) a s g =
+        let h : FrontStands (Polling (ask w k)) p.front p.sent p.received f = subst (λ x. FrontStands x p.front p.sent p.received f) a g.front in
+        let r = h.1 p.memory b g.inv in
+        polled_stands (record p { memory = after w p.memory }) c r.0 b (k (answer w p.memory n)) r.1 r.2 (r.3 n s) h.2 g.back g.running g.copies g.sent
+
+    -- the back's turns
+    given_more : (ps : List Past) (p : Past) → flat_map given_by (ps ++ p ∷ []) ≡ flat_map given_by ps ++ sent_back p.turn
+    given_more [] p = append-nil (sent_back p.turn)
+    given_more (x ∷ ps) p = ap (λ y. given_by x ++ y) (given_more ps p) ∙ sym (append_assoc (given_by x) (flat_map given_by ps) (sent_back p.turn))
+
+    ran_given : (b : Bool) (g : Packets) (packet : List ℕ) → (if b then g ++ packet ∷ [] else g) ≡ g ++ (if b then packet ∷ [] else [])
+    ran_given true g packet = refl
+    ran_given false g packet = sym (append-nil g)
+
+    copies_idle : (ps : List Past) (c : Packets) (o : Option (List ℕ)) → HaveCopies ps c → HaveCopies (ps ++ record { turn = Idle; copy = o } ∷ []) c
+    copies_idle _ _ o none = idle o [] [] none
+    copies_idle _ _ o (idle x ps c h) = idle x (ps ++ record { turn = Idle; copy = o } ∷ []) c (copies_idle ps c o h)
+    copies_idle _ _ o (ran n packet copy ops k ps c h) = ran n packet copy ops k (ps ++ record { turn = Idle; copy = o } ∷ []) c (copies_idle ps c o h)
+    copies_idle _ _ o (few copy ops k ps c h) = few copy ops k (ps ++ record { turn = Idle; copy = o } ∷ []) c (copies_idle ps c o h)
+
+    copies_ran : (ps : List Past) (c : Packets) (n : ℕ) (packet copy : List ℕ) (ops k : ℕ) → HaveCopies ps c →
+        HaveCopies (ps ++ record { turn = Ran n packet ops k; copy = Some copy } ∷ []) (c ++ copy ∷ [])
+    copies_ran _ _ n packet copy ops k none = ran n packet copy ops k [] [] none
+    copies_ran _ _ n packet copy ops k (idle x ps c h) = idle x (ps ++ record { turn = Ran n packet ops k; copy = Some copy } ∷ []) (c ++ copy ∷ []) (copies_ran ps c n packet copy ops k h)
+    copies_ran _ _ n packet copy ops k (ran n' packet' copy' ops' k' ps c h) =
+        ran n' packet' copy' ops' k' (ps ++ record { turn = Ran n packet ops k; copy = Some copy } ∷ []) (c ++ copy ∷ []) (copies_ran ps c n packet copy ops k h)
+    copies_ran _ _ n packet copy ops k (few copy' ops' k' ps c h) =
+        few copy' ops' k' (ps ++ record { turn = Ran n packet ops k; copy = Some copy } ∷ []) (c ++ copy ∷ []) (copies_ran ps c n packet copy ops k h)
+
+    copies_few : (ps : List Past) (c : Packets) (copy : List ℕ) (ops k : ℕ) → HaveCopies ps c →
+        HaveCopies (ps ++ record { turn = Refused refusal.FewSlots ops k; copy = Some copy } ∷ []) (c ++ copy ∷ [])
+    copies_few _ _ copy ops k none = few copy ops k [] [] none
+    copies_few _ _ copy ops k (idle x ps c h) = idle x (ps ++ record { turn = Refused refusal.FewSlots ops k; copy = Some copy } ∷ []) (c ++ copy ∷ []) (copies_few ps c copy ops k h)
+    copies_few _ _ copy ops k (ran n' packet' copy' ops' k' ps c h) =
+        ran n' packet' copy' ops' k' (ps ++ record { turn = Refused refusal.FewSlots ops k; copy = Some copy } ∷ []) (c ++ copy ∷ []) (copies_few ps c copy ops k h)
+    copies_few _ _ copy ops k (few copy' ops' k' ps c h) =
+        few copy' ops' k' (ps ++ record { turn = Refused refusal.FewSlots ops k; copy = Some copy } ∷ []) (c ++ copy ∷ []) (copies_few ps c copy ops k h)
+
+    -- a turn that isn't idle is over
+    ready_stands : (p : Pair) (c : Packets) (f : Front) (b : Back) (s : BackState) (g : Packets) → Inv p.memory f b → FrontStands p.activity p.front p.sent p.received f → Ready s c g b →
+        p.back ≡ s → p.at ≡ First (half_turn bw s) → flat_map given_by p.turns ≡ g → HaveCopies p.turns c → Good p
+    ready_stands p c f b s g i h r e a v q = (
+      c,
+      f,
+      b,
+      record {
+        inv = i;
+        front = h;
+        back = subst (λ x. BackStands p.at p.back c x b) (sym v) (subst (λ x. BackStands x p.back c g b) (sym a) (subst (λ x. BackStands (First (half_turn bw s)) x c g b) (sym e) ((l.ready_runs s c g b r).0, l.half_safe s c g b r)));
+        running = subst (λ x. x.halt ≡ None) (sym e) (l.ready_runs s c g b r).1;
+        copies = q;
+        sent = l.copied s p.sent p.received c g p.memory f b (says p.activity p.front p.sent p.received f h) i r;
+      },
+    )
+
+    over_stands : (p : Pair) (packet : List ℕ) (c : Packets) (f : Front) (b : Back) (s : BackState) (u : Turned) → Inv p.memory f b → FrontStands p.activity p.front p.sent p.received f →
+        TurnEnd (c ++ packet ∷ []) (flat_map given_by p.turns) b s u → HaveCopies p.turns c → Good (turned bw p (s, u) (Some packet))
+    over_stands p packet c f b s Idle i h t q = absurd t
+    over_stands p packet c f b s (Ran n bytes ops k) i h t q =
+        ready_stands (turned bw p (s, Ran n bytes ops k) (Some packet)) (c ++ packet ∷ []) f b s (if n == 3 then flat_map given_by p.turns ++ bytes ∷ [] else flat_map given_by p.turns) i h t refl refl
+        (given_more p.turns (record { turn = Ran n bytes ops k; copy = Some packet }) ∙ sym (ran_given (n == 3) (flat_map given_by p.turns) bytes)) (copies_ran p.turns c n bytes packet ops k q)
+    over_stands p packet c f b s (Refused (refusal.Size fault) ops k) i h t q = absurd t
+    over_stands p packet c f b s (Refused refusal.Grant ops k) i h t q = absurd t
+    over_stands p packet c f b s (Refused refusal.FewSlots ops k) i h t q =
+        ready_stands (turned bw p (s, Refused refusal.FewSlots ops k) (Some packet)) (c ++ packet ∷ []) f b s (flat_map given_by p.turns) i h t refl refl
+        (given_more p.turns (record { turn = Refused refusal.FewSlots ops k; copy = Some packet }) ∙ append-nil (flat_map given_by p.turns)) (copies_few p.turns c packet ops k q)
+    over_stands p packet c f b s (Refused refusal.RxGrant ops k) i h t q = absurd t
+    over_stands p packet c f b s (Halted x) i h t q = absurd t
+
+    second_stands : (p : Pair) (packet : List ℕ) (left : Left) (c : Packets) (f : Front) (b : Back) (t : Steps Ending) → Inv p.memory f b → FrontStands p.activity p.front p.sent p.received f →
+        GivesLeft (flat_map given_by p.turns) left b → Safe BackInv (GivesLeft (flat_map given_by p.turns) left) (EndedTurn (c ++ packet ∷ []) (flat_map given_by p.turns)) b t →
+        p.back.halt ≡ None → HaveCopies p.turns c → ((more : Packets) × (p.sent ≡ c ++ more)) → Good (second bw p packet left t)
+    second_stands p packet left c f b (done e) i h k s n q u = over_stands p packet c f b e.0 e.1 i h s q
+    second_stands p packet left c f b (ask v g) i h k s n q u = (c, f, b, record { inv = i; front = h; back = (k, s); running = n; copies = q; sent = u })
+    second_stands p packet left c f b never i h k s n q u = absurd s
+
+    slept_stands : (p : Pair) (c : Packets) (f : Front) (b : Back) (s : BackState) (u : Turned) → Inv p.memory f b → FrontStands p.activity p.front p.sent p.received f →
+        OverAs p.back c (flat_map given_by p.turns) b s u → HaveCopies p.turns c → ((more : Packets) × (p.sent ≡ c ++ more)) → Good (turned bw p (s, u) None)
+    slept_stands p c f b s Idle i h o q u =
+        let z : Slept s c (flat_map given_by p.turns) b = subst (λ x. Slept x c (flat_map given_by p.turns) b) (sym o.0) o.1 in
+        let more = given_more p.turns (record { turn = Idle; copy = None }) ∙ append-nil (flat_map given_by p.turns) in
+        (c, f, b, record { inv = i; front = h; back = subst (λ x. Slept s c x b) (sym more) z; running = (l.slept_runs s c (flat_map given_by p.turns) b z).1; copies = copies_idle p.turns c None q; sent = u })
+    slept_stands p c f b s (Ran n packet ops k) i h o q u = absurd o
+    slept_stands p c f b s (Refused x ops k) i h o q u = absurd o
+    slept_stands p c f b s (Halted x) i h o q u = absurd o
+
+    first_stands : (p : Pair) (c : Packets) (f : Front) (b : Back) (t : Steps Half) → Inv p.memory f b → FrontStands p.activity p.front p.sent p.received f →
+        GivenAll (flat_map given_by p.turns) b → Safe BackInv (GivenAll (flat_map given_by p.turns)) (HalfEnd p.back c (flat_map given_by p.turns)) b t →
+        p.back.halt ≡ None → HaveCopies p.turns c → ((more : Packets) × (p.sent ≡ c ++ more)) → Good (first bw p t)
+    first_stands p c f b (done (Over e)) i h k s n q u = slept_stands p c f b e.0 e.1 i h s q u
+    first_stands p c f b (done (HasRun slots packet left)) i h k s n q u = second_stands p packet left c f b (after_run bw p.back slots left) i h (inl k) s n q u
+    first_stands p c f b (ask v g) i h k s n q u = (c, f, b, record { inv = i; front = h; back = (k, s); running = n; copies = q; sent = u })
+    first_stands p c f b never i h k s n q u = absurd s
+
+    wake_stands : (p : Pair) (c : Packets) (f : Front) (b : Back) (n : Bool) → p.at ≡ Asleep → Stands p c f b → Good (wake bw n p)
+    wake_stands p c f b false a g = (c, f, b, g)
+    wake_stands p c f b true a g =
+        let z : Slept p.back c (flat_map given_by p.turns) b = subst (λ x. BackStands x p.back c (flat_map given_by p.turns) b) a g.back in
+        let k = l.wakes p.back c (flat_map given_by p.turns) b p.memory f z g.inv in (
+          c,
+          f,
+          k.0,
+          record {
+            inv = k.1;
+            front = g.front;
+            back = ((l.ready_runs p.back c (flat_map given_by p.turns) k.0 k.2).0, l.half_safe p.back c (flat_map given_by p.turns) k.0 k.2);
+            running = g.running;
+            copies = g.copies;
+            sent = g.sent;
+          },
+        )
+
+    back_stands : (p : Pair) (n : ℕ) (c : Packets) (f : Front) (b : Back) (at : BackAt) → p.at ≡ at → n < 2 ^ 64 → Stands p c f b → Good (on_back bw at p n)
+    back_stands p n c f b Asleep a s g = wake_stands p c f b p.memory.pending a g
+    back_stands p n c f b (First (done h)) a s g = (c, f, b, g)
+    back_stands p n c f b (First never) a s g = (c, f, b, g)
+    back_stands p n c f b (First (ask v k)) a s g =
+        let h : BackStands (First (ask v k)) p.back c (flat_map given_by p.turns) b = subst (λ x. BackStands x p.back c (flat_map given_by p.turns) b) a g.back in
+        let r = h.1 p.memory f g.inv in
+        first_stands (record p { memory = after v p.memory }) c f r.0 (k (answer v p.memory n)) r.1 g.front r.2 (r.3 n s) g.running g.copies g.sent
+    back_stands p n c f b (Second packet left (done e)) a s g = (c, f, b, g)
+    back_stands p n c f b (Second packet left never) a s g = (c, f, b, g)
+    back_stands p n c f b (Second packet left (ask v k)) a s g =
+        let h : BackStands (Second packet left (ask v k)) p.back c (flat_map given_by p.turns) b = subst (λ x. BackStands x p.back c (flat_map given_by p.turns) b) a g.back in
+        let r = h.1 p.memory f g.inv in
+        second_stands (record p { memory = after v p.memory }) packet left c f r.0 (k (answer v p.memory n)) r.1 g.front r.2 (r.3 n s) g.running g.copies g.sent
+
+    step_stands : (p : Pair) (e : PairEvent) (n : ℕ) (c : Packets) (f : Front) (b : Back) → IsBytes e → n < 2 ^ 64 → Stands p c f b → Good (step bw fw p e n)
+    step_stands p (Send packet) n c f b q s g = send_stands p packet c f b p.activity refl q g
+    step_stands p Post n c f b q s g = post_stands p c f b p.activity refl g
+    step_stands p Poll n c f b q s g = poll_stands p c f b p.activity refl g
+    step_stands p FrontStep n c f b q s g = front_stands p n c f b p.activity refl s g
+    step_stands p BackStep n c f b q s g = back_stands p n c f b p.at refl s g
+
+    pub run_stands : (p : Pair) (es : List (PairEvent × ℕ)) → Fit es → Good p → Good (run bw fw p es)
+    run_stands p [] q g = g
+    run_stands p (e ∷ es) q g = run_stands (step bw fw p e.0 e.1) es q.1 (step_stands p e.0 e.1 g.0 g.1 g.2 q.0.0 q.0.1 g.3)
+
+    given_end : (at : BackAt) (s : BackState) (c g r : Packets) (b : Back) → BackStands at s c g b → ((more : Packets) × (givens b ≡ r ++ more)) → (more : Packets) × (g ++ given_now at ≡ r ++ more)
+    given_end Asleep s c g r b h o = (o.0, append-nil g ∙ sym (l.slept_runs s c g b h).0 ∙ o.1)
+    given_end (First t) s c g r b h o = (o.0, append-nil g ∙ sym h.0 ∙ o.1)
+    given_end (Second packet left t) s c g r b h o = by h.0
+      where
+        by : GivesLeft g left b → (more : Packets) × (g ++ left_by left ≡ r ++ more)
+        by (inl e) = (o.0 ++ left_by left, ap (λ x. x ++ left_by left) (sym e ∙ o.1) ∙ append_assoc r o.0 (left_by left))
+        by (inr e) =
+            let three : (left.number == 3) ≡ true = let n : left.number ≡ 3 = e.0 in grind (arith, nat_tests) in
+            (o.0, ap (λ (x : Bool). g ++ (if x then left.packet ∷ [] else [])) three ∙ sym e.1 ∙ o.1)
+
+    pub honest : (p : Pair) → Good p → Honest p
+    honest p g =
+        let c = g.0 in
+        let f = g.1 in
+        let b = g.2 in
+        let s = g.3 in
+        record {
+          front = no_halt p.activity p.front p.sent p.received f s.front;
+          back = s.running;
+          copies = (c, s.copies, s.sent);
+          received = given_end p.at p.back c (flat_map given_by p.turns) p.received b s.back (l.got p.sent p.received p.memory f b (says p.activity p.front p.sent p.received f s.front) s.inv);
+          heard = λ a n k.
+              let z : Slept p.back c (flat_map given_by p.turns) b = subst (λ x. BackStands x p.back c (flat_map given_by p.turns) b) a s.back in
+              l.hears p.back c (flat_map given_by p.turns) p.memory f b s.inv z (no_window p.activity p.front p.sent p.received f k s.front) n;
+        }

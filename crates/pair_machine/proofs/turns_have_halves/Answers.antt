@@ -1,0 +1,7 @@
+use Rattle.pair_machine.proofs.HalfLemmas.{halves}
+use Rattle.pair_machine.proofs.SafeLemmas.{safe_bind}
+use Rattle.pair_machine.proofs.Pairs.{honest}
+use Rattle.pair_machine.proofs.turns_have_halves.Goals as goal
+
+pub returns : goal.returns
+returns c = λ w s. halves w s

@@ -1,0 +1,80 @@
+-- What holds of every list of events of the pair.
+use Rattle.std.specs.Prelude.{ℕ, zero, suc, ◌≡◌, ◌<◌, ◌^◌, ◌==◌, if◌then◌else◌, Bool, true, false, List, [], ◌∷◌, ◌++◌, flat_map, length, Option, Some, None, All}
+use Rattle.bpf_verify.specs.Consistent.{Accepted, IsConsistent}
+use Rattle.xen_back.specs.Tree.{Left}
+use Rattle.xen_back.specs.Turned.{Turned, Idle, Ran, Refused, Halted}
+use Rattle.xen_back.specs.declared.turn.Refusal.TheVariants as refusal
+use Rattle.xen_back.specs.declared.wiring.Wiring.{Wiring as BackWiring}
+use Rattle.xen_buffers.specs.declared.wiring.Wiring.{Wiring as FrontWiring}
+use Rattle.xen_front.specs.Given.{Ending as FrontEnding}
+use Rattle.xen_front.specs.Making.{IsNew}
+use Rattle.xen_front.specs.declared.state.State.{State as FrontState}
+use Rattle.pair_machine.specs.Layout.{IsBack, IsFront}
+use Rattle.pair_machine.specs.Memory.{Memory}
+use Rattle.pair_machine.specs.Pair.{Activity, Asleep, BackAt, First, Free, Pair, PairEvent, Send, Past, Second, Sending, opening, run}
+use Rattle.xen_steps.specs.Places.{page_word}
+use Rattle.xen_steps.specs.Steps.{Steps}
+
+-- The turns that aren't idle have these copies: each is Ran, or Refused for want of rx slots.
+pub data HaveCopies : List Past → List (List ℕ) → Type 0 where
+  none : HaveCopies [] []
+  idle : (c : Option (List ℕ)) (ps : List Past) (copies : List (List ℕ)) → HaveCopies ps copies → HaveCopies (record { turn = Idle; copy = c } ∷ ps) copies
+  ran : (number : ℕ) (packet copy : List ℕ) (ops slots : ℕ) (ps : List Past) (copies : List (List ℕ)) → HaveCopies ps copies →
+      HaveCopies (record { turn = Ran number packet ops slots; copy = Some copy } ∷ ps) (copy ∷ copies)
+  few : (copy : List ℕ) (ops slots : ℕ) (ps : List Past) (copies : List (List ℕ)) → HaveCopies ps copies →
+      HaveCopies (record { turn = Refused refusal.FewSlots ops slots; copy = Some copy } ∷ ps) (copy ∷ copies)
+
+-- the packets that a turn sent back: its program's run ended in TX, and it wasn't refused
+abbrev pub sent_back : Turned → List (List ℕ)
+sent_back Idle = []
+sent_back (Ran number packet ops slots) = if number == 3 then packet ∷ [] else []
+sent_back (Refused cause ops slots) = []
+sent_back (Halted cause) = []
+
+abbrev pub given_by : Past → List (List ℕ)
+given_by p = sent_back p.turn
+
+abbrev pub left_by : Left → List (List ℕ)
+left_by l = if l.number == 3 then l.packet ∷ [] else []
+
+-- and the packet of an unfinished turn whose run ended in TX
+abbrev pub given_now : BackAt → List (List ℕ)
+given_now Asleep = []
+given_now (First t) = []
+given_now (Second packet left t) = left_by left
+
+abbrev pub all_given : Pair → List (List ℕ)
+all_given p = flat_map given_by p.turns ++ given_now p.at
+
+abbrev pub IsSending : Activity → Type 0
+IsSending a = (t : Steps FrontEnding) × (a ≡ Sending t)
+
+pub record Honest (p : Pair) : Type 0 where
+  pub front : p.front.halt ≡ None
+  pub back : p.back.halt ≡ None
+  pub copies : (copies : List (List ℕ)) × HaveCopies p.turns copies × ((more : List (List ℕ)) × (p.sent ≡ copies ++ more))
+  pub received : (more : List (List ℕ)) × (all_given p ≡ p.received ++ more)
+  pub heard : p.at ≡ Asleep → p.memory.pending ≡ false → (IsSending p.activity → ⊥) → p.memory.word (page_word 17 0) ≡ p.back.tx_index
+
+-- a front's state before its first activity
+pub record IsNewFront (s : FrontState) (start : ℕ) : Type 0 where
+  pub tx : IsNew s.tx start
+  pub rx : IsNew s.rx start
+  pub halt : s.halt ≡ None
+  pub tx_size : length s.tx.out ≡ 256
+  pub rx_size : length s.rx.out ≡ 256
+
+-- bytes of packets, and numbers that answer counters
+abbrev pub IsByte : ℕ → Type 0
+IsByte b = b < 256
+
+abbrev pub IsBytes : PairEvent → Type 0
+IsBytes (Send packet) = All IsByte packet
+IsBytes e = Unit {0}
+
+abbrev pub AreFit : List (PairEvent × ℕ) → Type 0
+AreFit es = All (λ (e : PairEvent × ℕ). IsBytes e.0 × (e.1 < 2 ^ 64)) es
+
+abbrev pub PairLaw : Type 0
+PairLaw = (accepted : Accepted) (bw : BackWiring) (fw : FrontWiring) (front : FrontState) (start : ℕ) → IsConsistent accepted → IsBack accepted bw → IsFront fw → IsNewFront front start → start < 2 ^ 32 →
+    (es : List (PairEvent × ℕ)) → AreFit es → Honest (run bw fw (opening front start) es)

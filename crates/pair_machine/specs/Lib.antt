@@ -1,0 +1,9 @@
+pub mod Memory
+pub mod Layout
+pub mod Halves
+pub mod Copies
+pub mod Pair
+pub mod Log
+pub mod Traces
+pub mod Safe
+pub mod Law
