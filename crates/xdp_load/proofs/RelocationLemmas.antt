@@ -1,5 +1,5 @@
--- A relocated wide load of 0 is that of the map.
-use Rattle.std.proofs.Common.{◌≡◌, ◌<◌, ◌++◌, ◌∙◌, ℕ, zero, suc, List, [], ◌∷◌, length, refl, ap, arith}
+-- A relocated wide load of 32 bits is that of the map.
+use Rattle.std.proofs.Common.{◌≡◌, ◌<◌, ◌/◌, ◌^◌, ◌++◌, ◌∙◌, ℕ, zero, suc, List, [], ◌∷◌, length, refl, ap, arith}
 use native.Mathlib.Numerals.{unary_clauses}
 use Rattle.bpf_insn.specs.Spelling.{spelling}
 use Rattle.bpf_insn.specs.declared.insn.Insn.TheVariants.{Const, MapRef}
@@ -14,27 +14,33 @@ below_four P a b c d (suc (suc zero)) h = c
 below_four P a b c d (suc (suc (suc zero))) h = d
 below_four P a b c d (suc (suc (suc (suc m)))) h = absurd (omega arith)
 
--- what a relocation of a load of 0 has to give
-abbrev IsOfMap : List ℕ → Register → ℕ → Type 0
-IsOfMap rest dst m = with_map (spelling (Const dst 0) ++ rest) 0 m ≡ spelling (MapRef dst m) ++ rest
+-- what a relocation of a load has to give
+abbrev IsOfMap : List ℕ → Register → ℕ → ℕ → Type 0
+IsOfMap rest dst value m = with_map (spelling (Const dst value) ++ rest) 0 m ≡ spelling (MapRef dst m) ++ rest
 
-first : (rest : List ℕ) (dst : Register) (m : ℕ) → m < 4 → IsOfMap rest dst m
-first rest R0 = below_four (IsOfMap rest R0) refl refl refl refl
-first rest R1 = below_four (IsOfMap rest R1) refl refl refl refl
-first rest R2 = below_four (IsOfMap rest R2) refl refl refl refl
-first rest R3 = below_four (IsOfMap rest R3) refl refl refl refl
-first rest R4 = below_four (IsOfMap rest R4) refl refl refl refl
-first rest R5 = below_four (IsOfMap rest R5) refl refl refl refl
-first rest R6 = below_four (IsOfMap rest R6) refl refl refl refl
-first rest R7 = below_four (IsOfMap rest R7) refl refl refl refl
-first rest R8 = below_four (IsOfMap rest R8) refl refl refl refl
-first rest R9 = below_four (IsOfMap rest R9) refl refl refl refl
-first rest R10 = below_four (IsOfMap rest R10) refl refl refl refl
+-- the second slot of a load of 32 bits is empty
+first : (rest : List ℕ) (dst : Register) (value : ℕ) → value / 2 ^ 32 ≡ 0 → (m : ℕ) → m < 4 → IsOfMap rest dst value m
+first rest R0 value h = below_four (IsOfMap rest R0 value) (rw h refl) (rw h refl) (rw h refl) (rw h refl)
+first rest R1 value h = below_four (IsOfMap rest R1 value) (rw h refl) (rw h refl) (rw h refl) (rw h refl)
+first rest R2 value h = below_four (IsOfMap rest R2 value) (rw h refl) (rw h refl) (rw h refl) (rw h refl)
+first rest R3 value h = below_four (IsOfMap rest R3 value) (rw h refl) (rw h refl) (rw h refl) (rw h refl)
+first rest R4 value h = below_four (IsOfMap rest R4 value) (rw h refl) (rw h refl) (rw h refl) (rw h refl)
+first rest R5 value h = below_four (IsOfMap rest R5 value) (rw h refl) (rw h refl) (rw h refl) (rw h refl)
+first rest R6 value h = below_four (IsOfMap rest R6 value) (rw h refl) (rw h refl) (rw h refl) (rw h refl)
+first rest R7 value h = below_four (IsOfMap rest R7 value) (rw h refl) (rw h refl) (rw h refl) (rw h refl)
+first rest R8 value h = below_four (IsOfMap rest R8 value) (rw h refl) (rw h refl) (rw h refl) (rw h refl)
+first rest R9 value h = below_four (IsOfMap rest R9 value) (rw h refl) (rw h refl) (rw h refl) (rw h refl)
+first rest R10 value h = below_four (IsOfMap rest R10 value) (rw h refl) (rw h refl) (rw h refl) (rw h refl)
 
 later : (x : ℕ) (xs : List ℕ) (at m : ℕ) → with_map (x ∷ xs) (suc at) m ≡ x ∷ with_map xs at m
 later x xs at m = simp unary_clauses refl
 
-pub relocated_anywhere : (front rest : List ℕ) (dst : Register) (m : ℕ) → m < 4
-    → with_map (front ++ (spelling (Const dst 0) ++ rest)) (length front) m ≡ front ++ (spelling (MapRef dst m) ++ rest)
-relocated_anywhere [] rest dst m h = first rest dst m h
-relocated_anywhere (x ∷ xs) rest dst m h = later x (xs ++ (spelling (Const dst 0) ++ rest)) (length xs) m ∙ ap (λ ys. x ∷ ys) (relocated_anywhere xs rest dst m h)
+anywhere : (front rest : List ℕ) (dst : Register) (value : ℕ) → value / 2 ^ 32 ≡ 0 → (m : ℕ) → m < 4
+    → with_map (front ++ (spelling (Const dst value) ++ rest)) (length front) m ≡ front ++ (spelling (MapRef dst m) ++ rest)
+anywhere [] rest dst value h m k = first rest dst value h m k
+anywhere (x ∷ xs) rest dst value h m k =
+    later x (xs ++ (spelling (Const dst value) ++ rest)) (length xs) m ∙ ap (λ ys. x ∷ ys) (anywhere xs rest dst value h m k)
+
+pub relocated_anywhere : (front rest : List ℕ) (dst : Register) (value m : ℕ) → value < 2 ^ 32 → m < 4
+    → with_map (front ++ (spelling (Const dst value) ++ rest)) (length front) m ≡ front ++ (spelling (MapRef dst m) ++ rest)
+relocated_anywhere front rest dst value m h k = anywhere front rest dst value (omega arith) m k

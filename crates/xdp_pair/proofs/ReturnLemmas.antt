@@ -1,22 +1,6 @@
--- Numbers that go from one list to another, one by one.
-use Rattle.std.proofs.Common.{◌≡◌, ℕ, List, [], ◌∷◌, ◌++◌, Contains, All, map, length, length-append, sym, ap, ◌∙◌, subst, ◌⊎◌, inl, inr, ⊎_elim, arith, ◌<◌, Some}
-use Rattle.std.proofs.lemmas.List.{map-append}
-use Rattle.std.proofs.lemmas.List.Elements.{Contains-push, Contains-push_cases, Contains-append_left, All-pop}
-
-module _ {X Y : Type 0} (f : X → ℕ) (g : Y → ℕ) where
-  pub moved : (xs ys : List X) (x : X) (zs ws : List Y) (z : Y) → xs ≡ ys ++ x ∷ [] → ws ≡ zs ++ z ∷ [] → g z ≡ f x → (q : ℕ) → Contains (map f xs) q ⊎ Contains (map g zs) q → Contains (map f ys) q ⊎ Contains (map g ws) q
-  moved xs ys x zs ws z a b same q there =
-      let before : map f xs ≡ map f ys ++ f x ∷ [] = ap (map f) a ∙ map-append f ys (x ∷ []) in
-      let after : map g ws ≡ map g zs ++ g z ∷ [] = ap (map g) b ∙ map-append g zs (z ∷ []) in
-      ⊎_elim
-      (λ h. ⊎_elim inl
-      (λ (e : f x ≡ q). inr (subst (λ (l : List ℕ). Contains l q) (sym after) (subst (λ (n : ℕ). Contains (map g zs ++ g z ∷ []) n) (same ∙ e) (Contains-push (map g zs) (g z)))))
-      (Contains-push_cases (map f ys) (f x) q (subst (λ (l : List ℕ). Contains l q) before h)))
-      (λ h. inr (subst (λ (l : List ℕ). Contains l q) (sym after) (Contains-append_left (map g zs) (g z ∷ []) q h)))
-      there
-
-  pub none_left : (xs : List X) (zs : List Y) → xs ≡ [] → (q : ℕ) → Contains (map f xs) q ⊎ Contains (map g zs) q → Contains (map g zs) q
-  none_left xs zs e q there = ⊎_elim (λ h. let none = subst (λ (l : List X). Contains (map f l) q) e h in absurd (omega (arith, none.1))) (λ h. h) there
+-- Lists and their last elements.
+use Rattle.std.proofs.Common.{◌≡◌, ◌<◌, List, [], ◌∷◌, ◌++◌, All, Some, length, length-append, ap, arith}
+use Rattle.std.proofs.lemmas.List.Elements.{All-pop}
 
 pub last_of : {X : Type 0} (P : X → Type 0) (xs ys : List X) (x : X) → xs ≡ ys ++ x ∷ [] → All P xs → All P ys × P x
 last_of P xs ys x e all = All-pop P xs ys (Some x) e all

@@ -3,7 +3,6 @@ use Rattle.std.proofs.Common.{◌≡◌, ℕ, ◌+◌, ◌<◌, Contains, List, 
 use Rattle.std.specs.List.{range_with_len}
 use Rattle.std.proofs.lemmas.List.FromFn.{length-map-range_with_len, map-range_with_len_more}
 use Rattle.bpf_maps.specs.Seats.{SeatView, CountersView, new_seat, new_seats}
-use Rattle.bpf_maps.proofs.EverySeatLemmas.{every_new}
 use Rattle.xdp_pair.proofs.ReturnLemmas.{snoc_same}
 
 pub length_new : (c : CountersView) (n : ℕ) → length (new_seats c n) ≡ n
@@ -15,7 +14,3 @@ last_new c seats left seat is new =
     let n : length seats ≡ length left + 1 = omega (arith, ap length is, length-append left (seat ∷ [])) in
     snoc_same left (new_seats c (length left)) seat (new_seat c (length left))
     (sym is ∙ new ∙ ap (new_seats c) n ∙ map-range_with_len_more (new_seat c) 0 (length left) (length left) (omega arith))
-
--- each number below n is that of one of n new seats
-pub numbers_new : (c : CountersView) (n : ℕ) (seats : List SeatView) → seats ≡ new_seats c n → (q : ℕ) → q < n → Contains (map (λ (s : SeatView). s.number) seats) q
-numbers_new c n seats is q below = subst (λ (l : List SeatView). Contains (map (λ (s : SeatView). s.number) l) q) (sym is) (every_new c n q below)

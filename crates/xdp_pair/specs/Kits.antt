@@ -1,5 +1,5 @@
 -- What the threads are given.
-use Rattle.std.specs.Prelude.{ℕ, ◌+◌, ◌*◌, ◌<◌, ◌≡◌, List, map, length, true}
+use Rattle.std.specs.Prelude.{ℕ, suc, zero, ◌+◌, ◌*◌, ◌<◌, ◌≡◌, List, [], ◌∷◌, map, length, true}
 use Rattle.std.specs.List.{range_with_len}
 use Rattle.bpf_maps.specs.Seats.{CountersView, new_seat}
 use Rattle.xdp_world.specs.Frames.{frame_of, owners_of}
@@ -21,11 +21,18 @@ granted_from first = map granted (range_with_len first 256)
 abbrev pub number_of : BackKit → ℕ
 number_of k = k.seat.number
 
--- A back's kit among so many queues: rings that the front lent for writing, and its queue's new seat at the counters.
+-- so many numbers, from the last down to 0
+abbrev pub falling : ℕ → List ℕ
+falling zero = []
+falling (suc n) = n ∷ falling n
+
+-- A back's kit among so many queues: its queue's rings, which the front lent for writing, and its queue's new seat at the counters.
 pub record IsBackOf (c : CountersView) (queues : ℕ) (k : BackKit) : Type 0 where
   pub queue : k.queue < queues
   pub tx : IsMappedBy (owners_of queues) 1 k.tx
   pub rx : IsMappedBy (owners_of queues) 1 k.rx
+  pub tx_frame : k.tx.frame ≡ frame_of (514 * k.queue)
+  pub rx_frame : k.rx.frame ≡ frame_of (514 * k.queue + 1)
   pub tx_writable : k.tx.write ≡ true
   pub rx_writable : k.rx.write ≡ true
   pub seat : k.seat ≡ new_seat c k.queue

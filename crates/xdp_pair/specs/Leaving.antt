@@ -1,12 +1,28 @@
--- What the queues leave in the counters.
-use Rattle.std.specs.Prelude.{ℕ, ◌≡◌, ◌<◌, ◌%◌, ◌^◌, List, Contains, map, sum_by}
+-- What the queues leave in their rows and in the counters.
+use Rattle.std.specs.Prelude.{ℕ, ◌≡◌, ◌<◌, ◌%◌, ◌^◌, List, All, Contains, Some, map, option_map, slice_get, sum_by}
 use Rattle.bpf_note.specs.History.{added}
 use Rattle.bpf_note.specs.Shape.{IsCounter}
-use Rattle.bpf_maps.specs.Seats.{Account, SeatView, TotalsView, total_at}
+use Rattle.bpf_maps.specs.Seats.{Account, SeatView, total_at}
+use Rattle.xdp_pair.specs.Working.{IsWork, Task}
+use Rattle.xdp_pair.specs.declared.report.BackRow.{BackRow}
+use Rattle.xdp_pair.specs.declared.report.PairReport.{PairReport}
+use Rattle.xdp_pair.specs.declared.report.PairRow.{PairRow}
 
--- Each queue had a seat. What was done at all seats stands in one legal history, and the totals are what it leaves: the sums of what was added.
-pub record AreLeft (queues : ℕ) (t : TotalsView) : Type 0 where
+-- what a queue's row says of its back
+abbrev pub back_of : PairRow → BackRow
+back_of r = record { copied = r.copied; refused = r.refused; halted = r.halted }
+
+-- What was done at a seat was done by whole turns of the queue with its number, and that queue's row counts them.
+pub record HasWorked (task : Task) (turns : ℕ) (rows : List PairRow) (s : SeatView) : Type 0 where
+  pub row : BackRow
+  pub at : option_map back_of (slice_get rows s.number) ≡ Some row
+  pub work : IsWork task turns row s
+
+-- Each queue had a seat, and what was done at it was done by whole turns of its queue, which its row counts. It all stands in one legal
+-- history, and the totals are what that leaves: the sums of what was added.
+pub record AreLeft (task : Task) (turns : ℕ) (r : PairReport) : Type 0 where
   pub seats : List SeatView
-  pub every : (q : ℕ) → q < queues → Contains (map (λ (s : SeatView). s.number) seats) q
-  pub account : Account seats t
-  pub sums : (m k j : ℕ) → IsCounter t.shapes m k j → total_at t m k j ≡ sum_by (λ (s : SeatView). sum_by (added m k j) s.ops) seats % 2 ^ 64
+  pub every : (q : ℕ) → q < task.queues → Contains (map (λ (s : SeatView). s.number) seats) q
+  pub worked : All (HasWorked task turns r.rows.items) seats
+  pub account : Account seats r.totals
+  pub sums : (m k j : ℕ) → IsCounter r.totals.shapes m k j → total_at r.totals m k j ≡ sum_by (λ (s : SeatView). sum_by (added m k j) s.ops) seats % 2 ^ 64

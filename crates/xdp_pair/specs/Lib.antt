@@ -1,4 +1,5 @@
 pub mod Kits
+pub mod Working
 pub mod Promised
 pub mod Leaving
 pub mod Sending

@@ -1,7 +1,8 @@
 -- What a back thread that was lent a seat has promised.
-use Rattle.std.specs.Prelude.{ℕ}
+use Rattle.std.specs.Prelude.{ℕ, ◌≡◌, ◌*◌}
 use Rattle.std.specs.declared.thread.PromisedHandle.{PromisedHandle}
 use Rattle.bpf_maps.specs.Seats.{CountersView, SeatView, IsSeatOf}
+use Rattle.xdp_pair.specs.Working.{Task}
 use Rattle.xdp_pair.specs.declared.back.BackDone.{BackDone}
 use Rattle.xdp_pair.specs.declared.back.SeatBack.{SeatBack}
 
@@ -10,10 +11,14 @@ Child = PromisedHandle BackDone SeatBack
 
 -- the seat that the thread was lent
 abbrev pub promised : Child → SeatView
-promised h = h.promise.0.value
+promised h = h.promise.seat.value
 
 abbrev pub promised_number : Child → ℕ
 promised_number h = (promised h).number
 
-abbrev pub PromisesSeatOf : CountersView → Child → Type 0
-PromisesSeatOf c h = IsSeatOf c (promised h)
+-- the task of the promise
+abbrev pub promised_task : Child → Task
+promised_task h = record { program = h.promise.program.value; queues = h.promise.queues; ifindex = h.promise.ifindex; start = h.promise.start }
+
+abbrev pub PromisesSeatOf : Task → ℕ → CountersView → Child → Type 0
+PromisesSeatOf task turns c h = IsSeatOf c (promised h) × (promised_task h ≡ task) × (h.promise.turns ≡ turns)

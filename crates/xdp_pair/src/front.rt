@@ -1,10 +1,11 @@
 //! A front thread.
-ghost use Rattle.std.specs.Prelude.{◌≡◌, ◌≤◌};
+ghost use Rattle.std.specs.Prelude.{◌≡◌, ◌≤◌, length};
 ghost use Rattle.xen_front.specs.Fronts.{wiring_of};
 ghost use Rattle.xdp_pair.specs.Kits.{IsFrontOf};
 
 use crate::inbox::Inbox;
 use crate::kits::FrontKit;
+use crate::next::Next;
 use crate::outbox::Outbox;
 use crate::report::FrontRow;
 use crate::shared::Shared;
@@ -21,22 +22,8 @@ const POSTED: u32 = 16;
 /// The bytes of a page.
 const PAGE: usize = 4096;
 
-/// What a front did, with its queue's number.
-#[derive(Drop)]
-pub(crate) struct FrontDone {
-    pub queue: usize,
-    pub row: FrontRow,
-}
-
 /// The thread of a front.
-pub(crate) type FrontThread = JoinHandle<FrontDone>;
-
-/// What a front does after an activity.
-enum Next {
-    Goes,
-    Rests,
-    Ends,
-}
+pub(crate) type FrontThread = JoinHandle<FrontRow>;
 
 /// What a poll gave.
 enum Polled {
@@ -86,10 +73,11 @@ impl<'p> Desk<'p> {
     }
 }
 
-/// How many slots a packet takes, in either direction.
-fn slots_of(bytes: usize) -> u32 {
-    let pages = bytes / PAGE + if bytes % PAGE == 0 { 0 } else { 1 };
-    pages.min(POSTED as usize) as u32
+/// How many slots a packet takes, in either direction. All of them can be posted.
+fn slots_of(packet: &[u8]) -> usize
+    ensures { length packet.now ≤ 65535 → result ≤ POSTED }
+{
+    packet.len().div_ceil(PAGE)
 }
 
 /// Begins to post a buffer, if fewer are posted than should be.
@@ -110,12 +98,12 @@ fn begin_send(front: &mut Front<'_>, desk: &mut Desk<'_>) -> bool
     let Some(packet) = desk.outbox.next() else {
         return false;
     };
-    let slots = slots_of(packet.len());
-    if slots > desk.spare || front.send(packet).is_err() {
+    let slots = slots_of(packet);
+    if slots > desk.spare as usize || front.send(packet).is_err() {
         return false;
     }
     desk.outbox.pass();
-    desk.spare = desk.spare.saturating_sub(slots);
+    desk.spare -= slots as u32;
     desk.row.sent = desk.row.sent.saturating_add(1);
     true
 }
@@ -185,7 +173,7 @@ pub(crate) fn work_front<R: Wait, I: Inbox>(
     packets: &[Packet],
     shared: &Shared,
     kit: FrontKit<'_>,
-) -> FrontDone
+) -> FrontRow
     requires { IsFrontOf shared.now.layout.queues kit }
 {
     let FrontKit {
@@ -207,8 +195,5 @@ pub(crate) fn work_front<R: Wait, I: Inbox>(
         }
     }
     lane.end_front();
-    FrontDone {
-        queue,
-        row: desk.row,
-    }
+    desk.row
 }

@@ -1,9 +1,9 @@
 //! What the threads are given, all of it made before the first of them starts.
-ghost use Rattle.std.specs.Prelude.{◌≡◌, ◌<◌, ◌≤◌, ◌*◌, ◌+◌, ℕ, All, Contains, map, length, vec_len, IfOk};
+ghost use Rattle.std.specs.Prelude.{◌≡◌, ◌<◌, ◌≤◌, ◌*◌, ◌+◌, All, map, length, vec_len, IfOk};
 ghost use Rattle.bpf_maps.specs.Seats.{CountersView, new_seats};
 ghost use Rattle.xdp_world.specs.Frames.{frame_of, owners_of};
-ghost use Rattle.xen_front.specs.Fronts.{wiring_of};
-ghost use Rattle.xdp_pair.specs.Kits.{IsBackOf, IsFrontOf, granted_from, number_of};
+ghost use Rattle.xen_front.specs.Fronts.{state_of, wiring_of};
+ghost use Rattle.xdp_pair.specs.Kits.{IsBackOf, IsFrontOf, falling, granted_from, number_of};
 
 use crate::fault::PairFault;
 use crate::rings::{FIRST_GRANTED, REFERENCES, make_ring};
@@ -64,8 +64,8 @@ pub(crate) fn make_backs(
 ) -> Result<Vec<BackKit>, PairFault>
     requires seats { vec_len seats ≡ shared.now.layout.queues }
     requires parkers { vec_len parkers ≡ shared.now.layout.queues }
-    ensures own { (c : CountersView) → seats.items ≡ new_seats c shared.now.layout.queues → IfOk result (λ v. All (IsBackOf c shared.now.layout.queues) v.items) }
-    ensures numbers { IfOk result (λ v. (q : ℕ) → Contains (map (λ s. s.number) seats.items) q → Contains (map number_of v.items) q) }
+    ensures own { (c : CountersView) → seats.items ≡ new_seats c shared.now.layout.queues → IfOk result (λ v. All (IsBackOf c shared.now.layout.queues) v.items × (map number_of v.items ≡ falling shared.now.layout.queues)) }
+    ensures count { IfOk result (λ v. vec_len v ≡ shared.now.layout.queues) }
 {
     let mut backs = Vec::with_capacity(alloc, seats.len())?;
     while let Some(seat) = seats.pop() {
@@ -128,7 +128,10 @@ fn make_front<'p>(
     pages: &'p FrontPages,
 ) -> Result<Front<'p>, AllocError>
     requires { pages.now.queue < shared.now.layout.queues }
-    ensures { IfOk result (λ f. (wiring_of f).frames ≡ length (owners_of shared.now.layout.queues)) }
+    ensures frames { IfOk result (λ f. (wiring_of f).frames ≡ length (owners_of shared.now.layout.queues)) }
+    ensures rings { IfOk result (λ f. ((wiring_of f).tx_frame ≡ frame_of (514 * pages.now.queue)) × ((wiring_of f).rx_frame ≡ frame_of (514 * pages.now.queue + 1))) }
+    ensures back { IfOk result (λ f. ((wiring_of f).back ≡ 0) × ((wiring_of f).port ≡ 2 * pages.now.queue)) }
+    ensures start { IfOk result (λ f. ((state_of f).tx.prod ≡ shared.now.start) × ((state_of f).rx.prod ≡ shared.now.start)) }
 {
     let first = FIRST_GRANTED + REFERENCES * pages.queue as u32;
     let Some(port) = Port::of(2 * pages.queue as u32) else {
@@ -157,7 +160,8 @@ pub(crate) fn make_fronts<'p>(
 ) -> Result<Vec<FrontKit<'p>>, AllocError>
     requires count { vec_len parkers ≤ length pages.now }
     requires below { All (λ p. p.queue < shared.now.layout.queues) pages.now }
-    ensures { IfOk result (λ v. All (IsFrontOf shared.now.layout.queues) v.items) }
+    ensures kits { IfOk result (λ v. All (IsFrontOf shared.now.layout.queues) v.items) }
+    ensures count { IfOk result (λ v. vec_len v ≡ vec_len parkers) }
 {
     let mut fronts = Vec::with_capacity(alloc, parkers.len())?;
     while let Some(parker) = parkers.pop() {

@@ -9,6 +9,7 @@ mod inbox;
 mod joining;
 mod kits;
 mod lane;
+mod next;
 mod outbox;
 mod pairing;
 mod report;

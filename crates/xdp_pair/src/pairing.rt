@@ -1,11 +1,12 @@
 //! Running a pair of threads for each queue.
-ghost use Rattle.std.specs.Prelude.{◌≡◌, ◌*◌, ◌≤◌, ℕ, All, Contains, map, length, vec_len, IfOk};
+ghost use Rattle.std.specs.Prelude.{◌≡◌, ◌*◌, ◌<◌, ◌≤◌, ℕ, All, Contains, map, length, vec_len, IfOk};
 ghost use Rattle.std.specs.Thread.{IsSync};
 ghost use Rattle.bpf_maps.specs.Seats.{IsSeatOf};
 ghost use Rattle.xdp_load.specs.SetupSeen.{setup_view};
 ghost use Rattle.xdp_load.specs.Sound.{IsSound};
-ghost use Rattle.xdp_pair.specs.Kits.{IsBackOf, IsFrontOf, number_of};
-ghost use Rattle.xdp_pair.specs.Leaving.{AreLeft};
+ghost use Rattle.xdp_pair.specs.Kits.{IsBackOf, IsFrontOf, falling, number_of};
+ghost use Rattle.xdp_pair.specs.Leaving.{AreLeft, HasWorked};
+ghost use Rattle.xdp_pair.specs.Working.{task_for, task_of};
 
 use crate::fault::PairFault;
 use crate::gate::Gate;
@@ -44,15 +45,17 @@ fn run_all<R: Threads + Wait + Sync, G: Gate + Sync, I: Inbox + Sync>(
 ) -> Result<(Vec<CounterSeat>, Vec<PairRow>), PairFault>
     requires backs { All (IsBackOf counters.now shared.now.layout.queues) backs.items }
     requires fronts { All (IsFrontOf shared.now.layout.queues) fronts.items }
+    requires numbers { map number_of backs.items ≡ falling (vec_len backs) }
+    requires counts { (vec_len backs ≡ vec_len rows) × (vec_len fronts ≡ vec_len rows) }
     requires shapes { counters.now.shapes ≡ program.now.shapes }
-    ensures { IfOk result (λ v. All (IsSeatOf counters.entry.now) v.0.items × ((q : ℕ) → Contains (map number_of backs.items) q → Contains (map (λ s. s.number) v.0.items) q) × (vec_len v.1 ≡ vec_len rows)) }
+    ensures { IfOk result (λ v. All (IsSeatOf counters.entry.now) v.0.items × All (HasWorked (task_of program.entry.now shared.entry.now) turns v.1.items) v.0.items × ((q : ℕ) → q < vec_len rows → Contains (map (λ s. s.number) v.0.items) q) × (vec_len v.1 ≡ vec_len rows)) }
 {
     thread::scope(
         thread::scope_env(),
         rt,
         |scope| -> Result<(Vec<CounterSeat>, Vec<PairRow>), PairFault>
-            requires { IsSync R.row × IsSync G.row × IsSync I.row × All (IsBackOf counters.now shared.now.layout.queues) backs.items × All (IsFrontOf shared.now.layout.queues) fronts.items × (counters.now.shapes ≡ program.now.shapes) }
-            ensures { IfOk result (λ v. All (IsSeatOf counters.entry.now) v.0.items × ((q : ℕ) → Contains (map number_of backs.items) q → Contains (map (λ s. s.number) v.0.items) q) × (vec_len v.1 ≡ vec_len rows)) }
+            requires { IsSync R.row × IsSync G.row × IsSync I.row × All (IsBackOf counters.now shared.now.layout.queues) backs.items × All (IsFrontOf shared.now.layout.queues) fronts.items × (map number_of backs.items ≡ falling (vec_len backs)) × (vec_len backs ≡ vec_len rows) × (vec_len fronts ≡ vec_len rows) × (counters.now.shapes ≡ program.now.shapes) }
+            ensures { IfOk result (λ v. All (IsSeatOf counters.entry.now) v.0.items × All (HasWorked (task_of program.entry.now shared.entry.now) turns v.1.items) v.0.items × ((q : ℕ) → q < vec_len rows → Contains (map (λ s. s.number) v.0.items) q) × (vec_len v.1 ≡ vec_len rows)) }
         {
             let started_backs = Vec::with_capacity(alloc, backs.len())?;
             let started_fronts = Vec::with_capacity(alloc, fronts.len())?;
@@ -100,10 +103,11 @@ pub(crate) fn pair_over<R: Threads + Wait + Sync, G: Gate + Sync, I: Inbox + Syn
 ) -> Result<PairReport, PairFault>
     requires queues { (1 ≤ setup.now.queues) × (setup.now.queues ≤ 8) }
     requires shared { shared.now.layout.queues ≡ setup.now.queues }
+    requires numbers { (shared.now.ifindex ≡ setup.now.ifindex) × (shared.now.start ≡ setup.now.start) }
     requires parkers { (vec_len parkers.fronts ≡ setup.now.queues) × (vec_len parkers.backs ≡ setup.now.queues) }
     ensures rows { IfOk result (λ r. vec_len r.rows ≡ setup.now.queues) }
     ensures shapes { IfOk result (λ r. r.totals.shapes ≡ program.now.shapes) }
-    ensures account { IfOk result (λ r. AreLeft setup.now.queues r.totals) }
+    ensures account { IfOk result (λ r. AreLeft (task_for program.now setup.now) turns r) }
 {
     let (counters, seats) = Counters::make(alloc, program.shapes(), setup.queues)?;
     let backs = make_backs(alloc, shared, seats, parkers.backs)?;
@@ -148,7 +152,7 @@ pub fn pair_with<R: Threads + Wait + Sync, G: Gate + Sync>(
     requires { IsSound (setup_view setup.now) }
     ensures rows { IfOk result (λ r. vec_len r.rows ≡ setup.now.queues) }
     ensures shapes { IfOk result (λ r. r.totals.shapes ≡ program.now.shapes) }
-    ensures account { IfOk result (λ r. AreLeft setup.now.queues r.totals) }
+    ensures account { IfOk result (λ r. AreLeft (task_for program.now setup.now) turns r) }
 {
     let (shared, parkers) = Shared::make(alloc, setup)?;
     pair_over(

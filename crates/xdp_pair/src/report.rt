@@ -3,11 +3,12 @@
 use bpf_maps::Totals;
 use xen_back::Halt;
 
-/// What a back did: the packets that were copied, those that were refused, and why it has halted, if it has.
+/// What a back did: the packets that were copied, on which the program ran, those that were refused, and why it has
+/// halted, if it has.
 #[derive(Clone, Copy, Debug, PartialEq, Eq)]
 pub(crate) struct BackRow {
-    pub copied: u32,
-    pub refused: u32,
+    pub copied: u64,
+    pub refused: u64,
     pub halted: Option<Halt>,
 }
 
@@ -24,9 +25,9 @@ pub struct PairRow {
     /// Packets that the front sent.
     pub sent: u64,
     /// Packets that the back copied, and on which the program ran.
-    pub copied: u32,
+    pub copied: u64,
     /// Packets that the back refused.
-    pub refused: u32,
+    pub refused: u64,
     /// Why the back has halted, if it has.
     pub halted: Option<Halt>,
     /// Packets that came back to the front.

@@ -1,7 +1,8 @@
 //! The rings' pages: their headers and grants, and their mappings.
-ghost use Rattle.std.specs.Prelude.{◌≡◌, ◌<◌, ◌*◌, IfOk, true};
+ghost use Rattle.std.specs.Prelude.{◌≡◌, ◌<◌, ◌*◌, IfErr, IfOk, true};
+ghost use Rattle.xdp_pair.specs.declared.fault.PairFault.TheVariants.{Map};
 ghost use Rattle.xen_page.specs.Mapping.{IsMappedBy};
-ghost use Rattle.xdp_world.specs.Frames.{owners_of};
+ghost use Rattle.xdp_world.specs.Frames.{frame_of, owners_of};
 
 use crate::fault::PairFault;
 use crate::shared::Shared;
@@ -45,15 +46,18 @@ fn write_ring(shared: &Shared, bus: &mut PageBus<'_>, gref: u32)
     }
 }
 
-/// A new ring in the page of a reference, mapped for writing.
+/// A new ring in the page of a reference, mapped for writing. A mapping that gave another page isn't taken: the entry was
+/// rewritten meanwhile.
 pub(crate) fn make_ring(shared: &Shared, gref: u32) -> Result<Mapped, PairFault>
     requires { gref < 514 * shared.now.layout.queues }
     ensures lent { IfOk result (IsMappedBy (owners_of shared.now.layout.queues) 1) }
     ensures write { IfOk result (λ m. m.write ≡ true) }
+    ensures frame { IfOk result (λ m. m.frame ≡ frame_of gref) }
+    ensures fault { IfErr result (λ e. e ≡ Map) }
 {
     let mut bus = PageBus::of(&shared.frames);
     write_ring(shared, &mut bus, gref);
-    map(
+    let mapped = map(
         &mut bus,
         shared.layout.table(),
         shared.layout.owners(),
@@ -61,6 +65,9 @@ pub(crate) fn make_ring(shared: &Shared, gref: u32) -> Result<Mapped, PairFault>
         BACK,
         gref,
         true,
-    )
-    .map_err(|_| PairFault::Map)
+    );
+    match mapped {
+        Ok(ring) if ring.frame() == FIRST_GRANTED + gref => Ok(ring),
+        Ok(_) | Err(_) => Err(PairFault::Map),
+    }
 }

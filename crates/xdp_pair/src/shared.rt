@@ -56,6 +56,7 @@ impl Shared {
     pub fn make(alloc: Global, setup: &Setup) -> Result<(Shared, Parkers), AllocError>
         requires { setup.now.queues ≤ 8 }
         ensures queues { IfOk result (λ r. r.0.layout.queues ≡ setup.now.queues) }
+        ensures numbers { IfOk result (λ r. (r.0.ifindex ≡ setup.now.ifindex) × (r.0.start ≡ setup.now.start)) }
         ensures parkers { IfOk result (λ r. (vec_len r.1.fronts ≡ setup.now.queues) × (vec_len r.1.backs ≡ setup.now.queues)) }
     {
         let (lanes, parkers) = make_lanes(alloc, setup.queues)?;

@@ -1,15 +1,19 @@
 //! Starting the threads.
-ghost use Rattle.std.specs.Prelude.{◌≡◌, ℕ, [], All, Contains, map, ◌<◌, ◌≤◌, ◌+◌, length, vec_len, vec_capacity, IfOk};
-ghost use Rattle.xdp_pair.specs.Kits.{IsBackOf, IsFrontOf, number_of};
+ghost use Rattle.std.specs.Prelude.{◌≡◌, [], All, map, ◌<◌, ◌≤◌, ◌+◌, length, vec_len, vec_capacity, IfErr, IfOk};
+ghost use Rattle.std.specs.List.{range_with_len};
+ghost use Rattle.xdp_pair.specs.declared.fault.PairFault.TheVariants.{Thread};
+ghost use Rattle.xdp_pair.specs.Kits.{IsBackOf, IsFrontOf, falling, number_of};
 ghost use Rattle.xdp_pair.specs.Promised.{PromisesSeatOf, promised_number};
 ghost use Rattle.bpf_maps.specs.Seats.{IsSeatOf};
+ghost use Rattle.xdp_pair.specs.Working.{IsWork, task_of};
 
 use crate::back::{BackDone, BackThread, SeatBack, work_back};
 use crate::fault::PairFault;
-use crate::front::{FrontDone, FrontThread, work_front};
+use crate::front::{FrontThread, work_front};
 use crate::gate::Gate;
 use crate::inbox::Inbox;
 use crate::kits::{BackKit, FrontKit};
+use crate::report::FrontRow;
 use crate::shared::Shared;
 use bpf_maps::Counters;
 use bpf_verify::Verified;
@@ -30,18 +34,21 @@ pub(crate) fn start_backs<'s, E, R: Wait + Sync, G: Gate + Sync>(
     mut backs: Vec<BackThread>,
 ) -> Result<Vec<BackThread>, PairFault>
     requires kits { All (IsBackOf counters.now shared.now.layout.queues) kits.items }
+    requires numbers { map number_of kits.items ≡ falling (vec_len kits) }
     requires shapes { counters.now.shapes ≡ program.now.shapes }
     requires room { (backs.items ≡ []) × (vec_len kits ≤ vec_capacity backs) }
     ensures count { IfOk result (λ v. vec_len v ≡ vec_len kits) }
-    ensures seats { IfOk result (λ v. All (PromisesSeatOf counters.entry.now) v.items × ((q : ℕ) → Contains (map number_of kits.items) q → Contains (map promised_number v.items) q)) }
+    ensures fault { IfErr result (λ e. e ≡ Thread) }
+    ensures seats { IfOk result (λ v. All (PromisesSeatOf (task_of program.entry.now shared.entry.now) turns counters.entry.now) v.items) }
+    ensures numbers { IfOk result (λ v. map promised_number v.items ≡ range_with_len 0 (vec_len kits)) }
 {
     while let Some(kit) = kits.pop() {
-        let promise = SeatBack::of(&kit.seat);
+        let promise = SeatBack::of(&kit.seat, program, shared, turns);
         let Ok(back) = scope.spawn_with(
             promise,
             move || -> BackDone
                 requires { IsBackOf counters.now shared.now.layout.queues kit × (counters.now.shapes ≡ program.now.shapes) }
-                ensures { IsSeatOf counters.entry.now result.seat × (result.seat.number ≡ kit.seat.number) }
+                ensures { IsSeatOf counters.entry.now result.seat × (result.seat.number ≡ kit.seat.number) × IsWork (task_of program.entry.now shared.entry.now) turns result.row result.seat }
             { work_back(rt, gate, turns, program, shared, counters, kit) },
         ) else {
             shared.end_all();
@@ -66,11 +73,13 @@ pub(crate) fn start_fronts<'s, E, R: Wait + Sync, I: Inbox + Sync>(
 ) -> Result<Vec<FrontThread>, PairFault>
     requires room { (fronts.items ≡ []) × (vec_len kits ≤ vec_capacity fronts) }
     requires kits { All (IsFrontOf shared.now.layout.queues) kits.items }
+    ensures count { IfOk result (λ v. vec_len v ≡ vec_len kits.entry) }
+    ensures fault { IfErr result (λ e. e ≡ Thread) }
 {
     while let Some(kit) = kits.pop() {
         let Ok(front) = Builder::new().stack_size(stack).spawn_scoped(
             scope,
-            move || -> FrontDone
+            move || -> FrontRow
                 requires { IsFrontOf shared.now.layout.queues kit }
             { work_front(rt, inbox, packets, shared, kit) },
         )

@@ -1,6 +1,7 @@
 //! Runs of pairs.
 
 mod comparing;
+mod counts;
 mod ending;
 mod fixtures;
 mod growth;

@@ -1,24 +1,9 @@
 //! `xdpbox`: checks a BPF program, or runs it on a packet or in queues, and prints how that ended.
 #![tactic(auto)]
 
-mod answer;
-mod command_line;
-mod counter_lines;
-mod executing;
-mod explaining;
-mod input;
-mod lines;
-mod output;
-mod pair_lines;
-mod pairing;
-mod program;
-mod request;
-mod stop;
-mod turn_lines;
-
-use crate::program::{print_memory, run_words};
 use std::process::ExitCode;
 use std::{env, io};
+use xdp_commands::{print_memory, run_words};
 
 /// The words of the command line, or no words if one of them isn't UTF-8; nothing if memory ran out.
 fn words_of(rt: &HostRuntime) -> Option<Vec<String>> {

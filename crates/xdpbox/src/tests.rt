@@ -6,6 +6,7 @@ mod explain;
 mod failing;
 mod failing_runs;
 mod hosting;
+mod lines;
 mod pair;
 mod programs;
 mod readers;

@@ -91,3 +91,15 @@ fn takes_a_relocation_of_each_slot(rt: HostRuntime) -> Result<(), Fail> {
     assert_eq!(rt; program.as_str(), "18110000000000001811000000000000");
     Ok(())
 }
+
+/// Only the destination and the offset of a wide load stay as they were.
+#[test]
+fn a_relocation_overwrites_what_the_load_had(rt: HostRuntime) -> Result<(), Fail> {
+    let alloc = rt.alloc();
+    let text =
+        "program = [\"1825fffeffffffff\"]\nmap = [{name = \"a\", entries = 1}, {name = \"b\", entries = 1}]\nreloc = [{slot = 0, map = \"b\"}]";
+    let setup = load(alloc, text.as_bytes())?;
+    let program = hex::encode(alloc, setup.program.as_slice())?;
+    assert_eq!(rt; program.as_str(), "1815fffe01000000");
+    Ok(())
+}

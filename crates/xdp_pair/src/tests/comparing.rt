@@ -13,7 +13,7 @@ use xdp_load::Packet;
 /// The different packets of a queue.
 const KINDS: u32 = 100;
 /// How often each of them is sent.
-const TIMES: u32 = 100;
+const TIMES: u32 = 10;
 
 /// The length of a packet: one in sixteen takes two slots.
 fn length(queue: usize, kind: u32) -> usize {
@@ -115,7 +115,7 @@ fn all_packets_of_eight_queues_come_back(rt: HostRuntime) -> Result<(), Fail> {
     )?;
     let row = PairRow {
         sent: u64::from(KINDS * TIMES),
-        copied: KINDS * TIMES,
+        copied: u64::from(KINDS * TIMES),
         refused: 0,
         halted: None,
         received: u64::from(KINDS * TIMES),

@@ -43,9 +43,9 @@ times = 500
 "#;
 
 /// The row of a queue whose packets were all passed on.
-fn passed(packets: u32) -> PairRow {
+fn passed(packets: u64) -> PairRow {
     PairRow {
-        sent: u64::from(packets),
+        sent: packets,
         copied: packets,
         refused: 0,
         halted: None,

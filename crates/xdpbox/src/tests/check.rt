@@ -1,8 +1,8 @@
-use crate::program::run_words;
 use std::process::Abort;
 use std::sync::Wait;
 use std::test::Fail;
 use std::thread::Threads;
+use xdp_commands::run_words;
 
 /// Runs `check` on settings, and compares what is printed and the status.
 pub(crate) fn assert_check<R: Abort + Threads + Wait + Sync>(

@@ -1,10 +1,10 @@
 //! The settings of examples/ with what `check` prints of each, and the programs without maps with what `exec` prints of packets.
-use crate::program::run_words;
 use std::alloc::Global;
 use std::process::Abort;
 use std::sync::Wait;
 use std::test::Fail;
 use std::thread::Threads;
+use xdp_commands::run_words;
 use xdp_load::load;
 
 /// examples/drop-ipv6/settings.toml

@@ -1,9 +1,9 @@
-use crate::program::run_words;
 use std::alloc::AllocError;
 use std::process::Abort;
 use std::sync::Wait;
 use std::test::Fail;
 use std::thread::Threads;
+use xdp_commands::run_words;
 
 /// Runs `exec` on two words, and compares what is printed and the status.
 pub(crate) fn assert_exec<R: Abort + Threads + Wait + Sync>(

@@ -1,6 +1,6 @@
-use crate::program::{print_memory, run_words};
 use crate::tests::readers::{Drip, Endless, Full, Narrow, Unreadable};
 use std::test::Fail;
+use xdp_commands::{print_memory, run_words};
 
 #[test]
 fn ends_at_the_first_failed_write(rt: HostRuntime) -> Result<(), Fail> {

@@ -1,10 +1,10 @@
-use crate::program::run_words;
 use crate::tests::readers::{Drip, Narrow};
 use std::alloc::Global;
 use std::process::Abort;
 use std::sync::Wait;
 use std::test::Fail;
 use std::thread::Threads;
+use xdp_commands::run_words;
 
 const RUN: [&str; 2] = ["xdpbox", "run"];
 

@@ -1,8 +1,8 @@
 //! `pair` on settings.
-use crate::program::run_words;
 use crate::tests::check::assert_command;
 use crate::tests::readers::Unreadable;
 use std::test::Fail;
+use xdp_commands::run_words;
 
 /// A program that adds 1 to counter 1 for each packet; its map, its relocation and its queues.
 const COUNTS: &str = "\

@@ -1,5 +1,5 @@
-use crate::program::run_words;
 use std::test::Fail;
+use xdp_commands::run_words;
 
 const REFUSED: &[u8] = b"words refused\n";
 

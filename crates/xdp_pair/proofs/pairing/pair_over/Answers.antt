@@ -1,6 +1,8 @@
-use Rattle.std.proofs.Common.{arith, length, ap, List, subst}
+use Rattle.std.proofs.Common.{arith, ◌≡◌, All, length, ap, List, subst}
 use Rattle.bpf_note.specs.Shape.{Shape, IsCounter}
-use Rattle.xdp_pair.proofs.SeatLemmas.{length_new, numbers_new}
+use Rattle.xdp_pair.proofs.SeatLemmas.{length_new}
+use Rattle.xdp_pair.specs.Leaving.{HasWorked}
+use Rattle.xdp_pair.specs.Working.{Task, task_for, task_of}
 use Rattle.xdp_pair.proofs.pairing.pair_over.Goals as goal
 
 pub make_backs-requires-clause-seats : goal.make_backs-requires-clause-seats
@@ -13,13 +15,18 @@ make_backs-requires-clause-seats g c =
 pub close-requires-clause-every : goal.close-requires-clause-every
 close-requires-clause-every g c q below =
     let many = c.in_ok-counters.ensures.counters.1 in
-    c.in_ok-seats.ensures.1 q (c.in_ok-backs.ensures.numbers q (numbers_new c.in_ok-counters.counters c.args.setup.now.queues _ c.in_ok-counters.ensures.seats q (omega arith)))
+    (let rows = c.in_ok-rows.ensures in c.in_ok-seats.ensures.2 q (omega arith))
 
 pub returns-clause-account : goal.returns-clause-account
 returns-clause-account g c =
+    let queues = c.requires.shared in
+    let ifindex = c.requires.numbers.0 in
+    let start = c.requires.numbers.1 in
+    let same : task_of c.args.program.now c.args.shared.now ≡ task_for c.args.program.now c.args.setup.now = (λ i. record { program = c.args.program.now; queues = queues i; ifindex = ifindex i; start = start i }) in
     record {
       seats = c.in_ok-seats.seats.items;
-      every = λ q below. c.in_ok-seats.ensures.1 q (c.in_ok-backs.ensures.numbers q (numbers_new c.in_ok-counters.counters c.args.setup.now.queues _ c.in_ok-counters.ensures.seats q below));
+      every = λ q below. (let rows = c.in_ok-rows.ensures in c.in_ok-seats.ensures.2 q (omega (arith, below, rows)));
+      worked = subst (λ (t : Task). All (HasWorked t c.args.turns c.in_ok-seats.rows.items) c.in_ok-seats.seats.items) same c.in_ok-seats.ensures.1;
       account = c.close.ensures.history;
       sums = λ m k j is. c.close.ensures.sums m k j (subst (λ (l : List Shape). IsCounter l m k j) c.close.ensures.shapes is);
     }

@@ -10,6 +10,6 @@ loop-kit-preserved g c = (
       let m = length-append c.pop.new.self.items (c.in-Some.kit ∷ []) in
       let b = c.loop-kit.invariant.1 in
       let l = c.push_reserved.ensures.len in
-      let p = c.push_reserved.ensures.capacity in
       omega arith),
+  (let b = c.loop-kit.invariant.2 in let p = c.push_reserved.ensures.capacity in omega arith),
 )

@@ -1,0 +1,161 @@
+-- What a call prints, and its exit status.
+use Rattle.std.specs.Prelude.{ℕ, ◌≡◌, ◌≢◌, ◌<◌, ◌≤◌, ◌⊎◌, List, length, take, codes, Option, Some, None, IfSome, Result, Ok, Err}
+use Rattle.std.specs.Result.{result_ok}
+use Rattle.std.specs.Io.KnownBytes.{Appends, Consumes, IsAtEnd, Keeps}
+use Rattle.hex.specs.Hex.{decode_of}
+use Rattle.bpf_insn.specs.declared.refusal.Refusal.{Refusal}
+use Rattle.bpf_vm.specs.declared.run.Ended.{Ended}
+use Rattle.xdp_load.specs.Setup.{SetupView, setup_of, text_of}
+use Rattle.xdp_load.specs.declared.fault.Fault.{Fault}
+use Rattle.xdp_load.specs.declared.fault.LoadFault.{LoadFault}
+use Rattle.xdp_load.specs.declared.fault.LoadFault.TheVariants.{Memory, Refused}
+use Rattle.xdp_world.specs.declared.report.Report.{Report}
+use Rattle.xdp_commands.specs.declared.answer.Question.{Question}
+use Rattle.xdp_commands.specs.declared.answer.Question.TheVariants as question
+use Rattle.xdp_commands.specs.declared.executing.Accepted.{Accepted}
+use Rattle.xdp_commands.specs.Executing.{Checks, Executes, Runs}
+use Rattle.xdp_commands.specs.Explaining.{IsOutcome, outcome_status, outcome_text}
+use Rattle.xdp_commands.specs.declared.explaining.Outcome.{Outcome}
+use Rattle.xdp_commands.specs.Lines.{checked_text, executed_text, ran_text, settings_text}
+use Rattle.xdp_commands.specs.PairLines.{paired_status, paired_text}
+use Rattle.xdp_commands.specs.Pairing.{IsPaired}
+use Rattle.xdp_commands.specs.declared.pairing.Paired.{Paired}
+use Rattle.xdp_commands.specs.Words.{Wanted, exec, check, explain, run, pair}
+
+-- a text, and an exit status
+abbrev pub Said : Type 0
+Said = List ℕ × ℕ
+
+abbrev pub words_refused : Said
+words_refused = (codes "words refused\n", 2)
+
+abbrev pub memory_wanted : Said
+memory_wanted = (codes "memory\n", 3)
+
+-- the status of a program that is accepted, or refused
+abbrev pub program_status : {A : Type 0} → Result A Refusal → ℕ
+program_status (Ok a) = 0
+program_status (Err r) = 1
+
+abbrev pub executed_answer : Result Ended Refusal → Said
+executed_answer e = (executed_text e, program_status e)
+
+-- the bytes of a hex word, in either case
+abbrev pub hex_bytes : List ℕ → Option (List ℕ)
+hex_bytes word = result_ok (decode_of word)
+
+-- a packet of at most 65,535 bytes is run on, a longer one is refused words
+abbrev pub PacketAnswer : List ℕ → List ℕ → Said → Type 0
+PacketAnswer program packet said =
+    ((65535 < length packet) × (said ≡ words_refused))
+    ⊎ ((length packet ≤ 65535) × ((e : Result Ended Refusal) × Executes program packet e × (said ≡ executed_answer e)))
+
+-- the answer to two words, by the bytes that they stand for
+abbrev pub BytesAnswer : Option (List ℕ) → Option (List ℕ) → Said → Type 0
+BytesAnswer None packet said = said ≡ words_refused
+BytesAnswer (Some program) None said = said ≡ words_refused
+BytesAnswer (Some program) (Some packet) said = PacketAnswer program packet said
+
+-- the answer of `exec`
+abbrev pub ExecAnswer : List ℕ → List ℕ → Said → Type 0
+ExecAnswer program packet said = BytesAnswer (hex_bytes program) (hex_bytes packet) said
+
+abbrev pub settings_refused : LoadFault → Said
+settings_refused f = (settings_text f, 2)
+
+abbrev pub checked_answer : Result Accepted Refusal → Said
+checked_answer c = (checked_text c, program_status c)
+
+-- the answer to a setup: by a check of its program with its maps
+abbrev pub SetupAnswer : SetupView → Said → Type 0
+SetupAnswer s said = (c : Result Accepted Refusal) × Checks s.program s.shapes c × (said ≡ checked_answer c)
+
+abbrev pub outcome_answer : List (List ℕ) → Outcome → Said
+outcome_answer names o = (outcome_text names o, outcome_status o)
+
+-- the answer to a setup: by an explanation of what becomes of its program with its maps
+abbrev pub ExplainAnswer : SetupView → Said → Type 0
+ExplainAnswer s said = (o : Outcome) × IsOutcome s.program s.shapes o × (said ≡ outcome_answer s.names o)
+
+abbrev pub ran_answer : List (List ℕ) → Result Report Refusal → Said
+ran_answer names c = (ran_text names c, program_status c)
+
+-- the answer to a setup: by a run of its queues through its script
+abbrev pub RunAnswer : SetupView → Said → Type 0
+RunAnswer s said = (c : Result Report Refusal) × Runs s c × (said ≡ ran_answer s.names c)
+
+abbrev pub paired_answer : List (List ℕ) → Paired → Said
+paired_answer names p = (paired_text names p, paired_status p)
+
+-- the answer to a setup: by a run of its queues on threads, at most so many turns each
+abbrev pub PairAnswer : ℕ → SetupView → Said → Type 0
+PairAnswer turns s said = (p : Paired) × IsPaired s turns p × (said ≡ paired_answer s.names p)
+
+-- the answer to a setup of which this is asked
+abbrev pub AnswerTo : Question → SetupView → Said → Type 0
+AnswerTo question.Check = SetupAnswer
+AnswerTo question.Explain = ExplainAnswer
+AnswerTo question.Run = RunAnswer
+
+-- the answer to what settings spell: to a setup, or their first fault
+abbrev pub SpelledAnswer : (SetupView → Said → Type 0) → Result SetupView Fault → Said → Type 0
+SpelledAnswer answer (Ok s) said = answer s said
+SpelledAnswer answer (Err f) said = said ≡ settings_refused (Refused f)
+
+-- the answer to settings; L0 where memory ran out while the settings, which are a text, were loaded
+abbrev pub SettingsAnswer : (SetupView → Said → Type 0) → List ℕ → Said → Type 0
+SettingsAnswer answer settings said = SpelledAnswer answer (setup_of settings) said ⊎ ((text_of settings ≢ None) × (said ≡ settings_refused Memory))
+
+-- the settings are what the reader gave, up to its end or 1,048,577 bytes
+pub record IsSettings (old new : Option (List ℕ)) (settings : List ℕ) : Type 0 where
+  pub took : Consumes old new settings
+  pub few : length settings ≤ 1048577
+  pub all : length settings < 1048577 → IsAtEnd new
+  pub known : IfSome old (λ xs. settings ≡ take 1048577 xs)
+
+-- the answer to the settings that a reader gives
+abbrev pub InputAnswer : (SetupView → Said → Type 0) → Option (List ℕ) → Option (List ℕ) → Said → Type 0
+InputAnswer answer old new said = (settings : List ℕ) × IsSettings old new settings × SettingsAnswer answer settings said
+
+-- the answer to what the words ask for, over a reader before and after
+abbrev pub IsAnswer : Option Wanted → Option (List ℕ) → Option (List ℕ) → Said → Type 0
+IsAnswer None old new said = said ≡ words_refused
+IsAnswer (Some (exec program packet)) old new said = ExecAnswer program packet said
+IsAnswer (Some check) old new said = InputAnswer SetupAnswer old new said
+IsAnswer (Some explain) old new said = InputAnswer ExplainAnswer old new said
+IsAnswer (Some run) old new said = InputAnswer RunAnswer old new said
+IsAnswer (Some (pair turns)) old new said = InputAnswer (PairAnswer turns) old new said
+
+-- at most so many bytes are taken
+abbrev pub TakesAtMost : ℕ → Option (List ℕ) → Option (List ℕ) → Type 0
+TakesAtMost n old new = (taken : List ℕ) × Consumes old new taken × (length taken ≤ n)
+
+-- what a call does to its reader, whatever it answers: `exec` alone reads nothing
+abbrev pub Takes : Option Wanted → Option (List ℕ) → Option (List ℕ) → Type 0
+Takes None old new = Keeps old new
+Takes (Some (exec program packet)) old new = Keeps old new
+Takes (Some check) old new = TakesAtMost 1048577 old new
+Takes (Some explain) old new = TakesAtMost 1048577 old new
+Takes (Some run) old new = TakesAtMost 1048577 old new
+Takes (Some (pair turns)) old new = TakesAtMost 1048577 old new
+
+-- a call that may end as a read failed, when nothing is printed
+abbrev pub Reads : Option Wanted → Type 0
+Reads None = ⊥
+Reads (Some (exec program packet)) = ⊥
+Reads (Some check) = Unit {0}
+Reads (Some explain) = Unit {0}
+Reads (Some run) = Unit {0}
+Reads (Some (pair turns)) = Unit {0}
+
+-- the text is printed and the status given; or a write failed, the status is 4, and a beginning of the text is printed
+abbrev pub Prints : Option (List ℕ) → Option (List ℕ) → Said → ℕ → Type 0
+Prints held written said status =
+    ((status ≡ said.1) × Appends held written said.0) ⊎ ((status ≡ 4) × ((n : ℕ) × (n < length said.0) × Appends held written (take n said.0)))
+
+-- a call ends with its answer, out of memory, or as a read failed
+abbrev pub Ends : Option Wanted → Option (List ℕ) → Option (List ℕ) → Option (List ℕ) → Option (List ℕ) → ℕ → Type 0
+Ends wanted old new held written status =
+    ((said : Said) × IsAnswer wanted old new said × Prints held written said status)
+    ⊎ (Prints held written memory_wanted status
+    ⊎ (Reads wanted × (status ≡ 4) × Keeps held written))

@@ -1,0 +1,71 @@
+-- What becomes of a program's bytes, and what `explain` prints of it.
+use Rattle.std.specs.Prelude.{ℕ, ◌≡◌, ◌↔◌, List, [], ◌++◌, length, slice_get, Option, None, Some, IfSome, IsSome, option_map, Ok}
+use Rattle.bpf_explain.specs.Explained.{asked_register, explained_text, undecoded_text, was_text}
+use Rattle.bpf_explain.specs.Listing.{listing_text}
+use Rattle.bpf_flow.specs.Causes.{IsRuleCause}
+use Rattle.bpf_insn.specs.Code.{Spells}
+use Rattle.bpf_insn.specs.Refusal.{IsNoCode}
+use Rattle.bpf_insn.specs.declared.insn.Insn.{Insn}
+use Rattle.bpf_insn.specs.Register.{number}
+use Rattle.bpf_insn.specs.declared.register.Register.{Register}
+use Rattle.bpf_note.specs.Facts.{Facts}
+use Rattle.bpf_note.specs.Parts.{facts, Noted}
+use Rattle.bpf_note.specs.Shape.{Shape}
+use Rattle.bpf_verify.specs.Consistent.{instructions}
+use Rattle.bpf_verify.specs.FirstRefusal.{IsRefusal, IsStoppedBy}
+use Rattle.bpf_verify.specs.Lost.{IsLost}
+use Rattle.bpf_verify.specs.declared.lost.Lost.{Lost}
+use Rattle.bpf_verify.specs.declared.verifier.Explained.{Explained}
+use Rattle.xdp_commands.specs.Executing.{IsProgramOf}
+use Rattle.xdp_commands.specs.Lines.{checked_text}
+use Rattle.xdp_commands.specs.declared.explaining.Outcome.{Outcome}
+use Rattle.xdp_commands.specs.declared.explaining.Outcome.TheVariants.{Accepted, Undecoded, Refused}
+
+-- the bytes spell the program, which is refused so with these maps; a note is there where the rule for an instruction
+-- refuses it, and it is the first one at the slot that the rule refuses
+pub record IsExplained (program : List ℕ) (shapes : List Shape) (e : Explained) : Type 0 where
+  pub spelled : Spells e.code program
+  pub refused : IsRefusal e.code shapes e.refusal.cause e.refusal.pc
+  pub there : IsSome e.note ↔ IsRuleCause e.refusal.cause
+  pub first : IfSome e.note (λ n. IsStoppedBy e.code shapes e.refusal.pc e.refusal.cause (facts n))
+
+-- the register of which a refusal asks where it was an address last: none where no rule refuses the program
+abbrev pub asked_of : Option Noted → Explained → Option Register
+asked_of None e = None
+asked_of (Some n) e = asked_register e.refusal.cause (slice_get e.code e.refusal.pc)
+
+-- where that register was an address last, if the last slot that writes it made it a number
+abbrev pub IsLostOf : Option Register → List Shape → Explained → Option Lost → Type 0
+IsLostOf None shapes e l = l ≡ None
+IsLostOf (Some r) shapes e None = (p : ℕ) (n : Facts) → IsLost e.code shapes e.refusal.pc (number r) p n → ⊥
+IsLostOf (Some r) shapes e (Some l) = IsLost e.code shapes e.refusal.pc (number r) l.pc (facts l.note)
+
+-- the outcome is that of the bytes with these maps
+abbrev pub IsOutcome : List ℕ → List Shape → Outcome → Type 0
+IsOutcome program shapes (Accepted p) = IsProgramOf program shapes p
+IsOutcome program shapes (Undecoded r) = IsNoCode program r
+IsOutcome program shapes (Refused e l) = IsExplained program shapes e × IsLostOf (asked_of e.note e) shapes e l
+
+-- the listing of an accepted program, and the line of a check
+abbrev pub accepted_text : List Insn → List ℕ
+accepted_text code = listing_text None [] 0 code ++ checked_text (Ok (record { instructions = instructions code; slots = length code }))
+
+-- the line that says where a register was an address last
+abbrev pub lost_text : List (List ℕ) → Option Register → Option Lost → List ℕ
+lost_text names (Some r) (Some l) = was_text names r l.pc (facts l.note)
+lost_text names r l = []
+
+-- the explanation of a refusal, with that line
+abbrev pub refused_text : List (List ℕ) → Explained → Option Lost → List ℕ
+refused_text names e l = explained_text e.code names e.refusal (option_map facts e.note) ++ lost_text names (asked_of e.note e) l
+
+abbrev pub outcome_text : List (List ℕ) → Outcome → List ℕ
+outcome_text names (Accepted p) = accepted_text p.code
+outcome_text names (Undecoded r) = undecoded_text r
+outcome_text names (Refused e l) = refused_text names e l
+
+-- the status of a check
+abbrev pub outcome_status : Outcome → ℕ
+outcome_status (Accepted p) = 0
+outcome_status (Undecoded r) = 1
+outcome_status (Refused e l) = 1

@@ -1,0 +1,49 @@
+-- What becomes of a setup whose queues run on threads.
+use Rattle.std.specs.Prelude.{ℕ, ◌≡◌, List, vec_len, Result, Ok, Err, ⊤}
+use Rattle.bpf_note.specs.Shape.{Shape}
+use Rattle.bpf_verify.specs.Consistent.{Accepted as Program}
+use Rattle.xdp_load.specs.Setup.{SetupView}
+use Rattle.xdp_pair.specs.Leaving.{AreLeft}
+use Rattle.xdp_pair.specs.Working.{Task}
+use Rattle.xdp_pair.specs.declared.fault.PairFault.{PairFault}
+use Rattle.xdp_pair.specs.declared.fault.PairFault.TheVariants as fault
+use Rattle.xdp_pair.specs.declared.report.PairReport.{PairReport}
+use Rattle.xdp_commands.specs.Executing.{IsProgramOf, IsRefusalOfBytes}
+use Rattle.xdp_commands.specs.declared.pairing.Paired.{Paired}
+use Rattle.xdp_commands.specs.declared.pairing.Paired.TheVariants as paired
+
+-- the setup's program has no cause of refusal with its maps
+abbrev pub IsAcceptedSetup : SetupView → Type 0
+IsAcceptedSetup s = (p : Program) × IsProgramOf s.program s.shapes p
+
+-- what the setup's backs have in common, with an accepted program
+abbrev pub task_with : SetupView → Program → Task
+task_with s p = record { program = p; queues = s.queues; ifindex = s.ifindex; start = s.start }
+
+-- a row for each queue, counters of the setup's maps, and what at most so many turns of the accepted program left in both
+pub record IsPairOfSetup (s : SetupView) (turns : ℕ) (r : PairReport) : Type 0 where
+  pub program : Program
+  pub accepted : IsProgramOf s.program s.shapes program
+  pub rows : vec_len r.rows ≡ s.queues
+  pub maps : r.totals.shapes ≡ s.shapes
+  pub left : AreLeft (task_with s program) turns r
+
+-- the queues of an accepted program ran, at most so many turns each, or their rings couldn't be mapped, or a thread couldn't
+-- be started; or the program is refused
+abbrev pub IsPaired : SetupView → ℕ → Paired → Type 0
+IsPaired s turns (paired.Ran report) = IsPairOfSetup s turns report
+IsPaired s turns (paired.Refused refusal) = IsRefusalOfBytes s.program s.shapes refusal
+IsPaired s turns paired.NotMapped = IsAcceptedSetup s
+IsPaired s turns paired.NotStarted = IsAcceptedSetup s
+
+-- what comes of a run: its report, or the line of its fault, but of out of memory
+abbrev pub Comes : Result PairReport PairFault → Paired → Type 0
+Comes (Ok report) p = p ≡ paired.Ran report
+Comes (Err fault.Map) p = p ≡ paired.NotMapped
+Comes (Err fault.Thread) p = p ≡ paired.NotStarted
+Comes (Err fault.Memory) p = ⊥
+
+-- the counters that were left, if any, are of these maps
+abbrev pub HasCounters : List Shape → Paired → Type 0
+HasCounters shapes (paired.Ran report) = report.totals.shapes ≡ shapes
+HasCounters shapes p = ⊤

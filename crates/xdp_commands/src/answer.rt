@@ -1,0 +1,267 @@
+//! What the program answers.
+ghost use Rattle.std.specs.Prelude.{◌≡◌, ◌≤◌, IfOk, IfErr, Some, length, option_map};
+ghost use Rattle.xdp_load.specs.SetupSeen.{setup_view};
+ghost use Rattle.xdp_load.specs.Sound.{IsSound};
+ghost use Rattle.xdp_commands.specs.Answer.{AnswerTo, ExecAnswer, ExplainAnswer, InputAnswer, IsAnswer, PacketAnswer, PairAnswer, Reads, RunAnswer, SettingsAnswer, SetupAnswer, Takes, TakesAtMost, checked_answer, executed_answer, hex_bytes, program_status, settings_refused, words_refused};
+ghost use Rattle.xdp_commands.specs.Words as wanted;
+ghost use Rattle.xdp_commands.specs.Seen.{said_of, wanted_of};
+
+use crate::executing::{Accepted, check, execute, run};
+use crate::explaining::{outcome_of, outcome_status, outcome_text};
+use crate::input::read_settings;
+use crate::lines::{checked_text, executed_text, ran_text, settings_text};
+use crate::pair_lines::{paired_status, paired_text};
+use crate::pairing::pair;
+use crate::request::Request;
+use crate::stop::Stop;
+use bpf_insn::Refusal;
+use bpf_vm::{Ended, PacketBuf};
+use hex::FromHexError;
+use std::alloc::{AllocError, Global};
+use std::io::Read;
+use std::sync::Wait;
+use std::thread::Threads;
+use xdp_load::{LoadFault, Setup, load};
+
+/// A text that is printed, and the exit status.
+#[derive(Drop)]
+pub struct Answer {
+    pub text: String,
+    pub status: u8,
+}
+
+/// The answer to words that are refused.
+fn words_refused(alloc: Global) -> Result<Answer, AllocError>
+    ensures { IfOk result (λ a. said_of a ≡ words_refused) }
+{
+    let text = String::from_str(alloc, "words refused\n")?;
+    Ok(Answer { text, status: 2 })
+}
+
+/// The status of a program that is accepted, or refused.
+fn program_status<T>(outcome: &Result<T, Refusal>) -> u8
+    ensures { result ≡ program_status outcome.now }
+{
+    match outcome {
+        Ok(_) => 0,
+        Err(_) => 1,
+    }
+}
+
+/// The answer of a run or a refusal.
+fn executed_answer(
+    alloc: Global,
+    executed: &Result<Ended<'_>, Refusal>,
+) -> Result<Answer, AllocError>
+    ensures { IfOk result (λ a. said_of a ≡ executed_answer executed.now) }
+{
+    let text = executed_text(alloc, executed)?;
+    Ok(Answer {
+        text,
+        status: program_status(executed),
+    })
+}
+
+/// The bytes of a hex word, none where it is refused.
+fn hex_bytes(alloc: Global, word: &str) -> Result<Option<Vec<u8>>, AllocError>
+    ensures { IfOk result (λ o. option_map (λ v. v.items) o ≡ hex_bytes word.now) }
+{
+    match hex::decode(alloc, word) {
+        Ok(bytes) => Ok(Some(bytes)),
+        Err(FromHexError::OutOfMemory) => Err(AllocError),
+        Err(_) => Ok(None),
+    }
+}
+
+/// The answer of a program's bytes on a packet's, which it may change.
+fn packet_answer(alloc: Global, program: &[u8], packet: &mut [u8]) -> Result<Answer, AllocError>
+    ensures { IfOk result (λ a. PacketAnswer program.now packet.old (said_of a)) }
+{
+    let Ok(packet) = PacketBuf::over(packet) else {
+        return words_refused(alloc);
+    };
+    let executed = execute(alloc, program, packet);
+    executed_answer(alloc, &executed)
+}
+
+/// The answer of `exec`.
+fn exec_answer(alloc: Global, program: &str, packet: &str) -> Result<Answer, AllocError>
+    ensures { IfOk result (λ a. ExecAnswer program.now packet.now (said_of a)) }
+{
+    let Some(program) = hex_bytes(alloc, program)? else {
+        return words_refused(alloc);
+    };
+    let Some(mut packet) = hex_bytes(alloc, packet)? else {
+        return words_refused(alloc);
+    };
+    packet_answer(alloc, program.as_slice(), &mut packet)
+}
+
+/// The answer of a check.
+fn checked_answer(alloc: Global, checked: &Result<Accepted, Refusal>) -> Result<Answer, AllocError>
+    ensures { IfOk result (λ a. said_of a ≡ checked_answer checked.now) }
+{
+    let text = checked_text(alloc, checked)?;
+    Ok(Answer {
+        text,
+        status: program_status(checked),
+    })
+}
+
+/// The answer to settings that are refused.
+fn settings_refused(alloc: Global, fault: LoadFault) -> Result<Answer, AllocError>
+    ensures { IfOk result (λ a. said_of a ≡ settings_refused fault) }
+{
+    let text = settings_text(alloc, fault)?;
+    Ok(Answer { text, status: 2 })
+}
+
+/// What is asked of settings, and is answered without threads.
+#[derive(Clone, Copy)]
+enum Question {
+    /// Whether the program is accepted.
+    Check,
+    /// Why the program is refused.
+    Explain,
+    /// What the queues do in the steps of the script.
+    Run,
+}
+
+/// The answer to a setup whose program is checked.
+fn checked_setup_answer(alloc: Global, setup: &Setup) -> Result<Answer, AllocError>
+    requires { length setup.now.shapes.items ≤ 4 }
+    ensures { IfOk result (λ a. SetupAnswer (setup_view setup.now) (said_of a)) }
+{
+    let checked = check(alloc, setup.program.as_slice(), setup.shapes.as_slice());
+    checked_answer(alloc, &checked)
+}
+
+/// The answer to a setup whose program is explained.
+fn explain_answer(alloc: Global, setup: &Setup) -> Result<Answer, AllocError>
+    requires { length setup.now.shapes.items ≤ 4 }
+    ensures { IfOk result (λ a. ExplainAnswer (setup_view setup.now) (said_of a)) }
+{
+    let outcome = outcome_of(alloc, setup.program.as_slice(), setup.shapes.as_slice())?;
+    let text = outcome_text(alloc, setup.names.as_slice(), &outcome)?;
+    Ok(Answer {
+        text,
+        status: outcome_status(&outcome),
+    })
+}
+
+/// The answer to a setup whose queues are run.
+fn run_answer(alloc: Global, setup: &Setup) -> Result<Answer, AllocError>
+    requires { IsSound (setup_view setup.now) }
+    ensures { IfOk result (λ a. RunAnswer (setup_view setup.now) (said_of a)) }
+{
+    let ran = run(alloc, setup)?;
+    let text = ran_text(alloc, setup.names.as_slice(), setup.shapes.as_slice(), &ran)?;
+    Ok(Answer {
+        text,
+        status: program_status(&ran),
+    })
+}
+
+/// The answer to a setup whose queues are run on threads.
+fn pair_answer<T: Threads + Wait + Sync>(
+    rt: &T,
+    alloc: Global,
+    setup: &Setup,
+    turns: u32,
+) -> Result<Answer, AllocError>
+    requires { IsSound (setup_view setup.now) }
+    ensures { IfOk result (λ a. PairAnswer turns (setup_view setup.now) (said_of a)) }
+{
+    let paired = pair(rt, alloc, setup, turns)?;
+    let text = paired_text(
+        alloc,
+        setup.names.as_slice(),
+        setup.shapes.as_slice(),
+        &paired,
+    )?;
+    Ok(Answer {
+        text,
+        status: paired_status(&paired),
+    })
+}
+
+/// The answer to a setup.
+fn setup_answer(alloc: Global, question: Question, setup: &Setup) -> Result<Answer, AllocError>
+    requires { IsSound (setup_view setup.now) }
+    ensures { IfOk result (λ a. AnswerTo question (setup_view setup.now) (said_of a)) }
+{
+    match question {
+        Question::Check => checked_setup_answer(alloc, setup),
+        Question::Explain => explain_answer(alloc, setup),
+        Question::Run => run_answer(alloc, setup),
+    }
+}
+
+/// The answer to settings.
+fn settings_answer(alloc: Global, question: Question, settings: &[u8]) -> Result<Answer, AllocError>
+    ensures { IfOk result (λ a. SettingsAnswer (AnswerTo question) settings.now (said_of a)) }
+{
+    match load(alloc, settings) {
+        Ok(setup) => setup_answer(alloc, question, &setup),
+        Err(fault) => settings_refused(alloc, fault),
+    }
+}
+
+/// The answer of `pair`.
+fn threads_answer<T: Threads + Wait + Sync>(
+    rt: &T,
+    alloc: Global,
+    turns: u32,
+    settings: &[u8],
+) -> Result<Answer, AllocError>
+    ensures { IfOk result (λ a. SettingsAnswer (PairAnswer turns) settings.now (said_of a)) }
+{
+    match load(alloc, settings) {
+        Ok(setup) => pair_answer(rt, alloc, &setup, turns),
+        Err(fault) => settings_refused(alloc, fault),
+    }
+}
+
+/// The answer to the settings that the input gives.
+fn input_answer<R: Read>(alloc: Global, question: Question, input: &mut R) -> Result<Answer, Stop>
+    ensures answer { IfOk result (λ a. InputAnswer (AnswerTo question) (R.remaining input.old) (R.remaining input.new) (said_of a)) }
+    ensures takes { TakesAtMost 1048577 (R.remaining input.old) (R.remaining input.new) }
+{
+    let settings = read_settings(alloc, input)?;
+    Ok(settings_answer(alloc, question, settings.as_slice())?)
+}
+
+/// The answer of `pair` to the settings that the input gives.
+fn input_pair<T: Threads + Wait + Sync, R: Read>(
+    rt: &T,
+    alloc: Global,
+    turns: u32,
+    input: &mut R,
+) -> Result<Answer, Stop>
+    ensures answer { IfOk result (λ a. IsAnswer (Some (wanted.pair turns)) (R.remaining input.old) (R.remaining input.new) (said_of a)) }
+    ensures takes { TakesAtMost 1048577 (R.remaining input.old) (R.remaining input.new) }
+{
+    let settings = read_settings(alloc, input)?;
+    Ok(threads_answer(rt, alloc, turns, settings.as_slice())?)
+}
+
+/// The answer to what the words ask for, if they ask for anything.
+pub fn answer_to<T: Threads + Wait + Sync, R: Read>(
+    rt: &T,
+    alloc: Global,
+    request: Option<Request<'_>>,
+    input: &mut R,
+) -> Result<Answer, Stop>
+    ensures answer { IfOk result (λ a. IsAnswer (option_map wanted_of request.entry) (R.remaining input.old) (R.remaining input.new) (said_of a)) }
+    ensures takes { Takes (option_map wanted_of request.entry) (R.remaining input.old) (R.remaining input.new) }
+    ensures reads { IfErr result (λ e. e ≡ Stop.Read → Reads (option_map wanted_of request.entry)) }
+{
+    match request {
+        None => Ok(words_refused(alloc)?),
+        Some(Request::Exec { program, packet }) => Ok(exec_answer(alloc, program, packet)?),
+        Some(Request::Check) => input_answer(alloc, Question::Check, input),
+        Some(Request::Explain) => input_answer(alloc, Question::Explain, input),
+        Some(Request::Run) => input_answer(alloc, Question::Run, input),
+        Some(Request::Pair { turns }) => input_pair(rt, alloc, turns, input),
+    }
+}

@@ -1,0 +1,59 @@
+//! The command line, as `clap` has it.
+ghost use Rattle.std.specs.Prelude.{◌≡◌, IfOk, false};
+ghost use Rattle.clap.specs.Words.{app_of};
+ghost use Rattle.clap.specs.declared.builder.command.Command.TheViews.{out-Command};
+ghost use Rattle.xdp_commands.specs.Words.{exec_app, pair_app, program_app, single_app};
+
+use clap::{Arg, Command, value_parser};
+use std::alloc::{AllocError, Global};
+
+/// `exec PROGRAM PACKET`.
+fn exec_command<'a>(alloc: Global) -> Result<Command<'a>, AllocError>
+    ensures { IfOk result (λ c. (app_of c ≡ exec_app) × ((out-Command c).has_globals ≡ false)) }
+{
+    let program = Arg::new(alloc, "program").required(true);
+    let packet = Arg::new(alloc, "packet").required(true);
+    Command::new(alloc, "exec").arg(program)?.arg(packet)
+}
+
+/// How many turns each queue makes at most, where no word says it.
+const TURNS: &str = "100000";
+
+/// The greatest number of turns that can be asked for.
+const MOST_TURNS: i64 = 1_000_000;
+
+/// `pair --turns N`.
+fn pair_command<'a>(alloc: Global) -> Result<Command<'a>, AllocError>
+    ensures { IfOk result (λ c. (app_of c ≡ pair_app) × ((out-Command c).has_globals ≡ false)) }
+{
+    let turns = Arg::new(alloc, "turns")
+        .long("turns")
+        .default_value(TURNS)
+        .value_parser(value_parser!(u32).range(1..=MOST_TURNS));
+    Command::new(alloc, "pair").arg(turns)
+}
+
+/// The commands that run nothing on threads.
+#[tactic(auto, unfolding(crate::specs::Words::single_app))]
+fn single_commands<'a>(alloc: Global) -> Result<Command<'a>, AllocError>
+    ensures { IfOk result (λ c. app_of c ≡ single_app) }
+{
+    let exec = exec_command(alloc)?;
+    let check = Command::new(alloc, "check");
+    let explain = Command::new(alloc, "explain");
+    let run = Command::new(alloc, "run");
+    Command::new(alloc, "xdpbox")
+        .subcommand(exec)?
+        .subcommand(check)?
+        .subcommand(explain)?
+        .subcommand(run)
+}
+
+/// The program's command.
+#[tactic(auto, unfolding(crate::specs::Words::program_app))]
+pub fn program_command<'a>(alloc: Global) -> Result<Command<'a>, AllocError>
+    ensures { IfOk result (λ c. app_of c ≡ program_app) }
+{
+    let pair = pair_command(alloc)?;
+    single_commands(alloc)?.subcommand(pair)
+}

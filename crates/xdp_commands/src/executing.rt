@@ -1,0 +1,74 @@
+//! What becomes of a program's bytes.
+ghost use Rattle.std.specs.Prelude.{◌≡◌, ◌≤◌, IfErr, IfOk, length};
+ghost use Rattle.xdp_load.specs.SetupSeen.{setup_view};
+ghost use Rattle.xdp_load.specs.Sound.{IsSound};
+ghost use Rattle.xdp_commands.specs.Executing.{Checks, Executes, IsProgramOf, IsRefusalOfBytes, Runs};
+
+use bpf_insn::{Refusal, decode};
+use bpf_verify::{MapShape, Verified, verify};
+use bpf_vm::{Ended, PacketBuf, run_to_end};
+use std::alloc::{AllocError, Global};
+use xdp_load::Setup;
+use xdp_world::{Report, World};
+
+/// Accepts a program with its maps, or refuses it.
+pub fn accept(alloc: Global, program: &[u8], shapes: &[MapShape]) -> Result<Verified, Refusal>
+    requires { length shapes.now ≤ 4 }
+    ensures ok { IfOk result (IsProgramOf program.now shapes.now) }
+    ensures err { IfErr result (IsRefusalOfBytes program.now shapes.now) }
+{
+    let code = decode(alloc, program)?;
+    verify(alloc, code, shapes)
+}
+
+/// Accepts a program without maps and runs it on a packet, with interface and queue 0.
+pub fn execute<'b>(
+    alloc: Global,
+    program: &[u8],
+    packet: PacketBuf<'b>,
+) -> Result<Ended<'b>, Refusal>
+    ensures { Executes program.now packet.entry.bytes result }
+{
+    let verified = accept(alloc, program, &[])?;
+    Ok(run_to_end(&verified, packet, 0, 0))
+}
+
+/// How large an accepted program is.
+#[derive(Clone, Copy, Debug, PartialEq, Eq)]
+pub struct Accepted {
+    pub instructions: u32,
+    pub slots: u32,
+}
+
+/// Accepts a program with its maps, or refuses it.
+pub fn check(alloc: Global, program: &[u8], shapes: &[MapShape]) -> Result<Accepted, Refusal>
+    requires { length shapes.now ≤ 4 }
+    ensures { Checks program.now shapes.now result }
+{
+    let verified = accept(alloc, program, shapes)?;
+    Ok(Accepted {
+        instructions: verified.instructions(),
+        slots: verified.slots(),
+    })
+}
+
+/// Accepts the program of a setup and runs the setup's queues through the steps of its script, or refuses the program.
+pub fn run(alloc: Global, setup: &Setup) -> Result<Result<Report, Refusal>, AllocError>
+    requires { IsSound (setup_view setup.now) }
+    ensures { IfOk result (Runs (setup_view setup.now)) }
+{
+    match accept(alloc, setup.program.as_slice(), setup.shapes.as_slice()) {
+        Ok(program) => {
+            let report = World::run(
+                alloc,
+                &program,
+                setup.queues,
+                setup.ifindex,
+                setup.start,
+                setup.script.as_slice(),
+            )?;
+            Ok(Ok(report))
+        }
+        Err(refusal) => Ok(Err(refusal)),
+    }
+}

@@ -1,0 +1,23 @@
+//! The commands of `xdpbox`: what its words ask for, what is done, and what is printed.
+#![tactic(auto)]
+
+mod answer;
+mod command_line;
+mod counter_lines;
+mod executing;
+mod explaining;
+mod input;
+mod lines;
+mod output;
+mod pair_lines;
+mod pairing;
+mod program;
+mod request;
+mod stop;
+mod turn_lines;
+
+pub use counter_lines::add_counters;
+pub use pair_lines::{paired_status, paired_text};
+pub use pairing::{Paired, outcome};
+pub use program::{print_memory, run_words};
+pub use request::{Request, read_words};

@@ -1,0 +1,104 @@
+//! The lines of queues that ran on threads.
+ghost use Rattle.std.specs.Prelude.{◌≡◌, ◌<◌, ◌++◌, IfOk, OnOk, length, map, string_bytes};
+ghost use Rattle.xdp_commands.specs.PairLines.{ends_text, halted_number, pair_text, paired_status, paired_text, row_text, rows_text};
+ghost use Rattle.xdp_commands.specs.Pairing.{HasCounters};
+
+use crate::counter_lines::add_counters;
+use crate::lines::refused_text;
+use crate::output::FAILED;
+use crate::pairing::Paired;
+use bpf_note::MapShape;
+use std::alloc::{AllocError, Global};
+use xdp_pair::{PairReport, PairRow};
+use xen_back::Halt;
+
+/// The number of a queue's halt, 0 where it wasn't halted.
+fn halted_number(halted: Option<Halt>) -> u8
+    ensures { result ≡ halted_number halted }
+{
+    match halted {
+        Some(halt) => halt.number(),
+        None => 0,
+    }
+}
+
+/// The end of a queue's line.
+fn ends_text(alloc: Global, row: &PairRow) -> Result<String, AllocError>
+    ensures { IfOk result (λ s. string_bytes s ≡ ends_text row.now) }
+{
+    let refused = row.refused;
+    let halted = halted_number(row.halted);
+    let received = row.received;
+    format!(in alloc; " refused {refused} halted {halted} received {received}\n")
+}
+
+fn row_text(alloc: Global, queue: usize, row: &PairRow) -> Result<String, AllocError>
+    ensures { IfOk result (λ s. string_bytes s ≡ row_text queue row.now) }
+{
+    let sent = row.sent;
+    let copied = row.copied;
+    let ends = ends_text(alloc, row)?;
+    format!(in alloc; "queue {queue} sent {sent} copied {copied}{ends}")
+}
+
+/// Adds the lines of all queues.
+fn add_rows(alloc: Global, text: &mut String, rows: &[PairRow]) -> Result<(), AllocError>
+    ensures { OnOk result (string_bytes text.new ≡ string_bytes text.old ++ rows_text 0 rows.now) }
+{
+    let mut queue = 0usize;
+    for row in rows {
+        let line = row_text(alloc, queue, row)?;
+        text.push_str(line.as_str())?;
+        queue += 1;
+    }
+    Ok(())
+}
+
+/// The lines of a report, whose maps have these names and shapes.
+fn report_text(
+    alloc: Global,
+    names: &[String],
+    shapes: &[MapShape],
+    report: &PairReport,
+) -> Result<String, AllocError>
+    requires named { length names.now ≡ length shapes.now }
+    requires few { length shapes.now < 5 }
+    requires shapes { report.now.totals.shapes ≡ shapes.now }
+    ensures { IfOk result (λ s. string_bytes s ≡ pair_text (map string_bytes names.now) report.now) }
+{
+    let mut text = String::new(alloc);
+    add_rows(alloc, &mut text, report.rows.as_slice())?;
+    add_counters(alloc, &mut text, names, shapes, &report.totals)?;
+    Ok(text)
+}
+
+/// The lines of `pair`.
+pub fn paired_text(
+    alloc: Global,
+    names: &[String],
+    shapes: &[MapShape],
+    paired: &Paired,
+) -> Result<String, AllocError>
+    requires named { length names.now ≡ length shapes.now }
+    requires few { length shapes.now < 5 }
+    requires shapes { HasCounters shapes.now paired.now }
+    ensures { IfOk result (λ s. string_bytes s ≡ paired_text (map string_bytes names.now) paired.now) }
+{
+    match paired {
+        Paired::Ran(report) => report_text(alloc, names, shapes, report),
+        Paired::Refused(refusal) => refused_text(alloc, refusal),
+        Paired::NotMapped => String::from_str(alloc, "mapping refused\n"),
+        Paired::NotStarted => String::from_str(alloc, "threads refused\n"),
+    }
+}
+
+/// The status of what became of a setup.
+pub fn paired_status(paired: &Paired) -> u8
+    ensures { result ≡ paired_status paired.now }
+{
+    match paired {
+        Paired::Ran(_) => 0,
+        Paired::Refused(_) => 1,
+        Paired::NotMapped | Paired::NotStarted => FAILED,
+    }
+}

@@ -1,0 +1,107 @@
+//! What the words of a call ask for.
+ghost use Rattle.std.specs.Prelude.{◌≡◌, ◌↔◌, IfOk, IsTrue, codes, map, option_map, option_and_then};
+ghost use Rattle.clap.specs.Words.{first_of, found_of, kind_of, one_of, rows_of, subcommand_rows_of};
+ghost use Rattle.xdp_commands.specs.Words.{exec_of, number_of, pair_of, wanted_by, wanted_of_words};
+ghost use Rattle.xdp_commands.specs.Seen.{wanted_of};
+
+use crate::command_line::program_command;
+use clap::error::ErrorKind;
+use clap::{ArgMatches, Error};
+use std::alloc::{AllocError, Global};
+use std::convert::AsStr;
+
+/// What a call asks for.
+#[derive(Clone, Copy)]
+pub enum Request<'a> {
+    /// A run of a program on a packet, both in hex.
+    Exec { program: &'a str, packet: &'a str },
+    /// Whether the program of the settings is accepted.
+    Check,
+    /// Why the program of the settings is refused.
+    Explain,
+    /// What the queues of the settings do in the steps of their script.
+    Run,
+    /// What the queues of the settings do on threads, in at most so many turns each.
+    Pair { turns: u32 },
+}
+
+/// The word of a positional.
+fn word_at<'a>(matches: &ArgMatches<'a>, id: &str) -> Option<&'a str>
+    ensures { option_map (λ w. w.now) result ≡ first_of id.now (rows_of (found_of matches.now)) }
+{
+    matches.get_str(id)
+}
+
+/// The number that was found for `--turns`.
+fn turns_in(matches: &ArgMatches<'_>) -> Option<u32>
+    ensures { result ≡ option_and_then number_of (one_of (codes "turns") (rows_of (found_of matches.now))) }
+{
+    matches.get_one("turns")
+}
+
+/// The two words of `exec`.
+fn exec_in<'a>(matches: &ArgMatches<'a>) -> Option<Request<'a>>
+    ensures { option_map wanted_of result ≡ exec_of (rows_of (found_of matches.now)) }
+{
+    let program = word_at(matches, "program")?;
+    let packet = word_at(matches, "packet")?;
+    Some(Request::Exec { program, packet })
+}
+
+/// The number of turns of `pair`.
+fn pair_in<'a>(matches: &ArgMatches<'a>) -> Option<Request<'a>>
+    ensures { option_map wanted_of result ≡ pair_of (rows_of (found_of matches.now)) }
+{
+    let turns = turns_in(matches)?;
+    Some(Request::Pair { turns })
+}
+
+/// What the matches ask for.
+fn request_in<'a>(matches: &ArgMatches<'a>) -> Option<Request<'a>>
+    ensures { option_map wanted_of result ≡ option_and_then wanted_by (subcommand_rows_of matches.now) }
+{
+    let (name, inner) = matches.subcommand()?;
+    if name == "exec" {
+        return exec_in(inner);
+    }
+    if name == "check" {
+        return Some(Request::Check);
+    }
+    if name == "explain" {
+        return Some(Request::Explain);
+    }
+    if name == "run" {
+        return Some(Request::Run);
+    }
+    if name == "pair" {
+        return pair_in(inner);
+    }
+    None
+}
+
+/// Whether memory ran out.
+fn is_memory(error: &Error) -> bool
+    ensures { IsTrue result ↔ (kind_of error.now ≡ ErrorKind.OutOfMemory) }
+{
+    error.kind() == ErrorKind::OutOfMemory
+}
+
+/// What the words ask for, the first of them being the program's own name; nothing where the command line refuses them.
+pub fn read_words<'a, S: AsStr>(
+    alloc: Global,
+    words: &'a [S],
+) -> Result<Option<Request<'a>>, AllocError>
+    ensures { IfOk result (λ r. option_map wanted_of r ≡ wanted_of_words (map S.text words.entry.now)) }
+{
+    let command = program_command(alloc)?;
+    match command.try_get_matches_from(words) {
+        Ok(matches) => Ok(request_in(&matches)),
+        Err(error) => {
+            if is_memory(&error) {
+                Err(AllocError)
+            } else {
+                Ok(None)
+            }
+        }
+    }
+}

@@ -1,0 +1,11 @@
+//! What a worker does after a turn or an activity.
+
+/// What comes next.
+pub(crate) enum Next {
+    /// Another round, at once.
+    Goes,
+    /// Sleep, until the peer wakes it.
+    Rests,
+    /// The worker's end.
+    Ends,
+}
