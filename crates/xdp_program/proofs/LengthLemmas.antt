@@ -1,0 +1,34 @@
+-- A run leaves the packet's length.
+use Rattle.std.proofs.Common.{◌≡◌, ℕ, ◌<◌, ◌≤◌, ◌^◌, List, length, refl, sym, subst, None}
+use Rattle.std.specs.Prelude.{slice_index}
+use Rattle.bpf_note.specs.State.{State, IsState, IsStart}
+use Rattle.bpf_verify.specs.Consistent.{Accepted, IsConsistent}
+use Rattle.bpf_vm.proofs.CounterLemmas.{walk_length}
+use Rattle.bpf_vm.proofs.RunLemmas.{start_of, start_is_state}
+use Rattle.xdp_program.specs.Ran.{Ran}
+
+-- nothing is set
+abbrev blank : Accepted → List ℕ → ℕ → ℕ → State
+blank p packet ifindex queue = record { pc = 0; reg = λ k. None; stack = λ i. None; packet = packet; ifindex = ifindex; queue = queue; shapes = p.shapes }
+
+blank_is : (p : Accepted) → IsConsistent p → (packet : List ℕ) (ifindex queue : ℕ) → ((i : ℕ) → slice_index packet i < 256) → length packet ≤ 65535 → ifindex < 2 ^ 32 → queue < 2 ^ 32 → IsState (blank p packet ifindex queue)
+blank_is p k packet ifindex queue bytes short i q = record {
+  words = λ r x e. cc;
+  registers = λ r g. refl;
+  stack_bytes = λ r b e. cc;
+  stack_size = λ r g. refl;
+  packet_bytes = bytes;
+  packet_size = short;
+  ifindex_fits = i;
+  queue_fits = q;
+  maps = k.few_maps;
+  shapes = k.maps;
+}
+
+pub ran_length : (p : Accepted) → IsConsistent p → (packet : List ℕ) (ifindex queue : ℕ) (before : List ℕ) (number : ℕ) (bytes after : List ℕ) (count : ℕ) → ((i : ℕ) → slice_index packet i < 256) → {n : ℕ} → n ≡ length packet → n ≤ 65535 → ifindex < 2 ^ 32 → queue < 2 ^ 32 →
+    Ran p packet ifindex queue before number bytes after count → length bytes ≡ length packet
+ran_length p k packet ifindex queue before number bytes after count all same short i q ran =
+    let u = blank p packet ifindex queue in
+    let is : IsStart (start_of u) = record { state = start_is_state u (blank_is p k packet ifindex queue all (subst (λ (n : ℕ). n ≤ 65535) same short) i q); pc = refl; reg = λ r. refl; stack = λ r. refl } in
+    let w = ran.walks (start_of u) is refl refl refl refl in
+    walk_length p.code w.0 bytes (start_of u) ran.labels w.2

@@ -1,0 +1,4 @@
+mod RanLemmas
+pub mod LoadLemmas
+pub mod SettingsLemmas
+mod LengthLemmas

@@ -1,0 +1,35 @@
+//! Why there is no program.
+use bpf_insn::{Cause, Refusal};
+use std::alloc::AllocError;
+
+/// Why a program isn't accepted.
+#[derive(Clone, Copy, Debug, PartialEq, Eq, Drop)]
+pub enum LoadFault {
+    /// There are more than four maps.
+    Maps,
+    /// The decoder or the verifier refuses it. Out of memory is V0.
+    Refused(Refusal),
+}
+
+impl From<AllocError> for LoadFault {
+    ghost use Rattle.std.specs.Prelude.{◌≡◌};
+    ghost use Rattle.xdp_program.specs.Refused.{wanting};
+
+    ghost from_gives = { λ _ e. e ≡ wanting };
+
+    fn from(error: AllocError) -> LoadFault {
+        LoadFault::Refused(Refusal {
+            cause: Cause::from(error),
+            pc: 0,
+        })
+    }
+}
+
+/// Why there is no program of a settings text.
+#[derive(Clone, Copy, Debug, PartialEq, Eq, Drop)]
+pub enum SettingsFault {
+    /// The text has a fault, L0 to L7.
+    Text(xdp_load::LoadFault),
+    /// Its program isn't accepted with its maps.
+    Program(LoadFault),
+}

@@ -1,0 +1,15 @@
+//! An accepted program with its maps, run on a host's own bytes and counters.
+#![tactic(auto)]
+
+mod fault;
+mod program;
+mod run;
+mod settings;
+
+pub use bpf_insn::{Cause, Refusal};
+pub use bpf_verify::MapShape;
+pub use fault::{LoadFault, SettingsFault};
+pub use program::{Program, Run};
+pub use run::{Ended, run_on};
+pub use settings::load_settings;
+pub use xdp_load::{Fault, LoadFault as TextFault};

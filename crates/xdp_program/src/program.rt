@@ -1,0 +1,211 @@
+//! An accepted program that its holder owns.
+use crate::fault::LoadFault;
+use crate::run::{Ended, run_on};
+use bpf_insn::{Cause, Refusal, decode, spelling_is_unique};
+use bpf_maps::{place, total};
+use bpf_verify::{MapShape, Verified, faultless_programs_are_accepted, verify};
+use bpf_vm::PacketBuf;
+use std::alloc::{AllocError, Global};
+use std::marker::Model;
+
+/// The most bytes that a packet has.
+const LONGEST: usize = 65_535;
+
+/// How a run ended: the action's number, and how many instructions were done. One that was made has done at least one.
+#[derive(Clone, Copy, Debug, PartialEq, Eq, Drop)]
+pub struct Run {
+    pub number: u32,
+    pub instructions: u32,
+}
+
+/// A run, with the packet where it lies.
+#[derive(Drop)]
+struct Lent<'b> {
+    number: u32,
+    instructions: u32,
+    packet: &'b mut [u8],
+}
+
+/// An accepted program with its maps. Contracts see its instructions by slot and its maps' shapes.
+#[derive(Drop)]
+pub struct Program {
+    /// What it was decoded from, for [`Program::again`].
+    bytes: Vec<u8>,
+    verified: Verified,
+}
+
+impl Model for Program {
+    ghost use Rattle.bpf_insn.specs.Code.{Spells};
+    ghost use Rattle.bpf_verify.specs.Consistent.{Accepted};
+    ghost use Rattle.bpf_verify.specs.FirstRefusal.{IsFaultless};
+
+    ghost Value = { Accepted };
+
+    ghost view = { λ p. p.verified };
+
+    ghost invariant = { λ p. Spells p.verified.code p.bytes.items × IsFaultless p.verified.code p.verified.shapes };
+}
+
+impl Program {
+    ghost use Rattle.std.specs.Prelude.{◌≡◌, ◌≤◌, List, ℕ, length, IfOk, IfErr, IfSome, IfNone, MatchResult};
+    ghost use Rattle.bpf_insn.specs.Code.{Spells};
+    ghost use Rattle.bpf_insn.specs.declared.insn.Insn.{Insn};
+    ghost use Rattle.bpf_maps.specs.Layout.{total, place_of};
+    ghost use Rattle.bpf_note.specs.Shape.{IsCounter};
+    ghost use Rattle.bpf_verify.specs.Consistent.{instructions};
+    ghost use Rattle.bpf_verify.specs.FirstRefusal.{IsFaultless};
+    ghost use Rattle.xdp_program.specs.Ran.{Ran};
+    ghost use Rattle.xdp_program.specs.Refused.{IsRefused, IsWanting, IsUnmade, IsMade};
+
+    /// What [`Program::load`] does. That nothing more is refused follows from these clauses.
+    #[tactic(auto, using(crate::proofs::LoadLemmas::wanting_refused))]
+    fn accept(alloc: Global, bytes: &[u8], shapes: &[MapShape]) -> Result<Program, LoadFault>
+        ensures spelled { IfOk result (λ p. Spells p.code bytes.now) }
+        ensures shapes { IfOk result (λ p. p.shapes ≡ shapes.now) }
+        ensures faultless { IfOk result (λ p. IsFaultless p.code shapes.now) }
+        ensures few { IfOk result (λ _. length shapes.now ≤ 4) }
+        ensures refused { IfErr result (IsRefused bytes.now shapes.now) }
+    {
+        if shapes.len() > 4 {
+            return Err(LoadFault::Maps);
+        }
+        let code = match decode(alloc, bytes) {
+            Ok(code) => code,
+            Err(refusal) => return Err(LoadFault::Refused(refusal)),
+        };
+        let bytes = match bytes.to_vec(alloc) {
+            Ok(bytes) => bytes,
+            Err(error) => return Err(LoadFault::from(error)),
+        };
+        match verify(alloc, code, shapes) {
+            Ok(verified) => Ok(Program { bytes, verified }),
+            Err(refusal) => Err(LoadFault::Refused(refusal)),
+        }
+    }
+
+    /// Accepts the bytes of a program with its maps, or says why not.
+    pub fn load(alloc: Global, bytes: &[u8], shapes: &[MapShape]) -> Result<Program, LoadFault>
+        ensures spelled { IfOk result (λ p. Spells p.code bytes.now) }
+        ensures shapes { IfOk result (λ p. p.shapes ≡ shapes.now) }
+        ensures faultless { IfOk result (λ p. IsFaultless p.code shapes.now) }
+        ensures few { IfOk result (λ _. length shapes.now ≤ 4) }
+        ensures refused { IfErr result (IsRefused bytes.now shapes.now) }
+
+        // Nothing more is refused.
+        ensures accepted { (code : List Insn) → Spells code bytes.now → IsFaultless code shapes.now → length shapes.now ≤ 4 →
+            MatchResult result (λ p. p.code ≡ code) IsWanting }
+    {
+        faultless_programs_are_accepted();
+        Program::accept(alloc, bytes, shapes)
+    }
+
+    /// The same program once more, as for another thread. It is verified again, so its cost is that of [`Program::load`].
+    pub fn again(&self, alloc: Global) -> Result<Program, AllocError>
+        ensures { IfOk result (λ p. p ≡ self.now) }
+    {
+        spelling_is_unique();
+        match Program::load(alloc, self.bytes.as_slice(), self.verified.shapes()) {
+            Ok(program) => Ok(program),
+            Err(
+                LoadFault::Refused(
+                    Refusal {
+                        cause: Cause::Memory,
+                        ..
+                    },
+                ),
+            ) => Err(AllocError),
+            Err(_) => unreachable!(),
+        }
+    }
+
+    /// How many instructions the program has, a wide load being one.
+    pub fn instructions(&self) -> u32
+        ensures { result ≡ instructions self.now.code }
+    {
+        self.verified.instructions()
+    }
+
+    /// How many words its counters are.
+    pub fn counters(&self) -> usize
+        ensures { result ≡ total self.now.shapes }
+    {
+        total(self.verified.shapes())
+    }
+
+    /// Which word counter `j` of value `k` of map `m` is, if there is such a counter.
+    pub fn place(&self, m: u32, k: u32, j: u32) -> Option<usize>
+        ensures there { IfSome result (λ at. IsCounter self.now.shapes m k j × (at ≡ place_of self.now.shapes m k j)) }
+        ensures none { IfNone result (IsCounter self.now.shapes m k j → ⊥) }
+    {
+        let shapes = self.verified.shapes();
+        let shape = shapes.get(m as usize)?;
+        if k >= shape.entries() {
+            return None;
+        }
+        if j >= shape.counters() {
+            return None;
+        }
+        Some(place(shapes, m, k, j))
+    }
+
+    /// Runs the program on a packet where it lies, and gives the packet back.
+    fn run_lent<'b>(
+        &self,
+        counters: &mut [u64],
+        packet: &'b mut [u8],
+        ifindex: u32,
+        queue: u32,
+    ) -> Lent<'b>
+        requires short { length packet.old ≤ 65535 }
+        requires enough { total self.now.shapes ≤ length counters.old }
+        ensures ran { Ran self.now packet.old ifindex queue counters.old result.number result.packet.now counters.new result.instructions }
+        ensures lent { result.packet.ghost_name ≡ packet.entry.ghost_name }
+        ensures bound { result.instructions ≤ instructions self.now.code }
+        ensures words { length counters.new ≡ length counters.old }
+    {
+        let _shapes = self.verified.shapes();
+        match PacketBuf::over(packet) {
+            Ok(lent) => {
+                let _bytes = lent.bytes();
+                let Ended {
+                    number,
+                    packet,
+                    instructions,
+                } = run_on(&self.verified, counters, lent, ifindex, queue);
+                Lent {
+                    number,
+                    instructions,
+                    packet: packet.into_bytes(),
+                }
+            }
+            Err(_) => unreachable!(),
+        }
+    }
+
+    /// Runs the program on a packet where it lies. The counters of its maps are the first words of `counters`. With too
+    /// few words, or a packet of more than 65,535 bytes, nothing is run: number 0 after no instruction.
+    pub fn run(&self, counters: &mut [u64], packet: &mut [u8], ifindex: u32, queue: u32) -> Run
+        ensures made { IsMade self.now.shapes counters.old packet.old →
+            Ran self.now packet.old ifindex queue counters.old result.number packet.new counters.new result.instructions }
+        ensures unmade { IsUnmade self.now.shapes counters.old packet.old →
+            (result.number ≡ 0) × (result.instructions ≡ 0) × (packet.new ≡ packet.old) × (counters.new ≡ counters.old) }
+        ensures bound { result.instructions ≤ instructions self.now.code }
+        ensures words { length counters.new ≡ length counters.old }
+    {
+        if packet.len() > LONGEST || counters.len() < self.counters() {
+            return Run {
+                number: 0,
+                instructions: 0,
+            };
+        }
+        let Lent {
+            number,
+            instructions,
+            packet: _,
+        } = self.run_lent(counters, packet, ifindex, queue);
+        Run {
+            number,
+            instructions,
+        }
+    }
+}

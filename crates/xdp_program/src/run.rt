@@ -1,0 +1,59 @@
+//! Whole runs of accepted programs, with counters in a slice.
+ghost use Rattle.std.specs.Prelude.{◌≡◌, ◌≤◌, length};
+ghost use Rattle.bpf_maps.specs.Layout.{total};
+ghost use Rattle.bpf_verify.specs.Consistent.{instructions};
+ghost use Rattle.xdp_program.specs.Ran.{Ran};
+
+use bpf_maps::place;
+use bpf_verify::Verified;
+use bpf_vm::{PacketBuf, Vm, VmWant};
+
+/// What a run left: the action's number, the packet, and how many instructions were done, the exit included.
+#[derive(Drop)]
+pub struct Ended<'b> {
+    pub number: u32,
+    pub packet: PacketBuf<'b>,
+    pub instructions: u32,
+}
+
+/// Runs an accepted program on a packet, to its end. The counters of its maps are the first words of `counters`.
+pub fn run_on<'b>(
+    program: &Verified,
+    counters: &mut [u64],
+    packet: PacketBuf<'b>,
+    ifindex: u32,
+    queue: u32,
+) -> Ended<'b>
+    requires { total program.now.shapes ≤ length counters.old }
+    ensures ran { Ran program.now packet.entry.bytes ifindex queue counters.old
+        result.number result.packet.bytes counters.new result.instructions }
+    ensures room { result.packet.room ≡ packet.entry.room }
+    ensures bound { result.instructions ≤ instructions program.now.code }
+    ensures words { length counters.new ≡ length counters.old }
+{
+    let mut vm = Vm::start(program, packet, ifindex, queue);
+    loop {
+        match vm.advance() {
+            VmWant::Load { m, k, j } => {
+                let number = counters[place(program.shapes(), m, k, j)];
+                vm.loaded(number);
+            }
+            VmWant::Add { m, k, j, delta } => {
+                let at = place(program.shapes(), m, k, j);
+                let old = counters[at];
+                counters[at] = old.wrapping_add(delta);
+                vm.added(old);
+            }
+            VmWant::Exit { .. } => {
+                let instructions = vm.count();
+                let (number, packet) = vm.finish();
+                return Ended {
+                    number,
+                    packet,
+                    instructions,
+                };
+            }
+            VmWant::Step => unreachable!(),
+        }
+    }
+}
