@@ -2,9 +2,7 @@
 #include "../headers.h"
 #include "../xdp.h"
 
-#define ETH_P_IPV6 0x86dd
-
-__attribute__((section("xdp"), used))
+SEC("xdp")
 int drop_ipv6(struct xdp_md *ctx)
 {
 	void *data = (void *)(long)ctx->data;
@@ -13,7 +11,7 @@ int drop_ipv6(struct xdp_md *ctx)
 
 	if ((void *)(eth + 1) > data_end)
 		return XDP_DROP;
-	if (eth->h_proto == __builtin_bswap16(ETH_P_IPV6))
+	if (eth->h_proto == bpf_htons(ETH_P_IPV6))
 		return XDP_DROP;
 	return XDP_PASS;
 }

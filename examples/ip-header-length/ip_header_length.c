@@ -2,15 +2,10 @@
 #include "../headers.h"
 #include "../xdp.h"
 
-struct udphdr {
-	unsigned short source, dest, len, check;
-};
-
-#define IPPROTO_UDP 17
 #define FRAGMENT_OFFSET 0x1fff
 #define PORT_DNS 53
 
-__attribute__((section("xdp"), used))
+SEC("xdp")
 int ip_header_length(struct xdp_md *ctx)
 {
 	void *data = (void *)(long)ctx->data;
@@ -22,15 +17,15 @@ int ip_header_length(struct xdp_md *ctx)
 
 	if ((void *)(ip + 1) > data_end)
 		return XDP_PASS;
-	if (eth->h_proto != __builtin_bswap16(ETH_P_IP) || ip->protocol != IPPROTO_UDP)
+	if (eth->h_proto != bpf_htons(ETH_P_IP) || ip->protocol != IPPROTO_UDP)
 		return XDP_PASS;
-	if (ip->frag_off & __builtin_bswap16(FRAGMENT_OFFSET))
+	if (ip->frag_off & bpf_htons(FRAGMENT_OFFSET))
 		return XDP_PASS;
-	length = (ip->ihl_version & 15) * 4;
+	length = ip->ihl * 4;
 	if (length < sizeof(*ip))
 		return XDP_DROP;
 	udp = (void *)ip + length;
 	if ((void *)(udp + 1) > data_end)
 		return XDP_PASS;
-	return udp->dest == __builtin_bswap16(PORT_DNS) ? XDP_DROP : XDP_PASS;
+	return udp->dest == bpf_htons(PORT_DNS) ? XDP_DROP : XDP_PASS;
 }

@@ -10,7 +10,7 @@ struct ethhdr {
 	unsigned short h_proto;
 };
 
-__attribute__((section("xdp"), used))
+SEC("xdp")
 int swap_addresses(struct xdp_md *ctx)
 {
 	void *data = (void *)(long)ctx->data;

@@ -2,21 +2,14 @@
 #include "../headers.h"
 #include "../xdp.h"
 
-struct vlan_hdr {
-	unsigned short tci;
-	unsigned short proto;
-};
-
-#define ETH_P_8021Q 0x8100
-#define ETH_P_8021AD 0x88a8
 #define MOST_TAGS 2
 
 static int is_tag(unsigned short proto)
 {
-	return proto == __builtin_bswap16(ETH_P_8021Q) || proto == __builtin_bswap16(ETH_P_8021AD);
+	return proto == bpf_htons(ETH_P_8021Q) || proto == bpf_htons(ETH_P_8021AD);
 }
 
-__attribute__((section("xdp"), used))
+SEC("xdp")
 int two_tags(struct xdp_md *ctx)
 {
 	void *data = (void *)(long)ctx->data;
@@ -35,8 +28,8 @@ int two_tags(struct xdp_md *ctx)
 			break;
 		if ((void *)(tag + 1) > data_end)
 			return XDP_DROP;
-		proto = tag->proto;
+		proto = tag->h_vlan_encapsulated_proto;
 		tag++;
 	}
-	return proto == __builtin_bswap16(ETH_P_IP) ? XDP_PASS : XDP_DROP;
+	return proto == bpf_htons(ETH_P_IP) ? XDP_PASS : XDP_DROP;
 }
