@@ -4,8 +4,9 @@
     bench/mixes.py NAME [SLOTS]              the program in hex
     bench/mixes.py --settings NAME [SLOTS]   settings for `xdpbox check`
 
-NAME is a mix, `hostile-ids`, `far-jumps` or `far-jumps-of-eight`; SLOTS is 4096 if it isn't given. The last three are
-made for the memory that our verifier takes, and no peer is measured on them."""
+NAME is a mix, or a program that is made for the memory and the time that our verifier takes: `hostile-ids`, `far-jumps`,
+`far-jumps-of-eight`, `far-checks`, `most-waiting`, `late-ids`, `early-ids` or `id-checks`. No peer is measured on those.
+SLOTS is 4096 if it isn't given."""
 import sys
 
 sys.dont_write_bytecode = True
@@ -124,7 +125,57 @@ def far_jumps_of_eight(slots):
     return far_jumps(slots, EIGHT)
 
 
-MADE = {"hostile-ids": hostile_ids, "far-jumps": far_jumps, "far-jumps-of-eight": far_jumps_of_eight}
+def far_checks_of(slots, ids):
+    """Eight notes, so many ids, and for the rest comparisons of the last address with the packet's end, each with a jump to
+    a slot of its own: each of these waits for eight notes, and each of the notes has learned a bound."""
+    begin = [*BEGIN, "r5 = r2", *EIGHT] + ["r5 += r3"] * ids
+    far = (slots - len(begin) - 1) // 2
+    lines = begin + [f"if r5 <= r4 goto +{far - 1}"] * far
+    return lines + ["r0 = 0"] * (slots - len(lines) - 1) + ["exit"]
+
+
+def far_checks(slots):
+    """Ids in three slots of seven."""
+    return far_checks_of(slots, slots * 3 // 7)
+
+
+def most_waiting(slots):
+    """As few ids as fill a chunk of bounds, and so the most slots that wait."""
+    return far_checks_of(slots, 64)
+
+
+# Addresses in the packet, each with an id of its own, and comparisons of one with the packet's end that lead on to the
+# next slot either way.
+KEPT = ["r1", "r6", "r7", "r8", "r9"]
+FRESH = [line for register in KEPT for line in (f"{register} = r2", f"{register} += r3")]
+
+
+def checked_in_turn(lines, slots):
+    checks = slots - len(lines) - len(END)
+    return lines + [f"if {KEPT[at % len(KEPT)]} <= r4 goto +0" for at in range(checks)] + END
+
+
+def late_ids(slots):
+    """Ids in half of the slots, then five more that are compared in turn: two notes come from each of the eight, and
+    differ in what was made last."""
+    return checked_in_turn([*BEGIN, "r5 = r2"] + ["r5 += r3"] * (slots // 2) + FRESH, slots)
+
+
+def early_ids(slots):
+    """The same, but notes differ in what was made first."""
+    return checked_in_turn([*BEGIN, *FRESH, "r5 = r2"] + ["r5 += r3"] * (slots // 2), slots)
+
+
+def id_checks(slots):
+    """An id and its comparison, over and over."""
+    lines = [*BEGIN, "r5 = r2"]
+    pairs = (slots - len(lines) - len(END)) // 2
+    lines += ["r5 += r3", "if r5 <= r4 goto +0"] * pairs
+    return lines + ["r0 += 1"] * (slots - len(lines) - len(END)) + END
+
+
+MADE = {"hostile-ids": hostile_ids, "far-jumps": far_jumps, "far-jumps-of-eight": far_jumps_of_eight, "far-checks": far_checks,
+        "most-waiting": most_waiting, "late-ids": late_ids, "early-ids": early_ids, "id-checks": id_checks}
 
 
 def program(name, slots):

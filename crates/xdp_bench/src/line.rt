@@ -6,7 +6,7 @@ use std::alloc::Global;
 /// What a line asks for, so many times.
 #[derive(Drop)]
 pub enum Work {
-    /// `turn SIZE TIMES PROGRAM`: turns of a packet of so many bytes.
+    /// `turn SIZE TIMES PROGRAM`: turns of a packet of so many bytes, or idle ones.
     Turns {
         size: usize,
         times: u32,

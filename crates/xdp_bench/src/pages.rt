@@ -4,7 +4,8 @@ ghost use Rattle.std.specs.Prelude.{◌≡◌, ◌≤◌, IfOk, length};
 use std::alloc::{AllocError, Global};
 use xen_page::{Bus, Frames, Owners, PageBus, Place};
 
-/// Frame 0 is the backend's, frame 1 the frontend's grant table, frames 2 and 3 its rings, and 4 to 19 a packet's pages.
+/// Frame 0 is the backend's, frame 1 the frontend's grant table, frames 2 and 3 its rings, and 4 to 19 a packet's pages, which
+/// are also the buffers of its posted rx slots.
 pub const FRAMES: usize = 20;
 /// The frontend's domain; the backend's is 0.
 pub const FRONT: u16 = 1;
@@ -13,8 +14,10 @@ const TABLE: u32 = 1;
 
 const TX: u32 = 2;
 
+const RX: u32 = 3;
+
 const FIRST_PAGE: u32 = 4;
-/// The words of a tx ring's page before its entries.
+/// The words of a ring's page before its entries.
 const HEADER: u32 = 16;
 
 const PAGE: usize = 4096;
@@ -55,8 +58,10 @@ pub fn fill(frames: &Frames) {
             put(frames, frame, word, word.wrapping_mul(0x0101_0101));
         }
     }
-    put(frames, TX, 1, 1);
-    put(frames, TX, 3, 1);
+    for ring in [TX, RX] {
+        put(frames, ring, 1, 1);
+        put(frames, ring, 3, 1);
+    }
 }
 
 /// How many slots a packet takes, 1 to 16.
@@ -89,13 +94,24 @@ fn put_packet(frames: &Frames, index: u32, size: usize) {
     }
 }
 
-/// Publishes so many packets from an index on, and returns the producer.
+/// Posts as many rx slots from an index on as one packet takes.
+fn post_slots(frames: &Frames, index: u32, size: usize) {
+    for slot in 0..slots_of(size) {
+        let at = HEADER + 2 * (index.wrapping_add(slot) % 256);
+        put(frames, RX, at, slot);
+        put(frames, RX, at + 1, FIRST_PAGE + slot);
+    }
+}
+
+/// Publishes so many packets from an index on, posts the rx slots that they take, and returns the producer of both rings.
 pub fn publish(frames: &Frames, index: u32, size: usize, packets: u32) -> u32 {
     let mut producer = index;
     for _packet in 0..packets {
         put_packet(frames, producer, size);
+        post_slots(frames, producer, size);
         producer = producer.wrapping_add(slots_of(size));
     }
     put(frames, TX, 0, producer);
+    put(frames, RX, 0, producer);
     producer
 }

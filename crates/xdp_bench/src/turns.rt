@@ -15,15 +15,16 @@ use xen_ring::{Port, Ports};
 /// How many packets are published at once.
 const BATCH: u32 = 16;
 
-/// Only turns that ran the program are timed.
-fn ran(turn: Turn<'_>) -> Result<(), Fault> {
+/// Only turns that ran the program are timed, or idle ones where no packet is there.
+fn timed(turn: Turn<'_>, packets: u32) -> Result<(), Fault> {
     match turn {
-        Turn::Ran { .. } => Ok(()),
+        Turn::Ran { .. } if packets > 0 => Ok(()),
+        Turn::Idle if packets == 0 => Ok(()),
         _ => Err(Fault::Unexpected),
     }
 }
 
-/// Times so many turns, of a packet of so many bytes each. Filling the pages isn't timed.
+/// Times so many turns, of a packet of so many bytes each; of 0 bytes no packet is published. Filling the pages isn't timed.
 pub fn time(rt: &HostRuntime, size: usize, times: u32, program: &[u8]) -> Result<Timed, Fault> {
     let program = accepted(rt.alloc(), program)?;
     let owners = owners(rt.alloc())?;
@@ -52,11 +53,13 @@ pub fn time(rt: &HostRuntime, size: usize, times: u32, program: &[u8]) -> Result
     let ports = Ports::new();
     let mut nanoseconds = 0u64;
     let mut producer = 0u32;
+    let packets = if size == 0 { 0 } else { BATCH };
     for _batch in 0..times {
-        producer = publish(&frames, producer, size, BATCH);
+        producer = publish(&frames, producer, size, packets);
         let start = Instant::now(rt).map_err(|_| Fault::Clock)?;
         for _turn in 0..BATCH {
-            ran(queue.drive_turn(&mut bus, &counters, &mut seat, &ports))?;
+            let turn = queue.drive_turn(&mut bus, &counters, &mut seat, &ports);
+            timed(turn, packets)?;
         }
         nanoseconds = nanoseconds.saturating_add(since(rt, &start)?);
     }
