@@ -1,7 +1,8 @@
-/* Refuses one allocation of a process: the one whose number, from 1, is in REFUSE. At the end it writes to standard error how many
-   there were. To be preloaded. */
+/* Refuses one allocation of a process: the one whose number, from 1, is in REFUSE; with a '-' behind the number, all from there on.
+   At the end it writes to standard error how many there were. To be preloaded. */
 #define _GNU_SOURCE
 #include <errno.h>
+#include <limits.h>
 #include <stddef.h>
 #include <stdio.h>
 #include <stdlib.h>
@@ -17,13 +18,16 @@ static long number;
 
 static int is_refused(void)
 {
-	static long refused = -1;
+	static long first = -1, last;
 
-	if (refused < 0) {
+	if (first < 0) {
 		const char *text = getenv("REFUSE");
-		refused = text ? atol(text) : 0;
+		char *end = "";
+		first = text ? strtol(text, &end, 10) : 0;
+		last = first && *end == '-' ? LONG_MAX : first;
 	}
-	if (++number != refused)
+	number++;
+	if (number < first || number > last)
 		return 0;
 	errno = ENOMEM;
 	return 1;
