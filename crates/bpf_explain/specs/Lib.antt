@@ -4,4 +4,5 @@ pub mod Stack
 pub mod Advice
 pub mod Listing
 pub mod Explained
+pub mod Fields
 pub mod Span

@@ -4,6 +4,7 @@
 mod access;
 mod advice;
 mod explained;
+mod fields;
 mod listing;
 mod span;
 mod stack;

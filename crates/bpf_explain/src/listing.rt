@@ -8,7 +8,7 @@ use std::fmt;
 
 /// A slot's number in three columns, or in the four that it takes.
 #[derive(Clone, Copy)]
-struct Slot(u32);
+pub(crate) struct Slot(pub u32);
 
 impl fmt::Display for Slot {
     ghost use Rattle.std.specs.Prelude.{Some};

@@ -1,10 +1,11 @@
-//! Numbers that decide a refusal: which bytes of the packet an access reaches, and where a jump goes.
+//! Numbers that decide a refusal: which bytes of the packet an access reaches, how many counters a value has, and where a
+//! jump goes.
 ghost use Rattle.std.specs.Prelude.{◌≡◌, ◌≤◌, IfOk, Option, string_bytes};
-ghost use Rattle.bpf_explain.specs.Span.{jump_of, span_text, target_text};
+ghost use Rattle.bpf_explain.specs.Span.{counters_text, jump_of, span_text, target_text};
 
 use crate::access::Access;
 use bpf_insn::Insn;
-use bpf_note::Val;
+use bpf_note::{MapShape, Val};
 use std::alloc::{AllocError, Global};
 
 /// The bytes of an access to the packet, counted from the base of the address's id: the first, and the one behind the last.
@@ -18,6 +19,26 @@ pub(crate) fn span_text(alloc: Global, address: Val, access: Access) -> Result<S
     let first = i64::from(off) + i64::from(access.off);
     let end = first + i64::from(access.bytes);
     format!(in alloc; "  access={first}..{end}")
+}
+
+/// How many counters each value of a map has, where the address is one of a value.
+pub(crate) fn counters_text(
+    alloc: Global,
+    shapes: &[MapShape],
+    address: Val,
+) -> Result<String, AllocError>
+    ensures { IfOk result (λ s. string_bytes s ≡ counters_text shapes.now address) }
+{
+    let Val::Value { m } = address else {
+        return Ok(String::new(alloc));
+    };
+    match shapes.get(m as usize) {
+        None => Ok(String::new(alloc)),
+        Some(shape) => {
+            let counters = shape.counters();
+            format!(in alloc; "  counters={counters}")
+        }
+    }
 }
 
 /// By how much a jump goes on from the next slot.

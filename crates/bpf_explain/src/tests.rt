@@ -2,7 +2,7 @@
 use crate::advice::advice;
 use crate::{asked_register, explained_text, undecoded_text, was_text};
 use bpf_insn::{Cause, Insn, Refusal, Register, Size, decode};
-use bpf_note::{Note, PACKET_ID, Val};
+use bpf_note::{MapShape, Note, PACKET_ID, Val};
 use std::alloc::Global;
 use std::test::Fail;
 
@@ -13,7 +13,8 @@ fn text(alloc: Global, bytes: &[u8], refusal: Refusal, note: &Note) -> Result<St
     let code = decode(alloc, bytes).ok().ok_or("a program")?;
     let mut names = Vec::new(alloc);
     names.push(String::from_str(alloc, "hits")?)?;
-    Ok(explained_text(alloc, &code, names.as_slice(), refusal, Some(note))?)
+    let shapes = [MapShape::of(2, 3).ok_or("shape")?];
+    Ok(explained_text(alloc, &code, names.as_slice(), &shapes, refusal, Some(note))?)
 }
 
 #[rattlefmt::skip]
@@ -130,6 +131,12 @@ fn a_write_of_the_frame_pointer(rt: HostRuntime) -> Result<(), Fail> {
     Ok(())
 }
 
+#[rattlefmt::skip]
+const SUMS: [u8; 16] = [
+    0x0f, 0x21, 0, 0, 0, 0, 0, 0, // r1 += r2
+    0x04, 0x01, 0, 0, 1, 0, 0, 0, // w1 += 1
+];
+
 #[test]
 fn since_when_it_is_no_address(rt: HostRuntime) -> Result<(), Fail> {
     let mut note = Note::entry(rt.alloc());
@@ -140,11 +147,17 @@ fn since_when_it_is_no_address(rt: HostRuntime) -> Result<(), Fail> {
             off: 0,
         },
     );
-    let names = Vec::new(rt.alloc());
-    assert_eq!(rt;
-        was_text(rt.alloc(), names.as_slice(), Register::R1, 7, &note)?.as_str(),
-        "R1 was pkt(id=0,off=0,r=0) before 7: narrow the number that is added to at most 65535, in 64 bits, and compare the sum with data_end\n"
-    );
+    note.set_register(2, Val::Num { lo: 0, hi: 70_000 });
+    let code = decode(rt.alloc(), &SUMS).ok().ok_or("a program")?;
+    for (pc, with) in [(0, " with R2=scalar(umin=0,umax=70000)"), (1, "")] {
+        let wanted = format!(in rt.alloc();
+            "R1 was pkt(id=0,off=0,r=0) before {pc}{with}: narrow the number that is added to at most 65535, in 64 bits, and compare the sum with data_end\n"
+        )?;
+        assert_eq!(rt;
+            was_text(rt.alloc(), &[], &code, Register::R1, pc, &note)?.as_str(),
+            wanted.as_str()
+        );
+    }
     Ok(())
 }
 
@@ -161,13 +174,53 @@ fn an_access_through_a_number_asks(rt: HostRuntime) -> Result<(), Fail> {
 
 #[test]
 fn bytes_of_no_program(rt: HostRuntime) -> Result<(), Fail> {
+    let bytes = b"\xb7\x00\x00\x00\x02\x00\x00\x00\xbf\x2b\x34\x12\x78\x56\x34\x12";
+    let rows = [
+        (
+            Cause::Register,
+            1,
+            ">  1: bf 2b 3412 78563412\nrefused V3 at 1\nwrite instead: a register from r0 to r10\n",
+        ),
+        (
+            Cause::Opcode,
+            0,
+            ">  0: b7 00 0000 02000000\nrefused V2 at 0\nwrite instead: an instruction's opcode, with each field as its form wants it\n",
+        ),
+        (
+            Cause::Unsupported,
+            0,
+            ">  0: b7 00 0000 02000000\nrefused V19 at 0\nwrite instead: other instructions: this profile leaves this one out\n",
+        ),
+        (
+            Cause::Register,
+            2,
+            "refused V3 at 2\nwrite instead: a register from r0 to r10\n",
+        ),
+        (
+            Cause::Length,
+            0,
+            "refused V1 at 0\nwrite instead: 1 to 4096 slots of eight bytes\n",
+        ),
+    ];
+    for (cause, pc, wanted) in rows {
+        let text = undecoded_text(rt.alloc(), bytes, Refusal { cause, pc })?;
+        assert_eq!(rt; text.as_str(), wanted);
+    }
+    Ok(())
+}
+
+#[test]
+fn a_store_to_a_value_of_three_counters(rt: HostRuntime) -> Result<(), Fail> {
+    let mut note = Note::entry(rt.alloc());
+    note.set_register(1, Val::Value { m: 0 });
+    note.set_register(2, Val::Num { lo: 1, hi: 1 });
     let refusal = Refusal {
-        cause: Cause::Register,
-        pc: 7,
+        cause: Cause::MapAccess,
+        pc: 0,
     };
     assert_eq!(rt;
-        undecoded_text(rt.alloc(), refusal)?.as_str(),
-        "refused V3 at 7\nwrite instead: a register from r0 to r10\n"
+        text(rt.alloc(), &STORE, refusal, &note)?.as_str(),
+        ">  0: *(u8 *)(r1 +0) = r2\n       R1=map_value(map=hits)  R2=1  counters=3\nrefused V14 at 0\nwrite instead: add to the counter in one step, as __sync_fetch_and_add: a store loses what another queue counts\n"
     );
     Ok(())
 }

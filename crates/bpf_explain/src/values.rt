@@ -132,7 +132,7 @@ pub(crate) fn known_text(
 }
 
 /// What is known of a register.
-fn register_text(
+pub(crate) fn register_text(
     alloc: Global,
     names: &[String],
     note: &Note,

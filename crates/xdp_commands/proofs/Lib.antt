@@ -1,5 +1,6 @@
 mod CommandLineLemmas
 mod ExplainLemmas
+mod FilterLemmas
 mod InputLemmas
 pub mod CounterLineLemmas
 mod TurnsLemmas

@@ -16,11 +16,13 @@ use Rattle.xdp_commands.specs.declared.executing.Accepted.{Accepted}
 use Rattle.xdp_commands.specs.Executing.{Checks, Executes, Runs}
 use Rattle.xdp_commands.specs.Explaining.{IsOutcome, outcome_status, outcome_text}
 use Rattle.xdp_commands.specs.declared.explaining.Outcome.{Outcome}
+use Rattle.xdp_commands.specs.Filtering.{Filters, filtered_text}
+use Rattle.xdp_commands.specs.declared.filtering.Filtered.{Filtered}
 use Rattle.xdp_commands.specs.Lines.{checked_text, executed_text, ran_text, settings_text}
 use Rattle.xdp_commands.specs.PairLines.{paired_status, paired_text}
 use Rattle.xdp_commands.specs.Pairing.{IsPaired}
 use Rattle.xdp_commands.specs.declared.pairing.Paired.{Paired}
-use Rattle.xdp_commands.specs.Words.{Wanted, exec, check, explain, run, pair}
+use Rattle.xdp_commands.specs.Words.{Wanted, exec, check, explain, run, filter, pair}
 
 -- a text, and an exit status
 abbrev pub Said : Type 0
@@ -70,12 +72,12 @@ checked_answer c = (checked_text c, program_status c)
 abbrev pub SetupAnswer : SetupView → Said → Type 0
 SetupAnswer s said = (c : Result Accepted Refusal) × Checks s.program s.shapes c × (said ≡ checked_answer c)
 
-abbrev pub outcome_answer : List (List ℕ) → Outcome → Said
-outcome_answer names o = (outcome_text names o, outcome_status o)
+abbrev pub outcome_answer : SetupView → Outcome → Said
+outcome_answer s o = (outcome_text s.program s.names s.shapes o, outcome_status o)
 
 -- the answer to a setup: by an explanation of what becomes of its program with its maps
 abbrev pub ExplainAnswer : SetupView → Said → Type 0
-ExplainAnswer s said = (o : Outcome) × IsOutcome s.program s.shapes o × (said ≡ outcome_answer s.names o)
+ExplainAnswer s said = (o : Outcome) × IsOutcome s.program s.shapes o × (said ≡ outcome_answer s o)
 
 abbrev pub ran_answer : List (List ℕ) → Result Report Refusal → Said
 ran_answer names c = (ran_text names c, program_status c)
@@ -83,6 +85,13 @@ ran_answer names c = (ran_text names c, program_status c)
 -- the answer to a setup: by a run of its queues through its script
 abbrev pub RunAnswer : SetupView → Said → Type 0
 RunAnswer s said = (c : Result Report Refusal) × Runs s c × (said ≡ ran_answer s.names c)
+
+abbrev pub filtered_answer : SetupView → Result Filtered Refusal → Said
+filtered_answer s c = (filtered_text s.names s.shapes c, program_status c)
+
+-- the answer to a setup: by runs of its program on its packets
+abbrev pub FilterAnswer : SetupView → Said → Type 0
+FilterAnswer s said = (c : Result Filtered Refusal) × Filters s c × (said ≡ filtered_answer s c)
 
 abbrev pub paired_answer : List (List ℕ) → Paired → Said
 paired_answer names p = (paired_text names p, paired_status p)
@@ -96,6 +105,7 @@ abbrev pub AnswerTo : Question → SetupView → Said → Type 0
 AnswerTo question.Check = SetupAnswer
 AnswerTo question.Explain = ExplainAnswer
 AnswerTo question.Run = RunAnswer
+AnswerTo question.Filter = FilterAnswer
 
 -- the answer to what settings spell: to a setup, or their first fault
 abbrev pub SpelledAnswer : (SetupView → Said → Type 0) → Result SetupView Fault → Said → Type 0
@@ -124,6 +134,7 @@ IsAnswer (Some (exec program packet)) old new said = ExecAnswer program packet s
 IsAnswer (Some check) old new said = InputAnswer SetupAnswer old new said
 IsAnswer (Some explain) old new said = InputAnswer ExplainAnswer old new said
 IsAnswer (Some run) old new said = InputAnswer RunAnswer old new said
+IsAnswer (Some filter) old new said = InputAnswer FilterAnswer old new said
 IsAnswer (Some (pair turns)) old new said = InputAnswer (PairAnswer turns) old new said
 
 -- at most so many bytes are taken
@@ -137,6 +148,7 @@ Takes (Some (exec program packet)) old new = Keeps old new
 Takes (Some check) old new = TakesAtMost 1048577 old new
 Takes (Some explain) old new = TakesAtMost 1048577 old new
 Takes (Some run) old new = TakesAtMost 1048577 old new
+Takes (Some filter) old new = TakesAtMost 1048577 old new
 Takes (Some (pair turns)) old new = TakesAtMost 1048577 old new
 
 -- a call that may end as a read failed, when nothing is printed
@@ -146,6 +158,7 @@ Reads (Some (exec program packet)) = ⊥
 Reads (Some check) = Unit {0}
 Reads (Some explain) = Unit {0}
 Reads (Some run) = Unit {0}
+Reads (Some filter) = Unit {0}
 Reads (Some (pair turns)) = Unit {0}
 
 -- the text is printed and the status given; or a write failed, the status is 4, and a beginning of the text is printed

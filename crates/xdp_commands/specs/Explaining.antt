@@ -51,18 +51,19 @@ abbrev pub accepted_text : List Insn → List ℕ
 accepted_text code = listing_text None [] 0 code ++ checked_text (Ok (record { instructions = instructions code; slots = length code }))
 
 -- the line that says where a register was an address last
-abbrev pub lost_text : List (List ℕ) → Option Register → Option Lost → List ℕ
-lost_text names (Some r) (Some l) = was_text names r l.pc (facts l.note)
-lost_text names r l = []
+abbrev pub lost_text : List (List ℕ) → List Insn → Option Register → Option Lost → List ℕ
+lost_text names code (Some r) (Some l) = was_text names r l.pc (slice_get code l.pc) (facts l.note)
+lost_text names code r l = []
 
 -- the explanation of a refusal, with that line
-abbrev pub refused_text : List (List ℕ) → Explained → Option Lost → List ℕ
-refused_text names e l = explained_text e.code names e.refusal (option_map facts e.note) ++ lost_text names (asked_of e.note e) l
+abbrev pub refused_text : List (List ℕ) → List Shape → Explained → Option Lost → List ℕ
+refused_text names shapes e l = explained_text e.code names shapes e.refusal (option_map facts e.note) ++ lost_text names e.code (asked_of e.note e) l
 
-abbrev pub outcome_text : List (List ℕ) → Outcome → List ℕ
-outcome_text names (Accepted p) = accepted_text p.code
-outcome_text names (Undecoded r) = undecoded_text r
-outcome_text names (Refused e l) = refused_text names e l
+-- of a program of these bytes, whose maps have these names and shapes
+abbrev pub outcome_text : List ℕ → List (List ℕ) → List Shape → Outcome → List ℕ
+outcome_text program names shapes (Accepted p) = accepted_text p.code
+outcome_text program names shapes (Undecoded r) = undecoded_text program r
+outcome_text program names shapes (Refused e l) = refused_text names shapes e l
 
 -- the status of a check
 abbrev pub outcome_status : Outcome → ℕ

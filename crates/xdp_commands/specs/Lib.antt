@@ -1,6 +1,7 @@
 pub mod Words
 pub mod TurnLines
 pub mod Lines
+pub mod Filtering
 pub mod Executing
 pub mod Explaining
 pub mod Answer

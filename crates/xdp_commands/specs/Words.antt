@@ -35,13 +35,16 @@ turns_rule = record (new_rule (codes "turns")) { long = Some (codes "turns"); de
 abbrev pub pair_app : App
 pair_app = with_rule (new_app (codes "pair")) turns_rule
 
--- the commands that run nothing on threads
+-- `filter`
+abbrev pub filter_app : App
+filter_app = new_app (codes "filter")
+
+-- the commands that pass no packets of settings to a program
 unfoldable pub single_app : App
-single_app =
-    with_subcommand (with_subcommand (with_subcommand (with_subcommand (new_app (codes "xdpbox")) exec_app.top) check_app.top) explain_app.top) run_app.top
+single_app = with_subcommand (with_subcommand (with_subcommand (new_app (codes "xdpbox")) exec_app.top) check_app.top) explain_app.top
 
 unfoldable pub program_app : App
-program_app = with_subcommand single_app pair_app.top
+program_app = with_subcommand (with_subcommand (with_subcommand single_app run_app.top) filter_app.top) pair_app.top
 
 -- what a call asks for
 pub data Wanted : Type 0 where
@@ -49,6 +52,7 @@ pub data Wanted : Type 0 where
   check : Wanted
   explain : Wanted
   run : Wanted
+  filter : Wanted
   -- at most so many turns of each queue
   pair : ℕ → Wanted
 
@@ -77,6 +81,7 @@ wanted_by p =
     else if bytes_eq p.0 (codes "check") then Some check
     else if bytes_eq p.0 (codes "explain") then Some explain
     else if bytes_eq p.0 (codes "run") then Some run
+    else if bytes_eq p.0 (codes "filter") then Some filter
     else if bytes_eq p.0 (codes "pair") then pair_of p.1
     else None
 

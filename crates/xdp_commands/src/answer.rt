@@ -2,14 +2,15 @@
 ghost use Rattle.std.specs.Prelude.{◌≡◌, ◌≤◌, IfOk, IfErr, Some, length, option_map};
 ghost use Rattle.xdp_load.specs.SetupSeen.{setup_view};
 ghost use Rattle.xdp_load.specs.Sound.{IsSound};
-ghost use Rattle.xdp_commands.specs.Answer.{AnswerTo, ExecAnswer, ExplainAnswer, InputAnswer, IsAnswer, PacketAnswer, PairAnswer, Reads, RunAnswer, SettingsAnswer, SetupAnswer, Takes, TakesAtMost, checked_answer, executed_answer, hex_bytes, program_status, settings_refused, words_refused};
+ghost use Rattle.xdp_commands.specs.Answer.{AnswerTo, ExecAnswer, ExplainAnswer, FilterAnswer, InputAnswer, IsAnswer, PacketAnswer, PairAnswer, Reads, RunAnswer, SettingsAnswer, SetupAnswer, Takes, TakesAtMost, checked_answer, executed_answer, hex_bytes, program_status, settings_refused, words_refused};
 ghost use Rattle.xdp_commands.specs.Words as wanted;
 ghost use Rattle.xdp_commands.specs.Seen.{said_of, wanted_of};
 
 use crate::executing::{Accepted, check, execute, run};
 use crate::explaining::{outcome_of, outcome_status, outcome_text};
+use crate::filtering::filter;
 use crate::input::read_settings;
-use crate::lines::{checked_text, executed_text, ran_text, settings_text};
+use crate::lines::{checked_text, executed_text, filtered_text, ran_text, settings_text};
 use crate::pair_lines::{paired_status, paired_text};
 use crate::pairing::pair;
 use crate::request::Request;
@@ -125,6 +126,8 @@ enum Question {
     Explain,
     /// What the queues do in the steps of the script.
     Run,
+    /// What the program makes of the packets.
+    Filter,
 }
 
 /// The answer to a setup whose program is checked.
@@ -142,7 +145,13 @@ fn explain_answer(alloc: Global, setup: &Setup) -> Result<Answer, AllocError>
     ensures { IfOk result (λ a. ExplainAnswer (setup_view setup.now) (said_of a)) }
 {
     let outcome = outcome_of(alloc, setup.program.as_slice(), setup.shapes.as_slice())?;
-    let text = outcome_text(alloc, setup.names.as_slice(), &outcome)?;
+    let text = outcome_text(
+        alloc,
+        setup.program.as_slice(),
+        setup.names.as_slice(),
+        setup.shapes.as_slice(),
+        &outcome,
+    )?;
     Ok(Answer {
         text,
         status: outcome_status(&outcome),
@@ -160,6 +169,22 @@ fn run_answer(alloc: Global, setup: &Setup) -> Result<Answer, AllocError>
         text,
         status: program_status(&ran),
     })
+}
+
+/// The answer to a setup whose program is run on its packets.
+fn filter_answer(alloc: Global, setup: &Setup) -> Result<Answer, AllocError>
+    requires { IsSound (setup_view setup.now) }
+    ensures { IfOk result (λ a. FilterAnswer (setup_view setup.now) (said_of a)) }
+{
+    let filtered = filter(alloc, setup)?;
+    let status = program_status(&filtered);
+    let text = filtered_text(
+        alloc,
+        setup.names.as_slice(),
+        setup.shapes.as_slice(),
+        filtered,
+    )?;
+    Ok(Answer { text, status })
 }
 
 /// The answer to a setup whose queues are run on threads.
@@ -194,6 +219,7 @@ fn setup_answer(alloc: Global, question: Question, setup: &Setup) -> Result<Answ
         Question::Check => checked_setup_answer(alloc, setup),
         Question::Explain => explain_answer(alloc, setup),
         Question::Run => run_answer(alloc, setup),
+        Question::Filter => filter_answer(alloc, setup),
     }
 }
 
@@ -262,6 +288,7 @@ pub fn answer_to<T: Threads + Wait + Sync, R: Read>(
         Some(Request::Check) => input_answer(alloc, Question::Check, input),
         Some(Request::Explain) => input_answer(alloc, Question::Explain, input),
         Some(Request::Run) => input_answer(alloc, Question::Run, input),
+        Some(Request::Filter) => input_answer(alloc, Question::Filter, input),
         Some(Request::Pair { turns }) => input_pair(rt, alloc, turns, input),
     }
 }

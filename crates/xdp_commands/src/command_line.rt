@@ -33,7 +33,7 @@ fn pair_command<'a>(alloc: Global) -> Result<Command<'a>, AllocError>
     Command::new(alloc, "pair").arg(turns)
 }
 
-/// The commands that run nothing on threads.
+/// The commands that pass no packets of settings to a program.
 #[tactic(auto, unfolding(crate::specs::Words::single_app))]
 fn single_commands<'a>(alloc: Global) -> Result<Command<'a>, AllocError>
     ensures { IfOk result (λ c. app_of c ≡ single_app) }
@@ -41,12 +41,10 @@ fn single_commands<'a>(alloc: Global) -> Result<Command<'a>, AllocError>
     let exec = exec_command(alloc)?;
     let check = Command::new(alloc, "check");
     let explain = Command::new(alloc, "explain");
-    let run = Command::new(alloc, "run");
     Command::new(alloc, "xdpbox")
         .subcommand(exec)?
         .subcommand(check)?
-        .subcommand(explain)?
-        .subcommand(run)
+        .subcommand(explain)
 }
 
 /// The program's command.
@@ -54,6 +52,11 @@ fn single_commands<'a>(alloc: Global) -> Result<Command<'a>, AllocError>
 pub fn program_command<'a>(alloc: Global) -> Result<Command<'a>, AllocError>
     ensures { IfOk result (λ c. app_of c ≡ program_app) }
 {
+    let run = Command::new(alloc, "run");
+    let filter = Command::new(alloc, "filter");
     let pair = pair_command(alloc)?;
-    single_commands(alloc)?.subcommand(pair)
+    single_commands(alloc)?
+        .subcommand(run)?
+        .subcommand(filter)?
+        .subcommand(pair)
 }

@@ -1,9 +1,8 @@
 //! The lines of the counters that a run leaves.
 ghost use Rattle.std.specs.Prelude.{◌≡◌, ◌<◌, ◌++◌, IfOk, OnOk, Some, length, map, slice_get, string_bytes};
-ghost use Rattle.bpf_maps.specs.Seats.{total_at};
-ghost use Rattle.xdp_commands.specs.CounterLines.{counter_text, map_text, maps_text, place_text, totals_text, value_text};
+ghost use Rattle.xdp_commands.specs.CounterLines.{counter_text, map_text, maps_text, place_text, value_text};
 
-use bpf_maps::Totals;
+use crate::numbers::Numbers;
 use bpf_note::MapShape;
 use std::alloc::{AllocError, Global};
 
@@ -37,59 +36,59 @@ fn counter_text(
 }
 
 /// Adds the lines of the counters of value `k` of map `m`.
-fn add_value(
+fn add_value<N: Numbers>(
     alloc: Global,
     text: &mut String,
     name: &str,
-    totals: &Totals,
+    numbers: &N,
     m: u32,
     shape: MapShape,
     k: u32,
 ) -> Result<(), AllocError>
-    requires map { slice_get totals.now.shapes m ≡ Some shape }
+    requires map { slice_get (N.shapes_of numbers.now) m ≡ Some shape }
     requires value { k < shape.entries }
-    ensures { OnOk result (string_bytes text.new ≡ string_bytes text.old ++ value_text (total_at totals.now m k) name.now shape k 0 shape.counters) }
+    ensures { OnOk result (string_bytes text.new ≡ string_bytes text.old ++ value_text (N.number_at numbers.now m k) name.now shape k 0 shape.counters) }
 {
     for j in 0..shape.counters() {
-        let line = counter_text(alloc, name, shape, k, j, totals.at(m, k, j))?;
+        let line = counter_text(alloc, name, shape, k, j, numbers.number(m, k, j))?;
         text.push_str(line.as_str())?;
     }
     Ok(())
 }
 
 /// Adds the lines of the counters of map `m`.
-fn add_map(
+fn add_map<N: Numbers>(
     alloc: Global,
     text: &mut String,
     name: &str,
-    totals: &Totals,
+    numbers: &N,
     m: u32,
     shape: MapShape,
 ) -> Result<(), AllocError>
-    requires { slice_get totals.now.shapes m ≡ Some shape }
-    ensures { OnOk result (string_bytes text.new ≡ string_bytes text.old ++ map_text (total_at totals.now m) name.now shape 0 shape.entries) }
+    requires { slice_get (N.shapes_of numbers.now) m ≡ Some shape }
+    ensures { OnOk result (string_bytes text.new ≡ string_bytes text.old ++ map_text (N.number_at numbers.now m) name.now shape 0 shape.entries) }
 {
     for k in 0..shape.entries() {
-        add_value(alloc, text, name, totals, m, shape, k)?;
+        add_value(alloc, text, name, numbers, m, shape, k)?;
     }
     Ok(())
 }
 
 /// Adds the lines of all counters.
-pub fn add_counters(
+pub fn add_counters<N: Numbers>(
     alloc: Global,
     text: &mut String,
     names: &[String],
     shapes: &[MapShape],
-    totals: &Totals,
+    numbers: &N,
 ) -> Result<(), AllocError>
     requires named { length names.now ≡ length shapes.now }
     requires few { length shapes.now < 5 }
-    requires shapes { totals.now.shapes ≡ shapes.now }
-    ensures { OnOk result (string_bytes text.new ≡ string_bytes text.old ++ totals_text (map string_bytes names.now) totals.now) }
+    requires shapes { N.shapes_of numbers.now ≡ shapes.now }
+    ensures { OnOk result (string_bytes text.new ≡ string_bytes text.old ++ maps_text (N.number_at numbers.now) 0 (map string_bytes names.now) shapes.now) }
 {
     for m in 0..names.len() {
-        add_map(alloc, text, names[m].as_str(), totals, m as u32, shapes[m])?;
+        add_map(alloc, text, names[m].as_str(), numbers, m as u32, shapes[m])?;
     }
     Ok(())
 }

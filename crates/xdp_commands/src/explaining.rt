@@ -7,7 +7,7 @@ ghost use Rattle.xdp_commands.specs.Explaining.{IsLostOf, IsOutcome, accepted_te
 use crate::executing::Accepted;
 use crate::lines::checked_text;
 use bpf_explain::{add_listing, asked_register, explained_text, undecoded_text, was_text};
-use bpf_insn::{Refusal, Register, decode};
+use bpf_insn::{Code, Refusal, Register, decode};
 use bpf_verify::{Explained, Lost, MapShape, Verified, explain, lost_at};
 use std::alloc::{AllocError, Global};
 
@@ -99,13 +99,16 @@ fn accepted_text(alloc: Global, verified: &Verified) -> Result<String, AllocErro
 fn lost_text(
     alloc: Global,
     names: &[String],
+    code: &Code,
     register: Option<Register>,
     lost: &Option<Lost>,
 ) -> Result<String, AllocError>
-    ensures { IfOk result (λ s. string_bytes s ≡ lost_text (map string_bytes names.now) register lost.now) }
+    ensures { IfOk result (λ s. string_bytes s ≡ lost_text (map string_bytes names.now) code.now register lost.now) }
 {
     match (register, lost) {
-        (Some(register), Some(lost)) => was_text(alloc, names, register, lost.pc, &lost.note),
+        (Some(register), Some(lost)) => {
+            was_text(alloc, names, code, register, lost.pc, &lost.note)
+        }
         _ => Ok(String::new(alloc)),
     }
 }
@@ -114,16 +117,18 @@ fn lost_text(
 fn refused_text(
     alloc: Global,
     names: &[String],
+    shapes: &[MapShape],
     explained: &Explained,
     lost: &Option<Lost>,
 ) -> Result<String, AllocError>
-    ensures { IfOk result (λ s. string_bytes s ≡ refused_text (map string_bytes names.now) explained.now lost.now) }
+    ensures { IfOk result (λ s. string_bytes s ≡ refused_text (map string_bytes names.now) shapes.now explained.now lost.now) }
 {
-    let line = lost_text(alloc, names, asked_of(explained), lost)?;
+    let line = lost_text(alloc, names, &explained.code, asked_of(explained), lost)?;
     let mut text = explained_text(
         alloc,
         &explained.code,
         names,
+        shapes,
         explained.refusal,
         explained.note.as_ref(),
     )?;
@@ -131,18 +136,20 @@ fn refused_text(
     Ok(text)
 }
 
-/// The lines of `explain` for a program whose maps have these names.
+/// The lines of `explain` for a program of these bytes, whose maps have these names and shapes.
 pub fn outcome_text(
     alloc: Global,
+    program: &[u8],
     names: &[String],
+    shapes: &[MapShape],
     outcome: &Outcome,
 ) -> Result<String, AllocError>
-    ensures { IfOk result (λ s. string_bytes s ≡ outcome_text (map string_bytes names.now) outcome.now) }
+    ensures { IfOk result (λ s. string_bytes s ≡ outcome_text program.now (map string_bytes names.now) shapes.now outcome.now) }
 {
     match outcome {
         Outcome::Accepted(verified) => accepted_text(alloc, verified),
-        Outcome::Undecoded(refusal) => undecoded_text(alloc, *refusal),
-        Outcome::Refused { explained, lost } => refused_text(alloc, names, explained, lost),
+        Outcome::Undecoded(refusal) => undecoded_text(alloc, program, *refusal),
+        Outcome::Refused { explained, lost } => refused_text(alloc, names, shapes, explained, lost),
     }
 }
 

@@ -1,9 +1,13 @@
 //! The lines that the program prints.
-ghost use Rattle.std.specs.Prelude.{◌≡◌, ◌<◌, IfOk, length, map, string_bytes};
+ghost use Rattle.std.specs.Prelude.{◌≡◌, ◌<◌, IfOk, length, map, string_bytes, vec_len};
+ghost use Rattle.bpf_maps.specs.Layout.{total};
+ghost use Rattle.xdp_commands.specs.Filtering.{filtered_text};
 ghost use Rattle.xdp_commands.specs.Lines.{checked_text, ended_text, executed_text, ran_text, refused_text, report_text, settings_text};
 
 use crate::counter_lines::add_counters;
 use crate::executing::Accepted;
+use crate::filtering::Filtered;
+use crate::numbers::Words;
 use crate::turn_lines::add_queues;
 use bpf_insn::Refusal;
 use bpf_note::MapShape;
@@ -103,5 +107,27 @@ pub fn ran_text(
     match ran {
         Ok(report) => report_text(alloc, names, shapes, report),
         Err(refusal) => refused_text(alloc, refusal),
+    }
+}
+
+/// The lines of `filter`.
+pub fn filtered_text(
+    alloc: Global,
+    names: &[String],
+    shapes: &[MapShape],
+    filtered: Result<Filtered, Refusal>,
+) -> Result<String, AllocError>
+    requires named { length names.now ≡ length shapes.now }
+    requires few { length shapes.now < 5 }
+    requires words { IfOk filtered (λ f. vec_len f.words ≡ total shapes.now) }
+    ensures { IfOk result (λ s. string_bytes s ≡ filtered_text (map string_bytes names.now) shapes.now filtered) }
+{
+    match filtered {
+        Ok(Filtered { mut lines, words }) => {
+            let words = Words::of(shapes, words.as_slice());
+            add_counters(alloc, &mut lines, names, shapes, &words)?;
+            Ok(lines)
+        }
+        Err(refusal) => refused_text(alloc, &refusal),
     }
 }

@@ -21,6 +21,8 @@ pub enum Request<'a> {
     Explain,
     /// What the queues of the settings do in the steps of their script.
     Run,
+    /// What the program of the settings makes of their packets.
+    Filter,
     /// What the queues of the settings do on threads, in at most so many turns each.
     Pair { turns: u32 },
 }
@@ -72,6 +74,9 @@ fn request_in<'a>(matches: &ArgMatches<'a>) -> Option<Request<'a>>
     }
     if name == "run" {
         return Some(Request::Run);
+    }
+    if name == "filter" {
+        return Some(Request::Filter);
     }
     if name == "pair" {
         return pair_in(inner);

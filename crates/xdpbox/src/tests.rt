@@ -5,6 +5,7 @@ mod exec;
 mod explain;
 mod failing;
 mod failing_runs;
+mod filter;
 mod hosting;
 mod lines;
 mod pair;

@@ -19,7 +19,7 @@ fn text(alloc: Global, cause: Cause, value: Val) -> Result<String, Fail> {
     let mut note = Note::entry(alloc);
     note.set_register(0, value);
     let refusal = Refusal { cause, pc: 0 };
-    Ok(explained_text(alloc, &code, names.as_slice(), refusal, Some(&note))?)
+    Ok(explained_text(alloc, &code, names.as_slice(), &[], refusal, Some(&note))?)
 }
 
 #[test]
@@ -178,7 +178,7 @@ fn columns(rt: HostRuntime) -> Result<(), Fail> {
         cause: Cause::Target,
         pc: 100,
     };
-    let text = explained_text(rt.alloc(), &code, names.as_slice(), refusal, None)?;
+    let text = explained_text(rt.alloc(), &code, names.as_slice(), &[], refusal, None)?;
     assert!(rt; text.as_str().contains("\n   9: exit\n  10: exit\n"));
     assert!(rt;
         text.as_str().ends_with(
@@ -235,7 +235,14 @@ fn a_load_before_the_packet(rt: HostRuntime) -> Result<(), Fail> {
             off: 0,
         },
     );
-    let text = explained_text(rt.alloc(), &code, names.as_slice(), refusal, Some(&note))?;
+    let text = explained_text(
+        rt.alloc(),
+        &code,
+        names.as_slice(),
+        &[],
+        refusal,
+        Some(&note),
+    )?;
     assert!(rt;
         text.as_str()
             .contains("\n       R1=pkt(id=0,off=0,r=0)  access=-1..7\n")
@@ -259,7 +266,7 @@ fn where_a_jump_goes(rt: HostRuntime) -> Result<(), Fail> {
             cause: Cause::Target,
             pc,
         };
-        let text = explained_text(rt.alloc(), &code, names.as_slice(), refusal, None)?;
+        let text = explained_text(rt.alloc(), &code, names.as_slice(), &[], refusal, None)?;
         assert!(rt; text.as_str().contains(wanted));
     }
     Ok(())
