@@ -6,3 +6,4 @@ mod random_rewrites;
 mod rewrites;
 mod runs;
 mod scripts;
+mod second_queue;

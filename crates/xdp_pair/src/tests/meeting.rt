@@ -1,15 +1,30 @@
 //! Queues that run at the same time. A pair whose workers all run on one thread, one after another, misses here.
 
-use super::fixtures::{COUNTS, TURNS, packets, program, setup};
+use super::fixtures::TURNS;
 use crate::gate::Gate;
-use crate::inbox::Discard;
-use crate::pairing::{STACK, pair_over};
-use crate::shared::Shared;
-use bpf_maps::MapShape;
+use crate::pair_with;
+use bpf_insn::{Refusal, decode};
+use bpf_verify::{Verified, verify};
+use std::alloc::Global;
 use std::sync::atomic::{AtomicBool, AtomicU32, Ordering};
 use std::test::Fail;
 use std::thread;
 use std::time::{Clock, Duration};
+use xdp_load::{Setup, load};
+
+/// Each of two queues sends two packets, which pass.
+const SETTINGS: &str = r#"
+program = ["b700000002000000", "9500000000000000"]
+queues = 2
+packet = [
+    { queue = 0, bytes = "000102030405060708090a0b0c0d", times = 2 },
+    { queue = 1, bytes = "000102030405060708090a0b0c0d", times = 2 },
+]
+"#;
+
+fn program_of(alloc: Global, setup: &Setup) -> Result<Verified, Refusal> {
+    verify(alloc, decode(alloc, setup.program.as_slice())?, &[])
+}
 
 /// Holds each of two queues before its second turn until the other has come there too.
 #[derive(Drop)]
@@ -53,14 +68,10 @@ fn two_queues_see_each_other(rt: HostRuntime) -> Result<(), Fail> {
         came: [AtomicBool::new(false), AtomicBool::new(false)],
         missed: AtomicU32::new(0),
     };
-    let shapes = [MapShape::of(2, 1).ok_or("shape")?];
-    let program = program(alloc, COUNTS, &shapes)?;
-    let setup = setup(alloc, 2, 0, packets(alloc, &[2, 2])?);
-    let (shared, parkers) = Shared::make(alloc, &setup)?;
-    let report = pair_over(
-        &rt, alloc, &setup, &program, TURNS, &gate, &Discard, STACK, &shared, parkers,
-    )?;
-    assert_eq!(rt; gate.missed.load(Ordering::SeqCst), 0);
-    assert_eq!(rt; report.totals.at(0, 1, 0), 4);
+    let setup = load(alloc, SETTINGS.as_bytes())?;
+    let program = program_of(alloc, &setup).map_err(|_| "refused program")?;
+    let report = pair_with(&rt, alloc, &setup, &program, TURNS, &gate)?;
+    let copied: u64 = report.rows.iter().map(|row| row.copied).sum();
+    assert_eq!(rt; (gate.missed.load(Ordering::SeqCst), copied), (0, 4));
     Ok(())
 }
