@@ -1,0 +1,4 @@
+pub mod Handle
+pub mod Verdict
+pub mod Answers
+pub mod Ran
