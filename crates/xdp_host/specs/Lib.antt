@@ -2,3 +2,4 @@ pub mod Handle
 pub mod Verdict
 pub mod Answers
 pub mod Ran
+pub mod Batch

@@ -2,7 +2,7 @@
 //! counters. No call has a condition. `include/laxonje.h` has the calls as C sees them.
 #![tactic(auto)]
 
-ghost use Rattle.std.specs.Prelude.{◌≡◌, ◌⊎◌, List, IfNone, IfSome, MatchOption, length};
+ghost use Rattle.std.specs.Prelude.{◌≡◌, ◌⊎◌, List, IfNone, IfSome, MatchOption, drop, length, min, take};
 ghost use Rattle.bpf_insn.specs.Code.{Spells};
 ghost use Rattle.bpf_insn.specs.declared.insn.Insn.{Insn};
 ghost use Rattle.bpf_maps.specs.Layout.{place_of, total};
@@ -13,15 +13,19 @@ ghost use Rattle.xdp_load.specs.Setup.{SetupView, setup_of};
 ghost use Rattle.xdp_program.specs.Ran.{Ran};
 ghost use Rattle.xdp_program.specs.Refused.{IsMade, IsUnmade};
 ghost use Rattle.xdp_host.specs.Answers.{Accepts, AcceptsText, AcceptsUnlessWanting, AreWithin, Refuses, RefusesText, shapes_of};
+ghost use Rattle.xdp_host.specs.Batch.{RanEach};
 ghost use Rattle.xdp_host.specs.Ran.{IsNotRun, action_number};
 ghost use Rattle.xdp_host.specs.Verdict.{accepting, verdict_of, wanting};
 ghost use Rattle.bpf_vm.specs.Actions.{action_of};
 
+mod batch;
 mod fault;
 mod handle;
 mod held;
 mod plain;
 
+pub use batch::XdpPacket;
+use batch::run_each;
 pub use fault::Fault;
 pub use handle::XdpProgram;
 pub use held::Held;
@@ -121,6 +125,37 @@ pub extern "C" fn laxonje_run(
             XdpRun::from(run)
         }
         None => XdpRun::nothing(),
+    }
+}
+
+/// Runs a program on the packets of a batch, one after another where they lie, as far as there are results. How many
+/// that are: with no program, none. A packet that doesn't lie in the bytes, or that [`laxonje_run`] wouldn't run, has the
+/// result of no run.
+#[unsafe(no_mangle)]
+pub extern "C" fn laxonje_run_batch(
+    alloc: Global,
+    program: &mut XdpProgram,
+    counters: &mut [u64],
+    bytes: &mut [u8],
+    packets: &[XdpPacket],
+    results: &mut [XdpRun],
+    ifindex: u32,
+    queue: u32,
+) -> usize
+    ensures kept { program.new.slot.held ≡ program.old.slot.held }
+    ensures ran { IfSome program.old.slot.held (λ h. RanEach h.program ifindex queue (record { bytes = bytes.old; words = counters.old })
+        (take result packets.now) (take result results.new) (record { bytes = bytes.new; words = counters.new })) }
+    ensures count { IfSome program.old.slot.held (λ _. result ≡ min (length packets.now) (length results.old)) }
+    ensures rest { drop result results.new ≡ drop result results.old }
+    ensures none { IfNone program.old.slot.held ((result ≡ 0) × (bytes.new ≡ bytes.old) × (counters.new ≡ counters.old)) }
+{
+    match program.take(alloc) {
+        Some(held) => {
+            let count = run_each(&held, counters, bytes, packets, results, ifindex, queue);
+            program.put(held);
+            count
+        }
+        None => 0,
     }
 }
 
