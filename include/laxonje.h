@@ -69,6 +69,12 @@ struct laxonje_run {
 	uint32_t instructions;
 };
 
+/* A packet of a batch: `length` of the batch's bytes, the first being byte `start`. */
+struct laxonje_packet {
+	size_t start;
+	size_t length;
+};
+
 /* An accepted program with its maps, or none. The fields are the library's own. */
 struct laxonje_program {
 	void *at;
@@ -82,6 +88,7 @@ LAXONJE_ASSERT(sizeof(struct laxonje_verdict) == 12 && offsetof(struct laxonje_v
 LAXONJE_ASSERT(offsetof(struct laxonje_verdict, at) == 8);
 LAXONJE_ASSERT(sizeof(struct laxonje_run) == 12 && offsetof(struct laxonje_run, action) == 4);
 LAXONJE_ASSERT(offsetof(struct laxonje_run, instructions) == 8);
+LAXONJE_ASSERT(sizeof(struct laxonje_packet) == 16 && offsetof(struct laxonje_packet, length) == 8);
 LAXONJE_ASSERT(sizeof(struct laxonje_program) == 16 && offsetof(struct laxonje_program, live) == 8);
 
 /* Whether a program is accepted with its maps. */
@@ -103,6 +110,13 @@ struct laxonje_verdict laxonje_again(struct laxonje_program *program, struct lax
  * changes, with no program, with fewer words than laxonje_counters says, or with more than LAXONJE_PACKET bytes. */
 struct laxonje_run laxonje_run(struct laxonje_program *program, uint64_t *counters, size_t counter_count,
                                uint8_t *packet, size_t packet_bytes, uint32_t ifindex, uint32_t queue);
+
+/* Runs a program on the packets of a batch, one after another where they lie, and writes a result for each. How many that
+ * are: the fewer of `packet_count` and `result_count`, and 0 with no program. A packet that doesn't lie in the bytes, or
+ * that laxonje_run wouldn't run, has 0 instructions, and the others are run. */
+size_t laxonje_run_batch(struct laxonje_program *program, uint64_t *counters, size_t counter_count,
+                         uint8_t *bytes, size_t byte_count, const struct laxonje_packet *packets, size_t packet_count,
+                         struct laxonje_run *results, size_t result_count, uint32_t ifindex, uint32_t queue);
 
 /* How many words a program's counters are. With no program, 0. */
 size_t laxonje_counters(struct laxonje_program *program);

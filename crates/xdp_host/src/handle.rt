@@ -62,6 +62,8 @@ impl Slot {
     }
 }
 
+unsafe impl Send for Slot {}
+
 /// An accepted program, or none, as C holds it. C makes one of zero bytes, which holds none, and changes nothing of it.
 #[repr(C)]
 pub struct XdpProgram {
@@ -142,4 +144,11 @@ impl Drop for XdpProgram {
     fn drop(self) {
         drop(self.into_box());
     }
+}
+
+fn crosses<T: Send>() {}
+
+/// A program may be handed to another thread, or this call isn't proved.
+pub fn programs_cross_threads() {
+    crosses::<XdpProgram>()
 }

@@ -27,7 +27,7 @@ mod plain;
 pub use batch::XdpPacket;
 use batch::run_each;
 pub use fault::Fault;
-pub use handle::XdpProgram;
+pub use handle::{XdpProgram, programs_cross_threads};
 pub use held::Held;
 pub use plain::{XdpMap, XdpRun, XdpVerdict};
 use std::alloc::Global;
