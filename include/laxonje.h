@@ -8,8 +8,9 @@
  *    elements, and is aligned for what it points to. What is passed as not const overlaps nothing else that is passed.
  * 2. A struct laxonje_program is all zeros (LAXONJE_PROGRAM_NONE) or what this library left in it. It is never copied:
  *    two copies would be freed twice. Moving it means that the old place isn't used again.
- * 3. One call at a time for one program, on the thread that loaded it. Different programs may be used by any threads at
- *    once. laxonje_again makes a program for another thread: see docs/HOST.md.
+ * 3. One call at a time for one program. Different programs may be used by any threads at once. A program is handed to
+ *    another thread by a lock, by that thread's start or join, or by a sequentially consistent atomic: laxonje_again
+ *    makes one to be handed over.
  * 4. malloc, realloc and free are those of one allocator, and align blocks to 16 bytes. No call from a signal handler, or
  *    from the forked child of a process with threads.
  * 5. This header is written by hand. Nothing compares it with the library but the assertions below and the examples:

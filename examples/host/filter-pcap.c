@@ -1,7 +1,8 @@
 /* Runs the program of a settings text on the packets of a capture, and counts what becomes of them.
  *
- * usage: filter-pcap [-v] [-w FILE] [-j THREADS] SETTINGS CAPTURE
+ * usage: filter-pcap [-v] [-t] [-w FILE] [-j THREADS] SETTINGS CAPTURE
  *   -v  a line for each packet
+ *   -t  how long the threads took, the loading of their programs too, on standard error
  *   -w  a capture of the packets that are passed or sent back, as the program left them
  *   -j  so many threads, each with a program and counters of its own; the counters are added at the end */
 #include <laxonje.h>
@@ -11,6 +12,7 @@
 #include <stdio.h>
 #include <stdlib.h>
 #include <string.h>
+#include <time.h>
 #include <unistd.h>
 
 enum { MOST_THREADS = 64, BATCH = 64, MOST_SETTINGS = 1 << 20 };
@@ -149,6 +151,33 @@ static bool told(struct laxonje_verdict verdict)
 	return false;
 }
 
+static double seconds(void)
+{
+	struct timespec now;
+
+	clock_gettime(CLOCK_MONOTONIC, &now);
+	return now.tv_sec + now.tv_nsec / 1e9;
+}
+
+/* Runs all packets on so many threads. */
+static bool run_all(struct worker *workers, int threads, const struct text *settings, struct capture *capture)
+{
+	for (int i = 0; i < threads; i++) {
+		struct worker *worker = &workers[i];
+
+		worker->settings = settings, worker->capture = capture;
+		worker->from = capture->count * i / threads, worker->past = capture->count * (i + 1) / threads;
+		if (pthread_create(&worker->thread, NULL, work, worker))
+			perror("filter-pcap"), exit(1);
+	}
+	for (int i = 0; i < threads; i++)
+		pthread_join(workers[i].thread, NULL);
+	for (int i = 0; i < threads; i++)
+		if (!told(workers[i].verdict))
+			return false;
+	return true;
+}
+
 static void print_packets(const struct capture *capture)
 {
 	for (size_t i = 0; i < capture->count; i++)
@@ -209,36 +238,30 @@ int main(int argc, char **argv)
 	char error[PCAP_ERRBUF_SIZE];
 	const char *written = NULL;
 	struct capture capture = {0};
-	bool verbose = false, well = true;
+	bool verbose = false, timed = false, well;
 	int threads = 1, option;
 
-	while ((option = getopt(argc, argv, "vw:j:")) != -1)
+	while ((option = getopt(argc, argv, "vtw:j:")) != -1)
 		switch (option) {
 		case 'v': verbose = true; break;
+		case 't': timed = true; break;
 		case 'w': written = optarg; break;
 		case 'j': threads = atoi(optarg); break;
 		default: return 2;
 		}
 	if (argc - optind != 2 || threads < 1 || threads > MOST_THREADS)
-		return fprintf(stderr, "usage: filter-pcap [-v] [-w FILE] [-j 1..%d] SETTINGS CAPTURE\n", MOST_THREADS), 2;
+		return fprintf(stderr, "usage: filter-pcap [-v] [-t] [-w FILE] [-j 1..%d] SETTINGS CAPTURE\n", MOST_THREADS), 2;
 	struct text settings = file_of(argv[optind]);
 	pcap_t *file = pcap_open_offline(argv[optind + 1], error);
 	if (!file)
 		return fprintf(stderr, "filter-pcap: %s\n", error), 1;
 	append(&capture.bytes, "", 0);
 	read_capture(file, &capture);
-	for (int i = 0; i < threads; i++) {
-		struct worker *worker = &workers[i];
-
-		worker->settings = &settings, worker->capture = &capture;
-		worker->from = capture.count * i / threads, worker->past = capture.count * (i + 1) / threads;
-		if (pthread_create(&worker->thread, NULL, work, worker))
-			return perror("filter-pcap"), 1;
-	}
-	for (int i = 0; i < threads; i++)
-		pthread_join(workers[i].thread, NULL);
-	for (int i = 0; i < threads && well; i++)
-		well = told(workers[i].verdict);
+	double start = seconds();
+	well = run_all(workers, threads, &settings, &capture);
+	double took = seconds() - start;
+	if (timed)
+		fprintf(stderr, "%.1f ms, %.2f million packets a second\n", took * 1e3, capture.count / took / 1e6);
 	if (well && verbose)
 		print_packets(&capture);
 	if (well)

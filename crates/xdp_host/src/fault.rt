@@ -36,7 +36,10 @@ impl<T: Drop> From<AllocFailed<T>> for Fault {
 
     ghost from_gives = { λ _ e. e ≡ wanting };
 
-    fn from(error: AllocFailed<T>) -> Fault {
-        Fault::from(AllocError::from(error))
+    fn from(_error: AllocFailed<T>) -> Fault {
+        Fault::Refused(Refusal {
+            cause: Cause::Memory,
+            pc: 0,
+        })
     }
 }

@@ -15,13 +15,14 @@ pub struct XdpMap {
     pub counters: u32,
 }
 
-/// What became of a program: the header says what the numbers mean.
+/// What became of a program: the header says what the numbers mean. None is made but of a fault, or of a program's number
+/// of instructions.
 #[repr(C)]
 #[derive(Clone, Copy, Debug, PartialEq, Eq, Drop)]
 pub struct XdpVerdict {
-    pub kind: u32,
-    pub cause: u32,
-    pub at: u32,
+    kind: u32,
+    cause: u32,
+    at: u32,
 }
 
 impl XdpVerdict {
