@@ -1,5 +1,5 @@
 //! Programs of settings texts.
-ghost use Rattle.std.specs.Prelude.{◌≡◌, List, IfOk, IfErr, MatchResult, Ok};
+ghost use Rattle.std.specs.Prelude.{◌≡◌, ◌≤◌, List, IfOk, IfErr, MatchResult, Ok, length};
 ghost use Rattle.bpf_insn.specs.Code.{Spells};
 ghost use Rattle.bpf_insn.specs.declared.insn.Insn.{Insn};
 ghost use Rattle.bpf_verify.specs.FirstRefusal.{IsFaultless};
@@ -14,6 +14,7 @@ use std::alloc::Global;
 /// What [`load_settings`] does. That nothing more is refused follows from these clauses.
 fn accept(alloc: Global, text: &[u8]) -> Result<Program, SettingsFault>
     ensures program { IfOk result (IsProgramOf text.now) }
+    ensures few { IfOk result (λ p. length p.shapes ≤ 4) }
     ensures refused { IfErr result (IsSettingsFault text.now) }
 {
     match xdp_load::load(alloc, text) {
@@ -29,6 +30,7 @@ fn accept(alloc: Global, text: &[u8]) -> Result<Program, SettingsFault>
 /// packets, is read and put away. docs/SETTINGS.md has the keys.
 pub fn load_settings(alloc: Global, text: &[u8]) -> Result<Program, SettingsFault>
     ensures program { IfOk result (IsProgramOf text.now) }
+    ensures few { IfOk result (λ p. length p.shapes ≤ 4) }
     ensures refused { IfErr result (IsSettingsFault text.now) }
 
     // Nothing more is refused.

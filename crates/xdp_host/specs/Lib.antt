@@ -1,0 +1,5 @@
+pub mod Handle
+pub mod Verdict
+pub mod Answers
+pub mod Ran
+pub mod Batch

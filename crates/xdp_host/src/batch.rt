@@ -1,0 +1,56 @@
+//! Many packets in one call.
+ghost use Rattle.std.specs.Prelude.{◌≡◌, drop, length, min, take};
+ghost use Rattle.xdp_host.specs.Batch.{RanEach, RunsOne};
+
+use crate::held::Held;
+use crate::plain::XdpRun;
+
+/// A packet of a batch: so many of its bytes, from a start.
+#[repr(C)]
+#[derive(Clone, Copy, Debug, PartialEq, Eq, Drop)]
+pub struct XdpPacket {
+    pub start: usize,
+    pub length: usize,
+}
+
+/// Runs a program on one packet of a batch.
+fn run_one(
+    held: &Held,
+    counters: &mut [u64],
+    bytes: &mut [u8],
+    packet: XdpPacket,
+    ifindex: u32,
+    queue: u32,
+) -> XdpRun
+    ensures { RunsOne held.now.program ifindex queue packet result
+        (record { bytes = bytes.old; words = counters.old }) (record { bytes = bytes.new; words = counters.new }) }
+{
+    let XdpPacket { start, length } = packet;
+    if length > bytes.len() || start > bytes.len() - length {
+        return XdpRun::nothing();
+    }
+    let packet = &mut bytes[start..start + length];
+    XdpRun::from(held.program.run(counters, packet, ifindex, queue))
+}
+
+/// Runs a program on the packets of a batch, one after another, as far as there are results. How many that are.
+pub fn run_each(
+    held: &Held,
+    counters: &mut [u64],
+    bytes: &mut [u8],
+    packets: &[XdpPacket],
+    results: &mut [XdpRun],
+    ifindex: u32,
+    queue: u32,
+) -> usize
+    ensures ran { RanEach held.now.program ifindex queue (record { bytes = bytes.old; words = counters.old })
+        (take result packets.now) (take result results.new) (record { bytes = bytes.new; words = counters.new }) }
+    ensures count { result ≡ min (length packets.now) (length results.old) }
+    ensures rest { drop result results.new ≡ drop result results.old }
+{
+    let count = packets.len().min(results.len());
+    for number in 0..count {
+        results[number] = run_one(held, counters, bytes, packets[number], ifindex, queue);
+    }
+    count
+}

@@ -1,0 +1,154 @@
+//! A box that C holds.
+ghost use Rattle.std.specs.Prelude.{◌≡◌, ◌↔◌, Option, None, Some, IsTrue, IsSome, IfErr, IfOk, option_map};
+ghost use Rattle.bpf_verify.specs.Consistent.{instructions};
+ghost use Rattle.xdp_host.specs.declared.held.Held.{Held};
+ghost use Rattle.xdp_host.specs.Answers.{AcceptsUnlessWanting, IsWanting};
+ghost use Rattle.xdp_host.specs.Handle.{handle_owns, held_coded};
+ghost use Rattle.xdp_host.specs.Verdict.{accepting, verdict_of};
+
+mod parts;
+
+use crate::fault::Fault;
+use crate::held::Held;
+use crate::plain::XdpVerdict;
+use parts::Parts;
+use std::alloc::Global;
+use std::marker::Model;
+use std::mem;
+use std::ptr::null_mut;
+
+/// The address of a box, or of nothing.
+#[repr(C)]
+#[derive(Drop)]
+pub struct Slot {
+    at: *mut u8,
+    alloc: Global,
+    pub ghost held: { Option Held } by { held_coded },
+}
+
+impl Model for Slot {
+    ghost also_owns = { λ p. handle_owns p.alloc p.at p.held };
+}
+
+impl Slot {
+    fn empty(alloc: Global) -> Slot
+        ensures { result.held ≡ None }
+    {
+        Slot {
+            at: null_mut(),
+            alloc,
+        }
+    }
+
+    fn of_parts(parts: Parts<Held, Global>) -> Slot
+        ensures { result.held ≡ Some parts.value }
+    {
+        let Parts { ptr, alloc } = parts;
+        Slot {
+            at: ptr as *mut u8,
+            alloc,
+        }
+    }
+
+    fn into_parts(self) -> Parts<Held, Global>
+        requires { IsSome self.held }
+        ensures { Some result.value ≡ self.held }
+    {
+        let Slot { at, alloc } = self;
+        Parts {
+            ptr: at as *mut Held,
+            alloc,
+        }
+    }
+}
+
+unsafe impl Send for Slot {}
+
+/// An accepted program, or none, as C holds it. C makes one of zero bytes, which holds none, and changes nothing of it.
+#[repr(C)]
+pub struct XdpProgram {
+    slot: Slot,
+    live: bool,
+    ghost agrees: { IsTrue live ↔ IsSome slot.held },
+}
+
+impl XdpProgram {
+    /// No program.
+    fn none(alloc: Global) -> XdpProgram
+        ensures { result.slot.held ≡ None }
+    {
+        XdpProgram {
+            slot: Slot::empty(alloc),
+            live: false,
+        }
+    }
+
+    /// The program in a box.
+    fn of(held: Box<Held>) -> XdpProgram
+        ensures { result.slot.held ≡ Some held.value }
+    {
+        XdpProgram {
+            slot: Slot::of_parts(Parts::of(held)),
+            live: true,
+        }
+    }
+
+    /// Takes the box out, if there is one.
+    fn into_box(self) -> Option<Box<Held>>
+        ensures { option_map (λ b. b.value) result ≡ self.slot.held }
+    {
+        let XdpProgram { slot, live } = self;
+        if live {
+            Some(slot.into_parts().into_box())
+        } else {
+            None
+        }
+    }
+
+    /// Takes the box out, if there is one. None is left.
+    pub fn take(&mut self, alloc: Global) -> Option<Box<Held>>
+        ensures gone { option_map (λ b. b.value) result ≡ self.old.slot.held }
+        ensures none { self.new.slot.held ≡ None }
+    {
+        mem::replace(self, XdpProgram::none(alloc)).into_box()
+    }
+
+    /// Puts a box in place of what was there, which is dropped.
+    pub fn put(&mut self, held: Box<Held>)
+        ensures { self.new.slot.held ≡ Some held.value }
+    {
+        *self = XdpProgram::of(held);
+    }
+
+    /// Puts what was loaded, or none, in place of what was there. What C is told of it.
+    pub fn set(&mut self, alloc: Global, loaded: Result<Box<Held>, Fault>) -> XdpVerdict
+        ensures ok { IfOk loaded (λ b. (self.new.slot.held ≡ Some b.value) × (result ≡ accepting (instructions b.value.program.code))) }
+        ensures err { IfErr loaded (λ f. (self.new.slot.held ≡ None) × (result ≡ verdict_of f)) }
+        ensures wanting { IfErr loaded IsWanting → AcceptsUnlessWanting result }
+    {
+        match loaded {
+            Ok(held) => {
+                let verdict = held.verdict();
+                self.put(held);
+                verdict
+            }
+            Err(fault) => {
+                drop(self.take(alloc));
+                XdpVerdict::from(fault)
+            }
+        }
+    }
+}
+
+impl Drop for XdpProgram {
+    fn drop(self) {
+        drop(self.into_box());
+    }
+}
+
+fn crosses<T: Send>() {}
+
+/// A program may be handed to another thread, or this call isn't proved.
+pub fn programs_cross_threads() {
+    crosses::<XdpProgram>()
+}

@@ -1,0 +1,146 @@
+//! An accepted program, and what C gives in the words of the libraries.
+ghost use Rattle.std.specs.Prelude.{◌≡◌, ◌≤◌, ℕ, List, All, IfOk, IfErr, Ok, length, take};
+ghost use Rattle.bpf_insn.specs.Code.{Spells};
+ghost use Rattle.bpf_insn.specs.declared.insn.Insn.{Insn};
+ghost use Rattle.bpf_note.specs.Shape.{IsShape};
+ghost use Rattle.bpf_verify.specs.Consistent.{instructions};
+ghost use Rattle.bpf_verify.specs.FirstRefusal.{IsFaultless};
+ghost use Rattle.xdp_load.specs.Setup.{SetupView, setup_of};
+ghost use Rattle.xdp_program.specs.Settings.{IsProgramOf};
+ghost use Rattle.xdp_host.specs.Answers.{AreWithin, IsFault, IsFaultOfText, IsFirstOutside, IsLoaded, IsWanting, shape_of, shapes_of};
+ghost use Rattle.xdp_host.specs.Verdict.{accepting, wanting};
+
+use crate::fault::Fault;
+use crate::plain::{XdpMap, XdpVerdict};
+use std::alloc::Global;
+use xdp_program::{LoadFault, MapShape, Program, SettingsFault, load_settings};
+
+/// The most maps that a program has.
+const MOST_MAPS: usize = 4;
+
+/// An accepted program.
+#[derive(Drop)]
+pub struct Held {
+    pub program: Program,
+}
+
+/// The smallest map.
+fn smallest() -> MapShape {
+    match MapShape::of(1, 1) {
+        Some(shape) => shape,
+        None => unreachable!(),
+    }
+}
+
+/// The shape of a map.
+fn shape_of(number: u32, map: XdpMap) -> Result<MapShape, Fault>
+    ensures ok { IfOk result (λ s. (s ≡ shape_of map) × IsShape (shape_of map)) }
+    ensures err { IfErr result (λ f. (f ≡ Fault.Map number) × (IsShape (shape_of map) → ⊥)) }
+{
+    match MapShape::of(map.entries, map.counters) {
+        Some(shape) => Ok(shape),
+        None => Err(Fault::Map(number)),
+    }
+}
+
+/// The shapes of at most four maps, and what of no use follows them; or the first map that is out of its limits.
+fn shapes_of(maps: &[XdpMap]) -> Result<[MapShape; MOST_MAPS], Fault>
+    requires { length maps.now ≤ 4 }
+    ensures shapes { IfOk result (λ shapes. take (length maps.now) shapes ≡ shapes_of maps.now) }
+    ensures within { IfOk result (λ _. All IsShape (shapes_of maps.now)) }
+    ensures outside { IfErr result (λ f. (number : ℕ) × (f ≡ Fault.Map number) × IsFirstOutside maps.now number) }
+{
+    let mut shapes = [smallest(); MOST_MAPS];
+    for (number, map) in maps.iter().enumerate() {
+        shapes[number] = shape_of(number as u32, *map)?;
+    }
+    Ok(shapes)
+}
+
+/// Accepts a program with its maps.
+fn accept(alloc: Global, program: &[u8], maps: &[XdpMap]) -> Result<Program, Fault>
+    ensures loaded { IfOk result (IsLoaded program.now maps.now) }
+    ensures fault { IfErr result (IsFault program.now maps.now) }
+    ensures accepted { (code : List Insn) → Spells code program.now → IsFaultless code (shapes_of maps.now) → AreWithin maps.now →
+        IfErr result IsWanting }
+{
+    if maps.len() > MOST_MAPS {
+        return Err(Fault::Map(4));
+    }
+    let shapes = shapes_of(maps)?;
+    match Program::load(alloc, program, &shapes[..maps.len()]) {
+        Ok(program) => Ok(program),
+        Err(LoadFault::Refused(refusal)) => Err(Fault::Refused(refusal)),
+        Err(LoadFault::Maps) => unreachable!(),
+    }
+}
+
+/// Accepts the program of a settings text with its maps.
+fn accept_text(alloc: Global, text: &[u8]) -> Result<Program, Fault>
+    ensures loaded { IfOk result (IsProgramOf text.now) }
+    ensures few { IfOk result (λ p. length p.shapes ≤ 4) }
+    ensures fault { IfErr result (IsFaultOfText text.now) }
+    ensures accepted { (s : SetupView) (code : List Insn) → setup_of text.now ≡ Ok s → Spells code s.program → IsFaultless code s.shapes →
+        IfErr result IsWanting }
+{
+    match load_settings(alloc, text) {
+        Ok(program) => Ok(program),
+        Err(SettingsFault::Text(fault)) => Err(Fault::Text(fault)),
+        Err(SettingsFault::Program(LoadFault::Refused(refusal))) => Err(Fault::Refused(refusal)),
+        Err(SettingsFault::Program(LoadFault::Maps)) => unreachable!(),
+    }
+}
+
+impl Held {
+    /// A box of a program.
+    fn boxed(alloc: Global, program: Program) -> Result<Box<Held>, Fault>
+        ensures ok { IfOk result (λ b. b.value.program ≡ program) }
+        ensures err { IfErr result (λ f. f ≡ wanting) }
+    {
+        let held = Box::new(alloc, Held { program })?;
+        Ok(held)
+    }
+
+    /// Accepts a program with its maps.
+    #[tactic(auto, using(crate::proofs::FaultLemmas::wanting_loaded))]
+    pub fn load(alloc: Global, program: &[u8], maps: &[XdpMap]) -> Result<Box<Held>, Fault>
+        ensures loaded { IfOk result (λ b. IsLoaded program.now maps.now b.value.program) }
+        ensures fault { IfErr result (IsFault program.now maps.now) }
+        ensures accepted { (code : List Insn) → Spells code program.now → IsFaultless code (shapes_of maps.now) → AreWithin maps.now →
+            IfErr result IsWanting }
+    {
+        match accept(alloc, program, maps) {
+            Ok(program) => Held::boxed(alloc, program),
+            Err(fault) => Err(fault),
+        }
+    }
+
+    /// Accepts the program of a settings text with its maps.
+    pub fn load_settings(alloc: Global, text: &[u8]) -> Result<Box<Held>, Fault>
+        ensures loaded { IfOk result (λ b. IsProgramOf text.now b.value.program) }
+        ensures fault { IfErr result (IsFaultOfText text.now) }
+        ensures accepted { (s : SetupView) (code : List Insn) → setup_of text.now ≡ Ok s → Spells code s.program → IsFaultless code s.shapes →
+            IfErr result IsWanting }
+    {
+        match accept_text(alloc, text) {
+            Ok(program) => Held::boxed(alloc, program),
+            Err(fault) => Err(fault),
+        }
+    }
+
+    /// The same program once more.
+    pub fn again(&self, alloc: Global) -> Result<Box<Held>, Fault>
+        ensures ok { IfOk result (λ b. b.value ≡ self.now) }
+        ensures err { IfErr result (λ f. f ≡ wanting) }
+    {
+        let program = self.program.again(alloc)?;
+        Held::boxed(alloc, program)
+    }
+
+    /// What C is told of it.
+    pub fn verdict(&self) -> XdpVerdict
+        ensures { result ≡ accepting (instructions self.now.program.code) }
+    {
+        XdpVerdict::accepting(self.program.instructions())
+    }
+}

@@ -1,0 +1,103 @@
+//! What crosses to C. `include/laxonje.h` has these structs in the same order.
+ghost use Rattle.std.specs.Prelude.{◌≡◌};
+ghost use Rattle.xdp_host.specs.Ran.{action_number, nothing, run_of};
+ghost use Rattle.xdp_host.specs.Verdict.{accepting, verdict_of};
+
+use crate::fault::Fault;
+use bpf_vm::Action;
+use xdp_program::Run;
+
+/// The size of a map.
+#[repr(C)]
+#[derive(Clone, Copy, Debug, PartialEq, Eq, Drop)]
+pub struct XdpMap {
+    pub entries: u32,
+    pub counters: u32,
+}
+
+/// What became of a program: the header says what the numbers mean. None is made but of a fault, or of a program's number
+/// of instructions.
+#[repr(C)]
+#[derive(Clone, Copy, Debug, PartialEq, Eq, Drop)]
+pub struct XdpVerdict {
+    kind: u32,
+    cause: u32,
+    at: u32,
+}
+
+impl XdpVerdict {
+    /// Accepted, with so many instructions.
+    pub fn accepting(instructions: u32) -> XdpVerdict
+        ensures { result ≡ accepting instructions }
+    {
+        XdpVerdict {
+            kind: 0,
+            cause: 0,
+            at: instructions,
+        }
+    }
+}
+
+impl From<Fault> for XdpVerdict {
+    ghost from_gives = { λ fault v. v ≡ verdict_of fault };
+
+    fn from(fault: Fault) -> XdpVerdict {
+        let (kind, cause, at) = match fault {
+            Fault::Refused(refusal) => (1, refusal.cause.number(), refusal.pc),
+            Fault::Map(number) => (2, 0, number),
+            Fault::Text(fault) => (3, fault.number(), 0),
+            Fault::Empty => (4, 0, 0),
+        };
+        XdpVerdict {
+            kind,
+            cause: u32::from(cause),
+            at,
+        }
+    }
+}
+
+/// How a run ended. Nothing was run where no instruction was done.
+#[repr(C)]
+#[derive(Clone, Copy, Debug, PartialEq, Eq, Drop)]
+pub struct XdpRun {
+    pub number: u32,
+    pub action: u32,
+    pub instructions: u32,
+}
+
+/// The number of an action, as in Linux's `bpf.h`.
+fn number_of(action: Action) -> u32
+    ensures { result ≡ action_number action }
+{
+    match action {
+        Action::Aborted => 0,
+        Action::Drop => 1,
+        Action::Pass => 2,
+        Action::Tx => 3,
+    }
+}
+
+impl XdpRun {
+    /// Nothing was run.
+    pub fn nothing() -> XdpRun
+        ensures { result ≡ nothing }
+    {
+        XdpRun {
+            number: 0,
+            action: 0,
+            instructions: 0,
+        }
+    }
+}
+
+impl From<Run> for XdpRun {
+    ghost from_gives = { λ run r. r ≡ run_of run };
+
+    fn from(run: Run) -> XdpRun {
+        XdpRun {
+            number: run.number,
+            action: number_of(Action::of(run.number)),
+            instructions: run.instructions,
+        }
+    }
+}
