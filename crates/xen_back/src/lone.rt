@@ -140,7 +140,8 @@ fn answer_alone<B: Bus>(
     notify_alone(wiring, state, ports, event);
 }
 
-/// Sends a packet back, and answers its slot.
+/// Sends a packet back, and answers its slot. It isn't inlined, so that its frame isn't cleared where nothing is sent.
+#[inline(never)]
 fn send_alone<B: Bus>(
     wiring: &Wiring,
     state: &State,

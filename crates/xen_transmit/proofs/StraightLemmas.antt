@@ -1,8 +1,9 @@
 -- What a transmit does in one go is what it asks, event by event.
-use Rattle.std.proofs.Common.{◌≡◌, ℕ, zero, suc, ◌+◌, ◌-◌, ◌<◌, ◌≤◌, ◌^◌, Bool, true, false, List, [], ◌∷◌, ◌++◌, length, drop, Option, Some, None, Result, Ok, Err, refl, sym, ◌∙◌, ap, arith, subst, nat_lt}
-use Rattle.std.specs.Prelude.{if◌then◌else◌, is_some}
+use Rattle.std.proofs.Common.{◌≡◌, ℕ, suc, ◌+◌, ◌-◌, ◌*◌, ◌/◌, ◌%◌, ◌<◌, ◌≤◌, ◌^◌, Bool, true, false, List, [], ◌∷◌, ◌++◌, length, drop, Option, Some, None, Result, Ok, Err, refl, sym, ◌∙◌, ap, arith, subst, nat_lt}
+use Rattle.std.specs.Prelude.{if◌then◌else◌, is_some, min, nat_le}
 use Rattle.std.specs.Result.{result_ok}
 use Rattle.std.proofs.lemmas.Bool.{le-ltb}
+use Rattle.std.proofs.lemmas.Bool.Decides.{nat_tests}
 use Rattle.xen_netif.specs.Slots.{rx_req_of}
 use Rattle.xen_page.specs.Access.{Performs}
 use Rattle.xen_page.specs.Entry.{entry_of}
@@ -18,12 +19,12 @@ use Rattle.xen_ring.specs.Index.{is_due}
 use Rattle.xen_steps.specs.Drive.{Driven, Goes, Gone, accesses}
 use Rattle.xen_steps.specs.Event.{Event, Read, Write, Notify}
 use Rattle.xen_steps.specs.Finish.{Finishes}
-use Rattle.xen_steps.specs.Places.{add32, available}
+use Rattle.xen_steps.specs.Places.{add32, available, page_word}
 use Rattle.xen_steps.specs.Steps.{Steps, done, ask, never, bind}
 use Rattle.xen_steps.specs.declared.want.Want.{Want}
 use Rattle.xen_steps.proofs.DriveLemmas.{accesses-append, driven_none, gone_append}
 use Rattle.xen_transmit.specs.Entries.{entry, entry_at}
-use Rattle.xen_transmit.specs.Packets.{buffer_word, pages, response_word, target_at, word_of, words}
+use Rattle.xen_transmit.specs.Packets.{buffer_word, frame_in, pages, response_word, target_at, word_of, words}
 use Rattle.xen_transmit.specs.Places.{rx_slot, rx_word}
 use Rattle.xen_transmit.specs.Shared.{IsEntry, inside, outside}
 use Rattle.xen_transmit.specs.Straight.{scanned}
@@ -150,6 +151,32 @@ pub fill_within : (frames : ℕ) (ts : List Target) (packet : List ℕ) (n k : �
 fill_within frames ts packet n k within h f =
     let e : n - k ≡ suc (n - (k + 1)) = omega (arith, h) in
     subst (λ m. Finishes within (fill ts packet m k)) e f
+
+-- no word is left
+pub fill_none : (ts : List Target) (packet : List ℕ) (n k : ℕ) → n ≤ k → fill ts packet (n - k) k ≡ done tt
+fill_none ts packet n k h =
+    let e : n - k ≡ 0 = omega (arith, h) in
+    ap (λ m. fill ts packet m k) e
+
+-- what is left at the end of a page, or of the packet
+pub fill_end : (ts : List Target) (packet : List ℕ) (n k m : ℕ) → k ≡ min n m → fill ts packet (n - k) k ≡ fill ts packet (n - m) m
+fill_end ts packet n k m e = by (nat_le n m) refl
+  where
+    by : (b : Bool) → nat_le n m ≡ b → fill ts packet (n - k) k ≡ fill ts packet (n - m) m
+    by true t =
+        let short : n ≤ m = grind (arith, nat_tests) in
+        fill_none ts packet n k (omega (arith, e, short)) ∙ sym (fill_none ts packet n m short)
+    by false t =
+        let long : m < n = grind (arith, nat_tests) in
+        let same : k ≡ m = omega (arith, e, long) in
+        ap (λ j. fill ts packet (n - j) j) same
+
+-- where a word of the i-th page goes
+pub word_in_page : (ts : List Target) (i k frame : ℕ) → frame ≡ frame_in (target_at ts i).frame → 1024 * i ≤ k → k < 1024 * i + 1024 → page_word frame (k - 1024 * i) ≡ buffer_word ts k
+word_in_page ts i k frame e h l =
+    let page : k / 1024 ≡ i = omega (arith, h, l) in
+    let word : k % 1024 ≡ k - 1024 * i = omega (arith, h, l) in
+    ap (λ f. page_word f (k - 1024 * i)) (e ∙ ap (λ j. frame_in (target_at ts j).frame) (sym page)) ∙ ap (λ m. page_word (frame_in (target_at ts (k / 1024)).frame) m) (sym word)
 
 less_none : (n : ℕ) → n - 0 ≡ n
 less_none n = omega arith

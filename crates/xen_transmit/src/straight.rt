@@ -2,7 +2,7 @@
 //!
 //! Some functions take `rx_index` for their contracts alone: it fixes what the transmit has left.
 
-ghost use Rattle.std.specs.Prelude.{◌≡◌, ◌≤◌, ◌<◌, ◌+◌, ◌∷◌, ◌^◌, [], List, ℕ, length, true};
+ghost use Rattle.std.specs.Prelude.{◌≡◌, ◌≤◌, ◌<◌, ◌+◌, ◌-◌, ◌*◌, ◌∷◌, ◌^◌, [], List, ℕ, length, true};
 ghost use Rattle.xen_netif.specs.Slots.{rx_req_of};
 ghost use Rattle.xen_page.specs.Access.{Performs};
 ghost use Rattle.xen_page.specs.Entry.{entry_of};
@@ -23,7 +23,7 @@ ghost use Rattle.xen_transmit.specs.Wired.{IsWired};
 use crate::phase::Outcome;
 use crate::target::{Target, Targets};
 use crate::vif::Vif;
-use crate::words::{buffer_at, packet_word, pages_of, response, words_of};
+use crate::words::{buffer_frame, packet_word, pages_of, response, words_of};
 use crate::writing::outcome;
 use xen_netif::RxReq;
 use xen_page::{Bus, Entry, GrantFault, Place, check};
@@ -114,6 +114,24 @@ fn read_targets<B: Bus>(
     true
 }
 
+/// Writes the words in a packet's i-th page into their buffer.
+fn fill_buffer<B: Bus>(bus: &mut B, targets: &Targets, i: u32, packet: &[u8])
+    requires short { length packet.now ≤ 65535 }
+    requires page { 1024 * i < words packet.now }
+    requires left { Finishes (IsPageWant (B.size bus.old)) (fill targets.now packet.now (words packet.now - 1024 * i) (1024 * i)) }
+    ensures size { B.size bus.new ≡ B.size bus.old }
+    ensures driven { (t : List Event) × Driven B.log B.access_gives (fill targets.now packet.now (words packet.now - 1024 * i) (1024 * i))
+        (fill targets.now packet.now (words packet.now - 1024 * (i + 1)) (1024 * (i + 1))) bus.old bus.new t }
+{
+    let frame = buffer_frame(targets, i);
+    let from = 1024 * i;
+    let to = words_of(packet).min(from + 1024);
+    for k in from..to {
+        let word = k - from;
+        bus.write(Place { frame, word }, packet_word(packet, k));
+    }
+}
+
 /// Writes a packet's words into its buffers.
 fn fill_buffers<B: Bus>(bus: &mut B, targets: &Targets, packet: &[u8])
     requires short { length packet.now ≤ 65535 }
@@ -121,8 +139,8 @@ fn fill_buffers<B: Bus>(bus: &mut B, targets: &Targets, packet: &[u8])
     ensures size { B.size bus.new ≡ B.size bus.old }
     ensures driven { (t : List Event) × Driven B.log B.access_gives (fill targets.now packet.now (words packet.now) 0) (done tt) bus.old bus.new t }
 {
-    for k in 0..words_of(packet) {
-        bus.write(buffer_at(targets, k), packet_word(packet, k));
+    for i in 0..pages_of(packet) {
+        fill_buffer(bus, targets, i, packet);
     }
 }
 
