@@ -2,7 +2,7 @@
 use Rattle.std.proofs.Common.{◌≡◌, ◌≢◌, ℕ, zero, suc, ◌+◌, ◌-◌, ◌<◌, ◌≤◌, ◌^◌, ◌%◌, Bool, true, false, List, [], ◌∷◌, ◌++◌, length, Option, Some, None, Ok, Err, refl, sym, ◌∙◌, ap, append_assoc, append-nil, subst, arith}
 use Rattle.std.proofs.lemmas.Bool.Decides.{nat_tests}
 use Rattle.std.specs.Prelude.{IsTrue, nat_le, if◌then◌else◌}
-use Rattle.bpf_flow.specs.Step.{Outcome, Next, Loads, Adds, Exited, Fault}
+use Rattle.bpf_flow.specs.Step.{Outcome as StepOutcome, Next, Loads, Adds, Exited, Fault}
 use Rattle.bpf_note.specs.declared.op.Op.{Op}
 use Rattle.bpf_vm.specs.Advance.{after_steps}
 use Rattle.bpf_vm.specs.Course.{Course, Exiting, Loading, Adding, after, number_in}
@@ -26,12 +26,19 @@ use Rattle.xen_page.specs.declared.fault.GrantFault.{GrantFault}
 use Rattle.xen_page.specs.declared.place.Place.{Place}
 use Rattle.xen_page.proofs.AccessLemmas.{performs_none, performs_then}
 use Rattle.xen_ring.specs.Index.{is_due}
-use Rattle.xen_steps.proofs.DriveLemmas.{accesses-append, gone_append}
-use Rattle.xen_steps.specs.Drive.{Goes, Gone, accesses, accesses_of}
-use Rattle.xen_steps.specs.Event.{Event, Instr, Load, Add, Read, Write, Notify}
+use Rattle.xen_steps.proofs.DriveLemmas.{accesses-append, bounded_next, gone_append}
+use Rattle.xen_steps.specs.Drive.{Any, Bounded, Driven as DrivenPages, Goes, Gone, IsPageWant, accesses, accesses_of}
+use Rattle.xen_steps.specs.Event.{Event, Occurs, Instr, Load, Add, Read, Write, Notify}
 use Rattle.xen_steps.specs.Places.{add32, available}
-use Rattle.xen_steps.specs.Steps.{Steps, bind, done}
+use Rattle.xen_steps.specs.Steps.{Steps, ask, bind, done, never}
+use Rattle.xen_steps.specs.declared.want.Want.{Want}
+use Rattle.xen_steps.specs.declared.want.Want.TheVariants as wants
 use Rattle.xen_transmit.specs.Places.{tx_slot, tx_word}
+use Rattle.xen_transmit.specs.Transmit.{transmit}
+use Rattle.xen_transmit.specs.Wired.{IsWired}
+use Rattle.xen_transmit.specs.declared.phase.Outcome.{Outcome}
+use Rattle.xen_transmit.proofs.Bounds.{bounded_transmit}
+use Rattle.xen_transmit.proofs.StraightLemmas.{driven_bind}
 use Rattle.xen_back.specs.Drive.{Driven, label_of, labels}
 use Rattle.xen_back.specs.Program.{instructions_alone}
 use Rattle.xen_back.specs.Ran.{HasRunTo}
@@ -41,7 +48,7 @@ use Rattle.xen_back.specs.declared.phase.Phase.{Phase}
 use Rattle.xen_back.specs.declared.phase.Phase.TheVariants as phases
 use Rattle.xen_back.specs.declared.stage.Stage.{Stage}
 use Rattle.xen_back.specs.declared.stage.Stage.TheVariants as stages
-use Rattle.xen_back.specs.Tree.{Left, after_chain, after_copy, after_look, after_run, announce, answered, copy, look, notice, program, respond, response, seen, send, status_of, third, whole_turn}
+use Rattle.xen_back.specs.Tree.{Left, after_chain, after_copy, after_look, after_run, after_transmit, announce, answered, copy, look, notice, program, respond, response, seen, send, status_of, third, whole_turn}
 use Rattle.xen_back.specs.Turned.{Ending, Ran, Turned}
 use Rattle.xen_back.specs.declared.state.State.{State}
 use Rattle.xen_back.specs.declared.wiring.Wiring.{Wiring}
@@ -70,14 +77,14 @@ run_event start s s' e a b c r g n h =
       gone = λ f. gone_append (bind start f) (bind s f) (bind s' f) r.trace (e ∷ []) (r.gone f) (bind s' f, g f, refl);
     }
 
-pub load_number : (m k j : ℕ) (o : Outcome) (v : ℕ) → IsLoadOf m k j o → number_in (label_at o v) ≡ v
+pub load_number : (m k j : ℕ) (o : StepOutcome) (v : ℕ) → IsLoadOf m k j o → number_in (label_at o v) ≡ v
 load_number m k j (Next t) v h = absurd h
 load_number m k j (Loads m' k' j' go) v h = refl
 load_number m k j (Adds m' k' j' d go) v h = absurd h
 load_number m k j (Exited r) v h = absurd h
 load_number m k j Fault v h = absurd h
 
-pub add_number : (m k j d : ℕ) (o : Outcome) (v : ℕ) → IsAddOf m k j d o → number_in (label_at o v) ≡ v
+pub add_number : (m k j d : ℕ) (o : StepOutcome) (v : ℕ) → IsAddOf m k j d o → number_in (label_at o v) ≡ v
 add_number m k j d (Next t) v h = absurd h
 add_number m k j d (Loads m' k' j' go) v h = absurd h
 add_number m k j d (Adds m' k' j' d' go) v h = refl
@@ -160,6 +167,31 @@ ran_to_send w s chain n ops packet e = ap (λ b. if b then send w s chain packet
 pub ran_to_answer : (w : Wiring) (s : State) (chain : List Slot) (n ops : ℕ) (packet : List ℕ) → n ≢ 3 →
     after_run w s chain (record { number = n; packet = packet; ops = ops }) ≡ respond w s chain (status_of n) (Ran n packet ops (length chain))
 ran_to_answer w s chain n ops packet h = ap (λ b. if b then send w s chain packet ops else respond w s chain (status_of n) (Ran n packet ops (length chain))) (not_three n h)
+
+-- a word of a page, or a notice, is no counter's operation
+label_none : (frames : ℕ) (want : Want) (a : ℕ) (e : Event) → IsPageWant frames want → Occurs want a e → label_of e ≡ []
+label_none frames (wants.Read at) a e h o = ap label_of o.1
+label_none frames (wants.Write at v) a e h o = ap label_of o.1
+label_none frames wants.Instr a e h o = absurd h
+label_none frames (wants.Load m k j) a e h o = absurd h
+label_none frames (wants.Add m k j d) a e h o = absurd h
+label_none frames (wants.Notify port) a e h o = ap label_of o.1
+label_none frames wants.Done a e h o = absurd o
+
+labels_none : {A : Type 0} (frames n : ℕ) (P : A → Type 0) (s s' : Steps A) (t : List Event) → Bounded (IsPageWant frames) P s n → Gone s t s' → labels t ≡ []
+labels_none frames n P s s' [] b g = refl
+labels_none frames n P (done x) s' (e ∷ t) b g = absurd g.1.1
+labels_none frames n P never s' (e ∷ t) b g = absurd g.1.1
+labels_none frames n P (ask w k) s' (e ∷ t) b g =
+    ap (λ l. l ++ labels t) (label_none frames w g.1.0 e b.1 g.1.1) ∙ labels_none frames (n - 1) P g.0 s' t (bounded_next (IsPageWant frames) P (ask w k) g.0 e n b g.1) g.2
+
+-- A packet is sent.
+pub sent_driven : {S : Type 0} (log : S → Option (List Access)) (gives : S → Access → S → Type 0) (w : Wiring) (s : State) (chain : List Slot) (packet : List ℕ) (ops : ℕ) (o : Outcome) (bus new : S) (t : List Event) → IsWired w.vif →
+    DrivenPages log gives (transmit w.vif s.rx_index packet) (done o) bus new t → Driven log gives (send w s chain packet ops) (after_transmit w s chain packet ops o) bus new [] [] t
+sent_driven log gives w s chain packet ops o bus new t h d =
+    let start = transmit w.vif s.rx_index packet in
+    let all = driven_bind log gives start (done o) (after_transmit w s chain packet ops) bus new t d in
+    record { gone = all.gone; performed = all.performed; grown = sym (labels_none (length w.vif.owners.now) 263684 Any start (done o) t (bounded_transmit w.vif h s.rx_index packet) d.gone) }
 
 -- Two words of the next slot are read.
 pub two_read : {S : Type 0} (log : S → Option (List Access)) (gives : S → Access → S → Type 0) (w : Wiring) (s : State) (left a b : ℕ) (bus new : S) → a < 2 ^ 32 → b < 2 ^ 32 →

@@ -6,7 +6,7 @@ use Rattle.xen_steps.specs.Places.{add32}
 use Rattle.xen_steps.specs.Steps.{Steps, done}
 use Rattle.xen_back.specs.Queues.{rest, state_of}
 use Rattle.xen_back.specs.Rest.{packet_at, rest_in, rest_of_slot}
-use Rattle.xen_back.specs.Tree.{after_copy, respond, send, third, whole_turn}
+use Rattle.xen_back.specs.Tree.{after_copy, respond, third, whole_turn}
 use Rattle.xen_back.specs.Turned.{Ending, Refused, turned}
 use Rattle.xen_back.specs.declared.reached.Reached.{Reached}
 use Rattle.xen_back.specs.declared.reached.Reached.TheVariants as reached
@@ -23,7 +23,6 @@ use Rattle.xen_back.specs.declared.wiring.Wiring.{Wiring}
 abbrev pub rest_reached : Wiring → State → List ℕ → Reached → Steps Ending
 rest_reached w s packet reached.Nothing = whole_turn w s
 rest_reached w s packet (reached.Longer left a b) = rest_of_slot w s left [] (third w (add32 s.tx_index 0) a b)
-rest_reached w s packet (reached.Sends slot ops) = send w s (slot.words ∷ []) packet ops
 rest_reached w s packet (reached.Over after kind) = done (after, turned kind packet)
 
 -- after the copy of a slot's packet, or where it is refused

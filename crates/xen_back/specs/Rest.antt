@@ -1,5 +1,5 @@
 -- What a queue has left of its turn.
-use Rattle.std.specs.Prelude.{ℕ, suc, ◌+◌, Bool, true, false, List, [], ◌∷◌, ◌++◌, length, drop, slice_index_or, Some}
+use Rattle.std.specs.Prelude.{ℕ, suc, ◌+◌, Bool, true, false, List, [], ◌∷◌, ◌++◌, length, drop, slice_index_or, Some, Result, Ok, Err}
 use Rattle.xen_netif.specs.Chain.{Slot}
 use Rattle.xen_netif.specs.Standing.{standing}
 use Rattle.xen_netif.specs.declared.fragment.Fragment.{Fragment}
@@ -9,13 +9,15 @@ use Rattle.xen_transmit.specs.Rest.{rest_of}
 use Rattle.xen_steps.specs.Steps.{Steps, done, never, bind}
 use Rattle.xen_back.specs.Turned.{Ending, turned}
 use Rattle.xen_transmit.specs.Entries.{entry_at, entry_checked}
-use Rattle.xen_back.specs.Tree.{whole_turn, announce, check_again, after_look, after_scan, after_copy, after_run, after_transmit, read_slot, second, third, judged, read_slots, answer, answered, read_event, notice, entered, copy, program}
+use Rattle.xen_back.specs.Tree.{whole_turn, announce, check_again, after_look, after_scan, after_copy, after_run, after_transmit, read_slot, second, third, judged, read_slots, answer, answered, halted, respond, read_event, notice, entered, copy, program}
 use Rattle.xen_steps.specs.Pages.{copy_words}
 use Rattle.xen_back.specs.declared.phase.Phase.{Phase}
 use Rattle.xen_back.specs.declared.phase.Phase.TheVariants as phase
+use Rattle.xen_back.specs.declared.reply.Reply.{Reply}
 use Rattle.xen_back.specs.declared.stage.Stage.{Stage}
 use Rattle.xen_back.specs.declared.stage.Stage.TheVariants as stage
 use Rattle.xen_back.specs.declared.state.State.{State}
+use Rattle.xen_back.specs.declared.turn.Halt.{Halt}
 use Rattle.xen_back.specs.declared.wiring.Wiring.{Wiring}
 
 -- so many slots are left after the one that is being read
@@ -50,6 +52,11 @@ rest_in w s (stage.Page g) = bind (bind (copy_words g.fragment g.frame g.place (
 rest_in w s (stage.Run r) = bind (program (left r.vm) r.ops) (after_run w s r.chain)
 rest_in w s (stage.Send packet t) = bind (rest_of w.vif s.rx_index packet t.transmit.phase) (after_transmit w s t.chain packet t.ops)
 rest_in w s stage.Gone = never
+
+-- a chain's reply, or the halt that it ends in
+abbrev pub after_reply : Wiring → State → List Slot → List ℕ → Result Reply Halt → Steps Ending
+after_reply w s chain packet (Ok r) = respond w r.at chain r.status (turned r.kind packet)
+after_reply w s chain packet (Err cause) = halted s cause
 
 -- a stage is there
 abbrev pub is_here : Stage → Bool

@@ -57,7 +57,7 @@ fn drive_some<B: Bus>(
         Want::Read(at) => {
             let word = bus.read(at);
             queue.feed(Answer::Word(word));
-            queue.go_on(bus);
+            queue.go_on(bus, ports);
         }
         Want::Write(at, value) => {
             bus.write(at, value);
@@ -66,7 +66,7 @@ fn drive_some<B: Bus>(
         Want::Instr => {
             queue.feed(Answer::Went);
             queue.advance();
-            queue.go_on(bus);
+            queue.go_on(bus, ports);
         }
         Want::Load { m, k, j } => {
             let number = counters.load(seat, m, k, j);
@@ -139,7 +139,7 @@ fn drive_events<B: Bus>(
 
 impl<'p, 'b> Queue<'p, 'b> {
     /// Does what can be done in one go.
-    fn go_on<B: Bus>(&mut self, bus: &mut B)
+    fn go_on<B: Bus>(&mut self, bus: &mut B, ports: &Ports)
         requires { B.size bus.old ≡ length (wiring_of self.old).vif.owners.now }
         ensures size { B.size bus.new ≡ B.size bus.old }
         ensures same { IsSameWiring self.old self.new }
@@ -149,7 +149,7 @@ impl<'p, 'b> Queue<'p, 'b> {
         // The borrow checker has to see this type in the body.
         let _vif = &self.wiring.vif;
         let stage = mem::replace(&mut self.stage, Stage::Gone);
-        self.stage = stage_driven(&self.wiring, &self.state, bus, stage);
+        self.stage = stage_driven(&self.wiring, &self.state, bus, ports, stage);
     }
 
     /// Does as much of a turn as can be done in one go.

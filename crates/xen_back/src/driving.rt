@@ -2,9 +2,6 @@
 
 ghost use Rattle.std.specs.Prelude.{◌≡◌, ◌<◌, ◌+◌, ◌^◌, IsTrue, List, ℕ, [], ◌∷◌, length, false};
 ghost use Rattle.xen_page.specs.Access.{Performs};
-ghost use Rattle.xen_page.specs.Entry.{entry_of};
-ghost use Rattle.xen_page.specs.Grant.{checked};
-ghost use Rattle.xen_page.specs.Mapping.{frame_place};
 ghost use Rattle.xen_page.specs.declared.access.Access.TheVariants as accesses;
 ghost use Rattle.xen_steps.specs.Event.{Event};
 ghost use Rattle.xen_steps.specs.Places.{add32, page_word, tx_entry as tx_entry_place};
@@ -23,35 +20,17 @@ use crate::executing::begin_run;
 use crate::looking::{halt, slot_index};
 use crate::pages::read_fragment;
 use crate::phase::{Phase, Reading};
-use crate::stage::Stage;
+use crate::sent::transmitted;
+use crate::stage::{Stage, Transmitting};
 use crate::state::State;
 use crate::turn::{Halt, Kind, Refusal};
 use crate::wiring::Wiring;
 use arrayvec::ArrayVec;
 use xen_netif::ChainState;
-use xen_page::{Bus, Entry, GrantFault, Place, check};
-use xen_ring::{RSP_EVENT, RSP_PROD};
+use xen_page::Bus;
+use xen_ring::{Ports, RSP_EVENT, RSP_PROD};
 use xen_steps::{header, tx_entry};
-
-/// Reads the two words of a grant's entry, and checks it.
-pub(crate) fn read_entry<B: Bus>(wiring: &Wiring, bus: &mut B, at: Place) -> Result<u32, GrantFault>
-    requires frame { at.frame < B.size bus.old }
-    requires word { at.word + 1 < 1024 }
-    ensures size { B.size bus.new ≡ B.size bus.old }
-    ensures read { (a : ℕ) × (b : ℕ) × (a < 2 ^ 32) × (b < 2 ^ 32)
-        × Performs B.log B.access_gives bus.old (accesses.Read at a ∷ accesses.Read (frame_place at) b ∷ []) bus.new
-        × (result ≡ checked wiring.now.vif.owners.now wiring.now.vif.granter wiring.now.vif.user (entry_of a b) false) }
-{
-    let a = bus.read(at);
-    let b = bus.read(at.next());
-    check(
-        wiring.vif.owners,
-        wiring.vif.granter,
-        wiring.vif.user,
-        Entry::of_words(a, b),
-        false,
-    )
-}
+use xen_transmit::{read_entry, send_packet};
 
 /// Copies the fragments from the one whose entry is to be read.
 fn copy_fragments<'p, 'b, B: Bus>(
@@ -75,7 +54,7 @@ fn copy_fragments<'p, 'b, B: Bus>(
     } = entry;
     loop {
         let fragment = fragments[i];
-        match read_entry(wiring, bus, at) {
+        match read_entry(&wiring.vif, bus, at, false) {
             Err(_) => return refuse(wiring, state, packet, chain, Refusal::Grant),
             Ok(frame) => read_fragment(bus, &fragment, frame, &mut packet),
         }
@@ -242,11 +221,39 @@ fn phase_driven<'p, 'b, B: Bus>(
     }
 }
 
+/// The stage after a transmit, with what is done in one go after it, if nothing of it was done.
+fn send_driven<'p, 'b, B: Bus>(
+    wiring: &Wiring<'p>,
+    state: &State,
+    bus: &mut B,
+    ports: &Ports,
+    packet: CopyBuf<'b>,
+    sent: Transmitting,
+) -> Stage<'p, 'b>
+    requires size { B.size bus.old ≡ length wiring.now.vif.owners.now }
+    requires wired { IsWired wiring.now.vif }
+    requires left { Completes wiring.now (rest_in wiring.now state.now (stages.Send packet sent)) }
+    ensures here { IsTrue (is_here result) }
+    ensures size { B.size bus.new ≡ B.size bus.old }
+    ensures driven { (t : List Event) × Driven B.log B.access_gives (rest_in wiring.now state.now (stages.Send packet.entry sent)) (rest_in wiring.now state.now result) bus.old bus.new [] [] t }
+{
+    if !sent.transmit.is_begun() {
+        return Stage::Send(packet, sent);
+    }
+    let Transmitting { chain, ops, .. } = sent;
+    let outcome = send_packet(&wiring.vif, state.rx_index, packet.bytes(), bus, ports);
+    match transmitted(wiring, state, packet, chain, ops, outcome) {
+        Stage::At(packet, phase) => phase_driven(wiring, state, bus, packet, phase),
+        stage => stage,
+    }
+}
+
 /// A stage after what is done in one go.
 pub(crate) fn stage_driven<'p, 'b, B: Bus>(
     wiring: &Wiring<'p>,
     state: &State,
     bus: &mut B,
+    ports: &Ports,
     stage: Stage<'p, 'b>,
 ) -> Stage<'p, 'b>
     requires here { IsTrue (is_here stage) }
@@ -259,6 +266,7 @@ pub(crate) fn stage_driven<'p, 'b, B: Bus>(
 {
     match stage {
         Stage::At(packet, phase) => phase_driven(wiring, state, bus, packet, phase),
+        Stage::Send(packet, sent) => send_driven(wiring, state, bus, ports, packet, sent),
         stage => stage,
     }
 }

@@ -21,6 +21,7 @@ mod pages;
 mod phase;
 mod queue;
 mod reached;
+mod reply;
 mod sent;
 mod stage;
 mod state;

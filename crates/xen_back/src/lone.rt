@@ -9,16 +9,18 @@ ghost use Rattle.xen_steps.specs.Steps.{bind, done};
 ghost use Rattle.xen_transmit.specs.Wired.{IsWired};
 ghost use Rattle.xen_back.specs.Alone.{after_alone, rest_reached};
 ghost use Rattle.xen_back.specs.Drive.{Driven};
-ghost use Rattle.xen_back.specs.Tree.{after_chain, after_copy, answered, copy, respond};
+ghost use Rattle.xen_back.specs.Tree.{after_chain, after_copy, answered, copy, respond, send};
 ghost use Rattle.xen_back.specs.Turned.{Turned};
 ghost use Rattle.xen_back.specs.Within.{Completes};
 
 use crate::answering::{after_answers, response};
 use crate::copy_buf::{CopyBuf, Ended};
-use crate::driving::{push_answers, read_entry, write_answer};
+use crate::driving::{push_answers, write_answer};
 use crate::executing::status;
+use crate::looking::halted;
 use crate::pages::read_fragment;
 use crate::reached::{Lone, Reached};
+use crate::sent::after_sending;
 use crate::state::State;
 use crate::turn::{Kind, Refusal};
 use crate::wiring::Wiring;
@@ -26,6 +28,7 @@ use bpf_maps::{CounterSeat, Counters};
 use xen_netif::{Fragment, SizeFault, Status, TxReq};
 use xen_page::Bus;
 use xen_ring::{Ports, due};
+use xen_transmit::{read_entry, send_packet};
 
 /// Whether a slot with this second word is a whole chain.
 pub(crate) fn is_alone(b: u32) -> bool
@@ -76,7 +79,7 @@ fn copy_granted<B: Bus>(
 {
     match wiring.vif.table.place(fragment.gref) {
         None => Some(Refusal::Grant),
-        Some(at) => match read_entry(wiring, bus, at) {
+        Some(at) => match read_entry(&wiring.vif, bus, at, false) {
             Err(_) => Some(Refusal::Grant),
             Ok(frame) => {
                 read_fragment(bus, fragment, frame, packet);
@@ -137,7 +140,43 @@ fn answer_alone<B: Bus>(
     notify_alone(wiring, state, ports, event);
 }
 
-/// Runs the program on a packet that was copied, and answers its slot, unless the packet is to be sent.
+/// Sends a packet back, and answers its slot. It isn't inlined, so that its frame isn't cleared where nothing is sent.
+#[inline(never)]
+fn send_alone<B: Bus>(
+    wiring: &Wiring,
+    state: &State,
+    bus: &mut B,
+    ports: &Ports,
+    packet: &CopyBuf<'_>,
+    slot: &Lone,
+    ops: u32,
+) -> Reached
+    requires size { B.size bus.old ≡ length wiring.now.vif.owners.now }
+    requires wired { IsWired wiring.now.vif }
+    ensures size { B.size bus.new ≡ B.size bus.old }
+    ensures driven { (t : List Event) × Driven B.log B.access_gives (send wiring.now state.now (slot.now.words ∷ []) packet.now ops)
+        (rest_reached wiring.now state.now packet.now result) bus.old bus.new [] [] t }
+{
+    let outcome = send_packet(&wiring.vif, state.rx_index, packet.bytes(), bus, ports);
+    match after_sending(state, ops, 1, outcome) {
+        Err(cause) => {
+            let after = halted(state, cause);
+            Reached::Over {
+                after,
+                kind: Kind::Halted { cause },
+            }
+        }
+        Ok(reply) => {
+            answer_alone(wiring, &reply.at, bus, ports, slot, reply.status);
+            Reached::Over {
+                after: after_answers(&reply.at, 1),
+                kind: reply.kind,
+            }
+        }
+    }
+}
+
+/// Runs the program on a packet that was copied, and answers its slot.
 fn run_alone<B: Bus>(
     wiring: &Wiring,
     state: &State,
@@ -159,7 +198,7 @@ fn run_alone<B: Bus>(
 {
     let Ended { number, ops } = packet.run(wiring, counters, seat);
     if number == 3 {
-        Reached::Sends { slot, ops }
+        send_alone(wiring, state, bus, ports, packet, &slot, ops)
     } else {
         answer_alone(wiring, state, bus, ports, &slot, status(number));
         let kind = Kind::Ran {

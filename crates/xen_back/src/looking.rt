@@ -8,7 +8,7 @@ ghost use Rattle.xen_netif.specs.declared.chain.ChainState.TheVariants.{Complete
 ghost use Rattle.xen_steps.specs.Places.{add32, available};
 ghost use Rattle.xen_back.specs.Rest.{is_here, rest_in, rest_of_slot};
 ghost use Rattle.xen_steps.specs.Steps.{bind, next_by};
-ghost use Rattle.xen_back.specs.Tree.{after_look, after_scan, halted, judged, read_slots, second, seen, third, whole_turn};
+ghost use Rattle.xen_back.specs.Tree.{after_look, after_scan, halted as halted_lem, judged, read_slots, second, seen, third, whole_turn};
 
 use crate::copy_buf::CopyBuf;
 use crate::copying::begin_copy;
@@ -27,6 +27,18 @@ pub(crate) fn slot_index(state: &State, chain: &Chain) -> u32
     state.tx_index.wrapping_add(chain.len() as u32)
 }
 
+/// A state that has halted.
+pub(crate) fn halted(state: &State, cause: Halt) -> State
+    ensures { result ≡ record state.now { halt = Some cause } }
+{
+    State {
+        tx_index: state.tx_index,
+        rx_index: state.rx_index,
+        halt: Some(cause),
+    }
+}
+
+/// The end of a turn that halts.
 pub(crate) fn halt<'p, 'b>(
     wiring: &Wiring<'p>,
     state: &State,
@@ -34,17 +46,12 @@ pub(crate) fn halt<'p, 'b>(
     cause: Halt,
 ) -> Stage<'p, 'b>
     ensures here { IsTrue (is_here result) }
-    ensures rest { rest_in wiring.now state.now result ≡ halted state.now cause }
+    ensures rest { rest_in wiring.now state.now result ≡ halted_lem state.now cause }
 {
-    let after = State {
-        tx_index: state.tx_index,
-        rx_index: state.rx_index,
-        halt: Some(cause),
-    };
     Stage::At(
         packet,
         Phase::Ended {
-            after,
+            after: halted(state, cause),
             kind: Kind::Halted { cause },
         },
     )

@@ -21,8 +21,6 @@ pub enum Reached {
     Nothing,
     /// A slot that asks for another: two of its words were read, and so many slots are left after it.
     Longer { left: u32, a: u32, b: u32 },
-    /// The packet in this slot is to be sent.
-    Sends { slot: Lone, ops: u32 },
     /// The turn is over.
     Over { after: State, kind: Kind },
 }

@@ -2,15 +2,18 @@
 //!
 //! Some functions take `wiring` and `state` for their contracts alone: both fix what the queue has left.
 
-ghost use Rattle.std.specs.Prelude.{◌≡◌, IsTrue};
-ghost use Rattle.xen_back.specs.Rest.{is_here, rest_in};
+ghost use Rattle.std.specs.Prelude.{◌≡◌, IsTrue, List, ℕ, length};
+ghost use Rattle.xen_netif.specs.Chain.{Slot};
+ghost use Rattle.xen_back.specs.Rest.{after_reply, is_here, rest_in};
 ghost use Rattle.xen_transmit.specs.Rest.{rest_after, rest_of};
 ghost use Rattle.xen_steps.specs.Steps.{bind, next_by, want_of};
 ghost use Rattle.xen_back.specs.Tree.{after_transmit, moved, send};
+ghost use Rattle.xen_back.specs.declared.wiring.Wiring.{Wiring as WiringView};
 
 use crate::answering::begin_answers;
 use crate::copy_buf::CopyBuf;
 use crate::looking::halt;
+use crate::reply::Reply;
 use crate::stage::{Stage, Transmitting};
 use crate::state::State;
 use crate::turn::{Halt, Kind, Refusal};
@@ -111,8 +114,49 @@ fn after_slots(state: &State, n: u32) -> State
     }
 }
 
+/// What follows a transmit: an answer to the packet's chain, or a halt.
+pub(crate) fn after_sending(
+    state: &State,
+    ops: u32,
+    slots: u32,
+    outcome: Outcome,
+) -> Result<Reply, Halt>
+    ensures { (w : WiringView) → (chain : List Slot) → (packet : List ℕ) → length chain ≡ slots → after_transmit w state.now chain packet ops outcome ≡ after_reply w state.now chain packet result }
+{
+    match outcome {
+        Outcome::Overflow => Err(Halt::RxProducer),
+        Outcome::TooFew => Ok(Reply {
+            at: *state,
+            status: Status::Error,
+            kind: Kind::Refused {
+                cause: Refusal::FewSlots,
+                ops,
+                slots,
+            },
+        }),
+        Outcome::Refused(used) => Ok(Reply {
+            at: after_slots(state, used),
+            status: Status::Error,
+            kind: Kind::Refused {
+                cause: Refusal::RxGrant,
+                ops,
+                slots,
+            },
+        }),
+        Outcome::Sent(used) => Ok(Reply {
+            at: after_slots(state, used),
+            status: Status::Okay,
+            kind: Kind::Ran {
+                number: 3,
+                ops,
+                slots,
+            },
+        }),
+    }
+}
+
 /// After the transmit.
-fn transmitted<'p, 'b>(
+pub(crate) fn transmitted<'p, 'b>(
     wiring: &Wiring<'p>,
     state: &State,
     packet: CopyBuf<'b>,
@@ -124,33 +168,10 @@ fn transmitted<'p, 'b>(
     ensures rest { rest_in wiring.now state.now result ≡ after_transmit wiring.now state.now chain packet.entry ops outcome }
 {
     let slots = chain.requests().len() as u32;
-    match outcome {
-        Outcome::Overflow => halt(wiring, state, packet, Halt::RxProducer),
-        Outcome::TooFew => {
-            let kind = Kind::Refused {
-                cause: Refusal::FewSlots,
-                ops,
-                slots,
-            };
-            begin_answers(wiring, state, packet, *state, &chain, Status::Error, kind)
-        }
-        Outcome::Refused(used) => {
-            let kind = Kind::Refused {
-                cause: Refusal::RxGrant,
-                ops,
-                slots,
-            };
-            let at = after_slots(state, used);
-            begin_answers(wiring, state, packet, at, &chain, Status::Error, kind)
-        }
-        Outcome::Sent(used) => {
-            let kind = Kind::Ran {
-                number: 3,
-                ops,
-                slots,
-            };
-            let at = after_slots(state, used);
-            begin_answers(wiring, state, packet, at, &chain, Status::Okay, kind)
+    match after_sending(state, ops, slots, outcome) {
+        Err(cause) => halt(wiring, state, packet, cause),
+        Ok(Reply { at, status, kind }) => {
+            begin_answers(wiring, state, packet, at, &chain, status, kind)
         }
     }
 }

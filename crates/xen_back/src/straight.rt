@@ -20,13 +20,11 @@ use crate::copy_buf::CopyBuf;
 use crate::lone::{is_alone, packet_alone};
 use crate::phase::{Phase, Reading};
 use crate::reached::{Lone, Reached};
-use crate::sent::begin_send;
 use crate::stage::Stage;
 use crate::state::State;
 use crate::turn::{Halt, Kind};
 use crate::wiring::Wiring;
 use bpf_maps::{CounterSeat, Counters};
-use std::mem;
 use xen_netif::Chain;
 use xen_page::Bus;
 use xen_ring::{Ports, REQ_EVENT, REQ_PROD};
@@ -211,60 +209,6 @@ fn turn_alone<B: Bus>(
     }
 }
 
-/// The stage before a transmit of the packet in a slot.
-fn send_alone<'p, 'b>(
-    wiring: &Wiring<'p>,
-    state: &State,
-    packet: CopyBuf<'b>,
-    slot: Lone,
-    ops: u32,
-) -> Stage<'p, 'b>
-    ensures here { IsTrue (is_here result) }
-    ensures rest { rest_in wiring.now state.now result ≡ rest_reached wiring.now state.now packet.entry (Reached.Sends slot ops) }
-{
-    let mut chain = Chain::new();
-    match chain.push(slot.words) {
-        Ok(_) => begin_send(wiring, state, packet, chain, ops),
-        Err(_) => unreachable!(),
-    }
-}
-
-/// The stage before a transmit, of one that is between turns.
-fn stage_sending<'p, 'b>(
-    wiring: &Wiring<'p>,
-    state: &State,
-    stage: Stage<'p, 'b>,
-    slot: Lone,
-    ops: u32,
-) -> Stage<'p, 'b>
-    requires { (p : List ℕ) × (stage ≡ stages.At p phases.Ready) }
-    ensures here { IsTrue (is_here result) }
-    ensures rest { rest_in wiring.now state.now result ≡ rest_reached wiring.now state.now (packet_at stage.entry) (Reached.Sends slot ops) }
-{
-    match stage {
-        Stage::At(packet, _) => send_alone(wiring, state, packet, slot, ops),
-        _ => unreachable!(),
-    }
-}
-
-/// A transmit is begun from a stage that is between turns. It isn't inlined, so that its frame isn't cleared where nothing
-/// is sent.
-#[inline(never)]
-fn set_sending<'p, 'b>(
-    wiring: &Wiring<'p>,
-    state: &State,
-    stage: &mut Stage<'p, 'b>,
-    slot: Lone,
-    ops: u32,
-)
-    requires { (p : List ℕ) × (stage.old ≡ stages.At p phases.Ready) }
-    ensures here { IsTrue (is_here stage.new) }
-    ensures rest { rest_in wiring.now state.now stage.new ≡ rest_reached wiring.now state.now (packet_at stage.old) (Reached.Sends slot ops) }
-{
-    let ready = mem::replace(stage, Stage::Gone);
-    *stage = stage_sending(wiring, state, ready, slot, ops);
-}
-
 /// The stage at the third word of a turn's first slot. It isn't inlined, so that its frame isn't cleared where a chain is
 /// one slot.
 #[inline(never)]
@@ -352,10 +296,6 @@ pub(crate) fn stage_alone<'p, 'b, B: Bus>(
         Reached::Nothing => None,
         Reached::Longer { left, a, b } => {
             set_longer(wiring, state, stage, left, a, b);
-            None
-        }
-        Reached::Sends { slot, ops } => {
-            set_sending(wiring, state, stage, slot, ops);
             None
         }
     }

@@ -6,3 +6,4 @@ pub mod EndLemmas
 pub mod Figures
 pub mod TouchedLemmas
 pub mod ByteLemmas
+pub mod StraightLemmas

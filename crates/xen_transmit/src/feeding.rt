@@ -2,7 +2,7 @@
 //!
 //! Some functions take `vif`, `rx_index` and `bytes` for their contracts alone: these fix what the transmit has left.
 
-ghost use Rattle.std.specs.Prelude.{ℕ, ◌≡◌, ◌≤◌, length, true, false};
+ghost use Rattle.std.specs.Prelude.{List, ℕ, ◌≡◌, ◌≤◌, length, true, false};
 ghost use Rattle.xen_netif.specs.declared.rx.RxReq.{RxReq};
 ghost use Rattle.xen_transmit.specs.Rest.{rest_of};
 ghost use Rattle.xen_steps.specs.Steps.{next_by, want_of};
@@ -12,6 +12,7 @@ ghost use Rattle.xen_steps.specs.Steps.{asks};
 ghost use Rattle.xen_transmit.specs.Going.{is_going};
 ghost use Rattle.xen_transmit.specs.Rest.{rest_after};
 ghost use Rattle.xen_transmit.specs.Transmit.{transmit};
+ghost use Rattle.xen_transmit.specs.declared.vif.Vif.{Vif as VifView};
 
 use crate::phase::{Outcome, Phase};
 use crate::reading::{entry_read, first_read, flags_read, found, requested};
@@ -59,6 +60,13 @@ impl Transmit {
         ensures { rest_of vif.now rx_index packet.now result.phase ≡ transmit vif.now rx_index packet.now }
     {
         Transmit { phase: Phase::Look }
+    }
+
+    /// Whether nothing of it was done.
+    pub fn is_begun(&self) -> bool
+        ensures { IsTrue result → (w : VifView) → (rx_index : ℕ) → (packet : List ℕ) → rest_of w rx_index packet self.now.phase ≡ transmit w rx_index packet }
+    {
+        matches!(self.phase, Phase::Look)
     }
 
     /// What the transmit wants next. Vif, index and packet are those that it was begun with.

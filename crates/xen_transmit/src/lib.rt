@@ -5,6 +5,7 @@ mod feeding;
 pub mod laws;
 mod phase;
 mod reading;
+mod straight;
 mod target;
 mod transmit;
 mod vif;
@@ -13,6 +14,7 @@ mod words;
 mod writing;
 
 pub use phase::Outcome;
+pub use straight::{read_entry, send_packet};
 pub use transmit::{Progress, Transmit};
 pub use vif::Vif;
 

@@ -1,7 +1,7 @@
 //! A packet's words in the posted buffers, and the responses.
 
 ghost use Rattle.std.specs.Prelude.{◌≡◌, ◌+◌, ◌*◌, ◌/◌, ◌%◌, ◌<◌, ◌≤◌, length, false, None, Some, slice_index};
-ghost use Rattle.xen_transmit.specs.Packets.{buffer_word, pages, rx_response, size_at, status_at, target_at as target_at_lem, word_of, words};
+ghost use Rattle.xen_transmit.specs.Packets.{buffer_word, frame_in, pages, rx_response, size_at, status_at, target_at as target_at_lem, word_of, words};
 ghost use Rattle.xen_steps.specs.declared.want.Want.TheVariants as want;
 
 use crate::target::{Target, Targets};
@@ -35,8 +35,8 @@ fn byte(bytes: &[u8], j: u32) -> u32
     }
 }
 
-/// The k-th word of the packet.
-pub(crate) fn packet_word(bytes: &[u8], k: u32) -> u32
+/// The k-th word of the packet, which may reach past its end.
+fn last_word(bytes: &[u8], k: u32) -> u32
     requires { k ≤ 16384 }
     ensures { result ≡ word_of bytes.now k }
 {
@@ -44,6 +44,19 @@ pub(crate) fn packet_word(bytes: &[u8], k: u32) -> u32
         + 0x100 * byte(bytes, 4 * k + 1)
         + 0x1_0000 * byte(bytes, 4 * k + 2)
         + 0x100_0000 * byte(bytes, 4 * k + 3)
+}
+
+/// The k-th word of the packet.
+pub(crate) fn packet_word(bytes: &[u8], k: u32) -> u32
+    requires { k ≤ 16384 }
+    ensures { result ≡ word_of bytes.now k }
+{
+    let at = 4 * k as usize;
+    if at + 4 <= bytes.len() {
+        u32::from_le_bytes([bytes[at], bytes[at + 1], bytes[at + 2], bytes[at + 3]])
+    } else {
+        last_word(bytes, k)
+    }
 }
 
 fn target_at(targets: &Targets, i: u32) -> Target
@@ -55,13 +68,19 @@ fn target_at(targets: &Targets, i: u32) -> Target
     }
 }
 
+/// The frame of the i-th buffer.
+pub(crate) fn buffer_frame(targets: &Targets, i: u32) -> u32
+    ensures { result ≡ frame_in (target_at_lem targets.now i).frame }
+{
+    target_at(targets, i).frame.unwrap_or(0)
+}
+
 /// Where the k-th word of the packet goes.
 pub(crate) fn buffer_at(targets: &Targets, k: u32) -> Place
     ensures { result ≡ buffer_word targets.now k }
 {
-    let target = target_at(targets, k / 1024);
     Place {
-        frame: target.frame.unwrap_or(0),
+        frame: buffer_frame(targets, k / 1024),
         word: k % 1024,
     }
 }

@@ -1,13 +1,39 @@
 use Rattle.std.proofs.Common.{[], ◌∷◌, ◌++◌, Some, sym, ◌∙◌, ap, subst}
 use Rattle.xen_netif.specs.declared.status.Status.{Status}
 use Rattle.xen_steps.specs.Steps.{Steps, done}
+use Rattle.xen_back.specs.Alone.{rest_reached}
 use Rattle.xen_back.specs.Drive.{Driven}
-use Rattle.xen_back.specs.Tree.{Left, after_copy, after_run, answered, program, respond, run_of}
+use Rattle.xen_back.specs.Tree.{Left, after_copy, after_run, answered, program, respond, run_of, send}
 use Rattle.xen_back.specs.Turned.{Ending, Ran}
 use Rattle.xen_back.specs.declared.state.State.{State}
-use Rattle.xen_back.proofs.AloneLemmas.{ran_driven, ran_to_answer}
+use Rattle.xen_back.proofs.AloneLemmas.{ran_driven, ran_to_answer, ran_to_send}
 use Rattle.xen_back.proofs.DriveLemmas.{driven_append, driven_silent}
 use Rattle.xen_back.proofs.lone.run_alone.Goals as goal
+
+pub returns-then-number-eq3-clause-driven : goal.returns-then-number-eq3-clause-driven
+returns-then-number-eq3-clause-driven g c =
+    let log = g.B.Bus.log in
+    let gives = g.B.Bus.access_gives in
+    let w = c.args.wiring.now in
+    let s = c.args.state.now in
+    let chain = c.args.slot.words ∷ [] in
+    let bus = c.args.bus.now in
+    let r = c.run-number in
+    let ran = r.ensures.ran in
+    let n = r.result.number in
+    let bytes = r.new.self in
+    let ops = r.result.ops in
+    let out : Left = record { number = n; packet = bytes; ops = ops } in
+    let old = c.args.seat.now.ops in
+    let new = r.new.seat.ops in
+    let start = after_copy w s chain (Some c.args.packet.now) in
+    let mid = send w s chain bytes ops in
+    let d = ran_driven log gives (program (run_of w c.args.packet.now) 0) out (after_run w s chain) bus old new ran in
+    let asked : Driven log gives start mid bus bus old new ran.trace = subst (λ (q : Steps Ending). Driven log gives start q bus bus old new ran.trace) (ran_to_send w s chain n ops bytes c.if-number-eq3.true) d in
+    let a = c.send_alone.ensures.driven in
+    let after = c.send_alone.new.bus in
+    let end = rest_reached w s bytes c.send_alone.result in
+    (ran.trace ++ a.0, driven_append log gives start mid end bus bus after old new new ran.trace a.0 asked (driven_silent log gives mid end bus after new a.0 a.1))
 
 pub returns-else-number-eq3-clause-driven : goal.returns-else-number-eq3-clause-driven
 returns-else-number-eq3-clause-driven g c =
