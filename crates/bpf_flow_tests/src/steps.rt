@@ -7,10 +7,12 @@ use std::alloc::Global;
 
 /// A number that is known.
 pub fn exactly(number: u64) -> Val {
-    Val::Num {
-        lo: number,
-        hi: number,
-    }
+    range(number, number)
+}
+
+/// A number that lies between two others.
+pub fn range(lo: u64, hi: u64) -> Val {
+    Val::Num { lo, hi }
 }
 
 /// What is known at the next slot, where an instruction leads there alone.
@@ -25,6 +27,45 @@ pub fn cause(step: Result<Successors, Cause>) -> Option<Cause> {
     step.err()
 }
 
+/// What is known of a register at a slot, where an instruction leads there alone.
+pub fn register_at(step: Result<Successors, Cause>, pc: u32, register: u8) -> Option<Val> {
+    match step {
+        Ok(Successors::One(next)) if next.pc == pc => Some(next.note.register(register)),
+        _ => None,
+    }
+}
+
+/// What is known of a register at the next slot, where an instruction leads there alone.
+pub fn register_after(step: Result<Successors, Cause>, register: u8) -> Option<Val> {
+    register_at(step, 8, register)
+}
+
+/// What a stack slot keeps at the next slot, where an instruction leads there alone.
+pub fn kept_after(step: Result<Successors, Cause>, slot: u8) -> Option<Val> {
+    match step {
+        Ok(Successors::One(next)) if next.pc == 8 => next.note.kept(slot),
+        _ => None,
+    }
+}
+
+/// Whether an instruction leads to this slot alone, and nothing else is known there than in `note`.
+pub fn leads_on(step: Result<Successors, Cause>, pc: u32, note: &Note) -> bool {
+    match step {
+        Ok(Successors::One(next)) => next.pc == pc && next.note.same_as(note),
+        _ => false,
+    }
+}
+
+/// Whether a jump has both ways, and nothing else is known on either than in `note`.
+pub fn teaches_nothing(step: Result<Successors, Cause>, note: &Note) -> bool {
+    match step {
+        Ok(Successors::Two(next, target)) if next.pc == 8 && target.pc == 10 => {
+            next.note.same_as(note) && target.note.same_as(note)
+        }
+        _ => false,
+    }
+}
+
 pub fn alu(
     alloc: Global,
     note: &Note,
@@ -37,15 +78,15 @@ pub fn alu(
     after(alloc, &insn, 7, note, &[])
 }
 
-/// What is known where a jump isn't taken, and where it is.
-pub fn edges(
+/// A jump to slot 10.
+pub fn jump(
     alloc: Global,
     note: &Note,
     cond: Condition,
     wide: bool,
     dst: Register,
     src: Operand,
-) -> Result<(Note, Note), Cause> {
+) -> Result<Successors, Cause> {
     let insn = Insn::Jump {
         cond,
         wide,
@@ -53,12 +94,7 @@ pub fn edges(
         src,
         off: 2,
     };
-    match after(alloc, &insn, 7, note, &[])? {
-        Successors::Two(next, target) if next.pc == 8 && target.pc == 10 => {
-            Ok((Box::into_inner(next.note), Box::into_inner(target.note)))
-        }
-        _ => Err(Cause::Target),
-    }
+    after(alloc, &insn, 7, note, &[])
 }
 
 /// A load into `r0`.

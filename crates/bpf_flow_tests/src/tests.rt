@@ -1,3 +1,5 @@
+//! What an instruction does to a note, by tables of values.
+
 mod arithmetic;
 mod bounds;
 mod causes;
@@ -6,3 +8,11 @@ mod maps;
 mod memory;
 mod registers;
 mod transfers;
+
+use std::fmt::Debug;
+use std::process::Abort;
+
+/// Stops where the answer in a row isn't the one that is wanted.
+fn same<R: Abort, N: Debug, T: Debug + PartialEq>(rt: &R, row: &N, answer: &T, wanted: &T) {
+    assert_eq!(rt; answer, wanted, "{row:?}");
+}

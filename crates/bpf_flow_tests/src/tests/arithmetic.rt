@@ -2,10 +2,12 @@
 
 ghost use Rattle.bpf_flow.specs.Rule.{IsRuled};
 
-use crate::steps::{alu, exactly, next};
+use super::same;
+use crate::steps::{alu, exactly, range, register_after, register_at};
 use bpf_flow::{Successors, after};
 use bpf_insn::{AluOp, Insn, Operand, Register, Size, SwapKind, Width};
 use bpf_note::{MapShape, Note, PACKET_ID, Val};
+use std::alloc::{AllocError, Global};
 use std::test::Fail;
 
 const HALF_FULL: Val = Val::Num {
@@ -23,27 +25,22 @@ fn stack(off: i16) -> Val {
     Val::Stack { off }
 }
 
-fn range(lo: u64, hi: u64) -> Val {
-    Val::Num { lo, hi }
-}
-
 /// The 64 bits of a negative number.
 fn negative(number: i64) -> Val {
     exactly(number.cast_unsigned())
 }
 
 /// What `r2 op= r3` leaves in `r2`.
-fn makes(rt: &HostRuntime, op: AluOp, wide: bool, first: Val, second: Val) -> Result<Val, Fail> {
-    let mut note = Note::entry(rt.alloc());
+fn makes(alloc: Global, op: AluOp, wide: bool, first: Val, second: Val) -> Option<Val> {
+    let mut note = Note::entry(alloc);
     note.set_register(2, first);
     note.set_register(3, second);
     let src = Operand::Register(Register::R3);
-    let note = next(alu(rt.alloc(), &note, op, wide, Register::R2, src))?;
-    Ok(note.register(2))
+    register_after(alu(alloc, &note, op, wide, Register::R2, src), 2)
 }
 
 #[test]
-fn constants_fold(rt: HostRuntime) -> Result<(), Fail> {
+fn constants_fold(rt: HostRuntime) {
     let rows = [
         (AluOp::Add, true, u64::MAX, 1, 0),
         (AluOp::Add, false, 0xffff_ffff, 1, 0),
@@ -65,14 +62,13 @@ fn constants_fold(rt: HostRuntime) -> Result<(), Fail> {
         (AluOp::Arsh, true, u64::MAX - 15, 2, u64::MAX - 3),
     ];
     for (op, wide, first, second, wanted) in rows {
-        let made = makes(&rt, op, wide, exactly(first), exactly(second))?;
-        assert_eq!(rt; made, exactly(wanted), "{op:?}");
+        let made = makes(rt.alloc(), op, wide, exactly(first), exactly(second));
+        same(&rt, &op, &made, &Some(exactly(wanted)));
     }
-    Ok(())
 }
 
 #[test]
-fn ranges(rt: HostRuntime) -> Result<(), Fail> {
+fn ranges(rt: HostRuntime) {
     let most = u64::MAX;
     let rows = [
         (AluOp::Add, range(1, 5), range(10, 20), range(11, 25)),
@@ -99,31 +95,31 @@ fn ranges(rt: HostRuntime) -> Result<(), Fail> {
         (AluOp::Mul, range(1, 2), exactly(2), Val::FULL),
     ];
     for (op, first, second, wanted) in rows {
-        assert_eq!(rt; makes(&rt, op, true, first, second)?, wanted, "{op:?}");
-        assert_eq!(rt;
-            makes(&rt, op, false, first, Val::Ctx)?,
-            HALF_FULL,
-            "{op:?}"
-        );
+        let made = makes(rt.alloc(), op, true, first, second);
+        same(&rt, &op, &made, &Some(wanted));
+        let of_half = makes(rt.alloc(), op, false, first, Val::Ctx);
+        same(&rt, &op, &of_half, &Some(HALF_FULL));
     }
-    // of ALU nothing but constants is followed
-    for op in [AluOp::Mov, AluOp::Add, AluOp::And, AluOp::Rsh, AluOp::Mod] {
-        assert_eq!(rt;
-            makes(&rt, op, false, range(1, 5), exactly(3))? == HALF_FULL,
-            op != AluOp::Mov,
-            "{op:?}"
-        );
-        assert_eq!(rt;
-            makes(&rt, op, false, exactly(9), range(1, 5))?,
-            HALF_FULL,
-            "{op:?}"
-        );
+}
+
+/// Of ALU nothing but constants is followed.
+#[test]
+fn ranges_of_alu(rt: HostRuntime) {
+    for (op, wanted) in [
+        (AluOp::Mov, exactly(3)),
+        (AluOp::Add, HALF_FULL),
+        (AluOp::And, HALF_FULL),
+        (AluOp::Rsh, HALF_FULL),
+        (AluOp::Mod, HALF_FULL),
+    ] {
+        let first = makes(rt.alloc(), op, false, range(1, 5), exactly(3));
+        let second = makes(rt.alloc(), op, false, exactly(9), range(1, 5));
+        same(&rt, &op, &[first, second], &[Some(wanted), Some(HALF_FULL)]);
     }
-    Ok(())
 }
 
 #[test]
-fn addresses(rt: HostRuntime) -> Result<(), Fail> {
+fn addresses(rt: HostRuntime) {
     let rows = [
         (AluOp::Mov, exactly(1), packet(14), packet(14)),
         (AluOp::Add, packet(14), exactly(20), packet(34)),
@@ -154,18 +150,14 @@ fn addresses(rt: HostRuntime) -> Result<(), Fail> {
         (AluOp::Add, Val::Value { m: 0 }, exactly(0), Val::FULL),
     ];
     for (op, first, second, wanted) in rows {
-        assert_eq!(rt;
-            makes(&rt, op, true, first, second)?,
-            wanted,
-            "{op:?} {second:?}"
-        );
+        let made = makes(rt.alloc(), op, true, first, second);
+        same(&rt, &(op, second), &made, &Some(wanted));
     }
-    Ok(())
 }
 
-#[test]
-fn a_sum_with_a_range_has_an_id_of_its_own(rt: HostRuntime) -> Result<(), Fail> {
-    let mut note = Note::entry(rt.alloc());
+/// A packet's address in `r2`, a range in `r3`, and what has the ids 7 and 6 by then.
+fn before_a_sum(alloc: Global) -> Result<Note, AllocError> {
+    let mut note = Note::entry(alloc);
     note.set_register(2, packet(14));
     note.set_register(3, range(0, 60));
     note.set_register(4, Val::Pkt { id: 7, off: 2 });
@@ -173,57 +165,87 @@ fn a_sum_with_a_range_has_an_id_of_its_own(rt: HostRuntime) -> Result<(), Fail> 
     note.set_register(6, Val::MaybeValue { m: 0, id: 7 });
     note.keep(3, Val::Pkt { id: 7, off: 0 });
     note.set_safe(7, Some(20))?;
-    for (dst, src) in [(Register::R2, Register::R3), (Register::R3, Register::R2)] {
-        let src = Operand::Register(src);
-        let note = next(alu(rt.alloc(), &note, AluOp::Add, true, dst, src))?;
-        assert_eq!(rt; note.register(dst.number()), Val::Pkt { id: 7, off: 0 });
-        assert_eq!(rt; note.top(7), 74);
-        assert_eq!(rt; note.safe(7), None);
-        assert_eq!(rt; note.register(4), Val::FULL);
-        assert_eq!(rt; note.register(5), Val::Pkt { id: 6, off: 2 });
-        assert_eq!(rt; note.register(6), Val::FULL);
-        assert_eq!(rt; note.kept(3), Some(Val::FULL));
+    Ok(note)
+}
+
+/// After `dst += src`: `dst`, `r4`, `r5`, `r6`, stack slot 3, and the bounds of id 7.
+fn sum(
+    alloc: Global,
+    note: &Note,
+    dst: Register,
+    src: Register,
+) -> Option<([Val; 4], Option<Val>, u32, Option<u32>)> {
+    match alu(alloc, note, AluOp::Add, true, dst, Operand::Register(src)) {
+        Ok(Successors::One(next)) if next.pc == 8 => {
+            let known = [dst.number(), 4, 5, 6].map(|number| next.note.register(number));
+            let (top, safe) = (next.note.top(7), next.note.safe(7));
+            Some((known, next.note.kept(3), top, safe))
+        }
+        _ => None,
     }
-    Ok(())
 }
 
 #[test]
-fn bases_have_a_greatest(rt: HostRuntime) -> Result<(), Fail> {
+fn a_sum_with_a_range_has_an_id_of_its_own(rt: HostRuntime) -> Result<(), Fail> {
+    let note = before_a_sum(rt.alloc())?;
+    let fresh = Val::Pkt { id: 7, off: 0 };
+    let known = [fresh, Val::FULL, Val::Pkt { id: 6, off: 2 }, Val::FULL];
+    let wanted = Some((known, Some(Val::FULL), 74, None));
+    let (r2, r3) = (Register::R2, Register::R3);
+    assert!(rt; sum(rt.alloc(), &note, r2, r3) == wanted);
+    assert!(rt; sum(rt.alloc(), &note, r3, r2) == wanted);
+    Ok(())
+}
+
+/// After a sum of an address, whose base is at most `top`, and a range up to `hi`: `r2`, the greatest base of id 7, and
+/// `r4`, which had that id.
+fn base(alloc: Global, top: u32, off: u16, hi: u64) -> Option<(Val, u32, Val)> {
+    let mut note = Note::entry(alloc);
+    note.set_top(5, top).ok()?;
+    note.set_top(7, 9).ok()?;
+    note.set_register(2, Val::Pkt { id: 5, off });
+    note.set_register(3, range(0, hi));
+    note.set_register(4, Val::Pkt { id: 7, off: 0 });
+    let src = Operand::Register(Register::R3);
+    match alu(alloc, &note, AluOp::Add, true, Register::R2, src) {
+        Ok(Successors::One(next)) if next.pc == 8 => {
+            let (sum, older) = (next.note.register(2), next.note.register(4));
+            Some((sum, next.note.top(7), older))
+        }
+        _ => None,
+    }
+}
+
+#[test]
+fn bases_have_a_greatest(rt: HostRuntime) {
     let fresh = Val::Pkt { id: 7, off: 0 };
     let rows = [
-        (0, 0, 65535, fresh, 65535),
-        (0, 0, 65536, Val::FULL, 9),
-        (0xf_0000, 0xfffe, 1, fresh, 0xf_ffff),
-        (0xf_0000, 0xffff, 1, Val::FULL, 9),
+        (0, 0, 65535, (fresh, 65535, Val::FULL)),
+        (0, 0, 65536, (Val::FULL, 9, fresh)),
+        (0xf_0000, 0xfffe, 1, (fresh, 0xf_ffff, Val::FULL)),
+        (0xf_0000, 0xffff, 1, (Val::FULL, 9, fresh)),
     ];
-    for (top, off, hi, wanted, wanted_top) in rows {
-        let mut note = Note::entry(rt.alloc());
-        note.set_top(5, top)?;
-        note.set_top(7, 9)?;
-        note.set_register(2, Val::Pkt { id: 5, off });
-        note.set_register(3, range(0, hi));
-        note.set_register(4, fresh);
-        let src = Operand::Register(Register::R3);
-        let note = next(alu(rt.alloc(), &note, AluOp::Add, true, Register::R2, src))?;
-        assert_eq!(rt; note.register(2), wanted);
-        assert_eq!(rt; note.top(7), wanted_top);
-        assert_eq!(rt; note.register(4) == fresh, wanted == Val::FULL);
+    for (top, off, hi, wanted) in rows {
+        same(
+            &rt,
+            &(top, off),
+            &base(rt.alloc(), top, off, hi),
+            &Some(wanted),
+        );
     }
-    Ok(())
 }
 
 /// What an instruction leaves in `r2`.
-fn leaves(rt: &HostRuntime, insn: Insn, value: Val) -> Result<Val, Fail>
+fn leaves(alloc: Global, insn: Insn, value: Val) -> Option<Val>
     requires { IsRuled insn 7 0 }
 {
-    let mut note = Note::entry(rt.alloc());
+    let mut note = Note::entry(alloc);
     note.set_register(2, value);
-    let note = next(after(rt.alloc(), &insn, 7, &note, &[]))?;
-    Ok(note.register(2))
+    register_after(after(alloc, &insn, 7, &note, &[]), 2)
 }
 
 #[test]
-fn negated(rt: HostRuntime) -> Result<(), Fail> {
+fn negated(rt: HostRuntime) {
     let dst = Register::R2;
     for (wide, value, wanted) in [
         (true, exactly(5), negative(-5)),
@@ -232,13 +254,12 @@ fn negated(rt: HostRuntime) -> Result<(), Fail> {
         (false, Val::Ctx, HALF_FULL),
     ] {
         let insn = Insn::Neg { wide, dst };
-        assert_eq!(rt; leaves(&rt, insn, value)?, wanted);
+        same(&rt, &value, &leaves(rt.alloc(), insn, value), &Some(wanted));
     }
-    Ok(())
 }
 
 #[test]
-fn swapped(rt: HostRuntime) -> Result<(), Fail> {
+fn swapped(rt: HostRuntime) {
     let dst = Register::R2;
     let bytes = exactly(0x0102_0304_0506_0708);
     for (kind, width, value, wanted) in [
@@ -261,13 +282,12 @@ fn swapped(rt: HostRuntime) -> Result<(), Fail> {
         (SwapKind::Swap, Width::Bits64, Val::PktEnd, Val::FULL),
     ] {
         let insn = Insn::End { kind, width, dst };
-        assert_eq!(rt; leaves(&rt, insn, value)?, wanted);
+        same(&rt, &value, &leaves(rt.alloc(), insn, value), &Some(wanted));
     }
-    Ok(())
 }
 
 #[test]
-fn extended(rt: HostRuntime) -> Result<(), Fail> {
+fn extended(rt: HostRuntime) {
     let dst = Register::R2;
     for (wide, bits, value, wanted) in [
         (true, Size::Byte, exactly(0x80), negative(-128)),
@@ -287,38 +307,28 @@ fn extended(rt: HostRuntime) -> Result<(), Fail> {
             dst,
             src: dst,
         };
-        assert_eq!(rt; leaves(&rt, insn, value)?, wanted);
+        same(&rt, &value, &leaves(rt.alloc(), insn, value), &Some(wanted));
     }
-    Ok(())
 }
 
-#[test]
-fn wide_loads(rt: HostRuntime) -> Result<(), Fail> {
-    let note = Note::entry(rt.alloc());
+/// What a load of a constant and one of a map leave in `r2`, at the slot after the next one.
+fn wide_loaded(alloc: Global, shape: MapShape) -> [Option<Val>; 2] {
+    let note = Note::entry(alloc);
     let dst = Register::R2;
-    let shape = MapShape::of(1, 1).expect(&rt, "a shape");
     let constant = Insn::Const {
         dst,
         value: u64::MAX,
     };
     let map = Insn::MapRef { dst, m: 0 };
-    for (step, wanted) in [
-        (
-            after(rt.alloc(), &constant, 7, &note, &[]),
-            exactly(u64::MAX),
-        ),
-        (
-            after(rt.alloc(), &map, 7, &note, &[shape]),
-            Val::Map { m: 0 },
-        ),
-    ] {
-        match step? {
-            Successors::One(next) => {
-                assert_eq!(rt; next.pc, 9);
-                assert_eq!(rt; next.note.register(2), wanted);
-            }
-            _ => assert!(rt; false),
-        }
-    }
-    Ok(())
+    [
+        register_at(after(alloc, &constant, 7, &note, &[]), 9, 2),
+        register_at(after(alloc, &map, 7, &note, &[shape]), 9, 2),
+    ]
+}
+
+#[test]
+fn wide_loads(rt: HostRuntime) {
+    let shape = MapShape::of(1, 1).expect(&rt, "a shape");
+    let wanted = [Some(exactly(u64::MAX)), Some(Val::Map { m: 0 })];
+    assert_eq!(rt; wide_loaded(rt.alloc(), shape), wanted);
 }

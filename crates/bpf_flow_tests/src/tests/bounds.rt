@@ -1,10 +1,12 @@
 //! Packet bounds: a pointer against the packet's end by each unsigned condition, in both orders of the operands. Where an
 //! edge says `p <= end`, the bytes below `p` are in the packet; where it says `p < end`, the byte at `p` is too.
 
-use crate::steps::{cause, edges, load};
+use super::same;
+use crate::steps::{cause, jump, load, teaches_nothing};
+use bpf_flow::Successors;
 use bpf_insn::{Cause, Condition, Operand, Register, Size};
 use bpf_note::{Note, PACKET_ID, Val};
-use std::test::Fail;
+use std::alloc::Global;
 
 /// A comparison of `p` (`r2`) with the packet's end (`r3`), and what it shows.
 #[derive(Clone, Copy, Drop)]
@@ -50,63 +52,97 @@ fn checks() -> [Check; 8] {
     ]
 }
 
-/// The notes of the edge that shows something, and of the other one, where `p` lies `off` bytes into the packet.
-fn shown(rt: &HostRuntime, check: Check, off: u16) -> Result<(Note, Note), Fail> {
-    let mut note = Note::entry(rt.alloc());
+/// The packet's end in `r3`, and in `r2` `p`, which lies `off` bytes into the packet.
+fn before(alloc: Global, off: u16) -> Note {
+    let mut note = Note::entry(alloc);
     note.set_register(2, Val::Pkt { id: PACKET_ID, off });
     note.set_register(3, Val::PktEnd);
+    note
+}
+
+/// The ways of the comparison.
+fn compared(alloc: Global, check: Check, note: &Note) -> Result<Successors, Cause> {
     let (dst, src) = if check.is_end_first {
         (Register::R3, Register::R2)
     } else {
         (Register::R2, Register::R3)
     };
-    let src = Operand::Register(src);
-    let (passed, taken) = edges(rt.alloc(), &note, check.cond, true, dst, src)?;
+    jump(alloc, note, check.cond, true, dst, Operand::Register(src))
+}
+
+/// What is said of the edge that shows something, and then what is said of the other one.
+fn in_order<T: Copy>(check: Check, next: T, target: T) -> [T; 2] {
     if check.shows_where_taken {
-        Ok((taken, passed))
+        [target, next]
     } else {
-        Ok((passed, taken))
+        [next, target]
     }
 }
 
-/// The cause against a load from the packet's start on, through `p`, which lies `off` bytes behind it.
-fn refusal(rt: &HostRuntime, note: &Note, size: Size, off: i16) -> Option<Cause> {
-    cause(load(rt.alloc(), note, size, Register::R2, off))
+/// How many bytes are known to lie in the packet, on the edge that shows something and on the other one.
+fn bytes_shown(alloc: Global, check: Check, off: u16) -> Option<[Option<u32>; 2]> {
+    match compared(alloc, check, &before(alloc, off)) {
+        Ok(Successors::Two(next, target)) if next.pc == 8 && target.pc == 10 => {
+            let (next, target) = (next.note.safe(PACKET_ID), target.note.safe(PACKET_ID));
+            Some(in_order(check, next, target))
+        }
+        _ => None,
+    }
+}
+
+/// The causes against a load through `p`, from so many bytes behind it on, on the edge that shows something and on the
+/// other one.
+fn refusals(
+    alloc: Global,
+    check: Check,
+    off: u16,
+    size: Size,
+    from: i16,
+) -> Option<[Option<Cause>; 2]> {
+    match compared(alloc, check, &before(alloc, off)) {
+        Ok(Successors::Two(next, target)) if next.pc == 8 && target.pc == 10 => {
+            let next = cause(load(alloc, &next.note, size, Register::R2, from));
+            let target = cause(load(alloc, &target.note, size, Register::R2, from));
+            Some(in_order(check, next, target))
+        }
+        _ => None,
+    }
+}
+
+/// The other edge shows nothing, so it refuses each load.
+fn wanted_refusals(shown: Option<Cause>) -> Option<[Option<Cause>; 2]> {
+    Some([shown, Some(Cause::Packet)])
 }
 
 #[test]
-fn each_edge_shows_its_bytes(rt: HostRuntime) -> Result<(), Fail> {
+fn each_edge_shows_its_bytes(rt: HostRuntime) {
     for check in checks() {
-        let (shows, other) = shown(&rt, check, 8)?;
         let bound = if check.shows_the_byte_at_p { 9 } else { 8 };
-        let name = check.cond;
-        assert_eq!(rt; shows.safe(PACKET_ID), Some(bound), "{name:?}");
-        assert_eq!(rt; other.safe(PACKET_ID), None, "{name:?}");
-        // the last byte, the byte after it, a byte before the packet, and the other edge
-        let last = if check.shows_the_byte_at_p { 0 } else { -1 };
-        assert_eq!(rt; refusal(&rt, &shows, Size::Byte, last), None, "{name:?}");
-        assert_eq!(rt;
-            refusal(&rt, &shows, Size::Byte, last + 1),
-            Some(Cause::Packet),
-            "{name:?}"
-        );
-        assert_eq!(rt;
-            refusal(&rt, &shows, Size::Byte, -9),
-            Some(Cause::Packet),
-            "{name:?}"
-        );
-        assert_eq!(rt;
-            refusal(&rt, &other, Size::Byte, -8),
-            Some(Cause::Packet),
-            "{name:?}"
-        );
+        let shown = bytes_shown(rt.alloc(), check, 8);
+        same(&rt, &check.cond, &shown, &Some([Some(bound), None]));
     }
-    Ok(())
+}
+
+/// The first byte, the last one, the one after it, and one before the packet.
+#[test]
+fn single_bytes_of_an_edge(rt: HostRuntime) {
+    for check in checks() {
+        let last = if check.shows_the_byte_at_p { 0 } else { -1 };
+        for (from, wanted) in [
+            (-8, None),
+            (last, None),
+            (last + 1, Some(Cause::Packet)),
+            (-9, Some(Cause::Packet)),
+        ] {
+            let refused = refusals(rt.alloc(), check, 8, Size::Byte, from);
+            same(&rt, &(check.cond, from), &refused, &wanted_refusals(wanted));
+        }
+    }
 }
 
 /// Eight bytes from the packet's start on, where `p` lies at, above and below the corner.
 #[test]
-fn eight_bytes_at_the_corner(rt: HostRuntime) -> Result<(), Fail> {
+fn eight_bytes_at_the_corner(rt: HostRuntime) {
     for check in checks() {
         let corner = if check.shows_the_byte_at_p { 7 } else { 8 };
         for (off, wanted) in [
@@ -114,23 +150,16 @@ fn eight_bytes_at_the_corner(rt: HostRuntime) -> Result<(), Fail> {
             (corner + 1, None),
             (corner - 1, Some(Cause::Packet)),
         ] {
-            let (shows, other) = shown(&rt, check, off as u16)?;
-            assert_eq!(rt; refusal(&rt, &shows, Size::Double, -off), wanted, "{off}");
-            assert_eq!(rt;
-                refusal(&rt, &other, Size::Double, -off),
-                Some(Cause::Packet),
-                "{off}"
-            );
+            let refused = refusals(rt.alloc(), check, off as u16, Size::Double, -off);
+            same(&rt, &(check.cond, off), &refused, &wanted_refusals(wanted));
         }
     }
-    Ok(())
 }
 
 /// Eight bytes in the middle, and each place that is one byte off.
 #[test]
-fn good_and_one_byte_too_far(rt: HostRuntime) -> Result<(), Fail> {
+fn good_and_one_byte_too_far(rt: HostRuntime) {
     for check in checks() {
-        let (shows, _other) = shown(&rt, check, 16)?;
         let last = if check.shows_the_byte_at_p { -7 } else { -8 };
         for (size, off, wanted) in [
             (Size::Double, -16, None),
@@ -142,45 +171,42 @@ fn good_and_one_byte_too_far(rt: HostRuntime) -> Result<(), Fail> {
             (Size::Half, last + 7, Some(Cause::Packet)),
             (Size::Double, -17, Some(Cause::Packet)),
         ] {
-            assert_eq!(rt; refusal(&rt, &shows, size, off), wanted, "{off}");
+            let refused = refusals(rt.alloc(), check, 16, size, off);
+            same(&rt, &(check.cond, off), &refused, &wanted_refusals(wanted));
         }
     }
-    Ok(())
 }
 
-#[test]
-fn a_bound_only_rises(rt: HostRuntime) -> Result<(), Fail> {
-    for check in checks() {
-        let mut note = Note::entry(rt.alloc());
-        note.set_safe(PACKET_ID, Some(20))?;
-        note.set_register(
-            2,
-            Val::Pkt {
-                id: PACKET_ID,
-                off: 8,
-            },
-        );
-        note.set_register(3, Val::PktEnd);
-        let src = Operand::Register(Register::R3);
-        let (passed, taken) = edges(rt.alloc(), &note, check.cond, true, Register::R2, src)?;
-        assert_eq!(rt; passed.safe(PACKET_ID), Some(20));
-        assert_eq!(rt; taken.safe(PACKET_ID), Some(20));
-    }
-    Ok(())
-}
-
-#[test]
-fn other_jumps_show_no_bytes(rt: HostRuntime) -> Result<(), Fail> {
-    let mut note = Note::entry(rt.alloc());
-    note.set_register(
-        2,
-        Val::Pkt {
-            id: PACKET_ID,
-            off: 8,
-        },
-    );
-    note.set_register(3, Val::PktEnd);
+/// How many bytes are known to lie in the packet on both edges of a comparison, where it was 20 before.
+fn bytes_kept(alloc: Global, cond: Condition) -> Option<[Option<u32>; 2]> {
+    let mut note = before(alloc, 8);
+    note.set_safe(PACKET_ID, Some(20)).ok()?;
     let src = Operand::Register(Register::R3);
+    match jump(alloc, &note, cond, true, Register::R2, src) {
+        Ok(Successors::Two(next, target)) if next.pc == 8 && target.pc == 10 => {
+            Some([next.note.safe(PACKET_ID), target.note.safe(PACKET_ID)])
+        }
+        _ => None,
+    }
+}
+
+#[test]
+fn a_bound_only_rises(rt: HostRuntime) {
+    for check in checks() {
+        let kept = bytes_kept(rt.alloc(), check.cond);
+        same(&rt, &check.cond, &kept, &Some([Some(20), Some(20)]));
+    }
+}
+
+/// Whether a comparison shows nothing at all.
+fn shows_nothing(alloc: Global, cond: Condition, wide: bool) -> bool {
+    let note = before(alloc, 8);
+    let src = Operand::Register(Register::R3);
+    teaches_nothing(jump(alloc, &note, cond, wide, Register::R2, src), &note)
+}
+
+#[test]
+fn other_jumps_show_no_bytes(rt: HostRuntime) {
     for (cond, wide) in [
         (Condition::Equal, true),
         (Condition::NotEqual, true),
@@ -190,8 +216,7 @@ fn other_jumps_show_no_bytes(rt: HostRuntime) -> Result<(), Fail> {
         (Condition::Greater, false),
         (Condition::LessOrEqual, false),
     ] {
-        let (passed, taken) = edges(rt.alloc(), &note, cond, wide, Register::R2, src)?;
-        assert!(rt; passed.same_as(&note) && taken.same_as(&note), "{cond:?}");
+        let shown = shows_nothing(rt.alloc(), cond, wide);
+        same(&rt, &(cond, wide), &shown, &true);
     }
-    Ok(())
 }

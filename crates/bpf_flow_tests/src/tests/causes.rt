@@ -2,6 +2,7 @@
 
 ghost use Rattle.bpf_flow.specs.Rule.{IsRuled};
 
+use super::same;
 use bpf_flow::{Successor, Successors, after};
 use bpf_insn::{AluOp, Cause, Insn, Operand, Refusal, Register, Size, decode};
 use bpf_note::{MapShape, Note, Val};
@@ -28,27 +29,32 @@ fn step(
     }
 }
 
-/// The refusal that a program without jumps meets, if it meets one, with one map.
-fn refusal(rt: &HostRuntime, shape: MapShape, slots: &[u64]) -> Result<Option<Refusal>, Fail> {
-    let mut bytes = Vec::new(rt.alloc());
-    for slot in slots {
-        bytes.extend_from_slice(&slot.to_be_bytes())?;
-    }
-    let code = decode(rt.alloc(), &bytes)?;
-    let mut note = Note::entry(rt.alloc());
+/// The refusal that the instructions of a program without jumps meet, if they meet one, with one map.
+fn refusal_of(alloc: Global, shape: MapShape, insns: &[Insn]) -> Option<Refusal> {
+    let mut note = Box::new(alloc, Note::entry(alloc)).ok()?;
     let mut pc = 0;
-    for (at, insn) in code.insns().iter().enumerate() {
+    for (at, insn) in insns.iter().enumerate() {
         if at == pc as usize {
-            match step(rt.alloc(), *insn, pc, &note, &[shape]) {
-                Err(cause) => return Ok(Some(Refusal { cause, pc })),
+            match step(alloc, *insn, pc, &note, &[shape]) {
+                Err(cause) => return Some(Refusal { cause, pc }),
                 Ok(next) => {
                     pc = next.pc;
-                    note = Box::into_inner(next.note);
+                    note = next.note;
                 }
             }
         }
     }
-    Ok(None)
+    None
+}
+
+/// The refusal that a program without jumps meets, if it meets one, with one map.
+fn refusal(alloc: Global, shape: MapShape, slots: &[u64]) -> Result<Option<Refusal>, Fail> {
+    let mut bytes = Vec::new(alloc);
+    for slot in slots {
+        bytes.extend_from_slice(&slot.to_be_bytes())?;
+    }
+    let code = decode(alloc, &bytes)?;
+    Ok(refusal_of(alloc, shape, code.insns()))
 }
 
 const EXIT: u64 = 0x9500_0000_0000_0000;
@@ -87,26 +93,23 @@ fn the_shortest_programs(rt: HostRuntime) -> Result<(), Fail> {
         (&argument, Cause::Argument, 1),
     ];
     for (slots, cause, pc) in rows {
-        assert_eq!(rt;
-            refusal(&rt, shape, slots)?,
-            Some(Refusal { cause, pc }),
-            "{cause:?}"
-        );
+        let refused = refusal(rt.alloc(), shape, slots)?;
+        same(&rt, &cause, &refused, &Some(Refusal { cause, pc }));
     }
     Ok(())
 }
 
 /// The cause against an instruction where `r2` is a number, `r3` unset and `r1` the context.
-fn cause(rt: &HostRuntime, insn: Insn) -> Option<Cause>
+fn cause(alloc: Global, insn: Insn) -> Option<Cause>
     requires { IsRuled insn 7 0 }
 {
-    let mut note = Note::entry(rt.alloc());
+    let mut note = Note::entry(alloc);
     note.set_register(2, Val::FULL);
-    after(rt.alloc(), &insn, 7, &note, &[]).err()
+    after(alloc, &insn, 7, &note, &[]).err()
 }
 
-/// A load, a copy and a sign extension of `src` into `r10`.
-fn writes_of_the_frame_pointer(rt: &HostRuntime, src: Register) -> [Option<Cause>; 3] {
+/// The causes against a load, a copy and a sign extension of `src` into `r10`, and a fetching add of it to `src`.
+fn writes_of_the_frame_pointer(alloc: Global, src: Register) -> [Option<Cause>; 4] {
     let dst = Register::R10;
     let load = Insn::Ldx {
         size: Size::Word,
@@ -127,7 +130,18 @@ fn writes_of_the_frame_pointer(rt: &HostRuntime, src: Register) -> [Option<Cause
         dst,
         src,
     };
-    [cause(rt, load), cause(rt, copy), cause(rt, extend)]
+    let fetch = Insn::AddCounter {
+        fetch: true,
+        dst: src,
+        src: dst,
+        off: 0,
+    };
+    [
+        cause(alloc, load),
+        cause(alloc, copy),
+        cause(alloc, extend),
+        cause(alloc, fetch),
+    ]
 }
 
 /// An unset register comes first, then a write to the frame pointer, then all else.
@@ -137,22 +151,14 @@ fn the_frame_pointer(rt: HostRuntime) {
         (Register::R2, Cause::FramePointer),
         (Register::R3, Cause::Unset),
     ] {
-        for written in writes_of_the_frame_pointer(&rt, src) {
-            assert_eq!(rt; written, Some(wanted));
-        }
-        let fetch = Insn::AddCounter {
-            fetch: true,
-            dst: src,
-            src: Register::R10,
-            off: 0,
-        };
-        assert_eq!(rt; cause(&rt, fetch), Some(wanted));
+        let refused = writes_of_the_frame_pointer(rt.alloc(), src);
+        same(&rt, &src, &refused, &[Some(wanted); 4]);
     }
     let constant = Insn::Const {
         dst: Register::R10,
         value: 0,
     };
-    assert_eq!(rt; cause(&rt, constant), Some(Cause::FramePointer));
+    assert_eq!(rt; cause(rt.alloc(), constant), Some(Cause::FramePointer));
 }
 
 #[test]
@@ -167,6 +173,6 @@ fn a_stored_register_is_read(rt: HostRuntime) {
             src,
             off: 0,
         };
-        assert_eq!(rt; cause(&rt, store), Some(wanted));
+        same(&rt, &src, &cause(rt.alloc(), store), &Some(wanted));
     }
 }

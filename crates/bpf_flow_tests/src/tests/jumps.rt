@@ -1,33 +1,34 @@
 //! What the edges of a conditional jump teach of numbers and of lookups.
 
-use crate::steps::{edges, exactly};
+use super::same;
+use crate::steps::{exactly, jump, leads_on, range, teaches_nothing};
 use bpf_flow::{Successors, after};
-use bpf_insn::{Condition, Insn, Operand, Register};
+use bpf_insn::{Cause, Condition, Insn, Operand, Register};
 use bpf_note::{Note, Val};
-use std::test::Fail;
-
-fn range(lo: u64, hi: u64) -> Val {
-    Val::Num { lo, hi }
-}
+use std::alloc::Global;
 
 /// What is known of `r2` where `r2 cond src` holds, and where it doesn't.
 fn learnt(
-    rt: &HostRuntime,
+    alloc: Global,
     cond: Condition,
     wide: bool,
     value: Val,
     src: Operand,
-) -> Result<(Val, Val), Fail> {
-    let mut note = Note::entry(rt.alloc());
+) -> Option<(Val, Val)> {
+    let mut note = Note::entry(alloc);
     note.set_register(2, value);
     note.set_register(3, exactly(4));
     note.set_register(4, range(2, 7));
-    let (passed, taken) = edges(rt.alloc(), &note, cond, wide, Register::R2, src)?;
-    Ok((taken.register(2), passed.register(2)))
+    match jump(alloc, &note, cond, wide, Register::R2, src) {
+        Ok(Successors::Two(next, target)) if next.pc == 8 && target.pc == 10 => {
+            Some((target.note.register(2), next.note.register(2)))
+        }
+        _ => None,
+    }
 }
 
 #[test]
-fn ranges_narrow(rt: HostRuntime) -> Result<(), Fail> {
+fn ranges_narrow(rt: HostRuntime) {
     let all = range(0, 9);
     for (cond, number, wanted, otherwise) in [
         (Condition::Equal, 4, exactly(4), all),
@@ -41,16 +42,14 @@ fn ranges_narrow(rt: HostRuntime) -> Result<(), Fail> {
         (Condition::Less, 4, range(0, 3), range(4, 9)),
         (Condition::LessOrEqual, 4, range(0, 4), range(5, 9)),
     ] {
-        let src = Operand::Immediate(number);
-        let learnt = learnt(&rt, cond, true, all, src)?;
-        assert_eq!(rt; learnt, (wanted, otherwise), "{cond:?} {number}");
+        let learnt = learnt(rt.alloc(), cond, true, all, Operand::Immediate(number));
+        same(&rt, &(cond, number), &learnt, &Some((wanted, otherwise)));
     }
-    Ok(())
 }
 
 /// Where the range would be empty on one edge, and holds all on the other; by signed conditions and JSET; by JMP32.
 #[test]
-fn ranges_stay(rt: HostRuntime) -> Result<(), Fail> {
+fn ranges_stay(rt: HostRuntime) {
     let all = range(0, 9);
     for (cond, wide, number) in [
         (Condition::Equal, true, 12),
@@ -69,46 +68,48 @@ fn ranges_stay(rt: HostRuntime) -> Result<(), Fail> {
         (Condition::Greater, false, 4),
         (Condition::Less, false, 4),
     ] {
-        let src = Operand::Immediate(number);
-        let learnt = learnt(&rt, cond, wide, all, src)?;
-        assert_eq!(rt; learnt, (all, all), "{cond:?} {number}");
+        let learnt = learnt(rt.alloc(), cond, wide, all, Operand::Immediate(number));
+        same(&rt, &(cond, number), &learnt, &Some((all, all)));
     }
-    Ok(())
+}
+
+/// `r3` is 4, and `r4` lies from 2 to 7.
+#[test]
+fn registers_that_are_compared(rt: HostRuntime) {
+    let (all, four) = (range(0, 9), exactly(4));
+    let constant = Operand::Register(Register::R3);
+    let other_range = Operand::Register(Register::R4);
+    for (value, src, wanted) in [
+        (all, constant, (range(0, 3), range(4, 9))),
+        (all, other_range, (all, all)),
+        (four, other_range, (four, four)),
+        (Val::Ctx, constant, (Val::Ctx, Val::Ctx)),
+    ] {
+        let learnt = learnt(rt.alloc(), Condition::Less, true, value, src);
+        same(&rt, &value, &learnt, &Some(wanted));
+    }
+}
+
+/// Whether nothing is learnt of a range that a constant is compared with.
+fn keeps_its_second_operand(alloc: Global, cond: Condition) -> bool {
+    let mut note = Note::entry(alloc);
+    note.set_register(2, exactly(4));
+    note.set_register(4, range(2, 7));
+    let src = Operand::Register(Register::R4);
+    teaches_nothing(jump(alloc, &note, cond, true, Register::R2, src), &note)
 }
 
 #[test]
-fn registers_that_are_compared(rt: HostRuntime) -> Result<(), Fail> {
-    let all = range(0, 9);
-    let constant = Operand::Register(Register::R3);
-    let other_range = Operand::Register(Register::R4);
-    let less = Condition::Less;
-    assert_eq!(rt;
-        learnt(&rt, less, true, all, constant)?,
-        (range(0, 3), range(4, 9))
-    );
-    assert_eq!(rt; learnt(&rt, less, true, all, other_range)?, (all, all));
-    assert_eq!(rt;
-        learnt(&rt, less, true, exactly(4), other_range)?,
-        (exactly(4), exactly(4))
-    );
-    // nothing is learnt of the second operand
-    let mut note = Note::entry(rt.alloc());
-    note.set_register(2, exactly(4));
-    note.set_register(4, range(2, 7));
+fn nothing_is_learnt_of_the_second_operand(rt: HostRuntime) {
     for cond in [Condition::Equal, Condition::Less, Condition::Greater] {
-        let (passed, taken) = edges(rt.alloc(), &note, cond, true, Register::R2, other_range)?;
-        assert!(rt; passed.same_as(&note) && taken.same_as(&note), "{cond:?}");
+        let keeps = keeps_its_second_operand(rt.alloc(), cond);
+        same(&rt, &cond, &keeps, &true);
     }
-    assert_eq!(rt;
-        learnt(&rt, less, true, Val::Ctx, constant)?,
-        (Val::Ctx, Val::Ctx)
-    );
-    Ok(())
 }
 
 /// Two copies of one lookup's result, one of another, and one on the stack.
-fn lookups(rt: &HostRuntime) -> Note {
-    let mut note = Note::entry(rt.alloc());
+fn lookups(alloc: Global) -> Note {
+    let mut note = Note::entry(alloc);
     note.set_register(2, Val::MaybeValue { m: 1, id: 3 });
     note.set_register(6, Val::MaybeValue { m: 1, id: 3 });
     note.set_register(7, Val::MaybeValue { m: 1, id: 4 });
@@ -117,57 +118,107 @@ fn lookups(rt: &HostRuntime) -> Note {
     note
 }
 
-#[test]
-fn a_null_check_frees_its_id_alone(rt: HostRuntime) -> Result<(), Fail> {
-    let note = lookups(&rt);
+/// The comparison of the result in `r2` with 0.
+fn compared_with_null(alloc: Global, cond: Condition) -> Result<Successors, Cause> {
     let zero = Operand::Immediate(0);
-    let r2 = Register::R2;
-    let (is_null, is_value) = edges(rt.alloc(), &note, Condition::Equal, true, r2, zero)?;
-    let (null_too, value_too) = edges(rt.alloc(), &note, Condition::NotEqual, true, r2, zero)?;
-    assert!(rt; is_null.same_as(&value_too) && is_value.same_as(&null_too));
-    for (note, wanted) in [(&is_value, exactly(0)), (&is_null, Val::Value { m: 1 })] {
-        assert_eq!(rt; note.register(2), wanted);
-        assert_eq!(rt; note.register(6), wanted);
-        assert_eq!(rt; note.kept(63), Some(wanted));
-        assert_eq!(rt; note.register(7), Val::MaybeValue { m: 1, id: 4 });
+    jump(alloc, &lookups(alloc), cond, true, Register::R2, zero)
+}
+
+/// The copies of the first result, and the other one.
+fn results(note: &Note) -> ([Val; 2], Option<Val>, Val) {
+    let copies = [note.register(2), note.register(6)];
+    (copies, note.kept(63), note.register(7))
+}
+
+/// The results where a comparison with 0 holds, and where it doesn't.
+fn results_of(alloc: Global, cond: Condition) -> Option<[([Val; 2], Option<Val>, Val); 2]> {
+    match compared_with_null(alloc, cond) {
+        Ok(Successors::Two(next, target)) if next.pc == 8 && target.pc == 10 => {
+            Some([results(&target.note), results(&next.note)])
+        }
+        _ => None,
     }
-    Ok(())
+}
+
+/// Whether one jump has the ways of another, the other way round.
+fn have_each_others_ways(first: &Successors, second: &Successors) -> bool {
+    match (first, second) {
+        (Successors::Two(next, target), Successors::Two(other_next, other_target)) => {
+            next.note.same_as(&other_target.note) && target.note.same_as(&other_next.note)
+        }
+        _ => false,
+    }
+}
+
+/// Whether a comparison for being null and one for not being null teach the same.
+fn null_checks_agree(alloc: Global) -> bool {
+    let is_null = compared_with_null(alloc, Condition::Equal);
+    let is_value = compared_with_null(alloc, Condition::NotEqual);
+    match (&is_null, &is_value) {
+        (Ok(is_null), Ok(is_value)) => have_each_others_ways(is_null, is_value),
+        _ => false,
+    }
 }
 
 #[test]
-fn no_null_check(rt: HostRuntime) -> Result<(), Fail> {
-    let note = lookups(&rt);
+fn a_null_check_frees_its_id_alone(rt: HostRuntime) {
+    let known = |value| ([value; 2], Some(value), Val::MaybeValue { m: 1, id: 4 });
+    let (null, value) = (known(exactly(0)), known(Val::Value { m: 1 }));
+    let found = [Condition::Equal, Condition::NotEqual].map(|cond| results_of(rt.alloc(), cond));
+    assert!(rt; found == [Some([null, value]), Some([value, null])]);
+    assert!(rt; null_checks_agree(rt.alloc()));
+}
+
+/// Whether nothing is learnt of the lookups' results.
+fn no_lookup_is_checked(
+    alloc: Global,
+    cond: Condition,
+    wide: bool,
+    dst: Register,
+    src: Operand,
+) -> bool {
+    let note = lookups(alloc);
+    teaches_nothing(jump(alloc, &note, cond, wide, dst, src), &note)
+}
+
+/// `r5` is 0. In the last row it is compared with the result, and not the result with it.
+#[test]
+fn no_null_check(rt: HostRuntime) {
     let zero = Operand::Immediate(0);
-    for (cond, wide, src) in [
-        (Condition::Equal, false, zero),
-        (Condition::NotEqual, false, zero),
-        (Condition::Greater, true, zero),
-        (Condition::Equal, true, Operand::Immediate(1)),
-        (Condition::Equal, true, Operand::Register(Register::R5)),
+    let (r2, r5) = (Register::R2, Register::R5);
+    for (cond, wide, dst, src) in [
+        (Condition::Equal, false, r2, zero),
+        (Condition::NotEqual, false, r2, zero),
+        (Condition::Greater, true, r2, zero),
+        (Condition::Equal, true, r2, Operand::Immediate(1)),
+        (Condition::Equal, true, r2, Operand::Register(r5)),
+        (Condition::Equal, true, r5, Operand::Register(r2)),
     ] {
-        let (passed, taken) = edges(rt.alloc(), &note, cond, wide, Register::R2, src)?;
-        assert!(rt; passed.same_as(&note) && taken.same_as(&note), "{cond:?}");
+        let unchecked = no_lookup_is_checked(rt.alloc(), cond, wide, dst, src);
+        same(&rt, &(cond, wide, src), &unchecked, &true);
     }
-    // 0 first
-    let r2 = Operand::Register(Register::R2);
-    let (passed, taken) = edges(rt.alloc(), &note, Condition::Equal, true, Register::R5, r2)?;
-    assert!(rt; passed.same_as(&note) && taken.same_as(&note));
-    Ok(())
 }
 
-#[test]
-fn jumps_and_the_exit_lead_on(rt: HostRuntime) -> Result<(), Fail> {
-    let mut note = Note::entry(rt.alloc());
+/// Whether a jump back by three slots leads there, and teaches nothing.
+fn jumps_back(alloc: Global) -> bool {
+    let note = Note::entry(alloc);
     let back = Insn::Ja {
         wide_offset: true,
         to: -3,
     };
-    match after(rt.alloc(), &back, 7, &note, &[])? {
-        Successors::One(next) => assert!(rt; next.pc == 5 && next.note.same_as(&note)),
-        _ => assert!(rt; false),
-    }
+    leads_on(after(alloc, &back, 7, &note, &[]), 5, &note)
+}
+
+/// Whether the exit leads nowhere.
+fn ends(alloc: Global) -> bool {
+    let mut note = Note::entry(alloc);
     note.set_register(0, Val::Ctx);
-    let end = after(rt.alloc(), &Insn::Exit, 7, &note, &[])?;
-    assert!(rt; matches!(&end, Successors::None));
-    Ok(())
+    let end = after(alloc, &Insn::Exit, 7, &note, &[]);
+    matches!(&end, Ok(Successors::None))
+}
+
+#[test]
+fn jumps_and_the_exit_lead_on(rt: HostRuntime) {
+    assert!(rt; jumps_back(rt.alloc()));
+    assert!(rt; ends(rt.alloc()));
 }

@@ -1,9 +1,14 @@
 //! Loads and stores: the stack, the context and the packet.
 
-use crate::steps::{cause, exactly, load, load_signed, next, store, store_five};
-use bpf_flow::after;
+use super::same;
+use crate::steps::{
+    cause, exactly, kept_after, leads_on, load, load_signed, next, range, register_after, store,
+    store_five,
+};
+use bpf_flow::{Successors, after};
 use bpf_insn::{Cause, Insn, Register, Size};
 use bpf_note::{Note, PACKET_ID, Val};
+use std::alloc::{AllocError, Global};
 use std::test::Fail;
 
 const R1: Register = Register::R1;
@@ -19,10 +24,18 @@ const SIZES: [(Size, i16, u64); 4] = [
     (Size::Double, 8, u64::MAX),
 ];
 
-#[test]
-fn the_stack_has_512_bytes(rt: HostRuntime) -> Result<(), Fail> {
-    let alloc = rt.alloc();
+/// The causes against a store of a constant, a store of a register and a load, on a stack of which no byte is set.
+fn stack_refusals(alloc: Global, size: Size, off: i16) -> [Option<Cause>; 3] {
     let note = Note::entry(alloc);
+    [
+        cause(store_five(alloc, &note, size, R10, off)),
+        cause(store(alloc, &note, size, R10, off, R10)),
+        cause(load(alloc, &note, size, R10, off)),
+    ]
+}
+
+#[test]
+fn the_stack_has_512_bytes(rt: HostRuntime) {
     for (size, bytes, _) in SIZES {
         for (off, wanted) in [
             (-bytes, None),
@@ -30,31 +43,33 @@ fn the_stack_has_512_bytes(rt: HostRuntime) -> Result<(), Fail> {
             (-512, None),
             (-513, Some(Cause::Stack)),
         ] {
-            assert_eq!(rt;
-                cause(store_five(alloc, &note, size, R10, off)),
-                wanted,
-                "{off}"
-            );
-            assert_eq!(rt;
-                cause(store(alloc, &note, size, R10, off, R10)),
-                wanted,
-                "{off}"
-            );
-            // no byte is set yet
-            assert_eq!(rt;
-                cause(load(alloc, &note, size, R10, off)),
-                Some(Cause::Stack),
-                "{off}"
+            let refused = stack_refusals(rt.alloc(), size, off);
+            same(
+                &rt,
+                &(size, off),
+                &refused,
+                &[wanted, wanted, Some(Cause::Stack)],
             );
         }
     }
-    Ok(())
+}
+
+/// The stack's bytes from -10 to -7 are set.
+fn four_bytes_set(alloc: Global) -> Result<Note, Cause> {
+    next(store_five(alloc, &Note::entry(alloc), Size::Word, R10, -10))
+}
+
+/// The causes against both kinds of load from the stack.
+fn load_refusals(alloc: Global, note: &Note, size: Size, off: i16) -> [Option<Cause>; 2] {
+    [
+        cause(load(alloc, note, size, R10, off)),
+        cause(load_signed(alloc, note, size, R10, off)),
+    ]
 }
 
 #[test]
 fn a_load_wants_every_byte_set(rt: HostRuntime) -> Result<(), Fail> {
-    let alloc = rt.alloc();
-    let note = next(store_five(alloc, &Note::entry(alloc), Size::Word, R10, -10))?;
+    let note = four_bytes_set(rt.alloc())?;
     for (size, off, wanted) in [
         (Size::Word, -10, None),
         (Size::Half, -9, None),
@@ -65,42 +80,51 @@ fn a_load_wants_every_byte_set(rt: HostRuntime) -> Result<(), Fail> {
         (Size::Word, -9, Some(Cause::Stack)),
         (Size::Double, -10, Some(Cause::Stack)),
     ] {
-        assert_eq!(rt; cause(load(alloc, &note, size, R10, off)), wanted, "{off}");
-        assert_eq!(rt;
-            cause(load_signed(alloc, &note, size, R10, off)),
-            wanted,
-            "{off}"
-        );
+        let refused = load_refusals(rt.alloc(), &note, size, off);
+        same(&rt, &(size, off), &refused, &[wanted, wanted]);
     }
     Ok(())
+}
+
+/// Stack slot 62 keeps the context.
+fn kept_context(alloc: Global) -> Result<Note, Cause> {
+    next(store(alloc, &Note::entry(alloc), Size::Double, R10, -16, R1))
+}
+
+/// What slot 62 keeps after a store of five, and what a load from its first byte on then gives.
+fn kept_and_loaded(
+    alloc: Global,
+    note: &Note,
+    (stored, off): (Size, i16),
+    loaded: Size,
+) -> Option<(Option<Val>, Option<Val>)> {
+    match store_five(alloc, note, stored, R10, off) {
+        Ok(Successors::One(next)) if next.pc == 8 => {
+            let loaded = register_after(load(alloc, &next.note, loaded, R10, -16), 0);
+            Some((next.note.kept(62), loaded))
+        }
+        _ => None,
+    }
 }
 
 #[test]
 fn a_slot_keeps_what_is_stored_to_the_whole_of_it(rt: HostRuntime) -> Result<(), Fail> {
     let alloc = rt.alloc();
-    let whole = next(store(alloc, &Note::entry(alloc), Size::Double, R10, -16, R1))?;
+    let whole = kept_context(alloc)?;
     assert_eq!(rt; whole.kept(62), Some(Val::Ctx));
-    let loaded = next(load(alloc, &whole, Size::Double, R10, -16))?;
-    assert_eq!(rt; loaded.register(0), Val::Ctx);
-    let part = next(load(alloc, &whole, Size::Word, R10, -16))?;
-    assert_eq!(rt;
-        part.register(0),
-        Val::Num {
-            lo: 0,
-            hi: 0xffff_ffff
-        }
-    );
-    let five = next(store_five(alloc, &whole, Size::Double, R10, -16))?;
-    assert_eq!(rt; five.kept(62), Some(exactly(5)));
-    let byte = next(load(alloc, &five, Size::Byte, R10, -16))?;
-    assert_eq!(rt; byte.register(0), Val::Num { lo: 0, hi: 0xff });
+    let loaded = [Size::Double, Size::Word].map(|size| register_after(
+        load(alloc, &whole, size, R10, -16),
+        0,
+    ));
+    assert_eq!(rt; loaded, [Some(Val::Ctx), Some(range(0, 0xffff_ffff))]);
+    let five = kept_and_loaded(alloc, &whole, (Size::Double, -16), Size::Byte);
+    assert_eq!(rt; five, Some((Some(exactly(5)), Some(range(0, 0xff)))));
     Ok(())
 }
 
 #[test]
 fn a_store_to_part_of_a_slot_forgets_it(rt: HostRuntime) -> Result<(), Fail> {
-    let alloc = rt.alloc();
-    let whole = next(store(alloc, &Note::entry(alloc), Size::Double, R10, -16, R1))?;
+    let whole = kept_context(rt.alloc())?;
     for (size, off) in [
         (Size::Byte, -16),
         (Size::Byte, -9),
@@ -109,29 +133,30 @@ fn a_store_to_part_of_a_slot_forgets_it(rt: HostRuntime) -> Result<(), Fail> {
         (Size::Double, -12),
         (Size::Double, -20),
     ] {
-        let note = next(store_five(alloc, &whole, size, R10, off))?;
-        assert_eq!(rt; note.kept(62), None, "{off}");
-        let note = next(load(alloc, &note, Size::Double, R10, -16))?;
-        assert_eq!(rt; note.register(0), Val::FULL, "{off}");
-    }
-    for off in [-24, -8] {
-        let note = next(store_five(alloc, &whole, Size::Double, R10, off))?;
-        assert_eq!(rt; note.kept(62), Some(Val::Ctx), "{off}");
+        let found = kept_and_loaded(rt.alloc(), &whole, (size, off), Size::Double);
+        same(&rt, &(size, off), &found, &Some((None, Some(Val::FULL))));
     }
     Ok(())
 }
 
 #[test]
-fn fields_of_the_context(rt: HostRuntime) -> Result<(), Fail> {
+fn a_store_beside_a_slot_leaves_it(rt: HostRuntime) -> Result<(), Fail> {
+    let whole = kept_context(rt.alloc())?;
+    for off in [-24, -8] {
+        let kept = kept_after(store_five(rt.alloc(), &whole, Size::Double, R10, off), 62);
+        same(&rt, &off, &kept, &Some(Val::Ctx));
+    }
+    Ok(())
+}
+
+#[test]
+fn fields_of_the_context(rt: HostRuntime) {
     let note = Note::entry(rt.alloc());
     let start = Val::Pkt {
         id: PACKET_ID,
         off: 0,
     };
-    let word = Val::Num {
-        lo: 0,
-        hi: 0xffff_ffff,
-    };
+    let word = range(0, 0xffff_ffff);
     for (off, wanted) in [
         (0, start),
         (4, Val::PktEnd),
@@ -139,76 +164,93 @@ fn fields_of_the_context(rt: HostRuntime) -> Result<(), Fail> {
         (12, word),
         (16, word),
     ] {
-        let loaded = next(load(rt.alloc(), &note, Size::Word, R1, off))?;
-        assert_eq!(rt; loaded.register(0), wanted, "{off}");
+        let loaded = register_after(load(rt.alloc(), &note, Size::Word, R1, off), 0);
+        same(&rt, &off, &loaded, &Some(wanted));
     }
-    Ok(())
+}
+
+/// The causes against loads of other sizes from the context, one that extends the sign, and stores to it.
+fn context_refusals(alloc: Global, off: i16) -> [Option<Cause>; 6] {
+    let note = Note::entry(alloc);
+    [
+        cause(load(alloc, &note, Size::Byte, R1, off)),
+        cause(load(alloc, &note, Size::Half, R1, off)),
+        cause(load(alloc, &note, Size::Double, R1, off)),
+        cause(load_signed(alloc, &note, Size::Word, R1, off)),
+        cause(store_five(alloc, &note, Size::Word, R1, off)),
+        cause(store(alloc, &note, Size::Word, R1, off, R10)),
+    ]
 }
 
 #[test]
 fn no_fields_of_the_context(rt: HostRuntime) {
-    let alloc = rt.alloc();
-    let note = Note::entry(alloc);
     let refused = Some(Cause::Context);
+    let note = Note::entry(rt.alloc());
     for off in [-4, 2, 20] {
-        assert_eq!(rt;
-            cause(load(alloc, &note, Size::Word, R1, off)),
-            refused,
-            "{off}"
-        );
+        let word = cause(load(rt.alloc(), &note, Size::Word, R1, off));
+        same(&rt, &off, &word, &refused);
     }
     for off in [0, 4, 12] {
-        for size in [Size::Byte, Size::Half, Size::Double] {
-            assert_eq!(rt; cause(load(alloc, &note, size, R1, off)), refused, "{off}");
-        }
-        assert_eq!(rt;
-            cause(load_signed(alloc, &note, Size::Word, R1, off)),
-            refused,
-            "{off}"
-        );
-        assert_eq!(rt;
-            cause(store_five(alloc, &note, Size::Word, R1, off)),
-            refused,
-            "{off}"
-        );
-        assert_eq!(rt;
-            cause(store(alloc, &note, Size::Word, R1, off, R10)),
-            refused,
-            "{off}"
-        );
+        same(&rt, &off, &context_refusals(rt.alloc(), off), &[refused; 6]);
     }
+}
+
+/// `r2` is an address from which on eight bytes lie in the packet.
+fn eight_bytes(alloc: Global) -> Result<Note, AllocError> {
+    let mut note = Note::entry(alloc);
+    note.set_safe(5, Some(8))?;
+    note.set_register(2, Val::Pkt { id: 5, off: 0 });
+    Ok(note)
+}
+
+/// What a load from `off` on and a signed one of the first bytes give.
+fn packet_loads(alloc: Global, note: &Note, size: Size, off: i16) -> [Option<Val>; 2] {
+    [
+        register_after(load(alloc, note, size, R2, off), 0),
+        register_after(load_signed(alloc, note, size, R2, 0), 0),
+    ]
+}
+
+/// The causes against a store to `off`, and a load that begins before the first byte.
+fn packet_refusals(alloc: Global, note: &Note, size: Size, off: i16) -> [Option<Cause>; 2] {
+    [
+        cause(store_five(alloc, note, size, R2, off)),
+        cause(load(alloc, note, size, R2, -1)),
+    ]
 }
 
 #[test]
 fn loads_from_the_packet(rt: HostRuntime) -> Result<(), Fail> {
-    let alloc = rt.alloc();
-    let mut note = Note::entry(alloc);
-    note.set_safe(5, Some(8))?;
-    note.set_register(2, Val::Pkt { id: 5, off: 0 });
+    let note = eight_bytes(rt.alloc())?;
     for (size, bytes, most) in SIZES {
-        let loaded = next(load(alloc, &note, size, R2, 8 - bytes))?;
-        assert_eq!(rt; loaded.register(0), Val::Num { lo: 0, hi: most });
-        let loaded = next(load_signed(alloc, &note, size, R2, 0))?;
-        assert_eq!(rt; loaded.register(0), Val::FULL);
-        let stored = next(store(alloc, &note, size, R2, 0, R1))?;
-        assert!(rt; stored.same_as(&note));
-        let past = 9 - bytes;
-        assert_eq!(rt;
-            cause(store_five(alloc, &note, size, R2, past)),
-            Some(Cause::Packet)
+        let loaded = packet_loads(rt.alloc(), &note, size, 8 - bytes);
+        same(
+            &rt,
+            &size,
+            &loaded,
+            &[Some(range(0, most)), Some(Val::FULL)],
         );
-        assert_eq!(rt;
-            cause(load(alloc, &note, size, R2, -1)),
-            Some(Cause::Packet)
-        );
+        let is_stored = leads_on(store(rt.alloc(), &note, size, R2, 0, R1), 8, &note);
+        same(&rt, &size, &is_stored, &true);
+        let refused = packet_refusals(rt.alloc(), &note, size, 9 - bytes);
+        same(&rt, &size, &refused, &[Some(Cause::Packet); 2]);
     }
     Ok(())
 }
 
-/// A load and a store of eight bytes through what is no address of bytes.
+/// The causes against a load and two stores of eight bytes through a value.
+fn refusals_through(alloc: Global, value: Val) -> [Option<Cause>; 3] {
+    let mut note = Note::entry(alloc);
+    note.set_register(2, value);
+    [
+        cause(load(alloc, &note, Size::Double, R2, 0)),
+        cause(store(alloc, &note, Size::Double, R2, 0, R1)),
+        cause(store_five(alloc, &note, Size::Double, R2, 0)),
+    ]
+}
+
 #[test]
 fn no_bytes_to_reach(rt: HostRuntime) {
-    let alloc = rt.alloc();
     for (value, load_cause, store_cause) in [
         (Val::Unset, Cause::Unset, Cause::Unset),
         (exactly(0), Cause::NoPointer, Cause::NoPointer),
@@ -222,36 +264,22 @@ fn no_bytes_to_reach(rt: HostRuntime) {
         (Val::Value { m: 0 }, Cause::MapAccess, Cause::MapAccess),
         (Val::Ctx, Cause::Context, Cause::Context),
     ] {
-        let mut note = Note::entry(alloc);
-        note.set_register(2, value);
-        assert_eq!(rt;
-            cause(load(alloc, &note, Size::Double, R2, 0)),
-            Some(load_cause),
-            "{value:?}"
-        );
-        assert_eq!(rt;
-            cause(store(alloc, &note, Size::Double, R2, 0, R1)),
-            Some(store_cause),
-            "{value:?}"
-        );
-        assert_eq!(rt;
-            cause(store_five(alloc, &note, Size::Double, R2, 0)),
-            Some(store_cause),
-            "{value:?}"
-        );
+        let refused = refusals_through(rt.alloc(), value);
+        let wanted = [Some(load_cause), Some(store_cause), Some(store_cause)];
+        same(&rt, &value, &refused, &wanted);
     }
 }
 
 /// A constant of eight bytes is stored with its sign.
 #[test]
-fn a_stored_constant_has_64_bits(rt: HostRuntime) -> Result<(), Fail> {
+fn a_stored_constant_has_64_bits(rt: HostRuntime) {
     let insn = Insn::St {
         size: Size::Double,
         dst: R10,
         off: -8,
         imm: -1,
     };
-    let note = next(after(rt.alloc(), &insn, 7, &Note::entry(rt.alloc()), &[]))?;
-    assert_eq!(rt; note.kept(63), Some(exactly(u64::MAX)));
-    Ok(())
+    let note = Note::entry(rt.alloc());
+    let kept = kept_after(after(rt.alloc(), &insn, 7, &note, &[]), 63);
+    assert_eq!(rt; kept, Some(exactly(u64::MAX)));
 }

@@ -1,5 +1,6 @@
 //! Registers that are read and written, and slots that follow.
 
+use super::same;
 use bpf_flow::{jump_target, next_slot, reads, writes};
 use bpf_insn::{AluOp, Insn, Operand, Register};
 
@@ -11,6 +12,15 @@ fn alu(op: AluOp) -> Insn {
         dst: Register::R2,
         src: Operand::Register(Register::R3),
     }
+}
+
+/// Whether an instruction reads `r0`, `r2` and `r3`, and whether it writes them.
+fn used(insn: Insn) -> ([bool; 3], [bool; 3]) {
+    let (r0, r2, r3) = (Register::R0, Register::R2, Register::R3);
+    (
+        [reads(insn, r0), reads(insn, r2), reads(insn, r3)],
+        [writes(insn, r0), writes(insn, r2), writes(insn, r3)],
+    )
 }
 
 #[test]
@@ -33,28 +43,30 @@ fn registers_of_instructions(rt: HostRuntime) {
         ),
         (Insn::Exit, [true, false, false], [false, false, false]),
     ] {
-        for (at, register) in [Register::R0, Register::R2, Register::R3]
-            .iter()
-            .enumerate()
-        {
-            assert_eq!(rt; Some(&reads(insn, *register)), read.get(at), "{insn:?}");
-            assert_eq!(rt; Some(&writes(insn, *register)), written.get(at), "{insn:?}");
-        }
+        same(&rt, &insn, &used(insn), &(read, written));
     }
 }
 
 #[test]
 fn slots_that_follow(rt: HostRuntime) {
     let dst = Register::R2;
-    assert_eq!(rt; next_slot(Insn::Exit, 7), 8);
-    assert_eq!(rt; next_slot(Insn::Const { dst, value: 0 }, 7), 9);
-    assert_eq!(rt; next_slot(Insn::MapRef { dst, m: 0 }, 7), 9);
+    for (insn, wanted) in [
+        (Insn::Exit, 8),
+        (Insn::Const { dst, value: 0 }, 9),
+        (Insn::MapRef { dst, m: 0 }, 9),
+    ] {
+        same(&rt, &insn, &next_slot(insn, 7), &wanted);
+    }
+}
+
+#[test]
+fn slots_that_a_jump_leads_to(rt: HostRuntime) {
     for (pc, off, wanted) in [
         (7, 2, Some(10)),
         (7, -3, Some(5)),
         (0, -1, Some(0)),
         (0, -2, None),
     ] {
-        assert_eq!(rt; jump_target(pc, off), wanted);
+        same(&rt, &(pc, off), &jump_target(pc, off), &wanted);
     }
 }
