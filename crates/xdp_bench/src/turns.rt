@@ -24,6 +24,14 @@ fn timed(turn: Turn<'_>, packets: u32) -> Result<(), Fault> {
     }
 }
 
+/// So many batches of turns, with the time that they took. One batch alone is too short to be timed.
+fn batches(times: u32, nanoseconds: u64) -> Timed {
+    Timed {
+        done: times.saturating_mul(BATCH),
+        nanoseconds: (times > 1).then_some(nanoseconds),
+    }
+}
+
 /// Times so many turns, of a packet of so many bytes each; of 0 bytes no packet is published. Filling the pages isn't timed.
 pub fn time(rt: &HostRuntime, size: usize, times: u32, program: &[u8]) -> Result<Timed, Fault> {
     let program = accepted(rt.alloc(), program)?;
@@ -63,8 +71,5 @@ pub fn time(rt: &HostRuntime, size: usize, times: u32, program: &[u8]) -> Result
         }
         nanoseconds = nanoseconds.saturating_add(since(rt, &start)?);
     }
-    Ok(Timed {
-        done: times.saturating_mul(BATCH),
-        nanoseconds: if times > 1 { Some(nanoseconds) } else { None },
-    })
+    Ok(batches(times, nanoseconds))
 }

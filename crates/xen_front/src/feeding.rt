@@ -11,6 +11,7 @@ ghost use Rattle.xen_front.specs.Given.{Shows, given};
 ghost use Rattle.xen_front.specs.Rest.{HasSpace, busy_in, rest_at};
 ghost use Rattle.xen_front.specs.Slots.{ended, outstanding};
 ghost use Rattle.xen_front.specs.Tree.{take_all};
+ghost use Rattle.xen_front.specs.declared.phase.Phase.TheVariants as phases;
 ghost use Rattle.xen_ring.specs.Layout.{rsp_event};
 ghost use Rattle.xen_steps.specs.Answers.{Fits};
 ghost use Rattle.xen_steps.specs.Drive.{IsPageWant};
@@ -19,7 +20,7 @@ ghost use Rattle.xen_steps.specs.Steps.{done, next_by, want_of};
 
 use crate::front::Front;
 use crate::packet::Packet;
-use crate::phase::Phase;
+use crate::phase::{Chained, Phase};
 use crate::posting::{event_read, post_first, post_flags, post_frame, post_second, posted};
 use crate::receiving::{grant_ended, page_read, response_read, rx_first_looked, rx_looked};
 use crate::sending::{
@@ -117,6 +118,13 @@ fn taken(
     }
 }
 
+/// After a response's first word.
+fn response_begun(chained: Chained, first: u32) -> Phase
+    ensures { result ≡ phases.RxSecond chained first }
+{
+    Phase::RxSecond { chained, first }
+}
+
 /// The phase after an answer.
 fn phase_fed(
     wiring: &Wiring,
@@ -163,10 +171,7 @@ fn phase_fed(
             let shown = shown(&state.rx, word);
             rx_looked(wiring, state, sent, received, shown)
         }
-        Phase::RxFirst(chained) => Phase::RxSecond {
-            chained,
-            first: word,
-        },
+        Phase::RxFirst(chained) => response_begun(chained, word),
         Phase::RxSecond { chained, first } => response_read(
             wiring, state, sent, received, chained, first, word,
         ),
