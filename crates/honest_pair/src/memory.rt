@@ -131,7 +131,7 @@ impl Memory {
         }
     }
 
-    /// Whether the back's port was pending. It isn't any more.
+    /// Whether the back's port was pending, which it is no longer.
     pub fn take(&mut self) -> bool
         ensures was { result ≡ (memory_in self.old).pending }
         ensures now { memory_in self.new ≡ record (memory_in self.old) { pending = false } }

@@ -73,7 +73,7 @@ impl Layout {
         first_reference(queue) + 2 + BUFFERS
     }
 
-    /// The port by which a queue's front is told.
+    /// The port on which a queue's front gets its notices.
     pub fn front_port(queue: usize) -> Port
         requires { queue < 8 }
         ensures { result ≡ 2 * queue }
@@ -81,7 +81,7 @@ impl Layout {
         port(2 * queue as u32)
     }
 
-    /// The port by which a queue's back is told.
+    /// The port on which a queue's back gets its notices.
     pub fn back_port(queue: usize) -> Port
         requires { queue < 8 }
         ensures { result ≡ 2 * queue + 1 }

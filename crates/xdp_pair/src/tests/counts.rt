@@ -1,4 +1,4 @@
-//! What a row counts, what a gate is told, and which ports are set: each test's gate fixes what a turn finds.
+//! What a row counts, what a gate hears, and which ports are set: each test's gate fixes what a turn finds.
 
 use super::fixtures::{SENDS_BACK, TURNS, packets, program, setup};
 use crate::gate::Gate;
