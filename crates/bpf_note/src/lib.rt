@@ -15,8 +15,6 @@ mod shape;
 mod shared;
 mod slot;
 mod slots;
-#[cfg(test)]
-mod tests;
 mod val;
 
 pub use joins::{covers, join, join_in_place};

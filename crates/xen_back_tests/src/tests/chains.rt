@@ -1,6 +1,6 @@
 //! Turns that end with what their slots say.
 
-use super::fixtures::{PASSES, read, turn, write, writes_to};
+use super::fixtures::{PASSES, joined, kind, read, turn, write};
 use super::kind::Kind;
 use super::slots::{STARTS, slot, tx};
 use std::alloc::Global;
@@ -17,6 +17,7 @@ fn refused(start: u32) -> [xen_page::Access; 3] {
     ]
 }
 
+/// How many accesses a turn makes that halts, with no notice.
 fn halts(alloc: Global, start: u32, answers: &[u32], cause: Halt) -> Result<usize, Fail> {
     let seen = turn(alloc, &PASSES, start, answers)?;
     if seen.kind == (Kind::Halted { cause }) && !seen.notified {
@@ -29,14 +30,13 @@ fn halts(alloc: Global, start: u32, answers: &[u32], cause: Halt) -> Result<usiz
 #[test]
 fn nothing_shown_is_idle_after_a_second_look(rt: HostRuntime) -> Result<(), Fail> {
     for start in STARTS {
-        let seen = turn(rt.alloc(), &PASSES, start, &[start, start])?;
-        assert_eq!(rt; seen.kind, Kind::Idle);
         let accesses = [
             read(17, 0, start),
             write(17, 1, start.wrapping_add(1)),
             read(17, 0, start),
         ];
-        assert_eq!(rt; seen.accesses.as_slice(), accesses.as_slice());
+        let seen = turn(rt.alloc(), &PASSES, start, &[start, start])?;
+        assert!(rt; seen.kind == Kind::Idle && seen.made(&accesses));
     }
     Ok(())
 }
@@ -47,16 +47,7 @@ fn a_packet_that_the_second_look_shows_is_taken(rt: HostRuntime) -> Result<(), F
         let one = start.wrapping_add(1);
         let answers = [start, one, 2, 0, slot(7, 14), 1, 19, 0, 0, 0, 0, one];
         let seen = turn(rt.alloc(), &PASSES, start, &answers)?;
-        assert_eq!(rt;
-            seen.kind,
-            Kind::Ran {
-                number: 2,
-                ops: 0,
-                slots: 1
-            }
-        );
-        assert_eq!(rt; seen.packet.as_slice(), [0; 14].as_slice());
-        assert!(rt; seen.notified);
+        assert!(rt; seen.shows(Kind::ran(2, 1), &[0; 14]) && seen.notified);
     }
     Ok(())
 }
@@ -65,11 +56,9 @@ fn a_packet_that_the_second_look_shows_is_taken(rt: HostRuntime) -> Result<(), F
 fn a_producer_past_the_ring_halts(rt: HostRuntime) -> Result<(), Fail> {
     for start in STARTS {
         let beyond = start.wrapping_add(257);
-        assert_eq!(rt; halts(rt.alloc(), start, &[beyond], Halt::TxProducer)?, 1);
-        assert_eq!(rt;
-            halts(rt.alloc(), start, &[start, beyond], Halt::TxProducer)?,
-            3
-        );
+        let first = halts(rt.alloc(), start, &[beyond], Halt::TxProducer)?;
+        let second = halts(rt.alloc(), start, &[start, beyond], Halt::TxProducer)?;
+        assert_eq!(rt; (first, second), (1, 3));
     }
     Ok(())
 }
@@ -78,15 +67,8 @@ fn a_producer_past_the_ring_halts(rt: HostRuntime) -> Result<(), Fail> {
 fn a_full_ring_goes_on(rt: HostRuntime) -> Result<(), Fail> {
     for start in STARTS {
         let answers = [start.wrapping_add(256), 2, 0, slot(7, 14), 1, 19];
-        let seen = turn(rt.alloc(), &PASSES, start, &answers)?;
-        assert_eq!(rt;
-            seen.kind,
-            Kind::Ran {
-                number: 2,
-                ops: 0,
-                slots: 1
-            }
-        );
+        let kind = kind(rt.alloc(), &PASSES, start, &answers)?;
+        assert_eq!(rt; kind, Kind::ran(2, 1));
     }
     Ok(())
 }
@@ -100,15 +82,25 @@ fn a_chain_past_the_producer_halts(rt: HostRuntime) -> Result<(), Fail> {
     Ok(())
 }
 
+/// Words of a first slot that announces more, and so often those of a later one.
+fn halts_after(
+    alloc: Global,
+    start: u32,
+    first: &[u32],
+    (later, times): ([u32; 3], u32),
+    cause: ChainFault,
+) -> Result<usize, Fail> {
+    let answers = joined(alloc, first, &later, times, &[])?;
+    halts(alloc, start, answers.as_slice(), Halt::Chain(cause))
+}
+
 #[test]
 fn a_nineteenth_data_slot_halts(rt: HostRuntime) -> Result<(), Fail> {
     for start in STARTS {
-        let mut answers = vec![in rt.alloc(); start.wrapping_add(30)]?;
-        for _slot in 0..18 {
-            answers.extend_from_slice(&[2, 0x4_0000, slot(7, 100)])?;
-        }
-        let cause = Halt::Chain(ChainFault::TooManySlots);
-        assert_eq!(rt; halts(rt.alloc(), start, answers.as_slice(), cause)?, 55);
+        let slots = ([2, 0x4_0000, slot(7, 100)], 18);
+        let shown = [start.wrapping_add(30)];
+        let accesses = halts_after(rt.alloc(), start, &shown, slots, ChainFault::TooManySlots)?;
+        assert_eq!(rt; accesses, 55);
     }
     Ok(())
 }
@@ -117,16 +109,13 @@ fn a_nineteenth_data_slot_halts(rt: HostRuntime) -> Result<(), Fail> {
 fn extras_that_break_the_chain_halt(rt: HostRuntime) -> Result<(), Fail> {
     for start in STARTS {
         let first = [start.wrapping_add(30), 2, 0x8_0000, slot(7, 100)];
-        let mut unknown = Vec::from_slice(rt.alloc(), &first)?;
-        unknown.extend_from_slice(&[6, 0, 0])?;
-        let cause = Halt::Chain(ChainFault::UnknownExtra);
-        assert_eq!(rt; halts(rt.alloc(), start, unknown.as_slice(), cause)?, 7);
-        let mut many = Vec::from_slice(rt.alloc(), &first)?;
-        for _extra in 0..5 {
-            many.extend_from_slice(&[0x101, 0, 0])?;
+        for (extras, cause, wanted) in [
+            (([6, 0, 0], 1), ChainFault::UnknownExtra, 7),
+            (([0x101, 0, 0], 5), ChainFault::TooManyExtras, 19),
+        ] {
+            let accesses = halts_after(rt.alloc(), start, &first, extras, cause)?;
+            assert_eq!(rt; accesses, wanted);
         }
-        let cause = Halt::Chain(ChainFault::TooManyExtras);
-        assert_eq!(rt; halts(rt.alloc(), start, many.as_slice(), cause)?, 19);
     }
     Ok(())
 }
@@ -144,15 +133,6 @@ fn an_offload_is_refused(rt: HostRuntime) -> Result<(), Fail> {
             0,
             start,
         ];
-        let seen = turn(rt.alloc(), &PASSES, start, &answers)?;
-        assert_eq!(rt;
-            seen.kind,
-            Kind::Refused {
-                cause: Refusal::Size(SizeFault::ExtraInfo),
-                ops: 0,
-                slots: 2
-            }
-        );
         let accesses = [
             read(17, 0, start.wrapping_add(2)),
             read(17, tx(start, 0, 0), 2),
@@ -166,8 +146,9 @@ fn an_offload_is_refused(rt: HostRuntime) -> Result<(), Fail> {
             write(17, 2, start.wrapping_add(2)),
             read(17, 3, start),
         ];
-        assert_eq!(rt; seen.accesses.as_slice(), accesses.as_slice());
-        assert!(rt; !seen.notified);
+        let seen = turn(rt.alloc(), &PASSES, start, &answers)?;
+        let kind = Kind::refused(Refusal::Size(SizeFault::ExtraInfo), 2);
+        assert!(rt; seen.kind == kind && seen.made(&accesses) && !seen.notified);
     }
     Ok(())
 }
@@ -176,14 +157,10 @@ fn an_offload_is_refused(rt: HostRuntime) -> Result<(), Fail> {
 fn a_packet_below_fourteen_bytes_is_refused(rt: HostRuntime) -> Result<(), Fail> {
     for start in STARTS {
         let answers = [start.wrapping_add(1), 2, 0, slot(7, 13)];
-        let seen = turn(rt.alloc(), &PASSES, start, &answers)?;
+        let kind = kind(rt.alloc(), &PASSES, start, &answers)?;
         assert_eq!(rt;
-            seen.kind,
-            Kind::Refused {
-                cause: Refusal::Size(SizeFault::ShortPacket),
-                ops: 0,
-                slots: 1
-            }
+            kind,
+            Kind::refused(Refusal::Size(SizeFault::ShortPacket), 1)
         );
     }
     Ok(())
@@ -196,15 +173,8 @@ fn a_refusal_is_told_where_a_notice_is_due(rt: HostRuntime) -> Result<(), Fail> 
         for (event, notified) in [(one, true), (start, false)] {
             let answers = [one, 2, 0, slot(7, 13), event];
             let seen = turn(rt.alloc(), &PASSES, start, &answers)?;
-            assert_eq!(rt;
-                seen.kind,
-                Kind::Refused {
-                    cause: Refusal::Size(SizeFault::ShortPacket),
-                    ops: 0,
-                    slots: 1
-                }
-            );
-            assert_eq!(rt; seen.notified, notified);
+            let kind = Kind::refused(Refusal::Size(SizeFault::ShortPacket), 1);
+            assert!(rt; seen.kind == kind && seen.notified == notified);
         }
     }
     Ok(())
@@ -223,16 +193,8 @@ fn later_sizes_past_the_packet_are_refused(rt: HostRuntime) -> Result<(), Fail> 
             slot(8, 101),
         ];
         let seen = turn(rt.alloc(), &PASSES, start, &answers)?;
-        assert_eq!(rt;
-            seen.kind,
-            Kind::Refused {
-                cause: Refusal::Size(SizeFault::LaterSizes),
-                ops: 0,
-                slots: 2
-            }
-        );
-        let writes = writes_to(rt.alloc(), seen.accesses.as_slice(), 17)?;
-        assert_eq!(rt; writes.as_slice(), refused(start).as_slice());
+        let kind = Kind::refused(Refusal::Size(SizeFault::LaterSizes), 2);
+        assert!(rt; seen.kind == kind && seen.wrote(17, &refused(start)));
     }
     Ok(())
 }
@@ -241,42 +203,35 @@ fn later_sizes_past_the_packet_are_refused(rt: HostRuntime) -> Result<(), Fail> 
 fn a_fragment_past_its_page_is_refused(rt: HostRuntime) -> Result<(), Fail> {
     for start in STARTS {
         let answers = [start.wrapping_add(1), 2, 4083, slot(7, 14)];
-        let seen = turn(rt.alloc(), &PASSES, start, &answers)?;
-        assert_eq!(rt;
-            seen.kind,
-            Kind::Refused {
-                cause: Refusal::Size(SizeFault::PastPage),
-                ops: 0,
-                slots: 1
-            }
-        );
+        let kind = kind(rt.alloc(), &PASSES, start, &answers)?;
+        assert_eq!(rt; kind, Kind::refused(Refusal::Size(SizeFault::PastPage), 1));
     }
     Ok(())
 }
 
 #[test]
-fn causes_have_their_numbers(rt: HostRuntime) {
-    let halts = [
-        Halt::TxProducer,
-        Halt::ShortChain,
-        Halt::Chain(ChainFault::TooManySlots),
-        Halt::Chain(ChainFault::UnknownExtra),
-        Halt::Chain(ChainFault::TooManyExtras),
-        Halt::RxProducer,
+fn halts_have_their_numbers(rt: HostRuntime) {
+    let numbers = [
+        Halt::TxProducer.number(),
+        Halt::ShortChain.number(),
+        Halt::Chain(ChainFault::TooManySlots).number(),
+        Halt::Chain(ChainFault::UnknownExtra).number(),
+        Halt::Chain(ChainFault::TooManyExtras).number(),
+        Halt::RxProducer.number(),
     ];
-    for (halt, number) in halts.iter().zip([1, 2, 3, 4, 5, 6]) {
-        assert_eq!(rt; halt.number(), number);
-    }
-    let refusals = [
-        Refusal::Size(SizeFault::ShortPacket),
-        Refusal::Size(SizeFault::LaterSizes),
-        Refusal::Size(SizeFault::PastPage),
-        Refusal::Grant,
-        Refusal::Size(SizeFault::ExtraInfo),
-        Refusal::FewSlots,
-        Refusal::RxGrant,
+    assert_eq!(rt; numbers, [1, 2, 3, 4, 5, 6]);
+}
+
+#[test]
+fn refusals_have_their_numbers(rt: HostRuntime) {
+    let numbers = [
+        Refusal::Size(SizeFault::ShortPacket).number(),
+        Refusal::Size(SizeFault::LaterSizes).number(),
+        Refusal::Size(SizeFault::PastPage).number(),
+        Refusal::Grant.number(),
+        Refusal::Size(SizeFault::ExtraInfo).number(),
+        Refusal::FewSlots.number(),
+        Refusal::RxGrant.number(),
     ];
-    for (refusal, number) in refusals.iter().zip([1, 2, 3, 4, 5, 6, 7]) {
-        assert_eq!(rt; refusal.number(), number);
-    }
+    assert_eq!(rt; numbers, [1, 2, 3, 4, 5, 6, 7]);
 }

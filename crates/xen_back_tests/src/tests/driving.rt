@@ -10,7 +10,7 @@ use crate::bench::{Bench, FRAMES, seated};
 use bpf_vm::Buffer;
 use std::alloc::Global;
 use std::test::Fail;
-use xen_back::{Halt, Queue, Turn, Want};
+use xen_back::{Halt, Queue, Want};
 use xen_page::{Bus, Frames, PageBus, Place, Recorder, ScriptBus};
 use xen_ring::{Port, Ports};
 
@@ -67,16 +67,46 @@ fn turn_over_pages(alloc: Global, queue: &mut Queue) -> Result<(Seen, Vec<u32>),
     Ok((seen, answers))
 }
 
+/// Whether a new queue's turn over pages is the turn of the answers that it found, of a packet of 14 bytes.
+fn is_its_answers_turn(alloc: Global, queue: &mut Queue) -> Result<bool, Fail>
+    requires ready { IsReady queue.old }
+    requires owners { length (wiring_of queue.old).vif.owners.now ≡ 20 }
+    requires program { (wiring_of queue.old).program.now.shapes ≡ [] }
+{
+    let (seen, answers) = turn_over_pages(alloc, queue)?;
+    let replayed = turn_by_driver(alloc, &PASSES, &[], 0, answers.as_slice())?;
+    Ok(replayed == seen && seen.packet.len() == 14)
+}
+
 #[test]
 fn a_turn_over_pages_is_the_turn_of_its_answers(rt: HostRuntime) -> Result<(), Fail> {
     let bench = Bench::make(rt.alloc(), &PASSES, &[])?;
     let mut buffer = Buffer::make(rt.alloc())?;
     let mut queue = bench.queue(rt.alloc(), 0, &mut buffer)?;
-    let (seen, answers) = turn_over_pages(rt.alloc(), &mut queue)?;
-    let replayed = turn_by_driver(rt.alloc(), &PASSES, &[], 0, answers.as_slice())?;
-    assert_eq!(rt; replayed, seen);
-    assert_eq!(rt; seen.packet.len(), 14);
+    assert!(rt; is_its_answers_turn(rt.alloc(), &mut queue)?);
     Ok(())
+}
+
+/// What two turns over a script come to, the accesses of both, and whether a notice was sent by the first one and by the
+/// second one.
+fn driven_twice(
+    alloc: Global,
+    queue: &mut Queue,
+    answers: &[u32],
+) -> Result<([Kind; 2], usize, [bool; 2]), Fail>
+    requires ready { IsReady queue.old }
+    requires owners { length (wiring_of queue.old).vif.owners.now ≡ 20 }
+    requires program { (wiring_of queue.old).program.now.shapes ≡ [] }
+{
+    let port = Port::of(1).ok_or("no port")?;
+    let (counters, mut seat) = seated(alloc, &[])?;
+    let mut bus = ScriptBus::make(alloc, FRAMES, answers, 100)?;
+    let ports = Ports::new();
+    let first = kind_of(&queue.drive_turn(&mut bus, &counters, &mut seat, &ports));
+    let told_first = ports.take(port);
+    let second = kind_of(&queue.drive_turn(&mut bus, &counters, &mut seat, &ports));
+    let told = [told_first, ports.take(port)];
+    Ok(([first, second], bus.accesses().len(), told))
 }
 
 #[test]
@@ -84,18 +114,28 @@ fn a_halted_queue_makes_no_more_accesses(rt: HostRuntime) -> Result<(), Fail> {
     let bench = Bench::make(rt.alloc(), &PASSES, &[])?;
     let mut buffer = Buffer::make(rt.alloc())?;
     let mut queue = bench.queue(rt.alloc(), 0, &mut buffer)?;
-    let (counters, mut seat) = seated(rt.alloc(), &[])?;
-    let mut bus = ScriptBus::make(rt.alloc(), FRAMES, &[257], 100)?;
-    let ports = Ports::new();
-    let halted = Turn::Halted {
+    let halted = Kind::Halted {
         cause: Halt::TxProducer,
     };
-    let turn = queue.drive_turn(&mut bus, &counters, &mut seat, &ports);
-    assert_eq!(rt; turn, halted);
-    let turn = queue.drive_turn(&mut bus, &counters, &mut seat, &ports);
-    assert_eq!(rt; turn, halted);
-    assert_eq!(rt; bus.accesses().len(), 1);
+    let seen = driven_twice(rt.alloc(), &mut queue, &[257])?;
+    assert_eq!(rt; seen, ([halted, halted], 1, [false, false]));
     Ok(())
+}
+
+/// What a turn over a script comes to, and whether a notice was sent before it, by it and after it.
+fn notices(alloc: Global, queue: &mut Queue, answers: &[u32]) -> Result<(Kind, [bool; 3]), Fail>
+    requires ready { IsReady queue.old }
+    requires owners { length (wiring_of queue.old).vif.owners.now ≡ 20 }
+    requires program { (wiring_of queue.old).program.now.shapes ≡ [] }
+{
+    let port = Port::of(1).ok_or("no port")?;
+    let (counters, mut seat) = seated(alloc, &[])?;
+    let mut bus = ScriptBus::make(alloc, FRAMES, answers, 100)?;
+    let ports = Ports::new();
+    let before = ports.take(port);
+    let kind = kind_of(&queue.drive_turn(&mut bus, &counters, &mut seat, &ports));
+    let by_turn = ports.take(port);
+    Ok((kind, [before, by_turn, ports.take(port)]))
 }
 
 #[test]
@@ -103,7 +143,6 @@ fn a_due_notice_sets_the_port(rt: HostRuntime) -> Result<(), Fail> {
     let bench = Bench::make(rt.alloc(), &PASSES, &[])?;
     let mut buffer = Buffer::make(rt.alloc())?;
     let mut queue = bench.queue(rt.alloc(), 0, &mut buffer)?;
-    let (counters, mut seat) = seated(rt.alloc(), &[])?;
     let answers = [
         1,
         2,
@@ -117,21 +156,8 @@ fn a_due_notice_sets_the_port(rt: HostRuntime) -> Result<(), Fail> {
         252_579_084,
         1,
     ];
-    let mut bus = ScriptBus::make(rt.alloc(), FRAMES, &answers, 100)?;
-    let ports = Ports::new();
-    let port = Port::of(1).ok_or("no port")?;
-    assert!(rt; !ports.take(port));
-    let turn = queue.drive_turn(&mut bus, &counters, &mut seat, &ports);
-    assert_eq!(rt;
-        kind_of(&turn),
-        Kind::Ran {
-            number: 2,
-            ops: 0,
-            slots: 1
-        }
-    );
-    assert!(rt; ports.take(port));
-    assert!(rt; !ports.take(port));
+    let seen = notices(rt.alloc(), &mut queue, &answers)?;
+    assert_eq!(rt; seen, (Kind::ran(2, 1), [false, true, false]));
     Ok(())
 }
 
@@ -142,7 +168,7 @@ fn a_closed_queue_hands_its_rings_back(rt: HostRuntime) -> Result<(), Fail> {
     let mut queue = bench.queue(rt.alloc(), 0, &mut buffer)?;
     feed_turn(rt.alloc(), &mut queue, &[0, 0])?;
     assert!(rt; queue.want() == Want::Done);
-    assert_eq!(rt; queue.turn(), Turn::Idle);
+    assert!(rt; kind_of(&queue.turn()) == Kind::Idle);
     let (tx, rx) = queue.close();
     assert_eq!(rt; (tx.frame(), rx.frame()), (17, 18));
     Ok(())

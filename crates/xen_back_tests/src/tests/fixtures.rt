@@ -1,13 +1,14 @@
 //! A queue whose frontend answers from a list.
 
-ghost use Rattle.std.specs.Prelude.{◌≡◌, ◌≤◌, length};
+ghost use Rattle.std.specs.Prelude.{◌≡◌, ◌≤◌, length, IfSome, IfNone};
 ghost use Rattle.xen_back.specs.Queues.{IsReady, wiring_of};
+ghost use Rattle.xen_steps.specs.Answers.{Fits};
 
 use super::kind::{Kind, kind_of};
 use crate::bench::{Bench, FRAMES, seated};
 use bpf_note::MapShape;
 use bpf_vm::Buffer;
-use std::alloc::Global;
+use std::alloc::{AllocError, Global};
 use std::test::Fail;
 use xen_back::{Answer, Queue, Turn, Want};
 use xen_page::{Access, Place, ScriptBus};
@@ -42,11 +43,80 @@ pub fn write(frame: u32, word: u32, value: u32) -> Access {
     }
 }
 
+impl Seen {
+    /// Whether these are the turn's writes to a frame, in order.
+    pub fn wrote(&self, frame: u32, wanted: &[Access]) -> bool {
+        wrote(self.accesses.as_slice(), frame, wanted)
+    }
+
+    /// How often the turn wrote to a frame.
+    pub fn writes(&self, frame: u32) -> usize {
+        let mut writes: usize = 0;
+        for access in self.accesses.as_slice() {
+            if written_frame(access) == Some(frame) {
+                writes = writes.saturating_add(1);
+            }
+        }
+        writes
+    }
+
+    /// Whether it came to this end, with this packet.
+    pub fn shows(&self, kind: Kind, packet: &[u8]) -> bool {
+        self.kind == kind && self.packet.as_slice() == packet
+    }
+
+    /// Whether these are all of the turn's accesses.
+    pub fn made(&self, accesses: &[Access]) -> bool {
+        self.accesses.as_slice() == accesses
+    }
+}
+
+/// The frame that an access writes to.
+fn written_frame(access: &Access) -> Option<u32> {
+    match access {
+        Access::Write { at, .. } => Some(at.frame),
+        _ => None,
+    }
+}
+
+/// Whether these are the writes to a frame, in order.
+pub fn wrote(accesses: &[Access], frame: u32, wanted: &[Access]) -> bool {
+    let mut left = wanted.iter();
+    for access in accesses {
+        if written_frame(access) == Some(frame) && left.next() != Some(access) {
+            return false;
+        }
+    }
+    left.next().is_none()
+}
+
 /// The packet that a turn shows.
 pub fn packet_of(alloc: Global, turn: &Turn) -> Result<Vec<u8>, Fail> {
     match turn {
         Turn::Ran { packet, .. } => Ok(Vec::from_slice(alloc, packet)?),
         _ => Ok(Vec::new(alloc)),
+    }
+}
+
+/// The answer to a want: this word to a read, and 0 for a counter. None where the turn is over.
+pub fn answer_to(want: Want, word: u32) -> Option<Answer>
+    ensures fits { IfSome result (Fits want) }
+    ensures over { IfNone result (want ≡ Want.Done) }
+{
+    match want {
+        Want::Read(_) => Some(Answer::Word(word)),
+        Want::Write(..) | Want::Instr | Want::Notify(_) => Some(Answer::Went),
+        Want::Load { .. } | Want::Add { .. } => Some(Answer::Counter(0)),
+        Want::Done => None,
+    }
+}
+
+/// The access that is wanted, of which a read gives this word.
+fn access_to(want: Want, answer: u32) -> Option<Access> {
+    match want {
+        Want::Read(at) => Some(Access::Read { at, answer }),
+        Want::Write(at, value) => Some(Access::Write { at, value }),
+        _ => None,
     }
 }
 
@@ -60,26 +130,45 @@ pub fn feed_turn(
     let mut given = answers.iter();
     let mut notified = false;
     for _event in 0..100_000u32 {
-        match queue.wanted() {
-            Want::Read(at) => {
-                let answer = given.next().copied().unwrap_or(0);
-                accesses.push(Access::Read { at, answer })?;
-                queue.feed(Answer::Word(answer));
-            }
-            Want::Write(at, value) => {
-                accesses.push(Access::Write { at, value })?;
-                queue.feed(Answer::Went);
-            }
-            Want::Instr => queue.feed(Answer::Went),
-            Want::Load { .. } | Want::Add { .. } => queue.feed(Answer::Counter(0)),
-            Want::Notify(_) => {
-                notified = true;
-                queue.feed(Answer::Went);
-            }
-            Want::Done => return Ok((accesses, notified)),
+        let want = queue.wanted();
+        let word = match want {
+            Want::Read(_) => given.next().copied().unwrap_or(0),
+            _ => 0,
+        };
+        let Some(answer) = answer_to(want, word) else {
+            return Ok((accesses, notified));
+        };
+        if let Some(access) = access_to(want, word) {
+            accesses.push(access)?;
         }
+        notified |= matches!(want, Want::Notify(_));
+        queue.feed(answer);
     }
     Err("no end".into())
+}
+
+/// Whether a notice was sent to the queue's port.
+fn is_notified(ports: &Ports) -> bool {
+    match Port::of(1) {
+        Some(port) => ports.take(port),
+        None => false,
+    }
+}
+
+/// A turn, with its accesses and its notice.
+fn with_packet(
+    alloc: Global,
+    turn: &Turn,
+    accesses: Vec<Access>,
+    notified: bool,
+) -> Result<Seen, Fail> {
+    let packet = packet_of(alloc, turn)?;
+    Ok(Seen {
+        kind: kind_of(turn),
+        packet,
+        accesses,
+        notified,
+    })
 }
 
 /// A turn, with the accesses of its bus and its notice.
@@ -89,16 +178,21 @@ pub fn seen_of(
     accesses: &[Access],
     ports: &Ports,
 ) -> Result<Seen, Fail> {
-    let port = Port::of(1).ok_or("no port")?;
-    Ok(Seen {
-        kind: kind_of(turn),
-        packet: packet_of(alloc, turn)?,
-        accesses: Vec::from_slice(alloc, accesses)?,
-        notified: ports.take(port),
-    })
+    let accesses = Vec::from_slice(alloc, accesses)?;
+    with_packet(alloc, turn, accesses, is_notified(ports))
 }
 
-/// A turn by `want` and `feed`.
+/// A turn by `want` and `feed`, of which the counters are 0.
+pub fn fed(alloc: Global, queue: &mut Queue, answers: &[u32]) -> Result<Seen, Fail> {
+    let (accesses, notified) = feed_turn(alloc, queue, answers)?;
+    if queue.wanted() != Want::Done {
+        return Err("no end".into());
+    }
+    let turn = queue.turn();
+    with_packet(alloc, &turn, accesses, notified)
+}
+
+/// The turn of a new queue by `want` and `feed`.
 pub fn turn_by_hand(
     alloc: Global,
     bytes: &[u8],
@@ -111,17 +205,7 @@ pub fn turn_by_hand(
     let bench = Bench::make(alloc, bytes, shapes)?;
     let mut buffer = Buffer::make(alloc)?;
     let mut queue = bench.queue(alloc, start, &mut buffer)?;
-    let (accesses, notified) = feed_turn(alloc, &mut queue, answers)?;
-    if queue.want() != Want::Done {
-        return Err("no end".into());
-    }
-    let turn = queue.turn();
-    Ok(Seen {
-        kind: kind_of(&turn),
-        packet: packet_of(alloc, &turn)?,
-        accesses,
-        notified,
-    })
+    fed(alloc, &mut queue, answers)
 }
 
 /// A turn by `drive_turn`, of which the counters are 0.
@@ -159,25 +243,61 @@ pub fn turn_by_driver(
     driven(alloc, &mut queue, shapes, answers)
 }
 
-/// The same turn both ways.
-pub fn turn(alloc: Global, bytes: &[u8], start: u32, answers: &[u32]) -> Result<Seen, Fail> {
-    let seen = turn_by_driver(alloc, bytes, &[], start, answers)?;
-    if turn_by_hand(alloc, bytes, &[], start, answers)? == seen {
-        Ok(seen)
+/// Fails where the turn by hand isn't the one that was seen.
+fn same_by_hand(
+    alloc: Global,
+    bytes: &[u8],
+    shapes: &[MapShape],
+    start: u32,
+    answers: &[u32],
+    seen: &Seen,
+) -> Result<(), Fail>
+    requires { length shapes.now ≤ 4 }
+{
+    if turn_by_hand(alloc, bytes, shapes, start, answers)? == *seen {
+        Ok(())
     } else {
         Err("the two ways differ".into())
     }
 }
 
-/// The writes to a frame, in order.
-pub fn writes_to(alloc: Global, accesses: &[Access], frame: u32) -> Result<Vec<Access>, Fail> {
-    let mut writes = Vec::new(alloc);
-    for access in accesses {
-        if let Access::Write { at, .. } = access
-            && at.frame == frame
-        {
-            writes.push(*access)?;
-        }
+/// The same turn both ways, under a program with these maps.
+pub fn turn_with_maps(
+    alloc: Global,
+    bytes: &[u8],
+    shapes: &[MapShape],
+    start: u32,
+    answers: &[u32],
+) -> Result<Seen, Fail>
+    requires { length shapes.now ≤ 4 }
+{
+    let seen = turn_by_driver(alloc, bytes, shapes, start, answers)?;
+    same_by_hand(alloc, bytes, shapes, start, answers, &seen)?;
+    Ok(seen)
+}
+
+/// The same turn both ways, under a program without maps.
+pub fn turn(alloc: Global, bytes: &[u8], start: u32, answers: &[u32]) -> Result<Seen, Fail> {
+    turn_with_maps(alloc, bytes, &[], start, answers)
+}
+
+/// What a turn under a program without maps comes to.
+pub fn kind(alloc: Global, bytes: &[u8], start: u32, answers: &[u32]) -> Result<Kind, Fail> {
+    Ok(turn(alloc, bytes, start, answers)?.kind)
+}
+
+/// The words of `head`, those of `part` so many times, and those of `tail`.
+pub fn joined(
+    alloc: Global,
+    head: &[u32],
+    part: &[u32],
+    times: u32,
+    tail: &[u32],
+) -> Result<Vec<u32>, AllocError> {
+    let mut words = Vec::from_slice(alloc, head)?;
+    for _time in 0..times {
+        words.extend_from_slice(part)?;
     }
-    Ok(writes)
+    words.extend_from_slice(tail)?;
+    Ok(words)
 }

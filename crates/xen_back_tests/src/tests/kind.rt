@@ -42,3 +42,23 @@ pub fn kind_of(turn: &Turn) -> Kind {
         Turn::Halted { cause } => Kind::Halted { cause: *cause },
     }
 }
+
+impl Kind {
+    /// The end of a packet in so many slots, under a program that ended with a number and used no counter.
+    pub fn ran(number: u32, slots: u32) -> Kind {
+        Kind::Ran {
+            number,
+            ops: 0,
+            slots,
+        }
+    }
+
+    /// The end of a packet in so many slots that is refused, before any counter is used.
+    pub fn refused(cause: Refusal, slots: u32) -> Kind {
+        Kind::Refused {
+            cause,
+            ops: 0,
+            slots,
+        }
+    }
+}

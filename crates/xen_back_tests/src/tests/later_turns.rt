@@ -2,19 +2,16 @@
 
 ghost use Rattle.std.specs.Prelude.{◌<◌};
 
-use super::fixtures::{
-    SENDS, Seen, feed_turn, turn, turn_by_driver, turn_by_hand, write, writes_to,
-};
-use super::kind::{Kind, kind_of};
+use super::fixtures::{SENDS, Seen, fed, joined, turn, turn_with_maps, write};
+use super::kind::Kind;
 use super::slots::{STARTS, slot, tx};
 use crate::bench::{Bench, IFINDEX, QUEUE};
 use bpf_note::MapShape;
 use bpf_vm::Buffer;
-use std::alloc::Global;
+use std::alloc::{AllocError, Global};
 use std::test::Fail;
-use xen_back::{Halt, Queue, Refusal, Want};
+use xen_back::{Halt, Queue, Refusal};
 use xen_netif::ChainFault;
-use xen_page::Access;
 
 /// Adds 1 to the counter of key 1, and then TX: ST W [r10 - 4], 1; MOV r2, r10; ADD r2, -4; r1 = map 0; CALL 1;
 /// JEQ r0, 0, +2; MOV r1, 1; atomic ADD DW [r0], r1; MOV r0, 3; EXIT.
@@ -32,112 +29,99 @@ fn rx(start: u32, i: u32, word: u32) -> u32
     16 + 2 * (start.wrapping_add(i) % 256) + word
 }
 
-/// The answers up to the run for a packet of the bytes 0 to 13 in the i-th slot from `start`, and later ones.
-fn fourteen(alloc: Global, start: u32, i: u32, later: &[u32]) -> Result<Vec<u32>, Fail> {
-    let shown = start.wrapping_add(i).wrapping_add(1);
-    let mut answers = Vec::from_slice(alloc, &[shown, 2, 0, slot(7, 14), 1, 19])?;
-    answers.extend_from_slice(&[50_462_976, 117_835_012, 185_207_048, 252_579_084])?;
-    answers.extend_from_slice(later)?;
-    Ok(answers)
+/// The answers for a packet of the bytes 0 to 13 in the i-th slot from `start`, with later ones after its run.
+fn fourteen(alloc: Global, start: u32, i: u32, later: &[u32]) -> Result<Vec<u32>, AllocError> {
+    let head = [
+        start.wrapping_add(i).wrapping_add(1),
+        2,
+        0,
+        slot(7, 14),
+        1,
+        19,
+        50_462_976,
+        117_835_012,
+        185_207_048,
+        252_579_084,
+    ];
+    joined(alloc, &head, later, 1, &[])
 }
 
-/// What a turn by hand comes to, with its accesses.
-fn fed(alloc: Global, queue: &mut Queue, answers: &[u32]) -> Result<(Kind, Vec<Access>), Fail> {
-    let (accesses, _) = feed_turn(alloc, queue, answers)?;
-    if queue.wanted() != Want::Done {
-        return Err("no end".into());
-    }
-    Ok((kind_of(&queue.turn()), accesses))
+/// A packet of a whole page in the first slot, which is sent back.
+fn a_page(alloc: Global, start: u32) -> Result<Seen, Fail> {
+    let one = start.wrapping_add(1);
+    let head = [one, 2, 0, slot(7, 4096), 1, 19];
+    let later = [one, 9, 5, 1, 16, start, start];
+    let answers = joined(alloc, &head, &[0x0403_0201], 1024, &later)?;
+    turn(alloc, &SENDS, start, answers.as_slice())
 }
 
 #[test]
 fn a_whole_page_takes_one_rx_slot(rt: HostRuntime) -> Result<(), Fail> {
     for start in STARTS {
-        let one = start.wrapping_add(1);
-        let mut answers = Vec::from_slice(rt.alloc(), &[one, 2, 0, slot(7, 4096), 1, 19])?;
-        for _word in 0..1024 {
-            answers.push(0x0403_0201)?;
-        }
-        answers.extend_from_slice(&[one, 9, 5, 1, 16, start, start])?;
-        let seen = turn(rt.alloc(), &SENDS, start, answers.as_slice())?;
-        assert_eq!(rt;
-            seen.kind,
-            Kind::Ran {
-                number: 3,
-                ops: 0,
-                slots: 1
-            }
-        );
-        let accesses = seen.accesses.as_slice();
-        assert_eq!(rt; writes_to(rt.alloc(), accesses, 16)?.len(), 1024);
         let responses = [
             write(18, rx(start, 0, 0), 9),
             write(18, rx(start, 0, 1), 0x1000_0000),
-            write(18, 2, one),
+            write(18, 2, start.wrapping_add(1)),
         ];
-        assert_eq!(rt;
-            writes_to(rt.alloc(), accesses, 18)?.as_slice(),
-            responses.as_slice()
-        );
-        assert!(rt; !seen.notified);
+        let seen = a_page(rt.alloc(), start)?;
+        assert_eq!(rt; (seen.kind, seen.writes(16)), (Kind::ran(3, 1), 1024));
+        assert!(rt; seen.wrote(18, &responses) && !seen.notified);
     }
     Ok(())
+}
+
+/// Whether a packet that is sent back is told, where the rx ring's event index is `event`.
+fn is_told(alloc: Global, start: u32, event: u32) -> Result<bool, Fail> {
+    let later = [start.wrapping_add(1), 9, 5, 1, 16, event, start];
+    let answers = fourteen(alloc, start, 0, &later)?;
+    Ok(turn(alloc, &SENDS, start, answers.as_slice())?.notified)
 }
 
 #[test]
 fn a_notice_of_the_rx_ring_is_sent(rt: HostRuntime) -> Result<(), Fail> {
     for start in STARTS {
-        let one = start.wrapping_add(1);
-        for (event, notified) in [(one, true), (start, false)] {
-            let answers = fourteen(rt.alloc(), start, 0, &[one, 9, 5, 1, 16, event, start])?;
-            let seen = turn(rt.alloc(), &SENDS, start, answers.as_slice())?;
-            assert_eq!(rt; seen.notified, notified);
-        }
+        assert!(rt; is_told(rt.alloc(), start, start.wrapping_add(1))?);
+        assert!(rt; !is_told(rt.alloc(), start, start)?);
     }
     Ok(())
 }
 
 /// What a packet of 14 bytes that counts and is then sent comes to with these later answers, by the driver and by hand.
-fn counted(alloc: Global, start: u32, later: &[u32]) -> Result<(Seen, Seen), Fail> {
+fn counted(alloc: Global, start: u32, later: &[u32]) -> Result<Kind, Fail> {
     let shapes = [MapShape::of(2, 1).ok_or("no shape")?];
     let answers = fourteen(alloc, start, 0, later)?;
-    let answers = answers.as_slice();
-    let driven = turn_by_driver(alloc, &COUNTS_AND_SENDS, &shapes, start, answers)?;
-    let by_hand = turn_by_hand(alloc, &COUNTS_AND_SENDS, &shapes, start, answers)?;
-    Ok((driven, by_hand))
+    Ok(turn_with_maps(alloc, &COUNTS_AND_SENDS, &shapes, start, answers.as_slice())?.kind)
 }
 
 #[test]
 fn operations_count_though_the_packet_is_sent(rt: HostRuntime) -> Result<(), Fail> {
+    let wanted = Kind::Ran {
+        number: 3,
+        ops: 1,
+        slots: 1,
+    };
     for start in STARTS {
         let one = start.wrapping_add(1);
-        let (driven, by_hand) = counted(rt.alloc(), start, &[one, 9, 5, 1, 16])?;
-        assert_eq!(rt;
-            driven.kind,
-            Kind::Ran {
-                number: 3,
-                ops: 1,
-                slots: 1
-            }
-        );
-        assert_eq!(rt; by_hand, driven);
+        let kind = counted(rt.alloc(), start, &[one, 9, 5, 1, 16])?;
+        assert_eq!(rt; kind, wanted);
     }
     Ok(())
+}
+
+/// The end of a packet in one slot whose program counts and then sends it, and which is refused then.
+fn refused_after_counting(cause: Refusal) -> Kind {
+    Kind::Refused {
+        cause,
+        ops: 1,
+        slots: 1,
+    }
 }
 
 #[test]
 fn operations_count_though_no_rx_slot_is_posted(rt: HostRuntime) -> Result<(), Fail> {
     for start in STARTS {
-        let (driven, by_hand) = counted(rt.alloc(), start, &[start])?;
-        assert_eq!(rt;
-            driven.kind,
-            Kind::Refused {
-                cause: Refusal::FewSlots,
-                ops: 1,
-                slots: 1
-            }
-        );
-        assert_eq!(rt; by_hand, driven);
+        let kind = counted(rt.alloc(), start, &[start])?;
+        assert_eq!(rt; kind, refused_after_counting(Refusal::FewSlots));
     }
     Ok(())
 }
@@ -145,20 +129,59 @@ fn operations_count_though_no_rx_slot_is_posted(rt: HostRuntime) -> Result<(), F
 #[test]
 fn operations_count_though_an_rx_grant_is_refused(rt: HostRuntime) -> Result<(), Fail> {
     for start in STARTS {
-        let one = start.wrapping_add(1);
         // The entry's flags, 5, allow reading alone.
-        let (driven, by_hand) = counted(rt.alloc(), start, &[one, 9, 5, 5, 16])?;
-        assert_eq!(rt;
-            driven.kind,
-            Kind::Refused {
-                cause: Refusal::RxGrant,
-                ops: 1,
-                slots: 1
-            }
-        );
-        assert_eq!(rt; by_hand, driven);
+        let kind = counted(rt.alloc(), start, &[start.wrapping_add(1), 9, 5, 5, 16])?;
+        assert_eq!(rt; kind, refused_after_counting(Refusal::RxGrant));
     }
     Ok(())
+}
+
+/// The answers for a packet of 4,097 bytes, which wants two rx slots. The first one's grant is for reading alone.
+fn two_pages(alloc: Global, start: u32) -> Result<Vec<u32>, AllocError> {
+    let two = start.wrapping_add(2);
+    let head = [two, 2, 0x4_0000, slot(7, 4097), 3, 0, slot(8, 1), 1, 19];
+    let later = [1, 15, 0, two, 9, 5, 5, 16, start, start];
+    joined(alloc, &head, &[0], 1024, &later)
+}
+
+/// What that packet comes to.
+fn fed_two_pages(alloc: Global, queue: &mut Queue, start: u32) -> Result<Seen, Fail> {
+    let answers = two_pages(alloc, start)?;
+    fed(alloc, queue, answers.as_slice())
+}
+
+/// What a packet of 14 bytes behind it comes to.
+fn fed_fourteen(alloc: Global, queue: &mut Queue, start: u32) -> Result<Seen, Fail> {
+    let later = [start.wrapping_add(2), 10, 6, 1, 14, start, start];
+    let answers = fourteen(alloc, start, 2, &later)?;
+    fed(alloc, queue, answers.as_slice())
+}
+
+/// Whether the first packet is refused, with one response.
+fn refuses_two_pages(alloc: Global, queue: &mut Queue, start: u32) -> Result<bool, Fail> {
+    let responses = [
+        write(18, rx(start, 0, 0), 9),
+        write(18, rx(start, 0, 1), 0xffff_0000),
+        write(18, 2, start.wrapping_add(1)),
+    ];
+    let seen = fed_two_pages(alloc, queue, start)?;
+    Ok(seen.kind == Kind::refused(Refusal::RxGrant, 2) && seen.wrote(18, &responses))
+}
+
+/// Whether the next packet goes on behind it, on both rings.
+fn goes_on_behind(alloc: Global, queue: &mut Queue, start: u32) -> Result<bool, Fail> {
+    let responses = [
+        write(18, rx(start, 1, 0), 10),
+        write(18, rx(start, 1, 1), 0x000e_0000),
+        write(18, 2, start.wrapping_add(2)),
+    ];
+    let answered = [
+        write(17, tx(start, 2, 0), 7),
+        write(17, 2, start.wrapping_add(3)),
+    ];
+    let seen = fed_fourteen(alloc, queue, start)?;
+    let wrote = seen.wrote(18, &responses) && seen.wrote(17, &answered);
+    Ok(seen.kind == Kind::ran(3, 1) && wrote)
 }
 
 #[test]
@@ -167,106 +190,68 @@ fn a_refused_rx_slot_is_the_last_that_is_used(rt: HostRuntime) -> Result<(), Fai
     let mut buffer = Buffer::make(rt.alloc())?;
     for start in STARTS {
         let mut queue = bench.queue(rt.alloc(), start, &mut buffer)?;
-        let (one, two) = (start.wrapping_add(1), start.wrapping_add(2));
-        // 4,097 bytes want two rx slots. The first one's grant is for reading alone.
-        let mut answers = Vec::from_slice(rt.alloc(), &[two])?;
-        answers.extend_from_slice(&[2, 0x4_0000, slot(7, 4097), 3, 0, slot(8, 1), 1, 19])?;
-        for _word in 0..1024 {
-            answers.push(0)?;
-        }
-        answers.extend_from_slice(&[1, 15, 0, two, 9, 5, 5, 16, start, start])?;
-        let (kind, accesses) = fed(rt.alloc(), &mut queue, answers.as_slice())?;
-        assert_eq!(rt;
-            kind,
-            Kind::Refused {
-                cause: Refusal::RxGrant,
-                ops: 0,
-                slots: 2
-            }
-        );
-        let responses = [
-            write(18, rx(start, 0, 0), 9),
-            write(18, rx(start, 0, 1), 0xffff_0000),
-            write(18, 2, one),
-        ];
-        assert_eq!(rt;
-            writes_to(rt.alloc(), accesses.as_slice(), 18)?.as_slice(),
-            responses.as_slice()
-        );
-        // The next packet goes on behind them, on both rings.
-        let later = fourteen(rt.alloc(), start, 2, &[two, 10, 6, 1, 14, start, start])?;
-        let (kind, accesses) = fed(rt.alloc(), &mut queue, later.as_slice())?;
-        assert_eq!(rt;
-            kind,
-            Kind::Ran {
-                number: 3,
-                ops: 0,
-                slots: 1
-            }
-        );
-        let responses = [
-            write(18, rx(start, 1, 0), 10),
-            write(18, rx(start, 1, 1), 0x000e_0000),
-            write(18, 2, two),
-        ];
-        assert_eq!(rt;
-            writes_to(rt.alloc(), accesses.as_slice(), 18)?.as_slice(),
-            responses.as_slice()
-        );
-        let answered = [
-            write(17, tx(start, 2, 0), 7),
-            write(17, 2, start.wrapping_add(3)),
-        ];
-        assert_eq!(rt;
-            writes_to(rt.alloc(), accesses.as_slice(), 17)?.as_slice(),
-            answered.as_slice()
-        );
+        assert!(rt; refuses_two_pages(rt.alloc(), &mut queue, start)?);
+        assert!(rt; goes_on_behind(rt.alloc(), &mut queue, start)?);
     }
     Ok(())
 }
 
+/// Whether a turn with these answers halts for this cause, and the next one too, without any access.
+fn halts_twice(alloc: Global, answers: &[u32], cause: Halt) -> Result<bool, Fail> {
+    let bench = Bench::make(alloc, &SENDS, &[])?;
+    let mut buffer = Buffer::make(alloc)?;
+    let mut queue = bench.queue(alloc, 0, &mut buffer)?;
+    let halted = Kind::Halted { cause };
+    let first = fed(alloc, &mut queue, answers)?.kind;
+    let second = fed(alloc, &mut queue, &[1])?;
+    Ok(first == halted && second.kind == halted && second.made(&[]))
+}
+
 #[test]
 fn each_halt_lasts(rt: HostRuntime) -> Result<(), Fail> {
-    let bench = Bench::make(rt.alloc(), &SENDS, &[])?;
-    let mut buffer = Buffer::make(rt.alloc())?;
-    let rows = [
-        (vec![in rt.alloc(); 257]?, Halt::TxProducer),
+    let rows: [(&[u32], Halt); 4] = [
+        (&[257], Halt::TxProducer),
+        (&[1, 2, 0x4_0000, slot(7, 14)], Halt::ShortChain),
         (
-            Vec::from_slice(rt.alloc(), &[1, 2, 0x4_0000, slot(7, 14)])?,
-            Halt::ShortChain,
-        ),
-        (
-            Vec::from_slice(rt.alloc(), &[2, 2, 0x8_0000, slot(7, 14), 6, 0, 0])?,
+            &[2, 2, 0x8_0000, slot(7, 14), 6, 0, 0],
             Halt::Chain(ChainFault::UnknownExtra),
         ),
-        (fourteen(rt.alloc(), 0, 0, &[257])?, Halt::RxProducer),
+        (
+            &[
+                1,
+                2,
+                0,
+                slot(7, 14),
+                1,
+                19,
+                50_462_976,
+                117_835_012,
+                185_207_048,
+                252_579_084,
+                257,
+            ],
+            Halt::RxProducer,
+        ),
     ];
     for (answers, cause) in rows {
-        let mut queue = bench.queue(rt.alloc(), 0, &mut buffer)?;
-        let (kind, _) = fed(rt.alloc(), &mut queue, answers.as_slice())?;
-        assert_eq!(rt; kind, Kind::Halted { cause });
-        let (kind, accesses) = fed(rt.alloc(), &mut queue, &[1])?;
-        assert_eq!(rt; kind, Kind::Halted { cause });
-        assert_eq!(rt; accesses.len(), 0);
+        assert!(rt; halts_twice(rt.alloc(), answers, cause)?);
     }
     Ok(())
+}
+
+/// What a program comes to that ends with the word of its context at an offset.
+fn ends_with_its_word_at(alloc: Global, offset: u8) -> Result<Kind, Fail> {
+    let code = [0x61, 0x10, offset, 0, 0, 0, 0, 0, 0x95, 0, 0, 0, 0, 0, 0, 0];
+    let answers = fourteen(alloc, 0, 0, &[])?;
+    Ok(turn(alloc, &code, 0, answers.as_slice())?.kind)
 }
 
 /// LDX W r0, [r1 + 12] or [r1 + 16]; EXIT.
 #[test]
 fn the_program_sees_its_interface_and_its_queue(rt: HostRuntime) -> Result<(), Fail> {
     for (offset, number) in [(12, IFINDEX), (16, QUEUE)] {
-        let code = [0x61, 0x10, offset, 0, 0, 0, 0, 0, 0x95, 0, 0, 0, 0, 0, 0, 0];
-        let answers = fourteen(rt.alloc(), 0, 0, &[])?;
-        let seen = turn(rt.alloc(), &code, 0, answers.as_slice())?;
-        assert_eq!(rt;
-            seen.kind,
-            Kind::Ran {
-                number,
-                ops: 0,
-                slots: 1
-            }
-        );
+        let kind = ends_with_its_word_at(rt.alloc(), offset)?;
+        assert_eq!(rt; kind, Kind::ran(number, 1));
     }
     Ok(())
 }

@@ -1,16 +1,14 @@
 //! Turns whose program decides.
 
-use super::fixtures::{
-    Seen, feed_turn, packet_of, turn, turn_by_driver, turn_by_hand, write, writes_to,
-};
-use super::kind::{Kind, kind_of};
+use super::fixtures::{Seen, fed, turn, turn_with_maps, write};
+use super::kind::Kind;
 use super::slots::{STARTS, slot, tx};
 use crate::bench::Bench;
 use bpf_note::MapShape;
 use bpf_vm::Buffer;
 use std::alloc::Global;
 use std::test::Fail;
-use xen_back::{Queue, Want};
+use xen_back::Queue;
 
 /// Adds 1 to the counter of key 1: ST W [r10 - 4], 1; MOV r2, r10; ADD r2, -4; r1 = map 0; CALL 1; JEQ r0, 0, +2;
 /// MOV r1, 1; atomic ADD DW [r0], r1; MOV r0, 2; EXIT.
@@ -35,28 +33,16 @@ fn ends_with(alloc: Global, start: u32, number: u8) -> Result<Seen, Fail> {
     turn(alloc, &code, start, &answers)
 }
 
-fn ran(number: u32) -> Kind {
-    Kind::Ran {
-        number,
-        ops: 0,
-        slots: 1,
-    }
-}
-
 #[test]
 fn the_response_says_what_the_program_decided(rt: HostRuntime) -> Result<(), Fail> {
     for start in STARTS {
         for (number, response) in [(0, 0xffff_0007), (1, 0xfffe_0007), (2, 7), (7, 0xffff_0007)] {
-            let seen = ends_with(rt.alloc(), start, number)?;
-            assert_eq!(rt; seen.kind, ran(u32::from(number)));
             let writes = [
                 write(17, tx(start, 0, 0), response),
                 write(17, 2, start.wrapping_add(1)),
             ];
-            assert_eq!(rt;
-                writes_to(rt.alloc(), seen.accesses.as_slice(), 17)?.as_slice(),
-                writes.as_slice()
-            );
+            let seen = ends_with(rt.alloc(), start, number)?;
+            assert!(rt; seen.kind == Kind::ran(u32::from(number), 1) && seen.wrote(17, &writes));
         }
     }
     Ok(())
@@ -64,32 +50,26 @@ fn the_response_says_what_the_program_decided(rt: HostRuntime) -> Result<(), Fai
 
 #[test]
 fn a_counter_operation_is_counted(rt: HostRuntime) -> Result<(), Fail> {
+    let shapes = [MapShape::of(2, 1).ok_or("no shape")?];
     for start in STARTS {
-        let shapes = [MapShape::of(2, 1).ok_or("no shape")?];
         let answers = [start.wrapping_add(1), 2, 0, slot(7, 14), 1, 19];
-        let driven = turn_by_driver(rt.alloc(), &COUNTS, &shapes, start, &answers)?;
-        assert_eq!(rt;
-            driven.kind,
-            Kind::Ran {
-                number: 2,
-                ops: 1,
-                slots: 1
-            }
-        );
-        let fed = turn_by_hand(rt.alloc(), &COUNTS, &shapes, start, &answers)?;
-        assert_eq!(rt; fed, driven);
+        let kind = turn_with_maps(rt.alloc(), &COUNTS, &shapes, start, &answers)?.kind;
+        let wanted = Kind::Ran {
+            number: 2,
+            ops: 1,
+            slots: 1,
+        };
+        assert_eq!(rt; kind, wanted);
     }
     Ok(())
 }
 
-/// What a turn comes to, and its packet, with these answers.
-fn fed(alloc: Global, queue: &mut Queue, answers: &[u32]) -> Result<(Kind, Vec<u8>), Fail> {
-    feed_turn(alloc, queue, answers)?;
-    if queue.wanted() != Want::Done {
-        return Err("no end".into());
-    }
-    let turn = queue.turn();
-    Ok((kind_of(&turn), packet_of(alloc, &turn)?))
+/// What a longer packet and then a shorter one come to.
+fn fed_in_turn(alloc: Global, queue: &mut Queue) -> Result<(Seen, Seen), Fail> {
+    let longer = [1, 2, 0, slot(7, 15), 1, 19, 1, 2, 3, 4];
+    let longer = fed(alloc, queue, &longer)?;
+    let shorter = fed(alloc, queue, &[2, 2, 0, slot(8, 14), 1, 19])?;
+    Ok((longer, shorter))
 }
 
 #[test]
@@ -97,11 +77,8 @@ fn no_byte_of_an_earlier_packet_is_seen(rt: HostRuntime) -> Result<(), Fail> {
     let bench = Bench::make(rt.alloc(), &LOOKS_AT_BYTE_14, &[])?;
     let mut buffer = Buffer::make(rt.alloc())?;
     let mut queue = bench.queue(rt.alloc(), 0, &mut buffer)?;
-    let longer = [1, 2, 0, slot(7, 15), 1, 19, 1, 2, 3, 4];
-    let (kind, packet) = fed(rt.alloc(), &mut queue, &longer)?;
-    assert_eq!(rt; (kind, packet.len()), (ran(2), 15));
-    let (kind, packet) = fed(rt.alloc(), &mut queue, &[2, 2, 0, slot(8, 14), 1, 19])?;
-    assert_eq!(rt; kind, ran(1));
-    assert_eq!(rt; packet.as_slice(), [0; 14].as_slice());
+    let (longer, shorter) = fed_in_turn(rt.alloc(), &mut queue)?;
+    assert_eq!(rt; (longer.kind, longer.packet.len()), (Kind::ran(2, 1), 15));
+    assert!(rt; shorter.shows(Kind::ran(1, 1), &[0; 14]));
     Ok(())
 }

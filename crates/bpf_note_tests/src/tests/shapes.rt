@@ -1,6 +1,6 @@
 //! Shapes of maps, by their limits: 1 to 1,024 values of 1 to 8 counters.
 
-use crate::MapShape;
+use bpf_note::MapShape;
 
 #[test]
 fn shapes_within_their_limits(rt: HostRuntime) {
@@ -14,10 +14,7 @@ fn shapes_within_their_limits(rt: HostRuntime) {
     ];
     for (entries, counters, within) in rows {
         let shape = MapShape::of(entries, counters);
-        assert_eq!(rt; shape.is_some(), within);
-        if let Some(shape) = shape {
-            assert_eq!(rt; shape.entries(), entries);
-            assert_eq!(rt; shape.counters(), counters);
-        }
+        let limits = shape.map(|shape| (shape.entries(), shape.counters()));
+        assert_eq!(rt; limits, within.then_some((entries, counters)));
     }
 }

@@ -1,0 +1,184 @@
+//! Joins, by the table of docs/VERIFIER.md.
+
+use crate::known::{bounds, set_bounds, set_bytes};
+use bpf_note::{Note, PACKET_ID, Val, covers, join};
+use std::alloc::{AllocError, Global};
+use std::test::Fail;
+
+/// A note that holds a value in `r0` and in stack slot 5.
+fn holding(alloc: Global, value: Val) -> Note {
+    let mut note = Note::entry(alloc);
+    note.set_register(0, value);
+    note.keep(5, value);
+    note
+}
+
+/// What is left of two values in `r0` and in stack slot 5, and whether the first one covers the second.
+fn joined(alloc: Global, left: Val, right: Val) -> Option<(Val, Option<Val>, bool)> {
+    let left = holding(alloc, left);
+    let right = holding(alloc, right);
+    match join(alloc, &left, &right) {
+        Ok(joined) => Some((joined.register(0), joined.kept(5), covers(&left, &right))),
+        Err(_) => None,
+    }
+}
+
+#[test]
+fn values(rt: HostRuntime) {
+    let small = Val::Num { lo: 3, hi: 5 };
+    let rows = [
+        // equal values stay
+        (
+            Val::Pkt { id: 1, off: 2 },
+            Val::Pkt { id: 1, off: 2 },
+            Val::Pkt { id: 1, off: 2 },
+        ),
+        (Val::PktEnd, Val::PktEnd, Val::PktEnd),
+        (
+            Val::Stack { off: -8 },
+            Val::Stack { off: -8 },
+            Val::Stack { off: -8 },
+        ),
+        (Val::Ctx, Val::Ctx, Val::Ctx),
+        (Val::Map { m: 1 }, Val::Map { m: 1 }, Val::Map { m: 1 }),
+        (
+            Val::MaybeValue { m: 1, id: 2 },
+            Val::MaybeValue { m: 1, id: 2 },
+            Val::MaybeValue { m: 1, id: 2 },
+        ),
+        (
+            Val::Value { m: 3 },
+            Val::Value { m: 3 },
+            Val::Value { m: 3 },
+        ),
+        (small, small, small),
+        // the hull of two ranges
+        (small, Val::Num { lo: 9, hi: 9 }, Val::Num { lo: 3, hi: 9 }),
+        (Val::Num { lo: 0, hi: 9 }, small, Val::Num { lo: 0, hi: 9 }),
+        // nothing where a side has nothing
+        (Val::Unset, Val::Ctx, Val::Unset),
+        (small, Val::Unset, Val::Unset),
+        // all else is any number
+        (Val::Ctx, Val::PktEnd, Val::FULL),
+        (small, Val::Ctx, Val::FULL),
+        (
+            Val::Pkt { id: 1, off: 2 },
+            Val::Pkt { id: 1, off: 3 },
+            Val::FULL,
+        ),
+        (
+            Val::Pkt { id: 1, off: 2 },
+            Val::Pkt { id: 2, off: 2 },
+            Val::FULL,
+        ),
+        (Val::Stack { off: -8 }, Val::Stack { off: -16 }, Val::FULL),
+        (Val::Map { m: 0 }, Val::Map { m: 1 }, Val::FULL),
+        (
+            Val::MaybeValue { m: 1, id: 2 },
+            Val::Value { m: 1 },
+            Val::FULL,
+        ),
+    ];
+    for (left, right, wanted) in rows {
+        let joined = joined(rt.alloc(), left, right);
+        let is_covered = wanted == left;
+        assert_eq!(rt;
+            joined,
+            Some((wanted, Some(wanted), is_covered)),
+            "{left:?} {right:?}"
+        );
+    }
+}
+
+/// Whether each of two notes covers the other one.
+fn cover_each_other(left: &Note, right: &Note) -> [bool; 2] {
+    [covers(left, right), covers(right, left)]
+}
+
+/// A stack with slot 0 kept, and bytes of slot 1 set.
+fn left_stack(alloc: Global) -> Note {
+    let mut note = Note::entry(alloc);
+    note.keep(0, Val::FULL);
+    note.set_byte(8);
+    note.set_byte(9);
+    note.set_byte(15);
+    note
+}
+
+/// A stack with bytes of slots 0 and 1 set.
+fn right_stack(alloc: Global) -> Note {
+    let mut note = Note::entry(alloc);
+    note.set_byte(1);
+    note.set_byte(9);
+    note.set_byte(10);
+    note.set_byte(15);
+    note
+}
+
+/// What slot 0 keeps after a join, and which bytes of it and of slot 1 are set.
+fn stack_of(joined: &Note) -> (Option<Val>, [bool; 3], [bool; 3], bool) {
+    let first = set_bytes(joined, [0, 1, 2]);
+    let second = set_bytes(joined, [8, 9, 10]);
+    (joined.kept(0), first, second, joined.is_set(15))
+}
+
+#[test]
+fn stacks(rt: HostRuntime) -> Result<(), Fail> {
+    let left = left_stack(rt.alloc());
+    let right = right_stack(rt.alloc());
+    let joined = join(rt.alloc(), &left, &right)?;
+    let middle = [false, true, false];
+    assert_eq!(rt; stack_of(&joined), (None, middle, middle, true));
+    assert!(rt; cover_each_other(&joined, &left) == [true, false]);
+    assert!(rt; cover_each_other(&joined, &right) == [true, false]);
+    assert!(rt; cover_each_other(&left, &right) == [false, false]);
+    Ok(())
+}
+
+/// Bounds of id 2 and of the packet's.
+fn left_ids(alloc: Global) -> Result<Note, AllocError> {
+    let mut note = Note::entry(alloc);
+    set_bounds(&mut note, 2, 40, Some(14))?;
+    note.set_safe(PACKET_ID, Some(14))?;
+    Ok(note)
+}
+
+/// Bounds of ids 2 and 1.
+fn right_ids(alloc: Global) -> Result<Note, AllocError> {
+    let mut note = Note::entry(alloc);
+    set_bounds(&mut note, 2, 60, Some(20))?;
+    set_bounds(&mut note, 1, 7, Some(3))?;
+    Ok(note)
+}
+
+/// Whether a note is the join of two others.
+fn is_join_of(alloc: Global, joined: &Note, left: &Note, right: &Note) -> bool {
+    match join(alloc, left, right) {
+        Ok(again) => joined.same_as(&again),
+        Err(_) => false,
+    }
+}
+
+/// The bounds of id 2, of id 1 and of the packet's id.
+fn bounds_of_ids(note: &Note) -> [(u32, Option<u32>); 3] {
+    [bounds(note, 2), bounds(note, 1), bounds(note, PACKET_ID)]
+}
+
+#[test]
+fn ids(rt: HostRuntime) -> Result<(), Fail> {
+    let left = left_ids(rt.alloc())?;
+    let right = right_ids(rt.alloc())?;
+    let joined = join(rt.alloc(), &left, &right)?;
+    assert_eq!(rt;
+        bounds_of_ids(&joined),
+        [(60, Some(14)), (7, None), (0, None)]
+    );
+    assert!(rt;
+        is_join_of(rt.alloc(), &joined, &right, &left),
+        "the other way round"
+    );
+    assert!(rt; cover_each_other(&left, &right) == [false, false]);
+    assert!(rt; cover_each_other(&joined, &left) == [true, false]);
+    assert!(rt; cover_each_other(&joined, &right) == [true, false] && covers(&joined, &joined));
+    Ok(())
+}
