@@ -105,7 +105,7 @@ fn decide(insn: &Insn, pc: u32, note: &Note, shapes: &[MapShape]) -> Result<Effe
     Point { pc, note, shapes }.decide(*insn)
 }
 
-/// An instruction's constant has 64 bits. It does nothing.
+/// An instruction's constant has 64 bits. A law, empty at run time.
 fn has_words(insn: Insn)
     ensures { HasWords insn }
 {}

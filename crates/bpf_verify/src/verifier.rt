@@ -16,7 +16,7 @@ use bpf_insn::{Code, Insn, Refusal};
 use bpf_note::{MapShape, Note};
 use std::alloc::Global;
 
-/// Every shape is within the limits. It does nothing.
+/// Every shape is within the limits. A law, empty at run time.
 fn are_shapes(shapes: &[MapShape])
     ensures { AreShapes shapes.now }
 {

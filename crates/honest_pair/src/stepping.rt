@@ -25,7 +25,7 @@ fn is_idle(turns: &[Kept], at: usize) -> bool
     }
 }
 
-/// What is known of every list of bytes. It does nothing.
+/// What is known of every list of bytes. A law, empty at run time.
 fn are_bytes(bytes: &[u8])
     ensures { All IsByte bytes.now }
 {

@@ -24,7 +24,7 @@ none_outside maps number o w =
     let there : number < length (shapes_of maps) = subst (λ n. number < n) (sym (length-map maps shape_of)) o.there in
     o.outside blank (subst IsShape (get_or-map shape_of maps number blank (shape_of blank) o.there) (w.shapes number (shape_of blank) there))
 
--- a refusal of a settings text's program is for want of memory where its fault is
+-- a refusal of a settings text's program is for out of memory where its fault is
 pub refusal_wanting : (f : SettingsFault) (g : LoadFault) (r : Refusal) → f ≡ Program g → g ≡ Refused r → IsSettingsWanting f → r.cause ≡ Memory
 refusal_wanting f g r a b h = subst (λ x. IsSettingsWanting (Program x)) b (subst IsSettingsWanting a h)
 
