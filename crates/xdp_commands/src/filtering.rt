@@ -104,7 +104,8 @@ fn filter_with(alloc: Global, setup: &Setup, program: &Verified) -> Result<Filte
     ensures { IfOk result (IsFilterOfSetup (setup_view setup.now)) }
 {
     let mut buffer = Buffer::make(alloc)?;
-    let words = Vec::from_elem(alloc, 0, total(setup.shapes.as_slice()))?;
+    let count = total(setup.shapes.as_slice());
+    let words = Vec::from_elem(alloc, 0, count)?;
     let mut filtered = Filtered {
         lines: String::new(alloc),
         words,

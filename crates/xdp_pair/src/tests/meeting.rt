@@ -2,7 +2,7 @@
 
 use super::fixtures::TURNS;
 use crate::gate::Gate;
-use crate::pair_with;
+use crate::{PairRow, pair_with};
 use bpf_insn::{Refusal, decode};
 use bpf_verify::{Verified, verify};
 use std::alloc::Global;
@@ -21,6 +21,15 @@ packet = [
     { queue = 1, bytes = "000102030405060708090a0b0c0d", times = 2 },
 ]
 "#;
+
+/// The row of a queue whose two packets passed.
+const ROW: PairRow = PairRow {
+    sent: 2,
+    copied: 2,
+    refused: 0,
+    halted: None,
+    received: 0,
+};
 
 fn program_of(alloc: Global, setup: &Setup) -> Result<Verified, Refusal> {
     verify(alloc, decode(alloc, setup.program.as_slice())?, &[])
@@ -71,7 +80,7 @@ fn two_queues_see_each_other(rt: HostRuntime) -> Result<(), Fail> {
     let setup = load(alloc, SETTINGS.as_bytes())?;
     let program = program_of(alloc, &setup).map_err(|_| "refused program")?;
     let report = pair_with(&rt, alloc, &setup, &program, TURNS, &gate)?;
-    let copied: u64 = report.rows.iter().map(|row| row.copied).sum();
-    assert_eq!(rt; (gate.missed.load(Ordering::SeqCst), copied), (0, 4));
+    assert_eq!(rt; report.rows.as_slice(), [ROW, ROW].as_slice());
+    assert_eq!(rt; gate.missed.load(Ordering::SeqCst), 0);
     Ok(())
 }
