@@ -1,5 +1,5 @@
 -- What a program makes of a setup's packets, one after another, and the lines of it.
-use Rattle.std.specs.Prelude.{ℕ, zero, suc, ◌≡◌, List, [], ◌∷◌, ◌++◌, codes, decimal, length, replicate, string_bytes, vec_len, Result, Ok, Err}
+use Rattle.std.specs.Prelude.{ℕ, ◌≡◌, List, [], ◌∷◌, ◌++◌, codes, decimal, length, replicate, string_bytes, vec_len, Result, Ok, Err}
 use Rattle.hex.specs.Hex.{encode_lower}
 use Rattle.bpf_insn.specs.declared.refusal.Refusal.{Refusal}
 use Rattle.bpf_maps.specs.Layout.{total}

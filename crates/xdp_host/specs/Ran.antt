@@ -1,4 +1,4 @@
--- What C is told of a run.
+-- The result of a run, as C gets it.
 use Rattle.std.specs.Prelude.{ℕ, ◌≡◌, List}
 use Rattle.bpf_vm.specs.Actions.{action_of}
 use Rattle.bpf_vm.specs.declared.action.Action.{Action}

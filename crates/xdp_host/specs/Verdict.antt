@@ -1,4 +1,4 @@
--- The three numbers that C is told of a program.
+-- The verdict on a program: the three numbers that C gets.
 use Rattle.std.specs.Prelude.{ℕ}
 use Rattle.bpf_insn.specs.Cause.{cause_number}
 use Rattle.bpf_insn.specs.declared.refusal.Cause.TheVariants.{Memory}

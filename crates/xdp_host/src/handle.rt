@@ -120,7 +120,7 @@ impl XdpProgram {
         *self = XdpProgram::of(held);
     }
 
-    /// Puts what was loaded, or none, in place of what was there. What C is told of it.
+    /// Puts what was loaded, or none, in place of what was there, and gives the verdict.
     pub fn set(&mut self, alloc: Global, loaded: Result<Box<Held>, Fault>) -> XdpVerdict
         ensures ok { IfOk loaded (λ b. (self.new.slot.held ≡ Some b.value) × (result ≡ accepting (instructions b.value.program.code))) }
         ensures err { IfErr loaded (λ f. (self.new.slot.held ≡ None) × (result ≡ verdict_of f)) }

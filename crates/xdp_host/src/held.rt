@@ -137,7 +137,7 @@ impl Held {
         Held::boxed(alloc, program)
     }
 
-    /// What C is told of it.
+    /// The verdict that it is accepted.
     pub fn verdict(&self) -> XdpVerdict
         ensures { result ≡ accepting (instructions self.now.program.code) }
     {

@@ -58,7 +58,7 @@ pub driven_bind : {A B S : Type 0} (log : S → Option (List Access)) (gives : S
     Driven log gives s s' a b t → Driven log gives (bind s f) (bind s' f) a b t
 driven_bind log gives s s' f a b t d = record { gone = gone_bind s s' t f d.gone; performed = d.performed }
 
--- What comes to an end with what follows it does so without.
+-- What ends with what follows it also ends without it.
 pub finishes_first : {A B : Type 0} (within : Want → Type 0) (s : Steps A) (f : A → Steps B) → Finishes within (bind s f) → Finishes within s
 finishes_first within (done x) f h = tt
 finishes_first within (ask w k) f h = (h.0, (h.1.0, λ a e o. finishes_first within (k a) f (h.1.1 a e o)))
@@ -146,7 +146,7 @@ fill_one log gives ts packet n k bus new h q =
     subst (λ m. Driven log gives (fill ts packet m k) (fill ts packet (n - (k + 1)) (k + 1)) bus new (Write (buffer_word ts k) (word_of packet k) ∷ [])) (sym e)
     (record { gone = (_, (0, (refl, refl), refl), refl); performed = q })
 
--- and until then it is wanted within the frames
+-- and until then it asks for words within the frames
 pub fill_within : (frames : ℕ) (ts : List Target) (packet : List ℕ) (n k : ℕ) (within : Want → Type 0) → k < n → Finishes within (fill ts packet (n - k) k) → Finishes within (fill ts packet (suc (n - (k + 1))) k)
 fill_within frames ts packet n k within h f =
     let e : n - k ≡ suc (n - (k + 1)) = omega (arith, h) in

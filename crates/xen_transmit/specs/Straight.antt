@@ -13,6 +13,6 @@ abbrev pub scanned : Bool → List Target → Posted
 scanned true ts = Ok ts
 scanned false ts = Err ts
 
--- It comes to an end, whatever it is answered, and until then wants nothing outside the frames.
+-- It ends, whatever it is answered, and until then asks for nothing outside the frames.
 abbrev pub Completes : Vif → Steps Outcome → Type 0
 Completes w s = Finishes (IsPageWant (length w.owners.now)) s

@@ -111,7 +111,7 @@ pub fn answer_to(want: Want, word: u32) -> Option<Answer>
     }
 }
 
-/// The access that is wanted, of which a read gives this word.
+/// The access that the queue wants; a read of it gives this word.
 fn access_to(want: Want, answer: u32) -> Option<Access> {
     match want {
         Want::Read(at) => Some(Access::Read { at, answer }),
