@@ -145,7 +145,7 @@ fn make_queue<'p, 'b>(
 }
 
 /// Drives turns until the front has ended and a later turn is idle, or so many are done, or the queue has halted. The
-/// front is woken after each turn.
+/// front is woken after each turn that took a packet.
 pub(crate) fn work_back<R: Wait, G: Gate>(
     rt: &R,
     gate: &G,
@@ -177,15 +177,13 @@ pub(crate) fn work_back<R: Wait, G: Gate>(
         let last = lane.has_front_ended();
         gate.pass(number, done + 1);
         let turn = queue.drive_turn(&mut bus, counters, &mut seat, &shared.ports);
-        let next = row.count(&turn);
-        lane.wake_front();
-        match next {
-            Next::Goes => {}
+        match row.count(&turn) {
+            Next::Goes => lane.front.ring(),
             Next::Rests => {
                 if last {
                     break;
                 }
-                parker.park(rt);
+                lane.back.wait(rt, &parker);
             }
             Next::Ends => break,
         }

@@ -166,7 +166,7 @@ fn act<B: Bus, I: Inbox>(
 }
 
 /// Sends the packets of its queue, and takes what comes back. It ends once every tx slot is answered and nothing more is
-/// there, or once the back has ended and nothing more is there. The back is woken after each activity.
+/// there, or once the back has ended and nothing more is there. The back is woken after each activity that did something.
 pub(crate) fn work_front<R: Wait, I: Inbox>(
     rt: &R,
     inbox: &I,
@@ -186,11 +186,9 @@ pub(crate) fn work_front<R: Wait, I: Inbox>(
     let mut desk = Desk::new(queue, packets);
     for _ in rt.forever() {
         let last = lane.has_back_ended();
-        let next = act(&mut front, &mut bus, &shared.ports, inbox, &mut desk, last);
-        lane.wake_back();
-        match next {
-            Next::Goes => {}
-            Next::Rests => parker.park(rt),
+        match act(&mut front, &mut bus, &shared.ports, inbox, &mut desk, last) {
+            Next::Goes => lane.back.ring(),
+            Next::Rests => lane.front.wait(rt, &parker),
             Next::Ends => break,
         }
     }

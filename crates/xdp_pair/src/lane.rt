@@ -1,13 +1,14 @@
 //! What the two workers of a queue tell each other.
 
+use crate::bell::Bell;
 use crossbeam_utils::sync::Unparker;
 use std::sync::atomic::{AtomicBool, Ordering};
 
 /// Wakes both workers of a queue, and tells each whether the other has ended.
 #[derive(Drop)]
 pub(crate) struct Lane {
-    front: Unparker,
-    back: Unparker,
+    pub front: Bell,
+    pub back: Bell,
     front_ended: AtomicBool,
     back_ended: AtomicBool,
 }
@@ -15,8 +16,8 @@ pub(crate) struct Lane {
 impl Lane {
     pub fn new(front: Unparker, back: Unparker) -> Lane {
         Lane {
-            front,
-            back,
+            front: Bell::new(front),
+            back: Bell::new(back),
             front_ended: AtomicBool::new(false),
             back_ended: AtomicBool::new(false),
         }
@@ -30,23 +31,15 @@ impl Lane {
         self.back_ended.load(Ordering::SeqCst)
     }
 
-    pub fn wake_front(&self) {
-        self.front.unpark();
-    }
-
-    pub fn wake_back(&self) {
-        self.back.unpark();
-    }
-
     /// The flag is set before the back is woken, so that the back sees it once it is awake.
     pub fn end_front(&self) {
         self.front_ended.store(true, Ordering::SeqCst);
-        self.wake_back();
+        self.back.ring();
     }
 
     /// The flag is set before the front is woken, so that the front sees it once it is awake.
     pub fn end_back(&self) {
         self.back_ended.store(true, Ordering::SeqCst);
-        self.wake_front();
+        self.front.ring();
     }
 }

@@ -2,6 +2,7 @@
 #![tactic(auto)]
 
 mod back;
+mod bell;
 mod fault;
 mod front;
 mod gate;

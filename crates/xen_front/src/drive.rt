@@ -22,15 +22,16 @@ use xen_steps::{Answer, Want};
 /// More events than an activity has: a send has at most 16,467 and a poll at most 16,951.
 const MOST_EVENTS: u32 = 17_000;
 
-/// Makes one event.
-fn drive_event<B: Bus>(front: &mut Front, bus: &mut B, ports: &Ports)
-    requires { IsPageWant (B.size bus.old) (want_of (rest front.old)) }
+/// Makes the event that the front wants.
+fn drive_event<B: Bus>(front: &mut Front, bus: &mut B, ports: &Ports, want: Want)
+    requires wanted { want ≡ want_of (rest front.old) }
+    requires within { IsPageWant (B.size bus.old) want }
     ensures size { B.size bus.new ≡ B.size bus.old }
     ensures same { wiring_of front.new ≡ wiring_of front.old }
     ensures event { (e : Event) × Goes (rest front.old) e (rest front.new)
         × Performs B.log B.access_gives bus.old (accesses (e ∷ [])) bus.new }
 {
-    match front.want() {
+    match want {
         Want::Read(at) => {
             let word = bus.read(at);
             front.feed(Answer::Word(word));
@@ -61,7 +62,7 @@ fn drive_events<B: Bus>(front: &mut Front, bus: &mut B, ports: &Ports)
     for _event in 0..MOST_EVENTS {
         match front.want() {
             Want::Done => return,
-            _ => drive_event(front, bus, ports),
+            want => drive_event(front, bus, ports, want),
         }
     }
 }

@@ -28,7 +28,10 @@ pub(crate) fn choose(ring: &Ring, n: u32) -> ArrayVec<u8, 16>
     let mut ids = ArrayVec::new();
     let mut left = n;
     for i in 0..256u32 {
-        if left > 0 && !ring.out[i as usize] {
+        if left == 0 {
+            break;
+        }
+        if !ring.out[i as usize] {
             ids.push((i % 256) as u8);
             left -= 1;
         }

@@ -48,15 +48,15 @@ loop-done-preserved g c =
       seat = (ap (λ (x : SeatView). x.table) s ∙ i.seat.0, ap (λ (x : SeatView). x.shapes) s ∙ i.seat.1);
       number = ap (λ (x : SeatView). x.number) s ∙ i.number;
       wired = subst (IsWiredFor task c.drive_turn-turn.new.seat.number) (sym o.same.wiring) (subst (λ (n : ℕ). IsWiredFor task n (wiring_of c.loop-done.queue)) (sym (ap (λ (x : SeatView). x.number) s)) i.wired);
-      work = (o.turned ∷ i.work.0, one.0, one.1, c.count-next.ensures.counted ∙ counts_more o.turned i.work.0 _ c.loop-done.row o.shows i.work.3);
+      work = (o.turned ∷ i.work.0, one.0, one.1, c.count.ensures.counted ∙ counts_more o.turned i.work.0 _ c.loop-done.row o.shows i.work.3);
     }
 
 work_of : (task : Task) (turns : ℕ) {row row' : BackRow} {seat seat' : SeatView} → row' ≡ row → seat' ≡ seat → IsWork task turns row seat → IsWork task turns row' seat'
 work_of task turns {row} {row'} {seat} {seat'} same_row same_seat h =
     subst (IsWork task turns row') (sym same_seat) (subst (λ (r : BackRow). IsWork task turns r seat) (sym same_row) h)
 
-pub count-next-requires : goal.count-next-requires
-count-next-requires g c =
+pub count-requires : goal.count-requires
+count-requires g c =
     let i = c.loop-done.invariant in
     let few = counts_few i.work.0 c.loop-done.row i.work.3 in
     let n = i.work.1 in
@@ -83,7 +83,7 @@ returns-clause-work g c =
           let one = next_turn old q start c.loop-done.done _ _ o.trace o.turned o.is_turn o.grown o.same.wiring i.work.0 i.work.1 i.work.2 in
           let wired = subst (IsWiredFor task w.drive_turn-turn.new.seat.number) (sym o.same.wiring) (subst (λ (n : ℕ). IsWiredFor task n (wiring_of old)) (sym (ap (λ (x : SeatView). x.number) s)) i.wired) in
           let few : length (o.turned ∷ i.work.0) ≤ turns = (let t = w.loop-done-test.true in let n = one.0 in omega arith) in
-          work_of task turns w.row-is w.seat-is (is_work task turns w.count-next.new.self w.drive_turn-turn.new.seat q (o.turned ∷ i.work.0) wired one.1 few (inr (rests_idle o.turned i.work.0 _ (w.count-next.ensures.rests w.in-Rests.is) o.shows)) (w.count-next.ensures.counted ∙ counts_more o.turned i.work.0 _ c.loop-done.row o.shows i.work.3))
+          work_of task turns w.row-is w.seat-is (is_work task turns w.count.new.self w.drive_turn-turn.new.seat q (o.turned ∷ i.work.0) wired one.1 few (inr (rests_idle o.turned i.work.0 _ (w.count.ensures.rests w.in-Rests.is) o.shows)) (w.count.ensures.counted ∙ counts_more o.turned i.work.0 _ c.loop-done.row o.shows i.work.3))
       | then-loop-done-test+in-Ends w ↦
           let o = w.drive_turn-turn.follows.holds-at-none in
           let s = w.drive_turn-turn.ensures.seat in
@@ -91,5 +91,5 @@ returns-clause-work g c =
           let one = next_turn old q start c.loop-done.done _ _ o.trace o.turned o.is_turn o.grown o.same.wiring i.work.0 i.work.1 i.work.2 in
           let wired = subst (IsWiredFor task w.drive_turn-turn.new.seat.number) (sym o.same.wiring) (subst (λ (n : ℕ). IsWiredFor task n (wiring_of old)) (sym (ap (λ (x : SeatView). x.number) s)) i.wired) in
           let few : length (o.turned ∷ i.work.0) ≤ turns = (let t = w.loop-done-test.true in let n = one.0 in omega arith) in
-          work_of task turns w.row-is w.seat-is (is_work task turns w.count-next.new.self w.drive_turn-turn.new.seat q (o.turned ∷ i.work.0) wired one.1 few (inr (rests_halted o.turned i.work.0 _ (w.count-next.ensures.ends w.in-Ends.is) o.shows)) (w.count-next.ensures.counted ∙ counts_more o.turned i.work.0 _ c.loop-done.row o.shows i.work.3))
+          work_of task turns w.row-is w.seat-is (is_work task turns w.count.new.self w.drive_turn-turn.new.seat q (o.turned ∷ i.work.0) wired one.1 few (inr (rests_halted o.turned i.work.0 _ (w.count.ensures.ends w.in-Ends.is) o.shows)) (w.count.ensures.counted ∙ counts_more o.turned i.work.0 _ c.loop-done.row o.shows i.work.3))
     ]
