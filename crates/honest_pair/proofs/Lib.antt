@@ -1,4 +1,3 @@
-pub mod WiringLemmas
 pub mod BackLemmas
 pub mod WordLemmas
 pub mod FrontLemmas

@@ -1,7 +1,6 @@
 //! One front and one back queue over one memory, event by event.
 #![tactic(auto)]
 
-mod buffers;
 mod event;
 mod making;
 mod memory;

@@ -1,6 +1,7 @@
 //! Making the front of a pair.
 ghost use Rattle.std.specs.Prelude.{◌≡◌, IfOk};
-ghost use Rattle.honest_pair.specs.Made.{IsFresh, granted_from};
+ghost use Rattle.honest_pair.specs.Made.{IsFresh};
+ghost use Rattle.xdp_world.specs.Buffers.{granted_from};
 
 use std::alloc::{AllocError, Global};
 use xdp_world::{BACK, Layout};

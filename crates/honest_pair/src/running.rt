@@ -3,7 +3,6 @@ ghost use Rattle.std.specs.Prelude.{◌≡◌, IfOk, OnOk};
 ghost use Rattle.honest_pair.specs.Events.{events_in};
 ghost use Rattle.honest_pair.specs.Runs.{HasDone, IsPairRun};
 
-use crate::buffers::buffers;
 use crate::event::PairEvent;
 use crate::making::front;
 use crate::memory::Memory;
@@ -13,7 +12,7 @@ use bpf_vm::Buffer;
 use pair_laws::pair_law;
 use pair_machine::reads_are_faithful;
 use std::alloc::{AllocError, Global};
-use xdp_world::{Layout, Report, World};
+use xdp_world::{Layout, Report, World, buffers_from};
 
 /// What a run of a pair gave: the back's report, and the packets that the front received.
 #[derive(Drop)]
@@ -51,8 +50,8 @@ impl Pair<'_, '_, '_> {
         let layout = Layout::make(alloc, 1)?;
         let mut room = [Buffer::make(alloc)?];
         let world = World::make(alloc, &layout, program, &mut room, 1, 0, start)?;
-        let tx = buffers(alloc, 2)?;
-        let rx = buffers(alloc, 258)?;
+        let tx = buffers_from(alloc, 2)?;
+        let rx = buffers_from(alloc, 258)?;
         let front = front(alloc, &layout, tx.as_slice(), rx.as_slice(), start)?;
         let memory = Memory::make(alloc, start)?;
         let mut pair = Pair {

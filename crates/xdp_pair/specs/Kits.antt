@@ -1,21 +1,11 @@
 -- What the threads are given.
-use Rattle.std.specs.Prelude.{ℕ, suc, zero, ◌+◌, ◌*◌, ◌<◌, ◌≡◌, List, [], ◌∷◌, map, length, true}
-use Rattle.std.specs.List.{range_with_len}
+use Rattle.std.specs.Prelude.{ℕ, suc, zero, ◌+◌, ◌*◌, ◌<◌, ◌≡◌, List, [], ◌∷◌, length, true}
 use Rattle.bpf_maps.specs.Seats.{CountersView, new_seat}
 use Rattle.xdp_world.specs.Frames.{frame_of, owners_of}
-use Rattle.xen_buffers.specs.declared.wiring.Buffer.{Buffer}
 use Rattle.xen_front.specs.Fronts.{wiring_of}
 use Rattle.xen_page.specs.Mapping.{IsMappedBy}
 use Rattle.xdp_pair.specs.declared.kits.BackKit.{BackKit}
 use Rattle.xdp_pair.specs.declared.kits.FrontKit.{FrontKit}
-
--- the buffer that a reference grants
-abbrev pub granted : ℕ → Buffer
-granted gref = record { gref = gref; frame = frame_of gref }
-
--- the 256 buffers with the references from this one on
-abbrev pub granted_from : ℕ → List Buffer
-granted_from first = map granted (range_with_len first 256)
 
 -- the number of a kit's seat
 abbrev pub number_of : BackKit → ℕ

@@ -2,23 +2,21 @@
 ghost use Rattle.std.specs.Prelude.{◌≡◌, ◌<◌, ◌≤◌, ◌*◌, ◌+◌, All, map, length, vec_len, IfOk};
 ghost use Rattle.bpf_maps.specs.Seats.{CountersView, new_seats};
 ghost use Rattle.xdp_world.specs.Frames.{frame_of, owners_of};
+ghost use Rattle.xdp_world.specs.Buffers.{granted_from};
 ghost use Rattle.xen_front.specs.Fronts.{state_of, wiring_of};
-ghost use Rattle.xdp_pair.specs.Kits.{IsBackOf, IsFrontOf, falling, granted_from, number_of};
+ghost use Rattle.xdp_pair.specs.Kits.{IsBackOf, IsFrontOf, falling, number_of};
 
 use crate::fault::PairFault;
-use crate::rings::{FIRST_GRANTED, REFERENCES, make_ring};
+use crate::rings::{FIRST_GRANTED, make_ring};
 use crate::shared::Shared;
 use bpf_maps::CounterSeat;
 use bpf_vm::Buffer as PacketRoom;
 use crossbeam_utils::sync::Parker;
 use std::alloc::{AllocError, Global};
-use xdp_world::BACK;
+use xdp_world::{BACK, REFERENCES, buffers_from};
 use xen_front::{Buffer, Front, FrontDesc};
 use xen_page::Mapped;
 use xen_ring::Port;
-
-/// How many buffers a ring has.
-const BUFFERS: u32 = 256;
 
 /// The first buffers' references of a queue, after those of its two rings.
 const TX_BUFFERS: u32 = 2;
@@ -89,22 +87,6 @@ pub(crate) fn make_backs(
     Ok(backs)
 }
 
-/// The buffers with the references from `first` on.
-fn buffers(alloc: Global, first: u32) -> Result<Vec<Buffer>, AllocError>
-    requires { first ≤ 8192 }
-    ensures { IfOk result (λ v. v.items ≡ granted_from first) }
-{
-    let mut buffers = Vec::with_capacity(alloc, BUFFERS as usize)?;
-    for id in 0..BUFFERS {
-        let gref = first + id;
-        buffers.push(Buffer {
-            gref,
-            frame: FIRST_GRANTED + gref,
-        })?;
-    }
-    Ok(buffers)
-}
-
 /// The buffers of each front, in the queues' order.
 pub(crate) fn make_pages(alloc: Global, count: usize) -> Result<Vec<FrontPages>, AllocError>
     requires { count ≤ 8 }
@@ -114,8 +96,8 @@ pub(crate) fn make_pages(alloc: Global, count: usize) -> Result<Vec<FrontPages>,
     let mut pages = Vec::with_capacity(alloc, count)?;
     for queue in 0..count {
         let first = REFERENCES * queue as u32;
-        let tx = buffers(alloc, first + TX_BUFFERS)?;
-        let rx = buffers(alloc, first + RX_BUFFERS)?;
+        let tx = buffers_from(alloc, first + TX_BUFFERS)?;
+        let rx = buffers_from(alloc, first + RX_BUFFERS)?;
         pages.push(FrontPages { queue, tx, rx })?;
     }
     Ok(pages)

@@ -10,9 +10,6 @@ use xdp_world::{BACK, FRONT};
 use xen_page::{Bus, Mapped, PageBus, Place, map};
 use xen_ring::{REQ_EVENT, REQ_PROD, RSP_EVENT, RSP_PROD};
 
-/// How many references a queue has.
-pub(crate) const REFERENCES: u32 = 514;
-
 /// The frame that reference 0 grants.
 pub(crate) const FIRST_GRANTED: u32 = 17;
 

@@ -8,8 +8,9 @@ use Rattle.xen_front.specs.Fronts.{state_of}
 use Rattle.xen_front.specs.Making.{IsMade, IsNew}
 use Rattle.xen_front.specs.declared.front.Front.{Front}
 use Rattle.pair_machine.specs.Layout.{table_frames}
-use Rattle.honest_pair.specs.Made.{IsFresh, granted, granted_from}
-use Rattle.honest_pair.proofs.WiringLemmas.{is_wired}
+use Rattle.honest_pair.specs.Made.{IsFresh}
+use Rattle.xdp_world.specs.Buffers.{granted, granted_from}
+use Rattle.xdp_world.proofs.WiringLemmas.{is_wired}
 use Rattle.honest_pair.proofs.making.front.Goals as goal
 
 pub make-requires : goal.make-requires

@@ -2,8 +2,8 @@ use Rattle.std.proofs.Common.{◌≡◌, ℕ, List, ◌∷◌, ◌++◌, [], ◌
 use Rattle.std.specs.List.{range_with_len}
 use Rattle.std.proofs.lemmas.List.FromFn.{map-range_with_len_more}
 use Rattle.xen_buffers.specs.declared.wiring.Buffer.{Buffer}
-use Rattle.honest_pair.specs.Made.{granted, granted_from}
-use Rattle.honest_pair.proofs.buffers.buffers.Goals as goal
+use Rattle.xdp_world.specs.Buffers.{granted, granted_from}
+use Rattle.xdp_world.proofs.buffers.buffers_from.Goals as goal
 
 pub loop-id-preserved : goal.loop-id-preserved
 loop-id-preserved c =

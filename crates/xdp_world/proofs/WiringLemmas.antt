@@ -11,7 +11,7 @@ use Rattle.xen_buffers.specs.declared.wiring.Wiring.{Wiring}
 use Rattle.xen_page.specs.Table.{entry_place}
 use Rattle.xdp_world.specs.Frames.{owners_of, table_frames}
 use Rattle.xdp_world.proofs.FrameLemmas.{outside_not}
-use Rattle.honest_pair.specs.Made.{granted, granted_from}
+use Rattle.xdp_world.specs.Buffers.{granted, granted_from}
 
 -- two runs of 256 numbers, the second behind the first
 run_at : (f : ℕ → ℕ) (s i d : ℕ) → i < 512 → get_or (map f (range_with_len s 256) ++ map f (range_with_len (s + 256) 256)) i d ≡ f (s + i)

@@ -1,17 +1,13 @@
-//! The front's buffers.
+//! The buffers of a front.
 ghost use Rattle.std.specs.Prelude.{◌≡◌, ◌≤◌, IfOk};
-ghost use Rattle.honest_pair.specs.Made.{granted_from};
+ghost use Rattle.xdp_world.specs.Buffers.{granted_from};
 
+use crate::places::{BUFFERS, FIRST_GRANTED};
 use std::alloc::{AllocError, Global};
-use xen_front::Buffer;
+use xen_buffers::Buffer;
 
-/// How many buffers each ring has.
-const BUFFERS: u32 = 256;
-/// The frame that reference 0 grants.
-const FIRST_GRANTED: u32 = 17;
-
-/// The buffers with the references from `first` on.
-pub(crate) fn buffers(alloc: Global, first: u32) -> Result<Vec<Buffer>, AllocError>
+/// The 256 buffers with the references from `first` on, each the page that [`Layout`](crate::Layout) has for its reference.
+pub fn buffers_from(alloc: Global, first: u32) -> Result<Vec<Buffer>, AllocError>
     requires { first ≤ 8192 }
     ensures { IfOk result (λ v. v.items ≡ granted_from first) }
 {

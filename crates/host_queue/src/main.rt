@@ -1,0 +1,104 @@
+//! A host that drives a queue of netback over a bus of its own. docs/EMBEDDING.md shows this file and its modules.
+#![tactic(auto)]
+
+mod bus;
+mod guest;
+
+use crate::bus::Pages;
+use crate::guest::{BACK, FRONT, OWNERS, RX, TABLE, TX, lend, send};
+use bpf_insn::decode;
+use bpf_maps::Counters;
+use bpf_verify::verify;
+use bpf_vm::Buffer;
+use std::alloc::{AllocError, Global};
+use std::io;
+use xen_back::{Queue, QueueDesc, Turn};
+use xen_page::{GrantFault, Owners, Table, map};
+use xen_ring::{Port, Ports};
+
+/// `r0 = 2` and `exit`: each packet passes.
+const PASSES: &[u8] = b"\xb7\x00\x00\x00\x02\x00\x00\x00\x95\x00\x00\x00\x00\x00\x00\x00";
+
+/// Why a turn wasn't made, or wasn't told.
+#[derive(Drop)]
+enum Fault {
+    Memory,
+    Refused,
+    Output(io::Error),
+}
+
+impl From<AllocError> for Fault {
+    fn from(_error: AllocError) -> Fault {
+        Fault::Memory
+    }
+}
+
+impl From<io::Error> for Fault {
+    fn from(error: io::Error) -> Fault {
+        Fault::Output(error)
+    }
+}
+
+impl From<GrantFault> for Fault {
+    fn from(_fault: GrantFault) -> Fault {
+        Fault::Refused
+    }
+}
+
+/// What a host does with a turn: this one prints it.
+fn take(rt: &HostRuntime, turn: Turn<'_>) -> io::Result<()> {
+    match turn {
+        Turn::Ran { action, packet, .. } => {
+            println!(rt; "{}, {} bytes", action.name(), packet.len())
+        }
+        Turn::Idle => println!(rt; "idle"),
+        Turn::Refused { .. } => println!(rt; "refused"),
+        Turn::Halted { .. } => println!(rt; "halted"),
+    }
+}
+
+/// A queue over the guest's rings, and two turns of it: one packet, and then none.
+fn serve(rt: &HostRuntime, alloc: Global) -> Result<(), Fault> {
+    let code = decode(alloc, PASSES).map_err(|_| Fault::Refused)?;
+    let program = verify(alloc, code, &[]).map_err(|_| Fault::Refused)?;
+    let owners = Owners::make(alloc, &OWNERS)?;
+    let table = Table::make(&owners, FRONT, &[TABLE]).ok_or(Fault::Refused)?;
+    let mut pages = Pages::make(alloc)?;
+    lend(&mut pages);
+    let tx = map(&mut pages, &table, &owners, FRONT, BACK, TX, true)?;
+    let rx = map(&mut pages, &table, &owners, FRONT, BACK, RX, true)?;
+    let desc = QueueDesc {
+        tx,
+        rx,
+        table: &table,
+        owners: &owners,
+        granter: FRONT,
+        user: BACK,
+        ifindex: 1,
+        queue: 0,
+        port: Port::of(1).ok_or(Fault::Refused)?,
+        start: 0,
+    };
+    let mut room = Buffer::make(alloc)?;
+    let mut queue = Queue::make(&program, desc, &mut room);
+    let (counters, mut seats) = Counters::make(alloc, program.shapes(), 1)?;
+    let mut seat = seats.pop().ok_or(Fault::Refused)?;
+    let ports = Ports::new();
+    send(&mut pages);
+    for _turn in 0..2 {
+        take(
+            rt,
+            queue.drive_turn(&mut pages, &counters, &mut seat, &ports),
+        )?;
+    }
+    Ok(())
+}
+
+fn main(rt: HostRuntime) -> io::Result<()> {
+    match serve(&rt, rt.alloc()) {
+        Ok(()) => Ok(()),
+        Err(Fault::Output(error)) => Err(error),
+        Err(Fault::Refused) => println!(rt; "refused"),
+        Err(Fault::Memory) => println!(rt; "out of memory"),
+    }
+}
