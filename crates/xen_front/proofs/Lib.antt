@@ -1,4 +1,5 @@
 pub mod RestLemmas
+pub mod StraightLemmas
 pub mod ActivityLemmas
 pub mod IdLemmas
 pub mod BoundLemmas

@@ -10,3 +10,4 @@ pub mod Fronts
 pub mod Laws
 pub mod Making
 pub mod Drive
+pub mod Straight

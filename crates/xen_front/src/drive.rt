@@ -14,13 +14,19 @@ ghost use Rattle.xen_steps.specs.Event.{Event};
 ghost use Rattle.xen_steps.specs.Steps.{want_of};
 
 use crate::front::Front;
+use crate::phase::Phase;
+use crate::straight::past_piece;
 use crate::turn::RxTurn;
+use std::mem;
 use xen_page::Bus;
 use xen_ring::Ports;
 use xen_steps::{Answer, Want};
 
 /// More events than an activity has: a send has at most 16,467 and a poll at most 16,951.
 const MOST_EVENTS: u32 = 17_000;
+
+/// The most pieces of a packet.
+const MOST_PIECES: u32 = 16;
 
 /// Makes the event that the front wants.
 fn drive_event<B: Bus>(front: &mut Front, bus: &mut B, ports: &Ports, want: Want)
@@ -48,6 +54,39 @@ fn drive_event<B: Bus>(front: &mut Front, bus: &mut B, ports: &Ports, want: Want
         Want::Load { .. } => unreachable!(),
         Want::Add { .. } => unreachable!(),
         Want::Done => unreachable!(),
+    }
+}
+
+/// Makes all writes of a piece, where the front is before one.
+fn drive_piece<B: Bus>(front: &mut Front, bus: &mut B)
+    requires { (wiring_of front.old).frames ≤ B.size bus.old }
+    ensures size { B.size bus.new ≡ B.size bus.old }
+    ensures same { wiring_of front.new ≡ wiring_of front.old }
+    ensures driven { (t : List Event) × Driven B.log B.access_gives (rest front.old) (rest front.new) bus.old bus.new t }
+{
+    let phase = mem::replace(&mut front.phase, Phase::Ready);
+    front.phase = past_piece(
+        &front.wiring,
+        &front.state,
+        front.sent.bytes(),
+        &front.received,
+        phase,
+        bus,
+    );
+}
+
+/// Makes all writes of a packet's pieces, where the front is before the first.
+fn drive_pieces<B: Bus>(front: &mut Front, bus: &mut B)
+    requires { (wiring_of front.old).frames ≤ B.size bus.old }
+    ensures size { B.size bus.new ≡ B.size bus.old }
+    ensures same { wiring_of front.new ≡ wiring_of front.old }
+    ensures driven { (t : List Event) × Driven B.log B.access_gives (rest front.old) (rest front.new) bus.old bus.new t }
+{
+    for _piece in 0..MOST_PIECES {
+        match &front.phase {
+            Phase::GrantFrame(_) => drive_piece(front, bus),
+            _ => break,
+        }
     }
 }
 
@@ -79,6 +118,7 @@ impl<'p> Front<'p> {
             self.entry.ghost_name none (λ _ _. ⊤)
             (λ f. IsDriven B.log B.access_gives self.old f result bus.old bus.new)) }
     {
+        drive_pieces(self, bus);
         drive_events(self, bus, ports);
         self.received()
     }

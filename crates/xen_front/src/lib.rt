@@ -16,6 +16,7 @@ mod posting;
 mod receiving;
 mod sending;
 pub mod state;
+mod straight;
 mod taking;
 pub mod turn;
 

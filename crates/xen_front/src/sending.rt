@@ -25,7 +25,7 @@ use xen_page::Place;
 use xen_steps::{Want, tx_entry};
 
 /// A grant's flags that let the back read: `GTF_permit_access` and `GTF_readonly`.
-const READ_GRANT: u32 = 5;
+pub(crate) const READ_GRANT: u32 = 5;
 
 /// The id of a piece.
 fn id(piece: &Piece) -> u8
@@ -43,7 +43,7 @@ fn pieces(piece: &Piece) -> u32
 }
 
 /// The buffer of a piece.
-fn page(wiring: &Wiring, piece: &Piece) -> Buffer
+pub(crate) fn page(wiring: &Wiring, piece: &Piece) -> Buffer
     ensures { result ≡ buffer wiring.now.tx.now (id_of piece.now) }
 {
     buffer_of(wiring.tx, u16::from(id(piece)))
@@ -83,7 +83,7 @@ fn told_size(sent: &[u8], index: u32) -> u16
 }
 
 /// The request of a piece.
-fn request(wiring: &Wiring, sent: &[u8], piece: &Piece) -> TxReq
+pub(crate) fn request(wiring: &Wiring, sent: &[u8], piece: &Piece) -> TxReq
     requires { length sent.now ≤ 65535 }
     ensures { result ≡ piece_request_lem wiring.now sent.now (pieces_lem piece.now) piece.now.index (id_of piece.now) }
 {

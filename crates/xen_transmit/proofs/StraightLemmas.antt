@@ -35,15 +35,6 @@ use Rattle.xen_transmit.specs.declared.target.Target.{Target}
 use Rattle.xen_transmit.specs.declared.vif.Vif.{Vif}
 use Rattle.xen_transmit.proofs.SendLemmas.{rx_answer_at}
 
--- what was driven, and then more
-pub driven_append : {A S : Type 0} (log : S → Option (List Access)) (gives : S → Access → S → Type 0) (s m s' : Steps A) (a b c : S) (t u : List Event) →
-    Driven log gives s m a b t → Driven log gives m s' b c u → Driven log gives s s' a c (t ++ u)
-driven_append log gives s m s' a b c t u d e =
-    record {
-      gone = gone_append s m s' t u d.gone e.gone;
-      performed = rw accesses-append (performs_then log gives a b c (accesses t) (accesses u) d.performed e.performed);
-    }
-
 goes_bind : {A B : Type 0} (s s' : Steps A) (e : Event) (f : A → Steps B) → Goes s e s' → Goes (bind s f) e (bind s' f)
 goes_bind (done x) s' e f g = absurd g.1
 goes_bind (ask w k) s' e f g = (g.0, g.1, ap (λ q. bind q f) g.2)

@@ -10,7 +10,8 @@ use Rattle.xen_steps.specs.Places.{page_word}
 use Rattle.xen_steps.specs.Steps.{Steps}
 use Rattle.xen_transmit.specs.Packets.{buffer_word, word_of, words}
 use Rattle.xen_transmit.specs.Transmit.{fill}
-use Rattle.xen_transmit.proofs.StraightLemmas.{driven_append, fill_end, fill_one, word_in_page}
+use Rattle.xen_steps.proofs.DriveLemmas.{driven_append}
+use Rattle.xen_transmit.proofs.StraightLemmas.{fill_end, fill_one, word_in_page}
 use Rattle.xen_transmit.proofs.straight.fill_buffer.Goals as goal
 
 pub loop-k-preserved : goal.loop-k-preserved

@@ -5,7 +5,8 @@ use Rattle.xen_steps.specs.Steps.{Steps}
 use Rattle.xen_steps.proofs.FinishLemmas.{finishes_gone}
 use Rattle.xen_transmit.specs.Packets.{words}
 use Rattle.xen_transmit.specs.Transmit.{fill}
-use Rattle.xen_transmit.proofs.StraightLemmas.{driven_append, fill_none}
+use Rattle.xen_steps.proofs.DriveLemmas.{driven_append}
+use Rattle.xen_transmit.proofs.StraightLemmas.{fill_none}
 use Rattle.xen_transmit.proofs.straight.fill_buffers.Goals as goal
 
 pub fill_buffer-requires-clause-left : goal.fill_buffer-requires-clause-left

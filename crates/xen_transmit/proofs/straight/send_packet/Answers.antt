@@ -8,7 +8,8 @@ use Rattle.xen_transmit.specs.Transmit.{after_targets, found, read_targets, tran
 use Rattle.xen_transmit.specs.declared.phase.Outcome.{Outcome}
 use Rattle.xen_transmit.proofs.Bounds.{bounded_transmit}
 use Rattle.xen_transmit.proofs.EndLemmas.{ends_transmit}
-use Rattle.xen_transmit.proofs.StraightLemmas.{driven_append, found_enough}
+use Rattle.xen_steps.proofs.DriveLemmas.{driven_append}
+use Rattle.xen_transmit.proofs.StraightLemmas.{found_enough}
 use Rattle.xen_transmit.proofs.straight.send_packet.Goals as goal
 
 pub send_pages-requires-clause-left : goal.send_pages-requires-clause-left

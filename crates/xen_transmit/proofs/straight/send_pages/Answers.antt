@@ -3,13 +3,13 @@ use Rattle.xen_steps.specs.Drive.{Driven, IsPageWant}
 use Rattle.xen_steps.specs.Event.{Event}
 use Rattle.xen_steps.specs.Finish.{Finishes}
 use Rattle.xen_steps.specs.Steps.{Steps, bind, done}
-use Rattle.xen_steps.proofs.DriveLemmas.{driven_none}
+use Rattle.xen_steps.proofs.DriveLemmas.{driven_append, driven_none}
 use Rattle.xen_steps.proofs.FinishLemmas.{finishes_gone}
 use Rattle.xen_transmit.specs.Packets.{pages, words}
 use Rattle.xen_transmit.specs.Straight.{scanned}
 use Rattle.xen_transmit.specs.Transmit.{after_targets, fill, outcome_of, read_targets, rx_publish, rx_respond}
 use Rattle.xen_transmit.specs.declared.phase.Outcome.{Outcome}
-use Rattle.xen_transmit.proofs.StraightLemmas.{driven_append, driven_bind, fill_finishes, filled_driven}
+use Rattle.xen_transmit.proofs.StraightLemmas.{driven_bind, fill_finishes, filled_driven}
 use Rattle.xen_transmit.proofs.straight.send_pages.Goals.{then-passed, else-passed}
 use Rattle.xen_transmit.proofs.straight.send_pages.Goals as goal
 

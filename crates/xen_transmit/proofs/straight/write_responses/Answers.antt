@@ -9,7 +9,8 @@ use Rattle.xen_steps.specs.Places.{add32}
 use Rattle.xen_transmit.specs.Packets.{response_word, target_at}
 use Rattle.xen_transmit.specs.Places.{rx_slot}
 use Rattle.xen_transmit.specs.Transmit.{rx_answer, rx_respond}
-use Rattle.xen_transmit.proofs.StraightLemmas.{driven_append, response_driven}
+use Rattle.xen_steps.proofs.DriveLemmas.{driven_append}
+use Rattle.xen_transmit.proofs.StraightLemmas.{response_driven}
 use Rattle.xen_transmit.proofs.straight.write_responses.Goals as goal
 
 pub loop-i-preserved : goal.loop-i-preserved

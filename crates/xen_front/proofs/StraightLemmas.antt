@@ -1,0 +1,87 @@
+-- Writes one after another, and their accesses.
+use Rattle.std.proofs.Common.{◌≡◌, ℕ, zero, suc, ◌+◌, ◌-◌, ◌*◌, ◌<◌, ◌≤◌, List, [], ◌∷◌, ◌++◌, Option, length, refl, sym, ◌∙◌, ap, arith, subst}
+use Rattle.xen_page.specs.Access.{Performs}
+use Rattle.xen_page.specs.declared.access.Access.{Access}
+use Rattle.xen_page.specs.declared.access.Access.TheVariants as access
+use Rattle.xen_steps.specs.Drive.{Any, Bounded, Driven, Gone, IsPageWant}
+use Rattle.xen_steps.specs.Event.{Event, Write}
+use Rattle.xen_steps.specs.Pages.{PageWrite, write_all, writes}
+use Rattle.xen_steps.specs.Places.{page_word}
+use Rattle.xen_steps.specs.Steps.{Steps}
+use Rattle.xen_steps.specs.declared.want.Want.TheVariants as want
+use Rattle.xen_steps.proofs.DriveLemmas.{bounded_gone, bounded_le, occurs_write}
+use Rattle.xen_front.specs.Slots.{page_writes, word_at}
+use Rattle.xen_front.specs.Rest.{rest_at}
+use Rattle.xen_front.specs.Short.{IsShort}
+use Rattle.xen_front.specs.Straight.{AreOnBus, touched}
+use Rattle.xen_front.specs.declared.phase.Phase.{Phase}
+use Rattle.xen_front.specs.declared.state.State.{State}
+use Rattle.xen_buffers.specs.declared.wiring.Wiring.{Wiring}
+
+-- a word of a packet's page
+abbrev pub page_write : List ℕ → (frame k j : ℕ) → PageWrite
+page_write p frame k j = record { at = page_word frame j; value = word_at p (4096 * k + 4 * j) }
+
+-- one word more
+more_from : (p : List ℕ) (frame k n j : ℕ) → page_writes p frame k (suc n) j ≡ page_writes p frame k n j ++ page_write p frame k (j + n) ∷ []
+more_from p frame k zero j = let e : j ≡ j + 0 = omega arith in ap (λ i. page_write p frame k i ∷ []) e
+more_from p frame k (suc n) j =
+    let e : j + 1 + n ≡ j + suc n = omega arith in
+    ap (λ ns. page_write p frame k j ∷ ns) (more_from p frame k n (j + 1) ∙ ap (λ i. page_writes p frame k n (j + 1) ++ page_write p frame k i ∷ []) e)
+
+pub page_writes_more : (p : List ℕ) (frame k n : ℕ) → page_writes p frame k (n + 1) 0 ≡ page_writes p frame k n 0 ++ page_write p frame k n ∷ []
+page_writes_more p frame k n =
+    let e : n + 1 ≡ suc n = omega arith in
+    let z : 0 + n ≡ n = omega arith in
+    ap (λ m. page_writes p frame k m 0) e ∙ more_from p frame k n 0 ∙ ap (λ i. page_writes p frame k n 0 ++ page_write p frame k i ∷ []) z
+
+pub touched-append : (ns ms : List PageWrite) → touched (ns ++ ms) ≡ touched ns ++ touched ms
+touched-append [] ms = refl
+touched-append (n ∷ ns) ms = ap (λ l. access.Write n.at n.value ∷ l) (touched-append ns ms)
+
+-- where a word of a page lies
+pub word_on_bus : (frames : ℕ) (p : List ℕ) (frame k n j i : ℕ) → AreOnBus frames (page_writes p frame k n j) → i < n → (frame < frames) × (j + i < 1024)
+word_on_bus frames p frame k zero j i on h = absurd (omega (arith, h))
+word_on_bus frames p frame k (suc n) j zero on h = (on.0, let l = on.1 in omega (arith, l))
+word_on_bus frames p frame k (suc n) j (suc i) on h =
+    let r = word_on_bus frames p frame k n (j + 1) i on.2 (omega (arith, h)) in
+    (r.0, let l = r.1 in omega (arith, l))
+
+-- the first of two runs of writes, and the second
+pub first_on_bus : (frames : ℕ) (ns ms : List PageWrite) → AreOnBus frames (ns ++ ms) → AreOnBus frames ns
+first_on_bus frames [] ms on = tt
+first_on_bus frames (n ∷ ns) ms on = (on.0, on.1, first_on_bus frames ns ms on.2)
+
+pub second_on_bus : (frames : ℕ) (ns ms : List PageWrite) → AreOnBus frames (ns ++ ms) → AreOnBus frames ms
+second_on_bus frames [] ms on = on
+second_on_bus frames (n ∷ ns) ms on = second_on_bus frames ns ms on.2
+
+-- the writes that a computation asks for lie on its bus
+pub bounded_writes : {A : Type 0} (frames : ℕ) (ns : List PageWrite) (rest : Steps A) (n : ℕ) → Bounded (IsPageWant frames) Any (write_all ns rest) n → AreOnBus frames ns
+bounded_writes frames [] rest n b = tt
+bounded_writes frames (x ∷ ns) rest n b = (b.1.0, b.1.1, bounded_writes frames ns rest (n - 1) (b.2 0))
+
+-- and on one of more frames
+pub on_more_frames : (frames more : ℕ) → frames ≤ more → (ns : List PageWrite) → AreOnBus frames ns → AreOnBus more ns
+on_more_frames frames more le [] on = tt
+on_more_frames frames more le (n ∷ ns) on = (omega (arith, le, on.0), on.1, on_more_frames frames more le ns on.2)
+
+gone_writes : {A : Type 0} (ns : List PageWrite) (rest : Steps A) → Gone (write_all ns rest) (writes ns) rest
+gone_writes [] rest = refl
+gone_writes (n ∷ ns) rest = (write_all ns rest, (0, occurs_write (want.Write n.at n.value) n.at n.value refl, refl), gone_writes ns rest)
+
+-- what is written in one go is what is asked for, write by write
+pub driven_writes : {A S : Type 0} (log : S → Option (List Access)) (gives : S → Access → S → Type 0) (ns : List PageWrite) (rest : Steps A) (a b : S) →
+    Performs log gives a (touched ns) b → Driven log gives (write_all ns rest) rest a b (writes ns)
+driven_writes log gives ns rest a b h = record { gone = gone_writes ns rest; performed = h }
+
+pub write_all-append : {A : Type 0} (ns ms : List PageWrite) (rest : Steps A) → write_all (ns ++ ms) rest ≡ write_all ns (write_all ms rest)
+write_all-append [] ms rest = refl
+write_all-append (n ∷ ns) ms rest = ap (λ s. Steps.ask (want.Write n.at n.value) (λ _. s)) (write_all-append ns ms rest)
+
+-- what is left stays short
+pub short_gone : (w : Wiring) (s : State) (p q : List ℕ) (x y : Phase) (t : List Event) → IsShort w s p q x → Gone (rest_at w s p q x) t (rest_at w s p q y) → IsShort w s p q y
+unfolding IsShort
+short_gone w s p q x y t h g =
+    bounded_le (IsPageWant w.frames) Any (rest_at w s p q y) (17000 - length t) 17000
+    (bounded_gone (IsPageWant w.frames) Any (rest_at w s p q x) (rest_at w s p q y) t 17000 h g) (omega arith)
