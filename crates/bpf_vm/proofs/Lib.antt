@@ -11,3 +11,4 @@ mod AfterLemmas
 mod AdvanceLemmas
 mod WalkLemmas
 mod OperandLemmas
+mod ExitLemmas

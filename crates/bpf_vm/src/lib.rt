@@ -4,6 +4,7 @@
 mod action;
 mod buffer;
 mod bytes;
+mod ended;
 mod execute;
 mod laws;
 mod machine;
@@ -17,9 +18,10 @@ mod want;
 
 pub use action::Action;
 pub use buffer::Buffer;
+pub use ended::Ended;
 pub use laws::accepted_programs_end;
 pub use packet::{PacketBuf, PacketFault};
-pub use run::{Ended, run_to_end};
+pub use run::run_to_end;
 pub use vm::Vm;
 pub use want::VmWant;
 

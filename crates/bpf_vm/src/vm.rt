@@ -10,10 +10,12 @@ ghost use Rattle.bpf_vm.specs.Running.{Advances, Asks, first_numbers, state_of};
 ghost use Rattle.bpf_vm.specs.Stands.{Stands, now, own, exits, Ends, label_of};
 ghost use Rattle.bpf_vm.specs.Wants.{IsLoad, IsAdd, IsNoStep};
 
+use crate::ended::Ended;
 use crate::machine::Machine;
 use crate::packet::PacketBuf;
 use crate::turn::{Stop, Turn};
 use crate::want::VmWant;
+use bpf_insn::Register;
 use bpf_verify::Verified;
 use std::marker::Model;
 
@@ -152,17 +154,34 @@ impl<'p, 'b> Vm<'p, 'b> {
         ensures course { (r0 : ℕ) × (left self.entry ≡ Exiting r0 result.1.bytes) × (result.0 ≡ r0 % 2 ^ 32) }
         ensures room { result.1.room ≡ self.entry.numbers.packet.room }
     {
-        match self.want() {
-            VmWant::Exit { r0 } => {
-                let Vm {
-                    program: _,
-                    machine,
-                    pc: _,
-                    count: _,
-                } = self;
-                ((r0 % 0x1_0000_0000) as u32, machine.into_packet())
-            }
-            _ => unreachable!(),
+        let Ended { number, packet, .. } = self.end();
+        (number, packet)
+    }
+
+    /// The number, the packet and how many instructions are done, at the exit. It isn't looked up again: an exit ends with
+    /// what `r0` holds.
+    pub fn end(self) -> Ended<'b>
+        requires { Ends (now self) }
+        ensures stands { (s : State) → Stands self.entry s → (r0 : ℕ) × (step self.entry.program.code s ≡ Exited r0) ×
+            (result.number ≡ r0 % 2 ^ 32) × (result.packet.bytes ≡ s.packet) }
+        ensures own { (r0 : ℕ) × (now self.entry ≡ Exited r0) ×
+            (result.number ≡ r0 % 2 ^ 32) × (result.packet.bytes ≡ (own self.entry).packet) }
+        ensures course { (r0 : ℕ) × (left self.entry ≡ Exiting r0 result.packet.bytes) × (result.number ≡ r0 % 2 ^ 32) }
+        ensures room { result.packet.room ≡ self.entry.numbers.packet.room }
+        ensures instructions { result.instructions ≡ self.entry.count + 1 }
+        ensures bound { result.instructions ≤ instructions self.entry.program.code }
+    {
+        let Vm {
+            program: _,
+            machine,
+            pc: _,
+            count,
+        } = self;
+        let r0 = machine.register(Register::R0);
+        Ended {
+            number: (r0 % 0x1_0000_0000) as u32,
+            packet: machine.into_packet(),
+            instructions: count + 1,
         }
     }
 }

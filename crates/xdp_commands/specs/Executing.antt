@@ -8,7 +8,7 @@ use Rattle.bpf_note.specs.Shape.{Shape}
 use Rattle.bpf_verify.specs.FirstRefusal.{IsFaultless, IsRefusal}
 use Rattle.bpf_verify.specs.Consistent.{Accepted as Program, instructions}
 use Rattle.bpf_vm.specs.Run.{IsRunOf}
-use Rattle.bpf_vm.specs.declared.run.Ended.{Ended}
+use Rattle.bpf_vm.specs.declared.ended.Ended.{Ended}
 use Rattle.xdp_load.specs.Setup.{SetupView}
 use Rattle.xdp_world.specs.Report.{IsCoreRun}
 use Rattle.xdp_world.specs.declared.report.Report.{Report}

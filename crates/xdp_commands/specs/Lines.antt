@@ -4,7 +4,7 @@ use Rattle.hex.specs.Hex.{encode_lower}
 use Rattle.bpf_insn.specs.Cause.{refusal_text}
 use Rattle.bpf_insn.specs.declared.refusal.Refusal.{Refusal}
 use Rattle.bpf_vm.specs.Actions.{action_name, action_of}
-use Rattle.bpf_vm.specs.declared.run.Ended.{Ended}
+use Rattle.bpf_vm.specs.declared.ended.Ended.{Ended}
 use Rattle.xdp_load.specs.FaultNumber.{fault_number}
 use Rattle.xdp_load.specs.declared.fault.LoadFault.{LoadFault}
 use Rattle.xdp_world.specs.declared.report.Report.{Report}

@@ -8,8 +8,9 @@ mod settings;
 
 pub use bpf_insn::{Cause, Refusal};
 pub use bpf_verify::MapShape;
+pub use bpf_vm::Ended;
 pub use fault::{LoadFault, SettingsFault};
 pub use program::{Program, Run};
-pub use run::{Ended, run_on};
+pub use run::run_on;
 pub use settings::load_settings;
 pub use xdp_load::{Fault, LoadFault as TextFault};

@@ -1,10 +1,10 @@
 //! An accepted program that its holder owns.
 use crate::fault::LoadFault;
-use crate::run::{Ended, run_on};
+use crate::run::run_on;
 use bpf_insn::{Cause, Refusal, decode, spelling_is_unique};
 use bpf_maps::{place, total};
 use bpf_verify::{MapShape, Verified, faultless_programs_are_accepted, verify};
-use bpf_vm::PacketBuf;
+use bpf_vm::{Ended, PacketBuf};
 use std::alloc::{AllocError, Global};
 use std::marker::Model;
 

@@ -6,15 +6,7 @@ ghost use Rattle.xdp_program.specs.Ran.{Ran};
 
 use bpf_maps::place;
 use bpf_verify::Verified;
-use bpf_vm::{PacketBuf, Vm, VmWant};
-
-/// What a run left: the action's number, the packet, and how many instructions were done, the exit included.
-#[derive(Drop)]
-pub struct Ended<'b> {
-    pub number: u32,
-    pub packet: PacketBuf<'b>,
-    pub instructions: u32,
-}
+use bpf_vm::{Ended, PacketBuf, Vm, VmWant};
 
 /// Runs an accepted program on a packet, to its end. The counters of its maps are the first words of `counters`.
 pub fn run_on<'b>(
@@ -44,15 +36,7 @@ pub fn run_on<'b>(
                 counters[at] = old.wrapping_add(delta);
                 vm.added(old);
             }
-            VmWant::Exit { .. } => {
-                let instructions = vm.count();
-                let (number, packet) = vm.finish();
-                return Ended {
-                    number,
-                    packet,
-                    instructions,
-                };
-            }
+            VmWant::Exit { .. } => return vm.end(),
             VmWant::Step => unreachable!(),
         }
     }

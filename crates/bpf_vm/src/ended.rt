@@ -1,0 +1,9 @@
+use crate::packet::PacketBuf;
+
+/// What a run left: the action's number, the packet, and how many instructions were done, the exit included.
+#[derive(Drop)]
+pub struct Ended<'b> {
+    pub number: u32,
+    pub packet: PacketBuf<'b>,
+    pub instructions: u32,
+}
