@@ -8,6 +8,7 @@ ghost use Rattle.xdp_world.specs.Stands.{kept_in};
 
 use crate::kept::Kept;
 use crate::world::World;
+use bpf_maps::Op;
 use xen_back::Want;
 
 impl World<'_, '_> {
@@ -26,5 +27,12 @@ impl World<'_, '_> {
         ensures { result.now ≡ kept_in self.now.turns.items queue }
     {
         self.turns[queue].as_slice()
+    }
+
+    /// All counter operations so far, in order, with their queues.
+    pub fn history(&self) -> &[(usize, Op)]
+        ensures { result.now ≡ self.now.history.items }
+    {
+        self.history.as_slice()
     }
 }

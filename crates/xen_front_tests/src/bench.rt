@@ -1,9 +1,8 @@
 //! What fronts of the tests stand on.
-ghost use Rattle.std.specs.Prelude.{◌≡◌, IfOk};
+ghost use Rattle.std.specs.Prelude.{◌≡◌, IfSome};
 ghost use Rattle.xen_front.specs.Fronts.{wiring_of};
 
 use std::alloc::{AllocError, Global};
-use std::test::Fail;
 use xen_front::{Buffer, Front, FrontDesc};
 use xen_page::{Owners, Table};
 use xen_ring::Port;
@@ -80,23 +79,23 @@ impl Bench {
         }
     }
 
-    /// A front between activities.
-    pub fn front(&self, start: u32) -> Result<Front<'_>, Fail>
-        ensures { IfOk result (λ front. (wiring_of front).frames ≡ 531) }
+    /// A front between activities. None where there is no memory for it.
+    pub fn front(&self, start: u32) -> Option<Front<'_>>
+        ensures { IfSome result (λ front. (wiring_of front).frames ≡ 531) }
     {
         let desc = self.desc(start);
         if !desc.is_wired() {
-            return Err("not wired".into());
+            return None;
         }
-        Ok(Front::make(self.alloc, desc)?)
+        Front::make(self.alloc, desc).ok()
     }
 
     /// A front whose back is this domain.
-    pub fn front_of(&self, back: u16) -> Result<Front<'_>, Fail> {
+    pub fn front_of(&self, back: u16) -> Option<Front<'_>> {
         let desc = self.desc_of(0, back);
         if !desc.is_wired() {
-            return Err("not wired".into());
+            return None;
         }
-        Ok(Front::make(self.alloc, desc)?)
+        Front::make(self.alloc, desc).ok()
     }
 }

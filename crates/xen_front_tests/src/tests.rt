@@ -8,3 +8,4 @@ mod hostile;
 mod model;
 mod random;
 mod sends;
+mod steps;

@@ -1,12 +1,12 @@
 //! What a run copied, sent back and received, beside what was sent.
 
-use honest_pair::{PairEvent, PairRun};
-use std::process::Abort;
-use std::test::Fail;
+use super::programs::accepted;
+use honest_pair::{Pair, PairEvent, PairRun};
+use std::alloc::Global;
 use xdp_world::Kept;
 
 /// What was seen of a run.
-#[derive(Clone, Copy, Debug)]
+#[derive(Clone, Copy, Debug, PartialEq, Eq)]
 pub(crate) struct Seen {
     /// Turns that weren't idle.
     pub(crate) turns: usize,
@@ -69,29 +69,29 @@ fn place_of(events: &[PairEvent], from: usize, packet: &[u8], each: bool) -> Opt
     None
 }
 
-/// The copies are packets that were sent, in order and once each, and none was refused but for want of rx slots.
-fn copies(rt: &impl Abort, events: &[PairEvent], turns: &[Kept], each: bool) -> Result<Seen, Fail> {
+/// What is seen of the turns, if the copies are packets that were sent, in order and once each, and none was refused but for
+/// want of rx slots.
+fn copies(events: &[PairEvent], turns: &[Kept], each: bool) -> Option<Seen> {
     let mut at = 0;
     let mut seen = NOTHING;
     for turn in turns {
         match turn {
             Kept::Idle => continue,
             Kept::Ran { number, packet, .. } => {
-                at = place_of(events, at, packet.as_slice(), each).ok_or("another packet")?;
+                at = place_of(events, at, packet.as_slice(), each)?;
                 if *number == 3 {
                     seen.sent_back = seen.sent_back.saturating_add(1);
                 }
             }
-            Kept::Refused { cause, .. } => {
-                assert_eq!(rt; cause.number(), 6);
-                at = next_send(events, at).ok_or("a refusal of nothing")?.0;
+            Kept::Refused { cause, .. } if cause.number() == 6 => {
+                at = next_send(events, at)?.0;
                 seen.refused = seen.refused.saturating_add(1);
             }
-            Kept::Halted { cause: _ } => return Err("a halted back".into()),
+            Kept::Refused { .. } | Kept::Halted { .. } => return None,
         }
         seen.turns = seen.turns.saturating_add(1);
     }
-    Ok(seen)
+    Some(seen)
 }
 
 /// The place after the first turn at or after a place that sent a packet back, and the packet.
@@ -109,25 +109,41 @@ fn next_back(turns: &[Kept], from: usize) -> Option<(usize, &[u8])> {
     None
 }
 
-/// What was received is a beginning of what was sent back, after which no turn is unfinished.
-fn receptions(rt: &impl Abort, run: &PairRun) -> Result<usize, Fail> {
+/// How many packets were received, if they are a beginning of what was sent back, after which no turn is unfinished.
+fn receptions(run: &PairRun) -> Option<usize> {
     let mut at = 0;
     for packet in &run.received {
-        let (after, back) = next_back(turns(run), at).ok_or("a packet that wasn't sent back")?;
-        assert!(rt; packet.as_slice() == back, "received another packet");
+        let (after, back) = next_back(turns(run), at)?;
+        if packet.as_slice() != back {
+            return None;
+        }
         at = after;
     }
-    Ok(run.received.len())
+    Some(run.received.len())
 }
 
-/// Looks at a run whose back sleeps in the end. With `each` all sends were taken.
-pub(crate) fn look(
-    rt: &impl Abort,
+/// What is seen of a run whose back sleeps in the end, if all is as it has to be. With `each` all sends were taken.
+pub(crate) fn look(events: &[PairEvent], run: &PairRun, each: bool) -> Option<Seen> {
+    let mut seen = copies(events, turns(run), each)?;
+    seen.received = receptions(run)?;
+    Some(seen)
+}
+
+/// What is seen of the run of a program, and whether its last turn is idle.
+pub(crate) fn look_at(
+    alloc: Global,
+    slots: &[u64],
+    start: u32,
     events: &[PairEvent],
-    run: &PairRun,
     each: bool,
-) -> Result<Seen, Fail> {
-    let mut seen = copies(rt, events, turns(run), each)?;
-    seen.received = receptions(rt, run)?;
-    Ok(seen)
+) -> Option<(Seen, bool)> {
+    let program = accepted(alloc, slots)?;
+    let Ok(run) = Pair::run(alloc, &program, start, events) else {
+        return None;
+    };
+    let ends_idle = matches!(turns(&run).last(), Some(Kept::Idle));
+    match look(events, &run, each) {
+        Some(seen) => Some((seen, ends_idle)),
+        None => None,
+    }
 }

@@ -2,8 +2,7 @@
 
 use bpf_insn::decode;
 use bpf_verify::{Verified, verify};
-use std::alloc::Global;
-use std::test::Fail;
+use std::alloc::{AllocError, Global};
 
 /// Every packet is dropped.
 #[rattlefmt::skip]
@@ -40,20 +39,27 @@ pub(crate) const FIRST_BYTE: &[u64] = &[
     0x95000000_00000000, // exit
 ];
 
-/// The accepted program of these slots, without maps.
-pub(crate) fn accepted(alloc: Global, slots: &[u64]) -> Result<Verified, Fail> {
-    let mut bytes: Vec<u8> = Vec::new(alloc);
+/// Adds the bytes of slots.
+fn add_bytes(bytes: &mut Vec<u8>, slots: &[u64]) -> Result<(), AllocError> {
     for slot in slots {
         bytes.extend_from_slice(&slot.to_be_bytes())?;
     }
-    let code = decode(alloc, bytes.as_slice())
-        .map_err(|refusal| refusal.cause)
-        .ok()
-        .ok_or("no code")?;
-    Ok(
-        verify(alloc, code, &[])
-            .map_err(|refusal| refusal.cause)
-            .ok()
-            .ok_or("not accepted")?,
-    )
+    Ok(())
+}
+
+/// The accepted program of these bytes, without maps.
+pub(crate) fn accepted_bytes(alloc: Global, bytes: &[u8]) -> Option<Verified> {
+    match decode(alloc, bytes) {
+        Ok(code) => verify(alloc, code, &[]).ok(),
+        Err(_) => None,
+    }
+}
+
+/// The accepted program of these slots, without maps.
+pub(crate) fn accepted(alloc: Global, slots: &[u64]) -> Option<Verified> {
+    let mut bytes = Vec::new(alloc);
+    match add_bytes(&mut bytes, slots) {
+        Ok(()) => accepted_bytes(alloc, bytes.as_slice()),
+        Err(_) => None,
+    }
 }

@@ -4,12 +4,10 @@
 //! notice that was lost on the way would leave a packet uncopied.
 
 use crate::plan::Plan;
-use crate::tests::looks::{NOTHING, Seen, look};
-use crate::tests::programs::{DROP, FIRST_BYTE, PASS, SEND, accepted};
-use honest_pair::{Pair, PairEvent};
+use crate::tests::looks::{NOTHING, Seen, look_at};
+use crate::tests::programs::{DROP, FIRST_BYTE, PASS, SEND};
+use honest_pair::PairEvent;
 use std::alloc::{AllocError, Global};
-use std::process::Abort;
-use std::test::Fail;
 
 /// Numbers by xorshift.
 #[derive(Drop)]
@@ -143,8 +141,25 @@ impl Chooser {
     }
 }
 
-/// So many calls at random.
-fn chosen(alloc: Global, seed: u32, calls: usize, patient: bool) -> Result<Chooser, AllocError> {
+impl Chooser {
+    /// Makes up so many calls, and the steps that let both ends finish.
+    fn choose(&mut self, calls: usize) -> Result<(), AllocError> {
+        for _call in 0..calls {
+            self.call()?;
+        }
+        self.finish()
+    }
+}
+
+/// What is seen of a run of so many random calls. A patient run has to copy all that was sent.
+fn random_run(
+    alloc: Global,
+    slots: &[u64],
+    start: u32,
+    seed: u32,
+    calls: usize,
+    patient: bool,
+) -> Option<Seen> {
     let mut chooser = Chooser {
         random: Random { state: seed },
         plan: Plan::new(alloc),
@@ -152,39 +167,17 @@ fn chosen(alloc: Global, seed: u32, calls: usize, patient: bool) -> Result<Choos
         sends: 0,
         words: 0,
     };
-    for _call in 0..calls {
-        chooser.call()?;
+    if chooser.choose(calls).is_err() {
+        return None;
     }
-    chooser.finish()?;
-    Ok(chooser)
-}
-
-/// A run of random calls, and what was seen of it. A patient run has copied all that was sent.
-fn random_run(
-    rt: &impl Abort,
-    alloc: Global,
-    slots: &[u64],
-    start: u32,
-    chooser: &Chooser,
-) -> Result<Seen, Fail> {
-    let program = accepted(alloc, slots)?;
-    let events = chooser.plan.events();
-    let run = Pair::run(alloc, &program, start, events)?;
-    let seen = look(rt, events, &run, chooser.patient)?;
-    if chooser.patient {
-        assert_eq!(rt; seen.turns, chooser.sends);
+    match look_at(alloc, slots, start, chooser.plan.events(), patient) {
+        Some((seen, _)) if !patient || seen.turns == chooser.sends => Some(seen),
+        _ => None,
     }
-    Ok(seen)
 }
 
 /// Runs over all programs and several starts.
-fn random_runs(
-    rt: &impl Abort,
-    alloc: Global,
-    seeds: [u32; 3],
-    calls: usize,
-    patient: bool,
-) -> Result<Seen, Fail> {
+fn random_runs(alloc: Global, seeds: [u32; 3], calls: usize, patient: bool) -> Option<Seen> {
     let mut all = NOTHING;
     for seed in seeds {
         for (slots, start) in [
@@ -193,31 +186,44 @@ fn random_runs(
             (SEND, 0xFFFF_FFF0),
             (FIRST_BYTE, 0x7FFF_FFFF),
         ] {
-            let chooser = chosen(alloc, seed, calls, patient)?;
-            all = all.and(random_run(rt, alloc, slots, start, &chooser)?);
+            all = all.and(random_run(alloc, slots, start, seed, calls, patient)?);
         }
     }
-    Ok(all)
+    Some(all)
 }
 
 #[test]
-fn patient_runs_copy_all_that_was_sent(rt: HostRuntime) -> Result<(), Fail> {
+fn patient_runs_copy_all_that_was_sent(rt: HostRuntime) {
     let seeds = [0x1234_5678, 0x9ABC_DEF1, 0x0F1E_2D3C];
-    let seen = random_runs(&rt, rt.alloc(), seeds, 40, true)?;
+    let seen = random_runs(rt.alloc(), seeds, 40, true);
     assert!(rt;
-        seen.turns > 100 && seen.refused > 0 && seen.received > 10,
+        matches!(
+            seen,
+            Some(Seen {
+                turns: 101..,
+                refused: 1..,
+                received: 11..,
+                ..
+            })
+        ),
         "{seen:?}"
     );
-    Ok(())
 }
 
 #[test]
-fn hasty_runs_copy_in_order(rt: HostRuntime) -> Result<(), Fail> {
+fn hasty_runs_copy_in_order(rt: HostRuntime) {
     let seeds = [0x5555_1111, 0x2468_ACE1, 0x1357_9BDF];
-    let seen = random_runs(&rt, rt.alloc(), seeds, 60, false)?;
+    let seen = random_runs(rt.alloc(), seeds, 60, false);
     assert!(rt;
-        seen.turns > 100 && seen.refused > 0 && seen.received > 0,
+        matches!(
+            seen,
+            Some(Seen {
+                turns: 101..,
+                refused: 1..,
+                received: 1..,
+                ..
+            })
+        ),
         "{seen:?}"
     );
-    Ok(())
 }

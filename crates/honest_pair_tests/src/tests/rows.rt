@@ -5,180 +5,268 @@ use crate::tests::looks::turns;
 use crate::tests::programs::{PASS, SEND, accepted};
 use bpf_vm::Action;
 use honest_pair::{Pair, PairEvent, PairRun};
-use std::alloc::Global;
-use std::test::Fail;
+use std::alloc::{AllocError, Global};
 use xdp_world::Kept;
 
 const STARTS: [u32; 2] = [0, 0xFFFF_FFFF];
 
-fn run(alloc: Global, slots: &[u64], start: u32, plan: &Plan) -> Result<PairRun, Fail> {
-    let program = accepted(alloc, slots)?;
-    Ok(Pair::run(alloc, &program, start, plan.events())?)
+/// One or more events of a plan.
+#[derive(Clone, Copy)]
+enum Entry {
+    /// A send of 14 bytes, of which this is the first and the seed of the others.
+    Send(u8),
+    Post,
+    Poll,
+    Front(usize),
+    Back(usize),
 }
 
-/// A turn in which this action was the program's, on a packet of 14 bytes with this first one.
-fn is_ran(alloc: Global, kept: &Kept, wanted: Action, first: u8) -> Result<bool, Fail> {
-    let bytes = packet(alloc, 14, first, u32::from(first))?;
-    Ok(match kept {
-        Kept::Ran {
-            action,
-            number: _,
-            packet,
-            ops: 0,
-            slots: 1,
-        } => *action == wanted && packet.as_slice() == bytes.as_slice(),
-        _ => false,
+fn add_all(plan: &mut Plan, entries: &[Entry]) -> Result<(), AllocError> {
+    for entry in entries {
+        match entry {
+            Entry::Send(first) => plan.send(14, *first, u32::from(*first))?,
+            Entry::Post => plan.add(PairEvent::Post)?,
+            Entry::Poll => plan.add(PairEvent::Poll)?,
+            Entry::Front(steps) => plan.front_steps(*steps)?,
+            Entry::Back(steps) => plan.back_steps(*steps)?,
+        }
+    }
+    Ok(())
+}
+
+/// A turn. `sent` is the first byte of its packet, if that is one that an entry sends.
+#[derive(Clone, Copy, Debug, PartialEq, Eq)]
+enum Kind {
+    Idle,
+    Ran {
+        action: Action,
+        sent: Option<u8>,
+        ops: u32,
+        slots: u32,
+    },
+    Refused {
+        cause: u8,
+        ops: u32,
+        slots: u32,
+    },
+    Halted,
+}
+
+/// The turn of a packet in one slot, without an operation.
+fn ran(action: Action, sent: u8) -> Option<Kind> {
+    Some(Kind::Ran {
+        action,
+        sent: Some(sent),
+        ops: 0,
+        slots: 1,
     })
 }
 
-#[test]
-fn a_packet_is_sent_and_passes(rt: HostRuntime) -> Result<(), Fail> {
-    let alloc = rt.alloc();
-    for start in STARTS {
-        let mut plan = Plan::new(alloc);
-        plan.send(14, 7, 7)?;
-        plan.front_steps(12)?;
-        plan.back_steps(20)?;
-        let run = run(alloc, PASS, start, &plan)?;
-        let [ran, idle] = turns(&run) else {
-            return Err("two turns".into());
-        };
-        assert!(rt; is_ran(alloc, ran, Action::Pass, 7)?);
-        assert_eq!(rt; *idle, Kept::Idle);
-        assert_eq!(rt; run.received.len(), 0);
-        assert_eq!(rt; run.report.history.len(), 0);
+/// The first byte of a packet, if it is one that an entry sends.
+fn sent(alloc: Global, bytes: &[u8]) -> Option<u8> {
+    let first = *bytes.first()?;
+    match packet(alloc, 14, first, u32::from(first)) {
+        Ok(wanted) if wanted.as_slice() == bytes => Some(first),
+        _ => None,
     }
-    Ok(())
+}
+
+fn kind_of(alloc: Global, kept: &Kept) -> Kind {
+    match kept {
+        Kept::Idle => Kind::Idle,
+        Kept::Ran {
+            action,
+            packet,
+            ops,
+            slots,
+            ..
+        } => Kind::Ran {
+            action: *action,
+            sent: sent(alloc, packet.as_slice()),
+            ops: *ops,
+            slots: *slots,
+        },
+        Kept::Refused { cause, ops, slots } => Kind::Refused {
+            cause: cause.number(),
+            ops: *ops,
+            slots: *slots,
+        },
+        Kept::Halted { .. } => Kind::Halted,
+    }
+}
+
+/// What is seen of a run.
+#[derive(Clone, Copy, Debug, PartialEq, Eq)]
+struct Seen {
+    /// How many turns there are, and the first four.
+    count: usize,
+    turns: [Option<Kind>; 4],
+    /// How many packets were received, and the first byte of the first of them, if an entry sends it.
+    received: usize,
+    packet: Option<u8>,
+    /// How many counter operations there are.
+    history: usize,
+}
+
+/// A run of these turns that receives nothing.
+fn only(count: usize, turns: [Option<Kind>; 4]) -> Option<Seen> {
+    Some(Seen {
+        count,
+        turns,
+        received: 0,
+        packet: None,
+        history: 0,
+    })
+}
+
+fn seen_of(alloc: Global, run: &PairRun) -> Seen {
+    let kept = turns(run);
+    let mut kinds = [None; 4];
+    for (kind, turn) in kinds.iter_mut().zip(kept) {
+        *kind = Some(kind_of(alloc, turn));
+    }
+    let packet = match run.received.first() {
+        Some(packet) => sent(alloc, packet.as_slice()),
+        None => None,
+    };
+    Seen {
+        count: kept.len(),
+        turns: kinds,
+        received: run.received.len(),
+        packet,
+        history: run.report.history.len(),
+    }
+}
+
+fn seen_with(alloc: Global, slots: &[u64], start: u32, plan: &Plan) -> Option<Seen> {
+    let program = accepted(alloc, slots)?;
+    match Pair::run(alloc, &program, start, plan.events()) {
+        Ok(run) => Some(seen_of(alloc, &run)),
+        Err(_) => None,
+    }
+}
+
+/// What is seen of a run of these entries.
+fn run(alloc: Global, slots: &[u64], start: u32, entries: &[Entry]) -> Option<Seen> {
+    let mut plan = Plan::new(alloc);
+    match add_all(&mut plan, entries) {
+        Ok(()) => seen_with(alloc, slots, start, &plan),
+        Err(_) => None,
+    }
 }
 
 #[test]
-fn the_turns_end_with_their_last_steps(rt: HostRuntime) -> Result<(), Fail> {
-    let alloc = rt.alloc();
+fn a_packet_is_sent_and_passes(rt: HostRuntime) {
+    let entries = [Entry::Send(7), Entry::Front(12), Entry::Back(20)];
+    let turns = [ran(Action::Pass, 7), Some(Kind::Idle), None, None];
+    for start in STARTS {
+        assert_eq!(rt; run(rt.alloc(), PASS, start, &entries), only(2, turns));
+    }
+}
+
+#[test]
+fn the_turns_end_with_their_last_steps(rt: HostRuntime) {
     for start in STARTS {
         for (steps, count) in [(16, 0), (17, 1), (19, 1), (20, 2), (200, 2)] {
-            let mut plan = Plan::new(alloc);
-            plan.send(14, 7, 7)?;
-            plan.front_steps(12)?;
-            plan.back_steps(steps)?;
-            let run = run(alloc, PASS, start, &plan)?;
-            assert_eq!(rt; turns(&run).len(), count, "{steps} steps");
+            let entries = [Entry::Send(7), Entry::Front(12), Entry::Back(steps)];
+            let seen = run(rt.alloc(), PASS, start, &entries);
+            assert_eq!(rt; seen.map(|seen| seen.count), Some(count), "{steps} steps");
         }
     }
-    Ok(())
 }
 
 #[test]
-fn a_packet_without_a_notice_is_not_seen(rt: HostRuntime) -> Result<(), Fail> {
-    let alloc = rt.alloc();
+fn a_packet_without_a_notice_is_not_seen(rt: HostRuntime) {
     for start in STARTS {
         for steps in [9, 10, 11] {
-            let mut plan = Plan::new(alloc);
-            plan.send(14, 7, 7)?;
-            plan.front_steps(steps)?;
-            plan.back_steps(1000)?;
-            let run = run(alloc, PASS, start, &plan)?;
-            assert_eq!(rt; turns(&run).len(), 0, "{steps} steps");
+            let entries = [Entry::Send(7), Entry::Front(steps), Entry::Back(1000)];
+            let seen = run(rt.alloc(), PASS, start, &entries);
+            assert_eq!(rt; seen, only(0, [None; 4]), "{steps} steps");
         }
     }
-    Ok(())
 }
 
 #[test]
-fn a_second_send_finds_the_front_busy(rt: HostRuntime) -> Result<(), Fail> {
-    let alloc = rt.alloc();
+fn a_second_send_finds_the_front_busy(rt: HostRuntime) {
+    let entries = [
+        Entry::Send(7),
+        Entry::Send(8),
+        Entry::Front(100),
+        Entry::Back(100),
+        Entry::Send(9),
+        Entry::Front(12),
+        Entry::Back(100),
+    ];
+    let (first, idle) = (ran(Action::Pass, 7), Some(Kind::Idle));
+    let second = ran(Action::Pass, 9);
     for start in STARTS {
-        let mut plan = Plan::new(alloc);
-        plan.send(14, 7, 7)?;
-        plan.send(14, 8, 8)?;
-        plan.front_steps(100)?;
-        plan.back_steps(100)?;
-        let first = run(alloc, PASS, start, &plan)?;
-        let [ran, idle] = turns(&first) else {
-            return Err("two turns".into());
-        };
-        assert!(rt; is_ran(alloc, ran, Action::Pass, 7)?);
-        assert_eq!(rt; *idle, Kept::Idle);
-        plan.send(14, 9, 9)?;
-        plan.front_steps(12)?;
-        plan.back_steps(100)?;
-        let second = run(alloc, PASS, start, &plan)?;
-        let [_, _, ran, idle] = turns(&second) else {
-            return Err("four turns".into());
-        };
-        assert!(rt; is_ran(alloc, ran, Action::Pass, 9)?);
-        assert_eq!(rt; *idle, Kept::Idle);
+        let seen = run(rt.alloc(), PASS, start, &entries[..4]);
+        assert_eq!(rt; seen, only(2, [first, idle, None, None]));
+        let seen = run(rt.alloc(), PASS, start, &entries);
+        assert_eq!(rt; seen, only(4, [first, idle, second, idle]));
     }
-    Ok(())
 }
 
 #[test]
-fn the_second_look_finds_a_packet(rt: HostRuntime) -> Result<(), Fail> {
-    let alloc = rt.alloc();
-    for start in STARTS {
-        let mut plan = Plan::new(alloc);
-        plan.send(14, 7, 7)?;
-        plan.front_steps(12)?;
-        plan.back_steps(18)?;
-        plan.send(14, 8, 8)?;
-        plan.front_steps(11)?;
+fn the_second_look_finds_a_packet(rt: HostRuntime) {
+    let entries = [
+        Entry::Send(7),
+        Entry::Front(12),
+        Entry::Back(18),
+        Entry::Send(8),
         // A twelfth event there would be the notice: the activity is over after eleven, so a send is taken again.
-        plan.back_steps(2)?;
-        plan.back_steps(14)?;
-        let run = run(alloc, PASS, start, &plan)?;
-        let [first, second] = turns(&run) else {
-            return Err("two turns".into());
-        };
-        assert!(rt; is_ran(alloc, first, Action::Pass, 7)?);
-        assert!(rt; is_ran(alloc, second, Action::Pass, 8)?);
+        Entry::Front(11),
+        Entry::Back(2),
+        Entry::Back(14),
+    ];
+    let turns = [ran(Action::Pass, 7), ran(Action::Pass, 8), None, None];
+    for start in STARTS {
+        assert_eq!(rt; run(rt.alloc(), PASS, start, &entries), only(2, turns));
     }
-    Ok(())
 }
 
 #[test]
-fn a_packet_comes_back(rt: HostRuntime) -> Result<(), Fail> {
-    let alloc = rt.alloc();
+fn a_packet_comes_back(rt: HostRuntime) {
+    let entries = [
+        Entry::Post,
+        Entry::Front(7),
+        Entry::Send(7),
+        Entry::Front(12),
+        Entry::Back(31),
+        Entry::Poll,
+        Entry::Front(10),
+        Entry::Front(1),
+    ];
+    let wanted = Seen {
+        count: 1,
+        turns: [ran(Action::Tx, 7), None, None, None],
+        received: 1,
+        packet: Some(7),
+        history: 0,
+    };
     for start in STARTS {
-        let mut plan = Plan::new(alloc);
-        plan.add(PairEvent::Post)?;
-        plan.front_steps(7)?;
-        plan.send(14, 7, 7)?;
-        plan.front_steps(12)?;
-        plan.back_steps(31)?;
-        plan.add(PairEvent::Poll)?;
-        plan.front_steps(10)?;
-        let early = run(alloc, SEND, start, &plan)?;
-        assert_eq!(rt; early.received.len(), 0);
-        plan.front_steps(1)?;
-        let run = run(alloc, SEND, start, &plan)?;
-        let [ran] = turns(&run) else {
-            return Err("one turn".into());
-        };
-        assert!(rt; is_ran(alloc, ran, Action::Tx, 7)?);
-        let [received] = run.received.as_slice() else {
-            return Err("one packet".into());
-        };
-        let sent = packet(alloc, 14, 7, 7)?;
-        assert_eq!(rt; received.as_slice(), sent.as_slice());
+        let early = run(rt.alloc(), SEND, start, &entries[..7]);
+        assert_eq!(rt; early.map(|seen| seen.received), Some(0));
+        assert_eq!(rt; run(rt.alloc(), SEND, start, &entries), Some(wanted));
     }
-    Ok(())
 }
 
 #[test]
-fn too_few_posts_refuse_a_packet(rt: HostRuntime) -> Result<(), Fail> {
-    let alloc = rt.alloc();
+fn too_few_posts_refuse_a_packet(rt: HostRuntime) {
+    let entries = [
+        Entry::Send(7),
+        Entry::Front(12),
+        Entry::Back(100),
+        Entry::Poll,
+        Entry::Front(100),
+    ];
+    let refused = Kind::Refused {
+        cause: 6,
+        ops: 0,
+        slots: 1,
+    };
+    let turns = [Some(refused), Some(Kind::Idle), None, None];
     for start in STARTS {
-        let mut plan = Plan::new(alloc);
-        plan.send(14, 7, 7)?;
-        plan.front_steps(12)?;
-        plan.back_steps(100)?;
-        plan.add(PairEvent::Poll)?;
-        plan.front_steps(100)?;
-        let run = run(alloc, SEND, start, &plan)?;
-        let [Kept::Refused { cause, ops, slots }, Kept::Idle] = turns(&run) else {
-            return Err("two turns".into());
-        };
-        assert_eq!(rt; (cause.number(), *ops, *slots), (6, 0, 1));
-        assert_eq!(rt; run.received.len(), 0);
+        assert_eq!(rt; run(rt.alloc(), SEND, start, &entries), only(2, turns));
     }
-    Ok(())
 }

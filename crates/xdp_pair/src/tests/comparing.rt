@@ -1,14 +1,15 @@
 //! Packets that come back.
 
-use super::fixtures::{SENDS_BACK, TURNS, program, setup};
+ghost use Rattle.std.specs.Prelude.{◌≡◌, IfSome};
+
+use super::fixtures::{Bench, Rows, SENDS_BACK, TURNS, program, rows_of, setup};
 use crate::inbox::Inbox;
-use crate::pairing::{STACK, pair_over};
-use crate::shared::Shared;
 use crate::{Open, PairRow};
 use std::alloc::{AllocError, Global};
+use std::sync::Wait;
 use std::sync::atomic::{AtomicU32, Ordering};
-use std::test::Fail;
-use xdp_load::Packet;
+use std::thread::Threads;
+use xdp_load::{Packet, Setup};
 
 /// The different packets of a queue.
 const KINDS: u32 = 100;
@@ -36,16 +37,41 @@ fn byte(queue: usize, kind: u32, at: usize) -> u8 {
     }
 }
 
-fn packet(alloc: Global, queue: usize, kind: u32) -> Result<Packet, AllocError> {
-    let mut bytes = Vec::new(alloc);
+fn add_bytes(bytes: &mut Vec<u8>, queue: usize, kind: u32) -> Result<(), AllocError> {
     for at in 0..length(queue, kind) {
         bytes.push(byte(queue, kind, at))?;
     }
+    Ok(())
+}
+
+fn packet(alloc: Global, queue: usize, kind: u32) -> Result<Packet, AllocError> {
+    let mut bytes = Vec::new(alloc);
+    add_bytes(&mut bytes, queue, kind)?;
     Ok(Packet {
         queue,
         bytes,
         times: TIMES,
     })
+}
+
+fn add_packets(alloc: Global, packets: &mut Vec<Packet>) -> Result<(), AllocError> {
+    for queue in 0..8 {
+        for kind in 0..KINDS {
+            packets.push(packet(alloc, queue, kind)?)?;
+        }
+    }
+    Ok(())
+}
+
+/// A setup of all packets of eight queues.
+fn all_packets(alloc: Global) -> Option<Setup>
+    ensures { IfSome result (λ s. s.queues ≡ 8) }
+{
+    let mut packets = Vec::new(alloc);
+    match add_packets(alloc, &mut packets) {
+        Ok(()) => Some(setup(alloc, 8, 0, packets)),
+        Err(_) => None,
+    }
 }
 
 /// Compares what comes back with what was sent, in order.
@@ -97,22 +123,23 @@ impl Inbox for Compared {
     }
 }
 
-#[test]
-fn all_packets_of_eight_queues_come_back(rt: HostRuntime) -> Result<(), Fail> {
-    let alloc = rt.alloc();
-    let program = program(alloc, SENDS_BACK, &[])?;
-    let mut packets = Vec::new(alloc);
-    for queue in 0..8 {
-        for kind in 0..KINDS {
-            packets.push(packet(alloc, queue, kind)?)?;
-        }
+fn compared_rows(
+    rt: &(impl Threads + Wait + Sync),
+    alloc: Global,
+    compared: &Compared,
+) -> Option<Rows> {
+    let setup = all_packets(alloc)?;
+    let (bench, parkers) = Bench::make(alloc, setup)?;
+    match program(alloc, SENDS_BACK, &[]) {
+        Some(program) => bench.rows(rt, alloc, &program, TURNS, &Open, compared, parkers),
+        None => None,
     }
-    let setup = setup(alloc, 8, 0, packets);
-    let (shared, parkers) = Shared::make(alloc, &setup)?;
+}
+
+#[test]
+fn all_packets_of_eight_queues_come_back(rt: HostRuntime) {
     let compared = Compared::new();
-    let report = pair_over(
-        &rt, alloc, &setup, &program, TURNS, &Open, &compared, STACK, &shared, parkers,
-    )?;
+    let rows = compared_rows(&rt, rt.alloc(), &compared);
     let row = PairRow {
         sent: u64::from(KINDS * TIMES),
         copied: u64::from(KINDS * TIMES),
@@ -120,10 +147,9 @@ fn all_packets_of_eight_queues_come_back(rt: HostRuntime) -> Result<(), Fail> {
         halted: None,
         received: u64::from(KINDS * TIMES),
     };
-    assert_eq!(rt; report.rows.as_slice(), [row; 8].as_slice());
+    assert_eq!(rt; rows, Some(rows_of(&[row; 8])));
     assert_eq!(rt; compared.wrong.load(Ordering::SeqCst), 0);
     for came in &compared.came {
         assert_eq!(rt; came.load(Ordering::SeqCst), KINDS * TIMES);
     }
-    Ok(())
 }

@@ -1,17 +1,23 @@
 //! What a row counts, what a gate hears, and which ports are set: each test's gate fixes what a turn finds.
 
-use super::fixtures::{SENDS_BACK, TURNS, packets, program, setup};
+ghost use Rattle.std.specs.Prelude.{◌≡◌, IfSome, vec_len};
+
+use super::fixtures::{
+    Bench, Rows, SENDS_BACK, TURNS, program, rows_behind, rows_of, rows_with, setup, setup_of,
+};
 use crate::gate::Gate;
 use crate::inbox::Discard;
-use crate::pairing::{STACK, pair_over};
-use crate::shared::Shared;
+use crate::shared::{Parkers, Shared};
 use crate::{Open, PairRow};
 use bpf_maps::MapShape;
+use bpf_verify::Verified;
+use std::alloc::Global;
+use std::sync::Wait;
 use std::sync::atomic::{AtomicBool, AtomicU32, Ordering};
-use std::test::Fail;
 use std::thread;
+use std::thread::Threads;
 use std::time::{Clock, Duration};
-use xdp_load::Packet;
+use xdp_load::{Packet, Setup};
 use xen_page::{Bus, PageBus, Place};
 use xen_ring::Port;
 
@@ -32,23 +38,18 @@ impl Gate for Numbers {
 }
 
 #[test]
-fn calls_are_numbered_from_1_up_to_the_turns(rt: HostRuntime) -> Result<(), Fail> {
-    let alloc = rt.alloc();
-    let program = program(alloc, SENDS_BACK, &[])?;
-    let setup = setup(alloc, 2, 0, packets(alloc, &[5000, 5000])?);
-    let (shared, parkers) = Shared::make(alloc, &setup)?;
+fn calls_are_numbered_from_1_up_to_the_turns(rt: HostRuntime) {
     let gate = Numbers {
         calls: [AtomicU32::new(0), AtomicU32::new(0)],
         wrong: AtomicU32::new(0),
     };
-    pair_over(
-        &rt, alloc, &setup, &program, 3, &gate, &Discard, STACK, &shared, parkers,
-    )?;
-    assert_eq!(rt; gate.wrong.load(Ordering::SeqCst), 0);
-    for calls in &gate.calls {
-        assert_eq!(rt; calls.load(Ordering::SeqCst), 3);
-    }
-    Ok(())
+    let rows = rows_behind(&rt, rt.alloc(), SENDS_BACK, &[5000, 5000], 3, &gate);
+    let counted = [
+        gate.wrong.load(Ordering::SeqCst),
+        gate.calls[0].load(Ordering::SeqCst),
+        gate.calls[1].load(Ordering::SeqCst),
+    ];
+    assert_eq!(rt; (rows.is_some(), counted), (true, [0, 3, 3]));
 }
 
 /// A word of a page.
@@ -113,46 +114,72 @@ impl<R: Clock> Gate for First<'_, R> {
     }
 }
 
-#[test]
-fn the_first_turn_comes_after_the_gate(rt: HostRuntime) -> Result<(), Fail> {
-    let alloc = rt.alloc();
-    let program = program(alloc, SENDS_BACK, &[])?;
-    let setup = setup(alloc, 1, 0, packets(alloc, &[5])?);
-    let (shared, parkers) = Shared::make(alloc, &setup)?;
+/// The rows of a run whose first turn is held, how many turns came before its first call, and whether the front has set
+/// another port than the back's.
+type Held = (Rows, u32, bool);
+
+fn held<R: Threads + Wait + Sync + Clock>(
+    rt: &R,
+    alloc: Global,
+    bench: &Bench,
+    program: &Verified,
+    turns: u32,
+    ends_grant: bool,
+    parkers: Parkers,
+) -> Option<Held>
+    requires { (vec_len parkers.fronts ≡ bench.now.setup.queues) × (vec_len parkers.backs ≡ bench.now.setup.queues) }
+{
     let gate = First {
-        rt: &rt,
-        shared: &shared,
-        ends_grant: false,
+        rt,
+        shared: &bench.shared,
+        ends_grant,
         early: AtomicU32::new(0),
         astray: AtomicBool::new(true),
     };
-    let report = pair_over(
-        &rt, alloc, &setup, &program, 1, &gate, &Discard, STACK, &shared, parkers,
-    )?;
-    assert_eq!(rt; gate.early.load(Ordering::SeqCst), 0);
-    assert!(rt; !gate.astray.load(Ordering::SeqCst));
-    for row in report.rows.iter() {
-        assert_eq!(rt; (row.copied, row.received), (1, 1));
+    match bench.rows(rt, alloc, program, turns, &gate, &Discard, parkers) {
+        Some(rows) => Some((
+            rows,
+            gate.early.load(Ordering::SeqCst),
+            gate.astray.load(Ordering::SeqCst),
+        )),
+        None => None,
     }
-    Ok(())
+}
+
+/// A run of five packets whose first turn is held.
+fn held_run(
+    rt: &(impl Threads + Wait + Sync + Clock),
+    alloc: Global,
+    turns: u32,
+    ends_grant: bool,
+) -> Option<Held> {
+    let setup = setup_of(alloc, &[5], 0)?;
+    let (bench, parkers) = Bench::make(alloc, setup)?;
+    match program(alloc, SENDS_BACK, &[]) {
+        Some(program) => held(rt, alloc, &bench, &program, turns, ends_grant, parkers),
+        None => None,
+    }
+}
+
+/// How many rows there are, the packets that the first queue copied and that came back to it, and what else a held run came
+/// to.
+fn came_back(held: Held) -> (usize, Option<(u64, u64)>, u32, bool) {
+    let ((count, rows), early, astray) = held;
+    let first = match rows[0] {
+        Some(row) => Some((row.copied, row.received)),
+        None => None,
+    };
+    (count, first, early, astray)
 }
 
 #[test]
-fn a_refused_packet_is_counted_and_not_received(rt: HostRuntime) -> Result<(), Fail> {
-    let alloc = rt.alloc();
-    let program = program(alloc, SENDS_BACK, &[])?;
-    let setup = setup(alloc, 1, 0, packets(alloc, &[5])?);
-    let (shared, parkers) = Shared::make(alloc, &setup)?;
-    let gate = First {
-        rt: &rt,
-        shared: &shared,
-        ends_grant: true,
-        early: AtomicU32::new(0),
-        astray: AtomicBool::new(true),
-    };
-    let report = pair_over(
-        &rt, alloc, &setup, &program, TURNS, &gate, &Discard, STACK, &shared, parkers,
-    )?;
+fn the_first_turn_comes_after_the_gate(rt: HostRuntime) {
+    let seen = held_run(&rt, rt.alloc(), 1, false).map(came_back);
+    assert_eq!(rt; seen, Some((1, Some((1, 1)), 0, false)));
+}
+
+#[test]
+fn a_refused_packet_is_counted_and_not_received(rt: HostRuntime) {
     let row = PairRow {
         sent: 5,
         copied: 4,
@@ -160,8 +187,8 @@ fn a_refused_packet_is_counted_and_not_received(rt: HostRuntime) -> Result<(), F
         halted: None,
         received: 4,
     };
-    assert_eq!(rt; report.rows.as_slice(), [row].as_slice());
-    Ok(())
+    let rows = held_run(&rt, rt.alloc(), TURNS, true).map(|seen| seen.0);
+    assert_eq!(rt; rows, Some(rows_of(&[row])));
 }
 
 /// Adds the number of the interface to counter 1 of a map of two values, and passes the packet on.
@@ -179,37 +206,49 @@ const COUNTS_BY_INTERFACE: &[&str] = &[
     "9500000000000000",
 ];
 
-#[test]
-fn programs_see_the_interface_of_the_setup(rt: HostRuntime) -> Result<(), Fail> {
-    let alloc = rt.alloc();
-    let shapes = [MapShape::of(2, 1).ok_or("shape")?];
-    let program = program(alloc, COUNTS_BY_INTERFACE, &shapes)?;
-    let mut setup = setup(alloc, 1, 0, packets(alloc, &[3])?);
+/// A run of three packets on interface 7: the second counter.
+fn counter_by_interface(rt: &(impl Threads + Wait + Sync), alloc: Global) -> Option<u64> {
+    let mut setup = setup_of(alloc, &[3], 0)?;
     setup.ifindex = 7;
-    let (shared, parkers) = Shared::make(alloc, &setup)?;
-    let report = pair_over(
-        &rt, alloc, &setup, &program, TURNS, &Open, &Discard, STACK, &shared, parkers,
-    )?;
-    assert_eq!(rt; report.totals.at(0, 1, 0), 21);
-    Ok(())
+    let (bench, parkers) = Bench::make(alloc, setup)?;
+    let shape = MapShape::of(2, 1)?;
+    let program = program(alloc, COUNTS_BY_INTERFACE, &[shape])?;
+    match bench.counts(rt, alloc, &program, parkers) {
+        Some((_, counter)) => Some(counter),
+        None => None,
+    }
+}
+
+#[test]
+fn programs_see_the_interface_of_the_setup(rt: HostRuntime) {
+    assert_eq!(rt; counter_by_interface(&rt, rt.alloc()), Some(21));
+}
+
+/// A setup of a packet of the most bytes, three times.
+fn longest(alloc: Global) -> Option<Setup>
+    ensures { IfSome result (λ s. s.queues ≡ 1) }
+{
+    let bytes = Vec::from_elem(alloc, 0x5au8, 65_535).ok()?;
+    let packet = Packet {
+        queue: 0,
+        bytes,
+        times: 3,
+    };
+    let mut packets = Vec::new(alloc);
+    match packets.push(packet) {
+        Ok(()) => Some(setup(alloc, 1, 0, packets)),
+        Err(_) => None,
+    }
+}
+
+fn rows_of_the_longest(rt: &(impl Threads + Wait + Sync), alloc: Global) -> Option<Rows> {
+    let setup = longest(alloc)?;
+    rows_with(rt, alloc, SENDS_BACK, setup, TURNS, &Open)
 }
 
 /// Each takes all sixteen posted slots on its way back.
 #[test]
-fn the_longest_packets_come_back(rt: HostRuntime) -> Result<(), Fail> {
-    let alloc = rt.alloc();
-    let program = program(alloc, SENDS_BACK, &[])?;
-    let mut packets = Vec::new(alloc);
-    packets.push(Packet {
-        queue: 0,
-        bytes: vec![in alloc; 0x5au8; 65_535]?,
-        times: 3,
-    })?;
-    let setup = setup(alloc, 1, 0, packets);
-    let (shared, parkers) = Shared::make(alloc, &setup)?;
-    let report = pair_over(
-        &rt, alloc, &setup, &program, TURNS, &Open, &Discard, STACK, &shared, parkers,
-    )?;
+fn the_longest_packets_come_back(rt: HostRuntime) {
     let row = PairRow {
         sent: 3,
         copied: 3,
@@ -217,6 +256,5 @@ fn the_longest_packets_come_back(rt: HostRuntime) -> Result<(), Fail> {
         halted: None,
         received: 3,
     };
-    assert_eq!(rt; report.rows.as_slice(), [row].as_slice());
-    Ok(())
+    assert_eq!(rt; rows_of_the_longest(&rt, rt.alloc()), Some(rows_of(&[row])));
 }

@@ -1,108 +1,120 @@
 //! How runs end, and their notices.
 
-use super::fixtures::{PASSES, TURNS, packets, program, setup};
+ghost use Rattle.std.specs.Prelude.{◌≤◌};
+
+use super::fixtures::{
+    Bench, PASSES, Rows, TURNS, passed, program, rows_behind, rows_of, setup_of,
+};
 use crate::gate::Gate;
 use crate::inbox::Discard;
-use crate::pairing::{STACK, pair_over};
+use crate::pairing::pair_over;
 use crate::shared::Shared;
-use crate::{Open, PairFault};
-use std::test::Fail;
+use crate::{Open, PairFault, PairRow};
+use std::alloc::Global;
+use std::sync::Wait;
+use std::thread::Threads;
 use xen_back::Halt;
 use xen_page::{Bus, PageBus, Place};
-use xen_ring::Port;
+use xen_ring::{Port, Ports};
 
-#[test]
-fn the_last_turn_ends_the_front(rt: HostRuntime) -> Result<(), Fail> {
-    let alloc = rt.alloc();
-    let program = program(alloc, PASSES, &[])?;
-    let setup = setup(alloc, 2, 0, packets(alloc, &[5000, 5000])?);
-    let (shared, parkers) = Shared::make(alloc, &setup)?;
-    let report = pair_over(
-        &rt, alloc, &setup, &program, 3, &Open, &Discard, STACK, &shared, parkers,
-    )?;
-    for row in report.rows.iter() {
-        assert!(rt; row.copied <= 3);
-        assert!(rt; row.sent < 5000);
+/// Whether there are so many queues, and each has sent and copied no more than that.
+fn are_within(rows: &Rows, count: usize, sent: u64, copied: u64) -> bool {
+    for row in rows.1.as_slice() {
+        if let Some(row) = row {
+            if row.sent > sent || row.copied > copied {
+                return false;
+            }
+        }
     }
-    Ok(())
+    rows.0 == count
+}
+
+/// Whether there was a run like that.
+fn is_within(rows: &Option<Rows>, count: usize, sent: u64, copied: u64) -> bool {
+    match rows {
+        Some(rows) => are_within(rows, count, sent, copied),
+        None => false,
+    }
 }
 
 #[test]
-fn no_turn_ends_the_front(rt: HostRuntime) -> Result<(), Fail> {
-    let alloc = rt.alloc();
-    let program = program(alloc, PASSES, &[])?;
-    let setup = setup(alloc, 1, 0, packets(alloc, &[5000])?);
-    let (shared, parkers) = Shared::make(alloc, &setup)?;
-    let report = pair_over(
-        &rt, alloc, &setup, &program, 0, &Open, &Discard, STACK, &shared, parkers,
-    )?;
-    for row in report.rows.iter() {
-        assert_eq!(rt; row.copied, 0);
-    }
-    Ok(())
+fn the_last_turn_ends_the_front(rt: HostRuntime) {
+    let rows = rows_behind(&rt, rt.alloc(), PASSES, &[5000, 5000], 3, &Open);
+    assert!(rt; is_within(&rows, 2, 4999, 3));
+}
+
+#[test]
+fn no_turn_ends_the_front(rt: HostRuntime) {
+    let rows = rows_behind(&rt, rt.alloc(), PASSES, &[5000], 0, &Open);
+    assert!(rt; is_within(&rows, 1, 5000, 0));
 }
 
 /// Queue 1 has nothing to send, and its back ends once its front has.
 #[test]
-fn a_front_that_ends_early_ends_its_back(rt: HostRuntime) -> Result<(), Fail> {
-    let alloc = rt.alloc();
-    let program = program(alloc, PASSES, &[])?;
-    let setup = setup(alloc, 3, 0, packets(alloc, &[300, 0, 1])?);
-    let (shared, parkers) = Shared::make(alloc, &setup)?;
-    let report = pair_over(
-        &rt, alloc, &setup, &program, TURNS, &Open, &Discard, STACK, &shared, parkers,
-    )?;
-    let mut sent = Vec::new(alloc);
-    for row in report.rows.iter() {
-        sent.push((row.sent, row.copied))?;
+fn a_front_that_ends_early_ends_its_back(rt: HostRuntime) {
+    let rows = rows_behind(&rt, rt.alloc(), PASSES, &[300, 0, 1], TURNS, &Open);
+    let wanted = [passed(300), passed(0), passed(1)];
+    assert_eq!(rt; rows, Some(rows_of(&wanted)));
+}
+
+/// Which ports are pending, of the first 64.
+fn pending(ports: &Ports) -> [bool; 64] {
+    let mut pending = [false; 64];
+    let mut number = 0;
+    for is_pending in pending.iter_mut() {
+        if let Some(port) = Port::of(number) {
+            *is_pending = ports.take(port);
+        }
+        number = number.saturating_add(1);
     }
-    assert_eq!(rt; sent.as_slice(), [(300, 300), (0, 0), (1, 1)].as_slice());
-    Ok(())
+    pending
+}
+
+/// Which ports are pending after a run of a packet for each of eight queues.
+fn ports_after(rt: &(impl Threads + Wait + Sync), alloc: Global) -> Option<[bool; 64]> {
+    let setup = setup_of(alloc, &[1; 8], 0)?;
+    let (bench, parkers) = Bench::make(alloc, setup)?;
+    let program = program(alloc, PASSES, &[])?;
+    match bench.rows(rt, alloc, &program, TURNS, &Open, &Discard, parkers) {
+        Some(_) => Some(pending(&bench.shared.ports)),
+        None => None,
+    }
 }
 
 /// A worker that drops its notices leaves a port that isn't pending.
 #[test]
-fn both_ends_get_notices(rt: HostRuntime) -> Result<(), Fail> {
-    let alloc = rt.alloc();
-    let program = program(alloc, PASSES, &[])?;
-    let setup = setup(alloc, 8, 0, packets(alloc, &[1, 1, 1, 1, 1, 1, 1, 1])?);
-    let (shared, parkers) = Shared::make(alloc, &setup)?;
-    pair_over(
-        &rt, alloc, &setup, &program, TURNS, &Open, &Discard, STACK, &shared, parkers,
-    )?;
-    for number in 0..16 {
-        let port = Port::of(number).ok_or("no port")?;
-        assert!(rt; shared.ports.take(port), "port {number}");
+fn both_ends_get_notices(rt: HostRuntime) {
+    let mut wanted = [false; 64];
+    for is_pending in wanted[..16].iter_mut() {
+        *is_pending = true;
     }
-    for number in 16..64 {
-        let port = Port::of(number).ok_or("no port")?;
-        assert!(rt; !shared.ports.take(port), "port {number}");
-    }
-    Ok(())
+    assert_eq!(rt; ports_after(&rt, rt.alloc()), Some(wanted));
 }
 
-/// All backs run when the first front is refused, for the size of its stack.
-#[test]
-fn a_refused_thread_ends_all(rt: HostRuntime) -> Result<(), Fail> {
-    let alloc = rt.alloc();
+/// What comes of a run of eight queues whose threads can't have their stacks.
+fn fault_of_stacks(rt: &(impl Threads + Wait + Sync), alloc: Global) -> Option<PairFault> {
+    let setup = setup_of(alloc, &[5000, 0, 0, 0, 0, 0, 0, 0], 0)?;
+    let (bench, parkers) = Bench::make(alloc, setup)?;
     let program = program(alloc, PASSES, &[])?;
-    let setup = setup(alloc, 8, 0, packets(alloc, &[5000])?);
-    let (shared, parkers) = Shared::make(alloc, &setup)?;
-    let fault = pair_over(
-        &rt,
+    pair_over(
+        rt,
         alloc,
-        &setup,
+        &bench.setup,
         &program,
         TURNS,
         &Open,
         &Discard,
         usize::MAX,
-        &shared,
+        &bench.shared,
         parkers,
     )
-    .err();
-    assert_eq!(rt; fault, Some(PairFault::Thread));
-    Ok(())
+    .err()
+}
+
+/// All backs run when the first front is refused, for the size of its stack.
+#[test]
+fn a_refused_thread_ends_all(rt: HostRuntime) {
+    assert_eq!(rt; fault_of_stacks(&rt, rt.alloc()), Some(PairFault::Thread));
 }
 
 /// Before the first turn of queue 0, whose front sends nothing, its tx ring shows more requests than a ring has.
@@ -116,22 +128,26 @@ impl Gate for Shared {
     }
 }
 
-#[test]
-fn a_halted_back_ends_its_queue(rt: HostRuntime) -> Result<(), Fail> {
-    let alloc = rt.alloc();
-    let program = program(alloc, PASSES, &[])?;
-    let setup = setup(alloc, 2, 0, packets(alloc, &[0, 50])?);
-    let (shared, parkers) = Shared::make(alloc, &setup)?;
-    let report = pair_over(
-        &rt, alloc, &setup, &program, TURNS, &shared, &Discard, STACK, &shared, parkers,
-    )?;
-    let mut ends = Vec::new(alloc);
-    for row in report.rows.iter() {
-        ends.push((row.halted, row.copied))?;
+/// The rows of a run whose pages are its gate.
+fn rows_behind_pages(
+    rt: &(impl Threads + Wait + Sync),
+    alloc: Global,
+    times: &[u32; 2],
+) -> Option<Rows> {
+    let setup = setup_of(alloc, times, 0)?;
+    let (bench, parkers) = Bench::make(alloc, setup)?;
+    match program(alloc, PASSES, &[]) {
+        Some(program) => bench.rows(rt, alloc, &program, TURNS, &bench.shared, &Discard, parkers),
+        None => None,
     }
-    assert_eq!(rt;
-        ends.as_slice(),
-        [(Some(Halt::TxProducer), 0), (None, 50)].as_slice()
-    );
-    Ok(())
+}
+
+#[test]
+fn a_halted_back_ends_its_queue(rt: HostRuntime) {
+    let halted = PairRow {
+        halted: Some(Halt::TxProducer),
+        ..passed(0)
+    };
+    let rows = rows_behind_pages(&rt, rt.alloc(), &[0, 50]);
+    assert_eq!(rt; rows, Some(rows_of(&[halted, passed(50)])));
 }

@@ -1,11 +1,17 @@
 //! A run of pairs, asked for again after it was refused memory. `tools/refuse-growths` refuses each allocation of this
 //! test in turn, and counts the runs that print `refused`.
 
+ghost use Rattle.std.specs.Prelude.{IfSome};
+ghost use Rattle.xdp_load.specs.SetupSeen.{setup_view};
+ghost use Rattle.xdp_load.specs.Sound.{IsSound};
+
+use super::fixtures::{Rows, accepted, rows_of};
 use crate::{Open, PairFault, PairRow, pair_with};
-use bpf_insn::{Refusal, decode};
-use bpf_verify::{Verified, verify};
+use bpf_verify::Verified;
 use std::alloc::Global;
+use std::sync::Wait;
 use std::test::Fail;
+use std::thread::Threads;
 use xdp_load::{Setup, load};
 
 /// More turns than two packets take.
@@ -21,10 +27,6 @@ packet = [
 ]
 "#;
 
-fn program_of(alloc: Global, setup: &Setup) -> Result<Verified, Refusal> {
-    verify(alloc, decode(alloc, setup.program.as_slice())?, &[])
-}
-
 /// The row of a queue whose packet came back.
 const ROW: PairRow = PairRow {
     sent: 1,
@@ -34,25 +36,55 @@ const ROW: PairRow = PairRow {
     received: 1,
 };
 
+/// The settings as they are loaded.
+fn setup(alloc: Global) -> Option<Setup>
+    ensures { IfSome result (λ s. IsSound (setup_view s)) }
+{
+    match load(alloc, SETTINGS.as_bytes()) {
+        Ok(setup) => Some(setup),
+        Err(_) => load(alloc, SETTINGS.as_bytes()).ok(),
+    }
+}
+
+fn program(alloc: Global, setup: &Setup) -> Option<Verified> {
+    match accepted(alloc, setup.program.as_slice(), &[]) {
+        Some(program) => Some(program),
+        None => accepted(alloc, setup.program.as_slice(), &[]),
+    }
+}
+
+/// The rows of a run, or why there is none.
+fn run(
+    rt: &(impl Threads + Wait + Sync),
+    alloc: Global,
+    setup: &Setup,
+    program: &Verified,
+) -> Result<Rows, PairFault>
+    requires { IsSound (setup_view setup.now) }
+{
+    match pair_with(rt, alloc, setup, program, TURNS, &Open) {
+        Ok(report) => Ok(rows_of(report.rows.as_slice())),
+        Err(fault) => Err(fault),
+    }
+}
+
+/// What a run comes to, and what another one comes to if it was refused.
+fn runs(rt: &(impl Threads + Wait + Sync), alloc: Global) -> Option<[Result<Rows, PairFault>; 2]> {
+    let setup = setup(alloc)?;
+    let program = program(alloc, &setup)?;
+    Some(match run(rt, alloc, &setup, &program) {
+        Ok(rows) => [Ok(rows); 2],
+        refused => [refused, run(rt, alloc, &setup, &program)],
+    })
+}
+
 #[test]
 fn pairs_are_run_again(rt: HostRuntime) -> Result<(), Fail> {
-    let alloc = rt.alloc();
-    let setup = match load(alloc, SETTINGS.as_bytes()) {
-        Ok(setup) => setup,
-        Err(_) => load(alloc, SETTINGS.as_bytes())?,
-    };
-    let program = match program_of(alloc, &setup) {
-        Ok(program) => program,
-        Err(_) => program_of(alloc, &setup).map_err(|_| "refused program")?,
-    };
-    let report = match pair_with(&rt, alloc, &setup, &program, TURNS, &Open) {
-        Ok(report) => report,
-        Err(fault) => {
-            assert_ne!(rt; fault, PairFault::Map);
-            println!(rt; "refused")?;
-            pair_with(&rt, alloc, &setup, &program, TURNS, &Open)?
-        }
-    };
-    assert_eq!(rt; report.rows.as_slice(), [ROW, ROW].as_slice());
+    let [first, second] = runs(&rt, rt.alloc()).ok_or("no setup or no program")?;
+    if let Err(fault) = first {
+        assert_ne!(rt; fault, PairFault::Map);
+        println!(rt; "refused")?;
+    }
+    assert_eq!(rt; second, Ok(rows_of(&[ROW, ROW])));
     Ok(())
 }

@@ -1,16 +1,14 @@
 //! Which buffer is lent, what it holds, and to whom.
 
-use super::fixtures::{Call, Got, READ, SMALL, WRITE};
+use super::fixtures::{Call, End, READ, SMALL, WRITE};
+use super::steps::{Step, after, filled};
 use crate::bench::{Bench, RX, TX};
-use std::test::Fail;
+use std::alloc::Global;
 use xen_front::Front;
 use xen_steps::{Answer, Want};
 
 #[test]
-fn each_rx_buffer_is_its_own(rt: HostRuntime) -> Result<(), Fail> {
-    let bench = Bench::make(rt.alloc())?;
-    let mut fronts = bench.fronts(0)?;
-    fronts.post_all(1)?;
+fn each_rx_buffer_is_its_own(rt: HostRuntime) {
     let accesses = [
         (WRITE, 1, 519, 276),
         (WRITE, 1, 518, 1),
@@ -19,21 +17,26 @@ fn each_rx_buffer_is_its_own(rt: HostRuntime) -> Result<(), Fail> {
         (WRITE, RX, 0, 2),
         (READ, RX, 1, 9),
     ];
-    let posted = fronts.shows(Call::Post, &[9], 0, &accesses)?;
-    assert_eq!(rt; posted, (Got::Idle, false));
     let end = [(WRITE, 1, 518, 0), (READ, 276, 0, 0x0605_0403)];
-    let (polled, _) = fronts.shows(Call::Poll, &[0, 0, 1, 1, 0x0004_0000, 0x0605_0403], 6, &end)?;
-    assert!(rt; polled.is_packet(&[3, 4, 5, 6]), "the answer to the second");
-    Ok(())
+    let steps = [
+        Step::posts(1),
+        Step::of(Call::Post, &[9], End::Idle)
+            .ends(0, &accesses)
+            .tells(false),
+        // The answer to the second.
+        Step::receives(&[0, 0, 1, 1, 0x0004_0000, 0x0605_0403], &[3, 4, 5, 6]).ends(6, &end),
+    ];
+    assert_eq!(rt; after(rt.alloc(), 0, &steps), Ok([0; 4]));
 }
 
-#[test]
-fn a_second_page_has_the_later_bytes(rt: HostRuntime) -> Result<(), Fail> {
-    let bench = Bench::make(rt.alloc())?;
-    let mut fronts = bench.fronts(0)?;
-    let mut bytes = vec![in rt.alloc(); 1u8; 4096]?;
-    bytes.push(2)?;
-    let sent = fronts.play(Call::Send(bytes.as_slice()), &[0])?;
+/// The send of a page of ones and a byte.
+fn after_a_second_page(alloc: Global) -> Result<[u64; 4], usize> {
+    let Some(mut bytes) = filled(alloc, 1, 4096) else {
+        return Err(0);
+    };
+    if bytes.push(2).is_err() {
+        return Err(0);
+    }
     let end = [
         (WRITE, 1, 7, 20),
         (WRITE, 1, 6, 5),
@@ -44,8 +47,13 @@ fn a_second_page_has_the_later_bytes(rt: HostRuntime) -> Result<(), Fail> {
         (WRITE, TX, 0, 2),
         (READ, TX, 1, 0),
     ];
-    assert!(rt; sent.ends_with(2 + 1024 + 3, &end));
-    Ok(())
+    let sends = Step::of(Call::Send(bytes.as_slice()), &[0], End::Idle).ends(2 + 1024 + 3, &end);
+    after(alloc, 0, &[sends])
+}
+
+#[test]
+fn a_second_page_has_the_later_bytes(rt: HostRuntime) {
+    assert_eq!(rt; after_a_second_page(rt.alloc()), Ok([0; 4]));
 }
 
 /// The flags word of the first grant of an activity.
@@ -60,14 +68,39 @@ fn flags_word(front: &mut Front) -> Option<u32> {
     }
 }
 
+/// The flags word of a send's grant.
+fn sent_flags(front: &mut Front) -> Option<u32> {
+    match front.send(&SMALL) {
+        Ok(()) => flags_word(front),
+        Err(_) => None,
+    }
+}
+
+/// The flags word of a post's grant.
+fn posted_flags(front: &mut Front) -> Option<u32> {
+    match front.post_rx() {
+        Ok(()) => flags_word(front),
+        Err(_) => None,
+    }
+}
+
+/// The flags words of a send's grant and of a post's, of fronts whose back is domain 7.
+fn flags_of_grants(alloc: Global) -> Option<[Option<u32>; 2]> {
+    let Ok(bench) = Bench::make(alloc) else {
+        return None;
+    };
+    match (bench.front_of(7), bench.front_of(7)) {
+        (Some(mut sender), Some(mut poster)) => Some([
+            sent_flags(&mut sender),
+            posted_flags(&mut poster),
+        ]),
+        _ => None,
+    }
+}
+
+/// A send's grant is for reading, and a post's for writing.
 #[test]
-fn grants_name_the_back(rt: HostRuntime) -> Result<(), Fail> {
-    let bench = Bench::make(rt.alloc())?;
-    let mut front = bench.front_of(7)?;
-    assert_eq!(rt; front.send(&SMALL), Ok(()));
-    assert_eq!(rt; flags_word(&mut front), Some(0x0007_0005), "for reading");
-    let mut front = bench.front_of(7)?;
-    assert_eq!(rt; front.post_rx(), Ok(()));
-    assert_eq!(rt; flags_word(&mut front), Some(0x0007_0001), "for writing");
-    Ok(())
+fn grants_name_the_back(rt: HostRuntime) {
+    let flags = flags_of_grants(rt.alloc());
+    assert_eq!(rt; flags, Some([Some(0x0007_0005), Some(0x0007_0001)]));
 }

@@ -6,7 +6,6 @@ ghost use Rattle.xen_front.specs.Fronts.{wiring_of};
 
 use crate::bench::{Bench, FRAMES};
 use std::alloc::{AllocError, Global};
-use std::test::Fail;
 use xen_front::{Front, Halt, PollRefusal, PostRefusal, RxTurn, SendRefusal};
 use xen_page::{Access, ScriptBus};
 use xen_ring::{Port, Ports};
@@ -26,11 +25,11 @@ pub enum Call<'a> {
     Poll,
 }
 
-/// What came of a call, the packet copied.
-#[derive(Debug, PartialEq, Eq, Drop)]
-pub enum Got {
+/// What came of a call. A packet is kept beside it.
+#[derive(Clone, Copy, Debug, PartialEq, Eq)]
+pub enum End {
     Idle,
-    Packet(Vec<u8>),
+    Packet,
     Refused,
     Halted(Halt),
     NotSent(SendRefusal),
@@ -40,10 +39,11 @@ pub enum Got {
     Endless,
 }
 
-/// A call's outcome, its accesses, and whether it sent a notice.
+/// A call's end, the packet that was received, the accesses, and whether a notice was sent.
 #[derive(Debug, PartialEq, Eq, Drop)]
 pub struct Played {
-    pub got: Got,
+    pub end: End,
+    pub packet: Vec<u8>,
     pub accesses: Vec<Access>,
     pub noticed: bool,
 }
@@ -63,71 +63,59 @@ fn row(access: &Access) -> Row {
     }
 }
 
-impl Got {
-    /// Whether a packet of these bytes was received.
-    pub fn is_packet(&self, bytes: &[u8]) -> bool {
-        match self {
-            Got::Packet(received) => received.as_slice() == bytes,
-            _ => false,
+/// Whether these are the accesses from the `from`-th on, and perhaps more.
+pub fn has(accesses: &[Access], from: usize, rows: &[Row]) -> bool {
+    let mut at = from;
+    for wanted in rows {
+        match accesses.get(at) {
+            Some(access) if row(access) == *wanted => at = at.saturating_add(1),
+            _ => return false,
         }
     }
-}
-
-impl Played {
-    /// Whether these are the accesses from the `from`-th on.
-    pub fn ends_with(&self, from: usize, rows: &[Row]) -> bool {
-        self.accesses.len() == from.saturating_add(rows.len()) && self.has(from, rows)
-    }
-
-    /// Whether these are the accesses from the `from`-th on, and perhaps more.
-    pub fn has(&self, from: usize, rows: &[Row]) -> bool {
-        let mut at = from;
-        for wanted in rows {
-            match self.accesses.get(at) {
-                Some(access) if row(access) == *wanted => at = at.saturating_add(1),
-                _ => return false,
-            }
-        }
-        true
-    }
+    true
 }
 
 impl Bench {
     /// Two fronts between activities.
-    pub fn fronts(&self, start: u32) -> Result<Fronts<'_>, Fail> {
-        Ok(Fronts {
-            alloc: self.alloc,
-            driven: self.front(start)?,
-            fed: self.front(start)?,
-        })
+    pub fn fronts(&self, start: u32) -> Option<Fronts<'_>> {
+        match (self.front(start), self.front(start)) {
+            (Some(driven), Some(fed)) => Some(Fronts {
+                alloc: self.alloc,
+                driven,
+                fed,
+            }),
+            _ => None,
+        }
     }
 }
 
-fn copied(alloc: Global, turn: RxTurn) -> Result<Got, AllocError> {
-    Ok(match turn {
-        RxTurn::Idle => Got::Idle,
-        RxTurn::Packet(bytes) => Got::Packet(bytes.to_vec(alloc)?),
-        RxTurn::Refused => Got::Refused,
-        RxTurn::Halted { cause } => Got::Halted(cause),
-    })
+/// What a turn gave, its packet copied.
+fn copied(alloc: Global, turn: RxTurn) -> Result<(End, Vec<u8>), AllocError> {
+    let (end, bytes): (End, &[u8]) = match turn {
+        RxTurn::Idle => (End::Idle, &[]),
+        RxTurn::Packet(bytes) => (End::Packet, bytes),
+        RxTurn::Refused => (End::Refused, &[]),
+        RxTurn::Halted { cause } => (End::Halted(cause), &[]),
+    };
+    Ok((end, bytes.to_vec(alloc)?))
 }
 
 /// Begins a call's activity. What came of it, if it is refused.
-fn begin(front: &mut Front, call: Call) -> Option<Got>
+fn begin(front: &mut Front, call: Call) -> Option<End>
     ensures { wiring_of front.new ≡ wiring_of front.old }
 {
     match call {
         Call::Send(bytes) => match front.send(bytes) {
             Ok(()) => None,
-            Err(refusal) => Some(Got::NotSent(refusal)),
+            Err(refusal) => Some(End::NotSent(refusal)),
         },
         Call::Post => match front.post_rx() {
             Ok(()) => None,
-            Err(refusal) => Some(Got::NotPosted(refusal)),
+            Err(refusal) => Some(End::NotPosted(refusal)),
         },
         Call::Poll => match front.poll() {
             Ok(()) => None,
-            Err(refusal) => Some(Got::NotPolled(refusal)),
+            Err(refusal) => Some(End::NotPolled(refusal)),
         },
     }
 }
@@ -139,13 +127,14 @@ fn drive(alloc: Global, front: &mut Front, answers: &[u32]) -> Result<Played, Al
 {
     let mut bus = ScriptBus::make(alloc, FRAMES, answers, 17_000)?;
     let ports = Ports::new();
-    let got = copied(alloc, front.drive_front(&mut bus, &ports))?;
+    let (end, packet) = copied(alloc, front.drive_front(&mut bus, &ports))?;
     let noticed = match Port::of(1) {
         Some(port) => ports.take(port),
         None => false,
     };
     Ok(Played {
-        got,
+        end,
+        packet,
         accesses: bus.accesses().to_vec(alloc)?,
         noticed,
     })
@@ -181,70 +170,74 @@ fn feed_one(front: &mut Front, word: u32) -> Event
 }
 
 /// What the activity gave, if it is over.
-fn ended(alloc: Global, front: &mut Front) -> Result<Option<Got>, AllocError>
+fn ended(alloc: Global, front: &mut Front) -> Result<(End, Vec<u8>), AllocError>
     ensures { wiring_of front.new ≡ wiring_of front.old }
 {
     match front.wanted() {
-        Want::Done => Ok(Some(copied(alloc, front.received())?)),
-        _ => Ok(None),
+        Want::Done => copied(alloc, front.received()),
+        _ => Ok((End::Endless, Vec::new(alloc))),
     }
+}
+
+/// Makes the events by hand and notes them.
+fn feed_all(front: &mut Front, answers: &[u32], played: &mut Played) -> Result<(), AllocError>
+    ensures { wiring_of front.new ≡ wiring_of front.old }
+{
+    let mut next = 0;
+    for _event in 0..17_000u32 {
+        let word = answers.get(next).copied().unwrap_or(0);
+        match feed_one(front, word) {
+            Event::Read(access) => {
+                played.accesses.push(access)?;
+                next = next.saturating_add(1);
+            }
+            Event::Wrote(access) => played.accesses.push(access)?,
+            Event::Noticed => played.noticed = true,
+            Event::Over => break,
+        }
+    }
+    Ok(())
 }
 
 /// The activity by hand.
 fn feed(alloc: Global, front: &mut Front, answers: &[u32]) -> Result<Played, AllocError>
     ensures { wiring_of front.new ≡ wiring_of front.old }
 {
-    let mut accesses = Vec::new(alloc);
-    let mut noticed = false;
-    let mut next = 0;
-    for _event in 0..17_000u32 {
-        let word = answers.get(next).copied().unwrap_or(0);
-        match feed_one(front, word) {
-            Event::Read(access) => {
-                accesses.push(access)?;
-                next = next.saturating_add(1);
-            }
-            Event::Wrote(access) => accesses.push(access)?,
-            Event::Noticed => noticed = true,
-            Event::Over => break,
-        }
-    }
-    let got = ended(alloc, front)?.unwrap_or(Got::Endless);
-    Ok(Played {
-        got,
-        accesses,
-        noticed,
-    })
-}
-
-/// What came of a call to both fronts, if it is the same.
-fn compared(
-    driven: Result<Played, AllocError>,
-    fed: Result<Played, AllocError>,
-    refusals: (Option<Got>, Option<Got>),
-) -> Result<Played, Fail> {
-    let (refused, also) = refusals;
-    if refused != also {
-        return Err("one front refuses what the other takes".into());
-    }
-    let mut played = driven?;
-    if played != fed? {
-        return Err("driven and fed by hand, the events differ".into());
-    }
-    if let Some(got) = refused {
-        played.got = got;
-    }
+    let mut played = Played {
+        end: End::Endless,
+        packet: Vec::new(alloc),
+        accesses: Vec::new(alloc),
+        noticed: false,
+    };
+    feed_all(front, answers, &mut played)?;
+    (played.end, played.packet) = ended(alloc, front)?;
     Ok(played)
 }
 
-/// Plays a call to both fronts. A refused one makes no event.
+/// What both fronts did, if it is the same. A refusal is what came of the call.
+fn compared(
+    by_drive: Result<Played, AllocError>,
+    by_hand: Result<Played, AllocError>,
+    refused: Option<End>,
+) -> Option<Played> {
+    let (Ok(mut played), Ok(fed)) = (by_drive, by_hand) else {
+        return None;
+    };
+    let is_same = played == fed;
+    if let Some(end) = refused {
+        played.end = end;
+    }
+    is_same.then_some(played)
+}
+
+/// Plays a call to both fronts, if both do the same. A refused one makes no event.
 fn play_both(
     alloc: Global,
     driven: &mut Front,
     fed: &mut Front,
     call: Call,
     answers: &[u32],
-) -> Result<Played, Fail>
+) -> Option<Played>
     requires { (wiring_of driven.old).frames ≡ 531 }
     ensures { wiring_of driven.new ≡ wiring_of driven.old }
 {
@@ -252,7 +245,11 @@ fn play_both(
     let also = begin(fed, call);
     let by_drive = drive(alloc, driven, answers);
     let by_hand = feed(alloc, fed, answers);
-    compared(by_drive, by_hand, (refused, also))
+    if refused == also {
+        compared(by_drive, by_hand, refused)
+    } else {
+        None
+    }
 }
 
 /// The two fronts.
@@ -265,60 +262,9 @@ pub struct Fronts<'p> {
 }
 
 impl Fronts<'_> {
-    /// Plays a call to both, with these answers. Both have to do the same.
-    pub fn play(&mut self, call: Call, answers: &[u32]) -> Result<Played, Fail> {
+    /// Plays a call to both, with these answers, if both do the same.
+    pub fn play(&mut self, call: Call, answers: &[u32]) -> Option<Played> {
         play_both(self.alloc, &mut self.driven, &mut self.fed, call, answers)
-    }
-
-    /// What comes of a call with these answers.
-    pub fn outcome(&mut self, call: Call, answers: &[u32]) -> Result<Got, Fail> {
-        let Played {
-            got,
-            accesses: _,
-            noticed: _,
-        } = self.play(call, answers)?;
-        Ok(got)
-    }
-
-    /// Sends so many packets.
-    pub fn send_all(&mut self, packets: u32) -> Result<(), Fail> {
-        for _packet in 0..packets {
-            if self.outcome(Call::Send(&SMALL), &[])? != Got::Idle {
-                return Err("a send is refused".into());
-            }
-        }
-        Ok(())
-    }
-
-    /// Posts so many buffers.
-    pub fn post_all(&mut self, buffers: u32) -> Result<(), Fail> {
-        for _buffer in 0..buffers {
-            if self.outcome(Call::Post, &[])? != Got::Idle {
-                return Err("a post is refused".into());
-            }
-        }
-        Ok(())
-    }
-
-    /// Plays a call to both, whose accesses have to be these rows from the `from`-th access on. What came of it, and whether the
-    /// back has a notice.
-    pub fn shows(
-        &mut self,
-        call: Call,
-        answers: &[u32],
-        from: usize,
-        rows: &[Row],
-    ) -> Result<(Got, bool), Fail> {
-        let played = self.play(call, answers)?;
-        if !played.ends_with(from, rows) {
-            return Err("other accesses".into());
-        }
-        let Played {
-            got,
-            accesses: _,
-            noticed,
-        } = played;
-        Ok((got, noticed))
     }
 
     /// The counts of tx responses by status, if both fronts have the same.

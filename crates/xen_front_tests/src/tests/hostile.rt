@@ -1,69 +1,47 @@
 //! What a front does before a back that breaks the protocol.
 
-use super::fixtures::{Call, Fronts, Got, Played, READ, SMALL, STARTS, WRITE};
-use crate::bench::{Bench, RX, TX};
-use std::alloc::Global;
-use std::test::Fail;
+use super::fixtures::{Call, End, READ, Row, SMALL, STARTS, WRITE};
+use super::steps::{Step, after, filled};
+use crate::bench::{RX, TX};
+use std::alloc::{AllocError, Global};
 use xen_front::{Halt, PollRefusal, PostRefusal, SendRefusal};
 
-/// Whether the front refuses a call for good, without an access.
-fn is_refused(fronts: &mut Fronts, call: Call, refusal: &Got) -> Result<bool, Fail> {
-    let played = fronts.play(call, &[])?;
-    Ok(played.accesses.is_empty() && played.got == *refusal)
+/// A poll for which the front halts.
+fn halting(answers: &[u32], cause: Halt) -> Step<'_> {
+    Step::of(Call::Poll, answers, End::Halted(cause))
 }
 
-/// Whether the front refuses every call for good, without an access.
-fn is_over(fronts: &mut Fronts) -> Result<bool, Fail> {
-    let send = Got::NotSent(SendRefusal::Halted);
-    let post = Got::NotPosted(PostRefusal::Halted);
-    let poll = Got::NotPolled(PollRefusal::Halted);
-    Ok(
-        is_refused(fronts, Call::Send(&SMALL), &send)?
-            && is_refused(fronts, Call::Post, &post)?
-            && is_refused(fronts, Call::Poll, &poll)?,
-    )
-}
-
-/// A poll after which the front has to be halted.
-fn last_poll(fronts: &mut Fronts, answers: &[u32]) -> Result<Played, Fail> {
-    let polled = fronts.play(Call::Poll, answers)?;
-    if is_over(fronts)? {
-        Ok(polled)
-    } else {
-        Err("the front goes on".into())
-    }
-}
-
-/// Polls a front with so many packets sent and buffers posted, which then has to be halted.
-fn halted(
+/// So many packets are sent and so many buffers posted, and then a poll is made, after which the front refuses every call for good,
+/// without an access.
+fn after_the_last(
     alloc: Global,
     start: u32,
     sent: u32,
     posted: u32,
-    answers: &[u32],
-) -> Result<Played, Fail> {
-    let bench = Bench::make(alloc)?;
-    let mut fronts = bench.fronts(start)?;
-    fronts.send_all(sent)?;
-    fronts.post_all(posted)?;
-    last_poll(&mut fronts, answers)
+    last: Step,
+) -> Result<[u64; 4], usize> {
+    let steps = [
+        Step::sends(sent),
+        Step::posts(posted),
+        last,
+        Step::of(Call::Send(&SMALL), &[], End::NotSent(SendRefusal::Halted)).makes(0),
+        Step::of(Call::Post, &[], End::NotPosted(PostRefusal::Halted)).makes(0),
+        Step::of(Call::Poll, &[], End::NotPolled(PollRefusal::Halted)).makes(0),
+    ];
+    after(alloc, start, &steps)
 }
 
-/// The answers of a poll whose tx ring has nothing and whose rx producer is `shown` past the start, and then these words.
-fn rx_answers(alloc: Global, start: u32, shown: u32, words: &[u32]) -> Result<Vec<u32>, Fail> {
-    let mut answers = [start, start, start.wrapping_add(shown)].to_vec(alloc)?;
-    answers.extend_from_slice(words)?;
-    Ok(answers)
-}
+/// The answers of the chain of sixteen slots that is too long in a new ring: ids 0 to 15, each of which wants another.
+#[rattlefmt::skip]
+const LONG: [u32; 35] = [
+    0, 0, 16,
+    0, 4, 1, 4, 2, 4, 3, 4, 4, 4, 5, 4, 6, 4, 7, 4,
+    8, 4, 9, 4, 10, 4, 11, 4, 12, 4, 13, 4, 14, 4, 15, 4,
+];
 
 /// The shortest lists of answers that give each halt in a new ring, as docs/NETFRONT.md has them.
 #[test]
-fn the_shortest_scripts(rt: HostRuntime) -> Result<(), Fail> {
-    let alloc = rt.alloc();
-    let mut long = [0, 0, 16].to_vec(alloc)?;
-    for id in 0..16 {
-        long.extend_from_slice(&[id, 4])?;
-    }
+fn the_shortest_scripts(rt: HostRuntime) {
     let scripts: [(u32, u32, &[u32], Halt); 7] = [
         (0, 0, &[1], Halt::TxProducer),
         (1, 0, &[1, 5], Halt::TxId),
@@ -71,79 +49,76 @@ fn the_shortest_scripts(rt: HostRuntime) -> Result<(), Fail> {
         (0, 1, &[0, 0, 1, 5, 0], Halt::RxSlot),
         (0, 1, &[0, 0, 1, 0, 0x1001_0000], Halt::RxSize),
         (0, 1, &[0, 0, 1, 0, 4], Halt::ShortChain),
-        (0, 16, long.as_slice(), Halt::LongChain),
+        (0, 16, &LONG, Halt::LongChain),
     ];
     let mut number = 0u8;
     for (sent, posted, answers, cause) in scripts {
-        let polled = halted(alloc, 0, sent, posted, answers)?;
-        assert_eq!(rt; polled.got, Got::Halted(cause));
+        let seen = after_the_last(rt.alloc(), 0, sent, posted, halting(answers, cause));
         number = number.saturating_add(1);
-        assert_eq!(rt; cause.number(), number);
+        assert_eq!(rt; (seen, cause.number()), (Ok([0; 4]), number));
     }
-    Ok(())
 }
 
 #[test]
-fn a_tx_producer_beyond_what_is_outstanding(rt: HostRuntime) -> Result<(), Fail> {
+fn a_tx_producer_beyond_what_is_outstanding(rt: HostRuntime) {
     for start in STARTS {
         let producer = start.wrapping_add(4);
-        let polled = halted(rt.alloc(), start, 3, 0, &[producer])?;
-        assert_eq!(rt; polled.got, Got::Halted(Halt::TxProducer));
-        assert!(rt; polled.ends_with(0, &[(READ, TX, 2, producer)]));
-        let back = start.wrapping_sub(1);
-        let polled = halted(rt.alloc(), start, 3, 0, &[back])?;
-        assert_eq!(rt;
-            polled.got,
-            Got::Halted(Halt::TxProducer),
-            "a producer that goes back"
-        );
-        let polled = halted(rt.alloc(), start, 3, 0, &[start, producer])?;
-        assert_eq!(rt;
-            polled.got,
-            Got::Halted(Halt::TxProducer),
-            "at the second look"
-        );
-        assert_eq!(rt; polled.accesses.len(), 3);
+        let read = [(READ, TX, 2, producer)];
+        let beyond = [producer];
+        let back = [start.wrapping_sub(1)];
+        let second = [start, producer];
+        for last in [
+            halting(&beyond, Halt::TxProducer).ends(0, &read),
+            // A producer that goes back.
+            halting(&back, Halt::TxProducer),
+            // At the second look.
+            halting(&second, Halt::TxProducer).makes(3),
+        ] {
+            assert_eq!(rt; after_the_last(rt.alloc(), start, 3, 0, last), Ok([0; 4]));
+        }
     }
-    Ok(())
 }
 
+/// No grant is ended.
 #[test]
-fn a_tx_response_to_nothing(rt: HostRuntime) -> Result<(), Fail> {
+fn a_tx_response_to_nothing(rt: HostRuntime) {
     for start in STARTS {
         let slot = if start == 0 { 16 } else { 781 };
         let producer = start.wrapping_add(1);
         for id in [1, 255, 256, 0xFFFF] {
-            let polled = halted(rt.alloc(), start, 1, 0, &[producer, id])?;
-            assert_eq!(rt; polled.got, Got::Halted(Halt::TxId), "{id}");
             let log = [(READ, TX, 2, producer), (READ, TX, slot, id)];
-            assert!(rt; polled.ends_with(0, &log), "no grant is ended");
+            let answers = [producer, id];
+            let last = halting(&answers, Halt::TxId).ends(0, &log);
+            let seen = after_the_last(rt.alloc(), start, 1, 0, last);
+            assert_eq!(rt; seen, Ok([0; 4]), "{id}");
         }
-        let twice = [start.wrapping_add(2), 1, 1];
-        let polled = halted(rt.alloc(), start, 2, 0, &twice)?;
-        assert_eq!(rt;
-            polled.got,
-            Got::Halted(Halt::TxId),
-            "a second response to one request"
-        );
-        assert_eq!(rt; polled.accesses.len(), 4);
     }
-    Ok(())
 }
 
 #[test]
-fn an_rx_producer_beyond_what_is_outstanding(rt: HostRuntime) -> Result<(), Fail> {
+fn a_second_response_to_one_request(rt: HostRuntime) {
     for start in STARTS {
-        let answers = rx_answers(rt.alloc(), start, 1, &[])?;
-        let polled = halted(rt.alloc(), start, 0, 0, answers.as_slice())?;
-        assert_eq!(rt; polled.got, Got::Halted(Halt::RxProducer));
-        assert!(rt; polled.ends_with(3, &[(READ, RX, 2, start.wrapping_add(1))]));
+        let answers = [start.wrapping_add(2), 1, 1];
+        let last = halting(&answers, Halt::TxId).makes(4);
+        let seen = after_the_last(rt.alloc(), start, 2, 0, last);
+        assert_eq!(rt; seen, Ok([1, 0, 0, 0]));
     }
-    Ok(())
 }
 
 #[test]
-fn an_rx_response_with_a_wrong_id_or_flags(rt: HostRuntime) -> Result<(), Fail> {
+fn an_rx_producer_beyond_what_is_outstanding(rt: HostRuntime) {
+    for start in STARTS {
+        let producer = start.wrapping_add(1);
+        let answers = [start, start, producer];
+        let read = [(READ, RX, 2, producer)];
+        let last = halting(&answers, Halt::RxProducer).ends(3, &read);
+        assert_eq!(rt; after_the_last(rt.alloc(), start, 0, 0, last), Ok([0; 4]));
+    }
+}
+
+/// No grant is ended and no page is read.
+#[test]
+fn an_rx_response_with_a_wrong_id_or_flags(rt: HostRuntime) {
     for start in STARTS {
         for (first, second) in [
             (1, 0x000e_0000),
@@ -153,21 +128,16 @@ fn an_rx_response_with_a_wrong_id_or_flags(rt: HostRuntime) -> Result<(), Fail> 
             // Before a size that passes the page.
             (0, 0x1001_0008),
         ] {
-            let answers = rx_answers(rt.alloc(), start, 1, &[first, second])?;
-            let polled = halted(rt.alloc(), start, 0, 1, answers.as_slice())?;
-            assert_eq!(rt; polled.got, Got::Halted(Halt::RxSlot), "{first} {second}");
-            assert_eq!(rt;
-                polled.accesses.len(),
-                6,
-                "no grant is ended and no page is read"
-            );
+            let answers = [start, start, start.wrapping_add(1), first, second];
+            let last = halting(&answers, Halt::RxSlot).makes(6);
+            let seen = after_the_last(rt.alloc(), start, 0, 1, last);
+            assert_eq!(rt; seen, Ok([0; 4]), "{first} {second}");
         }
     }
-    Ok(())
 }
 
 #[test]
-fn an_rx_response_past_its_page(rt: HostRuntime) -> Result<(), Fail> {
+fn an_rx_response_past_its_page(rt: HostRuntime) {
     for start in STARTS {
         for (first, second) in [
             (0, 0x1001_0000),
@@ -177,165 +147,188 @@ fn an_rx_response_past_its_page(rt: HostRuntime) -> Result<(), Fail> {
             // Before a chain that the producer didn't show.
             (0, 0x1001_0004),
         ] {
-            let answers = rx_answers(rt.alloc(), start, 1, &[first, second])?;
-            let polled = halted(rt.alloc(), start, 0, 1, answers.as_slice())?;
-            assert_eq!(rt; polled.got, Got::Halted(Halt::RxSize), "{first} {second}");
-            assert_eq!(rt; polled.accesses.len(), 6);
+            let answers = [start, start, start.wrapping_add(1), first, second];
+            let last = halting(&answers, Halt::RxSize).makes(6);
+            let seen = after_the_last(rt.alloc(), start, 0, 1, last);
+            assert_eq!(rt; seen, Ok([0; 4]), "{first} {second}");
         }
     }
-    Ok(())
 }
 
+/// The chain ends after its slot's page words.
 #[test]
-fn a_chain_past_the_producer(rt: HostRuntime) -> Result<(), Fail> {
+fn a_chain_past_the_producer(rt: HostRuntime) {
     for start in STARTS {
-        let answers = rx_answers(rt.alloc(), start, 1, &[0, 0x0005_0004, 1, 2])?;
-        let polled = halted(rt.alloc(), start, 0, 2, answers.as_slice())?;
-        assert_eq!(rt; polled.got, Got::Halted(Halt::ShortChain));
+        let answers = [start, start, start.wrapping_add(1), 0, 0x0005_0004, 1, 2];
         let end = [(WRITE, 1, 516, 0), (READ, 275, 0, 1), (READ, 275, 1, 2)];
-        assert!(rt; polled.ends_with(6, &end), "after the slot's page words");
+        let last = halting(&answers, Halt::ShortChain).ends(6, &end);
+        assert_eq!(rt; after_the_last(rt.alloc(), start, 0, 2, last), Ok([0; 4]));
     }
-    Ok(())
 }
 
-#[test]
-fn a_seventeenth_slot(rt: HostRuntime) -> Result<(), Fail> {
-    for start in STARTS {
-        let mut answers = rx_answers(rt.alloc(), start, 17, &[])?;
-        for id in 0..17 {
-            answers.push(id)?;
-            answers.push(if id < 16 { 4 } else { 0 })?;
+/// A chain of responses, of ids from 0 on.
+#[derive(Clone, Copy)]
+struct Chain {
+    slots: u32,
+    /// The second word of each response but the last.
+    second: u32,
+    last: u32,
+    /// How many words of each page are read.
+    words: u32,
+}
+
+/// Adds the answers of a poll whose tx ring has nothing, and whose rx ring shows a chain.
+fn add_chain(answers: &mut Vec<u32>, start: u32, chain: Chain) -> Result<(), AllocError> {
+    answers.extend_from_slice(&[start, start, start.wrapping_add(chain.slots)])?;
+    for id in 0..chain.slots {
+        let is_last = id.saturating_add(1) == chain.slots;
+        answers.push(id)?;
+        answers.push(if is_last { chain.last } else { chain.second })?;
+        for _word in 0..chain.words {
+            answers.push(0x0707_0707)?;
         }
-        let polled = halted(rt.alloc(), start, 0, 17, answers.as_slice())?;
-        assert_eq!(rt; polled.got, Got::Halted(Halt::LongChain));
-        assert_eq!(rt;
-            polled.accesses.len(),
-            4 + 15 * 3 + 2,
-            "at the sixteenth, which wants another"
-        );
     }
     Ok(())
 }
 
-#[test]
-fn a_packet_of_more_than_65_535_bytes(rt: HostRuntime) -> Result<(), Fail> {
-    for start in STARTS {
-        let mut answers = rx_answers(rt.alloc(), start, 16, &[])?;
-        for id in 0..16 {
-            answers.push(id)?;
-            answers.push(if id < 15 { 0x1000_0004 } else { 0x1000_0000 })?;
-            for _word in 0..1024 {
-                answers.push(7)?;
-            }
+/// A chain for which the front halts, after so many accesses.
+fn after_a_chain(
+    alloc: Global,
+    start: u32,
+    chain: Chain,
+    cause: Halt,
+    accesses: usize,
+) -> Result<[u64; 4], usize> {
+    let mut answers = Vec::new(alloc);
+    match add_chain(&mut answers, start, chain) {
+        Ok(()) => {
+            let last = halting(answers.as_slice(), cause).makes(accesses);
+            after_the_last(alloc, start, 0, chain.slots, last)
         }
-        let polled = halted(rt.alloc(), start, 0, 16, answers.as_slice())?;
-        assert_eq!(rt; polled.got, Got::Halted(Halt::LongChain));
-        assert_eq!(rt; polled.accesses.len(), 4 + 15 * 1027 + 2);
+        Err(_) => Err(0),
     }
-    Ok(())
 }
 
-/// Two posted buffers, of which one answer has a negative status.
-fn refuses(alloc: Global, fronts: &mut Fronts, start: u32, words: &[u32]) -> Result<Played, Fail> {
-    fronts.post_all(2)?;
-    let answers = rx_answers(alloc, start, 2, words)?;
-    fronts.play(Call::Poll, answers.as_slice())
-}
-
+/// A sixteenth slot that wants another.
 #[test]
-fn a_negative_status_refuses_the_packet(rt: HostRuntime) -> Result<(), Fail> {
-    let bench = Bench::make(rt.alloc())?;
-    let chains: [&[u32]; 2] = [
-        &[0, 0x000A_0004, 1, 2, 3, 1, 0xFFFF_0000],
-        &[1, 0xFFFF_0004, 0, 0x000A_0000, 1, 2, 3],
-    ];
-    for (start, words) in [
-        (STARTS[0], chains[0]),
-        (STARTS[0], chains[1]),
-        (STARTS[1], chains[0]),
-        (STARTS[1], chains[1]),
-    ] {
-        let mut fronts = bench.fronts(start)?;
-        let polled = refuses(rt.alloc(), &mut fronts, start, words)?;
-        assert_eq!(rt; polled.got, Got::Refused);
-        assert_eq!(rt;
-            polled.accesses.len(),
-            4 + 3 + 3 + 3,
-            "three page words in all"
-        );
-    }
-    Ok(())
-}
-
-/// What a poll of nothing does after a packet that was refused.
-fn polls_nothing(alloc: Global, fronts: &mut Fronts, start: u32) -> Result<Played, Fail> {
-    refuses(
-        alloc,
-        fronts,
-        start,
-        &[0, 0x000A_0004, 1, 2, 3, 1, 0xFFFF_0000],
-    )?;
-    let after = start.wrapping_add(2);
-    fronts.play(Call::Poll, &[start, start, after, after])
-}
-
-#[test]
-fn the_slots_of_a_refused_packet_are_consumed(rt: HostRuntime) -> Result<(), Fail> {
-    let bench = Bench::make(rt.alloc())?;
+fn a_seventeenth_slot(rt: HostRuntime) {
+    let chain = Chain {
+        slots: 17,
+        second: 4,
+        last: 0,
+        words: 0,
+    };
     for start in STARTS {
-        let idle = polls_nothing(rt.alloc(), &mut bench.fronts(start)?, start)?;
-        assert_eq!(rt; idle.got, Got::Idle);
-        assert!(rt; idle.has(4, &[(WRITE, RX, 3, start.wrapping_add(3))]));
+        let accesses = 4 + 15 * 3 + 2;
+        let seen = after_a_chain(rt.alloc(), start, chain, Halt::LongChain, accesses);
+        assert_eq!(rt; seen, Ok([0; 4]));
     }
-    Ok(())
 }
 
 #[test]
-fn a_status_of_minus_1_at_offset_4_097(rt: HostRuntime) -> Result<(), Fail> {
-    let bench = Bench::make(rt.alloc())?;
+fn a_packet_of_more_than_65_535_bytes(rt: HostRuntime) {
+    let chain = Chain {
+        slots: 16,
+        second: 0x1000_0004,
+        last: 0x1000_0000,
+        words: 1024,
+    };
     for start in STARTS {
-        let mut fronts = bench.fronts(start)?;
-        fronts.post_all(1)?;
-        let answers = rx_answers(rt.alloc(), start, 1, &[0x1001_0000, 0xFFFF_0000])?;
-        let got = fronts.outcome(Call::Poll, answers.as_slice())?;
-        assert_eq!(rt; got, Got::Refused, "at offset 4,097");
+        let accesses = 4 + 15 * 1027 + 2;
+        let seen = after_a_chain(rt.alloc(), start, chain, Halt::LongChain, accesses);
+        assert_eq!(rt; seen, Ok([0; 4]));
     }
-    Ok(())
 }
 
 /// A sixteenth slot that wants another and also passes its page: the page comes first.
 #[test]
-fn a_page_is_passed_before_a_chain_is_too_long(rt: HostRuntime) -> Result<(), Fail> {
+fn a_page_is_passed_before_a_chain_is_too_long(rt: HostRuntime) {
+    let chain = Chain {
+        slots: 16,
+        second: 4,
+        last: 0x1001_0004,
+        words: 0,
+    };
     for start in STARTS {
-        let mut answers = rx_answers(rt.alloc(), start, 16, &[])?;
-        for id in 0..16 {
-            answers.push(id)?;
-            answers.push(if id < 15 { 4 } else { 0x1001_0004 })?;
-        }
-        let polled = halted(rt.alloc(), start, 0, 16, answers.as_slice())?;
-        assert_eq!(rt; polled.got, Got::Halted(Halt::RxSize));
+        let accesses = 4 + 15 * 3 + 2;
+        let seen = after_a_chain(rt.alloc(), start, chain, Halt::RxSize, accesses);
+        assert_eq!(rt; seen, Ok([0; 4]));
     }
-    Ok(())
 }
 
 /// Fifteen full pages and one of 4,095 bytes.
-#[test]
-fn a_packet_of_65_535_bytes_is_received(rt: HostRuntime) -> Result<(), Fail> {
-    let bench = Bench::make(rt.alloc())?;
-    for start in STARTS {
-        let mut fronts = bench.fronts(start)?;
-        fronts.post_all(16)?;
-        let mut answers = rx_answers(rt.alloc(), start, 16, &[])?;
-        for id in 0..16 {
-            answers.push(id)?;
-            answers.push(if id < 15 { 0x1000_0004 } else { 0x0FFF_0000 })?;
-            for _word in 0..1024 {
-                answers.push(0x0707_0707)?;
-            }
+fn after_the_longest(alloc: Global, start: u32) -> Result<[u64; 4], usize> {
+    let chain = Chain {
+        slots: 16,
+        second: 0x1000_0004,
+        last: 0x0FFF_0000,
+        words: 1024,
+    };
+    let Some(bytes) = filled(alloc, 7, 65_535) else {
+        return Err(0);
+    };
+    let mut answers = Vec::new(alloc);
+    match add_chain(&mut answers, start, chain) {
+        Ok(()) => {
+            let receives = Step::receives(answers.as_slice(), bytes.as_slice());
+            after(alloc, start, &[Step::posts(16), receives])
         }
-        let got = fronts.outcome(Call::Poll, answers.as_slice())?;
-        let bytes = vec![in rt.alloc(); 7u8; 65_535]?;
-        assert!(rt; got.is_packet(bytes.as_slice()));
+        Err(_) => Err(0),
     }
-    Ok(())
+}
+
+#[test]
+fn a_packet_of_65_535_bytes_is_received(rt: HostRuntime) {
+    for start in STARTS {
+        assert_eq!(rt; after_the_longest(rt.alloc(), start), Ok([0; 4]));
+    }
+}
+
+/// Two responses, of which one has a negative status: three page words are read in all.
+#[test]
+fn a_negative_status_refuses_the_packet(rt: HostRuntime) {
+    for start in STARTS {
+        let shown = start.wrapping_add(2);
+        for answers in [
+            [start, start, shown, 0, 0x000A_0004, 1, 2, 3, 1, 0xFFFF_0000],
+            [start, start, shown, 1, 0xFFFF_0004, 0, 0x000A_0000, 1, 2, 3],
+        ] {
+            let refuses = Step::of(Call::Poll, &answers, End::Refused).makes(4 + 3 + 3 + 3);
+            let seen = after(rt.alloc(), start, &[Step::posts(2), refuses]);
+            assert_eq!(rt; seen, Ok([0; 4]));
+        }
+    }
+}
+
+/// A poll of nothing after a packet that was refused.
+#[test]
+fn the_slots_of_a_refused_packet_are_consumed(rt: HostRuntime) {
+    for start in STARTS {
+        let shown = start.wrapping_add(2);
+        let refused = [start, start, shown, 0, 0x000A_0004, 1, 2, 3, 1, 0xFFFF_0000];
+        let nothing = [start, start, shown, shown];
+        let event: [Row; 1] = [(WRITE, RX, 3, start.wrapping_add(3))];
+        let steps = [
+            Step::posts(2),
+            Step::of(Call::Poll, &refused, End::Refused),
+            Step::of(Call::Poll, &nothing, End::Idle).shows(4, &event),
+        ];
+        assert_eq!(rt; after(rt.alloc(), start, &steps), Ok([0; 4]));
+    }
+}
+
+#[test]
+fn a_status_of_minus_1_at_offset_4_097(rt: HostRuntime) {
+    for start in STARTS {
+        let answers = [
+            start,
+            start,
+            start.wrapping_add(1),
+            0x1001_0000,
+            0xFFFF_0000,
+        ];
+        let refuses = Step::of(Call::Poll, &answers, End::Refused);
+        let seen = after(rt.alloc(), start, &[Step::posts(1), refuses]);
+        assert_eq!(rt; seen, Ok([0; 4]));
+    }
 }

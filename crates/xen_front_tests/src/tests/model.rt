@@ -2,7 +2,7 @@
 
 ghost use Rattle.std.specs.Prelude.{◌<◌};
 
-use super::fixtures::Got;
+use super::fixtures::End;
 use std::alloc::{AllocError, Global};
 use xen_front::Halt;
 
@@ -78,7 +78,7 @@ impl Ring {
 #[derive(Drop)]
 pub struct Poll {
     pub answers: Vec<u32>,
-    pub got: Got,
+    pub packet: Vec<u8>,
     /// How many words it read or wrote.
     pub accesses: usize,
 }
@@ -189,38 +189,45 @@ impl Model {
         self.rx.begin()
     }
 
-    pub fn poll(&mut self, random: &mut Random) -> Result<Poll, AllocError> {
-        let mut poll = Poll {
+    /// A poll before its first answer.
+    pub fn begin(&self) -> Poll {
+        Poll {
             answers: Vec::new(self.alloc),
-            got: Got::Idle,
+            packet: Vec::new(self.alloc),
             accesses: 0,
-        };
+        }
+    }
+
+    /// Makes up the answers of a poll, and returns what comes of it.
+    pub fn poll(&mut self, poll: &mut Poll, random: &mut Random) -> Result<End, AllocError> {
         let Some(responses) = poll.look(&self.tx, random)? else {
-            poll.got = Got::Halted(Halt::TxProducer);
-            return Ok(poll);
+            return Ok(End::Halted(Halt::TxProducer));
         };
         for _response in 0..responses {
-            let id = self.tx.some_id(random);
-            let status = random.small(3);
-            let word = id | (status.wrapping_sub(2) & 0xFFFF) << 16;
-            poll.answer(word)?;
-            if !self.tx.open.contains(&id) {
-                poll.got = Got::Halted(Halt::TxId);
-                return Ok(poll);
+            if !self.take(poll, random)? {
+                return Ok(End::Halted(Halt::TxId));
             }
-            self.tx.end(id);
-            poll.wrote();
-            let place = place_of(status);
-            self.statuses[place] = self.statuses[place].saturating_add(1);
         }
-        let Some(responses) = poll.look(&self.rx, random)? else {
-            poll.got = Got::Halted(Halt::RxProducer);
-            return Ok(poll);
-        };
-        if responses > 0 {
-            poll.got = self.receive(responses, &mut poll, random)?;
+        match poll.look(&self.rx, random)? {
+            None => Ok(End::Halted(Halt::RxProducer)),
+            Some(0) => Ok(End::Idle),
+            Some(responses) => self.receive(responses, poll, random),
         }
-        Ok(poll)
+    }
+
+    /// A tx response. Whether it is to a packet in flight.
+    fn take(&mut self, poll: &mut Poll, random: &mut Random) -> Result<bool, AllocError> {
+        let id = self.tx.some_id(random);
+        let status = random.small(3);
+        poll.answer(id | (status.wrapping_sub(2) & 0xFFFF) << 16)?;
+        if !self.tx.open.contains(&id) {
+            return Ok(false);
+        }
+        self.tx.end(id);
+        poll.wrote();
+        let place = place_of(status);
+        self.statuses[place] = self.statuses[place].saturating_add(1);
+        Ok(true)
     }
 
     /// A packet of at most so many responses.
@@ -229,8 +236,7 @@ impl Model {
         responses: u32,
         poll: &mut Poll,
         random: &mut Random,
-    ) -> Result<Got, AllocError> {
-        let mut bytes = Vec::new(self.alloc);
+    ) -> Result<End, AllocError> {
         let mut bad = false;
         for slot in 0..responses {
             let id = self.rx.some_id(random);
@@ -238,42 +244,54 @@ impl Model {
             let second = flags_and_status(responses.saturating_sub(slot + 1), random);
             poll.answer(id | offset << 16)?;
             poll.answer(second)?;
-            let status = second >> 16;
-            let negative = status >= 0x8000;
-            let size = if negative { 0 } else { status };
-            if !self.rx.open.contains(&id) || second & 24 != 0 {
-                return Ok(Got::Halted(Halt::RxSlot));
+            if !self.rx.open.contains(&id) {
+                return Ok(End::Halted(Halt::RxSlot));
             }
-            if !negative && offset.saturating_add(status) > 4096 {
-                return Ok(Got::Halted(Halt::RxSize));
-            }
-            if slot >= 15 && second & 4 != 0 || bytes.len().saturating_add(size as usize) > 65_535 {
-                return Ok(Got::Halted(Halt::LongChain));
+            if let Some(cause) = poll.fault(slot, offset, second) {
+                return Ok(End::Halted(cause));
             }
             self.rx.end(id);
             poll.wrote();
-            bad = bad || negative;
-            page(offset, size, &mut bytes, poll, random)?;
+            bad = bad || is_negative(second);
+            page(offset, size_of(second), poll, random)?;
             if second & 4 == 0 {
-                return Ok(if bad {
-                    Got::Refused
-                } else {
-                    Got::Packet(bytes)
-                });
+                return Ok(if bad { End::Refused } else { End::Packet });
             }
         }
-        Ok(Got::Halted(Halt::ShortChain))
+        Ok(End::Halted(Halt::ShortChain))
+    }
+}
+
+/// Whether the status of a response with this second word is negative.
+fn is_negative(second: u32) -> bool {
+    second >> 16 >= 0x8000
+}
+
+/// How many bytes a response with this second word has.
+fn size_of(second: u32) -> u32 {
+    if is_negative(second) { 0 } else { second >> 16 }
+}
+
+impl Poll {
+    /// Why a response to a buffer in flight halts the front, if it does.
+    fn fault(&self, slot: u32, offset: u32, second: u32) -> Option<Halt> {
+        let size = size_of(second);
+        if second & 24 != 0 {
+            Some(Halt::RxSlot)
+        } else if !is_negative(second) && offset.saturating_add(size) > 4096 {
+            Some(Halt::RxSize)
+        } else if slot >= 15 && second & 4 != 0
+            || self.packet.len().saturating_add(size as usize) > 65_535
+        {
+            Some(Halt::LongChain)
+        } else {
+            None
+        }
     }
 }
 
 /// The words that so many bytes from an offset on cover, and the bytes.
-fn page(
-    offset: u32,
-    size: u32,
-    bytes: &mut Vec<u8>,
-    poll: &mut Poll,
-    random: &mut Random,
-) -> Result<(), AllocError> {
+fn page(offset: u32, size: u32, poll: &mut Poll, random: &mut Random) -> Result<(), AllocError> {
     let end = offset.saturating_add(size);
     let first = offset / 4;
     let words = if size == 0 {
@@ -287,7 +305,7 @@ fn page(
         poll.answer(word)?;
         for byte in word.to_le_bytes() {
             if at >= offset && at < end {
-                bytes.push(byte)?;
+                poll.packet.push(byte)?;
             }
             at = at.saturating_add(1);
         }

@@ -1,13 +1,13 @@
 //! Calls and answers that look random, beside a model by lists.
 
-use super::fixtures::{Call, Fronts, Got};
+use super::fixtures::{Call, End, Fronts, Played};
 use super::model::{Model, Poll, Random};
+use super::steps::Step;
 use crate::bench::Bench;
 use std::alloc::Global;
-use std::test::Fail;
 
 /// How often each outcome came: packets, packets refused, halts.
-#[derive(Debug, Drop)]
+#[derive(Clone, Copy, Debug)]
 struct Outcomes {
     packets: u32,
     refused: u32,
@@ -16,11 +16,11 @@ struct Outcomes {
 
 impl Outcomes {
     /// Counts what a poll gave, and returns whether the front goes on.
-    fn count(&mut self, got: &Got) -> bool {
-        match got {
-            Got::Packet(_) => self.packets = self.packets.saturating_add(1),
-            Got::Refused => self.refused = self.refused.saturating_add(1),
-            Got::Halted(_) => {
+    fn count(&mut self, end: End) -> bool {
+        match end {
+            End::Packet => self.packets = self.packets.saturating_add(1),
+            End::Refused => self.refused = self.refused.saturating_add(1),
+            End::Halted(_) => {
                 self.halts = self.halts.saturating_add(1);
                 return false;
             }
@@ -30,69 +30,93 @@ impl Outcomes {
     }
 }
 
-/// Polls the front and its model, and returns what both gave.
-fn poll(fronts: &mut Fronts, model: &mut Model, random: &mut Random) -> Result<Got, Fail> {
-    let Poll {
-        answers,
-        got,
-        accesses,
-    } = model.poll(random)?;
-    let played = fronts.play(Call::Poll, answers.as_slice())?;
-    if played.got != got || played.accesses.len() != accesses {
-        return Err("a poll differs from its model".into());
-    }
-    Ok(got)
+/// Whether a poll came to what its model came to.
+fn is_same(played: &Played, poll: &Poll, end: End) -> bool {
+    let is_packet = end != End::Packet || played.packet.as_slice() == poll.packet.as_slice();
+    played.end == end && is_packet && played.accesses.len() == poll.accesses
 }
 
-/// Plays one call, and returns whether the front goes on.
+/// Whether a poll of the front comes to what its model came to.
+fn polls(fronts: &mut Fronts, poll: &Poll, end: End) -> bool {
+    match fronts.play(Call::Poll, poll.answers.as_slice()) {
+        Some(played) => is_same(&played, poll, end),
+        None => false,
+    }
+}
+
+/// Polls the model and then the front: what came of it, if it is the same.
+fn poll(fronts: &mut Fronts, model: &mut Model, random: &mut Random) -> Option<End> {
+    let mut poll = model.begin();
+    match model.poll(&mut poll, random) {
+        Ok(end) if polls(fronts, &poll, end) => Some(end),
+        _ => None,
+    }
+}
+
+/// Plays one call, and returns whether the front goes on, if it does what its model does.
 fn step(
     fronts: &mut Fronts,
     model: &mut Model,
     random: &mut Random,
     outcomes: &mut Outcomes,
-) -> Result<bool, Fail> {
+) -> Option<bool> {
     match random.small(7) {
-        0..2 if model.has_room(1) => {
-            model.send()?;
-            fronts.send_all(1)?;
-        }
-        2..5 if model.can_post() => {
-            model.post()?;
-            fronts.post_all(1)?;
-        }
-        _ => {
-            let got = poll(fronts, model, random)?;
-            return Ok(outcomes.count(&got));
-        }
+        0..2 if model.has_room(1) => match model.send() {
+            Ok(()) => fronts.makes(&Step::sends(1)).then_some(true),
+            Err(_) => None,
+        },
+        2..5 if model.can_post() => match model.post() {
+            Ok(()) => fronts.makes(&Step::posts(1)).then_some(true),
+            Err(_) => None,
+        },
+        _ => match poll(fronts, model, random) {
+            Some(end) => Some(outcomes.count(end)),
+            None => None,
+        },
     }
-    Ok(true)
 }
 
-/// Plays so many calls to a front and to its model, or fewer if it halts.
-fn play(
+/// Plays so many calls to a front and to its model, or fewer if it halts. Whether both do the same.
+fn plays(
+    fronts: &mut Fronts,
+    model: &mut Model,
+    calls: u32,
+    random: &mut Random,
+    outcomes: &mut Outcomes,
+) -> bool {
+    for _call in 0..calls {
+        match step(fronts, model, random, outcomes) {
+            Some(true) => {}
+            Some(false) => break,
+            None => return false,
+        }
+    }
+    true
+}
+
+/// Plays to a new front and its model.
+fn plays_from(
     alloc: Global,
     start: u32,
     calls: u32,
     random: &mut Random,
     outcomes: &mut Outcomes,
-) -> Result<(), Fail> {
-    let bench = Bench::make(alloc)?;
-    let mut fronts = bench.fronts(start)?;
-    let mut model = Model::new(alloc, start);
-    for _call in 0..calls {
-        if !step(&mut fronts, &mut model, random, outcomes)? {
-            break;
+) -> bool {
+    let Ok(bench) = Bench::make(alloc) else {
+        return false;
+    };
+    match bench.fronts(start) {
+        Some(mut fronts) => {
+            let mut model = Model::new(alloc, start);
+            plays(&mut fronts, &mut model, calls, random, outcomes)
+                && fronts.statuses() == Some(model.statuses)
         }
-    }
-    if fronts.statuses() == Some(model.statuses) {
-        Ok(())
-    } else {
-        Err("the counts differ".into())
+        None => false,
     }
 }
 
 #[test]
-fn as_a_model_by_lists(rt: HostRuntime) -> Result<(), Fail> {
+fn as_a_model_by_lists(rt: HostRuntime) {
     let mut random = Random::new(20_261_122);
     let mut outcomes = Outcomes {
         packets: 0,
@@ -101,10 +125,13 @@ fn as_a_model_by_lists(rt: HostRuntime) -> Result<(), Fail> {
     };
     for round in 0..40u32 {
         let start = if round % 2 == 0 { 0 } else { 0xFFFF_FFF0 };
-        play(rt.alloc(), start, 300, &mut random, &mut outcomes)?;
+        let is_same = plays_from(rt.alloc(), start, 300, &mut random, &mut outcomes);
+        assert!(rt; is_same, "round {round}");
     }
-    assert!(rt; outcomes.packets > 100, "{outcomes:?}");
-    assert!(rt; outcomes.refused > 10, "{outcomes:?}");
-    assert!(rt; outcomes.halts > 10, "{outcomes:?}");
-    Ok(())
+    let Outcomes {
+        packets,
+        refused,
+        halts,
+    } = outcomes;
+    assert!(rt; packets > 100 && refused > 10 && halts > 10, "{outcomes:?}");
 }

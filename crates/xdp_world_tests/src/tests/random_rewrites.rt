@@ -1,13 +1,11 @@
 //! Random writes of a frontend between the accesses of turns of random chains.
-ghost use Rattle.std.specs.Prelude.{◌≡◌};
 
-use crate::Layout;
-use crate::tests::pages::{BUFFER, Bench, RX, Rewrite, TABLE, TX, agreed, clear, fill, frames};
-use crate::tests::programs::{COUNT, PASS, READ_AND_ADD, SEND, SET_FIRST, accepted};
+use super::pages::{BUFFER, Bench, RX, Rewrite, TABLE, TX, agreed, fill};
+use super::programs::{COUNT, PASS, READ_AND_ADD, SEND, SET_FIRST, accepted};
+use crate::memory::{Memory, frames};
 use bpf_verify::Verified;
 use bpf_vm::Buffer;
-use std::alloc::Global;
-use std::test::Fail;
+use std::alloc::{AllocError, Global};
 use xen_page::{Frames, Place};
 
 /// How many lists of writes there are.
@@ -54,13 +52,13 @@ impl Attack {
         ((x >> 33) % u64::from(limit.max(1))) as u32
     }
 
-    fn put(&mut self, frame: u32, word: u32, value: u32) -> Result<(), Fail> {
+    fn put(&mut self, frame: u32, word: u32, value: u32) -> Result<(), AllocError> {
         self.words.push((frame, word, value))?;
         Ok(())
     }
 
     /// A grant of a buffer's frame under a reference.
-    fn grant(&mut self, gref: u32) -> Result<(), Fail> {
+    fn grant(&mut self, gref: u32) -> Result<(), AllocError> {
         self.put(TABLE, gref.wrapping_mul(2), 1)?;
         self.put(
             TABLE,
@@ -70,14 +68,14 @@ impl Attack {
     }
 
     /// The slot of an extra, the last or not.
-    fn extra(&mut self, index: u32, more: bool) -> Result<(), Fail> {
+    fn extra(&mut self, index: u32, more: bool) -> Result<(), AllocError> {
         let kind = self.below(5).wrapping_add(1);
         let flag = if more { 256 } else { 0 };
         self.put(TX, tx_word(index, 0), kind.wrapping_add(flag))
     }
 
     /// A data slot of buffer `number`, with the words of its page.
-    fn data(&mut self, index: u32, number: u32, flags: u32, size: u32) -> Result<(), Fail> {
+    fn data(&mut self, index: u32, number: u32, flags: u32, size: u32) -> Result<(), AllocError> {
         let gref = number.wrapping_add(2);
         let offset = self.below(70);
         self.grant(gref)?;
@@ -92,7 +90,7 @@ impl Attack {
     }
 
     /// A chain of so many data slots, with extras or without. Returns its length.
-    fn chain(&mut self, slots: u32) -> Result<u32, Fail> {
+    fn chain(&mut self, slots: u32) -> Result<u32, AllocError> {
         let extras = if self.below(6) == 0 {
             self.below(5).wrapping_add(1)
         } else {
@@ -121,7 +119,7 @@ impl Attack {
     }
 
     /// Up to three rx requests, and the events of both rings.
-    fn requests(&mut self, length: u32) -> Result<(), Fail> {
+    fn requests(&mut self, length: u32) -> Result<(), AllocError> {
         let posted = self.below(4);
         for number in 0..posted {
             let gref = POSTED.wrapping_add(number);
@@ -194,7 +192,7 @@ impl Attack {
     }
 
     /// Up to seven writes, before accesses of any part of the turn.
-    fn rewrite(&mut self, slots: u32, length: u32) -> Result<(), Fail> {
+    fn rewrite(&mut self, slots: u32, length: u32) -> Result<(), AllocError> {
         let accesses = length
             .wrapping_mul(4)
             .wrapping_add(slots.wrapping_mul(20))
@@ -210,66 +208,82 @@ impl Attack {
     }
 }
 
-fn random_attack(alloc: Global, seed: u64) -> Result<Attack, Fail> {
-    let mut attack = Attack::new(alloc, seed);
-    let slots = attack.below(18).wrapping_add(1);
-    let length = attack.chain(slots)?;
-    attack.requests(length)?;
-    attack.rewrite(slots, length)?;
-    Ok(attack)
+impl Attack {
+    /// Makes up a chain and its writes.
+    fn choose(&mut self) -> Result<(), AllocError> {
+        let slots = self.below(18).wrapping_add(1);
+        let length = self.chain(slots)?;
+        self.requests(length)?;
+        self.rewrite(slots, length)
+    }
 }
 
 /// The programs that the lists go through in turn.
-fn programs(alloc: Global) -> Result<Vec<Verified>, Fail> {
-    let mut programs = Vec::new(alloc);
-    for slots in [PASS, SEND, COUNT, READ_AND_ADD, SET_FIRST] {
-        programs.push(accepted(alloc, slots)?)?;
-    }
-    Ok(programs)
-}
+const PROGRAMS: [&[u64]; 5] = [PASS, SEND, COUNT, READ_AND_ADD, SET_FIRST];
 
 /// How the ways to a random turn differ, if they do.
 fn difference(
     alloc: Global,
-    layout: &Layout,
+    memory: &Memory,
     frames: &Frames,
     buffer: &mut Buffer,
     program: &Verified,
     seed: u64,
-) -> Result<Option<&'static str>, Fail>
-    requires { layout.now.queues ≡ 1 }
-{
-    let attack = random_attack(alloc, seed)?;
+) -> Option<&'static str> {
+    let mut attack = Attack::new(alloc, seed);
+    if attack.choose().is_err() {
+        return Some("no list of writes");
+    }
     let bench = Bench {
-        layout,
+        memory,
         frames,
         program,
         start: attack.start,
     };
     fill(frames, attack.words.as_slice());
-    let seen = agreed(alloc, &bench, buffer, attack.writes.as_slice())?;
-    clear(frames, seen.accesses.as_slice(), attack.writes.as_slice());
-    Ok(seen.difference)
+    agreed(alloc, &bench, buffer, attack.writes.as_slice()).err()
+}
+
+/// Each fifth list from a seed on: how many give one turn, or the first seed that doesn't and how the ways differ.
+fn lists_from(
+    alloc: Global,
+    memory: &Memory,
+    frames: &Frames,
+    buffer: &mut Buffer,
+    program: &Verified,
+    first: u64,
+) -> Result<u64, (u64, &'static str)> {
+    let mut lists = 0u64;
+    let mut seed = first;
+    for _list in 0..LISTS / 5 {
+        if let Some(found) = difference(alloc, memory, frames, buffer, program, seed) {
+            return Err((seed, found));
+        }
+        lists = lists.wrapping_add(1);
+        seed = seed.wrapping_add(5);
+    }
+    Ok(lists)
+}
+
+/// The lists of a program.
+fn lists_of(alloc: Global, slots: &[u64], first: u64) -> Result<u64, (u64, &'static str)> {
+    let Some(memory) = Memory::make(alloc) else {
+        return Err((first, "no memory"));
+    };
+    let (Some(frames), Some(program)) = (frames(alloc), accepted(alloc, slots)) else {
+        return Err((first, "no pages or no program"));
+    };
+    match Buffer::make(alloc) {
+        Ok(mut buffer) => lists_from(alloc, &memory, &frames, &mut buffer, &program, first),
+        Err(_) => Err((first, "no buffer")),
+    }
 }
 
 #[test]
-fn random_writes_give_one_turn(rt: HostRuntime) -> Result<(), Fail> {
-    let layout = Layout::make(rt.alloc(), 1)?;
-    let frames = frames(rt.alloc())?;
-    let mut buffer = Buffer::make(rt.alloc())?;
-    let programs = programs(rt.alloc())?;
-    let mut wrong: Vec<(u64, &'static str)> = Vec::new(rt.alloc());
-    let mut seed = 0u64;
-    for _list in 0..LISTS / 5 {
-        for program in &programs {
-            let found = difference(rt.alloc(), &layout, &frames, &mut buffer, program, seed)?;
-            if let Some(found) = found {
-                wrong.push((seed, found))?;
-            }
-            seed = seed.wrapping_add(1);
-        }
+fn random_writes_give_one_turn(rt: HostRuntime) {
+    let mut first = 0u64;
+    for slots in PROGRAMS {
+        assert_eq!(rt; lists_of(rt.alloc(), slots, first), Ok(LISTS / 5));
+        first = first.wrapping_add(1);
     }
-    assert_eq!(rt; wrong.as_slice(), [].as_slice(), "seeds and what differs");
-    assert_eq!(rt; seed, LISTS);
-    Ok(())
 }

@@ -1,4 +1,7 @@
+//! Worlds that are stepped, run and replayed.
+
 mod growth;
+mod kind;
 mod merges;
 mod pages;
 mod programs;

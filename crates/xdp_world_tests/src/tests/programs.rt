@@ -1,13 +1,12 @@
 //! Programs of the tests, one slot per line, and their runs.
-ghost use Rattle.std.specs.Prelude.{◌≡◌, ◌≤◌, IfOk, Some, length, slice_get, vec_len};
+ghost use Rattle.std.specs.Prelude.{◌≡◌, ◌≤◌, IfOk, IfSome, Some, length, slice_get, vec_len};
 
-use crate::{Layout, Report, World};
 use bpf_insn::decode;
 use bpf_note::MapShape;
 use bpf_verify::{Verified, verify};
 use bpf_vm::Buffer;
-use std::alloc::Global;
-use std::test::Fail;
+use std::alloc::{AllocError, Global};
+use xdp_world::{Layout, Report, World};
 
 /// Every packet passes.
 #[rattlefmt::skip]
@@ -74,17 +73,48 @@ pub(crate) const SET_FIRST: &[u64] = &[
     0x95000000_00000000, // exit
 ];
 
-/// The accepted program of these slots, with one map of two values of one counter.
-pub(crate) fn accepted(alloc: Global, slots: &[u64]) -> Result<Verified, Fail>
-    ensures { IfOk result (λ v. slice_get v.shapes 0 ≡ Some (record { entries = 2; counters = 1 })) }
-{
-    let mut bytes = Vec::new(alloc);
+/// Adds the bytes of slots.
+fn add_bytes(bytes: &mut Vec<u8>, slots: &[u64]) -> Result<(), AllocError> {
     for slot in slots {
         bytes.extend_from_slice(&slot.to_be_bytes())?;
     }
-    let shape = MapShape::of(2, 1).ok_or("a shape")?;
-    let code = decode(alloc, bytes.as_slice()).map_err(|_| "refused bytes")?;
-    verify(alloc, code, &[shape]).map_err(|_| "a refused program".into())
+    Ok(())
+}
+
+/// The accepted program of these bytes, with one map of two values of one counter.
+pub(crate) fn accepted_bytes(alloc: Global, bytes: &[u8]) -> Option<Verified>
+    ensures { IfSome result (λ v. slice_get v.shapes 0 ≡ Some (record { entries = 2; counters = 1 })) }
+{
+    let shape = MapShape::of(2, 1)?;
+    match decode(alloc, bytes) {
+        Ok(code) => verify(alloc, code, &[shape]).ok(),
+        Err(_) => None,
+    }
+}
+
+/// The accepted program of these slots, with one map of two values of one counter.
+pub(crate) fn accepted(alloc: Global, slots: &[u64]) -> Option<Verified>
+    ensures { IfSome result (λ v. slice_get v.shapes 0 ≡ Some (record { entries = 2; counters = 1 })) }
+{
+    let mut bytes = Vec::new(alloc);
+    match add_bytes(&mut bytes, slots) {
+        Ok(()) => accepted_bytes(alloc, bytes.as_slice()),
+        Err(_) => None,
+    }
+}
+
+/// Steps a world; those of a queue that isn't there are left out.
+fn step_all(world: &mut World, queues: usize, steps: &[(usize, u32)]) -> Result<(), AllocError>
+    requires { vec_len world.old.queues ≡ queues }
+    ensures size { vec_len world.new.queues ≡ vec_len world.old.queues }
+    ensures shapes { world.new.counters.shapes ≡ world.old.counters.shapes }
+{
+    for (queue, answer) in steps {
+        if *queue < queues {
+            world.step(*queue, *answer)?;
+        }
+    }
+    Ok(())
 }
 
 /// The report of these steps in a layout; those of a queue that isn't there are left out.
@@ -96,20 +126,31 @@ pub(crate) fn report_of(
     queues: usize,
     start: u32,
     steps: &[(usize, u32)],
-) -> Result<Report, Fail>
+) -> Option<Report>
     requires queues { (1 ≤ queues) × (queues ≤ 8) }
     requires layout { layout.now.queues ≡ queues }
     requires buffers { queues ≤ length buffers.now }
-    ensures count { IfOk result (λ r. vec_len r.turns ≡ queues) }
-    ensures shapes { IfOk result (λ r. r.totals.shapes ≡ program.now.shapes) }
+    ensures count { IfSome result (λ r. vec_len r.turns ≡ queues) }
+    ensures shapes { IfSome result (λ r. r.totals.shapes ≡ program.now.shapes) }
 {
-    let mut world = World::make(alloc, layout, program, buffers, queues, 0, start)?;
-    for (queue, answer) in steps {
-        if *queue < world.queues.len() {
-            world.step(*queue, *answer)?;
-        }
+    let Ok(mut world) = World::make(alloc, layout, program, buffers, queues, 0, start) else {
+        return None;
+    };
+    match step_all(&mut world, queues, steps) {
+        Ok(()) => Some(world.report()),
+        Err(_) => None,
     }
-    Ok(world.report())
+}
+
+/// A buffer for each queue.
+pub(crate) fn buffers(alloc: Global, queues: usize) -> Result<Vec<Buffer>, AllocError>
+    ensures { IfOk result (λ buffers. vec_len buffers ≡ queues) }
+{
+    let mut buffers = Vec::with_capacity(alloc, queues)?;
+    for _queue in 0..queues {
+        buffers.push_reserved(Buffer::make(alloc)?);
+    }
+    Ok(buffers)
 }
 
 /// The report of these steps; those of a queue that isn't there are left out.
@@ -119,25 +160,26 @@ pub(crate) fn run_steps(
     queues: usize,
     start: u32,
     steps: &[(usize, u32)],
-) -> Result<Report, Fail>
+) -> Option<Report>
     requires { (1 ≤ queues) × (queues ≤ 8) }
-    ensures count { IfOk result (λ r. vec_len r.turns ≡ queues) }
-    ensures shapes { IfOk result (λ r. r.totals.shapes ≡ program.now.shapes) }
+    ensures count { IfSome result (λ r. vec_len r.turns ≡ queues) }
+    ensures shapes { IfSome result (λ r. r.totals.shapes ≡ program.now.shapes) }
 {
-    let layout = Layout::make(alloc, queues)?;
-    let mut buffers = Vec::with_capacity(alloc, queues)?;
-    for _queue in 0..queues {
-        buffers.push_reserved(Buffer::make(alloc)?);
+    let Ok(layout) = Layout::make(alloc, queues) else {
+        return None;
+    };
+    match buffers(alloc, queues) {
+        Ok(mut buffers) => report_of(
+            alloc,
+            &layout,
+            buffers.as_mut_slice(),
+            program,
+            queues,
+            start,
+            steps,
+        ),
+        Err(_) => None,
     }
-    report_of(
-        alloc,
-        &layout,
-        buffers.as_mut_slice(),
-        program,
-        queues,
-        start,
-        steps,
-    )
 }
 
 /// What a turn reads of one slot of 14 bytes with id 7, until its program runs: the producer, the slot, the grant, the page.
@@ -160,7 +202,7 @@ pub(crate) fn add_turn(
     queue: usize,
     producer: u32,
     more: usize,
-) -> Result<(), Fail> {
+) -> Result<(), AllocError> {
     steps.push((queue, producer))?;
     for answer in &PACKET[1..] {
         steps.push((queue, *answer))?;

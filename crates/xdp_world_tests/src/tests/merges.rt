@@ -1,14 +1,12 @@
 //! Every order in which two queues' last nine events of a turn can fall.
 ghost use Rattle.std.specs.Prelude.{◌≡◌, ◌≤◌, Some, length, slice_get};
 
-use crate::tests::programs::{READ_AND_ADD, accepted, add_turn, report_of};
-use crate::{Kept, Layout, Report};
+use super::programs::{READ_AND_ADD, accepted, add_turn, buffers, report_of};
 use bpf_maps::Op;
 use bpf_verify::Verified;
 use bpf_vm::Buffer;
-use std::alloc::Global;
-use std::process::Abort;
-use std::test::Fail;
+use std::alloc::{AllocError, Global};
+use xdp_world::{Kept, Layout, Report};
 
 /// How many events of a turn come before the nine that are merged.
 const BEFORE: usize = 16;
@@ -53,7 +51,7 @@ fn found_by(history: &[(usize, Op)], queue: usize) -> Option<u64> {
 }
 
 /// The steps of one order: both queues' beginnings, and then their last nine events, a bit of the order per event.
-fn set_steps(steps: &mut Vec<(usize, u32)>, order: u32) -> Result<(), Fail> {
+fn set_steps(steps: &mut Vec<(usize, u32)>, order: u32) -> Result<(), AllocError> {
     steps.clear();
     add_turn(steps, 0, 1, BEFORE - 10)?;
     add_turn(steps, 1, 1, BEFORE - 10)?;
@@ -65,59 +63,76 @@ fn set_steps(steps: &mut Vec<(usize, u32)>, order: u32) -> Result<(), Fail> {
     Ok(())
 }
 
-/// The operations are one history that leaves 3, and each queue's number is what its load found.
-fn assert_one_history<R: Abort>(rt: &R, report: &Report, order: u32) {
+/// Whether the operations are one history of four that leaves 3, and each queue's number is what its load found.
+fn is_one_history(report: &Report) -> bool {
     let history = report.history.as_slice();
-    assert_eq!(rt; history.len(), 4, "{order:b}");
-    assert_eq!(rt; sum_of(history), Some(3), "{order:b}");
-    for queue in 0..2 {
-        let number = number_of(report, queue).map(u64::from);
-        assert_eq!(rt; number, found_by(history, queue), "{order:b}");
-    }
+    history.len() == 4
+        && sum_of(history) == Some(3)
+        && number_of(report, 0).map(u64::from) == found_by(history, 0)
+        && number_of(report, 1).map(u64::from) == found_by(history, 1)
 }
 
 /// The counter after the steps, if they are one history.
-fn sum_after<R: Abort>(
-    rt: &R,
+fn sum_after(
     alloc: Global,
     layout: &Layout,
     buffers: &mut [Buffer],
     program: &Verified,
     steps: &[(usize, u32)],
-    order: u32,
-) -> Result<u64, Fail>
+) -> Option<u64>
     requires layout { layout.now.queues ≡ 2 }
     requires buffers { 2 ≤ length buffers.now }
     requires shape { slice_get program.now.shapes 0 ≡ Some (record { entries = 2; counters = 1 }) }
 {
     let report = report_of(alloc, layout, buffers, program, 2, 0, steps)?;
-    assert_one_history(rt, &report, order);
-    Ok(report.totals.at(0, 0, 0))
+    is_one_history(&report).then_some(report.totals.at(0, 0, 0))
 }
 
-#[test]
-fn every_order_is_one_history(rt: HostRuntime) -> Result<(), Fail> {
-    let program = accepted(rt.alloc(), READ_AND_ADD)?;
-    let layout = Layout::make(rt.alloc(), 2)?;
-    let mut buffers = [Buffer::make(rt.alloc())?, Buffer::make(rt.alloc())?];
-    let mut steps = Vec::new(rt.alloc());
+/// How many orders are one history that leaves 3, or the first that isn't.
+fn orders_of(
+    alloc: Global,
+    layout: &Layout,
+    buffers: &mut [Buffer],
+    program: &Verified,
+    steps: &mut Vec<(usize, u32)>,
+) -> Result<u32, u32>
+    requires layout { layout.now.queues ≡ 2 }
+    requires buffers { 2 ≤ length buffers.old }
+    requires shape { slice_get program.now.shapes 0 ≡ Some (record { entries = 2; counters = 1 }) }
+{
     let mut orders = 0u32;
     for order in 0u32..1 << 18 {
         if order.count_ones() == 9 {
-            set_steps(&mut steps, order)?;
-            let sum = sum_after(
-                &rt,
-                rt.alloc(),
-                &layout,
-                &mut buffers,
-                &program,
-                steps.as_slice(),
-                order,
-            )?;
-            assert_eq!(rt; sum, 3);
+            if set_steps(steps, order).is_err() {
+                return Err(order);
+            }
+            if sum_after(alloc, layout, buffers, program, steps.as_slice()) != Some(3) {
+                return Err(order);
+            }
             orders = orders.saturating_add(1);
         }
     }
-    assert_eq!(rt; orders, 48_620);
-    Ok(())
+    Ok(orders)
+}
+
+/// The orders of a new layout's queues.
+fn orders(alloc: Global) -> Result<u32, u32> {
+    let Some(program) = accepted(alloc, READ_AND_ADD) else {
+        return Err(0);
+    };
+    let Ok(layout) = Layout::make(alloc, 2) else {
+        return Err(0);
+    };
+    match buffers(alloc, 2) {
+        Ok(mut buffers) => {
+            let mut steps = Vec::new(alloc);
+            orders_of(alloc, &layout, buffers.as_mut_slice(), &program, &mut steps)
+        }
+        Err(_) => Err(0),
+    }
+}
+
+#[test]
+fn every_order_is_one_history(rt: HostRuntime) {
+    assert_eq!(rt; orders(rt.alloc()), Ok(48_620));
 }

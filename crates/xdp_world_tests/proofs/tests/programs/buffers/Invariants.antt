@@ -1,5 +1,5 @@
 use Rattle.std.proofs.Common.{◌≡◌, ◌≤◌, vec_len, vec_capacity}
-use Rattle.xdp_world.proofs.tests.programs.run_steps.Given as goal
+use Rattle.xdp_world_tests.proofs.tests.programs.buffers.Given as goal
 
 abbrev pub invariant-loop-queue : goal.invariant-loop-queue
 invariant-loop-queue l =
