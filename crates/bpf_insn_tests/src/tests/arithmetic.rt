@@ -2,7 +2,7 @@
 //! by -1, zero divisors), R for RFC 9669 section 4, K for values worked by hand from it, P for Python 3's integers reduced
 //! modulo 2 ^ 64 or 2 ^ 32.
 
-use crate::{
+use bpf_insn::{
     AluOp, Condition, Size, SwapKind, Width, alu, extend, holds, move_extended, negate, swap,
 };
 
@@ -164,9 +164,12 @@ fn extensions(rt: HostRuntime) {
         (Size::Word, 0x8000_0000_7fff_ffff, 0x7fff_ffff, 0x7fff_ffff),
         (Size::Double, LEAST, LEAST, 0),
     ] {
-        assert_eq!(rt; extend(size, value), result, "{value}");
-        assert_eq!(rt; move_extended(true, size, value), result, "{value}");
-        assert_eq!(rt; move_extended(false, size, value), low, "{value}");
+        let answers = [
+            extend(size, value),
+            move_extended(true, size, value),
+            move_extended(false, size, value),
+        ];
+        assert_eq!(rt; answers, [result, result, low], "{value}");
     }
 }
 
@@ -186,20 +189,18 @@ fn conditions(rt: HostRuntime) {
         (Condition::SignedLessOrEqual, true, false),
         (Condition::Set, true, true),
     ] {
-        assert_eq!(rt; holds(cond, true, ONES, 1), both, "{cond}");
-        assert_eq!(rt; holds(cond, true, 1, ONES), other, "{cond}");
-        assert_eq!(rt;
+        let answers = [
+            holds(cond, true, ONES, 1),
+            holds(cond, true, 1, ONES),
             holds(cond, false, 0xf_ffff_ffff, 0xf_0000_0001),
-            both,
-            "{cond}"
-        );
-        assert_eq!(rt;
             holds(cond, false, 0xf_0000_0001, 0xffff_ffff),
-            other,
-            "{cond}"
-        );
+        ];
+        assert_eq!(rt; answers, [both, other, both, other], "{cond}");
     }
-    assert!(rt; !holds(Condition::Set, true, 1, 2));
-    assert!(rt; !holds(Condition::Set, false, 0xf_0000_0001, 0xf_0000_0002));
-    assert!(rt; holds(Condition::Equal, false, 0x1_0000_0005, 5));
+    let others = [
+        holds(Condition::Set, true, 1, 2),
+        holds(Condition::Set, false, 0xf_0000_0001, 0xf_0000_0002),
+        holds(Condition::Equal, false, 0x1_0000_0005, 5),
+    ];
+    assert_eq!(rt; others, [false, false, true]);
 }

@@ -1,23 +1,7 @@
 //! Each form with extreme fields is decoded again.
 
-ghost use Rattle.bpf_insn.specs.Spelling.{HasSpelling};
-
-use crate::{AluOp, Condition, Insn, Operand, Register, Size, SwapKind, Width, decode, encode};
-
-/// Whether the bytes of an instruction are decoded to it, and the others are 0.
-fn is_decoded_again(rt: &HostRuntime, insn: Insn) -> bool
-    requires { HasSpelling insn }
-{
-    let (bytes, len) = encode(&insn);
-    if bytes.len() < len {
-        return false;
-    }
-    match decode(rt.alloc(), &bytes[..len]) {
-        Ok(code) => code.insns().first().copied() == Some(insn)
-            && bytes[len..].iter().all(|byte| *byte == 0),
-        Err(_) => false,
-    }
-}
+use crate::decoding::is_decoded_again;
+use bpf_insn::{AluOp, Condition, Insn, Operand, Register, Size, SwapKind, Width};
 
 #[test]
 fn arithmetic(rt: HostRuntime) {
@@ -25,7 +9,7 @@ fn arithmetic(rt: HostRuntime) {
     let least = Operand::Immediate(i32::MIN);
     assert!(rt;
         is_decoded_again(
-            &rt,
+            rt.alloc(),
             Insn::Alu {
                 op: AluOp::Arsh,
                 wide: true,
@@ -37,7 +21,7 @@ fn arithmetic(rt: HostRuntime) {
     let src = Operand::Register(r10);
     assert!(rt;
         is_decoded_again(
-            &rt,
+            rt.alloc(),
             Insn::Alu {
                 op: AluOp::SignedMod,
                 wide: false,
@@ -48,7 +32,7 @@ fn arithmetic(rt: HostRuntime) {
     );
     assert!(rt;
         is_decoded_again(
-            &rt,
+            rt.alloc(),
             Insn::Neg {
                 wide: false,
                 dst: r10
@@ -57,7 +41,7 @@ fn arithmetic(rt: HostRuntime) {
     );
     assert!(rt;
         is_decoded_again(
-            &rt,
+            rt.alloc(),
             Insn::End {
                 kind: SwapKind::Swap,
                 width: Width::Bits64,
@@ -67,7 +51,7 @@ fn arithmetic(rt: HostRuntime) {
     );
     assert!(rt;
         is_decoded_again(
-            &rt,
+            rt.alloc(),
             Insn::MovSx {
                 wide: true,
                 bits: Size::Word,
@@ -83,7 +67,7 @@ fn wide_loads(rt: HostRuntime) {
     let dst = Register::R10;
     assert!(rt;
         is_decoded_again(
-            &rt,
+            rt.alloc(),
             Insn::Const {
                 dst,
                 value: u64::MAX
@@ -92,14 +76,14 @@ fn wide_loads(rt: HostRuntime) {
     );
     assert!(rt;
         is_decoded_again(
-            &rt,
+            rt.alloc(),
             Insn::Const {
                 dst,
                 value: 0x8000_0000
             }
         )
     );
-    assert!(rt; is_decoded_again(&rt, Insn::MapRef { dst, m: u32::MAX }));
+    assert!(rt; is_decoded_again(rt.alloc(), Insn::MapRef { dst, m: u32::MAX }));
 }
 
 #[test]
@@ -108,7 +92,7 @@ fn accesses(rt: HostRuntime) {
     let (low, high) = (i16::MIN, i16::MAX);
     assert!(rt;
         is_decoded_again(
-            &rt,
+            rt.alloc(),
             Insn::Ldx {
                 size: Size::Double,
                 signed: false,
@@ -120,7 +104,7 @@ fn accesses(rt: HostRuntime) {
     );
     assert!(rt;
         is_decoded_again(
-            &rt,
+            rt.alloc(),
             Insn::Ldx {
                 size: Size::Word,
                 signed: true,
@@ -132,7 +116,7 @@ fn accesses(rt: HostRuntime) {
     );
     assert!(rt;
         is_decoded_again(
-            &rt,
+            rt.alloc(),
             Insn::St {
                 size: Size::Byte,
                 dst,
@@ -143,7 +127,7 @@ fn accesses(rt: HostRuntime) {
     );
     assert!(rt;
         is_decoded_again(
-            &rt,
+            rt.alloc(),
             Insn::Stx {
                 size: Size::Half,
                 dst,
@@ -154,7 +138,7 @@ fn accesses(rt: HostRuntime) {
     );
     assert!(rt;
         is_decoded_again(
-            &rt,
+            rt.alloc(),
             Insn::AddCounter {
                 fetch: true,
                 dst,
@@ -172,7 +156,7 @@ fn jumps(rt: HostRuntime) {
     let off = i16::MIN;
     assert!(rt;
         is_decoded_again(
-            &rt,
+            rt.alloc(),
             Insn::Ja {
                 wide_offset: false,
                 to: -32_768
@@ -181,7 +165,7 @@ fn jumps(rt: HostRuntime) {
     );
     assert!(rt;
         is_decoded_again(
-            &rt,
+            rt.alloc(),
             Insn::Ja {
                 wide_offset: true,
                 to: i32::MIN
@@ -190,7 +174,7 @@ fn jumps(rt: HostRuntime) {
     );
     assert!(rt;
         is_decoded_again(
-            &rt,
+            rt.alloc(),
             Insn::Jump {
                 cond: Condition::SignedLessOrEqual,
                 wide: false,
@@ -200,6 +184,6 @@ fn jumps(rt: HostRuntime) {
             }
         )
     );
-    assert!(rt; is_decoded_again(&rt, Insn::Call { helper: i32::MIN }));
-    assert!(rt; is_decoded_again(&rt, Insn::Exit));
+    assert!(rt; is_decoded_again(rt.alloc(), Insn::Call { helper: i32::MIN }));
+    assert!(rt; is_decoded_again(rt.alloc(), Insn::Exit));
 }

@@ -1,26 +1,15 @@
 //! Refusals, at the shortest bytes that give each; and each cut of a program.
 
-use crate::{Cause, Refusal, decode, refusal_of};
-use std::alloc::Global;
-use std::test::Fail;
+use crate::decoding::{exits, refusals, refusals_before_exit, shows_refusal};
+use bpf_insn::{Cause, Refusal, decode};
 
-/// The refusal of a slot before an EXIT.
-fn refused(alloc: Global, slot: [u8; 8]) -> Result<Option<Refusal>, Fail> {
-    let mut bytes = slot.to_vec(alloc)?;
-    bytes.extend_from_slice(&[0x95, 0, 0, 0, 0, 0, 0, 0])?;
-    let refusal = refusal_of(&bytes);
-    match decode(alloc, &bytes) {
-        Ok(_) => Ok(None),
-        Err(found) => if Some(found) == refusal {
-            Ok(refusal)
-        } else {
-            Ok(None)
-        },
-    }
+/// The refusal of the first slot, as decoding and the definition give it.
+fn first_refused(cause: Cause) -> [Option<Refusal>; 2] {
+    [Some(Refusal { cause, pc: 0 }); 2]
 }
 
 #[test]
-fn causes_in_their_order(rt: HostRuntime) -> Result<(), Fail> {
+fn causes_in_their_order(rt: HostRuntime) {
     let rows = [
         ([0xff, 0, 0, 0, 0, 0, 0, 0], Cause::Opcode),
         // an unknown opcode comes before a register
@@ -51,12 +40,11 @@ fn causes_in_their_order(rt: HostRuntime) -> Result<(), Fail> {
     ];
     for (slot, cause) in rows {
         assert_eq!(rt;
-            refused(rt.alloc(), slot)?,
-            Some(Refusal { cause, pc: 0 }),
+            refusals_before_exit(rt.alloc(), slot),
+            first_refused(cause),
             "{slot:?}"
         );
     }
-    Ok(())
 }
 
 /// Each opcode, sixteen a line: `#` an instruction's, `-` left out by this profile, `.` of none (RFC 9669, section 3 and the
@@ -82,7 +70,7 @@ const OPCODES: [&str; 16] = [
 
 /// A register of 11 is refused for the register exactly where the opcode is an instruction's.
 #[test]
-fn every_opcode(rt: HostRuntime) -> Result<(), Fail> {
+fn every_opcode(rt: HostRuntime) {
     let mut op = 0u8;
     for line in OPCODES {
         for kind in line.bytes() {
@@ -92,20 +80,19 @@ fn every_opcode(rt: HostRuntime) -> Result<(), Fail> {
                 _ => Cause::Opcode,
             };
             assert_eq!(rt;
-                refused(rt.alloc(), [op, 0x0b, 0, 0, 0, 0, 0, 0])?,
-                Some(Refusal { cause, pc: 0 }),
+                refusals_before_exit(rt.alloc(), [op, 0x0b, 0, 0, 0, 0, 0, 0]),
+                first_refused(cause),
                 "{op:x}"
             );
             op = op.wrapping_add(1);
         }
     }
     assert_eq!(rt; op, 0);
-    Ok(())
 }
 
 /// The first and the last field value that this profile leaves out, and the next ones.
 #[test]
-fn fields_left_out(rt: HostRuntime) -> Result<(), Fail> {
+fn fields_left_out(rt: HostRuntime) {
     for (slot, cause) in [
         ([0x18, 0x20, 0, 0, 0, 0, 0, 0], Cause::Unsupported),
         ([0x18, 0x60, 0, 0, 0, 0, 0, 0], Cause::Unsupported),
@@ -116,8 +103,8 @@ fn fields_left_out(rt: HostRuntime) -> Result<(), Fail> {
         ([0xdb, 0, 0, 0, 0xff, 0xff, 0xff, 0xff], Cause::Unsupported),
     ] {
         assert_eq!(rt;
-            refused(rt.alloc(), slot)?,
-            Some(Refusal { cause, pc: 0 }),
+            refusals_before_exit(rt.alloc(), slot),
+            first_refused(cause),
             "{slot:?}"
         );
     }
@@ -130,74 +117,54 @@ fn fields_left_out(rt: HostRuntime) -> Result<(), Fail> {
             pc: 0
         })
     );
-    Ok(())
 }
 
 #[test]
-fn lengths(rt: HostRuntime) -> Result<(), Fail> {
+fn lengths(rt: HostRuntime) {
     let alloc = rt.alloc();
-    let mut exits = Vec::new(alloc);
-    for _ in 0..4097 {
-        exits.extend_from_slice(&[0x95, 0, 0, 0, 0, 0, 0, 0])?;
-    }
-    let bad = Some(Refusal {
+    let bad = Refusal {
         cause: Cause::Length,
         pc: 0,
-    });
-    let all = exits.as_slice();
-    assert_eq!(rt; decode(alloc, &[]).err(), bad);
-    assert_eq!(rt; decode(alloc, &[0x95, 0, 0, 0, 0, 0, 0]).err(), bad);
-    assert_eq!(rt; decode(alloc, all).err(), bad);
-    assert!(rt; all.len() > 8);
-    let longest = &all[8..];
-    match decode(alloc, longest) {
-        Ok(code) => assert_eq!(rt; code.insns().len(), 4096),
-        Err(refusal) => assert_eq!(rt; Some(refusal), None),
+    };
+    assert_eq!(rt; decode(alloc, &[]).err(), Some(bad));
+    assert_eq!(rt; decode(alloc, &[0x95, 0, 0, 0, 0, 0, 0]).err(), Some(bad));
+    assert_eq!(rt; exits(alloc, 4096), Some(Ok(4096)));
+    assert_eq!(rt; exits(alloc, 4097), Some(Err(bad)));
+}
+
+/// Why the first bytes of [`PROGRAM`] are refused, if they are.
+fn wanted(len: usize) -> [Option<Refusal>; 2] {
+    if len == 0 || len % 8 != 0 {
+        first_refused(Cause::Length)
+    } else if len == 8 {
+        first_refused(Cause::Opcode)
+    } else {
+        [None; 2]
     }
-    Ok(())
+}
+
+/// `r1 = 0x200000001`, `r0 = 2`, `exit`.
+#[rattlefmt::skip]
+const PROGRAM: [u8; 32] = [
+    0x18, 1, 0, 0, 1, 0, 0, 0,
+    0, 0, 0, 0, 2, 0, 0, 0,
+    0xb7, 0, 0, 0, 2, 0, 0, 0,
+    0x95, 0, 0, 0, 0, 0, 0, 0,
+];
+
+#[test]
+fn each_cut_of_a_program(rt: HostRuntime) {
+    for len in 0..=PROGRAM.len() {
+        assert_eq!(rt; refusals(rt.alloc(), &PROGRAM[..len]), wanted(len), "{len}");
+    }
 }
 
 #[test]
-fn each_cut_of_a_program(rt: HostRuntime) -> Result<(), Fail> {
-    let alloc = rt.alloc();
-    // r1 = 0x200000001, r0 = 2, exit
-    let program = [
-        0x18u8, 1, 0, 0, 1, 0, 0, 0, 0, 0, 0, 0, 2, 0, 0, 0, 0xb7, 0, 0, 0, 2, 0, 0, 0, 0x95, 0, 0,
-        0, 0, 0, 0, 0,
-    ];
-    for len in 0..=program.len() {
-        let cut = &program[..len];
-        let found = decode(alloc, cut).err();
-        let wanted = if len == 0 || len % 8 != 0 {
-            Some(Refusal {
-                cause: Cause::Length,
-                pc: 0,
-            })
-        } else if len == 8 {
-            Some(Refusal {
-                cause: Cause::Opcode,
-                pc: 0,
-            })
-        } else {
-            None
-        };
-        assert_eq!(rt; found, wanted, "{len}");
-        assert_eq!(rt; refusal_of(cut), wanted, "{len}");
-    }
-    Ok(())
-}
-
-#[test]
-fn the_slot_of_a_refusal(rt: HostRuntime) -> Result<(), Fail> {
-    let alloc = rt.alloc();
+fn the_slot_of_a_refusal(rt: HostRuntime) {
     // a wide load takes slots 0 and 1
     let bytes = [
         0x18u8, 1, 0, 0, 1, 0, 0, 0, 0, 0, 0, 0, 2, 0, 0, 0, 0xb7, 0, 0, 0, 2, 0, 0, 0, 0xb7, 11,
         0, 0, 2, 0, 0, 0,
     ];
-    match decode(alloc, &bytes) {
-        Ok(_) => assert!(rt; false),
-        Err(refusal) => assert_eq!(rt; refusal.to_string(alloc)?.as_str(), "V3 at 3"),
-    }
-    Ok(())
+    assert!(rt; shows_refusal(rt.alloc(), &bytes, "V3 at 3"));
 }

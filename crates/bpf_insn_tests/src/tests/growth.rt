@@ -1,7 +1,7 @@
 //! Decoding again after it was refused memory. `tools/refuse-growths` refuses each allocation of this test in turn, and
 //! counts the runs that print `refused`.
 
-use crate::{Cause, decode};
+use bpf_insn::{Cause, decode};
 use std::test::Fail;
 
 #[rattlefmt::skip]
