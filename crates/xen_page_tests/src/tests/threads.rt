@@ -2,9 +2,9 @@
 
 ghost use Rattle.std.specs.Prelude.{◌≤◌};
 
-use crate::{Bus, Frames, PageBus, Place};
 use std::test::Fail;
 use std::thread;
+use xen_page::{Bus, Frames, PageBus, Place};
 
 const AT: Place = Place { frame: 0, word: 7 };
 

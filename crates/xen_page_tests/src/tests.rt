@@ -1,6 +1,5 @@
 mod buses;
 mod entries;
-mod fixtures;
 mod growth;
 mod mappings;
 mod tables;

@@ -1,8 +1,8 @@
 //! Entries and their check.
 
-use super::fixtures::{BACK, FRONT, owners};
-use crate::{Entry, GrantFault, check};
-use std::test::Fail;
+use crate::bench::checked;
+use std::alloc::Global;
+use xen_page::{Entry, GrantFault};
 
 #[test]
 fn an_entry_has_its_fields_in_two_words(rt: HostRuntime) {
@@ -14,14 +14,16 @@ fn an_entry_has_its_fields_in_two_words(rt: HostRuntime) {
     };
     assert_eq!(rt; entry, fields);
     assert_eq!(rt; entry.words(), [0x1234_0019, 0xFFFF_FFFF]);
-    assert!(rt; entry.permits_access());
-    assert!(rt; entry.is_marked());
-    assert!(rt; !entry.is_readonly());
+    let flags = [
+        entry.permits_access(),
+        entry.is_marked(),
+        entry.is_readonly(),
+    ];
+    assert_eq!(rt; flags, [true, true, false]);
 }
 
 #[test]
-fn the_first_fault_is_answered(rt: HostRuntime) -> Result<(), Fail> {
-    let owners = owners(rt.alloc())?;
+fn the_first_fault_is_answered(rt: HostRuntime) {
     let rows = [
         (0, 19, false, Err(GrantFault::BadGntref)),
         (0, 19, true, Err(GrantFault::BadGntref)),
@@ -44,18 +46,22 @@ fn the_first_fault_is_answered(rt: HostRuntime) -> Result<(), Fail> {
         (0xFFE1, 19, true, Ok(19)),
     ];
     for (a, b, write, answer) in rows {
-        let entry = Entry::of_words(a, b);
         assert_eq!(rt;
-            check(&owners, FRONT, BACK, entry, write),
-            answer,
+            checked(rt.alloc(), a, b, write),
+            Some(answer),
             "{a} {b} {write}"
         );
     }
-    Ok(())
+}
+
+fn shows(alloc: Global, fault: GrantFault, text: &str) -> bool {
+    fault
+        .to_string(alloc)
+        .is_ok_and(|shown| shown.as_str() == text)
 }
 
 #[test]
-fn faults_have_their_numbers_and_texts(rt: HostRuntime) -> Result<(), Fail> {
+fn faults_have_their_numbers_and_texts(rt: HostRuntime) {
     let rows = [
         (
             GrantFault::BadGntref,
@@ -72,8 +78,6 @@ fn faults_have_their_numbers_and_texts(rt: HostRuntime) -> Result<(), Fail> {
     ];
     for (fault, number, text) in rows {
         assert_eq!(rt; fault.number(), number);
-        let printed = format!(in rt.alloc(); "{fault}")?;
-        assert_eq!(rt; printed.as_str(), text);
+        assert!(rt; shows(rt.alloc(), fault, text), "{text}");
     }
-    Ok(())
 }

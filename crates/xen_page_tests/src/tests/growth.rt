@@ -1,9 +1,9 @@
 //! What takes memory, called again once it was refused. `tools/refuse-growths` refuses each allocation of these tests in
 //! turn, and counts the runs that print `refused`.
 
-use crate::tests::fixtures::FRONT;
-use crate::{Bus, Frames, Owners, Place, Recorder, ScriptBus};
+use crate::bench::FRONT;
 use std::test::Fail;
+use xen_page::{Bus, Frames, Owners, Place, Recorder, ScriptBus};
 
 const WORD: Place = Place { frame: 0, word: 5 };
 
