@@ -22,6 +22,3 @@ pub use packet::{PacketBuf, PacketFault};
 pub use run::{Ended, run_to_end};
 pub use vm::Vm;
 pub use want::VmWant;
-
-#[cfg(test)]
-mod tests;

@@ -1,20 +1,14 @@
 //! The note of a refusal.
-use crate::tests::{add_slots, explained};
-use crate::{Lost, MapShape, explain, lost_at};
+use crate::programs::{bytes_of, explained};
 use bpf_insn::{Register, decode};
-use bpf_note::{Note, Val};
+use bpf_note::Val;
+use bpf_verify::{explain, lost_at};
 use std::alloc::Global;
-use std::test::Fail;
 
-/// The note of a refused program over one map of a value.
-fn refused_note(alloc: Global, slots: &[[u8; 8]]) -> Result<Note, Fail> {
-    let mut bytes = Vec::new(alloc);
-    add_slots(&mut bytes, slots)?;
-    let shape = MapShape::of(1, 1).ok_or("a shape")?;
-    match explained(alloc, &bytes, &[shape])? {
-        None => Err("no refusal".into()),
-        Some(refused) => Ok(refused.note.ok_or("no note")?),
-    }
+/// What two registers hold by the note of a refused program over one map of a value.
+fn registers(alloc: Global, slots: &[[u8; 8]], [first, second]: [u8; 2]) -> Option<[Val; 2]> {
+    let note = explained(alloc, 0, slots)?.note?;
+    Some([note.register(first), note.register(second)])
 }
 
 #[rattlefmt::skip]
@@ -33,11 +27,11 @@ const NO_NULL_CHECK: [[u8; 8]; 11] = [
 ];
 
 #[test]
-fn an_address_that_may_be_null(rt: HostRuntime) -> Result<(), Fail> {
-    let note = refused_note(rt.alloc(), &NO_NULL_CHECK)?;
-    assert_eq!(rt; note.register(0), Val::MaybeValue { m: 0, id: 6 });
-    assert_eq!(rt; note.register(1), Val::Num { lo: 1, hi: 1 });
-    Ok(())
+fn an_address_that_may_be_null(rt: HostRuntime) {
+    assert_eq!(rt;
+        registers(rt.alloc(), &NO_NULL_CHECK, [0, 1]),
+        Some([Val::MaybeValue { m: 0, id: 6 }, Val::Num { lo: 1, hi: 1 }])
+    );
 }
 
 /// The offset is read from the packet and has 32 bits.
@@ -62,11 +56,11 @@ const WIDE_OFFSET: [[u8; 8]; 16] = [
 ];
 
 #[test]
-fn an_address_that_became_a_number(rt: HostRuntime) -> Result<(), Fail> {
-    let note = refused_note(rt.alloc(), &WIDE_OFFSET)?;
-    assert_eq!(rt; note.register(1), Val::FULL);
-    assert_eq!(rt; note.register(2), Val::PktEnd);
-    Ok(())
+fn an_address_that_became_a_number(rt: HostRuntime) {
+    assert_eq!(rt;
+        registers(rt.alloc(), &WIDE_OFFSET, [1, 2]),
+        Some([Val::FULL, Val::PktEnd])
+    );
 }
 
 /// Two notes come to slot 4: of the jump with `r3` an address, then of slot 3 with 1.
@@ -81,10 +75,12 @@ const SECOND_OF_TWO: [[u8; 8]; 6] = [
 ];
 
 #[test]
-fn the_second_of_two_notes_is_refused(rt: HostRuntime) -> Result<(), Fail> {
-    let note = refused_note(rt.alloc(), &SECOND_OF_TWO)?;
-    assert_eq!(rt; note.register(3), Val::Num { lo: 1, hi: 1 });
-    Ok(())
+fn the_second_of_two_notes_is_refused(rt: HostRuntime) {
+    let one = Val::Num { lo: 1, hi: 1 };
+    assert_eq!(rt;
+        registers(rt.alloc(), &SECOND_OF_TWO, [3, 3]),
+        Some([one, one])
+    );
 }
 
 /// As above, where both are numbers: 2 by the jump, then 1.
@@ -99,36 +95,35 @@ const BOTH_OF_TWO: [[u8; 8]; 6] = [
 ];
 
 #[test]
-fn the_first_of_two_refused_notes(rt: HostRuntime) -> Result<(), Fail> {
-    let note = refused_note(rt.alloc(), &BOTH_OF_TWO)?;
-    assert_eq!(rt; note.register(3), Val::Num { lo: 2, hi: 2 });
-    Ok(())
+fn the_first_of_two_refused_notes(rt: HostRuntime) {
+    let two = Val::Num { lo: 2, hi: 2 };
+    assert_eq!(rt;
+        registers(rt.alloc(), &BOTH_OF_TWO, [3, 3]),
+        Some([two, two])
+    );
 }
 
-/// Where a register of a program without maps was an address last, before the refusal.
-fn lost(alloc: Global, bytes: &[u8], register: Register) -> Result<Option<Lost>, Fail> {
-    let Ok(code) = decode(alloc, bytes) else {
-        return Err("no code".into());
+/// The slot where a register of a program without maps was an address last, before the refusal, and what it held there.
+fn lost(alloc: Global, slots: &[[u8; 8]], register: Register) -> Option<(u32, Val)> {
+    let bytes = bytes_of(alloc, slots).ok()?;
+    let code = decode(alloc, &bytes).ok()?;
+    let Err(refused) = explain(alloc, code, &[]) else {
+        return None;
     };
-    match explain(alloc, code, &[]) {
-        Ok(_) => Err("no refusal".into()),
-        Err(refused) => match refused.note {
-            None => Err("no note".into()),
-            Some(_) => Ok(lost_at(alloc, &refused.code, &[], refused.refusal.pc, register)?),
-        },
+    match refused.note {
+        None => None,
+        Some(_) => {
+            let pc = refused.refusal.pc;
+            let lost = lost_at(alloc, &refused.code, &[], pc, register).ok()??;
+            Some((lost.pc, lost.note.register(register.number())))
+        }
     }
 }
 
 #[test]
-fn the_slot_that_lost_an_address(rt: HostRuntime) -> Result<(), Fail> {
-    let mut bytes = Vec::new(rt.alloc());
-    add_slots(&mut bytes, &WIDE_OFFSET)?;
-    match lost(rt.alloc(), &bytes, Register::R1)? {
-        None => Err("nothing lost".into()),
-        Some(lost) => {
-            assert_eq!(rt; lost.pc, 7);
-            assert_eq!(rt; lost.note.register(1), Val::Pkt { id: 0xffff, off: 0 });
-            Ok(())
-        }
-    }
+fn the_slot_that_lost_an_address(rt: HostRuntime) {
+    assert_eq!(rt;
+        lost(rt.alloc(), &WIDE_OFFSET, Register::R1),
+        Some((7, Val::Pkt { id: 0xffff, off: 0 }))
+    );
 }

@@ -1,0 +1,11 @@
+mod actions;
+mod beginnings;
+mod far;
+mod flow;
+mod full;
+mod growth;
+mod keys;
+mod notes;
+mod packets;
+mod runs;
+mod small;
