@@ -1,18 +1,21 @@
-use crate::load;
-use std::alloc::Global;
+use crate::loading::fault_number;
+use std::alloc::{AllocError, Global};
 use std::process::Abort;
-use std::test::Fail;
 
 /// Each text is refused with this number.
 fn assert_refused(rt: &impl Abort, alloc: Global, number: u8, texts: &[&[u8]]) {
     for text in texts {
-        let found = load(alloc, text).err().map(|fault| fault.number());
-        assert_eq!(rt; found, Some(number), "{}", text.escape_ascii());
+        assert_eq!(rt;
+            fault_number(alloc, text),
+            Some(number),
+            "{}",
+            text.escape_ascii()
+        );
     }
 }
 
 /// A program of no bytes, then a comment, of so many bytes in all.
-fn padded(alloc: Global, length: usize) -> Result<Vec<u8>, Fail> {
+fn padded(alloc: Global, length: usize) -> Result<Vec<u8>, AllocError> {
     let mut text = Vec::from_elem(alloc, b'#', length)?;
     for (byte, begin) in text.iter_mut().zip(b"program = []\n") {
         *byte = *begin;
@@ -20,23 +23,26 @@ fn padded(alloc: Global, length: usize) -> Result<Vec<u8>, Fail> {
     Ok(text)
 }
 
+/// The number of the fault of such a text, if it has one. Nothing without memory for the text.
+fn fault_of_padded(alloc: Global, length: usize) -> Option<Option<u8>> {
+    let text = padded(alloc, length).ok()?;
+    Some(fault_number(alloc, &text))
+}
+
 #[test]
-fn l1_no_text(rt: HostRuntime) -> Result<(), Fail> {
-    let long = padded(rt.alloc(), 1_048_577)?;
+fn l1_no_text(rt: HostRuntime) {
+    assert_eq!(rt; fault_of_padded(rt.alloc(), 1_048_577), Some(Some(1)));
+    assert_eq!(rt; fault_of_padded(rt.alloc(), 1_048_576), Some(None));
     assert_refused(
         &rt,
         rt.alloc(),
         1,
         &[
-            long.as_slice(),
             b"program = []\n# \xff",
             b"program = []\n# \xc3",
             b"program = []\n# \xed\xa0\x80",
         ],
     );
-    let longest = padded(rt.alloc(), 1_048_576)?;
-    assert!(rt; load(rt.alloc(), longest.as_slice()).is_ok());
-    Ok(())
 }
 
 #[test]
@@ -90,7 +96,7 @@ fn l3_keys(rt: HostRuntime) {
 }
 
 #[test]
-fn l4_limits(rt: HostRuntime) -> Result<(), Fail> {
+fn l4_limits(rt: HostRuntime) {
     assert_refused(
         &rt,
         rt.alloc(),
@@ -116,18 +122,25 @@ fn l4_limits(rt: HostRuntime) -> Result<(), Fail> {
             b"program = []\n[[packet]]\nqueue = 0\nbytes = \"000102030405060708090a0b0c0d\"\ntimes = 100001",
         ],
     );
-    Ok(())
+}
+
+/// Settings with a packet of so many bytes.
+fn with_packet(alloc: Global, length: usize) -> Result<String, AllocError> {
+    let bytes = Vec::from_elem(alloc, 0xa5, length)?;
+    let hex = hex::encode(alloc, bytes.as_slice())?;
+    format!(in alloc; "program = []\n[[packet]]\nqueue = 0\nbytes = \"{hex}\"")
+}
+
+/// The number of the fault of such settings, if they have one. Nothing without memory for the text.
+fn fault_with_packet(alloc: Global, length: usize) -> Option<Option<u8>> {
+    let text = with_packet(alloc, length).ok()?;
+    Some(fault_number(alloc, text.as_bytes()))
 }
 
 #[test]
-fn l4_lengths_of_packets(rt: HostRuntime) -> Result<(), Fail> {
-    let alloc = rt.alloc();
-    let bytes = hex::encode(alloc, Vec::from_elem(alloc, 0xa5, 65_535)?.as_slice())?;
-    let longest = format!(in alloc; "program = []\n[[packet]]\nqueue = 0\nbytes = \"{bytes}\"")?;
-    assert!(rt; load(alloc, longest.as_bytes()).is_ok());
-    let long = format!(in alloc; "program = []\n[[packet]]\nqueue = 0\nbytes = \"{bytes}a5\"")?;
-    assert_refused(&rt, alloc, 4, &[long.as_bytes()]);
-    Ok(())
+fn l4_lengths_of_packets(rt: HostRuntime) {
+    assert_eq!(rt; fault_with_packet(rt.alloc(), 65_535), Some(None));
+    assert_eq!(rt; fault_with_packet(rt.alloc(), 65_536), Some(Some(4)));
 }
 
 #[test]
