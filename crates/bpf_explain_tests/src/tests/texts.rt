@@ -1,10 +1,9 @@
 //! Each value's text, each cause's advice, and the columns of a listing.
-use crate::advice::advice;
-use crate::explained_text;
-use bpf_insn::{Cause, Insn, Refusal, Register, Size, decode};
-use bpf_note::{Note, PACKET_ID, Val};
+use crate::printed::{advice_by, note_of, text};
+use bpf_explain::advice_for;
+use bpf_insn::{Cause, Insn, Refusal, Register, Size};
+use bpf_note::{PACKET_ID, Val};
 use std::alloc::Global;
-use std::test::Fail;
 
 #[rattlefmt::skip]
 const EXIT: [u8; 8] = [
@@ -12,18 +11,22 @@ const EXIT: [u8; 8] = [
 ];
 
 /// What is printed of `exit` if it is refused with this cause where `r0` is this value.
-fn text(alloc: Global, cause: Cause, value: Val) -> Result<String, Fail> {
-    let code = decode(alloc, &EXIT).ok().ok_or("a program")?;
-    let mut names = Vec::new(alloc);
-    names.push(String::from_str(alloc, "hits")?)?;
-    let mut note = Note::entry(alloc);
-    note.set_register(0, value);
-    let refusal = Refusal { cause, pc: 0 };
-    Ok(explained_text(alloc, &code, names.as_slice(), &[], refusal, Some(&note))?)
+fn text_of_exit(alloc: Global, cause: Cause, value: Val) -> Option<String> {
+    let note = note_of(alloc, &[(0, value)]);
+    text(alloc, &EXIT, &[], Refusal { cause, pc: 0 }, Some(&note))
+}
+
+/// Whether a value of `r0` is shown as this.
+fn is_shown(alloc: Global, value: Val, shown: &str) -> Option<bool> {
+    let wanted = format!(in alloc;
+        ">  0: exit\n       R0={shown}\nrefused V7 at 0\nwrite instead: set the register on each way that leads here; a call leaves r1 to r5 unset\n"
+    ).ok()?;
+    let text = text_of_exit(alloc, Cause::Unset, value)?;
+    Some(text.as_str() == wanted.as_str())
 }
 
 #[test]
-fn values(rt: HostRuntime) -> Result<(), Fail> {
+fn values(rt: HostRuntime) {
     let rows = [
         (Val::Unset, "unset"),
         (Val::Num { lo: 7, hi: 7 }, "7"),
@@ -57,15 +60,8 @@ fn values(rt: HostRuntime) -> Result<(), Fail> {
         (Val::Value { m: 0 }, "map_value(map=hits)"),
     ];
     for (value, shown) in rows {
-        let wanted = format!(in rt.alloc();
-            ">  0: exit\n       R0={shown}\nrefused V7 at 0\nwrite instead: set the register on each way that leads here; a call leaves r1 to r5 unset\n"
-        )?;
-        assert_eq!(rt;
-            text(rt.alloc(), Cause::Unset, value)?.as_str(),
-            wanted.as_str()
-        );
+        assert_eq!(rt; is_shown(rt.alloc(), value, shown), Some(true), "{shown}");
     }
-    Ok(())
 }
 
 /// Each cause, with its number, whether the values are shown, and what to write instead.
@@ -83,19 +79,24 @@ const CAUSES: [(Cause, u8, bool, &str); 10] = [
     (Cause::Argument, 17, true, "a wide load of a map in r1"),
 ];
 
+/// Whether the cause is explained so where `r0` is 1.
+fn is_advised(
+    alloc: Global,
+    (cause, number, shows, advice): (Cause, u8, bool, &str),
+) -> Option<bool> {
+    let below = if shows { "       R0=1\n" } else { "" };
+    let wanted = format!(in alloc;
+        ">  0: exit\n{below}refused V{number} at 0\nwrite instead: {advice}\n"
+    ).ok()?;
+    let text = text_of_exit(alloc, cause, Val::Num { lo: 1, hi: 1 })?;
+    Some(text.as_str() == wanted.as_str())
+}
+
 #[test]
-fn causes_of_the_second_pass(rt: HostRuntime) -> Result<(), Fail> {
-    for (cause, number, shows, advice) in CAUSES {
-        let below = if shows { "       R0=1\n" } else { "" };
-        let wanted = format!(in rt.alloc();
-            ">  0: exit\n{below}refused V{number} at 0\nwrite instead: {advice}\n"
-        )?;
-        assert_eq!(rt;
-            text(rt.alloc(), cause, Val::Num { lo: 1, hi: 1 })?.as_str(),
-            wanted.as_str()
-        );
+fn causes_of_the_second_pass(rt: HostRuntime) {
+    for row in CAUSES {
+        assert_eq!(rt; is_advised(rt.alloc(), row), Some(true), "{row:?}");
     }
-    Ok(())
 }
 
 /// Advice by the cause alone, where there is no note.
@@ -117,7 +118,7 @@ const ALONE: [(Cause, &str); 11] = [
 #[test]
 fn causes_without_a_note(rt: HostRuntime) {
     for (cause, wanted) in ALONE {
-        assert_eq!(rt; advice(cause, None, None), wanted);
+        assert_eq!(rt; advice_for(cause, None, None), wanted);
     }
 }
 
@@ -140,57 +141,70 @@ const CALL: Insn = Insn::Call { helper: 1 };
 
 #[test]
 fn advice_by_the_values(rt: HostRuntime) {
-    let mut note = Note::entry(rt.alloc());
-    note.set_register(0, Val::Value { m: 0 });
-    assert_eq!(rt;
-        advice(Cause::MapAccess, Some(ADD), Some(&note)),
-        "add at 8*j of the value, j below its number of counters"
-    );
-    assert_eq!(rt;
-        advice(Cause::MapAccess, Some(LOAD), Some(&note)),
-        "load eight bytes, unsigned, at 8*j of the value, j below its number of counters"
-    );
-    note.set_register(0, Val::Ctx);
-    assert_eq!(rt;
-        advice(Cause::MapAccess, Some(ADD), Some(&note)),
-        "add atomically to a map's counter alone; elsewhere load, add and store"
-    );
-    assert_eq!(rt;
-        advice(Cause::Argument, Some(CALL), Some(&note)),
-        "a wide load of a map in r1"
-    );
-    note.set_register(1, Val::Map { m: 0 });
-    assert_eq!(rt;
-        advice(Cause::Argument, Some(CALL), Some(&note)),
-        "the key on the stack, and its address in r2"
-    );
+    let (value, map) = (Val::Value { m: 0 }, Val::Map { m: 0 });
+    let rows = [
+        (
+            Cause::MapAccess,
+            ADD,
+            [value, Val::Ctx],
+            "add at 8*j of the value, j below its number of counters",
+        ),
+        (
+            Cause::MapAccess,
+            LOAD,
+            [value, Val::Ctx],
+            "load eight bytes, unsigned, at 8*j of the value, j below its number of counters",
+        ),
+        (
+            Cause::MapAccess,
+            ADD,
+            [Val::Ctx, Val::Ctx],
+            "add atomically to a map's counter alone; elsewhere load, add and store",
+        ),
+        (
+            Cause::Argument,
+            CALL,
+            [Val::Ctx, Val::Ctx],
+            "a wide load of a map in r1",
+        ),
+        (
+            Cause::Argument,
+            CALL,
+            [Val::Ctx, map],
+            "the key on the stack, and its address in r2",
+        ),
+    ];
+    for (cause, insn, values, wanted) in rows {
+        assert_eq!(rt; advice_by(rt.alloc(), cause, insn, values), wanted);
+    }
 }
 
-#[test]
-fn columns(rt: HostRuntime) -> Result<(), Fail> {
-    let mut bytes = Vec::new(rt.alloc());
+/// Whether a listing of 101 slots has its numbers in a column, up to the refused one at the end.
+fn has_columns(alloc: Global) -> Option<[bool; 2]> {
+    let mut bytes = Vec::new(alloc);
     for _slot in 0..101 {
-        bytes.extend_from_slice(&EXIT)?;
+        bytes.extend_from_slice(&EXIT).ok()?;
     }
-    let code = decode(rt.alloc(), &bytes).ok().ok_or("a program")?;
-    let names = Vec::new(rt.alloc());
     let refusal = Refusal {
         cause: Cause::Target,
         pc: 100,
     };
-    let text = explained_text(rt.alloc(), &code, names.as_slice(), &[], refusal, None)?;
-    assert!(rt; text.as_str().contains("\n   9: exit\n  10: exit\n"));
-    assert!(rt;
+    let text = text(alloc, &bytes, &[], refusal, None)?;
+    Some([
+        text.as_str().contains("\n   9: exit\n  10: exit\n"),
         text.as_str().ends_with(
-            "\n  99: exit\n>100: exit\nrefused V4 at 100\nwrite instead: a jump to a slot of the program that is no second half of a wide load\n"
-        )
-    );
-    Ok(())
+            "\n  99: exit\n>100: exit\nrefused V4 at 100\nwrite instead: a jump to a slot of the program that is no second half of a wide load\n",
+        ),
+    ])
+}
+
+#[test]
+fn columns(rt: HostRuntime) {
+    assert_eq!(rt; has_columns(rt.alloc()), Some([true, true]));
 }
 
 #[test]
 fn a_load_outside_the_stack(rt: HostRuntime) {
-    let mut note = Note::entry(rt.alloc());
     for (off, wanted) in [
         (
             -512,
@@ -209,8 +223,8 @@ fn a_load_outside_the_stack(rt: HostRuntime) {
             "load within the 512 bytes below r10: from r10-512 to r10-1",
         ),
     ] {
-        note.set_register(0, Val::Stack { off });
-        assert_eq!(rt; advice(Cause::Stack, Some(LOAD), Some(&note)), wanted);
+        let values = [Val::Stack { off }, Val::Ctx];
+        assert_eq!(rt; advice_by(rt.alloc(), Cause::Stack, LOAD, values), wanted);
     }
 }
 
@@ -219,35 +233,27 @@ const BEFORE: [u8; 8] = [
     0x79, 0x10, 0xff, 0xff, 0, 0, 0, 0, // r0 = *(u64 *)(r1 -1)
 ];
 
-#[test]
-fn a_load_before_the_packet(rt: HostRuntime) -> Result<(), Fail> {
-    let code = decode(rt.alloc(), &BEFORE).ok().ok_or("a program")?;
-    let names = Vec::new(rt.alloc());
+/// Whether the span of that load is shown.
+fn shows_span(alloc: Global) -> Option<bool> {
+    let address = Val::Pkt {
+        id: PACKET_ID,
+        off: 0,
+    };
+    let note = note_of(alloc, &[(1, address)]);
     let refusal = Refusal {
         cause: Cause::Packet,
         pc: 0,
     };
-    let mut note = Note::entry(rt.alloc());
-    note.set_register(
-        1,
-        Val::Pkt {
-            id: PACKET_ID,
-            off: 0,
-        },
-    );
-    let text = explained_text(
-        rt.alloc(),
-        &code,
-        names.as_slice(),
-        &[],
-        refusal,
-        Some(&note),
-    )?;
-    assert!(rt;
+    let text = text(alloc, &BEFORE, &[], refusal, Some(&note))?;
+    Some(
         text.as_str()
-            .contains("\n       R1=pkt(id=0,off=0,r=0)  access=-1..7\n")
-    );
-    Ok(())
+            .contains("\n       R1=pkt(id=0,off=0,r=0)  access=-1..7\n"),
+    )
+}
+
+#[test]
+fn a_load_before_the_packet(rt: HostRuntime) {
+    assert_eq!(rt; shows_span(rt.alloc()), Some(true));
 }
 
 #[rattlefmt::skip]
@@ -257,17 +263,23 @@ const JUMPS: [u8; 24] = [
     0x06, 0, 0, 0, 0xff, 0xff, 0, 0,       // gotol pc+65535
 ];
 
+/// Whether this is printed of a jump that has no target.
+fn shows_target(alloc: Global, pc: u32, wanted: &str) -> Option<bool> {
+    let refusal = Refusal {
+        cause: Cause::Target,
+        pc,
+    };
+    let text = text(alloc, &JUMPS, &[], refusal, None)?;
+    Some(text.as_str().contains(wanted))
+}
+
 #[test]
-fn where_a_jump_goes(rt: HostRuntime) -> Result<(), Fail> {
-    let code = decode(rt.alloc(), &JUMPS).ok().ok_or("a program")?;
-    let names = Vec::new(rt.alloc());
+fn where_a_jump_goes(rt: HostRuntime) {
     for (pc, wanted) in [(1, "\n       to -1\n"), (2, "\n       to 65538\n")] {
-        let refusal = Refusal {
-            cause: Cause::Target,
-            pc,
-        };
-        let text = explained_text(rt.alloc(), &code, names.as_slice(), &[], refusal, None)?;
-        assert!(rt; text.as_str().contains(wanted));
+        assert_eq!(rt;
+            shows_target(rt.alloc(), pc, wanted),
+            Some(true),
+            "{wanted}"
+        );
     }
-    Ok(())
 }
