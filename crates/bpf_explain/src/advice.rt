@@ -140,7 +140,7 @@ fn value_advice(cause: Cause, insn: Insn, note: &Note) -> &'static str
 }
 
 /// What to write instead, where the instruction and what is known there are at hand or not.
-pub(crate) fn advice(cause: Cause, insn: Option<Insn>, note: Option<&Note>) -> &'static str
+pub fn advice_for(cause: Cause, insn: Option<Insn>, note: Option<&Note>) -> &'static str
     ensures { result.now ≡ advice_text cause insn (option_map (λ n. facts n.now) note.entry) }
 {
     match (insn, note) {

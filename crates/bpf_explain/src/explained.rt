@@ -4,7 +4,7 @@ ghost use Rattle.bpf_note.specs.Parts.{facts};
 ghost use Rattle.bpf_explain.specs.Explained.{asked_register, below_text, explained_text, is_about_values, operand_of, operand_text, reached_text, undecoded_text, values_text, verdict_text, was_text};
 
 use crate::access::{access_of, address_of, base_of};
-use crate::advice::{advice, cause_advice, lost_advice};
+use crate::advice::{advice_for, cause_advice, lost_advice};
 use crate::fields::refused_slot_text;
 use crate::listing::add_listing;
 use crate::span::{counters_text, span_text, target_text};
@@ -196,7 +196,7 @@ pub fn explained_text(
     let insns = code.insns();
     let insn = insn_at(code, refusal.pc);
     let below = below_text(alloc, names, shapes, refusal.pc, refusal.cause, insn, note)?;
-    let verdict = verdict_text(alloc, refusal, advice(refusal.cause, insn, note))?;
+    let verdict = verdict_text(alloc, refusal, advice_for(refusal.cause, insn, note))?;
     let mut text = String::new(alloc);
     add_listing(alloc, &mut text, insns, Some(refusal.pc), below.as_str())?;
     text.push_str(verdict.as_str())?;

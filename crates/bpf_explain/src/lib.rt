@@ -8,9 +8,8 @@ mod fields;
 mod listing;
 mod span;
 mod stack;
-#[cfg(test)]
-mod tests;
 mod values;
 
+pub use advice::advice_for;
 pub use explained::{asked_register, explained_text, undecoded_text, was_text};
 pub use listing::add_listing;

@@ -1,6 +1,6 @@
 -- Which bytes are refused, at which slot and why. The order of the causes is this project's own.
 -- Rows from LLVM guard which instructions are left out: `text` of crates/outside_rows. Rows worked by hand guard the
--- order: src/tests/prefixes.rt.
+-- order: crates/bpf_insn_tests/src/tests/prefixes.rt.
 use Rattle.std.specs.Prelude.{ℕ, ◌≡◌, ◌≢◌, ◌<◌, ◌≤◌, ◌%◌, ◌⊎◌, ◌==◌, ◌&&◌, ◌||◌, not, nat_le, int_le, Bool, true, false, pos, List, [], ◌∷◌, ◌++◌, flat_map, length}
 use Rattle.std.specs.List.{AllByRecursion, list_any}
 use Rattle.bpf_insn.specs.Fields.{slot_bytes, FitsSlot}

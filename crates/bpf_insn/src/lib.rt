@@ -20,8 +20,6 @@ mod register;
 mod size;
 mod slot;
 mod swap_kind;
-#[cfg(test)]
-mod tests;
 mod text;
 mod text_parts;
 mod truncated;

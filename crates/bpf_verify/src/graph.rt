@@ -8,4 +8,4 @@ mod reach;
 
 pub(crate) use cycles::{closes_cycle_unless, is_ordered};
 pub use laws::{pass_order_is_unique, pass_order_rises, runs_are_short};
-pub(crate) use order::pass_order;
+pub use order::pass_order;

@@ -15,11 +15,9 @@ mod wanting;
 
 pub use bpf_insn::{Cause, Refusal};
 pub use bpf_note::MapShape;
-pub use graph::{pass_order_is_unique, pass_order_rises, runs_are_short};
+pub use graph::{pass_order, pass_order_is_unique, pass_order_rises, runs_are_short};
 pub use laws::{faultless_programs_are_accepted, refusals_are_unique};
 pub use lost::{Lost, lost_at};
+pub use structure::first_fault;
 pub use verified::Verified;
 pub use verifier::{Explained, explain, verify};
-
-#[cfg(test)]
-mod tests;

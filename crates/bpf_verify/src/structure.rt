@@ -78,7 +78,7 @@ fn fault_of(
 
 /// The lowest slot at which something is wrong with the structure; a program without such a slot is ordered. Out of
 /// memory is V0 at the slot being checked, or at 0 before the first.
-pub(crate) fn first_fault(alloc: Global, code: &[Insn], maps: u32) -> Option<Refusal>
+pub fn first_fault(alloc: Global, code: &[Insn], maps: u32) -> Option<Refusal>
     requires short { length code.now ≤ 4096 }
     requires some { 0 < length code.now }
     ensures none { IfNone result (IsStructured code.now maps) }

@@ -24,6 +24,3 @@ pub use packet::{PacketBuf, PacketFault};
 pub use run::run_to_end;
 pub use vm::Vm;
 pub use want::VmWant;
-
-#[cfg(test)]
-mod tests;

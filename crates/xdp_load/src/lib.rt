@@ -17,6 +17,3 @@ pub use fault::{Fault, LoadFault};
 pub use laws::{relocated_loads_are_of_maps, sound_setups_are_written};
 pub use packets::Packet;
 pub use setup::{Setup, load};
-
-#[cfg(test)]
-mod tests;

@@ -1,5 +1,5 @@
 -- A domain's grant table (grant_table.h): frames of 512 entries of two words each.
--- Rows worked by hand guard it: src/tests/tables.rt.
+-- Rows worked by hand guard it: crates/xen_page_tests/src/tests/tables.rt.
 use Rattle.std.specs.Prelude.{ℕ, ◌≤◌, ◌*◌, ◌/◌, ◌%◌, List, length, All, IsTrue, Option, Some, None, slice_get}
 use Rattle.xen_page.specs.Grant.{owns}
 use Rattle.xen_page.specs.declared.place.Place.{Place}

@@ -19,8 +19,6 @@ pub mod rewriter;
 mod rewriting;
 pub mod script_bus;
 pub mod table;
-#[cfg(test)]
-mod tests;
 
 pub use access::Access;
 pub use bus::Bus;

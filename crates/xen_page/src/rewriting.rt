@@ -37,6 +37,24 @@ impl<'a, B: Bus> Rewriter<'a, B> {
         }
     }
 
+    /// As [`Rewriter::make`], where the accesses are counted from this number on.
+    pub fn numbered_from(
+        bus: B,
+        writes: &'a [(u32, Place, u32)],
+        first: u32,
+    ) -> Rewriter<'a, B>
+        requires { All (λ w. (w.1.frame < B.size bus) × (w.1.word < 1024)) writes.now }
+        ensures bus { bus_in result ≡ bus }
+        ensures writes { writes_of result ≡ writes.now }
+        ensures next { next_of result ≡ Some first }
+    {
+        Rewriter {
+            bus,
+            writes,
+            next: Some(first),
+        }
+    }
+
     /// Makes the writes that come before the next access, and counts it.
     fn rewrite(&mut self)
         ensures performs { Performs B.log B.access_gives (bus_in self.old) (due_at (next_of self.old) (writes_of self.old)) (bus_in self.new) }

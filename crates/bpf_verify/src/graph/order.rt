@@ -115,7 +115,7 @@ pub(crate) fn order(alloc: Global, code: &[Insn], start: Vec<bool>) -> Result<Ta
 }
 
 /// The slots that are reached from the first, in the order in which the second pass takes them.
-pub(crate) fn pass_order(alloc: Global, code: &[Insn]) -> Result<Vec<u32>, AllocError>
+pub fn pass_order(alloc: Global, code: &[Insn]) -> Result<Vec<u32>, AllocError>
     requires short { length code.now ≤ 4096 }
     requires some { 0 < length code.now }
     requires ordered { IsOrdered code.now }

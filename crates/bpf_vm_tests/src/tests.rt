@@ -1,0 +1,12 @@
+mod actions;
+mod beginnings;
+mod ends;
+mod far;
+mod flow;
+mod full;
+mod growth;
+mod keys;
+mod notes;
+mod packets;
+mod runs;
+mod small;

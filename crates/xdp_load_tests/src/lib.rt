@@ -1,0 +1,6 @@
+//! Tests of [`xdp_load`] by what it makes public. They are a crate of their own so that the gate proves xdp_load once.
+#![tactic(auto)]
+
+pub mod loading;
+#[cfg(test)]
+mod tests;

@@ -1,0 +1,108 @@
+//! What settings give, as plain values.
+ghost use Rattle.std.specs.Prelude.{◌≤◌, length};
+
+use std::alloc::Global;
+use xdp_load::{LoadFault, Setup, load};
+
+/// How many bytes the program has, how many shapes, names, steps and packets there are; the queues; the interface's number;
+/// and the index at which each ring begins.
+pub type Counts = ([usize; 5], usize, u32, u32);
+
+/// The number of the fault of settings, if they have one.
+pub fn fault_number(alloc: Global, bytes: &[u8]) -> Option<u8> {
+    match load(alloc, bytes) {
+        Ok(_) => None,
+        Err(fault) => Some(fault.number()),
+    }
+}
+
+/// The number of the fault of the first bytes of settings, if they have one.
+pub fn fault_of_beginning(alloc: Global, bytes: &[u8], end: usize) -> Option<u8>
+    requires { end ≤ length bytes.now }
+{
+    fault_number(alloc, &bytes[..end])
+}
+
+fn counts_of(setup: &Setup) -> Counts {
+    let lengths = [
+        setup.program.len(),
+        setup.shapes.len(),
+        setup.names.len(),
+        setup.script.len(),
+        setup.packets.len(),
+    ];
+    (lengths, setup.queues, setup.ifindex, setup.start)
+}
+
+/// The counts of a setup, or why there is none.
+pub fn counts(alloc: Global, text: &str) -> Result<Counts, LoadFault> {
+    match load(alloc, text.as_bytes()) {
+        Ok(setup) => Ok(counts_of(&setup)),
+        Err(fault) => Err(fault),
+    }
+}
+
+/// Whether a hexadecimal text is that of bytes.
+fn is_hex_of(alloc: Global, hex: &str, bytes: &[u8]) -> bool {
+    hex::encode(alloc, bytes).is_ok_and(|text| text.as_str() == hex)
+}
+
+/// Whether the program that settings give has these bytes, as a hexadecimal text.
+pub fn gives_program(alloc: Global, text: &str, hex: &str) -> bool {
+    match load(alloc, text.as_bytes()) {
+        Ok(setup) => is_hex_of(alloc, hex, setup.program.as_slice()),
+        Err(_) => false,
+    }
+}
+
+fn has_maps(setup: &Setup, maps: &[(&str, u32, u32)]) -> bool {
+    let shapes = setup.shapes.as_slice();
+    let names = setup.names.as_slice();
+    if shapes.len() != maps.len() || names.len() != maps.len() {
+        return false;
+    }
+    for ((shape, name), (wanted, entries, counters)) in shapes.iter().zip(names).zip(maps) {
+        let has_shape = shape.entries() == *entries && shape.counters() == *counters;
+        if !has_shape || name.as_str() != *wanted {
+            return false;
+        }
+    }
+    true
+}
+
+/// Whether the maps that settings give have these names, entries and counters.
+pub fn gives_maps(alloc: Global, text: &str, maps: &[(&str, u32, u32)]) -> bool {
+    match load(alloc, text.as_bytes()) {
+        Ok(setup) => has_maps(&setup, maps),
+        Err(_) => false,
+    }
+}
+
+fn has_packets(alloc: Global, setup: &Setup, packets: &[(usize, &str, u32)]) -> bool {
+    if setup.packets.len() != packets.len() {
+        return false;
+    }
+    for (packet, (queue, hex, times)) in setup.packets.iter().zip(packets) {
+        let has_numbers = packet.queue == *queue && packet.times == *times;
+        if !has_numbers || !is_hex_of(alloc, hex, packet.bytes.as_slice()) {
+            return false;
+        }
+    }
+    true
+}
+
+/// Whether the packets that settings give have these queues, bytes as hexadecimal texts, and times.
+pub fn gives_packets(alloc: Global, text: &str, packets: &[(usize, &str, u32)]) -> bool {
+    match load(alloc, text.as_bytes()) {
+        Ok(setup) => has_packets(alloc, &setup, packets),
+        Err(_) => false,
+    }
+}
+
+/// Whether the script that settings give has these steps.
+pub fn gives_script(alloc: Global, text: &str, script: &[(usize, u32)]) -> bool {
+    match load(alloc, text.as_bytes()) {
+        Ok(setup) => setup.script.as_slice() == script,
+        Err(_) => false,
+    }
+}

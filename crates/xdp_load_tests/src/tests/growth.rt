@@ -1,0 +1,43 @@
+//! Loading again after it was refused memory. `tools/refuse-growths` refuses each allocation of these tests in turn, and
+//! counts the runs that print `refused`.
+
+use crate::loading::{Counts, counts};
+use crate::tests::EVERY_KEY;
+use std::alloc::Global;
+use std::test::Fail;
+use xdp_load::{Fault, LoadFault};
+
+/// Two maps have one name.
+const NAMED_TWICE: &str = "\
+program = [\"9500000000000000\"]
+map = [{ name = \"a\", entries = 1 }, { name = \"a\", entries = 1 }]
+";
+
+/// What is loaded, asked for again after L0.
+fn load_again(
+    rt: &impl Print,
+    alloc: Global,
+    text: &str,
+) -> Result<Result<Counts, LoadFault>, Fail> {
+    match counts(alloc, text) {
+        Err(LoadFault::Memory) => {
+            println!(rt; "refused")?;
+            Ok(counts(alloc, text))
+        }
+        other => Ok(other),
+    }
+}
+
+#[test]
+fn settings_are_loaded_again(rt: HostRuntime) -> Result<(), Fail> {
+    let found = load_again(&rt, rt.alloc(), EVERY_KEY)?;
+    assert_eq!(rt; found, Ok(([48, 2, 2, 2, 2], 2, 7, u32::MAX)));
+    Ok(())
+}
+
+#[test]
+fn settings_are_refused_again(rt: HostRuntime) -> Result<(), Fail> {
+    let found = load_again(&rt, rt.alloc(), NAMED_TWICE)?;
+    assert_eq!(rt; found, Err(LoadFault::Refused(Fault::Name)));
+    Ok(())
+}

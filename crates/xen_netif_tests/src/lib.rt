@@ -1,0 +1,6 @@
+//! Tests of [`xen_netif`] by what it makes public. They are a crate of their own so that the gate proves xen_netif once.
+#![tactic(auto)]
+
+pub mod answers;
+#[cfg(test)]
+mod tests;

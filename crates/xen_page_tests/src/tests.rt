@@ -1,0 +1,6 @@
+mod buses;
+mod entries;
+mod growth;
+mod mappings;
+mod tables;
+mod threads;
