@@ -1,5 +1,5 @@
 -- What a transmit does in one go is what it asks, event by event.
-use Rattle.std.proofs.Common.{◌≡◌, ℕ, suc, ◌+◌, ◌-◌, ◌*◌, ◌/◌, ◌%◌, ◌<◌, ◌≤◌, ◌^◌, Bool, true, false, List, [], ◌∷◌, ◌++◌, length, drop, Option, Some, None, Result, Ok, Err, refl, sym, ◌∙◌, ap, arith, subst, nat_lt}
+use Rattle.std.proofs.Common.{◌≡◌, ℕ, suc, ◌+◌, ◌-◌, ◌*◌, ◌/◌, ◌%◌, ◌<◌, ◌≤◌, ◌^◌, Bool, true, false, List, [], ◌∷◌, ◌++◌, length, drop, Option, Some, Result, Ok, Err, refl, sym, ◌∙◌, ap, arith, subst}
 use Rattle.std.specs.Prelude.{if◌then◌else◌, is_some, min, nat_le}
 use Rattle.std.specs.Result.{result_ok}
 use Rattle.std.proofs.lemmas.Bool.{le-ltb}
@@ -9,7 +9,6 @@ use Rattle.xen_page.specs.Access.{Performs}
 use Rattle.xen_page.specs.Entry.{entry_of}
 use Rattle.xen_page.specs.Grant.{checked}
 use Rattle.xen_page.specs.Mapping.{frame_place}
-use Rattle.xen_page.specs.Table.{entry_place}
 use Rattle.xen_page.specs.declared.access.Access.{Access}
 use Rattle.xen_page.specs.declared.access.Access.TheVariants as access
 use Rattle.xen_page.specs.declared.fault.GrantFault.{GrantFault}
@@ -22,12 +21,11 @@ use Rattle.xen_steps.specs.Finish.{Finishes}
 use Rattle.xen_steps.specs.Places.{add32, available, page_word}
 use Rattle.xen_steps.specs.Steps.{Steps, done, ask, never, bind}
 use Rattle.xen_steps.specs.declared.want.Want.{Want}
-use Rattle.xen_steps.proofs.DriveLemmas.{accesses-append, driven_none, gone_append}
+use Rattle.xen_steps.proofs.DriveLemmas.{driven_append}
 use Rattle.xen_transmit.specs.Entries.{entry, entry_at}
 use Rattle.xen_transmit.specs.Packets.{buffer_word, frame_in, pages, response_word, target_at, word_of, words}
 use Rattle.xen_transmit.specs.Places.{rx_slot, rx_word}
 use Rattle.xen_transmit.specs.Shared.{IsEntry, inside, outside}
-use Rattle.xen_transmit.specs.Straight.{scanned}
 use Rattle.xen_transmit.specs.Transmit.{Posted, after_targets, fill, found, outcome_of, posted, read_targets, rx_answer, rx_notice, rx_publish, rx_respond, targeted, transmit}
 use Rattle.xen_transmit.specs.declared.phase.Outcome.{Outcome}
 use Rattle.xen_transmit.specs.declared.phase.Outcome.TheVariants as outcome
