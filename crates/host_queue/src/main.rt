@@ -2,48 +2,24 @@
 #![tactic(auto)]
 
 mod bus;
+mod fault;
 mod guest;
 
 use crate::bus::Pages;
+use crate::fault::Fault;
 use crate::guest::{BACK, FRONT, OWNERS, RX, TABLE, TX, lend, send};
 use bpf_insn::decode;
 use bpf_maps::Counters;
 use bpf_verify::verify;
 use bpf_vm::Buffer;
-use std::alloc::{AllocError, Global};
+use std::alloc::Global;
 use std::io;
 use xen_back::{Queue, QueueDesc, Turn};
-use xen_page::{GrantFault, Owners, Table, map};
+use xen_page::{Owners, Table, map};
 use xen_ring::{Port, Ports};
 
 /// `r0 = 2` and `exit`: each packet passes.
 const PASSES: &[u8] = b"\xb7\x00\x00\x00\x02\x00\x00\x00\x95\x00\x00\x00\x00\x00\x00\x00";
-
-/// Why a turn wasn't made, or wasn't told.
-#[derive(Drop)]
-enum Fault {
-    Memory,
-    Refused,
-    Output(io::Error),
-}
-
-impl From<AllocError> for Fault {
-    fn from(_error: AllocError) -> Fault {
-        Fault::Memory
-    }
-}
-
-impl From<io::Error> for Fault {
-    fn from(error: io::Error) -> Fault {
-        Fault::Output(error)
-    }
-}
-
-impl From<GrantFault> for Fault {
-    fn from(_fault: GrantFault) -> Fault {
-        Fault::Refused
-    }
-}
 
 /// What a host does with a turn: this one prints it.
 fn take(rt: &HostRuntime, turn: Turn<'_>) -> io::Result<()> {
