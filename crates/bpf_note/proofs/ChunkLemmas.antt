@@ -1,11 +1,10 @@
 -- Bounds in chunks: what they say together.
-use Rattle.std.proofs.Common.{◌≡◌, ◌≢◌, ℕ, zero, suc, ◌+◌, ◌*◌, ◌/◌, ◌<◌, ◌≤◌, Bool, true, false, refl, Option, None, List, [], ◌∷◌, ◌++◌, max, nat_eq, sym, ap, ◌∙◌, arith, cond, subst, length, get_or, ◌⊎◌, inl, inr, append_assoc}
-use Rattle.std.proofs.lemmas.Bool.Decides.{nat_tests}
+use Rattle.std.proofs.Common.{◌≡◌, ℕ, zero, suc, ◌+◌, ◌*◌, ◌/◌, ◌<◌, ◌≤◌, refl, Option, List, [], ◌∷◌, ◌++◌, nat_eq, sym, ap, ◌∙◌, arith, cond, subst, length, get_or, inl, inr, append_assoc}
 use Rattle.bpf_note.specs.declared.bound.Bound.{Bound}
 use Rattle.bpf_note.specs.Parts.{top_in, safe_in, IsNormal, IsNormalFrom}
 use Rattle.bpf_note.specs.Chunks.{together, IsQuiet, IsChunk, AreChunks}
 use Rattle.bpf_note.proofs.BoundLemmas.{IsFront, front_rises, absent, normal_lower, here_is, there_is, speaks}
-use Rattle.bpf_note.proofs.PlaceLemmas.{le_cases, past_end}
+use Rattle.bpf_note.proofs.PlaceLemmas.{le_cases}
 
 -- the first of the bounds isn't where nothing is said
 unquiet : (x : Bound) (xs : List Bound) (least : ℕ) → IsNormalFrom least (x ∷ xs) → IsQuiet (x ∷ xs) x.id → ⊥

@@ -1,10 +1,10 @@
 -- Chunks of bounds, and the bounds beside them, joined part by part.
-use Rattle.std.proofs.Common.{◌≡◌, ℕ, ◌+◌, ◌*◌, ◌/◌, ◌<◌, ◌≤◌, refl, Option, None, List, [], ◌++◌, max, sym, ap, ◌∙◌, arith, subst, length, get_or, ◌⊎◌, inl, inr}
+use Rattle.std.proofs.Common.{◌≡◌, ℕ, ◌/◌, ◌<◌, ◌≤◌, Option, List, [], ◌++◌, max, sym, ap, ◌∙◌, arith, subst, length, get_or, ◌⊎◌, inl, inr}
 use Rattle.bpf_note.specs.declared.bound.Bound.{Bound}
 use Rattle.bpf_note.specs.Join.{lesser}
-use Rattle.bpf_note.specs.Parts.{top_in, safe_in, IsNormal}
+use Rattle.bpf_note.specs.Parts.{top_in, safe_in}
 use Rattle.bpf_note.specs.Bounds.{AreJoined}
-use Rattle.bpf_note.specs.Chunks.{together, IsQuiet, IsChunk, AreChunks}
+use Rattle.bpf_note.specs.Chunks.{together, IsQuiet, AreChunks}
 use Rattle.bpf_note.proofs.PlaceLemmas.{le_cases}
 use Rattle.bpf_note.proofs.ChunkLemmas.{view_normal, low_says, high_says}
 use Rattle.bpf_note.proofs.PartLemmas.{IsAway, where_is, away_quiet}

@@ -1,5 +1,5 @@
 -- What is done to chunks of bounds, and to the bounds beside them, is done to all of them together.
-use Rattle.std.proofs.Common.{◌≡◌, ◌≢◌, ℕ, ◌+◌, ◌*◌, ◌/◌, ◌<◌, ◌≤◌, Bool, true, false, refl, Option, None, List, [], ◌++◌, max, nat_eq, sym, ap, ◌∙◌, arith, cond, subst, length, get_or, ◌⊎◌, inl, inr}
+use Rattle.std.proofs.Common.{◌≡◌, ◌≢◌, ℕ, ◌+◌, ◌*◌, ◌/◌, ◌<◌, ◌≤◌, Bool, true, false, refl, Option, None, Some, List, [], ◌++◌, max, nat_eq, sym, ap, ◌∙◌, arith, cond, subst, length, get_or, ◌⊎◌, inl, inr}
 use Rattle.std.proofs.lemmas.Bool.Decides.{nat_tests}
 use Rattle.bpf_note.specs.declared.bound.Bound.{Bound}
 use Rattle.bpf_note.specs.State.{put}
@@ -7,7 +7,7 @@ use Rattle.bpf_note.specs.Join.{lesser}
 use Rattle.bpf_note.specs.Parts.{top_in, safe_in, IsNormal}
 use Rattle.bpf_note.specs.Bounds.{IsSet, AreJoined}
 use Rattle.bpf_note.specs.Chunks.{together, IsQuiet, IsChunk, AreChunks, SameChunks, IsSetIn}
-use Rattle.bpf_note.proofs.BoundLemmas.{same_bounds, SaySame}
+use Rattle.bpf_note.proofs.BoundLemmas.{same_bounds}
 use Rattle.bpf_note.proofs.PlaceLemmas.{le_cases, past_end}
 use Rattle.bpf_note.proofs.ChunkLemmas.{SaySameOf, view_normal, low_says, high_says}
 
@@ -184,3 +184,14 @@ parts_same cs ds high others a d e = (
         let x = a.quiet id lt in
         let y = d.quiet id lt in
         (x.0 ∙ sym y.0, x.1 ∙ sym y.1)
+
+-- bounds joined with themselves
+max_itself : (n : ℕ) → n ≡ max n n
+max_itself n = omega arith
+
+lesser_itself : (o : Option ℕ) → o ≡ lesser o o
+lesser_itself None = refl
+lesser_itself (Some n) = ap Some (omega arith)
+
+pub joined_with_itself : (xs : List Bound) → IsNormal xs → AreJoined xs xs xs
+joined_with_itself xs n = record { normal = n; tops = λ id. max_itself (top_in xs id); safes = λ id. lesser_itself (safe_in xs id) }

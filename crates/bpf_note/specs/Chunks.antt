@@ -1,9 +1,10 @@
 -- Bounds in chunks: chunk k has those of the ids 32 k to 32 k + 31, and past the last chunk there are none. A list beside the
 -- chunks has the bounds of the ids from 4,096 on, which no slot's number is.
-use Rattle.std.specs.Prelude.{ℕ, ◌+◌, ◌*◌, ◌/◌, ◌≡◌, ◌≢◌, ◌<◌, ◌≤◌, List, [], ◌∷◌, ◌++◌, Option, None, length, slice_index_or}
+use Rattle.std.specs.Prelude.{ℕ, ◌+◌, ◌*◌, ◌/◌, ◌≡◌, ◌≢◌, ◌<◌, ◌≤◌, List, [], ◌∷◌, ◌++◌, None, length, slice_index_or}
 use Rattle.bpf_note.specs.declared.bound.Bound.{Bound}
 use Rattle.bpf_note.specs.Parts.{top_in, safe_in, IsNormal}
 use Rattle.bpf_note.specs.Bounds.{IsSet}
+use Rattle.bpf_note.specs.Fingerprint.{fingerprint_of}
 
 -- the chunks, one after another
 abbrev pub together : List (List Bound) → List Bound
@@ -30,6 +31,10 @@ pub record AreChunks (chunks : List (List Bound)) (high : List Bound) : Type 0 w
 -- the same bounds in each chunk
 abbrev pub SameChunks : List (List Bound) → List (List Bound) → Type 0
 SameChunks old new = (k : ℕ) → slice_index_or old k [] ≡ slice_index_or new k []
+
+-- the chunks that both have are of the same fingerprints
+abbrev pub AlikeChunks : List (List Bound) → List (List Bound) → Type 0
+AlikeChunks xs ys = (k : ℕ) → k < length xs → k < length ys → fingerprint_of (slice_index_or xs k []) ≡ fingerprint_of (slice_index_or ys k [])
 
 -- what is said of one id is replaced, in its chunk
 pub record IsSetIn (old : List (List Bound)) (b : Bound) (new : List (List Bound)) : Type 0 where

@@ -7,6 +7,7 @@ pub mod Facts
 pub mod Describes
 pub mod Join
 pub mod Parts
+pub mod Fingerprint
 pub mod Slots
 pub mod Bounds
 pub mod Shared

@@ -1,10 +1,12 @@
 //! A list of bounds that is shared until one of its owners changes it.
-ghost use Rattle.std.specs.Prelude.{◌≡◌, [], IfOk, OnOk, OnErr};
+ghost use Rattle.std.specs.Prelude.{◌≡◌, ◌↔◌, [], IfOk, IsTrue, OnOk, OnErr};
 ghost use Rattle.bpf_note.specs.Bounds.{IsSet, AreJoined};
+ghost use Rattle.bpf_note.specs.Fingerprint.{fingerprint_of};
 ghost use Rattle.bpf_note.specs.Parts.{IsNormal};
 
 use crate::bound::Bound;
-use crate::bounds::{covers_bounds, join_bounds, set_bound, with_room};
+use crate::bounds::{are_same, covers_bounds, join_bounds, set_bound, with_room};
+use crate::fingerprint::fingerprint_of;
 use std::alloc::{AllocError, Global};
 use std::marker::Model;
 use std::rc::Rc;
@@ -13,11 +15,14 @@ use std::rc::Rc;
 #[derive(Drop)]
 pub(crate) struct Chunk {
     list: Option<Rc<Vec<Bound>>>,
+    fingerprint: u64,
 }
 
 impl Model for Chunk {
     ghost use Rattle.std.specs.Prelude.{List};
     ghost use Rattle.bpf_note.specs.declared.bound.Bound.{Bound};
+    ghost use Rattle.std.specs.Prelude.{◌≡◌};
+    ghost use Rattle.bpf_note.specs.Fingerprint.{fingerprint_of};
     ghost use Rattle.bpf_note.specs.Parts.{IsNormal};
     ghost use Rattle.bpf_note.specs.Shared.{listed};
 
@@ -25,15 +30,19 @@ impl Model for Chunk {
 
     ghost view = { λ s. listed (λ r. r.value.items) s.list };
 
-    ghost invariant = { λ s. IsNormal (listed (λ r. r.value.items) s.list) };
+    ghost invariant = { λ s. let bounds = listed (λ r. r.value.items) s.list in IsNormal bounds × (s.fingerprint ≡ fingerprint_of bounds) };
 }
 
 impl Chunk {
     /// No bounds. It takes no memory.
+    #[tactic(auto, unfolding(crate::specs::Fingerprint::fingerprint_of))]
     pub(crate) fn none() -> Chunk
         ensures { result ≡ [] }
     {
-        Chunk { list: None }
+        Chunk {
+            list: None,
+            fingerprint: 0,
+        }
     }
 
     /// These bounds.
@@ -41,8 +50,11 @@ impl Chunk {
         requires { IsNormal bounds.items }
         ensures { IfOk result (λ s. s ≡ bounds.items) }
     {
-        let list = Rc::new(alloc, bounds)?;
-        Ok(Chunk { list: Some(list) })
+        let fingerprint = fingerprint_of(&bounds);
+        Ok(Chunk {
+            list: Some(Rc::new(alloc, bounds)?),
+            fingerprint,
+        })
     }
 
     /// The same bounds again, shared.
@@ -53,7 +65,24 @@ impl Chunk {
             Some(list) => Some(list.clone()?),
             None => None,
         };
-        Ok(Chunk { list })
+        Ok(Chunk {
+            list,
+            fingerprint: self.fingerprint,
+        })
+    }
+
+    /// The number of these bounds: bounds with another one differ.
+    pub(crate) fn fingerprint(&self) -> u64
+        ensures { result ≡ fingerprint_of self.now }
+    {
+        self.fingerprint
+    }
+
+    /// Whether the bounds are equal.
+    pub(crate) fn same_as(&self, other: &Chunk) -> bool
+        ensures { IsTrue result ↔ (self.now ≡ other.now) }
+    {
+        self.fingerprint == other.fingerprint && are_same(self.as_slice(), other.as_slice())
     }
 
     /// The bounds, by rising ids.
@@ -78,27 +107,38 @@ impl Chunk {
                     let own = with_room(alloc, list.as_slice())?;
                     *list = Rc::new(alloc, own)?;
                 }
-                set_bound(Rc::make_mut(list)?, new)
+                let bounds = Rc::make_mut(list)?;
+                set_bound(bounds, new)?;
+                self.fingerprint = fingerprint_of(bounds);
             }
             None => {
                 let mut bounds = Vec::with_capacity(alloc, 1)?;
                 set_bound(&mut bounds, new)?;
-                self.list = Some(Rc::new(alloc, bounds)?);
-                Ok(())
+                *self = Chunk::of(alloc, bounds)?;
             }
+        }
+        Ok(())
+    }
+
+    /// The join of the two: this one, where the other adds nothing to it.
+    pub(crate) fn joined(&self, alloc: Global, other: &Chunk) -> Result<Chunk, AllocError>
+        ensures { IfOk result (λ s. AreJoined self.now other.now s) }
+    {
+        if self.covers(other) {
+            self.share()
+        } else {
+            Chunk::of(
+                alloc,
+                join_bounds(alloc, self.as_slice(), other.as_slice())?,
+            )
         }
     }
 
-    /// The join of this chunk and these bounds: this chunk, where they add nothing to it.
-    pub(crate) fn joined(&self, alloc: Global, other: &[Bound]) -> Result<Chunk, AllocError>
-        requires { IsNormal other.now }
-        ensures { IfOk result (λ s. AreJoined self.now other.now s) }
+    /// Whether the join of the two is the first.
+    pub(crate) fn covers(&self, other: &Chunk) -> bool
+        ensures { IsTrue result ↔ AreJoined self.now other.now self.now }
     {
-        let own = self.as_slice();
-        if covers_bounds(own, other) {
-            self.share()
-        } else {
-            Chunk::of(alloc, join_bounds(alloc, own, other)?)
-        }
+        let (own, others) = (self.as_slice(), other.as_slice());
+        self.same_as(other) || covers_bounds(own, others)
     }
 }

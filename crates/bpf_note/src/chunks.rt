@@ -1,11 +1,10 @@
 //! Bounds in chunks: chunk k has those of the ids 32 k to 32 k + 31, and past the last chunk there are none.
 ghost use Rattle.std.specs.Prelude.{◌≡◌, ◌<◌, ◌≤◌, ◌↔◌, ◌/◌, ℕ, [], max, length, slice_index_or, IfOk, IsTrue, OnOk, OnErr};
 ghost use Rattle.bpf_note.specs.Bounds.{AreJoined};
-ghost use Rattle.bpf_note.specs.Chunks.{IsSetIn, SameChunks};
+ghost use Rattle.bpf_note.specs.Chunks.{IsSetIn, SameChunks, AlikeChunks};
 ghost use Rattle.bpf_note.specs.Parts.{IsNormal};
 
 use crate::bound::Bound;
-use crate::bounds::{are_same, covers_bounds};
 use crate::chunk::Chunk;
 use std::alloc::{AllocError, Global};
 use std::marker::Model;
@@ -71,6 +70,13 @@ impl Chunks {
         ensures { IsTrue result ↔ SameChunks self.now other.now }
     {
         are_same_chunks(self.as_slice(), other.as_slice())
+    }
+
+    /// Whether the chunks that both have are of the same fingerprints.
+    pub(crate) fn look_alike(&self, other: &Chunks) -> bool
+        ensures { IsTrue result ↔ AlikeChunks self.now other.now }
+    {
+        are_alike(self.as_slice(), other.as_slice())
     }
 
     /// Whether the join of each chunk with the other's is the first.
@@ -185,11 +191,9 @@ fn join_chunks(alloc: Global, a: &[Chunk], b: &[Chunk]) -> Result<Vec<Chunk>, Al
 fn join_chunk(alloc: Global, a: &[Chunk], b: &[Chunk], number: usize) -> Result<Chunk, AllocError>
     ensures { IfOk result (λ c. AreJoined (slice_index_or a.now number []) (slice_index_or b.now number []) c) }
 {
-    let other = chunk_at(b, number);
-    match a.get(number) {
-        Some(chunk) => chunk.joined(alloc, other),
-        None => Chunk::none().joined(alloc, other),
-    }
+    let none = Chunk::none();
+    let own = a.get(number).unwrap_or(&none);
+    own.joined(alloc, b.get(number).unwrap_or(&none))
 }
 
 /// Whether the join of each chunk with the other's is the first.
@@ -197,11 +201,19 @@ fn covers_chunks(a: &[Chunk], b: &[Chunk]) -> bool
     ensures { IsTrue result ↔ ((k : ℕ) → AreJoined (slice_index_or a.now k []) (slice_index_or b.now k []) (slice_index_or a.now k [])) }
 {
     for k in 0..a.len().max(b.len()) {
-        if !covers_bounds(chunk_at(a, k), chunk_at(b, k)) {
+        if !covers_chunk(a, b, k) {
             return false;
         }
     }
     true
+}
+
+fn covers_chunk(a: &[Chunk], b: &[Chunk], number: usize) -> bool
+    ensures { IsTrue result ↔ AreJoined (slice_index_or a.now number []) (slice_index_or b.now number []) (slice_index_or a.now number []) }
+{
+    let none = Chunk::none();
+    let own = a.get(number).unwrap_or(&none);
+    own.covers(b.get(number).unwrap_or(&none))
 }
 
 /// Whether the chunks are equal. Those that differ mostly do so in what was made last, so the last are compared first.
@@ -220,8 +232,22 @@ fn are_same_chunks(a: &[Chunk], b: &[Chunk]) -> bool
     true
 }
 
+/// Whether the chunks that both have are of the same fingerprints.
+fn are_alike(a: &[Chunk], b: &[Chunk]) -> bool
+    ensures { IsTrue result ↔ AlikeChunks a.now b.now }
+{
+    for k in 0..a.len().min(b.len()) {
+        if a[k].fingerprint() != b[k].fingerprint() {
+            return false;
+        }
+    }
+    true
+}
+
 fn is_same_chunk(a: &[Chunk], b: &[Chunk], number: usize) -> bool
     ensures { IsTrue result ↔ (slice_index_or a.now number [] ≡ slice_index_or b.now number []) }
 {
-    are_same(chunk_at(a, number), chunk_at(b, number))
+    let none = Chunk::none();
+    let own = a.get(number).unwrap_or(&none);
+    own.same_as(b.get(number).unwrap_or(&none))
 }

@@ -5,6 +5,7 @@ mod bound;
 mod bounds;
 mod chunk;
 mod chunks;
+mod fingerprint;
 mod joins;
 mod laws;
 mod layout;

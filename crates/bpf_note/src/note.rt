@@ -195,6 +195,9 @@ impl Note {
     pub fn same_as(&self, other: &Note) -> bool
         ensures { IsTrue result ↔ (self.now ≡ other.now) }
     {
+        if !self.bounds.look_alike(&other.bounds) {
+            return false;
+        }
         self.regs == other.regs
             && are_equal(&self.slots, &other.slots, self.floor.min(other.floor))
             && self.bounds.same_as(&other.bounds)

@@ -4,7 +4,7 @@ ghost use Rattle.bpf_note.specs.Bounds.{IsSet, AreJoined};
 ghost use Rattle.bpf_note.specs.Parts.{IsNormal, top_in, safe_in};
 
 use crate::bound::Bound;
-use crate::bounds::{are_same, covers_bounds, safe_of, stands, top_of};
+use crate::bounds::{safe_of, stands, top_of};
 use crate::chunk::Chunk;
 use crate::chunks::Chunks;
 use std::alloc::{AllocError, Global};
@@ -86,18 +86,25 @@ impl SharedBounds {
         safe_of(self.near(id), id)
     }
 
+    /// Whether the bounds may be equal: by their fingerprints alone, which tell nearly all apart that differ.
+    pub(crate) fn look_alike(&self, other: &SharedBounds) -> bool
+        ensures { self.now ≡ other.now → IsTrue result }
+    {
+        self.high.fingerprint() == other.high.fingerprint() && self.low.look_alike(&other.low)
+    }
+
     /// Whether the bounds are equal. What is known of the packet's start differs the most often, and is compared first.
     pub(crate) fn same_as(&self, other: &SharedBounds) -> bool
         ensures { IsTrue result ↔ (self.now ≡ other.now) }
     {
-        are_same(self.high.as_slice(), other.high.as_slice()) && self.low.same_as(&other.low)
+        self.high.same_as(&other.high) && self.low.same_as(&other.low)
     }
 
     /// Whether the join of the two is the first.
     pub(crate) fn covers(&self, other: &SharedBounds) -> bool
         ensures { IsTrue result ↔ AreJoined self.now other.now self.now }
     {
-        covers_bounds(self.high.as_slice(), other.high.as_slice()) && self.low.covers(&other.low)
+        self.high.covers(&other.high) && self.low.covers(&other.low)
     }
 
     /// What is known of each id where either may be true.
@@ -107,7 +114,7 @@ impl SharedBounds {
         Ok(SharedBounds {
             alloc: self.alloc,
             low: self.low.joined(self.alloc, &other.low)?,
-            high: self.high.joined(self.alloc, other.high.as_slice())?,
+            high: self.high.joined(self.alloc, &other.high)?,
         })
     }
 

@@ -54,10 +54,10 @@ pub(crate) fn replaced_slots(slots: &[Slot; 64], floor: usize, change: Replaceme
 }
 
 #[tactic(auto, using(crate::proofs::EqualLemmas::slots_equal))]
-fn is_same(a: Slot, b: Slot) -> bool
-    ensures { IsTrue result ↔ (a ≡ b) }
+fn is_same(a: &Slot, b: &Slot) -> bool
+    ensures { IsTrue result ↔ (a.now ≡ b.now) }
 {
-    a == b
+    *a == *b
 }
 
 /// Whether the slots are equal. No byte of the slots below `floor` is set.
@@ -67,7 +67,7 @@ pub(crate) fn are_equal(a: &[Slot; 64], b: &[Slot; 64], floor: usize) -> bool
     ensures { IsTrue result ↔ (a.now ≡ b.now) }
 {
     for i in floor..64 {
-        if !is_same(a[i], b[i]) {
+        if !is_same(&a[i], &b[i]) {
             return false;
         }
     }

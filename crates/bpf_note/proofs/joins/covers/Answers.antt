@@ -1,6 +1,4 @@
-use Rattle.std.proofs.Common.{◌≡◌, ◌∙◌, sym, subst, List, true, false, inr}
-use Rattle.bpf_note.specs.declared.bound.Bound.{Bound}
-use Rattle.bpf_note.specs.Bounds.{AreJoined}
+use Rattle.std.proofs.Common.{◌≡◌, ◌∙◌, sym, subst, true, false, inr}
 use Rattle.bpf_note.specs.Facts.{Facts}
 use Rattle.bpf_note.specs.Parts.{facts}
 use Rattle.bpf_note.specs.Describes.{Describes}

@@ -1,6 +1,4 @@
-use Rattle.std.proofs.Common.{◌≡◌, ◌∙◌, sym, ap, arith, List, subst}
-use Rattle.bpf_note.specs.declared.bound.Bound.{Bound}
-use Rattle.bpf_note.specs.Parts.{top_in, safe_in}
+use Rattle.std.proofs.Common.{sym, arith}
 use Rattle.bpf_note.proofs.ChunkLemmas.{low_says, high_says}
 use Rattle.bpf_note.proofs.shared.SharedBounds.near.Goals as goal
 

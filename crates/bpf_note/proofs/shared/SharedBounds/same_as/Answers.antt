@@ -5,18 +5,17 @@ use Rattle.bpf_note.proofs.shared.SharedBounds.same_as.Goals as goal
 never : {P : Type 0} → false ≡ true → P
 never e = absurd (cc)
 
-pub returns-then-are_same : goal.returns-then-are_same
-returns-then-are_same c =
+pub returns-then-same_as : goal.returns-then-same_as
+returns-then-same_as c =
     rw (← c.self.view_is, ← c.other.view_is) (
       λ t. same_parts c.self.inside.low c.other.inside.low c.self.inside.high c.other.inside.high c.self.invariant c.other.invariant
-          (c.same_as.ensures.0 t) (sym c.as_slice.ensures.same ∙ (c.are_same.ensures.0 c.if-are_same.true ∙ c.as_slice-2.ensures.same)),
-      λ e. c.same_as.ensures.1 (parts_same c.self.inside.low c.other.inside.low c.self.inside.high c.other.inside.high c.self.invariant c.other.invariant e).0,
+          (c.same_as-then-same_as.ensures.0 t) (c.same_as.ensures.0 c.if-same_as.true),
+      λ e. c.same_as-then-same_as.ensures.1 (parts_same c.self.inside.low c.other.inside.low c.self.inside.high c.other.inside.high c.self.invariant c.other.invariant e).0,
     )
 
-pub returns-else-are_same : goal.returns-else-are_same
-returns-else-are_same c =
+pub returns-else-same_as : goal.returns-else-same_as
+returns-else-same_as c =
     rw (← c.self.view_is, ← c.other.view_is) (
-      λ t. never (sym c.if-are_same.false ∙ t),
-      λ e. c.are_same.ensures.1 (c.as_slice.ensures.same
-          ∙ ((parts_same c.self.inside.low c.other.inside.low c.self.inside.high c.other.inside.high c.self.invariant c.other.invariant e).1 ∙ sym c.as_slice-2.ensures.same)),
+      λ t. never (sym c.if-same_as.false ∙ t),
+      λ e. c.same_as.ensures.1 (parts_same c.self.inside.low c.other.inside.low c.self.inside.high c.other.inside.high c.self.invariant c.other.invariant e).1,
     )
