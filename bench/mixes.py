@@ -5,7 +5,7 @@
     bench/mixes.py --settings NAME [SLOTS]   settings for `xdpbox check`
 
 NAME is a mix, or a program that is made for the memory and the time that our verifier takes: `hostile-ids`, `far-jumps`,
-`far-jumps-of-eight`, `far-checks`, `most-waiting`, `late-ids`, `early-ids` or `id-checks`. No peer is measured on those.
+`far-jumps-of-eight`, `far-checks`, `most-waiting`, `late-ids`, `early-ids`, `id-checks`, `set-stack` or `checked-ids`. No peer is measured on those.
 SLOTS is 4096 if it isn't given."""
 import sys
 
@@ -174,8 +174,21 @@ def id_checks(slots):
     return lines + ["r0 += 1"] * (slots - len(lines) - len(END)) + END
 
 
+def set_stack(slots):
+    """Each byte of the stack is set, then five ids are compared in turn: the notes differ in their bounds alone."""
+    stores = [f"*(u8 *)(r10 - {1 + at}) = r3" for at in range(512)]
+    return checked_in_turn([*BEGIN, *stores, *FRESH], slots)
+
+
+def checked_ids(slots):
+    """Ids in a seventh of the slots, ids that are each compared in half, then ids for the rest."""
+    lines = [*BEGIN, "r5 = r2"] + ["r5 += r3"] * (slots // 7) + ["r5 += r3", "if r5 <= r4 goto +0"] * (slots // 4)
+    return lines + ["r5 += r3"] * (slots - len(lines) - len(END)) + END
+
+
 MADE = {"hostile-ids": hostile_ids, "far-jumps": far_jumps, "far-jumps-of-eight": far_jumps_of_eight, "far-checks": far_checks,
-        "most-waiting": most_waiting, "late-ids": late_ids, "early-ids": early_ids, "id-checks": id_checks}
+        "most-waiting": most_waiting, "late-ids": late_ids, "early-ids": early_ids, "id-checks": id_checks,
+        "set-stack": set_stack, "checked-ids": checked_ids}
 
 
 def program(name, slots):

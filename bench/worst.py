@@ -2,11 +2,12 @@
 """Looks for programs that the verifier takes the most time or memory for, by changing programs as long as they take more:
 
     bench/worst.py [--memory] [--seconds N] [--seed N] [--keep FILE] COMMAND..
+    bench/worst.py --settings 'PART COUNT PICK, ..'
 
 COMMAND is one that reads settings, as `crates/xdpbox/out/xdpbox check`. A program is 4,096 slots: a few parts, each of
 which makes ids, keeps values on the stack, makes notes differ, or compares and jumps; the last part goes on to the end.
-A line is printed for each program that takes more than those before it, and the worst one's settings are kept in FILE.
-N is 600 seconds and seed 1 if they aren't given."""
+A line is printed for each program that takes more than those before it, with its parts, and the worst one's settings are
+kept in FILE. N is 600 seconds and seed 1 if they aren't given. --settings prints those of a program of these parts."""
 import argparse
 import os
 import random
@@ -141,14 +142,24 @@ def told(parts):
     return ", ".join(f"{part.__name__} {count} {pick}" for part, count, pick in parts)
 
 
+def parts_of(text):
+    """The parts that `told` tells."""
+    named = {part.__name__: part for part in PARTS}
+    words = [part.split() for part in text.split(", ")]
+    return [(named[name], int(count), int(pick)) for name, count, pick in words]
+
+
 def main():
     words = argparse.ArgumentParser(usage=__doc__)
     words.add_argument("--memory", action="store_true")
     words.add_argument("--seconds", type=float, default=600)
     words.add_argument("--seed", type=int, default=1)
     words.add_argument("--keep")
+    words.add_argument("--settings")
     words.add_argument("command", nargs=argparse.REMAINDER)
     given = words.parse_args()
+    if given.settings:
+        return print(settings(parts_of(given.settings)), end="")
     rng = random.Random(given.seed)
     end, tried = time.monotonic() + given.seconds, 0
     worst, standing = 0.0, []
