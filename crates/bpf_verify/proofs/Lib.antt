@@ -23,4 +23,5 @@ mod UnsetLemmas
 mod UnwrittenLemmas
 mod AnswerLemmas
 mod ComeLemmas
+mod JoinedLemmas
 mod LostLemmas

@@ -10,4 +10,5 @@ pub mod Consistent
 pub mod Gathered
 pub mod Tables
 pub mod FirstRefusal
+pub mod Joined
 pub mod Lost

@@ -2,6 +2,7 @@
 #![tactic(auto)]
 
 mod graph;
+mod joined;
 mod laws;
 mod lost;
 mod note_list;
@@ -16,6 +17,7 @@ mod wanting;
 pub use bpf_insn::{Cause, Refusal};
 pub use bpf_note::MapShape;
 pub use graph::{pass_order, pass_order_is_unique, pass_order_rises, runs_are_short};
+pub use joined::joined_at;
 pub use laws::{faultless_programs_are_accepted, refusals_are_unique};
 pub use lost::{Lost, lost_at};
 pub use structure::first_fault;

@@ -25,7 +25,7 @@ pub struct Lost {
     pub note: Note,
 }
 
-fn is_address(value: Val) -> bool
+pub(crate) fn is_address(value: Val) -> bool
     ensures { result ≡ is_address value }
 {
     match value {
@@ -39,11 +39,17 @@ fn is_address(value: Val) -> bool
     }
 }
 
+pub(crate) fn is_number(value: Val) -> bool
+    ensures { result ≡ is_number value }
+{
+    matches!(value, Val::Num { .. })
+}
+
 /// Whether a register is a number at a successor.
 fn is_number_at(successor: &Successor, register: Register) -> bool
     ensures { result ≡ is_number ((facts successor.now.note.value).reg (number register)) }
 {
-    matches!(successor.note.register(register.number()), Val::Num { .. })
+    is_number(successor.note.register(register.number()))
 }
 
 fn makes_number(successors: &Successors, register: Register) -> bool

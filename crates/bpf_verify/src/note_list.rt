@@ -9,7 +9,7 @@ use std::alloc::{AllocError, Global};
 use std::marker::Model;
 
 /// How many notes a slot has at most.
-const MOST_NOTES: usize = 8;
+pub(crate) const MOST_NOTES: usize = 8;
 
 /// The notes at a slot, in the order in which they came.
 #[derive(Drop)]
