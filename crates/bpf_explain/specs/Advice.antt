@@ -44,6 +44,10 @@ lost_advice (val.Value m) = codes "make the number the key, or choose among cons
 lost_advice (val.Stack off) = codes "choose among constant places by if"
 lost_advice v = codes "keep a copy of the address"
 
+-- V9, where more ways meet than notes keep apart
+unfoldable pub joined_advice : List ℕ
+joined_advice = codes "keep the offset as a number and add it to data anew"
+
 -- V14: through a map's reference; an add elsewhere than to a counter; a store to a value; or a load
 abbrev pub map_advice : Insn → Val → List ℕ
 map_advice i (val.Map m) = codes "look a key up first: the reference to a map is no address"

@@ -13,7 +13,7 @@ use Rattle.bpf_insn.specs.declared.refusal.Refusal.{Refusal}
 use Rattle.bpf_note.specs.Facts.{Facts}
 use Rattle.bpf_note.specs.Shape.{Shape}
 use Rattle.bpf_explain.specs.Accesses.{access_of, address_of, base_of}
-use Rattle.bpf_explain.specs.Advice.{advice_text, cause_advice, lost_advice}
+use Rattle.bpf_explain.specs.Advice.{advice_text, cause_advice, joined_advice, lost_advice}
 use Rattle.bpf_explain.specs.Fields.{refused_slot_text}
 use Rattle.bpf_explain.specs.Listing.{listing_text}
 use Rattle.bpf_explain.specs.Span.{counters_text, jump_of, span_text, target_text}
@@ -79,3 +79,12 @@ abbrev pub was_text : List (List ℕ) → Register → ℕ → Option Insn → F
 was_text names r pc i n =
     codes "R" ++ (decimal (number r) ++ (codes " was " ++ (known_text names n (n.reg (number r)) ++ (codes " before " ++ (decimal pc
     ++ (operand_text names n (operand_of i) ++ (codes ": " ++ (lost_advice (n.reg (number r)) ++ codes "\n"))))))))
+
+-- on how many of the eight notes at slot pc a register is an address
+abbrev pub addresses_text : Register → ℕ → ℕ → List ℕ
+addresses_text r pc addresses = codes "R" ++ (decimal (number r) ++ (codes " is an address on " ++ (decimal addresses ++ (codes " of the eight notes at " ++ decimal pc))))
+
+-- that it is an address on so many of them, and a number on the last
+abbrev pub joined_text : Register → ℕ → ℕ → List ℕ
+joined_text r pc addresses =
+    addresses_text r pc addresses ++ (codes ", and a number on the last, into which every further one is joined: " ++ (joined_advice ++ codes "\n"))

@@ -1,7 +1,7 @@
 //! What to write instead.
 ghost use Rattle.std.specs.Prelude.{◌≡◌, option_map};
 ghost use Rattle.bpf_note.specs.Parts.{facts};
-ghost use Rattle.bpf_explain.specs.Advice.{advice_text, argument_advice, cause_advice, lost_advice, map_advice, pointer_advice, value_advice, context_advice, load_advice, stack_advice};
+ghost use Rattle.bpf_explain.specs.Advice.{advice_text, argument_advice, cause_advice, joined_advice, lost_advice, map_advice, pointer_advice, value_advice, context_advice, load_advice, stack_advice};
 
 use crate::access::address_of;
 use crate::stack::place_of;
@@ -63,6 +63,14 @@ pub(crate) fn lost_advice(address: Val) -> &'static str
         Val::Stack { .. } => "choose among constant places by if",
         _ => "keep a copy of the address",
     }
+}
+
+/// V9, where more ways meet than notes keep apart.
+#[tactic(auto, unfolding(crate::specs::Advice::joined_advice))]
+pub(crate) fn joined_advice() -> &'static str
+    ensures { result.now ≡ joined_advice }
+{
+    "keep the offset as a number and add it to data anew"
 }
 
 /// V14: by the instruction and the value through which it goes.

@@ -1,10 +1,10 @@
 //! What is printed of a refused program.
 ghost use Rattle.std.specs.Prelude.{◌≡◌, ◌≤◌, ◌++◌, IfOk, OnOk, length, map, option_map, slice_get, string_bytes};
 ghost use Rattle.bpf_note.specs.Parts.{facts};
-ghost use Rattle.bpf_explain.specs.Explained.{asked_register, below_text, explained_text, is_about_values, operand_of, operand_text, reached_text, undecoded_text, values_text, verdict_text, was_text};
+ghost use Rattle.bpf_explain.specs.Explained.{addresses_text, asked_register, below_text, explained_text, is_about_values, joined_text, operand_of, operand_text, reached_text, undecoded_text, values_text, verdict_text, was_text};
 
 use crate::access::{access_of, address_of, base_of};
-use crate::advice::{advice_for, cause_advice, lost_advice};
+use crate::advice::{advice_for, cause_advice, joined_advice, lost_advice};
 use crate::fields::refused_slot_text;
 use crate::listing::add_listing;
 use crate::span::{counters_text, span_text, target_text};
@@ -169,6 +169,35 @@ pub fn was_text(
     let with = operand_text(alloc, names, note, operand_of(insn_at(code, pc)))?;
     let advice = lost_advice(value);
     format!(in alloc; "R{number} was {known} before {pc}{with}: {advice}\n")
+}
+
+/// On how many of the eight notes at slot `pc` a register is an address.
+fn addresses_text(
+    alloc: Global,
+    register: Register,
+    pc: u32,
+    addresses: usize,
+) -> Result<String, AllocError>
+    ensures { IfOk result (λ s. string_bytes s ≡ addresses_text register pc addresses) }
+{
+    let number = register.number();
+    format!(in alloc; "R{number} is an address on {addresses} of the eight notes at {pc}")
+}
+
+/// That a register is an address on so many of the eight notes at slot `pc`, and a number on the last of them.
+pub fn joined_text(
+    alloc: Global,
+    register: Register,
+    pc: u32,
+    addresses: usize,
+) -> Result<String, AllocError>
+    ensures { IfOk result (λ s. string_bytes s ≡ joined_text register pc addresses) }
+{
+    let text = addresses_text(alloc, register, pc, addresses)?;
+    let advice = joined_advice();
+    format!(in alloc;
+        "{text}, and a number on the last, into which every further one is joined: {advice}\n"
+    )
 }
 
 /// What is printed of bytes that spell no program: the refused slot by its fields, if they are the cause, and the verdict.

@@ -11,5 +11,5 @@ mod stack;
 mod values;
 
 pub use advice::advice_for;
-pub use explained::{asked_register, explained_text, undecoded_text, was_text};
+pub use explained::{asked_register, explained_text, joined_text, undecoded_text, was_text};
 pub use listing::add_listing;

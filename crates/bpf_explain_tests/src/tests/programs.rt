@@ -1,6 +1,6 @@
 //! Refused programs and what is printed of them. A program has one slot per line, with its text beside it.
 use crate::printed::{advice_by, prints, prints_by_registers, prints_undecoded};
-use bpf_explain::{asked_register, was_text};
+use bpf_explain::{asked_register, joined_text, was_text};
 use bpf_insn::{Cause, Insn, Refusal, Register, Size, decode};
 use bpf_note::{Note, PACKET_ID, Val};
 use std::alloc::Global;
@@ -153,6 +153,23 @@ fn since_when_it_is_no_address(rt: HostRuntime) {
     for (pc, wanted) in rows {
         assert_eq!(rt; was_address(rt.alloc(), pc, wanted), Some(true));
     }
+}
+
+/// Whether this is printed of `r1`, an address on seven of the eight notes at slot 37.
+fn is_joined(alloc: Global, wanted: &str) -> Option<bool> {
+    let text = joined_text(alloc, Register::R1, 37, 7).ok()?;
+    Some(text.as_str() == wanted)
+}
+
+#[test]
+fn more_ways_than_notes(rt: HostRuntime) {
+    assert_eq!(rt;
+        is_joined(
+            rt.alloc(),
+            "R1 is an address on 7 of the eight notes at 37, and a number on the last, into which every further one is joined: keep the offset as a number and add it to data anew\n",
+        ),
+        Some(true)
+    );
 }
 
 /// The register of which [`STORE`] asks, if its bytes are a program.
