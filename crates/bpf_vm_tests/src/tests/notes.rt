@@ -2,7 +2,7 @@
 use crate::programs::{bytes_of, explained};
 use bpf_insn::{Register, decode};
 use bpf_note::Val;
-use bpf_verify::{explain, lost_at};
+use bpf_verify::{explain, joined_at, lost_at};
 use std::alloc::Global;
 
 /// What two registers hold by the note of a refused program over one map of a value.
@@ -125,5 +125,52 @@ fn the_slot_that_lost_an_address(rt: HostRuntime) {
     assert_eq!(rt;
         lost(rt.alloc(), &WIDE_OFFSET, Register::R1),
         Some((7, Val::Pkt { id: 0xffff, off: 0 }))
+    );
+}
+
+/// Sixteen ways meet at the store, each with another address in `r2`.
+#[rattlefmt::skip]
+const SIXTEEN_WAYS: [[u8; 8]; 12] = [
+    [0x61, 0x13, 0x10, 0, 0, 0, 0, 0], // r3 = *(u32 *)(r1 + 16)
+    [0xbf, 0xa2, 0, 0, 0, 0, 0, 0], // r2 = r10
+    [0x45, 3, 1, 0, 1, 0, 0, 0], // if r3 & 1 goto +1
+    [7, 2, 0, 0, 0xf8, 0xff, 0xff, 0xff], // r2 += -8
+    [0x45, 3, 1, 0, 2, 0, 0, 0], // if r3 & 2 goto +1
+    [7, 2, 0, 0, 0xf0, 0xff, 0xff, 0xff], // r2 += -16
+    [0x45, 3, 1, 0, 4, 0, 0, 0], // if r3 & 4 goto +1
+    [7, 2, 0, 0, 0xe0, 0xff, 0xff, 0xff], // r2 += -32
+    [0x45, 3, 1, 0, 8, 0, 0, 0], // if r3 & 8 goto +1
+    [7, 2, 0, 0, 0xc0, 0xff, 0xff, 0xff], // r2 += -64
+    [0x7a, 2, 0xf8, 0xff, 0, 0, 0, 0], // *(u64 *)(r2 - 8) = 0
+    [0x95, 0, 0, 0, 0, 0, 0, 0], // exit
+];
+
+/// At which slot the sixteen ways are refused, and on how many notes a register is an address, there and at another slot.
+fn joined(alloc: Global, register: Register, other: u32) -> Option<(u32, [Option<usize>; 2])> {
+    let bytes = bytes_of(alloc, &SIXTEEN_WAYS).ok()?;
+    let code = decode(alloc, &bytes).ok()?;
+    let Err(refused) = explain(alloc, code, &[]) else {
+        return None;
+    };
+    match refused.note {
+        None => None,
+        Some(_) => {
+            let pc = refused.refusal.pc;
+            let there = joined_at(alloc, &refused.code, &[], pc, register).ok()?;
+            let elsewhere = joined_at(alloc, &refused.code, &[], other, register).ok()?;
+            Some((pc, [there, elsewhere]))
+        }
+    }
+}
+
+#[test]
+fn more_ways_than_notes(rt: HostRuntime) {
+    let found = [
+        joined(rt.alloc(), Register::R2, 8),
+        joined(rt.alloc(), Register::R1, 11),
+    ];
+    assert_eq!(rt;
+        found,
+        [Some((10, [Some(7), None])), Some((10, [None, None]))]
     );
 }
