@@ -1,6 +1,6 @@
 -- What becomes of a program's bytes, and what `explain` prints of it.
 use Rattle.std.specs.Prelude.{ℕ, ◌≡◌, ◌↔◌, List, [], ◌++◌, length, slice_get, Option, None, Some, IfSome, IsSome, option_map, Ok}
-use Rattle.bpf_explain.specs.Explained.{asked_register, explained_text, undecoded_text, was_text}
+use Rattle.bpf_explain.specs.Explained.{asked_register, explained_text, joined_text, undecoded_text, was_text}
 use Rattle.bpf_explain.specs.Listing.{listing_text}
 use Rattle.bpf_flow.specs.Causes.{IsRuleCause}
 use Rattle.bpf_insn.specs.Code.{Spells}
@@ -13,11 +13,13 @@ use Rattle.bpf_note.specs.Parts.{facts, Noted}
 use Rattle.bpf_note.specs.Shape.{Shape}
 use Rattle.bpf_verify.specs.Consistent.{instructions}
 use Rattle.bpf_verify.specs.FirstRefusal.{IsRefusal, IsStoppedBy}
+use Rattle.bpf_verify.specs.Joined.{IsJoined}
 use Rattle.bpf_verify.specs.Lost.{IsLost}
-use Rattle.bpf_verify.specs.declared.lost.Lost.{Lost}
 use Rattle.bpf_verify.specs.declared.verifier.Explained.{Explained}
 use Rattle.xdp_commands.specs.Executing.{IsProgramOf}
 use Rattle.xdp_commands.specs.Lines.{checked_text}
+use Rattle.xdp_commands.specs.declared.explaining.Loss.{Loss}
+use Rattle.xdp_commands.specs.declared.explaining.Loss.TheVariants.{ByInstruction, ByJoining}
 use Rattle.xdp_commands.specs.declared.explaining.Outcome.{Outcome}
 use Rattle.xdp_commands.specs.declared.explaining.Outcome.TheVariants.{Accepted, Undecoded, Refused}
 
@@ -34,30 +36,41 @@ abbrev pub asked_of : Option Noted → Explained → Option Register
 asked_of None e = None
 asked_of (Some n) e = asked_register e.refusal.cause (slice_get e.code e.refusal.pc)
 
--- where that register was an address last, if the last slot that writes it made it a number
-abbrev pub IsLostOf : Option Register → List Shape → Explained → Option Lost → Type 0
-IsLostOf None shapes e l = l ≡ None
-IsLostOf (Some r) shapes e None = (p : ℕ) (n : Facts) → IsLost e.code shapes e.refusal.pc (number r) p n → ⊥
-IsLostOf (Some r) shapes e (Some l) = IsLost e.code shapes e.refusal.pc (number r) l.pc (facts l.note)
+-- the last slot that writes the register makes no address a number
+abbrev pub IsNotLost : Register → List Shape → Explained → Type 0
+IsNotLost r shapes e = (p : ℕ) (n : Facts) → IsLost e.code shapes e.refusal.pc (number r) p n → ⊥
+
+-- where that register's address went: the last slot that writes it made it a number; or else, of eight notes at the refused
+-- slot, so many give it an address and the last a number
+abbrev pub IsLossOf : Option Register → List Shape → Explained → Option Loss → Type 0
+IsLossOf None shapes e l = l ≡ None
+IsLossOf (Some r) shapes e None = IsNotLost r shapes e × ((addresses : ℕ) → IsJoined e.code shapes (number r) e.refusal.pc addresses → ⊥)
+IsLossOf (Some r) shapes e (Some (ByInstruction l)) = IsLost e.code shapes e.refusal.pc (number r) l.pc (facts l.note)
+IsLossOf (Some r) shapes e (Some (ByJoining addresses)) = IsNotLost r shapes e × IsJoined e.code shapes (number r) e.refusal.pc addresses
 
 -- the outcome is that of the bytes with these maps
 abbrev pub IsOutcome : List ℕ → List Shape → Outcome → Type 0
 IsOutcome program shapes (Accepted p) = IsProgramOf program shapes p
 IsOutcome program shapes (Undecoded r) = IsNoCode program r
-IsOutcome program shapes (Refused e l) = IsExplained program shapes e × IsLostOf (asked_of e.note e) shapes e l
+IsOutcome program shapes (Refused e l) = IsExplained program shapes e × IsLossOf (asked_of e.note e) shapes e l
 
 -- the listing of an accepted program, and the line of a check
 abbrev pub accepted_text : List Insn → List ℕ
 accepted_text code = listing_text None [] 0 code ++ checked_text (Ok (record { instructions = instructions code; slots = length code }))
 
--- the line that says where a register was an address last
-abbrev pub lost_text : List (List ℕ) → List Insn → Option Register → Option Lost → List ℕ
-lost_text names code (Some r) (Some l) = was_text names r l.pc (slice_get code l.pc) (facts l.note)
-lost_text names code r l = []
+-- the line that says where a register's address went, of a program that is refused at slot pc
+abbrev pub loss_line : List (List ℕ) → List Insn → ℕ → Register → Loss → List ℕ
+loss_line names code pc r (ByInstruction l) = was_text names r l.pc (slice_get code l.pc) (facts l.note)
+loss_line names code pc r (ByJoining addresses) = joined_text r pc addresses
+
+-- that line, if there is one
+abbrev pub loss_text : List (List ℕ) → Explained → Option Register → Option Loss → List ℕ
+loss_text names e (Some r) (Some l) = loss_line names e.code e.refusal.pc r l
+loss_text names e r l = []
 
 -- the explanation of a refusal, with that line
-abbrev pub refused_text : List (List ℕ) → List Shape → Explained → Option Lost → List ℕ
-refused_text names shapes e l = explained_text e.code names shapes e.refusal (option_map facts e.note) ++ lost_text names e.code (asked_of e.note e) l
+abbrev pub refused_text : List (List ℕ) → List Shape → Explained → Option Loss → List ℕ
+refused_text names shapes e l = explained_text e.code names shapes e.refusal (option_map facts e.note) ++ loss_text names e (asked_of e.note e) l
 
 -- of a program of these bytes, whose maps have these names and shapes
 abbrev pub outcome_text : List ℕ → List (List ℕ) → List Shape → Outcome → List ℕ

@@ -1,15 +1,26 @@
 //! What becomes of a program's bytes, with what a refusal rests on.
-ghost use Rattle.std.specs.Prelude.{◌≡◌, ◌≤◌, IfOk, IfSome, length, map, string_bytes};
+ghost use Rattle.std.specs.Prelude.{◌≡◌, ◌≤◌, IfOk, IfSome, Some, length, map, string_bytes};
 ghost use Rattle.bpf_verify.specs.Consistent.{IsConsistent, IsOrdered};
 ghost use Rattle.bpf_verify.specs.FirstRefusal.{IsStructured};
-ghost use Rattle.xdp_commands.specs.Explaining.{IsLostOf, IsOutcome, accepted_text, asked_of, lost_text, outcome_status, outcome_text, refused_text};
+ghost use Rattle.xdp_commands.specs.Explaining.{IsLossOf, IsOutcome, accepted_text, asked_of, loss_line, loss_text, outcome_status, outcome_text, refused_text};
 
 use crate::executing::Accepted;
 use crate::lines::checked_text;
-use bpf_explain::{add_listing, asked_register, explained_text, undecoded_text, was_text};
-use bpf_insn::{Code, Refusal, Register, decode};
-use bpf_verify::{Explained, Lost, MapShape, Verified, explain, lost_at};
+use bpf_explain::{
+    add_listing, asked_register, explained_text, joined_text, undecoded_text, was_text,
+};
+use bpf_insn::{Cause, Code, Refusal, Register, decode};
+use bpf_verify::{Explained, Lost, MapShape, Verified, explain, joined_at, lost_at};
 use std::alloc::{AllocError, Global};
+
+/// Where a register's address went.
+#[derive(Drop)]
+pub enum Loss {
+    /// An instruction made it a number.
+    ByInstruction(Lost),
+    /// More ways meet than notes keep apart: on so many of the eight the register is an address, and on the last a number.
+    ByJoining(usize),
+}
 
 /// What becomes of a program's bytes.
 #[derive(Drop)]
@@ -18,10 +29,10 @@ pub enum Outcome {
     Accepted(Verified),
     /// The bytes spell no program.
     Undecoded(Refusal),
-    /// The program is refused; for V9 with where its register was an address last.
+    /// The program is refused; for V9 with where its register's address went.
     Refused {
         explained: Explained,
-        lost: Option<Lost>,
+        loss: Option<Loss>,
     },
 }
 
@@ -35,15 +46,37 @@ fn asked_of(explained: &Explained) -> Option<Register>
     }
 }
 
-/// For V9 where the register of the refused access was an address last.
-fn lost_of(
+/// Where a register's address went: an instruction took it, or else more ways meet at the refused slot than notes keep apart.
+fn register_loss(
     alloc: Global,
     explained: &Explained,
     shapes: &[MapShape],
-) -> Result<Option<Lost>, AllocError>
+    register: Register,
+) -> Result<Option<Loss>, Cause>
+    requires structured { IsStructured explained.now.code (length shapes.now) }
+    requires ordered { IsOrdered explained.now.code }
+    ensures { IfOk result (IsLossOf (Some register) shapes.now explained.now) }
+{
+    let code = &explained.code;
+    let pc = explained.refusal.pc;
+    match lost_at(alloc, code, shapes, pc, register)? {
+        Some(lost) => Ok(Some(Loss::ByInstruction(lost))),
+        None => match joined_at(alloc, code, shapes, pc, register)? {
+            Some(addresses) => Ok(Some(Loss::ByJoining(addresses))),
+            None => Ok(None),
+        },
+    }
+}
+
+/// For V9 where the address of the refused access's register went.
+fn loss_of(
+    alloc: Global,
+    explained: &Explained,
+    shapes: &[MapShape],
+) -> Result<Option<Loss>, AllocError>
     requires structured { IfSome explained.now.note (λ _. IsStructured explained.now.code (length shapes.now)) }
     requires ordered { IfSome explained.now.note (λ _. IsOrdered explained.now.code) }
-    ensures { IfOk result (IsLostOf (asked_of explained.now.note explained.now) shapes.now explained.now) }
+    ensures { IfOk result (IsLossOf (asked_of explained.now.note explained.now) shapes.now explained.now) }
 {
     if explained.note.is_none() {
         return Ok(None);
@@ -51,14 +84,8 @@ fn lost_of(
     let Some(register) = asked_of(explained) else {
         return Ok(None);
     };
-    match lost_at(
-        alloc,
-        &explained.code,
-        shapes,
-        explained.refusal.pc,
-        register,
-    ) {
-        Ok(lost) => Ok(lost),
+    match register_loss(alloc, explained, shapes, register) {
+        Ok(loss) => Ok(loss),
         Err(_) => Err(AllocError),
     }
 }
@@ -73,8 +100,8 @@ pub fn outcome_of(alloc: Global, program: &[u8], shapes: &[MapShape]) -> Result<
         Ok(code) => match explain(alloc, code, shapes) {
             Ok(verified) => Ok(Outcome::Accepted(verified)),
             Err(explained) => {
-                let lost = lost_of(alloc, &explained, shapes)?;
-                Ok(Outcome::Refused { explained, lost })
+                let loss = loss_of(alloc, &explained, shapes)?;
+                Ok(Outcome::Refused { explained, loss })
             }
         },
     }
@@ -95,35 +122,52 @@ fn accepted_text(alloc: Global, verified: &Verified) -> Result<String, AllocErro
     Ok(text)
 }
 
-/// The line that says where a register was an address last.
-fn lost_text(
+/// The line that says where a register's address went, of a program that is refused at slot `pc`.
+fn loss_line(
     alloc: Global,
     names: &[String],
     code: &Code,
-    register: Option<Register>,
-    lost: &Option<Lost>,
+    pc: u32,
+    register: Register,
+    loss: &Loss,
 ) -> Result<String, AllocError>
-    ensures { IfOk result (λ s. string_bytes s ≡ lost_text (map string_bytes names.now) code.now register lost.now) }
+    ensures { IfOk result (λ s. string_bytes s ≡ loss_line (map string_bytes names.now) code.now pc register loss.now) }
 {
-    match (register, lost) {
-        (Some(register), Some(lost)) => {
-            was_text(alloc, names, code, register, lost.pc, &lost.note)
+    match loss {
+        Loss::ByInstruction(lost) => { was_text(alloc, names, code, register, lost.pc, &lost.note) }
+        Loss::ByJoining(addresses) => joined_text(alloc, register, pc, *addresses),
+    }
+}
+
+/// That line, if there is one.
+fn loss_text(
+    alloc: Global,
+    names: &[String],
+    explained: &Explained,
+    loss: &Option<Loss>,
+) -> Result<String, AllocError>
+    ensures { IfOk result (λ s. string_bytes s ≡ loss_text (map string_bytes names.now) explained.now (asked_of explained.now.note explained.now) loss.now) }
+{
+    match (asked_of(explained), loss) {
+        (Some(register), Some(loss)) => {
+            let pc = explained.refusal.pc;
+            loss_line(alloc, names, &explained.code, pc, register, loss)
         }
         _ => Ok(String::new(alloc)),
     }
 }
 
-/// The explanation of a refusal, and where its register was an address last.
+/// The explanation of a refusal, and where its register's address went.
 fn refused_text(
     alloc: Global,
     names: &[String],
     shapes: &[MapShape],
     explained: &Explained,
-    lost: &Option<Lost>,
+    loss: &Option<Loss>,
 ) -> Result<String, AllocError>
-    ensures { IfOk result (λ s. string_bytes s ≡ refused_text (map string_bytes names.now) shapes.now explained.now lost.now) }
+    ensures { IfOk result (λ s. string_bytes s ≡ refused_text (map string_bytes names.now) shapes.now explained.now loss.now) }
 {
-    let line = lost_text(alloc, names, &explained.code, asked_of(explained), lost)?;
+    let line = loss_text(alloc, names, explained, loss)?;
     let mut text = explained_text(
         alloc,
         &explained.code,
@@ -149,7 +193,7 @@ pub fn outcome_text(
     match outcome {
         Outcome::Accepted(verified) => accepted_text(alloc, verified),
         Outcome::Undecoded(refusal) => undecoded_text(alloc, program, *refusal),
-        Outcome::Refused { explained, lost } => refused_text(alloc, names, shapes, explained, lost),
+        Outcome::Refused { explained, loss } => refused_text(alloc, names, shapes, explained, loss),
     }
 }
 

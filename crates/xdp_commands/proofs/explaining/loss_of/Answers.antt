@@ -1,9 +1,9 @@
 use Rattle.std.proofs.Common.{◌∙◌, length, sym}
 use Rattle.bpf_verify.specs.FirstRefusal.{IsStructured}
 use Rattle.xdp_commands.proofs.ExplainLemmas.{asked_has}
-use Rattle.xdp_commands.proofs.explaining.lost_of.Goals as goal
+use Rattle.xdp_commands.proofs.explaining.loss_of.Goals as goal
 
-pub lost_at-requires-clause-structured : goal.lost_at-requires-clause-structured
-lost_at-requires-clause-structured c =
+pub register_loss-requires-clause-structured : goal.register_loss-requires-clause-structured
+register_loss-requires-clause-structured c =
     let e = c.args.explained.now in
     asked_has e.note e c.in-Some.register (IsStructured e.code (length c.args.shapes.now)) (sym c.asked_of.ensures ∙ c.in-Some.is) c.requires.structured
