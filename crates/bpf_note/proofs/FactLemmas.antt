@@ -3,7 +3,7 @@ use Rattle.std.proofs.Common.{◌≡◌, ◌≢◌, ℕ, zero, suc, ◌+◌, ◌
 use Rattle.std.specs.Prelude.{slice_index_or, option_map}
 use Rattle.std.proofs.lemmas.Bool.Decides.{nat_tests}
 use Rattle.std.proofs.lemmas.List.{get_or-set_same, get_or-set_other}
-use Rattle.std.specs.Prelude.{Result, Ok, Err, OnOk, Decides}
+use Rattle.std.specs.Prelude.{Result, Ok, Err, OnOk}
 use mathlib.Core.Path.{fun_ext}
 use Rattle.bpf_note.specs.declared.val.Val.{Val}
 use Rattle.bpf_note.specs.declared.val.Val.TheVariants.{Unset}
@@ -18,7 +18,6 @@ use Rattle.bpf_note.specs.Slots.{all_bytes, set_bytes, slot_with, both, joined_s
 use Rattle.bpf_note.specs.Bounds.{IsSet, AreJoined}
 use Rattle.bpf_note.proofs.PlaceLemmas.{past_end, le_cases, same_places}
 use Rattle.bpf_note.proofs.BoundLemmas.{same_bounds}
-use Rattle.bpf_note.proofs.JoinDescribes.{both_true}
 
 abbrev pub noted : List Val → List Slot → List Bound → Noted
 noted rs ss bs = record { regs = rs; slots = ss; bounds = bs }
@@ -271,13 +270,3 @@ same_notes a b rs ss la lb na nb e = same_noted a b
     (same_places a.slots b.slots no_bytes ss (λ j. same_slot (slice_index_or a.slots j no_bytes) (slice_index_or b.slots j no_bytes) (la j) (lb j) (ap (λ (f : Facts). f.kept j) e)
     (λ k lt. sym (at_byte (λ x y. set_of (slice_index_or a.slots x no_bytes) y) j k lt) ∙ ap (λ (f : Facts). f.set (8 * j + k)) e ∙ at_byte (λ x y. set_of (slice_index_or b.slots x no_bytes) y) j k lt)))
     (same_bounds 0 a.bounds b.bounds na nb (λ id. (ap (λ (f : Facts). f.top id) e, ap (λ (f : Facts). f.safe id) e)))
-
--- notes are equal exactly where their parts are
-pub parts_equal : (r s t : Bool) (a b : Noted) → Decides r (a.regs ≡ b.regs) → Decides s (a.slots ≡ b.slots) → Decides t (a.bounds ≡ b.bounds) → Decides (r && (s && t)) (a ≡ b)
-parts_equal r s t a b p q u = (
-  λ e. let h = both_true r (s && t) e in let g = both_true s t h.1 in same_noted a b (p.0 h.0) (q.0 g.0) (u.0 g.1),
-  λ e. let x : r ≡ true = p.1 (ap (λ (n : Noted). n.regs) e) in let y : s ≡ true = q.1 (ap (λ (n : Noted). n.slots) e) in let z : t ≡ true = u.1 (ap (λ (n : Noted). n.bounds) e) in all_true r s t x y z,
-)
-  where
-    all_true : (r s t : Bool) → r ≡ true → s ≡ true → t ≡ true → (r && (s && t)) ≡ true
-    all_true r s t x y z = ap (λ (b : Bool). b && (s && t)) x ∙ ap (λ (b : Bool). b && t) y ∙ z

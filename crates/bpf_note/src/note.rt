@@ -195,13 +195,18 @@ impl Note {
     pub fn same_as(&self, other: &Note) -> bool
         ensures { IsTrue result ↔ (self.now ≡ other.now) }
     {
-        if !self.bounds.look_alike(&other.bounds) {
+        if !are_same_registers(&self.regs, &other.regs) || !self.bounds.look_alike(&other.bounds) {
             return false;
         }
-        self.regs == other.regs
-            && are_equal(&self.slots, &other.slots, self.floor.min(other.floor))
+        are_equal(&self.slots, &other.slots, self.floor.min(other.floor))
             && self.bounds.same_as(&other.bounds)
     }
+}
+
+fn are_same_registers(a: &[Val; 11], b: &[Val; 11]) -> bool
+    ensures { IsTrue result ↔ (a.now ≡ b.now) }
+{
+    *a == *b
 }
 
 fn entry_registers() -> [Val; 11]
