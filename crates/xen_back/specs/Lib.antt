@@ -14,4 +14,3 @@ pub mod Reads
 pub mod Once
 pub mod Alone
 pub mod Ran
-pub mod Held

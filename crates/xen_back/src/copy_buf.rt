@@ -10,6 +10,7 @@ use crate::wiring::Wiring;
 use bpf_maps::{CounterSeat, Counters};
 use bpf_vm::{Buffer, PacketBuf, Vm, VmWant};
 use std::marker::Model;
+use std::mem;
 use xen_page::{Bus, Place};
 
 /// What a run left beside the packet.
@@ -19,21 +20,20 @@ pub struct Ended {
     pub ops: u32,
 }
 
-/// A packet in the queue's buffer, which has room for the longest. It is out while the program runs on it.
+/// A packet in the queue's buffer, which has room for the longest.
 #[derive(Drop)]
 pub struct CopyBuf<'b> {
-    packet: Option<PacketBuf<'b>>,
+    packet: PacketBuf<'b>,
 }
 
 impl<'b> Model for CopyBuf<'b> {
     ghost use Rattle.std.specs.Prelude.{◌≡◌, List, ℕ};
-    ghost use Rattle.xen_back.specs.Held.{bytes_held, IsHeld};
 
     ghost Value = { List ℕ };
 
-    ghost view = { λ c. bytes_held c.packet };
+    ghost view = { λ c. c.packet.bytes };
 
-    ghost invariant = { λ c. IsHeld c.packet };
+    ghost invariant = { λ c. c.packet.room.size ≡ 65535 };
 }
 
 /// Runs the program on a packet.
@@ -106,7 +106,7 @@ impl<'b> CopyBuf<'b> {
         ensures { result ≡ [] }
     {
         CopyBuf {
-            packet: Some(PacketBuf::empty(buffer)),
+            packet: PacketBuf::empty(buffer),
         }
     }
 
@@ -115,9 +115,7 @@ impl<'b> CopyBuf<'b> {
         requires { packet.room.size ≡ 65535 }
         ensures { result ≡ packet.entry.bytes }
     {
-        CopyBuf {
-            packet: Some(packet),
-        }
+        CopyBuf { packet }
     }
 
     /// The packet that a program runs on.
@@ -125,10 +123,7 @@ impl<'b> CopyBuf<'b> {
         ensures bytes { result.bytes ≡ self.entry }
         ensures room { result.room.size ≡ 65535 }
     {
-        match self.packet {
-            Some(packet) => packet,
-            None => unreachable!(),
-        }
+        self.packet
     }
 
     /// Runs the program on the packet, where it lies.
@@ -143,14 +138,10 @@ impl<'b> CopyBuf<'b> {
         ensures seat { seat.new ≡ record seat.old { ops = seat.new.ops } }
         ensures ran { HasRunOn wiring.now self.old self.new result.number result.ops seat.old.ops seat.new.ops }
     {
-        match self.packet.take() {
-            Some(packet) => {
-                let (ended, packet) = run_on(wiring, counters, seat, packet);
-                self.packet = Some(packet);
-                ended
-            }
-            None => unreachable!(),
-        }
+        let packet = mem::replace(&mut self.packet, PacketBuf::nothing());
+        let (ended, packet) = run_on(wiring, counters, seat, packet);
+        self.packet = packet;
+        ended
     }
 
     /// Puts whole words of a page behind the packet's bytes, each read once.
@@ -164,10 +155,8 @@ impl<'b> CopyBuf<'b> {
             × AreReadFrom B.log B.access_gives frame from words bus.old bus.new
             × (self.new ≡ self.old ++ bytes_of words) }
     {
-        match self.packet.take() {
-            Some(packet) => self.packet = Some(words_behind(bus, frame, from, to, packet)),
-            None => unreachable!(),
-        }
+        let packet = mem::replace(&mut self.packet, PacketBuf::nothing());
+        self.packet = words_behind(bus, frame, from, to, packet);
     }
 
     /// More bytes at the end.
@@ -175,20 +164,14 @@ impl<'b> CopyBuf<'b> {
         requires { length self.old + length bytes.now ≤ 65535 }
         ensures { self.new ≡ self.old ++ bytes.now }
     {
-        match &mut self.packet {
-            Some(packet) => packet.push_all(bytes),
-            None => unreachable!(),
-        }
+        self.packet.push_all(bytes);
     }
 
     /// Takes all bytes out.
     pub fn clear(&mut self)
         ensures { self.new ≡ [] }
     {
-        match &mut self.packet {
-            Some(packet) => packet.clear(),
-            None => unreachable!(),
-        }
+        self.packet.clear();
     }
 
     /// The packet's bytes.
@@ -196,9 +179,6 @@ impl<'b> CopyBuf<'b> {
         ensures same { result.now ≡ self.now }
         ensures short { length result.now ≤ 65535 }
     {
-        match &self.packet {
-            Some(packet) => packet.bytes(),
-            None => unreachable!(),
-        }
+        self.packet.bytes()
     }
 }
