@@ -20,7 +20,7 @@ pub use action::Action;
 pub use buffer::Buffer;
 pub use ended::Ended;
 pub use laws::accepted_programs_end;
-pub use packet::{PacketBuf, PacketFault};
+pub use packet::{PacketBuf, PacketFault, STACK_SIZE};
 pub use run::run_to_end;
 pub use vm::Vm;
 pub use want::VmWant;

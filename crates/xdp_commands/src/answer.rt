@@ -16,7 +16,7 @@ use crate::pairing::pair;
 use crate::request::Request;
 use crate::stop::Stop;
 use bpf_insn::Refusal;
-use bpf_vm::{Ended, PacketBuf};
+use bpf_vm::{Ended, PacketBuf, STACK_SIZE};
 use hex::FromHexError;
 use std::alloc::{AllocError, Global};
 use std::io::Read;
@@ -78,7 +78,8 @@ fn hex_bytes(alloc: Global, word: &str) -> Result<Option<Vec<u8>>, AllocError>
 fn packet_answer(alloc: Global, program: &[u8], packet: &mut [u8]) -> Result<Answer, AllocError>
     ensures { IfOk result (λ a. PacketAnswer program.now packet.old (said_of a)) }
 {
-    let Ok(packet) = PacketBuf::over(packet) else {
+    let mut stack = [0; STACK_SIZE];
+    let Ok(packet) = PacketBuf::over(packet, &mut stack) else {
         return words_refused(alloc);
     };
     let executed = execute(alloc, program, packet);

@@ -49,12 +49,13 @@ runs_one p ifindex queue x run bytes words packet after inside long made unmade 
       action = refl;
     }
 
--- one more packet, and its result
-pub one_more_ran : (p : Accepted) (ifindex queue : ℕ) (s t u : Shared) (packets : List XdpPacket) (results : List XdpRun) (n : ℕ) (d : XdpPacket) (r : XdpRun) →
-    n < length packets → n < length results → RanEach p ifindex queue s (take n packets) (take n results) t → RunsOne p ifindex queue (get_or packets n d) r t u →
+-- one more packet, and its result, of the same program
+pub one_more_ran : (p q : Accepted) (ifindex queue : ℕ) (s t u : Shared) (packets : List XdpPacket) (results : List XdpRun) (n : ℕ) (d : XdpPacket) (r : XdpRun) →
+    q ≡ p → n < length packets → n < length results → RanEach p ifindex queue s (take n packets) (take n results) t → RunsOne q ifindex queue (get_or packets n d) r t u →
     RanEach p ifindex queue s (take (n + 1) packets) (take (n + 1) (set results n r)) u
-one_more_ran p ifindex queue s t u packets results n d r here room ran one =
-    rw (take_more packets n d here, take_more_set results n r room) (one_more (take n packets) (take n results) t u (get_or packets n d) r ran one)
+one_more_ran p q ifindex queue s t u packets results n d r same here room ran one =
+    rw (take_more packets n d here, take_more_set results n r room)
+    (one_more (take n packets) (take n results) t u (get_or packets n d) r ran (subst (λ (a : Accepted). RunsOne a ifindex queue (get_or packets n d) r t u) same one))
 
 -- the results behind it stay
 pub one_less_left : (results before : List XdpRun) (n : ℕ) (r : XdpRun) → drop n results ≡ drop n before → drop (n + 1) (set results n r) ≡ drop (n + 1) before

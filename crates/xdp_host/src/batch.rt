@@ -15,14 +15,15 @@ pub struct XdpPacket {
 
 /// Runs a program on one packet of a batch.
 fn run_one(
-    held: &Held,
+    held: &mut Held,
     counters: &mut [u64],
     bytes: &mut [u8],
     packet: XdpPacket,
     ifindex: u32,
     queue: u32,
 ) -> XdpRun
-    ensures { RunsOne held.now.program ifindex queue packet result
+    ensures kept { held.new ≡ held.old }
+    ensures ran { RunsOne held.old.program ifindex queue packet result
         (record { bytes = bytes.old; words = counters.old }) (record { bytes = bytes.new; words = counters.new }) }
 {
     let XdpPacket { start, length } = packet;
@@ -30,12 +31,12 @@ fn run_one(
         return XdpRun::nothing();
     }
     let packet = &mut bytes[start..start + length];
-    XdpRun::from(held.program.run(counters, packet, ifindex, queue))
+    XdpRun::from(held.run(counters, packet, ifindex, queue))
 }
 
 /// Runs a program on the packets of a batch, one after another, as far as there are results. How many that are.
 pub fn run_each(
-    held: &Held,
+    held: &mut Held,
     counters: &mut [u64],
     bytes: &mut [u8],
     packets: &[XdpPacket],
@@ -43,7 +44,8 @@ pub fn run_each(
     ifindex: u32,
     queue: u32,
 ) -> usize
-    ensures ran { RanEach held.now.program ifindex queue (record { bytes = bytes.old; words = counters.old })
+    ensures kept { held.new ≡ held.old }
+    ensures ran { RanEach held.old.program ifindex queue (record { bytes = bytes.old; words = counters.old })
         (take result packets.now) (take result results.new) (record { bytes = bytes.new; words = counters.new }) }
     ensures count { result ≡ min (length packets.now) (length results.old) }
     ensures rest { drop result results.new ≡ drop result results.old }

@@ -6,6 +6,8 @@ ghost use Rattle.bpf_note.specs.Shape.{IsShape};
 ghost use Rattle.bpf_verify.specs.Consistent.{instructions};
 ghost use Rattle.bpf_verify.specs.FirstRefusal.{IsFaultless};
 ghost use Rattle.xdp_load.specs.Setup.{SetupView, setup_of};
+ghost use Rattle.xdp_program.specs.Ran.{Ran};
+ghost use Rattle.xdp_program.specs.Refused.{IsMade, IsUnmade};
 ghost use Rattle.xdp_program.specs.Settings.{IsProgramOf};
 ghost use Rattle.xdp_host.specs.Answers.{AreWithin, IsFault, IsFaultOfText, IsFirstOutside, IsLoaded, IsWanting, shape_of, shapes_of};
 ghost use Rattle.xdp_host.specs.Verdict.{accepting, wanting};
@@ -13,15 +15,29 @@ ghost use Rattle.xdp_host.specs.Verdict.{accepting, wanting};
 use crate::fault::Fault;
 use crate::plain::{XdpMap, XdpVerdict};
 use std::alloc::Global;
-use xdp_program::{LoadFault, MapShape, Program, SettingsFault, load_settings};
+use std::marker::Model;
+use xdp_program::{LoadFault, MapShape, Program, Run, STACK_SIZE, SettingsFault, load_settings};
 
 /// The most maps that a program has.
 const MOST_MAPS: usize = 4;
 
-/// An accepted program.
+/// The stack of a handle's program, the same for each packet in turn. What it holds is in no contract.
+#[derive(Drop)]
+pub struct Stack {
+    bytes: [u8; STACK_SIZE],
+}
+
+impl Model for Stack {
+    ghost Value = { Unit {0} };
+
+    ghost view = { λ _. tt };
+}
+
+/// An accepted program, and its stack.
 #[derive(Drop)]
 pub struct Held {
     pub program: Program,
+    stack: Stack,
 }
 
 /// The smallest map.
@@ -97,7 +113,10 @@ impl Held {
         ensures ok { IfOk result (λ b. b.value.program ≡ program) }
         ensures err { IfErr result (λ f. f ≡ wanting) }
     {
-        let held = Box::new(alloc, Held { program })?;
+        let stack = Stack {
+            bytes: [0; STACK_SIZE],
+        };
+        let held = Box::new(alloc, Held { program, stack })?;
         Ok(held)
     }
 
@@ -135,6 +154,19 @@ impl Held {
     {
         let program = self.program.again(alloc)?;
         Held::boxed(alloc, program)
+    }
+
+    /// Runs the program on a packet where it lies, as [`Program::run`] does.
+    pub fn run(&mut self, counters: &mut [u64], packet: &mut [u8], ifindex: u32, queue: u32) -> Run
+        ensures kept { self.new ≡ self.old }
+        ensures made { IsMade self.old.program.shapes counters.old packet.old →
+            Ran self.old.program packet.old ifindex queue counters.old result.number packet.new counters.new result.instructions }
+        ensures unmade { IsUnmade self.old.program.shapes counters.old packet.old →
+            (result.number ≡ 0) × (result.instructions ≡ 0) × (packet.new ≡ packet.old) × (counters.new ≡ counters.old) }
+        ensures words { length counters.new ≡ length counters.old }
+    {
+        let Held { program, stack } = self;
+        program.run(&mut stack.bytes, counters, packet, ifindex, queue)
     }
 
     /// The verdict that it is accepted.

@@ -119,8 +119,8 @@ pub extern "C" fn laxonje_run(
     ensures words { length counters.new ≡ length counters.old }
 {
     match program.take(alloc) {
-        Some(held) => {
-            let run = held.program.run(counters, packet, ifindex, queue);
+        Some(mut held) => {
+            let run = held.run(counters, packet, ifindex, queue);
             program.put(held);
             XdpRun::from(run)
         }
@@ -150,8 +150,8 @@ pub extern "C" fn laxonje_run_batch(
     ensures none { IfNone program.old.slot.held ((result ≡ 0) × (bytes.new ≡ bytes.old) × (counters.new ≡ counters.old)) }
 {
     match program.take(alloc) {
-        Some(held) => {
-            let count = run_each(&held, counters, bytes, packets, results, ifindex, queue);
+        Some(mut held) => {
+            let count = run_each(&mut held, counters, bytes, packets, results, ifindex, queue);
             program.put(held);
             count
         }

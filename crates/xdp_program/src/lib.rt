@@ -8,7 +8,7 @@ mod settings;
 
 pub use bpf_insn::{Cause, Refusal};
 pub use bpf_verify::MapShape;
-pub use bpf_vm::Ended;
+pub use bpf_vm::{Ended, STACK_SIZE};
 pub use fault::{LoadFault, SettingsFault};
 pub use program::{Program, Run};
 pub use run::run_on;

@@ -4,7 +4,7 @@ use crate::run::run_on;
 use bpf_insn::{Cause, Refusal, decode, spelling_is_unique};
 use bpf_maps::{place, total};
 use bpf_verify::{MapShape, Verified, faultless_programs_are_accepted, verify};
-use bpf_vm::{Ended, PacketBuf};
+use bpf_vm::{Ended, PacketBuf, STACK_SIZE};
 use std::alloc::{AllocError, Global};
 use std::marker::Model;
 
@@ -151,6 +151,7 @@ impl Program {
     /// Runs the program on a packet where it lies, and gives the packet back.
     fn run_lent<'b>(
         &self,
+        stack: &'b mut [u8; STACK_SIZE],
         counters: &mut [u64],
         packet: &'b mut [u8],
         ifindex: u32,
@@ -164,7 +165,7 @@ impl Program {
         ensures words { length counters.new ≡ length counters.old }
     {
         let _shapes = self.verified.shapes();
-        match PacketBuf::over(packet) {
+        match PacketBuf::over(packet, stack) {
             Ok(lent) => {
                 let _bytes = lent.bytes();
                 let Ended {
@@ -183,8 +184,16 @@ impl Program {
     }
 
     /// Runs the program on a packet where it lies. The counters of its maps are the first words of `counters`. With too
-    /// few words, or a packet of more than 65,535 bytes, nothing is run: number 0 after no instruction.
-    pub fn run(&self, counters: &mut [u64], packet: &mut [u8], ifindex: u32, queue: u32) -> Run
+    /// few words, or a packet of more than 65,535 bytes, nothing is run: number 0 after no instruction. What the stack holds
+    /// before doesn't matter, so one serves for each packet in turn.
+    pub fn run(
+        &self,
+        stack: &mut [u8; STACK_SIZE],
+        counters: &mut [u64],
+        packet: &mut [u8],
+        ifindex: u32,
+        queue: u32,
+    ) -> Run
         ensures made { IsMade self.now.shapes counters.old packet.old →
             Ran self.now packet.old ifindex queue counters.old result.number packet.new counters.new result.instructions }
         ensures unmade { IsUnmade self.now.shapes counters.old packet.old →
@@ -202,7 +211,7 @@ impl Program {
             number,
             instructions,
             packet: _,
-        } = self.run_lent(counters, packet, ifindex, queue);
+        } = self.run_lent(stack, counters, packet, ifindex, queue);
         Run {
             number,
             instructions,

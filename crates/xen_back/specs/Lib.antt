@@ -14,3 +14,4 @@ pub mod Reads
 pub mod Once
 pub mod Alone
 pub mod Ran
+pub mod Held

@@ -10,7 +10,6 @@ use crate::wiring::Wiring;
 use bpf_maps::{CounterSeat, Counters};
 use bpf_vm::{Buffer, PacketBuf, Vm, VmWant};
 use std::marker::Model;
-use std::mem;
 use xen_page::{Bus, Place};
 
 /// What a run left beside the packet.
@@ -20,20 +19,21 @@ pub struct Ended {
     pub ops: u32,
 }
 
-/// A packet in the queue's buffer, which has room for the longest.
+/// A packet in the queue's buffer, which has room for the longest. It is out while the program runs on it.
 #[derive(Drop)]
 pub struct CopyBuf<'b> {
-    packet: PacketBuf<'b>,
+    packet: Option<PacketBuf<'b>>,
 }
 
 impl<'b> Model for CopyBuf<'b> {
     ghost use Rattle.std.specs.Prelude.{◌≡◌, List, ℕ};
+    ghost use Rattle.xen_back.specs.Held.{bytes_held, IsHeld};
 
     ghost Value = { List ℕ };
 
-    ghost view = { λ c. c.packet.bytes };
+    ghost view = { λ c. bytes_held c.packet };
 
-    ghost invariant = { λ c. c.packet.room.size ≡ 65535 };
+    ghost invariant = { λ c. IsHeld c.packet };
 }
 
 /// Runs the program on a packet.
@@ -106,7 +106,7 @@ impl<'b> CopyBuf<'b> {
         ensures { result ≡ [] }
     {
         CopyBuf {
-            packet: PacketBuf::empty(buffer),
+            packet: Some(PacketBuf::empty(buffer)),
         }
     }
 
@@ -115,7 +115,9 @@ impl<'b> CopyBuf<'b> {
         requires { packet.room.size ≡ 65535 }
         ensures { result ≡ packet.entry.bytes }
     {
-        CopyBuf { packet }
+        CopyBuf {
+            packet: Some(packet),
+        }
     }
 
     /// The packet that a program runs on.
@@ -123,7 +125,10 @@ impl<'b> CopyBuf<'b> {
         ensures bytes { result.bytes ≡ self.entry }
         ensures room { result.room.size ≡ 65535 }
     {
-        self.packet
+        match self.packet {
+            Some(packet) => packet,
+            None => unreachable!(),
+        }
     }
 
     /// Runs the program on the packet, where it lies.
@@ -138,10 +143,14 @@ impl<'b> CopyBuf<'b> {
         ensures seat { seat.new ≡ record seat.old { ops = seat.new.ops } }
         ensures ran { HasRunOn wiring.now self.old self.new result.number result.ops seat.old.ops seat.new.ops }
     {
-        let packet = mem::replace(&mut self.packet, PacketBuf::nothing());
-        let (ended, packet) = run_on(wiring, counters, seat, packet);
-        self.packet = packet;
-        ended
+        match self.packet.take() {
+            Some(packet) => {
+                let (ended, packet) = run_on(wiring, counters, seat, packet);
+                self.packet = Some(packet);
+                ended
+            }
+            None => unreachable!(),
+        }
     }
 
     /// Puts whole words of a page behind the packet's bytes, each read once.
@@ -155,8 +164,10 @@ impl<'b> CopyBuf<'b> {
             × AreReadFrom B.log B.access_gives frame from words bus.old bus.new
             × (self.new ≡ self.old ++ bytes_of words) }
     {
-        let packet = mem::replace(&mut self.packet, PacketBuf::nothing());
-        self.packet = words_behind(bus, frame, from, to, packet);
+        match self.packet.take() {
+            Some(packet) => self.packet = Some(words_behind(bus, frame, from, to, packet)),
+            None => unreachable!(),
+        }
     }
 
     /// More bytes at the end.
@@ -164,14 +175,20 @@ impl<'b> CopyBuf<'b> {
         requires { length self.old + length bytes.now ≤ 65535 }
         ensures { self.new ≡ self.old ++ bytes.now }
     {
-        self.packet.push_all(bytes);
+        match &mut self.packet {
+            Some(packet) => packet.push_all(bytes),
+            None => unreachable!(),
+        }
     }
 
     /// Takes all bytes out.
     pub fn clear(&mut self)
         ensures { self.new ≡ [] }
     {
-        self.packet.clear();
+        match &mut self.packet {
+            Some(packet) => packet.clear(),
+            None => unreachable!(),
+        }
     }
 
     /// The packet's bytes.
@@ -179,6 +196,9 @@ impl<'b> CopyBuf<'b> {
         ensures same { result.now ≡ self.now }
         ensures short { length result.now ≤ 65535 }
     {
-        self.packet.bytes()
+        match &self.packet {
+            Some(packet) => packet.bytes(),
+            None => unreachable!(),
+        }
     }
 }

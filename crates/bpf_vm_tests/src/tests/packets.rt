@@ -1,5 +1,5 @@
 //! Packets in a lent buffer.
-use bpf_vm::{Buffer, PacketBuf, PacketFault};
+use bpf_vm::{Buffer, PacketBuf, PacketFault, STACK_SIZE};
 use std::alloc::Global;
 
 /// How long a packet is, or why it is none.
@@ -27,8 +27,9 @@ fn own_lengths(alloc: Global) -> Option<[Length; 2]> {
     let Ok(mut bytes) = vec![in alloc; 5u8; 65536] else {
         return None;
     };
-    let longest = length(PacketBuf::over(&mut bytes[..65535]));
-    Some([longest, length(PacketBuf::over(&mut bytes))])
+    let mut stack = [0; STACK_SIZE];
+    let longest = length(PacketBuf::over(&mut bytes[..65535], &mut stack));
+    Some([longest, length(PacketBuf::over(&mut bytes, &mut stack))])
 }
 
 #[test]
@@ -42,7 +43,8 @@ fn packets_end_at_65535_bytes(rt: HostRuntime) {
 /// host's bytes after that.
 fn pushed_to_own() -> Option<([bool; 2], [u8; 3])> {
     let mut own = [1, 2, 3];
-    let mut packet = PacketBuf::over(&mut own).ok()?;
+    let mut stack = [0; STACK_SIZE];
+    let mut packet = PacketBuf::over(&mut own, &mut stack).ok()?;
     let has_own = packet.bytes() == [1, 2, 3].as_slice();
     packet.clear();
     packet.push(9);

@@ -1,7 +1,7 @@
 //! Runs of whole programs. A program has one slot per line, with its text beside it.
 use crate::programs::{COUNTING, EXIT, accepted, ended};
 use bpf_verify::MapShape;
-use bpf_vm::{Buffer, Ended, PacketBuf, Vm, VmWant, run_to_end};
+use bpf_vm::{Buffer, Ended, PacketBuf, STACK_SIZE, Vm, VmWant, run_to_end};
 use std::alloc::Global;
 
 #[rattlefmt::skip]
@@ -70,6 +70,17 @@ const SIGNED_BYTE: [[u8; 8]; 8] = [
 const UPPER_HALF: [[u8; 8]; 3] = [
     [0x7a, 0x0a, 0xf8, 0xff, 0xff, 0xff, 0xff, 0xff], // *(u64 *)(r10 - 8) = -1
     [0x61, 0xa0, 0xfc, 0xff, 0, 0, 0, 0], // r0 = *(u32 *)(r10 - 4)
+    [0x95, 0, 0, 0, 0, 0, 0, 0], // exit
+];
+
+/// Stores eight bytes on the stack and two in the middle of them, and loads four across both.
+#[rattlefmt::skip]
+const STACK_STORES: [[u8; 8]; 6] = [
+    [0x18, 5, 0, 0, 1, 2, 3, 4], // r5 = 67305985 ll
+    [0, 0, 0, 0, 5, 6, 7, 8], // its second slot
+    [0x7b, 0x5a, 0xf8, 0xff, 0, 0, 0, 0], // *(u64 *)(r10 - 8) = r5
+    [0x6a, 0x0a, 0xfb, 0xff, 0xbb, 0xaa, 0, 0], // *(u16 *)(r10 - 5) = 43707
+    [0x61, 0xa0, 0xfa, 0xff, 0, 0, 0, 0], // r0 = *(u32 *)(r10 - 6)
     [0x95, 0, 0, 0, 0, 0, 0, 0], // exit
 ];
 
@@ -145,7 +156,8 @@ fn a_program_never_sees_the_bytes_of_an_earlier_packet(rt: HostRuntime) {
 fn ended_on_own_bytes(alloc: Global) -> Option<(u32, [u8; 16])> {
     let program = accepted(alloc, &STORES, &[])?;
     let mut own = [0xee; 16];
-    let packet = PacketBuf::over(&mut own).ok()?;
+    let mut stack = [0xdd; STACK_SIZE];
+    let packet = PacketBuf::over(&mut own, &mut stack).ok()?;
     let Ended { number, packet, .. } = run_to_end(&program, packet, 0, 0);
     if let Some(first) = packet.into_bytes().get_mut(0) {
         *first = 0xff;
@@ -158,6 +170,28 @@ fn a_program_runs_on_a_hosts_own_bytes(rt: HostRuntime) {
     let mut left = STORED;
     left[0] = 0xff;
     assert_eq!(rt; ended_on_own_bytes(rt.alloc()), Some((0xee02_01ee, left)));
+}
+
+/// The number of [`STACK_STORES`] on a stack whose bytes are these at first, and whether the eight that it stored stand at its
+/// end, and all others are as they were.
+fn stored_on(alloc: Global, first: u8) -> Option<(u32, bool)> {
+    let program = accepted(alloc, &STACK_STORES, &[])?;
+    let mut stack = [first; STACK_SIZE];
+    let packet = PacketBuf::over(&mut [], &mut stack).ok()?;
+    let number = run_to_end(&program, packet, 0, 0).number;
+    let (others, stored) = stack.split_at(504);
+    let kept = others.iter().all(|byte| *byte == first);
+    Some((
+        number,
+        kept && stored == [1, 2, 3, 0xbb, 0xaa, 6, 7, 8].as_slice(),
+    ))
+}
+
+#[test]
+fn what_the_stack_held_before_does_not_matter(rt: HostRuntime) {
+    for first in [0, 0xff, 0x5a] {
+        assert_eq!(rt; stored_on(rt.alloc(), first), Some((0x06aa_bb03, true)));
+    }
 }
 
 /// The number of a program that loads a field of the context.

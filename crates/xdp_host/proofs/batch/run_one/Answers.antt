@@ -4,8 +4,8 @@ use Rattle.xdp_host.specs.Batch.{end_of}
 use Rattle.xdp_host.proofs.BatchLemmas.{runs_one}
 use Rattle.xdp_host.proofs.batch.run_one.Goals as goal
 
-pub returns : goal.returns
-returns c =
+pub returns-clause-ran : goal.returns-clause-ran
+returns-clause-ran c =
     let x = c.args.packet in
     let bytes : List ℕ = c.args.bytes.now in
     let inside : end_of x ≤ length bytes = omega (arith, c.if-length-bytes.false, c.if-start-bytes.false) in
