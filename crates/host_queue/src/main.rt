@@ -1,6 +1,10 @@
 //! A host that drives a queue of netback over a bus of its own. docs/EMBEDDING.md shows this file and its modules.
 #![tactic(auto)]
 
+ghost use Rattle.std.specs.Prelude.{◌≡◌, IfOk, length};
+ghost use Rattle.xen_back.specs.Queues.{IsReady, wiring_of};
+ghost use Rattle.xen_page.specs.Table.{IsTable};
+
 mod bus;
 mod fault;
 mod guest;
@@ -10,7 +14,7 @@ use crate::fault::Fault;
 use crate::guest::{BACK, FRONT, OWNERS, RX, TABLE, TX, lend, send};
 use bpf_insn::decode;
 use bpf_maps::Counters;
-use bpf_verify::verify;
+use bpf_verify::{Verified, verify};
 use bpf_vm::Buffer;
 use std::alloc::Global;
 use std::io;
@@ -33,21 +37,25 @@ fn take(rt: &HostRuntime, turn: Turn<'_>) -> io::Result<()> {
     }
 }
 
-/// A queue over the guest's rings, and two turns of it: one packet, and then none.
-fn serve(rt: &HostRuntime, alloc: Global) -> Result<(), Fault> {
-    let code = decode(alloc, PASSES).map_err(|_| Fault::Refused)?;
-    let program = verify(alloc, code, &[]).map_err(|_| Fault::Refused)?;
-    let owners = Owners::make(alloc, &OWNERS)?;
-    let table = Table::make(&owners, FRONT, &[TABLE]).ok_or(Fault::Refused)?;
-    let mut pages = Pages::make(alloc)?;
-    lend(&mut pages);
-    let tx = map(&mut pages, &table, &owners, FRONT, BACK, TX, true)?;
-    let rx = map(&mut pages, &table, &owners, FRONT, BACK, RX, true)?;
+/// A queue over the guest's rings.
+fn queue<'p, 'b>(
+    pages: &mut Pages,
+    table: &'p Table,
+    owners: &'p Owners,
+    program: &'p Verified,
+    room: &'b mut Buffer,
+) -> Result<Queue<'p, 'b>, Fault>
+    requires table { IsTable owners.now 1 table.now }
+    requires frames { length owners.now ≡ 5 }
+    ensures ready { IfOk result IsReady }
+    ensures owners { IfOk result (λ q. (wiring_of q).vif.owners.now ≡ owners.now) }
+    ensures program { IfOk result (λ q. (wiring_of q).program.now ≡ program.now) }
+{
     let desc = QueueDesc {
-        tx,
-        rx,
-        table: &table,
-        owners: &owners,
+        tx: map(pages, table, owners, FRONT, BACK, TX, true)?,
+        rx: map(pages, table, owners, FRONT, BACK, RX, true)?,
+        table,
+        owners,
         granter: FRONT,
         user: BACK,
         ifindex: 1,
@@ -55,8 +63,19 @@ fn serve(rt: &HostRuntime, alloc: Global) -> Result<(), Fault> {
         port: Port::of(1).ok_or(Fault::Refused)?,
         start: 0,
     };
+    Ok(Queue::make(program, desc, room))
+}
+
+/// Two turns of a queue: one packet, and then none.
+fn serve(rt: &HostRuntime, alloc: Global) -> Result<(), Fault> {
+    let code = decode(alloc, PASSES).map_err(|_| Fault::Refused)?;
+    let program = verify(alloc, code, &[]).map_err(|_| Fault::Refused)?;
+    let owners = Owners::make(alloc, &OWNERS)?;
+    let table = Table::make(&owners, FRONT, &[TABLE]).ok_or(Fault::Refused)?;
+    let mut pages = Pages::make(alloc)?;
+    lend(&mut pages);
     let mut room = Buffer::make(alloc)?;
-    let mut queue = Queue::make(&program, desc, &mut room);
+    let mut queue = queue(&mut pages, &table, &owners, &program, &mut room)?;
     let (counters, mut seats) = Counters::make(alloc, program.shapes(), 1)?;
     let mut seat = seats.pop().ok_or(Fault::Refused)?;
     let ports = Ports::new();

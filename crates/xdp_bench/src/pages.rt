@@ -4,17 +4,18 @@ ghost use Rattle.std.specs.Prelude.{◌≡◌, ◌≤◌, IfOk, length};
 use std::alloc::{AllocError, Global};
 use xen_page::{Bus, Frames, Owners, PageBus, Place};
 
-/// Frame 0 is the backend's, frame 1 the frontend's grant table, frames 2 and 3 its rings, and 4 to 19 a packet's pages, which
-/// are also the buffers of its posted rx slots.
+/// Frame 0 is the backend's, 4 to 19 are a packet's pages, which are also the buffers of its posted rx slots, and the
+/// frontend's own lie between.
 pub const FRAMES: usize = 20;
 /// The frontend's domain; the backend's is 0.
 pub const FRONT: u16 = 1;
 
-const TABLE: u32 = 1;
+/// The frontend's grant table, and its rings, each granted under the reference of its frame.
+pub const TABLE: u32 = 1;
 
-const TX: u32 = 2;
+pub const TX: u32 = 2;
 
-const RX: u32 = 3;
+pub const RX: u32 = 3;
 
 const FIRST_PAGE: u32 = 4;
 /// The words of a ring's page before its entries.

@@ -1,15 +1,20 @@
 //! Turns of a queue over pages.
+ghost use Rattle.std.specs.Prelude.{◌≡◌, IfOk, length, true};
+ghost use Rattle.xen_back.specs.Queues.{IsReady, wiring_of};
+ghost use Rattle.xen_page.specs.Mapping.{IsMappedBy};
+ghost use Rattle.xen_page.specs.Table.{IsTable};
 
 use crate::fault::Fault;
-use crate::pages::{FRAMES, FRONT, domains, fill, owners, publish, slots_of};
+use crate::pages::{FRONT, RX, TABLE, TX, domains, fill, owners, publish};
 use crate::program::accepted;
 use crate::timing::{Timed, since};
 use bpf_maps::{CounterSeat, Counters};
+use bpf_verify::Verified;
 use bpf_vm::Buffer;
 use std::alloc::Alloc;
 use std::time::Instant;
 use xen_back::{Queue, QueueDesc, Turn};
-use xen_page::{Frames, PageBus, Table, map};
+use xen_page::{Frames, Mapped, Owners, PageBus, Table, map};
 use xen_ring::{Port, Ports};
 
 /// How many packets are published at once.
@@ -32,22 +37,37 @@ fn batches(times: u32, nanoseconds: u64) -> Timed {
     }
 }
 
-/// Times so many turns, of a packet of so many bytes each; of 0 bytes no packet is published. Filling the pages isn't timed.
-pub fn time(rt: &HostRuntime, size: usize, times: u32, program: &[u8]) -> Result<Timed, Fault> {
-    let program = accepted(rt.alloc(), program)?;
-    let owners = owners(rt.alloc())?;
-    let table = Table::make(&owners, FRONT, &[1]).ok_or(Fault::Unexpected)?;
-    let frames = Frames::make(rt.alloc(), &domains())?;
-    fill(&frames);
-    let mut bus = PageBus::of(&frames);
-    let tx = map(&mut bus, &table, &owners, FRONT, 0, 2, true).map_err(|_| Fault::Unexpected)?;
-    let rx = map(&mut bus, &table, &owners, FRONT, 0, 3, true).map_err(|_| Fault::Unexpected)?;
-    let mut buffer = Buffer::make(rt.alloc())?;
+/// The ring under a reference, mapped for writing.
+fn ring(bus: &mut PageBus<'_>, table: &Table, owners: &Owners, gref: u32) -> Result<Mapped, Fault>
+    requires table { IsTable owners.now 1 table.now }
+    requires size { bus.old ≡ length owners.now }
+    ensures size { bus.new ≡ bus.old }
+    ensures lent { IfOk result (IsMappedBy owners.now 1) }
+    ensures write { IfOk result (λ m. m.write ≡ true) }
+{
+    map(bus, table, owners, FRONT, 0, gref, true).map_err(|_| Fault::Unexpected)
+}
+
+/// A queue over both rings, which are new.
+fn queue<'p, 'b>(
+    bus: &mut PageBus<'_>,
+    table: &'p Table,
+    owners: &'p Owners,
+    program: &'p Verified,
+    buffer: &'b mut Buffer,
+) -> Result<Queue<'p, 'b>, Fault>
+    requires table { IsTable owners.now 1 table.now }
+    requires size { bus.old ≡ length owners.now }
+    ensures size { bus.new ≡ bus.old }
+    ensures ready { IfOk result IsReady }
+    ensures owners { IfOk result (λ q. (wiring_of q).vif.owners.now ≡ owners.now) }
+    ensures program { IfOk result (λ q. (wiring_of q).program.now ≡ program.now) }
+{
     let desc = QueueDesc {
-        tx,
-        rx,
-        table: &table,
-        owners: &owners,
+        tx: ring(bus, table, owners, TX)?,
+        rx: ring(bus, table, owners, RX)?,
+        table,
+        owners,
         granter: FRONT,
         user: 0,
         ifindex: 0,
@@ -55,7 +75,19 @@ pub fn time(rt: &HostRuntime, size: usize, times: u32, program: &[u8]) -> Result
         port: Port::of(1).ok_or(Fault::Unexpected)?,
         start: 0,
     };
-    let mut queue = Queue::make(&program, desc, &mut buffer);
+    Ok(Queue::make(program, desc, buffer))
+}
+
+/// Times so many turns, of a packet of so many bytes each; of 0 bytes no packet is published. Filling the pages isn't timed.
+pub fn time(rt: &HostRuntime, size: usize, times: u32, program: &[u8]) -> Result<Timed, Fault> {
+    let program = accepted(rt.alloc(), program)?;
+    let owners = owners(rt.alloc())?;
+    let table = Table::make(&owners, FRONT, &[TABLE]).ok_or(Fault::Unexpected)?;
+    let frames = Frames::make(rt.alloc(), &domains())?;
+    fill(&frames);
+    let mut bus = PageBus::of(&frames);
+    let mut buffer = Buffer::make(rt.alloc())?;
+    let mut queue = queue(&mut bus, &table, &owners, &program, &mut buffer)?;
     let (counters, mut seats) = Counters::make(rt.alloc(), program.shapes(), 1)?;
     let mut seat = seats.pop().ok_or(Fault::Unexpected)?;
     let ports = Ports::new();
