@@ -1,5 +1,5 @@
 //! An interpreter of an accepted program.
-ghost use Rattle.std.specs.Prelude.{◌≡◌, ◌+◌, ◌≤◌, ◌%◌, ◌^◌, ℕ, None};
+ghost use Rattle.std.specs.Prelude.{◌≡◌, ◌+◌, ◌≤◌, ◌%◌, ◌^◌, [], ℕ, None};
 ghost use Rattle.bpf_note.specs.State.{State, IsStart};
 ghost use Rattle.bpf_flow.specs.Step.{Exited, step};
 ghost use Rattle.bpf_verify.specs.Consistent.{instructions};
@@ -8,7 +8,7 @@ ghost use Rattle.bpf_vm.specs.Course.{Exiting, course, left, start_state};
 ghost use Rattle.bpf_vm.specs.Run.{IsStep};
 ghost use Rattle.bpf_vm.specs.Running.{Advances, Asks, first_numbers, state_of};
 ghost use Rattle.bpf_vm.specs.Stands.{Stands, now, own, exits, Ends, label_of};
-ghost use Rattle.bpf_vm.specs.Wants.{IsLoad, IsAdd, IsNoStep};
+ghost use Rattle.bpf_vm.specs.Wants.{IsLoad, IsAdd, IsNoStep, Waits};
 
 use crate::ended::Ended;
 use crate::machine::Machine;
@@ -77,16 +77,26 @@ impl<'p, 'b> Vm<'p, 'b> {
         self.machine.want(self.pc, insn)
     }
 
+    /// Does all instructions up to one that wants a counter's number, or the exit. Without maps that is the exit.
+    #[inline(always)]
+    pub(crate) fn run(&mut self)
+        ensures advanced { Advanced self.old self.new }
+        ensures waits { Waits (now self.new) }
+        ensures alone { self.new.program.shapes ≡ [] → Ends (now self.new) }
+    {
+        let Stop { pc, count } = self.machine.run(self.program, self.pc, self.count);
+        self.pc = pc;
+        self.count = count;
+    }
+
     /// Does all instructions up to one that wants a counter's number, or the exit, and returns what that one wants.
     pub fn advance(&mut self) -> VmWant
         ensures advanced { Advanced self.old self.new }
         ensures waits { IsNoStep result }
         ensures want { IsWantOf result self.new }
     {
-        let Stop { want, pc, count } = self.machine.run(self.program, self.pc, self.count);
-        self.pc = pc;
-        self.count = count;
-        want
+        self.run();
+        self.want()
     }
 
     /// Does the next instruction.

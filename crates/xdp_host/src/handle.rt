@@ -140,9 +140,17 @@ impl XdpProgram {
     }
 }
 
+/// Drops a box. It isn't inlined, so that a call that only puts a box back saves no registers for it.
+#[inline(never)]
+fn release(held: Box<Held>) {
+    drop(held);
+}
+
 impl Drop for XdpProgram {
     fn drop(self) {
-        drop(self.into_box());
+        if let Some(held) = self.into_box() {
+            release(held);
+        }
     }
 }
 

@@ -1,5 +1,5 @@
 -- A run leaves the packet's length.
-use Rattle.std.proofs.Common.{◌≡◌, ℕ, ◌<◌, ◌≤◌, ◌^◌, List, length, refl, sym, subst, None}
+use Rattle.std.proofs.Common.{◌≡◌, ℕ, ◌<◌, ◌≤◌, ◌^◌, List, length, refl, subst, None}
 use Rattle.std.specs.Prelude.{slice_index}
 use Rattle.bpf_note.specs.State.{State, IsState, IsStart}
 use Rattle.bpf_verify.specs.Consistent.{Accepted, IsConsistent}

@@ -1,5 +1,5 @@
 -- What loading answers, by the decoder's and the verifier's laws.
-use Rattle.std.proofs.Common.{◌≡◌, ◌<◌, ◌≤◌, ◌⊎◌, ℕ, List, Result, Ok, Err, length, refl, subst, inl, inr, arith}
+use Rattle.std.proofs.Common.{◌≡◌, ◌≤◌, ◌⊎◌, ℕ, List, Result, Ok, Err, length, refl, subst, inl, inr, arith}
 use Rattle.std.specs.Prelude.{MatchResult, IfOk, IfErr}
 use Rattle.bpf_insn.specs.Code.{Spells, IsCode}
 use Rattle.bpf_insn.specs.Refusal.{IsNoCode}
@@ -10,7 +10,7 @@ use Rattle.bpf_insn.specs.declared.refusal.Refusal.{Refusal}
 use Rattle.bpf_insn.proofs.UniqueLemmas.{one_code, code_or_none}
 use Rattle.bpf_note.specs.Shape.{Shape}
 use Rattle.bpf_verify.specs.Consistent.{Accepted}
-use Rattle.bpf_verify.specs.FirstRefusal.{IsFaultless, IsRefusal, IsWanting, at_start}
+use Rattle.bpf_verify.specs.FirstRefusal.{IsFaultless, IsRefusal, at_start}
 use Rattle.xdp_program.specs.Refused.{IsRefused, wanting}
 use Rattle.xdp_program.specs.Refused.{IsWanting as IsWantingFault}
 use Rattle.xdp_program.specs.declared.fault.LoadFault.{LoadFault}

@@ -1,6 +1,7 @@
 -- What has been run so far, and what follows it.
 use Rattle.std.proofs.Common.{◌≡◌, ℕ, zero, suc, ◌+◌, ◌<◌, ◌≤◌, ◌%◌, ◌^◌, refl, Some, None, List, [], ◌∷◌, length, set, slice_index_or, length-set, subst, sym, ap, ◌∙◌, arith}
-use Rattle.std.specs.Prelude.{Option}
+use Rattle.std.specs.Prelude.{Option, replicate}
+use Rattle.std.proofs.lemmas.List.{length-replicate}
 use Rattle.bpf_insn.specs.declared.insn.Insn.{Insn}
 use Rattle.bpf_flow.specs.Step.{Outcome, Next, Loads, Adds, Exited, Fault, step, LeadsTo}
 use Rattle.bpf_note.specs.State.{State, IsStart}
@@ -10,7 +11,7 @@ use Rattle.bpf_note.specs.declared.op.Op.TheVariants.{Load, Add}
 use Rattle.bpf_maps.specs.Layout.{place_of, total}
 use Rattle.bpf_verify.specs.Consistent.{Accepted}
 use Rattle.bpf_vm.specs.Advance.{Silent, stays, steps, Advanced}
-use Rattle.bpf_vm.specs.Run.{Walk, ends, goes, IsStep}
+use Rattle.bpf_vm.specs.Run.{Walk, ends, goes, IsRunOf, IsStep}
 use Rattle.bpf_vm.specs.Stands.{Running, Stands, label_of, now}
 use Rattle.bpf_vm.specs.Wants.{IsLoadOf, IsAddOf, IsLoad, IsAdd}
 use Rattle.xdp_program.specs.Ran.{IsHistory, Ran}
@@ -147,3 +148,17 @@ sofar_add p packet ifindex queue first v w words m k j d at so has add st =
     let step' : IsStep (Some (Add m k j d x)) v w = subst (λ (l : Option Op). IsStep l v w) label st in
     sofar_step p packet ifindex queue first v w words more (Some (Add m k j d x)) so step' (length-set words at ((x + d) % 2 ^ 64))
     (λ rest after h. (has.counter, ap (λ (i : ℕ). slice_index_or words i 0) has.place, subst (λ (i : ℕ). IsHistory p.shapes rest (set words i ((x + d) % 2 ^ 64)) after) has.place h))
+
+none_history : (n : ℕ) (shapes : List Shape) (words : List ℕ) → IsHistory shapes (replicate n None) words words
+none_history zero shapes words = refl
+none_history (suc n) shapes words = none_history n shapes words
+
+-- a run without maps changes no word
+pub ran_alone : (p : Accepted) (packet : List ℕ) (ifindex queue : ℕ) (words : List ℕ) (number count : ℕ) (bytes : List ℕ) → p.shapes ≡ [] → IsRunOf p.code packet ifindex queue number bytes count →
+    Ran p packet ifindex queue words number bytes words count
+ran_alone p packet ifindex queue words number count bytes e run = record {
+  labels = replicate count None;
+  counted = length-replicate count None;
+  history = none_history count p.shapes words;
+  walks = λ s h b i q m. run s h b i q (m ∙ e);
+}

@@ -18,6 +18,12 @@ pub struct Run {
     pub instructions: u32,
 }
 
+/// How a run that isn't made ends.
+const NOTHING: Run = Run {
+    number: 0,
+    instructions: 0,
+};
+
 /// A run, with the packet where it lies.
 #[derive(Drop)]
 struct Lent<'b> {
@@ -47,7 +53,7 @@ impl Model for Program {
 }
 
 impl Program {
-    ghost use Rattle.std.specs.Prelude.{◌≡◌, ◌≤◌, List, ℕ, length, IfOk, IfErr, IfSome, IfNone, MatchResult};
+    ghost use Rattle.std.specs.Prelude.{◌≡◌, ◌≤◌, ◌<◌, List, ℕ, length, IfOk, IfErr, IfSome, IfNone, MatchResult};
     ghost use Rattle.bpf_insn.specs.Code.{Spells};
     ghost use Rattle.bpf_insn.specs.declared.insn.Insn.{Insn};
     ghost use Rattle.bpf_maps.specs.Layout.{total, place_of};
@@ -149,6 +155,7 @@ impl Program {
     }
 
     /// Runs the program on a packet where it lies, and gives the packet back.
+    #[inline(always)]
     fn run_lent<'b>(
         &self,
         stack: &'b mut [u8; STACK_SIZE],
@@ -183,6 +190,57 @@ impl Program {
         }
     }
 
+    /// Runs the program on a packet where it lies, with words enough.
+    #[inline(always)]
+    fn run_in_place(
+        &self,
+        stack: &mut [u8; STACK_SIZE],
+        counters: &mut [u64],
+        packet: &mut [u8],
+        ifindex: u32,
+        queue: u32,
+    ) -> Run
+        requires short { length packet.old ≤ 65535 }
+        requires enough { total self.now.shapes ≤ length counters.old }
+        ensures ran { Ran self.now packet.old ifindex queue counters.old result.number packet.new counters.new result.instructions }
+        ensures bound { result.instructions ≤ instructions self.now.code }
+        ensures words { length counters.new ≡ length counters.old }
+    {
+        let Lent {
+            number,
+            instructions,
+            packet: _,
+        } = self.run_lent(stack, counters, packet, ifindex, queue);
+        Run {
+            number,
+            instructions,
+        }
+    }
+
+    /// The same, if there are words enough. It isn't inlined, so that a program without maps saves no registers for it.
+    #[inline(never)]
+    fn run_with_maps(
+        &self,
+        stack: &mut [u8; STACK_SIZE],
+        counters: &mut [u64],
+        packet: &mut [u8],
+        ifindex: u32,
+        queue: u32,
+    ) -> Run
+        requires short { length packet.old ≤ 65535 }
+        ensures made { total self.now.shapes ≤ length counters.old →
+            Ran self.now packet.old ifindex queue counters.old result.number packet.new counters.new result.instructions }
+        ensures unmade { length counters.old < total self.now.shapes →
+            (result.number ≡ 0) × (result.instructions ≡ 0) × (packet.new ≡ packet.old) × (counters.new ≡ counters.old) }
+        ensures bound { result.instructions ≤ instructions self.now.code }
+        ensures words { length counters.new ≡ length counters.old }
+    {
+        if counters.len() < self.counters() {
+            return NOTHING;
+        }
+        self.run_in_place(stack, counters, packet, ifindex, queue)
+    }
+
     /// Runs the program on a packet where it lies. The counters of its maps are the first words of `counters`. With too
     /// few words, or a packet of more than 65,535 bytes, nothing is run: number 0 after no instruction. What the stack holds
     /// before doesn't matter, so one serves for each packet in turn.
@@ -201,20 +259,12 @@ impl Program {
         ensures bound { result.instructions ≤ instructions self.now.code }
         ensures words { length counters.new ≡ length counters.old }
     {
-        if packet.len() > LONGEST || counters.len() < self.counters() {
-            return Run {
-                number: 0,
-                instructions: 0,
-            };
-        }
-        let Lent {
-            number,
-            instructions,
-            packet: _,
-        } = self.run_lent(stack, counters, packet, ifindex, queue);
-        Run {
-            number,
-            instructions,
+        if packet.len() > LONGEST {
+            NOTHING
+        } else if self.verified.shapes().is_empty() {
+            self.run_in_place(stack, counters, packet, ifindex, queue)
+        } else {
+            self.run_with_maps(stack, counters, packet, ifindex, queue)
         }
     }
 }

@@ -6,10 +6,11 @@ ghost use Rattle.xdp_program.specs.Ran.{Ran};
 
 use bpf_maps::place;
 use bpf_verify::Verified;
-use bpf_vm::{Ended, PacketBuf, Vm, VmWant};
+use bpf_vm::{Ended, PacketBuf, Vm, VmWant, run_to_end};
 
-/// Runs an accepted program on a packet, to its end. The counters of its maps are the first words of `counters`.
-pub fn run_on<'b>(
+/// Runs an accepted program on a packet, from one counter to the next, to its end.
+#[inline(always)]
+fn run_counting<'b>(
     program: &Verified,
     counters: &mut [u64],
     packet: PacketBuf<'b>,
@@ -39,5 +40,28 @@ pub fn run_on<'b>(
             VmWant::Exit { .. } => return vm.end(),
             VmWant::Step => unreachable!(),
         }
+    }
+}
+
+/// Runs an accepted program on a packet, to its end. The counters of its maps are the first words of `counters`.
+#[inline(always)]
+pub fn run_on<'b>(
+    program: &Verified,
+    counters: &mut [u64],
+    packet: PacketBuf<'b>,
+    ifindex: u32,
+    queue: u32,
+) -> Ended<'b>
+    requires { total program.now.shapes ≤ length counters.old }
+    ensures ran { Ran program.now packet.entry.bytes ifindex queue counters.old
+        result.number result.packet.bytes counters.new result.instructions }
+    ensures room { result.packet.room ≡ packet.entry.room }
+    ensures bound { result.instructions ≤ instructions program.now.code }
+    ensures words { length counters.new ≡ length counters.old }
+{
+    if program.shapes().is_empty() {
+        run_to_end(program, packet, ifindex, queue)
+    } else {
+        run_counting(program, counters, packet, ifindex, queue)
     }
 }

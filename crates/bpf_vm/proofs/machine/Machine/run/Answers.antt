@@ -1,14 +1,13 @@
 use Rattle.std.proofs.Common.{◌≡◌, ◌<◌, ℕ, List, Some, length, arith, ap, subst, sym, ◌∙◌}
 use Rattle.std.specs.Prelude.{slice_get}
 use Rattle.bpf_insn.specs.declared.insn.Insn.{Insn}
-use Rattle.bpf_flow.specs.Step.{Outcome}
 use Rattle.bpf_vm.specs.Advance.{Advanced}
-use Rattle.bpf_vm.specs.Wants.{Answers}
+use Rattle.bpf_vm.specs.Wants.{Waits}
 use Rattle.bpf_vm.specs.declared.machine.Machine.{Machine}
 use Rattle.bpf_vm.specs.Stands.{IsRunning, running_of, now}
 use Rattle.bpf_vm.proofs.RunLemmas.{inside_of, few_instructions, counted_below}
 use Rattle.bpf_vm.proofs.MachineLemmas.{own_of, here, fine_here}
-use Rattle.bpf_vm.proofs.AdvanceLemmas.{advanced_here, advanced_after}
+use Rattle.bpf_vm.proofs.AdvanceLemmas.{advanced_here, advanced_after, waits_of}
 use Rattle.bpf_vm.proofs.AfterLemmas.{after_step}
 use Rattle.bpf_vm.proofs.machine.Machine.run.Goals as goal
 
@@ -81,9 +80,10 @@ returns-in-Waits-clause-advanced c =
     let p = c.args.program.now in
     subst (λ (m : Machine). Advanced (running_of p c.args.pc c.args.self.now c.args.count) (running_of p c.loop-to.at m c.loop-to.done)) (sym c.in-Waits.ensures.turn.2) c.loop-to.invariant.advanced
 
-pub returns-in-Waits-clause-want : goal.returns-in-Waits-clause-want
-returns-in-Waits-clause-want c =
+pub returns-in-Waits-clause-waits : goal.returns-in-Waits-clause-waits
+returns-in-Waits-clause-waits c =
     let p = c.args.program.now in
     let i = c.loop-to.invariant in
-    let wants = subst (λ (o : Outcome). Answers c.in-Waits.want o) (here p c.loop-to.at c.loop-to.self c.insn_at.result.now i.running.consistent i.maps (same_at c.insns-insns.result.now c.args.program.now.code c.loop-to.at c.insn_at.result.now c.insns-insns.ensures.same c.insn_at.ensures)) c.in-Waits.ensures.turn.0 in
-    subst (λ (m : Machine). Answers c.in-Waits.want (now (running_of p c.loop-to.at m c.loop-to.done))) (sym c.in-Waits.ensures.turn.2) wants
+    let t = c.in-Waits.ensures.turn in
+    let here_waits = subst Waits (here p c.loop-to.at c.loop-to.self c.insn_at.result.now i.running.consistent i.maps (same_at c.insns-insns.result.now c.args.program.now.code c.loop-to.at c.insn_at.result.now c.insns-insns.ensures.same c.insn_at.ensures)) (waits_of _ _ t.0 t.1) in
+    subst (λ (m : Machine). Waits (now (running_of p c.loop-to.at m c.loop-to.done))) (sym t.2) here_waits

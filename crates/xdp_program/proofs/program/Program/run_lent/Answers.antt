@@ -1,4 +1,4 @@
-use Rattle.std.proofs.Common.{◌≡◌, ◌∙◌, List, ℕ, length, ap, sym}
+use Rattle.std.proofs.Common.{◌∙◌, List, ℕ, length, ap, sym}
 use Rattle.bpf_vm.specs.Packet.{Room}
 use Rattle.xdp_program.proofs.LengthLemmas.{ran_length}
 use Rattle.xdp_program.proofs.program.Program.run_lent.Goals as goal
