@@ -15,3 +15,4 @@ pub mod Once
 pub mod Alone
 pub mod Ran
 pub mod Held
+pub mod Delivered

@@ -13,7 +13,9 @@ use Rattle.xen_steps.specs.Steps.{Runs, Steps, done, next, want_of}
 use Rattle.xen_back.specs.Within.{may_want}
 use Rattle.xen_back.specs.Tree.{whole_turn}
 use Rattle.xen_back.specs.Turned.{Ending, IsShort, Turned, Shows}
+use Rattle.xen_back.specs.declared.phase.Phase.TheVariants as phase
 use Rattle.xen_back.specs.declared.queue.Queue.{Queue}
+use Rattle.xen_back.specs.declared.stage.Stage.TheVariants as stage
 use Rattle.xen_back.specs.declared.state.State.{State}
 use Rattle.xen_back.specs.declared.turn.Turn.{Turn}
 use Rattle.xen_back.specs.declared.wiring.Wiring.{Wiring}
@@ -45,6 +47,10 @@ rest q = rest_in q.wiring q.state q.stage
 abbrev pub IsReady : Queue → Type 0
 IsReady q = rest q ≡ whole_turn q.wiring q.state
 
+-- no turn is under way
+abbrev pub IsResting : Queue → Type 0
+IsResting q = (p : List ℕ) × (q.stage ≡ stage.At p phase.Ready)
+
 -- A queue that was fed an answer: what it has left is what follows that answer.
 pub record IsFed (answer : Answer) (old new : Queue) : Type 0 where
   pub rest : rest new ≡ next (rest old) (number answer)
@@ -75,6 +81,7 @@ pub record IsOver (old new : Queue) (shown : Turn) : Type 0 where
   pub turned : Turned
   pub over : rest old ≡ done (state_of new, turned)
   pub ready : IsReady new
+  pub resting : IsResting new
   pub same : IsSameWiring old new
   pub shows : Shows turned shown
   pub short : IsShort shown

@@ -13,7 +13,7 @@ ghost use Rattle.bpf_verify.specs.Consistent.{instructions};
 ghost use Rattle.xen_steps.specs.Drive.{Any, Bounded};
 ghost use Rattle.xen_back.specs.Alone.{rest_over};
 ghost use Rattle.xen_steps.specs.Event.{Event};
-ghost use Rattle.xen_back.specs.Queues.{IsReady, IsSameWiring, rest, state_of, wiring_of};
+ghost use Rattle.xen_back.specs.Queues.{IsReady, IsResting, IsSameWiring, rest, state_of, wiring_of};
 ghost use Rattle.xen_steps.specs.Steps.{want_of};
 ghost use Rattle.xen_back.specs.Tree.{whole_turn};
 
@@ -97,6 +97,7 @@ fn drive_rest<B: Bus>(
     requires bounded { Bounded (IsWithin (B.size bus.old) counters.now.shapes) Any (rest queue.old) (287383 + instructions (wiring_of queue.old).program.now.code) }
     requires seat { IsSeatOf counters.now seat.old }
     ensures ready { IsReady queue.new }
+    ensures resting { IsResting queue.new }
     ensures size { B.size bus.new ≡ B.size bus.old }
     ensures same { IsSameWiring queue.old queue.new }
     ensures seat { seat.new ≡ record seat.old { ops = seat.new.ops } }
@@ -125,6 +126,7 @@ fn drive_events<B: Bus>(
     requires shapes { counters.now.shapes ≡ (wiring_of queue.old).program.now.shapes }
     requires seat { IsSeatOf counters.now seat.old }
     ensures ready { IsReady queue.new }
+    ensures resting { IsResting queue.new }
     ensures size { B.size bus.new ≡ B.size bus.old }
     ensures same { IsSameWiring queue.old queue.new }
     ensures seat { seat.new ≡ record seat.old { ops = seat.new.ops } }
@@ -164,6 +166,7 @@ impl<'p, 'b> Queue<'p, 'b> {
         requires shapes { counters.now.shapes ≡ (wiring_of self.old).program.now.shapes }
         requires seat { IsSeatOf counters.now seat.old }
         ensures ready { IfSome result (λ _. IsReady self.new) }
+        ensures resting { IfSome result (λ _. IsResting self.new) }
         ensures size { B.size bus.new ≡ B.size bus.old }
         ensures same { IsSameWiring self.old self.new }
         ensures seat { seat.new ≡ record seat.old { ops = seat.new.ops } }
@@ -192,6 +195,7 @@ impl<'p, 'b> Queue<'p, 'b> {
     fn end(&mut self) -> Kind
         requires { want_of (rest self.old) ≡ Want.Done }
         ensures ready { IsReady self.new }
+        ensures resting { IsResting self.new }
         ensures same { IsSameWiring self.old self.new }
         ensures over { rest self.old ≡ rest_over self.new (Some result) }
     {

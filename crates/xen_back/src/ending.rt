@@ -8,6 +8,7 @@ ghost use Rattle.xen_steps.specs.Steps.{done, want_of};
 ghost use Rattle.xen_back.specs.Tree.{whole_turn};
 ghost use Rattle.xen_back.specs.Turned.{IsShort, Shows, turned};
 ghost use Rattle.xen_back.specs.declared.phase.Phase.{Phase as PhaseView};
+ghost use Rattle.xen_back.specs.declared.phase.Phase.TheVariants as phases;
 ghost use Rattle.xen_back.specs.declared.stage.Stage.TheVariants as stages;
 
 use crate::copy_buf::CopyBuf;
@@ -32,6 +33,7 @@ pub(crate) fn over<'p, 'b>(
     ensures here { IsTrue (is_here stage.new) }
     ensures over { rest_in wiring.now state.now stage.old ≡ done (result.0, turned result.1 (packet_at stage.new)) }
     ensures ready { rest_in wiring.now result.0 stage.new ≡ whole_turn wiring.now result.0 }
+    ensures resting { (p : List ℕ) × (stage.new ≡ stages.At p phases.Ready) }
 {
     let end = ended(wiring, state, stage);
     set_phase(stage, Phase::Ready);

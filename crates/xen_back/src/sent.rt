@@ -104,7 +104,7 @@ fn progressed<'p, 'b>(
 }
 
 /// The state after so many rx slots are answered.
-fn after_slots(state: &State, n: u32) -> State
+pub(crate) fn after_slots(state: &State, n: u32) -> State
     ensures { result ≡ moved state.now n }
 {
     State {

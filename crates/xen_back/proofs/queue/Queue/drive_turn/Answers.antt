@@ -30,6 +30,7 @@ returns g c =
           shows = c.shown.ensures.shows;
           short = c.shown.ensures.short;
           ready = d.ready;
+          resting = d.resting;
           same = d.same;
         },
       ),

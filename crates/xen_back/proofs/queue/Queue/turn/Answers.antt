@@ -26,6 +26,7 @@ returns c =
           turned = turned o.result.1 (packet_at o.new.stage);
           over = o.ensures.over;
           ready = o.ensures.ready;
+          resting = o.ensures.resting;
           same = record { wiring = refl; tx_ring = refl; rx_ring = refl };
           shows = c.shown.ensures.shows;
           short = c.shown.ensures.short;
