@@ -1,3 +1,4 @@
 pub mod AsBox
 mod FaultLemmas
 mod BatchLemmas
+pub mod AsQueueBox

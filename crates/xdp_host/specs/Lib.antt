@@ -3,3 +3,4 @@ pub mod Verdict
 pub mod Answers
 pub mod Ran
 pub mod Batch
+pub mod QueueHandle

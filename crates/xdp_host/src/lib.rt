@@ -23,6 +23,8 @@ mod fault;
 mod handle;
 mod held;
 mod plain;
+mod queue_handle;
+mod queue_plain;
 
 pub use batch::XdpPacket;
 use batch::run_each;
@@ -30,7 +32,10 @@ pub use fault::Fault;
 pub use handle::{XdpProgram, programs_cross_threads};
 pub use held::Held;
 pub use plain::{XdpMap, XdpRun, XdpVerdict};
+pub use queue_handle::XdpQueue;
+pub use queue_plain::{XdpOp, XdpQueueDesc};
 use std::alloc::Global;
+use xen_host::{MakeFault, Queue, QueueParts};
 
 /// Whether a program is accepted with its maps.
 #[unsafe(no_mangle)]
@@ -205,4 +210,97 @@ pub extern "C" fn laxonje_free(alloc: Global, program: &mut XdpProgram)
     ensures { program.new.slot.held ≡ None }
 {
     drop(program.take(alloc));
+}
+
+/// Makes a queue of a program, which the queue takes, in place of what `out` held.
+#[unsafe(no_mangle)]
+pub extern "C" fn laxonje_queue_make(
+    alloc: Global,
+    program: &mut XdpProgram,
+    owners: &[u16],
+    table: &[u32],
+    desc: &XdpQueueDesc,
+    out: &mut XdpQueue,
+) -> u32 {
+    drop(out.take(alloc));
+    match program.take(alloc) {
+        Some(held) => {
+            let parts = QueueParts {
+                owners,
+                table,
+                tx: desc.tx,
+                rx: desc.rx,
+                granter: (desc.granter % 0x1_0000) as u16,
+                user: (desc.user % 0x1_0000) as u16,
+                port: desc.port,
+                ifindex: desc.ifindex,
+                queue: desc.queue,
+                start: desc.start,
+            };
+            let held = Box::into_inner(held);
+            match Queue::make(alloc, held.program, &parts) {
+                Ok(queue) => match Box::new(alloc, queue) {
+                    Ok(queue) => {
+                        out.put(queue);
+                        0
+                    }
+                    Err(_) => 1,
+                },
+                Err(MakeFault::Memory) => 1,
+                Err(MakeFault::Frames) => 2,
+                Err(MakeFault::Table) => 3,
+                Err(MakeFault::Ring) => 4,
+                Err(MakeFault::Port) => 5,
+            }
+        }
+        None => 6,
+    }
+}
+
+/// Goes on after the last op, and says the next.
+#[unsafe(no_mangle)]
+pub extern "C" fn laxonje_queue_step(
+    alloc: Global,
+    queue: &mut XdpQueue,
+    words: &mut [u32],
+    counters: &mut [u64],
+    op: &mut XdpOp,
+) {
+    match queue.take(alloc) {
+        Some(mut held) => {
+            if words.len() >= 1024 && counters.len() >= held.counters() {
+                *op = XdpOp::of(held.step(words, counters));
+            } else {
+                *op = XdpOp::none();
+            }
+            queue.put(held);
+        }
+        None => *op = XdpOp::none(),
+    }
+}
+
+/// Copies the packet of the turn that is over out. How many bytes it has.
+#[unsafe(no_mangle)]
+pub extern "C" fn laxonje_queue_packet(
+    alloc: Global,
+    queue: &mut XdpQueue,
+    out: &mut [u8],
+) -> usize {
+    match queue.take(alloc) {
+        Some(held) => {
+            let bytes = held.packet();
+            let count = bytes.len();
+            let n = count.min(out.len());
+            out[..n].copy_from_slice(&bytes[..n]);
+            queue.put(held);
+            count
+        }
+        None => 0,
+    }
+}
+
+/// Drops a queue, if there is one.
+#[unsafe(no_mangle)]
+pub extern "C" fn laxonje_queue_free(alloc: Global, queue: &mut XdpQueue) {
+    drop(queue.take(alloc));
 }

@@ -1,4 +1,4 @@
-mod RanLemmas
+pub mod RanLemmas
 pub mod LoadLemmas
 pub mod SettingsLemmas
-mod LengthLemmas
+pub mod LengthLemmas

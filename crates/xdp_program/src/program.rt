@@ -124,6 +124,13 @@ impl Program {
         }
     }
 
+    /// The program as a machine takes it.
+    pub fn verified(&self) -> &Verified
+        ensures { result.now ≡ self.now }
+    {
+        &self.verified
+    }
+
     /// How many instructions the program has, a wide load being one.
     pub fn instructions(&self) -> u32
         ensures { result ≡ instructions self.now.code }

@@ -15,8 +15,10 @@ mod writing;
 
 pub use phase::Outcome;
 pub use straight::{read_entry, send_packet};
+pub use target::{Target, Targets};
 pub use transmit::{Progress, Transmit};
 pub use vif::Vif;
+pub use words::{buffer_frame, packet_word, pages_of, response, words_of};
 
 #[cfg(test)]
 mod tests;

@@ -8,7 +8,7 @@ use crate::target::{Target, Targets};
 use xen_netif::{RxFlags, RxRsp, Status};
 use xen_page::Place;
 
-pub(crate) fn pages_of(bytes: &[u8]) -> u32
+pub fn pages_of(bytes: &[u8]) -> u32
     requires { length bytes.now ≤ 65535 }
     ensures value { result ≡ pages bytes.now }
     ensures few { result ≤ 16 }
@@ -16,7 +16,7 @@ pub(crate) fn pages_of(bytes: &[u8]) -> u32
     (bytes.len() as u32 + 4095) / 4096
 }
 
-pub(crate) fn words_of(bytes: &[u8]) -> u32
+pub fn words_of(bytes: &[u8]) -> u32
     requires { length bytes.now ≤ 65535 }
     ensures value { result ≡ words bytes.now }
     ensures few { result ≤ 16384 }
@@ -47,7 +47,7 @@ fn last_word(bytes: &[u8], k: u32) -> u32
 }
 
 /// The k-th word of the packet.
-pub(crate) fn packet_word(bytes: &[u8], k: u32) -> u32
+pub fn packet_word(bytes: &[u8], k: u32) -> u32
     requires { k ≤ 16384 }
     ensures { result ≡ word_of bytes.now k }
 {
@@ -69,7 +69,7 @@ fn target_at(targets: &Targets, i: u32) -> Target
 }
 
 /// The frame of the i-th buffer.
-pub(crate) fn buffer_frame(targets: &Targets, i: u32) -> u32
+pub fn buffer_frame(targets: &Targets, i: u32) -> u32
     ensures { result ≡ frame_in (target_at_lem targets.now i).frame }
 {
     target_at(targets, i).frame.unwrap_or(0)
@@ -113,7 +113,7 @@ fn status(passed: bool, bytes: &[u8], i: u32) -> i16
 }
 
 /// The i-th response.
-pub(crate) fn response(passed: bool, bytes: &[u8], targets: &Targets, i: u32) -> RxRsp
+pub fn response(passed: bool, bytes: &[u8], targets: &Targets, i: u32) -> RxRsp
     requires short { length bytes.now ≤ 65535 }
     requires within { i < length targets.now }
     ensures { result ≡ rx_response passed bytes.now (length targets.now) i (target_at_lem targets.now i).id }
