@@ -1,15 +1,6 @@
-mod check;
-mod counting;
-mod examples;
-mod exec;
-mod explain;
 mod failing;
 mod failing_runs;
-mod filter;
 mod hosting;
 mod lines;
-mod pair;
-mod programs;
 mod readers;
-mod run;
 mod words;

@@ -1,0 +1,238 @@
+"""Wrong bodies: the edits of crates/NAME/must-fail and more-edits, made in a copy of a crate, and what the prover says of them.
+
+An edit is a text of lines `file: PATH`, `old: TEXT`, `new: TEXT`, each text on one line and standing once in the file, as
+`rt must-fail` reads it. A line `fn: PATH` names the function that has to be refused, where that isn't the one whose body
+changes."""
+import dataclasses
+import enum
+import importlib.machinery
+import importlib.util
+import os
+import re
+import shutil
+import subprocess
+import sys
+import tempfile
+import time
+
+sys.dont_write_bytecode = True
+
+
+def kit():
+    """The kit's own command as a module: it knows the words with which a crate is checked."""
+    path = os.path.realpath(shutil.which(os.environ.get("RT", "rt")))
+    loader = importlib.machinery.SourceFileLoader("rt_of_kit", path)
+    module = importlib.util.module_from_spec(importlib.util.spec_from_loader(loader.name, loader))
+    sys.modules[loader.name] = module
+    loader.exec_module(module)
+    return module.rtlib
+
+
+class Outcome(enum.Enum):
+    """What became of an edit."""
+
+    CLAUSE = "refused by a clause"
+    NAMES = "refused by names alone"
+    PROVED = "NOT REFUSED"
+    BAD = "BAD EDIT"
+
+
+@dataclasses.dataclass(frozen=True)
+class Change:
+    file: str
+    old: str
+    new: str
+
+
+@dataclasses.dataclass
+class Edit:
+    """An edit with its changes, the functions that are checked for it, and those whose verdicts count: these and the changed ones."""
+
+    path: str
+    changes: list
+    named: list
+    functions: list = dataclasses.field(default_factory=list)
+    judged: list = dataclasses.field(default_factory=list)
+
+    @property
+    def files(self):
+        return {it.file for it in self.changes}
+
+
+class Unreadable(Exception):
+    """Why an edit can't be made."""
+
+
+def read(path):
+    """The edit in a file."""
+    changes, named, file, old = [], [], None, None
+    with open(path, encoding="utf-8") as lines:
+        for line in lines.read().split("\n"):
+            word, _, text = line.partition(": ")
+            if word == "file":
+                file = text.strip()
+            elif word == "fn":
+                named.append(text.strip())
+            elif word == "old":
+                old = text
+            elif word in ("new", "new:"):
+                if not file or not old:
+                    raise Unreadable("a line 'new:' stands before any 'file:' or 'old:'")
+                changes.append(Change(file, old, text))
+    if not changes:
+        raise Unreadable("it has no 'old:' and 'new:'")
+    return Edit(path, changes, named)
+
+
+def text_of(folder, file):
+    with open(os.path.join(folder, file), encoding="utf-8") as it:
+        return it.read()
+
+
+def changed(texts, changes):
+    """These texts with the changes made, or Unreadable where an old text doesn't stand once."""
+    texts = dict(texts)
+    for it in changes:
+        found = texts[it.file].count(it.old)
+        if found != 1:
+            raise Unreadable(f"an old text stands in {it.file} {found} times, and not once")
+        texts[it.file] = texts[it.file].replace(it.old, it.new)
+    return texts
+
+
+FN = re.compile(r'^( *)(?:pub(?:\([a-z]+\))? )?(?:const |unsafe |extern "C" )*fn (\w+)', re.M)
+IMPL = re.compile(r"^(?:unsafe )?impl\b(?:<[^{]*?>)? (?:[^{]*? for )?&?(?:'\w+ )?(?:\w+::)*(\w+)", re.M)
+
+
+def module_of(file):
+    """The module that a file of src/ holds: [] for the root."""
+    parts = file.removeprefix("src/").removesuffix(".rt").split("/")
+    return [] if parts in (["lib"], ["main"]) else parts
+
+
+def function_at(file, text, at):
+    """The path below the crate of the function that holds this place of a file; None if none does."""
+    before = [it for it in FN.finditer(text) if it.start() <= at]
+    if not before:
+        return None
+    last = before[-1]
+    inside = []
+    if last[1]:
+        impls = [it for it in IMPL.finditer(text) if it.start() < last.start()]
+        inside = [impls[-1][1]] if impls else []
+    return "::".join([*module_of(file), *inside, last[2]])
+
+
+def prepare(edit, folder):
+    """Finds the functions that have to be refused: those that the edit names, or those whose bodies change."""
+    changed_ones = changed_functions(edit, folder)
+    edit.functions = edit.named or changed_ones
+    edit.judged = [*edit.functions, *(it for it in changed_ones if it not in edit.functions)]
+
+
+def changed_functions(edit, folder):
+    """The functions whose bodies change; none where a change is in no function."""
+    found = []
+    for it in edit.changes:
+        if not it.file.startswith("src/"):
+            return []
+        text = text_of(folder, it.file)
+        name = function_at(it.file, text, text.find(it.old))
+        if name is None:
+            return []
+        found += [name] if name not in found else []
+    return found
+
+
+# What the prover says of a function, and where it says why.
+LINE = re.compile(r"^fn (\S+): (.*)", re.M)
+TOLD = re.compile(r"^(?:note: )?(?:\./)?(\S+?):\d+:\d+: (?:(error): )?(.*)", re.M)
+WAITS = re.compile(r"it calls|wait for a callee|depends on")
+OWN = re.compile(r"`search` did not prove|could not tell|antt has no verdict")
+# What it says of a text that it can't read, rather than of one that it refuses.
+MISREAD = re.compile(r"is not in scope|has no field|is no name|operand is missing|expected the end|cannot continue")
+# A proof file that names what an edit took away, and what cites that proof.
+TAKEN_AWAY = re.compile(r"has no field|is not in scope|has no `|was not admitted|which was rejected, was not checked|is no name")
+
+
+def unread(said, files):
+    """The first line that says that a text of the contracts or of an edited file can't be read; None if there is none."""
+    for line in said.split("\n"):
+        found = re.match(r"(?:\./)?(\S+?):\d+:\d+: error: (?:(`[^`]*`): )?(.*)", line)
+        if found and (found[1] in files or found[1].startswith(("src/", "specs/"))):
+            if not found[2] or MISREAD.search(re.sub(r"`[^`]*`", "", found[3])):
+                return line
+    return None
+
+
+def lines_of(said, crate):
+    """What is said of each function, by its path below the crate."""
+    return {name.removeprefix(f"{crate}::"): rest for name, rest in LINE.findall(said)}
+
+
+def of_function(said, function):
+    """The line of a function that is named by its path or by the end of it; None if there is none or several."""
+    found = [it for it in said if it == function or it.endswith(f"::{function}")]
+    return said[found[0]] if len(found) == 1 else None
+
+
+class Verdict(enum.Enum):
+    """What one check shows of one function."""
+
+    CLAUSE = 1
+    NAMES = 2
+    PROVED = 3
+    CALLEE = 4
+    UNKNOWN = 5
+
+
+def errors_of(said, function):
+    """What is told of a function's own proof files."""
+    folder = f"proofs/{function.replace('::', '/')}/"
+    return [why for file, error, why in TOLD.findall(said) if file.startswith(folder) and error]
+
+
+def verdict_of(said, crate, function):
+    """What a check shows of a function whose body, or a callee's, was changed."""
+    line = of_function(lines_of(said, crate), function)
+    if line is None:
+        return Verdict.UNKNOWN
+    if re.match(r"proved\b", line):
+        return Verdict.PROVED
+    if OWN.search(line):
+        return Verdict.CLAUSE
+    errors = errors_of(said, function)
+    if any(not TAKEN_AWAY.search(it) for it in errors):
+        return Verdict.CLAUSE
+    if errors:
+        return Verdict.NAMES
+    return Verdict.CALLEE if WAITS.search(line) else Verdict.UNKNOWN
+
+
+@dataclasses.dataclass
+class Checked:
+    said: str
+    status: int
+    seconds: float
+    wall: float
+
+
+def check(crate, rtlib, texts, only=()):
+    """Checks a copy of a crate with these texts in place of its own: from nothing, these functions alone, or all of it."""
+    with tempfile.TemporaryDirectory(prefix="wrong-bodies-") as room:
+        for part in rtlib.PARTS:
+            if os.path.isdir(os.path.join(crate.folder, part)):
+                shutil.copytree(os.path.join(crate.folder, part), os.path.join(room, part))
+        for file, text in texts.items():
+            with open(os.path.join(room, file), "w", encoding="utf-8") as it:
+                it.write(text)
+        words = [rtlib.RATTLE, "check", *crate.words(["--jobs", "1"], keeps=False)]
+        words += [word for name in only for word in ("--only", name)]
+        started = time.time()
+        with tempfile.TemporaryFile() as said:
+            ran = subprocess.Popen([*rtlib.guarded(), *words], cwd=room, stdin=subprocess.DEVNULL, stdout=said, stderr=said)
+            _, status, used = os.wait4(ran.pid, 0)
+            ran.returncode = os.waitstatus_to_exitcode(status)  # so that it isn't waited for again
+            said.seek(0)
+            text = said.read().decode(errors="replace")
+    return Checked(text, ran.returncode, used.ru_utime + used.ru_stime, time.time() - started)
