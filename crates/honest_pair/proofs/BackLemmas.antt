@@ -280,7 +280,7 @@ goes_on old new a v aw f r vw mem an i sl sh = record {
         record {
           shapes = sh;
           stands = λ wirings start es h.
-              (record { queue = 0; answer = a; event = i.event } ∷ [], i.stands wirings start es h, append-nil (listed i.event) ∙ t.0);
+              (record { queue = 0; answer = a; event = i.event } ∷ [], i.stands wirings start es h, (refl, tt), append-nil (listed i.event) ∙ t.0);
         },
         back_follows bw p p.at g.0 refl g.3,
       );
@@ -341,7 +341,7 @@ wakes old new aw wo f r mem sl = record {
           received = ap (λ x. map bytes_in x.items) r ∙ s.received ∙ sym same.2;
           turns = subst (λ (x : World). AllKept p'.turns (kept_in x.turns.items 0)) (sym wo) (subst (λ x. AllKept x (kept_in old.world.turns.items 0)) (sym same.3) s.turns);
         },
-        record { shapes = ap (λ (x : World). x.counters.shapes) wo; stands = λ wirings start es h. ([], subst (λ (x : World). Stands x wirings start (es ++ [])) (sym wo) (subst (Stands old.world wirings start) (sym (append-nil es)) h), sym same.4) },
+        record { shapes = ap (λ (x : World). x.counters.shapes) wo; stands = λ wirings start es h. ([], subst (λ (x : World). Stands x wirings start (es ++ [])) (sym wo) (subst (Stands old.world wirings start) (sym (append-nil es)) h), tt, sym same.4) },
         back_follows bw p p.at 0 refl same.5,
       );
 }

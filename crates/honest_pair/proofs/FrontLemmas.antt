@@ -131,7 +131,7 @@ module _ (old new : Held) (world : new.world ≡ old.world) (asleep : new.asleep
   }
 
   stays : GoesOn old.world new.world []
-  stays = record { shapes = ap (λ (x : World). x.counters.shapes) world; stands = λ wirings start es h. ([], subst (λ (x : World). Stands x wirings start (es ++ [])) (sym world) (subst (Stands old.world wirings start) (sym (append-nil es)) h), refl) }
+  stays = record { shapes = ap (λ (x : World). x.counters.shapes) world; stands = λ wirings start es h. ([], subst (λ (x : World). Stands x wirings start (es ++ [])) (sym world) (subst (Stands old.world wirings start) (sym (append-nil es)) h), tt, refl) }
 
 pub not_done : (t : Steps Ending) → want_of t ≢ want.Done → IsGoing t
 not_done (done e) n = absurd (n refl)

@@ -35,6 +35,7 @@ use Rattle.pair_machine.specs.Traces.{Follows, Traced}
 use Rattle.pair_machine.proofs.TraceLemmas.{follows_more, follows_none, opened_traced}
 use Rattle.honest_pair.proofs.CopyLemmas.{delivers}
 use Rattle.xdp_world.specs.Entries.{Entry, events_of, listed, steps_of}
+use Rattle.xdp_world.specs.Replay.{AreOf}
 use Rattle.xdp_world.specs.Stands.{Stands, kept_in}
 use Rattle.xdp_world.specs.declared.world.World.{World}
 use Rattle.honest_pair.specs.Events.{event_in, events_in}
@@ -59,13 +60,17 @@ own_more [] m = refl
 own_more (e ∷ l) m =
     ap (λ y. (if e.queue == 0 then listed e.event else []) ++ y) (own_more l m) ∙ sym (append_assoc (if e.queue == 0 then listed e.event else []) (events_of 0 l) (events_of 0 m))
 
+are_more : (a b : List Entry) → AreOf 0 a → AreOf 0 b → AreOf 0 (a ++ b)
+are_more [] b h g = g
+are_more (e ∷ a) b h g = (h.0, are_more a b h.1 g)
+
 goes_more : (a b c : World) (l m : List Event) → GoesOn a b l → GoesOn b c m → GoesOn a c (l ++ m)
 goes_more a b c l m g h = record {
   shapes = h.shapes ∙ g.shapes;
   stands = λ wirings start es s.
       let x = g.stands wirings start es s in
       let y = h.stands wirings start (es ++ x.0) x.1 in
-      (x.0 ++ y.0, subst (Stands c wirings start) (append_assoc es x.0 y.0) y.1, own_more x.0 y.0 ∙ (λ i. x.2 i ++ y.2 i));
+      (x.0 ++ y.0, subst (Stands c wirings start) (append_assoc es x.0 y.0) y.1, are_more x.0 y.0 x.2 y.2, own_more x.0 y.0 ∙ (λ i. x.3 i ++ y.3 i));
 }
 
 with_more : (es : List PairEvent) (g : List (PairEvent × ℕ)) (e : PairEvent) (n : ℕ) → GoWith es g → n < 2 ^ 64 → GoWith (es ++ e ∷ []) (g ++ (e, n) ∷ [])
@@ -79,7 +84,7 @@ bytes_more [] e h b = (b, tt)
 bytes_more (x ∷ es) e h b = (h.0, bytes_more es e h.1 b)
 
 pub done_none : (h : Held) → HasDone h h []
-done_none h = record { bytes = tt; does = λ bw fw p s. ([], tt, s, record { shapes = refl; stands = λ wirings start es x. ([], subst (Stands h.world wirings start) (sym (append-nil es)) x, refl) }, follows_none bw p) }
+done_none h = record { bytes = tt; does = λ bw fw p s. ([], tt, s, record { shapes = refl; stands = λ wirings start es x. ([], subst (Stands h.world wirings start) (sym (append-nil es)) x, tt, refl) }, follows_none bw p) }
 
 pub done_more : (old mid new : Held) (es : List PairEvent) (e : PairEvent) → HasDone old mid es → Does mid new e → HasDone old new (es ++ e ∷ [])
 done_more old mid new es e h d = record {
@@ -166,7 +171,7 @@ is_run program start called r old new b cons small fresh mem aw none sh done rec
     let kept : AllKept (run bw fw p a.0).turns (kept_in r.report.turns.items 0) = subst (λ l. AllKept (run bw fw p a.0).turns (kept_in l 0)) (sym turns) a.2.turns in
     let got : map bytes_in r.received.items ≡ (run bw fw p a.0).received = ap (λ v. map bytes_in v.items) rec ∙ a.2.received in
     let traced : Traced bw start (events_of 0 x.0) (run bw fw p a.0) =
-    subst (λ l. Traced bw start l (run bw fw p a.0)) (sym x.2) (a.4 start [] (opened_traced bw start p refl refl refl)) in
+    subst (λ l. Traced bw start l (run bw fw p a.0)) (sym x.3) (a.4 start [] (opened_traced bw start p refl refl refl)) in
     record {
       back = bw;
       front = fw;
@@ -178,7 +183,8 @@ is_run program start called r old new b cons small fresh mem aw none sh done rec
       called_are = a.1;
       steps = steps_of x.0;
       core = record { wirings = b.wirings; wired = b.wired; entries = x.0; steps_are = refl; count = count; shapes = shapes ∙ a.3.shapes ∙ sh; reports = reports b.wirings start x.0 x.1 };
-      own = x.2;
+      alone = x.2;
+      own = x.3;
       faithful = logs bw fw p a.0;
       honest = honest;
       turns = kept;

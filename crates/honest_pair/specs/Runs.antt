@@ -12,6 +12,7 @@ use Rattle.pair_machine.specs.Memory.{opening_word}
 use Rattle.pair_machine.specs.Pair.{Pair, PairEvent, opening, run}
 use Rattle.pair_machine.specs.Traces.{Follows}
 use Rattle.xdp_world.specs.Entries.{Entry, events_of}
+use Rattle.xdp_world.specs.Replay.{AreOf}
 use Rattle.xdp_world.specs.Report.{IsCoreRun}
 use Rattle.xdp_world.specs.Stands.{kept_in}
 use Rattle.honest_pair.specs.Copies.{Delivers}
@@ -38,7 +39,7 @@ pub record HasDone (old new : Held) (es : List PairEvent) : Type 0 where
       × Follows bw p (run bw fw p given) (back_events bw fw p given)
 
 -- The run of a pair through these events. `events` are they with the numbers that answered the counters' operations.
---   core, own: the back's events are a core run with the report's turns, history and totals.
+--   core, alone, own: the back's events, and no others, are a core run with the report's turns, history and totals.
 --   faithful: each read of either end answers what was last written to its place, else its opening word.
 --   honest: neither end is halted, and a back that sleeps with no notice pending, while the front is inside no send, has answered all.
 --   turns, received: the report's turns are the pair's, and what was received are the packets that its polls gave.
@@ -54,6 +55,7 @@ pub record IsPairRun (program : Accepted) (start : ℕ) (called : List PairEvent
   pub called_are : GoWith called events
   pub steps : List (ℕ × ℕ)
   pub core : IsCoreRun program 1 0 start steps r.report
+  pub alone : AreOf 0 core.entries
   pub own : events_of 0 core.entries ≡ back_events back front (opening state start) events
   pub faithful : IsFaithful (opening_word start) (log back front (opening state start) events)
   pub honest : Honest (run back front (opening state start) events)

@@ -19,6 +19,7 @@ use Rattle.pair_machine.specs.Pair.{Activity, Free, Sending, Posting, Polling, B
 use Rattle.pair_machine.specs.Traces.{Follows}
 use Rattle.xdp_world.specs.Entries.{Entry, events_of}
 use Rattle.xdp_world.specs.Keeping.{Keeps}
+use Rattle.xdp_world.specs.Replay.{AreOf}
 use Rattle.xdp_world.specs.Stands.{Stands, kept_in}
 use Rattle.xdp_world.specs.declared.kept.Kept.{Kept}
 use Rattle.xdp_world.specs.declared.kept.Kept.TheVariants as kept
@@ -76,7 +77,7 @@ pub record Shows (bw : BackWiring) (fw : FrontWiring) (held : Held) (p : Pair) :
 pub record GoesOn (old new : World) (events : List Event) : Type 0 where
   pub shapes : new.counters.shapes ≡ old.counters.shapes
   pub stands : (wirings : ℕ → BackWiring) (start : ℕ) (es : List Entry) → Stands old wirings start es →
-      (more : List Entry) × Stands new wirings start (es ++ more) × (events_of 0 more ≡ events)
+      (more : List Entry) × Stands new wirings start (es ++ more) × AreOf 0 more × (events_of 0 more ≡ events)
 
 -- The pair has done this event.
 pub record Does (old new : Held) (e : PairEvent) : Type 0 where
