@@ -1,6 +1,9 @@
 //! Programs of the tests.
+ghost use Rattle.std.specs.Prelude.{IfSome};
+ghost use Rattle.bpf_note.specs.Shape.{IsCounter};
 
 use bpf_insn::decode;
+use bpf_maps::MapShape;
 use bpf_verify::{Verified, verify};
 use std::alloc::{AllocError, Global};
 
@@ -39,6 +42,22 @@ pub(crate) const FIRST_BYTE: &[u64] = &[
     0x95000000_00000000, // exit
 ];
 
+/// Adds 1 to counter 1 of a map for each packet, which passes.
+#[rattlefmt::skip]
+const COUNTS: &[u64] = &[
+    0x620afcff_01000000, // *(u32 *)(r10 - 4) = 1
+    0xbfa20000_00000000, // r2 = r10
+    0x07020000_fcffffff, // r2 += -4
+    0x18110000_00000000, // r1 = map 0
+    0x00000000_00000000,
+    0x85000000_01000000, // call 1
+    0x15000200_00000000, // if r0 == 0 goto +2
+    0xb7010000_01000000, // r1 = 1
+    0xdb100000_00000000, // lock *(u64 *)(r0 + 0) += r1
+    0xb7000000_02000000, // r0 = 2
+    0x95000000_00000000, // exit
+];
+
 /// Adds the bytes of slots.
 fn add_bytes(bytes: &mut Vec<u8>, slots: &[u64]) -> Result<(), AllocError> {
     for slot in slots {
@@ -62,4 +81,15 @@ pub(crate) fn accepted(alloc: Global, slots: &[u64]) -> Option<Verified> {
         Ok(()) => accepted_bytes(alloc, bytes.as_slice()),
         Err(_) => None,
     }
+}
+
+/// [`COUNTS`] with its map of two counters.
+pub(crate) fn counting(alloc: Global) -> Option<Verified>
+    ensures { IfSome result (λ program. IsCounter program.shapes 0 1 0) }
+{
+    let mut bytes = Vec::new(alloc);
+    add_bytes(&mut bytes, COUNTS).ok()?;
+    let code = decode(alloc, bytes.as_slice()).ok()?;
+    let hits = MapShape::of(2, 1)?;
+    verify(alloc, code, &[hits]).ok()
 }

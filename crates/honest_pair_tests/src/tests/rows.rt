@@ -2,7 +2,8 @@
 
 use crate::plan::{Plan, packet};
 use crate::tests::looks::turns;
-use crate::tests::programs::{PASS, SEND, accepted};
+use crate::tests::programs::{PASS, SEND, accepted, counting};
+use bpf_maps::Op;
 use bpf_vm::Action;
 use honest_pair::{Pair, PairEvent, PairRun};
 use std::alloc::{AllocError, Global};
@@ -248,6 +249,84 @@ fn a_packet_comes_back(rt: HostRuntime) {
         let early = run(rt.alloc(), SEND, start, &entries[..7]);
         assert_eq!(rt; early.map(|seen| seen.received), Some(0));
         assert_eq!(rt; run(rt.alloc(), SEND, start, &entries), Some(wanted));
+    }
+}
+
+/// The back's notice is due with its last step.
+#[test]
+fn a_packet_that_is_sent_back_takes_31_steps(rt: HostRuntime) {
+    for start in STARTS {
+        for (steps, count) in [(30, 0), (31, 1)] {
+            let entries = [
+                Entry::Post,
+                Entry::Front(7),
+                Entry::Send(7),
+                Entry::Front(12),
+                Entry::Back(steps),
+            ];
+            let seen = run(rt.alloc(), SEND, start, &entries);
+            assert_eq!(rt; seen.map(|seen| seen.count), Some(count), "{steps} steps");
+        }
+    }
+}
+
+/// The post's notice is due with its seventh step, so a send before it finds the front busy.
+#[test]
+fn a_post_takes_seven_steps(rt: HostRuntime) {
+    let idle = Some(Kind::Idle);
+    let busy = [
+        Entry::Post,
+        Entry::Front(6),
+        Entry::Send(7),
+        Entry::Front(20),
+        Entry::Back(100),
+    ];
+    let free = [
+        Entry::Post,
+        Entry::Front(7),
+        Entry::Send(7),
+        Entry::Front(20),
+        Entry::Back(100),
+    ];
+    for start in STARTS {
+        let seen = run(rt.alloc(), PASS, start, &busy);
+        assert_eq!(rt; seen, only(1, [idle, None, None, None]));
+        let seen = run(rt.alloc(), PASS, start, &free);
+        assert_eq!(rt; seen, only(2, [ran(Action::Pass, 7), idle, None, None]));
+    }
+}
+
+/// The queue, the word and the operations of a run of a program that counts each packet.
+fn counted(
+    alloc: Global,
+    start: u32,
+    entries: &[Entry],
+) -> Option<(usize, u64, Option<(usize, Op)>)> {
+    let mut plan = Plan::new(alloc);
+    add_all(&mut plan, entries).ok()?;
+    let program = counting(alloc)?;
+    let run = Pair::run(alloc, &program, start, plan.events()).ok()?;
+    let first = run.report.history.first().copied();
+    Some((
+        run.report.history.len(),
+        run.report.totals.at(0, 1, 0),
+        first,
+    ))
+}
+
+#[test]
+fn a_packet_is_counted(rt: HostRuntime) {
+    let entries = [Entry::Send(7), Entry::Front(12), Entry::Back(100)];
+    let add = Op::Add {
+        m: 0,
+        k: 1,
+        j: 0,
+        delta: 1,
+        old: 0,
+    };
+    for start in STARTS {
+        let seen = counted(rt.alloc(), start, &entries);
+        assert_eq!(rt; seen, Some((1, 1, Some((0, add)))));
     }
 }
 
