@@ -201,12 +201,12 @@ def verdict_of(said, crate, function):
         return Verdict.PROVED
     if OWN.search(line):
         return Verdict.CLAUSE
+    if WAITS.search(line):
+        return Verdict.CALLEE
     errors = errors_of(said, function)
-    if any(not TAKEN_AWAY.search(it) for it in errors):
-        return Verdict.CLAUSE
-    if errors:
-        return Verdict.NAMES
-    return Verdict.CALLEE if WAITS.search(line) else Verdict.UNKNOWN
+    if not errors:
+        return Verdict.UNKNOWN
+    return Verdict.NAMES if all(TAKEN_AWAY.search(it) for it in errors) else Verdict.CLAUSE
 
 
 @dataclasses.dataclass
