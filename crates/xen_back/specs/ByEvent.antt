@@ -1,0 +1,42 @@
+-- What contracts see of a delivery that is taken one event at a time.
+use Rattle.std.specs.Prelude.{ℕ, ◌≡◌, List, length}
+use Rattle.xen_steps.specs.Answers.{number}
+use Rattle.xen_steps.specs.Steps.{Steps, done, next}
+use Rattle.xen_steps.specs.declared.want.Answer.{Answer}
+use Rattle.xen_back.specs.Deliveries.{Arrival, rest_moving, whole_delivery}
+use Rattle.xen_back.specs.Queues.{IsReady, IsResting, IsSameWiring, state_of, wiring_of}
+use Rattle.xen_back.specs.declared.underway.Delivering.{Delivering}
+use Rattle.xen_back.specs.declared.delivering.Delivery.{Delivery}
+use Rattle.xen_back.specs.declared.queue.Queue.{Queue}
+use Rattle.xen_back.specs.declared.state.State.{State}
+
+-- what is left of a delivery
+abbrev pub left_of : Delivering → Steps Arrival
+left_of d = rest_moving d.vif d.state d.moving
+
+-- how many frames there are, in which each place lies that it wants
+abbrev pub frames_of : Delivering → ℕ
+frames_of d = length d.vif.owners.now
+
+-- A delivery that was begun by a queue as it is.
+pub record IsDeliveryOf (q : Queue) (d : Delivering) : Type 0 where
+  pub vif : d.vif ≡ (wiring_of q).vif
+  pub state : d.state ≡ state_of q
+
+-- All of a packet's delivery is left.
+pub record IsBegun (q : Queue) (packet : List ℕ) (d : Delivering) : Type 0 where
+  pub left : left_of d ≡ whole_delivery (wiring_of q).vif (state_of q) packet
+  pub own : IsDeliveryOf q d
+
+-- A delivery that was fed an answer: what it has left is what follows that answer.
+pub record IsDeliveryFed (answer : Answer) (old new : Delivering) : Type 0 where
+  pub left : left_of new ≡ next (left_of old) (number answer)
+  pub vif : new.vif ≡ old.vif
+  pub state : new.state ≡ old.state
+
+-- A delivery is over, and the queue goes on behind it.
+pub record IsDeliveryOver (old new : Queue) (d : Delivering) (result : Delivery) : Type 0 where
+  pub over : left_of d ≡ done (state_of new, result)
+  pub ready : IsReady new
+  pub resting : IsResting new
+  pub same : IsSameWiring old new
