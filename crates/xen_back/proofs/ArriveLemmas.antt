@@ -1,4 +1,4 @@
--- A delivery comes to an end, within the frames; and its runs are the rows of its table.
+-- A delivery ends, within the frames; and its runs are the rows of its table.
 use Rattle.std.proofs.Common.{◌≡◌, ℕ, ◌<◌, ◌^◌, Bool, true, false, List, [], ◌∷◌, ◌++◌, length, Option, Some, None, refl, sym, subst, append-nil, arith}
 use Rattle.xen_steps.specs.Drive.{Any, IsPageWant}
 use Rattle.xen_steps.specs.Answers.{Fits, number, word_in}

@@ -1,5 +1,6 @@
--- A host waits for rx slots: a row for each thing that it may be told.
--- It is the end of ring.h's RING_FINAL_CHECK_FOR_REQUESTS, for as many requests as a packet has pages: req_event is stored, and req_prod read behind it.
+-- A host waits for rx slots: a row for each answer.
+-- It is the end of ring.h's RING_FINAL_CHECK_FOR_REQUESTS, for as many requests as a packet has pages: req_event is stored,
+-- and req_prod read behind it.
 use Rattle.std.specs.Prelude.{ℕ, ◌≡◌, ◌<◌, ◌≤◌, ◌^◌, List, [], ◌∷◌, Option, Some, None}
 use Rattle.xen_page.specs.Access.{Performs}
 use Rattle.xen_page.specs.declared.access.Access.{Access}
@@ -21,7 +22,7 @@ use Rattle.xen_back.specs.declared.wiring.Wiring.{Wiring}
 abbrev pub last_look : Vif → ℕ → ℕ → ℕ → List Event
 last_look w x pages p = Write (rx_word w 1) (add32 x pages) ∷ Read (rx_word w 0) p ∷ []
 
--- What the host is told, the trace, and the state after it.
+-- The trace, the state after it, and the answer.
 pub data IsAwaiting (w : Wiring) (s : State) (pages : ℕ) : List Event → State → Awaited → Type 0 where
   still_halted : (cause : Halt) → s.halt ≡ Some cause → IsAwaiting w s pages [] s (awaited.Halted cause)
   overflown : (p : ℕ) → s.halt ≡ None → p < 2 ^ 32 → available s.rx_index p ≡ None →
@@ -31,8 +32,9 @@ pub data IsAwaiting (w : Wiring) (s : State) (pages : ℕ) : List Event → Stat
   waiting : (p m : ℕ) → s.halt ≡ None → p < 2 ^ 32 → available s.rx_index p ≡ Some m → m < pages →
       IsAwaiting w s pages (last_look w.vif s.rx_index pages p) s awaited.Waiting
 
--- A host asked to be told of so many slots: its accesses are the bus's.
-pub record HasAwaited {S : Type 0} (log : S → Option (List Access)) (gives : S → Access → S → Type 0) (old new : Queue) (pages : ℕ) (result : Awaited) (bus bus' : S) : Type 0 where
+-- A host waits for so many slots: its accesses are the bus's.
+pub record HasAwaited {S : Type 0} (log : S → Option (List Access)) (gives : S → Access → S → Type 0)
+    (old new : Queue) (pages : ℕ) (result : Awaited) (bus bus' : S) : Type 0 where
   pub trace : List Event
   pub is_awaiting : IsAwaiting (wiring_of old) (state_of old) pages trace (state_of new) result
   pub performed : Performs log gives bus (accesses trace) bus'

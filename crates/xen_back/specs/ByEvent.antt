@@ -1,8 +1,11 @@
 -- What contracts see of a delivery that is taken one event at a time.
-use Rattle.std.specs.Prelude.{ℕ, ◌≡◌, List, length}
+use Rattle.std.specs.Prelude.{ℕ, ◌≡◌, ◌≢◌, List, length}
 use Rattle.xen_steps.specs.Answers.{number}
-use Rattle.xen_steps.specs.Steps.{Steps, done, next}
+use Rattle.xen_steps.specs.Drive.{IsPageWant}
+use Rattle.xen_steps.specs.Steps.{Steps, done, next, want_of}
 use Rattle.xen_steps.specs.declared.want.Answer.{Answer}
+use Rattle.xen_steps.specs.declared.want.Want.{Want}
+use Rattle.xen_steps.specs.declared.want.Want.TheVariants as wants
 use Rattle.xen_back.specs.Deliveries.{Arrival, rest_moving, whole_delivery}
 use Rattle.xen_back.specs.Queues.{IsReady, IsResting, IsSameWiring, state_of, wiring_of}
 use Rattle.xen_back.specs.declared.underway.Delivering.{Delivering}
@@ -31,6 +34,14 @@ pub record IsBegun (q : Queue) (packet : List ℕ) (d : Delivering) : Type 0 whe
 -- A delivery that was fed an answer: what it has left is what follows that answer.
 pub record IsDeliveryFed (answer : Answer) (old new : Delivering) : Type 0 where
   pub left : left_of new ≡ next (left_of old) (number answer)
+  pub vif : new.vif ≡ old.vif
+  pub state : new.state ≡ old.state
+
+-- A delivery that was asked what it wants.
+pub record IsDeliveryAsked (wanted : Want) (old new : Delivering) : Type 0 where
+  pub want : wanted ≡ want_of (left_of old)
+  pub within : wanted ≢ wants.Done → IsPageWant (frames_of old) wanted
+  pub left : left_of new ≡ left_of old
   pub vif : new.vif ≡ old.vif
   pub state : new.state ≡ old.state
 

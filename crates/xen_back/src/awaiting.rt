@@ -19,7 +19,7 @@ use crate::wiring::Wiring;
 use xen_page::Bus;
 use xen_steps::requests_shown;
 
-/// What a host that waits for rx slots is told.
+/// The answer to a host that waits for rx slots.
 #[derive(Clone, Copy, Debug, PartialEq, Eq)]
 pub enum Awaited {
     /// So many are posted by now, and no notice need come for them.
@@ -30,7 +30,7 @@ pub enum Awaited {
     Halted { cause: Halt },
 }
 
-/// What a host is told where the producer shows so many slots.
+/// The answer where the producer shows so many slots.
 fn told(state: &State, pages: u32, shown: Option<u32>) -> (State, Awaited)
     ensures { (w : WiringView) (p : ℕ) → state.now.halt ≡ None → p < 2 ^ 32 → available state.now.rx_index p ≡ shown
         → IsAwaiting w state.now pages (last_look w.vif state.now.rx_index pages p) result.0 result.1 }

@@ -6,7 +6,7 @@ ghost use Rattle.xen_steps.specs.Drive.{IsPageWant};
 ghost use Rattle.xen_steps.specs.Steps.{done, next_by, want_of};
 ghost use Rattle.xen_transmit.specs.Wired.{IsWired};
 ghost use Rattle.xen_back.specs.Delivered.{is_frame};
-ghost use Rattle.xen_back.specs.ByEvent.{IsBegun, IsDeliveryFed, IsDeliveryOf, IsDeliveryOver, frames_of, left_of};
+ghost use Rattle.xen_back.specs.ByEvent.{IsBegun, IsDeliveryAsked, IsDeliveryFed, IsDeliveryOf, IsDeliveryOver, frames_of, left_of};
 ghost use Rattle.xen_back.specs.Deliveries.{Arrival, rest_moving, unless_halted, whole_delivery};
 ghost use Rattle.xen_back.specs.Queues.{IsResting, state_of, wiring_of};
 
@@ -110,7 +110,8 @@ fn moving_fed<'d>(vif: &Vif, state: &State, moving: Moving<'d>, word: u32) -> Mo
 
 /// A delivery after an event of its transmit.
 fn sending_fed<'d>(vif: &Vif, state: &State, sending: Sending<'d>, word: u32) -> Moving<'d>
-    ensures { (counter : ℕ) → rest_moving vif.now state.now result ≡ next_by (rest_moving vif.now state.now (Moving.Sending sending.entry)) word counter }
+    ensures { (counter : ℕ) → rest_moving vif.now state.now result
+        ≡ next_by (rest_moving vif.now state.now (Moving.Sending sending.entry)) word counter }
 {
     let Sending { packet, transmit } = sending;
     match transmit.feed(vif, state.rx_index, packet, word) {
@@ -142,6 +143,13 @@ impl<'p, 'd> Delivering<'p, 'd> {
         ensures want { result ≡ want_of (left_of self.now) }
         ensures within { result ≢ Want.Done → IsPageWant (frames_of self.now) result }
         ensures over { result ≡ Want.Done → (end : Arrival) × (left_of self.now ≡ done end) }
+    {
+        moving_want(&self.vif, &self.state, &self.moving)
+    }
+
+    /// What the delivery wants next, for a caller that holds it by `&mut`.
+    pub fn wanted(&mut self) -> Want
+        ensures { IsDeliveryAsked result self.old self.new }
     {
         moving_want(&self.vif, &self.state, &self.moving)
     }

@@ -73,7 +73,8 @@ fn transmitted<B: Bus>(
     requires size { B.size bus.old ≡ length wiring.now.vif.owners.now }
     requires wired { IsWired wiring.now.vif }
     ensures size { B.size bus.new ≡ B.size bus.old }
-    ensures delivered { (p : List Event) × IsDelivery wiring.now state.now packet.now p result.0 result.1 × Performs B.log B.access_gives bus.old (accesses p) bus.new }
+    ensures delivered { (p : List Event) × IsDelivery wiring.now state.now packet.now p result.0 result.1
+        × Performs B.log B.access_gives bus.old (accesses p) bus.new }
 {
     // Only the proof uses what this call ensures: what a transmit is.
     transmits_are_runs();
@@ -97,7 +98,8 @@ fn sent_out<B: Bus>(
     requires size { B.size bus.old ≡ length wiring.now.vif.owners.now }
     requires wired { IsWired wiring.now.vif }
     ensures size { B.size bus.new ≡ B.size bus.old }
-    ensures delivered { (p : List Event) × IsDelivery wiring.now state.now packet.now p result.0 result.1 × Performs B.log B.access_gives bus.old (accesses p) bus.new }
+    ensures delivered { (p : List Event) × IsDelivery wiring.now state.now packet.now p result.0 result.1
+        × Performs B.log B.access_gives bus.old (accesses p) bus.new }
 {
     if can_be_delivered(packet) {
         transmitted(wiring, state, packet, bus, ports)

@@ -73,7 +73,7 @@ pub fn queues_have_rests()
         (p : List Event) × (new : State) × (u : Turned) × Runs rest p (new, u) × IsTurn w s (t ++ p) new u }
 {}
 
-/// A delivery by events comes to the rows of a delivery in one go, and to each of them.
+/// The ways of a delivery by events to its end are exactly the deliveries.
 pub fn deliveries_are_rests()
     ensures rests { (w : Wiring) (s : State) (packet : List ℕ) (p : List Event) (after : State) (what : Delivery)
         → Runs (whole_delivery w.vif s packet) p (after, what) → IsDelivery w s packet p after what }
@@ -81,17 +81,22 @@ pub fn deliveries_are_rests()
         → IsDelivery w s packet p after what → Runs (whole_delivery w.vif s packet) p (after, what) }
 {}
 
-/// A delivery makes at most 16,483 accesses, and touches the rings, the table and the frames that were granted to it, and
-/// nothing else.
+/// A delivery makes at most 16,483 accesses, and sends at most one notice. It touches the rings, the table and the frames
+/// that were granted to it, and nothing else.
 pub fn deliveries_are_bounded()
     ensures accesses { (w : Wiring) (s : State) (packet : List ℕ) (p : List Event) (after : State) (what : Delivery)
         → IsDelivery w s packet p after what → length (accesses p) ≤ 16483 }
+    ensures notices { (w : Wiring) (s : State) (packet : List ℕ) (p : List Event) (after : State) (what : Delivery)
+        → IsDelivery w s packet p after what → notices_in p ≤ 1 }
     ensures touches { (w : Wiring) (s : State) (packet : List ℕ) (p : List Event) (after : State) (what : Delivery)
         → IsDelivery w s packet p after what → AllAllowed w.vif p p }
 {}
 
-/// Who awaits rx slots is told: a push from fewer slots to so many, or more, owes a notice. One that stays below owes none.
+/// Where a host awaits rx slots, a push from fewer slots to so many, or more, owes a notice, and one that stays below owes
+/// none.
 pub fn awaited_slots_are_told()
-    ensures told { (x m n pages : ℕ) → x < 2 ^ 32 → m < pages → pages ≤ n → n ≤ 256 → is_due (add32 x m) (add32 x n) (add32 x pages) ≡ true }
-    ensures below { (x m n pages : ℕ) → x < 2 ^ 32 → m ≤ n → n < pages → pages ≤ 256 → is_due (add32 x m) (add32 x n) (add32 x pages) ≡ false }
+    ensures told { (x m n pages : ℕ) → x < 2 ^ 32 → m < pages → pages ≤ n → n ≤ 256
+        → is_due (add32 x m) (add32 x n) (add32 x pages) ≡ true }
+    ensures below { (x m n pages : ℕ) → x < 2 ^ 32 → m ≤ n → n < pages → pages ≤ 256
+        → is_due (add32 x m) (add32 x n) (add32 x pages) ≡ false }
 {}

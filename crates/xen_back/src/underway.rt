@@ -6,7 +6,8 @@ use crate::moving::Moving;
 use crate::state::State;
 use xen_transmit::Vif;
 
-/// A delivery of a packet that is taken one event at a time.
+/// A delivery of a packet that is taken one event at a time: [`Queue::begin_delivery`](crate::Queue::begin_delivery) makes
+/// it, and [`Queue::end_delivery`](crate::Queue::end_delivery) ends it. It lends the packet.
 #[derive(Drop)]
 pub struct Delivering<'p, 'd> {
     pub(crate) vif: Vif<'p>,
