@@ -11,7 +11,6 @@ use Rattle.xen_back.specs.Queues.{IsReady, IsResting, IsSameWiring, state_of, wi
 use Rattle.xen_back.specs.declared.underway.Delivering.{Delivering}
 use Rattle.xen_back.specs.declared.delivering.Delivery.{Delivery}
 use Rattle.xen_back.specs.declared.queue.Queue.{Queue}
-use Rattle.xen_back.specs.declared.state.State.{State}
 
 -- what is left of a delivery
 abbrev pub left_of : Delivering → Steps Arrival

@@ -6,7 +6,7 @@ use Rattle.xen_steps.specs.Drive.{accesses}
 use Rattle.xen_steps.specs.Event.{Event}
 use Rattle.xen_transmit.specs.Sending.{IsTransmit}
 use Rattle.xen_transmit.specs.declared.phase.Outcome.TheVariants as outcome
-use Rattle.xen_back.specs.Queues.{IsReady, IsSameWiring, rest, state_of, wiring_of}
+use Rattle.xen_back.specs.Queues.{IsReady, IsSameWiring, state_of, wiring_of}
 use Rattle.xen_back.specs.Responses.{moved}
 use Rattle.xen_back.specs.declared.delivering.Delivery.{Delivery}
 use Rattle.xen_back.specs.declared.delivering.Delivery.TheVariants as delivery

@@ -8,7 +8,7 @@ ghost use Rattle.xen_transmit.specs.Wired.{IsWired};
 ghost use Rattle.xen_back.specs.Delivered.{is_frame};
 ghost use Rattle.xen_back.specs.ByEvent.{IsBegun, IsDeliveryAsked, IsDeliveryFed, IsDeliveryOf, IsDeliveryOver, frames_of, left_of};
 ghost use Rattle.xen_back.specs.Deliveries.{Arrival, rest_moving, unless_halted, whole_delivery};
-ghost use Rattle.xen_back.specs.Queues.{IsResting, state_of, wiring_of};
+ghost use Rattle.xen_back.specs.Queues.{IsResting};
 
 use crate::delivering::{Delivery, can_be_delivered, delivered};
 use crate::moving::{Moving, Sending};

@@ -1,5 +1,5 @@
-use Rattle.std.proofs.Common.{◌≡◌, ℕ, ap, sym, subst, ◌∙◌}
-use Rattle.xen_steps.specs.Steps.{bind, done, next_by}
+use Rattle.std.proofs.Common.{ap, sym, ◌∙◌}
+use Rattle.xen_steps.specs.Steps.{bind, done}
 use Rattle.xen_steps.proofs.BindLemmas.{next_bind}
 use Rattle.xen_transmit.specs.Rest.{rest_after, rest_of}
 use Rattle.xen_transmit.specs.declared.transmit.Progress.{Progress}
