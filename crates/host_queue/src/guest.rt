@@ -59,3 +59,10 @@ pub fn send(pages: &mut Pages) {
     put(pages, TX, FIRST_SLOT + 2, 0x1_0000 * LENGTH);
     put(pages, TX, REQ_PROD, 1);
 }
+
+/// A buffer for a packet of the host's: its id 0 and the page's reference; then the producer.
+pub fn post(pages: &mut Pages) {
+    put(pages, RX, FIRST_SLOT, 0);
+    put(pages, RX, FIRST_SLOT + 1, PAGE);
+    put(pages, RX, REQ_PROD, 1);
+}

@@ -2,7 +2,7 @@
 #![tactic(auto)]
 
 ghost use Rattle.std.specs.Prelude.{◌≡◌, IfOk, length};
-ghost use Rattle.xen_back.specs.Queues.{IsReady, wiring_of};
+ghost use Rattle.xen_back.specs.Queues.{IsReady, IsResting, IsSameWiring, wiring_of};
 ghost use Rattle.xen_page.specs.Table.{IsTable};
 
 mod bus;
@@ -11,19 +11,22 @@ mod guest;
 
 use crate::bus::Pages;
 use crate::fault::Fault;
-use crate::guest::{BACK, FRONT, OWNERS, RX, TABLE, TX, lend, send};
+use crate::guest::{BACK, FRONT, OWNERS, RX, TABLE, TX, lend, post, send};
 use bpf_insn::decode;
 use bpf_maps::Counters;
 use bpf_verify::{Verified, verify};
 use bpf_vm::Buffer;
 use std::alloc::Global;
 use std::io;
-use xen_back::{Queue, QueueDesc, Turn};
+use xen_back::{Awaited, Delivery, Queue, QueueDesc, Turn};
 use xen_page::{Owners, Table, map};
 use xen_ring::{Port, Ports};
 
 /// `r0 = 2` and `exit`: each packet passes.
 const PASSES: &[u8] = b"\xb7\x00\x00\x00\x02\x00\x00\x00\x95\x00\x00\x00\x00\x00\x00\x00";
+
+/// What the host answers the guest: an Ethernet header.
+const ANSWER: &[u8] = b"\x02\x00\x00\x00\x00\x01\x02\x00\x00\x00\x00\x02\x88\xb5";
 
 /// What a host does with a turn: this one prints it.
 fn take(rt: &HostRuntime, turn: Turn<'_>) -> io::Result<()> {
@@ -48,6 +51,7 @@ fn queue<'p, 'b>(
     requires table { IsTable owners.now 1 table.now }
     requires frames { length owners.now ≡ 5 }
     ensures ready { IfOk result IsReady }
+    ensures resting { IfOk result IsResting }
     ensures owners { IfOk result (λ q. (wiring_of q).vif.owners.now ≡ owners.now) }
     ensures program { IfOk result (λ q. (wiring_of q).program.now ≡ program.now) }
 {
@@ -66,7 +70,32 @@ fn queue<'p, 'b>(
     Ok(Queue::make(program, desc, room))
 }
 
-/// Two turns of a queue: one packet, and then none.
+/// Delivers the answer, or asks to be told once the guest has posted a buffer for it.
+fn answer(
+    rt: &HostRuntime,
+    queue: &mut Queue<'_, '_>,
+    pages: &mut Pages,
+    ports: &Ports,
+) -> io::Result<()>
+    requires resting { IsResting queue.old }
+    requires frames { length (wiring_of queue.old).vif.owners.now ≡ 5 }
+    ensures resting { IsResting queue.new }
+    ensures same { IsSameWiring queue.old queue.new }
+{
+    match queue.deliver(ANSWER, pages, ports) {
+        Delivery::Sent { slots } => println!(rt; "sent, slots: {slots}"),
+        Delivery::FewSlots => match queue.await_slots(1, pages) {
+            Awaited::Posted => println!(rt; "a buffer is there by now"),
+            Awaited::Waiting => println!(rt; "waiting for a buffer"),
+            Awaited::Halted { .. } => println!(rt; "halted"),
+        },
+        Delivery::Refused { .. } => println!(rt; "refused"),
+        Delivery::Halted { .. } => println!(rt; "halted"),
+        Delivery::NoFrame => println!(rt; "no packet"),
+    }
+}
+
+/// Two turns of a queue, one packet and then none; and an answer to it, before the guest posts a buffer and after it.
 fn serve(rt: &HostRuntime, alloc: Global) -> Result<(), Fault> {
     let code = decode(alloc, PASSES).map_err(|_| Fault::Refused)?;
     let program = verify(alloc, code, &[]).map_err(|_| Fault::Refused)?;
@@ -86,6 +115,9 @@ fn serve(rt: &HostRuntime, alloc: Global) -> Result<(), Fault> {
             queue.drive_turn(&mut pages, &counters, &mut seat, &ports),
         )?;
     }
+    answer(rt, &mut queue, &mut pages, &ports)?;
+    post(&mut pages);
+    answer(rt, &mut queue, &mut pages, &ports)?;
     Ok(())
 }
 

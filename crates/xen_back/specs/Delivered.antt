@@ -6,7 +6,7 @@ use Rattle.xen_steps.specs.Drive.{accesses}
 use Rattle.xen_steps.specs.Event.{Event}
 use Rattle.xen_transmit.specs.Sending.{IsTransmit}
 use Rattle.xen_transmit.specs.declared.phase.Outcome.TheVariants as outcome
-use Rattle.xen_back.specs.Queues.{IsReady, IsSameWiring, rest, state_of, wiring_of}
+use Rattle.xen_back.specs.Queues.{IsReady, IsSameWiring, state_of, wiring_of}
 use Rattle.xen_back.specs.Responses.{moved}
 use Rattle.xen_back.specs.declared.delivering.Delivery.{Delivery}
 use Rattle.xen_back.specs.declared.delivering.Delivery.TheVariants as delivery
@@ -26,14 +26,17 @@ pub data IsDelivery (w : Wiring) (s : State) (packet : List ℕ) : List Event �
   still_halted : (cause : Halt) → is_frame packet ≡ true → s.halt ≡ Some cause → IsDelivery w s packet [] s (delivery.Halted cause)
   overflown : (p : List Event) → is_frame packet ≡ true → s.halt ≡ None → IsTransmit w.vif s.rx_index packet p outcome.Overflow →
       IsDelivery w s packet p (record s { halt = Some halt.RxProducer }) (delivery.Halted halt.RxProducer)
-  few : (p : List Event) → is_frame packet ≡ true → s.halt ≡ None → IsTransmit w.vif s.rx_index packet p outcome.TooFew → IsDelivery w s packet p s delivery.FewSlots
-  refused : (p : List Event) (used : ℕ) → is_frame packet ≡ true → s.halt ≡ None → IsTransmit w.vif s.rx_index packet p (outcome.Refused used) →
+  few : (p : List Event) → is_frame packet ≡ true → s.halt ≡ None → IsTransmit w.vif s.rx_index packet p outcome.TooFew →
+      IsDelivery w s packet p s delivery.FewSlots
+  refused : (p : List Event) (used : ℕ) → is_frame packet ≡ true → s.halt ≡ None →
+      IsTransmit w.vif s.rx_index packet p (outcome.Refused used) →
       IsDelivery w s packet p (moved s used) (delivery.Refused used)
   sent : (p : List Event) (used : ℕ) → is_frame packet ≡ true → s.halt ≡ None → IsTransmit w.vif s.rx_index packet p (outcome.Sent used) →
       IsDelivery w s packet p (moved s used) (delivery.Sent used)
 
 -- A packet was delivered, or why not: its trace is a delivery's, and its accesses are the bus's.
-pub record IsDelivered {S : Type 0} (log : S → Option (List Access)) (gives : S → Access → S → Type 0) (old new : Queue) (packet : List ℕ) (result : Delivery) (bus bus' : S) : Type 0 where
+pub record IsDelivered {S : Type 0} (log : S → Option (List Access)) (gives : S → Access → S → Type 0)
+    (old new : Queue) (packet : List ℕ) (result : Delivery) (bus bus' : S) : Type 0 where
   pub trace : List Event
   pub is_delivery : IsDelivery (wiring_of old) (state_of old) packet trace (state_of new) result
   pub performed : Performs log gives bus (accesses trace) bus'

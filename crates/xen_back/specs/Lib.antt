@@ -16,3 +16,6 @@ pub mod Alone
 pub mod Ran
 pub mod Held
 pub mod Delivered
+pub mod Awaited
+pub mod Deliveries
+pub mod ByEvent

@@ -7,6 +7,7 @@ ghost use Rattle.xen_steps.specs.Event.{Event};
 ghost use Rattle.xen_transmit.specs.Sending.{IsTransmit};
 ghost use Rattle.xen_transmit.specs.Wired.{IsWired};
 ghost use Rattle.xen_back.specs.Delivered.{IsDelivered, IsDelivery, is_frame};
+ghost use Rattle.xen_back.specs.Deliveries.{arrival};
 ghost use Rattle.xen_back.specs.Queues.{IsResting, wiring_of};
 ghost use Rattle.xen_back.specs.declared.wiring.Wiring.{Wiring as WiringView};
 
@@ -37,16 +38,17 @@ pub enum Delivery {
 }
 
 /// Whether a packet can be delivered.
-fn can_be_delivered(packet: &[u8]) -> bool
+pub(crate) fn can_be_delivered(packet: &[u8]) -> bool
     ensures { result ≡ is_frame packet.now }
 {
     !(packet.len() < 14 || packet.len() > 65_535)
 }
 
 /// What a transmit of the host's packet came to.
-fn delivered(state: &State, outcome: Outcome) -> (State, Delivery)
-    ensures { (w : WiringView) (packet : List ℕ) (p : List Event) → is_frame packet ≡ true → state.now.halt ≡ None → IsTransmit w.vif state.now.rx_index packet p outcome
-        → IsDelivery w state.now packet p result.0 result.1 }
+pub(crate) fn delivered(state: &State, outcome: Outcome) -> (State, Delivery)
+    ensures arrival { arrival state.now outcome ≡ (result.0, result.1) }
+    ensures rows { (w : WiringView) (packet : List ℕ) (p : List Event) → is_frame packet ≡ true → state.now.halt ≡ None
+        → IsTransmit w.vif state.now.rx_index packet p outcome → IsDelivery w state.now packet p result.0 result.1 }
 {
     match outcome {
         Outcome::Overflow => {
@@ -71,7 +73,8 @@ fn transmitted<B: Bus>(
     requires size { B.size bus.old ≡ length wiring.now.vif.owners.now }
     requires wired { IsWired wiring.now.vif }
     ensures size { B.size bus.new ≡ B.size bus.old }
-    ensures delivered { (p : List Event) × IsDelivery wiring.now state.now packet.now p result.0 result.1 × Performs B.log B.access_gives bus.old (accesses p) bus.new }
+    ensures delivered { (p : List Event) × IsDelivery wiring.now state.now packet.now p result.0 result.1
+        × Performs B.log B.access_gives bus.old (accesses p) bus.new }
 {
     // Only the proof uses what this call ensures: what a transmit is.
     transmits_are_runs();
@@ -95,7 +98,8 @@ fn sent_out<B: Bus>(
     requires size { B.size bus.old ≡ length wiring.now.vif.owners.now }
     requires wired { IsWired wiring.now.vif }
     ensures size { B.size bus.new ≡ B.size bus.old }
-    ensures delivered { (p : List Event) × IsDelivery wiring.now state.now packet.now p result.0 result.1 × Performs B.log B.access_gives bus.old (accesses p) bus.new }
+    ensures delivered { (p : List Event) × IsDelivery wiring.now state.now packet.now p result.0 result.1
+        × Performs B.log B.access_gives bus.old (accesses p) bus.new }
 {
     if can_be_delivered(packet) {
         transmitted(wiring, state, packet, bus, ports)

@@ -1,20 +1,25 @@
-//! Laws of turns.
+//! Laws of turns and of deliveries.
 
-ghost use Rattle.std.specs.Prelude.{ℕ, ◌<◌, ◌≤◌, ◌^◌, ◌++◌, List, [], ◌∷◌, Option, length};
+ghost use Rattle.std.specs.Prelude.{ℕ, ◌≡◌, ◌<◌, ◌≤◌, ◌^◌, ◌++◌, List, [], ◌∷◌, Option, length, true, false};
 ghost use Rattle.xen_netif.specs.declared.fragment.Fragment.{Fragment};
 ghost use Rattle.bpf_verify.specs.Consistent.{IsConsistent, instructions};
 ghost use Rattle.xen_steps.specs.Answers.{Fits, counter_in, number, word_in};
 ghost use Rattle.xen_steps.specs.Drive.{Goes, Gone, accesses, notices_in, program_events};
+ghost use Rattle.xen_ring.specs.Index.{is_due};
 ghost use Rattle.xen_steps.specs.Event.{Event};
+ghost use Rattle.xen_steps.specs.Places.{add32};
 ghost use Rattle.xen_back.specs.Program.{IsProgram};
 ghost use Rattle.xen_steps.specs.Steps.{Runs, Steps, next, want_of};
 ghost use Rattle.xen_steps.specs.declared.want.Answer.{Answer};
 ghost use Rattle.xen_transmit.specs.Touched.{AllAllowed};
+ghost use Rattle.xen_back.specs.Delivered.{IsDelivery};
+ghost use Rattle.xen_back.specs.Deliveries.{whole_delivery};
 ghost use Rattle.xen_back.specs.Tree.{Left, copy, program, run_of, whole_turn};
 ghost use Rattle.xen_back.specs.Turned.{Ending, Turned};
 ghost use Rattle.xen_back.specs.Once.{CoveredDistinct, FragmentsOnce, PostedDistinct, SlotsOnce, TargetsOnce, TurnsOnce};
 ghost use Rattle.xen_back.specs.Parts.{IsCopy};
 ghost use Rattle.xen_back.specs.Turns.{IsTurn};
+ghost use Rattle.xen_back.specs.declared.delivering.Delivery.{Delivery};
 ghost use Rattle.xen_back.specs.declared.state.State.{State};
 ghost use Rattle.xen_back.specs.declared.wiring.Wiring.{Wiring};
 
@@ -66,4 +71,32 @@ pub fn queues_have_rests()
     ensures { (w : Wiring) (s : State) → IsConsistent w.program.now → w.ifindex < 2 ^ 32 → w.queue < 2 ^ 32 →
         (t : List Event) (rest : Steps Ending) → Gone (whole_turn w s) t rest →
         (p : List Event) × (new : State) × (u : Turned) × Runs rest p (new, u) × IsTurn w s (t ++ p) new u }
+{}
+
+/// The ways of a delivery by events to its end are exactly the deliveries.
+pub fn deliveries_are_rests()
+    ensures rests { (w : Wiring) (s : State) (packet : List ℕ) (p : List Event) (after : State) (what : Delivery)
+        → Runs (whole_delivery w.vif s packet) p (after, what) → IsDelivery w s packet p after what }
+    ensures deliveries { (w : Wiring) (s : State) (packet : List ℕ) (p : List Event) (after : State) (what : Delivery)
+        → IsDelivery w s packet p after what → Runs (whole_delivery w.vif s packet) p (after, what) }
+{}
+
+/// A delivery makes at most 16,483 accesses, and sends at most one notice. It touches the rings, the table and the frames
+/// that were granted to it, and nothing else.
+pub fn deliveries_are_bounded()
+    ensures accesses { (w : Wiring) (s : State) (packet : List ℕ) (p : List Event) (after : State) (what : Delivery)
+        → IsDelivery w s packet p after what → length (accesses p) ≤ 16483 }
+    ensures notices { (w : Wiring) (s : State) (packet : List ℕ) (p : List Event) (after : State) (what : Delivery)
+        → IsDelivery w s packet p after what → notices_in p ≤ 1 }
+    ensures touches { (w : Wiring) (s : State) (packet : List ℕ) (p : List Event) (after : State) (what : Delivery)
+        → IsDelivery w s packet p after what → AllAllowed w.vif p p }
+{}
+
+/// Where a host awaits rx slots, a push from fewer slots to so many, or more, owes a notice, and one that stays below owes
+/// none.
+pub fn awaited_slots_are_told()
+    ensures told { (x m n pages : ℕ) → x < 2 ^ 32 → m < pages → pages ≤ n → n ≤ 256
+        → is_due (add32 x m) (add32 x n) (add32 x pages) ≡ true }
+    ensures below { (x m n pages : ℕ) → x < 2 ^ 32 → m ≤ n → n < pages → pages ≤ 256
+        → is_due (add32 x m) (add32 x n) (add32 x pages) ≡ false }
 {}

@@ -3,6 +3,8 @@
 #![tactic(auto)]
 
 mod answering;
+mod awaiting;
+mod by_event;
 mod calls;
 mod copy;
 mod copy_buf;
@@ -18,6 +20,7 @@ pub mod laws;
 mod lone;
 mod looking;
 mod making;
+mod moving;
 mod pages;
 mod phase;
 mod queue;
@@ -28,15 +31,18 @@ mod stage;
 mod state;
 mod straight;
 mod turn;
+mod underway;
 mod wanting;
 mod wiring;
 
+pub use awaiting::Awaited;
 pub use bpf_vm::Action;
 pub use delivering::Delivery;
 pub use desc::QueueDesc;
 pub use queue::Queue;
 pub use state::State;
 pub use turn::{Halt, Kind, Refusal, Turn};
+pub use underway::Delivering;
 pub use wiring::Wiring;
 pub use xen_steps::{Answer, Want};
 pub use xen_transmit::Vif;

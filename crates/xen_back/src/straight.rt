@@ -91,14 +91,14 @@ fn read_producer<B: Bus>(bus: &mut B, frame: u32) -> u32
     bus.read(header(frame, REQ_PROD))
 }
 
-/// Stores the event index, and reads the producer behind it.
-fn announce_next<B: Bus>(bus: &mut B, frame: u32, state: &State) -> u32
+/// Stores an event index, and reads the producer behind it.
+pub(crate) fn look_behind<B: Bus>(bus: &mut B, frame: u32, event: u32) -> u32
     requires { frame < B.size bus.old }
     ensures size { B.size bus.new ≡ B.size bus.old }
     ensures word { result < 2 ^ 32 }
-    ensures read { Performs B.log B.access_gives bus.old (accesses.Write (page_word frame 1) (add32 state.now.tx_index 1) ∷ accesses.Read (page_word frame 0) result ∷ []) bus.new }
+    ensures read { Performs B.log B.access_gives bus.old (accesses.Write (page_word frame 1) event ∷ accesses.Read (page_word frame 0) result ∷ []) bus.new }
 {
-    bus.write(header(frame, REQ_EVENT), state.tx_index.wrapping_add(1));
+    bus.write(header(frame, REQ_EVENT), event);
     bus.read(header(frame, REQ_PROD))
 }
 
@@ -109,7 +109,7 @@ fn look_again<B: Bus>(wiring: &Wiring, state: &State, bus: &mut B) -> Option<u32
     ensures driven { (t : List Event) × Driven B.log B.access_gives (bind (announce wiring.now state.now.tx_index) (after_look wiring.now state.now))
         (after_look wiring.now state.now result) bus.old bus.new [] [] t }
 {
-    let producer = announce_next(bus, wiring.vif.tx, state);
+    let producer = look_behind(bus, wiring.vif.tx, state.tx_index.wrapping_add(1));
     requests_shown(state.tx_index, producer)
 }
 

@@ -1,8 +1,10 @@
 //! Turns over a bus that answers from a list, and the same turns by hand.
 
+mod awaits;
 mod bounds;
 mod chains;
 mod copies;
+mod deliveries;
 mod driving;
 mod fixtures;
 mod kind;

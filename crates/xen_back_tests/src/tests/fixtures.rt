@@ -112,7 +112,7 @@ pub fn answer_to(want: Want, word: u32) -> Option<Answer>
 }
 
 /// The access that the queue wants; a read of it gives this word.
-fn access_to(want: Want, answer: u32) -> Option<Access> {
+pub fn access_to(want: Want, answer: u32) -> Option<Access> {
     match want {
         Want::Read(at) => Some(Access::Read { at, answer }),
         Want::Write(at, value) => Some(Access::Write { at, value }),
@@ -148,7 +148,7 @@ pub fn feed_turn(
 }
 
 /// Whether a notice was sent to the queue's port.
-fn is_notified(ports: &Ports) -> bool {
+pub fn is_notified(ports: &Ports) -> bool {
     match Port::of(1) {
         Some(port) => ports.take(port),
         None => false,

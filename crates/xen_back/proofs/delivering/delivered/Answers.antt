@@ -7,28 +7,28 @@ use Rattle.xen_back.specs.declared.state.State.{State}
 use Rattle.xen_back.specs.declared.turn.Halt.TheVariants as halt
 use Rattle.xen_back.proofs.delivering.delivered.Goals as goal
 
-pub returns-in-Overflow : goal.returns-in-Overflow
-returns-in-Overflow c =
+pub returns-in-Overflow-clause-rows : goal.returns-in-Overflow-clause-rows
+returns-in-Overflow-clause-rows c =
     let s = c.args.state.now in
     λ w packet p frame none t.
     subst (λ (after : State). IsDelivery w s packet p after (delivery.Halted halt.RxProducer)) (sym c.halted.ensures)
     (overflown p frame none (subst (λ (o : Outcome). IsTransmit w.vif s.rx_index packet p o) c.in-Overflow.is t))
 
-pub returns-in-TooFew : goal.returns-in-TooFew
-returns-in-TooFew c =
+pub returns-in-TooFew-clause-rows : goal.returns-in-TooFew-clause-rows
+returns-in-TooFew-clause-rows c =
     let s = c.args.state.now in
     λ w packet p frame none t. few p frame none (subst (λ (o : Outcome). IsTransmit w.vif s.rx_index packet p o) c.in-TooFew.is t)
 
-pub returns-in-Refused : goal.returns-in-Refused
-returns-in-Refused c =
+pub returns-in-Refused-clause-rows : goal.returns-in-Refused-clause-rows
+returns-in-Refused-clause-rows c =
     let s = c.args.state.now in
     let used = c.in-Refused.slots in
     λ w packet p frame none t.
     subst (λ (after : State). IsDelivery w s packet p after (delivery.Refused used)) (sym c.after_slots.ensures)
     (refused p used frame none (subst (λ (o : Outcome). IsTransmit w.vif s.rx_index packet p o) c.in-Refused.is t))
 
-pub returns-in-Sent : goal.returns-in-Sent
-returns-in-Sent c =
+pub returns-in-Sent-clause-rows : goal.returns-in-Sent-clause-rows
+returns-in-Sent-clause-rows c =
     let s = c.args.state.now in
     let used = c.in-Sent.slots in
     λ w packet p frame none t.

@@ -19,6 +19,6 @@ returns-in-None-clause-delivered g c =
     let o = c.send_packet.result in
     let runs = runs_of_gone (transmit w.vif s.rx_index packet) (done o) d.0 o d.1.gone refl in (
       d.0,
-      c.delivered.ensures w packet d.0 c.requires.frame c.in-None.is (c.transmits_are_runs.ensures.runs w.vif s.rx_index packet d.0 o runs),
+      c.delivered.ensures.rows w packet d.0 c.requires.frame c.in-None.is (c.transmits_are_runs.ensures.runs w.vif s.rx_index packet d.0 o runs),
       d.1.performed,
     )

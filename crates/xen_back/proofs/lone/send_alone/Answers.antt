@@ -1,14 +1,12 @@
-use Rattle.std.proofs.Common.{◌≡◌, [], ◌∷◌, ◌++◌, List, ℕ, Result, refl, sym, ◌∙◌, ap, subst}
+use Rattle.std.proofs.Common.{[], ◌∷◌, ◌++◌, List, ℕ, refl, sym, ◌∙◌, ap, subst}
 use Rattle.xen_steps.specs.Drive.{Driven as DrivenPages}
 use Rattle.xen_steps.specs.Steps.{Steps, done}
 use Rattle.xen_transmit.specs.Transmit.{transmit}
 use Rattle.xen_back.specs.Drive.{Driven}
 use Rattle.xen_back.specs.Rest.{after_reply}
-use Rattle.xen_back.specs.Tree.{after_transmit, answered, respond, send}
+use Rattle.xen_back.specs.Tree.{answered, respond, send}
 use Rattle.xen_back.specs.Turned.{Ending, turned}
-use Rattle.xen_back.specs.declared.reply.Reply.{Reply}
 use Rattle.xen_back.specs.declared.state.State.{State}
-use Rattle.xen_back.specs.declared.turn.Halt.{Halt}
 use Rattle.xen_back.specs.declared.turn.Kind.TheVariants as kinds
 use Rattle.xen_back.proofs.AloneLemmas.{sent_driven}
 use Rattle.xen_back.proofs.DriveLemmas.{driven_append}

@@ -14,7 +14,7 @@ returns-clause-driven g c =
     let gives = g.B.Bus.access_gives in
     let w = c.args.wiring.now in
     let s = c.args.state.now in
-    let p = c.announce_next-producer in
+    let p = c.look_behind-producer in
     let t : List Event = Write (tx_word w.vif 1) (add32 s.tx_index 1) ∷ Read (tx_word w.vif 0) p.result ∷ [] in
     let d = look_again_read log gives w s p.result c.args.bus.now p.new.bus p.ensures.word p.ensures.read in
     (t, subst (λ (o : Option ℕ). Driven log gives (bind (announce w s.tx_index) (after_look w s)) (after_look w s o) c.args.bus.now p.new.bus [] [] t) (sym c.requests_shown.ensures) d)

@@ -1,0 +1,16 @@
+use Rattle.std.proofs.Common.{subst, sym}
+use Rattle.xen_back.specs.Rest.{rest_in}
+use Rattle.xen_back.specs.Within.{Completes}
+use Rattle.xen_back.specs.declared.stage.Stage.{Stage}
+use Rattle.xen_back.proofs.queue.Queue.await_slots.Goals as goal
+
+pub invariant_of-self : goal.invariant_of-self
+invariant_of-self g c =
+    let q = c.args.self.now in
+    let after = c.looked_for-awaited.result.0 in
+    record {
+      here = q.here;
+      wired = q.wired;
+      turns = q.turns;
+      left = subst (λ (s : Stage). Completes q.wiring (rest_in q.wiring after s)) (sym c.requires.resting.1) (q.turns after);
+    }
