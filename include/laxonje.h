@@ -138,7 +138,8 @@ struct laxonje_queue {
 #define LAXONJE_QUEUE_NONE { 0, 0 }
 
 /* What a queue is made of: the frames of the two rings' pages, the frontend's domain and the backend's own, the port of the
- * frontend's event channel, what the program is told, and the index at which both rings begin: 0 for new rings. */
+ * frontend's event channel, what the program is told, and the indices at which the rings are gone on with: 0 for new rings,
+ * else those of laxonje_queue_state. */
 struct laxonje_queue_desc {
 	uint32_t tx;
 	uint32_t rx;
@@ -147,7 +148,8 @@ struct laxonje_queue_desc {
 	uint32_t port;
 	uint32_t ifindex;
 	uint32_t queue;
-	uint32_t start;
+	uint32_t tx_index;
+	uint32_t rx_index;
 };
 
 /* The first that is wrong. */
@@ -197,6 +199,20 @@ enum laxonje_halt {
 	LAXONJE_HALT_RX_PRODUCER      /* the rx producer is more than a ring ahead */
 };
 
+enum laxonje_standing {
+	LAXONJE_STANDS_NOT, /* there is no queue, or it is inside a turn */
+	LAXONJE_STANDS,     /* between two turns */
+	LAXONJE_STANDS_HALTED /* halted, for the cause `halt` */
+};
+
+/* Where a queue stands between two turns: the next index of each ring. */
+struct laxonje_queue_standing {
+	uint32_t kind;
+	uint32_t tx_index;
+	uint32_t rx_index;
+	uint32_t halt;
+};
+
 /* What a host does next. `frame` is below the number of owners, and `word + count` at most LAXONJE_PAGE_WORDS. Of a turn that
  * is over, `ops` is how many operations on counters its run did, and `slots` how many slots the packet took. */
 struct laxonje_op {
@@ -219,10 +235,13 @@ LAXONJE_ASSERT(offsetof(struct laxonje_result, instructions) == 8);
 LAXONJE_ASSERT(sizeof(struct laxonje_packet) == 16 && offsetof(struct laxonje_packet, length) == 8);
 LAXONJE_ASSERT(sizeof(struct laxonje_program) == 16 && offsetof(struct laxonje_program, live) == 8);
 LAXONJE_ASSERT(sizeof(struct laxonje_queue) == 16 && offsetof(struct laxonje_queue, live) == 8);
-LAXONJE_ASSERT(sizeof(struct laxonje_queue_desc) == 28 && offsetof(struct laxonje_queue_desc, rx) == 4);
+LAXONJE_ASSERT(sizeof(struct laxonje_queue_desc) == 32 && offsetof(struct laxonje_queue_desc, rx) == 4);
 LAXONJE_ASSERT(offsetof(struct laxonje_queue_desc, granter) == 8 && offsetof(struct laxonje_queue_desc, user) == 10);
 LAXONJE_ASSERT(offsetof(struct laxonje_queue_desc, port) == 12 && offsetof(struct laxonje_queue_desc, ifindex) == 16);
-LAXONJE_ASSERT(offsetof(struct laxonje_queue_desc, queue) == 20 && offsetof(struct laxonje_queue_desc, start) == 24);
+LAXONJE_ASSERT(offsetof(struct laxonje_queue_desc, queue) == 20 && offsetof(struct laxonje_queue_desc, tx_index) == 24);
+LAXONJE_ASSERT(offsetof(struct laxonje_queue_desc, rx_index) == 28);
+LAXONJE_ASSERT(sizeof(struct laxonje_queue_standing) == 16 && offsetof(struct laxonje_queue_standing, tx_index) == 4);
+LAXONJE_ASSERT(offsetof(struct laxonje_queue_standing, rx_index) == 8 && offsetof(struct laxonje_queue_standing, halt) == 12);
 LAXONJE_ASSERT(sizeof(struct laxonje_op) == 32 && offsetof(struct laxonje_op, frame) == 4);
 LAXONJE_ASSERT(offsetof(struct laxonje_op, word) == 8 && offsetof(struct laxonje_op, count) == 12);
 LAXONJE_ASSERT(offsetof(struct laxonje_op, turn) == 16 && offsetof(struct laxonje_op, number) == 20);
@@ -283,6 +302,9 @@ struct laxonje_op laxonje_queue_step(struct laxonje_queue *queue, uint32_t *word
 /* Copies the packet of the turn that is over, as far as there is room, and answers how long it is. It is there until the next
  * step: no bytes before the first turn, inside a turn, and with no queue. */
 size_t laxonje_queue_packet(struct laxonje_queue *queue, uint8_t *out, size_t out_bytes);
+
+/* Where a queue stands between two turns: what another queue of the same rings is made with, to go on in its place. */
+struct laxonje_queue_standing laxonje_queue_state(struct laxonje_queue *queue);
 
 /* Frees a queue. With none, it does nothing. A host frees it between two turns, and unmaps the guest's pages then. */
 void laxonje_queue_free(struct laxonje_queue *queue);

@@ -22,7 +22,8 @@ given owners table d =
       port = d.port;
       ifindex = d.ifindex;
       queue = d.queue;
-      start = d.start;
+      tx_index = d.tx_index;
+      rx_index = d.rx_index;
     }
 
 -- the numbers of include/laxonje.h

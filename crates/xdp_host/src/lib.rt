@@ -17,8 +17,9 @@ ghost use Rattle.xdp_host.specs.Batch.{RanEach};
 ghost use Rattle.xdp_host.specs.Ran.{IsNotRun, action_number};
 ghost use Rattle.xdp_host.specs.Verdict.{accepting, verdict_of, wanting};
 ghost use Rattle.bpf_vm.specs.Actions.{action_of};
-ghost use Rattle.xen_host.specs.Queues.{packet_of};
+ghost use Rattle.xen_host.specs.Queues.{packet_of, resting};
 ghost use Rattle.xdp_host.specs.Made.{MakesOr, fault_number, given};
+ghost use Rattle.xdp_host.specs.Ops.{no_state, state_or};
 ghost use Rattle.xdp_host.specs.Stepped.{AreEnough, AreFew, HasStepped, IsNotStepped, IsNothing};
 
 mod batch;
@@ -40,7 +41,7 @@ pub use plain::{XdpMap, XdpRun, XdpVerdict};
 use queue_calls::{boxed, copied, stepped};
 pub use queue_fault::QueueFault;
 pub use queue_handle::XdpQueue;
-pub use queue_plain::{XdpOp, XdpQueueDesc};
+pub use queue_plain::{XdpOp, XdpQueueDesc, XdpQueueState};
 use std::alloc::Global;
 
 /// The version of `include/laxonje.h`.
@@ -67,7 +68,8 @@ pub extern "C" fn laxonje_load(
     maps: &[XdpMap],
     out: &mut XdpProgram,
 ) -> XdpVerdict
-    ensures answers { MatchOption out.new.slot.held (Refuses program.now maps.now result) (λ h. Accepts program.now maps.now h.program result) }
+    ensures answers { MatchOption out.new.slot.held (Refuses program.now maps.now result)
+        (λ h. Accepts program.now maps.now h.program result) }
     ensures accepted { (code : List Insn) → Spells code program.now → IsFaultless code (shapes_of maps.now) → AreWithin maps.now →
         AcceptsUnlessWanting result }
 {
@@ -99,7 +101,8 @@ pub extern "C" fn laxonje_again(
 ) -> XdpVerdict
     ensures kept { program.new.slot.held ≡ program.old.slot.held }
     ensures again { IfSome out.new.slot.held (λ h. (program.old.slot.held ≡ Some h) × (result ≡ accepting (instructions h.program.code))) }
-    ensures none { IfNone out.new.slot.held (MatchOption program.old.slot.held (result ≡ verdict_of Fault.Empty) (λ _. result ≡ verdict_of wanting)) }
+    ensures none { IfNone out.new.slot.held (MatchOption program.old.slot.held (result ≡ verdict_of Fault.Empty)
+        (λ _. result ≡ verdict_of wanting)) }
 {
     let again = match program.take(alloc) {
         Some(held) => {
@@ -199,7 +202,8 @@ pub extern "C" fn laxonje_place(
     counter: u32,
 ) -> usize
     ensures kept { program.new.slot.held ≡ program.old.slot.held }
-    ensures there { IfSome program.old.slot.held (λ h. IsCounter h.program.shapes map value counter → result ≡ place_of h.program.shapes map value counter) }
+    ensures there { IfSome program.old.slot.held (λ h. IsCounter h.program.shapes map value counter → result
+        ≡ place_of h.program.shapes map value counter) }
     ensures none { IfSome program.old.slot.held (λ h. (IsCounter h.program.shapes map value counter → ⊥) → result ≡ usize.MAX) }
     ensures empty { IfNone program.old.slot.held (result ≡ usize.MAX) }
 {
@@ -223,6 +227,7 @@ pub extern "C" fn laxonje_free(alloc: Global, program: &mut XdpProgram)
 
 /// Makes a queue, which has the program once more, in place of what `out` held. The answer is 0, or which of the values is wrong;
 /// then `out` holds what it held.
+#[tactic(auto, using(crate::proofs::MadeLemmas::makes_or))]
 #[unsafe(no_mangle)]
 pub extern "C" fn laxonje_queue_make(
     alloc: Global,
@@ -237,15 +242,14 @@ pub extern "C" fn laxonje_queue_make(
         MakesOr h.program (given owners.now table.now desc.now) out.old.slot.held out.new.slot.held result) }
     ensures none { IfNone program.old.slot.held ((result ≡ fault_number QueueFault.Empty) × (out.new.slot.held ≡ out.old.slot.held)) }
 {
-    let made = match program.take(alloc) {
+    match program.take(alloc) {
         Some(held) => {
             let made = boxed(alloc, &held.program, owners, table, desc);
             program.put(held);
-            made.map_err(QueueFault::Make)
+            out.set(made)
         }
-        None => Err(QueueFault::Empty),
-    };
-    out.set(made)
+        None => QueueFault::Empty.number(),
+    }
 }
 
 /// Goes on after the last op, and says the next. With no queue, fewer words than a page has, or fewer counters than the
@@ -297,6 +301,25 @@ pub extern "C" fn laxonje_queue_packet(
             count
         }
         None => 0,
+    }
+}
+
+/// Where a queue stands between two turns. None where there is no queue, or inside a turn.
+#[unsafe(no_mangle)]
+pub extern "C" fn laxonje_queue_state(alloc: Global, queue: &mut XdpQueue) -> XdpQueueState
+    ensures kept { queue.new.slot.held ≡ queue.old.slot.held }
+    ensures state { MatchOption queue.old.slot.held (result ≡ no_state) (λ q. result ≡ state_or (resting q)) }
+{
+    match queue.take(alloc) {
+        Some(held) => {
+            let state = held.state();
+            queue.put(held);
+            match state {
+                Some(state) => XdpQueueState::of(state),
+                None => XdpQueueState::none(),
+            }
+        }
+        None => XdpQueueState::none(),
     }
 }
 

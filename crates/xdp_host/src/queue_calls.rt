@@ -32,7 +32,8 @@ pub fn boxed(
         port: desc.port,
         ifindex: desc.ifindex,
         queue: desc.queue,
-        start: desc.start,
+        tx_index: desc.tx_index,
+        rx_index: desc.rx_index,
     };
     let queue = Queue::make(alloc, program, &parts)?;
     Ok(Box::new(alloc, queue)?)
@@ -42,8 +43,10 @@ pub fn boxed(
 pub fn stepped(queue: &mut Queue, words: &mut [u32], counters: &mut [u64]) -> XdpOp
     ensures words { length words.new ≡ length words.old }
     ensures counters { length counters.new ≡ length counters.old }
-    ensures stepped { AreEnough queue.old words.old counters.old → HasStepped queue.old queue.new result words.old words.new counters.old counters.new }
-    ensures few { AreFew queue.old words.old counters.old → IsNotStepped queue.old queue.new result words.old words.new counters.old counters.new }
+    ensures stepped { AreEnough queue.old words.old counters.old →
+        HasStepped queue.old queue.new result words.old words.new counters.old counters.new }
+    ensures few { AreFew queue.old words.old counters.old →
+        IsNotStepped queue.old queue.new result words.old words.new counters.old counters.new }
 {
     if words.len() < PAGE_WORDS || counters.len() < queue.counters() {
         return XdpOp::none();

@@ -1,12 +1,12 @@
 //! What crosses to C of a queue. `include/laxonje.h` has these structs in the same order, and these numbers.
 ghost use Rattle.std.specs.Prelude.{◌≡◌};
-ghost use Rattle.xdp_host.specs.Ops.{access, no_op, op_of, over, over_of};
+ghost use Rattle.xdp_host.specs.Ops.{access, no_op, no_state, op_of, over, over_of, state_of};
 
-use xen_host::{Kind, Op};
+use xen_host::{Kind, Op, State};
 use xen_page::Place;
 
 /// What a queue is made of beside its lists: the frames of its rings, two domains, a port, what the program is told, and the
-/// index at which both rings begin.
+/// indices at which the rings are gone on with.
 #[repr(C)]
 #[derive(Clone, Copy, Debug, PartialEq, Eq, Drop)]
 pub struct XdpQueueDesc {
@@ -17,7 +17,8 @@ pub struct XdpQueueDesc {
     pub port: u32,
     pub ifindex: u32,
     pub queue: u32,
-    pub start: u32,
+    pub tx_index: u32,
+    pub rx_index: u32,
 }
 
 /// What a host does next. Of a turn that is over: which it was, the number or the cause, the counter operations, the slots.
@@ -113,6 +114,46 @@ impl XdpOp {
                 0,
             ),
             Op::Done(kind) => XdpOp::over_of(kind),
+        }
+    }
+}
+
+/// Where a queue stands between two turns.
+#[repr(C)]
+#[derive(Clone, Copy, Debug, PartialEq, Eq, Drop)]
+pub struct XdpQueueState {
+    pub kind: u32,
+    pub tx_index: u32,
+    pub rx_index: u32,
+    pub halt: u32,
+}
+
+impl XdpQueueState {
+    /// There is no queue, or it is inside a turn.
+    pub fn none() -> XdpQueueState
+        ensures { result ≡ no_state }
+    {
+        XdpQueueState {
+            kind: 0,
+            tx_index: 0,
+            rx_index: 0,
+            halt: 0,
+        }
+    }
+
+    /// A queue that goes on, or has halted.
+    pub fn of(state: State) -> XdpQueueState
+        ensures { result ≡ state_of state }
+    {
+        let (kind, halt) = match state.halt {
+            None => (1, 0),
+            Some(cause) => (2, u32::from(cause.number())),
+        };
+        XdpQueueState {
+            kind,
+            tx_index: state.tx_index,
+            rx_index: state.rx_index,
+            halt,
         }
     }
 }

@@ -1,8 +1,8 @@
 -- A step of a queue: its turn goes on, or is a row of the table of turns.
-use Rattle.std.proofs.Common.{◌≡◌, ℕ, ◌≤◌, ◌⊎◌, inl, inr, List, ◌++◌, length, map, refl, sym, ap, ◌∙◌, subst}
+use Rattle.std.proofs.Common.{◌≡◌, ℕ, ◌≤◌, ◌⊎◌, inl, inr, List, ◌++◌, length, map, sym, ap, ◌∙◌, subst}
 use Rattle.xen_steps.specs.Drive.{Gone}
 use Rattle.xen_steps.specs.Event.{Event}
-use Rattle.xen_steps.specs.Steps.{Steps, done}
+use Rattle.xen_steps.specs.Steps.{Steps}
 use Rattle.xen_steps.proofs.DriveLemmas.{gone_append, runs_of_gone}
 use Rattle.xen_steps.proofs.FinishLemmas.{finishes_gone}
 use Rattle.xen_back.specs.Tree.{whole_turn}
@@ -14,7 +14,7 @@ use Rattle.xen_back.specs.declared.state.State.{State}
 use Rattle.xen_back.specs.declared.turn.Kind.{Kind}
 use Rattle.xen_back.specs.declared.wiring.Wiring.{Wiring}
 use Rattle.xen_back.proofs.TurnParts.{turn_parts}
-use Rattle.xen_host.specs.Fed.{Ended, IsAskedFor, answers, asked_by, asked_of, did, fed}
+use Rattle.xen_host.specs.Fed.{IsAskedFor, answers, asked_by, asked_of, did, fed}
 use Rattle.xen_host.specs.Queues.{IsGoneOn, IsStepped, IsUnderWay, packet_of, rest, settled_of}
 use Rattle.xen_host.specs.Ran.{HasGone}
 use Rattle.xen_host.specs.Rest.{packet_in, rest_in}

@@ -1,22 +1,21 @@
 -- What was asked and answered as events, and what is kept by them: a turn's way, its end, and where its accesses lie.
-use Rattle.std.proofs.Common.{◌≡◌, ℕ, zero, suc, ◌+◌, ◌-◌, ◌*◌, ◌<◌, ◌≤◌, ◌^◌, ◌⊎◌, inl, inr, List, [], ◌∷◌, ◌++◌, length, take, drop, map, refl, sym, ap, ◌∙◌, arith, subst}
-use Rattle.std.specs.Prelude.{replicate, slice_index, ◌/◌, Bool, true, false, None}
+use Rattle.std.proofs.Common.{◌≡◌, ℕ, zero, suc, ◌+◌, ◌-◌, ◌*◌, ◌<◌, ◌≤◌, ◌^◌, ◌⊎◌, inl, inr, List, [], ◌∷◌, ◌++◌, length, take, drop, refl, sym, ap, ◌∙◌, arith, subst}
+use Rattle.std.specs.Prelude.{replicate, slice_index, ◌/◌, Bool, true, None}
 use Rattle.std.proofs.lemmas.List.{drop_more, length-take}
-use Rattle.xen_netif.specs.declared.fragment.Fragment.{Fragment}
 use Rattle.xen_page.specs.Mapping.{frame_place}
 use Rattle.xen_page.specs.declared.place.Place.{Place}
 use Rattle.xen_steps.specs.Drive.{Gone}
 use Rattle.xen_steps.specs.Event.{Event, Occurs, Read, Write, Notify}
 use Rattle.xen_steps.specs.Finish.{Finishes}
-use Rattle.xen_steps.specs.Pages.{AreWords, covered, page_reads}
+use Rattle.xen_steps.specs.Pages.{covered, page_reads}
 use Rattle.xen_steps.specs.Places.{page_word}
 use Rattle.xen_steps.specs.Steps.{Steps, bind, done, next, want_of}
 use Rattle.xen_steps.specs.declared.want.Want.{Want}
 use Rattle.xen_steps.specs.declared.want.Want.TheVariants as want
-use Rattle.xen_steps.proofs.DriveLemmas.{gone_append, occurs_read, occurs_write, runs_of_gone}
-use Rattle.xen_steps.proofs.FinishLemmas.{finishes_gone, finishes_next, finishes_want}
+use Rattle.xen_steps.proofs.DriveLemmas.{occurs_read, occurs_write}
+use Rattle.xen_steps.proofs.FinishLemmas.{finishes_next, finishes_want}
 use Rattle.xen_transmit.specs.Packets.{words}
-use Rattle.xen_transmit.specs.Transmit.{fill, fill_from, rx_answer, rx_respond}
+use Rattle.xen_transmit.specs.Transmit.{fill, rx_answer, rx_respond}
 use Rattle.xen_transmit.specs.declared.phase.Outcome.{Outcome}
 use Rattle.xen_transmit.specs.declared.target.Target.{Target}
 use Rattle.xen_transmit.specs.declared.vif.Vif.{Vif}
@@ -27,7 +26,7 @@ use Rattle.xen_back.specs.declared.state.State.{State}
 use Rattle.xen_back.specs.declared.turn.Kind.{Kind}
 use Rattle.xen_back.specs.declared.wiring.Wiring.{Wiring}
 use Rattle.bpf_note.specs.Shape.{Shape}
-use Rattle.xen_host.specs.Fed.{Asked, AsksReads, AsksWrites, Ended, IsAskedFor, IsInPages, Nothing, Notice, Reads, Writes, answers, answers_to, asked_by, asked_of, did, events_at, fed, page_of, page_writes}
+use Rattle.xen_host.specs.Fed.{AsksReads, AsksWrites, Ended, IsAskedFor, IsInPages, answers, answers_to, asked_of, did, events_at, fed, page_of, page_writes}
 use Rattle.xen_host.specs.Queues.{settled_of}
 use Rattle.xen_host.specs.Rest.{ending_of, packet_in, rest_in}
 use Rattle.xen_host.specs.declared.op.Op.{Op}

@@ -23,7 +23,8 @@ pub record Given : Type 0 where
   pub port : ℕ
   pub ifindex : ℕ
   pub queue : ℕ
-  pub start : ℕ
+  pub tx_index : ℕ
+  pub rx_index : ℕ
 
 abbrev pub given_of : QueueParts → Given
 given_of p =
@@ -37,7 +38,8 @@ given_of p =
       port = p.port;
       ifindex = p.ifindex;
       queue = p.queue;
-      start = p.start;
+      tx_index = p.tx_index;
+      rx_index = p.rx_index;
     }
 
 -- the frames of both rings are the frontend's
@@ -61,7 +63,7 @@ pub record IsWiredTo (program : Accepted) (g : Given) (w : Wires) : Type 0 where
 -- a queue between turns of these parts, with no packet
 pub record IsMadeOf (program : Accepted) (g : Given) (q : Queue) : Type 0 where
   pub wires : IsWiredTo program g q.wires
-  pub state : q.state ≡ record { tx_index = g.start; rx_index = g.start; halt = None }
+  pub state : q.state ≡ record { tx_index = g.tx_index; rx_index = g.rx_index; halt = None }
   pub ready : rest q ≡ whole_turn (wiring_of q.wires) q.state
   pub packet : packet_of q ≡ []
 
