@@ -172,21 +172,21 @@ enum laxonje_op_kind {
 };
 
 enum laxonje_turn {
-	LAXONJE_TURN_IDLE,         /* the ring had no request */
-	LAXONJE_TURN_RAN,         /* the program ran, and returned `number` */
+	LAXONJE_TURN_IDLE,    /* the ring had no request */
+	LAXONJE_TURN_RAN,     /* the program ran, and returned `number` */
 	LAXONJE_TURN_REFUSED, /* the packet was refused for the cause `number`, and its slots were answered with ERROR */
 	LAXONJE_TURN_HALTED   /* the queue has halted for the cause `number`, and makes no more accesses */
 };
 
 /* The causes of LAXONJE_TURN_REFUSED. */
 enum laxonje_refusal {
-	LAXONJE_REFUSAL_SHORT = 1,   /* less than an Ethernet header */
-	LAXONJE_REFUSAL_SIZES,       /* later slots have more bytes than the first */
-	LAXONJE_REFUSAL_PAGE,        /* a slot's bytes pass the end of its page */
-	LAXONJE_REFUSAL_GRANT,       /* a slot's grant failed its check */
-	LAXONJE_REFUSAL_EXTRA,       /* an extra info */
-	LAXONJE_REFUSAL_FEW_SLOTS,   /* too few rx slots to send the packet back */
-	LAXONJE_REFUSAL_RX_GRANT     /* an rx slot's grant failed its check */
+	LAXONJE_REFUSAL_SHORT = 1, /* less than an Ethernet header */
+	LAXONJE_REFUSAL_SIZES,     /* later slots have more bytes than the first */
+	LAXONJE_REFUSAL_PAGE,      /* a slot's bytes pass the end of its page */
+	LAXONJE_REFUSAL_GRANT,     /* a slot's grant failed its check */
+	LAXONJE_REFUSAL_EXTRA,     /* an extra info */
+	LAXONJE_REFUSAL_FEW_SLOTS, /* too few rx slots to send the packet back */
+	LAXONJE_REFUSAL_RX_GRANT   /* an rx slot's grant failed its check */
 };
 
 /* The causes of LAXONJE_TURN_HALTED. */
@@ -200,9 +200,9 @@ enum laxonje_halt {
 };
 
 enum laxonje_standing {
-	LAXONJE_STANDS_NOT, /* there is no queue, or it is inside a turn */
-	LAXONJE_STANDS,     /* between two turns */
-	LAXONJE_STANDS_HALTED /* halted, for the cause `halt` */
+	LAXONJE_STANDS_NOT,   /* there is no queue, or it is inside a turn */
+	LAXONJE_STANDS,       /* between two turns */
+	LAXONJE_STANDS_HALTED /* the same, and halted for the cause `halt` */
 };
 
 /* Where a queue stands between two turns: the next index of each ring. */

@@ -2,4 +2,4 @@ pub mod AsBox
 mod FaultLemmas
 mod BatchLemmas
 pub mod AsQueueBox
-pub mod MadeLemmas
+mod MadeLemmas

@@ -227,7 +227,6 @@ pub extern "C" fn laxonje_free(alloc: Global, program: &mut XdpProgram)
 
 /// Makes a queue, which has the program once more, in place of what `out` held. The answer is 0, or which of the values is wrong;
 /// then `out` holds what it held.
-#[tactic(auto, using(crate::proofs::MadeLemmas::makes_or))]
 #[unsafe(no_mangle)]
 pub extern "C" fn laxonje_queue_make(
     alloc: Global,
