@@ -283,11 +283,7 @@ pub extern "C" fn laxonje_queue_step(
 /// Copies the packet of the turn that is over out, as far as there is room. How many bytes it has: none with no queue, inside a
 /// turn and before the first.
 #[unsafe(no_mangle)]
-pub extern "C" fn laxonje_queue_packet(
-    alloc: Global,
-    queue: &mut XdpQueue,
-    out: &mut [u8],
-) -> usize
+pub extern "C" fn laxonje_queue_packet(alloc: Global, queue: &mut XdpQueue, out: &mut [u8]) -> usize
     ensures kept { queue.new.slot.held ≡ queue.old.slot.held }
     ensures count { MatchOption queue.old.slot.held (result ≡ 0) (λ q. result ≡ length (packet_of q)) }
     ensures copied { MatchOption queue.old.slot.held (out.new ≡ out.old)
