@@ -9,9 +9,9 @@
  *    to, and isn't null, but for 0 elements. What is passed as not const overlaps nothing else that is passed.
  * 2. A struct laxonje_program or laxonje_queue is all zeros (LAXONJE_PROGRAM_NONE, LAXONJE_QUEUE_NONE) or what this library
  *    left in it. It is never copied: two copies would be freed twice. Moving it means that the old place isn't used again.
- * 3. One call at a time for one program and for one queue. Different ones may be used by any threads at once. A program is
- *    handed to another thread by a lock, by that thread's start or join, or by a sequentially consistent atomic:
- *    laxonje_again makes one to be handed over. A queue is used by the thread that made it.
+ * 3. One call at a time for one program and for one queue. Different ones may be used by any threads at once. A program or a
+ *    queue is handed to another thread by a lock, by that thread's start or join, or by a sequentially consistent atomic:
+ *    laxonje_again makes a program to be handed over.
  * 4. malloc, realloc and free are those of one allocator, and align blocks to 16 bytes. No call from a signal handler, or
  *    from the forked child of a process with threads.
  * 5. This header is written by hand. Nothing compares it with the library but the assertions below and the examples:

@@ -40,7 +40,7 @@ pub use held::Held;
 pub use plain::{XdpMap, XdpRun, XdpVerdict};
 use queue_calls::{boxed, copied, stepped};
 pub use queue_fault::QueueFault;
-pub use queue_handle::XdpQueue;
+pub use queue_handle::{XdpQueue, queues_cross_threads};
 pub use queue_plain::{XdpOp, XdpQueueDesc, XdpQueueState};
 use std::alloc::Global;
 
