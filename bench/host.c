@@ -31,7 +31,7 @@ struct least {
 static uint64_t counters[1];
 static uint8_t ours[MOST_PACKET], many[BATCH][MOST_PACKET];
 static struct laxonje_packet packets[BATCH];
-static struct laxonje_run results[BATCH];
+static struct laxonje_result results[BATCH];
 
 static double now(void)
 {
@@ -68,7 +68,7 @@ static void measure(const struct line *line, struct low *low, struct laxonje_pro
 		double from = now();
 
 		for (unsigned i = 0; i < times; i++) {
-			struct laxonje_run run = laxonje_run(program, counters, 0, ours, line->length, 0, 0);
+			struct laxonje_result run = laxonje_run(program, counters, 0, ours, line->length, 0, 0);
 
 			sum += run.number, instructions = run.instructions;
 		}

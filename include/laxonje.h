@@ -1,16 +1,17 @@
-/* Laxonje: verified BPF programs at the XDP point, run on a host's own packets and counters.
+/* Laxonje: verified BPF programs at the XDP point, run on a host's own packets and counters; and netback's queue, for a host
+ * that makes the accesses of guests' pages.
  *
  * docs/HOST.md says what is proved of these calls. The proofs hold for a caller that keeps these rules. Nothing checks
  * them.
  *
  * 1. A pointer with its length is memory that nobody else changes during the call: no thread, no device, and no guest.
- *    Never pass a page that a guest can write: copy the packet out of it first. A pointer isn't null, not even for 0
- *    elements, and is aligned for what it points to. What is passed as not const overlaps nothing else that is passed.
- * 2. A struct laxonje_program is all zeros (LAXONJE_PROGRAM_NONE) or what this library left in it. It is never copied:
- *    two copies would be freed twice. Moving it means that the old place isn't used again.
- * 3. One call at a time for one program. Different programs may be used by any threads at once. A program is handed to
- *    another thread by a lock, by that thread's start or join, or by a sequentially consistent atomic: laxonje_again
- *    makes one to be handed over.
+ *    Never pass a page that a guest can write: copy the packet out of it first. A pointer is aligned for what it points
+ *    to, and isn't null, but for 0 elements. What is passed as not const overlaps nothing else that is passed.
+ * 2. A struct laxonje_program or laxonje_queue is all zeros (LAXONJE_PROGRAM_NONE, LAXONJE_QUEUE_NONE) or what this library
+ *    left in it. It is never copied: two copies would be freed twice. Moving it means that the old place isn't used again.
+ * 3. One call at a time for one program and for one queue. Different ones may be used by any threads at once. A program or a
+ *    queue is handed to another thread by a lock, by that thread's start or join, or by a sequentially consistent atomic:
+ *    laxonje_again makes a program to be handed over.
  * 4. malloc, realloc and free are those of one allocator, and align blocks to 16 bytes. No call from a signal handler, or
  *    from the forked child of a process with threads.
  * 5. This header is written by hand. Nothing compares it with the library but the assertions below and the examples:
@@ -28,6 +29,9 @@ extern "C" {
 #else
 #define LAXONJE_ASSERT(what) _Static_assert(what, #what)
 #endif
+
+/* The version of this header. laxonje_version says which one the library is made for. */
+#define LAXONJE_VERSION 1
 
 /* The most maps, entries of a map, counters of an entry, and bytes of a packet and of a program. */
 #define LAXONJE_MAPS 4
@@ -53,6 +57,41 @@ enum laxonje_kind {
 	LAXONJE_EMPTY     /* there is no program to make another of */
 };
 
+/* The causes V0 to V19 of LAXONJE_REFUSED. There is no V18. */
+enum laxonje_cause {
+	LAXONJE_V_MEMORY,        /* memory ran out */
+	LAXONJE_V_LENGTH,        /* no whole slots, none, or more than 4,096 */
+	LAXONJE_V_OPCODE,        /* an opcode or a field of no instruction */
+	LAXONJE_V_REGISTER,      /* a register above r10 */
+	LAXONJE_V_TARGET,        /* a jump out of the program, or into a wide load */
+	LAXONJE_V_BACK_JUMP,     /* a jump that closes a cycle */
+	LAXONJE_V_END,           /* control runs past the end */
+	LAXONJE_V_UNSET,         /* a register is read that may be unset */
+	LAXONJE_V_FRAME_POINTER, /* a write to r10 */
+	LAXONJE_V_NO_POINTER,    /* an access through a number */
+	LAXONJE_V_PACKET,        /* an access to the packet that no comparison allows */
+	LAXONJE_V_STACK,         /* an access outside the stack, or a load of unset bytes */
+	LAXONJE_V_CONTEXT,       /* an access to the context that is no load of a field */
+	LAXONJE_V_MAY_BE_NULL,   /* an access through a lookup's result that may be null */
+	LAXONJE_V_MAP_ACCESS,    /* a map's value used but by loads and adds of whole counters */
+	LAXONJE_V_HELPER,        /* a helper other than the map lookup */
+	LAXONJE_V_MAP_NUMBER,    /* the number of a map that isn't there */
+	LAXONJE_V_ARGUMENT,      /* a lookup's arguments are no map, or no set key on the stack */
+	LAXONJE_V_UNSUPPORTED = 19 /* an instruction of the standard that isn't supported */
+};
+
+/* The causes L0 to L7 of LAXONJE_SETTINGS. */
+enum laxonje_settings_cause {
+	LAXONJE_L_MEMORY,    /* memory ran out */
+	LAXONJE_L_TEXT,      /* too long, or not UTF-8 */
+	LAXONJE_L_SYNTAX,    /* not TOML */
+	LAXONJE_L_KEY,       /* an unknown or a missing key, or a wrong type */
+	LAXONJE_L_LIMIT,     /* a number outside its limits */
+	LAXONJE_L_NAME,      /* the name of a map */
+	LAXONJE_L_HEX,       /* a hex text */
+	LAXONJE_L_RELOCATION /* a relocation */
+};
+
 /* What became of a program: docs/REFUSALS.md has the causes, docs/SETTINGS.md the faults of settings. */
 struct laxonje_verdict {
 	uint32_t kind;
@@ -64,7 +103,7 @@ enum laxonje_action { LAXONJE_ABORTED, LAXONJE_DROP, LAXONJE_PASS, LAXONJE_TX };
 
 /* How a run ended. `number` is what the program returned, `action` what it stands for: each number from 4 on stands for
  * LAXONJE_ABORTED. A run that was made has done at least one instruction; `instructions` is 0 where none was made. */
-struct laxonje_run {
+struct laxonje_result {
 	uint32_t number;
 	uint32_t action;
 	uint32_t instructions;
@@ -83,14 +122,133 @@ struct laxonje_program {
 };
 #define LAXONJE_PROGRAM_NONE { 0, 0 }
 
+/* ---- Netback's queue, whose accesses of the guest's pages the host makes: docs/HOST.md, "Netback's queue" */
+
+/* How many words are lent to a step: those of a page. The most frames, frames of a grant table, and ports. */
+#define LAXONJE_PAGE_WORDS 1024
+#define LAXONJE_FRAMES 8192
+#define LAXONJE_TABLE_FRAMES 16
+#define LAXONJE_PORTS 64
+
+/* A queue, or none. The fields are the library's own. */
+struct laxonje_queue {
+	void *at;
+	uint8_t live;
+};
+#define LAXONJE_QUEUE_NONE { 0, 0 }
+
+/* What a queue is made of: the frames of the two rings' pages, the frontend's domain and the backend's own, the port of the
+ * frontend's event channel, what the program is told, and the indices at which the rings are gone on with: 0 for new rings,
+ * else those of laxonje_queue_state. */
+struct laxonje_queue_desc {
+	uint32_t tx;
+	uint32_t rx;
+	uint16_t granter;
+	uint16_t user;
+	uint32_t port;
+	uint32_t ifindex;
+	uint32_t queue;
+	uint32_t tx_index;
+	uint32_t rx_index;
+};
+
+/* The first that is wrong. */
+enum laxonje_made {
+	LAXONJE_MADE,         /* a queue was made */
+	LAXONJE_MADE_MEMORY,  /* memory ran out */
+	LAXONJE_MADE_FRAMES,  /* more than LAXONJE_FRAMES frames */
+	LAXONJE_MADE_TABLE,   /* the table isn't 1 to LAXONJE_TABLE_FRAMES of the frontend's frames */
+	LAXONJE_MADE_RING,    /* a ring's frame isn't the frontend's */
+	LAXONJE_MADE_PORT,    /* the port isn't below LAXONJE_PORTS */
+	LAXONJE_MADE_PROGRAM  /* there is no program */
+};
+
+enum laxonje_op_kind {
+	LAXONJE_OP_NONE,   /* nothing was done: no queue, or too few words or counters */
+	LAXONJE_OP_READ,   /* read `count` words of `frame`, from `word` on, into the first of the lent words */
+	LAXONJE_OP_WRITE,  /* write the first `count` of the lent words into `frame`, from `word` on */
+	LAXONJE_OP_NOTIFY, /* send a notice to the port `frame` */
+	LAXONJE_OP_DONE    /* the turn is over: `turn` says which it was. The next step begins the next */
+};
+
+enum laxonje_turn {
+	LAXONJE_TURN_IDLE,    /* the ring had no request */
+	LAXONJE_TURN_RAN,     /* the program ran, and returned `number` */
+	LAXONJE_TURN_REFUSED, /* the packet was refused for the cause `number`, and its slots were answered with ERROR */
+	LAXONJE_TURN_HALTED   /* the queue has halted for the cause `number`, and makes no more accesses */
+};
+
+/* The causes of LAXONJE_TURN_REFUSED. */
+enum laxonje_refusal {
+	LAXONJE_REFUSAL_SHORT = 1, /* less than an Ethernet header */
+	LAXONJE_REFUSAL_SIZES,     /* later slots have more bytes than the first */
+	LAXONJE_REFUSAL_PAGE,      /* a slot's bytes pass the end of its page */
+	LAXONJE_REFUSAL_GRANT,     /* a slot's grant failed its check */
+	LAXONJE_REFUSAL_EXTRA,     /* an extra info */
+	LAXONJE_REFUSAL_FEW_SLOTS, /* too few rx slots to send the packet back */
+	LAXONJE_REFUSAL_RX_GRANT   /* an rx slot's grant failed its check */
+};
+
+/* The causes of LAXONJE_TURN_HALTED. */
+enum laxonje_halt {
+	LAXONJE_HALT_TX_PRODUCER = 1, /* the tx producer is more than a ring ahead */
+	LAXONJE_HALT_SHORT_CHAIN,     /* a chain wants a slot that the producer didn't show */
+	LAXONJE_HALT_SLOTS,           /* more than 18 slots */
+	LAXONJE_HALT_UNKNOWN_EXTRA,   /* an extra info of no known type */
+	LAXONJE_HALT_EXTRAS,          /* too many extra infos */
+	LAXONJE_HALT_RX_PRODUCER      /* the rx producer is more than a ring ahead */
+};
+
+enum laxonje_standing {
+	LAXONJE_STANDS_NOT,   /* there is no queue, or it is inside a turn */
+	LAXONJE_STANDS,       /* between two turns */
+	LAXONJE_STANDS_HALTED /* the same, and halted for the cause `halt` */
+};
+
+/* Where a queue stands between two turns: the next index of each ring. */
+struct laxonje_queue_standing {
+	uint32_t kind;
+	uint32_t tx_index;
+	uint32_t rx_index;
+	uint32_t halt;
+};
+
+/* What a host does next. `frame` is below the number of owners, and `word + count` at most LAXONJE_PAGE_WORDS. Of a turn that
+ * is over, `ops` is how many operations on counters its run did, and `slots` how many slots the packet took. */
+struct laxonje_op {
+	uint32_t kind;
+	uint32_t frame;
+	uint32_t word;
+	uint32_t count;
+	uint32_t turn;
+	uint32_t number;
+	uint32_t ops;
+	uint32_t slots;
+};
+
 LAXONJE_ASSERT(sizeof(void *) == 8 && sizeof(size_t) == 8);
 LAXONJE_ASSERT(sizeof(struct laxonje_map) == 8 && offsetof(struct laxonje_map, counters) == 4);
 LAXONJE_ASSERT(sizeof(struct laxonje_verdict) == 12 && offsetof(struct laxonje_verdict, cause) == 4);
 LAXONJE_ASSERT(offsetof(struct laxonje_verdict, at) == 8);
-LAXONJE_ASSERT(sizeof(struct laxonje_run) == 12 && offsetof(struct laxonje_run, action) == 4);
-LAXONJE_ASSERT(offsetof(struct laxonje_run, instructions) == 8);
+LAXONJE_ASSERT(sizeof(struct laxonje_result) == 12 && offsetof(struct laxonje_result, action) == 4);
+LAXONJE_ASSERT(offsetof(struct laxonje_result, instructions) == 8);
 LAXONJE_ASSERT(sizeof(struct laxonje_packet) == 16 && offsetof(struct laxonje_packet, length) == 8);
 LAXONJE_ASSERT(sizeof(struct laxonje_program) == 16 && offsetof(struct laxonje_program, live) == 8);
+LAXONJE_ASSERT(sizeof(struct laxonje_queue) == 16 && offsetof(struct laxonje_queue, live) == 8);
+LAXONJE_ASSERT(sizeof(struct laxonje_queue_desc) == 32 && offsetof(struct laxonje_queue_desc, rx) == 4);
+LAXONJE_ASSERT(offsetof(struct laxonje_queue_desc, granter) == 8 && offsetof(struct laxonje_queue_desc, user) == 10);
+LAXONJE_ASSERT(offsetof(struct laxonje_queue_desc, port) == 12 && offsetof(struct laxonje_queue_desc, ifindex) == 16);
+LAXONJE_ASSERT(offsetof(struct laxonje_queue_desc, queue) == 20 && offsetof(struct laxonje_queue_desc, tx_index) == 24);
+LAXONJE_ASSERT(offsetof(struct laxonje_queue_desc, rx_index) == 28);
+LAXONJE_ASSERT(sizeof(struct laxonje_queue_standing) == 16 && offsetof(struct laxonje_queue_standing, tx_index) == 4);
+LAXONJE_ASSERT(offsetof(struct laxonje_queue_standing, rx_index) == 8 && offsetof(struct laxonje_queue_standing, halt) == 12);
+LAXONJE_ASSERT(sizeof(struct laxonje_op) == 32 && offsetof(struct laxonje_op, frame) == 4);
+LAXONJE_ASSERT(offsetof(struct laxonje_op, word) == 8 && offsetof(struct laxonje_op, count) == 12);
+LAXONJE_ASSERT(offsetof(struct laxonje_op, turn) == 16 && offsetof(struct laxonje_op, number) == 20);
+LAXONJE_ASSERT(offsetof(struct laxonje_op, ops) == 24 && offsetof(struct laxonje_op, slots) == 28);
+
+/* The version of the header that fits the library: LAXONJE_VERSION, or the two are of different releases. */
+uint32_t laxonje_version(void);
 
 /* Whether a program is accepted with its maps. */
 struct laxonje_verdict laxonje_check(const uint8_t *program, size_t program_bytes,
@@ -109,7 +267,7 @@ struct laxonje_verdict laxonje_again(struct laxonje_program *program, struct lax
 
 /* Runs a program on a packet where it lies. Its counters are the first words of `counters`. Nothing is run, and nothing
  * changes, with no program, with fewer words than laxonje_counters says, or with more than LAXONJE_PACKET bytes. */
-struct laxonje_run laxonje_run(struct laxonje_program *program, uint64_t *counters, size_t counter_count,
+struct laxonje_result laxonje_run(struct laxonje_program *program, uint64_t *counters, size_t counter_count,
                                uint8_t *packet, size_t packet_bytes, uint32_t ifindex, uint32_t queue);
 
 /* Runs a program on the packets of a batch, one after another where they lie, and writes a result for each. How many that
@@ -117,7 +275,7 @@ struct laxonje_run laxonje_run(struct laxonje_program *program, uint64_t *counte
  * that laxonje_run wouldn't run, has 0 instructions, and the others are run. */
 size_t laxonje_run_batch(struct laxonje_program *program, uint64_t *counters, size_t counter_count,
                          uint8_t *bytes, size_t byte_count, const struct laxonje_packet *packets, size_t packet_count,
-                         struct laxonje_run *results, size_t result_count, uint32_t ifindex, uint32_t queue);
+                         struct laxonje_result *results, size_t result_count, uint32_t ifindex, uint32_t queue);
 
 /* How many words a program's counters are. With no program, 0. */
 size_t laxonje_counters(struct laxonje_program *program);
@@ -127,6 +285,29 @@ size_t laxonje_place(struct laxonje_program *program, uint32_t map, uint32_t ent
 
 /* Frees a program. With none, it does nothing. */
 void laxonje_free(struct laxonje_program *program);
+
+/* Makes a queue between turns, in place of what `out` held. `owners` has the domain of each of the host's frames, `table` the
+ * frames of the frontend's grant table. The queue has the program once more, verified again, so that the host keeps its own.
+ * The answer is LAXONJE_MADE, or else why no queue was made (enum laxonje_made): then `out` holds what it held. */
+uint32_t laxonje_queue_make(struct laxonje_program *program, const uint16_t *owners, size_t owner_count,
+                            const uint32_t *table, size_t table_count, const struct laxonje_queue_desc *desc,
+                            struct laxonje_queue *out);
+
+/* Goes on after the op before, and says the next. `words` has the words that a LAXONJE_OP_READ asked for, and then those that a
+ * LAXONJE_OP_WRITE is to write: at least LAXONJE_PAGE_WORDS of them. The program's counters are the first of `counters`, as
+ * laxonje_run has them. With fewer words or counters, or no queue, the op is LAXONJE_OP_NONE, and nothing has changed. */
+struct laxonje_op laxonje_queue_step(struct laxonje_queue *queue, uint32_t *words, size_t word_count,
+                                     uint64_t *counters, size_t counter_count);
+
+/* Copies the packet of the turn that is over, as far as there is room, and answers how long it is. It is there until the next
+ * step: no bytes before the first turn, inside a turn, and with no queue. */
+size_t laxonje_queue_packet(struct laxonje_queue *queue, uint8_t *out, size_t out_bytes);
+
+/* Where a queue stands between two turns: what another queue of the same rings is made with, to go on in its place. */
+struct laxonje_queue_standing laxonje_queue_state(struct laxonje_queue *queue);
+
+/* Frees a queue. With none, it does nothing. A host frees it between two turns, and unmaps the guest's pages then. */
+void laxonje_queue_free(struct laxonje_queue *queue);
 
 #undef LAXONJE_ASSERT
 

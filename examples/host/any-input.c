@@ -119,7 +119,7 @@ static uint64_t sum(const uint8_t *bytes, size_t length)
 	return all;
 }
 
-static void look_at(struct laxonje_run run, struct laxonje_program *program, size_t counters, size_t length, bool same)
+static void look_at(struct laxonje_result run, struct laxonje_program *program, size_t counters, size_t length, bool same)
 {
 	bool made = program->live && counters >= laxonje_counters(program) && length <= LAXONJE_PACKET;
 
@@ -135,7 +135,7 @@ static void run_any(struct laxonje_program *program)
 	size_t need = laxonje_counters(program), count = any(4) ? need : any(need + 4), length = any_length(MOST_PACKET);
 	uint64_t *counters = calloc(count + 1, sizeof *counters), before;
 	uint8_t *packet = malloc(length + 1);
-	struct laxonje_run run;
+	struct laxonje_result run;
 
 	if (!any(50))
 		length = 65535 + any(3), packet = realloc(packet, length);
@@ -153,12 +153,12 @@ static void batch_any(struct laxonje_program *program)
 	uint64_t *counters = calloc(need + 1, sizeof *counters);
 	uint8_t *bytes = calloc(length + 1, 1);
 	struct laxonje_packet packets[BATCH];
-	struct laxonje_run results[BATCH];
+	struct laxonje_result results[BATCH];
 	size_t done, fewer = packet_count < result_count ? packet_count : result_count;
 
 	for (size_t i = 0; i < BATCH; i++) {
 		packets[i] = (struct laxonje_packet){any(length + 9), any(5) ? any(256) : (uint64_t)-any(256)};
-		results[i] = (struct laxonje_run){9, 9, 9};
+		results[i] = (struct laxonje_result){9, 9, 9};
 	}
 	done = laxonje_run_batch(program, counters, need, bytes, length, packets, packet_count, results, result_count, 0, 0);
 	if (done != (program->live ? fewer : 0))

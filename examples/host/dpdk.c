@@ -29,7 +29,7 @@ static uint16_t filtered(uint16_t port, uint16_t queue, struct rte_mbuf **packet
 	(void)most;
 	for (uint16_t i = 0; i < count; i++) {
 		struct rte_mbuf *packet = packets[i];
-		struct laxonje_run run = {0, LAXONJE_ABORTED, 0};
+		struct laxonje_result run = {0, LAXONJE_ABORTED, 0};
 
 		/* A packet in several segments isn't one slice of bytes: it is dropped here. */
 		if (packet->nb_segs == 1)

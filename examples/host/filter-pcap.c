@@ -30,7 +30,7 @@ struct capture {
 	struct text bytes;
 	struct laxonje_packet *packets;
 	struct pcap_pkthdr *headers;
-	struct laxonje_run *runs;
+	struct laxonje_result *runs;
 	size_t count, room;
 };
 
@@ -91,7 +91,7 @@ static void add_packet(struct capture *capture, const struct pcap_pkthdr *header
 	}
 	capture->packets[capture->count] = (struct laxonje_packet){capture->bytes.length, header->caplen};
 	capture->headers[capture->count] = *header;
-	capture->runs[capture->count++] = (struct laxonje_run){0, 0, 0};
+	capture->runs[capture->count++] = (struct laxonje_result){0, 0, 0};
 	append(&capture->bytes, bytes, header->caplen);
 }
 

@@ -13,7 +13,7 @@ int main(void)
 
 	if (verdict.kind != LAXONJE_ACCEPTED)
 		return printf("refused: V%u at %u\n", verdict.cause, verdict.at), 1;
-	struct laxonje_run run = laxonje_run(&program, no_counters, 0, packet, sizeof packet, 0, 0);
+	struct laxonje_result run = laxonje_run(&program, no_counters, 0, packet, sizeof packet, 0, 0);
 	printf("action %u after %u instructions\n", run.action, run.instructions);
 	laxonje_free(&program);
 	return 0;

@@ -2,3 +2,4 @@ pub mod AsBox
 mod FaultLemmas
 mod BatchLemmas
 pub mod AsQueueBox
+mod MadeLemmas

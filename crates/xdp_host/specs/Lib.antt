@@ -4,3 +4,6 @@ pub mod Answers
 pub mod Ran
 pub mod Batch
 pub mod QueueHandle
+pub mod Ops
+pub mod Made
+pub mod Stepped

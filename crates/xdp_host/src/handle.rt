@@ -156,7 +156,8 @@ impl Drop for XdpProgram {
 
 fn crosses<T: Send>() {}
 
-/// A program may be handed to another thread, or this call isn't proved.
+/// A program, and a handle of one, may be handed to another thread, or this call isn't proved.
 pub fn programs_cross_threads() {
-    crosses::<XdpProgram>()
+    crosses::<XdpProgram>();
+    crosses::<Held>()
 }

@@ -2,7 +2,7 @@
 //! counters. No call has a condition. `include/laxonje.h` has the calls as C sees them.
 #![tactic(auto)]
 
-ghost use Rattle.std.specs.Prelude.{◌≡◌, ◌⊎◌, List, IfNone, IfSome, MatchOption, drop, length, min, take};
+ghost use Rattle.std.specs.Prelude.{◌≡◌, ◌⊎◌, ◌++◌, List, IfNone, IfSome, IsSome, MatchOption, None, drop, length, min, take};
 ghost use Rattle.bpf_insn.specs.Code.{Spells};
 ghost use Rattle.bpf_insn.specs.declared.insn.Insn.{Insn};
 ghost use Rattle.bpf_maps.specs.Layout.{place_of, total};
@@ -17,12 +17,18 @@ ghost use Rattle.xdp_host.specs.Batch.{RanEach};
 ghost use Rattle.xdp_host.specs.Ran.{IsNotRun, action_number};
 ghost use Rattle.xdp_host.specs.Verdict.{accepting, verdict_of, wanting};
 ghost use Rattle.bpf_vm.specs.Actions.{action_of};
+ghost use Rattle.xen_host.specs.Queues.{packet_of, resting};
+ghost use Rattle.xdp_host.specs.Made.{MakesOr, fault_number, given};
+ghost use Rattle.xdp_host.specs.Ops.{no_state, state_or};
+ghost use Rattle.xdp_host.specs.Stepped.{AreEnough, AreFew, HasStepped, IsNotStepped, IsNothing};
 
 mod batch;
 mod fault;
 mod handle;
 mod held;
 mod plain;
+mod queue_calls;
+mod queue_fault;
 mod queue_handle;
 mod queue_plain;
 
@@ -32,10 +38,14 @@ pub use fault::Fault;
 pub use handle::{XdpProgram, programs_cross_threads};
 pub use held::Held;
 pub use plain::{XdpMap, XdpRun, XdpVerdict};
-pub use queue_handle::XdpQueue;
-pub use queue_plain::{XdpOp, XdpQueueDesc};
+use queue_calls::{boxed, copied, stepped};
+pub use queue_fault::QueueFault;
+pub use queue_handle::{XdpQueue, queues_cross_threads};
+pub use queue_plain::{XdpOp, XdpQueueDesc, XdpQueueState};
 use std::alloc::Global;
-use xen_host::{MakeFault, Queue, QueueParts};
+
+/// The version of `include/laxonje.h`.
+const VERSION: u32 = 1;
 
 /// Whether a program is accepted with its maps.
 #[unsafe(no_mangle)]
@@ -58,7 +68,8 @@ pub extern "C" fn laxonje_load(
     maps: &[XdpMap],
     out: &mut XdpProgram,
 ) -> XdpVerdict
-    ensures answers { MatchOption out.new.slot.held (Refuses program.now maps.now result) (λ h. Accepts program.now maps.now h.program result) }
+    ensures answers { MatchOption out.new.slot.held (Refuses program.now maps.now result)
+        (λ h. Accepts program.now maps.now h.program result) }
     ensures accepted { (code : List Insn) → Spells code program.now → IsFaultless code (shapes_of maps.now) → AreWithin maps.now →
         AcceptsUnlessWanting result }
 {
@@ -90,7 +101,8 @@ pub extern "C" fn laxonje_again(
 ) -> XdpVerdict
     ensures kept { program.new.slot.held ≡ program.old.slot.held }
     ensures again { IfSome out.new.slot.held (λ h. (program.old.slot.held ≡ Some h) × (result ≡ accepting (instructions h.program.code))) }
-    ensures none { IfNone out.new.slot.held (MatchOption program.old.slot.held (result ≡ verdict_of Fault.Empty) (λ _. result ≡ verdict_of wanting)) }
+    ensures none { IfNone out.new.slot.held (MatchOption program.old.slot.held (result ≡ verdict_of Fault.Empty)
+        (λ _. result ≡ verdict_of wanting)) }
 {
     let again = match program.take(alloc) {
         Some(held) => {
@@ -190,7 +202,8 @@ pub extern "C" fn laxonje_place(
     counter: u32,
 ) -> usize
     ensures kept { program.new.slot.held ≡ program.old.slot.held }
-    ensures there { IfSome program.old.slot.held (λ h. IsCounter h.program.shapes map value counter → result ≡ place_of h.program.shapes map value counter) }
+    ensures there { IfSome program.old.slot.held (λ h. IsCounter h.program.shapes map value counter → result
+        ≡ place_of h.program.shapes map value counter) }
     ensures none { IfSome program.old.slot.held (λ h. (IsCounter h.program.shapes map value counter → ⊥) → result ≡ usize.MAX) }
     ensures empty { IfNone program.old.slot.held (result ≡ usize.MAX) }
 {
@@ -212,7 +225,8 @@ pub extern "C" fn laxonje_free(alloc: Global, program: &mut XdpProgram)
     drop(program.take(alloc));
 }
 
-/// Makes a queue of a program, which the queue takes, in place of what `out` held.
+/// Makes a queue, which has the program once more, in place of what `out` held. The answer is 0, or which of the values is wrong;
+/// then `out` holds what it held.
 #[unsafe(no_mangle)]
 pub extern "C" fn laxonje_queue_make(
     alloc: Global,
@@ -221,77 +235,63 @@ pub extern "C" fn laxonje_queue_make(
     table: &[u32],
     desc: &XdpQueueDesc,
     out: &mut XdpQueue,
-) -> u32 {
-    drop(out.take(alloc));
+) -> u32
+    ensures kept { program.new.slot.held ≡ program.old.slot.held }
+    ensures made { IfSome program.old.slot.held (λ h.
+        MakesOr h.program (given owners.now table.now desc.now) out.old.slot.held out.new.slot.held result) }
+    ensures none { IfNone program.old.slot.held ((result ≡ fault_number QueueFault.Empty) × (out.new.slot.held ≡ out.old.slot.held)) }
+{
     match program.take(alloc) {
         Some(held) => {
-            let parts = QueueParts {
-                owners,
-                table,
-                tx: desc.tx,
-                rx: desc.rx,
-                granter: (desc.granter % 0x1_0000) as u16,
-                user: (desc.user % 0x1_0000) as u16,
-                port: desc.port,
-                ifindex: desc.ifindex,
-                queue: desc.queue,
-                start: desc.start,
-            };
-            let held = Box::into_inner(held);
-            match Queue::make(alloc, held.program, &parts) {
-                Ok(queue) => match Box::new(alloc, queue) {
-                    Ok(queue) => {
-                        out.put(queue);
-                        0
-                    }
-                    Err(_) => 1,
-                },
-                Err(MakeFault::Memory) => 1,
-                Err(MakeFault::Frames) => 2,
-                Err(MakeFault::Table) => 3,
-                Err(MakeFault::Ring) => 4,
-                Err(MakeFault::Port) => 5,
-            }
+            let made = boxed(alloc, &held.program, owners, table, desc);
+            program.put(held);
+            out.set(made)
         }
-        None => 6,
+        None => QueueFault::Empty.number(),
     }
 }
 
-/// Goes on after the last op, and says the next.
+/// Goes on after the last op, and says the next. With no queue, fewer words than a page has, or fewer counters than the
+/// program has, nothing is asked and nothing changes.
 #[unsafe(no_mangle)]
 pub extern "C" fn laxonje_queue_step(
     alloc: Global,
     queue: &mut XdpQueue,
     words: &mut [u32],
     counters: &mut [u64],
-    op: &mut XdpOp,
-) {
+) -> XdpOp
+    ensures there { IfNone queue.old.slot.held (queue.new.slot.held ≡ None) }
+    ensures none { IfNone queue.old.slot.held (IsNothing result words.old words.new counters.old counters.new) }
+    ensures few { IfSome queue.old.slot.held (λ q. AreFew q words.old counters.old →
+        IfSome queue.new.slot.held (λ r. IsNotStepped q r result words.old words.new counters.old counters.new)) }
+    ensures stepped { IfSome queue.old.slot.held (λ q. AreEnough q words.old counters.old →
+        IfSome queue.new.slot.held (λ r. HasStepped q r result words.old words.new counters.old counters.new)) }
+    ensures kept { IfSome queue.old.slot.held (λ _. IsSome queue.new.slot.held) }
+    ensures words { length words.new ≡ length words.old }
+    ensures counters { length counters.new ≡ length counters.old }
+{
     match queue.take(alloc) {
         Some(mut held) => {
-            if words.len() >= 1024 && counters.len() >= held.counters() {
-                *op = XdpOp::of(held.step(words, counters));
-            } else {
-                *op = XdpOp::none();
-            }
+            let op = stepped(&mut held, words, counters);
             queue.put(held);
+            op
         }
-        None => *op = XdpOp::none(),
+        None => XdpOp::none(),
     }
 }
 
-/// Copies the packet of the turn that is over out. How many bytes it has.
+/// Copies the packet of the turn that is over out, as far as there is room. How many bytes it has: none with no queue, inside a
+/// turn and before the first.
 #[unsafe(no_mangle)]
-pub extern "C" fn laxonje_queue_packet(
-    alloc: Global,
-    queue: &mut XdpQueue,
-    out: &mut [u8],
-) -> usize {
+pub extern "C" fn laxonje_queue_packet(alloc: Global, queue: &mut XdpQueue, out: &mut [u8]) -> usize
+    ensures kept { queue.new.slot.held ≡ queue.old.slot.held }
+    ensures count { MatchOption queue.old.slot.held (result ≡ 0) (λ q. result ≡ length (packet_of q)) }
+    ensures copied { MatchOption queue.old.slot.held (out.new ≡ out.old)
+        (λ q. out.new ≡ take (length out.old) (packet_of q) ++ drop (length (packet_of q)) out.old) }
+{
     match queue.take(alloc) {
         Some(held) => {
-            let bytes = held.packet();
-            let count = bytes.len();
-            let n = count.min(out.len());
-            out[..n].copy_from_slice(&bytes[..n]);
+            let count = copied(held.packet(), out);
             queue.put(held);
             count
         }
@@ -299,8 +299,37 @@ pub extern "C" fn laxonje_queue_packet(
     }
 }
 
+/// Where a queue stands between two turns. None where there is no queue, or inside a turn.
+#[unsafe(no_mangle)]
+pub extern "C" fn laxonje_queue_state(alloc: Global, queue: &mut XdpQueue) -> XdpQueueState
+    ensures kept { queue.new.slot.held ≡ queue.old.slot.held }
+    ensures state { MatchOption queue.old.slot.held (result ≡ no_state) (λ q. result ≡ state_or (resting q)) }
+{
+    match queue.take(alloc) {
+        Some(held) => {
+            let state = held.state();
+            queue.put(held);
+            match state {
+                Some(state) => XdpQueueState::of(state),
+                None => XdpQueueState::none(),
+            }
+        }
+        None => XdpQueueState::none(),
+    }
+}
+
 /// Drops a queue, if there is one.
 #[unsafe(no_mangle)]
-pub extern "C" fn laxonje_queue_free(alloc: Global, queue: &mut XdpQueue) {
+pub extern "C" fn laxonje_queue_free(alloc: Global, queue: &mut XdpQueue)
+    ensures { queue.new.slot.held ≡ None }
+{
     drop(queue.take(alloc));
+}
+
+/// The version of the header that fits this library.
+#[unsafe(no_mangle)]
+pub extern "C" fn laxonje_version() -> u32
+    ensures { result ≡ 1 }
+{
+    VERSION
 }

@@ -1,21 +1,27 @@
-//! What crosses to C of a queue.
-use bpf_vm::Action;
-use xen_host::{Halt, Kind, Op, Refusal};
+//! What crosses to C of a queue. `include/laxonje.h` has these structs in the same order, and these numbers.
+ghost use Rattle.std.specs.Prelude.{◌≡◌};
+ghost use Rattle.xdp_host.specs.Ops.{access, no_op, no_state, op_of, over, over_of, state_of};
 
+use xen_host::{Kind, Op, State};
+use xen_page::Place;
+
+/// What a queue is made of beside its lists: the frames of its rings, two domains, a port, what the program is told, and the
+/// indices at which the rings are gone on with.
 #[repr(C)]
 #[derive(Clone, Copy, Debug, PartialEq, Eq, Drop)]
 pub struct XdpQueueDesc {
     pub tx: u32,
     pub rx: u32,
-    pub granter: u32,
-    pub user: u32,
+    pub granter: u16,
+    pub user: u16,
     pub port: u32,
     pub ifindex: u32,
     pub queue: u32,
-    pub start: u32,
+    pub tx_index: u32,
+    pub rx_index: u32,
 }
 
-/// What a host does next. Of a turn that is over: which it was, the number, the cause, the counter operations, the slots.
+/// What a host does next. Of a turn that is over: which it was, the number or the cause, the counter operations, the slots.
 #[repr(C)]
 #[derive(Clone, Copy, Debug, PartialEq, Eq, Drop)]
 pub struct XdpOp {
@@ -30,7 +36,10 @@ pub struct XdpOp {
 }
 
 impl XdpOp {
-    pub fn none() -> XdpOp {
+    /// Nothing is asked, since nothing was done.
+    pub fn none() -> XdpOp
+        ensures { result ≡ no_op }
+    {
         XdpOp {
             kind: 0,
             frame: 0,
@@ -43,7 +52,26 @@ impl XdpOp {
         }
     }
 
-    fn over(turn: u32, number: u32, ops: u32, slots: u32) -> XdpOp {
+    /// Words of a page, or a port.
+    fn access(kind: u32, at: Place, count: u32) -> XdpOp
+        ensures { result ≡ access kind at.frame at.word count }
+    {
+        XdpOp {
+            kind,
+            frame: at.frame,
+            word: at.word,
+            count,
+            turn: 0,
+            number: 0,
+            ops: 0,
+            slots: 0,
+        }
+    }
+
+    /// The end of a turn.
+    fn over(turn: u32, number: u32, ops: u32, slots: u32) -> XdpOp
+        ensures { result ≡ over turn number ops slots }
+    {
         XdpOp {
             kind: 4,
             frame: 0,
@@ -56,33 +84,76 @@ impl XdpOp {
         }
     }
 
-    fn access(kind: u32, frame: u32, word: u32, count: u32) -> XdpOp {
-        XdpOp {
-            kind,
-            frame,
-            word,
-            count,
-            turn: 0,
-            number: 0,
-            ops: 0,
-            slots: 0,
+    /// The end of a turn of this kind.
+    fn over_of(kind: Kind) -> XdpOp
+        ensures { result ≡ over_of kind }
+    {
+        match kind {
+            Kind::Idle => XdpOp::over(0, 0, 0, 0),
+            Kind::Ran { number, ops, slots } => XdpOp::over(1, number, ops, slots),
+            Kind::Refused { cause, ops, slots } => {
+                XdpOp::over(2, u32::from(cause.number()), ops, slots)
+            }
+            Kind::Halted { cause } => XdpOp::over(3, u32::from(cause.number()), 0, 0),
         }
     }
 
-    pub fn of(op: Op) -> XdpOp {
+    /// What an op tells a host.
+    pub fn of(op: Op) -> XdpOp
+        ensures { result ≡ op_of op }
+    {
         match op {
-            Op::Read { at, count } => XdpOp::access(1, at.frame, at.word, count),
-            Op::Write { at, count } => XdpOp::access(2, at.frame, at.word, count),
-            Op::Notify(port) => XdpOp::access(3, port, 0, 0),
-            Op::Done(Kind::Idle) => XdpOp::over(0, 0, 0, 0),
-            Op::Done(Kind::Ran { number, ops, slots }) => XdpOp::over(1, number, ops, slots),
-            Op::Done(Kind::Refused { cause, ops, slots }) => XdpOp::over(
-                2,
-                u32::from(cause.number()),
-                ops,
-                slots,
+            Op::Read { at, count } => XdpOp::access(1, at, count),
+            Op::Write { at, count } => XdpOp::access(2, at, count),
+            Op::Notify(port) => XdpOp::access(
+                3,
+                Place {
+                    frame: port,
+                    word: 0,
+                },
+                0,
             ),
-            Op::Done(Kind::Halted { cause }) => XdpOp::over(3, u32::from(cause.number()), 0, 0),
+            Op::Done(kind) => XdpOp::over_of(kind),
+        }
+    }
+}
+
+/// Where a queue stands between two turns.
+#[repr(C)]
+#[derive(Clone, Copy, Debug, PartialEq, Eq, Drop)]
+pub struct XdpQueueState {
+    pub kind: u32,
+    pub tx_index: u32,
+    pub rx_index: u32,
+    pub halt: u32,
+}
+
+impl XdpQueueState {
+    /// There is no queue, or it is inside a turn.
+    pub fn none() -> XdpQueueState
+        ensures { result ≡ no_state }
+    {
+        XdpQueueState {
+            kind: 0,
+            tx_index: 0,
+            rx_index: 0,
+            halt: 0,
+        }
+    }
+
+    /// A queue that goes on, or has halted.
+    pub fn of(state: State) -> XdpQueueState
+        ensures { result ≡ state_of state }
+    {
+        let (kind, halt) = match state.halt {
+            None => (1, 0),
+            Some(cause) => (2, u32::from(cause.number())),
+        };
+        XdpQueueState {
+            kind,
+            tx_index: state.tx_index,
+            rx_index: state.rx_index,
+            halt,
         }
     }
 }

@@ -1,0 +1,53 @@
+-- What C is answered where it makes a queue.
+use Rattle.std.specs.Prelude.{ℕ, ◌≡◌, ◌⊎◌, List, Option, Some}
+use Rattle.bpf_verify.specs.Consistent.{Accepted}
+use Rattle.xen_host.specs.Making.{Given, IsFaultOf, IsMadeOf}
+use Rattle.xen_host.specs.declared.make.MakeFault.{MakeFault}
+use Rattle.xen_host.specs.declared.make.MakeFault.TheVariants as make
+use Rattle.xen_host.specs.declared.queue.Queue.{Queue}
+use Rattle.xdp_host.specs.declared.queue_fault.QueueFault.{QueueFault}
+use Rattle.xdp_host.specs.declared.queue_fault.QueueFault.TheVariants.{Make, Empty}
+use Rattle.xdp_host.specs.declared.queue_plain.XdpQueueDesc.{XdpQueueDesc}
+
+-- what C gives
+abbrev pub given : List ℕ → List ℕ → XdpQueueDesc → Given
+given owners table d =
+    record {
+      owners = owners;
+      table = table;
+      tx = d.tx;
+      rx = d.rx;
+      granter = d.granter;
+      user = d.user;
+      port = d.port;
+      ifindex = d.ifindex;
+      queue = d.queue;
+      tx_index = d.tx_index;
+      rx_index = d.rx_index;
+    }
+
+-- the numbers of include/laxonje.h
+abbrev pub fault_number : QueueFault → ℕ
+fault_number (Make make.Memory) = 1
+fault_number (Make make.Frames) = 2
+fault_number (Make make.Table) = 3
+fault_number (Make make.Ring) = 4
+fault_number (Make make.Port) = 5
+fault_number Empty = 6
+
+-- A queue of the program was made in place of what was there, and the answer is 0.
+pub record IsMade (p : Accepted) (g : Given) (new : Option Queue) (answer : ℕ) : Type 0 where
+  pub queue : Queue
+  pub there : new ≡ Some queue
+  pub made : IsMadeOf p g queue
+  pub answer_is : answer ≡ 0
+
+-- The answer tells the fault, and what was there is there.
+pub record IsUnmade (g : Given) (old new : Option Queue) (answer : ℕ) : Type 0 where
+  pub fault : MakeFault
+  pub is : IsFaultOf g fault
+  pub kept : new ≡ old
+  pub answer_is : answer ≡ fault_number (Make fault)
+
+abbrev pub MakesOr : Accepted → Given → Option Queue → Option Queue → ℕ → Type 0
+MakesOr p g old new answer = IsMade p g new answer ⊎ IsUnmade g old new answer

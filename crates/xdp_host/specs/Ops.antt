@@ -1,0 +1,50 @@
+-- What C is told to do for a queue, in the numbers of include/laxonje.h.
+use Rattle.std.specs.Prelude.{ℕ, Option, None, Some}
+use Rattle.xen_back.specs.Causes.{halt_number, refusal_number}
+use Rattle.xen_back.specs.declared.state.State.{State}
+use Rattle.xen_back.specs.declared.turn.Halt.{Halt}
+use Rattle.xen_back.specs.declared.turn.Kind.{Kind}
+use Rattle.xen_back.specs.declared.turn.Kind.TheVariants as kind
+use Rattle.xen_host.specs.declared.op.Op.{Op}
+use Rattle.xen_host.specs.declared.op.Op.TheVariants as op
+use Rattle.xdp_host.specs.declared.queue_plain.XdpOp.{XdpOp}
+use Rattle.xdp_host.specs.declared.queue_plain.XdpQueueState.{XdpQueueState}
+
+-- words of a page, or a port
+abbrev pub access : (kind frame word count : ℕ) → XdpOp
+access kind frame word count = record { kind = kind; frame = frame; word = word; count = count; turn = 0; number = 0; ops = 0; slots = 0 }
+
+-- nothing is asked
+abbrev pub no_op : XdpOp
+no_op = access 0 0 0 0
+
+-- a turn is over
+abbrev pub over : (turn number ops slots : ℕ) → XdpOp
+over turn number ops slots = record { kind = 4; frame = 0; word = 0; count = 0; turn = turn; number = number; ops = ops; slots = slots }
+
+abbrev pub over_of : Kind → XdpOp
+over_of kind.Idle = over 0 0 0 0
+over_of (kind.Ran number ops slots) = over 1 number ops slots
+over_of (kind.Refused cause ops slots) = over 2 (refusal_number cause) ops slots
+over_of (kind.Halted cause) = over 3 (halt_number cause) 0 0
+
+abbrev pub op_of : Op → XdpOp
+op_of (op.Read at count) = access 1 at.frame at.word count
+op_of (op.Write at count) = access 2 at.frame at.word count
+op_of (op.Notify port) = access 3 port 0 0
+op_of (op.Done kind) = over_of kind
+
+-- no queue, or one inside a turn
+abbrev pub no_state : XdpQueueState
+no_state = record { kind = 0; tx_index = 0; rx_index = 0; halt = 0 }
+
+abbrev pub standing_of : State → Option Halt → XdpQueueState
+standing_of s None = record { kind = 1; tx_index = s.tx_index; rx_index = s.rx_index; halt = 0 }
+standing_of s (Some cause) = record { kind = 2; tx_index = s.tx_index; rx_index = s.rx_index; halt = halt_number cause }
+
+abbrev pub state_of : State → XdpQueueState
+state_of s = standing_of s s.halt
+
+abbrev pub state_or : Option State → XdpQueueState
+state_or None = no_state
+state_or (Some s) = state_of s

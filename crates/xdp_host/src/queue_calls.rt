@@ -1,0 +1,65 @@
+//! A queue's calls, on what a handle holds.
+ghost use Rattle.std.specs.Prelude.{◌≡◌, ◌++◌, drop, length, take, IfErr, IfOk};
+ghost use Rattle.xen_host.specs.Making.{IsFaultOf, IsMadeOf};
+ghost use Rattle.xdp_host.specs.Made.{given};
+ghost use Rattle.xdp_host.specs.Stepped.{AreEnough, AreFew, HasStepped, IsNotStepped};
+
+use crate::queue_plain::{XdpOp, XdpQueueDesc};
+use std::alloc::Global;
+use xen_host::{MakeFault, Program, Queue, QueueParts};
+
+/// How many words a host lends to a step: those of a page.
+const PAGE_WORDS: usize = 1024;
+
+/// A queue of what C gives, in a box.
+pub fn boxed(
+    alloc: Global,
+    program: &Program,
+    owners: &[u16],
+    table: &[u32],
+    desc: &XdpQueueDesc,
+) -> Result<Box<Queue>, MakeFault>
+    ensures made { IfOk result (λ b. IsMadeOf program.now (given owners.now table.now desc.now) b.value) }
+    ensures fault { IfErr result (IsFaultOf (given owners.now table.now desc.now)) }
+{
+    let parts = QueueParts {
+        owners,
+        table,
+        tx: desc.tx,
+        rx: desc.rx,
+        granter: desc.granter,
+        user: desc.user,
+        port: desc.port,
+        ifindex: desc.ifindex,
+        queue: desc.queue,
+        tx_index: desc.tx_index,
+        rx_index: desc.rx_index,
+    };
+    let queue = Queue::make(alloc, program, &parts)?;
+    Ok(Box::new(alloc, queue)?)
+}
+
+/// A step, if there are words enough.
+pub fn stepped(queue: &mut Queue, words: &mut [u32], counters: &mut [u64]) -> XdpOp
+    ensures words { length words.new ≡ length words.old }
+    ensures counters { length counters.new ≡ length counters.old }
+    ensures stepped { AreEnough queue.old words.old counters.old →
+        HasStepped queue.old queue.new result words.old words.new counters.old counters.new }
+    ensures few { AreFew queue.old words.old counters.old →
+        IsNotStepped queue.old queue.new result words.old words.new counters.old counters.new }
+{
+    if words.len() < PAGE_WORDS || counters.len() < queue.counters() {
+        return XdpOp::none();
+    }
+    XdpOp::of(queue.step(words, counters))
+}
+
+/// Copies bytes as far as there is room. How many there are.
+pub fn copied(bytes: &[u8], out: &mut [u8]) -> usize
+    ensures count { result ≡ length bytes.now }
+    ensures copied { out.new ≡ take (length out.old) bytes.now ++ drop (length bytes.now) out.old }
+{
+    let count = bytes.len().min(out.len());
+    out[..count].copy_from_slice(&bytes[..count]);
+    bytes.len()
+}

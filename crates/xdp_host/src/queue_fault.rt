@@ -1,0 +1,33 @@
+//! Why a handle has no queue.
+ghost use Rattle.std.specs.Prelude.{◌≡◌};
+ghost use Rattle.xdp_host.specs.Made.{fault_number};
+
+use xen_host::MakeFault;
+
+/// What `laxonje_queue_make` answers where a queue was made.
+pub const MADE: u32 = 0;
+
+/// Why no queue was made.
+#[derive(Clone, Copy, Debug, PartialEq, Eq, Drop)]
+pub enum QueueFault {
+    /// Memory ran out, or a part is wrong.
+    Make(MakeFault),
+    /// There is no program.
+    Empty,
+}
+
+impl QueueFault {
+    /// The number that C gets.
+    pub fn number(self) -> u32
+        ensures { result ≡ fault_number self }
+    {
+        match self {
+            QueueFault::Make(MakeFault::Memory) => 1,
+            QueueFault::Make(MakeFault::Frames) => 2,
+            QueueFault::Make(MakeFault::Table) => 3,
+            QueueFault::Make(MakeFault::Ring) => 4,
+            QueueFault::Make(MakeFault::Port) => 5,
+            QueueFault::Empty => 6,
+        }
+    }
+}

@@ -1,0 +1,242 @@
+-- What was asked and answered as events, and what is kept by them: a turn's way, its end, and where its accesses lie.
+use Rattle.std.proofs.Common.{◌≡◌, ℕ, zero, suc, ◌+◌, ◌-◌, ◌*◌, ◌<◌, ◌≤◌, ◌^◌, ◌⊎◌, inl, inr, List, [], ◌∷◌, ◌++◌, length, take, drop, refl, sym, ap, ◌∙◌, arith, subst}
+use Rattle.std.specs.Prelude.{replicate, slice_index, ◌/◌, Bool, true, None}
+use Rattle.std.proofs.lemmas.List.{drop_more, length-take}
+use Rattle.xen_page.specs.Mapping.{frame_place}
+use Rattle.xen_page.specs.declared.place.Place.{Place}
+use Rattle.xen_steps.specs.Drive.{Gone}
+use Rattle.xen_steps.specs.Event.{Event, Occurs, Read, Write, Notify}
+use Rattle.xen_steps.specs.Finish.{Finishes}
+use Rattle.xen_steps.specs.Pages.{covered, page_reads}
+use Rattle.xen_steps.specs.Places.{page_word}
+use Rattle.xen_steps.specs.Steps.{Steps, bind, done, next, want_of}
+use Rattle.xen_steps.specs.declared.want.Want.{Want}
+use Rattle.xen_steps.specs.declared.want.Want.TheVariants as want
+use Rattle.xen_steps.proofs.DriveLemmas.{occurs_read, occurs_write}
+use Rattle.xen_steps.proofs.FinishLemmas.{finishes_next, finishes_want}
+use Rattle.xen_transmit.specs.Packets.{words}
+use Rattle.xen_transmit.specs.Transmit.{fill, rx_answer, rx_respond}
+use Rattle.xen_transmit.specs.declared.phase.Outcome.{Outcome}
+use Rattle.xen_transmit.specs.declared.target.Target.{Target}
+use Rattle.xen_transmit.specs.declared.vif.Vif.{Vif}
+use Rattle.xen_back.specs.Tree.{after_copy, after_transmit, answer, copy, whole_turn}
+use Rattle.xen_back.specs.Turned.{Ending, turned}
+use Rattle.xen_back.specs.Within.{IsWithin}
+use Rattle.xen_back.specs.declared.state.State.{State}
+use Rattle.xen_back.specs.declared.turn.Kind.{Kind}
+use Rattle.xen_back.specs.declared.wiring.Wiring.{Wiring}
+use Rattle.bpf_note.specs.Shape.{Shape}
+use Rattle.xen_host.specs.Fed.{AsksReads, AsksWrites, Ended, IsAskedFor, IsInPages, answers, answers_to, asked_of, did, events_at, fed, page_of, page_writes}
+use Rattle.xen_host.specs.Queues.{settled_of}
+use Rattle.xen_host.specs.Rest.{ending_of, packet_in, rest_in}
+use Rattle.xen_host.specs.declared.op.Op.{Op}
+use Rattle.xen_host.specs.declared.op.Op.TheVariants as op
+use Rattle.xen_host.specs.declared.stage.Stage.{Stage}
+use Rattle.xen_host.specs.declared.stage.Stage.TheVariants as stage
+use Rattle.xen_host.proofs.AskLemmas.{asks_words}
+use Rattle.xen_host.proofs.FedLemmas.{page_short}
+
+-- ---- answers that may come
+
+-- an answer that a want of a host's may have
+abbrev pub FitsAt : Want → ℕ → Type 0
+FitsAt (want.Read at) a = a < 2 ^ 32
+FitsAt (want.Write at v) a = a ≡ 0
+FitsAt (want.Notify port) a = a ≡ 0
+FitsAt w a = ⊥
+
+abbrev pub Fit : {A : Type 0} → Steps A → List ℕ → Type 0
+Fit s [] = Unit {0}
+Fit s (a ∷ more) = FitsAt (want_of s) a × Fit (next s a) more
+
+one_event : (w : Want) (a : ℕ) → FitsAt w a → (e : Event) × (events_at w a ≡ e ∷ []) × Occurs w a e
+one_event (want.Read at) a h = (Read at a, refl, (h, refl))
+one_event (want.Write at v) a h = (Write at v, refl, (h, refl))
+one_event (want.Notify port) a h = (Notify port, refl, (h, refl))
+one_event want.Instr a h = absurd h
+one_event (want.Load m k j) a h = absurd h
+one_event (want.Add m k j d) a h = absurd h
+one_event want.Done a h = absurd h
+
+-- the answers' events lead where the answers do
+pub fit_gone : {A : Type 0} (s : Steps A) (answered : List ℕ) → Fit s answered → Gone s (did s answered) (fed s answered)
+fit_gone s [] h = refl
+fit_gone s (a ∷ more) h =
+    let e = one_event (want_of s) a h.0 in
+    subst (λ (l : List Event). Gone s (l ++ did (next s a) more) (fed (next s a) more)) (sym e.1) (next s a, (a, e.2, refl), fit_gone (next s a) more h.1)
+
+abbrev pub AreSmall : List ℕ → Type 0
+AreSmall lent = (i : ℕ) → slice_index lent i < 2 ^ 32
+
+small_tail : (v : ℕ) (vs : List ℕ) → AreSmall (v ∷ vs) → AreSmall vs
+small_tail v vs h i = h (suc i)
+
+-- words that were read
+pub reads_fit : {A : Type 0} (at : Place) (n : ℕ) (s : Steps A) (lent : List ℕ) → AsksReads at n s → n ≤ length lent → AreSmall lent → Fit s (take n lent)
+reads_fit at zero s lent a l b = tt
+reads_fit at (suc n) s [] a l b = absurd (omega arith)
+reads_fit at (suc n) s (v ∷ vs) a l b =
+    (subst (λ (w : Want). FitsAt w v) (sym a.0) (b 0), reads_fit (frame_place at) n (next s v) vs (a.1 v) (omega arith) (small_tail v vs b))
+
+-- words of a packet that were written
+pub fill_fits : {A B : Type 0} (targets : List Target) (packet : List ℕ) (m n k : ℕ) (r : Unit {0} → Steps A) (g : A → Steps B) → m ≤ n → Fit (bind (bind (fill targets packet n k) r) g) (replicate m 0)
+fill_fits targets packet zero n k r g h = tt
+fill_fits targets packet (suc m) zero k r g h = absurd (omega arith)
+fill_fits targets packet (suc m) (suc n) k r g h = (refl, fill_fits targets packet m n (k + 1) r g (omega arith))
+
+page_few : (packet : List ℕ) (i : ℕ) → page_of packet i ≤ words packet - 1024 * i
+page_few packet i = omega arith
+
+-- a response's two words
+reply_fits : {B : Type 0} (w : Vif) (x : ℕ) (packet : List ℕ) (passed : Bool) (n i : ℕ) (targets : List Target) (g : Outcome → Steps B) → i < length targets →
+    Fit (bind (rx_answer w x packet passed n i (drop i targets)) g) (0 ∷ 0 ∷ [])
+reply_fits w x packet passed n i targets g h =
+    subst (λ (l : List Target). Fit (bind (rx_answer w x packet passed n i l) g) (0 ∷ 0 ∷ [])) (sym (drop_more targets i (record { id = 0; frame = None }) h)) (refl, (refl, tt))
+
+-- a response of a chain, or their push
+answer_fits : (w : Wiring) (t n i : ℕ) (rs : List ℕ) (e : Ending) → Fit (answer w t n i rs e) (0 ∷ [])
+answer_fits w t n i [] e = (refl, tt)
+answer_fits w t n i (r ∷ rs) e = (refl, tt)
+
+-- what a stage asked for may be answered by any words
+pub stage_fits : (w : Wiring) (s : State) (g : Stage) (lent : List ℕ) → 1024 ≤ length lent → AreSmall lent → Fit (rest_in w s g) (answers g lent)
+stage_fits w s (stage.Ready b) lent l h = tt
+stage_fits w s (stage.Look b) lent l h = (h 0, tt)
+stage_fits w s (stage.Announce b) lent l h = (refl, tt)
+stage_fits w s (stage.LookAgain b) lent l h = (h 0, tt)
+stage_fits w s (stage.Slot r) lent l h = (h 0, (h 1, (h 2, tt)))
+stage_fits w s (stage.Entry e) lent l h = (h 0, (h 1, tt))
+stage_fits w s (stage.Page g) lent l h =
+    let b = g.work.value in
+    let f = g.fragment in
+    let short = page_short f g.in_page in
+    reads_fit (page_word g.frame (f.offset / 4)) (covered f) (rest_in w s (stage.Page g)) lent (asks_words f g.frame (f.offset / 4) (covered f) b.packet (copy w (drop g.i b.fragments.items)) (after_copy w s b.chain)) (omega (arith, short, l)) h
+stage_fits w s (stage.Posts g) lent l h = (h 0, tt)
+stage_fits w s (stage.Post p) lent l h = (h 0, (h 1, tt))
+stage_fits w s (stage.Grant g) lent l h = (h 0, (h 1, tt))
+stage_fits w s (stage.Fill f) lent l h =
+    let b = f.sending.work.value in
+    fill_fits b.targets b.packet (page_of b.packet f.i) (words b.packet - 1024 * f.i) (1024 * f.i) (λ _. rx_respond w.vif s.rx_index b.packet true b.targets) (after_transmit w s b.chain b.packet f.sending.ops) (page_few b.packet f.i)
+stage_fits w s (stage.Reply r) lent l h =
+    let b = r.sending.work.value in
+    reply_fits w.vif s.rx_index b.packet r.passed (length b.targets) r.i b.targets (after_transmit w s b.chain b.packet r.sending.ops) r.within
+stage_fits w s (stage.Replied g passed) lent l h = (refl, tt)
+stage_fits w s (stage.ReplyEvent g passed) lent l h = (h 0, tt)
+stage_fits w s (stage.ReplyNotice g passed) lent l h = (refl, tt)
+stage_fits w s (stage.Answer a i) lent l h = answer_fits w a.at.tx_index (length a.work.value.chain) i _ (ending_of a)
+stage_fits w s (stage.Event a) lent l h = (h 0, tt)
+stage_fits w s (stage.Notice a) lent l h = (refl, tt)
+stage_fits w s (stage.Over b after kind) lent l h = tt
+stage_fits w s stage.Gone lent l h = tt
+
+-- ---- where what is asked lies
+
+reads_within : (frames : ℕ) (shapes : List Shape) (at : Place) (n : ℕ) (s : Steps Ending) → 1 ≤ n → AsksReads at n s → Finishes (IsWithin frames shapes) s → (at.frame < frames) × (at.word + n ≤ 1024)
+reads_within frames shapes at zero s l a h = absurd (omega arith)
+reads_within frames shapes at (suc zero) s l a h =
+    let one : IsWithin frames shapes (want.Read at) = subst (IsWithin frames shapes) a.0 (finishes_want (IsWithin frames shapes) s h (λ d. cc (a.0, d))) in
+    (one.0, omega (arith, one.1))
+reads_within frames shapes at (suc (suc n)) s l a h =
+    let later = finishes_next (IsWithin frames shapes) s (next s 0) (Read at 0) h (0, occurs_read (want_of s) at 0 a.0 (omega arith), refl) in
+    let more = reads_within frames shapes (frame_place at) (suc n) (next s 0) (omega arith) (a.1 0) later in
+    (more.0, omega (arith, more.1))
+
+writes_within : (frames : ℕ) (shapes : List Shape) (at : Place) (vs : List ℕ) (s : Steps Ending) → 1 ≤ length vs → AsksWrites at vs s → Finishes (IsWithin frames shapes) s → (at.frame < frames) × (at.word + length vs ≤ 1024)
+writes_within frames shapes at [] s l a h = absurd (omega arith)
+writes_within frames shapes at (v ∷ []) s l a h =
+    let one : IsWithin frames shapes (want.Write at v) = subst (IsWithin frames shapes) a.0 (finishes_want (IsWithin frames shapes) s h (λ d. cc (a.0, d))) in
+    (one.0, omega (arith, one.1))
+writes_within frames shapes at (v ∷ u ∷ vs) s l a h =
+    let later = finishes_next (IsWithin frames shapes) s (next s 0) (Write at v) h (0, occurs_write (want_of s) at v a.0, refl) in
+    let more = writes_within frames shapes (frame_place at) (u ∷ vs) (next s 0) (omega arith) a.1 later in
+    (more.0, omega (arith, more.1))
+
+pub asked_within : (frames : ℕ) (shapes : List Shape) (o : Op) (s : Steps Ending) (lent : List ℕ) → IsAskedFor o s lent → Finishes (IsWithin frames shapes) s → IsInPages frames o
+asked_within frames shapes (op.Read at count) s lent a h = reads_within frames shapes at count s a.0 a.2 h
+asked_within frames shapes (op.Write at count) s lent a h =
+    let n : length (take count lent) ≡ count = omega (arith, length-take count lent, a.1) in
+    let w = writes_within frames shapes at (take count lent) s (omega (arith, n, a.0)) a.2 h in
+    (w.0, omega (arith, w.1, n))
+asked_within frames shapes (op.Notify port) s lent a h = tt
+asked_within frames shapes (op.Done kind) s lent a h = tt
+
+-- ---- the end of a turn
+
+-- nothing is over at a stage, which is where the queue stays
+pub record IsOn (g : Stage) : Type 0 where
+  pub stays : (s : State) → settled_of s g ≡ (s, g)
+  pub asks : (kind : Kind) → asked_of g ≡ Ended kind → ⊥
+
+-- a turn of this kind is over at a stage
+pub record IsEnd (g : Stage) : Type 0 where
+  pub after : State
+  pub kind : Kind
+  pub packet : List ℕ
+  pub asks : asked_of g ≡ Ended kind
+  pub rest : (w : Wiring) (s : State) → rest_in w s g ≡ done (after, turned kind packet)
+  pub state : (s : State) → (settled_of s g).0 ≡ after
+  pub bytes : (s : State) → packet_in (settled_of s g).1 ≡ packet
+  pub starts : (w : Wiring) (s : State) → rest_in w (settled_of s g).0 (settled_of s g).1 ≡ whole_turn w (settled_of s g).0
+
+pub end_or_on : (g : Stage) → IsEnd g ⊎ IsOn g
+end_or_on (stage.Over b after kind) = inl (record { after = after; kind = kind; packet = b.value.packet; asks = refl; rest = λ w s. refl; state = λ s. refl; bytes = λ s. refl; starts = λ w s. refl })
+end_or_on (stage.Ready b) = inr (record { stays = λ s. refl; asks = λ kind e. cc })
+end_or_on (stage.Look b) = inr (record { stays = λ s. refl; asks = λ kind e. cc })
+end_or_on (stage.Announce b) = inr (record { stays = λ s. refl; asks = λ kind e. cc })
+end_or_on (stage.LookAgain b) = inr (record { stays = λ s. refl; asks = λ kind e. cc })
+end_or_on (stage.Slot r) = inr (record { stays = λ s. refl; asks = λ kind e. cc })
+end_or_on (stage.Entry e) = inr (record { stays = λ s. refl; asks = λ kind e. cc })
+end_or_on (stage.Page g) = inr (record { stays = λ s. refl; asks = λ kind e. cc })
+end_or_on (stage.Posts g) = inr (record { stays = λ s. refl; asks = λ kind e. cc })
+end_or_on (stage.Post p) = inr (record { stays = λ s. refl; asks = λ kind e. cc })
+end_or_on (stage.Grant g) = inr (record { stays = λ s. refl; asks = λ kind e. cc })
+end_or_on (stage.Fill f) = inr (record { stays = λ s. refl; asks = λ kind e. cc })
+end_or_on (stage.Reply r) = inr (record { stays = λ s. refl; asks = λ kind e. cc })
+end_or_on (stage.Replied g passed) = inr (record { stays = λ s. refl; asks = λ kind e. cc })
+end_or_on (stage.ReplyEvent g passed) = inr (record { stays = λ s. refl; asks = λ kind e. cc })
+end_or_on (stage.ReplyNotice g passed) = inr (record { stays = λ s. refl; asks = λ kind e. cc })
+end_or_on (stage.Answer a i) = inr (record { stays = λ s. refl; asks = λ kind e. cc })
+end_or_on (stage.Event a) = inr (record { stays = λ s. refl; asks = λ kind e. cc })
+end_or_on (stage.Notice a) = inr (record { stays = λ s. refl; asks = λ kind e. cc })
+end_or_on stage.Gone = inr (record { stays = λ s. refl; asks = λ kind e. cc })
+
+-- ---- laws
+
+pub answers_are : (g : Stage) (lent : List ℕ) → 1024 ≤ length lent → answers g lent ≡ answers_to (asked_of g) lent
+answers_are g [] l = absurd (omega arith)
+answers_are g (x ∷ []) l = absurd (omega arith)
+answers_are g (x ∷ y ∷ []) l = absurd (omega arith)
+answers_are g (x ∷ y ∷ z ∷ lent) l = by g
+  where
+    by : (g : Stage) → answers g (x ∷ y ∷ z ∷ lent) ≡ answers_to (asked_of g) (x ∷ y ∷ z ∷ lent)
+    by (stage.Ready b) = refl
+    by (stage.Look b) = refl
+    by (stage.Announce b) = refl
+    by (stage.LookAgain b) = refl
+    by (stage.Slot r) = refl
+    by (stage.Entry e) = refl
+    by (stage.Page g) = refl
+    by (stage.Posts g) = refl
+    by (stage.Post p) = refl
+    by (stage.Grant g) = refl
+    by (stage.Fill f) = refl
+    by (stage.Reply r) = refl
+    by (stage.Replied g passed) = refl
+    by (stage.ReplyEvent g passed) = refl
+    by (stage.ReplyNotice g passed) = refl
+    by (stage.Answer a i) = refl
+    by (stage.Event a) = refl
+    by (stage.Notice a) = refl
+    by (stage.Over b after kind) = refl
+    by stage.Gone = refl
+
+pub did_reads : (s : Steps Ending) (frame word : ℕ) (vs : List ℕ) → AsksReads (page_word frame word) (length vs) s → did s vs ≡ page_reads frame word vs
+did_reads s frame word [] a = refl
+did_reads s frame word (v ∷ vs) a = ap (λ w. events_at w v ++ did (next s v) vs) a.0 ∙ ap (λ l. Read (page_word frame word) v ∷ l) (did_reads (next s v) frame (word + 1) vs (a.1 v))
+
+pub did_writes : (s : Steps Ending) (frame word : ℕ) (vs : List ℕ) → AsksWrites (page_word frame word) vs s → did s (replicate (length vs) 0) ≡ page_writes frame word vs
+did_writes s frame word [] a = refl
+did_writes s frame word (v ∷ vs) a = ap (λ w. events_at w 0 ++ did (next s 0) (replicate (length vs) 0)) a.0 ∙ ap (λ l. Write (page_word frame word) v ∷ l) (did_writes (next s 0) frame (word + 1) vs a.1)
+
+pub did_notice : (s : Steps Ending) (port : ℕ) → want_of s ≡ want.Notify port → did s (0 ∷ []) ≡ Notify port ∷ []
+did_notice s port e = ap (λ w. events_at w 0 ++ []) e

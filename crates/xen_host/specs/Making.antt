@@ -1,0 +1,76 @@
+-- Making a queue of numbers.
+use Rattle.std.specs.Prelude.{ℕ, ◌≡◌, ◌<◌, ◌≤◌, List, [], None, Some, length, slice_get}
+use Rattle.bpf_verify.specs.Consistent.{Accepted}
+use Rattle.xen_page.specs.Table.{IsTable}
+use Rattle.xen_transmit.specs.Wired.{IsWired}
+use Rattle.xen_back.specs.Tree.{whole_turn}
+use Rattle.xen_host.specs.Queues.{packet_of, rest}
+use Rattle.xen_host.specs.Wired.{wiring_of}
+use Rattle.xen_host.specs.declared.make.MakeFault.{MakeFault}
+use Rattle.xen_host.specs.declared.make.MakeFault.TheVariants as fault
+use Rattle.xen_host.specs.declared.make.QueueParts.{QueueParts}
+use Rattle.xen_host.specs.declared.queue.Queue.{Queue}
+use Rattle.xen_host.specs.declared.wires.Wires.{Wires}
+
+-- what a host gives
+pub record Given : Type 0 where
+  pub owners : List ℕ
+  pub table : List ℕ
+  pub tx : ℕ
+  pub rx : ℕ
+  pub granter : ℕ
+  pub user : ℕ
+  pub port : ℕ
+  pub ifindex : ℕ
+  pub queue : ℕ
+  pub tx_index : ℕ
+  pub rx_index : ℕ
+
+abbrev pub given_of : QueueParts → Given
+given_of p =
+    record {
+      owners = p.owners.now;
+      table = p.table.now;
+      tx = p.tx;
+      rx = p.rx;
+      granter = p.granter;
+      user = p.user;
+      port = p.port;
+      ifindex = p.ifindex;
+      queue = p.queue;
+      tx_index = p.tx_index;
+      rx_index = p.rx_index;
+    }
+
+-- the frames of both rings are the frontend's
+abbrev pub AreRings : Given → Type 0
+AreRings g = (slice_get g.owners g.tx ≡ Some g.granter) × (slice_get g.owners g.rx ≡ Some g.granter)
+
+-- each part is what was given
+pub record IsWiredTo (program : Accepted) (g : Given) (w : Wires) : Type 0 where
+  pub tx : w.tx ≡ g.tx
+  pub rx : w.rx ≡ g.rx
+  pub table : w.table ≡ g.table
+  pub owners : w.owners ≡ g.owners
+  pub granter : w.granter ≡ g.granter
+  pub user : w.user ≡ g.user
+  pub port : w.port ≡ g.port
+  pub program_is : w.program ≡ program
+  pub ifindex : w.ifindex ≡ g.ifindex
+  pub queue : w.queue ≡ g.queue
+  pub wired : IsWired (wiring_of w).vif
+
+-- a queue between turns of these parts, with no packet
+pub record IsMadeOf (program : Accepted) (g : Given) (q : Queue) : Type 0 where
+  pub wires : IsWiredTo program g q.wires
+  pub state : q.state ≡ record { tx_index = g.tx_index; rx_index = g.rx_index; halt = None }
+  pub ready : rest q ≡ whole_turn (wiring_of q.wires) q.state
+  pub packet : packet_of q ≡ []
+
+-- The first of the parts that is wrong. Memory may run out at any of them.
+abbrev pub IsFaultOf : Given → MakeFault → Type 0
+IsFaultOf g fault.Memory = Unit {0}
+IsFaultOf g fault.Frames = 8192 < length g.owners
+IsFaultOf g fault.Table = (length g.owners ≤ 8192) × (IsTable g.owners g.granter g.table → ⊥)
+IsFaultOf g fault.Ring = (length g.owners ≤ 8192) × IsTable g.owners g.granter g.table × (AreRings g → ⊥)
+IsFaultOf g fault.Port = (length g.owners ≤ 8192) × IsTable g.owners g.granter g.table × AreRings g × (64 ≤ g.port)
