@@ -5,7 +5,7 @@ forms, what the ways to a slot disagree on. Two equal forms are one number; two 
 from typing import NamedTuple
 
 MASK_64, MASK_32 = (1 << 64) - 1, (1 << 32) - 1
-MOST_TERMS = 16
+MOST_TERMS = 256
 ALU64 = 7
 ADD, SUB, MUL, DIV, OR, AND, LSH, RSH, NEG, MOD, XOR, MOV, ARSH, SWAP = range(0, 0xE0, 0x10)
 

@@ -65,9 +65,8 @@ def straightened(settings, xdpbox, guard=False, per_cpu=None):
         raise Refused(answer, answer.words.strip() or f"{xdpbox} gave no answer")
     if answer.cause in OF_THE_BYTES:
         raise Refused(answer, "nothing is rewritten that helps")
-    found, faults = searches(settings, xdpbox)
-    missing = None
-    for result in found:
+    missing, faults = None, []
+    for result in searches(settings, xdpbox, faults):
         labels = {slot: (label.kind.value, label.slot) for slot, label in result.labels.items()}
         rebuilt = {"program": result.words, "reloc": [{"slot": slot, "map": name} for slot, name in result.relocations]}
         check = Check(program_of(settings), program_of(rebuilt), labels)

@@ -42,10 +42,12 @@ class Constants:
     def with_register(self, register, value):
         return Constants({**self.registers, register: value}, self.stack, self.values)
 
-    def kept(self, wanted, numbers=True):
-        """Those of the wanted registers and of the stack; without `numbers`, addresses alone."""
-        registers = {r: v for r, v in self.registers.items() if r in wanted and (numbers or not is_number(v))}
-        stack = {at: v for at, v in self.stack.items() if numbers or not is_number(v)}
+    def kept(self, wanted, numbers):
+        """Those of the wanted registers, numbers only of the registers `numbers`, and those of the stack: all where
+        `numbers` isn't None, else addresses alone."""
+        telling = numbers if numbers is not None else ()
+        registers = {r: v for r, v in self.registers.items() if r in wanted and (r in telling or not is_number(v))}
+        stack = {at: v for at, v in self.stack.items() if numbers is not None or not is_number(v)}
         return Constants(registers, stack, self.values)
 
     def key(self):

@@ -11,10 +11,13 @@ from dataclasses import dataclass, field
 from typing import NamedTuple
 
 from .constants import FAR, FRAME, Address, Constants, is_number
-from .graph import Fail, live_registers, loops, slots_that_reach, successors
-from .instructions import FRAME_POINTER
+from .graph import Fail, live_registers, loops, slots_that_reach, steering_registers, successors
+from .instructions import FRAME_POINTER, REGISTERS
 
 MOST_COPIES = 12000
+# which numbers are told apart: those that steer a loop or make an address, in slots from which a loop can be reached;
+# all in such slots; all
+STEERING, IN_LOOPS, EVERYWHERE = "those that steer loops", "those in loops", "all"
 
 
 class Phase(NamedTuple):
@@ -58,16 +61,24 @@ class Copy:
         return self.phase in (PLAIN, FAR_SUM)
 
 
+def telling_registers(code, numbers):
+    """Of each slot the registers whose numbers are told apart there, or None where no number is, of the stack neither."""
+    if numbers == EVERYWHERE:
+        return {slot: range(REGISTERS) for slot in code}
+    near, steering = slots_that_reach(code, loops(code)), steering_registers(code)
+    return {slot: None if slot not in near else steering[slot] if numbers == STEERING else range(REGISTERS) for slot in code}
+
+
 class Copies:
     """The graph of copies.
 
-    `everywhere`: numbers are told apart in all slots, and not only in those from which a loop can be reached.
+    `numbers`: which numbers are told apart.
     `values`: the results of lookups are followed, so that a constant added to one can go to the accesses."""
 
-    def __init__(self, code, everywhere=False, wide=None, cases=None, values=False):
+    def __init__(self, code, numbers=IN_LOOPS, wide=None, cases=None, values=False):
         self.code, self.wide, self.cases = code, wide or {}, cases or {}
         self.live = live_registers(code)
-        self.without_numbers = set() if everywhere else set(code) - slots_that_reach(code, loops(code))
+        self.telling = telling_registers(code, numbers)
         self.found, self.todo = {}, []
         self.first = self.copy(0, TESTS, Constants.at_start(values))
         while self.todo:
@@ -79,7 +90,7 @@ class Copies:
 
     def copy(self, slot, phase, constants):
         """The copy with these constants, of which those that can't matter are forgotten."""
-        numbers = phase != TESTS or slot not in self.without_numbers
+        numbers = self.telling[slot] if phase == TESTS else range(REGISTERS)
         constants = constants.kept(self.live[slot] | {FRAME_POINTER}, numbers)
         if phase == TESTS and slot not in self.wide and slot not in self.cases:
             phase = PLAIN

@@ -45,9 +45,10 @@ class Needs(Fail):
 
 
 class OwnStack:
-    """Our own stack slots, by name, below the lowest byte that the program touches."""
+    """Our own stack slots, by name, below the lowest byte that the program touches. `shared`: for names of numbers that
+    are needed for a while, which of them may use one slot."""
 
-    def __init__(self, copies):
+    def __init__(self, copies, shared):
         lowest = 0
         for here in copies.order:
             instruction, registers = copies.code[here.slot], here.constants.registers
@@ -55,14 +56,45 @@ class OwnStack:
             if instruction.opcode == CALL and is_address(registers.get(2), FRAME):
                 at = registers[2].offset
             lowest = min(lowest, at or 0)
-        self.top, self.offsets = -((7 - lowest) // 8 * 8), {}
+        self.top, self.shared, self.offsets = -((7 - lowest) // 8 * 8), shared, {}
 
     def __getitem__(self, name):
+        name = self.shared.get(name, name)
         if name not in self.offsets:
             self.offsets[name] = self.top - 8 * (len(self.offsets) + 1)
             if self.offsets[name] < -STACK_BYTES:
                 raise Fail(f"it would need more than the {STACK_BYTES} bytes of the stack")
         return self.offsets[name]
+
+
+def shared_slots(copies, addresses):
+    """For each atom that is kept on the stack a number: two that are needed at once have different ones."""
+    saved, needed, beside = {}, {}, {}
+    for atom in {atom for row in addresses.stored.values() for _, address in row for atom in address.atoms}:
+        if atom.name == ADDED:
+            saved.setdefault(atom.copy, set()).add(atom)
+
+    def together(atoms):
+        for atom in atoms:
+            beside.setdefault(atom, set()).update(atoms)
+
+    for here in reversed(copies.order):
+        behind = set()
+        for way, after in here.ways:
+            rows = addresses.stored.get((here, way), [])
+            written = {atom for atom, _ in rows}
+            read = {part for _, address in rows for part in address.atoms}
+            together(written | read | needed[after])
+            behind |= read | needed[after] - written
+        kept = {Atom(KEPT, here, row.place) for row in addresses.remade.get(here, []) if row.leader is None}
+        together(behind | saved.get(here, set()))
+        needed[here] = behind - saved.get(here, set()) | kept
+        together(needed[here])
+    numbers = {}
+    for atom in beside:
+        taken = {numbers[other] for other in beside[atom] if other in numbers}
+        numbers[atom] = next(number for number in range(len(taken) + 1) if number not in taken)
+    return {atom: ("shared", number) for atom, number in numbers.items()}
 
 
 class Emitter:
@@ -71,7 +103,8 @@ class Emitter:
 
     def __init__(self, copies, addresses, guards=frozenset(), limited=frozenset()):
         self.copies, self.addresses, self.guards, self.limited = copies, addresses, guards, limited
-        self.own, self.out, self.labels, self.jumps, self.places = OwnStack(copies), [], [], [], {}
+        self.own = OwnStack(copies, shared_slots(copies, addresses))
+        self.out, self.labels, self.jumps, self.places = [], [], [], {}
         self.stored = [address for row in addresses.stored.values() for _, address in row]
         unmarked = {(atom.copy, atom.place) for address in self.stored for atom in address.atoms if atom.name == MET}
         if unmarked:

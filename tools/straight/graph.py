@@ -1,5 +1,5 @@
 """A program as a graph of slots: what follows what, what is live, and what lies in loops."""
-from .instructions import EXIT, JUMP, reads, writes
+from .instructions import CALL, EXIT, FRAME_POINTER, JUMP, STX, reads, writes
 
 
 class Fail(Exception):
@@ -91,3 +91,23 @@ def slots_that_reach(code, goals):
         reached.update(fresh)
         todo += fresh
     return reached
+
+
+def steering_registers(code):
+    """The registers, before each slot, whose numbers may decide a jump in a loop or before one, or become part of an
+    address. Numbers in others needn't be told apart: they are sums, flags and the answer."""
+    near = slots_that_reach(code, loops(code))
+
+    def step(slot, behind):
+        instruction = code[slot]
+        if instruction.is_branch:
+            return behind | (reads(instruction) if slot in near else set())
+        if instruction.opcode == EXIT:
+            return frozenset()
+        if instruction.is_store:
+            kept = instruction.kind == STX and instruction.destination == FRAME_POINTER
+            return behind | {instruction.base} | ({instruction.source} if kept else set())
+        used = instruction.is_load or instruction.opcode == CALL or writes(instruction) & behind
+        return behind - writes(instruction) | (reads(instruction) if used else set())
+
+    return backwards(code, step)

@@ -9,20 +9,20 @@ first program is that of the copies alone. Then, one mark per refusal:
   V10                what the access reaches is compared with the packet's end anew (`guards`)
   V14 at a store     a load, an addition and a store become one atomic addition (`counts`)
 
-No mark is taken back, so the search ends. It is made in four ways: numbers told apart in loops alone or everywhere, a
-meeting marked as one copy or at all copies of its slot."""
+No mark is taken back, so the search ends. It is made in up to six ways: as few numbers told apart as loops need, all in
+loops, or all; a meeting marked as one copy or at all copies of its slot."""
 from dataclasses import dataclass, field
 
 from .addresses import ADDED, KEPT, MET, Addresses, PacketAddress, StackSlot
-from .copies import Cases, Copies, Wide
+from .copies import EVERYWHERE, IN_LOOPS, STEERING, Cases, Copies, Wide
 from .counts import fused
 from .emit import Emitter, Kind, Needs
 from .graph import Fail
-from .instructions import ALU64, LSH
+from .instructions import ALU64, AND, LSH, RSH, compute, writes
 from .settings import instructions_of, text_of
 from .verifier import verdict
 
-MOST_TURNS, MOST_CASES = 400, 64
+MOST_TURNS, MOST_CASES, MOST_CASE_BITS = 400, 64, 6
 MOST_POSITIVE = (1 << 31) - 1  # a number up to here can be told from a negative one in 32 bits and in 64
 # causes that no other program with the same runs would avoid: of decoding and of structure, but for the loop
 OF_THE_BYTES = {"V0", "V1", "V2", "V3", "V4", "V6", "V16", "V19"}
@@ -52,10 +52,10 @@ class Result:
 
 
 class Search:
-    """One search. `everywhere`: numbers are told apart in all slots; `by_slot`: a meeting is marked at all copies."""
+    """One search. `numbers`: which are told apart; `by_slot`: a meeting is marked at all copies of its slot."""
 
-    def __init__(self, settings, xdpbox, everywhere, by_slot):
-        self.settings, self.xdpbox, self.everywhere, self.by_slot = settings, xdpbox, everywhere, by_slot
+    def __init__(self, settings, xdpbox, numbers, by_slot):
+        self.settings, self.xdpbox, self.numbers, self.by_slot = settings, xdpbox, numbers, by_slot
         self.code, self.marks = instructions_of(settings), Marks()
         self.copies = self.addresses = self.labels = None
 
@@ -82,7 +82,7 @@ class Search:
     def emitted(self):
         """The program with the marks as they are; None where a further meeting had to be marked."""
         marks = self.marks
-        self.copies = Copies(self.code, self.everywhere, marks.wide, marks.cases, marks.values)
+        self.copies = Copies(self.code, self.numbers, marks.wide, marks.cases, marks.values)
         self.addresses = Addresses(self.copies, lambda here, place: self.mark(here, place) in marks.meetings)
         try:
             return Emitter(self.copies, self.addresses, marks.guards, marks.limited).program()
@@ -168,35 +168,60 @@ class Search:
         if lost.was == "map_value" and not self.marks.values:
             self.marks.values = True
             return True
-        if lost.span is None or label.slot in self.marks.cases:
+        if lost.register is None or label.slot in self.marks.cases:
             return False
-        low, high = lost.span
-        numbers = tuple(range(low, high + 1, self.step_of(label.slot, lost.register)))
-        if len(numbers) > MOST_CASES:
+        numbers = masked(self.code, label.slot, lost.register)
+        if not numbers and lost.span:
+            numbers = range(lost.span[0], lost.span[1] + 1)
+        if not 0 < len(numbers) <= MOST_CASES:
             return False
-        self.marks.cases[label.slot] = Cases(lost.register, numbers)
+        self.marks.cases[label.slot] = Cases(lost.register, tuple(numbers))
         return True
 
-    def step_of(self, slot, register):
-        """What divides a number: it was shifted just before, as an index into counters is."""
-        while slot - 1 in self.code:
-            slot -= 1
-            instruction = self.code[slot]
-            if instruction.is_arithmetic and instruction.destination == register:
-                shifted = instruction.kind == ALU64 and instruction.operation == LSH and not instruction.by_register
-                return 1 << instruction.immediate if shifted else 1
-            if not (instruction.is_arithmetic or instruction.is_load) or instruction.destination == register:
-                return 1
-        return 1
+
+def masked(code, slot, register):
+    """What a number can be that was masked by a constant, and maybe shifted, just before a slot; nothing if it wasn't."""
+    behind = []
+    while slot - 1 in code:
+        slot -= 1
+        instruction = code[slot]
+        if register not in writes(instruction):
+            if not (instruction.is_arithmetic or instruction.is_load):
+                return ()
+        elif instruction.kind != ALU64 or instruction.by_register or instruction.operation not in (AND, LSH, RSH):
+            return ()
+        elif instruction.operation == AND and instruction.immediate > 0:
+            return [after_shifts(number, behind) for number in parts_of(instruction.immediate)]
+        else:
+            behind.append(instruction)
+    return ()
 
 
-def searches(settings, xdpbox):
-    """What the four searches find, the smallest program first, and why the others found none."""
-    found, faults = [], []
-    for everywhere in (False, True):
+def parts_of(mask):
+    """The numbers that have no bit but those of a mask, of masks with few bits."""
+    if bin(mask).count("1") > MOST_CASE_BITS:
+        return ()
+    numbers = [0]
+    for bit in range(mask.bit_length()):
+        numbers += [number | 1 << bit for number in numbers] if mask >> bit & 1 else []
+    return numbers
+
+
+def after_shifts(number, shifts):
+    """A number behind these instructions, of which the last comes first."""
+    for instruction in reversed(shifts):
+        number = compute(instruction, number, instruction.immediate)
+    return number
+
+
+def searches(settings, xdpbox, faults):
+    """What the searches find, the smaller of two programs first. The next two begin only where nobody took one of these.
+    Why a search found none is added to the faults."""
+    for numbers in (STEERING, IN_LOOPS, EVERYWHERE):
+        found = []
         for by_slot in (False, True):
             try:
-                found.append(Search(settings, xdpbox, everywhere, by_slot).run())
+                found.append(Search(settings, xdpbox, numbers, by_slot).run())
             except Fail as fail:
                 faults.append(fail)
-    return sorted(found, key=lambda result: len(result.words)), faults
+        yield from sorted(found, key=lambda result: len(result.words))
