@@ -265,13 +265,18 @@ class Check:
             if self.kind(after) == OUTSIDE:
                 self.ends(pc, a if slot.opcode == IF_ABOVE and way and b == self.forms.end else None, more)
                 continue
-            if slot.opcode & 0xF0 == JEQ and way and len(a.terms) == 1 and a.terms[0][1] == 1 and not b.terms:
-                self.put(more, a.terms[0][0], b.constant - a.constant)
+            if slot.opcode & 0xF0 == JEQ and way and len(a.terms) == 1 and not b.terms:
+                self.put(more, a.terms[0], b.constant - a.constant)
             out.append((after, more))
         return out
 
-    def put(self, state, atom, value):
-        """On a way on which an atom is a number, that number in its place."""
+    def put(self, state, term, value):
+        """On a way on which an atom with a factor is a number, that number in its place, where it is the only one."""
+        atom, factor = term
+        if factor != 1 and (value % factor or value < 0 or self.forms.ranges[atom][0] < 0
+                            or self.forms.ranges[atom][1] * factor > MASK_64):
+            return
+        value //= factor
         for part in (state.old, state.new, state.old_stack, state.new_stack):
             for place, form in part.items():
                 part[place] = put_number(self.forms, form, atom, value)

@@ -106,6 +106,10 @@ class Forms:
         mask = (1 << bits) - 1
         if not a.terms and not b.terms and not offset:
             return on_numbers(operation, a.constant & mask, b.constant & mask, bits)
+        if operation == AND and not b.terms and b.constant & mask:
+            factor = 1 << lowest_bits(b.constant & mask)  # of which the result is a multiple
+            part = self.atom((opcode, a, b, offset), (b.constant & mask) // factor)
+            return self.add(ZERO, part, factor)
         return self.atom((opcode, a, b, offset), self.top(operation, a, b, bits))
 
     def linear(self, operation, a, b):
@@ -129,8 +133,6 @@ class Forms:
     def top(self, operation, a, b, bits):
         """A bound of what an operation gives."""
         mask = (1 << bits) - 1
-        if operation == AND and not b.terms:
-            return min(mask, b.constant & mask)
         if operation == RSH and not b.terms:
             low, high = self.span(a, {})
             return (high if low >= 0 and high <= mask else mask) >> (b.constant % bits)

@@ -11,7 +11,7 @@ from dataclasses import dataclass, field
 from typing import NamedTuple
 
 from .constants import FAR, FRAME, Address, Constants, is_number
-from .graph import Fail, live_registers, loops, slots_that_reach, steering_registers, successors
+from .graph import Fail, NoBound, live_registers, loops, slots_that_reach, steering_registers, successors
 from .instructions import FRAME_POINTER, REGISTERS
 
 MOST_COPIES = 12000
@@ -149,7 +149,7 @@ class Copies:
             here, rest = todo[-1]
             for _, after in rest:
                 if finished.get(after) is False:
-                    raise Fail("no constant bounds how often this loop runs", after.slot)
+                    raise NoBound("no constant bounds how often this loop runs", after.slot)
                 if after not in finished:
                     finished[after] = False
                     todo.append((after, iter(after.ways)))

@@ -98,7 +98,7 @@ def shared_slots(copies, addresses):
 
 
 class Emitter:
-    """Writes a program. `guards`: keys of copies whose access is compared with the packet's end anew; `limited`: keys of
+    """Writes a program. `guards`: keys or slots of copies whose access is compared with the packet's end anew; `limited`: keys of
     copies to which a distance is handed on that a test has to bound."""
 
     def __init__(self, copies, addresses, guards=frozenset(), limited=frozenset()):
@@ -255,7 +255,7 @@ class Emitter:
         slot = here.slot
         for atom in sorted(self.saved.get(here, []), key=lambda atom: atom.place):
             self.save(atom, atom.place, slot)
-        if here.key in self.guards:
+        if here.key in self.guards or here.slot in self.guards:
             self.guard(here)
         if insn.is_branch:
             if len(here.ways) == 1:

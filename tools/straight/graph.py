@@ -1,5 +1,5 @@
 """A program as a graph of slots: what follows what, what is live, and what lies in loops."""
-from .instructions import CALL, EXIT, FRAME_POINTER, JUMP, STX, reads, writes
+from .instructions import ALU64, AND, CALL, EXIT, FRAME_POINTER, JUMP, STX, reads, writes
 
 
 class Fail(Exception):
@@ -8,6 +8,10 @@ class Fail(Exception):
     def __init__(self, words, slot=None):
         super().__init__(words)
         self.slot = slot
+
+
+class NoBound(Fail):
+    """A loop of which no constant says how often it runs."""
 
 
 def successors(code, slot):
@@ -111,3 +115,35 @@ def steering_registers(code):
         return behind - writes(instruction) | (reads(instruction) if used else set())
 
     return backwards(code, step)
+
+
+def masks_that_steer(code, slot):
+    """The masks by a constant, outside of the loop that a slot lies in, on which it depends how often the loop runs: the
+    slots of their instructions, the last one first."""
+    inside = loop_of(code, slot)
+    leaving = [at for at in inside if any(after not in inside for after in successors(code, at))]
+    before, seen, found = predecessors(code), set(), set()
+    todo = [(at, register) for leave in leaving for register in reads(code[leave]) for at in before[leave]]
+    while todo:
+        at, register = todo.pop()
+        if (at, register) in seen:
+            continue
+        seen.add((at, register))
+        instruction, wanted = code[at], {register}
+        if register in writes(instruction):
+            if instruction.kind == ALU64 and instruction.operation == AND and not instruction.by_register and at not in inside:
+                found.add(at)
+                continue
+            wanted = reads(instruction) if instruction.is_arithmetic else set()
+        todo += [(further, more) for more in wanted for further in before[at]]
+    return sorted(found, reverse=True)
+
+
+def loop_of(code, slot):
+    """The slots of the loop around a slot: those that it reaches and that reach it."""
+    reached, todo = {slot}, [slot]
+    while todo:
+        fresh = [after for after in successors(code, todo.pop()) if after not in reached]
+        reached.update(fresh)
+        todo += fresh
+    return reached & slots_that_reach(code, {slot})

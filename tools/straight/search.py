@@ -7,6 +7,7 @@ first program is that of the copies alone. Then, one mark per refusal:
                      the number's range is narrowed by a test (`wide`), or its few values are told apart (`cases`). A
                      distance of several such numbers is bounded by a test where it is stored (`limited`)
   V10                what the access reaches is compared with the packet's end anew (`guards`)
+  a loop             that nothing bounds but a masked number: a copy for each number (`cases`)
   V14 at a store     a load, an addition and a store become one atomic addition (`counts`)
 
 No mark is taken back, so the search ends. It is made in up to six ways: as few numbers told apart as loops need, all in
@@ -17,12 +18,14 @@ from .addresses import ADDED, KEPT, MET, Addresses, PacketAddress, StackSlot
 from .copies import EVERYWHERE, IN_LOOPS, STEERING, Cases, Copies, Wide
 from .counts import fused
 from .emit import Emitter, Kind, Needs
-from .graph import Fail
+from .graph import Fail, NoBound, masks_that_steer
 from .instructions import ALU64, AND, LSH, RSH, compute, writes
 from .settings import instructions_of, text_of
 from .verifier import verdict
 
-MOST_TURNS, MOST_CASES, MOST_CASE_BITS = 400, 64, 6
+MOST_TURNS, MOST_CASES, MOST_CASE_BITS = 200, 64, 6
+MOST_ALIKE = 3  # marks at copies of one slot, from which on all its copies are marked
+MOST_JUDGED = 60000  # slots, in all programs of one search
 MOST_POSITIVE = (1 << 31) - 1  # a number up to here can be told from a negative one in 32 bits and in 64
 # causes that no other program with the same runs would avoid: of decoding and of structure, but for the loop
 OF_THE_BYTES = {"V0", "V1", "V2", "V3", "V4", "V6", "V16", "V19"}
@@ -31,7 +34,7 @@ OF_THE_BYTES = {"V0", "V1", "V2", "V3", "V4", "V6", "V16", "V19"}
 @dataclass
 class Marks:
     meetings: set = field(default_factory=set)  # (copy's key or slot, stack slot or None)
-    guards: set = field(default_factory=set)  # keys of copies
+    guards: set = field(default_factory=set)  # keys of copies, or slots
     limited: set = field(default_factory=set)  # keys of copies
     wide: dict = field(default_factory=dict)  # by slot
     cases: dict = field(default_factory=dict)  # by slot
@@ -63,12 +66,40 @@ class Search:
         """How a meeting is marked. All its registers are: one of them is often made from another."""
         return (here.slot if self.by_slot else here.key, place if isinstance(place, StackSlot) else None)
 
+    def is_marked(self, here, place):
+        kept = place if isinstance(place, StackSlot) else None
+        return (here.key, kept) in self.marks.meetings or (here.slot, kept) in self.marks.meetings
+
+    def mark_meetings(self, rows):
+        """Marks meetings, (copy, place) each: whether one is new. Where several copies of a slot are marked all are."""
+        fresh = {self.mark(*row) for row in rows if not self.is_marked(*row)}
+        self.marks.meetings |= fresh
+        for key, kept in fresh:
+            slot = key if isinstance(key, int) else key[0]
+            alike = sum(other[0] == slot for other, _ in self.marks.meetings if not isinstance(other, int))
+            if alike >= MOST_ALIKE:
+                self.marks.meetings.add((slot, kept))
+        return bool(fresh)
+
+    def mark_guard(self, here):
+        """Marks an access to be guarded, in all copies of its slot where several need it."""
+        if here.key in self.marks.guards or here.slot in self.marks.guards:
+            return False
+        self.marks.guards.add(here.key)
+        if sum(key[0] == here.slot for key in self.marks.guards if not isinstance(key, int)) >= MOST_ALIKE:
+            self.marks.guards.add(here.slot)
+        return True
+
     def run(self):
+        judged = 0
         for _ in range(MOST_TURNS):
             program = self.emitted()
             if program is None:
                 continue
             words, relocations, self.labels = program
+            judged += len(words)
+            if judged > MOST_JUDGED:
+                break
             answer = verdict(self.xdpbox, text_of(self.settings, words, relocations))
             if answer.accepted:
                 return self.result(words, relocations)
@@ -77,22 +108,27 @@ class Search:
             if not self.learn(answer):
                 label = self.labels.get(answer.slot)
                 raise Fail(f"straightened, it is refused with {answer.cause}", label.slot if label else None)
-        raise Fail(f"it isn't accepted after {MOST_TURNS} changes")
+        raise Fail("it isn't accepted after many changes")
 
     def emitted(self):
         """The program with the marks as they are; None where a further meeting had to be marked."""
         marks = self.marks
-        self.copies = Copies(self.code, self.numbers, marks.wide, marks.cases, marks.values)
-        self.addresses = Addresses(self.copies, lambda here, place: self.mark(here, place) in marks.meetings)
+        try:
+            self.copies = Copies(self.code, self.numbers, marks.wide, marks.cases, marks.values)
+        except NoBound as loop:
+            if not self.tell_trips_apart(loop.slot):
+                raise
+            return None
+        self.addresses = Addresses(self.copies, self.is_marked)
         try:
             return Emitter(self.copies, self.addresses, marks.guards, marks.limited).program()
         except Needs as needs:
-            marks.meetings |= {self.mark(here, place) for here, place in needs.meetings}
+            self.mark_meetings(needs.meetings)
             return None
 
     def result(self, words, relocations):
         marks = self.marks
-        guards = sorted({key[0] for key in marks.guards})
+        guards = sorted({key if isinstance(key, int) else key[0] for key in marks.guards})
         tests = sorted({key[0] for key in marks.limited} | set(marks.wide))
         return Result(words, relocations, self.labels, sorted(marks.counts), guards, tests)
 
@@ -108,20 +144,14 @@ class Search:
         if not (instruction.is_load or instruction.is_store):
             return False
         if answer.cause == "V10":
-            return self.add(self.marks.guards, {label.copy.key})
+            return self.mark_guard(label.copy)
         if answer.cause != "V9":
             return False
         address = self.addresses.before[label.copy].get(instruction.base)
         if not isinstance(address, PacketAddress):
             return self.tell_apart(answer)
-        meetings = {self.mark(atom.copy, atom.place) for atom in address.atoms if atom.name == MET}
-        return self.add(self.marks.meetings, meetings) or self.widen(answer, address) or self.limit(address)
-
-    @staticmethod
-    def add(marks, more):
-        fresh = not more <= marks
-        marks |= more
-        return fresh
+        meetings = [(atom.copy, atom.place) for atom in address.atoms if atom.name == MET]
+        return self.mark_meetings(meetings) or self.widen(answer, address) or self.limit(address)
 
     def fuse(self, slot):
         mended = fused(self.code, slot)
@@ -157,7 +187,9 @@ class Search:
             if atom.copy.key not in found:
                 found.add(atom.copy.key)
                 todo += stored.get(atom, [])
-        return self.add(self.marks.limited, found)
+        fresh = not found <= self.marks.limited
+        self.marks.limited |= found
+        return fresh
 
     def tell_apart(self, answer):
         """A number of few values that is added to an address of the stack or of a map's value: a copy for each."""
@@ -177,6 +209,16 @@ class Search:
             return False
         self.marks.cases[label.slot] = Cases(lost.register, tuple(numbers))
         return True
+
+
+    def tell_trips_apart(self, slot):
+        """A loop that runs as often as a masked number says, as over the words of a header: a copy for each number."""
+        for mask in masks_that_steer(self.code, slot):
+            numbers = parts_of(self.code[mask].immediate)
+            if numbers and mask + 1 not in self.marks.cases:
+                self.marks.cases[mask + 1] = Cases(self.code[mask].destination, tuple(numbers))
+                return True
+        return False
 
 
 def masked(code, slot, register):
@@ -199,7 +241,7 @@ def masked(code, slot, register):
 
 def parts_of(mask):
     """The numbers that have no bit but those of a mask, of masks with few bits."""
-    if bin(mask).count("1") > MOST_CASE_BITS:
+    if mask <= 0 or bin(mask).count("1") > MOST_CASE_BITS:
         return ()
     numbers = [0]
     for bit in range(mask.bit_length()):
