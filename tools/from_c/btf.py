@@ -1,6 +1,7 @@
 """BTF, the debug information of BPF programs: the sizes of maps, and the line of C of each slot.
 
 Linux's Documentation/bpf/btf.rst has the format."""
+import os
 import struct
 from typing import NamedTuple
 
@@ -85,7 +86,15 @@ class Types:
             yield MapOfC(self.rows[number].name, kind, *sizes, entries)
 
 
-def lines_of(sections, program):
+def named(file, source):
+    """A file as its author names it: the source as it was given, another one from here."""
+    if os.path.realpath(file) == os.path.realpath(source):
+        return source
+    near = os.path.relpath(file)
+    return file if near.startswith("..") else near
+
+
+def lines_of(sections, program, source):
     """The line of C of each slot at which one begins, as `file.c:12`: what .BTF.ext has, where it is there."""
     if ".BTF.ext" not in sections or ".BTF" not in sections:
         return {}
@@ -102,6 +111,6 @@ def lines_of(sections, program):
         for _ in range(count):
             place, file, _, line = struct.unpack_from("<IIII", more, at)
             if text_at(names, section) == program and line >> 10:
-                found[place // 8] = f"{text_at(names, file)}:{line >> 10}"
+                found[place // 8] = f"{named(text_at(names, file), source)}:{line >> 10}"
             at += size
     return found

@@ -87,9 +87,23 @@ def learnt(forms, opcode, taken, a, b, facts):
             return facts
         address, holds = (a, holds) if b == forms.end else (b, TURNED[holds])
         return within_packet(forms, address, facts) if holds in (JLT, JLE, JEQ) else facts
-    if b.terms or not a.terms or a.constant:
+    if b.terms:
+        return below_an_address(forms, holds, a, b, facts)
+    if not a.terms or a.constant:
         return facts
     return compared(forms, holds, a, b.constant, facts)
+
+
+def below_an_address(forms, holds, a, b, facts):
+    """What lies below an address in the packet, as the cursor of a walk below the header's end, lies in the packet too."""
+    if holds in (JGT, JGE):
+        a, b, holds = b, a, TURNED[holds]
+    if holds not in (JLT, JLE):
+        return facts
+    low, high = forms.span(forms.subtract(b, forms.start), facts.ranges)
+    if low < 0 or high >= NEAR or room_behind(forms, b, facts) < 0:
+        return facts
+    return within_packet(forms, forms.add(a, number(holds == JLT)), facts)
 
 
 def within_packet(forms, address, facts):

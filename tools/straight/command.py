@@ -14,6 +14,8 @@ from .search import OF_THE_BYTES, searches
 from .settings import as_text
 from .verifier import Verdict, verdict
 
+NOTHING_HELPS = "nothing is rewritten that helps"
+MOST_UNGUARDED = 2  # results that want a guard which nobody asked for: others would too
 TOP = pathlib.Path(__file__).resolve().parents[2]
 # a refusal's words are those of instructions; these are those of C
 IN_C = {
@@ -36,6 +38,10 @@ class Straight:
     relocations: list
     lines: list = field(default_factory=list)
     notes: list = field(default_factory=list)
+
+
+class NoComparison(Fail):
+    """An access that no comparison shows to lie in the packet."""
 
 
 class Refused(Exception):
@@ -64,8 +70,8 @@ def straightened(settings, xdpbox, guard=False, per_cpu=None):
     if answer.cause is None:
         raise Refused(answer, answer.words.strip() or f"{xdpbox} gave no answer")
     if answer.cause in OF_THE_BYTES:
-        raise Refused(answer, "nothing is rewritten that helps")
-    missing, faults = None, []
+        raise Refused(answer, NOTHING_HELPS)
+    missing, faults, unguarded = None, [], 0
     for result in searches(settings, xdpbox, faults):
         labels = {slot: (label.kind.value, label.slot) for slot, label in result.labels.items()}
         rebuilt = {"program": result.words, "reloc": [{"slot": slot, "map": name} for slot, name in result.relocations]}
@@ -74,7 +80,12 @@ def straightened(settings, xdpbox, guard=False, per_cpu=None):
         if missing is None:
             lines = [f"{slot} {kind} {original}" for slot, (kind, original) in sorted(labels.items())]
             return Straight(result.words, result.relocations, lines, list(notes_of(result, check, per_cpu)))
+        unguarded += isinstance(missing, NoComparison)
+        if unguarded >= MOST_UNGUARDED:
+            break
     fault = missing or best_of(faults)
+    if fault.slot == answer.slot and answer.cause in str(fault):
+        raise Refused(answer, NOTHING_HELPS, answer.slot)
     raise Refused(answer, str(fault), fault.slot)
 
 
@@ -94,15 +105,15 @@ def what_is_missing(check, guard):
         slot, at = min(check.unproven.items())
         return Fail(f"a program was found that isn't shown to be the same: slot {slot} ends it", at)
     if check.guards and not guard:
-        return Fail("no comparison shows that this lies in the packet (--guard ends the program there with ABORTED)",
-                    min(check.guards.values()))
+        return NoComparison("no comparison shows that this lies in the packet (--guard ends the program there with ABORTED)",
+                            min(check.guards.values()))
     return None
 
 
 def notes_of(result, check, per_cpu):
     for slot in result.counts:
         if not (per_cpu and per_cpu(slot)):
-            yield slot, "a load, an addition and a store are one atomic addition: Linux would lose counts here where queues count at once"
+            yield slot, "a load, an addition and a store are one atomic addition: on a map that isn't per CPU, Linux would lose counts here"
     for slot in sorted(set(check.guards.values())):
         yield slot, "guarded: where this would reach outside the packet, the program ends with ABORTED"
 

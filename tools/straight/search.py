@@ -19,14 +19,14 @@ from .copies import EVERYWHERE, IN_LOOPS, STEERING, Cases, Copies, Wide
 from .counts import fused
 from .emit import Emitter, Kind, Needs
 from .graph import Fail, NoBound, masks_that_steer
-from .instructions import ALU64, AND, LSH, RSH, compute, writes
+from .instructions import ALU64, AND, LSH, MASK_32, RSH, compute, writes
 from .settings import instructions_of, text_of
 from .verifier import verdict
 
 MOST_TURNS, MOST_CASES, MOST_CASE_BITS = 200, 64, 6
 MOST_ALIKE = 3  # marks at copies of one slot, from which on all its copies are marked
 MOST_JUDGED = 60000  # slots, in all programs of one search
-MOST_POSITIVE = (1 << 31) - 1  # a number up to here can be told from a negative one in 32 bits and in 64
+MOST_POSITIVE = MASK_32  # a number up to here is none that is negative in 64 bits
 # causes that no other program with the same runs would avoid: of decoding and of structure, but for the loop
 OF_THE_BYTES = {"V0", "V1", "V2", "V3", "V4", "V6", "V16", "V19"}
 
