@@ -9,8 +9,18 @@ from .elf import text_at
 
 INT, POINTER, ARRAY, STRUCT, UNION, VARIABLE, SECTION = 1, 2, 3, 4, 5, 14, 15
 # kinds of types, and how many bytes follow the twelve that each has: a fixed number, and a number for each member
-MORE_BYTES = {1: (4, 0), 3: (12, 0), 4: (0, 12), 5: (0, 12), 6: (0, 8), 13: (0, 8), 14: (4, 0), 15: (0, 12), 17: (4, 0),
-              19: (0, 12)}
+MORE_BYTES = {
+    1: (4, 0),
+    3: (12, 0),
+    4: (0, 12),
+    5: (0, 12),
+    6: (0, 8),
+    13: (0, 8),
+    14: (4, 0),
+    15: (0, 12),
+    17: (4, 0),
+    19: (0, 12),
+}
 WITH_SIZE, ALIASES = (1, 4, 5, 6, 16, 19), (8, 9, 10, 11, 18)
 
 
@@ -77,11 +87,15 @@ class Types:
     def maps(self):
         """The maps of section ".maps", in their order."""
         sections = [row.more for row in self.rows[1:] if (row.kind, row.name) == (SECTION, ".maps")]
-        variables = sorted((place, number) for more in sections for number, place, _ in struct.iter_unpack("<III", more))
+        variables = sorted(
+            (place, number) for more in sections for number, place, _ in struct.iter_unpack("<III", more)
+        )
         for _, number in variables:
             members = self.members(self.rows[number].size)
-            sizes = [self.size(members[what]) if what in members else self.number_of(members.get(f"{what}_size", 0))
-                     for what in ("key", "value")]
+            sizes = [
+                self.size(members[what]) if what in members else self.number_of(members.get(f"{what}_size", 0))
+                for what in ("key", "value")
+            ]
             kind, entries = (self.number_of(members.get(what, 0)) for what in ("type", "max_entries"))
             yield MapOfC(self.rows[number].name, kind, *sizes, entries)
 

@@ -41,7 +41,16 @@ def compiled(source):
             file.write(INLINED)
         words = [clang, "-O2", "-g", "-target", "bpf", "-mcpu=" + os.environ.get("MCPU", "v2"), *system_headers()]
         # a loop that clang keeps is unwound behind it, and which ones it keeps is nobody's concern
-        words += ["-Wno-pass-failed", "-include", header, *shlex.split(os.environ.get("CFLAGS", "")), "-c", source, "-o", target]
+        words += [
+            "-Wno-pass-failed",
+            "-include",
+            header,
+            *shlex.split(os.environ.get("CFLAGS", "")),
+            "-c",
+            source,
+            "-o",
+            target,
+        ]
         if subprocess.run(words, check=False).returncode:
             sys.exit(f"{source}: {clang} made no program of it")
         with open(target, "rb") as file:

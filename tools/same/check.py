@@ -98,7 +98,10 @@ class Check:
 
     def __init__(self, original, result, labels):
         self.original, self.result, self.labels, self.forms = original, result, labels, Forms()
-        self.guards, self.unproven = {}, {}  # of the original: slots before which the result may end, by the result's slot
+        self.guards, self.unproven = (
+            {},
+            {},
+        )  # of the original: slots before which the result may end, by the result's slot
         self.lowest = self.end_of_own_stack()
 
     def run(self):
@@ -154,8 +157,13 @@ class Check:
 
     def end_of_own_stack(self):
         """Where the tool's stack slots end: they are a run without a gap from the lowest one."""
-        stores = sorted({slot.offset for pc, slot in self.result.items() if self.labels.get(pc, (None,))[0] == OWN
-                         and slot.opcode == STORE_8 and slot.destination == 10})
+        stores = sorted(
+            {
+                slot.offset
+                for pc, slot in self.result.items()
+                if self.labels.get(pc, (None,))[0] == OWN and slot.opcode == STORE_8 and slot.destination == 10
+            }
+        )
         highest = stores[0] if stores else -STACK - 8
         for offset in stores:
             highest = offset if offset - highest <= 8 else highest
@@ -163,7 +171,10 @@ class Check:
 
     def check_outside(self):
         opcodes = [self.result[pc] for pc in sorted(self.result) if self.kind(pc) == OUTSIDE]
-        if opcodes and [(slot.opcode, slot.destination, slot.immediate) for slot in opcodes] != [(0xB7, 0, 0), (EXIT, 0, 0)]:
+        if opcodes and [(slot.opcode, slot.destination, slot.immediate) for slot in opcodes] != [
+            (0xB7, 0, 0),
+            (EXIT, 0, 0),
+        ]:
             raise Differs("the end that the tool added isn't `r0 = 0; exit`")
 
     # --- one step
@@ -273,8 +284,12 @@ class Check:
     def put(self, state, term, value):
         """On a way on which an atom with a factor is a number, that number in its place, where it is the only one."""
         atom, factor = term
-        if factor != 1 and (value % factor or value < 0 or self.forms.ranges[atom][0] < 0
-                            or self.forms.ranges[atom][1] * factor > MASK_64):
+        if factor != 1 and (
+            value % factor
+            or value < 0
+            or self.forms.ranges[atom][0] < 0
+            or self.forms.ranges[atom][1] * factor > MASK_64
+        ):
             return
         value //= factor
         for part in (state.old, state.new, state.old_stack, state.new_stack):
@@ -416,8 +431,11 @@ class Check:
         known = {}
         parts = [[getattr(state, name) for state in states] for name in ("old", "new", "old_stack", "new_stack")]
         old, new, old_stack, new_stack = [self.joined(pc, rows, states, known) for rows in parts]
-        loads = {key: value for key, value in states[0].loads.items()
-                 if all(state.loads.get(key) == value for state in states)}
+        loads = {
+            key: value
+            for key, value in states[0].loads.items()
+            if all(state.loads.get(key) == value for state in states)
+        }
         facts = common(self.forms, [state.facts for state in states])
         joined = State(states[0].at, old, new, old_stack, new_stack, facts, loads)
         self.keep_addresses(states, joined)
@@ -447,7 +465,9 @@ class Check:
             distance = self.forms.subtract(form, self.forms.start)
             if dict(form.terms).get(self.forms.start.terms[0][0]) != 1:
                 continue
-            spans = [self.forms.span(self.forms.subtract(there, self.forms.start), facts.ranges) for there, facts in rows]
+            spans = [
+                self.forms.span(self.forms.subtract(there, self.forms.start), facts.ranges) for there, facts in rows
+            ]
             low, high = min(span[0] for span in spans), max(span[1] for span in spans)
             if len(distance.terms) > 1 and low >= 0 and high < NEAR:
                 constant = signed(distance.constant)

@@ -27,16 +27,39 @@ def on_numbers(operation, a, b, bits):
     """Whether a jump is taken, of two numbers."""
     a, b = a & ((1 << bits) - 1), b & ((1 << bits) - 1)
     x, y = signed(a, bits), signed(b, bits)
-    return {JEQ: a == b, JNE: a != b, JGT: a > b, JGE: a >= b, JLT: a < b, JLE: a <= b, JSET: bool(a & b),
-            JSGT: x > y, JSGE: x >= y, JSLT: x < y, JSLE: x <= y}[operation]
+    return {
+        JEQ: a == b,
+        JNE: a != b,
+        JGT: a > b,
+        JGE: a >= b,
+        JLT: a < b,
+        JLE: a <= b,
+        JSET: bool(a & b),
+        JSGT: x > y,
+        JSGE: x >= y,
+        JSLT: x < y,
+        JSLE: x <= y,
+    }[operation]
 
 
 def in_range(operation, low, high, value):
     """Whether a jump is taken, of a number from `low` to `high` and another one. None: either may be."""
-    always = {JGT: low > value, JGE: low >= value, JLT: high < value, JLE: high <= value,
-              JEQ: low == high == value, JNE: not low <= value <= high}
-    never = {JGT: high <= value, JGE: high < value, JLT: low >= value, JLE: low > value,
-             JEQ: not low <= value <= high, JNE: low == high == value}
+    always = {
+        JGT: low > value,
+        JGE: low >= value,
+        JLT: high < value,
+        JLE: high <= value,
+        JEQ: low == high == value,
+        JNE: not low <= value <= high,
+    }
+    never = {
+        JGT: high <= value,
+        JGE: high < value,
+        JLT: low >= value,
+        JLE: low > value,
+        JEQ: not low <= value <= high,
+        JNE: low == high == value,
+    }
     return True if always.get(operation) else False if never.get(operation) else None
 
 
@@ -142,7 +165,7 @@ def of_atom(forms, form, low, high, ranges):
     """What a range of an atom's multiple says of the atom."""
     if len(form.terms) != 1 or form.terms[0][1] == 1:
         return
-    (atom, factor), = form.terms
+    ((atom, factor),) = form.terms
     alone = Form(0, ((atom, 1),))
     least, most = forms.range_of(atom, ranges)
     if least >= 0 and most * factor <= MASK_64:

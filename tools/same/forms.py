@@ -33,9 +33,20 @@ def signed(value, bits=64):
 
 def on_numbers(operation, a, b, bits):
     """What arithmetic makes of two numbers."""
-    rows = {ADD: lambda: a + b, SUB: lambda: a - b, MUL: lambda: a * b, DIV: lambda: a // b if b else 0,
-            OR: lambda: a | b, AND: lambda: a & b, LSH: lambda: a << b % bits, RSH: lambda: a >> b % bits,
-            NEG: lambda: -a, MOD: lambda: a % b if b else a, XOR: lambda: a ^ b, ARSH: lambda: signed(a, bits) >> b % bits}
+    rows = {
+        ADD: lambda: a + b,
+        SUB: lambda: a - b,
+        MUL: lambda: a * b,
+        DIV: lambda: a // b if b else 0,
+        OR: lambda: a | b,
+        AND: lambda: a & b,
+        LSH: lambda: a << b % bits,
+        RSH: lambda: a >> b % bits,
+        NEG: lambda: -a,
+        MOD: lambda: a % b if b else a,
+        XOR: lambda: a ^ b,
+        ARSH: lambda: signed(a, bits) >> b % bits,
+    }
     return number(rows[operation]() & ((1 << bits) - 1)) if operation in rows else None
 
 
@@ -121,7 +132,7 @@ class Forms:
         if operation == LSH and not b.terms:
             return self.add(ZERO, a, 1 << (b.constant & 63))
         if operation == AND and not b.terms and len(a.terms) == 1 and not a.constant:
-            (atom, factor), = a.terms
+            ((atom, factor),) = a.terms
             shift = lowest_bits(factor)
             if factor == 1 << shift and shift and b.constant & (factor - 1) == 0 and b.constant:
                 # (x << k) & (m << k) is (x & m) << k

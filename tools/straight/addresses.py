@@ -11,8 +11,20 @@ from .constants import FRAME as FRAME_ADDRESS
 from .constants import is_address, is_number
 from .copies import Copy
 from .instructions import (
-    ADD, ALU64, CALL, CONTEXT_ARGUMENT, FRAME_POINTER, LOAD_DOUBLE, LOAD_WORD, MASK_64, MOV, STORE_DOUBLE, SUB, WIDE_LOAD,
-    signed)
+    ADD,
+    ALU64,
+    CALL,
+    CONTEXT_ARGUMENT,
+    FRAME_POINTER,
+    LOAD_DOUBLE,
+    LOAD_WORD,
+    MASK_64,
+    MOV,
+    STORE_DOUBLE,
+    SUB,
+    WIDE_LOAD,
+    signed,
+)
 
 ADDED, MET, KEPT = "added", "met", "kept"
 START_FIELD, END_FIELD, META_FIELD = 0, 4, 8  # of the context

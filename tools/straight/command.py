@@ -21,7 +21,7 @@ TOP = pathlib.Path(__file__).resolve().parents[2]
 IN_C = {
     "V5": "bound the loop by a constant too, as `for (int i = 0; i < 16 && more; i++)`; it may be left early by `break`",
     "V10": "compare the end of what is read with data_end on each way to this line; or say --guard: where the packet is too "
-           "short, the program then ends with ABORTED",
+    "short, the program then ends with ABORTED",
     "V11": "initialize the variable on each way to this line",
     "V13": "test what the lookup gave first: `if (!value) return XDP_PASS;`",
     "V14": "add to a map's counter by __sync_fetch_and_add(&value, n), or by `value += n`; nothing else can be stored there",
@@ -105,8 +105,10 @@ def what_is_missing(check, guard):
         slot, at = min(check.unproven.items())
         return Fail(f"a program was found that isn't shown to be the same: slot {slot} ends it", at)
     if check.guards and not guard:
-        return NoComparison("no comparison shows that this lies in the packet (--guard ends the program there with ABORTED)",
-                            min(check.guards.values()))
+        return NoComparison(
+            "no comparison shows that this lies in the packet (--guard ends the program there with ABORTED)",
+            min(check.guards.values()),
+        )
     return None
 
 
@@ -136,7 +138,9 @@ def describe(refused, place_of=None, name="the program"):
             yield f"  {line}"
             if number + 1 < len(lines) and lines[number + 1].startswith("     ") and "=" in lines[number + 1]:
                 yield f"  {lines[number + 1]}"
-    advice = IN_C.get(answer.cause) or next((line.partition(": ")[2] for line in lines if line.startswith("write instead")), None)
+    advice = IN_C.get(answer.cause) or next(
+        (line.partition(": ")[2] for line in lines if line.startswith("write instead")), None
+    )
     yield f"{place(refused.slot if refused.slot is not None else answer.slot)}: {refused.why}"
     if advice:
         yield f"write instead: {advice}"

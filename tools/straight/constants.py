@@ -4,8 +4,34 @@ A constant is a number, or an `Address` that is known as far as copies need it."
 from typing import NamedTuple
 
 from .instructions import (
-    ADD, ALU64, CALL, CONTEXT_ARGUMENT, END, FRAME_POINTER, JEQ, JGE, JGT, JLE, JLT, JMP, JNE, LOAD_DOUBLE, LOAD_WORD,
-    MASK_32, MASK_64, MOV, NEG, STORE_DOUBLE, STORE_DOUBLE_CONSTANT, STX, SUB, WIDE_LOAD, compute, holds, signed)
+    ADD,
+    ALU64,
+    CALL,
+    CONTEXT_ARGUMENT,
+    END,
+    FRAME_POINTER,
+    JEQ,
+    JGE,
+    JGT,
+    JLE,
+    JLT,
+    JMP,
+    JNE,
+    LOAD_DOUBLE,
+    LOAD_WORD,
+    MASK_32,
+    MASK_64,
+    MOV,
+    NEG,
+    STORE_DOUBLE,
+    STORE_DOUBLE_CONSTANT,
+    STX,
+    SUB,
+    WIDE_LOAD,
+    compute,
+    holds,
+    signed,
+)
 
 # FAR: so far behind the packet's start that it lies behind every packet's end. VALUE: of a map, with the distance that
 # the original added and the result adds to the offset of each access instead

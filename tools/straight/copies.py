@@ -66,7 +66,9 @@ def telling_registers(code, numbers):
     if numbers == EVERYWHERE:
         return {slot: range(REGISTERS) for slot in code}
     near, steering = slots_that_reach(code, loops(code)), steering_registers(code)
-    return {slot: None if slot not in near else steering[slot] if numbers == STEERING else range(REGISTERS) for slot in code}
+    return {
+        slot: None if slot not in near else steering[slot] if numbers == STEERING else range(REGISTERS) for slot in code
+    }
 
 
 class Copies:

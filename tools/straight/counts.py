@@ -5,8 +5,17 @@ where nothing between the two could see or change the counter, and where what wa
 On a counter of a per-CPU map it is the same count; on a shared one Linux's program could lose counts and this can't."""
 from .graph import live_registers, successors
 from .instructions import (
-    ADD_CONSTANT, ADD_REGISTER, ATOMIC_DOUBLE, LOAD_DOUBLE, MOVE_CONSTANT, MOVE_REGISTER, STORE_DOUBLE, Instruction, reads,
-    writes)
+    ADD_CONSTANT,
+    ADD_REGISTER,
+    ATOMIC_DOUBLE,
+    LOAD_DOUBLE,
+    MOVE_CONSTANT,
+    MOVE_REGISTER,
+    STORE_DOUBLE,
+    Instruction,
+    reads,
+    writes,
+)
 
 
 def fused(code, store):
@@ -27,8 +36,12 @@ def fused(code, store):
 def load_before(code, store):
     """The slot of the load of the same counter, on the one way to the store, behind which nothing has an effect."""
     put, slot = code[store], store
-    targets = {after for before in code for after in successors(code, before)
-               if code[before].is_branch or after != before + code[before].slots}
+    targets = {
+        after
+        for before in code
+        for after in successors(code, before)
+        if code[before].is_branch or after != before + code[before].slots
+    }
     while slot - 1 in code and slot not in targets:
         slot -= 1
         instruction = code[slot]

@@ -9,9 +9,27 @@ from .constants import FRAME, VALUE, is_address
 from .copies import CASE, OUTSIDE, TESTS, Copy
 from .graph import Fail
 from .instructions import (
-    ADD, ADD_CONSTANT, ADD_REGISTER, AND_CONSTANT, CALL, CONTEXT_ARGUMENT, EXIT, FRAME_POINTER, IF_ABOVE_CONSTANT,
-    IF_ABOVE_REGISTER, IF_EQUAL_CONSTANT, JUMP, LOAD_DOUBLE, LOAD_WORD, MOVE_CONSTANT, MOVE_REGISTER, STORE_DOUBLE,
-    SUB, XOR_REGISTER, Instruction)
+    ADD,
+    ADD_CONSTANT,
+    ADD_REGISTER,
+    AND_CONSTANT,
+    CALL,
+    CONTEXT_ARGUMENT,
+    EXIT,
+    FRAME_POINTER,
+    IF_ABOVE_CONSTANT,
+    IF_ABOVE_REGISTER,
+    IF_EQUAL_CONSTANT,
+    JUMP,
+    LOAD_DOUBLE,
+    LOAD_WORD,
+    MOVE_CONSTANT,
+    MOVE_REGISTER,
+    STORE_DOUBLE,
+    SUB,
+    XOR_REGISTER,
+    Instruction,
+)
 
 MOST_SLOTS, STACK_BYTES, MOST_DISTANCE = 4096, 512, 65535
 END_FIELD, INTERFACE_FIELD = 4, 12  # of the context
@@ -260,9 +278,19 @@ class Emitter:
         if insn.is_branch:
             if len(here.ways) == 1:
                 return None
-            return self.put(Instruction(insn.opcode, insn.destination, insn.source, 0, insn.immediate), Kind.COPY, slot, here)
+            return self.put(
+                Instruction(insn.opcode, insn.destination, insn.source, 0, insn.immediate), Kind.COPY, slot, here
+            )
         if insn.opcode != JUMP and not self.goes_to_accesses(here, insn):
-            fields = insn.opcode, insn.destination, insn.source, self.offset(here, insn), insn.immediate, insn.upper, insn.map
+            fields = (
+                insn.opcode,
+                insn.destination,
+                insn.source,
+                self.offset(here, insn),
+                insn.immediate,
+                insn.upper,
+                insn.map,
+            )
             self.put(Instruction(*fields), Kind.COPY, slot, here)
         return None
 

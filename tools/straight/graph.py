@@ -131,7 +131,12 @@ def masks_that_steer(code, slot):
         seen.add((at, register))
         instruction, wanted = code[at], {register}
         if register in writes(instruction):
-            if instruction.kind == ALU64 and instruction.operation == AND and not instruction.by_register and at not in inside:
+            if (
+                instruction.kind == ALU64
+                and instruction.operation == AND
+                and not instruction.by_register
+                and at not in inside
+            ):
                 found.add(at)
                 continue
             wanted = reads(instruction) if instruction.is_arithmetic else set()

@@ -165,8 +165,11 @@ class Search:
         """A number that is too wide for an address: a test in front of its addition, the last one or that which is named."""
         lost = answer.lost()
         named = self.labels.get(lost.slot) if lost else None
-        added = [(atom.copy, atom.place) for atom in address.atoms
-                 if atom.name == ADDED and atom.copy.slot not in self.marks.wide]
+        added = [
+            (atom.copy, atom.place)
+            for atom in address.atoms
+            if atom.name == ADDED and atom.copy.slot not in self.marks.wide
+        ]
         chosen = [row for row in added if named and row[0] is named.copy] or added[-1:]
         if not chosen:
             return False
@@ -209,7 +212,6 @@ class Search:
             return False
         self.marks.cases[label.slot] = Cases(lost.register, tuple(numbers))
         return True
-
 
     def tell_trips_apart(self, slot):
         """A loop that runs as often as a masked number says, as over the words of a header: a copy for each number."""

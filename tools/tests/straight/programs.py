@@ -1,7 +1,7 @@
 """The smallest programs that need one transformation each, as settings."""
 from straight.instructions import (
-    ADD_CONSTANT, ADD_REGISTER, AND, ALU64, ATOMIC_DOUBLE, CALL, EXIT, IF_ABOVE_REGISTER, IF_EQUAL_CONSTANT, JMP, JNE, JUMP, LDX,
-    LOAD_DOUBLE, LOAD_WORD, LSH, MOVE_CONSTANT, MOVE_REGISTER, ST, STORE_DOUBLE, SUB, WIDE_LOAD, BY_REGISTER, Instruction)
+    ADD_CONSTANT, ADD_REGISTER, AND, ALU64, ATOMIC_DOUBLE, CALL, EXIT, IF_ABOVE_REGISTER, IF_EQUAL_CONSTANT, JMP, JNE, LDX,
+    LOAD_DOUBLE, LOAD_WORD, LSH, MOVE_CONSTANT, MOVE_REGISTER, ST, STORE_DOUBLE, SUB, WIDE_LOAD, Instruction)
 
 LOAD_BYTE, STORE_WORD_CONSTANT, STORE_BYTE_CONSTANT = LDX | 0x70, ST | 0x62, ST | 0x72
 IF_NOT_CONSTANT, AND_CONSTANT, LSH_CONSTANT, SUB_CONSTANT = JMP | JNE, ALU64 | AND, ALU64 | LSH, ALU64 | SUB
@@ -74,9 +74,9 @@ DOUBLED = settings(*lookup((LOAD_DOUBLE, R1, R0), (ADD_REGISTER, R1, R1), (STORE
 COUNT_READ = settings(*lookup((LOAD_DOUBLE, R6, R0), (ADD_CONSTANT, R6, 0, 0, 1), (STORE_DOUBLE, R0, R6), (MOVE_REGISTER, R0, R6),
                               (EXIT,)), *PASS, entries=1)
 UNCHECKED = settings(*START, (LOAD_BYTE, R5, R2), *PASS)
-# of 9 addresses one, and the last of them was compared with the packet's end, one way in a step
+# nine numbers are added or not, and the end of all was compared with the packet's end before
 COVERED = settings(
-    *START, *in_packet(12, 2 * 9 + 4), (LOAD_BYTE, R5, R2),
+    *START, *in_packet(47, 2 * 9 + 4), (LOAD_BYTE, R5, R2),
     *[fields for number in range(9) for fields in [(IF_NOT_CONSTANT, R5, 0, 1, number), (ADD_CONSTANT, R2, 0, 0, number + 1)]],
     (LOAD_BYTE, R5, R2), (MOVE_CONSTANT, R0, 0, 0, 1), (EXIT,), *PASS)
 ACCEPTED = settings(*PASS)
