@@ -4,7 +4,7 @@ Our own instructions use registers that aren't live, or that they put back, and 
 from enum import Enum
 from typing import NamedTuple, Optional
 
-from .addresses import ADDED, KEPT, MET, Atom, StackSlot, Thing
+from .addresses import ADDED, KEPT, MET, Atom, StackSlot, Thing, in_order
 from .constants import FRAME, VALUE, is_address
 from .copies import CASE, OUTSIDE, TESTS, Copy
 from .graph import Fail
@@ -108,8 +108,9 @@ def shared_slots(copies, addresses):
         together(behind | saved.get(here, set()))
         needed[here] = behind - saved.get(here, set()) | kept
         together(needed[here])
+    order = {here: number for number, here in enumerate(copies.order)}
     numbers = {}
-    for atom in beside:
+    for atom in sorted(beside, key=lambda atom: (order[atom.copy], atom.name, in_order(atom.place))):
         taken = {numbers[other] for other in beside[atom] if other in numbers}
         numbers[atom] = next(number for number in range(len(taken) + 1) if number not in taken)
     return {atom: ("shared", number) for atom, number in numbers.items()}
