@@ -1,4 +1,4 @@
-"""An object file: its sections, symbols and relocations. The numbers are those of ELF and of Linux's BPF relocations."""
+"""An object file: its sections, symbols and relocations. The numbers are those of ELF and of BPF's relocations."""
 import struct
 from typing import NamedTuple
 

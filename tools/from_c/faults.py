@@ -8,7 +8,10 @@ MOST_MAPS, MOST_ENTRIES, MOST_COUNTERS, MOST_NAME = 4, 1024, 8, 32
 INLINED_LATER = ("memcmp", "memcpy", "memmove", "memset")
 ARRAYS, PER_CPU_ARRAY = (2, 6), 6
 
-LISTED = "keep the list as a `switch` or as comparisons in the code, and count under a number of your own in a BPF_MAP_TYPE_ARRAY"
+LISTED = (
+    "keep the list as a `switch` or as comparisons in the code, and count under a number of your own in a"
+    " BPF_MAP_TYPE_ARRAY"
+)
 NO_REDIRECT = "there is no redirect: PASS gives the packet to the host, DROP drops it, TX sends it back"
 NO_EVENTS = "nothing is sent to user space: count in a BPF_MAP_TYPE_ARRAY, and read the counters from the host"
 NO_TAIL_CALLS = "there are no tail calls: make one program of functions that are static and __always_inline"
@@ -101,14 +104,15 @@ def faults_of_map(found):
     """What is wrong with a map as C declares it."""
     if found.type not in ARRAYS:
         name, instead = MAP_TYPES.get(found.type, (str(found.type), NO_STATE))
-        yield f"the map {found.name} is a BPF_MAP_TYPE_{name}, and there are arrays alone (ARRAY, PERCPU_ARRAY): {instead}"
+        known = f"the map {found.name} is a BPF_MAP_TYPE_{name}, and there are arrays alone (ARRAY, PERCPU_ARRAY)"
+        yield f"{known}: {instead}"
         return
     if found.key_bytes != 4:
         yield f"the keys of the map {found.name} have {found.key_bytes} bytes: a key has 4, as a __u32"
     if found.value_bytes == 0 or found.value_bytes % 8:
         yield (
-            f"the values of the map {found.name} have {found.value_bytes} bytes: a value is 1 to {MOST_COUNTERS} counters"
-            " of 8 bytes; make each a __u64"
+            f"the values of the map {found.name} have {found.value_bytes} bytes: a value is 1 to {MOST_COUNTERS}"
+            " counters of 8 bytes; make each a __u64"
         )
     elif found.value_bytes // 8 > MOST_COUNTERS:
         yield f"the values of the map {found.name} have {found.value_bytes // 8} counters: at most {MOST_COUNTERS}"
@@ -122,7 +126,7 @@ def faults_of_sizes(maps):
         yield f"there are {len(maps)} maps: at most {MOST_MAPS}; a value may have {MOST_COUNTERS} counters"
     for name, entries, counters in maps:
         if not 1 <= entries <= MOST_ENTRIES:
-            yield f"the map {name} has {entries} entries: 1 to {MOST_ENTRIES}; count under a shorter key, or by a part of it"
+            yield f"the map {name} has {entries} entries: 1 to {MOST_ENTRIES}; count under a shorter key"
         if not 1 <= counters <= MOST_COUNTERS:
             yield f"the values of the map {name} have {counters} counters: 1 to {MOST_COUNTERS}"
         if len(name.encode()) > MOST_NAME:

@@ -118,7 +118,7 @@ def learnt(forms, opcode, taken, a, b, facts):
 
 
 def below_an_address(forms, holds, a, b, facts):
-    """What lies below an address in the packet, as the cursor of a walk below the header's end, lies in the packet too."""
+    """What lies below an address in the packet, as a cursor below the header's end, lies in the packet too."""
     if holds in (JGT, JGE):
         a, b, holds = b, a, TURNED[holds]
     if holds not in (JLT, JLE):

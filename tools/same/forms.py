@@ -1,7 +1,7 @@
 """Linear forms modulo 2^64: a constant, and atoms with factors.
 
-An atom is a number that both programs have alike: what a load gave from one address, what an operation makes of the same
-forms, what the ways to a slot disagree on. Two equal forms are one number; two different ones may be or not."""
+An atom is a number that both programs have alike: what a load gave from one address, what an operation makes of the
+same forms, what the ways to a slot disagree on. Two equal forms are one number; two different ones may be or not."""
 from typing import NamedTuple
 
 MASK_64, MASK_32 = (1 << 64) - 1, (1 << 32) - 1
@@ -158,7 +158,7 @@ class Forms:
         return (max(least, known[0]), min(most, known[1])) if known and least >= 0 else (least, most)
 
     def span(self, form, ranges):
-        """A range with a whole number that equals the form modulo 2^64. `ranges`: what is known of forms without constant."""
+        """A range with a whole number that equals the form modulo 2^64. `ranges`: of forms without constant."""
         low = high = 0
         for atom, factor in form.terms:
             least, most = self.range_of(atom, ranges)

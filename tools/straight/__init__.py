@@ -1,9 +1,9 @@
 """Straightens a BPF program: changes it, behind clang and before the verifier, so that the verifier accepts it.
 
 The verifier follows each slot with few notes: it takes no loop, and loses an address on which more than eight ways
-disagree. What clang makes of C as it is written for Linux has both. Here such a program is given other instructions with
-the same runs. Nothing is changed that the verifier doesn't ask for, and nothing here is trusted: the verifier judges the
-result, and `tools/same-program`, which shares no text with this package, shows that it is the same program.
+disagree. What clang makes of C as it is written for Linux has both. Here such a program is given other instructions
+with the same runs. Nothing is changed that the verifier doesn't ask for, and nothing here is trusted: the verifier
+judges the result, and `tools/same-program`, which shares no text with this package, shows that it is the same program.
 
     instructions  an instruction's fields, what it reads and writes, what it computes of constants
     settings      settings as text, and the program in them

@@ -15,16 +15,19 @@ from .settings import as_text
 from .verifier import Verdict, verdict
 
 NOTHING_HELPS = "nothing is rewritten that helps"
+FUSED = (
+    "a load, an addition and a store are one atomic addition: on a map that isn't per CPU, Linux would lose counts here"
+)
 MOST_UNGUARDED = 2  # results that want a guard which nobody asked for: others would too
 TOP = pathlib.Path(__file__).resolve().parents[2]
 # a refusal's words are those of instructions; these are those of C
 IN_C = {
-    "V5": "bound the loop by a constant too, as `for (int i = 0; i < 16 && more; i++)`; it may be left early by `break`",
-    "V10": "compare the end of what is read with data_end on each way to this line; or say --guard: where the packet is too "
-    "short, the program then ends with ABORTED",
+    "V5": "bound the loop by a constant too, as `for (int i = 0; i < 16 && more; i++)`; `break` may leave it early",
+    "V10": "compare the end of what is read with data_end on each way to this line; or say --guard: where the packet is"
+    " too short, the program then ends with ABORTED",
     "V11": "initialize the variable on each way to this line",
     "V13": "test what the lookup gave first: `if (!value) return XDP_PASS;`",
-    "V14": "add to a map's counter by __sync_fetch_and_add(&value, n), or by `value += n`; nothing else can be stored there",
+    "V14": "add to a map's counter by __sync_fetch_and_add(value, n) or `*value += n`: nothing else is stored there",
     "V17": "the key is a variable of four bytes, all of them stored",
     "V19": "of the atomic operations there is the addition of eight bytes alone, __sync_fetch_and_add",
 }
@@ -115,7 +118,7 @@ def what_is_missing(check, guard):
 def notes_of(result, check, per_cpu):
     for slot in result.counts:
         if not (per_cpu and per_cpu(slot)):
-            yield slot, "a load, an addition and a store are one atomic addition: on a map that isn't per CPU, Linux would lose counts here"
+            yield slot, FUSED
     for slot in sorted(set(check.guards.values())):
         yield slot, "guarded: where this would reach outside the packet, the program ends with ABORTED"
 

@@ -62,7 +62,7 @@ class Copy:
 
 
 def telling_registers(code, numbers):
-    """Of each slot the registers whose numbers are told apart there, or None where no number is, of the stack neither."""
+    """Of each slot the registers whose numbers are told apart there; None where no number is, nor one of the stack."""
     if numbers == EVERYWHERE:
         return {slot: range(REGISTERS) for slot in code}
     near, steering = slots_that_reach(code, loops(code)), steering_registers(code)

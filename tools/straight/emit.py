@@ -117,8 +117,10 @@ def shared_slots(copies, addresses):
 
 
 class Emitter:
-    """Writes a program. `guards`: keys or slots of copies whose access is compared with the packet's end anew; `limited`: keys of
-    copies to which a distance is handed on that a test has to bound."""
+    """Writes a program.
+
+    guards   keys or slots of copies whose access is compared with the packet's end anew
+    limited  keys of copies to which a distance is handed on that a test has to bound"""
 
     def __init__(self, copies, addresses, guards=frozenset(), limited=frozenset()):
         self.copies, self.addresses, self.guards, self.limited = copies, addresses, guards, limited
@@ -244,8 +246,8 @@ class Emitter:
             self.put(Instruction(EXIT), Kind.OUTSIDE, 0)
 
     def write_start(self):
-        """Keeps what the program's own copies may lose: the context, and a 0 of which the verifier knows only that it is
-        0 or 1. So a distance is a number on every way and a constant on none; else the verifier would keep it apart."""
+        """Keeps the context, and a 0 of which the verifier knows only that it is 0 or 1. So a distance is a number on
+        every way and a constant on none; else the verifier would keep it apart."""
         if self.stored or self.guards:
             self.save(CONTEXT_SLOT, CONTEXT_ARGUMENT, 0)
         if any(not address.atoms for address in self.stored):

@@ -118,8 +118,8 @@ def steering_registers(code):
 
 
 def masks_that_steer(code, slot):
-    """The masks by a constant, outside of the loop that a slot lies in, on which it depends how often the loop runs: the
-    slots of their instructions, the last one first."""
+    """The masks by a constant, outside of the loop that a slot lies in, on which it depends how often the loop runs:
+    the slots of their instructions, the last one first."""
     inside = loop_of(code, slot)
     leaving = [at for at in inside if any(after not in inside for after in successors(code, at))]
     before, seen, found = predecessors(code), set(), set()

@@ -44,7 +44,7 @@ class Marks:
 
 @dataclass
 class Result:
-    """A program that the verifier accepts. `labels`: of each of its slots; `counts`, `guards`: slots of the original."""
+    """A program that the verifier accepts. `labels`: of its slots. `counts`, `guards`: slots of the original."""
 
     words: list
     relocations: list
@@ -162,7 +162,7 @@ class Search:
         return True
 
     def widen(self, answer, address):
-        """A number that is too wide for an address: a test in front of its addition, the last one or that which is named."""
+        """A number that is too wide for an address: a test in front of its addition, the named one or the last."""
         lost = answer.lost()
         named = self.labels.get(lost.slot) if lost else None
         added = [
@@ -224,7 +224,7 @@ class Search:
 
 
 def masked(code, slot, register):
-    """What a number can be that was masked by a constant, and maybe shifted, just before a slot; nothing if it wasn't."""
+    """What a number can be that was masked by a constant, and maybe shifted, just before a slot; else nothing."""
     behind = []
     while slot - 1 in code:
         slot -= 1
@@ -259,8 +259,8 @@ def after_shifts(number, shifts):
 
 
 def searches(settings, xdpbox, faults):
-    """What the searches find, the smaller of two programs first. The next two begin only where nobody took one of these.
-    Why a search found none is added to the faults."""
+    """What the searches find, the smaller of two programs first. The next two begin only where nobody took one of
+    these. Why a search found none is added to the faults."""
     for numbers in (STEERING, IN_LOOPS, EVERYWHERE):
         found = []
         for by_slot in (False, True):

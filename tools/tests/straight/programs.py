@@ -1,7 +1,28 @@
 """The smallest programs that need one transformation each, as settings."""
 from straight.instructions import (
-    ADD_CONSTANT, ADD_REGISTER, AND, ALU64, ATOMIC_DOUBLE, CALL, EXIT, IF_ABOVE_REGISTER, IF_EQUAL_CONSTANT, JMP, JNE, LDX,
-    LOAD_DOUBLE, LOAD_WORD, LSH, MOVE_CONSTANT, MOVE_REGISTER, ST, STORE_DOUBLE, SUB, WIDE_LOAD, Instruction)
+    ADD_CONSTANT,
+    ADD_REGISTER,
+    AND,
+    ALU64,
+    ATOMIC_DOUBLE,
+    CALL,
+    EXIT,
+    IF_ABOVE_REGISTER,
+    IF_EQUAL_CONSTANT,
+    JMP,
+    JNE,
+    LDX,
+    LOAD_DOUBLE,
+    LOAD_WORD,
+    LSH,
+    MOVE_CONSTANT,
+    MOVE_REGISTER,
+    ST,
+    STORE_DOUBLE,
+    SUB,
+    WIDE_LOAD,
+    Instruction,
+)
 
 LOAD_BYTE, STORE_WORD_CONSTANT, STORE_BYTE_CONSTANT = LDX | 0x70, ST | 0x62, ST | 0x72
 IF_NOT_CONSTANT, AND_CONSTANT, LSH_CONSTANT, SUB_CONSTANT = JMP | JNE, ALU64 | AND, ALU64 | LSH, ALU64 | SUB
@@ -33,50 +54,141 @@ def in_packet(count, beyond):
 
 def lookup(*rest):
     """r0 is a value of the map, or the rest is left out."""
-    return [(STORE_WORD_CONSTANT, R10, 0, -4, 0), (MOVE_REGISTER, R2, R10), (ADD_CONSTANT, R2, 0, 0, -4), (WIDE_LOAD, R1),
-            (CALL, 0, 0, 0, 1), (IF_EQUAL_CONSTANT, R0, 0, len(rest), 0), *rest]
+    return [
+        (STORE_WORD_CONSTANT, R10, 0, -4, 0),
+        (MOVE_REGISTER, R2, R10),
+        (ADD_CONSTANT, R2, 0, 0, -4),
+        (WIDE_LOAD, R1),
+        (CALL, 0, 0, 0, 1),
+        (IF_EQUAL_CONSTANT, R0, 0, len(rest), 0),
+        *rest,
+    ]
 
 
 # r0 = 0; five times: r0 += 2
-LOOP = settings((MOVE_CONSTANT, R0), (MOVE_CONSTANT, R3), (ADD_CONSTANT, R0, 0, 0, 2), (ADD_CONSTANT, R3, 0, 0, 1),
-                (IF_NOT_CONSTANT, R3, 0, -3, 5), (EXIT,))
+LOOP = settings(
+    (MOVE_CONSTANT, R0),
+    (MOVE_CONSTANT, R3),
+    (ADD_CONSTANT, R0, 0, 0, 2),
+    (ADD_CONSTANT, R3, 0, 0, 1),
+    (IF_NOT_CONSTANT, R3, 0, -3, 5),
+    (EXIT,),
+)
 # the same on the stack: the counter is spilled
-SPILLED_LOOP = settings((MOVE_CONSTANT, R0), (MOVE_CONSTANT, R3), (STORE_DOUBLE, R10, R3, -8), (ADD_CONSTANT, R0, 0, 0, 2),
-                        (LOAD_DOUBLE, R3, R10, -8), (ADD_CONSTANT, R3, 0, 0, 1), (STORE_DOUBLE, R10, R3, -8),
-                        (IF_NOT_CONSTANT, R3, 0, -5, 5), (EXIT,))
+SPILLED_LOOP = settings(
+    (MOVE_CONSTANT, R0),
+    (MOVE_CONSTANT, R3),
+    (STORE_DOUBLE, R10, R3, -8),
+    (ADD_CONSTANT, R0, 0, 0, 2),
+    (LOAD_DOUBLE, R3, R10, -8),
+    (ADD_CONSTANT, R3, 0, 0, 1),
+    (STORE_DOUBLE, R10, R3, -8),
+    (IF_NOT_CONSTANT, R3, 0, -5, 5),
+    (EXIT,),
+)
 # as many times as the packet's first byte says
-ENDLESS = settings(*START, *in_packet(1, 3), (LOAD_BYTE, R5, R2), (SUB_CONSTANT, R5, 0, 0, 1), (IF_NOT_CONSTANT, R5, 0, -2, 0), *PASS)
+ENDLESS = settings(
+    *START, *in_packet(1, 3), (LOAD_BYTE, R5, R2), (SUB_CONSTANT, R5, 0, 0, 1), (IF_NOT_CONSTANT, R5, 0, -2, 0), *PASS
+)
 # as many times as its two lowest bits say, and once more
-MASKED_LOOP = settings(*START, *in_packet(1, 5), (LOAD_BYTE, R5, R2), (AND_CONSTANT, R5, 0, 0, 3), (ADD_CONSTANT, R5, 0, 0, 1),
-                       (SUB_CONSTANT, R5, 0, 0, 1), (IF_NOT_CONSTANT, R5, 0, -2, 0), *PASS)
+MASKED_LOOP = settings(
+    *START,
+    *in_packet(1, 5),
+    (LOAD_BYTE, R5, R2),
+    (AND_CONSTANT, R5, 0, 0, 3),
+    (ADD_CONSTANT, R5, 0, 0, 1),
+    (SUB_CONSTANT, R5, 0, 0, 1),
+    (IF_NOT_CONSTANT, R5, 0, -2, 0),
+    *PASS
+)
 # a walk of twelve steps of one byte or two: r2 += 1 or 2, and each step is compared with the packet's end
-WALK = settings(*START, (MOVE_CONSTANT, R6), *in_packet(1, 6), (LOAD_BYTE, R5, R2), (ADD_CONSTANT, R2, 0, 0, 1),
-                (IF_NOT_CONSTANT, R5, 0, 1, 7), (ADD_CONSTANT, R2, 0, 0, 1), (ADD_CONSTANT, R6, 0, 0, 1),
-                (IF_NOT_CONSTANT, R6, 0, -9, 12), *PASS)
+WALK = settings(
+    *START,
+    (MOVE_CONSTANT, R6),
+    *in_packet(1, 6),
+    (LOAD_BYTE, R5, R2),
+    (ADD_CONSTANT, R2, 0, 0, 1),
+    (IF_NOT_CONSTANT, R5, 0, 1, 7),
+    (ADD_CONSTANT, R2, 0, 0, 1),
+    (ADD_CONSTANT, R6, 0, 0, 1),
+    (IF_NOT_CONSTANT, R6, 0, -9, 12),
+    *PASS
+)
 # the same, each step as long as its first byte says
-LONG_WALK = settings(*START, (MOVE_CONSTANT, R6), *in_packet(1, 6), (LOAD_BYTE, R5, R2), (ADD_CONSTANT, R2, 0, 0, 1),
-                     (IF_NOT_CONSTANT, R5, 0, 1, 7), (ADD_REGISTER, R2, R5), (ADD_CONSTANT, R6, 0, 0, 1),
-                     (IF_NOT_CONSTANT, R6, 0, -9, 12), *PASS)
+LONG_WALK = settings(
+    *START,
+    (MOVE_CONSTANT, R6),
+    *in_packet(1, 6),
+    (LOAD_BYTE, R5, R2),
+    (ADD_CONSTANT, R2, 0, 0, 1),
+    (IF_NOT_CONSTANT, R5, 0, 1, 7),
+    (ADD_REGISTER, R2, R5),
+    (ADD_CONSTANT, R6, 0, 0, 1),
+    (IF_NOT_CONSTANT, R6, 0, -9, 12),
+    *PASS
+)
 # a word of the packet is added to an address
-WIDE_NUMBER = settings(*START, *in_packet(4, 6), (LOAD_WORD, R5, R2), (ADD_REGISTER, R2, R5), (MOVE_REGISTER, R4, R2),
-                       (ADD_CONSTANT, R4, 0, 0, 1), (IF_ABOVE_REGISTER, R4, R3, 1), (LOAD_BYTE, R5, R2), *PASS)
+WIDE_NUMBER = settings(
+    *START,
+    *in_packet(4, 6),
+    (LOAD_WORD, R5, R2),
+    (ADD_REGISTER, R2, R5),
+    (MOVE_REGISTER, R4, R2),
+    (ADD_CONSTANT, R4, 0, 0, 1),
+    (IF_ABOVE_REGISTER, R4, R3, 1),
+    (LOAD_BYTE, R5, R2),
+    *PASS
+)
 # one of four bytes of the stack
-STACK_INDEX = settings((STORE_WORD_CONSTANT, R10, 0, -4, 0x03010002), (LOAD_WORD, R3, R1, QUEUE), (AND_CONSTANT, R3, 0, 0, 3),
-                       (MOVE_REGISTER, R2, R10), (ADD_CONSTANT, R2, 0, 0, -4), (ADD_REGISTER, R2, R3), (LOAD_BYTE, R0, R2), (EXIT,))
+STACK_INDEX = settings(
+    (STORE_WORD_CONSTANT, R10, 0, -4, 0x03010002),
+    (LOAD_WORD, R3, R1, QUEUE),
+    (AND_CONSTANT, R3, 0, 0, 3),
+    (MOVE_REGISTER, R2, R10),
+    (ADD_CONSTANT, R2, 0, 0, -4),
+    (ADD_REGISTER, R2, R3),
+    (LOAD_BYTE, R0, R2),
+    (EXIT,),
+)
 # one of four counters of a value
 COUNTER_INDEX = settings(
-    (LOAD_WORD, R6, R1, QUEUE), *lookup((AND_CONSTANT, R6, 0, 0, 3), (LSH_CONSTANT, R6, 0, 0, 3), (ADD_REGISTER, R0, R6),
-                                       (MOVE_CONSTANT, R1, 0, 0, 1), (ATOMIC_DOUBLE, R0, R1)), *PASS, entries=1, counters=4)
+    (LOAD_WORD, R6, R1, QUEUE),
+    *lookup(
+        (AND_CONSTANT, R6, 0, 0, 3),
+        (LSH_CONSTANT, R6, 0, 0, 3),
+        (ADD_REGISTER, R0, R6),
+        (MOVE_CONSTANT, R1, 0, 0, 1),
+        (ATOMIC_DOUBLE, R0, R1),
+    ),
+    *PASS,
+    entries=1,
+    counters=4
+)
 COUNT = settings(*lookup((LOAD_DOUBLE, R1, R0), (ADD_CONSTANT, R1, 0, 0, 3), (STORE_DOUBLE, R0, R1)), *PASS, entries=1)
 # r1 += r1: the counter is doubled, which is no addition of a number
 DOUBLED = settings(*lookup((LOAD_DOUBLE, R1, R0), (ADD_REGISTER, R1, R1), (STORE_DOUBLE, R0, R1)), *PASS, entries=1)
 # what was counted is the answer
-COUNT_READ = settings(*lookup((LOAD_DOUBLE, R6, R0), (ADD_CONSTANT, R6, 0, 0, 1), (STORE_DOUBLE, R0, R6), (MOVE_REGISTER, R0, R6),
-                              (EXIT,)), *PASS, entries=1)
+COUNT_READ = settings(
+    *lookup(
+        (LOAD_DOUBLE, R6, R0), (ADD_CONSTANT, R6, 0, 0, 1), (STORE_DOUBLE, R0, R6), (MOVE_REGISTER, R0, R6), (EXIT,)
+    ),
+    *PASS,
+    entries=1
+)
 UNCHECKED = settings(*START, (LOAD_BYTE, R5, R2), *PASS)
 # nine numbers are added or not, and the end of all was compared with the packet's end before
 COVERED = settings(
-    *START, *in_packet(47, 2 * 9 + 4), (LOAD_BYTE, R5, R2),
-    *[fields for number in range(9) for fields in [(IF_NOT_CONSTANT, R5, 0, 1, number), (ADD_CONSTANT, R2, 0, 0, number + 1)]],
-    (LOAD_BYTE, R5, R2), (MOVE_CONSTANT, R0, 0, 0, 1), (EXIT,), *PASS)
+    *START,
+    *in_packet(47, 2 * 9 + 4),
+    (LOAD_BYTE, R5, R2),
+    *[
+        fields
+        for number in range(9)
+        for fields in [(IF_NOT_CONSTANT, R5, 0, 1, number), (ADD_CONSTANT, R2, 0, 0, number + 1)]
+    ],
+    (LOAD_BYTE, R5, R2),
+    (MOVE_CONSTANT, R0, 0, 0, 1),
+    (EXIT,),
+    *PASS
+)
 ACCEPTED = settings(*PASS)
