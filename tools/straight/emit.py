@@ -120,10 +120,13 @@ class Emitter:
     """Writes a program.
 
     guards   keys or slots of copies whose access is compared with the packet's end anew
-    limited  keys of copies to which a distance is handed on that a test has to bound"""
+    limited  keys of copies to which a distance is handed on that a test has to bound
+    blurred  of slots of additions to an address the register of the number, of which the verifier isn't to know that it
+             is a constant on some ways: with a constant the sum would be another kind of address"""
 
-    def __init__(self, copies, addresses, guards=frozenset(), limited=frozenset()):
-        self.copies, self.addresses, self.guards, self.limited = copies, addresses, guards, limited
+    def __init__(self, copies, addresses, guards=frozenset(), limited=frozenset(), blurred=None):
+        self.copies, self.addresses = copies, addresses
+        self.guards, self.limited, self.blurred = guards, limited, blurred or {}
         self.own = OwnStack(copies, shared_slots(copies, addresses))
         self.out, self.labels, self.jumps, self.places = [], [], [], {}
         self.stored = [address for row in addresses.stored.values() for _, address in row]
@@ -250,7 +253,7 @@ class Emitter:
         every way and a constant on none; else the verifier would keep it apart."""
         if self.stored or self.guards:
             self.save(CONTEXT_SLOT, CONTEXT_ARGUMENT, 0)
-        if any(not address.atoms for address in self.stored):
+        if self.blurred or any(not address.atoms for address in self.stored):
             self.put_own(0, LOAD_WORD, 0, CONTEXT_ARGUMENT, INTERFACE_FIELD)
             self.put_own(0, XOR_REGISTER, 0, 0)
             self.put_own(0, AND_CONSTANT, 0, 0, 0, 1)
@@ -274,6 +277,11 @@ class Emitter:
 
     def write_instruction(self, here, insn):
         slot = here.slot
+        if slot in self.blurred:
+            (zero,), give_back = self.borrow(1, slot, self.copies.live[slot])
+            self.load(zero, ZERO_SLOT, slot)
+            self.put_own(slot, ADD_REGISTER, self.blurred[slot], zero)
+            give_back()
         for atom in sorted(self.saved.get(here, []), key=lambda atom: atom.place):
             self.save(atom, atom.place, slot)
         if here.key in self.guards or here.slot in self.guards:

@@ -6,6 +6,8 @@ first program is that of the copies alone. Then, one mark per refusal:
   V9 at an access    through an address of a meeting: the meeting is marked. Through one to which a number was added:
                      the number's range is narrowed by a test (`wide`), or its few values are told apart (`cases`). A
                      distance of several such numbers is bounded by a test where it is stored (`limited`)
+                     Where more ways meet than the verifier keeps apart, since an added number is a constant on some: it
+                     is hidden that it is (`blurred`)
   V10                what the access reaches is compared with the packet's end anew (`guards`)
   a loop             that nothing bounds but a masked number: a copy for each number (`cases`)
   V14 at a store     a load, an addition and a store become one atomic addition (`counts`)
@@ -38,6 +40,7 @@ class Marks:
     limited: set = field(default_factory=set)  # keys of copies
     wide: dict = field(default_factory=dict)  # by slot
     cases: dict = field(default_factory=dict)  # by slot
+    blurred: dict = field(default_factory=dict)  # by slot
     values: bool = False
     counts: list = field(default_factory=list)  # slots of stores
 
@@ -121,7 +124,7 @@ class Search:
             return None
         self.addresses = Addresses(self.copies, self.is_marked)
         try:
-            return Emitter(self.copies, self.addresses, marks.guards, marks.limited).program()
+            return Emitter(self.copies, self.addresses, marks.guards, marks.limited, marks.blurred).program()
         except Needs as needs:
             self.mark_meetings(needs.meetings)
             return None
@@ -151,7 +154,9 @@ class Search:
         if not isinstance(address, PacketAddress):
             return self.tell_apart(answer)
         meetings = [(atom.copy, atom.place) for atom in address.atoms if atom.name == MET]
-        return self.mark_meetings(meetings) or self.widen(answer, address) or self.limit(address)
+        if self.mark_meetings(meetings) or answer.too_many_notes and self.blur(address):
+            return True
+        return self.widen(answer, address) or self.limit(address)
 
     def fuse(self, slot):
         mended = fused(self.code, slot)
@@ -160,6 +165,13 @@ class Search:
         self.code = mended
         self.marks.counts.append(slot)
         return True
+
+    def blur(self, address):
+        """Numbers that were added, and are constants on some ways alone: the verifier would keep the sums apart."""
+        fresh = {atom.copy.slot: atom.place for atom in address.atoms if atom.name == ADDED}
+        fresh = {slot: place for slot, place in fresh.items() if slot not in self.marks.blurred}
+        self.marks.blurred.update(fresh)
+        return bool(fresh)
 
     def widen(self, answer, address):
         """A number that is too wide for an address: a test in front of its addition, the named one or the last."""

@@ -24,6 +24,11 @@ class Verdict:
     def accepted(self):
         return self.cause is None and re.search(r"^accepted, ", self.words, re.M) is not None
 
+    @property
+    def too_many_notes(self):
+        """Whether it says that more ways meet there than it keeps apart."""
+        return re.search(r"is an address on \d+ of the eight notes", self.words) is not None
+
     def lost(self):
         """What is said of an address that became a number."""
         found = re.search(r"^ *R\d+ was ([a-z_]+)\S* before (\d+)(?: with R(\d+)=([^\s:]+))?", self.words, re.M)
