@@ -6,86 +6,17 @@ without effect (arithmetic, loads, jumps that forms decide). What is asked:
 - an own instruction stores only below the stack that the original touches, or what stands there anyway, and loads only
   from there or from the context;
 - a jump of our own leaves the original where it is, and both ways are followed;
-- the end that the tool adds, ABORTED, is reached only where the original's next access lies behind the packet's end.
-Where ways meet, values get the same new atom exactly if they differ in the same way on all ways. So the tool's stack
-slots need no explanation: the address and its kept distance differ alike."""
-import struct
-from dataclasses import dataclass, replace
-from typing import NamedTuple, Optional
+- the end that the tool adds, ABORTED, is reached only where the original's next access lies behind the packet's end."""
+from .facts import JEQ, NOTHING, decided, learnt, put_number
+from .forms import MASK_32, MASK_64, SWAP, ZERO, Forms, number
+from .program import CALL, EXIT, JUMP, WIDE
+from .state import Differs, State, met
 
-from .facts import JEQ, NEAR, NOTHING, Facts, common, decided, learnt, put_number, room_behind
-from .forms import MASK_32, MASK_64, SWAP, ZERO, Forms, number, signed
-
-EXIT, CALL, JUMP, FAR_JUMP, WIDE = 0x95, 0x85, 0x05, 0x06, 0x18
 LOAD_WORD, LOAD_8, STORE_8, ADD_8, MOVE_CONSTANT = 0x61, 0x79, 0x7B, 0xDB, 0xB7
 IF_ABOVE = 0x2D
 NEG, MOV = 0x80, 0xB0
-SIZES = {0x10: 1, 0x08: 2, 0x00: 4, 0x18: 8}
 STACK, MOST_STEPS = 512, 5000
 COPY, OWN, OUTSIDE = "copy", "own", "outside"
-
-
-class Differs(Exception):
-    """What isn't the same, and at which slot of the result."""
-
-
-class Slot(NamedTuple):
-    opcode: int
-    destination: int
-    source: int
-    offset: int
-    immediate: int
-    upper: Optional[int]
-    map: Optional[str]
-
-    @property
-    def kind(self):
-        return self.opcode & 7
-
-    @property
-    def size(self):
-        return SIZES[self.opcode & 0x18]
-
-    @property
-    def is_branch(self):
-        return self.kind in (5, 6) and self.opcode not in (EXIT, CALL, JUMP)
-
-    @property
-    def length(self):
-        return 1 if self.upper is None else 2
-
-
-def program_of(settings):
-    """The instructions of settings by their slots."""
-    data = bytes.fromhex("".join(settings["program"]))
-    maps, slots, at = {row["slot"]: row["map"] for row in settings.get("reloc", [])}, {}, 0
-    while 8 * at < len(data):
-        opcode, registers, offset, immediate = struct.unpack_from("<BBhi", data, 8 * at)
-        if opcode == FAR_JUMP:
-            opcode, offset, immediate = JUMP, immediate, 0
-        upper = struct.unpack_from("<I", data, 8 * at + 12)[0] if opcode == WIDE else None
-        slots[at] = Slot(opcode, registers & 15, registers >> 4, offset, immediate, upper, maps.get(at))
-        at += slots[at].length
-    return slots
-
-
-@dataclass
-class State:
-    """Both programs at one slot of the result. Stacks are by offset from the frame's end, of whole eight bytes.
-
-    at: where the original stands. loads: the counter that a value was loaded from, while nothing changed it"""
-
-    at: int
-    old: dict
-    new: dict
-    old_stack: dict
-    new_stack: dict
-    facts: Facts
-    loads: dict
-
-    def copy(self, **changes):
-        parts = {name: dict(getattr(self, name)) for name in ("old", "new", "old_stack", "new_stack", "loads")}
-        return replace(self, **{**parts, **changes})
 
 
 def forget(stack, at, size):
@@ -98,10 +29,8 @@ class Check:
 
     def __init__(self, original, result, labels):
         self.original, self.result, self.labels, self.forms = original, result, labels, Forms()
-        self.guards, self.unproven = (
-            {},
-            {},
-        )  # of the original: slots before which the result may end, by the result's slot
+        # slots of the original before which the result may end, by the slot of the result
+        self.guards, self.unproven = {}, {}
         self.lowest = self.end_of_own_stack()
 
     def run(self):
@@ -116,7 +45,7 @@ class Check:
             states = waiting.pop(pc)
             for state in states:
                 self.drive(state, self.labels[pc][1], pc)
-            for after, state in self.step(pc, self.met(pc, states)):
+            for after, state in self.step(pc, met(self.forms, pc, states)):
                 waiting.setdefault(after, []).append(state)
 
     # --- the result as a graph
@@ -419,60 +348,3 @@ class Check:
         for register in range(6):
             state.new[register] = state.old[register] = self.forms.atom(("called", pc, register))
         state.loads.clear()
-
-    # --- where ways meet
-
-    def met(self, pc, states):
-        """One state for all ways to a slot: where they disagree, the same atom for the same differences."""
-        if len(states) == 1:
-            return states[0]
-        if len({state.at for state in states}) != 1:
-            raise Differs(f"slot {pc}: the original stands at different slots")
-        known = {}
-        parts = [[getattr(state, name) for state in states] for name in ("old", "new", "old_stack", "new_stack")]
-        old, new, old_stack, new_stack = [self.joined(pc, rows, states, known) for rows in parts]
-        loads = {
-            key: value
-            for key, value in states[0].loads.items()
-            if all(state.loads.get(key) == value for state in states)
-        }
-        facts = common(self.forms, [state.facts for state in states])
-        joined = State(states[0].at, old, new, old_stack, new_stack, facts, loads)
-        self.keep_addresses(states, joined)
-        return joined
-
-    def joined(self, pc, rows, states, known):
-        out = {}
-        for place in set.intersection(*(set(row) for row in rows)):
-            found = [row[place] for row in rows]
-            apart = tuple(self.forms.subtract(form, found[0]) for form in found)
-            if any(form != ZERO for form in apart):
-                if apart not in known:
-                    spans = [self.forms.span(form, state.facts.ranges) for form, state in zip(apart, states)]
-                    low, high = min(span[0] for span in spans), max(span[1] for span in spans)
-                    known[apart] = self.forms.atom(("met", pc, apart), high, low)
-                out[place] = self.forms.add(found[0], known[apart])
-            else:
-                out[place] = found[0]
-        return out
-
-    def keep_addresses(self, states, joined):
-        """What is known of each address on all ways: its distance from the packet's start, and the room behind it. The
-        atoms one by one don't tell it."""
-        ranges, within = dict(joined.facts.ranges), set(joined.facts.within)
-        for register, form in joined.old.items():
-            rows = [(state.old[register], state.facts) for state in states]
-            distance = self.forms.subtract(form, self.forms.start)
-            if dict(form.terms).get(self.forms.start.terms[0][0]) != 1:
-                continue
-            spans = [
-                self.forms.span(self.forms.subtract(there, self.forms.start), facts.ranges) for there, facts in rows
-            ]
-            low, high = min(span[0] for span in spans), max(span[1] for span in spans)
-            if len(distance.terms) > 1 and low >= 0 and high < NEAR:
-                constant = signed(distance.constant)
-                ranges[distance.without_constant] = low - constant, high - constant
-            room = min(room_behind(self.forms, there, facts) for there, facts in rows)
-            if room >= 0:
-                within.add(self.forms.add(form, number(room)))
-        joined.facts = joined.facts._replace(ranges=ranges, within=frozenset(within))

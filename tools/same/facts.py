@@ -187,11 +187,10 @@ def narrowed(holds, low, high, value):
     return low, high
 
 
-def common(forms, states):
-    """The facts that hold on all ways. `states`: the facts of each."""
-    ranges = joined_ranges([facts.ranges for facts in states])
-    within = frozenset.intersection(*(facts.within for facts in states))
-    return Facts(ranges, joined_ranges([facts.signed for facts in states]), within)
+def common(rows):
+    """The facts that hold on all ways, of those of each."""
+    ranges, numbers = (joined_ranges([getattr(facts, name) for facts in rows]) for name in ("ranges", "signed"))
+    return Facts(ranges, numbers, frozenset.intersection(*(facts.within for facts in rows)))
 
 
 def joined_ranges(rows):

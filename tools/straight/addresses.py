@@ -79,13 +79,14 @@ def in_order(place):
 
 class Addresses:
     """`marked(copy, place)`: whether an address on which ways disagree is made anew where they meet at this copy.
+    `restarted(copy, place)`: whether one is made anew there all the same.
 
     before  of each copy, what each place stands for
     remade  of each copy, the places that are made anew
     stored  of each way (copy, way), the distances that are stored on it: (atom, address)"""
 
-    def __init__(self, copies, marked):
-        self.code, self.marked = copies.code, marked
+    def __init__(self, copies, marked, restarted=lambda copy, place: False):
+        self.code, self.marked, self.restarted = copies.code, marked, restarted
         self.before, self.remade, self.stored, behind = {}, {}, {}, {}
         for here in copies.order:
             if here is copies.first:
@@ -103,11 +104,12 @@ class Addresses:
         places, leaders = {}, []
         for place in sorted(wanted, key=in_order):
             there = [known.get(place, Thing.NUMBER) for _, _, known in ways]
-            if all(known == there[0] for known in there):
+            again = isinstance(there[0], PacketAddress) and self.restarted(here, place)
+            if all(known == there[0] for known in there) and not again:
                 places[place] = there[0]
             elif not all(isinstance(known, PacketAddress) for known in there):
                 places[place] = Thing.MIXED
-            elif self.marked(here, place):
+            elif again or self.marked(here, place):
                 self.remake(here, place, there, ways, places, leaders)
             else:
                 places[place] = PacketAddress().moved(atom=Atom(MET, here, place))

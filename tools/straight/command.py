@@ -7,7 +7,9 @@ import sys
 from dataclasses import dataclass, field
 from typing import Optional
 
-from same.check import Check, Differs, program_of
+from same.check import Check
+from same.program import program_of
+from same.state import Differs
 
 from .graph import Fail
 from .search import OF_THE_BYTES, searches

@@ -5,7 +5,8 @@ first program is that of the copies alone. Then, one mark per refusal:
 
   V9 at an access    through an address of a meeting: the meeting is marked. Through one to which a number was added:
                      the number's range is narrowed by a test (`wide`), or its few values are told apart (`cases`). A
-                     distance of several such numbers is bounded by a test where it is stored (`limited`)
+                     distance of several such numbers is bounded by a test where it is stored (`limited`), or made anew
+                     from the distance where it was compared with the packet's end (`restarts`)
                      Where more ways meet than the verifier keeps apart, since an added number is a constant on some: it
                      is hidden that it is (`blurred`)
   V10                what the access reaches is compared with the packet's end anew (`guards`)
@@ -38,6 +39,7 @@ class Marks:
     meetings: set = field(default_factory=set)  # (copy's key or slot, stack slot or None)
     guards: set = field(default_factory=set)  # keys of copies, or slots
     limited: set = field(default_factory=set)  # keys of copies
+    restarts: set = field(default_factory=set)  # (key of a copy, register)
     wide: dict = field(default_factory=dict)  # by slot
     cases: dict = field(default_factory=dict)  # by slot
     blurred: dict = field(default_factory=dict)  # by slot
@@ -72,6 +74,9 @@ class Search:
     def is_marked(self, here, place):
         kept = place if isinstance(place, StackSlot) else None
         return (here.key, kept) in self.marks.meetings or (here.slot, kept) in self.marks.meetings
+
+    def is_restarted(self, here, place):
+        return (here.key, place) in self.marks.restarts
 
     def mark_meetings(self, rows):
         """Marks meetings, (copy, place) each: whether one is new. Where several copies of a slot are marked all are."""
@@ -122,7 +127,7 @@ class Search:
             if not self.tell_trips_apart(loop.slot):
                 raise
             return None
-        self.addresses = Addresses(self.copies, self.is_marked)
+        self.addresses = Addresses(self.copies, self.is_marked, self.is_restarted)
         try:
             return Emitter(self.copies, self.addresses, marks.guards, marks.limited, marks.blurred).program()
         except Needs as needs:
@@ -156,7 +161,7 @@ class Search:
         meetings = [(atom.copy, atom.place) for atom in address.atoms if atom.name == MET]
         if self.mark_meetings(meetings) or answer.too_many_notes and self.blur(address):
             return True
-        return self.widen(answer, address) or self.limit(address)
+        return self.widen(answer, address) or self.limit(address) or self.restart(label.copy, instruction.base)
 
     def fuse(self, slot):
         mended = fused(self.code, slot)
@@ -205,6 +210,15 @@ class Search:
         fresh = not found <= self.marks.limited
         self.marks.limited |= found
         return fresh
+
+    def restart(self, here, register):
+        """An address behind so many numbers that their sum may lie far behind any packet: it was compared with the
+        packet's end, and is made anew from its distance there."""
+        if (here.key, register) in self.marks.restarts:
+            return False
+        self.marks.restarts.add((here.key, register))
+        self.marks.limited.add(here.key)
+        return True
 
     def tell_apart(self, answer):
         """A number of few values that is added to an address of the stack or of a map's value: a copy for each."""

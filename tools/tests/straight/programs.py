@@ -24,7 +24,7 @@ from straight.instructions import (
     Instruction,
 )
 
-LOAD_BYTE, STORE_WORD_CONSTANT, STORE_BYTE_CONSTANT = LDX | 0x70, ST | 0x62, ST | 0x72
+LOAD_BYTE, LOAD_HALF, STORE_WORD_CONSTANT = LDX | 0x70, LDX | 0x68, ST | 0x60
 IF_NOT_CONSTANT, AND_CONSTANT, LSH_CONSTANT, SUB_CONSTANT = JMP | JNE, ALU64 | AND, ALU64 | LSH, ALU64 | SUB
 R0, R1, R2, R3, R4, R5, R6, R7, R8, R9, R10 = range(11)
 DATA, DATA_END, QUEUE = 0, 4, 16
@@ -126,6 +126,30 @@ LONG_WALK = settings(
     (ADD_CONSTANT, R6, 0, 0, 1),
     (IF_NOT_CONSTANT, R6, 0, -9, 12),
     *PASS
+)
+# twenty steps, each as long as two bytes of the packet say: the verifier can't know that the sum is within a packet
+FAR_WALK = settings(
+    *START,
+    (MOVE_CONSTANT, R6),
+    *in_packet(2, 4),
+    (LOAD_HALF, R5, R2),
+    (ADD_REGISTER, R2, R5),
+    (ADD_CONSTANT, R6, 0, 0, 1),
+    (IF_NOT_CONSTANT, R6, 0, -7, 20),
+    *PASS,
+)
+# twelve steps, each as long as a byte says, or 1 where that is 0: the number is a constant on one of two ways
+CONSTANT_ON_SOME_WAYS = settings(
+    *START,
+    (MOVE_CONSTANT, R6),
+    *in_packet(1, 6),
+    (LOAD_BYTE, R5, R2),
+    (IF_NOT_CONSTANT, R5, 0, 1, 0),
+    (MOVE_CONSTANT, R5, 0, 0, 1),
+    (ADD_REGISTER, R2, R5),
+    (ADD_CONSTANT, R6, 0, 0, 1),
+    (IF_NOT_CONSTANT, R6, 0, -9, 12),
+    *PASS,
 )
 # a word of the packet is added to an address
 WIDE_NUMBER = settings(
