@@ -43,6 +43,7 @@ def compiled(source):
         # a loop that clang keeps is unwound behind it, and which ones it keeps is nobody's concern
         words += [
             "-Wno-pass-failed",
+            "-Wno-macro-redefined",
             "-include",
             header,
             *shlex.split(os.environ.get("CFLAGS", "")),

@@ -101,7 +101,7 @@ class Copies:
         key = (slot, phase, *constants.key())
         if key not in self.found:
             if len(self.found) >= MOST_COPIES:
-                raise Fail(f"more than {MOST_COPIES} copies of its slots would be needed", slot)
+                raise Fail(f"a loop has no bound, or a large one: more than {MOST_COPIES} copies of its slots", slot)
             self.found[key] = Copy(slot, phase, constants, key)
             self.todo.append(self.found[key])
         return self.found[key]

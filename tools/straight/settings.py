@@ -42,3 +42,14 @@ def text_of(settings, words, relocations):
 def as_text(settings):
     """The program, the maps and the relocations of settings: what a verdict depends on."""
     return text_of(settings, settings["program"], relocations_of(settings))
+
+
+def whole_text_of(settings, words, relocations):
+    """Settings with this program and all else that these settings have."""
+    lines = [f"{key} = {settings[key]}" for key in ("queues", "ifindex", "start", "script") if key in settings]
+    packets = []
+    for row in settings.get("packet", []):
+        packets += ["", "[[packet]]", f"queue = {row['queue']}", f'bytes = "{row["bytes"]}"']
+        packets += [f"times = {row['times']}"] if "times" in row else []
+    parts = ["\n".join([*lines, ""]) if lines else "", text_of(settings, words, relocations)]
+    return "".join([*parts, "\n".join([*packets, ""]) if packets else ""])
