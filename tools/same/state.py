@@ -1,7 +1,8 @@
 """Both programs at one slot of the result, and where ways meet: one state for all of them.
 
-Where ways disagree, values get the same new atom exactly if they differ in the same way on all ways. So an address and
-its kept distance still differ by the packet's start behind a meeting, and the tool's stack slots need no explanation."""
+Where ways disagree, values get the same new atom exactly if they differ in the same way on all ways. So an address
+and its kept distance still differ by the packet's start behind a meeting, and the tool's stack slots need no
+explanation."""
 from dataclasses import dataclass, replace
 
 from .facts import NEAR, Facts, common, room_behind
