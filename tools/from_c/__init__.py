@@ -1,0 +1,7 @@
+"""From a C program to settings, as `tools/settings-from-c` does it.
+
+    compiler  clang, and what is put in front of the C
+    elf       an object file's sections, symbols and relocations
+    btf       its debug information: the sizes of maps, and the line of C of each slot
+    faults    what settings can't say, with what to write instead
+"""

@@ -1,0 +1,130 @@
+"""BTF, the debug information of BPF programs: the sizes of maps, and the line of C of each slot.
+
+Linux's Documentation/bpf/btf.rst has the format."""
+import os
+import struct
+from typing import NamedTuple
+
+from .elf import text_at
+
+INT, POINTER, ARRAY, STRUCT, UNION, VARIABLE, SECTION = 1, 2, 3, 4, 5, 14, 15
+# kinds of types, and how many bytes follow the twelve that each has: a fixed number, and a number for each member
+MORE_BYTES = {
+    1: (4, 0),
+    3: (12, 0),
+    4: (0, 12),
+    5: (0, 12),
+    6: (0, 8),
+    13: (0, 8),
+    14: (4, 0),
+    15: (0, 12),
+    17: (4, 0),
+    19: (0, 12),
+}
+WITH_SIZE, ALIASES = (1, 4, 5, 6, 16, 19), (8, 9, 10, 11, 18)
+
+
+class Type(NamedTuple):
+    kind: int
+    name: str
+    size: int  # or the type that it points to
+    more: bytes
+
+
+class MapOfC(NamedTuple):
+    """A map as C declares it: its type's number and its sizes, of which 0 isn't said."""
+
+    name: str
+    type: int
+    key_bytes: int
+    value_bytes: int
+    entries: int
+
+
+class Types:
+    """The types by their numbers, from 1."""
+
+    def __init__(self, btf):
+        header, types, length, names, _ = struct.unpack_from("<IIIII", btf, 4)
+        self.names, self.rows, at = btf[header + names :], [None], header + types
+        while at < header + types + length:
+            name, info, size = struct.unpack_from("<III", btf, at)
+            kind, members = info >> 24 & 31, info & 0xFFFF
+            fixed, each = MORE_BYTES.get(kind, (0, 0))
+            end = at + 12 + fixed + each * members
+            self.rows.append(Type(kind, text_at(self.names, name), size, btf[at + 12 : end]))
+            at = end
+
+    def plain(self, number):
+        """The type behind names and qualifiers."""
+        while number and self.rows[number].kind in ALIASES:
+            number = self.rows[number].size
+        return number
+
+    def size(self, number):
+        """How many bytes a type has."""
+        if not number:
+            return 0
+        row = self.rows[self.plain(number)]
+        if row is None:
+            return 0
+        if row.kind == ARRAY:
+            element, _, count = struct.unpack("<III", row.more)
+            return count * self.size(element)
+        return 8 if row.kind == POINTER else row.size if row.kind in WITH_SIZE else 0
+
+    def members(self, number):
+        """Of a map's struct, each member's name with the type that it points to."""
+        rows = struct.iter_unpack("<III", self.rows[self.plain(number)].more)
+        pairs = [(text_at(self.names, name), self.plain(kind)) for name, kind, _ in rows]
+        return {name: self.rows[kind].size for name, kind in pairs if kind and self.rows[kind].kind == POINTER}
+
+    def number_of(self, pointed):
+        """The number that `__uint` hides in the length of an array."""
+        row = self.rows[self.plain(pointed)] if pointed else None
+        return struct.unpack("<III", row.more)[2] if row and row.kind == ARRAY else 0
+
+    def maps(self):
+        """The maps of section ".maps", in their order."""
+        sections = [row.more for row in self.rows[1:] if (row.kind, row.name) == (SECTION, ".maps")]
+        variables = sorted(
+            (place, number) for more in sections for number, place, _ in struct.iter_unpack("<III", more)
+        )
+        for _, number in variables:
+            members = self.members(self.rows[number].size)
+            sizes = [
+                self.size(members[what]) if what in members else self.number_of(members.get(f"{what}_size", 0))
+                for what in ("key", "value")
+            ]
+            kind, entries = (self.number_of(members.get(what, 0)) for what in ("type", "max_entries"))
+            yield MapOfC(self.rows[number].name, kind, *sizes, entries)
+
+
+def named(file, source):
+    """A file as its author names it: the source as it was given, another one from here."""
+    if os.path.realpath(file) == os.path.realpath(source):
+        return source
+    near = os.path.relpath(file)
+    return file if near.startswith("..") else near
+
+
+def lines_of(sections, program, source):
+    """The line of C of each slot at which one begins, as `file.c:12`: what .BTF.ext has, where it is there."""
+    if ".BTF.ext" not in sections or ".BTF" not in sections:
+        return {}
+    names, more = Types(sections[".BTF"].data).names, sections[".BTF.ext"].data
+    (header,) = struct.unpack_from("<I", more, 4)
+    start, length = struct.unpack_from("<II", more, 16)
+    at, end = header + start, header + start + length
+    if length < 4:
+        return {}
+    (size,), at, found = struct.unpack_from("<I", more, at), at + 4, {}
+    while at < end:
+        section, count = struct.unpack_from("<II", more, at)
+        at += 8
+        for _ in range(count):
+            place, file, _, line = struct.unpack_from("<IIII", more, at)
+            if text_at(names, section) == program and line >> 10:
+                found[place // 8] = f"{named(text_at(names, file), source)}:{line >> 10}"
+            at += size
+    return found

@@ -1,0 +1,188 @@
+"""What settings can't say, with what to write instead: calls, globals, maps and helpers that there aren't here."""
+import struct
+
+from .elf import FUNCTION_CALL, MAP_ADDRESS
+
+CALL, LOCAL_CALL, LOOKUP = 0x85, 1, 1
+MOST_MAPS, MOST_ENTRIES, MOST_COUNTERS, MOST_NAME = 4, 1024, 8, 32
+INLINED_LATER = ("memcmp", "memcpy", "memmove", "memset")
+ARRAYS, PER_CPU_ARRAY = (2, 6), 6
+
+LISTED = (
+    "keep the list as a `switch` or as comparisons in the code, and count under a number of your own in a"
+    " BPF_MAP_TYPE_ARRAY"
+)
+NO_REDIRECT = "there is no redirect: PASS gives the packet to the host, DROP drops it, TX sends it back"
+NO_EVENTS = "nothing is sent to user space: count in a BPF_MAP_TYPE_ARRAY, and read the counters from the host"
+NO_TAIL_CALLS = "there are no tail calls: make one program of functions that are static and __always_inline"
+NO_STATE = "state is kept in counters alone, in a BPF_MAP_TYPE_ARRAY"
+# enum bpf_map_type of Linux's uapi/linux/bpf.h
+MAP_TYPES = {
+    1: ("HASH", LISTED),
+    3: ("PROG_ARRAY", NO_TAIL_CALLS),
+    4: ("PERF_EVENT_ARRAY", NO_EVENTS),
+    5: ("PERCPU_HASH", LISTED),
+    7: ("STACK_TRACE", NO_EVENTS),
+    8: ("CGROUP_ARRAY", NO_STATE),
+    9: ("LRU_HASH", LISTED),
+    10: ("LRU_PERCPU_HASH", LISTED),
+    11: ("LPM_TRIE", "compare the address under each prefix's mask in the code"),
+    12: ("ARRAY_OF_MAPS", "name each map in the code"),
+    13: ("HASH_OF_MAPS", "name each map in the code"),
+    14: ("DEVMAP", NO_REDIRECT),
+    15: ("SOCKMAP", NO_REDIRECT),
+    16: ("CPUMAP", NO_REDIRECT),
+    17: ("XSKMAP", NO_REDIRECT),
+    18: ("SOCKHASH", NO_REDIRECT),
+    19: ("CGROUP_STORAGE", NO_STATE),
+    20: ("REUSEPORT_SOCKARRAY", NO_REDIRECT),
+    21: ("PERCPU_CGROUP_STORAGE", NO_STATE),
+    22: ("QUEUE", NO_STATE),
+    23: ("STACK", NO_STATE),
+    24: ("SK_STORAGE", NO_STATE),
+    25: ("DEVMAP_HASH", NO_REDIRECT),
+    26: ("STRUCT_OPS", NO_STATE),
+    27: ("RINGBUF", NO_EVENTS),
+    28: ("INODE_STORAGE", NO_STATE),
+    29: ("TASK_STORAGE", NO_STATE),
+    30: ("BLOOM_FILTER", LISTED),
+    31: ("USER_RINGBUF", NO_EVENTS),
+    32: ("CGRP_STORAGE", NO_STATE),
+    33: ("ARENA", NO_STATE),
+}
+NO_UPDATE = "a value is changed by adding to its counters alone: __sync_fetch_and_add(value, n), or `*value += n`"
+NO_CLOCK = "there is no clock: count here, and judge rates in the host, which reads the counters"
+NO_RESIZE = "a packet keeps its length: pass it on as it is, or write over its bytes"
+NO_KERNEL = "there is no kernel to ask"
+# the helpers of Linux's uapi/linux/bpf.h that XDP programs call
+HELPERS = {
+    2: ("bpf_map_update_elem", NO_UPDATE),
+    3: ("bpf_map_delete_elem", NO_UPDATE),
+    4: ("bpf_probe_read", NO_KERNEL),
+    5: ("bpf_ktime_get_ns", NO_CLOCK),
+    6: ("bpf_trace_printk", "nothing is printed: count it in a map instead"),
+    7: ("bpf_get_prandom_u32", "there are no random numbers: choose by bits of the packet, as of its IPv4 id"),
+    8: ("bpf_get_smp_processor_id", "counters are shared by all queues; ctx->rx_queue_index is the queue's number"),
+    12: ("bpf_tail_call", NO_TAIL_CALLS),
+    23: ("bpf_redirect", NO_REDIRECT),
+    25: ("bpf_perf_event_output", NO_EVENTS),
+    28: ("bpf_csum_diff", "add the halves in a loop, as examples/ip-checksum does"),
+    44: ("bpf_xdp_adjust_head", NO_RESIZE),
+    51: ("bpf_redirect_map", NO_REDIRECT),
+    54: ("bpf_xdp_adjust_meta", NO_RESIZE),
+    65: ("bpf_xdp_adjust_tail", NO_RESIZE),
+    69: ("bpf_fib_lookup", NO_REDIRECT),
+    84: ("bpf_sk_lookup_tcp", NO_KERNEL),
+    85: ("bpf_sk_lookup_udp", NO_KERNEL),
+    87: ("bpf_map_push_elem", NO_STATE),
+    88: ("bpf_map_pop_elem", NO_STATE),
+    89: ("bpf_map_peek_elem", NO_STATE),
+    93: ("bpf_spin_lock", NO_UPDATE),
+    94: ("bpf_spin_unlock", NO_UPDATE),
+    99: ("bpf_skc_lookup_tcp", NO_KERNEL),
+    112: ("bpf_probe_read_user", NO_KERNEL),
+    113: ("bpf_probe_read_kernel", NO_KERNEL),
+    118: ("bpf_jiffies64", NO_CLOCK),
+    125: ("bpf_ktime_get_boot_ns", NO_CLOCK),
+    130: ("bpf_ringbuf_output", NO_EVENTS),
+    131: ("bpf_ringbuf_reserve", NO_EVENTS),
+    132: ("bpf_ringbuf_submit", NO_EVENTS),
+    133: ("bpf_ringbuf_discard", NO_EVENTS),
+    160: ("bpf_ktime_get_coarse_ns", NO_CLOCK),
+    164: ("bpf_for_each_map_elem", "count the loop by a constant, in C"),
+    177: ("bpf_trace_vprintk", "nothing is printed: count it in a map instead"),
+    181: ("bpf_loop", "write the loop in C, with a constant bound"),
+    188: ("bpf_xdp_get_buff_len", "data_end - data is the packet's length: a packet is one buffer"),
+    189: ("bpf_xdp_load_bytes", "read through data, behind a comparison with data_end"),
+    190: ("bpf_xdp_store_bytes", "write through data, behind a comparison with data_end"),
+    195: ("bpf_map_lookup_percpu_elem", "bpf_map_lookup_elem: the counters are shared by all queues"),
+    208: ("bpf_ktime_get_tai_ns", NO_CLOCK),
+}
+
+
+def faults_of_map(found):
+    """What is wrong with a map as C declares it."""
+    if found.type not in ARRAYS:
+        name, instead = MAP_TYPES.get(found.type, (str(found.type), NO_STATE))
+        known = f"the map {found.name} is a BPF_MAP_TYPE_{name}, and there are arrays alone (ARRAY, PERCPU_ARRAY)"
+        yield f"{known}: {instead}"
+        return
+    if found.key_bytes != 4:
+        yield f"the keys of the map {found.name} have {found.key_bytes} bytes: a key has 4, as a __u32"
+    if found.value_bytes == 0 or found.value_bytes % 8:
+        yield (
+            f"the values of the map {found.name} have {found.value_bytes} bytes: a value is 1 to {MOST_COUNTERS}"
+            " counters of 8 bytes; make each a __u64"
+        )
+    elif found.value_bytes // 8 > MOST_COUNTERS:
+        yield f"the values of the map {found.name} have {found.value_bytes // 8} counters: at most {MOST_COUNTERS}"
+    if not found.entries:
+        yield f"the map {found.name} has no number of entries: say __uint(max_entries, N)"
+
+
+def faults_of_sizes(maps):
+    """What `check` would only call L4 or L5: more than settings can have. `maps`: (name, entries, counters)."""
+    if len(maps) > MOST_MAPS:
+        yield f"there are {len(maps)} maps: at most {MOST_MAPS}; a value may have {MOST_COUNTERS} counters"
+    for name, entries, counters in maps:
+        if not 1 <= entries <= MOST_ENTRIES:
+            yield f"the map {name} has {entries} entries: 1 to {MOST_ENTRIES}; count under a shorter key"
+        if not 1 <= counters <= MOST_COUNTERS:
+            yield f"the values of the map {name} have {counters} counters: 1 to {MOST_COUNTERS}"
+        if len(name.encode()) > MOST_NAME:
+            yield f"the map's name {name} has {len(name.encode())} bytes: at most {MOST_NAME}"
+
+
+def faults_of_program(program, relocations, maps):
+    """What the program has that settings can't say, as (slot, words). `maps`: their names."""
+    relocated = {row.slot: row for row in relocations}
+    following = {
+        row.slot: after.name for row, after in zip(relocations, relocations[1:]) if after.kind == FUNCTION_CALL
+    }
+    for slot in range(len(program) // 8):
+        code, registers, _, number = struct.unpack_from("<BBhi", program, 8 * slot)
+        row = relocated.get(slot)
+        fault = None
+        if row is not None:
+            fault = fault_of_relocation(row, following.get(slot), maps)
+        elif code == CALL and registers >> 4 == LOCAL_CALL:
+            fault = fault_of_call("a function of the file")
+        elif code == CALL and registers >> 4 == 0 and number != LOOKUP:
+            name, instead = HELPERS.get(number, (f"helper {number}", "the map lookup is the one helper"))
+            fault = f"calls {name}, which isn't here: {instead}"
+        if fault:
+            yield slot, fault
+
+
+def fault_of_call(name):
+    if name in INLINED_LATER:
+        return (
+            f"calls {name}, since its size isn't constant or is large: use a constant size, or a loop with a constant"
+            " bound; clang 15 and later inline more (CLANG=clang-19)"
+        )
+    return f"calls {name}, which wasn't inlined: make it static __always_inline"
+
+
+def fault_of_relocation(row, called, maps):
+    if row.kind == FUNCTION_CALL:
+        return fault_of_call(row.name or "a function of the file")
+    if row.kind != MAP_ADDRESS:
+        return f"has a relocation of kind {row.kind}, which is none of a map"
+    section, _, name = row.name.partition(" ")
+    if section.startswith(".") and called in INLINED_LATER:
+        return f"takes the address of a global or a constant table: mend the call of {called} first"
+    if section.startswith(".rodata"):
+        what = f"the constant {name}" if not name.startswith(".") else "a constant table or a string"
+        return (
+            f"takes the address of {what}, which stays in memory: write a table as a `switch` or as the bits of a"
+            " constant, and a setting (const volatile) as a #define"
+        )
+    if section.startswith((".data", ".bss")):
+        return f"takes the address of the global {name}: count in a map instead, and write a constant as a #define"
+    if not row.name:
+        return "takes the address of a global or a constant table: keep it on the stack, or write it as code"
+    if row.name not in maps:
+        return f"takes the address of {row.name}: say {row.name}=ENTRIES if it is a map; a global can't be had"
+    if row.constant:
+        return f"takes an address inside the map {row.name}: look its values up by their keys"
+    return None

@@ -1,0 +1,19 @@
+"""Straightens a BPF program: changes it, behind clang and before the verifier, so that the verifier accepts it.
+
+The verifier follows each slot with few notes: it takes no loop, and loses an address on which more than eight ways
+disagree. What clang makes of C as it is written for Linux has both. Here such a program is given other instructions
+with the same runs. Nothing is changed that the verifier doesn't ask for, and nothing here is trusted: the verifier
+judges the result, and `tools/same-program`, which shares no text with this package, shows that it is the same program.
+
+    instructions  an instruction's fields, what it reads and writes, what it computes of constants
+    settings      settings as text, and the program in them
+    graph         what follows what, what is live, what lies in a loop
+    constants     which constants registers and stack slots have behind an instruction
+    copies        a slot together with its constants: loops become chains of copies
+    addresses     what registers stand for, and where ways with different addresses meet
+    counts        a load, an addition and a store of a counter as one atomic addition
+    emit          the copies, and what is put between them, as a program
+    verifier      what `xdpbox explain` says of a program
+    search        from refusal to refusal until the verifier accepts
+    command       what the two tools have in common: straightened, shown to be the same, or refused in words
+"""

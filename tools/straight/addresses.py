@@ -1,0 +1,189 @@
+"""What registers and stack slots stand for: a packet's address as the packet's start, a constant, and atoms.
+
+An atom is a number that one copy made. ADDED: a number that was added to an address there. MET: the distance of an
+address on which the ways into that copy disagree. Where such a meeting is marked, the address is made anew behind it
+from the distance, which each way in has stored; the atom is then KEPT. Where it isn't marked nothing is done, and a
+refusal that comes of it names the meeting."""
+from enum import Enum
+from typing import NamedTuple
+
+from .constants import FRAME as FRAME_ADDRESS
+from .constants import is_address, is_number
+from .copies import Copy
+from .instructions import (
+    ADD,
+    ALU64,
+    CALL,
+    CONTEXT_ARGUMENT,
+    FRAME_POINTER,
+    LOAD_DOUBLE,
+    LOAD_WORD,
+    MASK_64,
+    MOV,
+    STORE_DOUBLE,
+    SUB,
+    WIDE_LOAD,
+    signed,
+)
+
+ADDED, MET, KEPT = "added", "met", "kept"
+START_FIELD, END_FIELD, META_FIELD = 0, 4, 8  # of the context
+
+
+class Thing(Enum):
+    """What isn't an address in the packet. MIXED: an address on some ways, and something else on others."""
+
+    NUMBER = 1
+    MIXED = 2
+    CONTEXT = 3
+    FRAME = 4
+    PACKET_END = 5
+    MAP = 6
+    VALUE = 7
+
+
+class StackSlot(NamedTuple):
+    """A place beside the registers: eight bytes of the stack."""
+
+    offset: int
+
+
+class Atom(NamedTuple):
+    name: str
+    copy: Copy
+    place: object  # a register, or a StackSlot
+
+
+class PacketAddress(NamedTuple):
+    """The packet's start, a constant and atoms behind it."""
+
+    constant: int = 0
+    atoms: tuple = ()
+
+    def moved(self, constant=0, atom=None):
+        return PacketAddress(self.constant + constant, self.atoms + ((atom,) if atom else ()))
+
+
+class Remade(NamedTuple):
+    """An address that is made anew behind a meeting: from its stored distance, or at a distance from another one."""
+
+    place: object
+    leader: object = None
+    distance: int = 0
+
+
+def in_order(place):
+    """Registers come first: an address on the stack may be made from one in a register."""
+    return (1, place.offset) if isinstance(place, StackSlot) else (0, place)
+
+
+class Addresses:
+    """`marked(copy, place)`: whether an address on which ways disagree is made anew where they meet at this copy.
+    `restarted(copy, place)`: whether one is made anew there all the same.
+
+    before  of each copy, what each place stands for
+    remade  of each copy, the places that are made anew
+    stored  of each way (copy, way), the distances that are stored on it: (atom, address)"""
+
+    def __init__(self, copies, marked, restarted=lambda copy, place: False):
+        self.code, self.marked, self.restarted = copies.code, marked, restarted
+        self.before, self.remade, self.stored, behind = {}, {}, {}, {}
+        for here in copies.order:
+            if here is copies.first:
+                places = {CONTEXT_ARGUMENT: Thing.CONTEXT, FRAME_POINTER: Thing.FRAME}
+            else:
+                ways = [(before, way, behind[before]) for before, way in here.before]
+                places = self.meet(here, ways, copies.live[here.slot])
+            self.before[here], behind[here] = places, dict(places)
+            if here.is_instruction:
+                self.step(here, copies.code[here.slot], behind[here])
+
+    def meet(self, here, ways, live):
+        """What the places stand for where ways meet."""
+        wanted = set(live) | {FRAME_POINTER} | {place for place in ways[0][2] if isinstance(place, StackSlot)}
+        places, leaders = {}, []
+        for place in sorted(wanted, key=in_order):
+            there = [known.get(place, Thing.NUMBER) for _, _, known in ways]
+            again = isinstance(there[0], PacketAddress) and self.restarted(here, place)
+            if all(known == there[0] for known in there) and not again:
+                places[place] = there[0]
+            elif not all(isinstance(known, PacketAddress) for known in there):
+                places[place] = Thing.MIXED
+            elif again or self.marked(here, place):
+                self.remake(here, place, there, ways, places, leaders)
+            else:
+                places[place] = PacketAddress().moved(atom=Atom(MET, here, place))
+        return places
+
+    def remake(self, here, place, there, ways, places, leaders):
+        """One that has the same distance from another on all ways follows that one."""
+        for leader, led in leaders:
+            apart = {own.constant - other.constant for own, other in zip(there, led)}
+            if len(apart) == 1 and all(own.atoms == other.atoms for own, other in zip(there, led)):
+                (distance,) = apart
+                places[place] = places[leader].moved(distance)
+                self.remade.setdefault(here, []).append(Remade(place, leader, distance))
+                return
+        atom = Atom(KEPT, here, place)
+        places[place] = PacketAddress().moved(atom=atom)
+        if not isinstance(place, StackSlot):
+            leaders.append((place, there))
+        self.remade.setdefault(here, []).append(Remade(place))
+        for (before, way, _), address in zip(ways, there):
+            self.stored.setdefault((before, way), []).append((atom, address))
+
+    def step(self, here, instruction, places):
+        """What an instruction makes of the places."""
+        if instruction.is_arithmetic:
+            places[instruction.destination] = self.result(here, instruction, places)
+        elif instruction.is_load:
+            places[instruction.destination] = self.loaded(here, instruction, places)
+        elif instruction.opcode == WIDE_LOAD:
+            named = instruction.source or instruction.map is not None
+            places[instruction.destination] = Thing.MAP if named else Thing.NUMBER
+        elif instruction.is_store:
+            self.store(here, instruction, places)
+        elif instruction.opcode == CALL:
+            for register in range(1, 6):
+                places.pop(register, None)
+            places[0] = Thing.VALUE
+
+    def result(self, here, instruction, places):
+        operation, by_register = instruction.operation, instruction.by_register
+        if instruction.kind != ALU64 or instruction.offset:
+            return Thing.NUMBER
+        a = places.get(instruction.destination, Thing.NUMBER)
+        b = places.get(instruction.source, Thing.NUMBER) if by_register else Thing.NUMBER
+        constant = here.constants.registers.get(instruction.source) if by_register else instruction.immediate
+        if operation == MOV:
+            return b
+        if operation not in (ADD, SUB):
+            return Thing.NUMBER
+        if isinstance(a, PacketAddress) and is_number(constant):
+            return a.moved(signed(constant & MASK_64) * (1 if operation == ADD else -1))
+        if operation == ADD and isinstance(a, PacketAddress) and b == Thing.NUMBER:
+            return a.moved(atom=Atom(ADDED, here, instruction.source))
+        if operation == ADD and isinstance(b, PacketAddress) and a == Thing.NUMBER:
+            return b.moved(atom=Atom(ADDED, here, instruction.destination))
+        return a if a in (Thing.FRAME, Thing.VALUE) else Thing.NUMBER
+
+    def loaded(self, here, load, places):
+        if places.get(load.source) == Thing.CONTEXT and load.opcode == LOAD_WORD:
+            start = PacketAddress()
+            fields = {START_FIELD: start, END_FIELD: Thing.PACKET_END, META_FIELD: start}
+            return fields.get(load.offset, Thing.NUMBER)
+        base = here.constants.registers.get(load.source)
+        if load.opcode == LOAD_DOUBLE and is_address(base, FRAME_ADDRESS):
+            return places.get(StackSlot(base.offset + load.offset), Thing.NUMBER)
+        return Thing.NUMBER
+
+    def store(self, here, store, places):
+        at = here.constants.stack_offset(store)
+        if at is not None:
+            for place in [place for place in places if isinstance(place, StackSlot)]:
+                if place.offset < at + store.size and at < place.offset + 8:
+                    del places[place]
+            if store.opcode == STORE_DOUBLE and at % 8 == 0:
+                places[StackSlot(at)] = places.get(store.source, Thing.NUMBER)
+        if store.fetches:
+            places[store.source] = Thing.NUMBER

@@ -1,0 +1,165 @@
+"""Which constants registers and stack slots have at a slot, and what an instruction makes of them.
+
+A constant is a number, or an `Address` that is known as far as copies need it."""
+from typing import NamedTuple
+
+from .instructions import (
+    ADD,
+    ALU64,
+    CALL,
+    CONTEXT_ARGUMENT,
+    END,
+    FRAME_POINTER,
+    JEQ,
+    JGE,
+    JGT,
+    JLE,
+    JLT,
+    JMP,
+    JNE,
+    LOAD_DOUBLE,
+    LOAD_WORD,
+    MASK_32,
+    MASK_64,
+    MOV,
+    NEG,
+    STORE_DOUBLE,
+    STORE_DOUBLE_CONSTANT,
+    STX,
+    SUB,
+    WIDE_LOAD,
+    compute,
+    holds,
+    signed,
+)
+
+# FAR: so far behind the packet's start that it lies behind every packet's end. VALUE: of a map, with the distance that
+# the original added and the result adds to the offset of each access instead
+FRAME, CONTEXT, PACKET_END, FAR, VALUE = "frame", "context", "packet's end", "far", "value"
+END_FIELD = 4  # of the context
+ORDERED = {JEQ, JGT, JGE, JNE, JLT, JLE}
+
+
+class Address(NamedTuple):
+    base: str
+    offset: int = 0
+
+
+def is_number(value):
+    return isinstance(value, int)
+
+
+def is_address(value, *bases):
+    return isinstance(value, Address) and value.base in bases
+
+
+class Constants:
+    """The constants at one slot: of registers, and of stack slots by their offset from the frame's end.
+
+    `values`: whether the results of lookups are followed too."""
+
+    def __init__(self, registers, stack, values=False):
+        self.registers, self.stack, self.values = registers, stack, values
+
+    @classmethod
+    def at_start(cls, values=False):
+        return cls({CONTEXT_ARGUMENT: Address(CONTEXT), FRAME_POINTER: Address(FRAME)}, {}, values)
+
+    def with_register(self, register, value):
+        return Constants({**self.registers, register: value}, self.stack, self.values)
+
+    def kept(self, wanted, numbers):
+        """Those of the wanted registers, numbers only of the registers `numbers`, and those of the stack: all where
+        `numbers` isn't None, else addresses alone."""
+        telling = numbers if numbers is not None else ()
+        registers = {r: v for r, v in self.registers.items() if r in wanted and (r in telling or not is_number(v))}
+        stack = {at: v for at, v in self.stack.items() if numbers is not None or not is_number(v)}
+        return Constants(registers, stack, self.values)
+
+    def key(self):
+        return tuple(sorted(self.registers.items())), tuple(sorted(self.stack.items()))
+
+    def operands(self, instruction):
+        """The two operands of arithmetic or of a jump, None where they aren't constant."""
+        second = self.registers.get(instruction.source) if instruction.by_register else instruction.immediate & MASK_64
+        return self.registers.get(instruction.destination), second
+
+    def stack_offset(self, instruction):
+        """Where on the stack a load or a store begins, or None."""
+        base = self.registers.get(instruction.base)
+        return base.offset + instruction.offset if is_address(base, FRAME) else None
+
+    def decided(self, jump):
+        """Whether a jump with a condition is taken, where constants say so."""
+        a, b = self.operands(jump)
+        if is_number(a) and is_number(b):
+            return holds(jump, a, b)
+        if jump.kind == JMP and jump.operation in ORDERED:
+            if is_address(a, FAR) and a.offset >= 0 and is_address(b, PACKET_END):
+                return holds(jump, 2, 1)
+            if is_address(a, PACKET_END) and is_address(b, FAR) and b.offset >= 0:
+                return holds(jump, 1, 2)
+        return None
+
+    # --- behind an instruction
+
+    def after(self, instruction):
+        behind = Constants(dict(self.registers), dict(self.stack), self.values)
+        if instruction.is_arithmetic:
+            behind._put(instruction.destination, self._result(instruction))
+        elif instruction.is_load:
+            behind._put(instruction.destination, self._loaded(instruction))
+        elif instruction.opcode == WIDE_LOAD:
+            named = instruction.source or instruction.map is not None
+            number = instruction.immediate & MASK_32 | (instruction.upper & MASK_32) << 32
+            behind._put(instruction.destination, None if named else number)
+        elif instruction.is_store:
+            behind._store(instruction)
+        elif instruction.opcode == CALL:
+            for register in range(6):
+                behind._put(register, None)
+            behind._put(0, Address(VALUE) if self.values else None)
+        return behind
+
+    def _put(self, register, value):
+        if value is None:
+            self.registers.pop(register, None)
+        else:
+            self.registers[register] = value
+
+    def _result(self, instruction):
+        """What arithmetic leaves, or None."""
+        a, b = self.operands(instruction)
+        wide = instruction.kind == ALU64
+        if instruction.operation == MOV:
+            if is_number(b):
+                return compute(instruction, 0, b)
+            return b if wide and not instruction.offset else None
+        if instruction.operation in (NEG, END):
+            return compute(instruction, a, 0) if is_number(a) else None
+        if is_number(a) and is_number(b):
+            return compute(instruction, a, b)
+        if wide and instruction.operation in (ADD, SUB) and is_address(a, FRAME, FAR, VALUE) and is_number(b):
+            return Address(a.base, a.offset + signed(b) * (1 if instruction.operation == ADD else -1))
+        if wide and instruction.operation == ADD and is_number(a) and is_address(b, VALUE):
+            return Address(VALUE, b.offset + signed(a))
+        return None
+
+    def _loaded(self, load):
+        base = self.registers.get(load.source)
+        if is_address(base, CONTEXT) and load.opcode == LOAD_WORD and load.offset == END_FIELD:
+            return Address(PACKET_END)
+        if is_address(base, FRAME) and load.opcode == LOAD_DOUBLE:
+            return self.stack.get(base.offset + load.offset)
+        return None
+
+    def _store(self, store):
+        at = self.stack_offset(store)
+        if at is not None:
+            for slot in [slot for slot in self.stack if slot < at + store.size and at < slot + 8]:
+                del self.stack[slot]
+            value = self.registers.get(store.source) if store.kind == STX else store.immediate & MASK_64
+            if store.opcode in (STORE_DOUBLE, STORE_DOUBLE_CONSTANT) and value is not None:
+                self.stack[at] = value
+        if store.fetches:
+            self._put(store.source, None)

@@ -1,0 +1,163 @@
+"""Copies: a slot together with the constants that are known there.
+
+A conditional jump between two constants has one way, so that a loop with constant trips unwinds into a chain of copies,
+however it is left.
+
+Two marks put tests of our own in front of an addition, where the verifier would lose the address:
+  Wide   the number may be above 65,535: `if n > 65535` leads to copies in which the sum is far behind the packet's end
+         (or to the end of the program, where the number may be negative)
+  Cases  the number is one of a few: `if n == c` for each, to copies in which it is a constant"""
+from dataclasses import dataclass, field
+from typing import NamedTuple
+
+from .constants import FAR, FRAME, Address, Constants, is_number
+from .graph import Fail, NoBound, live_registers, loops, slots_that_reach, steering_registers, successors
+from .instructions import FRAME_POINTER, REGISTERS
+
+MOST_COPIES = 12000
+# which numbers are told apart: those that steer a loop or make an address, in slots from which a loop can be reached;
+# all in such slots; all
+STEERING, IN_LOOPS, EVERYWHERE = "those that steer loops", "those in loops", "all"
+
+
+class Phase(NamedTuple):
+    """What stands at a copy: TESTS of ours, the instruction (PLAIN), test `number` of the CASE tests, an addition whose
+    sum is FAR, or the end of the program behind an access OUTSIDE the packet."""
+
+    name: str
+    number: int = 0
+
+
+TESTS, PLAIN, FAR_SUM, OUTSIDE = Phase("tests"), Phase("plain"), Phase("far"), Phase("outside")
+CASE = "case"
+
+
+class Wide(NamedTuple):
+    """Of an addition: the register of the number, and whether one above 65,535 is known not to be negative."""
+
+    register: int
+    positive: bool
+
+
+class Cases(NamedTuple):
+    """Of an addition: the register of the number, and what it can be."""
+
+    register: int
+    numbers: tuple
+
+
+@dataclass(eq=False, repr=False)
+class Copy:
+    slot: int  # of the program as it was
+    phase: Phase
+    constants: Constants
+    key: tuple
+    ways: list = field(default_factory=list)  # (0 fallen through or 1 jumped, Copy)
+    before: list = field(default_factory=list)  # (Copy, way)
+
+    @property
+    def is_instruction(self):
+        """Whether the slot's own instruction stands here."""
+        return self.phase in (PLAIN, FAR_SUM)
+
+
+def telling_registers(code, numbers):
+    """Of each slot the registers whose numbers are told apart there; None where no number is, nor one of the stack."""
+    if numbers == EVERYWHERE:
+        return {slot: range(REGISTERS) for slot in code}
+    near, steering = slots_that_reach(code, loops(code)), steering_registers(code)
+    return {
+        slot: None if slot not in near else steering[slot] if numbers == STEERING else range(REGISTERS) for slot in code
+    }
+
+
+class Copies:
+    """The graph of copies.
+
+    `numbers`: which numbers are told apart.
+    `values`: the results of lookups are followed, so that a constant added to one can go to the accesses."""
+
+    def __init__(self, code, numbers=IN_LOOPS, wide=None, cases=None, values=False):
+        self.code, self.wide, self.cases = code, wide or {}, cases or {}
+        self.live = live_registers(code)
+        self.telling = telling_registers(code, numbers)
+        self.found, self.todo = {}, []
+        self.first = self.copy(0, TESTS, Constants.at_start(values))
+        while self.todo:
+            here = self.todo.pop()
+            for way, after in self.ways(here):
+                here.ways.append((way, after))
+                after.before.append((here, way))
+        self.order = self.sorted()
+
+    def copy(self, slot, phase, constants):
+        """The copy with these constants, of which those that can't matter are forgotten."""
+        numbers = self.telling[slot] if phase == TESTS else range(REGISTERS)
+        constants = constants.kept(self.live[slot] | {FRAME_POINTER}, numbers)
+        if phase == TESTS and slot not in self.wide and slot not in self.cases:
+            phase = PLAIN
+        if phase == OUTSIDE:
+            constants = Constants({FRAME_POINTER: Address(FRAME)}, {}, constants.values)
+        key = (slot, phase, *constants.key())
+        if key not in self.found:
+            if len(self.found) >= MOST_COPIES:
+                raise Fail(f"a loop has no bound, or a large one: more than {MOST_COPIES} copies of its slots", slot)
+            self.found[key] = Copy(slot, phase, constants, key)
+            self.todo.append(self.found[key])
+        return self.found[key]
+
+    def ways(self, here):
+        """The copies to which control may go from a copy."""
+        if here.phase == OUTSIDE:
+            return []
+        if here.phase == TESTS:
+            return self.ways_of_tests(here)
+        if here.phase.name == CASE:
+            return self.ways_of_case(here)
+        return self.ways_of_instruction(here)
+
+    def ways_of_tests(self, here):
+        slot, constants = here.slot, here.constants
+        if slot in self.cases and not is_number(constants.registers.get(self.cases[slot].register)):
+            return [(0, self.copy(slot, Phase(CASE, 0), constants))]
+        ways = [(0, self.copy(slot, PLAIN, constants))]
+        if slot in self.wide and not is_number(constants.registers.get(self.wide[slot].register)):
+            ways.append((1, self.copy(slot, FAR_SUM if self.wide[slot].positive else OUTSIDE, constants)))
+        return ways
+
+    def ways_of_case(self, here):
+        register, numbers = self.cases[here.slot]
+        chosen = here.constants.with_register(register, numbers[here.phase.number])
+        following = here.phase.number + 1
+        other = Phase(CASE, following) if following < len(numbers) else OUTSIDE
+        return [(0, self.copy(here.slot, other, here.constants)), (1, self.copy(here.slot, PLAIN, chosen))]
+
+    def ways_of_instruction(self, here):
+        slot, instruction = here.slot, self.code[here.slot]
+        constants = here.constants.after(instruction)
+        if here.phase == FAR_SUM:
+            constants = constants.with_register(instruction.destination, Address(FAR))
+        ways = list(enumerate(successors(self.code, slot)))
+        taken = here.constants.decided(instruction) if instruction.is_branch else None
+        if taken is not None:
+            ways = [ways[taken]]
+        return [(way, self.copy(after, TESTS, constants)) for way, after in ways]
+
+    def sorted(self):
+        """The copies, each behind all that lead to it."""
+        finished, order = {self.first: False}, []
+        todo = [(self.first, iter(self.first.ways))]
+        while todo:
+            here, rest = todo[-1]
+            for _, after in rest:
+                if finished.get(after) is False:
+                    raise NoBound("no constant bounds how often this loop runs", after.slot)
+                if after not in finished:
+                    finished[after] = False
+                    todo.append((after, iter(after.ways)))
+                    break
+            else:
+                todo.pop()
+                finished[here] = True
+                order.append(here)
+        return order[::-1]

@@ -1,0 +1,72 @@
+"""`*counter += n`: a load, additions and a store of one counter, made one atomic addition.
+
+In the place of the load stands `r = 0`: what is then computed is n, and the store adds it. No slot moves. It is right
+where nothing between the two could see or change the counter, and where what was read is not used for anything else.
+On a counter of a per-CPU map it is the same count; on a shared one Linux's program could lose counts and this can't."""
+from .graph import live_registers, successors
+from .instructions import (
+    ADD_CONSTANT,
+    ADD_REGISTER,
+    ATOMIC_DOUBLE,
+    LOAD_DOUBLE,
+    MOVE_CONSTANT,
+    MOVE_REGISTER,
+    STORE_DOUBLE,
+    Instruction,
+    reads,
+    writes,
+)
+
+
+def fused(code, store):
+    """The program with the store at this slot as an atomic addition, or None where that isn't the same."""
+    put = code[store]
+    load = load_before(code, store) if put.opcode == STORE_DOUBLE else None
+    counted = None if load is None else registers_that_count(code, load, store)
+    if not counted or put.source not in counted or put.destination in counted:
+        return None
+    if counted & live_registers(code)[store + 1]:
+        return None
+    mended = dict(code)
+    mended[load] = Instruction(MOVE_CONSTANT, code[load].destination)
+    mended[store] = Instruction(ATOMIC_DOUBLE, put.destination, put.source, put.offset)
+    return mended
+
+
+def load_before(code, store):
+    """The slot of the load of the same counter, on the one way to the store, behind which nothing has an effect."""
+    put, slot = code[store], store
+    targets = {
+        after
+        for before in code
+        for after in successors(code, before)
+        if code[before].is_branch or after != before + code[before].slots
+    }
+    while slot - 1 in code and slot not in targets:
+        slot -= 1
+        instruction = code[slot]
+        same = (instruction.source, instruction.offset) == (put.destination, put.offset)
+        if instruction.opcode == LOAD_DOUBLE and same and instruction.destination != put.destination:
+            return slot
+        if not (instruction.is_arithmetic or instruction.is_load) or put.destination in writes(instruction):
+            return None
+    return None
+
+
+def registers_that_count(code, load, store):
+    """The registers that hold the counter and a number, at the store; None where the counter is used otherwise."""
+    counted = {code[load].destination}
+    for slot in range(load + 1, store):
+        instruction = code[slot]
+        operands = {instruction.destination, instruction.source}
+        if instruction.opcode == MOVE_REGISTER and instruction.source in counted:
+            counted.add(instruction.destination)
+        elif instruction.opcode == ADD_CONSTANT and instruction.destination in counted:
+            continue
+        elif instruction.opcode == ADD_REGISTER and len(operands & counted) == 1 and len(operands) == 2:
+            counted.add(instruction.destination)
+        elif reads(instruction) & counted:
+            return None
+        else:
+            counted -= writes(instruction)
+    return counted

@@ -1,0 +1,354 @@
+"""The graph of copies as a program: one copy behind the other, and between them instructions of our own.
+
+Our own instructions use registers that aren't live, or that they put back, and stack slots below the program's own."""
+from enum import Enum
+from typing import NamedTuple, Optional
+
+from .addresses import ADDED, KEPT, MET, Atom, StackSlot, Thing, in_order
+from .constants import FRAME, VALUE, is_address
+from .copies import CASE, OUTSIDE, TESTS, Copy
+from .graph import Fail
+from .instructions import (
+    ADD,
+    ADD_CONSTANT,
+    ADD_REGISTER,
+    AND_CONSTANT,
+    CALL,
+    CONTEXT_ARGUMENT,
+    EXIT,
+    FRAME_POINTER,
+    IF_ABOVE_CONSTANT,
+    IF_ABOVE_REGISTER,
+    IF_EQUAL_CONSTANT,
+    JUMP,
+    LOAD_DOUBLE,
+    LOAD_WORD,
+    MOVE_CONSTANT,
+    MOVE_REGISTER,
+    STORE_DOUBLE,
+    SUB,
+    XOR_REGISTER,
+    Instruction,
+)
+
+MOST_SLOTS, STACK_BYTES, MOST_DISTANCE = 4096, 512, 65535
+END_FIELD, INTERFACE_FIELD = 4, 12  # of the context
+ABORTED = 0
+CONTEXT_SLOT, ZERO_SLOT = "context", "zero"  # names of our own stack slots
+THE_END = "outside"  # where `r0 = 0; exit` stands
+
+
+class Kind(Enum):
+    """Whose instruction a slot has: a COPY of the original's, our OWN, or the end where an access lies OUTSIDE."""
+
+    COPY = "copy"
+    OWN = "own"
+    OUTSIDE = "outside"
+
+
+class Label(NamedTuple):
+    """What a slot of the result is: for a copy its slot in the original, for our own the one that it stands before."""
+
+    kind: Kind
+    slot: int
+    copy: Optional[Copy] = None
+
+
+class Needs(Fail):
+    """Meetings that have to be marked too, since an address behind them is made of theirs."""
+
+    def __init__(self, meetings):
+        super().__init__("a meeting isn't marked")
+        self.meetings = meetings
+
+
+class OwnStack:
+    """Our own stack slots, by name, below the lowest byte that the program touches. `shared`: for names of numbers that
+    are needed for a while, which of them may use one slot."""
+
+    def __init__(self, copies, shared):
+        lowest = 0
+        for here in copies.order:
+            instruction, registers = copies.code[here.slot], here.constants.registers
+            at = here.constants.stack_offset(instruction) if instruction.is_store else None
+            if instruction.opcode == CALL and is_address(registers.get(2), FRAME):
+                at = registers[2].offset
+            lowest = min(lowest, at or 0)
+        self.top, self.shared, self.offsets = -((7 - lowest) // 8 * 8), shared, {}
+
+    def __getitem__(self, name):
+        name = self.shared.get(name, name)
+        if name not in self.offsets:
+            self.offsets[name] = self.top - 8 * (len(self.offsets) + 1)
+            if self.offsets[name] < -STACK_BYTES:
+                raise Fail(f"it would need more than the {STACK_BYTES} bytes of the stack")
+        return self.offsets[name]
+
+
+def shared_slots(copies, addresses):
+    """For each atom that is kept on the stack a number: two that are needed at once have different ones."""
+    saved, needed, beside = {}, {}, {}
+    for atom in {atom for row in addresses.stored.values() for _, address in row for atom in address.atoms}:
+        if atom.name == ADDED:
+            saved.setdefault(atom.copy, set()).add(atom)
+
+    def together(atoms):
+        for atom in atoms:
+            beside.setdefault(atom, set()).update(atoms)
+
+    for here in reversed(copies.order):
+        behind = set()
+        for way, after in here.ways:
+            rows = addresses.stored.get((here, way), [])
+            written = {atom for atom, _ in rows}
+            read = {part for _, address in rows for part in address.atoms}
+            together(written | read | needed[after])
+            behind |= read | needed[after] - written
+        kept = {Atom(KEPT, here, row.place) for row in addresses.remade.get(here, []) if row.leader is None}
+        together(behind | saved.get(here, set()))
+        needed[here] = behind - saved.get(here, set()) | kept
+        together(needed[here])
+    order = {here: number for number, here in enumerate(copies.order)}
+    numbers = {}
+    for atom in sorted(beside, key=lambda atom: (order[atom.copy], atom.name, in_order(atom.place))):
+        taken = {numbers[other] for other in beside[atom] if other in numbers}
+        numbers[atom] = next(number for number in range(len(taken) + 1) if number not in taken)
+    return {atom: ("shared", number) for atom, number in numbers.items()}
+
+
+class Emitter:
+    """Writes a program.
+
+    guards   keys or slots of copies whose access is compared with the packet's end anew
+    limited  keys of copies to which a distance is handed on that a test has to bound
+    blurred  of slots of additions to an address the register of the number, of which the verifier isn't to know that it
+             is a constant on some ways: with a constant the sum would be another kind of address"""
+
+    def __init__(self, copies, addresses, guards=frozenset(), limited=frozenset(), blurred=None):
+        self.copies, self.addresses = copies, addresses
+        self.guards, self.limited, self.blurred = guards, limited, blurred or {}
+        self.own = OwnStack(copies, shared_slots(copies, addresses))
+        self.out, self.labels, self.jumps, self.places = [], [], [], {}
+        self.stored = [address for row in addresses.stored.values() for _, address in row]
+        unmarked = {(atom.copy, atom.place) for address in self.stored for atom in address.atoms if atom.name == MET}
+        if unmarked:
+            raise Needs(unmarked)
+        self.saved = {}
+        for atom in {atom for address in self.stored for atom in address.atoms if atom.name == ADDED}:
+            self.saved.setdefault(atom.copy, []).append(atom)
+        self.write()
+
+    # --- one instruction
+
+    def put(self, instruction, kind, slot, copy=None):
+        self.out.append(instruction)
+        self.labels.append(Label(kind, slot, copy))
+        return instruction
+
+    def put_own(self, slot, *fields, copy=None):
+        return self.put(Instruction(*fields), Kind.OWN, slot, copy)
+
+    def put_jump(self, slot, target, *fields, copy=None):
+        """A jump of our own: by default one without a condition."""
+        self.jumps.append((self.put_own(slot, *(fields or (JUMP,)), copy=copy), target))
+
+    def save(self, name, register, slot):
+        self.put_own(slot, STORE_DOUBLE, FRAME_POINTER, register, self.own[name])
+
+    def load(self, register, name, slot):
+        self.put_own(slot, LOAD_DOUBLE, register, FRAME_POINTER, self.own[name])
+
+    def borrow(self, count, slot, live, taken=()):
+        """Registers for our use: those that aren't live, then live ones, which are saved; and how to put these back."""
+        usable = [register for register in range(FRAME_POINTER - 1, -1, -1) if register not in taken]
+        free = [register for register in usable if register not in live]
+        lent = [register for register in usable if register in live][: max(0, count - len(free))]
+        for number, register in enumerate(lent):
+            self.save(("lent", number), register, slot)
+
+        def give_back():
+            for number, register in enumerate(lent):
+                self.load(register, ("lent", number), slot)
+
+        return (free + lent)[:count], give_back
+
+    # --- what stands before and between copies
+
+    def store_distances(self, before, way, after):
+        """On a way to a meeting: the distance from the packet's start of each address that is made anew there."""
+        slot, live = after.slot, self.copies.live[after.slot]
+        for atom, (constant, atoms) in self.addresses.stored.get((before, way), []):
+            if atoms == (atom,) and not constant:
+                continue
+            (total, *more), give_back = self.borrow(2 if len(atoms) > 1 else 1, slot, live)
+            self.load(total, atoms[0] if atoms else ZERO_SLOT, slot)
+            for part in atoms[1:]:
+                self.load(more[0], part, slot)
+                self.put_own(slot, ADD_REGISTER, total, more[0])
+            if constant:
+                self.put_own(slot, ADD_CONSTANT, total, 0, 0, constant)
+            if after.key in self.limited and len(atoms) > 1:
+                self.put_jump(slot, THE_END, IF_ABOVE_CONSTANT, total, 0, 0, MOST_DISTANCE)
+            self.save(atom, total, slot)
+            give_back()
+
+    def remake(self, here):
+        """Behind a meeting: each address as the packet's start plus its distance."""
+        slot, live, rows = here.slot, self.copies.live[here.slot], self.addresses.remade.get(here, [])
+        settled = {row.place for row in rows if not isinstance(row.place, StackSlot)}
+        for row in rows:
+            on_stack, led = isinstance(row.place, StackSlot), row.leader is not None
+            taken = () if on_stack else (row.place,)
+            wanted = (1 if on_stack else 0) + (0 if led else 1)
+            lent, give_back = self.borrow(wanted, slot, live | settled, taken)
+            target, *more = lent if on_stack else (row.place, *lent)
+            if led:
+                self.put_own(slot, MOVE_REGISTER, target, row.leader)
+                if row.distance:
+                    self.put_own(slot, ADD_CONSTANT, target, 0, 0, row.distance)
+            else:
+                self.load(target, CONTEXT_SLOT, slot)
+                self.put_own(slot, LOAD_WORD, target, target)
+                self.load(more[0], Atom(KEPT, here, row.place), slot)
+                self.put_own(slot, ADD_REGISTER, target, more[0])
+            if on_stack:
+                self.put_own(slot, STORE_DOUBLE, FRAME_POINTER, target, row.place.offset)
+            give_back()
+
+    def guard(self, here):
+        """Before an access: the end of what it reaches is compared with the packet's end."""
+        slot, access, live = here.slot, self.copies.code[here.slot], self.copies.live[here.slot]
+        places = self.addresses.before[here]
+        ends = [register for register in live if places.get(register) == Thing.PACKET_END]
+        (reached, *more), give_back = self.borrow(1 if ends else 2, slot, live, (access.base,))
+        end = ends[0] if ends else more[0]
+        if not ends:
+            self.load(end, CONTEXT_SLOT, slot)
+            self.put_own(slot, LOAD_WORD, end, end, END_FIELD)
+        self.put_own(slot, MOVE_REGISTER, reached, access.base)
+        self.put_own(slot, ADD_CONSTANT, reached, 0, 0, access.offset + access.size)
+        self.put_jump(slot, THE_END, IF_ABOVE_REGISTER, reached, end)
+        give_back()
+
+    # --- all
+
+    def write(self):
+        self.write_start()
+        for here, following in zip(self.copies.order, [*self.copies.order[1:], None]):
+            self.places[here] = len(self.out)
+            self.remake(here)
+            branch = self.write_copy(here)
+            if branch is None:
+                for way, after in here.ways:
+                    self.lead(here, way, after, following)
+            else:
+                self.write_ways(here, branch, following)
+        if any(target == THE_END for _, target in self.jumps):
+            self.places[THE_END] = len(self.out)
+            self.put(Instruction(MOVE_CONSTANT, 0, immediate=ABORTED), Kind.OUTSIDE, 0)
+            self.put(Instruction(EXIT), Kind.OUTSIDE, 0)
+
+    def write_start(self):
+        """Keeps the context, and a 0 of which the verifier knows only that it is 0 or 1. So a distance is a number on
+        every way and a constant on none; else the verifier would keep it apart."""
+        if self.stored or self.guards:
+            self.save(CONTEXT_SLOT, CONTEXT_ARGUMENT, 0)
+        if self.blurred or any(not address.atoms for address in self.stored):
+            self.put_own(0, LOAD_WORD, 0, CONTEXT_ARGUMENT, INTERFACE_FIELD)
+            self.put_own(0, XOR_REGISTER, 0, 0)
+            self.put_own(0, AND_CONSTANT, 0, 0, 0, 1)
+            self.save(ZERO_SLOT, 0, 0)
+
+    def write_copy(self, here):
+        """What stands at a copy. A branch is given back: its target comes later."""
+        slot = here.slot
+        if here.phase == OUTSIDE:
+            self.put_jump(slot, THE_END)
+            return None
+        if here.phase == TESTS:
+            if len(here.ways) == 1:
+                return None
+            register = self.copies.wide[slot].register
+            return self.put_own(slot, IF_ABOVE_CONSTANT, register, 0, 0, MOST_DISTANCE, copy=here)
+        if here.phase.name == CASE:
+            register, numbers = self.copies.cases[slot]
+            return self.put_own(slot, IF_EQUAL_CONSTANT, register, 0, 0, numbers[here.phase.number], copy=here)
+        return self.write_instruction(here, self.copies.code[slot])
+
+    def write_instruction(self, here, insn):
+        slot = here.slot
+        if slot in self.blurred:
+            (zero,), give_back = self.borrow(1, slot, self.copies.live[slot])
+            self.load(zero, ZERO_SLOT, slot)
+            self.put_own(slot, ADD_REGISTER, self.blurred[slot], zero)
+            give_back()
+        for atom in sorted(self.saved.get(here, []), key=lambda atom: atom.place):
+            self.save(atom, atom.place, slot)
+        if here.key in self.guards or here.slot in self.guards:
+            self.guard(here)
+        if insn.is_branch:
+            if len(here.ways) == 1:
+                return None
+            return self.put(
+                Instruction(insn.opcode, insn.destination, insn.source, 0, insn.immediate), Kind.COPY, slot, here
+            )
+        if insn.opcode != JUMP and not self.goes_to_accesses(here, insn):
+            fields = (
+                insn.opcode,
+                insn.destination,
+                insn.source,
+                self.offset(here, insn),
+                insn.immediate,
+                insn.upper,
+                insn.map,
+            )
+            self.put(Instruction(*fields), Kind.COPY, slot, here)
+        return None
+
+    def goes_to_accesses(self, here, insn):
+        """Whether it adds a constant to a map's value: the accesses have it in their offsets instead."""
+        if not insn.is_arithmetic or insn.operation not in (ADD, SUB):
+            return False
+        if not is_address(here.constants.after(insn).registers.get(insn.destination), VALUE):
+            return False
+        if not is_address(here.constants.registers.get(insn.destination), VALUE):
+            raise Fail("the address of a map's value is added to a number: add the number to the address", here.slot)
+        return True
+
+    def offset(self, here, insn):
+        """The offset of an access, with what was added to its map's value."""
+        base = here.constants.registers.get(insn.base) if insn.is_load or insn.is_store else None
+        return insn.offset + (base.offset if is_address(base, VALUE) else 0)
+
+    def lead(self, here, way, after, following):
+        """From a copy to the next one."""
+        self.store_distances(here, way, after)
+        if after is not following:
+            self.put_jump(after.slot, after)
+
+    def write_ways(self, here, branch, following):
+        """Behind a branch: where it isn't taken, and where its distances are stored if it is."""
+        (way, fallen), (other, jumped) = here.ways
+        self.store_distances(here, way, fallen)
+        stub = self.addresses.stored.get((here, other))
+        if stub or fallen is not following:
+            self.put_jump(fallen.slot, fallen)
+        self.jumps.append((branch, (here, other) if stub else jumped))
+        if stub:
+            self.places[here, other] = len(self.out)
+            self.lead(here, other, jumped, following)
+
+    def program(self):
+        """The program's words, its relocations, and the label of each of its slots."""
+        starts, total = [], 0
+        for instruction in self.out:
+            starts.append(total)
+            total += instruction.slots
+        starts.append(total)
+        if total > MOST_SLOTS:
+            raise Fail(f"it would have {total} slots, of which a program has at most {MOST_SLOTS}")
+        number = {id(instruction): at for at, instruction in enumerate(self.out)}
+        offsets = {id(jump): starts[self.places[target]] - starts[number[id(jump)]] - 1 for jump, target in self.jumps}
+        words = [word for instruction in self.out for word in instruction.words(offsets.get(id(instruction)))]
+        relocations = [(starts[at], insn.map) for at, insn in enumerate(self.out) if insn.map is not None]
+        return words, relocations, {starts[at]: label for at, label in enumerate(self.labels)}

@@ -1,0 +1,154 @@
+"""A program as a graph of slots: what follows what, what is live, and what lies in loops."""
+from .instructions import ALU64, AND, CALL, EXIT, FRAME_POINTER, JUMP, STX, reads, writes
+
+
+class Fail(Exception):
+    """Why a program can't be straightened, in words for its author. `slot`: where, in the program as it was."""
+
+    def __init__(self, words, slot=None):
+        super().__init__(words)
+        self.slot = slot
+
+
+class NoBound(Fail):
+    """A loop of which no constant says how often it runs."""
+
+
+def successors(code, slot):
+    """The slots to which control may go from a slot."""
+    instruction = code[slot]
+    if instruction.opcode == EXIT:
+        return []
+    if instruction.opcode == JUMP:
+        return [slot + 1 + instruction.offset]
+    if instruction.is_branch:
+        return [slot + 1, slot + 1 + instruction.offset]
+    return [slot + instruction.slots]
+
+
+def predecessors(code):
+    """Of each slot, the slots from which control may come."""
+    before = {slot: [] for slot in code}
+    for slot in code:
+        for after in successors(code, slot):
+            if after not in code:
+                raise Fail(f"slot {slot} leads to slot {after}, which isn't there", slot)
+            before[after].append(slot)
+    return before
+
+
+def backwards(code, step):
+    """The least sets, one per slot, with `step(slot, what is there behind it)` as the set before it."""
+    found, before, todo = {slot: frozenset() for slot in code}, predecessors(code), list(code)
+    while todo:
+        slot = todo.pop()
+        now = step(slot, frozenset().union(*(found[after] for after in successors(code, slot))))
+        if now != found[slot]:
+            found[slot] = now
+            todo += before[slot]
+    return found
+
+
+def live_registers(code):
+    """The registers that may still be read, before each slot."""
+    return backwards(code, lambda slot, behind: reads(code[slot]) | (behind - writes(code[slot])))
+
+
+def loops(code):
+    """The slots from which control can come back to them: Tarjan's strong components, without recursion."""
+    number, lowest, path, open_slots, inside = {}, {}, [], set(), set()
+    todo = []
+
+    def enter(slot):
+        number[slot] = lowest[slot] = len(number)
+        path.append(slot)
+        open_slots.add(slot)
+        todo.append((slot, iter(successors(code, slot))))
+
+    enter(0)
+    while todo:
+        slot, rest = todo[-1]
+        for after in rest:
+            if after not in number:
+                enter(after)
+                break
+            if after in open_slots:
+                lowest[slot] = min(lowest[slot], number[after])
+        else:
+            todo.pop()
+            if todo:
+                lowest[todo[-1][0]] = min(lowest[todo[-1][0]], lowest[slot])
+            if lowest[slot] == number[slot]:
+                first = path.index(slot)
+                component, path[first:] = path[first:], []
+                open_slots.difference_update(component)
+                if len(component) > 1 or slot in successors(code, slot):
+                    inside.update(component)
+    return inside
+
+
+def slots_that_reach(code, goals):
+    """The slots from which one of the goals can be reached, and the goals."""
+    before, reached, todo = predecessors(code), set(goals), list(goals)
+    while todo:
+        fresh = [slot for slot in before[todo.pop()] if slot not in reached]
+        reached.update(fresh)
+        todo += fresh
+    return reached
+
+
+def steering_registers(code):
+    """The registers, before each slot, whose numbers may decide a jump in a loop or before one, or become part of an
+    address. Numbers in others needn't be told apart: they are sums, flags and the answer."""
+    near = slots_that_reach(code, loops(code))
+
+    def step(slot, behind):
+        instruction = code[slot]
+        if instruction.is_branch:
+            return behind | (reads(instruction) if slot in near else set())
+        if instruction.opcode == EXIT:
+            return frozenset()
+        if instruction.is_store:
+            kept = instruction.kind == STX and instruction.destination == FRAME_POINTER
+            return behind | {instruction.base} | ({instruction.source} if kept else set())
+        used = instruction.is_load or instruction.opcode == CALL or writes(instruction) & behind
+        return behind - writes(instruction) | (reads(instruction) if used else set())
+
+    return backwards(code, step)
+
+
+def masks_that_steer(code, slot):
+    """The masks by a constant, outside of the loop that a slot lies in, on which it depends how often the loop runs:
+    the slots of their instructions, the last one first."""
+    inside = loop_of(code, slot)
+    leaving = [at for at in inside if any(after not in inside for after in successors(code, at))]
+    before, seen, found = predecessors(code), set(), set()
+    todo = [(at, register) for leave in leaving for register in reads(code[leave]) for at in before[leave]]
+    while todo:
+        at, register = todo.pop()
+        if (at, register) in seen:
+            continue
+        seen.add((at, register))
+        instruction, wanted = code[at], {register}
+        if register in writes(instruction):
+            if (
+                instruction.kind == ALU64
+                and instruction.operation == AND
+                and not instruction.by_register
+                and at not in inside
+            ):
+                found.add(at)
+                continue
+            wanted = reads(instruction) if instruction.is_arithmetic else set()
+        todo += [(further, more) for more in wanted for further in before[at]]
+    return sorted(found, reverse=True)
+
+
+def loop_of(code, slot):
+    """The slots of the loop around a slot: those that it reaches and that reach it."""
+    reached, todo = {slot}, [slot]
+    while todo:
+        fresh = [after for after in successors(code, todo.pop()) if after not in reached]
+        reached.update(fresh)
+        todo += fresh
+    return reached & slots_that_reach(code, {slot})

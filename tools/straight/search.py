@@ -1,0 +1,297 @@
+"""The way to an accepted program: each refusal says which mark to add.
+
+The verifier's answer, as `xdpbox explain` gives it, drives everything; there are no rules of the verifier's here. The
+first program is that of the copies alone. Then, one mark per refusal:
+
+  V9 at an access    through an address of a meeting: the meeting is marked. Through one to which a number was added:
+                     the number's range is narrowed by a test (`wide`), or its few values are told apart (`cases`). A
+                     distance of several such numbers is bounded by a test where it is stored (`limited`), or made anew
+                     from the distance where it was compared with the packet's end (`restarts`)
+                     Where more ways meet than the verifier keeps apart, since an added number is a constant on some: it
+                     is hidden that it is (`blurred`)
+  V10                what the access reaches is compared with the packet's end anew (`guards`)
+  a loop             that nothing bounds but a masked number: a copy for each number (`cases`)
+  V14 at a store     a load, an addition and a store become one atomic addition (`counts`)
+
+No mark is taken back, so the search ends. It is made in up to six ways: as few numbers told apart as loops need, all in
+loops, or all; a meeting marked as one copy or at all copies of its slot."""
+from dataclasses import dataclass, field
+
+from .addresses import ADDED, KEPT, MET, Addresses, PacketAddress, StackSlot
+from .copies import EVERYWHERE, IN_LOOPS, STEERING, Cases, Copies, Wide
+from .counts import fused
+from .emit import Emitter, Kind, Needs
+from .graph import Fail, NoBound, masks_that_steer
+from .instructions import ALU64, AND, LSH, MASK_32, RSH, compute, writes
+from .settings import instructions_of, text_of
+from .verifier import verdict
+
+MOST_TURNS, MOST_CASES, MOST_CASE_BITS = 200, 64, 6
+MOST_ALIKE = 3  # marks at copies of one slot, from which on all its copies are marked
+MOST_JUDGED = 60000  # slots, in all programs of one search
+MOST_POSITIVE = MASK_32  # a number up to here is none that is negative in 64 bits
+# causes that no other program with the same runs would avoid: of decoding and of structure, but for the loop
+OF_THE_BYTES = {"V0", "V1", "V2", "V3", "V4", "V6", "V16", "V19"}
+
+
+@dataclass
+class Marks:
+    meetings: set = field(default_factory=set)  # (copy's key or slot, stack slot or None)
+    guards: set = field(default_factory=set)  # keys of copies, or slots
+    limited: set = field(default_factory=set)  # keys of copies
+    restarts: set = field(default_factory=set)  # (key of a copy, register)
+    wide: dict = field(default_factory=dict)  # by slot
+    cases: dict = field(default_factory=dict)  # by slot
+    blurred: dict = field(default_factory=dict)  # by slot
+    values: bool = False
+    counts: list = field(default_factory=list)  # slots of stores
+
+
+@dataclass
+class Result:
+    """A program that the verifier accepts. `labels`: of its slots. `counts`, `guards`: slots of the original."""
+
+    words: list
+    relocations: list
+    labels: dict
+    counts: list
+    guards: list
+    tests: list
+
+
+class Search:
+    """One search. `numbers`: which are told apart; `by_slot`: a meeting is marked at all copies of its slot."""
+
+    def __init__(self, settings, xdpbox, numbers, by_slot):
+        self.settings, self.xdpbox, self.numbers, self.by_slot = settings, xdpbox, numbers, by_slot
+        self.code, self.marks = instructions_of(settings), Marks()
+        self.copies = self.addresses = self.labels = None
+
+    def mark(self, here, place):
+        """How a meeting is marked. All its registers are: one of them is often made from another."""
+        return (here.slot if self.by_slot else here.key, place if isinstance(place, StackSlot) else None)
+
+    def is_marked(self, here, place):
+        kept = place if isinstance(place, StackSlot) else None
+        return (here.key, kept) in self.marks.meetings or (here.slot, kept) in self.marks.meetings
+
+    def is_restarted(self, here, place):
+        return (here.key, place) in self.marks.restarts
+
+    def mark_meetings(self, rows):
+        """Marks meetings, (copy, place) each: whether one is new. Where several copies of a slot are marked all are."""
+        fresh = {self.mark(*row) for row in rows if not self.is_marked(*row)}
+        self.marks.meetings |= fresh
+        for key, kept in fresh:
+            slot = key if isinstance(key, int) else key[0]
+            alike = sum(other[0] == slot for other, _ in self.marks.meetings if not isinstance(other, int))
+            if alike >= MOST_ALIKE:
+                self.marks.meetings.add((slot, kept))
+        return bool(fresh)
+
+    def mark_guard(self, here):
+        """Marks an access to be guarded, in all copies of its slot where several need it."""
+        if here.key in self.marks.guards or here.slot in self.marks.guards:
+            return False
+        self.marks.guards.add(here.key)
+        if sum(key[0] == here.slot for key in self.marks.guards if not isinstance(key, int)) >= MOST_ALIKE:
+            self.marks.guards.add(here.slot)
+        return True
+
+    def run(self):
+        judged = 0
+        for _ in range(MOST_TURNS):
+            program = self.emitted()
+            if program is None:
+                continue
+            words, relocations, self.labels = program
+            judged += len(words)
+            if judged > MOST_JUDGED:
+                break
+            answer = verdict(self.xdpbox, text_of(self.settings, words, relocations))
+            if answer.accepted:
+                return self.result(words, relocations)
+            if answer.cause is None:
+                raise Fail(answer.words.strip() or "xdpbox gave no answer")
+            if not self.learn(answer):
+                label = self.labels.get(answer.slot)
+                raise Fail(f"straightened, it is refused with {answer.cause}", label.slot if label else None)
+        raise Fail("it isn't accepted after many changes")
+
+    def emitted(self):
+        """The program with the marks as they are; None where a further meeting had to be marked."""
+        marks = self.marks
+        try:
+            self.copies = Copies(self.code, self.numbers, marks.wide, marks.cases, marks.values)
+        except NoBound as loop:
+            if not self.tell_trips_apart(loop.slot):
+                raise
+            return None
+        self.addresses = Addresses(self.copies, self.is_marked, self.is_restarted)
+        try:
+            return Emitter(self.copies, self.addresses, marks.guards, marks.limited, marks.blurred).program()
+        except Needs as needs:
+            self.mark_meetings(needs.meetings)
+            return None
+
+    def result(self, words, relocations):
+        marks = self.marks
+        guards = sorted({key if isinstance(key, int) else key[0] for key in marks.guards})
+        tests = sorted({key[0] for key in marks.limited} | set(marks.wide))
+        return Result(words, relocations, self.labels, sorted(marks.counts), guards, tests)
+
+    # --- what a refusal asks for; each answers whether there is a new mark
+
+    def learn(self, answer):
+        label = self.labels.get(answer.slot)
+        if label is None or label.kind != Kind.COPY:
+            return False
+        instruction = self.code[label.slot]
+        if answer.cause == "V14":
+            return self.fuse(label.slot)
+        if not (instruction.is_load or instruction.is_store):
+            return False
+        if answer.cause == "V10":
+            return self.mark_guard(label.copy)
+        if answer.cause != "V9":
+            return False
+        address = self.addresses.before[label.copy].get(instruction.base)
+        if not isinstance(address, PacketAddress):
+            return self.tell_apart(answer)
+        meetings = [(atom.copy, atom.place) for atom in address.atoms if atom.name == MET]
+        if self.mark_meetings(meetings) or answer.too_many_notes and self.blur(address):
+            return True
+        return self.widen(answer, address) or self.limit(address) or self.restart(label.copy, instruction.base)
+
+    def fuse(self, slot):
+        mended = fused(self.code, slot)
+        if mended is None:
+            return False
+        self.code = mended
+        self.marks.counts.append(slot)
+        return True
+
+    def blur(self, address):
+        """Numbers that were added, and are constants on some ways alone: the verifier would keep the sums apart."""
+        fresh = {atom.copy.slot: atom.place for atom in address.atoms if atom.name == ADDED}
+        fresh = {slot: place for slot, place in fresh.items() if slot not in self.marks.blurred}
+        self.marks.blurred.update(fresh)
+        return bool(fresh)
+
+    def widen(self, answer, address):
+        """A number that is too wide for an address: a test in front of its addition, the named one or the last."""
+        lost = answer.lost()
+        named = self.labels.get(lost.slot) if lost else None
+        added = [
+            (atom.copy, atom.place)
+            for atom in address.atoms
+            if atom.name == ADDED and atom.copy.slot not in self.marks.wide
+        ]
+        chosen = [row for row in added if named and row[0] is named.copy] or added[-1:]
+        if not chosen:
+            return False
+        here, register = chosen[0]
+        positive = bool(named) and here is named.copy and lost.span is not None and lost.span[1] <= MOST_POSITIVE
+        self.marks.wide[here.slot] = Wide(register, positive)
+        return True
+
+    def limit(self, address):
+        """A distance that is the sum of several numbers, and all that it is made of: tests where they are stored."""
+        stored = {}
+        for row in self.addresses.stored.values():
+            for atom, made_of in row:
+                stored.setdefault(atom, []).extend(more for more in made_of.atoms if more.name == KEPT)
+        found, todo = set(), [atom for atom in address.atoms if atom.name == KEPT]
+        while todo:
+            atom = todo.pop()
+            if atom.copy.key not in found:
+                found.add(atom.copy.key)
+                todo += stored.get(atom, [])
+        fresh = not found <= self.marks.limited
+        self.marks.limited |= found
+        return fresh
+
+    def restart(self, here, register):
+        """An address behind so many numbers that their sum may lie far behind any packet: it was compared with the
+        packet's end, and is made anew from its distance there."""
+        if (here.key, register) in self.marks.restarts:
+            return False
+        self.marks.restarts.add((here.key, register))
+        self.marks.limited.add(here.key)
+        return True
+
+    def tell_apart(self, answer):
+        """A number of few values that is added to an address of the stack or of a map's value: a copy for each."""
+        lost = answer.lost()
+        label = self.labels.get(lost.slot) if lost else None
+        if label is None or label.copy is None or lost.was not in ("fp", "map_value"):
+            return False
+        if lost.was == "map_value" and not self.marks.values:
+            self.marks.values = True
+            return True
+        if lost.register is None or label.slot in self.marks.cases:
+            return False
+        numbers = masked(self.code, label.slot, lost.register)
+        if not numbers and lost.span:
+            numbers = range(lost.span[0], lost.span[1] + 1)
+        if not 0 < len(numbers) <= MOST_CASES:
+            return False
+        self.marks.cases[label.slot] = Cases(lost.register, tuple(numbers))
+        return True
+
+    def tell_trips_apart(self, slot):
+        """A loop that runs as often as a masked number says, as over the words of a header: a copy for each number."""
+        for mask in masks_that_steer(self.code, slot):
+            numbers = parts_of(self.code[mask].immediate)
+            if numbers and mask + 1 not in self.marks.cases:
+                self.marks.cases[mask + 1] = Cases(self.code[mask].destination, tuple(numbers))
+                return True
+        return False
+
+
+def masked(code, slot, register):
+    """What a number can be that was masked by a constant, and maybe shifted, just before a slot; else nothing."""
+    behind = []
+    while slot - 1 in code:
+        slot -= 1
+        instruction = code[slot]
+        if register not in writes(instruction):
+            if not (instruction.is_arithmetic or instruction.is_load):
+                return ()
+        elif instruction.kind != ALU64 or instruction.by_register or instruction.operation not in (AND, LSH, RSH):
+            return ()
+        elif instruction.operation == AND and instruction.immediate > 0:
+            return [after_shifts(number, behind) for number in parts_of(instruction.immediate)]
+        else:
+            behind.append(instruction)
+    return ()
+
+
+def parts_of(mask):
+    """The numbers that have no bit but those of a mask, of masks with few bits."""
+    if mask <= 0 or bin(mask).count("1") > MOST_CASE_BITS:
+        return ()
+    numbers = [0]
+    for bit in range(mask.bit_length()):
+        numbers += [number | 1 << bit for number in numbers] if mask >> bit & 1 else []
+    return numbers
+
+
+def after_shifts(number, shifts):
+    """A number behind these instructions, of which the last comes first."""
+    for instruction in reversed(shifts):
+        number = compute(instruction, number, instruction.immediate)
+    return number
+
+
+def searches(settings, xdpbox, faults):
+    """What the searches find, the smaller of two programs first. The next two begin only where nobody took one of
+    these. Why a search found none is added to the faults."""
+    for numbers in (STEERING, IN_LOOPS, EVERYWHERE):
+        found = []
+        for by_slot in (False, True):
+            try:
+                found.append(Search(settings, xdpbox, numbers, by_slot).run())
+            except Fail as fail:
+                faults.append(fail)
+        yield from sorted(found, key=lambda result: len(result.words))

@@ -1,0 +1,55 @@
+"""Settings: the program that they hold, and settings with another program. docs/SETTINGS.md has the format."""
+import struct
+
+from .instructions import FAR_JUMP, JUMP, WIDE_LOAD, Instruction
+
+
+def instructions_of(settings):
+    """The instructions of a program by their slots."""
+    data = bytes.fromhex("".join(settings["program"]))
+    maps = {row["slot"]: row["map"] for row in settings.get("reloc", [])}
+    code, slot = {}, 0
+    while 8 * slot + 8 <= len(data):
+        opcode, registers, offset, immediate = struct.unpack_from("<BBhi", data, 8 * slot)
+        if opcode == FAR_JUMP:  # the near one, for all that is asked here
+            opcode, offset, immediate = JUMP, immediate, 0
+        upper = None
+        if opcode == WIDE_LOAD and 8 * slot + 16 <= len(data):
+            (upper,) = struct.unpack_from("<i", data, 8 * slot + 12)
+        fields = registers & 15, registers >> 4, offset, immediate, upper, maps.get(slot)
+        code[slot] = Instruction(opcode, *fields)
+        slot += code[slot].slots
+    return code
+
+
+def relocations_of(settings):
+    """The relocations of settings, as (slot, map)."""
+    return [(row["slot"], row["map"]) for row in settings.get("reloc", [])]
+
+
+def text_of(settings, words, relocations):
+    """Settings with this program, its relocations, and the maps of these settings."""
+    lines = ["program = [", *(f'  "{word}",' for word in words), "]"]
+    for row in settings.get("map", []):
+        lines += ["", "[[map]]", f'name = "{row["name"]}"', f"entries = {row['entries']}"]
+        if row.get("counters", 1) != 1:
+            lines.append(f"counters = {row['counters']}")
+    for slot, name in relocations:
+        lines += ["", "[[reloc]]", f"slot = {slot}", f'map = "{name}"']
+    return "\n".join(lines) + "\n"
+
+
+def as_text(settings):
+    """The program, the maps and the relocations of settings: what a verdict depends on."""
+    return text_of(settings, settings["program"], relocations_of(settings))
+
+
+def whole_text_of(settings, words, relocations):
+    """Settings with this program and all else that these settings have."""
+    lines = [f"{key} = {settings[key]}" for key in ("queues", "ifindex", "start", "script") if key in settings]
+    packets = []
+    for row in settings.get("packet", []):
+        packets += ["", "[[packet]]", f"queue = {row['queue']}", f'bytes = "{row["bytes"]}"']
+        packets += [f"times = {row['times']}"] if "times" in row else []
+    parts = ["\n".join([*lines, ""]) if lines else "", text_of(settings, words, relocations)]
+    return "".join([*parts, "\n".join([*packets, ""]) if packets else ""])

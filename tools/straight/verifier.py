@@ -1,0 +1,46 @@
+"""What the verifier says of a program: `xdpbox explain`, and what its words mean."""
+import re
+import subprocess
+from dataclasses import dataclass
+from typing import NamedTuple, Optional
+
+
+class Lost(NamedTuple):
+    """Of a refused access: where its register was an address last, and what was known of the number added there."""
+
+    was: str  # pkt, fp or map_value
+    slot: int
+    register: Optional[int]  # that of the number
+    span: Optional[tuple]  # of the number, from and to
+
+
+@dataclass
+class Verdict:
+    words: str
+    cause: Optional[str] = None  # of a refusal
+    slot: Optional[int] = None
+
+    @property
+    def accepted(self):
+        return self.cause is None and re.search(r"^accepted, ", self.words, re.M) is not None
+
+    @property
+    def too_many_notes(self):
+        """Whether it says that more ways meet there than it keeps apart."""
+        return re.search(r"is an address on \d+ of the eight notes", self.words) is not None
+
+    def lost(self):
+        """What is said of an address that became a number."""
+        found = re.search(r"^ *R\d+ was ([a-z_]+)\S* before (\d+)(?: with R(\d+)=([^\s:]+))?", self.words, re.M)
+        if not found:
+            return None
+        span = re.search(r"umin=(\d+),umax=(\d+)", found[4] or "")
+        register = int(found[3]) if found[3] else None
+        return Lost(found[1], int(found[2]), register, (int(span[1]), int(span[2])) if span else None)
+
+
+def verdict(xdpbox, settings):
+    """What `xdpbox explain` answers to settings as text."""
+    run = subprocess.run([xdpbox, "explain"], input=settings, capture_output=True, text=True, check=False)
+    refused = re.search(r"^refused (V\d+) at (\d+)", run.stdout, re.M)
+    return Verdict(run.stdout, refused[1], int(refused[2])) if refused else Verdict(run.stdout)

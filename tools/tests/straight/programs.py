@@ -1,0 +1,218 @@
+"""The smallest programs that need one transformation each, as settings."""
+from straight.instructions import (
+    ADD_CONSTANT,
+    ADD_REGISTER,
+    AND,
+    ALU64,
+    ATOMIC_DOUBLE,
+    CALL,
+    EXIT,
+    IF_ABOVE_REGISTER,
+    IF_EQUAL_CONSTANT,
+    JMP,
+    JNE,
+    LDX,
+    LOAD_DOUBLE,
+    LOAD_WORD,
+    LSH,
+    MOVE_CONSTANT,
+    MOVE_REGISTER,
+    ST,
+    STORE_DOUBLE,
+    SUB,
+    WIDE_LOAD,
+    Instruction,
+)
+
+LOAD_BYTE, LOAD_HALF, STORE_WORD_CONSTANT = LDX | 0x70, LDX | 0x68, ST | 0x60
+IF_NOT_CONSTANT, AND_CONSTANT, LSH_CONSTANT, SUB_CONSTANT = JMP | JNE, ALU64 | AND, ALU64 | LSH, ALU64 | SUB
+R0, R1, R2, R3, R4, R5, R6, R7, R8, R9, R10 = range(11)
+DATA, DATA_END, QUEUE = 0, 4, 16
+
+
+def settings(*instructions, entries=0, counters=1):
+    """Settings of a program, with one map where it has entries. Wide loads name it."""
+    slots, relocations = [], []
+    for fields in instructions:
+        instruction = Instruction(*fields)
+        if instruction.opcode == WIDE_LOAD:
+            instruction.upper = 0
+            relocations.append({"slot": len(slots), "map": "hits"})
+        slots += instruction.words()
+    maps = [{"name": "hits", "entries": entries, "counters": counters}] if entries else []
+    return {"program": slots, "map": maps, "reloc": relocations}
+
+
+START = [(LOAD_WORD, R2, R1, DATA), (LOAD_WORD, R3, R1, DATA_END)]
+PASS = [(MOVE_CONSTANT, R0, 0, 0, 2), (EXIT,)]
+
+
+def in_packet(count, beyond):
+    """r2 is the packet's start; where it has fewer bytes than that, control goes on `beyond` slots further."""
+    return [(MOVE_REGISTER, R4, R2), (ADD_CONSTANT, R4, 0, 0, count), (IF_ABOVE_REGISTER, R4, R3, beyond)]
+
+
+def lookup(*rest):
+    """r0 is a value of the map, or the rest is left out."""
+    return [
+        (STORE_WORD_CONSTANT, R10, 0, -4, 0),
+        (MOVE_REGISTER, R2, R10),
+        (ADD_CONSTANT, R2, 0, 0, -4),
+        (WIDE_LOAD, R1),
+        (CALL, 0, 0, 0, 1),
+        (IF_EQUAL_CONSTANT, R0, 0, len(rest), 0),
+        *rest,
+    ]
+
+
+# r0 = 0; five times: r0 += 2
+LOOP = settings(
+    (MOVE_CONSTANT, R0),
+    (MOVE_CONSTANT, R3),
+    (ADD_CONSTANT, R0, 0, 0, 2),
+    (ADD_CONSTANT, R3, 0, 0, 1),
+    (IF_NOT_CONSTANT, R3, 0, -3, 5),
+    (EXIT,),
+)
+# the same on the stack: the counter is spilled
+SPILLED_LOOP = settings(
+    (MOVE_CONSTANT, R0),
+    (MOVE_CONSTANT, R3),
+    (STORE_DOUBLE, R10, R3, -8),
+    (ADD_CONSTANT, R0, 0, 0, 2),
+    (LOAD_DOUBLE, R3, R10, -8),
+    (ADD_CONSTANT, R3, 0, 0, 1),
+    (STORE_DOUBLE, R10, R3, -8),
+    (IF_NOT_CONSTANT, R3, 0, -5, 5),
+    (EXIT,),
+)
+# as many times as the packet's first byte says
+ENDLESS = settings(
+    *START, *in_packet(1, 3), (LOAD_BYTE, R5, R2), (SUB_CONSTANT, R5, 0, 0, 1), (IF_NOT_CONSTANT, R5, 0, -2, 0), *PASS
+)
+# as many times as its two lowest bits say, and once more
+MASKED_LOOP = settings(
+    *START,
+    *in_packet(1, 5),
+    (LOAD_BYTE, R5, R2),
+    (AND_CONSTANT, R5, 0, 0, 3),
+    (ADD_CONSTANT, R5, 0, 0, 1),
+    (SUB_CONSTANT, R5, 0, 0, 1),
+    (IF_NOT_CONSTANT, R5, 0, -2, 0),
+    *PASS
+)
+# a walk of twelve steps of one byte or two: r2 += 1 or 2, and each step is compared with the packet's end
+WALK = settings(
+    *START,
+    (MOVE_CONSTANT, R6),
+    *in_packet(1, 6),
+    (LOAD_BYTE, R5, R2),
+    (ADD_CONSTANT, R2, 0, 0, 1),
+    (IF_NOT_CONSTANT, R5, 0, 1, 7),
+    (ADD_CONSTANT, R2, 0, 0, 1),
+    (ADD_CONSTANT, R6, 0, 0, 1),
+    (IF_NOT_CONSTANT, R6, 0, -9, 12),
+    *PASS
+)
+# the same, each step as long as its first byte says
+LONG_WALK = settings(
+    *START,
+    (MOVE_CONSTANT, R6),
+    *in_packet(1, 6),
+    (LOAD_BYTE, R5, R2),
+    (ADD_CONSTANT, R2, 0, 0, 1),
+    (IF_NOT_CONSTANT, R5, 0, 1, 7),
+    (ADD_REGISTER, R2, R5),
+    (ADD_CONSTANT, R6, 0, 0, 1),
+    (IF_NOT_CONSTANT, R6, 0, -9, 12),
+    *PASS
+)
+# twenty steps, each as long as two bytes of the packet say: the verifier can't know that the sum is within a packet
+FAR_WALK = settings(
+    *START,
+    (MOVE_CONSTANT, R6),
+    *in_packet(2, 4),
+    (LOAD_HALF, R5, R2),
+    (ADD_REGISTER, R2, R5),
+    (ADD_CONSTANT, R6, 0, 0, 1),
+    (IF_NOT_CONSTANT, R6, 0, -7, 20),
+    *PASS,
+)
+# twelve steps, each as long as a byte says, or 1 where that is 0: the number is a constant on one of two ways
+CONSTANT_ON_SOME_WAYS = settings(
+    *START,
+    (MOVE_CONSTANT, R6),
+    *in_packet(1, 6),
+    (LOAD_BYTE, R5, R2),
+    (IF_NOT_CONSTANT, R5, 0, 1, 0),
+    (MOVE_CONSTANT, R5, 0, 0, 1),
+    (ADD_REGISTER, R2, R5),
+    (ADD_CONSTANT, R6, 0, 0, 1),
+    (IF_NOT_CONSTANT, R6, 0, -9, 12),
+    *PASS,
+)
+# a word of the packet is added to an address
+WIDE_NUMBER = settings(
+    *START,
+    *in_packet(4, 6),
+    (LOAD_WORD, R5, R2),
+    (ADD_REGISTER, R2, R5),
+    (MOVE_REGISTER, R4, R2),
+    (ADD_CONSTANT, R4, 0, 0, 1),
+    (IF_ABOVE_REGISTER, R4, R3, 1),
+    (LOAD_BYTE, R5, R2),
+    *PASS
+)
+# one of four bytes of the stack
+STACK_INDEX = settings(
+    (STORE_WORD_CONSTANT, R10, 0, -4, 0x03010002),
+    (LOAD_WORD, R3, R1, QUEUE),
+    (AND_CONSTANT, R3, 0, 0, 3),
+    (MOVE_REGISTER, R2, R10),
+    (ADD_CONSTANT, R2, 0, 0, -4),
+    (ADD_REGISTER, R2, R3),
+    (LOAD_BYTE, R0, R2),
+    (EXIT,),
+)
+# one of four counters of a value
+COUNTER_INDEX = settings(
+    (LOAD_WORD, R6, R1, QUEUE),
+    *lookup(
+        (AND_CONSTANT, R6, 0, 0, 3),
+        (LSH_CONSTANT, R6, 0, 0, 3),
+        (ADD_REGISTER, R0, R6),
+        (MOVE_CONSTANT, R1, 0, 0, 1),
+        (ATOMIC_DOUBLE, R0, R1),
+    ),
+    *PASS,
+    entries=1,
+    counters=4
+)
+COUNT = settings(*lookup((LOAD_DOUBLE, R1, R0), (ADD_CONSTANT, R1, 0, 0, 3), (STORE_DOUBLE, R0, R1)), *PASS, entries=1)
+# r1 += r1: the counter is doubled, which is no addition of a number
+DOUBLED = settings(*lookup((LOAD_DOUBLE, R1, R0), (ADD_REGISTER, R1, R1), (STORE_DOUBLE, R0, R1)), *PASS, entries=1)
+# what was counted is the answer
+COUNT_READ = settings(
+    *lookup(
+        (LOAD_DOUBLE, R6, R0), (ADD_CONSTANT, R6, 0, 0, 1), (STORE_DOUBLE, R0, R6), (MOVE_REGISTER, R0, R6), (EXIT,)
+    ),
+    *PASS,
+    entries=1
+)
+UNCHECKED = settings(*START, (LOAD_BYTE, R5, R2), *PASS)
+# nine numbers are added or not, and the end of all was compared with the packet's end before
+COVERED = settings(
+    *START,
+    *in_packet(47, 2 * 9 + 4),
+    (LOAD_BYTE, R5, R2),
+    *[
+        fields
+        for number in range(9)
+        for fields in [(IF_NOT_CONSTANT, R5, 0, 1, number), (ADD_CONSTANT, R2, 0, 0, number + 1)]
+    ],
+    (LOAD_BYTE, R5, R2),
+    (MOVE_CONSTANT, R0, 0, 0, 1),
+    (EXIT,),
+    *PASS
+)
+ACCEPTED = settings(*PASS)
