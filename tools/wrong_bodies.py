@@ -5,8 +5,6 @@ An edit is a text of lines `file: PATH`, `old: TEXT`, `new: TEXT`, each text on 
 changes."""
 import dataclasses
 import enum
-import importlib.machinery
-import importlib.util
 import os
 import re
 import shutil
@@ -16,16 +14,6 @@ import tempfile
 import time
 
 sys.dont_write_bytecode = True
-
-
-def kit():
-    """The kit's own command as a module: it knows the words with which a crate is checked."""
-    path = os.path.realpath(shutil.which(os.environ.get("RT", "rt")))
-    loader = importlib.machinery.SourceFileLoader("rt_of_kit", path)
-    module = importlib.util.module_from_spec(importlib.util.spec_from_loader(loader.name, loader))
-    sys.modules[loader.name] = module
-    loader.exec_module(module)
-    return module.rtlib
 
 
 class Outcome(enum.Enum):
