@@ -119,16 +119,15 @@ def prepare(edit, folder):
 
 
 def changed_functions(edit, folder):
-    """The functions whose bodies change; none where a change is in no function."""
+    """The functions whose bodies change; none where no change is in a function. An import that comes with a change has none."""
     found = []
     for it in edit.changes:
         if not it.file.startswith("src/"):
             return []
         text = text_of(folder, it.file)
         name = function_at(it.file, text, text.find(it.old))
-        if name is None:
-            return []
-        found += [name] if name not in found else []
+        if name is not None and name not in found:
+            found.append(name)
     return found
 
 
