@@ -16,9 +16,6 @@ use Rattle.bpf_insn.specs.declared.size.Size.TheVariants.{Byte, Half, Word, Doub
 first_op : (a f : Fields) (bs fs : List Fields) → a ∷ bs ≡ f ∷ fs → a.op ≡ f.op
 first_op a f bs fs h = let e : a ≡ f = cc in ap (λ (x : Fields). x.op) e
 
-plain_slot : ℕ → Fields
-plain_slot op = slot op 0 0 (pos 0) (pos 0)
-
 -- what the opcode of a spelling spells
 Known : ℕ → Type 0
 Known op = (op ≡ 0x18) ⊎ (IsSpelled (slot op 0 0 (pos 0) (pos 0)) ⊎ IsSpelled (slot op 0 0 (pos 0) (pos 16)))

@@ -59,9 +59,6 @@ all_more : (xs : List Insn) (x : Insn) → AllByRecursion HasSpelling xs → Has
 all_more [] x h k = (k, tt)
 all_more (y ∷ ys) x h k = (h.0, all_more ys x h.1 k)
 
-pub no_progress : (bytes : List ℕ) → Progress bytes [] bytes
-no_progress bytes = record { front = []; spelled = tt; taken = refl; written = refl; counted = omega arith }
-
 pub more_progress : (bytes : List ℕ) (insns : List Insn) (rest : List ℕ) (i : Insn) → Progress bytes insns rest → HasSpelling i → rest ≡ spelling i ++ drop (8 * length (takes i)) rest →
     Progress bytes (insns ++ takes i) (drop (8 * length (takes i)) rest)
 more_progress bytes insns rest i p has front = record {
@@ -111,24 +108,11 @@ reaches bytes insns rest pc p e = record { front = p.front; spelled = p.spelled;
 pub stopped : (bytes : List ℕ) (insns : List Insn) (rest : List ℕ) (r : Refusal) → HasLength bytes → Progress bytes insns rest → r.pc ≡ length insns → Stops rest r.cause → IsNoCode bytes r
 stopped bytes insns rest r len p e s = inl (inr (len, record { rest = rest; reached = reaches bytes insns rest r.pc p e; stops = s }))
 
-pub ran_out : (bytes : List ℕ) (insns : List Insn) (rest : List ℕ) (r : Refusal) → HasLength bytes → Progress bytes insns rest → r.pc ≡ length insns → r.cause ≡ Memory → rest ≢ [] → IsNoCode bytes r
-ran_out bytes insns rest r len p e c some = inr (c, record { length = len; rest = rest; reached = reaches bytes insns rest r.pc p e; some = some })
-
-pub not_empty : (rest : List ℕ) → 8 ≤ length rest → rest ≢ []
-not_empty [] h = absurd (omega arith)
-not_empty (x ∷ xs) h = λ e. cc
-
-pub bad_length : (bytes : List ℕ) (r : Refusal) → (HasLength bytes → ⊥) → r.cause ≡ BadLength → r.pc ≡ 0 → IsNoCode bytes r
-bad_length bytes r h c p = inl (inl (h, c, p))
-
 -- the same, of the slots counted alone
 pub record Counted (bytes : List ℕ) (rest : List ℕ) (pc : ℕ) : Type 0 where
   pub insns : List Insn
   pub progress : Progress bytes insns rest
   pub counted : pc ≡ length insns
-
-pub no_count : (bytes : List ℕ) → Counted bytes bytes 0
-no_count bytes = record { insns = []; progress = no_progress bytes; counted = refl }
 
 pub more_count : (bytes rest : List ℕ) (pc : ℕ) (i : Insn) → Counted bytes rest pc → HasSpelling i → rest ≡ spelling i ++ drop (8 * length (takes i)) rest →
     Counted bytes (drop (8 * length (takes i)) rest) (pc + length (takes i))
@@ -137,9 +121,6 @@ more_count bytes rest pc i k has front = record {
   progress = more_progress bytes k.insns rest i k.progress has front;
   counted = omega (arith, k.counted, length-append k.insns (takes i));
 }
-
-pub refused_there : (bytes rest : List ℕ) (pc : ℕ) (r : Refusal) → HasLength bytes → Counted bytes rest pc → r.pc ≡ pc → Stops rest r.cause → IsRefused bytes r.cause r.pc
-refused_there bytes rest pc r len k e s = inr (len, record { rest = rest; reached = reaches bytes k.insns rest r.pc k.progress (e ∙ k.counted); stops = s })
 
 pub all_counted : (bytes rest : List ℕ) (pc : ℕ) → HasLength bytes → Counted bytes rest pc → length rest ≡ 0 → (code : List Insn) × Spells code bytes
 all_counted bytes rest pc len k h = (k.insns, all_read bytes k.insns rest len k.progress h)

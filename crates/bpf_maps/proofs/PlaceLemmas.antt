@@ -38,14 +38,6 @@ word_within ss m k j h = let r = within ss m k j h in omega arith
 pub one_place : (ss : List Shape) (m k j m' k' j' : ℕ) → IsCounter ss m k j → IsCounter ss m' k' j' → word_of ss m k j ≡ word_of ss m' k' j' → (m ≡ m') × (k ≡ k') × (j ≡ j')
 one_place ss m k j m' k' j' a b e = apart ss m k j m' k' j' a b (omega arith)
 
--- the counters of the maps before
-pub total_more : (ss : List Shape) (i : ℕ) (d : Shape) → i < length ss → total (take (i + 1) ss) ≡ total (take i ss) + size (get_or ss i d)
-total_more [] i d h = absurd (omega arith)
-total_more (s ∷ ss) zero d h = let z : total (take (0 + 1) (s ∷ ss)) ≡ size s + 0 = refl in omega arith
-total_more (s ∷ ss) (suc i) d h = let r = total_more ss i d (omega arith) in
-    let e : take (suc i + 1) (s ∷ ss) ≡ s ∷ take (i + 1) ss = (let n : suc i + 1 ≡ suc (i + 1) = omega arith in ap (λ (x : ℕ). take x (s ∷ ss)) n) in
-    let f : total (take (suc i + 1) (s ∷ ss)) ≡ size s + total (take (i + 1) ss) = ap total e in omega arith
-
 pub place_is : (ss : List Shape) (m k j : ℕ) (d : Shape) → IsCounter ss m k j → (m < length ss) × (k < (get_or ss m d).entries) × (j < (get_or ss m d).counters) × (place_of ss m k j ≡ total (take m ss) + ((get_or ss m d).counters * k + j))
 place_is [] m k j d h = absurd h
 place_is (s ∷ ss) zero k j d h = (omega arith, h.0, h.1, omega arith)

@@ -27,16 +27,6 @@ parts None r x e = absurd (cc)
 parts (Some b) None x e = absurd (cc)
 parts (Some b) (Some y) x e = (b, y, refl, refl)
 
--- each byte of a number in memory is set
-pub byte_of_word : (f : ℕ → Option ℕ) (i z x k : ℕ) → word_at f i z ≡ Some x → k < z → (b : ℕ) × (f (i + k) ≡ Some b)
-byte_of_word f i zero x k e lt = absurd (omega arith)
-byte_of_word f i (suc z) x zero e lt = let h = parts (f i) (word_at f (i + 1) z) x e in let at : i + 0 ≡ i = omega arith in (h.0, ap f at ∙ h.2)
-byte_of_word f i (suc z) x (suc k) e lt =
-    let h = parts (f i) (word_at f (i + 1) z) x e in
-    let r = byte_of_word f (i + 1) z h.1 k h.3 (omega arith) in
-    let at : i + suc k ≡ i + 1 + k = omega arith in
-    (r.0, ap f at ∙ r.1)
-
 pub any_number : (w : Meaning) (x : ℕ) → x < 2 ^ 64 → IsReading w full x
 any_number w x h = (omega arith, omega arith)
 

@@ -31,12 +31,6 @@ pub counter_in_number : (s : Shape) (m n at : ℕ) → at ≡ 8 * n → n < s.co
 counter_in_number s m n at e h =
     chosen _ _ _ (is_number at n (s.counters * s.entries) e h) ∙ ap (λ x. InCounter m (x / s.counters) (x % s.counters)) (eighth at n e)
 
-pub map_of_address : (m r : ℕ) → r < 0x10000 → (values_start + 0x10000 * m + r - values_start) / 0x10000 ≡ m
-map_of_address m r h = omega arith
-
-pub rest_of_address : (m r : ℕ) → r < 0x10000 → (values_start + 0x10000 * m + r - values_start) % 0x10000 ≡ r
-rest_of_address m r h = omega arith
-
 pub packet_reached : (len : ℕ) (shapes : List Shape) (a z i : ℕ) → region len shapes a z ≡ InPacket i → i + z ≤ len
 unfolding region
 packet_reached len shapes a z i e = grind (arith, nat_tests)

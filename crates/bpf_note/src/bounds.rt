@@ -131,7 +131,7 @@ pub(crate) fn join_bounds(alloc: Global, a: &[Bound], b: &[Bound]) -> Result<Vec
     requires b { IsNormal b.now }
     ensures { IfOk result (λ c. AreJoined a.now b.now c.items) }
 {
-    let mut joined = Vec::new(alloc);
+    let mut joined = Vec::with_capacity(alloc, a.len().max(b.len()))?;
     let mut i = 0;
     let mut j = 0;
     while i < a.len() && j < b.len() {

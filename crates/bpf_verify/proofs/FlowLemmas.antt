@@ -12,7 +12,7 @@ use Rattle.bpf_verify.specs.Paths.{Reaches}
 use Rattle.bpf_verify.specs.Paths as paths
 use Rattle.bpf_verify.specs.FirstRefusal.{IsStructured}
 use Rattle.bpf_verify.specs.Unwritten.{Reached, start, along}
-use Rattle.bpf_verify.proofs.CodeLemmas.{first_begins, next_begins}
+use Rattle.bpf_verify.proofs.CodeLemmas.{next_begins}
 use Rattle.bpf_verify.proofs.CycleLemmas.{one_more}
 use Rattle.bpf_verify.proofs.GraphLemmas.{Falls, Jumps, way, lands_of, next_inside}
 
@@ -43,10 +43,6 @@ edge_begins code maps pc q i laid h e l =
 
 pub structured_edge : (code : List Insn) (maps pc q : ℕ) (i : Insn) → IsCode code → IsStructured code maps → slice_get code pc ≡ Some i → Leads i pc q → Edge code pc q
 structured_edge code maps pc q i laid h e l = record { insn = i; here = e; leads = l; lands = edge_begins code maps pc q i laid h e l }
-
-pub reached_begins : {q : ℕ} (code : List Insn) (maps : ℕ) → IsCode code → IsStructured code maps → Reached code q → begins (slice_get code q) ≡ true
-reached_begins code maps laid h start = first_begins code laid
-reached_begins code maps laid h (along p q i r at l) = edge_begins code maps p q i laid h at l
 
 pub reached_flows : (code : List Insn) (maps : ℕ) {q : ℕ} → IsCode code → IsStructured code maps → Reached code q → Flows code 0 q
 reached_flows code maps laid h start = paths.here

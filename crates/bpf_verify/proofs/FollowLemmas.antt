@@ -47,9 +47,6 @@ pub record IsFollowing (code : List Insn) (shapes : List Shape) (pc i : ℕ) (ol
   pub takes : TakesMemory code shapes pc (drop i (old pc)) → TakesMemory code shapes pc (old pc)
   pub first : (c : Cause) (n : Facts) → IsFirstRefused code shapes pc (drop i (old pc)) c n → IsFirstRefused code shapes pc (old pc) c n
 
-pub following_first : (code : List Insn) (shapes : List Shape) (pc : ℕ) (old new : ℕ → List Facts) → ((q : ℕ) → q ≢ pc → new q ≡ old q) → IsFollowing code shapes pc 0 old new
-following_first code shapes pc old new same = record { rest = λ q other r h. subst (λ (ns : List Facts). Hears ns q (told code shapes pc (old pc)) r) (same q other) h; allowed = λ h. h; takes = λ h. h; first = λ c n h. h }
-
 module _ (code : List Insn) (shapes : List Shape) (pc i : ℕ) (old new : ℕ → List Facts) (f : IsFollowing code shapes pc i old new) (n : Facts) (at : slice_get (old pc) i ≡ Some n) where
   told_split : (es : Edges) → rule_at code shapes pc n ≡ Ok es → told code shapes pc (drop i (old pc)) ≡ es ++ told code shapes pc (drop (i + 1) (old pc))
   told_split es e =

@@ -138,26 +138,3 @@ takes_within {In = In} (more {taken = taken} {p = c} t ready low) q at = elim (C
   | inl old ↦ takes_within t q old
   | inr new ↦ subst In (sym (the_one c q new)) ready.within
 ]
-
-at_place : (xs : List ℕ) (k q : ℕ) → slice_index_or xs k q ≡ q → k < length xs → get_or xs k 0 ≡ q
-at_place [] k q e low = absurd (omega arith)
-at_place (x ∷ xs) zero q e low = e
-at_place (x ∷ xs) (suc k) q e low = at_place xs k q e (omega arith)
-
--- what leads to a slot of the order stands before it
-pub pred_before : {Edge : ℕ → ℕ → Type 0} {In : ℕ → Type 0} {xs : List ℕ} → Takes Edge In xs → (i p : ℕ) → i < length xs → In p → Edge p (get_or xs i 0) → (j : ℕ) × (j < i) × (get_or xs j 0 ≡ p)
-pred_before none i p low on e = absurd (omega arith)
-pred_before {Edge = Edge} (more {taken = taken} {p = c} t ready first) i p low on e =
-    let len = last_length taken c in
-    elim (cases_lt i (length taken)) [
-      | inl old ↦
-          let at : get_or (taken ++ c ∷ []) i 0 ≡ get_or taken i 0 = get_or_append_left taken (c ∷ []) 0 i old in
-          let r = pred_before t i p old on (subst (Edge p) at e) in
-          (r.0, r.1, get_or_append_left taken (c ∷ []) 0 r.0 (let l = r.1 in omega (arith, l)) ∙ r.2)
-      | inr h ↦
-          let last : i ≡ length taken = omega (arith, len) in
-          let at : get_or (taken ++ c ∷ []) i 0 ≡ c = ap (λ (k : ℕ). get_or (taken ++ c ∷ []) k 0) last ∙ get_or-append_seam taken c [] 0 in
-          let r = ready.preds p on (subst (Edge p) at e) in
-          let l = r.1 in
-          (r.0, omega (arith, l, last), get_or_append_left taken (c ∷ []) 0 r.0 l ∙ at_place taken r.0 p r.2 l)
-    ]

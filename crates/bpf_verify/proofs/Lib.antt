@@ -25,3 +25,4 @@ mod AnswerLemmas
 mod ComeLemmas
 mod JoinedLemmas
 mod LostLemmas
+mod FlatLemmas

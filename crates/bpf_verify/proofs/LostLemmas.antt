@@ -1,6 +1,6 @@
 -- Where a register was an address last.
-use Rattle.std.proofs.Common.{◌≡◌, ◌<◌, ◌≤◌, ◌+◌, get_or, ℕ, zero, suc, List, [], ◌∷◌, Option, Some, None, length, refl, sym, ◌∙◌, arith, subst, true, false, inl, inr}
-use Rattle.std.specs.Prelude.{◌↔◌, Bool, IsTrue, slice_get, Ok, Err}
+use Rattle.std.proofs.Common.{◌≡◌, ◌<◌, ◌+◌, get_or, ℕ, List, Option, Some, None, refl, sym, ◌∙◌, arith, subst, true, inl, inr}
+use Rattle.std.specs.Prelude.{◌↔◌, Bool, IsTrue, Ok, Err}
 use Rattle.std.proofs.lemmas.Bool.{cases_order, cases_lt}
 use Rattle.bpf_insn.specs.declared.insn.Insn.{Insn}
 use Rattle.bpf_insn.specs.declared.insn.Insn.TheVariants.{Alu, Neg, End, MovSx, Const, MapRef, Ldx, St, Stx, AddCounter, Ja, Jump, Call, Exit, Second}
@@ -15,11 +15,6 @@ use Rattle.bpf_note.specs.Shape.{Shape}
 use Rattle.bpf_verify.specs.Gathered.{rule_at}
 use Rattle.bpf_verify.specs.Lost.{is_address, MakesNumber, writes_by, IsLastWrite, Loses}
 use Rattle.bpf_verify.specs.Tables.{IsMet}
-
-pub writes_outside : (code : List Insn) (q k : ℕ) → length code ≤ q → writes_by (slice_get code q) k ≡ false
-writes_outside [] q k h = refl
-writes_outside (i ∷ is) zero k h = absurd (omega arith)
-writes_outside (i ∷ is) (suc q) k h = writes_outside is q k (omega arith)
 
 pub writes_begins : (o : Option Insn) (k : ℕ) → writes_by o k ≡ true → begins o ≡ true
 writes_begins None k h = absurd (cc)

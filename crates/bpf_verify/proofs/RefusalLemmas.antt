@@ -10,33 +10,11 @@ use Rattle.bpf_note.specs.Facts.{Facts}
 use Rattle.bpf_flow.specs.Causes.{IsRuleCause}
 use Rattle.bpf_flow.proofs.CauseLemmas.{rule_causes}
 use Rattle.bpf_verify.specs.Structure.{begins}
-use Rattle.bpf_verify.specs.FirstRefusal.{IsStructured, IsStructureRefusal, IsStopped, IsHalted, ReadsUnset, IsSecondRefusal, IsRefusal, at_start, in_search, in_notes}
+use Rattle.bpf_verify.specs.FirstRefusal.{IsStructured, IsStopped, IsHalted, ReadsUnset, IsSecondRefusal, IsRefusal, at_start, in_notes}
 use Rattle.bpf_verify.specs.Gathered.{rule_by, rule_at, IsFirstCause}
 use Rattle.bpf_verify.proofs.FollowLemmas.{ruled_at}
 use Rattle.bpf_verify.proofs.LawLemmas.{takes_within}
 use Rattle.bpf_verify.proofs.PassingLemmas.{flows_begins}
-
-pub fault_refusal : (code : List Insn) (shapes : List Shape) (pc : ℕ) (cause : Cause) → IsStructureRefusal code (length shapes) pc cause → IsRefusal code shapes cause pc
-fault_refusal code shapes pc Memory (inl first) = at_start first
-fault_refusal code shapes pc Memory (inr s) = in_search s
-fault_refusal code shapes pc Length f = absurd f.fault
-fault_refusal code shapes pc Opcode f = absurd f.fault
-fault_refusal code shapes pc Register f = absurd f.fault
-fault_refusal code shapes pc Target f = f
-fault_refusal code shapes pc BackJump f = f
-fault_refusal code shapes pc End f = f
-fault_refusal code shapes pc Unset f = absurd f.fault
-fault_refusal code shapes pc FramePointer f = absurd f.fault
-fault_refusal code shapes pc NoPointer f = absurd f.fault
-fault_refusal code shapes pc Packet f = absurd f.fault
-fault_refusal code shapes pc Stack f = absurd f.fault
-fault_refusal code shapes pc Context f = absurd f.fault
-fault_refusal code shapes pc MayBeNull f = absurd f.fault
-fault_refusal code shapes pc MapAccess f = absurd f.fault
-fault_refusal code shapes pc Helper f = absurd f.fault
-fault_refusal code shapes pc MapNumber f = f
-fault_refusal code shapes pc Argument f = absurd f.fault
-fault_refusal code shapes pc Unsupported f = absurd f.fault
 
 in_middle : (xs ys : List ℕ) (p : ℕ) → Contains (xs ++ p ∷ ys) p
 in_middle [] ys p = (0, omega arith, refl)

@@ -183,11 +183,6 @@ flow_stands : {code : List Insn} {p q : ℕ} → Flows code p q → Stands code 
 flow_stands here s = s
 flow_stands (along e l) s = (edge_stands _ _ _ e).1
 
--- and a path from an instruction leads to an instruction
-pub flow_ends : {code : List Insn} {p q : ℕ} → Flows code p q → Stands code p → Stands code q
-flow_ends here s = s
-flow_ends (along e l) s = flow_ends l (edge_stands _ _ _ e).0
-
 jump_begins : (i : Insn) (off : ℤ) → jump_of i ≡ Some off → begins (Some i) ≡ true
 jump_begins (Ja wide_offset to) off j = refl
 jump_begins (Jump cond wide dst src o) off j = refl

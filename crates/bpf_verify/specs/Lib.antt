@@ -12,3 +12,4 @@ pub mod Tables
 pub mod FirstRefusal
 pub mod Joined
 pub mod Lost
+pub mod Flat

@@ -1,6 +1,7 @@
 //! The verifier: which programs are accepted, and with what notes.
 #![tactic(auto)]
 
+mod flat;
 mod graph;
 mod joined;
 mod laws;
@@ -16,6 +17,7 @@ mod wanting;
 
 pub use bpf_insn::{Cause, Refusal};
 pub use bpf_note::MapShape;
+pub use flat::FlatInsn;
 pub use graph::{pass_order, pass_order_is_unique, pass_order_rises, runs_are_short};
 pub use joined::joined_at;
 pub use laws::{faultless_programs_are_accepted, refusals_are_unique};

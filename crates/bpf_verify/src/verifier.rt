@@ -5,8 +5,10 @@ ghost use Rattle.bpf_note.specs.Parts.{facts};
 ghost use Rattle.bpf_note.specs.Shape.{AreShapes};
 ghost use Rattle.bpf_flow.specs.Causes.{IsRuleCause};
 ghost use Rattle.bpf_verify.specs.Consistent.{IsConsistent, IsOrdered};
+ghost use Rattle.bpf_verify.specs.Flat.{AreFlat};
 ghost use Rattle.bpf_verify.specs.FirstRefusal.{IsRefusal, IsFaultless, IsStoppedBy, IsStructured};
 
+use crate::flat::{FlatInsn, flats_of};
 use crate::notes::second_pass;
 use crate::stopped::Stopped;
 use crate::structure::first_fault;
@@ -14,7 +16,7 @@ use crate::verified::Verified;
 use crate::wanting::wanting;
 use bpf_insn::{Code, Insn, Refusal};
 use bpf_note::{MapShape, Note};
-use std::alloc::Global;
+use std::alloc::{AllocError, Global};
 
 /// Every shape is within the limits. A law, empty at run time.
 fn are_shapes(shapes: &[MapShape])
@@ -25,11 +27,29 @@ fn are_shapes(shapes: &[MapShape])
     }
 }
 
-/// Both passes. Gives a copy of the maps.
-fn both_passes(alloc: Global, code: &[Insn], shapes: &[MapShape]) -> Result<Vec<MapShape>, Stopped>
+/// A copy of a program's maps, and its flat form.
+#[derive(Drop)]
+struct Kept {
+    shapes: Vec<MapShape>,
+    flats: Vec<FlatInsn>,
+}
+
+fn to_keep(alloc: Global, code: &[Insn], shapes: &[MapShape]) -> Result<Kept, AllocError>
+    ensures maps { IfOk result (λ k. k.shapes.items ≡ shapes.now) }
+    ensures flats { IfOk result (λ k. AreFlat k.flats.items code.now) }
+{
+    Ok(Kept {
+        shapes: shapes.to_vec(alloc)?,
+        flats: flats_of(alloc, code)?,
+    })
+}
+
+/// Both passes. Gives what an accepted program keeps beside its code.
+fn both_passes(alloc: Global, code: &[Insn], shapes: &[MapShape]) -> Result<Kept, Stopped>
     requires laid { IsCode code.now }
     requires few { length shapes.now ≤ 4 }
-    ensures maps { IfOk result (λ v. v.items ≡ shapes.now) }
+    ensures maps { IfOk result (λ k. k.shapes.items ≡ shapes.now) }
+    ensures flats { IfOk result (λ k. AreFlat k.flats.items code.now) }
     ensures consistent { IfOk result (λ _. IsConsistent (record { code = code.now; shapes = shapes.now })) }
     ensures faultless { IfOk result (λ _. IsFaultless code.now shapes.now) }
     ensures refused { IfErr result (λ s. IsRefusal code.now shapes.now s.refusal.cause s.refusal.pc) }
@@ -38,8 +58,8 @@ fn both_passes(alloc: Global, code: &[Insn], shapes: &[MapShape]) -> Result<Vec<
     ensures structured { IfErr result (λ s. IfSome s.note (λ _. IsStructured code.now (length shapes.now))) }
     ensures ordered { IfErr result (λ s. IfSome s.note (λ _. IsOrdered code.now)) }
 {
-    let maps = match shapes.to_vec(alloc) {
-        Ok(maps) => maps,
+    let kept = match to_keep(alloc, code, shapes) {
+        Ok(kept) => kept,
         Err(error) => return Err(Stopped::from(wanting(error, 0))),
     };
     are_shapes(shapes);
@@ -47,7 +67,7 @@ fn both_passes(alloc: Global, code: &[Insn], shapes: &[MapShape]) -> Result<Vec<
         return Err(Stopped::from(refusal));
     }
     second_pass(alloc, code, shapes)?;
-    Ok(maps)
+    Ok(kept)
 }
 
 /// A refused program: its code, the refusal, and the note that the rule refuses. There is a note for V7 to V15 and V17, no
@@ -74,7 +94,7 @@ pub fn explain(alloc: Global, code: Code, shapes: &[MapShape]) -> Result<Verifie
     ensures ordered { IfErr result (λ e. IfSome e.note (λ _. IsOrdered e.code)) }
 {
     match both_passes(alloc, code.insns(), shapes) {
-        Ok(maps) => Ok(Verified::of(code, maps)),
+        Ok(Kept { shapes, flats }) => Ok(Verified::of(code, shapes, flats)),
         Err(Stopped { refusal, note }) => Err(Explained {
             code,
             refusal,

@@ -12,3 +12,4 @@ mod AdvanceLemmas
 mod WalkLemmas
 mod OperandLemmas
 mod ExitLemmas
+mod PassLemmas

@@ -4,6 +4,7 @@ pub mod Run
 pub mod Stands
 pub mod Wants
 pub mod Turns
+pub mod Passes
 pub mod Course
 pub mod Actions
 pub mod Advance

@@ -1,6 +1,13 @@
 ghost use Rattle.std.specs.Prelude.{◌≡◌};
 ghost use Rattle.bpf_vm.specs.Actions.{action_of, action_name};
 
+/// The number of DROP, as `XDP_DROP` of bpf.h.
+pub const XDP_DROP: u32 = 1;
+/// The number of PASS, as `XDP_PASS` of bpf.h.
+pub const XDP_PASS: u32 = 2;
+/// The number of TX, as `XDP_TX` of bpf.h.
+pub const XDP_TX: u32 = 3;
+
 /// What becomes of a packet: the actions of XDP (Linux's uapi/linux/bpf.h, `enum xdp_action`).
 #[derive(Clone, Copy, Debug, PartialEq, Eq, Drop)]
 pub enum Action {
@@ -20,9 +27,9 @@ impl Action {
         ensures { result ≡ action_of number }
     {
         match number {
-            1 => Action::Drop,
-            2 => Action::Pass,
-            3 => Action::Tx,
+            XDP_DROP => Action::Drop,
+            XDP_PASS => Action::Pass,
+            XDP_TX => Action::Tx,
             _ => Action::Aborted,
         }
     }

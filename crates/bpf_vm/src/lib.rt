@@ -6,6 +6,7 @@ mod buffer;
 mod bytes;
 mod ended;
 mod execute;
+mod flow;
 mod laws;
 mod machine;
 mod memory;
@@ -16,7 +17,7 @@ mod turn;
 mod vm;
 mod want;
 
-pub use action::Action;
+pub use action::{Action, XDP_DROP, XDP_PASS, XDP_TX};
 pub use buffer::Buffer;
 pub use ended::Ended;
 pub use laws::accepted_programs_end;

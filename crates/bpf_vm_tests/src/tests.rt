@@ -2,6 +2,7 @@ mod actions;
 mod beginnings;
 mod ends;
 mod far;
+mod flat;
 mod flow;
 mod full;
 mod growth;

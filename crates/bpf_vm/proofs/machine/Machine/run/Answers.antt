@@ -1,89 +1,41 @@
-use Rattle.std.proofs.Common.{◌≡◌, ◌<◌, ℕ, List, Some, length, arith, ap, subst, sym, ◌∙◌}
-use Rattle.std.specs.Prelude.{slice_get}
-use Rattle.bpf_insn.specs.declared.insn.Insn.{Insn}
+use Rattle.std.proofs.Common.{◌+◌, arith, sym, subst}
 use Rattle.bpf_vm.specs.Advance.{Advanced}
-use Rattle.bpf_vm.specs.Wants.{Waits}
+use Rattle.bpf_vm.specs.Stands.{running_of}
 use Rattle.bpf_vm.specs.declared.machine.Machine.{Machine}
-use Rattle.bpf_vm.specs.Stands.{IsRunning, running_of, now}
-use Rattle.bpf_vm.proofs.RunLemmas.{inside_of, few_instructions, counted_below}
-use Rattle.bpf_vm.proofs.MachineLemmas.{own_of, here, fine_here}
-use Rattle.bpf_vm.proofs.AdvanceLemmas.{advanced_here, advanced_after, waits_of}
-use Rattle.bpf_vm.proofs.AfterLemmas.{after_step}
+use Rattle.bpf_vm.proofs.RunLemmas.{few_instructions}
+use Rattle.bpf_vm.proofs.AdvanceLemmas.{advanced_here}
+use Rattle.bpf_vm.proofs.PassLemmas.{advanced_on}
 use Rattle.bpf_vm.proofs.machine.Machine.run.Goals as goal
 
 pub loop-to-init : goal.loop-to-init
 loop-to-init c = record { maps = c.requires.maps; running = c.requires.running; advanced = advanced_here (running_of c.args.program.now c.args.pc c.args.self.now c.args.count) }
 
--- what stands in a list at a slot stands there in the same list
-same_at : (l k : List Insn) (at : ℕ) (i : Insn) → l ≡ k → slice_get l at ≡ Some i → slice_get k at ≡ Some i
-same_at l k at i e h = subst (λ (x : List Insn). slice_get x at ≡ Some i) e h
-
-pub insn_at-requires : goal.insn_at-requires
-insn_at-requires c =
-    let r = c.loop-to.invariant.running in
-    let inside = inside_of c.args.program.now (own_of c.args.program.now c.loop-to.at c.loop-to.self) r.consistent r.described in
-    subst (λ (l : List Insn). c.loop-to.at < length l) (sym c.insns-insns.ensures.same) inside
-
-pub turn-requires-clause-small : goal.turn-requires-clause-small
-turn-requires-clause-small c =
-    let r = c.loop-to.invariant.running in
-    let inside = inside_of c.args.program.now (own_of c.args.program.now c.loop-to.at c.loop-to.self) r.consistent r.described in
-    omega (arith, inside, r.consistent.laid_out.short)
-
-pub turn-requires-clause-fine : goal.turn-requires-clause-fine
-turn-requires-clause-fine c =
-    let i = c.loop-to.invariant in
-    fine_here c.args.program.now c.loop-to.at c.loop-to.self c.insn_at.result.now i.running.consistent i.maps (same_at c.insns-insns.result.now c.args.program.now.code c.loop-to.at c.insn_at.result.now c.insns-insns.ensures.same c.insn_at.ensures) i.running.described
-
-pub are_numbers-requires-clause-few : goal.are_numbers-requires-clause-few
-are_numbers-requires-clause-few c =
-    let i = c.loop-to.invariant in
-    (after_step c.args.program.now c.loop-to.at c.loop-to.self c.in-Goes.to c.turn.new.self i.running.consistent i.maps (same_at c.insns-insns.result.now c.args.program.now.code c.loop-to.at c.insn_at.result.now c.insns-insns.ensures.same c.insn_at.ensures) i.running c.in-Goes.ensures.turn c.in-Goes.ensures.room).few
-
-pub are_numbers-requires-clause-shapes : goal.are_numbers-requires-clause-shapes
-are_numbers-requires-clause-shapes c =
-    let i = c.loop-to.invariant in
-    (after_step c.args.program.now c.loop-to.at c.loop-to.self c.in-Goes.to c.turn.new.self i.running.consistent i.maps (same_at c.insns-insns.result.now c.args.program.now.code c.loop-to.at c.insn_at.result.now c.insns-insns.ensures.same c.insn_at.ensures) i.running c.in-Goes.ensures.turn c.in-Goes.ensures.room).maps
-
 pub overflow_add-done : goal.overflow_add-done
 overflow_add-done c =
-    let k = c.loop-to.invariant.running.consistent in
-    let count = counted_below _ k c.loop-to.invariant.running in
-    omega (arith, count, few_instructions c.args.program.now.code, k.laid_out.short)
+    let bound = c.in-Goes.ensures.2.bound in
+    omega (arith, bound, few_instructions c.args.program.now.code, c.requires.running.consistent.laid_out.short)
 
-pub loop-to-smaller : goal.loop-to-smaller
-loop-to-smaller c =
-    let count = counted_below _ c.loop-to.invariant.running.consistent c.loop-to.invariant.running in
-    omega (arith, count)
+pub overflow_add-done-in-Goes-pass : goal.overflow_add-done-in-Goes-pass
+overflow_add-done-in-Goes-pass c =
+    let bound = c.in-Goes-pass.ensures.2.bound in
+    omega (arith, bound, few_instructions c.args.program.now.code, c.requires.running.consistent.laid_out.short)
 
 pub loop-to-preserved : goal.loop-to-preserved
 loop-to-preserved c =
-    let i = c.loop-to.invariant in
     let p = c.args.program.now in
-    let after = after_step p c.loop-to.at c.loop-to.self c.in-Goes.to c.turn.new.self i.running.consistent i.maps (same_at c.insns-insns.result.now c.args.program.now.code c.loop-to.at c.insn_at.result.now c.insns-insns.ensures.same c.insn_at.ensures) i.running c.in-Goes.ensures.turn c.in-Goes.ensures.room in
-    let st = c.are_numbers.ensures c.in-Goes.to in
+    let i = c.loop-to.invariant in
+    let one = c.in-Goes.ensures in
+    let two = c.in-Goes-pass.ensures in
+    let first = advanced_on p c.args.pc c.args.self.now c.args.count c.loop-to.at c.loop-to.self c.loop-to.done c.in-Goes.to c.pass.new.self i.running i.advanced one.2 in
     record {
-      maps = after.shapes;
-      running = after.running st;
-      advanced = advanced_after p c.args.pc c.args.self.now c.args.count c.loop-to.at c.loop-to.self c.loop-to.done c.in-Goes.to c.turn.new.self i.running i.maps (same_at c.insns-insns.result.now c.args.program.now.code c.loop-to.at c.insn_at.result.now c.insns-insns.ensures.same c.insn_at.ensures) c.in-Goes.ensures.turn i.advanced (after.is_step st);
+      maps = two.0;
+      running = two.1;
+      advanced = advanced_on p c.args.pc c.args.self.now c.args.count c.in-Goes.to c.pass.new.self _ c.in-Goes-pass.to c.pass-in-loop-to.new.self one.1 first two.2;
     }
 
-pub returns-in-Waits-clause-maps : goal.returns-in-Waits-clause-maps
-returns-in-Waits-clause-maps c = ap (λ (m : Machine). m.shapes.now) c.in-Waits.ensures.turn.2 ∙ c.loop-to.invariant.maps
-
-pub returns-in-Waits-clause-running : goal.returns-in-Waits-clause-running
-returns-in-Waits-clause-running c =
-    subst (λ (m : Machine). IsRunning (running_of c.args.program.now c.loop-to.at m c.loop-to.done)) (sym c.in-Waits.ensures.turn.2) c.loop-to.invariant.running
-
-pub returns-in-Waits-clause-advanced : goal.returns-in-Waits-clause-advanced
-returns-in-Waits-clause-advanced c =
-    let p = c.args.program.now in
-    subst (λ (m : Machine). Advanced (running_of p c.args.pc c.args.self.now c.args.count) (running_of p c.loop-to.at m c.loop-to.done)) (sym c.in-Waits.ensures.turn.2) c.loop-to.invariant.advanced
-
-pub returns-in-Waits-clause-waits : goal.returns-in-Waits-clause-waits
-returns-in-Waits-clause-waits c =
+pub returns-in-Waits-pass-clause-advanced : goal.returns-in-Waits-pass-clause-advanced
+returns-in-Waits-pass-clause-advanced c =
     let p = c.args.program.now in
     let i = c.loop-to.invariant in
-    let t = c.in-Waits.ensures.turn in
-    let here_waits = subst Waits (here p c.loop-to.at c.loop-to.self c.insn_at.result.now i.running.consistent i.maps (same_at c.insns-insns.result.now c.args.program.now.code c.loop-to.at c.insn_at.result.now c.insns-insns.ensures.same c.insn_at.ensures)) (waits_of _ _ t.0 t.1) in
-    subst (λ (m : Machine). Waits (now (running_of p c.loop-to.at m c.loop-to.done))) (sym t.2) here_waits
+    let first = advanced_on p c.args.pc c.args.self.now c.args.count c.loop-to.at c.loop-to.self c.loop-to.done c.in-Goes.to c.pass.new.self i.running i.advanced c.in-Goes.ensures.2 in
+    subst (λ (m : Machine). Advanced (running_of p c.args.pc c.args.self.now c.args.count) (running_of p c.in-Goes.to m (c.loop-to.done + 1))) (sym c.in-Waits-pass.ensures.1) first
