@@ -11,6 +11,7 @@ use Rattle.xen_steps.specs.Finish.{Finishes, IsAsked}
 use Rattle.xen_steps.specs.Steps.{Steps, done, ask, never, bind, next, want_of}
 use Rattle.xen_steps.specs.declared.want.Want.{Want}
 use Rattle.xen_steps.specs.declared.want.Want.TheVariants as want
+use Rattle.xen_back.proofs.RestLemmas.{ready_rest as back_rest}
 use Rattle.xen_back.specs.Queues.{IsReady, rest, state_of, wiring_of}
 use Rattle.xen_back.specs.Tree.{Left, after_run, whole_turn}
 use Rattle.xen_back.specs.Turned.{Ending, Turned, Idle, Ran, Refused, Halted}
@@ -57,27 +58,27 @@ half_going_at w s None = tt
 half_going : (w : Wiring) (s : State) → IsHalfGoing (half_turn w s)
 half_going w s = half_going_at w s s.halt
 
-ready_rest : (w : Wiring) (q : Queue) (s : State) → IsReady q → wiring_of q ≡ w → state_of q ≡ s → rest q ≡ bind (half_turn w s) (second_half w s)
+ready_rest : (w : Wiring) (q : Queue) (s : State) → rest q ≡ whole_turn (wiring_of q) (state_of q) → wiring_of q ≡ w → state_of q ≡ s → rest q ≡ bind (half_turn w s) (second_half w s)
 ready_rest w q s r e f = r ∙ ap (λ x. whole_turn x (state_of q)) e ∙ ap (λ x. whole_turn w x) f ∙ sym (halves w s)
 
 -- the next turn begins, or the back sleeps
 next_shows : (w : Wiring) (q : Queue) (s : State) (u : Turned) (k : Kept) → Keeps u k → IsReady q → wiring_of q ≡ w → state_of q ≡ s → BackShows w q (is_idle (Some k)) (next_at w s u) s
-next_shows w q s Idle kept.Idle h r e f = (refl, r, f)
+next_shows w q s Idle kept.Idle h r e f = (refl, back_rest q r, f)
 next_shows w q s Idle (kept.Ran a n p o l) h r e f = absurd h
 next_shows w q s Idle (kept.Refused c o l) h r e f = absurd h
 next_shows w q s Idle (kept.Halted c) h r e f = absurd h
 next_shows w q s (Ran n p o l) kept.Idle h r e f = absurd h
-next_shows w q s (Ran n p o l) (kept.Ran a n' p' o' l') h r e f = (refl, ready_rest w q s r e f, half_going w s, f)
+next_shows w q s (Ran n p o l) (kept.Ran a n' p' o' l') h r e f = (refl, ready_rest w q s (back_rest q r) e f, half_going w s, f)
 next_shows w q s (Ran n p o l) (kept.Refused c o' l') h r e f = absurd h
 next_shows w q s (Ran n p o l) (kept.Halted c) h r e f = absurd h
 next_shows w q s (Refused c o l) kept.Idle h r e f = absurd h
 next_shows w q s (Refused c o l) (kept.Ran a n' p' o' l') h r e f = absurd h
-next_shows w q s (Refused c o l) (kept.Refused c' o' l') h r e f = (refl, ready_rest w q s r e f, half_going w s, f)
+next_shows w q s (Refused c o l) (kept.Refused c' o' l') h r e f = (refl, ready_rest w q s (back_rest q r) e f, half_going w s, f)
 next_shows w q s (Refused c o l) (kept.Halted c') h r e f = absurd h
 next_shows w q s (Halted c) kept.Idle h r e f = absurd h
 next_shows w q s (Halted c) (kept.Ran a n' p' o' l') h r e f = absurd h
 next_shows w q s (Halted c) (kept.Refused c' o' l') h r e f = absurd h
-next_shows w q s (Halted c) (kept.Halted c') h r e f = (refl, ready_rest w q s r e f, half_going w s, f)
+next_shows w q s (Halted c) (kept.Halted c') h r e f = (refl, ready_rest w q s (back_rest q r) e f, half_going w s, f)
 
 kept_more : (ps : List Past) (ks : List Kept) (p : Past) (k : Kept) → AllKept ps ks → Keeps p.turn k → AllKept (ps ++ p ∷ []) (ks ++ k ∷ [])
 kept_more [] [] p k a h = (h, tt)

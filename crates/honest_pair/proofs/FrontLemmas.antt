@@ -18,8 +18,8 @@ use Rattle.xen_front.specs.Slots.{pieces_of, post_writes, send_writes}
 use Rattle.xen_front.specs.Tree.{flown, poll, post, publish, send}
 use Rattle.xen_steps.specs.Places.{add32}
 use Rattle.xen_front.specs.declared.front.Front.{Front}
-use Rattle.xen_front.specs.declared.phase.Phase.{Phase}
-use Rattle.xen_front.specs.declared.phase.Phase.TheVariants as phase
+use Rattle.xen_front.specs.declared.by_event.phase.Phase.{Phase}
+use Rattle.xen_front.specs.declared.by_event.phase.Phase.TheVariants as phase
 use Rattle.xen_front.specs.declared.state.State.{State}
 use Rattle.xen_front.specs.declared.turn.Halt.{Halt}
 use Rattle.xen_front.specs.declared.turn.PollRefusal.{PollRefusal}
@@ -104,15 +104,6 @@ asks_on : (f : Front) (v : Want) (c : ℕ → Steps Ending) → rest f ≡ ask v
 asks_on f v c e d =
     let b : Bounded (IsPageWant f.wiring.frames) Any (ask v c) 17000 = subst (λ x. Bounded (IsPageWant f.wiring.frames) Any x 17000) e (short_opened f.wiring f.state f.sent f.received f.phase f.short) in
     subst (IsPageWant f.wiring.frames) d b.1
-
-pub held_front : (v : Want) (frames : ℕ) → (v ≢ want.Done → IsPageWant frames v) → frames ≡ 531 → WantsHeld v
-held_front (want.Read at) n h e = let w = h (λ x. cc) in (omega (arith, w.0, e), w.1)
-held_front (want.Write at x) n h e = let w = h (λ x. cc) in (omega (arith, w.0, e), w.1)
-held_front want.Instr n h e = tt
-held_front (want.Load m k j) n h e = tt
-held_front (want.Add m k j d) n h e = tt
-held_front (want.Notify port) n h e = tt
-held_front want.Done n h e = tt
 
 -- the pair where the front alone moves
 module _ (old new : Held) (world : new.world ≡ old.world) (asleep : new.asleep ≡ old.asleep) where

@@ -3,7 +3,8 @@ use Rattle.std.specs.Prelude.{ℕ, ◌≡◌, ◌<◌, ◌^◌, ◌++◌, Bool, 
 use Rattle.std.specs.Global.{Vec}
 use Rattle.xen_steps.specs.Event.{Event}
 use Rattle.xen_steps.specs.Steps.{Steps, done, ask, never, bind}
-use Rattle.xen_back.specs.Queues.{IsReady, rest, state_of, wiring_of}
+use Rattle.xen_back.specs.Queues.{rest, state_of, wiring_of}
+use Rattle.xen_back.specs.Tree.{whole_turn}
 use Rattle.xen_back.specs.declared.queue.Queue.{Queue}
 use Rattle.xen_back.specs.declared.state.State.{State as BackState}
 use Rattle.xen_back.specs.declared.wiring.Wiring.{Wiring as BackWiring}
@@ -47,7 +48,7 @@ FrontShows f (Posting t) s = (front_rest f ≡ t) × IsGoing t
 FrontShows f (Polling t) s = (front_rest f ≡ t) × IsGoing t
 
 abbrev pub BackShows : BackWiring → Queue → Bool → BackAt → BackState → Type 0
-BackShows w q asleep Asleep s = (asleep ≡ true) × IsReady q × (state_of q ≡ s)
+BackShows w q asleep Asleep s = (asleep ≡ true) × (rest q ≡ whole_turn (wiring_of q) (state_of q)) × (state_of q ≡ s)
 BackShows w q asleep (First t) s = (asleep ≡ false) × (rest q ≡ bind t (second_half w s)) × IsHalfGoing t × (state_of q ≡ s)
 BackShows w q asleep (Second packet left t) s = (asleep ≡ false) × (rest q ≡ t) × IsGoing t × (state_of q ≡ s)
 

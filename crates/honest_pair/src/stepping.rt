@@ -5,7 +5,7 @@ ghost use Rattle.xen_front.specs.Fronts.{rest as front_rest};
 ghost use Rattle.pair_machine.specs.Pair.{BackStep, FrontStep, Poll, Post, Send};
 ghost use Rattle.xen_steps.specs.Steps.{want_of};
 ghost use Rattle.honest_pair.specs.Events.{event_in};
-ghost use Rattle.honest_pair.specs.Shows.{Does, Received, is_idle as is_idle_lem};
+ghost use Rattle.honest_pair.specs.Shows.{Does, Received, is_idle as is_idle_spec};
 
 use crate::event::PairEvent;
 use crate::pair::Pair;
@@ -17,7 +17,7 @@ use xen_page::Table;
 
 /// Whether this turn is there and is idle.
 fn is_idle(turns: &[Kept], at: usize) -> bool
-    ensures { result ≡ is_idle_lem (slice_get turns.now at) }
+    ensures { result ≡ is_idle_spec (slice_get turns.now at) }
 {
     match turns.get(at) {
         Some(Kept::Idle) => true,

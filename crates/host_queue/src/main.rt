@@ -2,7 +2,7 @@
 #![tactic(auto)]
 
 ghost use Rattle.std.specs.Prelude.{◌≡◌, IfOk, length};
-ghost use Rattle.xen_back.specs.Queues.{IsReady, IsResting, IsSameWiring, wiring_of};
+ghost use Rattle.xen_back.specs.Queues.{IsReady, IsSameWiring, wiring_of};
 ghost use Rattle.xen_page.specs.Table.{IsTable};
 
 mod bus;
@@ -51,7 +51,6 @@ fn queue<'p, 'b>(
     requires table { IsTable owners.now 1 table.now }
     requires frames { length owners.now ≡ 5 }
     ensures ready { IfOk result IsReady }
-    ensures resting { IfOk result IsResting }
     ensures owners { IfOk result (λ q. (wiring_of q).vif.owners.now ≡ owners.now) }
     ensures program { IfOk result (λ q. (wiring_of q).program.now ≡ program.now) }
 {
@@ -77,9 +76,9 @@ fn answer(
     pages: &mut Pages,
     ports: &Ports,
 ) -> io::Result<()>
-    requires resting { IsResting queue.old }
+    requires ready { IsReady queue.old }
     requires frames { length (wiring_of queue.old).vif.owners.now ≡ 5 }
-    ensures resting { IsResting queue.new }
+    ensures ready { IsReady queue.new }
     ensures same { IsSameWiring queue.old queue.new }
 {
     match queue.deliver(ANSWER, pages, ports) {

@@ -14,6 +14,7 @@ use Rattle.xdp_world.specs.Core.{begun, started_at}
 use Rattle.xdp_world.specs.Stands.{SoFar, kept_in}
 use Rattle.xdp_world.specs.declared.kept.Kept.{Kept}
 use Rattle.xdp_world.specs.declared.world.World.{World}
+use Rattle.xen_back.proofs.RestLemmas.{ready_rest}
 use Rattle.xdp_world.proofs.Worlds.{has_rest, open_by}
 
 -- the i-th of a list, which is there
@@ -27,16 +28,6 @@ any_or [] i d e h = absurd (omega (arith, h))
 any_or (x ∷ xs) zero d e h = refl
 any_or (x ∷ xs) (suc i) d e h = any_or xs i d e (omega (arith, h))
 
--- one more element
-pub get_last : {A : Type 0} (l : List A) (x d : A) → get_or (l ++ x ∷ []) (length l) d ≡ x
-get_last [] x d = refl
-get_last (y ∷ ys) x d = get_last ys x d
-
-pub get_before : {A : Type 0} (l : List A) (x d : A) (i : ℕ) → i < length l → get_or (l ++ x ∷ []) i d ≡ get_or l i d
-get_before [] x d i h = absurd (omega (arith, h))
-get_before (y ∷ ys) x d zero h = refl
-get_before (y ∷ ys) x d (suc i) h = get_before ys x d i (omega (arith, h))
-
 pub none_kept : (ts : List (Vec Kept)) (v : Vec Kept) → v.items ≡ [] → ((i : ℕ) → kept_in ts i ≡ []) → (i : ℕ) → kept_in (ts ++ v ∷ []) i ≡ []
 none_kept [] v e h zero = e
 none_kept [] v e h (suc i) = refl
@@ -45,7 +36,7 @@ none_kept (t ∷ ts) v e h (suc i) = none_kept ts v e (λ j. h (suc j)) i
 
 fresh_so_far : (accepted : Accepted) (queues index start i : ℕ) (w : Wiring) (q : Queue) (kept : List Kept) → IsFresh accepted queues index start i q → wiring_of q ≡ w → kept ≡ [] → SoFar w start [] kept q
 fresh_so_far accepted queues index start i w q kept f wired none =
-    let ready : rest q ≡ whole_turn w (state_of q) = f.ready ∙ ap (λ (x : Wiring). whole_turn x (state_of q)) wired in
+    let ready : rest q ≡ whole_turn w (state_of q) = ready_rest q f.ready ∙ ap (λ (x : Wiring). whole_turn x (state_of q)) wired in
     record {
       wired = wired;
       front = [];

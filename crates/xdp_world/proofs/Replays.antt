@@ -17,6 +17,7 @@ use Rattle.xen_back.specs.declared.queue.Queue.{Queue}
 use Rattle.xen_back.specs.declared.state.State.{State}
 use Rattle.xen_back.specs.declared.turn.Halt.{Halt}
 use Rattle.xen_back.specs.declared.wiring.Wiring.{Wiring}
+use Rattle.xen_back.proofs.RestLemmas.{ready_rest}
 use Rattle.xen_back.proofs.Bounds.{bounded_turn}
 use Rattle.xdp_world.specs.Entries.{Entry, Serves}
 use Rattle.xdp_world.specs.Happens.{Comes, Moved}
@@ -50,7 +51,7 @@ comes_enough most q q' m None b l w c = record {
 }
 comes_enough most q q' m (Some k) b l w c =
     let later : (s : State) → Bounded Anything Any (whole_turn (wiring_of q') s) most = λ s. subst (λ (x : Wiring). Bounded Anything Any (whole_turn x s) most) (sym w) (l s) in
-    record { now = subst (λ (x : Steps Ending). Bounded Anything Any x most) (sym c.3) (later (state_of q')); later = later }
+    record { now = subst (λ (x : Steps Ending). Bounded Anything Any x most) (sym (ready_rest q' c.3)) (later (state_of q')); later = later }
 
 -- a step leaves enough
 pub moved_enough : (most answer : ℕ) (q q' : Queue) (o : Option Event) → IsEnough most q → Moved answer q o q' → IsEnough most q'
@@ -70,7 +71,7 @@ pauses_whole w s (Some cause) = tt
 
 comes_near : (n : ℕ) (q q' : Queue) (m : Steps Ending) (k : Option Kept) → Bounded Anything Any m n → Comes q m q' k → IsNear n q'
 comes_near n q q' m None b c = inr (subst (λ (x : Steps Ending). Bounded Anything Any x n) (sym c.1) b)
-comes_near n q q' m (Some k) b c = inl (subst (λ (x : Steps Ending). Pauses (want_of x)) (sym c.3) (pauses_whole (wiring_of q') (state_of q') (state_of q').halt))
+comes_near n q q' m (Some k) b c = inl (subst (λ (x : Steps Ending). Pauses (want_of x)) (sym (ready_rest q' c.3)) (pauses_whole (wiring_of q') (state_of q') (state_of q').halt))
 
 -- a step that no read pauses leaves one event fewer
 pub moved_near : (n answer : ℕ) (q q' : Queue) (o : Option Event) → IsNear n q → (Pauses (want_of (rest q)) → ⊥) → Moved answer q o q' → IsNear (n - 1) q'

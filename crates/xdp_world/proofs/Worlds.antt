@@ -19,6 +19,7 @@ use Rattle.xen_back.specs.Tree.{unless_halted, whole_turn}
 use Rattle.xen_back.specs.Turned.{Ending, Turned}
 use Rattle.xen_back.specs.Turns.{IsTurn}
 use Rattle.xen_steps.proofs.DriveLemmas.{gone_more, runs_of_gone}
+use Rattle.xen_back.proofs.RestLemmas.{ready_rest}
 use Rattle.xen_back.proofs.TurnParts.{turn_parts}
 use Rattle.xen_back.specs.declared.queue.Queue.{Queue}
 use Rattle.xen_back.specs.declared.state.State.{State}
@@ -91,7 +92,7 @@ sofar_turn w start ev ks q q' e m u k h g d keeps r wi =
     let t = turns_event w (started_at start) ev ks (state_of q) h.front e h.joined in
     let j = turn_parts w (state_of q) (h.front ++ e ∷ []) (state_of q') u
     (runs_of_gone (whole_turn w (state_of q)) m (h.front ++ e ∷ []) (state_of q', u) (gone_more (whole_turn w (state_of q)) (rest q) m h.front e h.unfinished.gone g) d) in
-    let ready : rest q' ≡ whole_turn w (state_of q') = r ∙ ap (λ (x : Wiring). whole_turn x (state_of q')) (wi ∙ h.wired) in
+    let ready : rest q' ≡ whole_turn w (state_of q') = ready_rest q' r ∙ ap (λ (x : Wiring). whole_turn x (state_of q')) (wi ∙ h.wired) in
     record {
       wired = wi ∙ h.wired;
       front = [];

@@ -57,30 +57,6 @@ impl Layout {
         first_reference(queue) + 1
     }
 
-    /// The first of the [`BUFFERS`] references of a queue's buffers for packets that its front sends.
-    pub fn tx_buffers(queue: usize) -> u32
-        requires { queue < 8 }
-        ensures { result ≡ 514 * queue + 2 }
-    {
-        first_reference(queue) + 2
-    }
-
-    /// The first of the [`BUFFERS`] references of a queue's buffers for packets that come back.
-    pub fn rx_buffers(queue: usize) -> u32
-        requires { queue < 8 }
-        ensures { result ≡ 514 * queue + 258 }
-    {
-        first_reference(queue) + 2 + BUFFERS
-    }
-
-    /// The port on which a queue's front gets its notices.
-    pub fn front_port(queue: usize) -> Port
-        requires { queue < 8 }
-        ensures { result ≡ 2 * queue }
-    {
-        port(2 * queue as u32)
-    }
-
     /// The port on which a queue's back gets its notices.
     pub fn back_port(queue: usize) -> Port
         requires { queue < 8 }

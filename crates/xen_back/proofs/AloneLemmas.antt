@@ -36,23 +36,23 @@ use Rattle.xen_steps.specs.declared.want.Want.TheVariants as wants
 use Rattle.xen_transmit.specs.Places.{tx_slot, tx_word}
 use Rattle.xen_transmit.specs.Transmit.{transmit}
 use Rattle.xen_transmit.specs.Wired.{IsWired}
-use Rattle.xen_transmit.specs.declared.phase.Outcome.{Outcome}
+use Rattle.xen_transmit.specs.declared.by_event.phase.Outcome.{Outcome}
 use Rattle.xen_transmit.proofs.Bounds.{bounded_transmit}
 use Rattle.xen_transmit.proofs.StraightLemmas.{driven_bind}
 use Rattle.xen_back.specs.Drive.{Driven, label_of, labels}
 use Rattle.xen_back.specs.Program.{instructions_alone}
 use Rattle.xen_back.specs.Ran.{HasRunTo}
-use Rattle.xen_back.specs.Alone.{at_phase}
-use Rattle.xen_back.specs.Rest.{is_here, packet_at, rest_in, rest_of_slot}
-use Rattle.xen_back.specs.declared.phase.Phase.{Phase}
-use Rattle.xen_back.specs.declared.phase.Phase.TheVariants as phases
-use Rattle.xen_back.specs.declared.stage.Stage.{Stage}
-use Rattle.xen_back.specs.declared.stage.Stage.TheVariants as stages
-use Rattle.xen_back.specs.Tree.{Left, after_chain, after_copy, after_look, after_run, after_transmit, announce, answered, copy, look, notice, program, respond, response, seen, send, status_of, third, whole_turn}
+use Rattle.xen_back.specs.Rest.{at_phase, is_here, packet_at}
+use Rattle.xen_back.specs.declared.by_event.phase.Phase.{Phase}
+use Rattle.xen_back.specs.declared.by_event.phase.Phase.TheVariants as phases
+use Rattle.xen_back.specs.declared.by_event.stage.Stage.{Stage}
+use Rattle.xen_back.specs.declared.by_event.stage.Stage.TheVariants as stages
+use Rattle.xen_back.specs.Tree.{Left, after_scan, judged, read_slots, after_chain, after_copy, after_look, after_run, after_transmit, announce, answered, copy, look, notice, program, respond, response, seen, send, status_of, third, whole_turn}
 use Rattle.xen_back.specs.Turned.{Ending, Ran, Turned}
 use Rattle.xen_back.specs.declared.state.State.{State}
 use Rattle.xen_back.specs.declared.wiring.Wiring.{Wiring}
-use Rattle.xen_back.proofs.BulkLemmas.{IsFragmentRead, answer_on, denied_on, fragment_on, next_entry, push_on, rest_of_entry, slot_on}
+use Rattle.xen_back.proofs.BulkLemmas.{IsSlotRead, slot_on}
+use Rattle.xen_back.specs.InOneGo.{after_slot}
 use Rattle.xen_back.proofs.DriveLemmas.{alone_accesses, alone_labels, driven_append, driven_none, gone_alone, labels-append}
 use Rattle.xen_back.proofs.TurnRuns.{is_three, not_three}
 
@@ -109,51 +109,20 @@ goes_exit c r0 ops packet e f = rw e (0, (refl, refl), refl)
 pub alone_stands : (slot : Slot) → extra_info slot ≡ false → more_data slot ≡ false → standing (slot ∷ []) ≡ Some (Ok wanted.Complete)
 alone_stands slot p m = ap (λ b. after_extra 5 b (more_data slot) []) p ∙ ap (λ b. after_data 17 b []) m
 
--- before a lone fragment's entry, by its place
-abbrev pub before_entry : Wiring → State → List Slot → Fragment → Steps Ending
-before_entry w s chain f = bind (copy w (f ∷ []) []) (after_copy w s chain)
-
-pub at_entry : (w : Wiring) (s : State) (chain : List Slot) (f : Fragment) (at : Place) → entry_place w.vif.table.now f.gref ≡ Some at → before_entry w s chain f ≡ rest_of_entry w s chain (f ∷ []) 0 at []
-at_entry w s chain f at e = next_entry w s chain (f ∷ []) 0 at [] (omega arith) e
-
-pub denied_alone : {S : Type 0} (log : S → Option (List Access)) (gives : S → Access → S → Type 0) (w : Wiring) (s : State) (chain : List Slot) (f : Fragment) (at : Place) (a b : ℕ) (fault : GrantFault) (bus new : S) →
-    entry_place w.vif.table.now f.gref ≡ Some at → a < 2 ^ 32 → b < 2 ^ 32 → Performs log gives bus (access.Read at a ∷ access.Read (frame_place at) b ∷ []) new →
-    checked w.vif.owners.now w.vif.granter w.vif.user (entry_of a b) false ≡ Err fault → (t : List Event) × Driven log gives (before_entry w s chain f) (after_copy w s chain None) bus new [] [] t
-denied_alone log gives w s chain f at a b fault bus new e la lb p c =
-    let start = before_entry w s chain f in
-    let none : Driven log gives start (rest_of_entry w s chain (f ∷ []) 0 at []) bus bus [] [] [] =
-    subst (λ (q : Steps Ending). Driven log gives start q bus bus [] [] []) (at_entry w s chain f at e) (driven_none log gives start bus []) in
-    denied_on log gives w s chain (f ∷ []) 0 at [] a b fault start bus bus new [] none la lb p c
-
-pub fetched_alone : {S : Type 0} (log : S → Option (List Access)) (gives : S → Access → S → Type 0) (w : Wiring) (s : State) (chain : List Slot) (f : Fragment) (at : Place) (out : List ℕ) (a b frame : ℕ) (bus mid new : S) →
-    entry_place w.vif.table.now f.gref ≡ Some at → a < 2 ^ 32 → b < 2 ^ 32 → Performs log gives bus (access.Read at a ∷ access.Read (frame_place at) b ∷ []) mid →
-    checked w.vif.owners.now w.vif.granter w.vif.user (entry_of a b) false ≡ Ok frame → IsFragmentRead log gives frame f [] out mid new →
-    (t : List Event) × Driven log gives (before_entry w s chain f) (after_copy w s chain (Some out)) bus new [] [] t
-fetched_alone log gives w s chain f at out a b frame bus mid new e la lb p c r =
-    let start = before_entry w s chain f in
-    let none : Driven log gives start (rest_of_entry w s chain (f ∷ []) 0 at []) bus bus [] [] [] =
-    subst (λ (q : Steps Ending). Driven log gives start q bus bus [] [] []) (at_entry w s chain f at e) (driven_none log gives start bus []) in
-    fragment_on log gives w s chain (f ∷ []) 0 at [] out a b frame start bus bus mid new [] none la lb p c r
-
 -- a notice, if one is due
 pub notice_driven : {S : Type 0} (log : S → Option (List Access)) (gives : S → Access → S → Type 0) (w : Wiring) (is : Bool) (e : Ending) (bus : S) → (t : List Event) × Driven log gives (notice w is e) (done e) bus bus [] [] t
 notice_driven log gives w false e bus = ([], driven_none log gives (done e) bus [])
 notice_driven log gives w true e bus = (Notify w.vif.port ∷ [], record { gone = (done e, (0, (refl, refl), refl), refl); performed = performs_none log gives bus; grown = refl })
 
--- A slot is answered.
-pub answered_alone : {S : Type 0} (log : S → Option (List Access)) (gives : S → Access → S → Type 0) (w : Wiring) (s : State) (slot : Slot) (st : Status) (u : Turned) (word event : ℕ) (bus mid new : S) →
-    word ≡ response st (Some (tx_req_of slot)) → event < 2 ^ 32 → Performs log gives bus (access.Write (tx_slot w.vif (add32 s.tx_index 0) 0) word ∷ []) mid →
-    Performs log gives mid (access.Write (tx_word w.vif 2) (add32 s.tx_index 1) ∷ access.Read (tx_word w.vif 3) event ∷ []) new →
-    (t : List Event) × Driven log gives (respond w s (slot ∷ []) st u) (done (answered s 1, u)) bus new [] [] t
-answered_alone log gives w s slot st u word event bus mid new is l p q =
-    let rs : List ℕ = response st (Some (tx_req_of slot)) ∷ [] in
-    let e : Ending = (answered s 1, u) in
-    let start = respond w s (slot ∷ []) st u in
-    let first = subst (λ (v : ℕ). Performs log gives bus (access.Write (tx_slot w.vif (add32 s.tx_index 0) 0) v ∷ []) mid) is p in
-    let one = answer_on log gives w s.tx_index 1 0 rs e start bus bus mid [] (driven_none log gives start bus []) (omega arith) first in
-    let two = push_on log gives w s.tx_index 1 rs event e start bus mid new one.0 one.1 (omega arith) l q in
-    let last = notice_driven log gives w (is_due s.tx_index (add32 s.tx_index 1) event) e new in
-    (two.0 ++ last.0, driven_append log gives start (notice w (is_due s.tx_index (add32 s.tx_index 1) event) e) (done e) bus new new [] [] [] two.0 last.0 two.1 last.1)
+-- The next slot is read.
+pub first_read : {S : Type 0} (log : S → Option (List Access)) (gives : S → Access → S → Type 0) (w : Wiring) (s : State) (left : ℕ) (slot : Slot) (bus new : S) → IsSlotRead log gives w.vif.tx (add32 s.tx_index 0) slot bus new →
+    (t : List Event) × Driven log gives (after_look w s (Some (suc left))) (after_slot w s left [] slot) bus new [] [] t
+first_read log gives w s left slot bus new r =
+    slot_on log gives w s left [] (add32 s.tx_index 0) slot (standing (slot ∷ [])) (after_look w s (Some (suc left))) bus bus new [] (driven_none log gives (after_look w s (Some (suc left))) bus []) r refl
+
+-- and is a whole chain
+pub lone_after : (w : Wiring) (s : State) (left : ℕ) (slot : Slot) → extra_info slot ≡ false → more_data slot ≡ false → after_slot w s left [] slot ≡ after_chain w s (slot ∷ []) (fragments_of (slot ∷ []))
+lone_after w s left slot plain last = ap (λ o. bind (judged (slot ∷ []) o (read_slots w s.tx_index left (slot ∷ []))) (after_scan w s)) (alone_stands slot plain last)
 
 -- the program ran
 pub ran_driven : {S : Type 0} (log : S → Option (List Access)) (gives : S → Access → S → Type 0) (start : Steps Left) (out : Left) (f : Left → Steps Ending) (bus : S) (a b : List Op) (r : HasRunTo start (done out) a b) →
@@ -193,25 +162,6 @@ sent_driven log gives w s chain packet ops o bus new t h d =
     let all = driven_bind log gives start (done o) (after_transmit w s chain packet ops) bus new t d in
     record { gone = all.gone; performed = all.performed; grown = sym (labels_none (length w.vif.owners.now) 263684 Any start (done o) t (bounded_transmit w.vif h s.rx_index packet) d.gone) }
 
--- Two words of the next slot are read.
-pub two_read : {S : Type 0} (log : S → Option (List Access)) (gives : S → Access → S → Type 0) (w : Wiring) (s : State) (left a b : ℕ) (bus new : S) → a < 2 ^ 32 → b < 2 ^ 32 →
-    Performs log gives bus (access.Read (tx_slot w.vif (add32 s.tx_index 0) 0) a ∷ access.Read (tx_slot w.vif (add32 s.tx_index 0) 1) b ∷ []) new →
-    Driven log gives (after_look w s (Some (suc left))) (rest_of_slot w s left [] (third w (add32 s.tx_index 0) a b)) bus new [] []
-    (Read (tx_slot w.vif (add32 s.tx_index 0) 0) a ∷ Read (tx_slot w.vif (add32 s.tx_index 0) 1) b ∷ [])
-two_read log gives w s left a b bus new la lb p = record { gone = (_, (a, (la, refl), refl), (_, (b, (lb, refl), refl), refl)); performed = p; grown = refl }
-
--- The next slot is read, and is a whole chain.
-pub slot_alone_read : {S : Type 0} (log : S → Option (List Access)) (gives : S → Access → S → Type 0) (w : Wiring) (s : State) (left a b c : ℕ) (bus mid new : S) → a < 2 ^ 32 → b < 2 ^ 32 → c < 2 ^ 32 →
-    Performs log gives bus (access.Read (tx_slot w.vif (add32 s.tx_index 0) 0) a ∷ access.Read (tx_slot w.vif (add32 s.tx_index 0) 1) b ∷ []) mid →
-    Performs log gives mid (access.Read (tx_slot w.vif (add32 s.tx_index 0) 2) c ∷ []) new → extra_info (a ∷ b ∷ c ∷ []) ≡ false → more_data (a ∷ b ∷ c ∷ []) ≡ false →
-    (t : List Event) × Driven log gives (after_look w s (Some (suc left))) (after_chain w s ((a ∷ b ∷ c ∷ []) ∷ []) (fragments_of ((a ∷ b ∷ c ∷ []) ∷ []))) bus new [] [] t
-slot_alone_read log gives w s left a b c bus mid new la lb lc p q plain last =
-    let i = add32 s.tx_index 0 in
-    let start = after_look w s (Some (suc left)) in
-    let all = performs_then log gives bus mid new (access.Read (tx_slot w.vif i 0) a ∷ access.Read (tx_slot w.vif i 1) b ∷ []) (access.Read (tx_slot w.vif i 2) c ∷ []) p q in
-    slot_on log gives w s left [] i (a ∷ b ∷ c ∷ []) (Some (Ok wanted.Complete)) start bus bus new [] (driven_none log gives start bus [])
-    (a, b, c, la, lb, lc, refl, all) (alone_stands (a ∷ b ∷ c ∷ []) plain last)
-
 -- what the producer shows is looked at, unless that is nothing
 pub seen_else : (w : Wiring) (s : State) (o : Option ℕ) → o ≢ Some 0 → bind (seen w s.tx_index o) (after_look w s) ≡ after_look w s o
 seen_else w s None h = refl
@@ -247,15 +197,6 @@ pub look_again_read : {S : Type 0} (log : S → Option (List Access)) (gives : S
     Driven log gives (bind (announce w s.tx_index) (after_look w s)) (after_look w s (available s.tx_index p)) bus new [] [] (Write (tx_word w.vif 1) (add32 s.tx_index 1) ∷ Read (tx_word w.vif 0) p ∷ [])
 look_again_read log gives w s p bus new l q = record { gone = (_, (0, (refl, refl), refl), (_, (p, (l, refl), refl), refl)); performed = q; grown = refl }
 
-pub in_page_short : (f : Fragment) → IsTrue (is_in_page f) → f.size ≤ 65535
-in_page_short f h = by (nat_le (f.offset + f.size) 4096) refl h
-  where
-    by : (b : Bool) → nat_le (f.offset + f.size) 4096 ≡ b → IsTrue b → f.size ≤ 65535
-    by true e h =
-        let le : f.offset + f.size ≤ 4096 = grind (arith, nat_tests) in
-        omega (arith, le)
-    by false e h = cc
-
 pub here_at_phase : (g : Stage) (x : Phase) (new : Stage) → new ≡ at_phase g x → IsTrue (is_here g) → IsTrue (is_here new)
 here_at_phase g x new e h = subst (λ (q : Stage). IsTrue (is_here q)) (sym e) (by g h)
   where
@@ -279,6 +220,3 @@ packet_at_phase g x new e = by g ∙ sym (ap packet_at e)
     by (stages.Run a) = refl
     by (stages.Send p t) = refl
     by stages.Gone = refl
-
-pub ready_at_phase : (w : Wiring) (s : State) (g new : Stage) (p : List ℕ) (y : Phase) → g ≡ stages.At p y → new ≡ at_phase g phases.Ready → rest_in w s new ≡ whole_turn w s
-ready_at_phase w s g new p y e h = ap (λ (q : Stage). rest_in w s q) (h ∙ ap (λ (q : Stage). at_phase q phases.Ready) e)

@@ -5,7 +5,7 @@ use Rattle.xen_steps.specs.declared.want.Want.TheVariants as wants
 use Rattle.xen_steps.proofs.DriveLemmas.{bounded_wider}
 use Rattle.xen_transmit.proofs.Bounds.{IsThere, bounded_entry_at, bounded_transmit, frame_inside}
 use Rattle.xen_back.specs.Within.{IsWithin}
-use Rattle.std.proofs.Common.{◌≡◌, ℕ, zero, suc, ◌+◌, ◌-◌, ◌*◌, ◌/◌, ◌%◌, ◌<◌, ◌≤◌, ◌^◌, Bool, true, false, ◌&&◌, List, [], ◌∷◌, ◌++◌, Option, Some, None, Result, Ok, Err, refl, ◌∙◌, ap, length, arith, length-append, subst, nat_lt}
+use Rattle.std.proofs.Common.{◌≡◌, ℕ, zero, suc, ◌+◌, ◌-◌, ◌*◌, ◌/◌, ◌%◌, ◌<◌, ◌≤◌, ◌^◌, Bool, true, false, ◌&&◌, List, [], ◌∷◌, ◌++◌, Option, Some, None, Result, Ok, Err, refl, sym, ◌∙◌, ap, length, arith, length-append, subst, nat_lt}
 use Rattle.std.specs.Prelude.{if◌then◌else◌, ◌==◌}
 use Rattle.std.specs.List.{list_all}
 use Rattle.std.proofs.lemmas.Bool.Decides.{nat_tests}
@@ -17,6 +17,7 @@ use Rattle.bpf_flow.specs.Step.{Outcome as StepOutcome, Next, Loads, Adds, Exite
 use Rattle.bpf_note.specs.State.{State as Machine}
 use Rattle.bpf_insn.specs.declared.insn.Insn.{Insn}
 use Rattle.xen_netif.specs.Chain.{Slot, more_data, extra_info, is_known_extra, requests_of, requests_after}
+use Rattle.xen_netif.specs.declared.tx.TxReq.{TxReq}
 use Rattle.xen_netif.specs.Fragments.{fragments_of, is_in_page, split, slot_size}
 use Rattle.xen_netif.specs.Slots.{asks_extra}
 use Rattle.xen_netif.specs.Standing.{standing, after_data, after_extra}
@@ -40,8 +41,8 @@ use Rattle.xen_transmit.specs.Entries.{entry}
 use Rattle.xen_back.specs.Tree.{Left, Scan, look, seen, after_look, read_slot, read_slots, judged, after_scan, after_chain, after_copy, after_run, after_transmit, moved, send, answer, notice, respond, responses, answered, copy, entered, program, run_of, status_of, unless_halted, whole_turn}
 use Rattle.xen_steps.specs.Pages.{copy_words, covered}
 use Rattle.xen_transmit.specs.Transmit.{transmit}
-use Rattle.xen_transmit.specs.declared.phase.Outcome.{Outcome}
-use Rattle.xen_transmit.specs.declared.phase.Outcome.TheVariants as outcome
+use Rattle.xen_transmit.specs.declared.by_event.phase.Outcome.{Outcome}
+use Rattle.xen_transmit.specs.declared.by_event.phase.Outcome.TheVariants as outcome
 use Rattle.xen_back.specs.Turned.{Ending, Turned, Refused, Ran}
 use Rattle.xen_back.specs.declared.turn.Refusal.TheVariants as refusal
 use Rattle.xen_back.specs.declared.state.State.{State}
@@ -81,6 +82,10 @@ after_length false (s ∷ slots) = ap suc (after_length false slots)
 requests_length : (slots : List Slot) → length (requests_of slots) ≡ length slots
 requests_length [] = refl
 requests_length (s ∷ slots) = ap suc (after_length (extra_info s) slots)
+
+-- a chain's slots are as many as its requests
+pub requests_count : (slots : List Slot) (requests : List (Option TxReq)) → requests_of slots ≡ requests → length slots ≡ length requests
+requests_count slots requests h = sym (requests_length slots) ∙ ap length h
 
 pub responses_length : (st : Status) (slots : List Slot) → length (responses st slots) ≡ length slots
 responses_length st slots = length-map (requests_of slots) _ ∙ requests_length slots

@@ -1,5 +1,5 @@
 -- What a driver does in one go is what a turn asks, event by event.
-use Rattle.std.proofs.Common.{◌≡◌, ℕ, zero, suc, ◌+◌, ◌-◌, ◌/◌, ◌<◌, ◌≤◌, ◌^◌, ◌%◌, arith, drop, get_or, sum_by, length-take, length-append, false, List, [], ◌∷◌, ◌++◌, Option, Some, None, Result, Ok, Err, length, append-nil, append_assoc, refl, sym, ◌∙◌, ap, subst}
+use Rattle.std.proofs.Common.{◌≡◌, ℕ, zero, suc, ◌+◌, ◌-◌, ◌/◌, ◌<◌, ◌≤◌, ◌^◌, ◌%◌, Bool, arith, drop, get_or, sum_by, length-take, length-append, false, List, [], ◌∷◌, ◌++◌, Option, Some, None, Result, Ok, Err, length, append-nil, append_assoc, refl, sym, ◌∙◌, ap, subst}
 use Rattle.bpf_note.specs.Shape.{Shape}
 use Rattle.xen_netif.specs.Chain.{Slot}
 use Rattle.xen_netif.specs.Copy.{bytes_from, bytes_in, bytes_of, covered}
@@ -27,7 +27,9 @@ use Rattle.xen_steps.specs.Finish.{Finishes}
 use Rattle.xen_steps.specs.Places.{add32, page_word, tx_entry}
 use Rattle.xen_steps.specs.Steps.{Steps, ask, bind}
 use Rattle.xen_steps.specs.declared.want.Want.TheVariants as want
-use Rattle.xen_transmit.specs.Entries.{entry_at}
+use Rattle.xen_transmit.specs.Entries.{entry}
+use Rattle.xen_transmit.specs.Shared.{IsEntry, inside, outside}
+use Rattle.xen_transmit.proofs.StraightLemmas.{gone_bind, gone_entry}
 use Rattle.xen_transmit.specs.Places.{tx_slot, tx_word}
 use Rattle.xen_transmit.specs.Wired.{IsWired}
 use Rattle.xen_transmit.specs.declared.vif.Vif.{Vif}
@@ -47,20 +49,6 @@ use Rattle.xen_back.specs.declared.state.State.{State}
 use Rattle.xen_back.specs.declared.turn.Halt.TheVariants as halt
 use Rattle.xen_back.specs.declared.wiring.Wiring.{Wiring}
 
--- before the entry of the i-th fragment, which is at a place
-abbrev pub rest_of_entry : Wiring → State → List Slot → List Fragment → ℕ → Place → List ℕ → Steps Ending
-rest_of_entry w s chain fs i at bytes =
-    bind (bind (entry_at w.vif false (Some at)) (entered (fragment_at fs i) (copy w (drop (i + 1) fs)) bytes)) (after_copy w s chain)
-
--- What is wanted within the frames is words of the page.
-pub words_within : {A B : Type 0} (frames : ℕ) (shapes : List Shape) (f : Fragment) (frame place n : ℕ) (bytes : List ℕ) (k : List ℕ → Steps A) (g : A → Steps B) → 0 < n →
-    Finishes (IsWithin frames shapes) (bind (bind (copy_words f frame place n bytes) k) g) → (frame < frames) × (place + n ≤ 1024)
-words_within frames shapes f frame place zero bytes k g h w = absurd (omega (arith, h))
-words_within frames shapes f frame place (suc zero) bytes k g h w = (w.0.0, omega (arith, w.0.1))
-words_within frames shapes f frame place (suc (suc n)) bytes k g h w =
-    let r = words_within frames shapes f frame (place + 1) (suc n) (bytes ++ bytes_in f place 0) k g (omega arith) (w.1.1 0 (Read (page_word frame place) 0) (omega arith, refl)) in
-    (r.0, omega (arith, r.1))
-
 gone_words : {A B : Type 0} (f : Fragment) (frame place : ℕ) (ws bytes : List ℕ) (k : List ℕ → Steps A) (g : A → Steps B) → AreWords ws →
     Gone (bind (bind (copy_words f frame place (length ws) bytes) k) g) (page_reads frame place ws) (bind (k (bytes ++ bytes_from f place ws)) g)
 gone_words f frame place [] bytes k g b = ap (λ l. bind (k l) g) (sym (append-nil bytes))
@@ -75,34 +63,6 @@ gone_words f frame place (v ∷ vs) bytes k g b = (
 labels_reads : (frame place : ℕ) (ws : List ℕ) → labels (page_reads frame place ws) ≡ []
 labels_reads frame place [] = refl
 labels_reads frame place (v ∷ vs) = labels_reads frame (place + 1) vs
-
--- A fragment is copied.
-pub fragment_driven : {S : Type 0} (log : S → Option (List Access)) (gives : S → Access → S → Type 0) (w : Wiring) (s : State) (chain : List Slot) (fs : List Fragment) (f : Fragment) (at : Place) (bytes : List ℕ)
-    (a b frame : ℕ) (ws : List ℕ) (bus mid bus' : S) → a < 2 ^ 32 → b < 2 ^ 32 → Performs log gives bus (access.Read at a ∷ access.Read (frame_place at) b ∷ []) mid →
-    checked w.vif.owners.now w.vif.granter w.vif.user (entry_of a b) false ≡ Ok frame → length ws ≡ covered f → AreReadFrom log gives frame (f.offset / 4) ws mid bus' →
-    Driven log gives (bind (bind (entry_at w.vif false (Some at)) (entered f (copy w fs) bytes)) (after_copy w s chain)) (bind (copy w fs (bytes ++ bytes_from f (f.offset / 4) ws)) (after_copy w s chain))
-    bus bus' [] [] (Read at a ∷ Read (frame_place at) b ∷ page_reads frame (f.offset / 4) ws)
-fragment_driven log gives w s chain fs f at bytes a b frame ws bus mid bus' la lb p c e r =
-    let end = bind (copy w fs (bytes ++ bytes_from f (f.offset / 4) ws)) (after_copy w s chain) in
-    let start : ℕ → Steps Ending = λ n. bind (bind (copy_words f frame (f.offset / 4) n bytes) (copy w fs)) (after_copy w s chain) in
-    let words : Gone (start (covered f)) (page_reads frame (f.offset / 4) ws) end = subst (λ n. Gone (start n) (page_reads frame (f.offset / 4) ws) end) e (gone_words f frame (f.offset / 4) ws bytes (copy w fs) (after_copy w s chain) r.below) in
-    let judged_so : Result ℕ GrantFault → Steps Ending = λ o. bind (entered f (copy w fs) bytes o) (after_copy w s chain) in
-    let last : Gone (judged_so (checked w.vif.owners.now w.vif.granter w.vif.user (entry_of a b) false)) (page_reads frame (f.offset / 4) ws) end =
-    subst (λ o. Gone (judged_so o) (page_reads frame (f.offset / 4) ws) end) (sym c) words in
-    record {
-      gone = (_, (a, (la, refl), refl), (_, (b, (lb, refl), refl), last));
-      performed = performs_then log gives bus mid bus' (access.Read at a ∷ access.Read (frame_place at) b ∷ []) (accesses (page_reads frame (f.offset / 4) ws)) p r.performed;
-      grown = sym (labels_reads frame (f.offset / 4) ws);
-    }
-
--- An entry is read that grants nothing.
-pub denied_driven : {S : Type 0} (log : S → Option (List Access)) (gives : S → Access → S → Type 0) (w : Wiring) (s : State) (chain : List Slot) (fs : List Fragment) (f : Fragment) (at : Place) (bytes : List ℕ)
-    (a b : ℕ) (fault : GrantFault) (bus bus' : S) → a < 2 ^ 32 → b < 2 ^ 32 → Performs log gives bus (access.Read at a ∷ access.Read (frame_place at) b ∷ []) bus' →
-    checked w.vif.owners.now w.vif.granter w.vif.user (entry_of a b) false ≡ Err fault →
-    Driven log gives (bind (bind (entry_at w.vif false (Some at)) (entered f (copy w fs) bytes)) (after_copy w s chain)) (after_copy w s chain None) bus bus' [] [] (Read at a ∷ Read (frame_place at) b ∷ [])
-denied_driven log gives w s chain fs f at bytes a b fault bus bus' la lb p c =
-    let judged_so : Result ℕ GrantFault → Steps Ending = λ o. bind (entered f (copy w fs) bytes o) (after_copy w s chain) in
-    record { gone = (_, (a, (la, refl), refl), (_, (b, (lb, refl), refl), ap judged_so c)); performed = p; grown = refl }
 
 -- A slot is read.
 pub slot_driven : {S : Type 0} (log : S → Option (List Access)) (gives : S → Access → S → Type 0) (w : Wiring) (s : State) (left : ℕ) (chain : List Slot) (i a b c : ℕ) (slot : Slot) (bus bus' : S) →
@@ -119,68 +79,47 @@ abbrev pub IsFragmentRead : {S : Type 0} → (S → Option (List Access)) → (S
 IsFragmentRead log gives frame f bytes out bus bus' =
     (words : List ℕ) × (length words ≡ covered f) × AreReadFrom log gives frame (f.offset / 4) words bus bus' × (out ≡ bytes ++ bytes_from f (f.offset / 4) words)
 
--- a fragment adds no more than its size
-pub fragment_short : {S : Type 0} (log : S → Option (List Access)) (gives : S → Access → S → Type 0) (frame : ℕ) (fs : List Fragment) (i : ℕ) (bytes out : List ℕ) (bus bus' : S) → i < length fs →
-    IsFragmentRead log gives frame (fragment_at fs i) bytes out bus bus' → length bytes + sum_by fragment_size (drop i fs) ≤ 65535 → length out + sum_by fragment_size (drop (i + 1) fs) ≤ 65535
-fragment_short log gives frame fs i bytes out bus bus' h r room =
-    let f = fragment_at fs i in
-    let more = bytes_from f (f.offset / 4) r.0 in
-    let sum : sum_by fragment_size (drop i fs) ≡ f.size + sum_by fragment_size (drop (i + 1) fs) =
-    ap (sum_by fragment_size) (drop_more fs i (record { gref = 0; offset = 0; size = 0 }) h) ∙ sum_by-cons fragment_size f (drop (i + 1) fs) in
-    let few = length-take f.size (drop (f.offset % 4) (bytes_of r.0)) in
-    let short : length more ≤ f.size = omega (arith, ap length (bytes_from-covered f (f.offset / 4) r.0 refl), few) in
-    omega (arith, sum, short, room, ap length r.3, length-append bytes more)
+-- a grant's entry is no counter's operation
+labels_entry : (v : Vif) (write : Bool) (gref : ℕ) (p : List Event) (r : Result ℕ GrantFault) → IsEntry v write gref p r → labels p ≡ []
+labels_entry v write gref _ _ (outside e) = refl
+labels_entry v write gref _ _ (inside at a b e la lb) = refl
 
--- Once an entry grants a frame, the words of the fragment are within it.
-pub fragment_within : (w : Wiring) (s : State) (chain : List Slot) (fs : List Fragment) (i : ℕ) (at : Place) (bytes : List ℕ) (a b frame : ℕ) → Completes w (rest_of_entry w s chain fs i at bytes) → a < 2 ^ 32 → b < 2 ^ 32 →
-    checked w.vif.owners.now w.vif.granter w.vif.user (entry_of a b) false ≡ Ok frame → 0 < covered (fragment_at fs i) →
-    (frame < length w.vif.owners.now) × ((fragment_at fs i).offset / 4 + covered (fragment_at fs i) ≤ 1024)
-fragment_within w s chain fs i at bytes a b frame left la lb c some =
-    let f = fragment_at fs i in
-    let judged_so : Result ℕ GrantFault → Steps Ending = λ o. bind (entered f (copy w (drop (i + 1) fs)) bytes o) (after_copy w s chain) in
-    let last = left.1.1 a (Read at a) (la, refl) in
-    let words = subst (λ o. Completes w (judged_so o)) c (last.1.1 b (Read (frame_place at) b) (lb, refl)) in
-    words_within (length w.vif.owners.now) w.program.now.shapes f frame (f.offset / 4) (covered f) bytes (copy w (drop (i + 1) fs)) (after_copy w s chain) some words
+-- after a fragment's entry
+abbrev after_entry : Wiring → Fragment → List Fragment → (Option (List ℕ) → Steps Ending) → List ℕ → Result ℕ GrantFault → Steps Ending
+after_entry w f later k bytes r = bind (entered f (copy w later) bytes r) k
 
--- after what was done, a fragment more
-pub fragment_on : {S : Type 0} (log : S → Option (List Access)) (gives : S → Access → S → Type 0) (w : Wiring) (s : State) (chain : List Slot) (fs : List Fragment) (i : ℕ) (at : Place) (bytes out : List ℕ) (a b frame : ℕ)
-    (start : Steps Ending) (old bus mid new : S) (t : List Event) → Driven log gives start (rest_of_entry w s chain fs i at bytes) old bus [] [] t → a < 2 ^ 32 → b < 2 ^ 32 →
-    Performs log gives bus (access.Read at a ∷ access.Read (frame_place at) b ∷ []) mid → checked w.vif.owners.now w.vif.granter w.vif.user (entry_of a b) false ≡ Ok frame →
-    IsFragmentRead log gives frame (fragment_at fs i) bytes out mid new →
-    (u : List Event) × Driven log gives start (bind (copy w (drop (i + 1) fs) out) (after_copy w s chain)) old new [] [] u
-fragment_on log gives w s chain fs i at bytes out a b frame start old bus mid new t d la lb p c r =
-    let f = fragment_at fs i in
-    let later : List ℕ → Steps Ending = λ l. bind (copy w (drop (i + 1) fs) l) (after_copy w s chain) in
-    let one = fragment_driven log gives w s chain (drop (i + 1) fs) f at bytes a b frame r.0 bus mid new la lb p c r.1 r.2 in
-    let u = Read at a ∷ Read (frame_place at) b ∷ page_reads frame (f.offset / 4) r.0 in
-    let all = driven_append log gives start (rest_of_entry w s chain fs i at bytes) (later (bytes ++ bytes_from f (f.offset / 4) r.0)) old bus new [] [] [] t u d one in
-    (t ++ u, subst (λ l. Driven log gives start (later l) old new [] [] (t ++ u)) (sym r.3) all)
+-- A fragment's entry is read.
+entry_driven : {S : Type 0} (log : S → Option (List Access)) (gives : S → Access → S → Type 0) (w : Wiring) (f : Fragment) (later : List Fragment) (k : Option (List ℕ) → Steps Ending) (bytes : List ℕ) (p : List Event) (r : Result ℕ GrantFault) (bus mid : S) →
+    IsEntry w.vif false f.gref p r → Performs log gives bus (accesses p) mid → Driven log gives (bind (copy w (f ∷ later) bytes) k) (after_entry w f later k bytes r) bus mid [] [] p
+entry_driven log gives w f later k bytes p r bus mid e q = record {
+  gone = gone_bind (copy w (f ∷ later) bytes) (entered f (copy w later) bytes r) p k (gone_entry w.vif false f.gref p r e (entered f (copy w later) bytes));
+  performed = q;
+  grown = sym (labels_entry w.vif false f.gref p r e);
+}
 
--- and one that is denied
-pub denied_on : {S : Type 0} (log : S → Option (List Access)) (gives : S → Access → S → Type 0) (w : Wiring) (s : State) (chain : List Slot) (fs : List Fragment) (i : ℕ) (at : Place) (bytes : List ℕ) (a b : ℕ) (fault : GrantFault)
-    (start : Steps Ending) (old bus new : S) (t : List Event) → Driven log gives start (rest_of_entry w s chain fs i at bytes) old bus [] [] t → a < 2 ^ 32 → b < 2 ^ 32 →
-    Performs log gives bus (access.Read at a ∷ access.Read (frame_place at) b ∷ []) new → checked w.vif.owners.now w.vif.granter w.vif.user (entry_of a b) false ≡ Err fault →
-    (u : List Event) × Driven log gives start (after_copy w s chain None) old new [] [] u
-denied_on log gives w s chain fs i at bytes a b fault start old bus new t d la lb p c =
-    let u = Read at a ∷ Read (frame_place at) b ∷ [] in (
-      t ++ u,
-      driven_append log gives start (rest_of_entry w s chain fs i at bytes) (after_copy w s chain None) old bus new [] [] [] t u d
-          (denied_driven log gives w s chain (drop (i + 1) fs) (fragment_at fs i) at bytes a b fault bus new la lb p c),
-    )
+-- its grant is refused
+pub refused_driven : {S : Type 0} (log : S → Option (List Access)) (gives : S → Access → S → Type 0) (w : Wiring) (f : Fragment) (later : List Fragment) (k : Option (List ℕ) → Steps Ending) (bytes : List ℕ) (p : List Event) (r : Result ℕ GrantFault) (fault : GrantFault)
+    (bus mid : S) → IsEntry w.vif false f.gref p r → Performs log gives bus (accesses p) mid → r ≡ Err fault → Driven log gives (bind (copy w (f ∷ later) bytes) k) (k None) bus mid [] [] p
+refused_driven log gives w f later k bytes p r fault bus mid e q h =
+    subst (λ x. Driven log gives (bind (copy w (f ∷ later) bytes) k) (after_entry w f later k bytes x) bus mid [] [] p) h (entry_driven log gives w f later k bytes p r bus mid e q)
 
--- the next fragment, by the place of its entry
-pub next_entry : (w : Wiring) (s : State) (chain : List Slot) (fs : List Fragment) (i : ℕ) (at : Place) (bytes : List ℕ) → i < length fs → entry_place w.vif.table.now (fragment_at fs i).gref ≡ Some at →
-    bind (copy w (drop i fs) bytes) (after_copy w s chain) ≡ rest_of_entry w s chain fs i at bytes
-next_entry w s chain fs i at bytes h e =
-    ap (λ o. bind o (after_copy w s chain)) (copy_at w fs i bytes h ∙ ap (λ p. bind (entry_at w.vif false p) (entered (fragment_at fs i) (copy w (drop (i + 1) fs)) bytes)) e)
-
-pub no_entry : (w : Wiring) (s : State) (chain : List Slot) (fs : List Fragment) (i : ℕ) (bytes : List ℕ) → i < length fs → entry_place w.vif.table.now (fragment_at fs i).gref ≡ None →
-    bind (copy w (drop i fs) bytes) (after_copy w s chain) ≡ after_copy w s chain None
-no_entry w s chain fs i bytes h e =
-    ap (λ o. bind o (after_copy w s chain)) (copy_at w fs i bytes h ∙ ap (λ p. bind (entry_at w.vif false p) (entered (fragment_at fs i) (copy w (drop (i + 1) fs)) bytes)) e)
-
-pub last_fragment : (w : Wiring) (s : State) (chain : List Slot) (fs : List Fragment) (i : ℕ) (bytes : List ℕ) → length fs ≤ i → bind (copy w (drop i fs) bytes) (after_copy w s chain) ≡ after_copy w s chain (Some bytes)
-last_fragment w s chain fs i bytes h = ap (λ l. bind (copy w l bytes) (after_copy w s chain)) (drop_all i fs h)
+-- or its words are copied
+pub copied_driven : {S : Type 0} (log : S → Option (List Access)) (gives : S → Access → S → Type 0) (w : Wiring) (f : Fragment) (later : List Fragment) (k : Option (List ℕ) → Steps Ending) (bytes out : List ℕ) (p : List Event) (r : Result ℕ GrantFault) (frame : ℕ)
+    (bus mid new : S) → IsEntry w.vif false f.gref p r → Performs log gives bus (accesses p) mid → r ≡ Ok frame → IsFragmentRead log gives frame f bytes out mid new →
+    (t : List Event) × Driven log gives (bind (copy w (f ∷ later) bytes) k) (bind (copy w later out) k) bus new [] [] t
+copied_driven log gives w f later k bytes out p r frame bus mid new e q h read =
+    let start = bind (copy w (f ∷ later) bytes) k in
+    let ws = read.0 in
+    let place = f.offset / 4 in
+    let u = page_reads frame place ws in
+    let before : ℕ → Steps Ending = λ n. bind (bind (copy_words f frame place n bytes) (copy w later)) k in
+    let end = bind (copy w later (bytes ++ bytes_from f place ws)) k in
+    let entry : Driven log gives start (before (covered f)) bus mid [] [] p =
+    subst (λ x. Driven log gives start (after_entry w f later k bytes x) bus mid [] [] p) h (entry_driven log gives w f later k bytes p r bus mid e q) in
+    let words : Gone (before (covered f)) u end = subst (λ n. Gone (before n) u end) read.1 (gone_words f frame place ws bytes (copy w later) k read.2.below) in
+    let page : Driven log gives (before (covered f)) end mid new [] [] u = record { gone = words; performed = read.2.performed; grown = sym (labels_reads frame place ws) } in
+    let all = driven_append log gives start (before (covered f)) end bus mid new [] [] [] p u entry page in
+    (p ++ u, subst (λ l. Driven log gives start (bind (copy w later l) k) bus new [] [] (p ++ u)) (sym read.3) all)
 
 -- A slot's three words, as they were read.
 abbrev pub IsSlotRead : {S : Type 0} → (S → Option (List Access)) → (S → Access → S → Type 0) → ℕ → ℕ → Slot → S → S → Type 0

@@ -37,8 +37,8 @@ use Rattle.xen_steps.specs.Pages.{copy_words, covered}
 use Rattle.xen_back.specs.Turned.{Ending, Turned, Ran, Refused}
 use Rattle.xen_back.specs.Parts.{AllWords, IsCopy, behind, copied, denied, part}
 use Rattle.xen_transmit.specs.Transmit.{transmit}
-use Rattle.xen_transmit.specs.declared.phase.Outcome.{Outcome}
-use Rattle.xen_transmit.specs.declared.phase.Outcome.TheVariants as outcome
+use Rattle.xen_transmit.specs.declared.by_event.phase.Outcome.{Outcome}
+use Rattle.xen_transmit.specs.declared.by_event.phase.Outcome.TheVariants as outcome
 use Rattle.xen_back.specs.declared.state.State.{State}
 use Rattle.xen_back.specs.declared.turn.Halt.{Halt}
 use Rattle.xen_back.specs.declared.turn.Refusal.TheVariants as refusal

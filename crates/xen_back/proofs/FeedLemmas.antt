@@ -7,8 +7,8 @@ use Rattle.xen_back.specs.Rest.{rest_at}
 use Rattle.xen_steps.specs.Steps.{Steps, bind, want_of}
 use Rattle.xen_back.specs.Tree.{Left, answer, program}
 use Rattle.xen_back.specs.Turned.{Ending}
-use Rattle.xen_back.specs.declared.phase.Phase.{Phase}
-use Rattle.xen_back.specs.declared.phase.Phase.TheVariants as phase
+use Rattle.xen_back.specs.declared.by_event.phase.Phase.{Phase}
+use Rattle.xen_back.specs.declared.by_event.phase.Phase.TheVariants as phase
 use Rattle.xen_back.specs.declared.state.State.{State}
 use Rattle.xen_back.specs.declared.turn.Kind.{Kind}
 use Rattle.xen_steps.specs.declared.want.Want.TheVariants as want

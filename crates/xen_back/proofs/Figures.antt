@@ -1,5 +1,5 @@
 -- How many accesses a turn makes at most.
-use Rattle.xen_transmit.specs.declared.phase.Outcome.{Outcome}
+use Rattle.xen_transmit.specs.declared.by_event.phase.Outcome.{Outcome}
 use Rattle.bpf_verify.specs.Consistent.{instructions}
 use Rattle.xen_steps.proofs.FigureLemmas.{HasAtMost, most_append, most_more}
 use Rattle.xen_transmit.proofs.Figures.{most_entry, most_notices, most_transmit}

@@ -1,5 +1,4 @@
 pub mod ChainLemmas
-pub mod PageSteps
 pub mod RestLemmas
 pub mod FeedLemmas
 pub mod ProgramLemmas

@@ -16,8 +16,8 @@ use Rattle.xen_steps.specs.Places.{add32, available, page_word}
 use Rattle.xen_transmit.specs.Places.{rx_slot, rx_word, tx_slot, tx_word}
 use Rattle.xen_transmit.specs.Packets.{pages, words}
 use Rattle.xen_transmit.specs.Sending.{AreTargets, IsPosted, IsRxRespond, IsTransmit, all, buffer_writes, is_posted, passing, refused, refusing, rx_overflow, rx_writes, sent, too_few}
-use Rattle.xen_transmit.specs.declared.phase.Outcome.{Outcome}
-use Rattle.xen_transmit.specs.declared.phase.Outcome.TheVariants as outcome
+use Rattle.xen_transmit.specs.declared.by_event.phase.Outcome.{Outcome}
+use Rattle.xen_transmit.specs.declared.by_event.phase.Outcome.TheVariants as outcome
 use Rattle.xen_transmit.specs.declared.target.Target.{Target}
 use Rattle.xen_transmit.specs.Shared.{IsEntry, inside, outside, notices}
 use Rattle.xen_back.specs.Once.{AllOther, AreDistinct, CoveredDistinct, FragmentsOnce, PostedDistinct, SlotsOnce, TargetsOnce, TurnReads, TurnsOnce, copy_places, entry_places, page_places, places_read, posted_places, sent_places, slot_places, target_places, told}

@@ -90,19 +90,6 @@ room_after_whole f from to len h whole r = by (nat_lt from to) refl
         let none : len + 4 * (to - from) ≡ len = omega arith in
         subst (λ p. HasRoom (len + 4 * (to - from)) f p 0) (sym same) (subst (λ k. HasRoom k f from 0) (sym none) r)
 
--- and the words fit
-pub whole_fits : (f : Fragment) (from to len : ℕ) → from ≤ to → len ≤ 65535 → (from < to → (f.offset ≤ 4 * from) × (4 * to ≤ f.offset + f.size)) → HasRoom len f from 0 → len + 4 * (to - from) ≤ 65535
-whole_fits f from to len h few whole r = by (nat_lt from to) refl
-  where
-    by : (b : Bool) → nat_lt from to ≡ b → len + 4 * (to - from) ≤ 65535
-    by true e =
-        let lt : from < to = grind (arith, nat_tests) in
-        let in_it = whole lt in
-        omega (arith, r.0 in_it.0, in_it.1)
-    by false e =
-        let le : to ≤ from = grind (arith, nat_tests) in
-        omega arith
-
 pub whole_bytes : (f : Fragment) (from to : ℕ) (ws : List ℕ) → length ws ≡ to - from → from ≤ to → (from < to → (f.offset ≤ 4 * from) × (4 * to ≤ f.offset + f.size)) → bytes_from f from ws ≡ bytes_of ws
 whole_bytes f from to [] e h whole = refl
 whole_bytes f from to (w ∷ ws) e h whole =

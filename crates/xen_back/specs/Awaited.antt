@@ -10,8 +10,8 @@ use Rattle.xen_steps.specs.Places.{add32, available}
 use Rattle.xen_transmit.specs.Places.{rx_word}
 use Rattle.xen_transmit.specs.declared.vif.Vif.{Vif}
 use Rattle.xen_back.specs.Queues.{IsReady, IsSameWiring, state_of, wiring_of}
-use Rattle.xen_back.specs.declared.awaiting.Awaited.{Awaited}
-use Rattle.xen_back.specs.declared.awaiting.Awaited.TheVariants as awaited
+use Rattle.xen_back.specs.declared.delivery.awaiting.Awaited.{Awaited}
+use Rattle.xen_back.specs.declared.delivery.awaiting.Awaited.TheVariants as awaited
 use Rattle.xen_back.specs.declared.queue.Queue.{Queue}
 use Rattle.xen_back.specs.declared.state.State.{State}
 use Rattle.xen_back.specs.declared.turn.Halt.{Halt}

@@ -7,9 +7,9 @@ use Rattle.xen_steps.specs.declared.want.Answer.{Answer}
 use Rattle.xen_steps.specs.declared.want.Want.{Want}
 use Rattle.xen_steps.specs.declared.want.Want.TheVariants as wants
 use Rattle.xen_back.specs.Deliveries.{Arrival, rest_moving, whole_delivery}
-use Rattle.xen_back.specs.Queues.{IsReady, IsResting, IsSameWiring, state_of, wiring_of}
-use Rattle.xen_back.specs.declared.underway.Delivering.{Delivering}
-use Rattle.xen_back.specs.declared.delivering.Delivery.{Delivery}
+use Rattle.xen_back.specs.Queues.{IsReady, IsSameWiring, state_of, wiring_of}
+use Rattle.xen_back.specs.declared.delivery.underway.Delivering.{Delivering}
+use Rattle.xen_back.specs.declared.delivery.delivering.Delivery.{Delivery}
 use Rattle.xen_back.specs.declared.queue.Queue.{Queue}
 
 -- what is left of a delivery
@@ -48,5 +48,4 @@ pub record IsDeliveryAsked (wanted : Want) (old new : Delivering) : Type 0 where
 pub record IsDeliveryOver (old new : Queue) (d : Delivering) (result : Delivery) : Type 0 where
   pub over : left_of d ≡ done (state_of new, result)
   pub ready : IsReady new
-  pub resting : IsResting new
   pub same : IsSameWiring old new

@@ -5,11 +5,11 @@ use Rattle.xen_page.specs.declared.access.Access.{Access}
 use Rattle.xen_steps.specs.Drive.{accesses}
 use Rattle.xen_steps.specs.Event.{Event}
 use Rattle.xen_transmit.specs.Sending.{IsTransmit}
-use Rattle.xen_transmit.specs.declared.phase.Outcome.TheVariants as outcome
+use Rattle.xen_transmit.specs.declared.by_event.phase.Outcome.TheVariants as outcome
 use Rattle.xen_back.specs.Queues.{IsReady, IsSameWiring, state_of, wiring_of}
 use Rattle.xen_back.specs.Responses.{moved}
-use Rattle.xen_back.specs.declared.delivering.Delivery.{Delivery}
-use Rattle.xen_back.specs.declared.delivering.Delivery.TheVariants as delivery
+use Rattle.xen_back.specs.declared.delivery.delivering.Delivery.{Delivery}
+use Rattle.xen_back.specs.declared.delivery.delivering.Delivery.TheVariants as delivery
 use Rattle.xen_back.specs.declared.queue.Queue.{Queue}
 use Rattle.xen_back.specs.declared.state.State.{State}
 use Rattle.xen_back.specs.declared.turn.Halt.{Halt}

@@ -5,15 +5,15 @@ use Rattle.xen_steps.specs.Finish.{Finishes, Finishes-prop}
 use Rattle.xen_steps.specs.Steps.{Steps, bind, done}
 use Rattle.xen_transmit.specs.Rest.{rest_of}
 use Rattle.xen_transmit.specs.Transmit.{transmit}
-use Rattle.xen_transmit.specs.declared.phase.Outcome.{Outcome}
-use Rattle.xen_transmit.specs.declared.phase.Outcome.TheVariants as outcome
+use Rattle.xen_transmit.specs.declared.by_event.phase.Outcome.{Outcome}
+use Rattle.xen_transmit.specs.declared.by_event.phase.Outcome.TheVariants as outcome
 use Rattle.xen_transmit.specs.declared.vif.Vif.{Vif}
 use Rattle.xen_back.specs.Delivered.{is_frame}
 use Rattle.xen_back.specs.Responses.{moved}
-use Rattle.xen_back.specs.declared.moving.Moving.{Moving}
-use Rattle.xen_back.specs.declared.moving.Moving.TheVariants as moving
-use Rattle.xen_back.specs.declared.delivering.Delivery.{Delivery}
-use Rattle.xen_back.specs.declared.delivering.Delivery.TheVariants as delivery
+use Rattle.xen_back.specs.declared.delivery.moving.Moving.{Moving}
+use Rattle.xen_back.specs.declared.delivery.moving.Moving.TheVariants as moving
+use Rattle.xen_back.specs.declared.delivery.delivering.Delivery.{Delivery}
+use Rattle.xen_back.specs.declared.delivery.delivering.Delivery.TheVariants as delivery
 use Rattle.xen_back.specs.declared.state.State.{State}
 use Rattle.xen_back.specs.declared.turn.Halt.{Halt}
 use Rattle.xen_back.specs.declared.turn.Halt.TheVariants as halt

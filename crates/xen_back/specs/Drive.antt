@@ -7,7 +7,7 @@ use Rattle.xen_page.specs.declared.access.Access.{Access}
 use Rattle.xen_steps.specs.Drive.{Gone, accesses}
 use Rattle.xen_steps.specs.Event.{Event, Load, Add}
 use Rattle.xen_steps.specs.Steps.{Steps}
-use Rattle.xen_back.specs.Queues.{state_of, wiring_of, IsReady, IsResting, IsSameWiring}
+use Rattle.xen_back.specs.Queues.{state_of, wiring_of, IsReady, IsSameWiring}
 use Rattle.xen_back.specs.Turned.{IsShort, Shows, Turned}
 use Rattle.xen_back.specs.Turns.{IsTurn}
 use Rattle.xen_back.specs.declared.queue.Queue.{Queue}
@@ -39,5 +39,4 @@ pub record IsTurnOver {S : Type 0} (log : S → Option (List Access)) (gives : S
   pub shows : Shows turned shown
   pub short : IsShort shown
   pub ready : IsReady new
-  pub resting : IsResting new
   pub same : IsSameWiring old new

@@ -12,7 +12,7 @@ pub mod Turns
 pub mod Drive
 pub mod Reads
 pub mod Once
-pub mod Alone
+pub mod InOneGo
 pub mod Ran
 pub mod Held
 pub mod Delivered

@@ -1,7 +1,7 @@
 -- A queue that was made.
 use Rattle.std.specs.Prelude.{◌≡◌, None}
 use Rattle.bpf_verify.specs.Consistent.{Accepted}
-use Rattle.xen_back.specs.Queues.{IsReady, IsResting, rx_ring_of, state_of, tx_ring_of, wiring_of}
+use Rattle.xen_back.specs.Queues.{IsReady, rx_ring_of, state_of, tx_ring_of, wiring_of}
 use Rattle.xen_back.specs.declared.desc.QueueDesc.{QueueDesc}
 use Rattle.xen_back.specs.declared.queue.Queue.{Queue}
 use Rattle.xen_transmit.specs.Wired.{IsWired}
@@ -21,5 +21,4 @@ pub record IsMade (program : Accepted) (desc : QueueDesc) (q : Queue) : Type 0 w
   pub queue : (wiring_of q).queue ≡ desc.queue
   pub state : state_of q ≡ record { tx_index = desc.start; rx_index = desc.start; halt = None }
   pub ready : IsReady q
-  pub resting : IsResting q
   pub wired : IsWired (wiring_of q).vif

@@ -2,20 +2,17 @@
 use Rattle.std.specs.Prelude.{ℕ, ◌≡◌, ◌≢◌, List}
 use Rattle.xen_steps.specs.Answers.{number}
 use Rattle.xen_page.specs.Mapping.{Mapping}
-use Rattle.xen_steps.specs.Drive.{Gone}
 use Rattle.xen_steps.specs.Event.{Event}
-use Rattle.xen_back.specs.Program.{instructions_alone}
 use Rattle.xen_steps.specs.declared.want.Answer.{Answer}
 use Rattle.xen_steps.specs.declared.want.Want.{Want}
 use Rattle.xen_steps.specs.declared.want.Want.TheVariants as wants
 use Rattle.xen_back.specs.Rest.{rest_in}
 use Rattle.xen_steps.specs.Steps.{Runs, Steps, done, next, want_of}
 use Rattle.xen_back.specs.Within.{may_want}
-use Rattle.xen_back.specs.Tree.{whole_turn}
 use Rattle.xen_back.specs.Turned.{Ending, IsShort, Turned, Shows}
-use Rattle.xen_back.specs.declared.phase.Phase.TheVariants as phase
+use Rattle.xen_back.specs.declared.by_event.phase.Phase.TheVariants as phase
 use Rattle.xen_back.specs.declared.queue.Queue.{Queue}
-use Rattle.xen_back.specs.declared.stage.Stage.TheVariants as stage
+use Rattle.xen_back.specs.declared.by_event.stage.Stage.TheVariants as stage
 use Rattle.xen_back.specs.declared.state.State.{State}
 use Rattle.xen_back.specs.declared.turn.Turn.{Turn}
 use Rattle.xen_back.specs.declared.wiring.Wiring.{Wiring}
@@ -45,11 +42,7 @@ rest q = rest_in q.wiring q.state q.stage
 
 -- between turns
 abbrev pub IsReady : Queue → Type 0
-IsReady q = rest q ≡ whole_turn q.wiring q.state
-
--- no turn is under way
-abbrev pub IsResting : Queue → Type 0
-IsResting q = (p : List ℕ) × (q.stage ≡ stage.At p phase.Ready)
+IsReady q = (p : List ℕ) × (q.stage ≡ stage.At p phase.Ready)
 
 -- A queue that was fed an answer: what it has left is what follows that answer.
 pub record IsFed (answer : Answer) (old new : Queue) : Type 0 where
@@ -65,13 +58,6 @@ pub record IsAsked (wanted : Want) (old new : Queue) : Type 0 where
   pub state : state_of new ≡ state_of old
   pub same : IsSameWiring old new
 
--- The program of a queue did so many instructions that read no counter.
-pub record IsAdvanced (old new : Queue) : Type 0 where
-  pub steps : ℕ
-  pub gone : Gone (rest old) (instructions_alone steps) (rest new)
-  pub state : state_of new ≡ state_of old
-  pub same : IsSameWiring old new
-
 -- a way to the turn's end
 abbrev pub HasRest : Queue → Type 0
 HasRest q = (t : List Event) × (end : Ending) × Runs (rest q) t end
@@ -81,7 +67,6 @@ pub record IsOver (old new : Queue) (shown : Turn) : Type 0 where
   pub turned : Turned
   pub over : rest old ≡ done (state_of new, turned)
   pub ready : IsReady new
-  pub resting : IsResting new
   pub same : IsSameWiring old new
   pub shows : Shows turned shown
   pub short : IsShort shown

@@ -11,11 +11,11 @@ use Rattle.xen_back.specs.Turned.{Ending, turned}
 use Rattle.xen_transmit.specs.Entries.{entry_at, entry_checked}
 use Rattle.xen_back.specs.Tree.{whole_turn, announce, check_again, after_look, after_scan, after_copy, after_run, after_transmit, read_slot, second, third, judged, read_slots, answer, answered, halted, respond, read_event, notice, entered, copy, program}
 use Rattle.xen_steps.specs.Pages.{copy_words}
-use Rattle.xen_back.specs.declared.phase.Phase.{Phase}
-use Rattle.xen_back.specs.declared.phase.Phase.TheVariants as phase
-use Rattle.xen_back.specs.declared.reply.Reply.{Reply}
-use Rattle.xen_back.specs.declared.stage.Stage.{Stage}
-use Rattle.xen_back.specs.declared.stage.Stage.TheVariants as stage
+use Rattle.xen_back.specs.declared.by_event.phase.Phase.{Phase}
+use Rattle.xen_back.specs.declared.by_event.phase.Phase.TheVariants as phase
+use Rattle.xen_back.specs.declared.decisions.Reply.{Reply}
+use Rattle.xen_back.specs.declared.by_event.stage.Stage.{Stage}
+use Rattle.xen_back.specs.declared.by_event.stage.Stage.TheVariants as stage
 use Rattle.xen_back.specs.declared.state.State.{State}
 use Rattle.xen_back.specs.declared.turn.Halt.{Halt}
 use Rattle.xen_back.specs.declared.wiring.Wiring.{Wiring}
@@ -72,3 +72,8 @@ packet_at (stage.Page g) = g.packet
 packet_at (stage.Run r) = []
 packet_at (stage.Send packet t) = packet
 packet_at stage.Gone = []
+
+-- a stage with another phase, where it has one
+abbrev pub at_phase : Stage → Phase → Stage
+at_phase (stage.At packet old) phase = stage.At packet phase
+at_phase g phase = g

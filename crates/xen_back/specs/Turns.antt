@@ -12,7 +12,7 @@ use Rattle.xen_back.specs.Program.{IsProgram}
 use Rattle.xen_transmit.specs.Sending.{IsTransmit}
 use Rattle.xen_back.specs.Responses.{Left, answered, moved, status_of}
 use Rattle.xen_back.specs.Turned.{Turned, Idle, Ran, Refused, Halted}
-use Rattle.xen_transmit.specs.declared.phase.Outcome.TheVariants as outcome
+use Rattle.xen_transmit.specs.declared.by_event.phase.Outcome.TheVariants as outcome
 use Rattle.xen_back.specs.declared.state.State.{State}
 use Rattle.xen_back.specs.declared.turn.Halt.{Halt}
 use Rattle.xen_back.specs.declared.turn.Halt.TheVariants as halt

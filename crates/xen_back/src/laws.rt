@@ -19,7 +19,7 @@ ghost use Rattle.xen_back.specs.Turned.{Ending, Turned};
 ghost use Rattle.xen_back.specs.Once.{CoveredDistinct, FragmentsOnce, PostedDistinct, SlotsOnce, TargetsOnce, TurnsOnce};
 ghost use Rattle.xen_back.specs.Parts.{IsCopy};
 ghost use Rattle.xen_back.specs.Turns.{IsTurn};
-ghost use Rattle.xen_back.specs.declared.delivering.Delivery.{Delivery};
+ghost use Rattle.xen_back.specs.declared.delivery.delivering.Delivery.{Delivery};
 ghost use Rattle.xen_back.specs.declared.state.State.{State};
 ghost use Rattle.xen_back.specs.declared.wiring.Wiring.{Wiring};
 

@@ -1,48 +1,39 @@
 //! Netback's queue: each packet of another domain is copied, a verified program runs on the copy, and the packet is
-//! answered.
+//! answered; and packets of the host's own are delivered to that domain.
+//!
+//! - `queue`: a queue, how it is made, and its calls
+//! - `by_event`: a turn one event at a time; what a queue wants (`wanting`), what it does with an answer (`feeding`), and a
+//!   file for each part of a turn: `looking`, `copying`, `executing`, `sent`, `answering`, `ending`
+//! - `in_one_go`: a whole turn over a bus (`drive`); a packet in one slot on references alone (`straight`, `lone`), a longer
+//!   chain through the stages of `by_event` (`driving`), and the words of a page (`pages`)
+//! - `decisions`: what a turn decides, whichever way it goes
+//! - `delivery`: a packet of the host's own, in one go and by event, and waiting for slots
+//! - `wiring`, `desc`, `state`, `turn`, `copy_buf`: what these work on; `laws`: what holds of every turn
+//!
+//! Of the definitions `Turns` is the authority, the table of turns; `Tree` is the computation that makes them, and `Rest` what
+//! is left of it at a stage. Both ways are proved of the same computation.
 #![tactic(auto)]
 
-mod answering;
-mod awaiting;
 mod by_event;
-mod calls;
-mod copy;
 mod copy_buf;
-mod copying;
-mod delivering;
+mod decisions;
+mod delivery;
 mod desc;
-mod drive;
-mod driving;
-mod ending;
-mod executing;
-mod feeding;
+mod in_one_go;
 pub mod laws;
-mod lone;
-mod looking;
-mod making;
-mod moving;
-mod pages;
-mod phase;
 mod queue;
-mod reached;
-mod reply;
-mod sent;
-mod stage;
 mod state;
-mod straight;
 mod turn;
-mod underway;
-mod wanting;
 mod wiring;
 
-pub use awaiting::Awaited;
 pub use bpf_vm::Action;
-pub use delivering::Delivery;
+pub use delivery::awaiting::Awaited;
+pub use delivery::delivering::Delivery;
+pub use delivery::underway::Delivering;
 pub use desc::QueueDesc;
 pub use queue::Queue;
 pub use state::State;
 pub use turn::{Halt, Kind, Refusal, Turn};
-pub use underway::Delivering;
 pub use wiring::Wiring;
 pub use xen_steps::{Answer, Want};
 pub use xen_transmit::Vif;

@@ -1,5 +1,8 @@
 //! A back queue.
 
+mod calls;
+mod making;
+
 ghost use mathlib.Core.Path.{fun_ext};
 ghost use Rattle.std.specs.Prelude.{IsTrue};
 ghost use Rattle.xen_back.specs.Rest.{is_here, rest_in};
@@ -8,7 +11,7 @@ ghost use Rattle.xen_back.specs.Within.{Completes, Completes-prop};
 ghost use Rattle.xen_back.specs.declared.state.State.{State};
 ghost use Rattle.xen_transmit.specs.Wired.{IsWired};
 
-use crate::stage::Stage;
+use crate::by_event::stage::Stage;
 use crate::state::State;
 use crate::wiring::Wiring;
 use xen_page::Mapped;

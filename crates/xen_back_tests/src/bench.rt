@@ -1,7 +1,7 @@
 //! What a queue of the tests stands on.
 ghost use Rattle.std.specs.Prelude.{◌≡◌, ◌≤◌, length, IfOk, true};
 ghost use Rattle.bpf_maps.specs.Seats.{IsSeatOf};
-ghost use Rattle.xen_back.specs.Queues.{IsReady, IsResting, wiring_of};
+ghost use Rattle.xen_back.specs.Queues.{IsReady, wiring_of};
 ghost use Rattle.xen_page.specs.Mapping.{IsMappedBy};
 ghost use Rattle.xen_page.specs.Table.{IsTable};
 
@@ -100,7 +100,6 @@ impl Bench {
         buffer: &'b mut Buffer,
     ) -> Result<Queue<'p, 'b>, Fail>
         ensures ready { IfOk result IsReady }
-        ensures resting { IfOk result IsResting }
         ensures owners { IfOk result (λ q. length (wiring_of q).vif.owners.now ≡ 20) }
         ensures program { IfOk result (λ q. (wiring_of q).program.now.shapes ≡ self.now.program.shapes) }
     {

@@ -14,8 +14,8 @@ use Rattle.xen_front.specs.Rest.{id_of, rest_at}
 use Rattle.xen_front.specs.Slots.{buffer, covered_bytes, fault_of, in_flight, page_writes, passes_page, piece_words, piece_writes, send_writes, took, word_at}
 use Rattle.xen_front.specs.Given.{Ending}
 use Rattle.xen_front.specs.Tree.{Gathered, after_rx_look, receive, first_word, judged, seen, take_all}
-use Rattle.xen_front.specs.declared.phase.Phase.{Phase}
-use Rattle.xen_front.specs.declared.phase.Phase.TheVariants as phase
+use Rattle.xen_front.specs.declared.by_event.phase.Phase.{Phase}
+use Rattle.xen_front.specs.declared.by_event.phase.Phase.TheVariants as phase
 use Rattle.xen_front.specs.declared.state.Ring.{Ring}
 use Rattle.xen_front.specs.declared.state.State.{State}
 use Rattle.xen_front.specs.declared.turn.Halt.TheVariants as halt
@@ -31,9 +31,6 @@ page_at p frame k n j h = let e : n - j ≡ suc (n - (j + 1)) = omega arith in a
 pub pieces_at : (w : Wiring) (i : ℕ) (p : List ℕ) (n k : ℕ) (ids : List ℕ) → k < length ids →
     send_writes w i p n k (drop k ids) ≡ piece_writes w i p n k (get_or ids k 0) ++ send_writes w i p n (k + 1) (drop (k + 1) ids)
 pieces_at w i p n k ids h = ap (λ l. send_writes w i p n k l) (drop_more ids k 0 h)
-
-pub pieces_end : (w : Wiring) (i : ℕ) (p : List ℕ) (n k : ℕ) (ids : List ℕ) → length ids ≤ k → send_writes w i p n k (drop k ids) ≡ []
-pieces_end w i p n k ids h = ap (λ l. send_writes w i p n k l) (drop_of_length-le ids h)
 
 pub seen_some : (frame : ℕ) (r : Ring) (n : ℕ) → 0 < n → seen frame r (Some n) ≡ done (Some n)
 seen_some frame r zero h = absurd (omega arith)

@@ -10,8 +10,8 @@ use Rattle.xen_front.specs.Given.{Ending}
 use Rattle.xen_front.specs.Rest.{rest_at}
 use Rattle.xen_front.specs.Short.{IsShort}
 use Rattle.xen_buffers.specs.Wired.{IsWired}
-use Rattle.xen_front.specs.declared.phase.Phase.{Phase}
-use Rattle.xen_front.specs.declared.phase.Phase.TheVariants as phase
+use Rattle.xen_front.specs.declared.by_event.phase.Phase.{Phase}
+use Rattle.xen_front.specs.declared.by_event.phase.Phase.TheVariants as phase
 use Rattle.xen_front.specs.declared.state.State.{State}
 use Rattle.xen_buffers.specs.declared.wiring.Wiring.{Wiring}
 use Rattle.xen_front.proofs.BoundLemmas.{page_want}

@@ -14,7 +14,7 @@ use Rattle.xen_front.specs.Slots.{page_writes, word_at}
 use Rattle.xen_front.specs.Rest.{rest_at}
 use Rattle.xen_front.specs.Short.{IsShort}
 use Rattle.xen_front.specs.Straight.{AreOnBus, touched}
-use Rattle.xen_front.specs.declared.phase.Phase.{Phase}
+use Rattle.xen_front.specs.declared.by_event.phase.Phase.{Phase}
 use Rattle.xen_front.specs.declared.state.State.{State}
 use Rattle.xen_buffers.specs.declared.wiring.Wiring.{Wiring}
 
@@ -39,14 +39,6 @@ pub touched-append : (ns ms : List PageWrite) → touched (ns ++ ms) ≡ touched
 touched-append [] ms = refl
 touched-append (n ∷ ns) ms = ap (λ l. access.Write n.at n.value ∷ l) (touched-append ns ms)
 
--- where a word of a page lies
-pub word_on_bus : (frames : ℕ) (p : List ℕ) (frame k n j i : ℕ) → AreOnBus frames (page_writes p frame k n j) → i < n → (frame < frames) × (j + i < 1024)
-word_on_bus frames p frame k zero j i on h = absurd (omega (arith, h))
-word_on_bus frames p frame k (suc n) j zero on h = (on.0, let l = on.1 in omega (arith, l))
-word_on_bus frames p frame k (suc n) j (suc i) on h =
-    let r = word_on_bus frames p frame k n (j + 1) i on.2 (omega (arith, h)) in
-    (r.0, let l = r.1 in omega (arith, l))
-
 -- the first of two runs of writes, and the second
 pub first_on_bus : (frames : ℕ) (ns ms : List PageWrite) → AreOnBus frames (ns ++ ms) → AreOnBus frames ns
 first_on_bus frames [] ms on = tt
@@ -60,11 +52,6 @@ second_on_bus frames (n ∷ ns) ms on = second_on_bus frames ns ms on.2
 pub bounded_writes : {A : Type 0} (frames : ℕ) (ns : List PageWrite) (rest : Steps A) (n : ℕ) → Bounded (IsPageWant frames) Any (write_all ns rest) n → AreOnBus frames ns
 bounded_writes frames [] rest n b = tt
 bounded_writes frames (x ∷ ns) rest n b = (b.1.0, b.1.1, bounded_writes frames ns rest (n - 1) (b.2 0))
-
--- and on one of more frames
-pub on_more_frames : (frames more : ℕ) → frames ≤ more → (ns : List PageWrite) → AreOnBus frames ns → AreOnBus more ns
-on_more_frames frames more le [] on = tt
-on_more_frames frames more le (n ∷ ns) on = (omega (arith, le, on.0), on.1, on_more_frames frames more le ns on.2)
 
 gone_writes : {A : Type 0} (ns : List PageWrite) (rest : Steps A) → Gone (write_all ns rest) (writes ns) rest
 gone_writes [] rest = refl

@@ -10,11 +10,11 @@ use Rattle.xen_steps.specs.declared.want.Want.TheVariants as want
 use Rattle.xen_front.specs.Given.{Ending, Idle, given}
 use Rattle.xen_front.specs.Slots.{buffer, covered_bytes, ended, filling, grant_place, piece_request, piece_words, piece_writes, post_writes, send_writes, tx_writes}
 use Rattle.xen_front.specs.Tree.{Gathered, after_rx_look, after_tx_look, announce, chained, first_word, grown, look_again, notice, poll, publish, read_event, read_page, receive, second_word, take_all}
-use Rattle.xen_front.specs.declared.phase.Chained.{Chained}
-use Rattle.xen_front.specs.declared.phase.Part.{Part}
-use Rattle.xen_front.specs.declared.phase.Phase.{Phase}
-use Rattle.xen_front.specs.declared.phase.Phase.TheVariants as phase
-use Rattle.xen_front.specs.declared.phase.Piece.{Piece}
+use Rattle.xen_front.specs.declared.by_event.phase.Chained.{Chained}
+use Rattle.xen_front.specs.declared.by_event.phase.Part.{Part}
+use Rattle.xen_front.specs.declared.by_event.phase.Phase.{Phase}
+use Rattle.xen_front.specs.declared.by_event.phase.Phase.TheVariants as phase
+use Rattle.xen_front.specs.declared.by_event.phase.Piece.{Piece}
 use Rattle.xen_front.specs.declared.state.State.{State}
 use Rattle.xen_buffers.specs.declared.wiring.Wiring.{Wiring}
 

@@ -4,7 +4,7 @@ use Rattle.std.specs.Coded.{Unit-prop}
 use Rattle.xen_steps.specs.Drive.{Any, Bounded, Bounded-prop, IsPageWant, IsPageWant-prop}
 use Rattle.xen_front.specs.Given.{Ending}
 use Rattle.xen_front.specs.Rest.{rest_at}
-use Rattle.xen_front.specs.declared.phase.Phase.{Phase}
+use Rattle.xen_front.specs.declared.by_event.phase.Phase.{Phase}
 use Rattle.xen_front.specs.declared.state.State.{State}
 use Rattle.xen_buffers.specs.declared.wiring.Wiring.{Wiring}
 

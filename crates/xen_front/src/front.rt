@@ -1,11 +1,14 @@
 //! A front.
 
+mod beginning;
+mod making;
+
 ghost use Rattle.xen_front.specs.Rest.{HasSpace};
 ghost use Rattle.xen_front.specs.Short.{IsShort, IsShort-prop};
 ghost use Rattle.xen_buffers.specs.Wired.{IsWired};
 
+use crate::by_event::phase::Phase;
 use crate::packet::Packet;
-use crate::phase::Phase;
 use crate::state::State;
 use xen_buffers::Wiring;
 

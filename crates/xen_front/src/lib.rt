@@ -1,23 +1,22 @@
 //! Netfront's queue: it sends packets through granted pages, posts buffers, and takes what the other end gives, one
 //! event at a time.
+//!
+//! - `front`: a front, how it is made, and the calls that begin an activity
+//! - `by_event`: what an activity wants and does with an answer (`feeding`): a send (`sending`), a post (`posting`), a poll
+//!   (`taking` for tx responses, `receiving` for a packet); its ids and places
+//! - `in_one_go`: a whole activity over a bus (`drive`), a packet's pieces on references alone (`straight`)
+//! - `packet`, `state`, `turn`: what these work on; `laws`: what holds of every activity
+//!
+//! Of the definitions `Activities` is the authority, the table of activities; `Tree` is the computation that makes them, and
+//! `Rest` what is left of it at a phase.
 #![tactic(auto)]
 
-mod beginning;
-pub mod drive;
-mod feeding;
+mod by_event;
 pub mod front;
-mod ids;
+mod in_one_go;
 pub mod laws;
-mod making;
 mod packet;
-mod phase;
-mod places;
-mod posting;
-mod receiving;
-mod sending;
 pub mod state;
-mod straight;
-mod taking;
 pub mod turn;
 
 pub use front::Front;

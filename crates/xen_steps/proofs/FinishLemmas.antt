@@ -73,21 +73,6 @@ some_run within (ask w k) h =
     (e.0 ∷ i.0, i.1, (0, e.1, i.2))
 some_run within never h = absurd h
 
--- what nothing is asked of is done
-pub finishes_done : {A : Type 0} (within : Want → Type 0) (s : Steps A) → Finishes within s → want_of s ≡ want.Done → (r : A) × (s ≡ done r)
-finishes_done within (done x) h e = (x, refl)
-finishes_done within (ask w k) h e = by w h.1.0 e
-  where
-    by : (w : Want) → IsAsked w → w ≡ want.Done → (r : _) × (ask w k ≡ done r)
-    by want.Done a e = absurd a
-    by (want.Read at) a e = cc
-    by (want.Write at v) a e = cc
-    by want.Instr a e = cc
-    by (want.Load m i j) a e = cc
-    by (want.Add m i j d) a e = cc
-    by (want.Notify p) a e = cc
-finishes_done within never h e = absurd h
-
 pub runs_gone : {A : Type 0} (s s' : Steps A) (t q : List Event) (r : A) → Gone s t s' → Runs s' q r → Runs s (t ++ q) r
 runs_gone s s' [] q r g h = subst (λ m. Runs m q r) (sym g) h
 runs_gone s s' (e ∷ t) q r g h = runs_more s g.0 e g.1 (t ++ q) r (runs_gone g.0 s' t q r g.2 h)

@@ -1,6 +1,6 @@
 -- How many events a transmit has at most, and where.
-use Rattle.std.proofs.Common.{◌≡◌, ℕ, zero, suc, ◌+◌, ◌-◌, ◌*◌, ◌/◌, ◌%◌, ◌<◌, ◌≤◌, Bool, true, false, ◌&&◌, List, [], ◌∷◌, ◌++◌, Option, Some, None, Result, Ok, Err, IsTrue, refl, ap, length, arith, length-append, subst, not, nat_lt}
-use Rattle.std.specs.Prelude.{slice_get, nat_le, if◌then◌else◌, ◌==◌}
+use Rattle.std.proofs.Common.{◌≡◌, ℕ, zero, suc, ◌+◌, ◌-◌, ◌*◌, ◌/◌, ◌%◌, ◌<◌, ◌≤◌, Bool, true, false, ◌&&◌, List, [], ◌∷◌, ◌++◌, Option, Some, None, Result, Ok, Err, IsTrue, refl, sym, ap, length, arith, length-append, subst, not, nat_lt}
+use Rattle.std.specs.Prelude.{IfOk, slice_get, nat_le, if◌then◌else◌, ◌==◌}
 use Rattle.std.proofs.lemmas.Bool.{ltb-false}
 use Rattle.std.proofs.lemmas.Bool.Decides.{nat_tests}
 use Rattle.xen_netif.specs.Slots.{rx_req_of}
@@ -22,8 +22,8 @@ use Rattle.xen_transmit.specs.Entries.{entry, entry_at}
 use Rattle.xen_transmit.specs.Packets.{frame_in, pages, target_at, words}
 use Rattle.xen_transmit.specs.Transmit.{Posted, after_targets, fill, found, outcome_of, posted, read_targets, rx_answer, rx_notice, rx_respond, targeted, transmit}
 use Rattle.xen_transmit.specs.Wired.{IsWired}
-use Rattle.xen_transmit.specs.declared.phase.Outcome.{Outcome}
-use Rattle.xen_transmit.specs.declared.phase.Outcome.TheVariants as outcome
+use Rattle.xen_transmit.specs.declared.by_event.phase.Outcome.{Outcome}
+use Rattle.xen_transmit.specs.declared.by_event.phase.Outcome.TheVariants as outcome
 use Rattle.xen_transmit.specs.declared.target.Target.{Target}
 use Rattle.xen_transmit.specs.declared.vif.Vif.{Vif}
 
@@ -50,6 +50,11 @@ checked_inside owners granter user e write frame h = by (permits_access e) (e.do
     by true true false d o h = cc
     by true false c d o h = cc
     by false b c d o h = cc
+
+-- as a clause says it
+pub granted_inside : (w : Vif) (e : Entry) (write : Bool) (r : Result ℕ GrantFault) → r ≡ checked w.owners.now w.granter w.user e write → IfOk r (λ frame. frame < length w.owners.now)
+granted_inside w e write (Ok frame) h = checked_inside w.owners.now w.granter w.user e write frame (sym h)
+granted_inside w e write (Err fault) h = tt
 
 available_few : (index prod m : ℕ) → available index prod ≡ Some m → m ≤ 256
 available_few index prod m e = by (nat_le (distance index prod) 256) refl e

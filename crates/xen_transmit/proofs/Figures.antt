@@ -10,7 +10,7 @@ use Rattle.xen_transmit.specs.Packets.{pages, words}
 use Rattle.xen_transmit.specs.Places.{rx_word}
 use Rattle.xen_transmit.specs.Sending.{IsPosted, is_posted, AreTargets, all, refusing, passing, buffer_writes, rx_writes, IsRxRespond, IsTransmit, rx_overflow, too_few, refused, sent}
 use Rattle.xen_transmit.specs.Shared.{IsEntry, outside, inside, notices}
-use Rattle.xen_transmit.specs.declared.phase.Outcome.{Outcome}
+use Rattle.xen_transmit.specs.declared.by_event.phase.Outcome.{Outcome}
 use Rattle.xen_transmit.specs.declared.target.Target.{Target}
 use Rattle.xen_transmit.specs.declared.vif.Vif.{Vif}
 

@@ -8,8 +8,8 @@ use Rattle.xen_transmit.specs.Places.{rx_slot}
 use Rattle.xen_transmit.specs.Rest.{rest_of}
 use Rattle.xen_steps.specs.Steps.{asks, ask, bind, next_by}
 use Rattle.xen_transmit.specs.Transmit.{fill, fill_from, rx_answer, rx_respond}
-use Rattle.xen_transmit.specs.declared.phase.Phase.{Phase}
-use Rattle.xen_transmit.specs.declared.phase.Phase.TheVariants as phase
+use Rattle.xen_transmit.specs.declared.by_event.phase.Phase.{Phase}
+use Rattle.xen_transmit.specs.declared.by_event.phase.Phase.TheVariants as phase
 use Rattle.xen_transmit.specs.declared.target.Target.{Target}
 use Rattle.xen_steps.specs.declared.want.Want.TheVariants as want
 use Rattle.xen_transmit.specs.declared.vif.Vif.{Vif}

@@ -15,8 +15,8 @@ use Rattle.xen_transmit.specs.Places.{rx_slot, rx_word}
 use Rattle.xen_transmit.specs.Sending.{IsPosted, is_posted, AreTargets, all, refusing, passing, buffer_writes, rx_writes, IsRxRespond, IsTransmit, rx_overflow, too_few, refused, sent}
 use Rattle.xen_steps.specs.Steps.{Steps, done, bind, Runs}
 use Rattle.xen_transmit.specs.Transmit.{Posted, targeted, posted, read_targets, outcome_of, rx_notice, rx_answer, rx_respond, fill, after_targets, found, transmit}
-use Rattle.xen_transmit.specs.declared.phase.Outcome.{Outcome}
-use Rattle.xen_transmit.specs.declared.phase.Outcome.TheVariants as outcome
+use Rattle.xen_transmit.specs.declared.by_event.phase.Outcome.{Outcome}
+use Rattle.xen_transmit.specs.declared.by_event.phase.Outcome.TheVariants as outcome
 use Rattle.xen_transmit.specs.declared.target.Target.{Target}
 use Rattle.xen_transmit.specs.declared.vif.Vif.{Vif}
 use Rattle.xen_transmit.proofs.EntryParts.{entry_parts, runs_entry}

@@ -27,8 +27,8 @@ use Rattle.xen_transmit.specs.Packets.{buffer_word, frame_in, pages, response_wo
 use Rattle.xen_transmit.specs.Places.{rx_slot, rx_word}
 use Rattle.xen_transmit.specs.Shared.{IsEntry, inside, outside}
 use Rattle.xen_transmit.specs.Transmit.{Posted, after_targets, fill, found, outcome_of, posted, read_targets, rx_answer, rx_notice, rx_publish, rx_respond, targeted, transmit}
-use Rattle.xen_transmit.specs.declared.phase.Outcome.{Outcome}
-use Rattle.xen_transmit.specs.declared.phase.Outcome.TheVariants as outcome
+use Rattle.xen_transmit.specs.declared.by_event.phase.Outcome.{Outcome}
+use Rattle.xen_transmit.specs.declared.by_event.phase.Outcome.TheVariants as outcome
 use Rattle.xen_transmit.specs.declared.target.Target.{Target}
 use Rattle.xen_transmit.specs.declared.vif.Vif.{Vif}
 use Rattle.xen_transmit.proofs.SendLemmas.{rx_answer_at}
@@ -38,7 +38,7 @@ goes_bind (done x) s' e f g = absurd g.1
 goes_bind (ask w k) s' e f g = (g.0, g.1, ap (λ q. bind q f) g.2)
 goes_bind never s' e f g = absurd g.1
 
-gone_bind : {A B : Type 0} (s s' : Steps A) (t : List Event) (f : A → Steps B) → Gone s t s' → Gone (bind s f) t (bind s' f)
+pub gone_bind : {A B : Type 0} (s s' : Steps A) (t : List Event) (f : A → Steps B) → Gone s t s' → Gone (bind s f) t (bind s' f)
 gone_bind s s' [] f g = ap (λ q. bind q f) g
 gone_bind s s' (e ∷ t) f g = (bind g.0 f, goes_bind s g.0 e f g.1, gone_bind g.0 s' t f g.2)
 
@@ -83,11 +83,11 @@ push_driven log gives w x n event passed due bus new l e q = by due e
     )
 
 -- An entry is read.
-gone_entry : (w : Vif) (gref : ℕ) (p : List Event) (r : Result ℕ GrantFault) → IsEntry w true gref p r → (rest : Result ℕ GrantFault → Steps Posted) → Gone (bind (entry w true gref) rest) p (rest r)
-gone_entry w gref _ _ (outside e) rest = ap (λ (o : Option Place). bind (entry_at w true o) rest) e
-gone_entry w gref _ _ (inside at a b e la lb) rest =
-    let r = checked w.owners.now w.granter w.user (entry_of a b) true in
-    subst (λ (o : Option Place). Gone (bind (entry_at w true o) rest) (Read at a ∷ Read (frame_place at) b ∷ []) (rest r)) (sym e) (_, (a, (la, refl), refl), (_, (b, (lb, refl), refl), refl))
+pub gone_entry : {A : Type 0} (w : Vif) (write : Bool) (gref : ℕ) (p : List Event) (r : Result ℕ GrantFault) → IsEntry w write gref p r → (rest : Result ℕ GrantFault → Steps A) → Gone (bind (entry w write gref) rest) p (rest r)
+gone_entry w write gref _ _ (outside e) rest = ap (λ (o : Option Place). bind (entry_at w write o) rest) e
+gone_entry w write gref _ _ (inside at a b e la lb) rest =
+    let r = checked w.owners.now w.granter w.user (entry_of a b) write in
+    subst (λ (o : Option Place). Gone (bind (entry_at w write o) rest) (Read at a ∷ Read (frame_place at) b ∷ []) (rest r)) (sym e) (_, (a, (la, refl), refl), (_, (b, (lb, refl), refl), refl))
 
 -- A posted slot is read, with its grant's entry.
 pub slot_driven : {S : Type 0} (log : S → Option (List Access)) (gives : S → Access → S → Type 0) (w : Vif) (i a g : ℕ) (p : List Event) (r : Result ℕ GrantFault) (rest : ℕ → Result ℕ GrantFault → Steps Posted) (bus mid new : S) →
@@ -97,7 +97,7 @@ pub slot_driven : {S : Type 0} (log : S → Option (List Access)) (gives : S →
 slot_driven log gives w i a g p r rest bus mid new la lg q e h =
     let k = rx_req_of (a ∷ g ∷ []) in
     record {
-      gone = (_, (a, (la, refl), refl), (_, (g, (lg, refl), refl), gone_entry w k.gref p r e (rest k.id)));
+      gone = (_, (a, (la, refl), refl), (_, (g, (lg, refl), refl), gone_entry w true k.gref p r e (rest k.id)));
       performed = performs_then log gives bus mid new (access.Read (rx_slot w i 0) a ∷ access.Read (rx_slot w i 1) g ∷ []) (accesses p) q h;
     }
 
@@ -134,12 +134,6 @@ fill_one log gives ts packet n k bus new h q =
     let e : n - k ≡ suc (n - (k + 1)) = omega (arith, h) in
     subst (λ m. Driven log gives (fill ts packet m k) (fill ts packet (n - (k + 1)) (k + 1)) bus new (Write (buffer_word ts k) (word_of packet k) ∷ [])) (sym e)
     (record { gone = (_, (0, (refl, refl), refl), refl); performed = q })
-
--- and until then it asks for words within the frames
-pub fill_within : (frames : ℕ) (ts : List Target) (packet : List ℕ) (n k : ℕ) (within : Want → Type 0) → k < n → Finishes within (fill ts packet (n - k) k) → Finishes within (fill ts packet (suc (n - (k + 1))) k)
-fill_within frames ts packet n k within h f =
-    let e : n - k ≡ suc (n - (k + 1)) = omega (arith, h) in
-    subst (λ m. Finishes within (fill ts packet m k)) e f
 
 -- no word is left
 pub fill_none : (ts : List Target) (packet : List ℕ) (n k : ℕ) → n ≤ k → fill ts packet (n - k) k ≡ done tt

@@ -1,7 +1,7 @@
 -- A transmit that hasn't come to its outcome.
 use Rattle.std.specs.Prelude.{Bool, true, false}
-use Rattle.xen_transmit.specs.declared.phase.Phase.{Phase}
-use Rattle.xen_transmit.specs.declared.phase.Phase.TheVariants as phase
+use Rattle.xen_transmit.specs.declared.by_event.phase.Phase.{Phase}
+use Rattle.xen_transmit.specs.declared.by_event.phase.Phase.TheVariants as phase
 
 abbrev pub is_going : Phase → Bool
 is_going (phase.Over o) = false

@@ -8,9 +8,9 @@ use Rattle.xen_steps.specs.Steps.{Steps, done, ask, bind}
 use Rattle.xen_transmit.specs.Transmit.{after_targets, fill_from, outcome_of, posted, posted_second, read_targets, rx_answer, rx_event, rx_notice, targeted, transmit}
 use Rattle.xen_transmit.specs.declared.transmit.Progress.{Progress}
 use Rattle.xen_transmit.specs.declared.transmit.Progress.TheVariants as progress
-use Rattle.xen_transmit.specs.declared.phase.Outcome.{Outcome}
-use Rattle.xen_transmit.specs.declared.phase.Phase.{Phase}
-use Rattle.xen_transmit.specs.declared.phase.Phase.TheVariants as phase
+use Rattle.xen_transmit.specs.declared.by_event.phase.Outcome.{Outcome}
+use Rattle.xen_transmit.specs.declared.by_event.phase.Phase.{Phase}
+use Rattle.xen_transmit.specs.declared.by_event.phase.Phase.TheVariants as phase
 use Rattle.xen_steps.specs.declared.want.Want.TheVariants as want
 use Rattle.xen_transmit.specs.declared.vif.Vif.{Vif}
 

@@ -8,8 +8,8 @@ use Rattle.xen_transmit.specs.Packets.{pages, words, word_of, buffer_word, respo
 use Rattle.xen_transmit.specs.Shared.{IsEntry, notices}
 use Rattle.xen_steps.specs.Places.{add32, available}
 use Rattle.xen_transmit.specs.Places.{rx_slot, rx_word}
-use Rattle.xen_transmit.specs.declared.phase.Outcome.{Outcome}
-use Rattle.xen_transmit.specs.declared.phase.Outcome.TheVariants as outcome
+use Rattle.xen_transmit.specs.declared.by_event.phase.Outcome.{Outcome}
+use Rattle.xen_transmit.specs.declared.by_event.phase.Outcome.TheVariants as outcome
 use Rattle.xen_transmit.specs.declared.target.Target.{Target}
 use Rattle.xen_transmit.specs.declared.vif.Vif.{Vif}
 

@@ -4,7 +4,7 @@ use Rattle.xen_steps.specs.Drive.{IsPageWant}
 use Rattle.xen_steps.specs.Finish.{Finishes}
 use Rattle.xen_steps.specs.Steps.{Steps}
 use Rattle.xen_transmit.specs.Transmit.{Posted}
-use Rattle.xen_transmit.specs.declared.phase.Outcome.{Outcome}
+use Rattle.xen_transmit.specs.declared.by_event.phase.Outcome.{Outcome}
 use Rattle.xen_transmit.specs.declared.target.Target.{Target}
 use Rattle.xen_transmit.specs.declared.vif.Vif.{Vif}
 

@@ -9,8 +9,8 @@ use Rattle.xen_transmit.specs.Packets.{pages, words, word_of, buffer_word, respo
 use Rattle.xen_steps.specs.Places.{add32, available}
 use Rattle.xen_transmit.specs.Places.{rx_slot, rx_word}
 use Rattle.xen_steps.specs.Steps.{Steps, done, ask, bind}
-use Rattle.xen_transmit.specs.declared.phase.Outcome.{Outcome}
-use Rattle.xen_transmit.specs.declared.phase.Outcome.TheVariants as outcome
+use Rattle.xen_transmit.specs.declared.by_event.phase.Outcome.{Outcome}
+use Rattle.xen_transmit.specs.declared.by_event.phase.Outcome.TheVariants as outcome
 use Rattle.xen_transmit.specs.declared.target.Target.{Target}
 use Rattle.xen_steps.specs.declared.want.Want.TheVariants as want
 use Rattle.xen_transmit.specs.declared.vif.Vif.{Vif}

@@ -10,7 +10,7 @@ ghost use Rattle.xen_transmit.specs.Sending.{IsTransmit};
 ghost use Rattle.xen_transmit.specs.Touched.{AllAllowed};
 ghost use Rattle.xen_transmit.specs.Transmit.{transmit};
 ghost use Rattle.xen_transmit.specs.Wired.{IsWired};
-ghost use Rattle.xen_transmit.specs.declared.phase.Outcome.{Outcome};
+ghost use Rattle.xen_transmit.specs.declared.by_event.phase.Outcome.{Outcome};
 ghost use Rattle.xen_transmit.specs.declared.vif.Vif.{Vif};
 
 /// A transmit's traces are those that [`Transmit`](crate::Transmit) can have, and no others.

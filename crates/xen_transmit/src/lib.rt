@@ -1,20 +1,24 @@
 //! A packet sent back to the frontend: it is copied into posted buffers of the rx ring, one event at a time.
+//!
+//! - `transmit`: a transmit that is under way
+//! - `by_event`: what it wants (`wanting`), what it does with an answer (`feeding`): `reading` slots and grants, `writing`
+//!   buffers and responses
+//! - `in_one_go`: a whole transmit over a bus, on references alone
+//! - `vif`, `target`, `words`: what these work on; `laws`: what holds of every transmit
+//!
+//! Of the definitions `Sending` is the authority, the trace of a transmit; `Transmit` is the computation that makes it.
 #![tactic(auto)]
 
-mod feeding;
+mod by_event;
+mod in_one_go;
 pub mod laws;
-mod phase;
-mod reading;
-mod straight;
 mod target;
 mod transmit;
 mod vif;
-mod wanting;
 mod words;
-mod writing;
 
-pub use phase::Outcome;
-pub use straight::{read_entry, send_packet};
+pub use by_event::phase::Outcome;
+pub use in_one_go::straight::{read_grant, send_packet};
 pub use target::{Target, Targets};
 pub use transmit::{Progress, Transmit};
 pub use vif::Vif;

@@ -3,7 +3,7 @@
 ghost use Rattle.std.specs.Prelude.{IsTrue};
 ghost use Rattle.xen_transmit.specs.Going.{is_going};
 
-use crate::phase::{Outcome, Phase};
+use crate::by_event::phase::{Outcome, Phase};
 
 /// A transmit that isn't over.
 #[derive(Drop)]

@@ -1,7 +1,7 @@
 //! A packet's words in the posted buffers, and the responses.
 
 ghost use Rattle.std.specs.Prelude.{◌≡◌, ◌+◌, ◌*◌, ◌/◌, ◌%◌, ◌<◌, ◌≤◌, length, false, None, Some, slice_index};
-ghost use Rattle.xen_transmit.specs.Packets.{buffer_word, frame_in, pages, rx_response, size_at, status_at, target_at as target_at_lem, word_of, words};
+ghost use Rattle.xen_transmit.specs.Packets.{buffer_word, frame_in, pages, rx_response, size_at, status_at, target_at as target_at_spec, word_of, words};
 ghost use Rattle.xen_steps.specs.declared.want.Want.TheVariants as want;
 
 use crate::target::{Target, Targets};
@@ -60,7 +60,7 @@ pub fn packet_word(bytes: &[u8], k: u32) -> u32
 }
 
 fn target_at(targets: &Targets, i: u32) -> Target
-    ensures { result ≡ target_at_lem targets.now i }
+    ensures { result ≡ target_at_spec targets.now i }
 {
     match targets.slots().get(i as usize) {
         Some(target) => *target,
@@ -70,7 +70,7 @@ fn target_at(targets: &Targets, i: u32) -> Target
 
 /// The frame of the i-th buffer.
 pub fn buffer_frame(targets: &Targets, i: u32) -> u32
-    ensures { result ≡ frame_in (target_at_lem targets.now i).frame }
+    ensures { result ≡ frame_in (target_at_spec targets.now i).frame }
 {
     target_at(targets, i).frame.unwrap_or(0)
 }
@@ -116,7 +116,7 @@ fn status(passed: bool, bytes: &[u8], i: u32) -> i16
 pub fn response(passed: bool, bytes: &[u8], targets: &Targets, i: u32) -> RxRsp
     requires short { length bytes.now ≤ 65535 }
     requires within { i < length targets.now }
-    ensures { result ≡ rx_response passed bytes.now (length targets.now) i (target_at_lem targets.now i).id }
+    ensures { result ≡ rx_response passed bytes.now (length targets.now) i (target_at_spec targets.now i).id }
 {
     let n = targets.len();
     RxRsp {

@@ -1,7 +1,7 @@
 //! Waiting for rx slots, a test for each row of the table.
 
 ghost use Rattle.std.specs.Prelude.{◌≡◌, length};
-ghost use Rattle.xen_back.specs.Queues.{IsResting, IsSameWiring, wiring_of};
+ghost use Rattle.xen_back.specs.Queues.{IsReady, IsSameWiring, wiring_of};
 
 use super::deliveries::{FOURTEEN, OVERFLOWN, deliver};
 use super::fixtures::{PASSES, read, write};
@@ -20,9 +20,9 @@ fn awaited(
     pages: u32,
     answers: &[u32],
 ) -> Result<(Awaited, Vec<Access>), Fail>
-    requires resting { IsResting queue.old }
+    requires ready { IsReady queue.old }
     requires owners { length (wiring_of queue.old).vif.owners.now ≡ 20 }
-    ensures resting { IsResting queue.new }
+    ensures ready { IsReady queue.new }
     ensures same { IsSameWiring queue.old queue.new }
 {
     let mut bus = ScriptBus::make(alloc, FRAMES, answers, 100)?;

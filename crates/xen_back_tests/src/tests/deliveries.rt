@@ -1,7 +1,7 @@
 //! Packets that the host delivers, a test for each row of the table.
 
 ghost use Rattle.std.specs.Prelude.{◌≡◌, ◌<◌, [], length, IfOk};
-ghost use Rattle.xen_back.specs.Queues.{IsReady, IsResting, IsSameWiring, wiring_of};
+ghost use Rattle.xen_back.specs.Queues.{IsReady, IsSameWiring, wiring_of};
 
 use super::fixtures::{
     PASSES, SENDS, access_to, answer_to, is_notified, joined, read, write, wrote,
@@ -45,10 +45,9 @@ pub fn deliver(
     packet: &[u8],
     answers: &[u32],
 ) -> Result<Delivered, Fail>
-    requires resting { IsResting queue.old }
+    requires ready { IsReady queue.old }
     requires owners { length (wiring_of queue.old).vif.owners.now ≡ 20 }
-    ensures ready { IfOk result (λ _. IsReady queue.new) }
-    ensures resting { IsResting queue.new }
+    ensures ready { IsReady queue.new }
     ensures same { IsSameWiring queue.old queue.new }
 {
     let mut bus = ScriptBus::make(alloc, FRAMES, answers, 34_000)?;
@@ -69,7 +68,7 @@ fn deliver_by_event(
     packet: &[u8],
     answers: &[u32],
 ) -> Result<Delivered, Fail>
-    requires resting { IsResting queue.old }
+    requires ready { IsReady queue.old }
 {
     let mut delivering = queue.begin_delivery(packet);
     let mut accesses = Vec::new(alloc);
@@ -296,11 +295,10 @@ fn fourteen_responses(start: u32, i: u32) -> [Access; 3] {
 
 /// Whether fourteen bytes are delivered into the i-th slot.
 fn delivers_into(alloc: Global, queue: &mut Queue, start: u32, i: u32) -> Result<bool, Fail>
-    requires resting { IsResting queue.old }
+    requires ready { IsReady queue.old }
     requires owners { length (wiring_of queue.old).vif.owners.now ≡ 20 }
     requires program { (wiring_of queue.old).program.now.shapes ≡ [] }
-    ensures between { IfOk result (λ _. IsReady queue.new) }
-    ensures resting { IsResting queue.new }
+    ensures ready { IsReady queue.new }
     ensures owners { length (wiring_of queue.new).vif.owners.now ≡ 20 }
     ensures program { (wiring_of queue.new).program.now.shapes ≡ [] }
 {
@@ -332,10 +330,9 @@ fn sent_back(alloc: Global, start: u32, i: u32) -> Result<Vec<u32>, AllocError> 
 /// Whether a turn sends fourteen bytes back into the i-th slot.
 fn turns_into(alloc: Global, queue: &mut Queue, start: u32, i: u32) -> Result<bool, Fail>
     requires ready { IsReady queue.old }
-    requires resting { IsResting queue.old }
     requires owners { length (wiring_of queue.old).vif.owners.now ≡ 20 }
     requires program { (wiring_of queue.old).program.now.shapes ≡ [] }
-    ensures resting { IsResting queue.new }
+    ensures ready { IsReady queue.new }
     ensures same { IsSameWiring queue.old queue.new }
 {
     let answers = sent_back(alloc, start, i)?;

@@ -1,7 +1,7 @@
 use Rattle.std.proofs.Common.{subst, sym}
 use Rattle.xen_back.specs.Rest.{rest_in}
 use Rattle.xen_back.specs.Within.{Completes}
-use Rattle.xen_back.specs.declared.stage.Stage.{Stage}
+use Rattle.xen_back.specs.declared.by_event.stage.Stage.{Stage}
 use Rattle.xen_back.proofs.queue.Queue.deliver.Goals as goal
 
 pub invariant_of-self : goal.invariant_of-self
@@ -12,5 +12,5 @@ invariant_of-self g c =
       here = q.here;
       wired = q.wired;
       turns = q.turns;
-      left = subst (λ (s : Stage). Completes q.wiring (rest_in q.wiring after s)) (sym c.requires.resting.1) (q.turns after);
+      left = subst (λ (s : Stage). Completes q.wiring (rest_in q.wiring after s)) (sym c.requires.ready.1) (q.turns after);
     }

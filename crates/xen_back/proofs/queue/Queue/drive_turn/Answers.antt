@@ -13,9 +13,9 @@ returns g c =
     let q = c.args.self.now in
     let w = wiring_of q in
     let s = state_of q in
-    let e = c.drive_events-kind in
+    let e = c.take_turn-kind in
     let d = e.ensures in
-    let n = e.new.queue in
+    let n = e.new.self in
     let u = turned e.result (packet_at n.stage) in
     let t = d.driven.0 in (
       (
@@ -30,7 +30,6 @@ returns g c =
           shows = c.shown.ensures.shows;
           short = c.shown.ensures.short;
           ready = d.ready;
-          resting = d.resting;
           same = d.same;
         },
       ),

@@ -6,7 +6,7 @@ use Rattle.xen_steps.proofs.FinishLemmas.{finishes_next}
 use Rattle.xen_back.specs.Queues.{rest}
 use Rattle.xen_back.specs.Rest.{rest_in}
 use Rattle.xen_back.specs.Within.{may_want}
-use Rattle.xen_back.specs.declared.stage.Stage.{Stage}
+use Rattle.xen_back.specs.declared.by_event.stage.Stage.{Stage}
 use Rattle.xen_back.proofs.queue.Queue.feed.Goals as goal
 
 pub invariant_of-self : goal.invariant_of-self

@@ -1,7 +1,7 @@
 use Rattle.std.proofs.Common.{refl, sym, subst}
-use Rattle.xen_back.specs.Rest.{packet_at}
-use Rattle.xen_steps.specs.Steps.{Steps}
-use Rattle.xen_back.specs.Turned.{Ending, turned}
+use Rattle.xen_back.specs.Rest.{packet_at, rest_in}
+use Rattle.xen_back.specs.Turned.{turned}
+use Rattle.xen_back.specs.declared.by_event.stage.Stage.{Stage}
 use Rattle.xen_back.specs.Within.{Completes}
 use Rattle.xen_back.proofs.queue.Queue.turn.Goals as goal
 
@@ -13,7 +13,7 @@ invariant_of-self c =
       here = o.ensures.here;
       wired = q.wired;
       turns = q.turns;
-      left = subst (λ (s : Steps Ending). Completes q.wiring s) (sym o.ensures.ready) (q.turns o.result.0);
+      left = subst (λ (f : Stage). Completes q.wiring (rest_in q.wiring o.result.0 f)) (sym o.ensures.ready.1) (q.turns o.result.0);
     }
 
 pub returns : goal.returns
@@ -26,7 +26,6 @@ returns c =
           turned = turned o.result.1 (packet_at o.new.stage);
           over = o.ensures.over;
           ready = o.ensures.ready;
-          resting = o.ensures.resting;
           same = record { wiring = refl; tx_ring = refl; rx_ring = refl };
           shows = c.shown.ensures.shows;
           short = c.shown.ensures.short;

@@ -1,11 +1,11 @@
 -- The queue is between turns, and the delivery is its own.
 use Rattle.xen_back.specs.ByEvent.{IsDeliveryOf}
-use Rattle.xen_back.specs.Queues.{IsResting}
+use Rattle.xen_back.specs.Queues.{IsReady}
 use Rattle.xen_back_tests.proofs.tests.deliveries.deliver_by_event.Given as goal
 
 abbrev pub invariant-loop-event : goal.invariant-loop-event
 invariant-loop-event l =
     record {
-      resting : IsResting l.queue;
+      ready : IsReady l.queue;
       own : IsDeliveryOf l.queue l.delivering;
     }

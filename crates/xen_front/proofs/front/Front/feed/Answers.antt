@@ -4,7 +4,7 @@ use Rattle.xen_steps.specs.Steps.{next_by}
 use Rattle.xen_steps.proofs.AnswerLemmas.{fed_by}
 use Rattle.xen_front.specs.Fronts.{rest}
 use Rattle.xen_front.specs.Rest.{rest_at}
-use Rattle.xen_front.specs.declared.phase.Phase.{Phase}
+use Rattle.xen_front.specs.declared.by_event.phase.Phase.{Phase}
 use Rattle.xen_front.proofs.ShortLemmas.{short_fed}
 use Rattle.xen_front.proofs.front.Front.feed.Goals as goal
 

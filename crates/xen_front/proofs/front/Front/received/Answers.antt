@@ -1,6 +1,6 @@
 use Rattle.std.proofs.Common.{subst, sym}
 use Rattle.xen_front.specs.Short.{IsShort}
-use Rattle.xen_front.specs.declared.phase.Phase.{Phase}
+use Rattle.xen_front.specs.declared.by_event.phase.Phase.{Phase}
 use Rattle.xen_front.proofs.ShortLemmas.{short_ready}
 use Rattle.xen_front.proofs.front.Front.received.Goals as goal
 

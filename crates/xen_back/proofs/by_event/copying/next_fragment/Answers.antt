@@ -1,0 +1,17 @@
+use Rattle.std.proofs.Common.{◌<◌, ap, sym, ◌∙◌, length, arith, drop, ◌+◌, false}
+use Rattle.xen_back.specs.Rest.{fragment_at}
+use Rattle.xen_steps.specs.Steps.{bind}
+use Rattle.xen_transmit.specs.Entries.{entry_at}
+use Rattle.xen_back.specs.Tree.{after_copy, copy, entered}
+use Rattle.xen_back.proofs.RestLemmas.{copy_at}
+use Rattle.xen_back.proofs.by_event.copying.next_fragment.Goals as goal
+
+pub returns-in-Some-clause-rest : goal.returns-in-Some-clause-rest
+returns-in-Some-clause-rest c =
+    let w = c.args.wiring.now in
+    let s = c.args.state.now in
+    let fs = c.args.fragments.items in
+    let i = c.args.i in
+    let h : i < length fs = omega (arith, c.if-i-len.false, c.requires.within, c.len.ensures.value) in
+    c.entering.ensures.rest
+    ∙ sym (ap (λ o. bind o (after_copy w s c.args.chain)) (copy_at w fs i c.args.packet h ∙ ap (λ p. bind (entry_at w.vif false p) (entered (fragment_at fs i) (copy w (drop (i + 1) fs)) c.args.packet)) (rw c.deref.ensures.0 at (sym c.place.ensures.place ∙ c.in-Some.is))))

@@ -1,0 +1,12 @@
+use Rattle.std.proofs.Common.{ap, sym, ◌∙◌}
+use Rattle.xen_steps.specs.Steps.{bind}
+use Rattle.xen_back.specs.Deliveries.{arrived, unless_halted}
+use Rattle.xen_back.proofs.delivery.by_event.begun_frame.Goals as goal
+
+pub returns-in-Some : goal.returns-in-Some
+returns-in-Some c = sym (ap (unless_halted c.args.vif.now c.args.state.now c.args.packet.now) c.in-Some.is)
+
+pub returns-in-None : goal.returns-in-None
+returns-in-None c =
+    ap (λ o. bind o (arrived c.args.state.now)) c.begin-transmit.ensures
+    ∙ sym (ap (unless_halted c.args.vif.now c.args.state.now c.args.packet.now) c.in-None.is)

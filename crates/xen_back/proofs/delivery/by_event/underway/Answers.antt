@@ -1,0 +1,13 @@
+use Rattle.std.proofs.Common.{sym, subst}
+use Rattle.xen_steps.specs.Steps.{Steps}
+use Rattle.xen_transmit.specs.declared.vif.Vif.{Vif}
+use Rattle.xen_back.specs.Deliveries.{Arrival, Arrives, rest_moving}
+use Rattle.xen_back.proofs.ArriveLemmas.{arrives}
+use Rattle.xen_back.proofs.delivery.by_event.underway.Goals as goal
+
+pub invariant_of-result : goal.invariant_of-result
+invariant_of-result c =
+    let w = c.args.vif.now in
+    let s = c.args.state.now in
+    let left = subst (λ (left : Steps Arrival). Arrives w left) (sym c.begun-moving.ensures) (arrives w s c.args.packet.now c.requires.wired) in
+    record { left = subst (λ (v : Vif). Arrives v (rest_moving v s c.begun-moving.result)) (sym c.shared.ensures) left }

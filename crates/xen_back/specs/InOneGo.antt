@@ -1,0 +1,37 @@
+-- A turn that is taken in one go over a bus, between its parts.
+use Rattle.std.specs.Prelude.{ℕ, List, [], ◌∷◌, ◌++◌, Option, Some, None, Result, Ok, Err}
+use Rattle.xen_netif.specs.Chain.{Slot}
+use Rattle.xen_netif.specs.Standing.{standing}
+use Rattle.xen_netif.specs.declared.fragment.Fragment.{Fragment}
+use Rattle.xen_page.specs.declared.fault.GrantFault.{GrantFault}
+use Rattle.xen_steps.specs.Steps.{Steps, bind, done}
+use Rattle.xen_back.specs.Queues.{state_of}
+use Rattle.xen_back.specs.Rest.{packet_at}
+use Rattle.xen_back.specs.Tree.{after_scan, copy, judged, read_slots}
+use Rattle.xen_back.specs.Turned.{Ending, turned}
+use Rattle.xen_back.specs.declared.queue.Queue.{Queue}
+use Rattle.xen_back.specs.declared.state.State.{State}
+use Rattle.xen_back.specs.declared.turn.Kind.{Kind}
+use Rattle.xen_back.specs.declared.wiring.Wiring.{Wiring}
+
+-- after a slot behind those of a chain: so many slots are left
+abbrev pub after_slot : Wiring → State → ℕ → List Slot → Slot → Steps Ending
+after_slot w s left chain slot = bind (judged (chain ++ slot ∷ []) (standing (chain ++ slot ∷ [])) (read_slots w s.tx_index left (chain ++ slot ∷ []))) (after_scan w s)
+
+-- after a fragment, or where its grant is refused
+abbrev pub after_fragment : Wiring → List Fragment → (Option (List ℕ) → Steps Ending) → List ℕ → Result Unit GrantFault → Steps Ending
+after_fragment w later k packet (Ok u) = bind (copy w later packet) k
+after_fragment w later k packet (Err fault) = k None
+
+-- the packet, if each of its grants passed
+abbrev pub copied : List ℕ → Result Unit GrantFault → Option (List ℕ)
+copied packet (Ok u) = Some packet
+copied packet (Err fault) = None
+
+-- a turn has ended: in this state, as this turn, with this packet
+abbrev pub ended : State × Kind → List ℕ → Steps Ending
+ended e packet = done (e.0, turned e.1 packet)
+
+-- and so has a queue's
+abbrev pub ended_in : Queue → Kind → Steps Ending
+ended_in q kind = ended (state_of q, kind) (packet_at q.stage)

@@ -1,0 +1,277 @@
+//! Copying a chain's fragments.
+//!
+//! Some functions take `wiring` and `state` for their contracts alone: both fix what the queue has left.
+
+ghost use Rattle.std.specs.Prelude.{◌≡◌, ◌<◌, ◌≤◌, ◌+◌, ◌-◌, ◌/◌, ◌++◌, suc, length, drop, sum_by, false, IsTrue, Ok, Some};
+ghost use Rattle.xen_netif.specs.Copy.{Covers, bytes_in};
+ghost use Rattle.xen_netif.specs.Fragments.{fragment_size, fragments_of};
+ghost use Rattle.xen_netif.specs.Standing.{standing};
+ghost use Rattle.xen_netif.specs.declared.chain.ChainState.TheVariants.{Complete};
+ghost use Rattle.xen_netif.specs.declared.status.Status.TheVariants.{Error};
+ghost use Rattle.xen_page.specs.Entry.{entry_of};
+ghost use Rattle.xen_page.specs.Grant.{checked};
+ghost use Rattle.xen_back.specs.Rest.{fragment_at, is_here, rest_in};
+ghost use Rattle.xen_steps.specs.Pages.{HasRoom};
+ghost use Rattle.xen_steps.specs.Steps.{bind};
+ghost use Rattle.xen_transmit.specs.Entries.{entry_at, entry_checked};
+ghost use Rattle.xen_back.specs.Tree.{after_chain, after_copy, copy, entered, respond};
+ghost use Rattle.xen_steps.specs.Pages.{copy_words, covered};
+ghost use Rattle.xen_back.specs.Turned.{Refused};
+
+use crate::by_event::answering::begin_answers;
+use crate::by_event::copy::{Entering, Paging};
+use crate::by_event::executing::begin_run;
+use crate::by_event::stage::Stage;
+use crate::copy_buf::CopyBuf;
+use crate::state::State;
+use crate::turn::{Kind, Refusal};
+use crate::wiring::Wiring;
+use arrayvec::ArrayVec;
+use xen_netif::{Chain, Fragment, Status};
+use xen_page::{Entry, Place, check};
+
+/// After a whole chain.
+pub(crate) fn begin_copy<'p, 'b>(
+    wiring: &Wiring<'p>,
+    state: &State,
+    packet: CopyBuf<'b>,
+    chain: Chain,
+) -> Stage<'p, 'b>
+    requires { standing chain ≡ Some (Ok Complete) }
+    ensures here { IsTrue (is_here result) }
+    ensures rest { rest_in wiring.now state.now result ≡ after_chain wiring.now state.now chain (fragments_of chain) }
+{
+    match chain.fragments() {
+        Err(fault) => refuse(wiring, state, packet, chain, Refusal::Size(fault)),
+        Ok(fragments) => {
+            let mut packet = packet;
+            packet.clear();
+            next_fragment(wiring, state, packet, chain, fragments, 0)
+        }
+    }
+}
+
+/// The chain is answered with ERROR.
+pub(crate) fn refuse<'p, 'b>(
+    wiring: &Wiring<'p>,
+    state: &State,
+    packet: CopyBuf<'b>,
+    chain: Chain,
+    cause: Refusal,
+) -> Stage<'p, 'b>
+    ensures here { IsTrue (is_here result) }
+    ensures rest { rest_in wiring.now state.now result ≡ respond wiring.now state.now chain Error (Refused cause 0 (length chain)) }
+{
+    let slots = chain.requests().len() as u32;
+    let kind = Kind::Refused {
+        cause,
+        ops: 0,
+        slots,
+    };
+    begin_answers(wiring, state, packet, *state, &chain, Status::Error, kind)
+}
+
+/// Before the i-th fragment, or after the last.
+fn next_fragment<'p, 'b>(
+    wiring: &Wiring<'p>,
+    state: &State,
+    packet: CopyBuf<'b>,
+    chain: Chain,
+    fragments: ArrayVec<Fragment, 18>,
+    i: usize,
+) -> Stage<'p, 'b>
+    requires within { i ≤ length fragments.items }
+    requires room { length packet + sum_by fragment_size (drop i fragments.items) ≤ 65535 }
+    ensures here { IsTrue (is_here result) }
+    ensures rest { rest_in wiring.now state.now result ≡ bind (copy wiring.now (drop i fragments.items) packet.entry) (after_copy wiring.now state.now chain) }
+{
+    if i == fragments.len() {
+        begin_run(wiring, state, packet, chain)
+    } else {
+        let fragment = fragments[i];
+        match wiring.vif.table.place(fragment.gref) {
+            None => refuse(wiring, state, packet, chain, Refusal::Grant),
+            Some(at) => entering(wiring, state, packet, chain, fragments, i, at),
+        }
+    }
+}
+
+/// Before the entry of the i-th fragment.
+fn entering<'p, 'b>(
+    wiring: &Wiring<'p>,
+    state: &State,
+    packet: CopyBuf<'b>,
+    chain: Chain,
+    fragments: ArrayVec<Fragment, 18>,
+    i: usize,
+    at: Place,
+) -> Stage<'p, 'b>
+    requires word { at.word < 1023 }
+    requires within { i < length fragments.items }
+    requires room { length packet + sum_by fragment_size (drop i fragments.items) ≤ 65535 }
+    ensures here { IsTrue (is_here result) }
+    ensures rest { rest_in wiring.now state.now result ≡ bind (bind (entry_at wiring.now.vif false (Some at)) (entered (fragment_at fragments.items i) (copy wiring.now (drop (i + 1) fragments.items)) packet.entry)) (after_copy wiring.now state.now chain) }
+{
+    Stage::EntryFlags(Entering {
+        chain,
+        fragments,
+        packet,
+        i,
+        at,
+    })
+}
+
+/// After an entry's flags word.
+pub(crate) fn flags_read<'p, 'b>(
+    wiring: &Wiring<'p>,
+    state: &State,
+    entry: Entering<'b>,
+    flags_word: u32,
+) -> Stage<'p, 'b>
+    ensures here { IsTrue (is_here result) }
+    ensures rest { rest_in wiring.now state.now result ≡ bind (bind (entry_checked wiring.now.vif false entry.entry.at flags_word) (entered (fragment_at entry.entry.fragments.items entry.entry.i) (copy wiring.now (drop (entry.entry.i + 1) entry.entry.fragments.items)) entry.entry.packet)) (after_copy wiring.now state.now entry.entry.chain) }
+{
+    Stage::EntryFrame { entry, flags_word }
+}
+
+/// After an entry.
+pub(crate) fn entry_read<'p, 'b>(
+    wiring: &Wiring<'p>,
+    state: &State,
+    entry: Entering<'b>,
+    flags_word: u32,
+    frame_word: u32,
+) -> Stage<'p, 'b>
+    ensures here { IsTrue (is_here result) }
+    ensures rest { rest_in wiring.now state.now result ≡ bind (entered (fragment_at entry.entry.fragments.items entry.entry.i) (copy wiring.now (drop (entry.entry.i + 1) entry.entry.fragments.items)) entry.entry.packet (checked wiring.now.vif.owners.now wiring.now.vif.granter wiring.now.vif.user (entry_of flags_word frame_word) false)) (after_copy wiring.now state.now entry.entry.chain) }
+{
+    let Entering {
+        chain,
+        fragments,
+        packet,
+        i,
+        at: _,
+    } = entry;
+    match check(
+        wiring.vif.owners,
+        wiring.vif.granter,
+        wiring.vif.user,
+        Entry::of_words(flags_word, frame_word),
+        false,
+    ) {
+        Err(_) => refuse(wiring, state, packet, chain, Refusal::Grant),
+        Ok(frame) => {
+            let fragment = fragments[i];
+            begin_page(
+                wiring,
+                state,
+                packet,
+                chain,
+                fragments,
+                i + 1,
+                fragment,
+                frame,
+            )
+        }
+    }
+}
+
+/// Before the words of a fragment's page.
+fn begin_page<'p, 'b>(
+    wiring: &Wiring<'p>,
+    state: &State,
+    packet: CopyBuf<'b>,
+    chain: Chain,
+    fragments: ArrayVec<Fragment, 18>,
+    i: usize,
+    fragment: Fragment,
+    frame: u32,
+) -> Stage<'p, 'b>
+    requires within { i ≤ length fragments.items }
+    requires room { length packet + fragment.size + sum_by fragment_size (drop i fragments.items) ≤ 65535 }
+    ensures here { IsTrue (is_here result) }
+    ensures rest { rest_in wiring.now state.now result ≡ bind (bind (copy_words fragment frame (fragment.offset / 4) (covered fragment) packet.entry) (copy wiring.now (drop i fragments.items))) (after_copy wiring.now state.now chain) }
+{
+    let words = fragment.covered_words();
+    if words.start == words.end {
+        next_fragment(wiring, state, packet, chain, fragments, i)
+    } else {
+        let place = words.start;
+        let n = words.end - words.start - 1;
+        paging(
+            wiring, state, packet, chain, fragments, i, fragment, frame, place, n,
+        )
+    }
+}
+
+/// Before a word of a page.
+fn paging<'p, 'b>(
+    wiring: &Wiring<'p>,
+    state: &State,
+    packet: CopyBuf<'b>,
+    chain: Chain,
+    fragments: ArrayVec<Fragment, 18>,
+    i: usize,
+    fragment: Fragment,
+    frame: u32,
+    place: u32,
+    n: u32,
+) -> Stage<'p, 'b>
+    requires within { i ≤ length fragments.items }
+    requires covers { Covers fragment place }
+    requires last { place + n ≡ (fragment.offset + fragment.size - 1) / 4 }
+    requires room { HasRoom (length packet) fragment place (sum_by fragment_size (drop i fragments.items)) }
+    ensures here { IsTrue (is_here result) }
+    ensures rest { rest_in wiring.now state.now result ≡ bind (bind (copy_words fragment frame place (suc n) packet.entry) (copy wiring.now (drop i fragments.items))) (after_copy wiring.now state.now chain) }
+{
+    Stage::Page(Paging {
+        chain,
+        fragments,
+        packet,
+        i,
+        fragment,
+        frame,
+        place,
+        n,
+    })
+}
+
+/// After a word of a page.
+pub(crate) fn page_read<'p, 'b>(
+    wiring: &Wiring<'p>,
+    state: &State,
+    page: Paging<'b>,
+    word: u32,
+) -> Stage<'p, 'b>
+    ensures here { IsTrue (is_here result) }
+    ensures rest { rest_in wiring.now state.now result ≡ bind (bind (copy_words page.entry.fragment page.entry.frame (page.entry.place + 1) page.entry.n (page.entry.packet ++ bytes_in page.entry.fragment page.entry.place word)) (copy wiring.now (drop page.entry.i page.entry.fragments.items))) (after_copy wiring.now state.now page.entry.chain) }
+{
+    let Paging {
+        chain,
+        fragments,
+        mut packet,
+        i,
+        fragment,
+        frame,
+        place,
+        n,
+    } = page;
+    let bytes = fragment.bytes_in(place, word);
+    packet.push_all(bytes.as_slice());
+    if n == 0 {
+        next_fragment(wiring, state, packet, chain, fragments, i)
+    } else {
+        paging(
+            wiring,
+            state,
+            packet,
+            chain,
+            fragments,
+            i,
+            fragment,
+            frame,
+            place + 1,
+            n - 1,
+        )
+    }
+}

@@ -1,0 +1,115 @@
+//! Running the program on the copy.
+//!
+//! Some functions take `wiring` and `state` for their contracts alone: both fix what the queue has left.
+
+ghost use Rattle.std.specs.Prelude.{ℕ, ◌≡◌, ◌+◌, IsTrue, Some};
+ghost use Rattle.bpf_vm.specs.Course.{left};
+ghost use Rattle.xen_back.specs.Rest.{is_here, rest_in};
+ghost use Rattle.xen_steps.specs.Steps.{bind, next_by, want_of};
+ghost use Rattle.xen_back.specs.Tree.{after_copy, after_run, program};
+
+use crate::by_event::answering::begin_answers;
+use crate::by_event::sent::begin_send;
+use crate::by_event::stage::{Executing, Stage};
+use crate::copy_buf::CopyBuf;
+use crate::decisions::status;
+use crate::state::State;
+use crate::turn::Kind;
+use crate::wiring::Wiring;
+use bpf_vm::{Vm, VmWant, XDP_TX};
+use xen_netif::Chain;
+use xen_steps::Want;
+
+/// After the copy.
+pub(crate) fn begin_run<'p, 'b>(
+    wiring: &Wiring<'p>,
+    state: &State,
+    packet: CopyBuf<'b>,
+    chain: Chain,
+) -> Stage<'p, 'b>
+    ensures here { IsTrue (is_here result) }
+    ensures rest { rest_in wiring.now state.now result ≡ after_copy wiring.now state.now chain (Some packet.entry) }
+{
+    let vm = Vm::start(
+        wiring.program,
+        packet.into_packet(),
+        wiring.ifindex,
+        wiring.queue,
+    );
+    Stage::Run(Executing { chain, vm, ops: 0 })
+}
+
+/// What the program wants.
+pub(crate) fn executing_want(wiring: &Wiring, state: &State, run: &Executing) -> Want
+    ensures { result ≡ want_of (bind (program (left run.now.vm) run.now.ops) (after_run wiring.now state.now run.now.chain)) }
+{
+    match run.vm.want() {
+        VmWant::Step => Want::Instr,
+        VmWant::Exit { .. } => Want::Instr,
+        VmWant::Load { m, k, j } => Want::Load { m, k, j },
+        VmWant::Add { m, k, j, delta } => Want::Add { m, k, j, delta },
+    }
+}
+
+/// After an instruction.
+pub(crate) fn executed<'p, 'b>(
+    wiring: &Wiring<'p>,
+    state: &State,
+    run: Executing<'p, 'b>,
+    word: u32,
+    counter: u64,
+) -> Stage<'p, 'b>
+    ensures here { IsTrue (is_here result) }
+    ensures rest { rest_in wiring.now state.now result ≡ next_by (bind (program (left run.entry.vm) run.entry.ops) (after_run wiring.now state.now run.entry.chain)) word counter }
+{
+    let Executing { chain, mut vm, ops } = run;
+    match vm.want() {
+        VmWant::Step => {
+            vm.step();
+            Stage::Run(Executing { chain, vm, ops })
+        }
+        VmWant::Load { .. } => {
+            vm.loaded(counter);
+            let _count = vm.count();
+            Stage::Run(Executing {
+                chain,
+                vm,
+                ops: ops + 1,
+            })
+        }
+        VmWant::Add { .. } => {
+            vm.added(counter);
+            let _count = vm.count();
+            Stage::Run(Executing {
+                chain,
+                vm,
+                ops: ops + 1,
+            })
+        }
+        VmWant::Exit { .. } => {
+            let (number, packet) = vm.finish();
+            ran(wiring, state, CopyBuf::of(packet), chain, number, ops)
+        }
+    }
+}
+
+/// After the run.
+fn ran<'p, 'b>(
+    wiring: &Wiring<'p>,
+    state: &State,
+    packet: CopyBuf<'b>,
+    chain: Chain,
+    number: u32,
+    ops: u32,
+) -> Stage<'p, 'b>
+    ensures here { IsTrue (is_here result) }
+    ensures rest { rest_in wiring.now state.now result ≡ after_run wiring.now state.now chain (record { number = number; packet = packet.entry; ops = ops }) }
+{
+    if number == XDP_TX {
+        begin_send(wiring, state, packet, chain, ops)
+    } else {
+        let slots = chain.requests().len() as u32;
+        let kind = Kind::Ran { number, ops, slots };
+        begin_answers(wiring, state, packet, *state, &chain, status(number), kind)
+    }
+}

@@ -1,0 +1,72 @@
+//! What a queue wants next.
+
+ghost use Rattle.std.specs.Prelude.{◌≡◌};
+ghost use Rattle.xen_back.specs.Rest.{rest_at, rest_in};
+ghost use Rattle.xen_steps.specs.Steps.{next, want_of};
+
+use crate::by_event::answering::answering_want;
+use crate::by_event::executing::executing_want;
+use crate::by_event::phase::Phase;
+use crate::by_event::sent::sent_want;
+use crate::by_event::stage::Stage;
+use crate::copy_buf::CopyBuf;
+use crate::decisions::slot_index;
+use crate::state::State;
+use crate::wiring::Wiring;
+use xen_page::Place;
+use xen_ring::{REQ_EVENT, REQ_PROD, RSP_EVENT};
+use xen_steps::{Want, header, tx_entry};
+
+/// What a phase wants.
+fn phase_want(wiring: &Wiring, state: &State, packet: &CopyBuf, phase: &Phase) -> Want
+    ensures { result ≡ want_of (rest_at wiring.now state.now packet.now phase.now) }
+{
+    match phase {
+        Phase::Ready => match state.halt {
+            Some(_) => Want::Done,
+            None => Want::Read(header(wiring.vif.tx, REQ_PROD)),
+        },
+        Phase::Announce => Want::Write(
+            header(wiring.vif.tx, REQ_EVENT),
+            state.tx_index.wrapping_add(1),
+        ),
+        Phase::CheckAgain => Want::Read(header(wiring.vif.tx, REQ_PROD)),
+        Phase::First(reading) => Want::Read(tx_entry(
+            wiring.vif.tx,
+            slot_index(state, &reading.chain),
+            0,
+        )),
+        Phase::Second(reading, _) => Want::Read(tx_entry(
+            wiring.vif.tx,
+            slot_index(state, &reading.chain),
+            1,
+        )),
+        Phase::Third(reading, _, _) => Want::Read(tx_entry(
+            wiring.vif.tx,
+            slot_index(state, &reading.chain),
+            2,
+        )),
+        Phase::Answering { at, words, i, .. } => answering_want(wiring, at, words, *i),
+        Phase::ReadEvent { .. } => Want::Read(header(wiring.vif.tx, RSP_EVENT)),
+        Phase::Notice { .. } => Want::Notify(wiring.vif.port),
+        Phase::Ended { .. } => Want::Done,
+    }
+}
+
+/// What a stage wants.
+pub(crate) fn stage_want(wiring: &Wiring, state: &State, stage: &Stage) -> Want
+    ensures { result ≡ want_of (rest_in wiring.now state.now stage.now) }
+{
+    match stage {
+        Stage::At(packet, phase) => phase_want(wiring, state, packet, phase),
+        Stage::EntryFlags(entry) => Want::Read(entry.at),
+        Stage::EntryFrame { entry, .. } => Want::Read(entry.at.next()),
+        Stage::Page(page) => Want::Read(Place {
+            frame: page.frame,
+            word: page.place,
+        }),
+        Stage::Run(run) => executing_want(wiring, state, run),
+        Stage::Send(packet, sent) => sent_want(wiring, state, packet, sent),
+        Stage::Gone => Want::Done,
+    }
+}

@@ -1,0 +1,131 @@
+//! What a turn decides, whichever way it goes: the status and the response of a slot, and the state behind it.
+ghost use Rattle.std.specs.Prelude.{◌≡◌, List, Option, Some, length, ℕ};
+ghost use Rattle.xen_back.specs.Rest.{after_reply};
+ghost use Rattle.xen_back.specs.Tree.{after_transmit, answered, moved, response as response_spec, status_of};
+ghost use Rattle.xen_back.specs.declared.wiring.Wiring.{Wiring as WiringView};
+ghost use Rattle.xen_netif.specs.Chain.{Slot};
+ghost use Rattle.xen_netif.specs.declared.tx.TxReq.{TxReq};
+ghost use Rattle.xen_steps.specs.Places.{add32};
+
+use crate::state::State;
+use crate::turn::{Halt, Kind, Refusal};
+use bpf_vm::{XDP_DROP, XDP_PASS, XDP_TX};
+use xen_netif::{Chain, Status, TxReq, TxRsp};
+use xen_transmit::Outcome;
+
+/// The status of the responses to a packet that isn't sent back, by the number that the program ended with.
+pub(crate) fn status(number: u32) -> Status
+    ensures { result ≡ status_of number }
+{
+    match number {
+        XDP_PASS => Status::Okay,
+        XDP_DROP => Status::Dropped,
+        _ => Status::Error,
+    }
+}
+
+/// The first word of the response to a slot: of an extra where there is no request.
+pub(crate) fn response(status: Status, request: &Option<TxReq>) -> u32
+    ensures { result ≡ response_spec status request.now }
+{
+    let response = match request {
+        Some(request) => TxRsp {
+            id: request.id,
+            status: status.code(),
+        },
+        None => TxRsp {
+            id: 0,
+            status: Status::Null.code(),
+        },
+    };
+    response.words()[0]
+}
+
+/// The index of the slot that a chain wants.
+pub(crate) fn slot_index(state: &State, chain: &Chain) -> u32
+    ensures { result ≡ add32 state.now.tx_index (length chain.now) }
+{
+    state.tx_index.wrapping_add(chain.len() as u32)
+}
+
+/// The state after so many tx slots are answered.
+pub(crate) fn after_answers(state: &State, n: u32) -> State
+    ensures { result ≡ answered state.now n }
+{
+    State {
+        tx_index: state.tx_index.wrapping_add(n),
+        rx_index: state.rx_index,
+        halt: state.halt,
+    }
+}
+
+/// The state after so many rx slots are answered.
+pub(crate) fn after_slots(state: &State, n: u32) -> State
+    ensures { result ≡ moved state.now n }
+{
+    State {
+        tx_index: state.tx_index,
+        rx_index: state.rx_index.wrapping_add(n),
+        halt: state.halt,
+    }
+}
+
+/// A state that has halted.
+pub(crate) fn halted(state: &State, cause: Halt) -> State
+    ensures { result ≡ record state.now { halt = Some cause } }
+{
+    State {
+        tx_index: state.tx_index,
+        rx_index: state.rx_index,
+        halt: Some(cause),
+    }
+}
+
+/// The responses to a chain: the state that they begin at, their status, and the turn that they end.
+#[derive(Clone, Copy, Debug, PartialEq, Eq)]
+pub struct Reply {
+    pub at: State,
+    pub status: Status,
+    pub kind: Kind,
+}
+
+/// What follows a transmit: an answer to the packet's chain, or a halt.
+pub(crate) fn after_sending(
+    state: &State,
+    ops: u32,
+    slots: u32,
+    outcome: Outcome,
+) -> Result<Reply, Halt>
+    ensures { (w : WiringView) → (chain : List Slot) → (packet : List ℕ) → length chain ≡ slots → after_transmit w state.now chain packet ops outcome ≡ after_reply w state.now chain packet result }
+{
+    match outcome {
+        Outcome::Overflow => Err(Halt::RxProducer),
+        Outcome::TooFew => Ok(Reply {
+            at: *state,
+            status: Status::Error,
+            kind: Kind::Refused {
+                cause: Refusal::FewSlots,
+                ops,
+                slots,
+            },
+        }),
+        Outcome::Refused(used) => Ok(Reply {
+            at: after_slots(state, used),
+            status: Status::Error,
+            kind: Kind::Refused {
+                cause: Refusal::RxGrant,
+                ops,
+                slots,
+            },
+        }),
+        Outcome::Sent(used) => Ok(Reply {
+            at: after_slots(state, used),
+            status: Status::Okay,
+            kind: Kind::Ran {
+                number: XDP_TX,
+                ops,
+                slots,
+            },
+        }),
+    }
+}

@@ -1,0 +1,194 @@
+//! A delivery one event at a time, for a host that serves each event itself.
+
+ghost use Rattle.std.specs.Prelude.{◌≡◌, ◌≢◌, ℕ, true};
+ghost use Rattle.xen_steps.specs.Answers.{Fits};
+ghost use Rattle.xen_steps.specs.Drive.{IsPageWant};
+ghost use Rattle.xen_steps.specs.Steps.{done, next_by, want_of};
+ghost use Rattle.xen_transmit.specs.Wired.{IsWired};
+ghost use Rattle.xen_back.specs.Delivered.{is_frame};
+ghost use Rattle.xen_back.specs.ByEvent.{IsBegun, IsDeliveryAsked, IsDeliveryFed, IsDeliveryOf, IsDeliveryOver, frames_of, left_of};
+ghost use Rattle.xen_back.specs.Deliveries.{Arrival, rest_moving, unless_halted, whole_delivery};
+ghost use Rattle.xen_back.specs.Queues.{IsReady};
+
+use crate::delivery::delivering::{Delivery, can_be_delivered, delivered};
+use crate::delivery::moving::{Moving, Sending};
+use crate::delivery::underway::Delivering;
+use crate::queue::Queue;
+use crate::state::State;
+use std::mem;
+use xen_steps::{Answer, Want};
+use xen_transmit::{Progress, Transmit, Vif};
+
+/// A delivery of which nothing is done.
+fn begun<'d>(vif: &Vif, state: &State, packet: &'d [u8]) -> Moving<'d>
+    ensures { rest_moving vif.now state.now result ≡ whole_delivery vif.now state.now packet.now }
+{
+    if can_be_delivered(packet) {
+        begun_frame(vif, state, packet)
+    } else {
+        Moving::Over {
+            after: *state,
+            delivery: Delivery::NoFrame,
+        }
+    }
+}
+
+/// A delivery of a packet, unless the queue has halted.
+fn begun_frame<'d>(vif: &Vif, state: &State, packet: &'d [u8]) -> Moving<'d>
+    requires { is_frame packet.now ≡ true }
+    ensures { rest_moving vif.now state.now result ≡ unless_halted vif.now state.now packet.now state.now.halt }
+{
+    match state.halt {
+        Some(cause) => Moving::Over {
+            after: *state,
+            delivery: Delivery::Halted { cause },
+        },
+        None => {
+            let transmit = Transmit::begin(vif, state.rx_index, packet);
+            Moving::Sending(Sending { packet, transmit })
+        }
+    }
+}
+
+/// The same vif once more.
+fn shared<'p>(vif: &Vif<'p>) -> Vif<'p>
+    ensures { result ≡ vif.now }
+{
+    Vif {
+        tx: vif.tx,
+        rx: vif.rx,
+        table: vif.table,
+        owners: vif.owners,
+        granter: vif.granter,
+        user: vif.user,
+        port: vif.port,
+    }
+}
+
+/// A delivery of which nothing is done, with what it is wired to.
+fn underway<'p, 'd>(vif: &Vif<'p>, state: &State, packet: &'d [u8]) -> Delivering<'p, 'd>
+    requires wired { IsWired vif.now }
+    ensures left { left_of result ≡ whole_delivery vif.now state.now packet.now }
+    ensures vif { result.vif ≡ vif.now }
+    ensures state { result.state ≡ state.now }
+{
+    let moving = begun(vif, state, packet);
+    Delivering {
+        vif: shared(vif),
+        state: *state,
+        moving,
+    }
+}
+
+/// What a transmit wants.
+fn sending_want(vif: &Vif, state: &State, sending: &Sending) -> Want
+    ensures want { result ≡ want_of (rest_moving vif.now state.now (Moving.Sending sending.now)) }
+    ensures asks { result ≢ Want.Done }
+{
+    sending.transmit.want(vif, state.rx_index, sending.packet)
+}
+
+/// What a delivery wants.
+fn moving_want(vif: &Vif, state: &State, moving: &Moving) -> Want
+    ensures { result ≡ want_of (rest_moving vif.now state.now moving.now) }
+{
+    match moving {
+        Moving::Sending(sending) => sending_want(vif, state, sending),
+        Moving::Over { .. } => Want::Done,
+    }
+}
+
+/// A delivery after an event.
+fn moving_fed<'d>(vif: &Vif, state: &State, moving: Moving<'d>, word: u32) -> Moving<'d>
+    ensures { (counter : ℕ) → rest_moving vif.now state.now result ≡ next_by (rest_moving vif.now state.now moving.entry) word counter }
+{
+    match moving {
+        Moving::Sending(sending) => sending_fed(vif, state, sending, word),
+        over => over,
+    }
+}
+
+/// A delivery after an event of its transmit.
+fn sending_fed<'d>(vif: &Vif, state: &State, sending: Sending<'d>, word: u32) -> Moving<'d>
+    ensures { (counter : ℕ) → rest_moving vif.now state.now result
+        ≡ next_by (rest_moving vif.now state.now (Moving.Sending sending.entry)) word counter }
+{
+    let Sending { packet, transmit } = sending;
+    match transmit.feed(vif, state.rx_index, packet, word) {
+        Progress::On(transmit) => Moving::Sending(Sending { packet, transmit }),
+        Progress::Over(outcome) => {
+            let (after, delivery) = delivered(state, outcome);
+            Moving::Over { after, delivery }
+        }
+    }
+}
+
+/// What a delivery that wants nothing more came to.
+fn moved(vif: &Vif, state: &State, moving: &Moving) -> (State, Delivery)
+    requires { want_of (rest_moving vif.now state.now moving.now) ≡ Want.Done }
+    ensures { rest_moving vif.now state.now moving.now ≡ done (result.0, result.1) }
+{
+    match moving {
+        Moving::Over { after, delivery } => (*after, *delivery),
+        Moving::Sending(sending) => {
+            let _want = sending_want(vif, state, sending);
+            unreachable!()
+        }
+    }
+}
+
+impl<'p, 'd> Delivering<'p, 'd> {
+    /// What the delivery wants next: [`Want::Done`] once it is over.
+    pub fn want(&self) -> Want
+        ensures want { result ≡ want_of (left_of self.now) }
+        ensures within { result ≢ Want.Done → IsPageWant (frames_of self.now) result }
+        ensures over { result ≡ Want.Done → (end : Arrival) × (left_of self.now ≡ done end) }
+    {
+        moving_want(&self.vif, &self.state, &self.moving)
+    }
+
+    /// What the delivery wants next, for a caller that holds it by `&mut`.
+    pub fn wanted(&mut self) -> Want
+        ensures { IsDeliveryAsked result self.old self.new }
+    {
+        moving_want(&self.vif, &self.state, &self.moving)
+    }
+
+    /// Goes on with the answer to what the delivery wants.
+    pub fn feed(&mut self, answer: Answer)
+        requires { Fits (want_of (left_of self.old)) answer }
+        ensures { IsDeliveryFed answer self.old self.new }
+    {
+        let word = answer.word();
+        let gone = Moving::Over {
+            after: self.state,
+            delivery: Delivery::NoFrame,
+        };
+        let moving = mem::replace(&mut self.moving, gone);
+        self.moving = moving_fed(&self.vif, &self.state, moving, word);
+    }
+}
+
+impl<'p, 'b> Queue<'p, 'b> {
+    /// Begins the delivery of a packet of the host's own, one event at a time. The queue takes no turn until
+    /// [`Queue::end_delivery`].
+    pub fn begin_delivery<'d>(&self, packet: &'d [u8]) -> Delivering<'p, 'd>
+        requires ready { IsReady self.now }
+        ensures { IsBegun self.now packet.now result }
+    {
+        underway(&self.wiring.vif, &self.state, packet)
+    }
+
+    /// Ends a delivery that wants nothing more: the queue goes on behind it.
+    pub fn end_delivery(&mut self, delivering: Delivering<'_, '_>) -> Delivery
+        requires ready { IsReady self.old }
+        requires own { IsDeliveryOf self.old delivering }
+        requires over { want_of (left_of delivering) ≡ Want.Done }
+        ensures { IsDeliveryOver self.old self.new delivering.entry result }
+    {
+        let _vif = &self.wiring.vif;
+        let (after, delivery) = moved(&delivering.vif, &delivering.state, &delivering.moving);
+        self.state = after;
+        delivery
+    }
+}

@@ -1,0 +1,125 @@
+//! A packet of the host's own, delivered to the frontend.
+
+ghost use Rattle.std.specs.Prelude.{◌≡◌, List, ℕ, None, length, true};
+ghost use Rattle.xen_page.specs.Access.{Performs};
+ghost use Rattle.xen_steps.specs.Drive.{accesses};
+ghost use Rattle.xen_steps.specs.Event.{Event};
+ghost use Rattle.xen_transmit.specs.Sending.{IsTransmit};
+ghost use Rattle.xen_transmit.specs.Wired.{IsWired};
+ghost use Rattle.xen_back.specs.Delivered.{IsDelivered, IsDelivery, is_frame};
+ghost use Rattle.xen_back.specs.Deliveries.{arrival};
+ghost use Rattle.xen_back.specs.Queues.{IsReady, wiring_of};
+ghost use Rattle.xen_back.specs.declared.wiring.Wiring.{Wiring as WiringView};
+
+use crate::decisions::{after_slots, halted};
+use crate::queue::Queue;
+use crate::state::State;
+use crate::turn::Halt;
+use crate::wiring::Wiring;
+use xen_page::Bus;
+use xen_ring::Ports;
+use xen_transmit::laws::transmits_are_runs;
+use xen_transmit::{Outcome, send_packet};
+
+/// What became of a packet that the host delivers.
+#[derive(Clone, Copy, Debug, PartialEq, Eq)]
+pub enum Delivery {
+    /// It lies in the buffers of so many rx slots.
+    Sent { slots: u32 },
+    /// The frontend posted fewer rx slots than the packet has pages. None was taken.
+    FewSlots,
+    /// A posted slot's grant failed its check, and so many slots were answered with ERROR.
+    Refused { slots: u32 },
+    /// The queue has halted, and stays so.
+    Halted { cause: Halt },
+    /// It has fewer than 14 bytes, or more than 65,535. Nothing was done.
+    NoFrame,
+}
+
+/// Whether a packet can be delivered.
+pub(crate) fn can_be_delivered(packet: &[u8]) -> bool
+    ensures { result ≡ is_frame packet.now }
+{
+    !(packet.len() < 14 || packet.len() > 65_535)
+}
+
+/// What a transmit of the host's packet came to.
+pub(crate) fn delivered(state: &State, outcome: Outcome) -> (State, Delivery)
+    ensures arrival { arrival state.now outcome ≡ (result.0, result.1) }
+    ensures rows { (w : WiringView) (packet : List ℕ) (p : List Event) → is_frame packet ≡ true → state.now.halt ≡ None
+        → IsTransmit w.vif state.now.rx_index packet p outcome → IsDelivery w state.now packet p result.0 result.1 }
+{
+    match outcome {
+        Outcome::Overflow => {
+            let cause = Halt::RxProducer;
+            (halted(state, cause), Delivery::Halted { cause })
+        }
+        Outcome::TooFew => (*state, Delivery::FewSlots),
+        Outcome::Refused(slots) => (after_slots(state, slots), Delivery::Refused { slots }),
+        Outcome::Sent(slots) => (after_slots(state, slots), Delivery::Sent { slots }),
+    }
+}
+
+/// Transmits a packet, unless the queue has halted.
+fn transmitted<B: Bus>(
+    wiring: &Wiring,
+    state: &State,
+    packet: &[u8],
+    bus: &mut B,
+    ports: &Ports,
+) -> (State, Delivery)
+    requires frame { is_frame packet.now ≡ true }
+    requires size { B.size bus.old ≡ length wiring.now.vif.owners.now }
+    requires wired { IsWired wiring.now.vif }
+    ensures size { B.size bus.new ≡ B.size bus.old }
+    ensures delivered { (p : List Event) × IsDelivery wiring.now state.now packet.now p result.0 result.1
+        × Performs B.log B.access_gives bus.old (accesses p) bus.new }
+{
+    // Only the proof uses what this call ensures: what a transmit is.
+    transmits_are_runs();
+    match state.halt {
+        Some(cause) => (*state, Delivery::Halted { cause }),
+        None => delivered(
+            state,
+            send_packet(&wiring.vif, state.rx_index, packet, bus, ports),
+        ),
+    }
+}
+
+/// Delivers a packet, or says why not.
+fn sent_out<B: Bus>(
+    wiring: &Wiring,
+    state: &State,
+    packet: &[u8],
+    bus: &mut B,
+    ports: &Ports,
+) -> (State, Delivery)
+    requires size { B.size bus.old ≡ length wiring.now.vif.owners.now }
+    requires wired { IsWired wiring.now.vif }
+    ensures size { B.size bus.new ≡ B.size bus.old }
+    ensures delivered { (p : List Event) × IsDelivery wiring.now state.now packet.now p result.0 result.1
+        × Performs B.log B.access_gives bus.old (accesses p) bus.new }
+{
+    if can_be_delivered(packet) {
+        transmitted(wiring, state, packet, bus, ports)
+    } else {
+        (*state, Delivery::NoFrame)
+    }
+}
+
+impl<'p, 'b> Queue<'p, 'b> {
+    /// Delivers a packet of the host's own to the frontend: it is copied into the buffers of posted rx slots, which are
+    /// answered. No program runs on it.
+    pub fn deliver<B: Bus>(&mut self, packet: &[u8], bus: &mut B, ports: &Ports) -> Delivery
+        requires ready { IsReady self.old }
+        requires size { B.size bus.old ≡ length (wiring_of self.old).vif.owners.now }
+        ensures ready { IsReady self.new }
+        ensures size { B.size bus.new ≡ B.size bus.old }
+        ensures delivered { IsDelivered B.log B.access_gives self.old self.new packet.now result bus.old bus.new }
+    {
+        let _vif = &self.wiring.vif;
+        let (after, delivery) = sent_out(&self.wiring, &self.state, packet, bus, ports);
+        self.state = after;
+        delivery
+    }
+}

@@ -1,0 +1,22 @@
+//! Where a delivery is that is taken one event at a time.
+
+ghost use Rattle.std.specs.Prelude.{◌≤◌, length};
+
+use crate::delivery::delivering::Delivery;
+use crate::state::State;
+use xen_transmit::Transmit;
+
+/// A packet that is being sent.
+#[derive(Drop)]
+pub struct Sending<'d> {
+    pub packet: &'d [u8],
+    pub transmit: Transmit,
+    ghost short: { length packet.now ≤ 65535 },
+}
+
+/// Where a delivery is.
+#[derive(Drop)]
+pub enum Moving<'d> {
+    Sending(Sending<'d>),
+    Over { after: State, delivery: Delivery },
+}

@@ -1,0 +1,74 @@
+//! Answering a packet's slots.
+
+ghost use Rattle.std.specs.Prelude.{◌≡◌, ◌≤◌, ◌<◌, ◌^◌, List, [], ◌∷◌, length};
+ghost use Rattle.xen_netif.specs.Chain.{Slot, requests_of};
+ghost use Rattle.xen_page.specs.Access.{Performs};
+ghost use Rattle.xen_page.specs.declared.access.Access.TheVariants as accesses;
+ghost use Rattle.xen_steps.specs.Event.{Event};
+ghost use Rattle.xen_steps.specs.Places.{add32, page_word, tx_entry as tx_entry_place};
+ghost use Rattle.xen_steps.specs.Steps.{done};
+ghost use Rattle.xen_transmit.specs.Wired.{IsWired};
+ghost use Rattle.xen_back.specs.Drive.{Driven};
+ghost use Rattle.xen_back.specs.Tree.{answered, respond};
+ghost use Rattle.xen_back.specs.Turned.{Turned};
+
+use crate::decisions::response;
+use crate::state::State;
+use crate::wiring::Wiring;
+use xen_netif::{Status, TxReq};
+use xen_page::Bus;
+use xen_ring::{Ports, RSP_EVENT, RSP_PROD, due};
+use xen_steps::{header, tx_entry};
+
+/// Writes the i-th response of a chain.
+fn write_answer<B: Bus>(wiring: &Wiring, bus: &mut B, at: &State, i: usize, word: u32)
+    requires frame { wiring.now.vif.tx < B.size bus.old }
+    requires few { i < 23 }
+    ensures size { B.size bus.new ≡ B.size bus.old }
+    ensures written { Performs B.log B.access_gives bus.old (accesses.Write (tx_entry_place wiring.now.vif.tx (add32 at.now.tx_index i) 0) word ∷ []) bus.new }
+{
+    let index = at.tx_index.wrapping_add(i as u32);
+    bus.write(tx_entry(wiring.vif.tx, index, 0), word);
+}
+
+/// Pushes so many responses, and reads the event index.
+fn push_answers<B: Bus>(wiring: &Wiring, bus: &mut B, at: &State, n: u32) -> u32
+    requires frame { wiring.now.vif.tx < B.size bus.old }
+    ensures size { B.size bus.new ≡ B.size bus.old }
+    ensures word { result < 2 ^ 32 }
+    ensures pushed { Performs B.log B.access_gives bus.old (accesses.Write (page_word wiring.now.vif.tx 2) (add32 at.now.tx_index n) ∷ accesses.Read (page_word wiring.now.vif.tx 3) result ∷ []) bus.new }
+{
+    bus.write(header(wiring.vif.tx, RSP_PROD), at.tx_index.wrapping_add(n));
+    bus.read(header(wiring.vif.tx, RSP_EVENT))
+}
+
+/// Sends a notice if one is due after so many responses.
+fn notify(wiring: &Wiring, at: &State, ports: &Ports, n: u32, event: u32) {
+    if due(at.tx_index, at.tx_index.wrapping_add(n), event) {
+        ports.notify(wiring.vif.port);
+    }
+}
+
+/// Answers a chain's slots, given by their requests.
+pub(crate) fn answer<B: Bus>(
+    wiring: &Wiring,
+    bus: &mut B,
+    ports: &Ports,
+    at: &State,
+    requests: &[Option<TxReq>],
+    status: Status,
+)
+    requires size { B.size bus.old ≡ length wiring.now.vif.owners.now }
+    requires wired { IsWired wiring.now.vif }
+    requires few { length requests.now ≤ 23 }
+    ensures size { B.size bus.new ≡ B.size bus.old }
+    ensures driven { (chain : List Slot) → requests_of chain ≡ requests.now → (u : Turned) → (t : List Event) × Driven B.log B.access_gives (respond wiring.now at.now chain status u)
+        (done (answered at.now (length chain), u)) bus.old bus.new [] [] t }
+{
+    for (i, request) in requests.iter().enumerate() {
+        write_answer(wiring, bus, at, i, response(status, request));
+    }
+    let n = requests.len() as u32;
+    let event = push_answers(wiring, bus, at, n);
+    notify(wiring, at, ports, n, event);
+}

@@ -1,0 +1,267 @@
+//! A turn, from its first look to its end.
+
+ghost use Rattle.std.specs.Prelude.{◌≡◌, IsTrue, IfOk, List, ℕ, suc, [], ◌∷◌, length, MatchResult, Ok, Err, Some};
+ghost use Rattle.bpf_maps.specs.Seats.{IsSeatOf};
+ghost use Rattle.xen_netif.specs.Fragments.{fragments_of, is_in_page};
+ghost use Rattle.xen_steps.specs.Event.{Event};
+ghost use Rattle.xen_steps.specs.Places.{add32};
+ghost use Rattle.xen_transmit.specs.Wired.{IsWired};
+ghost use Rattle.xen_back.specs.Drive.{Driven};
+ghost use Rattle.xen_back.specs.InOneGo.{after_slot, ended};
+ghost use Rattle.xen_back.specs.Rest.{packet_at};
+ghost use Rattle.xen_back.specs.Tree.{after_chain, after_look, whole_turn};
+ghost use Rattle.xen_back.specs.declared.by_event.phase.Phase.TheVariants as phases;
+ghost use Rattle.xen_back.specs.declared.by_event.stage.Stage.TheVariants as stages;
+
+use crate::by_event::stage::Stage;
+use crate::copy_buf::CopyBuf;
+use crate::decisions::halted;
+use crate::in_one_go::looking::look;
+use crate::in_one_go::running::{copy_and_run, refuse};
+use crate::in_one_go::slots::{LoneSlot, is_lone, read_chain, read_slot};
+use crate::state::State;
+use crate::turn::{Halt, Kind, Refusal};
+use crate::wiring::Wiring;
+use bpf_maps::{CounterSeat, Counters};
+use xen_netif::{Fragment, SizeFault, TxReq};
+use xen_page::Bus;
+use xen_ring::Ports;
+
+/// The packet in a slot that is a whole chain.
+fn lone_fragment(slot: &LoneSlot) -> Result<Fragment, SizeFault>
+    ensures in_page { IfOk result (λ f. IsTrue (is_in_page f)) }
+    ensures answer { MatchResult result (λ f. fragments_of (slot.now.words ∷ []) ≡ Ok (f ∷ [])) (λ fault. fragments_of (slot.now.words ∷ []) ≡ Err fault) }
+{
+    let TxReq {
+        gref,
+        offset,
+        size,
+        ..
+    } = TxReq::of_words(slot.words);
+    if size < 14 {
+        return Err(SizeFault::ShortPacket);
+    }
+    let fragment = Fragment { gref, offset, size };
+    if fragment.is_in_page() {
+        Ok(fragment)
+    } else {
+        Err(SizeFault::PastPage)
+    }
+}
+
+/// A turn whose packet is in one slot.
+fn one_slot<B: Bus>(
+    wiring: &Wiring,
+    state: &State,
+    bus: &mut B,
+    counters: &Counters,
+    seat: &mut CounterSeat,
+    ports: &Ports,
+    packet: &mut CopyBuf<'_>,
+    slot: &LoneSlot,
+) -> (State, Kind)
+    requires size { B.size bus.old ≡ length wiring.now.vif.owners.now }
+    requires wired { IsWired wiring.now.vif }
+    requires shapes { counters.now.shapes ≡ wiring.now.program.now.shapes }
+    requires seat { IsSeatOf counters.now seat.old }
+    ensures size { B.size bus.new ≡ B.size bus.old }
+    ensures seat { seat.new ≡ record seat.old { ops = seat.new.ops } }
+    ensures driven { (t : List Event) × Driven B.log B.access_gives (after_chain wiring.now state.now (slot.now.words ∷ []) (fragments_of (slot.now.words ∷ [])))
+        (ended result packet.new) bus.old bus.new seat.old.ops seat.new.ops t }
+{
+    let requests = [Some(TxReq::of_words(slot.words))];
+    match lone_fragment(slot) {
+        Ok(fragment) => copy_and_run(
+            wiring,
+            state,
+            bus,
+            counters,
+            seat,
+            ports,
+            packet,
+            &[fragment],
+            &requests,
+        ),
+        Err(fault) => refuse(wiring, state, bus, ports, &requests, Refusal::Size(fault)),
+    }
+}
+
+/// A turn whose packet begins with a slot that asks for another. It isn't inlined, so that its frame isn't cleared where a
+/// packet is in one slot.
+#[inline(never)]
+fn more_slots<B: Bus>(
+    wiring: &Wiring,
+    state: &State,
+    bus: &mut B,
+    counters: &Counters,
+    seat: &mut CounterSeat,
+    ports: &Ports,
+    packet: &mut CopyBuf<'_>,
+    first: [u32; 3],
+    left: u32,
+) -> (State, Kind)
+    requires size { B.size bus.old ≡ length wiring.now.vif.owners.now }
+    requires wired { IsWired wiring.now.vif }
+    requires shapes { counters.now.shapes ≡ wiring.now.program.now.shapes }
+    requires seat { IsSeatOf counters.now seat.old }
+    ensures size { B.size bus.new ≡ B.size bus.old }
+    ensures seat { seat.new ≡ record seat.old { ops = seat.new.ops } }
+    ensures driven { (t : List Event) × Driven B.log B.access_gives (after_slot wiring.now state.now left [] first)
+        (ended result packet.new) bus.old bus.new seat.old.ops seat.new.ops t }
+{
+    match read_chain(wiring, state, bus, first, left) {
+        Err(cause) => (halted(state, cause), Kind::Halted { cause }),
+        Ok(chain) => {
+            let requests = chain.requests();
+            match chain.fragments() {
+                Ok(fragments) => copy_and_run(
+                    wiring,
+                    state,
+                    bus,
+                    counters,
+                    seat,
+                    ports,
+                    packet,
+                    fragments.as_slice(),
+                    requests.as_slice(),
+                ),
+                Err(fault) => refuse(
+                    wiring,
+                    state,
+                    bus,
+                    ports,
+                    requests.as_slice(),
+                    Refusal::Size(fault),
+                ),
+            }
+        }
+    }
+}
+
+/// Where the next slot is.
+fn next_index(state: &State) -> u32
+    ensures { result ≡ add32 state.now.tx_index 0 }
+{
+    state.tx_index.wrapping_add(0)
+}
+
+/// A turn from its first slot. So many slots are left behind it.
+fn from_slot<B: Bus>(
+    wiring: &Wiring,
+    state: &State,
+    bus: &mut B,
+    counters: &Counters,
+    seat: &mut CounterSeat,
+    ports: &Ports,
+    packet: &mut CopyBuf<'_>,
+    left: u32,
+) -> (State, Kind)
+    requires size { B.size bus.old ≡ length wiring.now.vif.owners.now }
+    requires wired { IsWired wiring.now.vif }
+    requires shapes { counters.now.shapes ≡ wiring.now.program.now.shapes }
+    requires seat { IsSeatOf counters.now seat.old }
+    ensures size { B.size bus.new ≡ B.size bus.old }
+    ensures seat { seat.new ≡ record seat.old { ops = seat.new.ops } }
+    ensures driven { (t : List Event) × Driven B.log B.access_gives (after_look wiring.now state.now (Some (suc left)))
+        (ended result packet.new) bus.old bus.new seat.old.ops seat.new.ops t }
+{
+    let words = read_slot(bus, wiring.vif.tx, next_index(state));
+    if is_lone(words) {
+        let slot = LoneSlot { words };
+        one_slot(wiring, state, bus, counters, seat, ports, packet, &slot)
+    } else {
+        more_slots(
+            wiring, state, bus, counters, seat, ports, packet, words, left,
+        )
+    }
+}
+
+/// A turn after the last look.
+fn from_look<B: Bus>(
+    wiring: &Wiring,
+    state: &State,
+    bus: &mut B,
+    counters: &Counters,
+    seat: &mut CounterSeat,
+    ports: &Ports,
+    packet: &mut CopyBuf<'_>,
+    shown: Option<u32>,
+) -> (State, Kind)
+    requires size { B.size bus.old ≡ length wiring.now.vif.owners.now }
+    requires wired { IsWired wiring.now.vif }
+    requires shapes { counters.now.shapes ≡ wiring.now.program.now.shapes }
+    requires seat { IsSeatOf counters.now seat.old }
+    ensures size { B.size bus.new ≡ B.size bus.old }
+    ensures seat { seat.new ≡ record seat.old { ops = seat.new.ops } }
+    ensures driven { (t : List Event) × Driven B.log B.access_gives (after_look wiring.now state.now shown)
+        (ended result packet.new) bus.old bus.new seat.old.ops seat.new.ops t }
+{
+    match shown {
+        None => {
+            let cause = Halt::TxProducer;
+            (halted(state, cause), Kind::Halted { cause })
+        }
+        Some(n) => {
+            if n == 0 {
+                (*state, Kind::Idle)
+            } else {
+                from_slot(wiring, state, bus, counters, seat, ports, packet, n - 1)
+            }
+        }
+    }
+}
+
+/// A whole turn.
+fn turn<B: Bus>(
+    wiring: &Wiring,
+    state: &State,
+    bus: &mut B,
+    counters: &Counters,
+    seat: &mut CounterSeat,
+    ports: &Ports,
+    packet: &mut CopyBuf<'_>,
+) -> (State, Kind)
+    requires size { B.size bus.old ≡ length wiring.now.vif.owners.now }
+    requires wired { IsWired wiring.now.vif }
+    requires shapes { counters.now.shapes ≡ wiring.now.program.now.shapes }
+    requires seat { IsSeatOf counters.now seat.old }
+    ensures size { B.size bus.new ≡ B.size bus.old }
+    ensures seat { seat.new ≡ record seat.old { ops = seat.new.ops } }
+    ensures driven { (t : List Event) × Driven B.log B.access_gives (whole_turn wiring.now state.now)
+        (ended result packet.new) bus.old bus.new seat.old.ops seat.new.ops t }
+{
+    match state.halt {
+        Some(cause) => (*state, Kind::Halted { cause }),
+        None => {
+            let shown = look(wiring, state, bus);
+            from_look(wiring, state, bus, counters, seat, ports, packet, shown)
+        }
+    }
+}
+
+/// A whole turn of a stage that is between turns, and is so again behind it.
+pub(crate) fn stage_turned<'p, 'b, B: Bus>(
+    wiring: &Wiring<'p>,
+    state: &State,
+    bus: &mut B,
+    counters: &Counters,
+    seat: &mut CounterSeat,
+    ports: &Ports,
+    stage: &mut Stage<'p, 'b>,
+) -> (State, Kind)
+    requires ready { (p : List ℕ) × (stage.old ≡ stages.At p phases.Ready) }
+    requires size { B.size bus.old ≡ length wiring.now.vif.owners.now }
+    requires wired { IsWired wiring.now.vif }
+    requires shapes { counters.now.shapes ≡ wiring.now.program.now.shapes }
+    requires seat { IsSeatOf counters.now seat.old }
+    ensures ready { (p : List ℕ) × (stage.new ≡ stages.At p phases.Ready) }
+    ensures size { B.size bus.new ≡ B.size bus.old }
+    ensures seat { seat.new ≡ record seat.old { ops = seat.new.ops } }
+    ensures driven { (t : List Event) × Driven B.log B.access_gives (whole_turn wiring.now state.now)
+        (ended result (packet_at stage.new)) bus.old bus.new seat.old.ops seat.new.ops t }
+{
+    match stage {
+        Stage::At(packet, _) => turn(wiring, state, bus, counters, seat, ports, packet),
+        _ => unreachable!(),
+    }
+}

@@ -1,0 +1,88 @@
+//! A queue's calls: what it wants, what it is fed, and its turn.
+
+ghost use Rattle.std.specs.Prelude.{◌≡◌, ◌≢◌, ⊤, []};
+ghost use Rattle.std.specs.Borrow.{sem};
+ghost use denote.Follow.{follows_so};
+ghost use mir.Syntax.{named};
+ghost use mathlib.Core.Option.{none};
+ghost use Rattle.xen_steps.specs.Answers.{Fits};
+ghost use Rattle.xen_steps.specs.Steps.{done, want_of};
+ghost use Rattle.xen_back.specs.Queues.{HasRest, IsAsked, IsFed, IsOver, IsReady, rest, rx_ring_of, tx_ring_of, wiring_of};
+ghost use Rattle.xen_back.specs.Turned.{Ending};
+ghost use Rattle.xen_back.specs.Within.{may_want};
+ghost use Rattle.xen_back.specs.contracts.queue.Queue.{the_row};
+
+use crate::by_event::ending::{over, shown};
+use crate::by_event::feeding::stage_fed;
+use crate::by_event::stage::Stage;
+use crate::by_event::wanting::stage_want;
+use crate::queue::Queue;
+use crate::turn::Turn;
+use std::mem;
+use xen_page::Mapped;
+use xen_steps::{Answer, Want};
+
+impl<'p, 'b> Queue<'p, 'b> {
+    /// What the queue wants next.
+    pub fn want(&self) -> Want
+        ensures want { result ≡ want_of (rest self.now) }
+        ensures within { result ≢ Want.Done → may_want (wiring_of self.now) result }
+        ensures over { result ≡ Want.Done → (end : Ending) × (rest self.now ≡ done end) }
+        ensures rests { HasRest self.now }
+    {
+        stage_want(&self.wiring, &self.state, &self.stage)
+    }
+
+    /// What the queue wants next, for a caller that holds it by `&mut`.
+    pub fn wanted(&mut self) -> Want
+        ensures { IsAsked result self.old self.new }
+    {
+        // The borrow checker has to see this type in the body.
+        let _vif = &self.wiring.vif;
+        stage_want(&self.wiring, &self.state, &self.stage)
+    }
+
+    /// Goes on with the answer to what the queue wants.
+    pub fn feed(&mut self, answer: Answer)
+        requires { Fits (want_of (rest self.old)) answer }
+        ensures { IsFed answer self.old self.new }
+    {
+        let _vif = &self.wiring.vif;
+        let word = answer.word();
+        let counter = answer.counter();
+        let stage = mem::replace(&mut self.stage, Stage::Gone);
+        self.stage = stage_fed(&self.wiring, &self.state, stage, word, counter);
+    }
+
+    /// The turn that is over. Its packet lies in the queue's buffer, so the next turn can begin only once it is no longer
+    /// borrowed.
+    pub fn turn(&mut self) -> Turn<'_>
+        requires { want_of (rest self.old) ≡ Want.Done }
+        ensures* after { sem 𝓛 (follows_so
+            (the_row (record { mir = named 1; lft = [] }) (record { mir = named 2; lft = [] }))
+            (the_row (record { mir = named 1; lft = [] }) (record { mir = named 2; lft = [] }))
+            self.entry.ghost_name none (λ _ _. ⊤) (λ q. IsOver self.old q result)) }
+    {
+        let _vif = &self.wiring.vif;
+        let (after, kind) = over(&self.wiring, &self.state, &mut self.stage);
+        self.state = after;
+        shown(&self.stage, kind)
+    }
+
+    /// Ends a queue that is between turns, and hands back the mappings of its tx ring and its rx ring, so that they can be
+    /// unmapped.
+    pub fn close(self) -> (Mapped, Mapped)
+        requires { IsReady self }
+        ensures tx { result.0 ≡ tx_ring_of self.entry }
+        ensures rx { result.1 ≡ rx_ring_of self.entry }
+    {
+        let Queue {
+            wiring: _,
+            tx_ring,
+            rx_ring,
+            state: _,
+            stage: _,
+        } = self;
+        (tx_ring, rx_ring)
+    }
+}

@@ -1,0 +1,59 @@
+//! Making a queue.
+
+ghost use Rattle.std.specs.Prelude.{◌≡◌, true};
+ghost use Rattle.xen_page.specs.Mapping.{IsMappedBy};
+ghost use Rattle.xen_page.specs.Table.{IsTable};
+ghost use Rattle.xen_back.specs.Making.{IsMade};
+
+use crate::by_event::phase::Phase;
+use crate::by_event::stage::Stage;
+use crate::copy_buf::CopyBuf;
+use crate::desc::QueueDesc;
+use crate::queue::Queue;
+use crate::state::State;
+use crate::wiring::Wiring;
+use bpf_verify::Verified;
+use bpf_vm::Buffer;
+use xen_transmit::Vif;
+
+impl<'p, 'b> Queue<'p, 'b> {
+    /// A queue between turns, which keeps its packets in the buffer.
+    pub fn make(program: &'p Verified, desc: QueueDesc<'p>, buffer: &'b mut Buffer) -> Queue<'p, 'b>
+        requires tx { IsMappedBy desc.owners.now desc.granter desc.tx }
+        requires rx { IsMappedBy desc.owners.now desc.granter desc.rx }
+        requires writable { (desc.tx.write ≡ true) × (desc.rx.write ≡ true) }
+        requires table { IsTable desc.owners.now desc.granter desc.table.now }
+        ensures { IsMade program.now desc.entry result }
+    {
+        // Only the proof uses what this call ensures: every accepted program is consistent.
+        program.instructions();
+        let vif = Vif {
+            tx: desc.tx.frame(),
+            rx: desc.rx.frame(),
+            table: desc.table,
+            owners: desc.owners,
+            granter: desc.granter,
+            user: desc.user,
+            port: desc.port,
+        };
+        let wiring = Wiring {
+            vif,
+            program,
+            ifindex: desc.ifindex,
+            queue: desc.queue,
+        };
+        let state = State {
+            tx_index: desc.start,
+            rx_index: desc.start,
+            halt: None,
+        };
+        let stage = Stage::At(CopyBuf::empty(buffer), Phase::Ready);
+        Queue {
+            wiring,
+            tx_ring: desc.tx,
+            rx_ring: desc.rx,
+            state,
+            stage,
+        }
+    }
+}

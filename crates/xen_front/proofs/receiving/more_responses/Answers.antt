@@ -1,8 +1,0 @@
-use Rattle.std.proofs.Common.{◌<◌, ◌∙◌, sym, arith}
-use Rattle.xen_front.proofs.RestLemmas.{receive_more}
-use Rattle.xen_front.proofs.receiving.more_responses.Goals as goal
-
-pub returns-else-left-eq0-clause-rest : goal.returns-else-left-eq0-clause-rest
-returns-else-left-eq0-clause-rest c =
-    let h : 0 < c.args.left = omega (arith, c.if-left-eq0.false) in
-    c.before_response.ensures.rest ∙ sym (receive_more c.args.wiring.now c.args.left c.args.state.now (record { slots = c.args.slots; bad = c.args.bad; bytes = c.args.received.now }) h)

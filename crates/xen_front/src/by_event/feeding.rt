@@ -1,0 +1,303 @@
+//! A front's events: what it wants, and what it does with an answer.
+
+ghost use Rattle.std.specs.Prelude.{◌≡◌, ◌≢◌, ◌≤◌, ◌∷◌, ⊤, [], length};
+ghost use Rattle.std.specs.Borrow.{sem};
+ghost use denote.Follow.{follows_so};
+ghost use mir.Syntax.{named};
+ghost use mathlib.Core.Option.{none};
+ghost use Rattle.xen_front.specs.contracts.front.Front.{the_row};
+ghost use Rattle.xen_front.specs.Fronts.{IsAsked, IsFed, IsOver, rest, state_of, wiring_of};
+ghost use Rattle.xen_front.specs.Given.{Shows, given};
+ghost use Rattle.xen_front.specs.Rest.{HasSpace, busy_in, rest_at};
+ghost use Rattle.xen_front.specs.Slots.{ended, outstanding};
+ghost use Rattle.xen_front.specs.Tree.{take_all};
+ghost use Rattle.xen_front.specs.declared.by_event.phase.Phase.TheVariants as phases;
+ghost use Rattle.xen_ring.specs.Layout.{rsp_event};
+ghost use Rattle.xen_steps.specs.Answers.{Fits};
+ghost use Rattle.xen_steps.specs.Drive.{IsPageWant};
+ghost use Rattle.xen_steps.specs.Places.{add32, page_word};
+ghost use Rattle.xen_steps.specs.Steps.{done, next_by, want_of};
+
+use crate::by_event::phase::{Chained, Phase};
+use crate::by_event::posting::{
+    event_read, post_first, post_flags, post_frame, post_second, posted,
+};
+use crate::by_event::receiving::{
+    grant_ended, page_read, response_read, rx_first_looked, rx_looked,
+};
+use crate::by_event::sending::{
+    filled, filling_want, granted, piece_flags, piece_frame, slot_write, slot_written,
+};
+use crate::by_event::taking::{shown, tx_first_looked, tx_looked, tx_response_read};
+use crate::front::Front;
+use crate::packet::Packet;
+use crate::state::{Ring, State};
+use crate::turn::{Outcome, RxTurn};
+use std::mem;
+use xen_buffers::{Buffer, Wiring, buffer_of, grant_flags};
+use xen_page::Place;
+use xen_ring::{REQ_EVENT, REQ_PROD, RSP_EVENT, RSP_PROD};
+use xen_steps::{Answer, Want, header, rx_entry, tx_entry};
+
+/// The next tx response, or the rx ring's producer if none is left.
+fn taking(wiring: &Wiring, state: &State, n: u32) -> Want
+    ensures { result ≡ want_of (take_all wiring.now n state.now) }
+{
+    if n == 0 {
+        Want::Read(header(wiring.rx_frame, RSP_PROD))
+    } else {
+        Want::Read(tx_entry(wiring.tx_frame, state.tx.cons, 0))
+    }
+}
+
+/// Asks for a notice of the next response on a ring.
+fn announce(frame: u32, ring: &Ring) -> Want
+    ensures { result ≡ Want.Write (page_word frame rsp_event) (add32 ring.now.cons 1) }
+{
+    Want::Write(header(frame, RSP_EVENT), ring.cons.wrapping_add(1))
+}
+
+/// Ends a buffer's grant.
+fn end_grant(wiring: &Wiring, buffer: &Buffer) -> Want
+    ensures { result ≡ Want.Write (ended wiring.now buffer.now).at 0 }
+{
+    Want::Write(grant_flags(wiring, buffer), 0)
+}
+
+/// What a phase wants.
+fn phase_want(wiring: &Wiring, state: &State, sent: &[u8], received: &Packet, phase: &Phase) -> Want
+    requires { length sent.now ≤ 65535 }
+    ensures { result ≡ want_of (rest_at wiring.now state.now sent.now received.now phase.now) }
+{
+    match phase {
+        Phase::Ready => Want::Done,
+        Phase::GrantFrame(piece) => piece_frame(wiring, piece),
+        Phase::GrantFlags(piece) => piece_flags(wiring, piece),
+        Phase::Fill(filling) => filling_want(wiring, state, sent, filling),
+        Phase::Second(piece) => slot_write(wiring, sent, piece, 1),
+        Phase::Third(piece) => slot_write(wiring, sent, piece, 2),
+        Phase::PostFrame { id, start } => post_frame(wiring, state, *id, *start),
+        Phase::PostFlags { id, start } => post_flags(wiring, state, *id, *start),
+        Phase::PostFirst { id, start } => post_first(wiring, state, *id, *start),
+        Phase::PostSecond { id, start } => post_second(wiring, state, *id, *start),
+        Phase::Publish(push) => Want::Write(header(push.frame, REQ_PROD), push.new),
+        Phase::ReadEvent(push) => Want::Read(header(push.frame, REQ_EVENT)),
+        Phase::Notice => Want::Notify(wiring.port),
+        Phase::TxLook | Phase::TxLookAgain => Want::Read(header(wiring.tx_frame, RSP_PROD)),
+        Phase::TxAnnounce => announce(wiring.tx_frame, &state.tx),
+        Phase::Take(left) => taking(wiring, state, *left),
+        Phase::TxEnd { id, .. } => end_grant(wiring, &buffer_of(wiring.tx, *id)),
+        Phase::RxAnnounce => announce(wiring.rx_frame, &state.rx),
+        Phase::RxLookAgain => Want::Read(header(wiring.rx_frame, RSP_PROD)),
+        Phase::RxFirst(_) => Want::Read(rx_entry(wiring.rx_frame, state.rx.cons, 0)),
+        Phase::RxSecond { .. } => Want::Read(rx_entry(wiring.rx_frame, state.rx.cons, 1)),
+        Phase::RxEnd(part) => end_grant(wiring, &buffer_of(wiring.rx, part.response.id)),
+        Phase::RxPage(paging) => Want::Read(Place {
+            frame: paging.frame,
+            word: paging.place,
+        }),
+        Phase::Ended(_) => Want::Done,
+    }
+}
+
+/// After the word of a tx response, or of the rx ring's producer if none was left.
+fn taken(
+    wiring: &Wiring,
+    state: &mut State,
+    sent: &[u8],
+    received: &mut Packet,
+    n: u32,
+    word: u32,
+    counter: u64,
+) -> Phase
+    ensures space { HasSpace result received.new }
+    ensures rest { rest_at wiring.now state.new sent.now received.new result
+        ≡ next_by (take_all wiring.now n state.old) word counter }
+{
+    if n == 0 {
+        let shown = shown(&state.rx, word);
+        rx_first_looked(wiring, state, sent, received, shown)
+    } else {
+        tx_response_read(wiring, state, sent, received, n, word)
+    }
+}
+
+/// After a response's first word.
+fn response_begun(chained: Chained, first: u32) -> Phase
+    ensures { result ≡ phases.RxSecond chained first }
+{
+    Phase::RxSecond { chained, first }
+}
+
+/// The phase after an answer.
+fn phase_fed(
+    wiring: &Wiring,
+    state: &mut State,
+    sent: &[u8],
+    received: &mut Packet,
+    phase: Phase,
+    word: u32,
+    counter: u64,
+) -> Phase
+    requires length { length sent.now ≤ 65535 }
+    requires space { HasSpace phase received.old }
+    ensures space { HasSpace result received.new }
+    ensures rest { rest_at wiring.now state.new sent.now received.new result
+        ≡ next_by (rest_at wiring.now state.old sent.now received.old phase) word counter }
+{
+    match phase {
+        Phase::Ready => Phase::Ready,
+        Phase::GrantFrame(piece) => Phase::GrantFlags(piece),
+        Phase::GrantFlags(piece) => granted(wiring, state, sent, received, piece),
+        Phase::Fill(filling) => filled(wiring, state, sent, received, filling, word, counter),
+        Phase::Second(piece) => Phase::Third(piece),
+        Phase::Third(piece) => slot_written(wiring, state, sent, received, piece),
+        Phase::PostFrame { id, start } => Phase::PostFlags { id, start },
+        Phase::PostFlags { id, start } => Phase::PostFirst { id, start },
+        Phase::PostFirst { id, start } => Phase::PostSecond { id, start },
+        Phase::PostSecond { start, .. } => posted(wiring, state, sent, received, start),
+        Phase::Publish(push) => Phase::ReadEvent(push),
+        Phase::ReadEvent(push) => event_read(wiring, state, sent, received, push, word),
+        Phase::Notice => Phase::Ended(Outcome::Idle),
+        Phase::TxLook => {
+            let shown = shown(&state.tx, word);
+            tx_first_looked(wiring, state, sent, received, shown)
+        }
+        Phase::TxAnnounce => Phase::TxLookAgain,
+        Phase::TxLookAgain => {
+            let shown = shown(&state.tx, word);
+            tx_looked(wiring, state, sent, received, shown)
+        }
+        Phase::Take(n) => taken(wiring, state, sent, received, n, word, counter),
+        Phase::TxEnd { left, .. } => Phase::Take(left),
+        Phase::RxAnnounce => Phase::RxLookAgain,
+        Phase::RxLookAgain => {
+            let shown = shown(&state.rx, word);
+            rx_looked(wiring, state, sent, received, shown)
+        }
+        Phase::RxFirst(chained) => response_begun(chained, word),
+        Phase::RxSecond { chained, first } => response_read(
+            wiring, state, sent, received, chained, first, word,
+        ),
+        Phase::RxEnd(part) => grant_ended(wiring, state, sent, received, part),
+        Phase::RxPage(paging) => page_read(wiring, state, sent, received, paging, word),
+        Phase::Ended(outcome) => Phase::Ended(outcome),
+    }
+}
+
+/// What the activity gave, without the packet.
+fn ending(wiring: &Wiring, state: &State, sent: &[u8], received: &Packet, phase: Phase) -> Outcome
+    requires { want_of (rest_at wiring.now state.now sent.now received.now phase) ≡ Want.Done }
+    ensures { rest_at wiring.now state.now sent.now received.now phase ≡ done (state.now, given result received.now) }
+{
+    match phase {
+        Phase::Ended(outcome) => outcome,
+        Phase::Ready => Outcome::Idle,
+        _ => unreachable!(),
+    }
+}
+
+/// What an activity gave, as the host is shown it.
+fn show<'t>(received: &'t Packet, outcome: Outcome) -> RxTurn<'t>
+    ensures { Shows (given outcome received.now) result }
+{
+    match outcome {
+        Outcome::Idle => RxTurn::Idle,
+        Outcome::Packet => RxTurn::Packet(received.bytes()),
+        Outcome::Refused => RxTurn::Refused,
+        Outcome::Halted { cause } => RxTurn::Halted { cause },
+    }
+}
+
+/// Whether the front is inside an activity, or nobody has yet asked what it gave.
+pub(crate) fn is_busy(phase: &Phase) -> bool
+    ensures { result ≡ busy_in phase.now }
+{
+    match phase {
+        Phase::Ready => false,
+        _ => true,
+    }
+}
+
+impl<'p> Front<'p> {
+    /// What the front wants next: an access to a page of its own, a notice, or `Done` when the activity is over.
+    pub fn want(&self) -> Want
+        ensures want { result ≡ want_of (rest self.now) }
+        ensures within { result ≢ Want.Done → IsPageWant (wiring_of self.now).frames result }
+    {
+        phase_want(
+            &self.wiring,
+            &self.state,
+            self.sent.bytes(),
+            &self.received,
+            &self.phase,
+        )
+    }
+
+    /// [`want`](Front::want), of a front that is lent for going on.
+    pub fn wanted(&mut self) -> Want
+        ensures { IsAsked result self.old self.new }
+    {
+        phase_want(
+            &self.wiring,
+            &self.state,
+            self.sent.bytes(),
+            &self.received,
+            &self.phase,
+        )
+    }
+
+    /// Takes the answer to its want, and goes on by it.
+    pub fn feed(&mut self, answer: Answer)
+        requires { Fits (want_of (rest self.old)) answer }
+        ensures { IsFed answer self.old self.new }
+    {
+        let word = answer.word();
+        let counter = answer.counter();
+        let phase = mem::replace(&mut self.phase, Phase::Ready);
+        self.phase = phase_fed(
+            &self.wiring,
+            &mut self.state,
+            self.sent.bytes(),
+            &mut self.received,
+            phase,
+            word,
+            counter,
+        );
+    }
+
+    /// What the activity gave. The next activity may begin once the borrow of the packet has ended.
+    pub fn received(&mut self) -> RxTurn<'_>
+        requires { want_of (rest self.old) ≡ Want.Done }
+        ensures* after { sem 𝓛 (follows_so
+            (the_row (record { mir = named 1; lft = [] }))
+            (the_row (record { mir = named 1; lft = [] }))
+            self.entry.ghost_name none (λ _ _. ⊤) (λ f. IsOver self.old f result)) }
+    {
+        let phase = mem::replace(&mut self.phase, Phase::Ready);
+        let outcome = ending(
+            &self.wiring,
+            &self.state,
+            self.sent.bytes(),
+            &self.received,
+            phase,
+        );
+        show(&self.received, outcome)
+    }
+
+    /// The numbers of tx responses that were OKAY, DROPPED, ERROR and anything else, each staying at 2^64 - 1 once there.
+    pub fn statuses(&self) -> [u64; 4]
+        ensures { let c = (state_of self.now).counts in result ≡ c.okay ∷ c.dropped ∷ c.error ∷ c.other ∷ [] }
+    {
+        let c = &self.state.counts;
+        [c.okay, c.dropped, c.error, c.other]
+    }
+
+    /// How many requests of the tx ring and of the rx ring aren't answered, as far as the polls have seen.
+    pub fn unanswered(&self) -> (u32, u32)
+        ensures { let s = state_of self.now in result ≡ (outstanding s.tx, outstanding s.rx) }
+    {
+        let State { tx, rx, .. } = &self.state;
+        (tx.prod.wrapping_sub(tx.cons), rx.prod.wrapping_sub(rx.cons))
+    }
+}

@@ -1,0 +1,339 @@
+//! A poll's packet: the responses of the rx ring, checked one by one, and their pages.
+//!
+//! What answers a phase takes the wiring, the state, the packet that is being sent and the one that is being received, since its
+//! contract speaks of them all. Its body may need fewer.
+
+ghost use Rattle.std.specs.Prelude.{◌≡◌, ◌<◌, ◌≤◌, ◌+◌, ◌-◌, ◌/◌, ◌++◌, ◌∷◌, [], ◌||◌, suc, length, true};
+ghost use Rattle.xen_front.specs.Rest.{HasSpace, bytes_left, gathered, part_rest, rest_at};
+ghost use Rattle.xen_front.specs.Slots.{covered_bytes as covered_bytes_spec, fault_of, in_flight, is_negative as is_negative_spec, part_of as part_of_spec, passes_page as passes_page_spec};
+ghost use Rattle.xen_front.specs.Tree.{after_rx_look, checked, first_word, read_page, receive, seen};
+ghost use Rattle.xen_netif.specs.Copy.{Covers, bytes_in};
+ghost use Rattle.xen_netif.specs.Slots.{rx_rsp_of};
+ghost use Rattle.xen_steps.specs.Pages.{copy_words};
+ghost use Rattle.xen_steps.specs.Steps.{bind};
+
+use crate::by_event::phase::{Chained, Paging, Part, Phase};
+use crate::by_event::taking::{halt, is_in_flight, land};
+use crate::packet::Packet;
+use crate::state::{Ring, State};
+use crate::turn::{Halt, Outcome};
+use xen_buffers::{Buffer, Wiring, buffer_of};
+use xen_netif::{Fragment, RxRsp};
+
+/// After the first look at the rx ring.
+pub(crate) fn rx_first_looked(
+    wiring: &Wiring,
+    state: &mut State,
+    sent: &[u8],
+    received: &mut Packet,
+    n: Option<u32>,
+) -> Phase
+    ensures space { HasSpace result received.new }
+    ensures rest { rest_at wiring.now state.new sent.now received.new result
+        ≡ bind (seen wiring.now.rx_frame state.old.rx n) (after_rx_look wiring.now state.old) }
+{
+    match n {
+        None => rx_looked(wiring, state, sent, received, None),
+        Some(n) => {
+            if n == 0 {
+                Phase::RxAnnounce
+            } else {
+                rx_looked(wiring, state, sent, received, Some(n))
+            }
+        }
+    }
+}
+
+/// After the last look at the rx ring.
+pub(crate) fn rx_looked(
+    wiring: &Wiring,
+    state: &mut State,
+    sent: &[u8],
+    received: &mut Packet,
+    n: Option<u32>,
+) -> Phase
+    ensures space { HasSpace result received.new }
+    ensures rest { rest_at wiring.now state.new sent.now received.new result ≡ after_rx_look wiring.now state.old n }
+{
+    match n {
+        None => halt(wiring, state, sent, received, Halt::RxProducer),
+        Some(n) => {
+            if n == 0 {
+                Phase::Ended(Outcome::Idle)
+            } else {
+                received.clear();
+                before_response(wiring, state, sent, received, n - 1, 0, false)
+            }
+        }
+    }
+}
+
+/// The bytes that a response of this status covers.
+fn covered_bytes(status: i16) -> u16
+    ensures value { result ≡ covered_bytes_spec status }
+    ensures most { result < 32768 }
+{
+    if status < 0 { 0 } else { status as u16 }
+}
+
+/// Whether a status is an error's.
+fn is_negative(status: i16) -> bool
+    ensures { result ≡ is_negative_spec status }
+{
+    status < 0
+}
+
+/// Whether offset and status, added as whole numbers, are above a page's 4,096 bytes.
+fn passes_page(offset: u16, status: i16) -> bool
+    ensures { result ≡ passes_page_spec offset status }
+{
+    i32::from(offset) + i32::from(status) > 4096
+}
+
+/// Why a response halts the front, if it does.
+fn fault(ring: &Ring, slots: u32, bytes: u32, response: &RxRsp) -> Option<Halt>
+    requires { bytes ≤ 65535 }
+    ensures { result ≡ fault_of ring.now slots bytes response.now }
+{
+    if !is_in_flight(ring, response.id) || response.flags.extra_info || response.flags.gso_prefix {
+        return Some(Halt::RxSlot);
+    }
+    if passes_page(response.offset, response.status) {
+        return Some(Halt::RxSize);
+    }
+    if slots == 15 && response.flags.more_data
+        || bytes + u32::from(covered_bytes(response.status)) > 65535
+    {
+        return Some(Halt::LongChain);
+    }
+    None
+}
+
+/// After a response's two words.
+pub(crate) fn response_read(
+    wiring: &Wiring,
+    state: &mut State,
+    sent: &[u8],
+    received: &Packet,
+    chained: Chained,
+    first: u32,
+    second: u32,
+) -> Phase
+    ensures space { HasSpace result received.now }
+    ensures rest { rest_at wiring.now state.new sent.now received.now result
+        ≡ checked wiring.now state.old (gathered chained received.now) (rx_rsp_of (first ∷ second ∷ []))
+        (fault_of state.old.rx chained.slots (length received.now) (rx_rsp_of (first ∷ second ∷ [])))
+        (receive wiring.now chained.left) }
+{
+    let response = RxRsp::of_words([first, second]);
+    match fault(
+        &state.rx,
+        chained.slots,
+        received.bytes().len() as u32,
+        &response,
+    ) {
+        Some(cause) => halt(wiring, state, sent, received, cause),
+        None => {
+            land(&mut state.rx, response.id);
+            Phase::RxEnd(Part { chained, response })
+        }
+    }
+}
+
+/// The part of the packet that a response describes.
+fn part_of(buffer: &Buffer, response: &RxRsp) -> Fragment
+    ensures { result ≡ part_of_spec buffer.now response.now }
+{
+    Fragment {
+        gref: buffer.gref,
+        offset: response.offset,
+        size: covered_bytes(response.status),
+    }
+}
+
+/// After the end of a response's grant.
+pub(crate) fn grant_ended(
+    wiring: &Wiring,
+    state: &mut State,
+    sent: &[u8],
+    received: &Packet,
+    part: Part,
+) -> Phase
+    requires { length received.now + covered_bytes_spec part.response.status ≤ 65535 }
+    ensures space { HasSpace result received.now }
+    ensures rest { rest_at wiring.now state.new sent.now received.now result
+        ≡ read_page wiring.now state.old (gathered part.chained received.now) part.response
+        (receive wiring.now part.chained.left) }
+{
+    let buffer = buffer_of(wiring.rx, part.response.id);
+    let fragment = part_of(&buffer, &part.response);
+    let words = fragment.covered_words();
+    if words.start == words.end {
+        part_read(wiring, state, sent, received, part)
+    } else {
+        let place = words.start;
+        let more = words.end - words.start - 1;
+        before_word(
+            wiring,
+            state,
+            sent,
+            received,
+            part,
+            buffer.frame,
+            fragment,
+            place,
+            more,
+        )
+    }
+}
+
+/// Before a word of a part's page.
+fn before_word(
+    wiring: &Wiring,
+    state: &State,
+    sent: &[u8],
+    received: &Packet,
+    part: Part,
+    frame: u32,
+    fragment: Fragment,
+    place: u32,
+    more: u32,
+) -> Phase
+    requires covers { Covers fragment place }
+    requires last { place + more ≡ (fragment.offset + fragment.size - 1) / 4 }
+    requires room { length received.now + bytes_left fragment place ≤ 65535 }
+    ensures space { HasSpace result received.now }
+    ensures rest { rest_at wiring.now state.now sent.now received.now result
+        ≡ bind (copy_words fragment frame place (suc more) received.now) (part_rest wiring.now state.now part) }
+{
+    Phase::RxPage(Paging {
+        part,
+        frame,
+        fragment,
+        place,
+        more,
+    })
+}
+
+/// Before a response, with `left` behind it.
+fn before_response(
+    wiring: &Wiring,
+    state: &State,
+    sent: &[u8],
+    received: &Packet,
+    left: u32,
+    slots: u32,
+    bad: bool,
+) -> Phase
+    requires { slots ≤ 15 }
+    ensures space { HasSpace result received.now }
+    ensures rest { rest_at wiring.now state.now sent.now received.now result
+        ≡ first_word wiring.now state.now (record { slots = slots; bad = bad; bytes = received.now })
+        (receive wiring.now left) }
+{
+    Phase::RxFirst(Chained { left, slots, bad })
+}
+
+/// Before a further response of the chain, or the halt if the producer showed none.
+fn more_responses(
+    wiring: &Wiring,
+    state: &mut State,
+    sent: &[u8],
+    received: &Packet,
+    left: u32,
+    slots: u32,
+    bad: bool,
+) -> Phase
+    requires { slots ≤ 15 }
+    ensures space { HasSpace result received.now }
+    ensures rest { rest_at wiring.now state.new sent.now received.now result
+        ≡ receive wiring.now left state.old (record { slots = slots; bad = bad; bytes = received.now }) }
+{
+    if left == 0 {
+        halt(wiring, state, sent, received, Halt::ShortChain)
+    } else {
+        before_response(wiring, state, sent, received, left - 1, slots, bad)
+    }
+}
+
+/// Whether a status was negative, that of a part among them.
+fn is_bad(part: &Part) -> bool
+    ensures { result ≡ (part.now.chained.bad || is_negative_spec part.now.response.status) }
+{
+    part.chained.bad || is_negative(part.response.status)
+}
+
+/// After a part's page.
+fn part_read(
+    wiring: &Wiring,
+    state: &mut State,
+    sent: &[u8],
+    received: &Packet,
+    part: Part,
+) -> Phase
+    ensures space { HasSpace result received.now }
+    ensures rest { rest_at wiring.now state.new sent.now received.now result
+        ≡ part_rest wiring.now state.old part received.now }
+{
+    let bad = is_bad(&part);
+    if part.response.flags.more_data {
+        more_responses(
+            wiring,
+            state,
+            sent,
+            received,
+            part.chained.left,
+            part.chained.slots + 1,
+            bad,
+        )
+    } else if bad {
+        Phase::Ended(Outcome::Refused)
+    } else {
+        Phase::Ended(Outcome::Packet)
+    }
+}
+
+/// After a word of a part's page.
+pub(crate) fn page_read(
+    wiring: &Wiring,
+    state: &mut State,
+    sent: &[u8],
+    received: &mut Packet,
+    paging: Paging,
+    word: u32,
+) -> Phase
+    requires { length received.old + bytes_left paging.fragment paging.place ≤ 65535 }
+    ensures space { HasSpace result received.new }
+    ensures rest { rest_at wiring.now state.new sent.now received.new result
+        ≡ bind (copy_words paging.fragment paging.frame (paging.place + 1) paging.more
+        (received.old ++ bytes_in paging.fragment paging.place word))
+        (part_rest wiring.now state.old paging.part) }
+{
+    let bytes = paging.fragment.bytes_in(paging.place, word);
+    push_all(received, bytes.as_slice());
+    if paging.more == 0 {
+        part_read(wiring, state, sent, received, paging.part)
+    } else {
+        before_word(
+            wiring,
+            state,
+            sent,
+            received,
+            paging.part,
+            paging.frame,
+            paging.fragment,
+            paging.place + 1,
+            paging.more - 1,
+        )
+    }
+}
+
+/// Puts the bytes behind those that were received.
+fn push_all(received: &mut Packet, bytes: &[u8])
+    requires { length received.old + length bytes.now ≤ 65535 }
+    ensures { received.new ≡ received.old ++ bytes.now }
+{
+    for byte in bytes {
+        received.push(*byte);
+    }
+}

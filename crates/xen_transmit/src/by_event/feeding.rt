@@ -1,0 +1,113 @@
+//! A transmit, one event at a time.
+//!
+//! Some functions take `vif`, `rx_index` and `bytes` for their contracts alone: these fix what the transmit has left.
+
+ghost use Rattle.std.specs.Prelude.{List, ℕ, ◌≡◌, ◌≤◌, length, true, false};
+ghost use Rattle.xen_netif.specs.declared.rx.RxReq.{RxReq};
+ghost use Rattle.xen_transmit.specs.Rest.{rest_of};
+ghost use Rattle.xen_steps.specs.Steps.{next_by, want_of};
+ghost use Rattle.xen_steps.specs.declared.want.Want.TheVariants as want;
+ghost use Rattle.std.specs.Prelude.{IsTrue};
+ghost use Rattle.xen_steps.specs.Steps.{asks};
+ghost use Rattle.xen_transmit.specs.Going.{is_going};
+ghost use Rattle.xen_transmit.specs.Rest.{rest_after};
+ghost use Rattle.xen_transmit.specs.Transmit.{transmit};
+ghost use Rattle.xen_transmit.specs.declared.vif.Vif.{Vif as VifView};
+
+use crate::by_event::phase::{Outcome, Phase};
+use crate::by_event::reading::{entry_read, first_read, flags_read, found, requested};
+use crate::by_event::wanting::phase_want;
+use crate::by_event::writing::{event_read, filled, outcome, responded, response_done};
+use crate::transmit::{Progress, Transmit};
+use crate::vif::Vif;
+use xen_netif::RxReq;
+use xen_steps::{Want, requests_shown};
+
+/// The transmit after an answer.
+pub(crate) fn phase_fed(vif: &Vif, rx_index: u32, bytes: &[u8], phase: Phase, word: u32) -> Phase
+    requires { length bytes.now ≤ 65535 }
+    ensures { rest_of vif.now rx_index bytes.now result ≡ next_by (rest_of vif.now rx_index bytes.now phase) word 0 }
+{
+    match phase {
+        Phase::Look => found(vif, rx_index, bytes, requests_shown(rx_index, word)),
+        Phase::First(posting) => first_read(vif, rx_index, bytes, posting, word),
+        Phase::Second(posting, a) => requested(
+            vif,
+            rx_index,
+            bytes,
+            posting,
+            RxReq::of_words([a, word]),
+        ),
+        Phase::EntryFlags(granting) => flags_read(vif, rx_index, bytes, granting, word),
+        Phase::EntryFrame {
+            granting,
+            flags_word,
+        } => entry_read(vif, rx_index, bytes, granting, flags_word, word),
+        Phase::Filling { targets, k } => filled(vif, rx_index, bytes, targets, k),
+        Phase::Response { passed, targets, i } => responded(
+            vif, rx_index, bytes, passed, targets, i,
+        ),
+        Phase::HalfResponse(responding) => response_done(vif, rx_index, bytes, responding),
+        Phase::ReadEvent { passed, n } => event_read(vif, rx_index, bytes, passed, n, word),
+        Phase::Notice { passed, n } => Phase::Over(outcome(passed, n)),
+        Phase::Over(o) => Phase::Over(o),
+    }
+}
+
+impl Transmit {
+    /// The transmit of a packet, whose first rx slot is at this index.
+    pub fn begin(vif: &Vif, rx_index: u32, packet: &[u8]) -> Transmit
+        ensures { rest_of vif.now rx_index packet.now result.phase ≡ transmit vif.now rx_index packet.now }
+    {
+        Transmit { phase: Phase::Look }
+    }
+
+    /// What the transmit wants next. Vif, index and packet are those that it was begun with.
+    pub fn want(&self, vif: &Vif, rx_index: u32, packet: &[u8]) -> Want
+        requires { length packet.now ≤ 65535 }
+        ensures want { result ≡ want_of (rest_of vif.now rx_index packet.now self.now.phase) }
+        ensures asks { IsTrue (asks (rest_of vif.now rx_index packet.now self.now.phase)) }
+    {
+        phase_want(vif, rx_index, packet, &self.phase)
+    }
+
+    /// The transmit after the event that it wanted, with the word that was read, if one was.
+    pub fn feed(self, vif: &Vif, rx_index: u32, packet: &[u8], word: u32) -> Progress
+        requires { length packet.now ≤ 65535 }
+        ensures rest { (number : ℕ) → rest_after vif.now rx_index packet.now result ≡ next_by (rest_of vif.now rx_index packet.now self.phase) word number }
+        ensures asked { IsTrue (asks (rest_of vif.now rx_index packet.now self.phase)) }
+    {
+        let Transmit { phase } = self;
+        let next = phase_fed(vif, rx_index, packet, phase, word);
+        settled(vif, rx_index, packet, next)
+    }
+}
+
+fn is_going(phase: &Phase) -> bool
+    ensures { result ≡ is_going phase.now }
+{
+    match phase {
+        Phase::Over(_) => false,
+        _ => true,
+    }
+}
+
+fn settled(vif: &Vif, rx_index: u32, packet: &[u8], phase: Phase) -> Progress
+    ensures { rest_after vif.now rx_index packet.now result ≡ rest_of vif.now rx_index packet.now phase }
+{
+    if is_going(&phase) {
+        Progress::On(Transmit { phase })
+    } else {
+        over(vif, rx_index, packet, phase)
+    }
+}
+
+fn over(vif: &Vif, rx_index: u32, packet: &[u8], phase: Phase) -> Progress
+    requires { is_going phase ≡ false }
+    ensures { rest_after vif.now rx_index packet.now result ≡ rest_of vif.now rx_index packet.now phase }
+{
+    match phase {
+        Phase::Over(outcome) => Progress::Over(outcome),
+        _ => unreachable!(),
+    }
+}

@@ -1,0 +1,3 @@
+//! A whole transmit over a bus.
+
+pub(crate) mod straight;
