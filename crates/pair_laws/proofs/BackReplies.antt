@@ -11,8 +11,8 @@ use Rattle.xen_steps.specs.Steps.{ask}
 use Rattle.xen_steps.specs.declared.want.Want.TheVariants as want
 use Rattle.xen_transmit.specs.Packets.{pages, response_word, word_of, words}
 use Rattle.xen_transmit.specs.Transmit.{rx_answer, rx_event, rx_notice, rx_publish}
-use Rattle.xen_transmit.specs.declared.phase.Outcome.{Outcome}
-use Rattle.xen_transmit.specs.declared.phase.Outcome.TheVariants as outcome
+use Rattle.xen_transmit.specs.declared.by_event.phase.Outcome.{Outcome}
+use Rattle.xen_transmit.specs.declared.by_event.phase.Outcome.TheVariants as outcome
 use Rattle.pair_laws.specs.Ghosts.{AllOf, IsSent, Sent, Piece, piece, id_at, slots, Front, Back, tx_sent}
 use Rattle.pair_laws.specs.Inv.{Inv, RxSlots, rx_at, rx_buffer, rx_word_of}
 use Rattle.pair_laws.specs.Ends.{BackSafe}

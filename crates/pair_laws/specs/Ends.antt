@@ -2,15 +2,12 @@
 use Rattle.std.specs.Prelude.{ℕ, ◌≡◌, List}
 use Rattle.xen_buffers.specs.declared.wiring.Wiring.{Wiring}
 use Rattle.xen_steps.specs.Steps.{Steps}
-use Rattle.pair_laws.specs.Ghosts.{Front, Back, Sent}
+use Rattle.pair_laws.specs.Ghosts.{Back, Sent}
 use Rattle.pair_laws.specs.Inv.{Inv}
 use Rattle.pair_machine.specs.Safe.{Safe}
 
 abbrev pub BackSafe : Wiring → ℕ → {A : Type 0} → (Back → Type 0) → (Back → A → Type 0) → Back → Steps A → Type 0
 BackSafe w start K P b t = Safe (λ m b f. Inv w start m f b) K P b t
-
-abbrev pub FrontSafe : Wiring → ℕ → {A : Type 0} → (Front → Type 0) → (Front → A → Type 0) → Front → Steps A → Type 0
-FrontSafe w start K P f t = Safe (Inv w start) K P f t
 
 -- what is given all along
 abbrev pub HasGiven : List Sent → Back → Type 0

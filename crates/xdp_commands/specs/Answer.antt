@@ -22,6 +22,7 @@ use Rattle.xdp_commands.specs.Lines.{checked_text, executed_text, ran_text, sett
 use Rattle.xdp_commands.specs.PairLines.{paired_status, paired_text}
 use Rattle.xdp_commands.specs.Pairing.{IsPaired}
 use Rattle.xdp_commands.specs.declared.pairing.Paired.{Paired}
+use Rattle.xdp_pair.specs.declared.host.Host.{Host}
 use Rattle.xdp_commands.specs.Words.{Wanted, exec, check, explain, run, filter, pair}
 
 -- a text, and an exit status
@@ -93,12 +94,12 @@ filtered_answer s c = (filtered_text s.names s.shapes c, program_status c)
 abbrev pub FilterAnswer : SetupView → Said → Type 0
 FilterAnswer s said = (c : Result Filtered Refusal) × Filters s c × (said ≡ filtered_answer s c)
 
-abbrev pub paired_answer : List (List ℕ) → Paired → Said
-paired_answer names p = (paired_text names p, paired_status p)
+abbrev pub paired_answer : Host → List (List ℕ) → Paired → Said
+paired_answer h names p = (paired_text h names p, paired_status p)
 
--- the answer to a setup: by a run of its queues on threads, at most so many turns each
-abbrev pub PairAnswer : ℕ → SetupView → Said → Type 0
-PairAnswer turns s said = (p : Paired) × IsPaired s turns p × (said ≡ paired_answer s.names p)
+-- the answer to a setup: by a run of its queues on threads, at most so many turns each, beside a host that does so
+abbrev pub PairAnswer : ℕ → Host → SetupView → Said → Type 0
+PairAnswer turns h s said = (p : Paired) × IsPaired s turns h p × (said ≡ paired_answer h s.names p)
 
 -- the answer to a setup of which this is asked
 abbrev pub AnswerTo : Question → SetupView → Said → Type 0
@@ -135,7 +136,7 @@ IsAnswer (Some check) old new said = InputAnswer SetupAnswer old new said
 IsAnswer (Some explain) old new said = InputAnswer ExplainAnswer old new said
 IsAnswer (Some run) old new said = InputAnswer RunAnswer old new said
 IsAnswer (Some filter) old new said = InputAnswer FilterAnswer old new said
-IsAnswer (Some (pair turns)) old new said = InputAnswer (PairAnswer turns) old new said
+IsAnswer (Some (pair turns h)) old new said = InputAnswer (PairAnswer turns h) old new said
 
 -- at most so many bytes are taken
 abbrev pub TakesAtMost : ℕ → Option (List ℕ) → Option (List ℕ) → Type 0
@@ -149,7 +150,7 @@ Takes (Some check) old new = TakesAtMost 1048577 old new
 Takes (Some explain) old new = TakesAtMost 1048577 old new
 Takes (Some run) old new = TakesAtMost 1048577 old new
 Takes (Some filter) old new = TakesAtMost 1048577 old new
-Takes (Some (pair turns)) old new = TakesAtMost 1048577 old new
+Takes (Some (pair turns h)) old new = TakesAtMost 1048577 old new
 
 -- a call that may end as a read failed, when nothing is printed
 abbrev pub Reads : Option Wanted → Type 0
@@ -159,7 +160,7 @@ Reads (Some check) = Unit {0}
 Reads (Some explain) = Unit {0}
 Reads (Some run) = Unit {0}
 Reads (Some filter) = Unit {0}
-Reads (Some (pair turns)) = Unit {0}
+Reads (Some (pair turns h)) = Unit {0}
 
 -- the text is printed and the status given; or a write failed, the status is 4, and a beginning of the text is printed
 abbrev pub Prints : Option (List ℕ) → Option (List ℕ) → Said → ℕ → Type 0

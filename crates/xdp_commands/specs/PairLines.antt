@@ -2,6 +2,9 @@
 use Rattle.std.specs.Prelude.{ℕ, ◌+◌, List, [], ◌∷◌, ◌++◌, codes, decimal, Option, None, Some}
 use Rattle.xen_back.specs.Causes.{halt_number}
 use Rattle.xen_back.specs.declared.turn.Halt.{Halt}
+use Rattle.xdp_pair.specs.declared.host.Host.{Host}
+use Rattle.xdp_pair.specs.declared.host.Host.TheVariants as host
+use Rattle.xdp_pair.specs.declared.report.Deliveries.{Deliveries}
 use Rattle.xdp_pair.specs.declared.report.PairReport.{PairReport}
 use Rattle.xdp_pair.specs.declared.report.PairRow.{PairRow}
 use Rattle.xdp_commands.specs.CounterLines.{totals_text}
@@ -14,7 +17,7 @@ abbrev pub halted_number : Option Halt → ℕ
 halted_number None = 0
 halted_number (Some h) = halt_number h
 
--- packets that the back refused, its halt, and packets that came back to the front
+-- packets that the back refused, its halt, and packets that came to the front
 abbrev pub ends_text : PairRow → List ℕ
 ends_text r =
     codes " refused " ++ (decimal r.refused ++ (codes " halted " ++ (decimal (halted_number r.halted) ++ (codes " received " ++ (decimal r.received ++ codes "\n")))))
@@ -23,20 +26,29 @@ ends_text r =
 abbrev pub row_text : ℕ → PairRow → List ℕ
 row_text queue r = codes "queue " ++ (decimal queue ++ (codes " sent " ++ (decimal r.sent ++ (codes " copied " ++ (decimal r.copied ++ ends_text r)))))
 
--- the rows, the first of which is of this queue
-abbrev pub rows_text : ℕ → List PairRow → List ℕ
-rows_text queue [] = []
-rows_text queue (r ∷ rs) = row_text queue r ++ rows_text (queue + 1) rs
+-- what became of the answers of a host that answers: sent, too few slots, a grant that failed
+abbrev pub delivered_text : Host → ℕ → Deliveries → List ℕ
+delivered_text host.Takes queue d = []
+delivered_text host.Answers queue d =
+    codes "queue " ++ (decimal queue ++ (codes " delivered " ++ (decimal d.sent ++ (codes " few " ++ (decimal d.few ++ (codes " refused " ++ (decimal d.refused ++ codes "\n")))))))
 
--- the rows of the queues, then the counters of maps with these names
-abbrev pub pair_text : List (List ℕ) → PairReport → List ℕ
-pair_text names r = rows_text 0 r.rows.items ++ totals_text names r.totals
+abbrev pub queue_text : Host → ℕ → PairRow → List ℕ
+queue_text h queue r = row_text queue r ++ delivered_text h queue r.deliveries
 
-abbrev pub paired_text : List (List ℕ) → Paired → List ℕ
-paired_text names (paired.Ran report) = pair_text names report
-paired_text names (paired.Refused r) = refused_text r
-paired_text names paired.NotMapped = codes "mapping refused\n"
-paired_text names paired.NotStarted = codes "threads refused\n"
+-- the lines of queues, the first of which is this one
+abbrev pub rows_text : Host → ℕ → List PairRow → List ℕ
+rows_text h queue [] = []
+rows_text h queue (r ∷ rs) = queue_text h queue r ++ rows_text h (queue + 1) rs
+
+-- the lines of the queues, then the counters of maps with these names
+abbrev pub pair_text : Host → List (List ℕ) → PairReport → List ℕ
+pair_text h names r = rows_text h 0 r.rows.items ++ totals_text names r.totals
+
+abbrev pub paired_text : Host → List (List ℕ) → Paired → List ℕ
+paired_text h names (paired.Ran report) = pair_text h names report
+paired_text h names (paired.Refused r) = refused_text r
+paired_text h names paired.NotMapped = codes "mapping refused\n"
+paired_text h names paired.NotStarted = codes "threads refused\n"
 
 -- the status: done, a refused program, or a mapping or a thread that failed
 abbrev pub paired_status : Paired → ℕ

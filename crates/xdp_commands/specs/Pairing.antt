@@ -7,6 +7,7 @@ use Rattle.xdp_pair.specs.Leaving.{AreLeft}
 use Rattle.xdp_pair.specs.Working.{Task}
 use Rattle.xdp_pair.specs.declared.fault.PairFault.{PairFault}
 use Rattle.xdp_pair.specs.declared.fault.PairFault.TheVariants as fault
+use Rattle.xdp_pair.specs.declared.host.Host.{Host}
 use Rattle.xdp_pair.specs.declared.report.PairReport.{PairReport}
 use Rattle.xdp_commands.specs.Executing.{IsProgramOf, IsRefusalOfBytes}
 use Rattle.xdp_commands.specs.declared.pairing.Paired.{Paired}
@@ -16,25 +17,25 @@ use Rattle.xdp_commands.specs.declared.pairing.Paired.TheVariants as paired
 abbrev pub IsAcceptedSetup : SetupView → Type 0
 IsAcceptedSetup s = (p : Program) × IsProgramOf s.program s.shapes p
 
--- what the setup's backs have in common, with an accepted program
-abbrev pub task_with : SetupView → Program → Task
-task_with s p = record { program = p; queues = s.queues; ifindex = s.ifindex; start = s.start }
+-- what the setup's backs have in common, with an accepted program, beside a host that does so
+abbrev pub task_with : SetupView → Program → Host → Task
+task_with s p h = record { program = p; queues = s.queues; ifindex = s.ifindex; start = s.start; host = h }
 
 -- a row for each queue, counters of the setup's maps, and what at most so many turns of the accepted program left in both
-pub record IsPairOfSetup (s : SetupView) (turns : ℕ) (r : PairReport) : Type 0 where
+pub record IsPairOfSetup (s : SetupView) (turns : ℕ) (h : Host) (r : PairReport) : Type 0 where
   pub program : Program
   pub accepted : IsProgramOf s.program s.shapes program
   pub rows : vec_len r.rows ≡ s.queues
   pub maps : r.totals.shapes ≡ s.shapes
-  pub left : AreLeft (task_with s program) turns r
+  pub left : AreLeft (task_with s program h) turns r
 
 -- the queues of an accepted program ran, at most so many turns each, or their rings couldn't be mapped, or a thread couldn't
 -- be started; or the program is refused
-abbrev pub IsPaired : SetupView → ℕ → Paired → Type 0
-IsPaired s turns (paired.Ran report) = IsPairOfSetup s turns report
-IsPaired s turns (paired.Refused refusal) = IsRefusalOfBytes s.program s.shapes refusal
-IsPaired s turns paired.NotMapped = IsAcceptedSetup s
-IsPaired s turns paired.NotStarted = IsAcceptedSetup s
+abbrev pub IsPaired : SetupView → ℕ → Host → Paired → Type 0
+IsPaired s turns h (paired.Ran report) = IsPairOfSetup s turns h report
+IsPaired s turns h (paired.Refused refusal) = IsRefusalOfBytes s.program s.shapes refusal
+IsPaired s turns h paired.NotMapped = IsAcceptedSetup s
+IsPaired s turns h paired.NotStarted = IsAcceptedSetup s
 
 -- what comes of a run: its report, or the line of its fault, but of out of memory
 abbrev pub Comes : Result PairReport PairFault → Paired → Type 0

@@ -12,7 +12,7 @@ wanted_of code.Check = check
 wanted_of code.Explain = explain
 wanted_of code.Run = run
 wanted_of code.Filter = filter
-wanted_of (code.Pair turns) = pair turns
+wanted_of (code.Pair turns host) = pair turns host
 
 abbrev pub said_of : Answer → Said
 said_of a = (string_bytes a.text, a.status)

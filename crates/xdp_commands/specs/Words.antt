@@ -5,7 +5,10 @@ use Rattle.std.specs.List.{list_all}
 use Rattle.std.specs.Str.{bytes_eq}
 use Rattle.std.specs.Str.Parse.{digits_value, without_leading_plus}
 use Rattle.clap.specs.Words.{App, Kinds, Row, Rule, Text, fault_of, first_of, one_of, subcommand_of, new_app, new_rule, with_rule, with_subcommand}
+use Rattle.clap.specs.declared.builder.action.ArgAction.TheVariants.{SetTrue}
 use Rattle.clap.specs.declared.builder.value_parser.ValueParser.TheVariants.{Signed}
+use Rattle.xdp_pair.specs.declared.host.Host.{Host}
+use Rattle.xdp_pair.specs.declared.host.Host.TheVariants as host
 
 -- a word that has to be there
 abbrev pub wanted : List ℕ → Rule
@@ -31,9 +34,13 @@ run_app = new_app (codes "run")
 abbrev pub turns_rule : Rule
 turns_rule = record (new_rule (codes "turns")) { long = Some (codes "turns"); defaults = codes "100000" ∷ []; parser = Some (Signed (pos 1) (pos 1000000)) }
 
--- `pair --turns N`
+-- `--answer`: a flag
+abbrev pub answer_rule : Rule
+answer_rule = record (new_rule (codes "answer")) { long = Some (codes "answer"); action = Some SetTrue }
+
+-- `pair --turns N --answer`
 abbrev pub pair_app : App
-pair_app = with_rule (new_app (codes "pair")) turns_rule
+pair_app = with_rule (with_rule (new_app (codes "pair")) turns_rule) answer_rule
 
 -- `filter`
 abbrev pub filter_app : App
@@ -53,8 +60,8 @@ pub data Wanted : Type 0 where
   explain : Wanted
   run : Wanted
   filter : Wanted
-  -- at most so many turns of each queue
-  pair : ℕ → Wanted
+  -- at most so many turns of each queue, and what the host does
+  pair : ℕ → Host → Wanted
 
 -- `exec`, by what was found for its words
 abbrev pub exec_of : List Row → Option Wanted
@@ -70,9 +77,17 @@ number_of text =
     let digits = without_leading_plus text in
     if is_decimal digits && nat_lt (digits_value 10 digits) 4294967296 then Some (digits_value 10 digits) else None
 
--- `pair`, by what was found for its option
+-- the host answers where the flag was found
+abbrev pub host_of_word : Option Text → Host
+host_of_word None = host.Takes
+host_of_word (Some word) = if bytes_eq word (codes "true") then host.Answers else host.Takes
+
+abbrev pub host_of : List Row → Host
+host_of rows = host_of_word (first_of (codes "answer") rows)
+
+-- `pair`, by what was found for its options
 abbrev pub pair_of : List Row → Option Wanted
-pair_of rows = option_map pair (option_and_then number_of (one_of (codes "turns") rows))
+pair_of rows = option_map (λ turns. pair turns (host_of rows)) (option_and_then number_of (one_of (codes "turns") rows))
 
 -- the subcommand that the words name, with what was found for its own words
 abbrev pub wanted_by : Text × List Row → Option Wanted

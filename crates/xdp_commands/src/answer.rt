@@ -23,6 +23,7 @@ use std::io::Read;
 use std::sync::Wait;
 use std::thread::Threads;
 use xdp_load::{LoadFault, Setup, load};
+use xdp_pair::Host;
 
 /// A text that is printed, and the exit status.
 #[derive(Drop)]
@@ -193,14 +194,16 @@ fn pair_answer<T: Threads + Wait + Sync>(
     rt: &T,
     alloc: Global,
     setup: &Setup,
+    host: Host,
     turns: u32,
 ) -> Result<Answer, AllocError>
     requires { IsSound (setup_view setup.now) }
-    ensures { IfOk result (λ a. PairAnswer turns (setup_view setup.now) (said_of a)) }
+    ensures { IfOk result (λ a. PairAnswer turns host (setup_view setup.now) (said_of a)) }
 {
-    let paired = pair(rt, alloc, setup, turns)?;
+    let paired = pair(rt, alloc, setup, host, turns)?;
     let text = paired_text(
         alloc,
+        host,
         setup.names.as_slice(),
         setup.shapes.as_slice(),
         &paired,
@@ -238,13 +241,14 @@ fn settings_answer(alloc: Global, question: Question, settings: &[u8]) -> Result
 fn threads_answer<T: Threads + Wait + Sync>(
     rt: &T,
     alloc: Global,
+    host: Host,
     turns: u32,
     settings: &[u8],
 ) -> Result<Answer, AllocError>
-    ensures { IfOk result (λ a. SettingsAnswer (PairAnswer turns) settings.now (said_of a)) }
+    ensures { IfOk result (λ a. SettingsAnswer (PairAnswer turns host) settings.now (said_of a)) }
 {
     match load(alloc, settings) {
-        Ok(setup) => pair_answer(rt, alloc, &setup, turns),
+        Ok(setup) => pair_answer(rt, alloc, &setup, host, turns),
         Err(fault) => settings_refused(alloc, fault),
     }
 }
@@ -262,14 +266,15 @@ fn input_answer<R: Read>(alloc: Global, question: Question, input: &mut R) -> Re
 fn input_pair<T: Threads + Wait + Sync, R: Read>(
     rt: &T,
     alloc: Global,
+    host: Host,
     turns: u32,
     input: &mut R,
 ) -> Result<Answer, Stop>
-    ensures answer { IfOk result (λ a. IsAnswer (Some (wanted.pair turns)) (R.remaining input.old) (R.remaining input.new) (said_of a)) }
+    ensures answer { IfOk result (λ a. IsAnswer (Some (wanted.pair turns host)) (R.remaining input.old) (R.remaining input.new) (said_of a)) }
     ensures takes { TakesAtMost 1048577 (R.remaining input.old) (R.remaining input.new) }
 {
     let settings = read_settings(alloc, input)?;
-    Ok(threads_answer(rt, alloc, turns, settings.as_slice())?)
+    Ok(threads_answer(rt, alloc, host, turns, settings.as_slice())?)
 }
 
 /// The answer to what the words ask for, if they ask for anything.
@@ -290,6 +295,6 @@ pub fn answer_to<T: Threads + Wait + Sync, R: Read>(
         Some(Request::Explain) => input_answer(alloc, Question::Explain, input),
         Some(Request::Run) => input_answer(alloc, Question::Run, input),
         Some(Request::Filter) => input_answer(alloc, Question::Filter, input),
-        Some(Request::Pair { turns }) => input_pair(rt, alloc, turns, input),
+        Some(Request::Pair { turns, host }) => input_pair(rt, alloc, host, turns, input),
     }
 }

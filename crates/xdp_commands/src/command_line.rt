@@ -4,7 +4,7 @@ ghost use Rattle.clap.specs.Words.{app_of};
 ghost use Rattle.clap.specs.declared.builder.command.Command.TheViews.{out-Command};
 ghost use Rattle.xdp_commands.specs.Words.{exec_app, pair_app, program_app, single_app};
 
-use clap::{Arg, Command, value_parser};
+use clap::{Arg, ArgAction, Command, value_parser};
 use std::alloc::{AllocError, Global};
 
 /// `exec PROGRAM PACKET`.
@@ -22,7 +22,7 @@ const TURNS: &str = "100000";
 /// The greatest number of turns that can be asked for.
 const MOST_TURNS: i64 = 1_000_000;
 
-/// `pair --turns N`.
+/// `pair --turns N --answer`.
 fn pair_command<'a>(alloc: Global) -> Result<Command<'a>, AllocError>
     ensures { IfOk result (λ c. (app_of c ≡ pair_app) × ((out-Command c).has_globals ≡ false)) }
 {
@@ -30,7 +30,10 @@ fn pair_command<'a>(alloc: Global) -> Result<Command<'a>, AllocError>
         .long("turns")
         .default_value(TURNS)
         .value_parser(value_parser!(u32).range(1..=MOST_TURNS));
-    Command::new(alloc, "pair").arg(turns)
+    let answer = Arg::new(alloc, "answer")
+        .long("answer")
+        .action(ArgAction::SetTrue);
+    Command::new(alloc, "pair").arg(turns)?.arg(answer)
 }
 
 /// The commands that pass no packets of settings to a program.

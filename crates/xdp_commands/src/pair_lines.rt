@@ -1,6 +1,6 @@
 //! The lines of queues that ran on threads.
 ghost use Rattle.std.specs.Prelude.{◌≡◌, ◌<◌, ◌++◌, IfOk, OnOk, length, map, string_bytes};
-ghost use Rattle.xdp_commands.specs.PairLines.{ends_text, halted_number, pair_text, paired_status, paired_text, row_text, rows_text};
+ghost use Rattle.xdp_commands.specs.PairLines.{delivered_text, ends_text, halted_number, pair_text, paired_status, paired_text, queue_text, row_text, rows_text};
 ghost use Rattle.xdp_commands.specs.Pairing.{HasCounters};
 
 use crate::counter_lines::add_counters;
@@ -9,7 +9,7 @@ use crate::output::FAILED;
 use crate::pairing::Paired;
 use bpf_note::MapShape;
 use std::alloc::{AllocError, Global};
-use xdp_pair::{PairReport, PairRow};
+use xdp_pair::{Deliveries, Host, PairReport, PairRow};
 use xen_back::Halt;
 
 /// The number of a queue's halt, 0 where it wasn't halted.
@@ -41,13 +41,47 @@ fn row_text(alloc: Global, queue: usize, row: &PairRow) -> Result<String, AllocE
     format!(in alloc; "queue {queue} sent {sent} copied {copied}{ends}")
 }
 
+/// The line of what became of the answers of a host that answers.
+fn delivered_text(
+    alloc: Global,
+    host: Host,
+    queue: usize,
+    deliveries: &Deliveries,
+) -> Result<String, AllocError>
+    ensures { IfOk result (λ s. string_bytes s ≡ delivered_text host queue deliveries.now) }
+{
+    let sent = deliveries.sent;
+    let few = deliveries.few;
+    let refused = deliveries.refused;
+    match host {
+        Host::Takes => Ok(String::new(alloc)),
+        Host::Answers => {
+            format!(in alloc; "queue {queue} delivered {sent} few {few} refused {refused}\n")
+        }
+    }
+}
+
+/// The lines of a queue.
+fn queue_text(alloc: Global, host: Host, queue: usize, row: &PairRow) -> Result<String, AllocError>
+    ensures { IfOk result (λ s. string_bytes s ≡ queue_text host queue row.now) }
+{
+    let line = row_text(alloc, queue, row)?;
+    let delivered = delivered_text(alloc, host, queue, &row.deliveries)?;
+    format!(in alloc; "{line}{delivered}")
+}
+
 /// Adds the lines of all queues.
-fn add_rows(alloc: Global, text: &mut String, rows: &[PairRow]) -> Result<(), AllocError>
-    ensures { OnOk result (string_bytes text.new ≡ string_bytes text.old ++ rows_text 0 rows.now) }
+fn add_rows(
+    alloc: Global,
+    text: &mut String,
+    host: Host,
+    rows: &[PairRow],
+) -> Result<(), AllocError>
+    ensures { OnOk result (string_bytes text.new ≡ string_bytes text.old ++ rows_text host 0 rows.now) }
 {
     let mut queue = 0usize;
     for row in rows {
-        let line = row_text(alloc, queue, row)?;
+        let line = queue_text(alloc, host, queue, row)?;
         text.push_str(line.as_str())?;
         queue += 1;
     }
@@ -57,6 +91,7 @@ fn add_rows(alloc: Global, text: &mut String, rows: &[PairRow]) -> Result<(), Al
 /// The lines of a report, whose maps have these names and shapes.
 fn report_text(
     alloc: Global,
+    host: Host,
     names: &[String],
     shapes: &[MapShape],
     report: &PairReport,
@@ -64,17 +99,18 @@ fn report_text(
     requires named { length names.now ≡ length shapes.now }
     requires few { length shapes.now < 5 }
     requires shapes { report.now.totals.shapes ≡ shapes.now }
-    ensures { IfOk result (λ s. string_bytes s ≡ pair_text (map string_bytes names.now) report.now) }
+    ensures { IfOk result (λ s. string_bytes s ≡ pair_text host (map string_bytes names.now) report.now) }
 {
     let mut text = String::new(alloc);
-    add_rows(alloc, &mut text, report.rows.as_slice())?;
+    add_rows(alloc, &mut text, host, report.rows.as_slice())?;
     add_counters(alloc, &mut text, names, shapes, &report.totals)?;
     Ok(text)
 }
 
-/// The lines of `pair`.
+/// The lines of `pair`, beside a host that does so.
 pub fn paired_text(
     alloc: Global,
+    host: Host,
     names: &[String],
     shapes: &[MapShape],
     paired: &Paired,
@@ -82,10 +118,10 @@ pub fn paired_text(
     requires named { length names.now ≡ length shapes.now }
     requires few { length shapes.now < 5 }
     requires shapes { HasCounters shapes.now paired.now }
-    ensures { IfOk result (λ s. string_bytes s ≡ paired_text (map string_bytes names.now) paired.now) }
+    ensures { IfOk result (λ s. string_bytes s ≡ paired_text host (map string_bytes names.now) paired.now) }
 {
     match paired {
-        Paired::Ran(report) => report_text(alloc, names, shapes, report),
+        Paired::Ran(report) => report_text(alloc, host, names, shapes, report),
         Paired::Refused(refusal) => refused_text(alloc, refusal),
         Paired::NotMapped => String::from_str(alloc, "mapping refused\n"),
         Paired::NotStarted => String::from_str(alloc, "threads refused\n"),

@@ -13,7 +13,7 @@ use std::alloc::{AllocError, Global};
 use std::sync::Wait;
 use std::thread::Threads;
 use xdp_load::Setup;
-use xdp_pair::{Open, PairFault, PairReport, pair_with};
+use xdp_pair::{Host, Open, PairFault, PairReport, pair_with};
 
 /// What became of a setup whose queues were to run on threads.
 #[derive(Drop)]
@@ -46,28 +46,30 @@ fn run_pairs<T: Threads + Wait + Sync>(
     alloc: Global,
     setup: &Setup,
     program: &Verified,
+    host: Host,
     turns: u32,
 ) -> Result<Paired, AllocError>
     requires sound { IsSound (setup_view setup.now) }
     requires program { IsProgramOf setup.now.program.items setup.now.shapes.items program.now }
-    ensures { IfOk result (IsPaired (setup_view setup.now) turns) }
+    ensures { IfOk result (IsPaired (setup_view setup.now) turns host) }
 {
-    outcome(pair_with(rt, alloc, setup, program, turns, &Open))
+    outcome(pair_with(rt, alloc, setup, program, host, turns, &Open))
 }
 
-/// Accepts the program of a setup and runs the setup's queues on threads, each in at most so many turns; or refuses the
-/// program.
+/// Accepts the program of a setup and runs the setup's queues on threads, each in at most so many turns, beside a host that
+/// answers or doesn't; or refuses the program.
 pub fn pair<T: Threads + Wait + Sync>(
     rt: &T,
     alloc: Global,
     setup: &Setup,
+    host: Host,
     turns: u32,
 ) -> Result<Paired, AllocError>
     requires { IsSound (setup_view setup.now) }
-    ensures { IfOk result (IsPaired (setup_view setup.now) turns) }
+    ensures { IfOk result (IsPaired (setup_view setup.now) turns host) }
 {
     match accept(alloc, setup.program.as_slice(), setup.shapes.as_slice()) {
-        Ok(program) => run_pairs(rt, alloc, setup, &program, turns),
+        Ok(program) => run_pairs(rt, alloc, setup, &program, host, turns),
         Err(refusal) => Ok(Paired::Refused(refusal)),
     }
 }

@@ -1,7 +1,7 @@
 //! What the words of a call ask for.
 ghost use Rattle.std.specs.Prelude.{◌≡◌, ◌↔◌, IfOk, IsTrue, codes, map, option_map, option_and_then};
 ghost use Rattle.clap.specs.Words.{first_of, found_of, kind_of, one_of, rows_of, subcommand_rows_of};
-ghost use Rattle.xdp_commands.specs.Words.{exec_of, number_of, pair_of, wanted_by, wanted_of_words};
+ghost use Rattle.xdp_commands.specs.Words.{exec_of, host_of, number_of, pair_of, wanted_by, wanted_of_words};
 ghost use Rattle.xdp_commands.specs.Seen.{wanted_of};
 
 use crate::command_line::program_command;
@@ -9,6 +9,7 @@ use clap::error::ErrorKind;
 use clap::{ArgMatches, Error};
 use std::alloc::{AllocError, Global};
 use std::convert::AsStr;
+use xdp_pair::Host;
 
 /// What a call asks for.
 #[derive(Clone, Copy)]
@@ -23,8 +24,8 @@ pub enum Request<'a> {
     Run,
     /// What the program of the settings makes of their packets.
     Filter,
-    /// What the queues of the settings do on threads, in at most so many turns each.
-    Pair { turns: u32 },
+    /// What the queues of the settings do on threads, in at most so many turns each, beside a host that does so.
+    Pair { turns: u32, host: Host },
 }
 
 /// The word of a positional.
@@ -50,12 +51,23 @@ fn exec_in<'a>(matches: &ArgMatches<'a>) -> Option<Request<'a>>
     Some(Request::Exec { program, packet })
 }
 
-/// The number of turns of `pair`.
+/// What the host does: it answers where the flag was found.
+fn host_in(matches: &ArgMatches<'_>) -> Host
+    ensures { result ≡ host_of (rows_of (found_of matches.now)) }
+{
+    match word_at(matches, "answer") {
+        Some(word) if word == "true" => Host::Answers,
+        _ => Host::Takes,
+    }
+}
+
+/// The number of turns of `pair`, and what the host does.
 fn pair_in<'a>(matches: &ArgMatches<'a>) -> Option<Request<'a>>
     ensures { option_map wanted_of result ≡ pair_of (rows_of (found_of matches.now)) }
 {
     let turns = turns_in(matches)?;
-    Some(Request::Pair { turns })
+    let host = host_in(matches);
+    Some(Request::Pair { turns, host })
 }
 
 /// What the matches ask for.

@@ -21,10 +21,6 @@ rows_all : {A B : Type 0} (f : Data → Option B) (g : A → Data) (h : A → B)
 rows_all f g h e [] = refl
 rows_all f g h e (x ∷ xs) = rw (e x, rows_all f g h e xs) refl
 
-each_all_of : {A B : Type 0} (f : A → Option B) (g : B → A) (P : B → Type 0) → ((y : B) → P y → f (g y) ≡ Some y) → (ys : List B) → AllByRecursion P ys → each f (map g ys) ≡ Some ys
-each_all_of f g P e [] a = refl
-each_all_of f g P e (y ∷ ys) a = rw (e y a.0, each_all_of f g P e ys a.1) refl
-
 -- ---- what is written
 
 abbrev Named : Type 0

@@ -1,5 +1,7 @@
+mod CountLemmas
 mod OrderLemmas
 mod ReturnLemmas
+mod RoundLemmas
 mod SeatLemmas
 mod SendingLemmas
 mod WorkLemmas

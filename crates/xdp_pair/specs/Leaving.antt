@@ -10,15 +10,15 @@ use Rattle.xdp_pair.specs.declared.report.PairRow.{PairRow}
 
 -- what a queue's row says of its back
 abbrev pub back_of : PairRow → BackRow
-back_of r = record { copied = r.copied; refused = r.refused; halted = r.halted }
+back_of r = record { copied = r.copied; refused = r.refused; halted = r.halted; deliveries = r.deliveries }
 
--- What was done at a seat was done by whole turns of the queue with its number, and that queue's row counts them.
+-- What was done at a seat was done by whole rounds of the queue with its number, and that queue's row counts them.
 pub record HasWorked (task : Task) (turns : ℕ) (rows : List PairRow) (s : SeatView) : Type 0 where
   pub row : BackRow
   pub at : option_map back_of (slice_get rows s.number) ≡ Some row
   pub work : IsWork task turns row s
 
--- Each queue had a seat, and what was done at it was done by whole turns of its queue, which its row counts. It all stands in one legal
+-- Each queue had a seat, and what was done at it was done by whole rounds of its queue, which its row counts. It all stands in one legal
 -- history, and the totals are what that leaves: the sums of what was added.
 pub record AreLeft (task : Task) (turns : ℕ) (r : PairReport) : Type 0 where
   pub seats : List SeatView

@@ -1,4 +1,6 @@
 pub mod Kits
+pub mod Answering
+pub mod Rounds
 pub mod Working
 pub mod Promised
 pub mod Leaving

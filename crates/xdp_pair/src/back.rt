@@ -1,19 +1,19 @@
 //! A back thread.
-ghost use Rattle.std.specs.Prelude.{◌≡◌, ◌+◌, ◌<◌, ◌*◌, [], true};
+ghost use Rattle.std.specs.Prelude.{◌≡◌, ◌+◌, ◌<◌, ◌*◌, length, true};
 ghost use Rattle.xdp_world.specs.Frames.{frame_of, owners_of};
 ghost use Rattle.xdp_world.specs.Core.{started_at};
 ghost use Rattle.xen_back.specs.Queues.{IsReady, rx_ring_of, state_of, tx_ring_of, wiring_of};
 ghost use Rattle.xen_page.specs.Mapping.{IsMappedBy};
 ghost use Rattle.bpf_maps.specs.Seats.{IsSeatOf};
 ghost use Rattle.xdp_pair.specs.Kits.{IsBackOf};
-ghost use Rattle.xdp_pair.specs.Working.{IsHalt, IsWiredFor, IsWork, counted, task_of, with_turn};
-ghost use Rattle.xdp_pair.specs.declared.next.Next.TheVariants.{Rests, Ends};
-ghost use Rattle.xen_back.specs.declared.turn.Turn.TheVariants.{Idle};
+ghost use Rattle.xdp_pair.specs.Working.{IsWiredFor, IsWork, IsWorkOver, task_of};
 
 use crate::gate::Gate;
+use crate::host::Host;
 use crate::kits::BackKit;
 use crate::next::Next;
 use crate::report::BackRow;
+use crate::round::{Round, drive_round};
 use crate::shared::Shared;
 use bpf_maps::{CounterSeat, Counters};
 use bpf_verify::Verified;
@@ -22,8 +22,8 @@ use std::snapshot::Snapshot;
 use std::sync::Wait;
 use std::thread::{Promise, PromisedHandle};
 use xdp_world::{BACK, FRONT};
-use xen_back::{Queue, QueueDesc, Turn};
-use xen_page::{Mapped, PageBus};
+use xen_back::{Queue, QueueDesc};
+use xen_page::{Bus, Mapped};
 use xen_ring::Port;
 
 /// A back's seat, and what it did.
@@ -33,7 +33,7 @@ pub(crate) struct BackDone {
     pub row: BackRow,
 }
 
-/// The promise that a seat comes back, of its counters, with its number, and with what turns of its queue did, which the
+/// The promise that a seat comes back, of its counters, with its number, and with what rounds of its queue did, which the
 /// row counts.
 #[derive(Drop)]
 pub(crate) struct SeatBack {
@@ -42,6 +42,7 @@ pub(crate) struct SeatBack {
     pub queues: usize,
     pub ifindex: u32,
     pub start: u32,
+    pub host: Host,
     pub turns: u32,
 }
 
@@ -51,6 +52,7 @@ impl SeatBack {
         ensures program { result.program.value ≡ program.now }
         ensures queues { result.queues ≡ shared.now.layout.queues }
         ensures numbers { (result.ifindex ≡ shared.now.ifindex) × (result.start ≡ shared.now.start) × (result.turns ≡ turns) }
+        ensures host { result.host ≡ shared.now.host }
     {
         SeatBack {
             seat: Snapshot::of(seat),
@@ -58,6 +60,7 @@ impl SeatBack {
             queues: shared.lanes.len(),
             ifindex: shared.ifindex,
             start: shared.start,
+            host: shared.host,
             turns,
         }
     }
@@ -65,48 +68,11 @@ impl SeatBack {
 
 impl Promise<BackDone> for SeatBack {
     ghost kept_by = { λ p d. (d.seat.table ≡ p.seat.value.table) × (d.seat.shapes ≡ p.seat.value.shapes) × (d.seat.number ≡ p.seat.value.number)
-        × IsWork (record { program = p.program.value; queues = p.queues; ifindex = p.ifindex; start = p.start }) p.turns d.row d.seat };
+        × IsWork (record { program = p.program.value; queues = p.queues; ifindex = p.ifindex; start = p.start; host = p.host }) p.turns d.row d.seat };
 }
 
 /// The thread of a back.
 pub(crate) type BackThread = PromisedHandle<BackDone, SeatBack>;
-
-impl BackRow {
-    /// Nothing was done.
-    fn new() -> BackRow
-        ensures { result ≡ counted [] }
-    {
-        BackRow {
-            copied: 0,
-            refused: 0,
-            halted: None,
-        }
-    }
-
-    /// Counts a turn.
-    fn count(&mut self, turn: &Turn<'_>) -> Next
-        requires room { (self.old.copied < 4294967295) × (self.old.refused < 4294967295) }
-        ensures counted { self.new ≡ with_turn turn.now self.old }
-        ensures rests { result ≡ Rests → turn.now ≡ Idle }
-        ensures ends { result ≡ Ends → IsHalt turn.now }
-    {
-        match turn {
-            Turn::Ran { .. } => {
-                self.copied += 1;
-                Next::Goes
-            }
-            Turn::Refused { .. } => {
-                self.refused += 1;
-                Next::Goes
-            }
-            Turn::Idle => Next::Rests,
-            Turn::Halted { cause } => {
-                self.halted = Some(*cause);
-                Next::Ends
-            }
-        }
-    }
-}
 
 /// A queue before its first turn, over these rings. Its packets lie in the room.
 fn make_queue<'p, 'b>(
@@ -144,40 +110,51 @@ fn make_queue<'p, 'b>(
     Queue::make(program, desc, room)
 }
 
-/// Drives turns until the front has ended and a later turn is idle, or so many are done, or the queue has halted. The
-/// front is woken after each turn that took a packet.
-pub(crate) fn work_back<R: Wait, G: Gate>(
+/// Drives turns until the front has ended and a later turn is idle, or so many are done, or the queue has halted, and delivers
+/// what the host answers. The front is woken after each turn that took a packet.
+pub(crate) fn work_back<R: Wait, G: Gate, B: Bus>(
     rt: &R,
     gate: &G,
     turns: u32,
     program: &Verified,
     shared: &Shared,
     counters: &Counters,
+    bus: &mut B,
     kit: BackKit,
 ) -> BackDone
     requires kit { IsBackOf counters.now shared.now.layout.queues kit }
     requires shapes { counters.now.shapes ≡ program.now.shapes }
+    requires size { B.size bus.old ≡ length (owners_of shared.now.layout.queues) }
     ensures own { IsSeatOf counters.entry.now result.seat }
     ensures number { result.seat.number ≡ kit.seat.number }
-    ensures work { IsWork (task_of program.now shared.now) turns result.row result.seat }
+    ensures work { IsWorkOver B.log B.access_gives (task_of program.now shared.now) turns result.row result.seat bus.old bus.new }
 {
     let BackKit {
         queue: number,
         tx,
         rx,
         mut room,
+        mut answer,
         parker,
         mut seat,
     } = kit;
     let lane = &shared.lanes[number];
     let mut queue = make_queue(program, shared, number, tx, rx, &mut room);
-    let mut bus = PageBus::of(&shared.frames);
     let mut row = BackRow::new();
     for done in 0..turns {
         let last = lane.has_front_ended();
         gate.pass(number, done + 1);
-        let turn = queue.drive_turn(&mut bus, counters, &mut seat, &shared.ports);
-        match row.count(&turn) {
+        let Round { next, slots } = drive_round(
+            &mut queue,
+            bus,
+            counters,
+            &mut seat,
+            shared,
+            &mut answer,
+            &mut row,
+        );
+        lane.settle(slots);
+        match next {
             Next::Goes => lane.front.ring(),
             Next::Rests => {
                 if last {

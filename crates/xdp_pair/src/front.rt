@@ -38,6 +38,10 @@ struct Desk<'p> {
     queue: usize,
     outbox: Outbox<'p>,
     row: FrontRow,
+    /// How many tx slots were taken for packets, modulo 2^32.
+    taken: u32,
+    /// How many of them were on their way at the last idle poll, and are since then.
+    on_way: u32,
     /// Posted rx slots that no packet on its way can need.
     spare: u32,
 }
@@ -51,21 +55,25 @@ impl<'p> Desk<'p> {
                 sent: 0,
                 received: 0,
             },
+            taken: 0,
+            on_way: 0,
             spare: 0,
         }
     }
 
-    /// What comes after a poll that gave nothing, by the numbers of unanswered tx requests before and after it, and of
-    /// posted rx slots.
-    fn after_idle(&mut self, before: u32, open: u32, posted: u32, last: bool) -> Next {
-        let spare = posted.saturating_sub(open);
-        let moved = open < before || spare > self.spare;
+    /// What comes after a poll that gave nothing, by the numbers of unanswered tx requests and of posted rx slots after it,
+    /// and of the tx slots that the back had done with before it. For all others a packet may still come.
+    fn after_idle(&mut self, open: u32, posted: u32, settled: u32, last: bool) -> Next {
+        let on_way = open.max(self.taken.wrapping_sub(settled));
+        let spare = posted.saturating_sub(on_way);
+        let moved = on_way < self.on_way || spare > self.spare;
+        self.on_way = on_way;
         self.spare = spare;
         if last {
             Next::Ends
         } else if moved {
             Next::Goes
-        } else if open == 0 && self.outbox.next().is_none() {
+        } else if on_way == 0 && self.outbox.next().is_none() {
             Next::Ends
         } else {
             Next::Rests
@@ -103,12 +111,14 @@ fn begin_send(front: &mut Front<'_>, desk: &mut Desk<'_>) -> bool
         return false;
     }
     desk.outbox.pass();
+    desk.taken = desk.taken.wrapping_add(slots as u32);
+    desk.on_way = desk.on_way.saturating_add(slots as u32);
     desk.spare -= slots as u32;
     desk.row.sent = desk.row.sent.saturating_add(1);
     true
 }
 
-/// Takes what has come back.
+/// Takes what has come.
 fn poll<B: Bus, I: Inbox>(
     front: &mut Front<'_>,
     bus: &mut B,
@@ -135,20 +145,22 @@ fn poll<B: Bus, I: Inbox>(
     }
 }
 
-/// One activity: a post, a send, or else a poll. Once the back has ended, only polls are left.
+/// One activity: a post, a send, or else a poll. Before it the back had done with so many tx slots, and had perhaps ended: then only
+/// polls are left.
 fn act<B: Bus, I: Inbox>(
     front: &mut Front<'_>,
     bus: &mut B,
     ports: &Ports,
     inbox: &I,
     desk: &mut Desk<'_>,
+    settled: u32,
     last: bool,
 ) -> Next
     requires { (wiring_of front.old).frames ≤ B.size bus.old }
     ensures size { B.size bus.new ≡ B.size bus.old }
     ensures same { wiring_of front.new ≡ wiring_of front.old }
 {
-    let (open, posted) = front.unanswered();
+    let (_open, posted) = front.unanswered();
     if !last && (begin_post(front, desk, posted) || begin_send(front, desk)) {
         return match front.drive_front(bus, ports) {
             RxTurn::Halted { .. } => Next::Ends,
@@ -159,13 +171,13 @@ fn act<B: Bus, I: Inbox>(
         Polled::Packet => Next::Goes,
         Polled::Ended => Next::Ends,
         Polled::Idle => {
-            let (still_open, posted) = front.unanswered();
-            desk.after_idle(open, still_open, posted, last)
+            let (open, posted) = front.unanswered();
+            desk.after_idle(open, posted, settled, last)
         }
     }
 }
 
-/// Sends the packets of its queue, and takes what comes back. It ends once every tx slot is answered and nothing more is
+/// Sends the packets of its queue, and takes what comes. It ends once the back has done with every tx slot and nothing more is
 /// there, or once the back has ended and nothing more is there. The back is woken after each activity that did something.
 pub(crate) fn work_front<R: Wait, I: Inbox>(
     rt: &R,
@@ -186,7 +198,17 @@ pub(crate) fn work_front<R: Wait, I: Inbox>(
     let mut desk = Desk::new(queue, packets);
     for _ in rt.forever() {
         let last = lane.has_back_ended();
-        match act(&mut front, &mut bus, &shared.ports, inbox, &mut desk, last) {
+        let settled = lane.settled();
+        let next = act(
+            &mut front,
+            &mut bus,
+            &shared.ports,
+            inbox,
+            &mut desk,
+            settled,
+            last,
+        );
+        match next {
             Next::Goes => lane.back.ring(),
             Next::Rests => lane.front.wait(rt, &parker),
             Next::Ends => break,

@@ -8,7 +8,7 @@ ghost use Rattle.xdp_pair.specs.Working.{Task};
 
 use crate::back::{BackDone, BackThread};
 use crate::front::FrontThread;
-use crate::report::{BackRow, FrontRow, PairRow};
+use crate::report::{BackRow, Deliveries, FrontRow, PairRow};
 use bpf_maps::CounterSeat;
 use std::alloc::{AllocError, Global};
 use std::thread::Threads;
@@ -23,6 +23,7 @@ pub(crate) fn empty_rows(alloc: Global, queues: usize) -> Result<Vec<PairRow>, A
         refused: 0,
         halted: None,
         received: 0,
+        deliveries: Deliveries::NONE,
     };
     Vec::from_elem(alloc, row, queues)
 }
@@ -39,6 +40,7 @@ fn note_back(rows: &mut Vec<PairRow>, queue: usize, done: &BackRow)
         copied: done.copied,
         refused: done.refused,
         halted: done.halted,
+        deliveries: done.deliveries,
         ..row
     };
 }

@@ -6,6 +6,7 @@ ghost use Rattle.xdp_world.specs.Buffers.{granted_from};
 ghost use Rattle.xen_front.specs.Fronts.{state_of, wiring_of};
 ghost use Rattle.xdp_pair.specs.Kits.{IsBackOf, IsFrontOf, falling, number_of};
 
+use crate::answer::Answer;
 use crate::fault::PairFault;
 use crate::rings::{FIRST_GRANTED, make_ring};
 use crate::shared::Shared;
@@ -23,14 +24,15 @@ const TX_BUFFERS: u32 = 2;
 
 const RX_BUFFERS: u32 = 258;
 
-/// What the back thread of a queue is given: its rings, room for a packet, what it sleeps on, and its seat at the
-/// counters.
+/// What the back thread of a queue is given: its rings, room for a packet and for an answer, what it sleeps on, and its
+/// seat at the counters.
 #[derive(Drop)]
 pub(crate) struct BackKit {
     pub queue: usize,
     pub tx: Mapped,
     pub rx: Mapped,
     pub room: PacketRoom,
+    pub answer: Answer,
     pub parker: Parker,
     pub seat: CounterSeat,
 }
@@ -75,11 +77,13 @@ pub(crate) fn make_backs(
         let tx = make_ring(shared, first)?;
         let rx = make_ring(shared, first + 1)?;
         let room = PacketRoom::make(alloc)?;
+        let answer = Answer::make(alloc)?;
         backs.push(BackKit {
             queue,
             tx,
             rx,
             room,
+            answer,
             parker,
             seat,
         })?;

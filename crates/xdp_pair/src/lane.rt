@@ -2,15 +2,17 @@
 
 use crate::bell::Bell;
 use crossbeam_utils::sync::Unparker;
-use std::sync::atomic::{AtomicBool, Ordering};
+use std::sync::atomic::{AtomicBool, AtomicU32, Ordering};
 
-/// Wakes both workers of a queue, and tells each whether the other has ended.
+/// Wakes both workers of a queue, and tells each whether the other has ended, and the front how far the back is.
 #[derive(Drop)]
 pub(crate) struct Lane {
     pub front: Bell,
     pub back: Bell,
     front_ended: AtomicBool,
     back_ended: AtomicBool,
+    /// How many tx slots the back has done with, modulo 2^32: their packet was answered, and what it sends for it is sent.
+    settled: AtomicU32,
 }
 
 impl Lane {
@@ -20,6 +22,7 @@ impl Lane {
             back: Bell::new(back),
             front_ended: AtomicBool::new(false),
             back_ended: AtomicBool::new(false),
+            settled: AtomicU32::new(0),
         }
     }
 
@@ -29,6 +32,16 @@ impl Lane {
 
     pub fn has_back_ended(&self) -> bool {
         self.back_ended.load(Ordering::SeqCst)
+    }
+
+    /// How many tx slots the back has done with, modulo 2^32.
+    pub fn settled(&self) -> u32 {
+        self.settled.load(Ordering::SeqCst)
+    }
+
+    /// The back has done with so many more.
+    pub fn settle(&self, slots: u32) {
+        self.settled.fetch_add(slots, Ordering::SeqCst);
     }
 
     /// The flag is set before the back is woken, so that the back sees it once it is awake.

@@ -10,6 +10,7 @@ ghost use Rattle.xdp_pair.specs.Working.{task_for, task_of};
 
 use crate::fault::PairFault;
 use crate::gate::Gate;
+use crate::host::Host;
 use crate::inbox::{Discard, Inbox};
 use crate::joining::{empty_rows, join_backs, join_fronts};
 use crate::kits::{BackKit, FrontKit, make_backs, make_fronts, make_pages};
@@ -25,7 +26,7 @@ use std::thread::Threads;
 use xdp_load::{Packet, Setup};
 
 /// The bytes of a front thread's stack.
-pub(crate) const STACK: usize = 0x10_0000;
+pub const STACK: usize = 0x10_0000;
 
 /// Both threads of each queue, and what they hand back. All threads have ended when it returns.
 fn run_all<R: Threads + Wait + Sync, G: Gate + Sync, I: Inbox + Sync>(
@@ -88,8 +89,13 @@ fn run_all<R: Threads + Wait + Sync, G: Gate + Sync, I: Inbox + Sync>(
     )
 }
 
-/// Runs a pair of threads for each queue over this memory. The fronts have stacks of so many bytes.
-pub(crate) fn pair_over<R: Threads + Wait + Sync, G: Gate + Sync, I: Inbox + Sync>(
+/// Runs the setup's queues over this memory, as [`pair_with`] does over memory of its own. The inbox is given each packet that
+/// comes back to a front, and the fronts have stacks of so many bytes.
+///
+/// # Errors
+///
+/// As those of [`pair_with`].
+pub fn pair_over<R: Threads + Wait + Sync, G: Gate + Sync, I: Inbox + Sync>(
     rt: &R,
     alloc: Global,
     setup: &Setup,
@@ -107,7 +113,7 @@ pub(crate) fn pair_over<R: Threads + Wait + Sync, G: Gate + Sync, I: Inbox + Syn
     requires parkers { (vec_len parkers.fronts ≡ setup.now.queues) × (vec_len parkers.backs ≡ setup.now.queues) }
     ensures rows { IfOk result (λ r. vec_len r.rows ≡ setup.now.queues) }
     ensures shapes { IfOk result (λ r. r.totals.shapes ≡ program.now.shapes) }
-    ensures account { IfOk result (λ r. AreLeft (task_for program.now setup.now) turns r) }
+    ensures account { IfOk result (λ r. AreLeft (task_for program.now setup.now shared.now.host) turns r) }
 {
     let (counters, seats) = Counters::make(alloc, program.shapes(), setup.queues)?;
     let backs = make_backs(alloc, shared, seats, parkers.backs)?;
@@ -136,7 +142,8 @@ pub(crate) fn pair_over<R: Threads + Wait + Sync, G: Gate + Sync, I: Inbox + Syn
 }
 
 /// Runs the setup's queues, a front thread and a back thread for each: the front sends the setup's packets, and the back
-/// drives at most `turns` turns of the program, and passes the gate before each. All threads have ended when it returns.
+/// drives at most `turns` turns of the program, and passes the gate before each. A host that answers packets has its answers
+/// delivered between turns. All threads have ended when it returns.
 ///
 /// # Errors
 ///
@@ -146,15 +153,16 @@ pub fn pair_with<R: Threads + Wait + Sync, G: Gate + Sync>(
     alloc: Global,
     setup: &Setup,
     program: &Verified,
+    host: Host,
     turns: u32,
     gate: &G,
 ) -> Result<PairReport, PairFault>
     requires { IsSound (setup_view setup.now) }
     ensures rows { IfOk result (λ r. vec_len r.rows ≡ setup.now.queues) }
     ensures shapes { IfOk result (λ r. r.totals.shapes ≡ program.now.shapes) }
-    ensures account { IfOk result (λ r. AreLeft (task_for program.now setup.now) turns r) }
+    ensures account { IfOk result (λ r. AreLeft (task_for program.now setup.now host) turns r) }
 {
-    let (shared, parkers) = Shared::make(alloc, setup)?;
+    let (shared, parkers) = Shared::make(alloc, setup, host)?;
     pair_over(
         rt, alloc, setup, program, turns, gate, &Discard, STACK, &shared, parkers,
     )

@@ -3,16 +3,37 @@
 use bpf_maps::Totals;
 use xen_back::Halt;
 
-/// What a back did: the packets that were copied, on which the program ran, those that were refused, and why it has
-/// halted, if it has.
+/// What became of the host's answers to packets that the program passed on.
+#[derive(Clone, Copy, Debug, PartialEq, Eq)]
+pub struct Deliveries {
+    /// Answers that lie in buffers of the front.
+    pub sent: u64,
+    /// Answers for which the front had posted too few buffers. They are lost.
+    pub few: u64,
+    /// Answers for which a posted buffer's grant failed its check. They are lost.
+    pub refused: u64,
+}
+
+impl Deliveries {
+    /// No answer was delivered.
+    pub const NONE: Deliveries = Deliveries {
+        sent: 0,
+        few: 0,
+        refused: 0,
+    };
+}
+
+/// What a back did: the packets that were copied, on which the program ran, those that were refused, why it has
+/// halted, if it has, and what became of the host's answers.
 #[derive(Clone, Copy, Debug, PartialEq, Eq)]
 pub(crate) struct BackRow {
     pub copied: u64,
     pub refused: u64,
     pub halted: Option<Halt>,
+    pub deliveries: Deliveries,
 }
 
-/// What a front did: the packets that it sent, and those that came back to it.
+/// What a front did: the packets that it sent, and those that came to it.
 #[derive(Clone, Copy, Debug, PartialEq, Eq)]
 pub(crate) struct FrontRow {
     pub sent: u64,
@@ -30,8 +51,10 @@ pub struct PairRow {
     pub refused: u64,
     /// Why the back has halted, if it has.
     pub halted: Option<Halt>,
-    /// Packets that came back to the front.
+    /// Packets that came to the front: those that the program sent back, and the host's answers.
     pub received: u64,
+    /// What became of the host's answers.
+    pub deliveries: Deliveries,
 }
 
 /// What all queues did, in their order, and the counters that they leave.

@@ -1,25 +1,24 @@
 //! Starting the threads.
-ghost use Rattle.std.specs.Prelude.{◌≡◌, [], All, map, ◌<◌, ◌≤◌, ◌+◌, length, vec_len, vec_capacity, IfErr, IfOk};
+ghost use Rattle.std.specs.Prelude.{◌≡◌, [], All, map, ◌<◌, ◌≤◌, ◌+◌, length, vec_len, vec_capacity, IfOk};
 ghost use Rattle.std.specs.List.{range_with_len};
-ghost use Rattle.xdp_pair.specs.declared.fault.PairFault.TheVariants.{Thread};
 ghost use Rattle.xdp_pair.specs.Kits.{IsBackOf, IsFrontOf, falling, number_of};
 ghost use Rattle.xdp_pair.specs.Promised.{PromisesSeatOf, promised_number};
 ghost use Rattle.bpf_maps.specs.Seats.{IsSeatOf};
 ghost use Rattle.xdp_pair.specs.Working.{IsWork, task_of};
 
 use crate::back::{BackDone, BackThread, SeatBack, work_back};
-use crate::fault::PairFault;
 use crate::front::{FrontThread, work_front};
 use crate::gate::Gate;
 use crate::inbox::Inbox;
 use crate::kits::{BackKit, FrontKit};
 use crate::report::FrontRow;
-use crate::shared::Shared;
+use crate::shared::{AllEnd, Shared};
 use bpf_maps::Counters;
 use bpf_verify::Verified;
 use std::sync::Wait;
 use std::thread::{Builder, Scope};
 use xdp_load::Packet;
+use xen_page::PageBus;
 
 /// Starts a thread for each back. There is room for their handles. If one can't be started, all workers are told to end.
 pub(crate) fn start_backs<'s, E, R: Wait + Sync, G: Gate + Sync>(
@@ -32,13 +31,12 @@ pub(crate) fn start_backs<'s, E, R: Wait + Sync, G: Gate + Sync>(
     counters: &'s Counters,
     mut kits: Vec<BackKit>,
     mut backs: Vec<BackThread>,
-) -> Result<Vec<BackThread>, PairFault>
+) -> Result<Vec<BackThread>, AllEnd>
     requires kits { All (IsBackOf counters.now shared.now.layout.queues) kits.items }
     requires numbers { map number_of kits.items ≡ falling (vec_len kits) }
     requires shapes { counters.now.shapes ≡ program.now.shapes }
     requires room { (backs.items ≡ []) × (vec_len kits ≤ vec_capacity backs) }
     ensures count { IfOk result (λ v. vec_len v ≡ vec_len kits) }
-    ensures fault { IfErr result (λ e. e ≡ Thread) }
     ensures seats { IfOk result (λ v. All (PromisesSeatOf (task_of program.entry.now shared.entry.now) turns counters.entry.now) v.items) }
     ensures numbers { IfOk result (λ v. map promised_number v.items ≡ range_with_len 0 (vec_len kits)) }
 {
@@ -49,10 +47,12 @@ pub(crate) fn start_backs<'s, E, R: Wait + Sync, G: Gate + Sync>(
             move || -> BackDone
                 requires { IsBackOf counters.now shared.now.layout.queues kit × (counters.now.shapes ≡ program.now.shapes) }
                 ensures { IsSeatOf counters.entry.now result.seat × (result.seat.number ≡ kit.seat.number) × IsWork (task_of program.entry.now shared.entry.now) turns result.row result.seat }
-            { work_back(rt, gate, turns, program, shared, counters, kit) },
+            {
+                let mut bus = PageBus::of(&shared.frames);
+                work_back(rt, gate, turns, program, shared, counters, &mut bus, kit)
+            },
         ) else {
-            shared.end_all();
-            return Err(PairFault::Thread);
+            return Err(shared.end_all());
         };
         backs.push_reserved(back);
     }
@@ -70,11 +70,10 @@ pub(crate) fn start_fronts<'s, E, R: Wait + Sync, I: Inbox + Sync>(
     shared: &'s Shared,
     mut kits: Vec<FrontKit<'s>>,
     mut fronts: Vec<FrontThread>,
-) -> Result<Vec<FrontThread>, PairFault>
+) -> Result<Vec<FrontThread>, AllEnd>
     requires room { (fronts.items ≡ []) × (vec_len kits ≤ vec_capacity fronts) }
     requires kits { All (IsFrontOf shared.now.layout.queues) kits.items }
     ensures count { IfOk result (λ v. vec_len v ≡ vec_len kits.entry) }
-    ensures fault { IfErr result (λ e. e ≡ Thread) }
 {
     while let Some(kit) = kits.pop() {
         let Ok(front) = Builder::new().stack_size(stack).spawn_scoped(
@@ -84,8 +83,7 @@ pub(crate) fn start_fronts<'s, E, R: Wait + Sync, I: Inbox + Sync>(
             { work_front(rt, inbox, packets, shared, kit) },
         )
         else {
-            shared.end_all();
-            return Err(PairFault::Thread);
+            return Err(shared.end_all());
         };
         fronts.push_reserved(front);
     }

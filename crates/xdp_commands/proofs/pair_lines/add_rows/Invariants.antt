@@ -6,5 +6,5 @@ abbrev pub invariant-loop-row : goal.invariant-loop-row
 invariant-loop-row l =
     record {
       number : l.queue ≡ l.row-index;
-      text : string_bytes l.text ++ rows_text l.queue (drop l.row-index l.rows) ≡ string_bytes l.fn.text ++ rows_text 0 l.rows;
+      text : string_bytes l.text ++ rows_text l.host l.queue (drop l.row-index l.rows) ≡ string_bytes l.fn.text ++ rows_text l.host 0 l.rows;
     }

@@ -22,7 +22,7 @@ returns-clause-account g c =
     let queues = c.requires.shared in
     let ifindex = c.requires.numbers.0 in
     let start = c.requires.numbers.1 in
-    let same : task_of c.args.program.now c.args.shared.now ≡ task_for c.args.program.now c.args.setup.now = (λ i. record { program = c.args.program.now; queues = queues i; ifindex = ifindex i; start = start i }) in
+    let same : task_of c.args.program.now c.args.shared.now ≡ task_for c.args.program.now c.args.setup.now c.args.shared.now.host = (λ i. record { program = c.args.program.now; queues = queues i; ifindex = ifindex i; start = start i; host = c.args.shared.now.host }) in
     record {
       seats = c.in_ok-seats.seats.items;
       every = λ q below. (let rows = c.in_ok-rows.ensures in c.in_ok-seats.ensures.2 q (omega (arith, below, rows)));

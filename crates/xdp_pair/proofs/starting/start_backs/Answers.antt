@@ -38,7 +38,8 @@ loop-kit-preserved g c =
     let queues = ap (λ p. p.queues) ok ∙ of.queues in
     let ifindex = ap (λ p. p.ifindex) ok ∙ of.numbers.0 in
     let start = ap (λ p. p.start) ok ∙ of.numbers.1 in
-    (λ i. record { program = program i; queues = queues i; ifindex = ifindex i; start = start i }) in
+    let host = ap (λ p. p.host) ok ∙ of.host in
+    (λ i. record { program = program i; queues = queues i; ifindex = ifindex i; start = start i; host = host i }) in
     let turns = ap (λ p. p.turns) ok ∙ of.numbers.2 in
     let pushed = c.push_reserved.ensures.items in
     let old = c.loop-kit.backs.items in
@@ -80,8 +81,9 @@ spawn_with-requires-clause-keeps g c κs within r h =
     let queues = of.queues in
     let ifindex = of.numbers.0 in
     let start = of.numbers.1 in
-    let told : Task = record { program = p.program.value; queues = p.queues; ifindex = p.ifindex; start = p.start } in
-    let same : told ≡ task = (λ i. record { program = program i; queues = queues i; ifindex = ifindex i; start = start i }) in (
+    let host = of.host in
+    let told : Task = record { program = p.program.value; queues = p.queues; ifindex = p.ifindex; start = p.start; host = p.host } in
+    let same : told ≡ task = (λ i. record { program = program i; queues = queues i; ifindex = ifindex i; start = start i; host = host i }) in (
       h.0.0 ∙ sym (ap (λ (s : SeatView). s.table) seat),
       h.0.1 ∙ sym (ap (λ (s : SeatView). s.shapes) seat),
       h.1 ∙ sym (ap (λ (s : SeatView). s.number) of.seat),

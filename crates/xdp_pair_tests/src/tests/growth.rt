@@ -5,14 +5,14 @@ ghost use Rattle.std.specs.Prelude.{IfSome};
 ghost use Rattle.xdp_load.specs.SetupSeen.{setup_view};
 ghost use Rattle.xdp_load.specs.Sound.{IsSound};
 
-use super::fixtures::{Rows, accepted, rows_of};
-use crate::{Open, PairFault, PairRow, pair_with};
+use crate::bench::{Rows, accepted, rows_of};
 use bpf_verify::Verified;
 use std::alloc::Global;
 use std::sync::Wait;
 use std::test::Fail;
 use std::thread::Threads;
 use xdp_load::{Setup, load};
+use xdp_pair::{Deliveries, Host, Open, PairFault, PairRow, pair_with};
 
 /// More turns than two packets take.
 const TURNS: u32 = 1000;
@@ -34,6 +34,7 @@ const ROW: PairRow = PairRow {
     refused: 0,
     halted: None,
     received: 1,
+    deliveries: Deliveries::NONE,
 };
 
 /// The settings as they are loaded.
@@ -62,7 +63,7 @@ fn run(
 ) -> Result<Rows, PairFault>
     requires { IsSound (setup_view setup.now) }
 {
-    match pair_with(rt, alloc, setup, program, TURNS, &Open) {
+    match pair_with(rt, alloc, setup, program, Host::Takes, TURNS, &Open) {
         Ok(report) => Ok(rows_of(report.rows.as_slice())),
         Err(fault) => Err(fault),
     }

@@ -2,17 +2,12 @@
 
 ghost use Rattle.std.specs.Prelude.{◌≤◌};
 
-use super::fixtures::{
-    Bench, PASSES, Rows, TURNS, passed, program, rows_behind, rows_of, setup_of,
-};
-use crate::gate::Gate;
-use crate::inbox::Discard;
-use crate::pairing::pair_over;
-use crate::shared::Shared;
-use crate::{Open, PairFault, PairRow};
+use super::fixtures::rows_behind;
+use crate::bench::{Bench, PASSES, Rows, TURNS, passed, program, rows_of, setup_of};
 use std::alloc::Global;
 use std::sync::Wait;
 use std::thread::Threads;
+use xdp_pair::{Discard, Gate, Open, PairFault, PairRow, Shared};
 use xen_back::Halt;
 use xen_page::{Bus, PageBus, Place};
 use xen_ring::{Port, Ports};
@@ -96,19 +91,7 @@ fn fault_of_stacks(rt: &(impl Threads + Wait + Sync), alloc: Global) -> Option<P
     let setup = setup_of(alloc, &[5000, 0, 0, 0, 0, 0, 0, 0], 0)?;
     let (bench, parkers) = Bench::make(alloc, setup)?;
     let program = program(alloc, PASSES, &[])?;
-    pair_over(
-        rt,
-        alloc,
-        &bench.setup,
-        &program,
-        TURNS,
-        &Open,
-        &Discard,
-        usize::MAX,
-        &bench.shared,
-        parkers,
-    )
-    .err()
+    bench.fault_of_stacks(rt, alloc, &program, TURNS, parkers)
 }
 
 /// All backs run when the first front is refused, for the size of its stack.
@@ -118,9 +101,14 @@ fn a_refused_thread_ends_all(rt: HostRuntime) {
 }
 
 /// Before the first turn of queue 0, whose front sends nothing, its tx ring shows more requests than a ring has.
-impl Gate for Shared {
+#[derive(Drop)]
+struct Overflown<'s> {
+    shared: &'s Shared,
+}
+
+impl Gate for Overflown<'_> {
     fn pass(&self, queue: usize, call: u32) {
-        let mut bus = PageBus::of(&self.frames);
+        let mut bus = PageBus::of(&self.shared.frames);
         let at = Place { frame: 17, word: 0 };
         if queue == 0 && call == 1 && at.frame < bus.frames() {
             bus.write(at, 1000);
@@ -128,16 +116,19 @@ impl Gate for Shared {
     }
 }
 
-/// The rows of a run whose pages are its gate.
-fn rows_behind_pages(
+/// The rows of a run behind that gate.
+fn overflown_rows(
     rt: &(impl Threads + Wait + Sync),
     alloc: Global,
     times: &[u32; 2],
 ) -> Option<Rows> {
     let setup = setup_of(alloc, times, 0)?;
     let (bench, parkers) = Bench::make(alloc, setup)?;
+    let gate = Overflown {
+        shared: &bench.shared,
+    };
     match program(alloc, PASSES, &[]) {
-        Some(program) => bench.rows(rt, alloc, &program, TURNS, &bench.shared, &Discard, parkers),
+        Some(program) => bench.rows(rt, alloc, &program, TURNS, &gate, &Discard, parkers),
         None => None,
     }
 }
@@ -148,6 +139,6 @@ fn a_halted_back_ends_its_queue(rt: HostRuntime) {
         halted: Some(Halt::TxProducer),
         ..passed(0)
     };
-    let rows = rows_behind_pages(&rt, rt.alloc(), &[0, 50]);
+    let rows = overflown_rows(&rt, rt.alloc(), &[0, 50]);
     assert_eq!(rt; rows, Some(rows_of(&[halted, passed(50)])));
 }

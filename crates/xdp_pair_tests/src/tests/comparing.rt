@@ -1,15 +1,14 @@
-//! Packets that come back.
+//! Packets that come back, and answers.
 
 ghost use Rattle.std.specs.Prelude.{◌≡◌, IfSome};
 
-use super::fixtures::{Bench, Rows, SENDS_BACK, TURNS, program, rows_of, setup};
-use crate::inbox::Inbox;
-use crate::{Open, PairRow};
+use crate::bench::{Bench, PASSES, Rows, SENDS_BACK, TURNS, program, rows_of, setup};
 use std::alloc::{AllocError, Global};
 use std::sync::Wait;
 use std::sync::atomic::{AtomicU32, Ordering};
 use std::thread::Threads;
 use xdp_load::{Packet, Setup};
+use xdp_pair::{Deliveries, Host, Inbox, Open, PairRow};
 
 /// The different packets of a queue.
 const KINDS: u32 = 100;
@@ -74,18 +73,21 @@ fn all_packets(alloc: Global) -> Option<Setup>
     }
 }
 
-/// Compares what comes back with what was sent, in order.
+/// Compares what comes to a front with what it sent, in order.
 #[derive(Drop)]
 struct Compared {
-    /// How many packets came back to each queue.
+    /// Whether an address stands where the other one was sent.
+    exchanged: bool,
+    /// How many packets came to each queue.
     came: [AtomicU32; 8],
     /// How many of them weren't the next one that was sent.
     wrong: AtomicU32,
 }
 
 impl Compared {
-    fn new() -> Compared {
+    fn new(exchanged: bool) -> Compared {
         Compared {
+            exchanged,
             came: [
                 AtomicU32::new(0),
                 AtomicU32::new(0),
@@ -101,13 +103,22 @@ impl Compared {
     }
 }
 
+/// Where the byte was sent that comes at this place of a packet.
+fn sent_at(exchanged: bool, at: usize) -> usize {
+    match at {
+        0..=5 if exchanged => at + 6,
+        6..=11 if exchanged => at - 6,
+        _ => at,
+    }
+}
+
 /// Whether this is the packet of that kind.
-fn is_packet(queue: usize, kind: u32, packet: &[u8]) -> bool {
+fn is_packet(exchanged: bool, queue: usize, kind: u32, packet: &[u8]) -> bool {
     if packet.len() != length(queue, kind) {
         return false;
     }
     for (at, found) in packet.iter().enumerate() {
-        if *found != byte(queue, kind, at) {
+        if *found != byte(queue, kind, sent_at(exchanged, at)) {
             return false;
         }
     }
@@ -117,7 +128,7 @@ fn is_packet(queue: usize, kind: u32, packet: &[u8]) -> bool {
 impl Inbox for Compared {
     fn take(&self, queue: usize, packet: &[u8]) {
         let number = self.came[queue % 8].fetch_add(1, Ordering::SeqCst);
-        if !is_packet(queue, number / TIMES, packet) {
+        if !is_packet(self.exchanged, queue, number / TIMES, packet) {
             self.wrong.fetch_add(1, Ordering::SeqCst);
         }
     }
@@ -126,11 +137,13 @@ impl Inbox for Compared {
 fn compared_rows(
     rt: &(impl Threads + Wait + Sync),
     alloc: Global,
+    slots: &[&str],
+    host: Host,
     compared: &Compared,
 ) -> Option<Rows> {
     let setup = all_packets(alloc)?;
-    let (bench, parkers) = Bench::make(alloc, setup)?;
-    match program(alloc, SENDS_BACK, &[]) {
+    let (bench, parkers) = Bench::with_host(alloc, setup, host)?;
+    match program(alloc, slots, &[]) {
         Some(program) => bench.rows(rt, alloc, &program, TURNS, &Open, compared, parkers),
         None => None,
     }
@@ -138,14 +151,39 @@ fn compared_rows(
 
 #[test]
 fn all_packets_of_eight_queues_come_back(rt: HostRuntime) {
-    let compared = Compared::new();
-    let rows = compared_rows(&rt, rt.alloc(), &compared);
+    let compared = Compared::new(false);
+    let rows = compared_rows(&rt, rt.alloc(), SENDS_BACK, Host::Takes, &compared);
     let row = PairRow {
         sent: u64::from(KINDS * TIMES),
         copied: u64::from(KINDS * TIMES),
         refused: 0,
         halted: None,
         received: u64::from(KINDS * TIMES),
+        deliveries: Deliveries::NONE,
+    };
+    assert_eq!(rt; rows, Some(rows_of(&[row; 8])));
+    assert_eq!(rt; compared.wrong.load(Ordering::SeqCst), 0);
+    for came in &compared.came {
+        assert_eq!(rt; came.load(Ordering::SeqCst), KINDS * TIMES);
+    }
+}
+
+#[test]
+fn all_packets_of_eight_queues_are_answered(rt: HostRuntime) {
+    let compared = Compared::new(true);
+    let rows = compared_rows(&rt, rt.alloc(), PASSES, Host::Answers, &compared);
+    let packets = u64::from(KINDS * TIMES);
+    let row = PairRow {
+        sent: packets,
+        copied: packets,
+        refused: 0,
+        halted: None,
+        received: packets,
+        deliveries: Deliveries {
+            sent: packets,
+            few: 0,
+            refused: 0,
+        },
     };
     assert_eq!(rt; rows, Some(rows_of(&[row; 8])));
     assert_eq!(rt; compared.wrong.load(Ordering::SeqCst), 0);

@@ -2,15 +2,15 @@
 
 ghost use Rattle.std.specs.Prelude.{◌≡◌, Some, slice_get};
 
-use super::fixtures::{
+use crate::bench::{
     Bench, COUNTS_BY_QUEUE, Rows, TURNS, accepted, passed, program, rows_of, setup_of,
 };
-use crate::{Open, PairReport, PairRow, pair_with};
 use bpf_maps::MapShape;
 use std::alloc::Global;
 use std::sync::Wait;
 use std::thread::Threads;
 use xdp_load::load;
+use xdp_pair::{Host, Open, PairReport, PairRow, pair_with};
 
 /// Queue 0 sends 1,000 packets and queue 1 sends 500. The program adds 1 to counter 1 for each.
 const SETTINGS: &str = r#"
@@ -56,7 +56,7 @@ fn run_of_settings(rt: &(impl Threads + Wait + Sync), alloc: Global) -> Option<(
     let setup = load(alloc, SETTINGS.as_bytes()).ok()?;
     let shape = MapShape::of(2, 1)?;
     let program = accepted(alloc, setup.program.as_slice(), &[shape])?;
-    match pair_with(rt, alloc, &setup, &program, TURNS, &Open) {
+    match pair_with(rt, alloc, &setup, &program, Host::Takes, TURNS, &Open) {
         Ok(report) => Some(counted(&report)),
         Err(_) => None,
     }

@@ -1,35 +1,15 @@
-//! Setups and programs of the tests.
-ghost use Rattle.std.specs.Prelude.{◌≡◌, ◌≤◌, IfSome, Some, length, slice_get, vec_len};
+//! Setups and programs of the tests, and the memory that a run is over.
+ghost use Rattle.std.specs.Prelude.{◌≡◌, ◌≤◌, IfSome, length, vec_len};
 
-use crate::gate::Gate;
-use crate::inbox::{Discard, Inbox};
-use crate::pairing::{STACK, pair_over};
-use crate::shared::{Parkers, Shared};
-use crate::{Open, PairRow};
 use bpf_insn::decode;
 use bpf_maps::MapShape;
 use bpf_verify::{Verified, verify};
 use std::alloc::{AllocError, Global};
-use std::sync::Wait;
-use std::thread::Threads;
 use xdp_load::{Packet, Setup};
+use xdp_pair::{Deliveries, Host, PairRow, Parkers, Shared};
+use xen_page::{Bus, PageBus, Place};
 
-/// Adds 1 to counter 1 of a map of two values, and passes the packet on. Its relocation is applied.
-pub const COUNTS: &[&str] = &[
-    "620afcff01000000",
-    "bfa2000000000000",
-    "07020000fcffffff",
-    "1811000000000000",
-    "0000000000000000",
-    "8500000001000000",
-    "1500020000000000",
-    "b701000001000000",
-    "db10000000000000",
-    "b700000002000000",
-    "9500000000000000",
-];
-
-/// Adds the number of the queue and 1 to the same counter, and passes the packet on.
+/// Adds the number of the queue and 1 to counter 1 of a map of two values, and passes the packet on. Its relocation is applied.
 pub const COUNTS_BY_QUEUE: &[&str] = &[
     "6116100000000000",
     "0706000001000000",
@@ -62,6 +42,7 @@ pub fn passed(packets: u64) -> PairRow {
         refused: 0,
         halted: None,
         received: 0,
+        deliveries: Deliveries::NONE,
     }
 }
 
@@ -161,106 +142,31 @@ pub struct Bench {
 }
 
 impl Bench {
+    /// A bench whose host takes what it is passed.
     pub fn make(alloc: Global, setup: Setup) -> Option<(Bench, Parkers)>
         requires { (1 ≤ setup.queues) × (setup.queues ≤ 8) }
         ensures { IfSome result (λ r. (vec_len r.1.fronts ≡ r.0.setup.queues) × (vec_len r.1.backs ≡ r.0.setup.queues)) }
     {
-        match Shared::make(alloc, &setup) {
+        Bench::with_host(alloc, setup, Host::Takes)
+    }
+
+    pub fn with_host(alloc: Global, setup: Setup, host: Host) -> Option<(Bench, Parkers)>
+        requires { (1 ≤ setup.queues) × (setup.queues ≤ 8) }
+        ensures { IfSome result (λ r. (vec_len r.1.fronts ≡ r.0.setup.queues) × (vec_len r.1.backs ≡ r.0.setup.queues)) }
+    {
+        match Shared::make(alloc, &setup, host) {
             Ok((shared, parkers)) => Some((Bench { setup, shared }, parkers)),
             Err(_) => None,
         }
     }
-
-    /// The rows of a run over these pages.
-    pub fn rows<R: Threads + Wait + Sync, G: Gate + Sync, I: Inbox + Sync>(
-        &self,
-        rt: &R,
-        alloc: Global,
-        program: &Verified,
-        turns: u32,
-        gate: &G,
-        inbox: &I,
-        parkers: Parkers,
-    ) -> Option<Rows>
-        requires { (vec_len parkers.fronts ≡ self.now.setup.queues) × (vec_len parkers.backs ≡ self.now.setup.queues) }
-    {
-        let report = pair_over(
-            rt,
-            alloc,
-            &self.setup,
-            program,
-            turns,
-            gate,
-            inbox,
-            STACK,
-            &self.shared,
-            parkers,
-        );
-        match report {
-            Ok(report) => Some(rows_of(report.rows.as_slice())),
-            Err(_) => None,
-        }
-    }
-
-    /// The rows of a run of a program with one map of two counters, and the second counter.
-    pub fn counts<R: Threads + Wait + Sync>(
-        &self,
-        rt: &R,
-        alloc: Global,
-        program: &Verified,
-        parkers: Parkers,
-    ) -> Option<(Rows, u64)>
-        requires parkers { (vec_len parkers.fronts ≡ self.now.setup.queues) × (vec_len parkers.backs ≡ self.now.setup.queues) }
-        requires shape { slice_get program.now.shapes 0 ≡ Some (record { entries = 2; counters = 1 }) }
-    {
-        let report = pair_over(
-            rt,
-            alloc,
-            &self.setup,
-            program,
-            TURNS,
-            &Open,
-            &Discard,
-            STACK,
-            &self.shared,
-            parkers,
-        );
-        match report {
-            Ok(report) => Some((rows_of(report.rows.as_slice()), report.totals.at(0, 1, 0))),
-            Err(_) => None,
-        }
-    }
 }
 
-/// The rows of a run of a setup, over new pages.
-pub fn rows_with<R: Threads + Wait + Sync, G: Gate + Sync>(
-    rt: &R,
-    alloc: Global,
-    slots: &[&str],
-    setup: Setup,
-    turns: u32,
-    gate: &G,
-) -> Option<Rows>
-    requires { (1 ≤ setup.queues) × (setup.queues ≤ 8) }
-{
-    let (bench, parkers) = Bench::make(alloc, setup)?;
-    match program(alloc, slots, &[]) {
-        Some(program) => bench.rows(rt, alloc, &program, turns, gate, &Discard, parkers),
-        None => None,
+/// A word of a page.
+pub fn word(bus: &mut PageBus<'_>, frame: u32, word: u32) -> u32 {
+    let at = Place { frame, word };
+    if frame < bus.frames() && word < 1024 {
+        bus.read(at)
+    } else {
+        0
     }
-}
-
-/// The rows of a run of packets of 14 bytes, so many for each queue.
-pub fn rows_behind<R: Threads + Wait + Sync, G: Gate + Sync>(
-    rt: &R,
-    alloc: Global,
-    slots: &[&str],
-    times: &[u32],
-    turns: u32,
-    gate: &G,
-) -> Option<Rows>
-    requires { (1 ≤ length times.now) × (length times.now ≤ 8) }
-{
-    let setup = setup_of(alloc, times, 0)?;
-    rows_with(rt, alloc, slots, setup, turns, gate)
 }

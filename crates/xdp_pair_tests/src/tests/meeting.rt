@@ -1,8 +1,6 @@
 //! Queues that run at the same time. A pair whose workers all run on one thread, one after another, misses here.
 
-use super::fixtures::{Rows, TURNS, accepted, rows_of};
-use crate::gate::Gate;
-use crate::{PairRow, pair_with};
+use crate::bench::{Rows, TURNS, accepted, rows_of};
 use std::alloc::Global;
 use std::sync::Wait;
 use std::sync::atomic::{AtomicBool, AtomicU32, Ordering};
@@ -10,6 +8,7 @@ use std::thread;
 use std::thread::Threads;
 use std::time::{Clock, Duration};
 use xdp_load::load;
+use xdp_pair::{Deliveries, Gate, Host, PairRow, pair_with};
 
 /// Each of two queues sends two packets, which pass.
 const SETTINGS: &str = r#"
@@ -28,6 +27,7 @@ const ROW: PairRow = PairRow {
     refused: 0,
     halted: None,
     received: 0,
+    deliveries: Deliveries::NONE,
 };
 
 /// Holds each of two queues before its second turn until the other has come there too.
@@ -72,7 +72,7 @@ fn rows_behind<R: Threads + Wait + Sync, C: Clock + Sync>(
 ) -> Option<Rows> {
     let setup = load(alloc, SETTINGS.as_bytes()).ok()?;
     let program = accepted(alloc, setup.program.as_slice(), &[])?;
-    match pair_with(rt, alloc, &setup, &program, TURNS, gate) {
+    match pair_with(rt, alloc, &setup, &program, Host::Takes, TURNS, gate) {
         Ok(report) => Some(rows_of(report.rows.as_slice())),
         Err(_) => None,
     }

@@ -1,9 +1,9 @@
-//! Runs of pairs.
-
+mod answering;
 mod comparing;
 mod counts;
 mod ending;
 mod fixtures;
 mod growth;
 mod meeting;
+mod opening;
 mod rows;

@@ -2,13 +2,8 @@
 
 ghost use Rattle.std.specs.Prelude.{◌≡◌, IfSome, vec_len};
 
-use super::fixtures::{
-    Bench, Rows, SENDS_BACK, TURNS, program, rows_behind, rows_of, rows_with, setup, setup_of,
-};
-use crate::gate::Gate;
-use crate::inbox::Discard;
-use crate::shared::{Parkers, Shared};
-use crate::{Open, PairRow};
+use super::fixtures::{rows_behind, rows_with};
+use crate::bench::{Bench, Rows, SENDS_BACK, TURNS, program, rows_of, setup, setup_of, word};
 use bpf_maps::MapShape;
 use bpf_verify::Verified;
 use std::alloc::Global;
@@ -18,6 +13,7 @@ use std::thread;
 use std::thread::Threads;
 use std::time::{Clock, Duration};
 use xdp_load::{Packet, Setup};
+use xdp_pair::{Deliveries, Discard, Gate, Open, PairRow, Parkers, Shared};
 use xen_page::{Bus, PageBus, Place};
 use xen_ring::Port;
 
@@ -50,16 +46,6 @@ fn calls_are_numbered_from_1_up_to_the_turns(rt: HostRuntime) {
         gate.calls[1].load(Ordering::SeqCst),
     ];
     assert_eq!(rt; (rows.is_some(), counted), (true, [0, 3, 3]));
-}
-
-/// A word of a page.
-fn word(bus: &mut PageBus<'_>, frame: u32, word: u32) -> u32 {
-    let at = Place { frame, word };
-    if frame < bus.frames() && word < 1024 {
-        bus.read(at)
-    } else {
-        0
-    }
 }
 
 /// Holds a back before its first turn until its front has sent a packet. Then it may end the grant of the first rx buffer.
@@ -186,6 +172,7 @@ fn a_refused_packet_is_counted_and_not_received(rt: HostRuntime) {
         refused: 1,
         halted: None,
         received: 4,
+        deliveries: Deliveries::NONE,
     };
     let rows = held_run(&rt, rt.alloc(), TURNS, true).map(|seen| seen.0);
     assert_eq!(rt; rows, Some(rows_of(&[row])));
@@ -255,6 +242,7 @@ fn the_longest_packets_come_back(rt: HostRuntime) {
         refused: 0,
         halted: None,
         received: 3,
+        deliveries: Deliveries::NONE,
     };
     assert_eq!(rt; rows_of_the_longest(&rt, rt.alloc()), Some(rows_of(&[row])));
 }
