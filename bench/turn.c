@@ -6,7 +6,8 @@
  * and the rx responses, then a response a slot, the push, the event index and the notice.
  *
  * usage: turn SIZE BATCHES PROGRAM; a batch is 16 turns, filling isn't timed; of 0 bytes no packet is there, and the turns
- * are idle. Prints the nanoseconds per turn, the least of five rounds. The program is hex, and runs by DPDK's rte_bpf_exec where this is built with -DDPDK (and then
+ * are idle. With `deliver` for PROGRAM a turn is the delivery of a packet of the host's own: what follows TX, alone. Built with
+ * -DEXCHANGES each store of a packet's word is an exchange, as ours is. Prints the nanoseconds per turn, the least of five rounds. The program is hex, and runs by DPDK's rte_bpf_exec where this is built with -DDPDK (and then
  * librte_bpf), else by the small interpreter below, which has what the two programs of `bench/turns` need. */
 #define _GNU_SOURCE
 #include <stdatomic.h>
@@ -177,6 +178,12 @@ static void push(struct netback *b, uint32_t ring, uint32_t old, uint32_t new)
 		atomic_fetch_or(&b->pending, 1ull << b->port);
 }
 
+#ifdef EXCHANGES
+#define FILL memory_order_seq_cst
+#else
+#define FILL memory_order_release
+#endif
+
 /* Writes a packet's words into a buffer's page; bytes past its end are 0. */
 static void filled(struct netback *b, uint32_t frame, const uint8_t *from, uint32_t size)
 {
@@ -184,12 +191,12 @@ static void filled(struct netback *b, uint32_t frame, const uint8_t *from, uint3
 	for (; at + 4 <= size; at += 4) {
 		uint32_t value;
 		memcpy(&value, from + at, 4);
-		atomic_store_explicit(&b->words[frame * WORDS + at / 4].value, value, memory_order_release);
+		atomic_store_explicit(&b->words[frame * WORDS + at / 4].value, value, FILL);
 	}
 	if (at < size) {
 		uint32_t value = 0;
 		memcpy(&value, from + at, size - at);
-		atomic_store_explicit(&b->words[frame * WORDS + at / 4].value, value, memory_order_release);
+		atomic_store_explicit(&b->words[frame * WORDS + at / 4].value, value, FILL);
 	}
 }
 
@@ -288,6 +295,13 @@ __attribute__((noinline)) static int turn(struct netback *b)
 	return RAN;
 }
 
+/* Delivers a packet of the host's own. */
+__attribute__((noinline)) static int delivery(struct netback *b, uint32_t size)
+{
+	b->tx_index += (size + PAGE - 1) / PAGE;	/* where the next batch is published */
+	return sent(b, b->low->packet, size) ? RAN : REFUSED;
+}
+
 static void publish(struct netback *b, uint32_t size)
 {
 	uint32_t index = b->tx_index, slots = (size + PAGE - 1) / PAGE;
@@ -319,11 +333,12 @@ int main(int argc, char **argv)
 	uint32_t size = argc > 1 ? atoi(argv[1]) : 64, batches = argc > 2 ? atoi(argv[2]) : 1000;
 	const char *program = argc > 3 ? argv[3] : "b7000000020000009500000000000000";
 	static struct netback b = { .frames = FRAMES, .owners_count = FRAMES, .table = { TABLE }, .table_count = 1, .tx = TX, .rx = RX, .granter = FRONT, .user = BACK, .port = 1 };
+	bool delivers = !strcmp(program, "deliver");
 	double least = 1e18;
 
 	b.words = calloc(FRAMES * WORDS, sizeof *b.words);
 	b.low = mmap(0, sizeof *b.low, PROT_READ | PROT_WRITE, MAP_PRIVATE | MAP_ANONYMOUS | MAP_32BIT, -1, 0);
-	b.program_slots = strlen(program) / 16;
+	b.program_slots = delivers ? 0 : strlen(program) / 16;
 	b.program = calloc(b.program_slots + 1, sizeof *b.program);
 	if (b.low == MAP_FAILED || !b.words || !b.program)
 		return perror("memory"), 1;
@@ -349,7 +364,7 @@ int main(int argc, char **argv)
 			publish(&b, size);
 			double start = now(CLOCK_MONOTONIC);
 			for (int packet = 0; packet < BATCH; packet++)
-				if (turn(&b) != (size ? RAN : IDLE))
+				if ((delivers ? delivery(&b, size) : turn(&b)) != (size ? RAN : IDLE))
 					return fprintf(stderr, "unexpected\n"), 1;
 			taken += now(CLOCK_MONOTONIC) - start;
 		}

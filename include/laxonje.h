@@ -168,7 +168,7 @@ enum laxonje_op_kind {
 	LAXONJE_OP_READ,   /* read `count` words of `frame`, from `word` on, into the first of the lent words */
 	LAXONJE_OP_WRITE,  /* write the first `count` of the lent words into `frame`, from `word` on */
 	LAXONJE_OP_NOTIFY, /* send a notice to the port `frame` */
-	LAXONJE_OP_DONE    /* the turn is over: `turn` says which it was. The next step begins the next */
+	LAXONJE_OP_DONE    /* the turn, the delivery or the wait is over: `turn` says how. The next step begins a turn */
 };
 
 enum laxonje_turn {
@@ -176,6 +176,37 @@ enum laxonje_turn {
 	LAXONJE_TURN_RAN,     /* the program ran, and returned `number` */
 	LAXONJE_TURN_REFUSED, /* the packet was refused for the cause `number`, and its slots were answered with ERROR */
 	LAXONJE_TURN_HALTED   /* the queue has halted for the cause `number`, and makes no more accesses */
+};
+
+/* The answer to a packet that is to be delivered, or to a wait for rx slots. But for the first, nothing has changed. */
+enum laxonje_taken {
+	LAXONJE_TAKEN,         /* the next steps do it, up to LAXONJE_OP_DONE */
+	LAXONJE_TAKEN_NOT,     /* there is no queue */
+	LAXONJE_TAKEN_BUSY,    /* a turn, a delivery or a wait is under way */
+	LAXONJE_TAKEN_NO_FRAME /* the packet has fewer than 14 bytes, or more than LAXONJE_PACKET */
+};
+
+/* What became of a packet that was delivered, in `turn` of the op that ends the delivery. */
+enum laxonje_delivery {
+	LAXONJE_DELIVERY_SENT = 4,  /* it lies in the buffers of `slots` rx slots */
+	LAXONJE_DELIVERY_FEW_SLOTS, /* the frontend posted fewer rx slots than the packet has pages. None was taken */
+	LAXONJE_DELIVERY_REFUSED,   /* an rx slot's grant failed its check, and `slots` slots were answered with ERROR */
+	LAXONJE_DELIVERY_HALTED     /* the queue has halted for the cause `number`, and makes no more accesses */
+};
+
+/* What a wait for rx slots came to, in `turn` of the op that ends it. */
+enum laxonje_awaited {
+	LAXONJE_AWAITED_POSTED = 9, /* so many are there by now, and no notice need come for them: deliver at once */
+	LAXONJE_AWAITED_WAITING,    /* fewer are there. The frontend's push that makes them so many owes a notice */
+	LAXONJE_AWAITED_HALTED      /* the queue has halted for the cause `number`, and makes no more accesses */
+};
+
+/* The flags of a tx slot (netif.h, XEN_NETTXF_*). A flag without a name is left out. */
+enum laxonje_flag {
+	LAXONJE_FLAG_CSUM_BLANK = 1,     /* the packet's TCP or UDP checksum is blank: whoever forwards it fills it in */
+	LAXONJE_FLAG_DATA_VALIDATED = 2, /* the packet's data was validated against its checksum */
+	LAXONJE_FLAG_MORE_DATA = 4,      /* the packet goes on in a further slot */
+	LAXONJE_FLAG_EXTRA_INFO = 8      /* an extra info follows the first slot. Such a packet is refused */
 };
 
 /* The causes of LAXONJE_TURN_REFUSED. */
@@ -189,7 +220,7 @@ enum laxonje_refusal {
 	LAXONJE_REFUSAL_RX_GRANT   /* an rx slot's grant failed its check */
 };
 
-/* The causes of LAXONJE_TURN_HALTED. */
+/* The causes of LAXONJE_TURN_HALTED, LAXONJE_DELIVERY_HALTED and LAXONJE_AWAITED_HALTED. */
 enum laxonje_halt {
 	LAXONJE_HALT_TX_PRODUCER = 1, /* the tx producer is more than a ring ahead */
 	LAXONJE_HALT_SHORT_CHAIN,     /* a chain wants a slot that the producer didn't show */
@@ -200,7 +231,7 @@ enum laxonje_halt {
 };
 
 enum laxonje_standing {
-	LAXONJE_STANDS_NOT,   /* there is no queue, or it is inside a turn */
+	LAXONJE_STANDS_NOT,   /* there is no queue, or it is inside a turn, a delivery or a wait */
 	LAXONJE_STANDS,       /* between two turns */
 	LAXONJE_STANDS_HALTED /* the same, and halted for the cause `halt` */
 };
@@ -277,11 +308,22 @@ size_t laxonje_run_batch(struct laxonje_program *program, uint64_t *counters, si
                          uint8_t *bytes, size_t byte_count, const struct laxonje_packet *packets, size_t packet_count,
                          struct laxonje_result *results, size_t result_count, uint32_t ifindex, uint32_t queue);
 
+/* Copies out what to write instead of what V`cause` refuses, as far as there is room, and answers how many bytes the text has: ASCII,
+ * without a zero at its end. 0 where there is no such cause. `xdpbox explain` says more of a program. */
+size_t laxonje_advice(uint32_t cause, uint8_t *out, size_t out_bytes);
+
 /* How many words a program's counters are. With no program, 0. */
 size_t laxonje_counters(struct laxonje_program *program);
 
 /* Which of these words a counter of an entry of a map is, each from 0. LAXONJE_NOWHERE where there is no such counter. */
 size_t laxonje_place(struct laxonje_program *program, uint32_t map, uint32_t entry, uint32_t counter);
+
+/* How many maps a program has. With no program, 0. */
+size_t laxonje_map_count(struct laxonje_program *program);
+
+/* How many entries the map of this number has, from 0, and how many counters each. 0 and 0 where there is no such map, or no
+ * program. A program whose maps have the same sizes in the same order may go on with another's counters. */
+struct laxonje_map laxonje_map_size(struct laxonje_program *program, uint32_t number);
 
 /* Frees a program. With none, it does nothing. */
 void laxonje_free(struct laxonje_program *program);
@@ -299,8 +341,22 @@ uint32_t laxonje_queue_make(struct laxonje_program *program, const uint16_t *own
 struct laxonje_op laxonje_queue_step(struct laxonje_queue *queue, uint32_t *words, size_t word_count,
                                      uint64_t *counters, size_t counter_count);
 
-/* Copies the packet of the turn that is over, as far as there is room, and answers how long it is. It is there until the next
- * step: no bytes before the first turn, inside a turn, and with no queue. */
+/* Begins to deliver a packet of the host's own to the guest, between two turns. It is copied. The next steps are of its delivery,
+ * until the one whose op is LAXONJE_OP_DONE. The answer is LAXONJE_TAKEN, or else why nothing was begun (enum laxonje_taken). */
+uint32_t laxonje_queue_deliver(struct laxonje_queue *queue, const uint8_t *packet, size_t packet_bytes);
+
+/* Begins to wait for `pages` rx slots, between two turns: after LAXONJE_DELIVERY_FEW_SLOTS, with the packet's bytes divided by 4,096 and
+ * rounded up. The next steps are of the wait, until the one whose op is LAXONJE_OP_DONE (enum laxonje_awaited): they store the rx
+ * ring's event index, and read its producer behind it. The answer is LAXONJE_TAKEN, or else why nothing was begun (enum
+ * laxonje_taken). A ring has 256 slots: a wait for more never ends. The last index that was stored counts. */
+uint32_t laxonje_queue_await(struct laxonje_queue *queue, uint32_t pages);
+
+/* The flags of the first slot of the turn that is under way or over (enum laxonje_flag). 0 before a turn has read a slot, as for a turn
+ * that was idle, and with no queue. A delivery and a wait leave them. */
+uint32_t laxonje_queue_flags(struct laxonje_queue *queue);
+
+/* Copies the packet of the turn or the delivery that is over, as far as there is room, and answers how long it is. It is there until
+ * the next step or delivery: no bytes before the first turn, inside a turn, a delivery or a wait, and with no queue. */
 size_t laxonje_queue_packet(struct laxonje_queue *queue, uint8_t *out, size_t out_bytes);
 
 /* Where a queue stands between two turns: what another queue of the same rings is made with, to go on in its place. */

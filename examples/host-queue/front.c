@@ -6,13 +6,14 @@
 #include <stdlib.h>
 #include <unistd.h>
 
-enum { BATCH = 8, TX_FRAMES = 16, RX_FRAMES = 24, HEADERS = 42, ECHO = 7 };
+enum { BATCH = 8, TX_FRAMES = 16, RX_FRAMES = 24, FEW_FRAMES = 2, HEADERS = 42, ECHO = 7, BLANK = 4 };
 
 struct front {
 	uint8_t *memory;
 	struct channel channel;
 	netif_tx_front_ring_t tx;
 	netif_rx_front_ring_t rx;
+	enum behaviour behaviour;
 	unsigned wrong, seed;
 };
 
@@ -62,7 +63,7 @@ static bool awaits(struct front *front)
 	return poll(&on, 1, 500) == 1 && read(front->channel.interrupt, &count, sizeof count) == sizeof count;
 }
 
-/* The buffers of the rx ring: id k for the reference TX_FRAMES + k. */
+/* The buffers of the rx ring: id k for the reference TX_FRAMES + k. A host that waits for buffers is told. */
 static void post(struct front *front, unsigned k)
 {
 	netif_rx_request_t *request = RING_GET_REQUEST(&front->rx, front->rx.req_prod_pvt++);
@@ -70,14 +71,15 @@ static void post(struct front *front, unsigned k)
 	request->id = k;
 	request->gref = TX_FRAMES + k;
 	RING_PUSH_REQUESTS_AND_CHECK_NOTIFY(&front->rx, notify);
-	(void)notify;
+	if (notify && front->behaviour != HOSTILE)
+		kick(front);
 }
 
 /* A packet of UDP over IPv4, or of another protocol, in one page or two: whether it is to come back. */
 static bool send(struct front *front, unsigned n, unsigned size)
 {
 	uint8_t *bytes = page(front, DATA + 2 * (n % BATCH)), *second = bytes + PAGE;
-	bool echo = any(front, 2);
+	bool echo = any(front, 2) && front->behaviour != FEW;
 	unsigned first = any(front, 2) && size > HEADERS ? size - any(front, size - HEADERS) : size, offset = PAGE - first;
 	uint8_t header[HEADERS] = { 1, 2, 3, 4, 5, 6, 7, 8, 9, 10, 11, 12, 8, 0, 0x45, 0, 0, 0, n >> 8, n, 0, 0, 64, 17 };
 	header[16] = (size - 14) >> 8, header[17] = size - 14;
@@ -89,57 +91,68 @@ static bool send(struct front *front, unsigned n, unsigned size)
 		request->gref = 2 * (n % BATCH) + part;
 		request->offset = part ? 0 : offset;
 		request->flags = !part && first < size ? NETTXF_more_data : 0;
+		request->flags |= !part && n % BLANK == 0 ? NETTXF_csum_blank : 0;
 		request->id = 2 * (n % BATCH) + part;
 		request->size = part ? size - first : size;
 	}
 	return echo;
 }
 
-/* A packet that came back has its ports swapped, and is else what was sent. */
-static void receive(struct front *front, unsigned next, unsigned size)
+/* A packet that was sent. */
+struct sent { unsigned number, size; bool echo; };
+
+/* A packet that came back has its addresses swapped, and its ports if the filter sent it. Else it is what was sent. */
+static void receive(struct front *front, const struct sent *sent)
 {
 	netif_rx_response_t *response = RING_GET_RESPONSE(&front->rx, front->rx.rsp_cons++);
-	uint8_t *bytes = page(front, DATA + TX_FRAMES + response->id % RX_FRAMES);
-	bool same = response->status == (int)size && response->offset == 0 && bytes[0] == 7 && bytes[35] == ECHO;
-	same = same && bytes[36] == (uint8_t)(next >> 8) && bytes[37] == (uint8_t)next;
-	for (unsigned i = HEADERS; i < size; i++)
-		same = same && bytes[i] == (uint8_t)(next + i);
+	uint8_t *bytes = page(front, DATA + TX_FRAMES + response->id % RX_FRAMES), *from = bytes + (sent->echo ? 36 : 34);
+	bool same = response->status == (int)sent->size && response->offset == 0 && bytes[0] == 7 && bytes[6] == 1;
+	same = same && bytes[sent->echo ? 35 : 37] == (sent->echo ? ECHO : ECHO + 1);
+	same = same && from[0] == (uint8_t)(sent->number >> 8) && from[1] == (uint8_t)sent->number;
+	for (unsigned i = HEADERS; i < sent->size; i++)
+		same = same && bytes[i] == (uint8_t)(sent->number + i);
 	front->wrong += !same;
 	post(front, response->id);
 }
 
-/* Sends a batch, and takes all of its answers. */
+/* The answers to the slots of a batch. */
+static void take_answers(struct front *front)
+{
+	while (RING_HAS_UNCONSUMED_RESPONSES(&front->tx)) {
+		rmb();
+		netif_tx_response_t *response = RING_GET_RESPONSE(&front->tx, front->tx.rsp_cons++);
+		front->wrong += response->status != NETIF_RSP_OKAY;
+	}
+}
+
+/* Sends a batch, and takes all of its answers, and a packet for each of its packets. */
 static void exchange(struct front *front, unsigned first, unsigned count)
 {
 	uint32_t posted = front->tx.req_prod_pvt;
-	unsigned back[BATCH], sizes[BATCH], echoes = 0, seen = 0;
-	int notify, more;
+	struct sent sent[BATCH];
+	unsigned seen = 0;
+	int notify, more, packets;
 	for (unsigned k = 0; k < count; k++) {
-		unsigned size = HEADERS + any(front, 1472);
-		if (send(front, first + k, size))
-			back[echoes] = first + k, sizes[echoes++] = size;
+		sent[k].number = first + k, sent[k].size = HEADERS + any(front, 1472);
+		sent[k].echo = send(front, first + k, sent[k].size);
 	}
 	RING_PUSH_REQUESTS_AND_CHECK_NOTIFY(&front->tx, notify);
 	if (notify)
 		kick(front);
-	while (front->tx.rsp_cons != front->tx.req_prod_pvt) {
+	while (front->tx.rsp_cons != front->tx.req_prod_pvt || seen < count) {
 		RING_FINAL_CHECK_FOR_RESPONSES(&front->tx, more);
-		if (!more && !awaits(front)) {
+		RING_FINAL_CHECK_FOR_RESPONSES(&front->rx, packets);
+		if (!more && !packets && !awaits(front)) {
 			front->wrong++;
 			return;
 		}
-		while (RING_HAS_UNCONSUMED_RESPONSES(&front->tx)) {
+		take_answers(front);
+		for (; seen < count && RING_HAS_UNCONSUMED_RESPONSES(&front->rx); seen++) {
 			rmb();
-			netif_tx_response_t *response = RING_GET_RESPONSE(&front->tx, front->tx.rsp_cons++);
-			front->wrong += response->status != NETIF_RSP_OKAY;
+			receive(front, &sent[seen]);
 		}
 	}
-	front->wrong += front->tx.rsp_cons - posted < count;
-	for (; seen < echoes && RING_HAS_UNCONSUMED_RESPONSES(&front->rx); seen++) {
-		rmb();
-		receive(front, back[seen], sizes[seen]);
-	}
-	front->wrong += seen != echoes;
+	front->wrong += front->tx.rsp_cons - posted < count || RING_HAS_UNCONSUMED_RESPONSES(&front->rx);
 }
 
 /* Anything into any of the guest's own pages, mostly near what the host looks at. */
@@ -172,12 +185,12 @@ static void attack(struct front *front, unsigned n)
 
 unsigned run_front(uint8_t *memory, struct channel channel, enum behaviour behaviour, unsigned packets, unsigned seed)
 {
-	struct front front = { .memory = memory, .channel = channel, .seed = seed };
+	struct front front = { .memory = memory, .channel = channel, .behaviour = behaviour, .seed = seed };
 	connect(&front);
-	for (unsigned k = 0; k < RX_FRAMES; k++)
+	for (unsigned k = 0; k < (behaviour == FEW ? FEW_FRAMES : RX_FRAMES); k++)
 		post(&front, k);
 	kick(&front);
-	for (unsigned n = 0; behaviour == HONEST && n < packets; n += BATCH)
+	for (unsigned n = 0; behaviour != HOSTILE && n < packets; n += BATCH)
 		exchange(&front, n, packets - n < BATCH ? packets - n : BATCH);
 	for (unsigned n = 0; behaviour == HOSTILE && n < packets; n += BATCH)
 		attack(&front, n / BATCH);

@@ -1,8 +1,9 @@
-/* A host of netback's queue: host SETTINGS honest|restart|hostile PACKETS
+/* A host of netback's queue: host SETTINGS honest|few|restart|hostile PACKETS
  *
  * The guest's memory is a memfd, its event channels are eventfds, and the guest is a process of its own (front.c). The host
  * makes each access that the queue asks for, and no other: a load or a store of 32 bits, with the order that docs/HOST.md
- * gives. It prints what became of the packets, and how many accesses it made to pages that aren't the guest's: 0. */
+ * gives. Each packet that passes is answered with one of the host's own: the same with its two addresses exchanged. It prints what
+ * became of the packets, and how many accesses it made to pages that aren't the guest's: 0. */
 #define _GNU_SOURCE
 #include "front.h"
 #include "laxonje.h"
@@ -19,9 +20,9 @@
 #include <sys/wait.h>
 #include <unistd.h>
 
-enum { MOST_COUNTERS = LAXONJE_MAPS * LAXONJE_ENTRIES * LAXONJE_COUNTERS, SESSION = 500, FENCED = 4 };
+enum { MOST_COUNTERS = LAXONJE_MAPS * LAXONJE_ENTRIES * LAXONJE_COUNTERS, SESSION = 500, FENCED = 4, ADDRESS = 6, TRIES = 16 };
 
-struct totals { unsigned long packets, taken, back, refused, halted, accesses, strange; };
+struct totals { unsigned long packets, taken, blank, answered, waits, back, refused, halted, accesses, strange; };
 
 struct host {
 	uint8_t *memory;
@@ -65,7 +66,7 @@ static void write_words(struct host *host, const struct laxonje_op *op)
 		atomic_thread_fence(memory_order_seq_cst);
 }
 
-/* A turn: at most one packet. */
+/* What is under way, to its end; or else a turn: at most one packet. */
 static struct laxonje_op take_turn(struct host *host)
 {
 	uint64_t one = 1;
@@ -86,14 +87,6 @@ static struct laxonje_op take_turn(struct host *host)
 			return op;
 		}
 	}
-}
-
-/* What a host does with a packet that passes: here it is looked at alone. */
-static void deliver(struct host *host)
-{
-	size_t length = laxonje_queue_packet(&host->queue, host->packet, sizeof host->packet);
-	host->totals.strange += length < 14;
-	host->totals.taken++;
 }
 
 static void connect(struct host *host)
@@ -118,18 +111,55 @@ static bool awaits(struct host *host, int guest)
 	return (on[0].revents & POLLIN) && read(host->channel.kick, &count, sizeof count) == sizeof count;
 }
 
+/* Waits for the rx slots of a packet: whether to try again. */
+static bool awaits_slots(struct host *host, int guest, size_t length)
+{
+	struct laxonje_op op;
+	host->totals.strange += laxonje_queue_await(&host->queue, (length + PAGE - 1) / PAGE) != LAXONJE_TAKEN;
+	op = take_turn(host);
+	host->totals.waits++;
+	return op.turn == LAXONJE_AWAITED_POSTED || (op.turn == LAXONJE_AWAITED_WAITING && awaits(host, guest));
+}
+
+/* What a host does with a packet that passes: here it sends it back itself, with the addresses exchanged. Whether the queue goes on. */
+static bool answer(struct host *host, int guest)
+{
+	size_t length = laxonje_queue_packet(&host->queue, host->packet, sizeof host->packet);
+	uint8_t to[ADDRESS];
+	struct laxonje_op op = { 0 };
+	host->totals.taken++;
+	host->totals.blank += (laxonje_queue_flags(&host->queue) & LAXONJE_FLAG_CSUM_BLANK) != 0;
+	memcpy(to, host->packet, ADDRESS);
+	memcpy(host->packet, host->packet + ADDRESS, ADDRESS);
+	memcpy(host->packet + ADDRESS, to, ADDRESS);
+	for (unsigned tries = 0; tries < TRIES; tries++) {
+		host->totals.strange += laxonje_queue_deliver(&host->queue, host->packet, length) != LAXONJE_TAKEN;
+		op = take_turn(host);
+		if (op.turn != LAXONJE_DELIVERY_FEW_SLOTS || !awaits_slots(host, guest, length))
+			break;
+	}
+	host->totals.answered += op.turn == LAXONJE_DELIVERY_SENT;
+	return op.turn != LAXONJE_DELIVERY_HALTED;
+}
+
+/* What a turn came to. Whether the queue goes on. */
+static bool count(struct host *host, const struct laxonje_op *op, int guest)
+{
+	host->totals.packets += op->turn != LAXONJE_TURN_HALTED;
+	host->totals.refused += op->turn == LAXONJE_TURN_REFUSED;
+	host->totals.back += op->turn == LAXONJE_TURN_RAN && op->number == LAXONJE_TX;
+	if (op->turn == LAXONJE_TURN_RAN && op->number == LAXONJE_PASS)
+		return answer(host, guest);
+	return op->turn != LAXONJE_TURN_HALTED;
+}
+
 /* Takes turns until the guest ends. A queue that halts is made anew, as for a guest that connects again. */
 static void serve(struct host *host, int guest)
 {
 	while (awaits(host, guest)) {
 		for (struct laxonje_op op = take_turn(host); op.turn != LAXONJE_TURN_IDLE; op = take_turn(host)) {
-			host->totals.packets += op.turn != LAXONJE_TURN_HALTED;
-			host->totals.refused += op.turn == LAXONJE_TURN_REFUSED;
-			host->totals.halted += op.turn == LAXONJE_TURN_HALTED;
-			host->totals.back += op.turn == LAXONJE_TURN_RAN && op.number == LAXONJE_TX;
-			if (op.turn == LAXONJE_TURN_RAN && op.number == LAXONJE_PASS)
-				deliver(host);
-			if (op.turn == LAXONJE_TURN_HALTED) {
+			if (!count(host, &op, guest)) {
+				host->totals.halted++;
 				connect(host);
 				break;
 			}
@@ -160,6 +190,11 @@ static unsigned session(struct host *host, enum behaviour behaviour, unsigned pa
 	return !WIFEXITED(status) || WEXITSTATUS(status);
 }
 
+static enum behaviour behaviour_of(const char *word)
+{
+	return !strcmp(word, "few") ? FEW : !strcmp(word, "hostile") ? HOSTILE : HONEST;
+}
+
 static void load(struct host *host, const char *name)
 {
 	static uint8_t text[1 << 20];
@@ -177,7 +212,7 @@ int main(int count, char **words)
 	unsigned packets = count == 4 ? strtoul(words[3], NULL, 10) : 0, wrong = 0, touched = 0;
 	int memory = memfd_create("guest", 0);
 	if (count != 4 || laxonje_version() != LAXONJE_VERSION)
-		return fprintf(stderr, "host SETTINGS honest|restart|hostile PACKETS\n"), 2;
+		return fprintf(stderr, "host SETTINGS honest|few|restart|hostile PACKETS\n"), 2;
 	if (memory < 0 || ftruncate(memory, FRAMES * PAGE))
 		fail("memfd");
 	host.memory = mmap(NULL, FRAMES * PAGE, PROT_READ | PROT_WRITE, MAP_SHARED, memory, 0);
@@ -189,16 +224,18 @@ int main(int count, char **words)
 		for (unsigned n = 0; n < packets; n += SESSION)
 			wrong += session(&host, HONEST, packets - n < SESSION ? packets - n : SESSION, n + 1);
 	else
-		wrong = session(&host, strcmp(words[2], "honest") ? HOSTILE : HONEST, packets, 1);
+		wrong = session(&host, behaviour_of(words[2]), packets, 1);
 	for (size_t i = (size_t)OTHERS * PAGE; i < (size_t)FRAMES * PAGE; i++)
 		touched += host.memory[i] != 0xa5;
 	laxonje_free(&host.program);
 	if (strcmp(words[2], "hostile"))
-		printf("packets %lu taken %lu back %lu refused %lu halted %lu\n", host.totals.packets, host.totals.taken, host.totals.back,
-		       host.totals.refused, host.totals.halted);
+		printf("packets %lu taken %lu blank %lu answered %lu back %lu refused %lu halted %lu\n", host.totals.packets, host.totals.taken,
+		       host.totals.blank, host.totals.answered, host.totals.back, host.totals.refused, host.totals.halted);
 	else
-		fprintf(stderr, "packets %lu refused %lu halted %lu accesses %lu\n", host.totals.packets, host.totals.refused, host.totals.halted,
-		        host.totals.accesses);
+		fprintf(stderr, "packets %lu answered %lu refused %lu halted %lu accesses %lu\n", host.totals.packets, host.totals.answered,
+		        host.totals.refused, host.totals.halted, host.totals.accesses);
+	if (!strcmp(words[2], "few") && !host.totals.waits)
+		printf("no wait\n"), wrong++;
 	printf("wrong answers %u, accesses elsewhere %lu, bytes changed elsewhere %u\n", wrong, host.totals.strange, touched);
 	return wrong || host.totals.strange || touched;
 }

@@ -41,6 +41,17 @@ static void verdicts(struct laxonje_program *program, struct laxonje_program *no
 	says("again of none", laxonje_again(none, none), LAXONJE_EMPTY, 0, 0);
 }
 
+static void advice(void)
+{
+	static const char stack[] = "store these bytes first, within the 512 bytes below r10";
+	uint8_t text[sizeof stack] = {0};
+
+	is("an advice's bytes", laxonje_advice(LAXONJE_V_STACK, text, sizeof stack - 1), sizeof stack - 1);
+	is("an advice", memcmp(text, stack, sizeof stack) == 0, 1);
+	is("an advice without room", laxonje_advice(LAXONJE_V_STACK, NULL, 0), sizeof stack - 1);
+	is("no advice", laxonje_advice(18, text, sizeof text), 0);
+}
+
 static void runs(struct laxonje_program *program)
 {
 	uint8_t bytes[8] = {0};
@@ -52,6 +63,11 @@ static void runs(struct laxonje_program *program)
 	is("a place", laxonje_place(program, 2, 2, 1), 1024 * 8 + 1 + 5);
 	is("the last place of map 0", laxonje_place(program, 0, 1023, 7), 1024 * 8 - 1);
 	is("no place", laxonje_place(program, 2, 1, 2), LAXONJE_NOWHERE);
+	is("maps", laxonje_map_count(program), 3);
+	is("entries of map 2", laxonje_map_size(program, 2).entries, 3);
+	is("counters of map 2", laxonje_map_size(program, 2).counters, 2);
+	is("entries of no map", laxonje_map_size(program, 3).entries, 0);
+	is("counters of no map", laxonje_map_size(program, 3).counters, 0);
 	is("number", run.number, 9);
 	is("action", run.action, LAXONJE_ABORTED);
 	is("instructions", run.instructions, 2);
@@ -71,6 +87,7 @@ int main(void)
 	struct laxonje_program program = LAXONJE_PROGRAM_NONE, none = LAXONJE_PROGRAM_NONE;
 
 	verdicts(&program, &none);
+	advice();
 	runs(&program);
 	is("version", laxonje_version(), LAXONJE_VERSION);
 	laxonje_free(&program);

@@ -12,6 +12,11 @@ pub enum Work {
         times: u32,
         program: Vec<u8>,
     },
+    /// `deliver SIZE TIMES`: deliveries of a packet of so many bytes.
+    Deliveries {
+        size: usize,
+        times: u32,
+    },
     /// `verify TIMES PROGRAM`: decoding and verifying.
     Verify {
         times: u32,
@@ -46,6 +51,11 @@ pub fn read_line(alloc: Global, line: &str) -> Result<Work, Fault> {
                 times,
                 program,
             })
+        }
+        Some("deliver") => {
+            let size = number(words.next())? as usize;
+            let times = number(words.next())?;
+            Ok(Work::Deliveries { size, times })
         }
         Some("verify") => {
             let times = number(words.next())?;

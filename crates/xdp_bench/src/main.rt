@@ -1,6 +1,7 @@
-//! `xdp_bench`: times turns, verifications and runs, a line of standard input each; see bench/README.md.
+//! `xdp_bench`: times turns, deliveries, verifications and runs, a line of standard input each; see bench/README.md.
 #![tactic(auto)]
 
+mod deliveries;
 mod fault;
 mod line;
 mod pages;
@@ -23,6 +24,7 @@ fn main(rt: HostRuntime) -> io::Result<()> {
                     program,
                 },
             ) => turns::time(&rt, size, times, program.as_slice()),
+            Ok(Work::Deliveries { size, times }) => deliveries::time(&rt, size, times),
             Ok(Work::Verify { times, program }) => program::time_verify(
                 &rt,
                 times,

@@ -18,7 +18,7 @@ use xen_page::{Frames, Mapped, Owners, PageBus, Table, map};
 use xen_ring::{Port, Ports};
 
 /// How many packets are published at once.
-const BATCH: u32 = 16;
+pub const BATCH: u32 = 16;
 
 /// Only turns that ran the program are timed, or idle ones where no packet is there.
 fn timed(turn: Turn<'_>, packets: u32) -> Result<(), Fault> {
@@ -29,8 +29,8 @@ fn timed(turn: Turn<'_>, packets: u32) -> Result<(), Fault> {
     }
 }
 
-/// So many batches of turns, with the time that they took. One batch alone is too short to be timed.
-fn batches(times: u32, nanoseconds: u64) -> Timed {
+/// So many batches of turns or deliveries, with the time that they took. One batch alone is too short to be timed.
+pub fn batches(times: u32, nanoseconds: u64) -> Timed {
     Timed {
         done: times.saturating_mul(BATCH),
         nanoseconds: (times > 1).then_some(nanoseconds),
@@ -49,7 +49,7 @@ fn ring(bus: &mut PageBus<'_>, table: &Table, owners: &Owners, gref: u32) -> Res
 }
 
 /// A queue over both rings, which are new.
-fn queue<'p, 'b>(
+pub fn queue<'p, 'b>(
     bus: &mut PageBus<'_>,
     table: &'p Table,
     owners: &'p Owners,

@@ -21,27 +21,35 @@ ghost use Rattle.xen_host.specs.Queues.{packet_of, resting};
 ghost use Rattle.xdp_host.specs.Made.{MakesOr, fault_number, given};
 ghost use Rattle.xdp_host.specs.Ops.{no_state, state_or};
 ghost use Rattle.xdp_host.specs.Stepped.{AreEnough, AreFew, HasStepped, IsNotStepped, IsNothing};
+ghost use Rattle.xdp_host.specs.Taken.{HasTaken, no_queue};
 
+mod advice;
 mod batch;
 mod fault;
 mod handle;
 mod held;
+mod maps;
 mod plain;
 mod queue_calls;
 mod queue_fault;
 mod queue_handle;
 mod queue_plain;
+mod queue_waits;
 
+pub use advice::laxonje_advice;
 pub use batch::XdpPacket;
 use batch::run_each;
 pub use fault::Fault;
 pub use handle::{XdpProgram, programs_cross_threads};
 pub use held::Held;
+pub use maps::{laxonje_map_count, laxonje_map_size};
 pub use plain::{XdpMap, XdpRun, XdpVerdict};
-use queue_calls::{boxed, copied, stepped};
+use queue_calls::{boxed, copied, given_packet, stepped};
 pub use queue_fault::QueueFault;
 pub use queue_handle::{XdpQueue, queues_cross_threads};
+use queue_plain::NO_QUEUE;
 pub use queue_plain::{XdpOp, XdpQueueDesc, XdpQueueState};
+pub use queue_waits::{laxonje_queue_await, laxonje_queue_flags};
 use std::alloc::Global;
 
 /// The version of `include/laxonje.h`.
@@ -277,6 +285,25 @@ pub extern "C" fn laxonje_queue_step(
             op
         }
         None => XdpOp::none(),
+    }
+}
+
+/// Begins to deliver a packet of the host's own to the guest. It is copied; the steps that follow are of its delivery, until the op
+/// that says what became of it. The answer is 0; or, where nothing is begun, there is no queue, a turn or another delivery is under
+/// way, or the packet has fewer than 14 bytes or more than 65,535.
+#[unsafe(no_mangle)]
+pub extern "C" fn laxonje_queue_deliver(alloc: Global, queue: &mut XdpQueue, packet: &[u8]) -> u32
+    ensures none { IfNone queue.old.slot.held ((result ≡ no_queue) × (queue.new.slot.held ≡ None)) }
+    ensures kept { IfSome queue.old.slot.held (λ _. IsSome queue.new.slot.held) }
+    ensures taken { IfSome queue.old.slot.held (λ q. IfSome queue.new.slot.held (λ r. HasTaken q r packet.now result)) }
+{
+    match queue.take(alloc) {
+        Some(mut held) => {
+            let answer = given_packet(&mut held, packet);
+            queue.put(held);
+            answer
+        }
+        None => NO_QUEUE,
     }
 }
 

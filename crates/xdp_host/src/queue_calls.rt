@@ -3,8 +3,9 @@ ghost use Rattle.std.specs.Prelude.{◌≡◌, ◌++◌, drop, length, take, IfE
 ghost use Rattle.xen_host.specs.Making.{IsFaultOf, IsMadeOf};
 ghost use Rattle.xdp_host.specs.Made.{given};
 ghost use Rattle.xdp_host.specs.Stepped.{AreEnough, AreFew, HasStepped, IsNotStepped};
+ghost use Rattle.xdp_host.specs.Taken.{HasTaken};
 
-use crate::queue_plain::{XdpOp, XdpQueueDesc};
+use crate::queue_plain::{XdpOp, XdpQueueDesc, taken_number};
 use std::alloc::Global;
 use xen_host::{MakeFault, Program, Queue, QueueParts};
 
@@ -52,6 +53,13 @@ pub fn stepped(queue: &mut Queue, words: &mut [u32], counters: &mut [u64]) -> Xd
         return XdpOp::none();
     }
     XdpOp::of(queue.step(words, counters))
+}
+
+/// Gives a queue a packet to deliver.
+pub fn given_packet(queue: &mut Queue, packet: &[u8]) -> u32
+    ensures { HasTaken queue.old queue.new packet.now result }
+{
+    taken_number(queue.deliver(packet))
 }
 
 /// Copies bytes as far as there is room. How many there are.

@@ -1,8 +1,9 @@
 //! What crosses to C of a queue. `include/laxonje.h` has these structs in the same order, and these numbers.
 ghost use Rattle.std.specs.Prelude.{◌≡◌};
-ghost use Rattle.xdp_host.specs.Ops.{access, no_op, no_state, op_of, over, over_of, state_of};
+ghost use Rattle.xdp_host.specs.Taken.{taken_number};
+ghost use Rattle.xdp_host.specs.Ops.{access, awaited_of, delivered_of, no_op, no_state, op_of, over, over_of, state_of};
 
-use xen_host::{Kind, Op, State};
+use xen_host::{Awaited, Delivery, Kind, Op, State, Taken};
 use xen_page::Place;
 
 /// What a queue is made of beside its lists: the frames of its rings, two domains, a port, what the program is told, and the
@@ -21,7 +22,7 @@ pub struct XdpQueueDesc {
     pub rx_index: u32,
 }
 
-/// What a host does next. Of a turn that is over: which it was, the number or the cause, the counter operations, the slots.
+/// What a host does next. Of what is over: which it was, the number or the cause, the counter operations, the slots.
 #[repr(C)]
 #[derive(Clone, Copy, Debug, PartialEq, Eq, Drop)]
 pub struct XdpOp {
@@ -68,7 +69,7 @@ impl XdpOp {
         }
     }
 
-    /// The end of a turn.
+    /// The end of a turn, of a delivery or of a wait.
     fn over(turn: u32, number: u32, ops: u32, slots: u32) -> XdpOp
         ensures { result ≡ over turn number ops slots }
     {
@@ -98,6 +99,30 @@ impl XdpOp {
         }
     }
 
+    /// The end of a delivery.
+    fn delivered(delivery: Delivery) -> XdpOp
+        ensures { result ≡ delivered_of delivery }
+    {
+        match delivery {
+            Delivery::Sent { slots } => XdpOp::over(4, 0, 0, slots),
+            Delivery::FewSlots => XdpOp::over(5, 0, 0, 0),
+            Delivery::Refused { slots } => XdpOp::over(6, 0, 0, slots),
+            Delivery::Halted { cause } => XdpOp::over(7, u32::from(cause.number()), 0, 0),
+            Delivery::NoFrame => XdpOp::over(8, 0, 0, 0),
+        }
+    }
+
+    /// The end of a wait for rx slots.
+    fn awaited(awaited: Awaited) -> XdpOp
+        ensures { result ≡ awaited_of awaited }
+    {
+        match awaited {
+            Awaited::Posted => XdpOp::over(9, 0, 0, 0),
+            Awaited::Waiting => XdpOp::over(10, 0, 0, 0),
+            Awaited::Halted { cause } => XdpOp::over(11, u32::from(cause.number()), 0, 0),
+        }
+    }
+
     /// What an op tells a host.
     pub fn of(op: Op) -> XdpOp
         ensures { result ≡ op_of op }
@@ -114,6 +139,8 @@ impl XdpOp {
                 0,
             ),
             Op::Done(kind) => XdpOp::over_of(kind),
+            Op::Delivered(delivery) => XdpOp::delivered(delivery),
+            Op::Awaited(awaited) => XdpOp::awaited(awaited),
         }
     }
 }
@@ -155,5 +182,19 @@ impl XdpQueueState {
             rx_index: state.rx_index,
             halt,
         }
+    }
+}
+
+/// What a call that begins something answers where there is no queue.
+pub const NO_QUEUE: u32 = 1;
+
+/// What C is told of what is to be begun.
+pub fn taken_number(answer: Taken) -> u32
+    ensures { result ≡ taken_number answer }
+{
+    match answer {
+        Taken::Begun => 0,
+        Taken::Busy => 2,
+        Taken::NoFrame => 3,
     }
 }

@@ -1,5 +1,6 @@
 -- A step of a queue: its turn goes on, or is a row of the table of turns.
-use Rattle.std.proofs.Common.{◌≡◌, ℕ, ◌≤◌, ◌⊎◌, inl, inr, List, ◌++◌, length, map, sym, ap, ◌∙◌, subst}
+use Rattle.std.proofs.Common.{◌≡◌, ℕ, ◌≤◌, ◌⊎◌, inl, inr, List, ◌++◌, length, map, refl, sym, ap, ◌∙◌, subst}
+use Rattle.std.specs.Prelude.{IsTrue}
 use Rattle.xen_steps.specs.Drive.{Gone}
 use Rattle.xen_steps.specs.Event.{Event}
 use Rattle.xen_steps.specs.Steps.{Steps}
@@ -15,14 +16,17 @@ use Rattle.xen_back.specs.declared.turn.Kind.{Kind}
 use Rattle.xen_back.specs.declared.wiring.Wiring.{Wiring}
 use Rattle.xen_back.proofs.TurnParts.{turn_parts}
 use Rattle.xen_host.specs.Fed.{IsAskedFor, answers, asked_by, asked_of, did, fed}
-use Rattle.xen_host.specs.Queues.{IsGoneOn, IsStepped, IsUnderWay, packet_of, rest, settled_of}
+use Rattle.xen_host.specs.Queues.{IsGoneOn, IsTurnStep, IsUnderWay, packet_of, rest, settled_of, task_of}
 use Rattle.xen_host.specs.Ran.{HasGone}
-use Rattle.xen_host.specs.Rest.{packet_in, rest_in}
+use Rattle.xen_host.specs.Comes.{Comes}
+use Rattle.xen_host.specs.Rest.{flags_after, is_here, is_there, is_turning, packet_in, rest_in}
 use Rattle.xen_host.specs.Wired.{wiring_of}
 use Rattle.xen_host.specs.declared.op.Op.{Op}
 use Rattle.xen_host.specs.declared.op.Op.TheVariants as op
 use Rattle.xen_host.specs.declared.queue.Queue.{Queue}
 use Rattle.xen_host.specs.declared.stage.Stage.{Stage}
+use Rattle.xen_host.specs.declared.stage.Stage.TheVariants as stage
+use Rattle.xen_host.specs.declared.task.Task.TheVariants as task
 use Rattle.xen_host.specs.declared.wires.Wires.{Wires}
 use Rattle.xen_host.proofs.TurnLemmas.{AreSmall, IsEnd, IsOn, end_or_on, fit_gone, stage_fits}
 
@@ -34,8 +38,8 @@ on_way old new left first t g s w =
     subst (λ (x : Wires). Gone (whole_turn (wiring_of x) first) t (rest_in (wiring_of x) new.state new.stage)) (sym w) (moved new.state new.stage s)
 
 pub gone_on : (old new : Queue) (o : Op) (left : Stage) (first : State) (t : List Event) → Gone (whole_turn (wiring_of old.wires) first) t (rest_in (wiring_of old.wires) old.state left) →
-    asked_of left ≡ asked_by o → ◌≡◌ {A = State × Stage} (new.state, new.stage) (settled_of old.state left) → new.wires ≡ old.wires → IsGoneOn old new o first t
-gone_on old new o left first t g a s w = by (end_or_on left) o a
+    IsTrue (is_here left) → asked_of left ≡ asked_by o → ◌≡◌ {A = State × Stage} (new.state, new.stage) (settled_of old.state left) → new.wires ≡ old.wires → IsGoneOn old new o first t
+gone_on old new o left first t g here a s w = by (end_or_on left here) o a
   where
     by : IsEnd left ⊎ IsOn left → (o : Op) → asked_of left ≡ asked_by o → IsGoneOn old new o first t
     by (inl e) (op.Done kind) a =
@@ -51,10 +55,14 @@ gone_on old new o left first t g a s w = by (end_or_on left) o a
     by (inl e) (op.Read at count) a = cc (e.asks, a)
     by (inl e) (op.Write at count) a = cc (e.asks, a)
     by (inl e) (op.Notify port) a = cc (e.asks, a)
+    by (inl e) (op.Delivered what) a = cc (e.asks, a)
+    by (inl e) (op.Awaited what) a = cc (e.asks, a)
     by (inr n) (op.Done kind) a = absurd (n.asks kind a)
     by (inr n) (op.Read at count) a = on_way old new left first t g (s ∙ n.stays old.state) w
     by (inr n) (op.Write at count) a = on_way old new left first t g (s ∙ n.stays old.state) w
     by (inr n) (op.Notify port) a = on_way old new left first t g (s ∙ n.stays old.state) w
+    by (inr n) (op.Delivered what) a = on_way old new left first t g (s ∙ n.stays old.state) w
+    by (inr n) (op.Awaited what) a = on_way old new left first t g (s ∙ n.stays old.state) w
 
 -- the events of a step: those of what was answered, and the program's
 pub step_gone : (w : Wiring) (s : State) (g t left : Stage) (lent : List ℕ) (events : List Event) → t ≡ g → 1024 ≤ length lent → AreSmall lent →
@@ -71,9 +79,9 @@ step_completes w s g t left lent events same l small h c =
     finishes_gone (may_want w) (rest_in w s g) (rest_in w s left) (did (rest_in w s g) (answers g lent) ++ events) c (step_gone w s g t left lent events same l small h)
 
 -- and so does what is left between two steps
-pub settled_completes : (w : Wiring) (s : State) (left : Stage) (new : State × Stage) → ((x : State) → Completes w (whole_turn w x)) → Completes w (rest_in w s left) → new ≡ settled_of s left →
+pub settled_completes : (w : Wiring) (s : State) (left : Stage) (new : State × Stage) → ((x : State) → Completes w (whole_turn w x)) → IsTrue (is_here left) → Completes w (rest_in w s left) → new ≡ settled_of s left →
     Completes w (rest_in w new.0 new.1)
-settled_completes w s left new turns c e = subst (λ (x : State × Stage). Completes w (rest_in w x.0 x.1)) (sym e) (by (end_or_on left))
+settled_completes w s left new turns here c e = subst (λ (x : State × Stage). Completes w (rest_in w x.0 x.1)) (sym e) (by (end_or_on left here))
   where
     by : IsEnd left ⊎ IsOn left → Completes w (rest_in w (settled_of s left).0 (settled_of s left).1)
     by (inl n) = subst (λ (x : Steps Ending). Completes w x) (sym (n.starts w s)) (turns (settled_of s left).0)
@@ -81,9 +89,9 @@ settled_completes w s left new turns c e = subst (λ (x : State × Stage). Compl
 
 pub is_stepped : (q new : Queue) (o : Op) (t left : Stage) (lent lent_after before after : List ℕ) → t ≡ q.stage → 1024 ≤ length lent → AreSmall lent →
     HasGone q.wires.program.shapes (fed (rest_in (wiring_of q.wires) q.state t) (answers t lent)) (rest_in (wiring_of q.wires) q.state left) before after →
-    IsAskedFor o (rest_in (wiring_of q.wires) q.state left) lent_after → asked_of left ≡ asked_by o → ◌≡◌ {A = State × Stage} (new.state, new.stage) (settled_of q.state left) → new.wires ≡ q.wires →
-    IsStepped q new o lent lent_after before after
-is_stepped q new o t left lent lent_after before after same l small h asked said settled wires =
+    IsTrue (is_here left) → IsAskedFor o (rest_in (wiring_of q.wires) q.state left) lent_after → asked_of left ≡ asked_by o → ◌≡◌ {A = State × Stage} (new.state, new.stage) (settled_of q.state left) → new.wires ≡ q.wires →
+    new.flags ≡ flags_after q.stage lent q.flags → IsTurnStep q new o lent lent_after before after
+is_stepped q new o t left lent lent_after before after same l small h here asked said settled wires flags =
     let w = wiring_of q.wires in
     let events = map event_of h.labels in
     let all = step_gone w q.state q.stage t left lent events same l small h.gone in
@@ -98,6 +106,60 @@ is_stepped q new o t left lent lent_after before after same l small h asked said
       said = said;
       settled = settled;
       wires = wires;
+      flags = flags;
       turn = λ first trace under. gone_on q new o left first (trace ++ (did (rest q) (answers q.stage lent) ++ events))
-          (gone_append (whole_turn w first) (rest q) (rest_in w q.state left) trace (did (rest q) (answers q.stage lent) ++ events) under all) said settled wires;
+          (gone_append (whole_turn w first) (rest q) (rest_in w q.state left) trace (did (rest q) (answers q.stage lent) ++ events) under all) here said settled wires;
     }
+
+-- ---- a queue that is about a turn
+
+pub turns_on : (g : Stage) → IsTrue (is_there g) → task_of g ≡ task.Turn → IsTrue (is_turning g)
+turns_on (stage.Carry c) there e = absurd (cc e)
+turns_on (stage.Wait b at) there e = absurd (cc e)
+turns_on stage.Gone there e = there
+turns_on (stage.Ready b) there e = refl
+turns_on (stage.Look b) there e = refl
+turns_on (stage.Announce b) there e = refl
+turns_on (stage.LookAgain b) there e = refl
+turns_on (stage.Slot r) there e = refl
+turns_on (stage.Entry x) there e = refl
+turns_on (stage.Page g) there e = refl
+turns_on (stage.Send g) there e = refl
+turns_on (stage.Answer a i) there e = refl
+turns_on (stage.Event a) there e = refl
+turns_on (stage.Notice a) there e = refl
+turns_on (stage.Over b after kind) there e = refl
+
+pub completes_of : (w : Wires) (s : State) (g : Stage) → IsTrue (is_turning g) → Comes w s g → Completes (wiring_of w) (rest_in (wiring_of w) s g)
+completes_of w s (stage.Carry c) t h = absurd (cc t)
+completes_of w s (stage.Wait b at) t h = absurd (cc t)
+completes_of w s stage.Gone t h = absurd (cc t)
+completes_of w s (stage.Ready b) t h = h
+completes_of w s (stage.Look b) t h = h
+completes_of w s (stage.Announce b) t h = h
+completes_of w s (stage.LookAgain b) t h = h
+completes_of w s (stage.Slot r) t h = h
+completes_of w s (stage.Entry x) t h = h
+completes_of w s (stage.Page g) t h = h
+completes_of w s (stage.Send g) t h = h
+completes_of w s (stage.Answer a i) t h = h
+completes_of w s (stage.Event a) t h = h
+completes_of w s (stage.Notice a) t h = h
+completes_of w s (stage.Over b after kind) t h = h
+
+pub comes_of : (w : Wires) (s : State) (g : Stage) → IsTrue (is_turning g) → Completes (wiring_of w) (rest_in (wiring_of w) s g) → Comes w s g
+comes_of w s (stage.Carry c) t h = absurd (cc t)
+comes_of w s (stage.Wait b at) t h = absurd (cc t)
+comes_of w s stage.Gone t h = absurd (cc t)
+comes_of w s (stage.Ready b) t h = h
+comes_of w s (stage.Look b) t h = h
+comes_of w s (stage.Announce b) t h = h
+comes_of w s (stage.LookAgain b) t h = h
+comes_of w s (stage.Slot r) t h = h
+comes_of w s (stage.Entry x) t h = h
+comes_of w s (stage.Page g) t h = h
+comes_of w s (stage.Send g) t h = h
+comes_of w s (stage.Answer a i) t h = h
+comes_of w s (stage.Event a) t h = h
+comes_of w s (stage.Notice a) t h = h
+comes_of w s (stage.Over b after kind) t h = h

@@ -5,6 +5,7 @@ use Rattle.xen_page.specs.Table.{IsTable}
 use Rattle.xen_transmit.specs.Wired.{IsWired}
 use Rattle.xen_back.specs.Tree.{whole_turn}
 use Rattle.xen_host.specs.Queues.{packet_of, rest}
+use Rattle.xen_host.specs.Rest.{no_flags}
 use Rattle.xen_host.specs.Wired.{wiring_of}
 use Rattle.xen_host.specs.declared.make.MakeFault.{MakeFault}
 use Rattle.xen_host.specs.declared.make.MakeFault.TheVariants as fault
@@ -66,6 +67,7 @@ pub record IsMadeOf (program : Accepted) (g : Given) (q : Queue) : Type 0 where
   pub state : q.state ≡ record { tx_index = g.tx_index; rx_index = g.rx_index; halt = None }
   pub ready : rest q ≡ whole_turn (wiring_of q.wires) q.state
   pub packet : packet_of q ≡ []
+  pub flags : q.flags ≡ no_flags
 
 -- The first of the parts that is wrong. Memory may run out at any of them.
 abbrev pub IsFaultOf : Given → MakeFault → Type 0

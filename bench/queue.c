@@ -1,0 +1,152 @@
+/* Whole turns of the queue for hosts in C: each access is made here, as the queue asks for it, in pages of 1,024 words of 32 bits.
+ * Loads acquire and stores release, with a full fence behind a producer or an event index, as docs/HOST.md has it.
+ *
+ * usage: queue SIZE BATCHES PROGRAM, as turn.c has it; with `deliver` for PROGRAM a turn is the delivery of a packet of the host's own.
+ * Prints the nanoseconds per turn, the least of five rounds, and the calls of laxonje_queue_step per turn. */
+#define _GNU_SOURCE
+#include <laxonje.h>
+#include <stdatomic.h>
+#include <stdbool.h>
+#include <stdio.h>
+#include <stdlib.h>
+#include <string.h>
+#include <time.h>
+
+enum { FRAMES = 40, PAGE = 4096, TABLE = 1, TX = 2, RX = 3, FIRST_PAGE = 4, RX_PAGE = 22, HEADER = 16, BATCH = 16, RING = 256 };
+enum { BACK = 0, FRONT = 1, MORE_DATA = 4, PERMIT = 1, FENCED = 4 };
+
+struct host {
+	_Atomic uint32_t *pages;
+	struct laxonje_queue queue;
+	uint32_t words[LAXONJE_PAGE_WORDS];
+	uint32_t sent, posted;
+	unsigned long calls;
+};
+
+static _Atomic uint32_t *word_at(struct host *host, uint32_t frame, uint32_t word)
+{
+	return host->pages + frame * LAXONJE_PAGE_WORDS + word;
+}
+
+static void put(struct host *host, uint32_t frame, uint32_t word, uint32_t value)
+{
+	atomic_store_explicit(word_at(host, frame, word), value, memory_order_relaxed);
+}
+
+/* What is under way, to its end; or else a turn. */
+static struct laxonje_op take_turn(struct host *host)
+{
+	for (;;) {
+		struct laxonje_op op = laxonje_queue_step(&host->queue, host->words, LAXONJE_PAGE_WORDS, NULL, 0);
+		_Atomic uint32_t *at;
+		host->calls++;
+		if (op.kind == LAXONJE_OP_DONE || op.kind == LAXONJE_OP_NONE)
+			return op;
+		if (op.kind == LAXONJE_OP_NOTIFY)
+			continue;
+		at = word_at(host, op.frame, op.word);
+		if (op.kind == LAXONJE_OP_READ) {
+			for (uint32_t i = 0; i < op.count; i++)
+				host->words[i] = atomic_load_explicit(at + i, memory_order_acquire);
+		} else {
+			for (uint32_t i = 0; i < op.count; i++)
+				atomic_store_explicit(at + i, host->words[i], memory_order_release);
+			if (op.word < FENCED)
+				atomic_thread_fence(memory_order_seq_cst);
+		}
+	}
+}
+
+/* A batch of packets of this size, unless they are the host's own, and buffers for as many. */
+static void publish(struct host *host, uint32_t size, bool delivers)
+{
+	uint32_t slots = (size + PAGE - 1) / PAGE;
+	for (uint32_t packet = 0; !delivers && packet < BATCH; packet++)
+		for (uint32_t part = 0; part < slots; part++) {
+			uint32_t at = HEADER + 3 * (host->sent++ % RING), bytes = part ? size - part * PAGE : size;
+			put(host, TX, at, FIRST_PAGE + part);
+			put(host, TX, at + 1, part + 1 < slots ? MORE_DATA << 16 : 0);
+			put(host, TX, at + 2, part | (part && bytes > PAGE ? PAGE : bytes) << 16);
+		}
+	for (uint32_t buffer = 0; buffer < BATCH * slots && buffer < RING; buffer++) {
+		uint32_t at = HEADER + 2 * (host->posted++ % RING);
+		put(host, RX, at, buffer % 16);
+		put(host, RX, at + 1, RX_PAGE + buffer % 16);
+	}
+	put(host, TX, 0, host->sent);
+	put(host, RX, 0, host->posted);
+}
+
+static double now(void)
+{
+	struct timespec time;
+	clock_gettime(CLOCK_MONOTONIC, &time);
+	return time.tv_sec * 1e9 + time.tv_nsec;
+}
+
+/* New rings, and a queue. */
+static void connect(struct host *host, struct laxonje_program *program)
+{
+	static uint16_t owners[FRAMES];
+	static const uint32_t table[] = { TABLE };
+	const struct laxonje_queue_desc desc = { .tx = TX, .rx = RX, .granter = FRONT, .user = BACK, .port = 1 };
+	for (uint32_t frame = 0; frame < FRAMES; frame++) {
+		owners[frame] = frame ? FRONT : BACK;
+		put(host, TABLE, 2 * frame, PERMIT);
+		put(host, TABLE, 2 * frame + 1, frame);
+		for (uint32_t word = 0; frame >= FIRST_PAGE && word < LAXONJE_PAGE_WORDS; word++)
+			put(host, frame, word, word * 0x01010101);
+	}
+	if (laxonje_queue_make(program, owners, FRAMES, table, 1, &desc, &host->queue) != LAXONJE_MADE)
+		fprintf(stderr, "no queue\n"), exit(1);
+}
+
+/* A batch of turns or deliveries. */
+static void take_batch(struct host *host, uint32_t size, const uint8_t *packet)
+{
+	for (int turn = 0; turn < BATCH; turn++) {
+		uint32_t wanted = packet ? LAXONJE_DELIVERY_SENT : size ? LAXONJE_TURN_RAN : LAXONJE_TURN_IDLE;
+		if (packet)
+			laxonje_queue_deliver(&host->queue, packet, size);
+		if (take_turn(host).turn != wanted)
+			fprintf(stderr, "unexpected\n"), exit(1);
+	}
+}
+
+int main(int count, char **arguments)
+{
+	static struct host host;
+	static uint8_t code[LAXONJE_PROGRAM_BYTES], packet[LAXONJE_PACKET];
+	uint32_t size = count > 1 ? atoi(arguments[1]) : 64, batches = count > 2 ? atoi(arguments[2]) : 1000;
+	const char *text = count > 3 ? arguments[3] : "b7000000020000009500000000000000";
+	bool delivers = !strcmp(text, "deliver");
+	size_t length = delivers ? 16 : strlen(text) / 2;
+	struct laxonje_program program = LAXONJE_PROGRAM_NONE;
+	double least = 1e18;
+
+	for (size_t at = 0; at < length; at++)
+		sscanf((delivers ? "b7000000020000009500000000000000" : text) + 2 * at, "%2hhx", &code[at]);
+	host.pages = calloc(FRAMES, PAGE);
+	if (!host.pages || laxonje_load(code, length, NULL, 0, &program).kind != LAXONJE_ACCEPTED)
+		return fprintf(stderr, "no program\n"), 1;
+	connect(&host, &program);
+	for (int round = 0; round < 5; round++) {
+		double taken = 0;
+		host.calls = 0;
+		for (uint32_t batch = 0; batch < batches; batch++) {
+			publish(&host, size, delivers);
+			double start = now();
+			take_batch(&host, size, delivers ? packet : NULL);
+			taken += now() - start;
+			/* buffers that no packet took are posted anew */
+			host.posted = laxonje_queue_state(&host.queue).rx_index;
+			put(&host, RX, 0, host.posted);
+		}
+		if (taken / batches / BATCH < least)
+			least = taken / batches / BATCH;
+	}
+	printf("%.1f %.1f\n", least, (double)host.calls / batches / BATCH);
+	laxonje_queue_free(&host.queue);
+	laxonje_free(&program);
+	return 0;
+}

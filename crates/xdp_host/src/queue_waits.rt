@@ -1,0 +1,51 @@
+//! What C asks of a queue's rx slots, and of the slots of a turn.
+ghost use Rattle.std.specs.Prelude.{◌≡◌, None, IfNone, IfSome, IsSome, MatchOption};
+ghost use Rattle.xen_netif.specs.Slots.{tx_flag_bits};
+ghost use Rattle.xdp_host.specs.Taken.{HasWaited, no_queue};
+
+use crate::queue_handle::XdpQueue;
+use crate::queue_plain::{NO_QUEUE, taken_number};
+use std::alloc::Global;
+use xen_host::Queue;
+
+/// Begins a wait of a queue.
+fn begun_wait(queue: &mut Queue, pages: u32) -> u32
+    ensures { HasWaited queue.old queue.new pages result }
+{
+    taken_number(queue.await_slots(pages))
+}
+
+/// Begins to wait for so many rx slots: the steps that follow are of the wait, until the op that says whether they are there. The
+/// answer is 0; or, where nothing is begun, there is no queue, or a turn, a delivery or another wait is under way.
+#[unsafe(no_mangle)]
+pub extern "C" fn laxonje_queue_await(alloc: Global, queue: &mut XdpQueue, pages: u32) -> u32
+    ensures none { IfNone queue.old.slot.held ((result ≡ no_queue) × (queue.new.slot.held ≡ None)) }
+    ensures kept { IfSome queue.old.slot.held (λ _. IsSome queue.new.slot.held) }
+    ensures begun { IfSome queue.old.slot.held (λ q. IfSome queue.new.slot.held (λ r. HasWaited q r pages result)) }
+{
+    match queue.take(alloc) {
+        Some(mut held) => {
+            let answer = begun_wait(&mut held, pages);
+            queue.put(held);
+            answer
+        }
+        None => NO_QUEUE,
+    }
+}
+
+/// The flags of the first slot of the turn that is under way or over, as bits of `netif.h`. None with no queue, and before a turn
+/// has read a slot.
+#[unsafe(no_mangle)]
+pub extern "C" fn laxonje_queue_flags(alloc: Global, queue: &mut XdpQueue) -> u32
+    ensures kept { queue.new.slot.held ≡ queue.old.slot.held }
+    ensures flags { MatchOption queue.old.slot.held (result ≡ 0) (λ q. result ≡ tx_flag_bits q.flags) }
+{
+    match queue.take(alloc) {
+        Some(held) => {
+            let flags = u32::from(held.flags().bits());
+            queue.put(held);
+            flags
+        }
+        None => 0,
+    }
+}

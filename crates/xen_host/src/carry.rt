@@ -1,0 +1,133 @@
+//! Delivering a packet of the host's own to the frontend.
+
+ghost use Rattle.std.specs.Prelude.{◌≡◌, ◌≤◌, length, IsTrue, true};
+ghost use Rattle.xen_steps.specs.Steps.{bind};
+ghost use Rattle.xen_back.specs.Delivered.{is_frame};
+ghost use Rattle.xen_back.specs.Deliveries.{arrival, arrived, unless_halted};
+ghost use Rattle.xen_host.specs.Carries.{IsAskedOfDelivery, answers_carrying, asked_of_carrying, is_going, packet_carried, rest_carrying};
+ghost use Rattle.xen_host.specs.Fed.{asked_by, fed};
+ghost use Rattle.xen_host.specs.Moves.{rest_moved, work_moved};
+ghost use Rattle.xen_host.specs.Wired.{vif_of};
+
+use crate::carrying::{Carrying, Loaded};
+use crate::moving::{Moved, Moving};
+use crate::moving_step::{moving_fed, moving_want};
+use crate::op::Op;
+use crate::sent::after_slots;
+use crate::wires::Wires;
+use crate::words::are_words;
+use crate::work::Work;
+use xen_back::{Delivery, Halt, State};
+use xen_transmit::Outcome;
+
+/// Whether a packet can be delivered.
+pub(crate) fn can_be_delivered(packet: &[u8]) -> bool
+    ensures { result ≡ is_frame packet.now }
+{
+    !(packet.len() < 14 || packet.len() > 65_535)
+}
+
+/// Before the first want. A halted queue has none.
+fn set_out(wires: &Wires, state: &State, work: Box<Work>) -> Carrying
+    ensures rest { rest_carrying (vif_of wires.now) state.now result
+        ≡ unless_halted (vif_of wires.now) state.now work.value.packet state.now.halt }
+    ensures packet { packet_carried result ≡ work.value.packet }
+    ensures going { IsTrue (is_going result) }
+{
+    match state.halt {
+        Some(cause) => Carrying::Over {
+            work,
+            after: *state,
+            delivery: Delivery::Halted { cause },
+        },
+        None => Carrying::Moving(Moving::Posts(work)),
+    }
+}
+
+/// What a delivery's transmit came to.
+fn arrived_with(state: &State, outcome: Outcome) -> (State, Delivery)
+    ensures { (result.0, result.1) ≡ arrival state.now outcome }
+{
+    match outcome {
+        Outcome::Overflow => {
+            let cause = Halt::RxProducer;
+            let halted = State {
+                tx_index: state.tx_index,
+                rx_index: state.rx_index,
+                halt: Some(cause),
+            };
+            (halted, Delivery::Halted { cause })
+        }
+        Outcome::TooFew => (*state, Delivery::FewSlots),
+        Outcome::Refused(slots) => (after_slots(state, slots), Delivery::Refused { slots }),
+        Outcome::Sent(slots) => (after_slots(state, slots), Delivery::Sent { slots }),
+    }
+}
+
+/// A delivery whose packet is being sent, or whose packet was.
+fn carried_on(wires: &Wires, state: &State, moved: Moved) -> Carrying
+    ensures rest { rest_carrying (vif_of wires.now) state.now result
+        ≡ bind (rest_moved (vif_of wires.now) state.now.rx_index moved) (arrived state.now) }
+    ensures packet { packet_carried result ≡ (work_moved moved).packet }
+    ensures going { IsTrue (is_going result) }
+{
+    match moved {
+        Moved::On(moving) => Carrying::Moving(moving),
+        Moved::Over(work, outcome) => {
+            let (after, delivery) = arrived_with(state, outcome);
+            Carrying::Over {
+                work,
+                after,
+                delivery,
+            }
+        }
+    }
+}
+
+/// A delivery after what it wanted.
+pub(crate) fn carrying_fed(
+    wires: &Wires,
+    state: &State,
+    carrying: Carrying,
+    words: &[u32],
+) -> Carrying
+    requires { 1024 ≤ length words.now }
+    ensures rest { rest_carrying (vif_of wires.now) state.now result
+        ≡ fed (rest_carrying (vif_of wires.now) state.now carrying) (answers_carrying carrying words.now) }
+    ensures packet { packet_carried result ≡ packet_carried carrying }
+    ensures going { IsTrue (is_going result) }
+{
+    // Only the proof uses what this call ensures: a word is below 2^32.
+    are_words(words);
+    match carrying {
+        Carrying::Begun(loaded) => {
+            let Loaded { work } = loaded;
+            set_out(wires, state, work)
+        }
+        Carrying::Moving(moving) => {
+            let moved = moving_fed(wires, state.rx_index, moving, words);
+            carried_on(wires, state, moved)
+        }
+        over => over,
+    }
+}
+
+/// What a delivery wants.
+pub(crate) fn carrying_want(
+    wires: &Wires,
+    state: &State,
+    carrying: &Carrying,
+    words: &mut [u32],
+) -> Op
+    requires going { IsTrue (is_going carrying.now) }
+    requires enough { 1024 ≤ length words.old }
+    ensures words { length words.new ≡ length words.old }
+    ensures asked { IsAskedOfDelivery result (rest_carrying (vif_of wires.now) state.now carrying.now) words.new }
+    ensures said { asked_of_carrying carrying.now ≡ asked_by result }
+{
+    match carrying {
+        Carrying::Moving(moving) => moving_want(wires, state.rx_index, moving, words),
+        Carrying::Over { delivery, .. } => Op::Delivered(*delivery),
+        Carrying::Begun(_) => unreachable!(),
+    }
+}

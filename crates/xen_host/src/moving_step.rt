@@ -1,0 +1,123 @@
+//! A step of a packet that is sent: what it wants, and where it is after that.
+
+ghost use Rattle.std.specs.Prelude.{◌≡◌, ◌≤◌, length};
+ghost use Rattle.xen_host.specs.Fed.{IsAccess, answers_moving, asked_by, asked_of_moving, fed};
+ghost use Rattle.xen_host.specs.Moves.{rest_moved, rest_moving, work_in, work_moved};
+ghost use Rattle.xen_host.specs.Wired.{vif_of};
+
+use crate::moving::{Filling, Moved, Moving, Replying};
+use crate::op::Op;
+use crate::sending::{
+    all_replied, fill, grant_read, post_read, posts_read, reply, reply_event_read,
+};
+use crate::want::write;
+use crate::wires::Wires;
+use xen_page::Place;
+use xen_ring::{REQ_PROD, RSP_EVENT, RSP_PROD};
+use xen_steps::{header, rx_entry};
+use xen_transmit::{buffer_frame, packet_word, response as rx_response, words_of};
+
+/// Where a packet is after what it wanted.
+pub(crate) fn moving_fed(wires: &Wires, rx_index: u32, moving: Moving, words: &[u32]) -> Moved
+    requires { 1024 ≤ length words.now }
+    ensures rest { rest_moved (vif_of wires.now) rx_index result
+        ≡ fed (rest_moving (vif_of wires.now) rx_index moving) (answers_moving moving words.now) }
+    ensures chain { (work_moved result).chain ≡ (work_in moving).chain }
+    ensures packet { (work_moved result).packet ≡ (work_in moving).packet }
+{
+    match moving {
+        Moving::Posts(work) => posts_read(wires, rx_index, work, words[0]),
+        Moving::Post(posting) => post_read(wires, rx_index, posting, [words[0], words[1]]),
+        Moving::Grant(granting) => grant_read(wires, rx_index, granting, [words[0], words[1]]),
+        Moving::Fill(filling) => {
+            let Filling { work, i } = filling;
+            fill(wires, rx_index, work, i + 1)
+        }
+        Moving::Reply(replying) => {
+            let Replying { work, passed, i } = replying;
+            reply(wires, rx_index, work, passed, i + 1)
+        }
+        Moving::Replied { work, passed } => Moved::On(Moving::ReplyEvent { work, passed }),
+        Moving::ReplyEvent { work, passed } => {
+            reply_event_read(wires, rx_index, work, passed, words[0])
+        }
+        Moving::ReplyNotice { work, passed } => all_replied(wires, rx_index, work, passed),
+    }
+}
+
+/// The packet's words in a page.
+fn fill_want(wires: &Wires, rx_index: u32, filling: &Filling, words: &mut [u32]) -> Op
+    requires { 1024 ≤ length words.old }
+    ensures words { length words.new ≡ length words.old }
+    ensures asked { IsAccess result (rest_moving (vif_of wires.now) rx_index (Moving.Fill filling.now)) words.new }
+    ensures said { asked_of_moving (Moving.Fill filling.now) ≡ asked_by result }
+{
+    let bytes = filling.work.packet.bytes();
+    let from = 1024 * filling.i;
+    let to = words_of(bytes).min(from + 1024);
+    for k in from..to {
+        words[(k - from) as usize] = packet_word(bytes, k);
+    }
+    Op::Write {
+        at: Place {
+            frame: buffer_frame(&filling.work.targets, filling.i),
+            word: 0,
+        },
+        count: to - from,
+    }
+}
+
+/// A response's two words.
+fn reply_want(wires: &Wires, rx_index: u32, replying: &Replying, words: &mut [u32]) -> Op
+    requires { 1024 ≤ length words.old }
+    ensures words { length words.new ≡ length words.old }
+    ensures asked { IsAccess result (rest_moving (vif_of wires.now) rx_index (Moving.Reply replying.now)) words.new }
+    ensures said { asked_of_moving (Moving.Reply replying.now) ≡ asked_by result }
+{
+    let Replying { work, passed, i } = replying;
+    let [first, second] = rx_response(*passed, work.packet.bytes(), &work.targets, *i).words();
+    words[0] = first;
+    words[1] = second;
+    Op::Write {
+        at: rx_entry(wires.rx, rx_index.wrapping_add(*i), 0),
+        count: 2,
+    }
+}
+
+/// What a packet that is sent wants.
+pub(crate) fn moving_want(wires: &Wires, rx_index: u32, moving: &Moving, words: &mut [u32]) -> Op
+    requires { 1024 ≤ length words.old }
+    ensures words { length words.new ≡ length words.old }
+    ensures asked { IsAccess result (rest_moving (vif_of wires.now) rx_index moving.now) words.new }
+    ensures said { asked_of_moving moving.now ≡ asked_by result }
+{
+    match moving {
+        Moving::Posts(_) => Op::Read {
+            at: header(wires.rx, REQ_PROD),
+            count: 1,
+        },
+        Moving::Post(posting) => {
+            let index = rx_index.wrapping_add(posting.work.targets.len());
+            Op::Read {
+                at: rx_entry(wires.rx, index, 0),
+                count: 2,
+            }
+        }
+        Moving::Grant(granting) => Op::Read {
+            at: granting.at,
+            count: 2,
+        },
+        Moving::Fill(filling) => fill_want(wires, rx_index, filling, words),
+        Moving::Reply(replying) => reply_want(wires, rx_index, replying, words),
+        Moving::Replied { work, .. } => write(
+            words,
+            header(wires.rx, RSP_PROD),
+            rx_index.wrapping_add(work.targets.len()),
+        ),
+        Moving::ReplyEvent { .. } => Op::Read {
+            at: header(wires.rx, RSP_EVENT),
+            count: 1,
+        },
+        Moving::ReplyNotice { .. } => Op::Notify(wires.port.number()),
+    }
+}

@@ -1,0 +1,23 @@
+//! What a queue is about.
+
+/// What a queue's next step is of.
+#[derive(Clone, Copy, Debug, PartialEq, Eq)]
+pub enum Task {
+    /// A turn: the next, where none is under way.
+    Turn,
+    /// A delivery of the host's own packet.
+    Delivery,
+    /// A wait for rx slots.
+    Wait,
+}
+
+/// The answer to a packet that is to be delivered, or to a wait that is to be begun.
+#[derive(Clone, Copy, Debug, PartialEq, Eq)]
+pub enum Taken {
+    /// The next steps do it.
+    Begun,
+    /// A turn, a delivery or a wait is under way.
+    Busy,
+    /// The packet has fewer than 14 bytes, or more than 65,535.
+    NoFrame,
+}
