@@ -3,7 +3,9 @@ use Rattle.std.specs.Prelude.{ℕ, List, codes, Option, None, Some}
 use Rattle.bpf_insn.specs.declared.insn.Insn.{Insn}
 use Rattle.bpf_insn.specs.declared.insn.Insn.TheVariants.{St, Stx, AddCounter}
 use Rattle.bpf_insn.specs.declared.refusal.Cause.{Cause}
-use Rattle.bpf_insn.specs.declared.refusal.Cause.TheVariants.{Memory, Length, Opcode, Register, Target, BackJump, End, Unset, FramePointer, NoPointer, Packet, Stack, Context, MayBeNull, MapAccess, Helper, MapNumber, Argument, Unsupported}
+use Rattle.bpf_insn.specs.declared.refusal.Cause.TheVariants.{Memory, Length, Opcode, Register, Target, BackJump, End, Unset}
+use Rattle.bpf_insn.specs.declared.refusal.Cause.TheVariants.{FramePointer, NoPointer, Packet, Stack, Context, MayBeNull, MapAccess}
+use Rattle.bpf_insn.specs.declared.refusal.Cause.TheVariants.{Helper, MapNumber, Argument, Unsupported}
 use Rattle.bpf_note.specs.Facts.{Facts}
 use Rattle.bpf_note.specs.declared.val.Val.{Val}
 use Rattle.bpf_note.specs.declared.val.Val.TheVariants as val

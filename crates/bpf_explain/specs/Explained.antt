@@ -82,9 +82,11 @@ was_text names r pc i n =
 
 -- on how many of the eight notes at slot pc a register is an address
 abbrev pub addresses_text : Register → ℕ → ℕ → List ℕ
-addresses_text r pc addresses = codes "R" ++ (decimal (number r) ++ (codes " is an address on " ++ (decimal addresses ++ (codes " of the eight notes at " ++ decimal pc))))
+addresses_text r pc addresses = codes "R" ++ (decimal (number r)
+    ++ (codes " is an address on " ++ (decimal addresses ++ (codes " of the eight notes at " ++ decimal pc))))
 
 -- that it is an address on so many of them, and a number on the last
 abbrev pub joined_text : Register → ℕ → ℕ → List ℕ
 joined_text r pc addresses =
-    addresses_text r pc addresses ++ (codes ", and a number on the last, into which every further one is joined: " ++ (joined_advice ++ codes "\n"))
+    addresses_text r pc addresses ++ (codes ", and a number on the last, into which every further one is joined: "
+    ++ (joined_advice ++ codes "\n"))

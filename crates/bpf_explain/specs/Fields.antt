@@ -19,9 +19,11 @@ hex_at bytes at count = encode_lower (take count (drop at bytes))
 -- the slot at this byte by its fields: the opcode; source and destination register, four bits each; the offset; the constant
 abbrev pub fields_text : List ℕ → ℕ → List ℕ
 fields_text program at =
-    hex_at program at 1 ++ (codes " " ++ (hex_at program (at + 1) 1 ++ (codes " " ++ (hex_at program (at + 2) 2 ++ (codes " " ++ hex_at program (at + 4) 4)))))
+    hex_at program at 1 ++ (codes " " ++ (hex_at program (at + 1) 1
+    ++ (codes " " ++ (hex_at program (at + 2) 2 ++ (codes " " ++ hex_at program (at + 4) 4)))))
 
 -- `>  1: 8f 21 0000 00000000`
 abbrev pub refused_slot_text : List ℕ → ℕ → Cause → List ℕ
 refused_slot_text program pc c =
-    if is_of_fields c && nat_le (8 * pc + 8) (length program) then codes ">" ++ (pc_text pc ++ (codes ": " ++ (fields_text program (8 * pc) ++ codes "\n"))) else []
+    if is_of_fields c && nat_le (8 * pc + 8) (length program) then codes ">"
+    ++ (pc_text pc ++ (codes ": " ++ (fields_text program (8 * pc) ++ codes "\n"))) else []

@@ -35,12 +35,14 @@ map_text (Some name) m = name
 abbrev pub value_text : List (List ℕ) → Val → Option ℕ → List ℕ
 value_text names Unset safe = codes "unset"
 value_text names (Num lo hi) safe = range_text lo hi
-value_text names (Pkt id off) safe = codes "pkt(id=" ++ (id_text id ++ (codes ",off=" ++ (decimal off ++ (codes ",r=" ++ (decimal (safe_number safe) ++ codes ")")))))
+value_text names (Pkt id off) safe = codes "pkt(id="
+    ++ (id_text id ++ (codes ",off=" ++ (decimal off ++ (codes ",r=" ++ (decimal (safe_number safe) ++ codes ")")))))
 value_text names PktEnd safe = codes "pkt_end"
 value_text names (Stack off) safe = codes "fp" ++ signed_decimal off
 value_text names Ctx safe = codes "ctx"
 value_text names (Map m) safe = codes "map_ptr(map=" ++ (map_text (slice_get names m) m ++ codes ")")
-value_text names (MaybeValue m id) safe = codes "map_value_or_null(id=" ++ (decimal id ++ (codes ",map=" ++ (map_text (slice_get names m) m ++ codes ")")))
+value_text names (MaybeValue m id) safe = codes "map_value_or_null(id="
+    ++ (decimal id ++ (codes ",map=" ++ (map_text (slice_get names m) m ++ codes ")")))
 value_text names (Value m) safe = codes "map_value(map=" ++ (map_text (slice_get names m) m ++ codes ")")
 
 -- the safe bound of the id that an address in the packet carries

@@ -1,7 +1,8 @@
 //! What to write instead.
 ghost use Rattle.std.specs.Prelude.{◌≡◌, option_map};
 ghost use Rattle.bpf_note.specs.Parts.{facts};
-ghost use Rattle.bpf_explain.specs.Advice.{advice_text, argument_advice, cause_advice, joined_advice, lost_advice, map_advice, pointer_advice, value_advice, context_advice, load_advice, stack_advice};
+ghost use Rattle.bpf_explain.specs.Advice.{advice_text, argument_advice, cause_advice, joined_advice, lost_advice, map_advice};
+ghost use Rattle.bpf_explain.specs.Advice.{pointer_advice, value_advice, context_advice, load_advice, stack_advice};
 
 use crate::access::address_of;
 use crate::stack::place_of;

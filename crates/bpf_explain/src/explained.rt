@@ -1,7 +1,9 @@
 //! What is printed of a refused program.
 ghost use Rattle.std.specs.Prelude.{◌≡◌, ◌≤◌, ◌++◌, IfOk, OnOk, length, map, option_map, slice_get, string_bytes};
 ghost use Rattle.bpf_note.specs.Parts.{facts};
-ghost use Rattle.bpf_explain.specs.Explained.{addresses_text, asked_register, below_text, explained_text, is_about_values, joined_text, operand_of, operand_text, reached_text, undecoded_text, values_text, verdict_text, was_text};
+ghost use Rattle.bpf_explain.specs.Explained.{addresses_text, asked_register, below_text, explained_text, is_about_values};
+ghost use Rattle.bpf_explain.specs.Explained.{joined_text, operand_of, operand_text, reached_text, undecoded_text, values_text};
+ghost use Rattle.bpf_explain.specs.Explained.{verdict_text, was_text};
 
 use crate::access::{access_of, address_of, base_of};
 use crate::advice::{advice_for, cause_advice, joined_advice, lost_advice};
@@ -85,7 +87,8 @@ fn below_text(
     insn: Option<Insn>,
     note: Option<&Note>,
 ) -> Result<String, AllocError>
-    ensures { IfOk result (λ s. string_bytes s ≡ below_text (map string_bytes names.now) shapes.now pc cause insn (option_map (λ n. facts n.now) note.entry)) }
+    ensures { IfOk result (λ s. string_bytes s ≡ below_text (map string_bytes names.now) shapes.now pc cause insn
+        (option_map (λ n. facts n.now) note.entry)) }
 {
     match (cause, insn, note) {
         (Cause::Target, Some(insn), _) => target_text(alloc, pc, insn),
@@ -161,7 +164,8 @@ pub fn was_text(
     pc: u32,
     note: &Note,
 ) -> Result<String, AllocError>
-    ensures { IfOk result (λ s. string_bytes s ≡ was_text (map string_bytes names.now) register pc (slice_get code.now pc) (facts note.now)) }
+    ensures { IfOk result (λ s. string_bytes s ≡ was_text (map string_bytes names.now) register pc (slice_get code.now pc)
+        (facts note.now)) }
 {
     let number = register.number();
     let value = note.register(number);
@@ -220,7 +224,8 @@ pub fn explained_text(
     refusal: Refusal,
     note: Option<&Note>,
 ) -> Result<String, AllocError>
-    ensures { IfOk result (λ s. string_bytes s ≡ explained_text code.now (map string_bytes names.now) shapes.now refusal (option_map (λ n. facts n.now) note.entry)) }
+    ensures { IfOk result (λ s. string_bytes s ≡ explained_text code.now (map string_bytes names.now) shapes.now refusal
+        (option_map (λ n. facts n.now) note.entry)) }
 {
     let insns = code.insns();
     let insn = insn_at(code, refusal.pc);

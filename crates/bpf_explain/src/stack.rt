@@ -1,7 +1,8 @@
 //! The stack's slots that an access touches.
 ghost use Rattle.std.specs.Prelude.{◌≡◌, ◌+◌, ◌<◌, ◌≤◌, ◌++◌, IfOk, IfSome, OnOk, Option, map, string_bytes};
 ghost use Rattle.bpf_note.specs.Parts.{facts};
-ghost use Rattle.bpf_explain.specs.Stack.{byte_text, bytes_text, content_text, further_text, place_of, slot_text, stack_place, stack_text, touched_text};
+ghost use Rattle.bpf_explain.specs.Stack.{byte_text, bytes_text, content_text, further_text, place_of, slot_text, stack_place};
+ghost use Rattle.bpf_explain.specs.Stack.{stack_text, touched_text};
 
 use crate::access::{Access, access_of};
 use crate::values::known_text;
@@ -38,7 +39,8 @@ fn content_text(
     slot: u8,
 ) -> Result<String, AllocError>
     requires { slot < 64 }
-    ensures { IfOk result (λ s. string_bytes s ≡ content_text (map string_bytes names.now) (facts note.now) slot ((facts note.now).kept slot)) }
+    ensures { IfOk result (λ s. string_bytes s ≡ content_text (map string_bytes names.now) (facts note.now) slot
+        ((facts note.now).kept slot)) }
 {
     match note.kept(slot) {
         None => bytes_text(alloc, note, 8 * u16::from(slot)),

@@ -170,7 +170,8 @@ pub(crate) fn add_reads(
     note: &Note,
     registers: &[Register],
 ) -> Result<(), AllocError>
-    ensures { OnOk result (string_bytes text.new ≡ string_bytes text.old ++ reads_text (map string_bytes names.now) insn (facts note.now) registers.now) }
+    ensures { OnOk result (string_bytes text.new ≡ string_bytes text.old
+        ++ reads_text (map string_bytes names.now) insn (facts note.now) registers.now) }
 {
     for register in registers {
         let read = read_text(alloc, names, insn, note, *register)?;

@@ -1,5 +1,6 @@
 -- What arithmetic makes of values. Of several rules the first that fits is taken.
-use Rattle.std.specs.Prelude.{ℕ, ◌+◌, ◌-◌, ◌*◌, ◌/◌, ◌%◌, ◌^◌, min, ℤ, pos, negsuc, ◌+ℤ◌, ◌-ℤ◌, Option, None, Some, Bool, true, false, ◌&&◌, if◌then◌else◌, ◌==◌, nat_le, nat_lt, int_le}
+use Rattle.std.specs.Prelude.{ℕ, ◌+◌, ◌-◌, ◌*◌, ◌/◌, ◌%◌, ◌^◌, min, ℤ, pos, negsuc, ◌+ℤ◌, ◌-ℤ◌, Option, None, Some, Bool, true}
+use Rattle.std.specs.Prelude.{false, ◌&&◌, if◌then◌else◌, ◌==◌, nat_le, nat_lt, int_le}
 use Rattle.bpf_insn.specs.Signed.{signed_reading, sign_extended}
 use Rattle.bpf_insn.specs.Arithmetic.{computed, negated}
 use Rattle.bpf_insn.specs.ByteOrder.{swapped}

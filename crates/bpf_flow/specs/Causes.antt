@@ -1,6 +1,7 @@
 -- The causes that the rule for one instruction may answer.
 use Rattle.bpf_insn.specs.declared.refusal.Cause.{Cause}
-use Rattle.bpf_insn.specs.declared.refusal.Cause.TheVariants.{Unset, FramePointer, NoPointer, Packet, Stack, Context, MayBeNull, MapAccess, Helper, Argument}
+use Rattle.bpf_insn.specs.declared.refusal.Cause.TheVariants.{Unset, FramePointer, NoPointer, Packet, Stack, Context, MayBeNull}
+use Rattle.bpf_insn.specs.declared.refusal.Cause.TheVariants.{MapAccess, Helper, Argument}
 
 abbrev pub IsRuleCause : Cause → Type 0
 IsRuleCause Unset = Unit {0}

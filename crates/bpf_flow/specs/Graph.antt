@@ -2,7 +2,8 @@
 use Rattle.std.specs.Prelude.{ℕ, ◌+◌, ◌≡◌, ◌⊎◌, Some, Bool, false, ◌&&◌, ◌||◌, ◌==◌, nat_le}
 use Rattle.bpf_insn.specs.Register.{number}
 use Rattle.bpf_insn.specs.declared.insn.Insn.{Insn}
-use Rattle.bpf_insn.specs.declared.insn.Insn.TheVariants.{Alu, Neg, End, MovSx, Const, MapRef, Ldx, St, Stx, AddCounter, Ja, Jump, Call, Exit, Second}
+use Rattle.bpf_insn.specs.declared.insn.Insn.TheVariants.{Alu, Neg, End, MovSx, Const, MapRef, Ldx, St, Stx, AddCounter, Ja, Jump}
+use Rattle.bpf_insn.specs.declared.insn.Insn.TheVariants.{Call, Exit, Second}
 use Rattle.bpf_insn.specs.declared.operand.Operand.{Operand}
 use Rattle.bpf_insn.specs.declared.operand.Operand.TheVariants.{Register, Immediate}
 use Rattle.bpf_insn.specs.declared.alu_op.AluOp.TheVariants.{Mov}

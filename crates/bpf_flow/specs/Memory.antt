@@ -1,5 +1,6 @@
 -- What an access through a value reaches, what a load makes of it and what a store changes.
-use Rattle.std.specs.Prelude.{ℕ, ◌+◌, ◌*◌, ◌/◌, ◌%◌, zero, suc, min, max, ℤ, pos, negsuc, ◌+ℤ◌, List, Option, None, Some, Bool, true, false, ◌&&◌, ◌||◌, if◌then◌else◌, ◌==◌, nat_le, nat_lt, Result, Ok, Err, slice_get}
+use Rattle.std.specs.Prelude.{ℕ, ◌+◌, ◌*◌, ◌/◌, ◌%◌, zero, suc, min, max, ℤ, pos, negsuc, ◌+ℤ◌, List, Option, None, Some, Bool}
+use Rattle.std.specs.Prelude.{true, false, ◌&&◌, ◌||◌, if◌then◌else◌, ◌==◌, nat_le, nat_lt, Result, Ok, Err, slice_get}
 use Rattle.bpf_insn.specs.Size.{size_bytes}
 use Rattle.bpf_insn.specs.declared.size.Size.{Size}
 use Rattle.bpf_insn.specs.declared.size.Size.TheVariants.{Byte, Half, Word, Double}
@@ -109,7 +110,8 @@ loaded_value n shapes signed size (OnStack p) =
 loaded_value n shapes true size (InContext o) = Err cause.Context
 loaded_value n shapes false size (InContext o) = if is_word size && is_field o then Ok (field_value o) else Err cause.Context
 loaded_value n shapes true size (AtValue m o) = Err cause.MapAccess
-loaded_value n shapes false size (AtValue m o) = if is_double size && is_counter (slice_get shapes m) o then Ok full else Err cause.MapAccess
+loaded_value n shapes false size (AtValue m o) = if is_double size && is_counter (slice_get shapes m) o then Ok full
+    else Err cause.MapAccess
 
 -- z bytes from p on and the eight of slot j have one in common
 abbrev pub touches : ℕ → ℕ → ℕ → Bool

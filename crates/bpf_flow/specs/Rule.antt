@@ -4,7 +4,8 @@ use Rattle.bpf_insn.specs.Register.{number}
 use Rattle.bpf_insn.specs.Signed.{sign_extended}
 use Rattle.bpf_insn.specs.Size.{size_bytes}
 use Rattle.bpf_insn.specs.declared.insn.Insn.{Insn}
-use Rattle.bpf_insn.specs.declared.insn.Insn.TheVariants.{Alu, Neg, End, MovSx, Const, MapRef, Ldx, St, Stx, AddCounter, Ja, Jump, Call, Exit, Second}
+use Rattle.bpf_insn.specs.declared.insn.Insn.TheVariants.{Alu, Neg, End, MovSx, Const, MapRef, Ldx, St, Stx, AddCounter, Ja, Jump}
+use Rattle.bpf_insn.specs.declared.insn.Insn.TheVariants.{Call, Exit, Second}
 use Rattle.bpf_insn.specs.declared.alu_op.AluOp.{AluOp}
 use Rattle.bpf_insn.specs.declared.alu_op.AluOp.TheVariants.{Mov}
 use Rattle.bpf_insn.specs.declared.refusal.Cause.TheVariants as cause

@@ -29,7 +29,8 @@ impl Point<'_> {
     /// A register gets what the instruction computes.
     fn sets_computed(&self, dst: Register, computed: Computed) -> Result<Effect, Cause>
         requires { self.now.pc < 4096 }
-        ensures gives { Decides result self.now.pc (facts self.now.note.now) (sets_computed (facts self.now.note.now) self.now.pc (number dst) computed) }
+        ensures gives { Decides result self.now.pc (facts self.now.note.now)
+            (sets_computed (facts self.now.note.now) self.now.pc (number dst) computed) }
         ensures spare { IfOk result (λ e. Allocates e → IsFresh computed) }
     {
         match computed {
@@ -45,7 +46,8 @@ impl Point<'_> {
 
     pub fn alu(&self, op: AluOp, wide: bool, dst: Register, src: Operand) -> Result<Effect, Cause>
         requires { self.now.pc < 4096 }
-        ensures gives { Decides result self.now.pc (facts self.now.note.now) (after_of (Insn.Alu op wide dst src) self.now.pc (facts self.now.note.now) self.now.shapes.now) }
+        ensures gives { Decides result self.now.pc (facts self.now.note.now)
+            (after_of (Insn.Alu op wide dst src) self.now.pc (facts self.now.note.now) self.now.shapes.now) }
         ensures spare { IfOk result (λ e. Allocates e → MayAllocate (Insn.Alu op wide dst src) (facts self.now.note.now)) }
     {
         let first = self.note.register(dst.number());
@@ -59,7 +61,8 @@ impl Point<'_> {
     /// Sets `dst` to `made`, or refuses with V7 if `from` is unset.
     fn made_of(&self, from: Val, dst: Register, made: Val) -> Result<Effect, Cause>
         requires { self.now.pc < 4096 }
-        ensures gives { Decides result self.now.pc (facts self.now.note.now) (unless (is_unset from) Cause.Unset (sets (facts self.now.note.now) (self.now.pc + 1) (number dst) made)) }
+        ensures gives { Decides result self.now.pc (facts self.now.note.now)
+            (unless (is_unset from) Cause.Unset (sets (facts self.now.note.now) (self.now.pc + 1) (number dst) made)) }
         ensures spare { IfOk result (λ e. Allocates e → ⊥) }
     {
         if is_unset(from) {
@@ -70,7 +73,8 @@ impl Point<'_> {
 
     pub fn neg(&self, wide: bool, dst: Register) -> Result<Effect, Cause>
         requires { self.now.pc < 4096 }
-        ensures gives { Decides result self.now.pc (facts self.now.note.now) (after_of (Insn.Neg wide dst) self.now.pc (facts self.now.note.now) self.now.shapes.now) }
+        ensures gives { Decides result self.now.pc (facts self.now.note.now)
+            (after_of (Insn.Neg wide dst) self.now.pc (facts self.now.note.now) self.now.shapes.now) }
         ensures spare { IfOk result (λ e. Allocates e → ⊥) }
     {
         let value = self.note.register(dst.number());
@@ -79,7 +83,8 @@ impl Point<'_> {
 
     pub fn end(&self, kind: SwapKind, width: Width, dst: Register) -> Result<Effect, Cause>
         requires { self.now.pc < 4096 }
-        ensures gives { Decides result self.now.pc (facts self.now.note.now) (after_of (Insn.End kind width dst) self.now.pc (facts self.now.note.now) self.now.shapes.now) }
+        ensures gives { Decides result self.now.pc (facts self.now.note.now)
+            (after_of (Insn.End kind width dst) self.now.pc (facts self.now.note.now) self.now.shapes.now) }
         ensures spare { IfOk result (λ e. Allocates e → ⊥) }
     {
         let value = self.note.register(dst.number());
@@ -94,7 +99,8 @@ impl Point<'_> {
         src: Register,
     ) -> Result<Effect, Cause>
         requires { self.now.pc < 4096 }
-        ensures gives { Decides result self.now.pc (facts self.now.note.now) (after_of (Insn.MovSx wide bits dst src) self.now.pc (facts self.now.note.now) self.now.shapes.now) }
+        ensures gives { Decides result self.now.pc (facts self.now.note.now)
+            (after_of (Insn.MovSx wide bits dst src) self.now.pc (facts self.now.note.now) self.now.shapes.now) }
         ensures spare { IfOk result (λ e. Allocates e → ⊥) }
     {
         let value = self.note.register(src.number());

@@ -4,7 +4,8 @@ ghost use Rattle.bpf_insn.specs.Register.{number};
 ghost use Rattle.bpf_insn.specs.declared.insn.Insn.{Insn};
 ghost use Rattle.bpf_note.specs.Parts.{facts};
 ghost use Rattle.bpf_flow.specs.Alu.{operand_value};
-ghost use Rattle.bpf_flow.specs.Branch.{opposite, raise, narrowed, without, below, compared, against_end, end_against, is_null, checked, refined, refined_if};
+ghost use Rattle.bpf_flow.specs.Branch.{opposite, raise, narrowed, without, below, compared, against_end, end_against, is_null};
+ghost use Rattle.bpf_flow.specs.Branch.{checked, refined, refined_if};
 ghost use Rattle.bpf_flow.specs.Effect.{Allocates, Decides, edges_by, met, missed};
 ghost use Rattle.bpf_flow.specs.Gives.{edges_along};
 ghost use Rattle.bpf_flow.specs.declared.effect.Effect.TheVariants.{Branches};
@@ -143,7 +144,8 @@ fn check(note: &mut Note, cond: Condition, m: u32, id: u16)
 
 /// The first operand of a comparison stands in this condition to the second.
 fn refine(note: &mut Note, cond: Condition, dst: Register, src: Operand) -> Result<(), AllocError>
-    ensures { OnOk result (facts note.new ≡ refined cond (facts note.old) (number dst) src ((facts note.old).reg (number dst)) (operand_value (facts note.old) src)) }
+    ensures { OnOk result (facts note.new ≡ refined cond (facts note.old) (number dst) src ((facts note.old).reg (number dst))
+        (operand_value (facts note.old) src)) }
 {
     let first = note.register(dst.number());
     let second = operand_value(note, src);
@@ -218,7 +220,8 @@ impl Point<'_> {
     pub fn ja(&self, to: i32) -> Result<Effect, Cause>
         requires small { self.now.pc < 4096 }
         requires there { IsSome (target self.now.pc to) }
-        ensures gives { Decides result self.now.pc (facts self.now.note.now) (after_of (Insn.Ja true to) self.now.pc (facts self.now.note.now) self.now.shapes.now) }
+        ensures gives { Decides result self.now.pc (facts self.now.note.now)
+            (after_of (Insn.Ja true to) self.now.pc (facts self.now.note.now) self.now.shapes.now) }
         ensures spare { IfOk result (λ e. Allocates e → ⊥) }
     {
         let Some(pc) = jump_target(self.pc, to) else {
@@ -237,7 +240,8 @@ impl Point<'_> {
     ) -> Result<Effect, Cause>
         requires small { self.now.pc < 4096 }
         requires there { IsSome (target self.now.pc off) }
-        ensures gives { Decides result self.now.pc (facts self.now.note.now) (after_of (Insn.Jump cond wide dst src off) self.now.pc (facts self.now.note.now) self.now.shapes.now) }
+        ensures gives { Decides result self.now.pc (facts self.now.note.now)
+            (after_of (Insn.Jump cond wide dst src off) self.now.pc (facts self.now.note.now) self.now.shapes.now) }
     {
         if is_unset(self.note.register(dst.number())) || is_unset(operand_value(self.note, src)) {
             return Err(Cause::Unset);
@@ -255,7 +259,8 @@ impl Point<'_> {
     }
 
     pub fn exit(&self) -> Result<Effect, Cause>
-        ensures gives { Decides result self.now.pc (facts self.now.note.now) (after_of Insn.Exit self.now.pc (facts self.now.note.now) self.now.shapes.now) }
+        ensures gives { Decides result self.now.pc (facts self.now.note.now)
+            (after_of Insn.Exit self.now.pc (facts self.now.note.now) self.now.shapes.now) }
         ensures spare { IfOk result (λ e. Allocates e → ⊥) }
     {
         if is_unset(self.note.register(0)) {

@@ -61,7 +61,8 @@ impl Point<'_> {
 
     pub fn call(&self, helper: i32) -> Result<Effect, Cause>
         requires { self.now.pc < 4096 }
-        ensures gives { Decides result self.now.pc (facts self.now.note.now) (after_of (Insn.Call helper) self.now.pc (facts self.now.note.now) self.now.shapes.now) }
+        ensures gives { Decides result self.now.pc (facts self.now.note.now)
+            (after_of (Insn.Call helper) self.now.pc (facts self.now.note.now) self.now.shapes.now) }
     {
         if !is_lookup(helper) {
             return Err(Cause::Helper);

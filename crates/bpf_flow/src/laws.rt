@@ -41,11 +41,13 @@ pub fn unset_exactly_where_read()
 
 /// An instruction is refused for the frame pointer exactly where it writes `r10` and reads no unset register.
 pub fn frame_pointer_exactly_where_written()
-    ensures { (i : Insn) (pc : ℕ) (n : Facts) (shapes : List Shape) → (after_of i pc n shapes ≡ Err FramePointer) ↔ (writes i 10 ≡ true) × (ReadsUnset i n → ⊥) }
+    ensures { (i : Insn) (pc : ℕ) (n : Facts) (shapes : List Shape) →
+        (after_of i pc n shapes ≡ Err FramePointer) ↔ (writes i 10 ≡ true) × (ReadsUnset i n → ⊥) }
 {}
 
 /// No step changes the maps or the length of the packet, and a step reads and adds to counters of the maps alone.
 pub fn steps_keep_the_maps()
     ensures kept { (code : List Insn) (s : State) (label : Option Op) (t : State) → LeadsTo (step code s) label t → Kept s t }
-    ensures counters { (code : List Insn) (s : State) (label : Option Op) (t : State) → AreShapes s.shapes → LeadsTo (step code s) label t → IsLabelOf s.shapes label }
+    ensures counters { (code : List Insn) (s : State) (label : Option Op) (t : State) → AreShapes s.shapes →
+        LeadsTo (step code s) label t → IsLabelOf s.shapes label }
 {}

@@ -7,7 +7,8 @@ ghost use Rattle.bpf_note.specs.Parts.{facts};
 ghost use Rattle.bpf_flow.specs.Rule.{after_of};
 ghost use Rattle.bpf_flow.specs.Effect.{Allocates, Decides};
 ghost use Rattle.bpf_flow.specs.Gives.{IsInside};
-ghost use Rattle.bpf_flow.specs.Memory.{is_field, is_counter, all_set, any_of_size, any_loaded, is_slot, stack_value, field_value, loaded_value, with_bytes, with_store, stores, adds_at};
+ghost use Rattle.bpf_flow.specs.Memory.{is_field, is_counter, all_set, any_of_size, any_loaded, is_slot, stack_value, field_value};
+ghost use Rattle.bpf_flow.specs.Memory.{loaded_value, with_bytes, with_store, stores, adds_at};
 
 use crate::access::{Access, reach};
 use crate::alu::immediate;
@@ -197,7 +198,8 @@ impl Point<'_> {
         off: i16,
     ) -> Result<Effect, Cause>
         requires { self.now.pc < 4096 }
-        ensures gives { Decides result self.now.pc (facts self.now.note.now) (after_of (Insn.Ldx size signed dst src off) self.now.pc (facts self.now.note.now) self.now.shapes.now) }
+        ensures gives { Decides result self.now.pc (facts self.now.note.now)
+            (after_of (Insn.Ldx size signed dst src off) self.now.pc (facts self.now.note.now) self.now.shapes.now) }
         ensures spare { IfOk result (λ e. Allocates e → ⊥) }
     {
         let pointer = self.note.register(src.number());
@@ -215,7 +217,8 @@ impl Point<'_> {
     fn stores(&self, size: Size, value: Val, access: Access) -> Result<Effect, Cause>
         requires small { self.now.pc < 4096 }
         requires inside { IsInside access (size_bytes size) }
-        ensures gives { Decides result self.now.pc (facts self.now.note.now) (stores (facts self.now.note.now) (self.now.pc + 1) size value access) }
+        ensures gives { Decides result self.now.pc (facts self.now.note.now)
+            (stores (facts self.now.note.now) (self.now.pc + 1) size value access) }
         ensures spare { IfOk result (λ e. Allocates e → ⊥) }
     {
         match access {
@@ -228,7 +231,8 @@ impl Point<'_> {
 
     pub fn st(&self, size: Size, dst: Register, off: i16, imm: i32) -> Result<Effect, Cause>
         requires { self.now.pc < 4096 }
-        ensures gives { Decides result self.now.pc (facts self.now.note.now) (after_of (Insn.St size dst off imm) self.now.pc (facts self.now.note.now) self.now.shapes.now) }
+        ensures gives { Decides result self.now.pc (facts self.now.note.now)
+            (after_of (Insn.St size dst off imm) self.now.pc (facts self.now.note.now) self.now.shapes.now) }
         ensures spare { IfOk result (λ e. Allocates e → ⊥) }
     {
         let pointer = self.note.register(dst.number());
@@ -241,7 +245,8 @@ impl Point<'_> {
 
     pub fn stx(&self, size: Size, dst: Register, src: Register, off: i16) -> Result<Effect, Cause>
         requires { self.now.pc < 4096 }
-        ensures gives { Decides result self.now.pc (facts self.now.note.now) (after_of (Insn.Stx size dst src off) self.now.pc (facts self.now.note.now) self.now.shapes.now) }
+        ensures gives { Decides result self.now.pc (facts self.now.note.now)
+            (after_of (Insn.Stx size dst src off) self.now.pc (facts self.now.note.now) self.now.shapes.now) }
         ensures spare { IfOk result (λ e. Allocates e → ⊥) }
     {
         let value = self.note.register(src.number());
@@ -261,7 +266,8 @@ impl Point<'_> {
         off: i16,
     ) -> Result<Effect, Cause>
         requires { self.now.pc < 4096 }
-        ensures gives { Decides result self.now.pc (facts self.now.note.now) (after_of (Insn.AddCounter fetch dst src off) self.now.pc (facts self.now.note.now) self.now.shapes.now) }
+        ensures gives { Decides result self.now.pc (facts self.now.note.now)
+            (after_of (Insn.AddCounter fetch dst src off) self.now.pc (facts self.now.note.now) self.now.shapes.now) }
         ensures spare { IfOk result (λ e. Allocates e → ⊥) }
     {
         let pointer = self.note.register(dst.number());

@@ -25,7 +25,8 @@ impl Point<'_> {
     fn decide_access(&self, insn: Insn) -> Result<Effect, Cause>
         requires small { self.now.pc < 4096 }
         requires access { IsAccess insn }
-        ensures gives { Decides result self.now.pc (facts self.now.note.now) (after_of insn self.now.pc (facts self.now.note.now) self.now.shapes.now) }
+        ensures gives { Decides result self.now.pc (facts self.now.note.now)
+            (after_of insn self.now.pc (facts self.now.note.now) self.now.shapes.now) }
         ensures spare { IfOk result (λ e. Allocates e → ⊥) }
     {
         match insn {
@@ -62,7 +63,8 @@ impl Point<'_> {
     fn decide(&self, insn: Insn) -> Result<Effect, Cause>
         requires small { self.now.pc < 4096 }
         requires ruled { IsRuled insn self.now.pc (length self.now.shapes.now) }
-        ensures gives { Decides result self.now.pc (facts self.now.note.now) (after_of insn self.now.pc (facts self.now.note.now) self.now.shapes.now) }
+        ensures gives { Decides result self.now.pc (facts self.now.note.now)
+            (after_of insn self.now.pc (facts self.now.note.now) self.now.shapes.now) }
         ensures spare { IfOk result (λ e. Allocates e → MayAllocate insn (facts self.now.note.now)) }
     {
         match insn {
@@ -122,7 +124,8 @@ pub fn after(
     requires small { pc < 4096 }
     requires ruled { IsRuled insn.now pc (length shapes.now) }
     ensures gives { Gives result (after_of insn.now pc (facts note.now) shapes.now) }
-    ensures sound { IfOk result (λ e. (s : State) → Describes (facts note.now) s → s.pc ≡ pc → s.shapes ≡ shapes.now → Accounts (edges_of e) (exec insn.now s)) }
+    ensures sound { IfOk result (λ e. (s : State) → Describes (facts note.now) s → s.pc ≡ pc → s.shapes ≡ shapes.now →
+        Accounts (edges_of e) (exec insn.now s)) }
 {
     has_words(*insn);
     let effect = decide(insn, pc, note, shapes)?;
@@ -145,7 +148,8 @@ pub fn transfer(
     ensures err { IfErr result (λ c. Fails c (after_of insn.now pc (facts note.old) shapes.now)) }
     ensures kept { IfErr result (λ c. c ≢ Memory → note.new ≡ note.old) }
     ensures spare { IfErr result (λ c. c ≡ Memory → MayAllocate insn.now (facts note.old)) }
-    ensures sound { IfOk result (λ w. (s : State) → Describes (facts note.old) s → s.pc ≡ pc → s.shapes ≡ shapes.now → Accounts (edges_along w (facts note.new)) (exec insn.now s)) }
+    ensures sound { IfOk result (λ w. (s : State) → Describes (facts note.old) s → s.pc ≡ pc → s.shapes ≡ shapes.now →
+        Accounts (edges_along w (facts note.new)) (exec insn.now s)) }
 {
     has_words(*insn);
     let effect = decide(insn, pc, note, shapes)?;

@@ -3,7 +3,9 @@ use Rattle.std.specs.Prelude.{ℕ, List, ◌++◌, codes}
 use Rattle.std.specs.Fmt.{decimal}
 use Rattle.bpf_insn.specs.declared.refusal.Cause.{Cause}
 use Rattle.bpf_insn.specs.declared.refusal.Refusal.{Refusal}
-use Rattle.bpf_insn.specs.declared.refusal.Cause.TheVariants.{Memory, Length, Opcode, Register, Target, BackJump, End, Unset, FramePointer, NoPointer, Packet, Stack, Context, MayBeNull, MapAccess, Helper, MapNumber, Argument, Unsupported}
+use Rattle.bpf_insn.specs.declared.refusal.Cause.TheVariants.{Memory, Length, Opcode, Register, Target, BackJump, End, Unset}
+use Rattle.bpf_insn.specs.declared.refusal.Cause.TheVariants.{FramePointer, NoPointer, Packet, Stack, Context, MayBeNull, MapAccess}
+use Rattle.bpf_insn.specs.declared.refusal.Cause.TheVariants.{Helper, MapNumber, Argument, Unsupported}
 
 abbrev pub cause_number : Cause → ℕ
 cause_number Memory = 0

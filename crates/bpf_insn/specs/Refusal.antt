@@ -1,7 +1,8 @@
 -- Which bytes are refused, at which slot and why. The order of the causes is this project's own.
 -- Rows from LLVM guard which instructions are left out: `text` of crates/outside_rows. Rows worked by hand guard the
 -- order: crates/bpf_insn_tests/src/tests/prefixes.rt.
-use Rattle.std.specs.Prelude.{ℕ, ◌≡◌, ◌≢◌, ◌<◌, ◌≤◌, ◌%◌, ◌⊎◌, ◌==◌, ◌&&◌, ◌||◌, not, nat_le, int_le, Bool, true, false, pos, List, [], ◌∷◌, ◌++◌, flat_map, length}
+use Rattle.std.specs.Prelude.{ℕ, ◌≡◌, ◌≢◌, ◌<◌, ◌≤◌, ◌%◌, ◌⊎◌, ◌==◌, ◌&&◌, ◌||◌, not, nat_le, int_le, Bool, true, false, pos, List}
+use Rattle.std.specs.Prelude.{[], ◌∷◌, ◌++◌, flat_map, length}
 use Rattle.std.specs.List.{AllByRecursion, list_any}
 use Rattle.bpf_insn.specs.Fields.{slot_bytes, FitsSlot}
 use Rattle.bpf_insn.specs.Spelling.{slots, spelling, HasSpelling, ContinuesNone}
@@ -48,7 +49,8 @@ pub data HasCause (f : Fields) : Cause → Type 0 where
   unsupported_opcode : is_unsupported f.op ≡ true → HasCause f Unsupported
   unknown_opcode : is_unsupported f.op ≡ false → (IsOpcode f.op → ⊥) → HasCause f Opcode
   no_register : is_unsupported f.op ≡ false → IsOpcode f.op → (10 < f.dst) ⊎ (10 < f.src) → HasCause f Register
-  unsupported_field : is_unsupported f.op ≡ false → IsOpcode f.op → f.dst ≤ 10 → f.src ≤ 10 → has_unsupported_field f ≡ true → HasCause f Unsupported
+  unsupported_field : is_unsupported f.op ≡ false → IsOpcode f.op → f.dst ≤ 10 → f.src ≤ 10 → has_unsupported_field f ≡ true →
+      HasCause f Unsupported
   other_field : is_unsupported f.op ≡ false → IsOpcode f.op → f.dst ≤ 10 → f.src ≤ 10 → has_unsupported_field f ≡ false → HasCause f Opcode
 
 -- the slots below pc are those of instructions that are spelled one after the other, and rest is what follows

@@ -7,15 +7,19 @@ use Rattle.bpf_insn.specs.Size.{width_bits}
 use Rattle.bpf_insn.specs.Fields.{slot_bytes}
 use Rattle.bpf_insn.specs.declared.fields.Fields.{Fields}
 use Rattle.bpf_insn.specs.declared.insn.Insn.{Insn}
-use Rattle.bpf_insn.specs.declared.insn.Insn.TheVariants.{Alu, Neg, End, MovSx, Const, MapRef, Ldx, St, Stx, AddCounter, Ja, Jump, Call, Exit, Second}
+use Rattle.bpf_insn.specs.declared.insn.Insn.TheVariants.{Alu, Neg, End, MovSx, Const, MapRef, Ldx, St, Stx, AddCounter, Ja, Jump}
+use Rattle.bpf_insn.specs.declared.insn.Insn.TheVariants.{Call, Exit, Second}
 use Rattle.bpf_insn.specs.declared.operand.Operand.{Operand}
 use Rattle.bpf_insn.specs.declared.operand.Operand.TheVariants.{Register, Immediate}
 use Rattle.bpf_insn.specs.declared.alu_op.AluOp.{AluOp}
-use Rattle.bpf_insn.specs.declared.alu_op.AluOp.TheVariants.{Add, Sub, Mul, Div, SignedDiv, Or, And, Lsh, Rsh, Mod, SignedMod, Xor, Mov, Arsh}
+use Rattle.bpf_insn.specs.declared.alu_op.AluOp.TheVariants.{Add, Sub, Mul, Div, SignedDiv, Or, And, Lsh, Rsh, Mod, SignedMod, Xor}
+use Rattle.bpf_insn.specs.declared.alu_op.AluOp.TheVariants.{Mov, Arsh}
 use Rattle.bpf_insn.specs.declared.swap_kind.SwapKind.{SwapKind}
 use Rattle.bpf_insn.specs.declared.swap_kind.SwapKind.TheVariants.{ToLittle, ToBig, Swap}
 use Rattle.bpf_insn.specs.declared.condition.Condition.{Condition}
-use Rattle.bpf_insn.specs.declared.condition.Condition.TheVariants.{Equal, Greater, GreaterOrEqual, Set, NotEqual, SignedGreater, SignedGreaterOrEqual, Less, LessOrEqual, SignedLess, SignedLessOrEqual}
+use Rattle.bpf_insn.specs.declared.condition.Condition.TheVariants.{Equal, Greater, GreaterOrEqual, Set, NotEqual, SignedGreater}
+use Rattle.bpf_insn.specs.declared.condition.Condition.TheVariants.{SignedGreaterOrEqual, Less, LessOrEqual, SignedLess}
+use Rattle.bpf_insn.specs.declared.condition.Condition.TheVariants.{SignedLessOrEqual}
 use Rattle.bpf_insn.specs.declared.size.Size.{Size}
 use Rattle.bpf_insn.specs.declared.size.Size.TheVariants.{Byte, Half, Word, Double}
 
@@ -99,7 +103,8 @@ slot op dst src off imm = record { op = op; dst = dst; src = src; off = off; imm
 -- the slots of an instruction, each field that it doesn't use being 0; none where it has no spelling
 abbrev pub slots : Insn → List Fields
 slots (Alu op wide dst (Immediate i)) = slot (alu_class wide + alu_code op) (number dst) 0 (pos (alu_offset op)) i ∷ []
-slots (Alu op wide dst (Register src)) = slot (alu_class wide + 8 + alu_code op) (number dst) (number src) (pos (alu_offset op)) (pos 0) ∷ []
+slots (Alu op wide dst (Register src)) = slot (alu_class wide + 8 + alu_code op) (number dst) (number src) (pos (alu_offset op))
+    (pos 0) ∷ []
 slots (Neg wide dst) = slot (alu_class wide + 0x80) (number dst) 0 (pos 0) (pos 0) ∷ []
 slots (End kind width dst) = slot (swap_opcode kind) (number dst) 0 (pos 0) (pos (width_bits width)) ∷ []
 slots (MovSx wide Byte dst src) = slot (alu_class wide + 8 + 0xb0) (number dst) (number src) (pos 8) (pos 0) ∷ []
@@ -107,7 +112,8 @@ slots (MovSx wide Half dst src) = slot (alu_class wide + 8 + 0xb0) (number dst) 
 slots (MovSx true Word dst src) = slot 0xbf (number dst) (number src) (pos 32) (pos 0) ∷ []
 slots (MovSx false Word dst src) = []
 slots (MovSx wide Double dst src) = []
-slots (Const dst value) = slot 0x18 (number dst) 0 (pos 0) (cast_signed w32 (value % 2 ^ 32)) ∷ slot 0 0 0 (pos 0) (cast_signed w32 (value / 2 ^ 32)) ∷ []
+slots (Const dst value) = slot 0x18 (number dst) 0 (pos 0) (cast_signed w32 (value % 2 ^ 32))
+    ∷ slot 0 0 0 (pos 0) (cast_signed w32 (value / 2 ^ 32)) ∷ []
 slots (MapRef dst m) = slot 0x18 (number dst) 1 (pos 0) (cast_signed w32 m) ∷ slot 0 0 0 (pos 0) (pos 0) ∷ []
 slots (Ldx size false dst src off) = slot (0x61 + size_code size) (number dst) (number src) off (pos 0) ∷ []
 slots (Ldx Byte true dst src off) = slot 0x91 (number dst) (number src) off (pos 0) ∷ []

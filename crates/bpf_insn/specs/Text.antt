@@ -6,14 +6,18 @@ use Rattle.std.specs.Int.{cast_unsigned, w32}
 use Rattle.bpf_insn.specs.Register.{number}
 use Rattle.bpf_insn.specs.Size.{size_bits, width_bits}
 use Rattle.bpf_insn.specs.declared.insn.Insn.{Insn}
-use Rattle.bpf_insn.specs.declared.insn.Insn.TheVariants.{Alu, Neg, End, MovSx, Const, MapRef, Ldx, St, Stx, AddCounter, Ja, Jump, Call, Exit, Second}
+use Rattle.bpf_insn.specs.declared.insn.Insn.TheVariants.{Alu, Neg, End, MovSx, Const, MapRef, Ldx, St, Stx, AddCounter, Ja, Jump}
+use Rattle.bpf_insn.specs.declared.insn.Insn.TheVariants.{Call, Exit, Second}
 use Rattle.bpf_insn.specs.declared.register.Register.{Register}
 use Rattle.bpf_insn.specs.declared.operand.Operand.{Operand}
 use Rattle.bpf_insn.specs.declared.operand.Operand.TheVariants.{Immediate, Register as InRegister}
 use Rattle.bpf_insn.specs.declared.alu_op.AluOp.{AluOp}
-use Rattle.bpf_insn.specs.declared.alu_op.AluOp.TheVariants.{Add, Sub, Mul, Div, SignedDiv, Or, And, Lsh, Rsh, Mod, SignedMod, Xor, Mov, Arsh}
+use Rattle.bpf_insn.specs.declared.alu_op.AluOp.TheVariants.{Add, Sub, Mul, Div, SignedDiv, Or, And, Lsh, Rsh, Mod, SignedMod, Xor}
+use Rattle.bpf_insn.specs.declared.alu_op.AluOp.TheVariants.{Mov, Arsh}
 use Rattle.bpf_insn.specs.declared.condition.Condition.{Condition}
-use Rattle.bpf_insn.specs.declared.condition.Condition.TheVariants.{Equal, Greater, GreaterOrEqual, Set, NotEqual, SignedGreater, SignedGreaterOrEqual, Less, LessOrEqual, SignedLess, SignedLessOrEqual}
+use Rattle.bpf_insn.specs.declared.condition.Condition.TheVariants.{Equal, Greater, GreaterOrEqual, Set, NotEqual, SignedGreater}
+use Rattle.bpf_insn.specs.declared.condition.Condition.TheVariants.{SignedGreaterOrEqual, Less, LessOrEqual, SignedLess}
+use Rattle.bpf_insn.specs.declared.condition.Condition.TheVariants.{SignedLessOrEqual}
 use Rattle.bpf_insn.specs.declared.swap_kind.SwapKind.{SwapKind}
 use Rattle.bpf_insn.specs.declared.swap_kind.SwapKind.TheVariants.{ToLittle, ToBig, Swap}
 use Rattle.bpf_insn.specs.declared.size.Size.{Size}
@@ -100,8 +104,10 @@ test_text cond wide dst src = register_text wide dst ++ codes " " ++ condition_t
 abbrev pub arithmetic_text : Insn → List ℕ
 arithmetic_text (Alu op wide dst src) = register_text wide dst ++ codes " " ++ operation_text op ++ codes " " ++ source_text wide src
 arithmetic_text (Neg wide dst) = register_text wide dst ++ codes " = -" ++ register_text wide dst
-arithmetic_text (End kind width dst) = register_text true dst ++ codes " = " ++ swap_text kind ++ decimal (width_bits width) ++ codes " " ++ register_text true dst
-arithmetic_text (MovSx wide bits dst src) = register_text wide dst ++ codes " = (" ++ size_text true bits ++ codes ")" ++ register_text wide src
+arithmetic_text (End kind width dst) = register_text true dst ++ codes " = " ++ swap_text kind ++ decimal (width_bits width)
+    ++ codes " " ++ register_text true dst
+arithmetic_text (MovSx wide bits dst src) = register_text wide dst ++ codes " = (" ++ size_text true bits ++ codes ")"
+    ++ register_text wide src
 arithmetic_text (Const dst value) = register_text true dst ++ codes " = 0x" ++ digits 16 false value
 arithmetic_text (MapRef dst m) = register_text true dst ++ codes " = map " ++ decimal m
 arithmetic_text i = []

@@ -15,7 +15,8 @@ use crate::size::Size;
 pub(crate) fn load(f: Fields) -> Option<Insn>
     requires { f.op % 8 ≡ 1 }
     ensures some { IfSome result (λ i. slots i ≡ f ∷ []) }
-    ensures none { IfNone result ((size : Size) (signed : Bool) (dst src : Register) (off : ℤ) → slots (Insn.Ldx size signed dst src off) ≡ f ∷ [] → ⊥) }
+    ensures none { IfNone result ((size : Size) (signed : Bool) (dst src : Register) (off : ℤ) →
+        slots (Insn.Ldx size signed dst src off) ≡ f ∷ [] → ⊥) }
 {
     let dst = Register::of_number(f.dst)?;
     let src = Register::of_number(f.src)?;
@@ -71,7 +72,8 @@ pub(crate) fn store(f: Fields) -> Option<Insn>
     requires { f.op % 8 ≡ 3 }
     ensures some { IfSome result (λ i. slots i ≡ f ∷ []) }
     ensures plain { IfNone result ((size : Size) (dst src : Register) (off : ℤ) → slots (Insn.Stx size dst src off) ≡ f ∷ [] → ⊥) }
-    ensures atomic { IfNone result ((fetch : Bool) (dst src : Register) (off : ℤ) → slots (Insn.AddCounter fetch dst src off) ≡ f ∷ [] → ⊥) }
+    ensures atomic { IfNone result ((fetch : Bool) (dst src : Register) (off : ℤ) →
+        slots (Insn.AddCounter fetch dst src off) ≡ f ∷ [] → ⊥) }
 {
     let dst = Register::of_number(f.dst)?;
     let src = Register::of_number(f.src)?;

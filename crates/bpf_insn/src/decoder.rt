@@ -1,7 +1,9 @@
 //! Bytes to instructions, or the first refusal.
-ghost use Rattle.std.specs.Prelude.{ℕ, List, IsErrAnd, MatchResult, ◌≡◌, ◌≤◌, ◌*◌, ◌++◌, ◌↔◌, drop, length, IfErr, IfNone, IfOk, IfSome, IsTrue, OnOk};
+ghost use Rattle.std.specs.Prelude.{ℕ, List, IsErrAnd, MatchResult, ◌≡◌, ◌≤◌, ◌*◌, ◌++◌, ◌↔◌, drop, length, IfErr, IfNone, IfOk};
+ghost use Rattle.std.specs.Prelude.{IfSome, IsTrue, OnOk};
 ghost use Rattle.bpf_insn.specs.Code.{Spells, takes};
-ghost use Rattle.bpf_insn.specs.Refusal.{HasCause, HasLength, IsNoCode, IsOpcode, IsRefused, IsSpelled, Stops, has_unsupported_field, is_unsupported};
+ghost use Rattle.bpf_insn.specs.Refusal.{HasCause, HasLength, IsNoCode, IsOpcode, IsRefused, IsSpelled, Stops};
+ghost use Rattle.bpf_insn.specs.Refusal.{has_unsupported_field, is_unsupported};
 ghost use Rattle.bpf_insn.specs.declared.insn.Insn.{Insn};
 ghost use Rattle.bpf_insn.specs.declared.refusal.Cause.{Cause};
 ghost use Rattle.bpf_insn.specs.Spelling.{ContinuesNone, HasSpelling, spelling};

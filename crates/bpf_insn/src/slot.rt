@@ -48,7 +48,8 @@ fn operand(f: Fields) -> Option<Operand>
 fn binary(f: Fields) -> Option<Insn>
     requires { (f.op % 8 ≡ 4) ⊎ (f.op % 8 ≡ 7) }
     ensures some { IfSome result (λ i. slots i ≡ f ∷ []) }
-    ensures none { IfNone result ((op : AluOp) (wide : Bool) (dst : Register) (src : Operand) → slots (Insn.Alu op wide dst src) ≡ f ∷ [] → ⊥) }
+    ensures none { IfNone result ((op : AluOp) (wide : Bool) (dst : Register) (src : Operand) →
+        slots (Insn.Alu op wide dst src) ≡ f ∷ [] → ⊥) }
 {
     let dst = Register::of_number(f.dst)?;
     let op = AluOp::of_code(f.op - f.op % 16, f.off)?;
@@ -128,7 +129,8 @@ fn extending_move(f: Fields) -> Option<Insn>
 fn conditional(f: Fields) -> Option<Insn>
     requires { (f.op % 8 ≡ 5) ⊎ (f.op % 8 ≡ 6) }
     ensures some { IfSome result (λ i. slots i ≡ f ∷ []) }
-    ensures none { IfNone result ((cond : Condition) (wide : Bool) (dst : Register) (src : Operand) (off : ℤ) → slots (Insn.Jump cond wide dst src off) ≡ f ∷ [] → ⊥) }
+    ensures none { IfNone result ((cond : Condition) (wide : Bool) (dst : Register) (src : Operand) (off : ℤ) →
+        slots (Insn.Jump cond wide dst src off) ≡ f ∷ [] → ⊥) }
 {
     let dst = Register::of_number(f.dst)?;
     let cond = Condition::of_code(f.op - f.op % 16)?;
@@ -168,7 +170,8 @@ fn bare(f: Fields) -> Option<Insn>
 fn arithmetic(f: Fields) -> Option<Insn>
     requires { (f.op % 8 ≡ 4) ⊎ (f.op % 8 ≡ 7) }
     ensures some { IfSome result (λ i. slots i ≡ f ∷ []) }
-    ensures alu { IfNone result ((op : AluOp) (wide : Bool) (dst : Register) (src : Operand) → slots (Insn.Alu op wide dst src) ≡ f ∷ [] → ⊥) }
+    ensures alu { IfNone result ((op : AluOp) (wide : Bool) (dst : Register) (src : Operand) →
+        slots (Insn.Alu op wide dst src) ≡ f ∷ [] → ⊥) }
     ensures neg { IfNone result ((wide : Bool) (dst : Register) → slots (Insn.Neg wide dst) ≡ f ∷ [] → ⊥) }
     ensures swap { IfNone result ((kind : SwapKind) (width : Width) (dst : Register) → slots (Insn.End kind width dst) ≡ f ∷ [] → ⊥) }
     ensures extend { IfNone result ((wide : Bool) (bits : Size) (dst src : Register) → slots (Insn.MovSx wide bits dst src) ≡ f ∷ [] → ⊥) }
@@ -189,7 +192,8 @@ fn arithmetic(f: Fields) -> Option<Insn>
 fn jump(f: Fields) -> Option<Insn>
     requires { (f.op % 8 ≡ 5) ⊎ (f.op % 8 ≡ 6) }
     ensures some { IfSome result (λ i. slots i ≡ f ∷ []) }
-    ensures conditional { IfNone result ((cond : Condition) (wide : Bool) (dst : Register) (src : Operand) (off : ℤ) → slots (Insn.Jump cond wide dst src off) ≡ f ∷ [] → ⊥) }
+    ensures conditional { IfNone result ((cond : Condition) (wide : Bool) (dst : Register) (src : Operand) (off : ℤ) →
+        slots (Insn.Jump cond wide dst src off) ≡ f ∷ [] → ⊥) }
     ensures ja { IfNone result ((wide_offset : Bool) (to : ℤ) → slots (Insn.Ja wide_offset to) ≡ f ∷ [] → ⊥) }
     ensures call { IfNone result ((helper : ℤ) → slots (Insn.Call helper) ≡ f ∷ [] → ⊥) }
     ensures exit { IfNone result (slots Insn.Exit ≡ f ∷ [] → ⊥) }

@@ -1,5 +1,6 @@
 -- The rule of the counters' table. Word 0 is spare, and the counters of the maps follow in order.
-use Rattle.std.specs.Prelude.{◌≡◌, ℕ, ◌+◌, ◌<◌, ◌≤◌, ◌==◌, if◌then◌else◌, List, [], ◌∷◌, ◌++◌, All, map, sum_by, length, slice_index, nat_lt}
+use Rattle.std.specs.Prelude.{◌≡◌, ℕ, ◌+◌, ◌<◌, ◌≤◌, ◌==◌, if◌then◌else◌, List, [], ◌∷◌, ◌++◌, All, map, sum_by, length}
+use Rattle.std.specs.Prelude.{slice_index, nat_lt}
 use Rattle.std.specs.List.{range_with_len}
 use mathlib.Core.Option.{some}
 use lib.ListN.{get_elem?}
@@ -40,7 +41,8 @@ times number parts = sum_by (λ (p : Part). if number == p.number then 1 else 0)
 abbrev pub Fits : List Shape → List Entry → View → Type 0
 Fits shapes history v = All (λ (p : Part). (v.shapes ≡ shapes) × (share p.number history ≡ p.ops)) v.parts
 
--- There is one legal history, which leaves the words. The share of each number is its list, each number stands in one view, and there are no other entries
+-- There is one legal history, which leaves the words. The share of each number is its list, each number stands in one view, and
+-- there are no other entries
 pub record Kept (shapes : List Shape) (seats : ℕ) (s : State (Unit {0}) View) : Type 0 where
   pub history : List Entry
   pub wide : length s.words ≡ 1 + total shapes
@@ -66,7 +68,8 @@ Sat = Me (Unit {0}) View
 -- what a step tells: the seat's list grew by this operation at the step's word, wherever that word is a counter's
 abbrev pub Grows : (ℕ → ℕ → ℕ → ℕ → ℕ → Op) → Step (Unit {0}) → Sat → ℕ → Sat → Type 0
 Grows op st before n after = (after.1 ≡ before.1)
-    × ((m k j : ℕ) → IsCounter before.0.shapes m k j → st.word ≡ word_of before.0.shapes m k j → after.0 ≡ grown before.0 (op m k j st.first n))
+    × ((m k j : ℕ) → IsCounter before.0.shapes m k j → st.word ≡ word_of before.0.shapes m k j →
+    after.0 ≡ grown before.0 (op m k j st.first n))
 
 -- a load: what was found
 abbrev pub loaded : Step (Unit {0}) → Sat → ℕ → Sat → Type 0
@@ -78,7 +81,8 @@ fetched = Grows Add
 
 -- the lists of a view are the shares of one legal history, and no number stands there twice
 abbrev pub AreShares : List Part → Type 0
-AreShares parts = (history : List Entry) × IsLegal history × All (λ (p : Part). share p.number history ≡ p.ops) parts × ((number : ℕ) → times number parts ≤ 1)
+AreShares parts = (history : List Entry) × IsLegal history × All (λ (p : Part). share p.number history ≡ p.ops) parts ×
+    ((number : ℕ) → times number parts ≤ 1)
 
 -- a look: the view stays, and its lists are shares of one legal history
 abbrev pub looked : Step (Unit {0}) → Sat → ℕ → Sat → Type 0

@@ -35,7 +35,9 @@ impl Model for Counters {
 
     ghost view = { λ c. record { table = c.table.shared.table_id; shapes = c.plan.shapes.items; seats = c.plan.seats } };
 
-    ghost invariant = { λ c. (c.table.shared.key ≡ c.plan) × (length c.plan.shapes.items ≤ 4) × (c.table.shared.table_id.words ≡ 1 + total c.plan.shapes.items) × (c.table.shared.table_id.slots ≡ 0) × (c.room.shapes ≡ c.plan.shapes.items) × (0 < c.plan.seats) };
+    ghost invariant = { λ c. (c.table.shared.key ≡ c.plan) × (length c.plan.shapes.items ≤ 4) ×
+        (c.table.shared.table_id.words ≡ 1 + total c.plan.shapes.items) × (c.table.shared.table_id.slots ≡ 0) ×
+        (c.room.shapes ≡ c.plan.shapes.items) × (0 < c.plan.seats) };
 }
 
 impl Counters {
@@ -108,7 +110,8 @@ impl Counters {
         requires every { (number : ℕ) → number < self.seats → Contains (map (λ s. s.number) seats.items) number }
         ensures shapes { result.shapes ≡ self.shapes }
         ensures history { Account seats.items result }
-        ensures sums { (m k j : ℕ) → IsCounter self.shapes m k j → total_at result m k j ≡ sum_by (λ s. sum_by (added m k j) s.ops) seats.items % 2 ^ 64 }
+        ensures sums { (m k j : ℕ) → IsCounter self.shapes m k j →
+            total_at result m k j ≡ sum_by (λ s. sum_by (added m k j) s.ops) seats.items % 2 ^ 64 }
     {
         let Counters {
             table,

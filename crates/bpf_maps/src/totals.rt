@@ -57,7 +57,8 @@ impl Totals {
         ensures answer { result ≡ total_at self.old m k j }
         ensures shapes { self.new.shapes ≡ self.old.shapes }
         ensures here { total_at self.new m k j ≡ (result + delta) % 2 ^ 64 }
-        ensures others { (a b c : ℕ) → IsCounter self.old.shapes a b c → ¬ ((a ≡ m) × (b ≡ k) × (c ≡ j)) → total_at self.new a b c ≡ total_at self.old a b c }
+        ensures others { (a b c : ℕ) → IsCounter self.old.shapes a b c → ¬ ((a ≡ m) × (b ≡ k) × (c ≡ j)) →
+            total_at self.new a b c ≡ total_at self.old a b c }
     {
         let place = layout::place(self.shapes.as_slice(), m, k, j);
         let old = self.values[place];
@@ -69,7 +70,8 @@ impl Totals {
     pub(crate) fn take_words(&mut self, closed: &Closed<(), Global>)
         requires { IsFull closed.now.words × (slots_len closed.now.words ≡ 1 + all self.old.shapes) }
         ensures shapes { self.new.shapes ≡ self.old.shapes }
-        ensures values { (i : ℕ) → i < all self.old.shapes → slice_index self.new.values i ≡ slice_index (slots_items closed.now.words) (i + 1) }
+        ensures values { (i : ℕ) → i < all self.old.shapes →
+            slice_index self.new.values i ≡ slice_index (slots_items closed.now.words) (i + 1) }
     {
         for i in 0..self.values.len() {
             self.values[i] = closed.word(i + 1);

@@ -1,5 +1,6 @@
 -- What is done to lists of bounds.
-use Rattle.std.specs.Prelude.{ℕ, suc, ◌≡◌, List, [], ◌∷◌, Bool, false, Option, None, Some, max, if◌then◌else◌, nat_lt, ◌==◌, ◌||◌, not, is_some}
+use Rattle.std.specs.Prelude.{ℕ, suc, ◌≡◌, List, [], ◌∷◌, Bool, false, Option, None, Some, max, if◌then◌else◌, nat_lt, ◌==◌, ◌||◌}
+use Rattle.std.specs.Prelude.{not, is_some}
 use Rattle.bpf_note.specs.declared.bound.Bound.{Bound}
 use Rattle.bpf_note.specs.State.{put}
 use Rattle.bpf_note.specs.Join.{lesser}

@@ -34,7 +34,8 @@ SameChunks old new = (k : ℕ) → slice_index_or old k [] ≡ slice_index_or ne
 
 -- the chunks that both have are of the same fingerprints
 abbrev pub AlikeChunks : List (List Bound) → List (List Bound) → Type 0
-AlikeChunks xs ys = (k : ℕ) → k < length xs → k < length ys → fingerprint_of (slice_index_or xs k []) ≡ fingerprint_of (slice_index_or ys k [])
+AlikeChunks xs ys = (k : ℕ) → k < length xs → k < length ys →
+    fingerprint_of (slice_index_or xs k []) ≡ fingerprint_of (slice_index_or ys k [])
 
 -- what is said of one id is replaced, in its chunk
 pub record IsSetIn (old : List (List Bound)) (b : Bound) (new : List (List Bound)) : Type 0 where

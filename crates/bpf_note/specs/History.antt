@@ -36,7 +36,8 @@ left_in m k j history = sum_by (λ (e : Entry). added m k j e.1) history % 2 ^ 6
 
 -- each operation found what those before it leave
 abbrev pub IsLegal : List Entry → Type 0
-IsLegal history = (i : ℕ) (e : Entry) → slice_get history i ≡ Some e → found e.1 ≡ left_in (map_of e.1) (value_of e.1) (counter_of e.1) (take i history)
+IsLegal history = (i : ℕ) (e : Entry) → slice_get history i ≡ Some e →
+    found e.1 ≡ left_in (map_of e.1) (value_of e.1) (counter_of e.1) (take i history)
 
 -- the operations of one number, in their order
 abbrev pub share : ℕ → List Entry → List Op

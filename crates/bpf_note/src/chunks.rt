@@ -81,7 +81,8 @@ impl Chunks {
 
     /// Whether the join of each chunk with the other's is the first.
     pub(crate) fn covers(&self, other: &Chunks) -> bool
-        ensures { IsTrue result ↔ ((k : ℕ) → AreJoined (slice_index_or self.now k []) (slice_index_or other.now k []) (slice_index_or self.now k [])) }
+        ensures { IsTrue result ↔ ((k : ℕ) → AreJoined (slice_index_or self.now k []) (slice_index_or other.now k [])
+            (slice_index_or self.now k [])) }
     {
         covers_chunks(self.as_slice(), other.as_slice())
     }
@@ -89,7 +90,8 @@ impl Chunks {
     /// The chunks joined one by one.
     pub(crate) fn joined(&self, alloc: Global, other: &Chunks) -> Result<Chunks, AllocError>
         ensures size { IfOk result (λ s. length s ≤ max (length self.now) (length other.now)) }
-        ensures joined { IfOk result (λ s. (k : ℕ) → AreJoined (slice_index_or self.now k []) (slice_index_or other.now k []) (slice_index_or s k [])) }
+        ensures joined { IfOk result (λ s. (k : ℕ) →
+            AreJoined (slice_index_or self.now k []) (slice_index_or other.now k []) (slice_index_or s k [])) }
     {
         if self.list.is_none() && other.list.is_none() {
             return Ok(Chunks::none());
@@ -177,7 +179,8 @@ fn grow(chunks: &mut Vec<Chunk>, size: usize) -> Result<(), AllocError>
 /// The chunks joined one by one.
 fn join_chunks(alloc: Global, a: &[Chunk], b: &[Chunk]) -> Result<Vec<Chunk>, AllocError>
     ensures size { IfOk result (λ v. length v.items ≡ max (length a.now) (length b.now)) }
-    ensures joined { IfOk result (λ v. (k : ℕ) → AreJoined (slice_index_or a.now k []) (slice_index_or b.now k []) (slice_index_or v.items k [])) }
+    ensures joined { IfOk result (λ v. (k : ℕ) → AreJoined (slice_index_or a.now k []) (slice_index_or b.now k [])
+        (slice_index_or v.items k [])) }
 {
     let size = a.len().max(b.len());
     let mut joined = Vec::with_capacity(alloc, size)?;

@@ -125,7 +125,8 @@ fn and(a: bool, b: bool) -> bool
 }
 
 fn join_registers(a: &mut [Val; 11], b: &[Val; 11])
-    ensures { (k : ℕ) → slice_index_or a.new k Val.Unset ≡ joined_value (slice_index_or a.old k Val.Unset) (slice_index_or b.now k Val.Unset) }
+    ensures { (k : ℕ) → slice_index_or a.new k Val.Unset
+        ≡ joined_value (slice_index_or a.old k Val.Unset) (slice_index_or b.now k Val.Unset) }
 {
     for i in 0..11 {
         a[i] = join_value(a[i], b[i]);
@@ -145,7 +146,8 @@ fn join_stacks(a: &mut [Slot; 64], b: &[Slot; 64], floor: usize)
 
 /// Whether each register of the first is the join of the two.
 fn covers_registers(a: &[Val; 11], b: &[Val; 11]) -> bool
-    ensures { IsTrue result ↔ ((k : ℕ) → joined_value (slice_index_or a.now k Val.Unset) (slice_index_or b.now k Val.Unset) ≡ slice_index_or a.now k Val.Unset) }
+    ensures { IsTrue result ↔ ((k : ℕ) → joined_value (slice_index_or a.now k Val.Unset) (slice_index_or b.now k Val.Unset)
+        ≡ slice_index_or a.now k Val.Unset) }
 {
     for i in 0..11 {
         if !covers_value(a[i], b[i]) {
@@ -189,7 +191,8 @@ fn covers_slot(a: Slot, b: Slot) -> bool
 
 /// Whether the bytes that are set on both sides are those of the first.
 fn covers_bytes(a: &[bool; 8], b: &[bool; 8]) -> bool
-    ensures { IsTrue result ↔ ((k : ℕ) → k < 8 → (slice_index_or a.now k false && slice_index_or b.now k false) ≡ slice_index_or a.now k false) }
+    ensures { IsTrue result ↔ ((k : ℕ) → k < 8 → (slice_index_or a.now k false && slice_index_or b.now k false)
+        ≡ slice_index_or a.now k false) }
 {
     both(*a, *b) == *a
 }

@@ -2,7 +2,8 @@
 use Rattle.std.specs.Prelude.{ℕ, ◌≡◌, ◌<◌, ◌⊎◌, List, ◌∷◌, ◌++◌, length, Some, true, false, slice_get, Contains}
 use Rattle.bpf_insn.specs.declared.insn.Insn.{Insn}
 use Rattle.bpf_insn.specs.declared.refusal.Cause.{Cause}
-use Rattle.bpf_insn.specs.declared.refusal.Cause.TheVariants.{Memory, Target, BackJump, End, Unset, FramePointer, NoPointer, Packet, Stack, Context, MayBeNull, MapAccess, Helper, MapNumber, Argument}
+use Rattle.bpf_insn.specs.declared.refusal.Cause.TheVariants.{Memory, Target, BackJump, End, Unset, FramePointer, NoPointer, Packet}
+use Rattle.bpf_insn.specs.declared.refusal.Cause.TheVariants.{Stack, Context, MayBeNull, MapAccess, Helper, MapNumber, Argument}
 use Rattle.bpf_note.specs.Shape.{Shape}
 use Rattle.bpf_note.specs.Facts.{Facts}
 use Rattle.bpf_flow.specs.Graph.{reads}
@@ -24,7 +25,8 @@ abbrev pub IsFault : List Insn → ℕ → ℕ → Insn → Cause → Type 0
 IsFault code maps pc i Target = misses_target code pc (jump_of i) ≡ true
 IsFault code maps pc i BackJump = (misses_target code pc (jump_of i) ≡ false) × ClosesCycle code pc
 IsFault code maps pc i End = (misses_target code pc (jump_of i) ≡ false) × (ClosesCycle code pc → ⊥) × (runs_off code pc i ≡ true)
-IsFault code maps pc i MapNumber = (misses_target code pc (jump_of i) ≡ false) × (ClosesCycle code pc → ⊥) × (runs_off code pc i ≡ false) × (lacks_map maps i ≡ true)
+IsFault code maps pc i MapNumber = (misses_target code pc (jump_of i) ≡ false) × (ClosesCycle code pc → ⊥) ×
+    (runs_off code pc i ≡ false) × (lacks_map maps i ≡ true)
 IsFault code maps pc i cause = ⊥
 
 -- nothing is wrong with the structure of any slot, reached or not

@@ -1,5 +1,6 @@
 -- What the second pass knows at each slot: lists of at most eight notes, as they arrive along the edges into it.
-use Rattle.std.specs.Prelude.{ℕ, ◌≡◌, ◌<◌, List, [], ◌∷◌, ◌++◌, length, Option, None, Some, ◌==◌, ◌⊎◌, slice_get, if◌then◌else◌, Contains, Ok, Err}
+use Rattle.std.specs.Prelude.{ℕ, ◌≡◌, ◌<◌, List, [], ◌∷◌, ◌++◌, length, Option, None, Some, ◌==◌, ◌⊎◌, slice_get, if◌then◌else◌}
+use Rattle.std.specs.Prelude.{Contains, Ok, Err}
 use Rattle.bpf_insn.specs.declared.insn.Insn.{Insn}
 use Rattle.bpf_insn.specs.declared.refusal.Cause.{Cause}
 use Rattle.bpf_note.specs.Shape.{Shape}
@@ -14,7 +15,8 @@ use Rattle.bpf_flow.specs.Gives.{WantsMemory}
 pub data Arrives (ns : List Facts) (n : Facts) : List Facts → Type 0 where
   dropped : Contains ns n → Arrives ns n ns
   appended : (Contains ns n → ⊥) → length ns < 8 → Arrives ns n (ns ++ n ∷ [])
-  merged : (first : List Facts) (eighth : Facts) → (Contains ns n → ⊥) → length first ≡ 7 → ns ≡ first ++ eighth ∷ [] → Arrives ns n (first ++ joined eighth n ∷ [])
+  merged : (first : List Facts) (eighth : Facts) → (Contains ns n → ⊥) → length first ≡ 7 → ns ≡ first ++ eighth ∷ [] →
+      Arrives ns n (first ++ joined eighth n ∷ [])
 
 -- those of the edges that lead to slot q come to its list, one after another
 abbrev pub Hears : List Facts → ℕ → Edges → List Facts → Type 0
@@ -41,7 +43,8 @@ told code shapes p (n ∷ ns) = allowed (rule_at code shapes p n) ++ told code s
 -- what slot q has heard, having begun with ns, from these slots in turn, at which the notes stand
 abbrev pub Gathers : List Insn → List Shape → (ℕ → List Facts) → ℕ → List Facts → List ℕ → List Facts → Type 0
 Gathers code shapes notes q ns [] r = ns ≡ r
-Gathers code shapes notes q ns (p ∷ ps) r = (m : List Facts) × Hears ns q (told code shapes p (notes p)) m × Gathers code shapes notes q m ps r
+Gathers code shapes notes q ns (p ∷ ps) r = (m : List Facts) × Hears ns q (told code shapes p (notes p)) m ×
+    Gathers code shapes notes q m ps r
 
 -- at the first slot stands what is known at the entry
 abbrev pub first_notes : ℕ → List Facts
@@ -60,7 +63,8 @@ AreAllowed code shapes pc (n ∷ ns) = ((es : Edges) × (rule_at code shapes pc 
 -- takes memory
 abbrev pub TakesMemory : List Insn → List Shape → ℕ → List Facts → Type 0
 TakesMemory code shapes pc [] = ⊥
-TakesMemory code shapes pc (n ∷ ns) = WantsMemory (rule_at code shapes pc n) ⊎ (((es : Edges) × (rule_at code shapes pc n ≡ Ok es)) × TakesMemory code shapes pc ns)
+TakesMemory code shapes pc (n ∷ ns) = WantsMemory (rule_at code shapes pc n) ⊎
+    (((es : Edges) × (rule_at code shapes pc n ≡ Ok es)) × TakesMemory code shapes pc ns)
 
 -- the rule refuses the list's first note that it refuses with this cause
 abbrev pub IsFirstCause : List Insn → List Shape → ℕ → List Facts → Cause → Type 0

@@ -10,4 +10,5 @@ pub record IsReady (Edge : ℕ → ℕ → Type 0) (In : ℕ → Type 0) (taken 
 -- each slot was the lowest that was ready as it was taken
 pub data Takes (Edge : ℕ → ℕ → Type 0) (In : ℕ → Type 0) : List ℕ → Type 0 where
   none : Takes Edge In []
-  more : {taken : List ℕ} {p : ℕ} → Takes Edge In taken → IsReady Edge In taken p → ((q : ℕ) → IsReady Edge In taken q → p ≤ q) → Takes Edge In (taken ++ p ∷ [])
+  more : {taken : List ℕ} {p : ℕ} → Takes Edge In taken → IsReady Edge In taken p → ((q : ℕ) → IsReady Edge In taken q → p ≤ q) →
+      Takes Edge In (taken ++ p ∷ [])

@@ -1,5 +1,6 @@
 -- The structure of a program: where its jumps land, what follows its instructions, which maps it names.
-use Rattle.std.specs.Prelude.{ℕ, ℤ, List, length, Option, None, Some, Bool, true, false, not, is_none, if◌then◌else◌, nat_lt, nat_le, slice_get}
+use Rattle.std.specs.Prelude.{ℕ, ℤ, List, length, Option, None, Some, Bool, true, false, not, is_none, if◌then◌else◌, nat_lt}
+use Rattle.std.specs.Prelude.{nat_le, slice_get}
 use Rattle.bpf_insn.specs.declared.insn.Insn.{Insn}
 use Rattle.bpf_insn.specs.declared.insn.Insn.TheVariants.{MapRef, Ja, Jump, Exit, Second}
 use Rattle.bpf_flow.specs.Step.{target}

@@ -1,5 +1,6 @@
 -- How many edges lead to a slot from slots that aren't taken.
-use Rattle.std.specs.Prelude.{ℕ, zero, suc, ◌+◌, ◌≡◌, ◌<◌, ◌⊎◌, List, length, Option, None, Some, Bool, true, if◌then◌else◌, ◌==◌, slice_index, Contains, count_by}
+use Rattle.std.specs.Prelude.{ℕ, zero, suc, ◌+◌, ◌≡◌, ◌<◌, ◌⊎◌, List, length, Option, None, Some, Bool, true, if◌then◌else◌, ◌==◌}
+use Rattle.std.specs.Prelude.{slice_index, Contains, count_by}
 use Rattle.bpf_insn.specs.declared.insn.Insn.{Insn}
 use Rattle.bpf_verify.specs.Edges.{Edge}
 use Rattle.bpf_verify.specs.Ways.{fall_to, jump_to}

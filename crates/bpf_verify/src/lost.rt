@@ -1,5 +1,6 @@
 //! Where a register was an address last.
-ghost use Rattle.std.specs.Prelude.{◌≡◌, ◌<◌, ◌≤◌, ◌↔◌, ℕ, List, true, length, map, slice_get, IsTrue, IfOk, IfErr, IfSome, IfNone, Contains};
+ghost use Rattle.std.specs.Prelude.{◌≡◌, ◌<◌, ◌≤◌, ◌↔◌, ℕ, List, true, length, map, slice_get, IsTrue, IfOk, IfErr, IfSome, IfNone};
+ghost use Rattle.std.specs.Prelude.{Contains};
 ghost use Rattle.bpf_insn.specs.Code.{IsCode};
 ghost use Rattle.bpf_insn.specs.Register.{number};
 ghost use Rattle.bpf_insn.specs.declared.refusal.Cause.TheVariants.{Memory};
@@ -125,7 +126,8 @@ fn first_lost(
     requires begins { begins (slice_get code.now at) ≡ true }
     ensures there { IfOk result (λ o. IfSome o (λ n. Contains (map (λ b. facts b.value) notes.items) (facts n))) }
     ensures loses { IfOk result (λ o. IfSome o (λ n. Loses code.now shapes.now at (number register) (facts n))) }
-    ensures none { IfOk result (λ o. IfNone o ((n : Facts) → Contains (map (λ b. facts b.value) notes.items) n → Loses code.now shapes.now at (number register) n → ⊥)) }
+    ensures none { IfOk result (λ o. IfNone o ((n : Facts) → Contains (map (λ b. facts b.value) notes.items) n →
+        Loses code.now shapes.now at (number register) n → ⊥)) }
     ensures err { IfErr result (λ c. c ≡ Memory) }
 {
     for (i, note) in notes.iter().enumerate() {

@@ -1,5 +1,6 @@
 //! The second pass: what is known at each slot that the flow graph reaches.
-ghost use Rattle.std.specs.Prelude.{◌≡◌, ◌≢◌, ◌<◌, ◌∷◌, [], ℕ, List, true, length, slice_get, vec_len, Ok, OnErr, OnOk, IfOk, IfErr, IsSome, IfSome, IfNone, ◌↔◌, map};
+ghost use Rattle.std.specs.Prelude.{◌≡◌, ◌≢◌, ◌<◌, ◌∷◌, [], ℕ, List, true, length, slice_get, vec_len, Ok, OnErr, OnOk, IfOk};
+ghost use Rattle.std.specs.Prelude.{IfErr, IsSome, IfSome, IfNone, ◌↔◌, map};
 ghost use Rattle.bpf_insn.specs.Code.{IsCode};
 ghost use Rattle.bpf_insn.specs.declared.refusal.Cause.TheVariants.{Memory};
 ghost use Rattle.bpf_flow.specs.Causes.{IsRuleCause};
@@ -33,7 +34,8 @@ fn tell(
 ) -> Result<(), AllocError>
     requires { pc < vec_len table.old }
     ensures size { OnOk result (vec_len table.new ≡ vec_len table.old) }
-    ensures hears { OnOk result ((q : ℕ) → Hears (facts_at table.old.items q) q ((pc, facts note.value) ∷ []) (facts_at table.new.items q)) }
+    ensures hears { OnOk result ((q : ℕ) → Hears (facts_at table.old.items q) q ((pc, facts note.value) ∷ [])
+        (facts_at table.new.items q)) }
 {
     table[pc as usize].arrive(alloc, note)
 }
@@ -47,7 +49,8 @@ fn spread(
 ) -> Result<(), AllocError>
     requires { LeadInside (edges_along ways (facts note.value)) (vec_len table.old) }
     ensures size { OnOk result (vec_len table.new ≡ vec_len table.old) }
-    ensures hears { OnOk result ((q : ℕ) → Hears (facts_at table.old.items q) q (edges_along ways (facts note.value)) (facts_at table.new.items q)) }
+    ensures hears { OnOk result ((q : ℕ) → Hears (facts_at table.old.items q) q (edges_along ways (facts note.value))
+        (facts_at table.new.items q)) }
     ensures err { OnErr result (WantsMemory (Ok (edges_along ways (facts note.value)))) }
 {
     match ways {
@@ -75,7 +78,8 @@ fn follow_note(
     requires begins { begins (slice_get code.now pc) ≡ true }
     requires size { vec_len table.old ≡ length code.now }
     ensures size { OnOk result (vec_len table.new ≡ length code.now) }
-    ensures hears { OnOk result ((es : Edges) × (rule_at code.now shapes.now pc (facts note.value) ≡ Ok es) × ((q : ℕ) → Hears (facts_at table.old.items q) q es (facts_at table.new.items q))) }
+    ensures hears { OnOk result ((es : Edges) × (rule_at code.now shapes.now pc (facts note.value) ≡ Ok es) ×
+        ((q : ℕ) → Hears (facts_at table.old.items q) q es (facts_at table.new.items q))) }
     ensures slot { IfErr result (λ s. s.refusal.pc ≡ pc) }
     ensures err { IfErr result (λ s. Fails s.refusal.cause (rule_at code.now shapes.now pc (facts note.value))) }
     ensures there { IfErr result (λ s. IsSome s.note ↔ IsRuleCause s.refusal.cause) }
@@ -104,12 +108,15 @@ fn follow(
     requires begins { begins (slice_get code.now pc) ≡ true }
     requires size { vec_len table.old ≡ length code.now }
     ensures size { OnOk result (vec_len table.new ≡ length code.now) }
-    ensures hears { OnOk result ((q : ℕ) → q ≢ pc → Hears (facts_at table.old.items q) q (told code.now shapes.now pc (facts_at table.old.items pc)) (facts_at table.new.items q)) }
+    ensures hears { OnOk result ((q : ℕ) → q ≢ pc →
+        Hears (facts_at table.old.items q) q (told code.now shapes.now pc (facts_at table.old.items pc)) (facts_at table.new.items q)) }
     ensures allowed { OnOk result (AreAllowed code.now shapes.now pc (facts_at table.old.items pc)) }
     ensures slot { IfErr result (λ s. s.refusal.pc ≡ pc) }
-    ensures err { IfErr result (λ s. IsMet s.refusal.cause (TakesMemory code.now shapes.now pc (facts_at table.old.items pc)) (IsFirstCause code.now shapes.now pc (facts_at table.old.items pc) s.refusal.cause)) }
+    ensures err { IfErr result (λ s. IsMet s.refusal.cause (TakesMemory code.now shapes.now pc (facts_at table.old.items pc))
+        (IsFirstCause code.now shapes.now pc (facts_at table.old.items pc) s.refusal.cause)) }
     ensures there { IfErr result (λ s. IsSome s.note ↔ IsRuleCause s.refusal.cause) }
-    ensures note { IfErr result (λ s. IfSome s.note (λ n. IsFirstRefused code.now shapes.now pc (facts_at table.old.items pc) s.refusal.cause (facts n.value))) }
+    ensures note { IfErr result (λ s. IfSome s.note
+        (λ n. IsFirstRefused code.now shapes.now pc (facts_at table.old.items pc) s.refusal.cause (facts n.value))) }
 {
     let notes = mem::replace(&mut table[pc as usize], NoteList::empty(alloc)).into_notes();
     for note in notes {

@@ -27,7 +27,8 @@ pub data AreCopied (w : Wiring) : State → List Event → List Kept → List (L
   idle : (s mid end : State) (t more front : List Event) (ks : List Kept) (copies : List (List ℕ)) →
       s.halt ≡ None → IsTurn w s t mid Idle → AreCopied w mid more ks copies end front →
       AreCopied w s (t ++ more) (kept.Idle ∷ ks) copies end front
-  copied : (s mid end : State) (t more front : List Event) (u : Turned) (k : Kept) (ks : List Kept) (copy : List ℕ) (out : Left) (copies : List (List ℕ)) →
+  copied : (s mid end : State) (t more front : List Event) (u : Turned) (k : Kept) (ks : List Kept) (copy : List ℕ) (out : Left)
+      (copies : List (List ℕ)) →
       s.halt ≡ None → IsTurn w s t mid u → Keeps u k → HasCopied u → HasCopy w s t copy out → AreCopied w mid more ks copies end front →
       AreCopied w s (t ++ more) (k ∷ ks) (copy ∷ copies) end front
 
@@ -43,9 +44,11 @@ pub data IsLast (w : Wiring) (s : State) (front : List Event) : List (List ℕ) 
   nothing : IsLast w s front []
   sends_back : (copy : List ℕ) (out : Left) → HasCopy w s front copy out → out.number ≡ 3 → IsLast w s front (out.packet ∷ [])
 
--- The turns' copies are a beginning of what was sent, in order and once each; what was received is a beginning of what the turns sent back and
+-- The turns' copies are a beginning of what was sent, in order and once each; what was received is a beginning of what the turns
+-- sent back and
 -- an unfinished turn's run gave, in order and once each. `end` is the state after the last turn.
-pub record Delivers (w : Wiring) (start : ℕ) (events : List Event) (turns : List Kept) (end : State) (sent received : List (List ℕ)) : Type 0 where
+pub record Delivers (w : Wiring) (start : ℕ) (events : List Event) (turns : List Kept) (end : State)
+    (sent received : List (List ℕ)) : Type 0 where
   pub copies : List (List ℕ)
   pub front : List Event
   pub copied : AreCopied w (started_at start) events turns copies end front

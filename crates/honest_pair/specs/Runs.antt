@@ -35,7 +35,8 @@ AllBytes (e ∷ es) = IsBytes e × AllBytes es
 pub record HasDone (old new : Held) (es : List PairEvent) : Type 0 where
   pub bytes : AllBytes es
   pub does : (bw : BackWiring) (fw : FrontWiring) (p : Pair) → Shows bw fw old p →
-      (given : List (PairEvent × ℕ)) × GoWith es given × Shows bw fw new (run bw fw p given) × GoesOn old.world new.world (back_events bw fw p given)
+      (given : List (PairEvent × ℕ)) × GoWith es given × Shows bw fw new (run bw fw p given) ×
+      GoesOn old.world new.world (back_events bw fw p given)
       × Follows bw p (run bw fw p given) (back_events bw fw p given)
 
 -- The run of a pair through these events. `events` are they with the numbers that answered the counters' operations.

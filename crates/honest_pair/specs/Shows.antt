@@ -1,5 +1,6 @@
 -- What a pair of the code stands for.
-use Rattle.std.specs.Prelude.{ℕ, ◌≡◌, ◌<◌, ◌^◌, ◌++◌, Bool, true, false, List, [], ◌∷◌, length, map, slice_index_or, slice_get, Option, Some, None}
+use Rattle.std.specs.Prelude.{ℕ, ◌≡◌, ◌<◌, ◌^◌, ◌++◌, Bool, true, false, List, [], ◌∷◌, length, map, slice_index_or, slice_get}
+use Rattle.std.specs.Prelude.{Option, Some, None}
 use Rattle.std.specs.Global.{Vec}
 use Rattle.xen_steps.specs.Event.{Event}
 use Rattle.xen_steps.specs.Steps.{Steps, done, ask, never, bind}
@@ -16,7 +17,8 @@ use Rattle.xen_front.specs.declared.state.State.{State as FrontState}
 use Rattle.pair_machine.specs.Halves.{Half, Over, HasRun, second_half}
 use Rattle.pair_machine.specs.Law.{IsBytes}
 use Rattle.pair_machine.specs.Log.{back_event}
-use Rattle.pair_machine.specs.Pair.{Activity, Free, Sending, Posting, Polling, BackAt, Asleep, First, Second, Pair, PairEvent, Past, packets_of, step}
+use Rattle.pair_machine.specs.Pair.{Activity, Free, Sending, Posting, Polling, BackAt, Asleep, First, Second, Pair, PairEvent, Past}
+use Rattle.pair_machine.specs.Pair.{packets_of, step}
 use Rattle.pair_machine.specs.Traces.{Follows}
 use Rattle.xdp_world.specs.Entries.{Entry, events_of}
 use Rattle.xdp_world.specs.Keeping.{Keeps}

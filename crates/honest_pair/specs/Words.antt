@@ -13,7 +13,8 @@ words_at words at = if nat_lt at.word 1024 then get_or words (1024 * at.frame + 
 -- a new ring's header is written, in a frame
 abbrev pub opened : (frame start : ℕ) → (Place → ℕ) → Place → ℕ
 opened frame start word =
-    put (put (put (put word (page_word frame 0) start) (page_word frame 1) (add32 start 1)) (page_word frame 2) start) (page_word frame 3) (add32 start 1)
+    put (put (put (put word (page_word frame 0) start) (page_word frame 1) (add32 start 1)) (page_word frame 2) start)
+    (page_word frame 3) (add32 start 1)
 
 abbrev pub empty_memory : Memory
 empty_memory = record { word = (λ at. 0); pending = false }

@@ -13,27 +13,33 @@ use Rattle.pair_laws.specs.Joined.{Joined}
 use Rattle.pair_laws.specs.Laid.{Laid}
 use Rattle.pair_machine.specs.Memory.{Memory}
 
--- Whatever the front does between its events, a turn keeps the invariant, is never halted, copies the next packet, and is Ran, or Refused 6.
+-- Whatever the front does between its events, a turn keeps the invariant, is never halted, copies the next packet, and is Ran, or
+-- Refused 6.
 abbrev pub BackLaw : Type 0
 BackLaw = (w : Wiring) (start : ℕ) → start < 2 ^ 32 → Laid w → (v : BackWiring) → Joined w v → Programmed v →
-    (s : State) (copies given : List (List ℕ)) (b : Back) → Ready start s copies given b → BackSafe w start (GivenAll given) (HalfEnd w start v s copies given) b (half_turn v s)
+    (s : State) (copies given : List (List ℕ)) (b : Back) → Ready start s copies given b →
+    BackSafe w start (GivenAll given) (HalfEnd w start v s copies given) b (half_turn v s)
 
 -- awake
 abbrev pub woken : Back → Back
 woken b = record b { asleep = false }
 
 abbrev pub WakeLaw : Type 0
-WakeLaw = (w : Wiring) (start : ℕ) (s : State) (copies given : List (List ℕ)) (b : Back) (m : Memory) (f : Front) → Slept start s copies given b → Inv w start m f b →
+WakeLaw = (w : Wiring) (start : ℕ) (s : State) (copies given : List (List ℕ)) (b : Back) (m : Memory) (f : Front) →
+    Slept start s copies given b → Inv w start m f b →
     Inv w start (record m { pending = false }) f (woken b) × Ready start s copies given (woken b)
 
 -- what is answered is a beginning of what was sent
 abbrev pub PrefixLaw : Type 0
-PrefixLaw = (w : Wiring) (start : ℕ) (m : Memory) (f : Front) (b : Back) → Inv w start m f b → (more : List (List ℕ)) × (bytes_in f.sent ≡ bytes_in b.done ++ more)
+PrefixLaw = (w : Wiring) (start : ℕ) (m : Memory) (f : Front) (b : Back) → Inv w start m f b → (more : List (List ℕ)) ×
+    (bytes_in f.sent ≡ bytes_in b.done ++ more)
 
 abbrev pub GivenLaw : Type 0
-GivenLaw = (w : Wiring) (start : ℕ) (m : Memory) (f : Front) (b : Back) → Inv w start m f b → (more : List (List ℕ)) × (bytes_in b.given ≡ bytes_in f.rx_told ++ more)
+GivenLaw = (w : Wiring) (start : ℕ) (m : Memory) (f : Front) (b : Back) → Inv w start m f b → (more : List (List ℕ)) ×
+    (bytes_in b.given ≡ bytes_in f.rx_told ++ more)
 
 -- a back that sleeps and isn't woken has seen all, where no push of the front is open
 abbrev pub HeardLaw : Type 0
-HeardLaw = (w : Wiring) (start : ℕ) (m : Memory) (f : Front) (b : Back) (s : State) (copies given : List (List ℕ)) → Slept start s copies given b → Inv w start m f b →
+HeardLaw = (w : Wiring) (start : ℕ) (m : Memory) (f : Front) (b : Back) (s : State) (copies given : List (List ℕ)) →
+    Slept start s copies given b → Inv w start m f b →
     m.pending ≡ false → f.window ≡ None → m.word (page_word w.tx_frame 0) ≡ s.tx_index

@@ -15,7 +15,20 @@ use Rattle.pair_laws.specs.Ghosts.{IsSent, Sent, Back, slots, bytes_in}
 -- a back that is awake: so many slots of the packets ahead are read, and so many of them are answered
 abbrev pub working : (d a : List Sent) → (used wrote : ℕ) → List Sent → List ℕ → ℕ → Back
 working d a used wrote g rs e =
-    record { done = d; ahead = a; used = used; given = g; rx_used = 0; rx_seen = rs; wrote = wrote; giving = []; filled = 0; rx_wrote = 0; event = e; asleep = false }
+    record {
+      done = d;
+      ahead = a;
+      used = used;
+      given = g;
+      rx_used = 0;
+      rx_seen = rs;
+      wrote = wrote;
+      giving = [];
+      filled = 0;
+      rx_wrote = 0;
+      event = e;
+      asleep = false;
+    }
 
 -- between turns
 abbrev pub resting : (d a : List Sent) → List Sent → List ℕ → ℕ → Back
@@ -23,7 +36,20 @@ resting d a g rs e = working d a 0 0 g rs e
 
 abbrev pub slept : (d : List Sent) → List Sent → List ℕ → Back
 slept d g rs =
-    record { done = d; ahead = []; used = 0; given = g; rx_used = 0; rx_seen = rs; wrote = 0; giving = []; filled = 0; rx_wrote = 0; event = length (slots d) + 1; asleep = true }
+    record {
+      done = d;
+      ahead = [];
+      used = 0;
+      given = g;
+      rx_used = 0;
+      rx_seen = rs;
+      wrote = 0;
+      giving = [];
+      filled = 0;
+      rx_wrote = 0;
+      event = length (slots d) + 1;
+      asleep = true;
+    }
 
 -- the queue's state says how much is done, and isn't halted
 pub record Between (start : ℕ) (d g : List Sent) (s : State) : Type 0 where

@@ -39,8 +39,8 @@ module _ (w : Wiring) (start : ℕ) where
     pub frame : x (frame_place (grant_place w b)) ≡ b.frame
     pub flags : x (grant_place w b) ≡ joined kind w.back
 
-  -- The tx ring's slots from the first response that isn't taken on: responses up to `written`, slots that the back has read, slots that it hasn't.
-  -- Up to `answered` they are published.
+  -- The tx ring's slots from the first response that isn't taken on: responses up to `written`, slots that the back has read,
+  -- slots that it hasn't. Up to `answered` they are published.
   pub record TxSlots (x : Place → ℕ) (l : List Piece) (taken answered written read : ℕ) : Type 0 where
     pub requests : (n j : ℕ) → read ≤ n → n < length l → j < 3 → x (tx_at n j) ≡ get_or (tx_words (piece l n)) j 0
     pub grants : (n : ℕ) → answered ≤ n → n < length l → IsLent x (tx_buffer (piece l n).id) 5
@@ -48,8 +48,9 @@ module _ (w : Wiring) (start : ℕ) where
         x (page_word (tx_buffer (piece l n).id).frame j) ≡ word_at (piece l n).bytes (4096 * (piece l n).k + 4 * j)
     pub responses : (n : ℕ) → taken ≤ n → n < written → low (x (tx_at n 0)) ≡ (piece l n).id
 
-  -- The rx ring's, with the ids of all posts. `l` is the pieces of all packets that are given, and of the one that is being written, of which
-  -- `filled` words stand in the pages; `written` words of responses do, two each. Up to `given` they are published.
+  -- The rx ring's, with the ids of all posts. `l` is the pieces of all packets that are given, and of the one that is being
+  -- written, of which `filled` words stand in the pages; `written` words of responses do, two each. Up to `given` they are
+  -- published.
   pub record RxSlots (x : Place → ℕ) (posts : List ℕ) (l : List Piece) (got given read written filled : ℕ) : Type 0 where
     pub requests : (n j : ℕ) → read ≤ n → n < length posts → j < 2 →
         x (rx_at n j) ≡ get_or (rx_req_words (record { id = id_at posts n; gref = (rx_buffer (id_at posts n)).gref })) j 0
@@ -97,7 +98,8 @@ module _ (w : Wiring) (start : ℕ) where
   -- the page of a response that was taken stands as long as it is read
   pub record Reading (x : Place → ℕ) (f : Front) (s : Piece) : Type 0 where
     pub id : s.id < 256
-    pub page : (j : ℕ) → j < 1024 → 1024 * s.k + j < words s.bytes → x (page_word (rx_buffer s.id).frame j) ≡ word_of s.bytes (1024 * s.k + j)
+    pub page : (j : ℕ) → j < 1024 → 1024 * s.k + j < words s.bytes →
+        x (page_word (rx_buffer s.id).frame j) ≡ word_of s.bytes (1024 * s.k + j)
     pub apart : (n : ℕ) → f.got ≤ n → n < length f.posts → id_at f.posts n ≡ s.id → ⊥
 
   -- an id that is in no slot and no post in flight
@@ -131,7 +133,8 @@ module _ (w : Wiring) (start : ℕ) where
     pub tx_slots : TxSlots m.word (slots f.sent) f.taken (tx_answered b) (tx_answered b + b.wrote) (tx_answered b + b.used)
     pub rx : RxCounts f b.given b.giving b.rx_used b.rx_seen
     pub rx_head : RxHead m.word (length f.posts) (rx_given b)
-    pub rx_slots : RxSlots m.word f.posts (slots (b.given ++ b.giving)) f.got (rx_given b) (rx_given b + b.rx_used) (2 * rx_given b + b.rx_wrote) b.filled
+    pub rx_slots : RxSlots m.word f.posts (slots (b.given ++ b.giving)) f.got (rx_given b) (rx_given b + b.rx_used)
+        (2 * rx_given b + b.rx_wrote) b.filled
     pub reading : (s : Piece) → f.reading ≡ Some s → Reading m.word f s
     pub front_notes : FrontNotes m.word f
     pub heard : b.asleep ≡ true → Heard m f b

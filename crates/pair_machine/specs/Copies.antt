@@ -11,5 +11,6 @@ use Rattle.pair_machine.specs.Halves.{HasRun, half_turn}
 
 -- The events of a first half that ends in a run are a look, the reads of a chain, the copy of this packet, and the program's run on it.
 abbrev pub RunsHaveCopies : Type 0
-RunsHaveCopies = (w : Wiring) (s : State) (t : List Event) (slots : List Slot) (packet : List ℕ) (left : Left) → Runs (half_turn w s) t (HasRun slots packet left) →
+RunsHaveCopies = (w : Wiring) (s : State) (t : List Event) (slots : List Slot) (packet : List ℕ) (left : Left) →
+    Runs (half_turn w s) t (HasRun slots packet left) →
     (r : Ran w s t slots left) × (r.packet ≡ packet)

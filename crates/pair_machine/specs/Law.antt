@@ -1,5 +1,6 @@
 -- What holds of every list of events of the pair.
-use Rattle.std.specs.Prelude.{ℕ, zero, suc, ◌≡◌, ◌<◌, ◌^◌, ◌==◌, if◌then◌else◌, Bool, true, false, List, [], ◌∷◌, ◌++◌, flat_map, length, Option, Some, None, All}
+use Rattle.std.specs.Prelude.{ℕ, zero, suc, ◌≡◌, ◌<◌, ◌^◌, ◌==◌, if◌then◌else◌, Bool, true, false, List, [], ◌∷◌, ◌++◌, flat_map}
+use Rattle.std.specs.Prelude.{length, Option, Some, None, All}
 use Rattle.bpf_verify.specs.Consistent.{Accepted, IsConsistent}
 use Rattle.xen_back.specs.Tree.{Left}
 use Rattle.xen_back.specs.Turned.{Turned, Idle, Ran, Refused, Halted}
@@ -18,7 +19,8 @@ use Rattle.xen_steps.specs.Steps.{Steps}
 -- The turns that aren't idle have these copies: each is Ran, or Refused for want of rx slots.
 pub data HaveCopies : List Past → List (List ℕ) → Type 0 where
   none : HaveCopies [] []
-  idle : (c : Option (List ℕ)) (ps : List Past) (copies : List (List ℕ)) → HaveCopies ps copies → HaveCopies (record { turn = Idle; copy = c } ∷ ps) copies
+  idle : (c : Option (List ℕ)) (ps : List Past) (copies : List (List ℕ)) → HaveCopies ps copies →
+      HaveCopies (record { turn = Idle; copy = c } ∷ ps) copies
   ran : (number : ℕ) (packet copy : List ℕ) (ops slots : ℕ) (ps : List Past) (copies : List (List ℕ)) → HaveCopies ps copies →
       HaveCopies (record { turn = Ran number packet ops slots; copy = Some copy } ∷ ps) (copy ∷ copies)
   few : (copy : List ℕ) (ops slots : ℕ) (ps : List Past) (copies : List (List ℕ)) → HaveCopies ps copies →
@@ -76,5 +78,6 @@ abbrev pub AreFit : List (PairEvent × ℕ) → Type 0
 AreFit es = All (λ (e : PairEvent × ℕ). IsBytes e.0 × (e.1 < 2 ^ 64)) es
 
 abbrev pub PairLaw : Type 0
-PairLaw = (accepted : Accepted) (bw : BackWiring) (fw : FrontWiring) (front : FrontState) (start : ℕ) → IsConsistent accepted → IsBack accepted bw → IsFront fw → IsNewFront front start → start < 2 ^ 32 →
+PairLaw = (accepted : Accepted) (bw : BackWiring) (fw : FrontWiring) (front : FrontState) (start : ℕ) → IsConsistent accepted →
+    IsBack accepted bw → IsFront fw → IsNewFront front start → start < 2 ^ 32 →
     (es : List (PairEvent × ℕ)) → AreFit es → Honest (run bw fw (opening front start) es)

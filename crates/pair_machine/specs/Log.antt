@@ -8,7 +8,8 @@ use Rattle.xen_steps.specs.declared.want.Want.TheVariants as want
 use Rattle.xen_back.specs.declared.wiring.Wiring.{Wiring as BackWiring}
 use Rattle.xen_buffers.specs.declared.wiring.Wiring.{Wiring as FrontWiring}
 use Rattle.pair_machine.specs.Memory.{Memory, answer, put}
-use Rattle.pair_machine.specs.Pair.{Activity, Free, Sending, Posting, Polling, BackAt, Asleep, First, Second, Pair, PairEvent, Send, Post, Poll, FrontStep, BackStep, step}
+use Rattle.pair_machine.specs.Pair.{Activity, Free, Sending, Posting, Polling, BackAt, Asleep, First, Second, Pair, PairEvent, Send}
+use Rattle.pair_machine.specs.Pair.{Post, Poll, FrontStep, BackStep, step}
 
 -- an event of the front, or of the back; or the back woke, and took what was pending
 pub data Logged : Type 0 where

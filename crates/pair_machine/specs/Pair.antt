@@ -1,5 +1,6 @@
 -- One front and one back over one memory, event by event. Each event goes with a number, which answers a load or an add of a counter.
-use Rattle.std.specs.Prelude.{ℕ, zero, suc, ◌+◌, Bool, true, false, List, [], ◌∷◌, ◌++◌, length, get_or, Option, Some, None, Result, Ok, Err, nat_lt}
+use Rattle.std.specs.Prelude.{ℕ, zero, suc, ◌+◌, Bool, true, false, List, [], ◌∷◌, ◌++◌, length, get_or, Option, Some, None, Result}
+use Rattle.std.specs.Prelude.{Ok, Err, nat_lt}
 use Rattle.xen_steps.specs.Steps.{Steps, done, ask, never}
 use Rattle.xen_back.specs.Tree.{Left, after_run}
 use Rattle.xen_back.specs.Turned.{Turned, Idle, Ran, Refused, Halted, Ending}
@@ -83,7 +84,8 @@ polling p never = record p { activity = Polling never }
 
 -- A front that is free takes a packet, posts a buffer or polls, unless the tests refuse it.
 abbrev pub send_result : FrontState → List ℕ → Result (Unit {0}) SendRefusal
-send_result s bytes = send_tests s.halt false (nat_lt (length bytes) 14) (nat_lt 65535 (length bytes)) (nat_lt (length (all_free s.tx.out)) (pieces_of (length bytes)))
+send_result s bytes = send_tests s.halt false (nat_lt (length bytes) 14) (nat_lt 65535 (length bytes))
+    (nat_lt (length (all_free s.tx.out)) (pieces_of (length bytes)))
 
 abbrev pub post_result : FrontState → Result (Unit {0}) PostRefusal
 post_result s = post_tests s.halt false (all_free s.rx.out)

@@ -13,7 +13,8 @@ use Rattle.pair_machine.specs.Halves.{HasRun, half_turn}
 use Rattle.xen_buffers.specs.declared.wiring.Wiring.{Wiring as FrontWiring}
 use Rattle.pair_machine.specs.Log.{back_event, event_by}
 use Rattle.pair_machine.specs.Memory.{Memory, answer}
-use Rattle.pair_machine.specs.Pair.{BackAt, Asleep, First, Second, Pair, PairEvent, Send, Post, Poll, FrontStep, BackStep, Past, new_back, step}
+use Rattle.pair_machine.specs.Pair.{BackAt, Asleep, First, Second, Pair, PairEvent, Send, Post, Poll, FrontStep, BackStep, Past}
+use Rattle.pair_machine.specs.Pair.{new_back, step}
 
 -- The trace begins with a look, the reads of a chain, the copy of this packet, and the program's run on it, which left `out`.
 pub record HasCopy (w : Wiring) (s : State) (t : List Event) (copy : List ℕ) (out : Left) : Type 0 where
@@ -77,4 +78,5 @@ StepIsAnswered p e n = Unit {0}
 
 -- Each event of the pair adds to the traces of its back's turns what the back does in it.
 abbrev pub TraceLaw : Type 0
-TraceLaw = (bw : Wiring) (fw : FrontWiring) (p : Pair) (e : PairEvent) (n : ℕ) → StepIsAnswered p e n → Follows bw p (step bw fw p e n) (back_event p e n)
+TraceLaw = (bw : Wiring) (fw : FrontWiring) (p : Pair) (e : PairEvent) (n : ℕ) → StepIsAnswered p e n →
+    Follows bw p (step bw fw p e n) (back_event p e n)

@@ -115,7 +115,8 @@ SpelledAnswer answer (Err f) said = said ≡ settings_refused (Refused f)
 
 -- the answer to settings; L0 where memory ran out while the settings, which are a text, were loaded
 abbrev pub SettingsAnswer : (SetupView → Said → Type 0) → List ℕ → Said → Type 0
-SettingsAnswer answer settings said = SpelledAnswer answer (setup_of settings) said ⊎ ((text_of settings ≢ None) × (said ≡ settings_refused Memory))
+SettingsAnswer answer settings said = SpelledAnswer answer (setup_of settings) said ⊎
+    ((text_of settings ≢ None) × (said ≡ settings_refused Memory))
 
 -- the settings are what the reader gave, up to its end or 1,048,577 bytes
 pub record IsSettings (old new : Option (List ℕ)) (settings : List ℕ) : Type 0 where
@@ -165,7 +166,8 @@ Reads (Some (pair turns h)) = Unit {0}
 -- the text is printed and the status given; or a write failed, the status is 4, and a beginning of the text is printed
 abbrev pub Prints : Option (List ℕ) → Option (List ℕ) → Said → ℕ → Type 0
 Prints held written said status =
-    ((status ≡ said.1) × Appends held written said.0) ⊎ ((status ≡ 4) × ((n : ℕ) × (n < length said.0) × Appends held written (take n said.0)))
+    ((status ≡ said.1) × Appends held written said.0) ⊎
+    ((status ≡ 4) × ((n : ℕ) × (n < length said.0) × Appends held written (take n said.0)))
 
 -- a call ends with its answer, out of memory, or as a read failed
 abbrev pub Ends : Option Wanted → Option (List ℕ) → Option (List ℕ) → Option (List ℕ) → Option (List ℕ) → ℕ → Type 0

@@ -10,7 +10,8 @@ place_text shape j = if shape.counters == 1 then [] else codes " " ++ decimal j
 -- the map's name, the key, the place and the number; a counter that is 0 has no line
 abbrev pub counter_text : List ℕ → Shape → ℕ → ℕ → ℕ → List ℕ
 counter_text name shape k j number =
-    if number == 0 then [] else codes "counter " ++ (name ++ (codes " " ++ (decimal k ++ (place_text shape j ++ (codes " " ++ (decimal number ++ codes "\n"))))))
+    if number == 0 then [] else codes "counter " ++ (name
+    ++ (codes " " ++ (decimal k ++ (place_text shape j ++ (codes " " ++ (decimal number ++ codes "\n"))))))
 
 -- so many counters of a value, from counter j on, by what each holds
 abbrev pub value_text : (ℕ → ℕ) → List ℕ → Shape → ℕ → ℕ → ℕ → List ℕ

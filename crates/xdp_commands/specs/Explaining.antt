@@ -70,7 +70,8 @@ loss_text names e r l = []
 
 -- the explanation of a refusal, with that line
 abbrev pub refused_text : List (List ℕ) → List Shape → Explained → Option Loss → List ℕ
-refused_text names shapes e l = explained_text e.code names shapes e.refusal (option_map facts e.note) ++ loss_text names e (asked_of e.note e) l
+refused_text names shapes e l = explained_text e.code names shapes e.refusal (option_map facts e.note)
+    ++ loss_text names e (asked_of e.note e) l
 
 -- of a program of these bytes, whose maps have these names and shapes
 abbrev pub outcome_text : List ℕ → List (List ℕ) → List Shape → Outcome → List ℕ

@@ -29,11 +29,13 @@ AreRuns program ifindex [] before [] after = before ≡ after
 AreRuns program ifindex [] before (r ∷ rs) after = ⊥
 AreRuns program ifindex (p ∷ ps) before [] after = ⊥
 AreRuns program ifindex (p ∷ ps) before (r ∷ rs) after =
-    (count : ℕ) × (between : List ℕ) × Ran program p.bytes ifindex p.queue before r.number r.bytes between count × AreRuns program ifindex ps between rs after
+    (count : ℕ) × (between : List ℕ) × Ran program p.bytes ifindex p.queue before r.number r.bytes between count ×
+    AreRuns program ifindex ps between rs after
 
 -- the action, the packet's length and its bytes in lower-case hex
 abbrev pub passed_text : Passed → List ℕ
-passed_text r = action_name (action_of r.number) ++ (codes " " ++ (decimal (length r.bytes) ++ (codes " " ++ (encode_lower r.bytes ++ codes "\n"))))
+passed_text r = action_name (action_of r.number) ++ (codes " "
+    ++ (decimal (length r.bytes) ++ (codes " " ++ (encode_lower r.bytes ++ codes "\n"))))
 
 abbrev pub passed_lines : List Passed → List ℕ
 passed_lines [] = []

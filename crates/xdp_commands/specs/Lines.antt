@@ -15,7 +15,8 @@ use Rattle.xdp_commands.specs.declared.executing.Accepted.{Accepted}
 -- the action, its number and the count of instructions; then the packet in lower-case hex
 abbrev pub ended_text : Ended → List ℕ
 ended_text e =
-    codes "action " ++ (action_name (action_of e.number) ++ (codes " number " ++ (decimal e.number ++ (codes " instructions " ++ (decimal e.instructions
+    codes "action " ++ (action_name (action_of e.number)
+    ++ (codes " number " ++ (decimal e.number ++ (codes " instructions " ++ (decimal e.instructions
     ++ (codes "\npacket " ++ (encode_lower e.packet.bytes ++ codes "\n")))))))
 
 abbrev pub refused_text : Refusal → List ℕ

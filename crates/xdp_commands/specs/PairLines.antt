@@ -20,17 +20,20 @@ halted_number (Some h) = halt_number h
 -- packets that the back refused, its halt, and packets that came to the front
 abbrev pub ends_text : PairRow → List ℕ
 ends_text r =
-    codes " refused " ++ (decimal r.refused ++ (codes " halted " ++ (decimal (halted_number r.halted) ++ (codes " received " ++ (decimal r.received ++ codes "\n")))))
+    codes " refused " ++ (decimal r.refused ++ (codes " halted "
+    ++ (decimal (halted_number r.halted) ++ (codes " received " ++ (decimal r.received ++ codes "\n")))))
 
 -- packets that the front sent, that the back copied, and the rest
 abbrev pub row_text : ℕ → PairRow → List ℕ
-row_text queue r = codes "queue " ++ (decimal queue ++ (codes " sent " ++ (decimal r.sent ++ (codes " copied " ++ (decimal r.copied ++ ends_text r)))))
+row_text queue r = codes "queue " ++ (decimal queue
+    ++ (codes " sent " ++ (decimal r.sent ++ (codes " copied " ++ (decimal r.copied ++ ends_text r)))))
 
 -- what became of the answers of a host that answers: sent, too few slots, a grant that failed
 abbrev pub delivered_text : Host → ℕ → Deliveries → List ℕ
 delivered_text host.Takes queue d = []
 delivered_text host.Answers queue d =
-    codes "queue " ++ (decimal queue ++ (codes " delivered " ++ (decimal d.sent ++ (codes " few " ++ (decimal d.few ++ (codes " refused " ++ (decimal d.refused ++ codes "\n")))))))
+    codes "queue " ++ (decimal queue ++ (codes " delivered "
+    ++ (decimal d.sent ++ (codes " few " ++ (decimal d.few ++ (codes " refused " ++ (decimal d.refused ++ codes "\n")))))))
 
 abbrev pub queue_text : Host → ℕ → PairRow → List ℕ
 queue_text h queue r = row_text queue r ++ delivered_text h queue r.deliveries

@@ -15,7 +15,8 @@ answered_text slots ops = codes " slots " ++ (decimal slots ++ (codes " operatio
 abbrev pub kept_text : Kept → List ℕ
 kept_text kept.Idle = codes " idle\n"
 kept_text (kept.Ran action number packet ops slots) =
-    codes " " ++ (action_name action ++ (codes " " ++ (decimal (length packet.items) ++ (codes " " ++ (encode_lower packet.items ++ answered_text slots ops)))))
+    codes " " ++ (action_name action ++ (codes " "
+    ++ (decimal (length packet.items) ++ (codes " " ++ (encode_lower packet.items ++ answered_text slots ops)))))
 kept_text (kept.Refused cause ops slots) = codes " refused " ++ (decimal (refusal_number cause) ++ answered_text slots ops)
 kept_text (kept.Halted cause) = codes " halted " ++ (decimal (halt_number cause) ++ codes "\n")
 

@@ -1,10 +1,12 @@
 -- The program's command line, as data of `clap`, and what its words ask for.
-use Rattle.std.specs.Prelude.{ℕ, ◌&&◌, codes, length, nat_lt, pos, true, List, [], ◌∷◌, Option, Some, None, option_map, option_and_then, Bool, false, if◌then◌else◌}
+use Rattle.std.specs.Prelude.{ℕ, ◌&&◌, codes, length, nat_lt, pos, true, List, [], ◌∷◌, Option, Some, None, option_map}
+use Rattle.std.specs.Prelude.{option_and_then, Bool, false, if◌then◌else◌}
 use Rattle.std.specs.Char.{digit_value}
 use Rattle.std.specs.List.{list_all}
 use Rattle.std.specs.Str.{bytes_eq}
 use Rattle.std.specs.Str.Parse.{digits_value, without_leading_plus}
-use Rattle.clap.specs.Words.{App, Kinds, Row, Rule, Text, fault_of, first_of, one_of, subcommand_of, new_app, new_rule, with_rule, with_subcommand}
+use Rattle.clap.specs.Words.{App, Kinds, Row, Rule, Text, fault_of, first_of, one_of, subcommand_of, new_app, new_rule, with_rule}
+use Rattle.clap.specs.Words.{with_subcommand}
 use Rattle.clap.specs.declared.builder.action.ArgAction.TheVariants.{SetTrue}
 use Rattle.clap.specs.declared.builder.value_parser.ValueParser.TheVariants.{Signed}
 use Rattle.xdp_pair.specs.declared.host.Host.{Host}
@@ -32,7 +34,12 @@ run_app = new_app (codes "run")
 
 -- `--turns N`: a number from 1 to 1000000, which is 100000 where no word says it
 abbrev pub turns_rule : Rule
-turns_rule = record (new_rule (codes "turns")) { long = Some (codes "turns"); defaults = codes "100000" ∷ []; parser = Some (Signed (pos 1) (pos 1000000)) }
+turns_rule = record (new_rule (codes "turns")) {
+  long = Some (codes "turns");
+  defaults = codes "100000"
+      ∷ [];
+  parser = Some (Signed (pos 1) (pos 1000000));
+}
 
 -- `--answer`: a flag
 abbrev pub answer_rule : Rule
@@ -65,7 +72,8 @@ pub data Wanted : Type 0 where
 
 -- `exec`, by what was found for its words
 abbrev pub exec_of : List Row → Option Wanted
-exec_of rows = option_and_then (λ program. option_map (λ packet. exec program packet) (first_of (codes "packet") rows)) (first_of (codes "program") rows)
+exec_of rows = option_and_then (λ program. option_map (λ packet. exec program packet) (first_of (codes "packet") rows))
+    (first_of (codes "program") rows)
 
 -- the text is one decimal digit or more
 abbrev pub is_decimal : Text → Bool

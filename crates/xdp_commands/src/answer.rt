@@ -2,7 +2,10 @@
 ghost use Rattle.std.specs.Prelude.{◌≡◌, ◌≤◌, IfOk, IfErr, Some, length, option_map};
 ghost use Rattle.xdp_load.specs.SetupSeen.{setup_view};
 ghost use Rattle.xdp_load.specs.Sound.{IsSound};
-ghost use Rattle.xdp_commands.specs.Answer.{AnswerTo, ExecAnswer, ExplainAnswer, FilterAnswer, InputAnswer, IsAnswer, PacketAnswer, PairAnswer, Reads, RunAnswer, SettingsAnswer, SetupAnswer, Takes, TakesAtMost, checked_answer, executed_answer, hex_bytes, program_status, settings_refused, words_refused};
+ghost use Rattle.xdp_commands.specs.Answer.{AnswerTo, ExecAnswer, ExplainAnswer, FilterAnswer, InputAnswer, IsAnswer, PacketAnswer};
+ghost use Rattle.xdp_commands.specs.Answer.{PairAnswer, Reads, RunAnswer, SettingsAnswer, SetupAnswer, Takes, TakesAtMost};
+ghost use Rattle.xdp_commands.specs.Answer.{checked_answer, executed_answer, hex_bytes, program_status, settings_refused};
+ghost use Rattle.xdp_commands.specs.Answer.{words_refused};
 ghost use Rattle.xdp_commands.specs.Words as wanted;
 ghost use Rattle.xdp_commands.specs.Seen.{said_of, wanted_of};
 
@@ -270,7 +273,8 @@ fn input_pair<T: Threads + Wait + Sync, R: Read>(
     turns: u32,
     input: &mut R,
 ) -> Result<Answer, Stop>
-    ensures answer { IfOk result (λ a. IsAnswer (Some (wanted.pair turns host)) (R.remaining input.old) (R.remaining input.new) (said_of a)) }
+    ensures answer { IfOk result (λ a. IsAnswer (Some (wanted.pair turns host)) (R.remaining input.old) (R.remaining input.new)
+        (said_of a)) }
     ensures takes { TakesAtMost 1048577 (R.remaining input.old) (R.remaining input.new) }
 {
     let settings = read_settings(alloc, input)?;
@@ -284,7 +288,8 @@ pub fn answer_to<T: Threads + Wait + Sync, R: Read>(
     request: Option<Request<'_>>,
     input: &mut R,
 ) -> Result<Answer, Stop>
-    ensures answer { IfOk result (λ a. IsAnswer (option_map wanted_of request.entry) (R.remaining input.old) (R.remaining input.new) (said_of a)) }
+    ensures answer { IfOk result (λ a. IsAnswer (option_map wanted_of request.entry) (R.remaining input.old)
+        (R.remaining input.new) (said_of a)) }
     ensures takes { Takes (option_map wanted_of request.entry) (R.remaining input.old) (R.remaining input.new) }
     ensures reads { IfErr result (λ e. e ≡ Stop.Read → Reads (option_map wanted_of request.entry)) }
 {

@@ -47,7 +47,8 @@ fn add_value<N: Numbers>(
 ) -> Result<(), AllocError>
     requires map { slice_get (N.shapes_of numbers.now) m ≡ Some shape }
     requires value { k < shape.entries }
-    ensures { OnOk result (string_bytes text.new ≡ string_bytes text.old ++ value_text (N.number_at numbers.now m k) name.now shape k 0 shape.counters) }
+    ensures { OnOk result (string_bytes text.new ≡ string_bytes text.old
+        ++ value_text (N.number_at numbers.now m k) name.now shape k 0 shape.counters) }
 {
     for j in 0..shape.counters() {
         let line = counter_text(alloc, name, shape, k, j, numbers.number(m, k, j))?;
@@ -66,7 +67,8 @@ fn add_map<N: Numbers>(
     shape: MapShape,
 ) -> Result<(), AllocError>
     requires { slice_get (N.shapes_of numbers.now) m ≡ Some shape }
-    ensures { OnOk result (string_bytes text.new ≡ string_bytes text.old ++ map_text (N.number_at numbers.now m) name.now shape 0 shape.entries) }
+    ensures { OnOk result (string_bytes text.new ≡ string_bytes text.old
+        ++ map_text (N.number_at numbers.now m) name.now shape 0 shape.entries) }
 {
     for k in 0..shape.entries() {
         add_value(alloc, text, name, numbers, m, shape, k)?;
@@ -85,7 +87,8 @@ pub fn add_counters<N: Numbers>(
     requires named { length names.now ≡ length shapes.now }
     requires few { length shapes.now < 5 }
     requires shapes { N.shapes_of numbers.now ≡ shapes.now }
-    ensures { OnOk result (string_bytes text.new ≡ string_bytes text.old ++ maps_text (N.number_at numbers.now) 0 (map string_bytes names.now) shapes.now) }
+    ensures { OnOk result (string_bytes text.new ≡ string_bytes text.old
+        ++ maps_text (N.number_at numbers.now) 0 (map string_bytes names.now) shapes.now) }
 {
     for m in 0..names.len() {
         add_map(alloc, text, names[m].as_str(), numbers, m as u32, shapes[m])?;

@@ -2,7 +2,8 @@
 ghost use Rattle.std.specs.Prelude.{◌≡◌, ◌≤◌, IfOk, IfSome, Some, length, map, string_bytes};
 ghost use Rattle.bpf_verify.specs.Consistent.{IsConsistent, IsOrdered};
 ghost use Rattle.bpf_verify.specs.FirstRefusal.{IsStructured};
-ghost use Rattle.xdp_commands.specs.Explaining.{IsLossOf, IsOutcome, accepted_text, asked_of, loss_line, loss_text, outcome_status, outcome_text, refused_text};
+ghost use Rattle.xdp_commands.specs.Explaining.{IsLossOf, IsOutcome, accepted_text, asked_of, loss_line, loss_text, outcome_status};
+ghost use Rattle.xdp_commands.specs.Explaining.{outcome_text, refused_text};
 
 use crate::executing::Accepted;
 use crate::lines::checked_text;
@@ -146,7 +147,8 @@ fn loss_text(
     explained: &Explained,
     loss: &Option<Loss>,
 ) -> Result<String, AllocError>
-    ensures { IfOk result (λ s. string_bytes s ≡ loss_text (map string_bytes names.now) explained.now (asked_of explained.now.note explained.now) loss.now) }
+    ensures { IfOk result (λ s. string_bytes s ≡ loss_text (map string_bytes names.now) explained.now
+        (asked_of explained.now.note explained.now) loss.now) }
 {
     match (asked_of(explained), loss) {
         (Some(register), Some(loss)) => {

@@ -44,7 +44,8 @@ fn run_once(
     requires short { length packet.now.bytes.items ≤ 65535 }
     requires queue { packet.now.queue < 8 }
     requires enough { total program.now.shapes ≤ vec_len filtered.old.words }
-    ensures goes { OnOk result (Goes program.now ifindex (packet_view packet.now ∷ []) filtered.old.words.items (string_bytes filtered.old.lines) filtered.new.words.items (string_bytes filtered.new.lines)) }
+    ensures goes { OnOk result (Goes program.now ifindex (packet_view packet.now ∷ []) filtered.old.words.items
+        (string_bytes filtered.old.lines) filtered.new.words.items (string_bytes filtered.new.lines)) }
     ensures words { vec_len filtered.new.words ≡ vec_len filtered.old.words }
 {
     let Ok(bytes) = PacketBuf::copy(buffer, packet.bytes.as_slice()) else {
@@ -69,7 +70,8 @@ fn run_times(
     requires short { length packet.now.bytes.items ≤ 65535 }
     requires queue { packet.now.queue < 8 }
     requires enough { total program.now.shapes ≤ vec_len filtered.old.words }
-    ensures goes { OnOk result (Goes program.now ifindex (replicate packet.now.times (packet_view packet.now)) filtered.old.words.items (string_bytes filtered.old.lines) filtered.new.words.items (string_bytes filtered.new.lines)) }
+    ensures goes { OnOk result (Goes program.now ifindex (replicate packet.now.times (packet_view packet.now))
+        filtered.old.words.items (string_bytes filtered.old.lines) filtered.new.words.items (string_bytes filtered.new.lines)) }
     ensures words { vec_len filtered.new.words ≡ vec_len filtered.old.words }
 {
     for _time in 0..packet.times {
@@ -88,7 +90,8 @@ fn run_all(
 ) -> Result<(), AllocError>
     requires sound { IsSound (setup_view setup.now) }
     requires enough { total program.now.shapes ≤ vec_len filtered.old.words }
-    ensures goes { OnOk result (Goes program.now setup.now.ifindex (inputs_of (setup_view setup.now).packets) filtered.old.words.items (string_bytes filtered.old.lines) filtered.new.words.items (string_bytes filtered.new.lines)) }
+    ensures goes { OnOk result (Goes program.now setup.now.ifindex (inputs_of (setup_view setup.now).packets)
+        filtered.old.words.items (string_bytes filtered.old.lines) filtered.new.words.items (string_bytes filtered.new.lines)) }
     ensures words { vec_len filtered.new.words ≡ vec_len filtered.old.words }
 {
     for packet in setup.packets.as_slice() {

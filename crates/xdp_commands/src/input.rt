@@ -16,7 +16,8 @@ const BUFFER: usize = 4_096;
 fn read_more<R: Read>(input: &mut R, buffer: &mut [u8], bytes: &mut Vec<u8>) -> Result<usize, Stop>
     requires { 0 < length buffer.old }
     ensures added { IfOk result (λ n. (vec_len bytes.new ≡ vec_len bytes.old + n) × (n ≤ length buffer.old)) }
-    ensures took { IfOk result (λ n. (taken : List ℕ) × (bytes.new.items ≡ bytes.old.items ++ taken) × Consumes (R.remaining input.old) (R.remaining input.new) taken) }
+    ensures took { IfOk result (λ n. (taken : List ℕ) × (bytes.new.items ≡ bytes.old.items ++ taken) ×
+        Consumes (R.remaining input.old) (R.remaining input.new) taken) }
     ensures end { IfOk result (λ n. n ≡ 0 → IsAtEnd (R.remaining input.new)) }
     ensures few { TakesAtMost (length buffer.old) (R.remaining input.old) (R.remaining input.new) }
 {

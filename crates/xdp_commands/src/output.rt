@@ -12,7 +12,8 @@ pub const FAILED: u8 = 4;
 /// Writes all the bytes, and says whether each write took some. A write that is interrupted has failed.
 fn put<W: Write>(output: &mut W, bytes: &[u8]) -> bool
     ensures all { OnTrue result (Appends (W.contents output.old) (W.contents output.new) bytes.now) }
-    ensures front { OnFalse result ((n : ℕ) × (n < length bytes.now) × Appends (W.contents output.old) (W.contents output.new) (take n bytes.now)) }
+    ensures front { OnFalse result ((n : ℕ) × (n < length bytes.now) ×
+        Appends (W.contents output.old) (W.contents output.new) (take n bytes.now)) }
 {
     let mut done = 0;
     while done < bytes.len() {

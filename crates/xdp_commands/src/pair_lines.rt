@@ -1,6 +1,7 @@
 //! The lines of queues that ran on threads.
 ghost use Rattle.std.specs.Prelude.{◌≡◌, ◌<◌, ◌++◌, IfOk, OnOk, length, map, string_bytes};
-ghost use Rattle.xdp_commands.specs.PairLines.{delivered_text, ends_text, halted_number, pair_text, paired_status, paired_text, queue_text, row_text, rows_text};
+ghost use Rattle.xdp_commands.specs.PairLines.{delivered_text, ends_text, halted_number, pair_text, paired_status, paired_text};
+ghost use Rattle.xdp_commands.specs.PairLines.{queue_text, row_text, rows_text};
 ghost use Rattle.xdp_commands.specs.Pairing.{HasCounters};
 
 use crate::counter_lines::add_counters;

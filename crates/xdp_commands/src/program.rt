@@ -21,7 +21,8 @@ fn answer_words<S: AsStr, T: Threads + Wait + Sync, R: Read>(
     words: &[S],
     input: &mut R,
 ) -> Result<Answer, Stop>
-    ensures answer { IfOk result (λ a. IsAnswer (wanted_of_words (map S.text words.entry.now)) (R.remaining input.old) (R.remaining input.new) (said_of a)) }
+    ensures answer { IfOk result (λ a. IsAnswer (wanted_of_words (map S.text words.entry.now)) (R.remaining input.old)
+        (R.remaining input.new) (said_of a)) }
     ensures takes { Takes (wanted_of_words (map S.text words.entry.now)) (R.remaining input.old) (R.remaining input.new) }
     ensures reads { IfErr result (λ e. e ≡ Stop.Read → Reads (wanted_of_words (map S.text words.entry.now))) }
 {
@@ -46,7 +47,8 @@ pub fn run_words<S: AsStr, T: Threads + Wait + Sync, R: Read, W: Write>(
     input: &mut R,
     output: &mut W,
 ) -> u8
-    ensures answered { Ends (wanted_of_words (map S.text words.entry.now)) (R.remaining input.old) (R.remaining input.new) (W.contents output.old) (W.contents output.new) result }
+    ensures answered { Ends (wanted_of_words (map S.text words.entry.now)) (R.remaining input.old) (R.remaining input.new)
+        (W.contents output.old) (W.contents output.new) result }
     ensures takes { Takes (wanted_of_words (map S.text words.entry.now)) (R.remaining input.old) (R.remaining input.new) }
 {
     match answer_words(rt, alloc, words, input) {

@@ -7,7 +7,8 @@ use Rattle.bpf_explain.specs.Advice.{cause_advice}
 -- the causes by the numbers of include/laxonje.h, from 0. There is no V18.
 abbrev pub causes : List (Option Cause)
 causes =
-    Some cause.Memory ∷ Some cause.Length ∷ Some cause.Opcode ∷ Some cause.Register ∷ Some cause.Target ∷ Some cause.BackJump ∷ Some cause.End
+    Some cause.Memory ∷ Some cause.Length ∷ Some cause.Opcode ∷ Some cause.Register ∷ Some cause.Target ∷ Some cause.BackJump
+    ∷ Some cause.End
     ∷ Some cause.Unset ∷ Some cause.FramePointer ∷ Some cause.NoPointer ∷ Some cause.Packet ∷ Some cause.Stack ∷ Some cause.Context
     ∷ Some cause.MayBeNull ∷ Some cause.MapAccess ∷ Some cause.Helper ∷ Some cause.MapNumber ∷ Some cause.Argument ∷ None
     ∷ Some cause.Unsupported ∷ []

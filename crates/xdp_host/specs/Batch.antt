@@ -39,4 +39,5 @@ pub record RunsOne (p : Accepted) (ifindex queue : ℕ) (x : XdpPacket) (r : Xdp
 -- the packets so far have these results, and each found what the one before it left
 pub data RanEach (p : Accepted) (ifindex queue : ℕ) (s : Shared) : List XdpPacket → List XdpRun → Shared → Type 0 where
   none : RanEach p ifindex queue s [] [] s
-  one_more : (xs : List XdpPacket) (rs : List XdpRun) (t u : Shared) (x : XdpPacket) (r : XdpRun) → RanEach p ifindex queue s xs rs t → RunsOne p ifindex queue x r t u → RanEach p ifindex queue s (xs ++ x ∷ []) (rs ++ r ∷ []) u
+  one_more : (xs : List XdpPacket) (rs : List XdpRun) (t u : Shared) (x : XdpPacket) (r : XdpRun) →
+      RanEach p ifindex queue s xs rs t → RunsOne p ifindex queue x r t u → RanEach p ifindex queue s (xs ++ x ∷ []) (rs ++ r ∷ []) u

@@ -138,7 +138,8 @@ impl Held {
     pub fn load_settings(alloc: Global, text: &[u8]) -> Result<Box<Held>, Fault>
         ensures loaded { IfOk result (λ b. IsProgramOf text.now b.value.program) }
         ensures fault { IfErr result (IsFaultOfText text.now) }
-        ensures accepted { (s : SetupView) (code : List Insn) → setup_of text.now ≡ Ok s → Spells code s.program → IsFaultless code s.shapes →
+        ensures accepted { (s : SetupView) (code : List Insn) → setup_of text.now ≡ Ok s → Spells code s.program →
+            IsFaultless code s.shapes →
             IfErr result IsWanting }
     {
         match accept_text(alloc, text) {

@@ -1,5 +1,6 @@
 -- The rows of a document as they are written, before any limit is looked at.
-use Rattle.std.specs.Prelude.{pos, codes, ◌&&◌, ℕ, ℤ, Bool, true, List, [], ◌∷◌, Option, Some, None, option_and_then, option_map, if◌then◌else◌}
+use Rattle.std.specs.Prelude.{pos, codes, ◌&&◌, ℕ, ℤ, Bool, true, List, [], ◌∷◌, Option, Some, None, option_and_then, option_map}
+use Rattle.std.specs.Prelude.{if◌then◌else◌}
 use Rattle.std.specs.List.{list_any}
 use Rattle.std.specs.Str.{bytes_eq}
 use Rattle.std.specs.Option.{option_map_or}
@@ -56,7 +57,8 @@ map_keys = codes "name" ∷ codes "entries" ∷ codes "counters" ∷ []
 abbrev pub map_of_table : Members → Option MapText
 map_of_table ms =
     if has_only map_keys ms
-    then text_at (codes "name") ms >>= (λ name. integer_at (codes "entries") ms >>= (λ entries. integer_or (pos 1) (codes "counters") ms >>= (λ counters.
+    then text_at (codes "name") ms >>= (λ name. integer_at (codes "entries") ms
+    >>= (λ entries. integer_or (pos 1) (codes "counters") ms >>= (λ counters.
     Some (record { name = name; entries = entries; counters = counters }))))
     else None
 
@@ -94,7 +96,8 @@ packet_keys = codes "queue" ∷ codes "bytes" ∷ codes "times" ∷ []
 abbrev pub packet_of_table : Members → Option PacketText
 packet_of_table ms =
     if has_only packet_keys ms
-    then integer_at (codes "queue") ms >>= (λ queue. text_at (codes "bytes") ms >>= (λ bytes. integer_or (pos 1) (codes "times") ms >>= (λ times.
+    then integer_at (codes "queue") ms >>= (λ queue.
+    text_at (codes "bytes") ms >>= (λ bytes. integer_or (pos 1) (codes "times") ms >>= (λ times.
     Some (record { queue = queue; bytes = bytes; times = times }))))
     else None
 

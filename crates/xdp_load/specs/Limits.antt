@@ -1,5 +1,6 @@
 -- The limits of the numbers and the lengths.
-use Rattle.std.specs.Prelude.{Result, Ok, Err, ◌&&◌, ◌||◌, ◌/◌, ℕ, ℤ, pos, negsuc, Bool, true, false, not, List, [], ◌∷◌, length, Option, Some, None, option_and_then, option_map, nat_le, nat_lt, if◌then◌else◌}
+use Rattle.std.specs.Prelude.{Result, Ok, Err, ◌&&◌, ◌||◌, ◌/◌, ℕ, ℤ, pos, negsuc, Bool, true, false, not, List, [], ◌∷◌, length}
+use Rattle.std.specs.Prelude.{Option, Some, None, option_and_then, option_map, nat_le, nat_lt, if◌then◌else◌}
 use Rattle.std.specs.List.{list_any}
 use Rattle.std.specs.Str.{bytes_eq}
 use Rattle.bpf_note.specs.Shape.{Shape}
@@ -43,7 +44,8 @@ limited_shape m = option_and_then (λ entries. option_and_then (λ counters.
     (limited 1 8 m.counters)) (limited 1 1024 m.entries)
 
 abbrev pub limited_step : ℕ → StepText → Option (ℕ × ℕ)
-limited_step queues s = option_and_then (λ queue. option_map (λ answer. (queue, answer)) (limited 0 most_word s.answer)) (below queues s.queue)
+limited_step queues s = option_and_then (λ queue. option_map (λ answer. (queue, answer)) (limited 0 most_word s.answer))
+    (below queues s.queue)
 
 -- a packet whose bytes are still hex
 pub record HexPacket : Type 0 where

@@ -1,5 +1,7 @@
 -- The setup that a settings text spells, or its first fault.
-use Rattle.std.specs.Prelude.{◌&&◌, ◌+◌, ◌*◌, ◌%◌, ◌==◌, ℕ, ℤ, pos, negsuc, Bool, true, false, not, List, [], ◌∷◌, ◌++◌, length, slice_index, slice_set, Option, Some, None, option_and_then, option_map, nat_le, map, position, Result, Ok, Err, if◌then◌else◌}
+use Rattle.std.specs.Prelude.{◌&&◌, ◌+◌, ◌*◌, ◌%◌, ◌==◌, ℕ, ℤ, pos, negsuc, Bool, true, false, not, List, [], ◌∷◌, ◌++◌, length}
+use Rattle.std.specs.Prelude.{slice_index, slice_set, Option, Some, None, option_and_then, option_map, nat_le, map, position}
+use Rattle.std.specs.Prelude.{Result, Ok, Err, if◌then◌else◌}
 use Rattle.std.specs.Result.{result_ok}
 use Rattle.std.specs.List.{list_any}
 use Rattle.std.specs.Ordering.{int_eq}
@@ -54,7 +56,8 @@ wide_load = 0x18
 -- the slot where all its eight bytes are in the program, and the first is the opcode of a wide load
 abbrev pub wide_slot : List ℕ → ℤ → Option ℕ
 wide_slot program (negsuc n) = None
-wide_slot program (pos slot) = if nat_le (8 * slot + 8) (length program) && (slice_index program (8 * slot) == wide_load) then Some slot else None
+wide_slot program (pos slot) = if nat_le (8 * slot + 8) (length program) && (slice_index program (8 * slot) == wide_load)
+    then Some slot else None
 
 -- the program with source register 1 in the wide load at this byte, and the number of a map, below 256, in its imm (RFC 9669 section 3)
 abbrev pub with_map : List ℕ → ℕ → ℕ → List ℕ

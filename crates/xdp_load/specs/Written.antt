@@ -3,7 +3,8 @@ use Rattle.std.specs.Prelude.{ℤ, List, [], ◌∷◌, codes, pos, Option, Some
 use Rattle.toml.specs.Data.{Data, Members, as_str}
 use Rattle.xdp_load.specs.declared.fault.Fault.{Fault}
 use Rattle.xdp_load.specs.declared.fault.Fault.TheVariants.{Key}
-use Rattle.xdp_load.specs.Document.{Text, MapText, RelocText, PacketText, StepText, has_only, integer_or, list_at, map_row, packet_row, reloc_row, rows, step_row, values_at}
+use Rattle.xdp_load.specs.Document.{Text, MapText, RelocText, PacketText, StepText, has_only, integer_or, list_at, map_row}
+use Rattle.xdp_load.specs.Document.{packet_row, reloc_row, rows, step_row, values_at}
 use Rattle.xdp_load.specs.Gives.{or_fault, ◌>>=◌}
 
 -- the numbers as they are written
@@ -35,7 +36,8 @@ unfoldable pub rows_of : {A : Type 0} → (Data → Option A) → Text → Membe
 rows_of f key ms = shaped (option_and_then (rows f) (values_at key ms))
 
 abbrev pub top_keys : List Text
-top_keys = codes "program" ∷ codes "queues" ∷ codes "ifindex" ∷ codes "start" ∷ codes "map" ∷ codes "reloc" ∷ codes "script" ∷ codes "packet" ∷ []
+top_keys = codes "program" ∷ codes "queues" ∷ codes "ifindex" ∷ codes "start" ∷ codes "map" ∷ codes "reloc" ∷ codes "script"
+    ∷ codes "packet" ∷ []
 
 unfoldable pub rows_of_table : Members → Result WrittenText Fault
 rows_of_table ms = do

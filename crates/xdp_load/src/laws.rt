@@ -10,7 +10,8 @@ ghost use Rattle.xdp_load.specs.Sound.{IsSound};
 /// A wide load of a number of 32 bits (compilers leave 0 for a map) becomes that of the map by its relocation, wherever it
 /// stands, and nothing else changes.
 pub fn relocated_loads_are_of_maps()
-    ensures { (front rest : List ℕ) (dst : Register) (value m : ℕ) → value < 2 ^ 32 → m < 4 → with_map (front ++ (spelling (Const dst value) ++ rest)) (length front) m ≡ front ++ (spelling (MapRef dst m) ++ rest) }
+    ensures { (front rest : List ℕ) (dst : Register) (value m : ℕ) → value < 2 ^ 32 → m < 4 →
+        with_map (front ++ (spelling (Const dst value) ++ rest)) (length front) m ≡ front ++ (spelling (MapRef dst m) ++ rest) }
 {}
 
 /// Each setup within its limits is that of some document: nothing more is refused.

@@ -1,7 +1,8 @@
 //! The limits of the numbers and the lengths.
 ghost use Rattle.std.specs.Prelude.{◌≡◌, ◌≤◌, IfSome, OnOk, vec_len, map, option_map};
 ghost use Rattle.xdp_load.specs.Gives.{Gives, or_fault};
-ghost use Rattle.xdp_load.specs.Limits.{below, each, limited, limited_lists, limited_numbers, limited_of, limited_packet, limited_shape, limited_step};
+ghost use Rattle.xdp_load.specs.Limits.{below, each, limited, limited_lists, limited_numbers, limited_of, limited_packet};
+ghost use Rattle.xdp_load.specs.Limits.{limited_shape, limited_step};
 ghost use Rattle.xdp_load.specs.Seen.{map_seen, numbers_seen, packet_seen, step_seen, written_seen};
 ghost use Rattle.xdp_load.specs.LimitsSeen.{hex_packet_seen, limited_seen, limits_seen};
 ghost use Rattle.xdp_load.specs.declared.fault.Fault.TheVariants.{Limit};

@@ -7,7 +7,8 @@ ghost use Rattle.xdp_load.specs.Limits.{are_names, limited_of};
 ghost use Rattle.xdp_load.specs.Written.{written_of};
 ghost use Rattle.xdp_load.specs.Seen.{written_seen};
 ghost use Rattle.xdp_load.specs.LimitsSeen.{limited_seen};
-ghost use Rattle.xdp_load.specs.Setup.{decoded_of, document_of, loaded_program, names_of, relocated_setup, setup_of, setup_of_limited, setup_of_table, text_of};
+ghost use Rattle.xdp_load.specs.Setup.{decoded_of, document_of, loaded_program, names_of, relocated_setup, setup_of};
+ghost use Rattle.xdp_load.specs.Setup.{setup_of_limited, setup_of_table, text_of};
 ghost use Rattle.xdp_load.specs.Sound.{IsSound};
 ghost use Rattle.xdp_load.specs.SetupSeen.{packet_view, setup_view};
 ghost use Rattle.xdp_load.specs.declared.fault.Fault.TheVariants.{Name, Relocation, Text};
@@ -47,7 +48,8 @@ fn decoded_of(
     written: &Written<'_>,
     limited: &WithinLimits<'_>,
 ) -> Result<(Vec<u8>, Vec<Packet>), LoadFault>
-    ensures { Gives (λ d. (d.0.items, map packet_view d.1.items)) result (decoded_of (written_seen written.now) (limited_seen limited.now)) }
+    ensures { Gives (λ d. (d.0.items, map packet_view d.1.items)) result
+        (decoded_of (written_seen written.now) (limited_seen limited.now)) }
 {
     let program = joined(alloc, written.program.as_slice())?;
     let packets = packets_of(alloc, limited.packets.as_slice())?;
@@ -69,8 +71,10 @@ fn names_of(alloc: Global, maps: &[MapRow<'_>]) -> Result<Vec<String>, AllocErro
 #[tactic(auto, using(crate::proofs::RowLemmas::names_seen))]
 fn load_program(program: &mut Vec<u8>, written: &Written<'_>) -> bool
     requires { vec_len written.now.maps ≤ 4 }
-    ensures done { OnTrue result (loaded_program (names_of (written_seen written.now).maps) (written_seen written.now).relocs program.old.items ≡ Some program.new.items) }
-    ensures refused { OnFalse result (loaded_program (names_of (written_seen written.now).maps) (written_seen written.now).relocs program.old.items ≡ None) }
+    ensures done { OnTrue result (loaded_program (names_of (written_seen written.now).maps) (written_seen written.now).relocs
+        program.old.items ≡ Some program.new.items) }
+    ensures refused { OnFalse result (loaded_program (names_of (written_seen written.now).maps) (written_seen written.now).relocs
+        program.old.items ≡ None) }
 {
     let maps = written.maps.as_slice();
     let relocs = written.relocs.as_slice();
@@ -94,10 +98,12 @@ fn relocated_setup(
     decoded: (Vec<u8>, Vec<Packet>),
 ) -> Result<Setup, LoadFault>
     requires { vec_len written.now.maps ≤ 4 }
-    ensures gives { Gives setup_view result (relocated_setup (written_seen written.now) (limited_seen limited.entry) (decoded.0.items, map packet_view decoded.1.items)) }
+    ensures gives { Gives setup_view result (relocated_setup (written_seen written.now) (limited_seen limited.entry)
+        (decoded.0.items, map packet_view decoded.1.items)) }
 
     // Relocations are checked before memory is taken.
-    ensures relocated { loaded_program (names_of (written_seen written.now).maps) (written_seen written.now).relocs decoded.0.items ≡ None → IsErrAnd result (λ e. e ≡ Refused Relocation) }
+    ensures relocated { loaded_program (names_of (written_seen written.now).maps) (written_seen written.now).relocs decoded.0.items
+        ≡ None → IsErrAnd result (λ e. e ≡ Refused Relocation) }
 {
     let (mut program, packets) = decoded;
     if !load_program(&mut program, written) {

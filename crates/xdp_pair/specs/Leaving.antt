@@ -25,4 +25,5 @@ pub record AreLeft (task : Task) (turns : ℕ) (r : PairReport) : Type 0 where
   pub every : (q : ℕ) → q < task.queues → Contains (map (λ (s : SeatView). s.number) seats) q
   pub worked : All (HasWorked task turns r.rows.items) seats
   pub account : Account seats r.totals
-  pub sums : (m k j : ℕ) → IsCounter r.totals.shapes m k j → total_at r.totals m k j ≡ sum_by (λ (s : SeatView). sum_by (added m k j) s.ops) seats % 2 ^ 64
+  pub sums : (m k j : ℕ) → IsCounter r.totals.shapes m k j →
+      total_at r.totals m k j ≡ sum_by (λ (s : SeatView). sum_by (added m k j) s.ops) seats % 2 ^ 64

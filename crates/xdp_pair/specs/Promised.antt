@@ -18,7 +18,13 @@ promised_number h = (promised h).number
 
 -- the task of the promise
 abbrev pub promised_task : Child → Task
-promised_task h = record { program = h.promise.program.value; queues = h.promise.queues; ifindex = h.promise.ifindex; start = h.promise.start; host = h.promise.host }
+promised_task h = record {
+  program = h.promise.program.value;
+  queues = h.promise.queues;
+  ifindex = h.promise.ifindex;
+  start = h.promise.start;
+  host = h.promise.host;
+}
 
 abbrev pub PromisesSeatOf : Task → ℕ → CountersView → Child → Type 0
 PromisesSeatOf task turns c h = IsSeatOf c (promised h) × (promised_task h ≡ task) × (h.promise.turns ≡ turns)

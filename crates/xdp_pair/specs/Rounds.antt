@@ -33,7 +33,8 @@ Round = Turned × Option Delivery
 -- answer gets it before the next turn begins, and nothing else is delivered.
 pub data IsRound (h : Host) (w : Wiring) (s : State) : List Event → List Event → State → Turned → Option Delivery → Type 0 where
   silent : (t : List Event) (end : State) (u : Turned) → IsTurn w s t end u → reply h u ≡ None → IsRound h w s t [] end u None
-  answered : (t p : List Event) (mid end : State) (u : Turned) (packet : List ℕ) (d : Delivery) → IsTurn w s t mid u → reply h u ≡ Some packet →
+  answered : (t p : List Event) (mid end : State) (u : Turned) (packet : List ℕ) (d : Delivery) → IsTurn w s t mid u →
+      reply h u ≡ Some packet →
       IsDelivery w mid packet p end d → IsRound h w s t p end u (Some d)
 
 -- a turn that found nothing to do, or the queue halted
@@ -122,8 +123,10 @@ with_delivery delivery.NoFrame r = r
 abbrev pub HasRoom : Deliveries → Type 0
 HasRoom d = (d.sent < 4294967295) × (d.few < 4294967295) × (d.refused < 4294967295)
 
--- A round is over: its traces are a round's, the bus went through its accesses, its labels are what the seat's operations grew by, and the row counts it.
-pub record IsRoundOver {S : Type 0} (log : S → Option (List Access)) (gives : S → Access → S → Type 0) (h : Host) (old new : Queue) (row row' : BackRow)
+-- A round is over: its traces are a round's, the bus went through its accesses, its labels are what the seat's operations grew by,
+-- and the row counts it.
+pub record IsRoundOver {S : Type 0} (log : S → Option (List Access)) (gives : S → Access → S →
+    Type 0) (h : Host) (old new : Queue) (row row' : BackRow)
     (n : Next) (bus bus' : S) (ops ops' : List Op) : Type 0 where
   pub trace : List Event
   pub sending : List Event

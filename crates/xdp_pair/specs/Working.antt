@@ -30,7 +30,13 @@ pub record Task : Type 0 where
   pub host : Host
 
 abbrev pub task_of : Accepted → Shared → Task
-task_of program shared = record { program = program; queues = shared.layout.queues; ifindex = shared.ifindex; start = shared.start; host = shared.host }
+task_of program shared = record {
+  program = program;
+  queues = shared.layout.queues;
+  ifindex = shared.ifindex;
+  start = shared.start;
+  host = shared.host;
+}
 
 -- the task that a setup gives, and what the host does
 abbrev pub task_for : Accepted → Setup → Host → Task
@@ -52,7 +58,8 @@ pub record IsWiredFor (task : Task) (n : ℕ) (w : Wiring) : Type 0 where
 -- Rounds from a state on, each from the last's, the latest first, and the counter operations and the accesses of them all.
 pub data Works (h : Host) (w : Wiring) (s : State) : List Round → List Op → List Access → State → Type 0 where
   nothing : Works h w s [] [] [] s
-  more : (rs : List Round) (ops : List Op) (xs : List Access) (mid end : State) (t p : List Event) (u : Turned) (sent : Option Delivery) → Works h w s rs ops xs mid →
+  more : (rs : List Round) (ops : List Op) (xs : List Access) (mid end : State) (t p : List Event) (u : Turned)
+      (sent : Option Delivery) → Works h w s rs ops xs mid →
       IsRound h w mid t p end u sent → Works h w s ((u, sent) ∷ rs) (ops ++ labels t) (xs ++ (accesses t ++ accesses p)) end
 
 -- the latest turn found nothing to do, or the queue has halted
@@ -74,7 +81,8 @@ pub record IsWork (task : Task) (turns : ℕ) (row : BackRow) (s : SeatView) : T
   pub row_is : row ≡ counted made
 
 -- Work over a bus: the bus went through the accesses of the rounds that the row counts, and if it tells, they are what its log grew by.
-pub record IsWorkOver {S : Type 0} (log : S → Option (List Access)) (gives : S → Access → S → Type 0) (task : Task) (turns : ℕ) (row : BackRow)
+pub record IsWorkOver {S : Type 0} (log : S → Option (List Access)) (gives : S → Access → S →
+    Type 0) (task : Task) (turns : ℕ) (row : BackRow)
     (s : SeatView) (bus bus' : S) : Type 0 where
   pub work : IsWork task turns row s
   pub performed : Performs log gives bus work.accesses bus'

@@ -67,8 +67,10 @@ impl SeatBack {
 }
 
 impl Promise<BackDone> for SeatBack {
-    ghost kept_by = { λ p d. (d.seat.table ≡ p.seat.value.table) × (d.seat.shapes ≡ p.seat.value.shapes) × (d.seat.number ≡ p.seat.value.number)
-        × IsWork (record { program = p.program.value; queues = p.queues; ifindex = p.ifindex; start = p.start; host = p.host }) p.turns d.row d.seat };
+    ghost kept_by = { λ p d. (d.seat.table ≡ p.seat.value.table) × (d.seat.shapes ≡ p.seat.value.shapes) ×
+        (d.seat.number ≡ p.seat.value.number)
+        × IsWork (record { program = p.program.value; queues = p.queues; ifindex = p.ifindex; start = p.start; host = p.host })
+        p.turns d.row d.seat };
 }
 
 /// The thread of a back.

@@ -1,5 +1,6 @@
 //! Waiting for the threads.
-ghost use Rattle.std.specs.Prelude.{◌≡◌, ◌≢◌, ◌*◌, ◌<◌, ◌≤◌, ℕ, [], All, Contains, Some, map, option_map, slice_get, vec_len, vec_capacity, IfOk};
+ghost use Rattle.std.specs.Prelude.{◌≡◌, ◌≢◌, ◌*◌, ◌<◌, ◌≤◌, ℕ, [], All, Contains, Some, map, option_map, slice_get, vec_len};
+ghost use Rattle.std.specs.Prelude.{vec_capacity, IfOk};
 ghost use Rattle.std.specs.List.{range_with_len};
 ghost use Rattle.bpf_maps.specs.Seats.{CountersView, IsSeatOf};
 ghost use Rattle.xdp_pair.specs.Leaving.{HasWorked, back_of};
@@ -69,7 +70,8 @@ pub(crate) fn join_backs<R: Threads>(
     requires room { (seats.items ≡ []) × (vec_len threads ≤ vec_capacity seats) }
     requires numbers { map promised_number threads.items ≡ range_with_len 0 (vec_len threads) }
     requires rows { vec_len threads ≡ vec_len rows.old }
-    ensures own { (task : Task) (turns : ℕ) (c : CountersView) → All (PromisesSeatOf task turns c) threads.items → All (IsSeatOf c) result.items × All (HasWorked task turns rows.new.items) result.items }
+    ensures own { (task : Task) (turns : ℕ) (c : CountersView) → All (PromisesSeatOf task turns c) threads.items →
+        All (IsSeatOf c) result.items × All (HasWorked task turns rows.new.items) result.items }
     ensures numbers { (q : ℕ) → q < vec_len rows.old → Contains (map (λ s. s.number) result.items) q }
     ensures rows { vec_len rows.new ≡ vec_len rows.old }
 {

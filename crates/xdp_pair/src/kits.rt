@@ -64,7 +64,8 @@ pub(crate) fn make_backs(
 ) -> Result<Vec<BackKit>, PairFault>
     requires seats { vec_len seats ≡ shared.now.layout.queues }
     requires parkers { vec_len parkers ≡ shared.now.layout.queues }
-    ensures own { (c : CountersView) → seats.items ≡ new_seats c shared.now.layout.queues → IfOk result (λ v. All (IsBackOf c shared.now.layout.queues) v.items × (map number_of v.items ≡ falling shared.now.layout.queues)) }
+    ensures own { (c : CountersView) → seats.items ≡ new_seats c shared.now.layout.queues →
+        IfOk result (λ v. All (IsBackOf c shared.now.layout.queues) v.items × (map number_of v.items ≡ falling shared.now.layout.queues)) }
     ensures count { IfOk result (λ v. vec_len v ≡ shared.now.layout.queues) }
 {
     let mut backs = Vec::with_capacity(alloc, seats.len())?;
@@ -115,7 +116,8 @@ fn make_front<'p>(
 ) -> Result<Front<'p>, AllocError>
     requires { pages.now.queue < shared.now.layout.queues }
     ensures frames { IfOk result (λ f. (wiring_of f).frames ≡ length (owners_of shared.now.layout.queues)) }
-    ensures rings { IfOk result (λ f. ((wiring_of f).tx_frame ≡ frame_of (514 * pages.now.queue)) × ((wiring_of f).rx_frame ≡ frame_of (514 * pages.now.queue + 1))) }
+    ensures rings { IfOk result (λ f. ((wiring_of f).tx_frame ≡ frame_of (514 * pages.now.queue)) ×
+        ((wiring_of f).rx_frame ≡ frame_of (514 * pages.now.queue + 1))) }
     ensures back { IfOk result (λ f. ((wiring_of f).back ≡ 0) × ((wiring_of f).port ≡ 2 * pages.now.queue)) }
     ensures start { IfOk result (λ f. ((state_of f).tx.prod ≡ shared.now.start) × ((state_of f).rx.prod ≡ shared.now.start)) }
 {

@@ -49,14 +49,21 @@ fn run_all<R: Threads + Wait + Sync, G: Gate + Sync, I: Inbox + Sync>(
     requires numbers { map number_of backs.items ≡ falling (vec_len backs) }
     requires counts { (vec_len backs ≡ vec_len rows) × (vec_len fronts ≡ vec_len rows) }
     requires shapes { counters.now.shapes ≡ program.now.shapes }
-    ensures { IfOk result (λ v. All (IsSeatOf counters.entry.now) v.0.items × All (HasWorked (task_of program.entry.now shared.entry.now) turns v.1.items) v.0.items × ((q : ℕ) → q < vec_len rows → Contains (map (λ s. s.number) v.0.items) q) × (vec_len v.1 ≡ vec_len rows)) }
+    ensures { IfOk result (λ v. All (IsSeatOf counters.entry.now) v.0.items ×
+        All (HasWorked (task_of program.entry.now shared.entry.now) turns v.1.items) v.0.items ×
+        ((q : ℕ) → q < vec_len rows → Contains (map (λ s. s.number) v.0.items) q) × (vec_len v.1 ≡ vec_len rows)) }
 {
     thread::scope(
         thread::scope_env(),
         rt,
         |scope| -> Result<(Vec<CounterSeat>, Vec<PairRow>), PairFault>
-            requires { IsSync R.row × IsSync G.row × IsSync I.row × All (IsBackOf counters.now shared.now.layout.queues) backs.items × All (IsFrontOf shared.now.layout.queues) fronts.items × (map number_of backs.items ≡ falling (vec_len backs)) × (vec_len backs ≡ vec_len rows) × (vec_len fronts ≡ vec_len rows) × (counters.now.shapes ≡ program.now.shapes) }
-            ensures { IfOk result (λ v. All (IsSeatOf counters.entry.now) v.0.items × All (HasWorked (task_of program.entry.now shared.entry.now) turns v.1.items) v.0.items × ((q : ℕ) → q < vec_len rows → Contains (map (λ s. s.number) v.0.items) q) × (vec_len v.1 ≡ vec_len rows)) }
+            requires { IsSync R.row × IsSync G.row × IsSync I.row ×
+                All (IsBackOf counters.now shared.now.layout.queues) backs.items ×
+                All (IsFrontOf shared.now.layout.queues) fronts.items × (map number_of backs.items ≡ falling (vec_len backs)) ×
+                (vec_len backs ≡ vec_len rows) × (vec_len fronts ≡ vec_len rows) × (counters.now.shapes ≡ program.now.shapes) }
+            ensures { IfOk result (λ v. All (IsSeatOf counters.entry.now) v.0.items ×
+                All (HasWorked (task_of program.entry.now shared.entry.now) turns v.1.items) v.0.items ×
+                ((q : ℕ) → q < vec_len rows → Contains (map (λ s. s.number) v.0.items) q) × (vec_len v.1 ≡ vec_len rows)) }
         {
             let started_backs = Vec::with_capacity(alloc, backs.len())?;
             let started_fronts = Vec::with_capacity(alloc, fronts.len())?;

@@ -44,7 +44,8 @@ pub(crate) fn drive_round<B: Bus>(
     requires deliveries { HasRoom row.old.deliveries }
     ensures size { B.size bus.new ≡ B.size bus.old }
     ensures seat { seat.new ≡ record seat.old { ops = seat.new.ops } }
-    ensures over { IsRoundOver B.log B.access_gives shared.now.host queue.old queue.new row.old row.new result.next bus.old bus.new seat.old.ops seat.new.ops }
+    ensures over { IsRoundOver B.log B.access_gives shared.now.host queue.old queue.new row.old row.new result.next bus.old bus.new
+        seat.old.ops seat.new.ops }
 {
     let turn = queue.drive_turn(bus, counters, seat, &shared.ports);
     let slots = slots_of(&turn);

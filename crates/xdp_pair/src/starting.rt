@@ -46,7 +46,8 @@ pub(crate) fn start_backs<'s, E, R: Wait + Sync, G: Gate + Sync>(
             promise,
             move || -> BackDone
                 requires { IsBackOf counters.now shared.now.layout.queues kit × (counters.now.shapes ≡ program.now.shapes) }
-                ensures { IsSeatOf counters.entry.now result.seat × (result.seat.number ≡ kit.seat.number) × IsWork (task_of program.entry.now shared.entry.now) turns result.row result.seat }
+                ensures { IsSeatOf counters.entry.now result.seat × (result.seat.number ≡ kit.seat.number) ×
+                    IsWork (task_of program.entry.now shared.entry.now) turns result.row result.seat }
             {
                 let mut bus = PageBus::of(&shared.frames);
                 work_back(rt, gate, turns, program, shared, counters, &mut bus, kit)

@@ -12,7 +12,8 @@ use Rattle.xdp_program.specs.declared.fault.SettingsFault.TheVariants.{Text, Pro
 
 -- the text spells settings whose program, with nothing to refuse, and whose maps these are
 abbrev pub IsProgramOf : List ℕ → Accepted → Type 0
-IsProgramOf text p = (s : SetupView) × (setup_of text ≡ Ok s) × Spells p.code s.program × (p.shapes ≡ s.shapes) × IsFaultless p.code p.shapes
+IsProgramOf text p = (s : SetupView) × (setup_of text ≡ Ok s) × Spells p.code s.program × (p.shapes ≡ s.shapes) ×
+    IsFaultless p.code p.shapes
 
 -- the text's fault, or out of memory as it is read; or the text spells settings, of at most four maps, and this is the fault of
 -- their program with these

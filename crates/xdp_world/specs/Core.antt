@@ -42,4 +42,5 @@ pub record IsHalted (w : Wiring) (start : ℕ) (events : List Event) : Type 0 wh
 
 -- Each step has its event, but those of queues that had halted before it.
 abbrev pub HaveEvents : (ℕ → Wiring) → ℕ → List Entry → Type 0
-HaveEvents wirings start es = (i : ℕ) (e : Entry) → slice_get es i ≡ Some e → e.event ≡ None → IsHalted (wirings e.queue) start (events_of e.queue (take i es))
+HaveEvents wirings start es = (i : ℕ) (e : Entry) → slice_get es i ≡ Some e → e.event ≡ None →
+    IsHalted (wirings e.queue) start (events_of e.queue (take i es))

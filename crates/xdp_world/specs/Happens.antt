@@ -63,11 +63,13 @@ pub record Rests (old new : Queue) (c d : TotalsView) (op : Option Op) (kept : O
 abbrev pub Moved : ℕ → Queue → Option Event → Queue → Type 0
 Moved answer old None new = (want_of (rest old) ≡ want.Done) × (rest new ≡ rest old) × (wiring_of new ≡ wiring_of old)
 Moved answer old (Some e) new =
-    (m : Steps Ending) × (kept : Option Kept) × Goes (rest old) e m × Serves e answer × Comes old m new kept × (wiring_of new ≡ wiring_of old)
+    (m : Steps Ending) × (kept : Option Kept) × Goes (rest old) e m × Serves e answer × Comes old m new kept ×
+    (wiring_of new ≡ wiring_of old)
 
 -- the same, with the turn that was over by it
 abbrev pub MovedBy : ℕ → Queue → Option Event → Option Kept → Queue → Type 0
 MovedBy answer old None kept new =
-    (want_of (rest old) ≡ want.Done) × (rest new ≡ rest old) × (state_of new ≡ state_of old) × (wiring_of new ≡ wiring_of old) × (kept ≡ None)
+    (want_of (rest old) ≡ want.Done) × (rest new ≡ rest old) × (state_of new ≡ state_of old) × (wiring_of new ≡ wiring_of old) ×
+    (kept ≡ None)
 MovedBy answer old (Some e) kept new =
     (m : Steps Ending) × Goes (rest old) e m × Serves e answer × Comes old m new kept × (wiring_of new ≡ wiring_of old)

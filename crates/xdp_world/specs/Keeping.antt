@@ -7,7 +7,8 @@ use Rattle.xdp_world.specs.declared.kept.Kept.TheVariants as kept
 
 abbrev pub Keeps : Turned → Kept → Type 0
 Keeps Idle kept.Idle = Unit {0}
-Keeps (Ran number packet ops slots) (kept.Ran action n bytes o k) = (action ≡ action_of number) × (n ≡ number) × (bytes.items ≡ packet) × (o ≡ ops) × (k ≡ slots)
+Keeps (Ran number packet ops slots) (kept.Ran action n bytes o k) = (action ≡ action_of number) × (n ≡ number) ×
+    (bytes.items ≡ packet) × (o ≡ ops) × (k ≡ slots)
 Keeps (Refused cause ops slots) (kept.Refused c o k) = (c ≡ cause) × (o ≡ ops) × (k ≡ slots)
 Keeps (Halted cause) (kept.Halted c) = c ≡ cause
 Keeps u k = ⊥

@@ -36,7 +36,8 @@ AreOf queue (e ∷ es) = (e.queue ≡ queue) × AreOf queue es
 -- and none is left.
 pub data Stops (w : Wiring) (start : ℕ) (events : List Event) (kept : List Kept) (left : List ℕ) : Type 0 where
   halts : IsHalted w start events → Stops w start events kept left
-  reads : (share : IsShare w start events kept) (at : Place) → want_of share.left ≡ want.Read at → left ≡ [] → Stops w start events kept left
+  reads : (share : IsShare w start events kept) (at : Place) → want_of share.left ≡ want.Read at → left ≡ [] →
+      Stops w start events kept left
 
 -- The report is of a run through steps of this queue, whose reads took the answers in order, as far as it came.
 pub record IsReplay (program : Accepted) (queues ifindex start queue : ℕ) (answers : List ℕ) (r : Report) : Type 0 where

@@ -1,5 +1,6 @@
 -- What a world stands for.
-use Rattle.std.specs.Prelude.{ℕ, ◌≡◌, ◌<◌, ◌++◌, ◌∷◌, List, [], Option, Some, None, length, slice_get, slice_index_or, vec_len, vec_capacity}
+use Rattle.std.specs.Prelude.{ℕ, ◌≡◌, ◌<◌, ◌++◌, ◌∷◌, List, [], Option, Some, None, length, slice_get, slice_index_or, vec_len}
+use Rattle.std.specs.Prelude.{vec_capacity}
 use Rattle.std.specs.Global.{Vec}
 use Rattle.bpf_maps.specs.Seats.{total_at}
 use Rattle.bpf_note.specs.History.{IsLegal, left_in}
@@ -31,7 +32,8 @@ pub record SoFar (w : Wiring) (start : ℕ) (events : List Event) (kept : List K
 
 -- The world has come through these entries, from queues with these wirings that began at this index.
 pub record Stands (world : World) (wirings : ℕ → Wiring) (start : ℕ) (es : List Entry) : Type 0 where
-  pub each : (i : ℕ) (d : Queue) → i < length world.queues.items → SoFar (wirings i) start (events_of i es) (kept_in world.turns.items i) (slice_index_or world.queues.items i d)
+  pub each : (i : ℕ) (d : Queue) → i < length world.queues.items →
+      SoFar (wirings i) start (events_of i es) (kept_in world.turns.items i) (slice_index_or world.queues.items i d)
   pub events : HaveEvents wirings start es
   pub serve : AllServe es
   pub past : world.history.items ≡ history es

@@ -30,7 +30,8 @@ pub(crate) fn serve(
     ensures shapes { counters.new.shapes ≡ counters.old.shapes }
     ensures empty { vec_len spare.new ≡ 0 }
     ensures halted { want_of (rest queue.old) ≡ Want.Done → Rests queue.old queue.new counters.old counters.new result.op result.kept }
-    ensures event { want_of (rest queue.old) ≢ Want.Done → Happens queue.old queue.new counters.old counters.new answer result.op result.kept }
+    ensures event { want_of (rest queue.old) ≢ Want.Done →
+        Happens queue.old queue.new counters.old counters.new answer result.op result.kept }
 {
     match queue.wanted() {
         Want::Done => return Served {

@@ -18,5 +18,6 @@ pub struct World<'p, 'b> {
     pub(crate) spare: Vec<u8>,
     ghost size: { vec_len turns ≡ vec_len queues },
     ghost empty: { vec_len spare ≡ 0 },
-    ghost shapes: { (i : ℕ) (d : Queue) → i < length queues.items → (wiring_of (slice_index_or queues.items i d)).program.now.shapes ≡ counters.shapes },
+    ghost shapes: { (i : ℕ) (d : Queue) → i < length queues.items →
+        (wiring_of (slice_index_or queues.items i d)).program.now.shapes ≡ counters.shapes },
 }

@@ -24,13 +24,15 @@ labels [] = []
 labels (e ∷ t) = label_of e ++ labels t
 
 -- what was done over a bus and a seat in going from one computation to another
-pub record Driven {A S : Type 0} (log : S → Option (List Access)) (gives : S → Access → S → Type 0) (s s' : Steps A) (bus bus' : S) (ops ops' : List Op) (t : List Event) : Type 0 where
+pub record Driven {A S : Type 0} (log : S → Option (List Access)) (gives : S → Access → S →
+    Type 0) (s s' : Steps A) (bus bus' : S) (ops ops' : List Op) (t : List Event) : Type 0 where
   pub gone : Gone s t s'
   pub performed : Performs log gives bus (accesses t) bus'
   pub grown : ops' ≡ ops ++ labels t
 
 -- A turn is over: its trace is a turn's, its accesses are the bus's, and its labels are what the seat's operations grew by.
-pub record IsTurnOver {S : Type 0} (log : S → Option (List Access)) (gives : S → Access → S → Type 0) (old new : Queue) (shown : Turn) (bus bus' : S) (ops ops' : List Op) : Type 0 where
+pub record IsTurnOver {S : Type 0} (log : S → Option (List Access)) (gives : S → Access → S →
+    Type 0) (old new : Queue) (shown : Turn) (bus bus' : S) (ops ops' : List Op) : Type 0 where
   pub trace : List Event
   pub turned : Turned
   pub is_turn : IsTurn (wiring_of old) (state_of old) trace (state_of new) turned

@@ -16,7 +16,8 @@ use Rattle.xen_back.specs.declared.wiring.Wiring.{Wiring}
 
 -- after a slot behind those of a chain: so many slots are left
 abbrev pub after_slot : Wiring → State → ℕ → List Slot → Slot → Steps Ending
-after_slot w s left chain slot = bind (judged (chain ++ slot ∷ []) (standing (chain ++ slot ∷ [])) (read_slots w s.tx_index left (chain ++ slot ∷ []))) (after_scan w s)
+after_slot w s left chain slot = bind (judged (chain ++ slot ∷ []) (standing (chain ++ slot ∷ []))
+    (read_slots w s.tx_index left (chain ++ slot ∷ []))) (after_scan w s)
 
 -- after a fragment, or where its grant is refused
 abbrev pub after_fragment : Wiring → List Fragment → (Option (List ℕ) → Steps Ending) → List ℕ → Result Unit GrantFault → Steps Ending

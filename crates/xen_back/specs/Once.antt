@@ -38,7 +38,8 @@ AreDistinct (p ∷ ps) = AllOther p ps × AreDistinct ps
 -- the three words of each of so many slots, the first of them the i-th from t
 abbrev pub slot_places : Wiring → ℕ → ℕ → ℕ → List Place
 slot_places w t i zero = []
-slot_places w t i (suc n) = tx_slot w.vif (add32 t i) 0 ∷ tx_slot w.vif (add32 t i) 1 ∷ tx_slot w.vif (add32 t i) 2 ∷ slot_places w t (i + 1) n
+slot_places w t i (suc n) = tx_slot w.vif (add32 t i) 0 ∷ tx_slot w.vif (add32 t i) 1 ∷ tx_slot w.vif (add32 t i) 2
+    ∷ slot_places w t (i + 1) n
 
 -- so many words of a frame, in rising order
 abbrev pub page_places : ℕ → ℕ → ℕ → List Place
@@ -71,7 +72,8 @@ FragmentsOnce = (w : Wiring) (fs : List Fragment) (p : List Event) (out : Option
 abbrev pub target_places : Wiring → ℕ → ℕ → List ℕ → List Place
 target_places w x i [] = []
 target_places w x i (gref ∷ grefs) =
-    rx_slot w.vif (add32 x i) 0 ∷ rx_slot w.vif (add32 x i) 1 ∷ (entry_places (entry_place w.vif.table.now gref) ++ target_places w x (i + 1) grefs)
+    rx_slot w.vif (add32 x i) 0 ∷ rx_slot w.vif (add32 x i) 1
+    ∷ (entry_places (entry_place w.vif.table.now gref) ++ target_places w x (i + 1) grefs)
 
 -- Of the rx slots that a transmit takes both words are read, and its entry's words, one after another and nothing else.
 abbrev pub TargetsOnce : Type 0

@@ -1,5 +1,6 @@
 -- The parts of a turn's trace, each fixed by the answers before it.
-use Rattle.std.specs.Prelude.{ℕ, ◌≡◌, ◌≢◌, ◌<◌, ◌≤◌, ◌+◌, ◌/◌, ◌^◌, ◌⊎◌, false, List, [], ◌∷◌, ◌++◌, Option, Some, None, Ok, Err, length, take}
+use Rattle.std.specs.Prelude.{ℕ, ◌≡◌, ◌≢◌, ◌<◌, ◌≤◌, ◌+◌, ◌/◌, ◌^◌, ◌⊎◌, false, List, [], ◌∷◌, ◌++◌, Option, Some, None, Ok, Err}
+use Rattle.std.specs.Prelude.{length, take}
 use Rattle.xen_netif.specs.Chain.{Slot, WantsData, WantsExtra}
 use Rattle.xen_netif.specs.Copy.{copy_of}
 use Rattle.xen_netif.specs.declared.fragment.Fragment.{Fragment}
@@ -54,10 +55,12 @@ abbrev pub behind : List ℕ → Option (List ℕ) → Option (List ℕ)
 behind bytes None = None
 behind bytes (Some later) = Some (bytes ++ later)
 
--- The copy of fragments: of each its grant's entry and, if that grants a frame, the covered words, once each; up to the first that is refused.
+-- The copy of fragments: of each its grant's entry and, if that grants a frame, the covered words, once each; up to the first that
+-- is refused.
 pub data IsCopy (w : Wiring) : List Fragment → List Event → Option (List ℕ) → Type 0 where
   copied : IsCopy w [] [] (Some [])
-  denied : (f : Fragment) (fs : List Fragment) (p : List Event) (fault : GrantFault) → IsEntry w.vif false f.gref p (Err fault) → IsCopy w (f ∷ fs) p None
+  denied : (f : Fragment) (fs : List Fragment) (p : List Event) (fault : GrantFault) → IsEntry w.vif false f.gref p (Err fault) →
+      IsCopy w (f ∷ fs) p None
   part : (f : Fragment) (fs : List Fragment) (p q : List Event) (frame : ℕ) (words : List ℕ) (out : Option (List ℕ)) →
       IsEntry w.vif false f.gref p (Ok frame) → length words ≡ covered f → AreWords words → IsCopy w fs q out →
       IsCopy w (f ∷ fs) (p ++ (page_reads frame (f.offset / 4) words ++ q)) (behind (copy_of f words) out)

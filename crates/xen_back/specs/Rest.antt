@@ -9,7 +9,9 @@ use Rattle.xen_transmit.specs.Rest.{rest_of}
 use Rattle.xen_steps.specs.Steps.{Steps, done, never, bind}
 use Rattle.xen_back.specs.Turned.{Ending, turned}
 use Rattle.xen_transmit.specs.Entries.{entry_at, entry_checked}
-use Rattle.xen_back.specs.Tree.{whole_turn, announce, check_again, after_look, after_scan, after_copy, after_run, after_transmit, read_slot, second, third, judged, read_slots, answer, answered, halted, respond, read_event, notice, entered, copy, program}
+use Rattle.xen_back.specs.Tree.{whole_turn, announce, check_again, after_look, after_scan, after_copy, after_run, after_transmit}
+use Rattle.xen_back.specs.Tree.{read_slot, second, third, judged, read_slots, answer, answered, halted, respond, read_event, notice}
+use Rattle.xen_back.specs.Tree.{entered, copy, program}
 use Rattle.xen_steps.specs.Pages.{copy_words}
 use Rattle.xen_back.specs.declared.by_event.phase.Phase.{Phase}
 use Rattle.xen_back.specs.declared.by_event.phase.Phase.TheVariants as phase
@@ -23,7 +25,8 @@ use Rattle.xen_back.specs.declared.wiring.Wiring.{Wiring}
 -- so many slots are left after the one that is being read
 abbrev pub rest_of_slot : Wiring → State → ℕ → List Slot → Steps Slot → Steps Ending
 rest_of_slot w s left slots reading =
-    bind (bind reading (λ slot. judged (slots ++ slot ∷ []) (standing (slots ++ slot ∷ [])) (read_slots w s.tx_index left (slots ++ slot ∷ [])))) (after_scan w s)
+    bind (bind reading (λ slot. judged (slots ++ slot ∷ []) (standing (slots ++ slot ∷ []))
+    (read_slots w s.tx_index left (slots ++ slot ∷ [])))) (after_scan w s)
 
 abbrev pub rest_at : Wiring → State → List ℕ → Phase → Steps Ending
 rest_at w s packet phase.Ready = whole_turn w s
@@ -45,10 +48,13 @@ fragment_at fragments i = slice_index_or fragments i (record { gref = 0; offset 
 abbrev pub rest_in : Wiring → State → Stage → Steps Ending
 rest_in w s (stage.At packet phase) = rest_at w s packet phase
 rest_in w s (stage.EntryFlags e) =
-    bind (bind (entry_at w.vif false (Some e.at)) (entered (fragment_at e.fragments.items e.i) (copy w (drop (e.i + 1) e.fragments.items)) e.packet)) (after_copy w s e.chain)
+    bind (bind (entry_at w.vif false (Some e.at)) (entered (fragment_at e.fragments.items e.i)
+    (copy w (drop (e.i + 1) e.fragments.items)) e.packet)) (after_copy w s e.chain)
 rest_in w s (stage.EntryFrame e a) =
-    bind (bind (entry_checked w.vif false e.at a) (entered (fragment_at e.fragments.items e.i) (copy w (drop (e.i + 1) e.fragments.items)) e.packet)) (after_copy w s e.chain)
-rest_in w s (stage.Page g) = bind (bind (copy_words g.fragment g.frame g.place (suc g.n) g.packet) (copy w (drop g.i g.fragments.items))) (after_copy w s g.chain)
+    bind (bind (entry_checked w.vif false e.at a) (entered (fragment_at e.fragments.items e.i)
+    (copy w (drop (e.i + 1) e.fragments.items)) e.packet)) (after_copy w s e.chain)
+rest_in w s (stage.Page g) = bind (bind (copy_words g.fragment g.frame g.place (suc g.n) g.packet)
+    (copy w (drop g.i g.fragments.items))) (after_copy w s g.chain)
 rest_in w s (stage.Run r) = bind (program (left r.vm) r.ops) (after_run w s r.chain)
 rest_in w s (stage.Send packet t) = bind (rest_of w.vif s.rx_index packet t.transmit.phase) (after_transmit w s t.chain packet t.ops)
 rest_in w s stage.Gone = never

@@ -1,5 +1,6 @@
 -- One turn of a back queue, as a computation that asks.
-use Rattle.std.specs.Prelude.{ℕ, zero, suc, ◌+◌, ◌/◌, ◌%◌, ◌^◌, Bool, true, false, ◌==◌, List, [], ◌∷◌, ◌++◌, length, Option, Some, None, Result, Ok, Err, if◌then◌else◌}
+use Rattle.std.specs.Prelude.{ℕ, zero, suc, ◌+◌, ◌/◌, ◌%◌, ◌^◌, Bool, true, false, ◌==◌, List, [], ◌∷◌, ◌++◌, length, Option, Some}
+use Rattle.std.specs.Prelude.{None, Result, Ok, Err, if◌then◌else◌}
 use Rattle.bpf_verify.specs.Consistent.{instructions}
 use Rattle.bpf_vm.specs.Course.{Course, Exiting, Stepping, Loading, Adding, Broken, course, start_state}
 use Rattle.xen_netif.specs.Chain.{Slot}
@@ -75,7 +76,8 @@ judged slots None rest = never
 abbrev pub read_slots : Wiring → ℕ → ℕ → List Slot → Steps Scan
 read_slots w t zero slots = done (Err halt.ShortChain)
 read_slots w t (suc left) slots =
-    bind (read_slot w (add32 t (length slots))) (λ s. judged (slots ++ s ∷ []) (standing (slots ++ s ∷ [])) (read_slots w t left (slots ++ s ∷ [])))
+    bind (read_slot w (add32 t (length slots))) (λ s.
+    judged (slots ++ s ∷ []) (standing (slots ++ s ∷ [])) (read_slots w t left (slots ++ s ∷ [])))
 
 -- the push, the event index, and a notice if one is due
 abbrev pub notice : Wiring → Bool → Ending → Steps Ending
@@ -114,7 +116,8 @@ program Broken ops = never
 abbrev pub after_transmit : Wiring → State → List Slot → List ℕ → ℕ → Outcome → Steps Ending
 after_transmit w s slots packet ops outcome.Overflow = halted s halt.RxProducer
 after_transmit w s slots packet ops outcome.TooFew = respond w s slots status.Error (Refused refusal.FewSlots ops (length slots))
-after_transmit w s slots packet ops (outcome.Refused used) = respond w (moved s used) slots status.Error (Refused refusal.RxGrant ops (length slots))
+after_transmit w s slots packet ops (outcome.Refused used) = respond w (moved s used) slots status.Error
+    (Refused refusal.RxGrant ops (length slots))
 after_transmit w s slots packet ops (outcome.Sent used) = respond w (moved s used) slots status.Okay (Ran 3 packet ops (length slots))
 
 abbrev pub send : Wiring → State → List Slot → List ℕ → ℕ → Steps Ending
@@ -122,7 +125,8 @@ send w s slots packet ops = bind (transmit w.vif s.rx_index packet) (after_trans
 
 abbrev pub after_run : Wiring → State → List Slot → Left → Steps Ending
 after_run w s slots r =
-    if r.number == 3 then send w s slots r.packet r.ops else respond w s slots (status_of r.number) (Ran r.number r.packet r.ops (length slots))
+    if r.number == 3 then send w s slots r.packet r.ops
+    else respond w s slots (status_of r.number) (Ran r.number r.packet r.ops (length slots))
 
 -- what the wired program does on a packet
 abbrev pub run_of : Wiring → List ℕ → Course

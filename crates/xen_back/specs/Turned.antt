@@ -29,7 +29,8 @@ turned (kind.Halted cause) packet = Halted cause
 -- what a host is shown of a turn
 abbrev pub Shows : Turned → Turn → Type 0
 Shows Idle turn.Idle = Unit {0}
-Shows (Ran number packet ops slots) (turn.Ran action n bytes o k) = (action ≡ action_of number) × (n ≡ number) × (bytes.now ≡ packet) × (o ≡ ops) × (k ≡ slots)
+Shows (Ran number packet ops slots) (turn.Ran action n bytes o k) = (action ≡ action_of number) × (n ≡ number) ×
+    (bytes.now ≡ packet) × (o ≡ ops) × (k ≡ slots)
 Shows (Refused cause ops slots) (turn.Refused c o k) = (c ≡ cause) × (o ≡ ops) × (k ≡ slots)
 Shows (Halted cause) (turn.Halted c) = c ≡ cause
 Shows u shown = ⊥

@@ -39,7 +39,8 @@ pub record HasRun (w : Wiring) (s : State) (p : List Event) (slots : List Slot) 
 pub data IsTurn (w : Wiring) (s : State) : List Event → State → Turned → Type 0 where
   still_halted : (cause : Halt) → s.halt ≡ Some cause → IsTurn w s [] s (Halted cause)
   idle : (p1 : List Event) → s.halt ≡ None → IsLook w s.tx_index p1 (Some 0) → IsTurn w s p1 s Idle
-  overflown : (p1 : List Event) → s.halt ≡ None → IsLook w s.tx_index p1 None → IsTurn w s p1 (record s { halt = Some halt.TxProducer }) (Halted halt.TxProducer)
+  overflown : (p1 : List Event) → s.halt ≡ None → IsLook w s.tx_index p1 None →
+      IsTurn w s p1 (record s { halt = Some halt.TxProducer }) (Halted halt.TxProducer)
   short : (p1 p2 : List Event) (n : ℕ) (slots : List Slot) → HasRead w s n p1 p2 slots → length slots ≡ n → IsBeginning slots →
       IsTurn w s (p1 ++ p2) (record s { halt = Some halt.ShortChain }) (Halted halt.ShortChain)
   broken : (p1 p2 : List Event) (n : ℕ) (slots : List Slot) (fault : ChainFault) → HasRead w s n p1 p2 slots → HasFault fault slots →
@@ -47,16 +48,24 @@ pub data IsTurn (w : Wiring) (s : State) : List Event → State → Turned → T
   refused_sizes : (p1 p2 p6 : List Event) (n : ℕ) (slots : List Slot) (fault : SizeFault) → HasRead w s n p1 p2 slots → IsChain slots →
       fragments_of slots ≡ Err fault → IsRespond w s.tx_index slots Error p6 →
       IsTurn w s (p1 ++ (p2 ++ p6)) (answered s (length slots)) (Refused (refusal.Size fault) 0 (length slots))
-  refused_grant : (p1 p2 p3 p6 : List Event) (n : ℕ) (slots : List Slot) (fragments : List Fragment) → HasRead w s n p1 p2 slots → IsChain slots →
+  refused_grant : (p1 p2 p3 p6 : List Event) (n : ℕ) (slots : List Slot) (fragments : List Fragment) → HasRead w s n p1 p2 slots →
+      IsChain slots →
       fragments_of slots ≡ Ok fragments → IsCopy w fragments p3 None → IsRespond w s.tx_index slots Error p6 →
       IsTurn w s (p1 ++ (p2 ++ (p3 ++ p6))) (answered s (length slots)) (Refused refusal.Grant 0 (length slots))
-  ran : (p p6 : List Event) (slots : List Slot) (out : Left) → HasRun w s p slots out → out.number ≢ 3 → IsRespond w s.tx_index slots (status_of out.number) p6 →
+  ran : (p p6 : List Event) (slots : List Slot) (out : Left) → HasRun w s p slots out → out.number ≢ 3 →
+      IsRespond w s.tx_index slots (status_of out.number) p6 →
       IsTurn w s (p ++ p6) (answered s (length slots)) (Ran out.number out.packet out.ops (length slots))
-  halted_rx : (p p5 : List Event) (slots : List Slot) (out : Left) → HasRun w s p slots out → out.number ≡ 3 → IsTransmit w.vif s.rx_index out.packet p5 outcome.Overflow →
+  halted_rx : (p p5 : List Event) (slots : List Slot) (out : Left) → HasRun w s p slots out → out.number ≡ 3 →
+      IsTransmit w.vif s.rx_index out.packet p5 outcome.Overflow →
       IsTurn w s (p ++ p5) (record s { halt = Some halt.RxProducer }) (Halted halt.RxProducer)
-  refused_few : (p p5 p6 : List Event) (slots : List Slot) (out : Left) → HasRun w s p slots out → out.number ≡ 3 → IsTransmit w.vif s.rx_index out.packet p5 outcome.TooFew → IsRespond w s.tx_index slots Error p6 →
+  refused_few : (p p5 p6 : List Event) (slots : List Slot) (out : Left) → HasRun w s p slots out → out.number ≡ 3 →
+      IsTransmit w.vif s.rx_index out.packet p5 outcome.TooFew → IsRespond w s.tx_index slots Error p6 →
       IsTurn w s (p ++ (p5 ++ p6)) (answered s (length slots)) (Refused refusal.FewSlots out.ops (length slots))
-  refused_rx : (p p5 p6 : List Event) (used : ℕ) (slots : List Slot) (out : Left) → HasRun w s p slots out → out.number ≡ 3 → IsTransmit w.vif s.rx_index out.packet p5 (outcome.Refused used) →
-      IsRespond w s.tx_index slots Error p6 → IsTurn w s (p ++ (p5 ++ p6)) (answered (moved s used) (length slots)) (Refused refusal.RxGrant out.ops (length slots))
-  ran_tx : (p p5 p6 : List Event) (used : ℕ) (slots : List Slot) (out : Left) → HasRun w s p slots out → out.number ≡ 3 → IsTransmit w.vif s.rx_index out.packet p5 (outcome.Sent used) →
-      IsRespond w s.tx_index slots Okay p6 → IsTurn w s (p ++ (p5 ++ p6)) (answered (moved s used) (length slots)) (Ran 3 out.packet out.ops (length slots))
+  refused_rx : (p p5 p6 : List Event) (used : ℕ) (slots : List Slot) (out : Left) → HasRun w s p slots out → out.number ≡ 3 →
+      IsTransmit w.vif s.rx_index out.packet p5 (outcome.Refused used) →
+      IsRespond w s.tx_index slots Error p6 → IsTurn w s (p ++ (p5 ++ p6)) (answered (moved s used) (length slots))
+      (Refused refusal.RxGrant out.ops (length slots))
+  ran_tx : (p p5 p6 : List Event) (used : ℕ) (slots : List Slot) (out : Left) → HasRun w s p slots out → out.number ≡ 3 →
+      IsTransmit w.vif s.rx_index out.packet p5 (outcome.Sent used) →
+      IsRespond w s.tx_index slots Okay p6 → IsTurn w s (p ++ (p5 ++ p6)) (answered (moved s used) (length slots))
+      (Ran 3 out.packet out.ops (length slots))

@@ -96,7 +96,8 @@ pub(crate) fn after_sending(
     slots: u32,
     outcome: Outcome,
 ) -> Result<Reply, Halt>
-    ensures { (w : WiringView) → (chain : List Slot) → (packet : List ℕ) → length chain ≡ slots → after_transmit w state.now chain packet ops outcome ≡ after_reply w state.now chain packet result }
+    ensures { (w : WiringView) → (chain : List Slot) → (packet : List ℕ) → length chain ≡ slots →
+        after_transmit w state.now chain packet ops outcome ≡ after_reply w state.now chain packet result }
 {
     match outcome {
         Outcome::Overflow => Err(Halt::RxProducer),

@@ -25,23 +25,31 @@ ghost use Rattle.xen_back.specs.declared.wiring.Wiring.{Wiring};
 
 /// The runs of a copy and of a program are their parts of a turn's trace.
 pub fn parts_are_runs()
-    ensures copy { (w : Wiring) (fs : List Fragment) (p : List Event) (out : Option (List ℕ)) → Runs (copy w fs []) p out → IsCopy w fs p out }
-    ensures copied { (w : Wiring) (fs : List Fragment) (p : List Event) (out : Option (List ℕ)) → IsCopy w fs p out → Runs (copy w fs []) p out }
-    ensures program { (w : Wiring) (packet : List ℕ) (p : List Event) (out : Left) → Runs (program (run_of w packet) 0) p out → IsProgram w packet p out }
-    ensures ran { (w : Wiring) (packet : List ℕ) (p : List Event) (out : Left) → IsProgram w packet p out → Runs (program (run_of w packet) 0) p out }
+    ensures copy { (w : Wiring) (fs : List Fragment) (p : List Event) (out : Option (List ℕ)) → Runs (copy w fs []) p out →
+        IsCopy w fs p out }
+    ensures copied { (w : Wiring) (fs : List Fragment) (p : List Event) (out : Option (List ℕ)) → IsCopy w fs p out →
+        Runs (copy w fs []) p out }
+    ensures program { (w : Wiring) (packet : List ℕ) (p : List Event) (out : Left) → Runs (program (run_of w packet) 0) p out →
+        IsProgram w packet p out }
+    ensures ran { (w : Wiring) (packet : List ℕ) (p : List Event) (out : Left) → IsProgram w packet p out →
+        Runs (program (run_of w packet) 0) p out }
 {}
 
 /// The ways of a queue between turns to the next turn's end are exactly the turns.
 pub fn turns_are_rests()
-    ensures turns { (w : Wiring) (s : State) (p : List Event) (new : State) (u : Turned) → Runs (whole_turn w s) p (new, u) → IsTurn w s p new u }
-    ensures rests { (w : Wiring) (s : State) (p : List Event) (new : State) (u : Turned) → IsTurn w s p new u → Runs (whole_turn w s) p (new, u) }
+    ensures turns { (w : Wiring) (s : State) (p : List Event) (new : State) (u : Turned) → Runs (whole_turn w s) p (new, u) →
+        IsTurn w s p new u }
+    ensures rests { (w : Wiring) (s : State) (p : List Event) (new : State) (u : Turned) → IsTurn w s p new u →
+        Runs (whole_turn w s) p (new, u) }
 {}
 
 /// A turn makes at most 33,026 accesses, has at most as many program events as its program has instructions, and sends at
 /// most two notices. It touches the rings, the table and the frames that were granted to it in that turn, and nothing else.
 pub fn turns_are_bounded()
-    ensures accesses { (w : Wiring) (s : State) (p : List Event) (new : State) (u : Turned) → IsTurn w s p new u → length (accesses p) ≤ 33026 }
-    ensures instructions { (w : Wiring) (s : State) (p : List Event) (new : State) (u : Turned) → IsTurn w s p new u → program_events p ≤ instructions w.program.now.code }
+    ensures accesses { (w : Wiring) (s : State) (p : List Event) (new : State) (u : Turned) → IsTurn w s p new u →
+        length (accesses p) ≤ 33026 }
+    ensures instructions { (w : Wiring) (s : State) (p : List Event) (new : State) (u : Turned) → IsTurn w s p new u →
+        program_events p ≤ instructions w.program.now.code }
     ensures notices { (w : Wiring) (s : State) (p : List Event) (new : State) (u : Turned) → IsTurn w s p new u → notices_in p ≤ 2 }
     ensures touches { (w : Wiring) (s : State) (p : List Event) (new : State) (u : Turned) → IsTurn w s p new u → AllAllowed w.vif p p }
 {}
@@ -60,8 +68,10 @@ pub fn words_are_read_once()
 
 /// A queue that is fed an answer has those ways to the turn's end that began with the answered event, without that event.
 pub fn feeding_takes_the_rests()
-    ensures kept { (s left : Steps Ending) (e : Event) (p : List Event) (end : Ending) → Goes s e left → Runs s (e ∷ p) end → Runs left p end }
-    ensures alone { (s left : Steps Ending) (e : Event) (p : List Event) (end : Ending) → Goes s e left → Runs left p end → Runs s (e ∷ p) end }
+    ensures kept { (s left : Steps Ending) (e : Event) (p : List Event) (end : Ending) → Goes s e left → Runs s (e ∷ p) end →
+        Runs left p end }
+    ensures alone { (s left : Steps Ending) (e : Event) (p : List Event) (end : Ending) → Goes s e left → Runs left p end →
+        Runs s (e ∷ p) end }
     ensures fed { (s : Steps Ending) (answer : Answer) → Fits (want_of s) answer → word_in answer < 2 ^ 32 → counter_in answer < 2 ^ 64 →
         (e : Event) × Goes s e (next s (number answer)) }
 {}

@@ -41,4 +41,13 @@ pub record IsWired (w : Wiring) : Type 0 where
 -- what a front is wired to
 abbrev pub wiring_in : FrontDesc → Wiring
 wiring_in d =
-    record { frames = d.frames; tx_frame = d.tx_frame; rx_frame = d.rx_frame; table = d.table; tx = d.tx; rx = d.rx; back = d.back; port = d.port }
+    record {
+      frames = d.frames;
+      tx_frame = d.tx_frame;
+      rx_frame = d.rx_frame;
+      table = d.table;
+      tx = d.tx;
+      rx = d.rx;
+      back = d.back;
+      port = d.port;
+    }

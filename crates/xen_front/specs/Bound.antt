@@ -39,7 +39,10 @@ pub record HasFlags (s : State) : Type 0 where
 -- Each activity of a wired front keeps to the front's frames, and has at most so many events: a send 16 pieces of 2 + 1,024 + 3
 -- words and the push, a poll two looks of 3, 2 for each of 256 tx responses and a last one, and 16 slots of 3 + 1,024 words.
 pub record AreShort : Type 0 where
-  pub sends : (w : Wiring) (s : State) (p ids : List ℕ) (t : List Event) (s' : State) (g : Given) → IsWired w → length ids ≤ 16 → All (λ id. id < 256) ids →
+  pub sends : (w : Wiring) (s : State) (p ids : List ℕ) (t : List Event) (s' : State) (g : Given) → IsWired w → length ids ≤ 16 →
+      All (λ id. id < 256) ids →
       IsSend w s p ids t s' g → (length t ≤ 16467) × AreOwn w t
-  pub posts : (w : Wiring) (s : State) (id : ℕ) (t : List Event) (s' : State) (g : Given) → IsWired w → id < 256 → IsPost w s id t s' g → (length t ≤ 7) × AreOwn w t
-  pub polls : (w : Wiring) (s : State) (t : List Event) (s' : State) (g : Given) → IsWired w → HasFlags s → IsPoll w s t s' g → (length t ≤ 16951) × AreOwn w t
+  pub posts : (w : Wiring) (s : State) (id : ℕ) (t : List Event) (s' : State) (g : Given) → IsWired w → id < 256 →
+      IsPost w s id t s' g → (length t ≤ 7) × AreOwn w t
+  pub polls : (w : Wiring) (s : State) (t : List Event) (s' : State) (g : Given) → IsWired w → HasFlags s → IsPoll w s t s' g →
+      (length t ≤ 16951) × AreOwn w t

@@ -11,7 +11,8 @@ use Rattle.xen_front.specs.declared.front.Front.{Front}
 use Rattle.xen_front.specs.declared.turn.RxTurn.{RxTurn}
 
 -- An activity is over: its trace is a run of what was left, and its accesses are the bus's.
-pub record IsDriven {S : Type 0} (log : S → Option (List Access)) (gives : S → Access → S → Type 0) (old new : Front) (shown : RxTurn) (bus bus' : S) : Type 0 where
+pub record IsDriven {S : Type 0} (log : S → Option (List Access)) (gives : S → Access → S →
+    Type 0) (old new : Front) (shown : RxTurn) (bus bus' : S) : Type 0 where
   pub trace : List Event
   pub given : Given
   pub run : Runs (rest old) trace (state_of new, given)

@@ -1,5 +1,6 @@
 -- What contracts see of a front.
-use Rattle.std.specs.Prelude.{ℕ, zero, suc, ◌≡◌, ◌≢◌, ◌+◌, Bool, true, false, List, [], ◌∷◌, length, take, get_or, Option, Some, None, Result, Ok, Err, nat_lt, if◌then◌else◌}
+use Rattle.std.specs.Prelude.{ℕ, zero, suc, ◌≡◌, ◌≢◌, ◌+◌, Bool, true, false, List, [], ◌∷◌, length, take, get_or, Option, Some}
+use Rattle.std.specs.Prelude.{None, Result, Ok, Err, nat_lt, if◌then◌else◌}
 use Rattle.xen_steps.specs.Answers.{number}
 use Rattle.xen_steps.specs.Drive.{IsPageWant}
 use Rattle.xen_steps.specs.Steps.{Steps, done, next, want_of}
@@ -58,7 +59,8 @@ send_tests None false false false false = Ok tt
 
 abbrev pub send_answer : Front → List ℕ → Result (Unit {0}) SendRefusal
 send_answer f p =
-    send_tests f.state.halt (busy f) (nat_lt (length p) 14) (nat_lt 65535 (length p)) (nat_lt (length (all_free f.state.tx.out)) (pieces_of (length p)))
+    send_tests f.state.halt (busy f) (nat_lt (length p) 14) (nat_lt 65535 (length p))
+    (nat_lt (length (all_free f.state.tx.out)) (pieces_of (length p)))
 
 abbrev pub post_tests : Option Halt → Bool → List ℕ → Result (Unit {0}) PostRefusal
 post_tests (Some cause) b ids = Err post_refusal.Halted

@@ -8,8 +8,10 @@ use Rattle.xen_steps.specs.Places.{add32}
 use Rattle.xen_steps.specs.Steps.{Steps, done, ask, bind}
 use Rattle.xen_steps.specs.declared.want.Want.TheVariants as want
 use Rattle.xen_front.specs.Given.{Ending, Idle, given}
-use Rattle.xen_front.specs.Slots.{buffer, covered_bytes, ended, filling, grant_place, piece_request, piece_words, piece_writes, post_writes, send_writes, tx_writes}
-use Rattle.xen_front.specs.Tree.{Gathered, after_rx_look, after_tx_look, announce, chained, first_word, grown, look_again, notice, poll, publish, read_event, read_page, receive, second_word, take_all}
+use Rattle.xen_front.specs.Slots.{buffer, covered_bytes, ended, filling, grant_place, piece_request, piece_words, piece_writes}
+use Rattle.xen_front.specs.Slots.{post_writes, send_writes, tx_writes}
+use Rattle.xen_front.specs.Tree.{Gathered, after_rx_look, after_tx_look, announce, chained, first_word, grown, look_again, notice}
+use Rattle.xen_front.specs.Tree.{poll, publish, read_event, read_page, receive, second_word, take_all}
 use Rattle.xen_front.specs.declared.by_event.phase.Chained.{Chained}
 use Rattle.xen_front.specs.declared.by_event.phase.Part.{Part}
 use Rattle.xen_front.specs.declared.by_event.phase.Phase.{Phase}
@@ -55,7 +57,8 @@ abbrev pub rest_at : Wiring → State → List ℕ → List ℕ → Phase → St
 rest_at w s p q phase.Ready = done (s, Idle)
 rest_at w s p q (phase.GrantFrame r) = sending w s p r (piece_writes w r.start p (pieces r) r.index (id_of r))
 rest_at w s p q (phase.GrantFlags r) =
-    sending w s p r (record { at = grant_place w (buffer w.tx.now (id_of r)); value = joined 5 w.back } ∷ filling w r.start p (pieces r) r.index (id_of r) (piece_words (length p) r.index) 0)
+    sending w s p r (record { at = grant_place w (buffer w.tx.now (id_of r)); value = joined 5 w.back }
+    ∷ filling w r.start p (pieces r) r.index (id_of r) (piece_words (length p) r.index) 0)
 rest_at w s p q (phase.Fill f) = filling_from w s p f.piece f.written
 rest_at w s p q (phase.Second r) = sending w s p r (slot_from w p r 1)
 rest_at w s p q (phase.Third r) = sending w s p r (slot_from w p r 2)
@@ -76,7 +79,8 @@ rest_at w s p q phase.RxLookAgain = bind (look_again w.rx_frame s.rx) (after_rx_
 rest_at w s p q (phase.RxFirst c) = first_word w s (gathered c q) (receive w c.left)
 rest_at w s p q (phase.RxSecond c a) = second_word w s (gathered c q) a (receive w c.left)
 rest_at w s p q (phase.RxEnd x) =
-    ask (want.Write (ended w (buffer w.rx.now x.response.id)).at 0) (λ _. read_page w s (gathered x.chained q) x.response (receive w x.chained.left))
+    ask (want.Write (ended w (buffer w.rx.now x.response.id)).at 0)
+    (λ _. read_page w s (gathered x.chained q) x.response (receive w x.chained.left))
 rest_at w s p q (phase.RxPage g) =
     bind (copy_words g.fragment g.frame g.place (suc g.more) q) (part_rest w s g.part)
 rest_at w s p q (phase.Ended kind) = done (s, given kind q)

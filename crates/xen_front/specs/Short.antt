@@ -14,4 +14,5 @@ IsShort w s p q x = Bounded (IsPageWant w.frames) Any (rest_at w s p q x) 17000
 
 pub IsShort-prop : (w : Wiring) (s : State) (p q : List ℕ) (x : Phase) → IsProp (IsShort w s p q x)
 unfolding IsShort
-IsShort-prop w s p q x = Bounded-prop (IsPageWant w.frames) Any (IsPageWant-prop w.frames) (λ (y : Ending). Unit-prop) (rest_at w s p q x) 17000
+IsShort-prop w s p q x = Bounded-prop (IsPageWant w.frames) Any (IsPageWant-prop w.frames) (λ (y : Ending). Unit-prop)
+    (rest_at w s p q x) 17000

@@ -3,7 +3,8 @@ use Rattle.std.specs.Prelude.{ℕ, ◌+◌, ◌*◌, true, length, drop, Some}
 use Rattle.xen_steps.specs.Places.{add32}
 use Rattle.xen_steps.specs.Steps.{Steps, bind, done}
 use Rattle.xen_transmit.specs.Entries.{entry_at}
-use Rattle.xen_transmit.specs.Transmit.{after_targets, fill_from, outcome_of, posted, read_targets, rx_answer, rx_event, rx_notice, rx_publish, targeted, transmit}
+use Rattle.xen_transmit.specs.Transmit.{after_targets, fill_from, outcome_of, posted, read_targets, rx_answer, rx_event, rx_notice}
+use Rattle.xen_transmit.specs.Transmit.{rx_publish, targeted, transmit}
 use Rattle.xen_transmit.specs.declared.by_event.phase.Outcome.{Outcome}
 use Rattle.xen_transmit.specs.declared.vif.Vif.{Vif}
 use Rattle.xen_host.specs.declared.moving.Moved.{Moved}

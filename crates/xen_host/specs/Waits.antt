@@ -38,7 +38,8 @@ did_waiting w s at lent = []
 abbrev pub IsOnItsWay : Wiring → State → Option Waiting → ℕ → List Event → Type 0
 IsOnItsWay w s (Some (waiting.Begun n)) pages trace = (n ≡ pages) × (trace ≡ [])
 IsOnItsWay w s (Some (waiting.Store n)) pages trace = (n ≡ pages) × (s.halt ≡ None) × (trace ≡ [])
-IsOnItsWay w s (Some (waiting.Look n)) pages trace = (n ≡ pages) × (s.halt ≡ None) × (trace ≡ Write (rx_word w.vif 1) (add32 s.rx_index pages) ∷ [])
+IsOnItsWay w s (Some (waiting.Look n)) pages trace = (n ≡ pages) × (s.halt ≡ None) ×
+    (trace ≡ Write (rx_word w.vif 1) (add32 s.rx_index pages) ∷ [])
 IsOnItsWay w s None pages trace = ⊥
 
 -- The wait goes on; or it is over, and its events are a row of the table of waits.

@@ -1,6 +1,7 @@
 //! The chain of slots that a packet makes on the tx ring.
 
-ghost use Rattle.std.specs.Prelude.{[], ◌∷◌, ◌++◌, ◌≡◌, ◌≢◌, ◌↔◌, ◌≤◌, length, sum_by, Some, Ok, Err, MatchResult, OnOk, OnErr, IfOk, IsTrue};
+ghost use Rattle.std.specs.Prelude.{[], ◌∷◌, ◌++◌, ◌≡◌, ◌≢◌, ◌↔◌, ◌≤◌, length, sum_by, Some, Ok, Err, MatchResult, OnOk, OnErr};
+ghost use Rattle.std.specs.Prelude.{IfOk, IsTrue};
 ghost use Rattle.std.specs.List.{list_all};
 ghost use Rattle.xen_netif.specs.Chain.{Stands, requests_of};
 ghost use Rattle.xen_netif.specs.Fragments.{fragment_size, fragments_of, is_in_page, packet_size};

@@ -1,7 +1,8 @@
 -- What a grant has to be before it is used (grant_table.h: the grant table's flags and status codes).
 -- Rows from grant_table.h guard the numbers: `faults` of crates/outside_rows. Rows worked by hand guard the order:
 -- crates/xen_page_tests/src/tests/entries.rt.
-use Rattle.std.specs.Prelude.{ℕ, ℤ, negsuc, Bool, false, ◌&&◌, not, ◌==◌, List, [], ◌∷◌, Option, Some, None, Result, Ok, Err, slice_get, codes, if◌then◌else◌}
+use Rattle.std.specs.Prelude.{ℕ, ℤ, negsuc, Bool, false, ◌&&◌, not, ◌==◌, List, [], ◌∷◌, Option, Some, None, Result, Ok, Err}
+use Rattle.std.specs.Prelude.{slice_get, codes, if◌then◌else◌}
 use Rattle.xen_page.specs.Entry.{is_readonly, permits_access}
 use Rattle.xen_page.specs.declared.entry.Entry.{Entry}
 use Rattle.xen_page.specs.declared.fault.GrantFault.{GrantFault}

@@ -1,7 +1,8 @@
 -- Mappings of granted frames (grant_table.h: a mapping marks its entry GTF_reading, and GTF_writing if it may write;
 -- the marks are set and taken away by a compare-exchange of the flags).
 -- Rows worked by hand guard it: crates/xen_page_tests/src/tests/mappings.rt.
-use Rattle.std.specs.Prelude.{ℕ, ◌+◌, ◌≡◌, ◌≢◌, Bool, not, List, [], ◌∷◌, ◌++◌, None, Some, Result, Ok, Err, bit_or, slice_get, if◌then◌else◌}
+use Rattle.std.specs.Prelude.{ℕ, ◌+◌, ◌≡◌, ◌≢◌, Bool, not, List, [], ◌∷◌, ◌++◌, None, Some, Result, Ok, Err, bit_or, slice_get}
+use Rattle.std.specs.Prelude.{if◌then◌else◌}
 use Rattle.xen_page.specs.Entry.{entry_of, is_marked}
 use Rattle.xen_page.specs.Grant.{demands, first_fault}
 use Rattle.xen_page.specs.Table.{entry_place}

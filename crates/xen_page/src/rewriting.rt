@@ -53,7 +53,8 @@ impl<'a, B: Bus> Rewriter<'a, B> {
 
     /// Makes the writes that come before the next access, and counts it.
     fn rewrite(&mut self)
-        ensures performs { Performs B.log B.access_gives (bus_in self.old) (due_at (next_of self.old) (writes_of self.old)) (bus_in self.new) }
+        ensures performs { Performs B.log B.access_gives (bus_in self.old) (due_at (next_of self.old) (writes_of self.old))
+            (bus_in self.new) }
         ensures writes { writes_of self.new ≡ writes_of self.old }
         ensures next { next_of self.new ≡ number_of (next_of self.old) }
         ensures size { B.size (bus_in self.new) ≡ B.size (bus_in self.old) }

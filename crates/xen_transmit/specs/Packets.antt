@@ -1,5 +1,6 @@
 -- A packet's bytes as the words of posted buffers, and the responses to them.
-use Rattle.std.specs.Prelude.{ℕ, ℤ, pos, ◌+◌, ◌-◌, ◌*◌, ◌/◌, ◌%◌, ◌^◌, Bool, true, false, ◌&&◌, List, length, Option, Some, None, nat_lt, slice_index, slice_index_or, if◌then◌else◌}
+use Rattle.std.specs.Prelude.{ℕ, ℤ, pos, ◌+◌, ◌-◌, ◌*◌, ◌/◌, ◌%◌, ◌^◌, Bool, true, false, ◌&&◌, List, length, Option, Some, None}
+use Rattle.std.specs.Prelude.{nat_lt, slice_index, slice_index_or, if◌then◌else◌}
 use Rattle.xen_netif.specs.Slots.{rx_rsp_words, status_code}
 use Rattle.xen_netif.specs.declared.rx.RxRsp.{RxRsp}
 use Rattle.xen_netif.specs.declared.status.Status.TheVariants.{Error}
@@ -17,7 +18,8 @@ words packet = (length packet + 3) / 4
 -- the k-th word, low byte first; bytes past the packet's end are 0
 abbrev pub word_of : List ℕ → ℕ → ℕ
 word_of packet k =
-    slice_index packet (4 * k) + 2 ^ 8 * slice_index packet (4 * k + 1) + 2 ^ 16 * slice_index packet (4 * k + 2) + 2 ^ 24 * slice_index packet (4 * k + 3)
+    slice_index packet (4 * k) + 2 ^ 8 * slice_index packet (4 * k + 1) + 2 ^ 16 * slice_index packet (4 * k + 2) + 2 ^ 24 *
+    slice_index packet (4 * k + 3)
 
 -- how many bytes lie in the i-th page
 abbrev pub size_at : List ℕ → ℕ → ℕ
@@ -47,7 +49,14 @@ rx_response passed packet n i id =
     record {
       id = id;
       offset = 0;
-      flags = record { data_validated = false; csum_blank = false; more_data = passed && nat_lt (i + 1) n; extra_info = false; gso_prefix = false };
+      flags = record {
+        data_validated = false;
+        csum_blank = false;
+        more_data = passed
+            && nat_lt (i + 1) n;
+        extra_info = false;
+        gso_prefix = false;
+      };
       status = status_at passed packet i;
     }
 

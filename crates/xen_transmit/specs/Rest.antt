@@ -5,7 +5,8 @@ use Rattle.xen_transmit.specs.Packets.{response_word, target_at}
 use Rattle.xen_steps.specs.Places.{add32}
 use Rattle.xen_transmit.specs.Places.{rx_slot}
 use Rattle.xen_steps.specs.Steps.{Steps, done, ask, bind}
-use Rattle.xen_transmit.specs.Transmit.{after_targets, fill_from, outcome_of, posted, posted_second, read_targets, rx_answer, rx_event, rx_notice, targeted, transmit}
+use Rattle.xen_transmit.specs.Transmit.{after_targets, fill_from, outcome_of, posted, posted_second, read_targets, rx_answer}
+use Rattle.xen_transmit.specs.Transmit.{rx_event, rx_notice, targeted, transmit}
 use Rattle.xen_transmit.specs.declared.transmit.Progress.{Progress}
 use Rattle.xen_transmit.specs.declared.transmit.Progress.TheVariants as progress
 use Rattle.xen_transmit.specs.declared.by_event.phase.Outcome.{Outcome}

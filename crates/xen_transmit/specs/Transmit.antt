@@ -1,5 +1,6 @@
 -- The transmit of a packet, as a computation that asks.
-use Rattle.std.specs.Prelude.{ℕ, zero, suc, ◌+◌, ◌-◌, Bool, true, false, List, [], ◌∷◌, ◌++◌, length, Option, Some, None, Result, Ok, Err, nat_lt, if◌then◌else◌}
+use Rattle.std.specs.Prelude.{ℕ, zero, suc, ◌+◌, ◌-◌, Bool, true, false, List, [], ◌∷◌, ◌++◌, length, Option, Some, None, Result}
+use Rattle.std.specs.Prelude.{Ok, Err, nat_lt, if◌then◌else◌}
 use Rattle.xen_netif.specs.Slots.{rx_req_of}
 use Rattle.xen_netif.specs.declared.rx.RxReq.{RxReq}
 use Rattle.xen_page.specs.declared.fault.GrantFault.{GrantFault}
@@ -59,7 +60,8 @@ abbrev pub rx_answer : Vif → ℕ → List ℕ → Bool → ℕ → ℕ → Lis
 rx_answer w x packet passed n i [] = rx_publish w x passed n
 rx_answer w x packet passed n i (t ∷ ts) =
     ask (want.Write (rx_slot w (add32 x i) 0) (response_word passed packet n i t.id 0))
-    (λ _. ask (want.Write (rx_slot w (add32 x i) 1) (response_word passed packet n i t.id 1)) (λ _. rx_answer w x packet passed n (i + 1) ts))
+    (λ _. ask (want.Write (rx_slot w (add32 x i) 1) (response_word passed packet n i t.id 1))
+    (λ _. rx_answer w x packet passed n (i + 1) ts))
 
 abbrev pub rx_respond : Vif → ℕ → List ℕ → Bool → List Target → Steps Outcome
 rx_respond w x packet passed targets = rx_answer w x packet passed (length targets) 0 targets
@@ -78,7 +80,8 @@ after_targets w x packet (Err targets) = rx_respond w x packet false targets
 
 abbrev pub found : Vif → ℕ → List ℕ → Option ℕ → Steps Outcome
 found w x packet None = done outcome.Overflow
-found w x packet (Some m) = if nat_lt m (pages packet) then done outcome.TooFew else bind (read_targets w x (pages packet) []) (after_targets w x packet)
+found w x packet (Some m) = if nat_lt m (pages packet) then done outcome.TooFew
+    else bind (read_targets w x (pages packet) []) (after_targets w x packet)
 
 abbrev pub transmit : Vif → ℕ → List ℕ → Steps Outcome
 transmit w x packet = ask (want.Read (rx_word w 0)) (λ p. found w x packet (available x p))

@@ -15,21 +15,26 @@ ghost use Rattle.xen_transmit.specs.declared.vif.Vif.{Vif};
 
 /// A transmit's traces are those that [`Transmit`](crate::Transmit) can have, and no others.
 pub fn transmits_are_runs()
-    ensures runs { (w : Vif) (x : ℕ) (packet : List ℕ) (p : List Event) (out : Outcome) → Runs (transmit w x packet) p out → IsTransmit w x packet p out }
-    ensures transmits { (w : Vif) (x : ℕ) (packet : List ℕ) (p : List Event) (out : Outcome) → IsTransmit w x packet p out → Runs (transmit w x packet) p out }
+    ensures runs { (w : Vif) (x : ℕ) (packet : List ℕ) (p : List Event) (out : Outcome) → Runs (transmit w x packet) p out →
+        IsTransmit w x packet p out }
+    ensures transmits { (w : Vif) (x : ℕ) (packet : List ℕ) (p : List Event) (out : Outcome) → IsTransmit w x packet p out →
+        Runs (transmit w x packet) p out }
 {}
 
 /// A transmit of a packet of at most 65,535 bytes makes at most 16,483 accesses, and touches the rings, the table and the
 /// frames that were granted to it, and nothing else.
 pub fn transmits_are_bounded()
-    ensures accesses { (w : Vif) (x : ℕ) (packet : List ℕ) (p : List Event) (out : Outcome) → length packet ≤ 65535 → IsTransmit w x packet p out → length (accesses p) ≤ 16483 }
-    ensures touches { (w : Vif) (x : ℕ) (packet : List ℕ) (p : List Event) (out : Outcome) → IsTransmit w x packet p out → AllAllowed w p p }
+    ensures accesses { (w : Vif) (x : ℕ) (packet : List ℕ) (p : List Event) (out : Outcome) → length packet ≤ 65535 →
+        IsTransmit w x packet p out → length (accesses p) ≤ 16483 }
+    ensures touches { (w : Vif) (x : ℕ) (packet : List ℕ) (p : List Event) (out : Outcome) → IsTransmit w x packet p out →
+        AllAllowed w p p }
 {}
 
 /// A transmit comes to an end, whatever it is answered, and each place that it wants lies within the frames.
 pub fn transmits_end()
     ensures ends { (w : Vif) (x : ℕ) (packet : List ℕ) → Ends Any (transmit w x packet) }
-    ensures within { (w : Vif) (x : ℕ) (packet : List ℕ) → IsWired w → Bounded (IsPageWant (length w.owners.now)) Any (transmit w x packet) 263684 }
+    ensures within { (w : Vif) (x : ℕ) (packet : List ℕ) → IsWired w →
+        Bounded (IsPageWant (length w.owners.now)) Any (transmit w x packet) 263684 }
 {}
 
 /// The words that a transmit writes into the posted buffers are the packet's bytes, each word's lowest first, and then

@@ -13,10 +13,12 @@ pub fn pass_order_is_unique()
 
 /// Where every edge goes up, the order goes up.
 pub fn pass_order_rises()
-    ensures { (code : List Insn) (xs : List ℕ) → IsPassOrder code xs → ((p q : ℕ) → Edge code p q → p < q) → (i j : ℕ) → i < j → j < length xs → slice_index xs i < slice_index xs j }
+    ensures { (code : List Insn) (xs : List ℕ) → IsPassOrder code xs → ((p q : ℕ) → Edge code p q → p < q) → (i j : ℕ) → i < j →
+        j < length xs → slice_index xs i < slice_index xs j }
 {}
 
 /// A run along edges of an ordered program is shorter than its number of instructions.
 pub fn runs_are_short()
-    ensures { (code : List Insn) (k p q : ℕ) → IsOrdered code → begins (slice_get code p) ≡ true → Steps (Edge code) k p q → k < instructions code }
+    ensures { (code : List Insn) (k p q : ℕ) → IsOrdered code → begins (slice_get code p) ≡ true → Steps (Edge code) k p q →
+        k < instructions code }
 {}

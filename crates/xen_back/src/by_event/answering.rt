@@ -93,7 +93,11 @@ pub(crate) fn answer_written<'p, 'b>(
     counter: u64,
 ) -> Stage<'p, 'b>
     ensures here { IsTrue (is_here result) }
-    ensures rest { rest_in wiring.now state.now result ≡ next_by (answer wiring.now at.tx_index (length words.items) i (drop i words.items) (answered at (length words.items), turned kind packet.entry)) word counter }
+    ensures rest { rest_in wiring.now state.now result
+        ≡ next_by (answer wiring.now at.tx_index (length words.items) i (drop i words.items) (
+          answered at (length words.items),
+          turned kind packet.entry,
+        )) word counter }
 {
     if i < words.len() {
         Stage::At(
@@ -122,7 +126,8 @@ pub(crate) fn event_read<'p, 'b>(
     event: u32,
 ) -> Stage<'p, 'b>
     ensures here { IsTrue (is_here result) }
-    ensures rest { rest_in wiring.now state.now result ≡ notice wiring.now (is_due at.tx_index (add32 at.tx_index n) event) (answered at n, turned kind packet.entry) }
+    ensures rest { rest_in wiring.now state.now result
+        ≡ notice wiring.now (is_due at.tx_index (add32 at.tx_index n) event) (answered at n, turned kind packet.entry) }
 {
     let after = after_answers(&at, n);
     if due(at.tx_index, at.tx_index.wrapping_add(n), event) {

@@ -83,7 +83,8 @@ fn next_fragment<'p, 'b>(
     requires within { i ≤ length fragments.items }
     requires room { length packet + sum_by fragment_size (drop i fragments.items) ≤ 65535 }
     ensures here { IsTrue (is_here result) }
-    ensures rest { rest_in wiring.now state.now result ≡ bind (copy wiring.now (drop i fragments.items) packet.entry) (after_copy wiring.now state.now chain) }
+    ensures rest { rest_in wiring.now state.now result
+        ≡ bind (copy wiring.now (drop i fragments.items) packet.entry) (after_copy wiring.now state.now chain) }
 {
     if i == fragments.len() {
         begin_run(wiring, state, packet, chain)
@@ -110,7 +111,10 @@ fn entering<'p, 'b>(
     requires within { i < length fragments.items }
     requires room { length packet + sum_by fragment_size (drop i fragments.items) ≤ 65535 }
     ensures here { IsTrue (is_here result) }
-    ensures rest { rest_in wiring.now state.now result ≡ bind (bind (entry_at wiring.now.vif false (Some at)) (entered (fragment_at fragments.items i) (copy wiring.now (drop (i + 1) fragments.items)) packet.entry)) (after_copy wiring.now state.now chain) }
+    ensures rest { rest_in wiring.now state.now result
+        ≡ bind (bind (entry_at wiring.now.vif false (Some at))
+        (entered (fragment_at fragments.items i) (copy wiring.now (drop (i + 1) fragments.items)) packet.entry))
+        (after_copy wiring.now state.now chain) }
 {
     Stage::EntryFlags(Entering {
         chain,
@@ -129,7 +133,11 @@ pub(crate) fn flags_read<'p, 'b>(
     flags_word: u32,
 ) -> Stage<'p, 'b>
     ensures here { IsTrue (is_here result) }
-    ensures rest { rest_in wiring.now state.now result ≡ bind (bind (entry_checked wiring.now.vif false entry.entry.at flags_word) (entered (fragment_at entry.entry.fragments.items entry.entry.i) (copy wiring.now (drop (entry.entry.i + 1) entry.entry.fragments.items)) entry.entry.packet)) (after_copy wiring.now state.now entry.entry.chain) }
+    ensures rest { rest_in wiring.now state.now result
+        ≡ bind (bind (entry_checked wiring.now.vif false entry.entry.at flags_word)
+        (entered (fragment_at entry.entry.fragments.items entry.entry.i)
+        (copy wiring.now (drop (entry.entry.i + 1) entry.entry.fragments.items)) entry.entry.packet))
+        (after_copy wiring.now state.now entry.entry.chain) }
 {
     Stage::EntryFrame { entry, flags_word }
 }
@@ -143,7 +151,11 @@ pub(crate) fn entry_read<'p, 'b>(
     frame_word: u32,
 ) -> Stage<'p, 'b>
     ensures here { IsTrue (is_here result) }
-    ensures rest { rest_in wiring.now state.now result ≡ bind (entered (fragment_at entry.entry.fragments.items entry.entry.i) (copy wiring.now (drop (entry.entry.i + 1) entry.entry.fragments.items)) entry.entry.packet (checked wiring.now.vif.owners.now wiring.now.vif.granter wiring.now.vif.user (entry_of flags_word frame_word) false)) (after_copy wiring.now state.now entry.entry.chain) }
+    ensures rest { rest_in wiring.now state.now result
+        ≡ bind (entered (fragment_at entry.entry.fragments.items entry.entry.i)
+        (copy wiring.now (drop (entry.entry.i + 1) entry.entry.fragments.items)) entry.entry.packet
+        (checked wiring.now.vif.owners.now wiring.now.vif.granter wiring.now.vif.user (entry_of flags_word frame_word) false))
+        (after_copy wiring.now state.now entry.entry.chain) }
 {
     let Entering {
         chain,
@@ -190,7 +202,9 @@ fn begin_page<'p, 'b>(
     requires within { i ≤ length fragments.items }
     requires room { length packet + fragment.size + sum_by fragment_size (drop i fragments.items) ≤ 65535 }
     ensures here { IsTrue (is_here result) }
-    ensures rest { rest_in wiring.now state.now result ≡ bind (bind (copy_words fragment frame (fragment.offset / 4) (covered fragment) packet.entry) (copy wiring.now (drop i fragments.items))) (after_copy wiring.now state.now chain) }
+    ensures rest { rest_in wiring.now state.now result
+        ≡ bind (bind (copy_words fragment frame (fragment.offset / 4) (covered fragment) packet.entry)
+        (copy wiring.now (drop i fragments.items))) (after_copy wiring.now state.now chain) }
 {
     let words = fragment.covered_words();
     if words.start == words.end {
@@ -222,7 +236,9 @@ fn paging<'p, 'b>(
     requires last { place + n ≡ (fragment.offset + fragment.size - 1) / 4 }
     requires room { HasRoom (length packet) fragment place (sum_by fragment_size (drop i fragments.items)) }
     ensures here { IsTrue (is_here result) }
-    ensures rest { rest_in wiring.now state.now result ≡ bind (bind (copy_words fragment frame place (suc n) packet.entry) (copy wiring.now (drop i fragments.items))) (after_copy wiring.now state.now chain) }
+    ensures rest { rest_in wiring.now state.now result
+        ≡ bind (bind (copy_words fragment frame place (suc n) packet.entry) (copy wiring.now (drop i fragments.items)))
+        (after_copy wiring.now state.now chain) }
 {
     Stage::Page(Paging {
         chain,
@@ -244,7 +260,10 @@ pub(crate) fn page_read<'p, 'b>(
     word: u32,
 ) -> Stage<'p, 'b>
     ensures here { IsTrue (is_here result) }
-    ensures rest { rest_in wiring.now state.now result ≡ bind (bind (copy_words page.entry.fragment page.entry.frame (page.entry.place + 1) page.entry.n (page.entry.packet ++ bytes_in page.entry.fragment page.entry.place word)) (copy wiring.now (drop page.entry.i page.entry.fragments.items))) (after_copy wiring.now state.now page.entry.chain) }
+    ensures rest { rest_in wiring.now state.now result
+        ≡ bind (bind (copy_words page.entry.fragment page.entry.frame (page.entry.place + 1) page.entry.n (page.entry.packet
+        ++ bytes_in page.entry.fragment page.entry.place word)) (copy wiring.now (drop page.entry.i page.entry.fragments.items)))
+        (after_copy wiring.now state.now page.entry.chain) }
 {
     let Paging {
         chain,

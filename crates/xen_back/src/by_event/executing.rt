@@ -60,7 +60,8 @@ pub(crate) fn executed<'p, 'b>(
     counter: u64,
 ) -> Stage<'p, 'b>
     ensures here { IsTrue (is_here result) }
-    ensures rest { rest_in wiring.now state.now result ≡ next_by (bind (program (left run.entry.vm) run.entry.ops) (after_run wiring.now state.now run.entry.chain)) word counter }
+    ensures rest { rest_in wiring.now state.now result
+        ≡ next_by (bind (program (left run.entry.vm) run.entry.ops) (after_run wiring.now state.now run.entry.chain)) word counter }
 {
     let Executing { chain, mut vm, ops } = run;
     match vm.want() {
@@ -103,7 +104,8 @@ fn ran<'p, 'b>(
     ops: u32,
 ) -> Stage<'p, 'b>
     ensures here { IsTrue (is_here result) }
-    ensures rest { rest_in wiring.now state.now result ≡ after_run wiring.now state.now chain (record { number = number; packet = packet.entry; ops = ops }) }
+    ensures rest { rest_in wiring.now state.now result
+        ≡ after_run wiring.now state.now chain (record { number = number; packet = packet.entry; ops = ops }) }
 {
     if number == XDP_TX {
         begin_send(wiring, state, packet, chain, ops)

@@ -128,7 +128,8 @@ fn next_slot<'p, 'b>(
 ) -> Stage<'p, 'b>
     requires { standing chain ≢ Some (Ok Complete) }
     ensures here { IsTrue (is_here result) }
-    ensures rest { rest_in wiring.now state.now result ≡ bind (read_slots wiring.now state.now.tx_index (suc left) chain) (after_scan wiring.now state.now) }
+    ensures rest { rest_in wiring.now state.now result
+        ≡ bind (read_slots wiring.now state.now.tx_index (suc left) chain) (after_scan wiring.now state.now) }
 {
     Stage::At(packet, Phase::First(Reading { left, chain }))
 }
@@ -142,7 +143,9 @@ pub(crate) fn first_read<'p, 'b>(
     a: u32,
 ) -> Stage<'p, 'b>
     ensures here { IsTrue (is_here result) }
-    ensures rest { rest_in wiring.now state.now result ≡ rest_of_slot wiring.now state.now reading.left reading.chain (second wiring.now (add32 state.now.tx_index (length reading.chain)) a) }
+    ensures rest { rest_in wiring.now state.now result
+        ≡ rest_of_slot wiring.now state.now reading.left reading.chain
+        (second wiring.now (add32 state.now.tx_index (length reading.chain)) a) }
 {
     Stage::At(packet, Phase::Second(reading, a))
 }
@@ -157,7 +160,9 @@ pub(crate) fn second_read<'p, 'b>(
     b: u32,
 ) -> Stage<'p, 'b>
     ensures here { IsTrue (is_here result) }
-    ensures rest { rest_in wiring.now state.now result ≡ rest_of_slot wiring.now state.now reading.left reading.chain (third wiring.now (add32 state.now.tx_index (length reading.chain)) a b) }
+    ensures rest { rest_in wiring.now state.now result
+        ≡ rest_of_slot wiring.now state.now reading.left reading.chain
+        (third wiring.now (add32 state.now.tx_index (length reading.chain)) a b) }
 {
     Stage::At(packet, Phase::Third(reading, a, b))
 }
@@ -171,7 +176,9 @@ pub(crate) fn slot_read<'p, 'b>(
     slot: [u32; 3],
 ) -> Stage<'p, 'b>
     ensures here { IsTrue (is_here result) }
-    ensures rest { rest_in wiring.now state.now result ≡ bind (judged (reading.chain ++ slot ∷ []) (standing (reading.chain ++ slot ∷ [])) (read_slots wiring.now state.now.tx_index reading.left (reading.chain ++ slot ∷ []))) (after_scan wiring.now state.now) }
+    ensures rest { rest_in wiring.now state.now result
+        ≡ bind (judged (reading.chain ++ slot ∷ []) (standing (reading.chain ++ slot ∷ []))
+        (read_slots wiring.now state.now.tx_index reading.left (reading.chain ++ slot ∷ []))) (after_scan wiring.now state.now) }
 {
     let Reading { left, mut chain } = reading;
     match chain.push(slot) {
@@ -192,7 +199,8 @@ fn more_slots<'p, 'b>(
 ) -> Stage<'p, 'b>
     requires { standing chain ≢ Some (Ok Complete) }
     ensures here { IsTrue (is_here result) }
-    ensures rest { rest_in wiring.now state.now result ≡ bind (read_slots wiring.now state.now.tx_index left chain) (after_scan wiring.now state.now) }
+    ensures rest { rest_in wiring.now state.now result
+        ≡ bind (read_slots wiring.now state.now.tx_index left chain) (after_scan wiring.now state.now) }
 {
     if left == 0 {
         halt(wiring, state, packet, Halt::ShortChain)

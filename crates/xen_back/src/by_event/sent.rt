@@ -48,7 +48,8 @@ pub(crate) fn sent_want(
     packet: &CopyBuf,
     sent: &Transmitting,
 ) -> Want
-    ensures { result ≡ want_of (bind (rest_of wiring.now.vif state.now.rx_index packet.now sent.now.transmit.phase) (after_transmit wiring.now state.now sent.now.chain packet.now sent.now.ops)) }
+    ensures { result ≡ want_of (bind (rest_of wiring.now.vif state.now.rx_index packet.now sent.now.transmit.phase)
+        (after_transmit wiring.now state.now sent.now.chain packet.now sent.now.ops)) }
 {
     sent.transmit
         .want(&wiring.vif, state.rx_index, packet.bytes())
@@ -64,7 +65,9 @@ pub(crate) fn sent_fed<'p, 'b>(
     counter: u64,
 ) -> Stage<'p, 'b>
     ensures here { IsTrue (is_here result) }
-    ensures rest { rest_in wiring.now state.now result ≡ next_by (bind (rest_of wiring.now.vif state.now.rx_index packet.entry sent.transmit.phase) (after_transmit wiring.now state.now sent.chain packet.entry sent.ops)) word counter }
+    ensures rest { rest_in wiring.now state.now result
+        ≡ next_by (bind (rest_of wiring.now.vif state.now.rx_index packet.entry sent.transmit.phase)
+        (after_transmit wiring.now state.now sent.chain packet.entry sent.ops)) word counter }
 {
     let Transmitting {
         chain,
@@ -85,7 +88,9 @@ fn progressed<'p, 'b>(
     progress: Progress,
 ) -> Stage<'p, 'b>
     ensures here { IsTrue (is_here result) }
-    ensures rest { rest_in wiring.now state.now result ≡ bind (rest_after wiring.now.vif state.now.rx_index packet.entry progress) (after_transmit wiring.now state.now chain packet.entry ops) }
+    ensures rest { rest_in wiring.now state.now result
+        ≡ bind (rest_after wiring.now.vif state.now.rx_index packet.entry progress)
+        (after_transmit wiring.now state.now chain packet.entry ops) }
 {
     match progress {
         Progress::On(transmit) => Stage::Send(

@@ -25,7 +25,8 @@ fn write_answer<B: Bus>(wiring: &Wiring, bus: &mut B, at: &State, i: usize, word
     requires frame { wiring.now.vif.tx < B.size bus.old }
     requires few { i < 23 }
     ensures size { B.size bus.new ≡ B.size bus.old }
-    ensures written { Performs B.log B.access_gives bus.old (accesses.Write (tx_entry_place wiring.now.vif.tx (add32 at.now.tx_index i) 0) word ∷ []) bus.new }
+    ensures written { Performs B.log B.access_gives bus.old
+        (accesses.Write (tx_entry_place wiring.now.vif.tx (add32 at.now.tx_index i) 0) word ∷ []) bus.new }
 {
     let index = at.tx_index.wrapping_add(i as u32);
     bus.write(tx_entry(wiring.vif.tx, index, 0), word);
@@ -36,7 +37,9 @@ fn push_answers<B: Bus>(wiring: &Wiring, bus: &mut B, at: &State, n: u32) -> u32
     requires frame { wiring.now.vif.tx < B.size bus.old }
     ensures size { B.size bus.new ≡ B.size bus.old }
     ensures word { result < 2 ^ 32 }
-    ensures pushed { Performs B.log B.access_gives bus.old (accesses.Write (page_word wiring.now.vif.tx 2) (add32 at.now.tx_index n) ∷ accesses.Read (page_word wiring.now.vif.tx 3) result ∷ []) bus.new }
+    ensures pushed { Performs B.log B.access_gives bus.old
+        (accesses.Write (page_word wiring.now.vif.tx 2) (add32 at.now.tx_index n)
+        ∷ accesses.Read (page_word wiring.now.vif.tx 3) result ∷ []) bus.new }
 {
     bus.write(header(wiring.vif.tx, RSP_PROD), at.tx_index.wrapping_add(n));
     bus.read(header(wiring.vif.tx, RSP_EVENT))
@@ -62,7 +65,8 @@ pub(crate) fn answer<B: Bus>(
     requires wired { IsWired wiring.now.vif }
     requires few { length requests.now ≤ 23 }
     ensures size { B.size bus.new ≡ B.size bus.old }
-    ensures driven { (chain : List Slot) → requests_of chain ≡ requests.now → (u : Turned) → (t : List Event) × Driven B.log B.access_gives (respond wiring.now at.now chain status u)
+    ensures driven { (chain : List Slot) → requests_of chain ≡ requests.now → (u : Turned) → (t : List Event) ×
+        Driven B.log B.access_gives (respond wiring.now at.now chain status u)
         (done (answered at.now (length chain), u)) bus.old bus.new [] [] t }
 {
     for (i, request) in requests.iter().enumerate() {

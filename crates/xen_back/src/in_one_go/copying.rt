@@ -32,7 +32,8 @@ fn copy_fragment<B: Bus>(
     requires room { length packet.old + fragment.now.size ≤ 65535 }
     ensures size { B.size bus.new ≡ B.size bus.old }
     ensures short { length packet.new ≤ length packet.old + fragment.now.size }
-    ensures driven { (later : List FragmentView) → (k : Option (List ℕ) → Steps Ending) → (t : List Event) × Driven B.log B.access_gives (bind (copy wiring.now (fragment.now ∷ later) packet.old) k)
+    ensures driven { (later : List FragmentView) → (k : Option (List ℕ) → Steps Ending) → (t : List Event) ×
+        Driven B.log B.access_gives (bind (copy wiring.now (fragment.now ∷ later) packet.old) k)
         (after_fragment wiring.now later k packet.new result) bus.old bus.new [] [] t }
 {
     match read_grant(&wiring.vif, bus, fragment.gref, false) {
@@ -56,7 +57,9 @@ pub(crate) fn copy_fragments<B: Bus>(
     requires in_page { IsTrue (list_all is_in_page fragments.now) }
     requires room { length packet.old + sum_by fragment_size fragments.now ≤ 65535 }
     ensures size { B.size bus.new ≡ B.size bus.old }
-    ensures driven { (k : Option (List ℕ) → Steps Ending) → (t : List Event) × Driven B.log B.access_gives (bind (copy wiring.now fragments.now packet.old) k) (k (copied packet.new result)) bus.old bus.new [] [] t }
+    ensures driven { (k : Option (List ℕ) → Steps Ending) → (t : List Event) ×
+        Driven B.log B.access_gives (bind (copy wiring.now fragments.now packet.old) k) (k (copied packet.new result)) bus.old
+        bus.new [] [] t }
 {
     for fragment in fragments {
         copy_fragment(wiring, bus, fragment, packet)?;

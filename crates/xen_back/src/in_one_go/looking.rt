@@ -30,7 +30,8 @@ pub(crate) fn look_behind<B: Bus>(bus: &mut B, frame: u32, event: u32) -> u32
     requires { frame < B.size bus.old }
     ensures size { B.size bus.new ≡ B.size bus.old }
     ensures word { result < 2 ^ 32 }
-    ensures read { Performs B.log B.access_gives bus.old (accesses.Write (page_word frame 1) event ∷ accesses.Read (page_word frame 0) result ∷ []) bus.new }
+    ensures read { Performs B.log B.access_gives bus.old (accesses.Write (page_word frame 1) event
+        ∷ accesses.Read (page_word frame 0) result ∷ []) bus.new }
 {
     bus.write(header(frame, REQ_EVENT), event);
     bus.read(header(frame, REQ_PROD))
@@ -40,7 +41,8 @@ pub(crate) fn look_behind<B: Bus>(bus: &mut B, frame: u32, event: u32) -> u32
 fn look_again<B: Bus>(wiring: &Wiring, state: &State, bus: &mut B) -> Option<u32>
     requires frame { wiring.now.vif.tx < B.size bus.old }
     ensures size { B.size bus.new ≡ B.size bus.old }
-    ensures driven { (t : List Event) × Driven B.log B.access_gives (bind (announce wiring.now state.now.tx_index) (after_look wiring.now state.now))
+    ensures driven { (t : List Event) × Driven B.log B.access_gives
+        (bind (announce wiring.now state.now.tx_index) (after_look wiring.now state.now))
         (after_look wiring.now state.now result) bus.old bus.new [] [] t }
 {
     let producer = look_behind(bus, wiring.vif.tx, state.tx_index.wrapping_add(1));
@@ -51,7 +53,8 @@ fn look_again<B: Bus>(wiring: &Wiring, state: &State, bus: &mut B) -> Option<u32
 pub(crate) fn look<B: Bus>(wiring: &Wiring, state: &State, bus: &mut B) -> Option<u32>
     requires frame { wiring.now.vif.tx < B.size bus.old }
     ensures size { B.size bus.new ≡ B.size bus.old }
-    ensures driven { (t : List Event) × Driven B.log B.access_gives (bind (look_spec wiring.now state.now.tx_index) (after_look wiring.now state.now))
+    ensures driven { (t : List Event) × Driven B.log B.access_gives
+        (bind (look_spec wiring.now state.now.tx_index) (after_look wiring.now state.now))
         (after_look wiring.now state.now result) bus.old bus.new [] [] t }
 {
     let producer = read_producer(bus, wiring.vif.tx);

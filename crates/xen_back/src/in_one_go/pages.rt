@@ -41,7 +41,8 @@ fn whole_words(fragment: &Fragment, words: &Range<u32>) -> Range<u32>
     requires start { words.now.start ≡ fragment.now.offset / 4 }
     requires end { words.now.end ≡ words.now.start + covered fragment.now }
     ensures inside { (words.now.start ≤ result.start) × (result.start ≤ result.end) × (result.end ≤ words.now.end) }
-    ensures whole { result.start < result.end → (fragment.now.offset ≤ 4 * result.start) × (4 * result.end ≤ fragment.now.offset + fragment.now.size) }
+    ensures whole { result.start < result.end → (fragment.now.offset ≤ 4 * result.start) ×
+        (4 * result.end ≤ fragment.now.offset + fragment.now.size) }
 {
     let offset = u32::from(fragment.offset);
     let start = ((offset + 3) / 4).min(words.end);

@@ -43,7 +43,8 @@ fn send_back<B: Bus>(
     requires wired { IsWired wiring.now.vif }
     requires few { length requests.now ≤ 23 }
     ensures size { B.size bus.new ≡ B.size bus.old }
-    ensures driven { (chain : List Slot) → requests_of chain ≡ requests.now → (t : List Event) × Driven B.log B.access_gives (send wiring.now state.now chain packet.now ops)
+    ensures driven { (chain : List Slot) → requests_of chain ≡ requests.now → (t : List Event) ×
+        Driven B.log B.access_gives (send wiring.now state.now chain packet.now ops)
         (ended result packet.now) bus.old bus.new [] [] t }
 {
     let outcome = send_packet(&wiring.vif, state.rx_index, packet.bytes(), bus, ports);
@@ -75,7 +76,8 @@ fn run<B: Bus>(
     requires few { length requests.now ≤ 23 }
     ensures size { B.size bus.new ≡ B.size bus.old }
     ensures seat { seat.new ≡ record seat.old { ops = seat.new.ops } }
-    ensures driven { (chain : List Slot) → requests_of chain ≡ requests.now → (t : List Event) × Driven B.log B.access_gives (after_copy wiring.now state.now chain (Some packet.old))
+    ensures driven { (chain : List Slot) → requests_of chain ≡ requests.now → (t : List Event) ×
+        Driven B.log B.access_gives (after_copy wiring.now state.now chain (Some packet.old))
         (ended result packet.new) bus.old bus.new seat.old.ops seat.new.ops t }
 {
     let Ended { number, ops } = packet.run(wiring, counters, seat);
@@ -105,7 +107,8 @@ pub(crate) fn refuse<B: Bus>(
     requires wired { IsWired wiring.now.vif }
     requires few { length requests.now ≤ 23 }
     ensures size { B.size bus.new ≡ B.size bus.old }
-    ensures driven { (chain : List Slot) → requests_of chain ≡ requests.now → (packet : List ℕ) → (t : List Event) × Driven B.log B.access_gives (respond wiring.now state.now chain Error (Refused cause 0 (length chain)))
+    ensures driven { (chain : List Slot) → requests_of chain ≡ requests.now → (packet : List ℕ) → (t : List Event) ×
+        Driven B.log B.access_gives (respond wiring.now state.now chain Error (Refused cause 0 (length chain)))
         (ended result packet) bus.old bus.new [] [] t }
 {
     answer(wiring, bus, ports, state, requests, Status::Error);
@@ -139,7 +142,8 @@ pub(crate) fn copy_and_run<B: Bus>(
     requires short { sum_by fragment_size fragments.now ≤ 65535 }
     ensures size { B.size bus.new ≡ B.size bus.old }
     ensures seat { seat.new ≡ record seat.old { ops = seat.new.ops } }
-    ensures driven { (chain : List Slot) → requests_of chain ≡ requests.now → (t : List Event) × Driven B.log B.access_gives (bind (copy wiring.now fragments.now []) (after_copy wiring.now state.now chain))
+    ensures driven { (chain : List Slot) → requests_of chain ≡ requests.now → (t : List Event) ×
+        Driven B.log B.access_gives (bind (copy wiring.now fragments.now []) (after_copy wiring.now state.now chain))
         (ended result packet.new) bus.old bus.new seat.old.ops seat.new.ops t }
 {
     packet.clear();

@@ -34,7 +34,8 @@ pub(crate) fn read_slot<B: Bus>(bus: &mut B, frame: u32, index: u32) -> [u32; 3]
     requires { frame < B.size bus.old }
     ensures size { B.size bus.new ≡ B.size bus.old }
     ensures read { (a : ℕ) × (b : ℕ) × (c : ℕ) × (a < 2 ^ 32) × (b < 2 ^ 32) × (c < 2 ^ 32) × (result ≡ a ∷ b ∷ c ∷ [])
-        × Performs B.log B.access_gives bus.old (accesses.Read (tx_entry_place frame index 0) a ∷ accesses.Read (tx_entry_place frame index 1) b ∷ accesses.Read (tx_entry_place frame index 2) c ∷ []) bus.new }
+        × Performs B.log B.access_gives bus.old (accesses.Read (tx_entry_place frame index 0) a
+        ∷ accesses.Read (tx_entry_place frame index 1) b ∷ accesses.Read (tx_entry_place frame index 2) c ∷ []) bus.new }
 {
     let a = bus.read(tx_entry(frame, index, 0));
     let b = bus.read(tx_entry(frame, index, 1));
@@ -70,7 +71,8 @@ pub(crate) fn read_chain<B: Bus>(
     requires wired { IsWired wiring.now.vif }
     ensures size { B.size bus.new ≡ B.size bus.old }
     ensures whole { IfOk result (λ chain. standing chain ≡ Some (Ok Complete)) }
-    ensures driven { (t : List Event) × Driven B.log B.access_gives (after_slot wiring.now state.now left [] first) (after_scan wiring.now state.now result) bus.old bus.new [] [] t }
+    ensures driven { (t : List Event) × Driven B.log B.access_gives (after_slot wiring.now state.now left [] first)
+        (after_scan wiring.now state.now result) bus.old bus.new [] [] t }
 {
     let mut chain = Chain::new();
     let mut slot = first;

@@ -30,7 +30,8 @@ use xen_ring::Ports;
 /// The packet in a slot that is a whole chain.
 fn lone_fragment(slot: &LoneSlot) -> Result<Fragment, SizeFault>
     ensures in_page { IfOk result (λ f. IsTrue (is_in_page f)) }
-    ensures answer { MatchResult result (λ f. fragments_of (slot.now.words ∷ []) ≡ Ok (f ∷ [])) (λ fault. fragments_of (slot.now.words ∷ []) ≡ Err fault) }
+    ensures answer { MatchResult result (λ f. fragments_of (slot.now.words ∷ []) ≡ Ok (f ∷ []))
+        (λ fault. fragments_of (slot.now.words ∷ []) ≡ Err fault) }
 {
     let TxReq {
         gref,
@@ -66,7 +67,8 @@ fn one_slot<B: Bus>(
     requires seat { IsSeatOf counters.now seat.old }
     ensures size { B.size bus.new ≡ B.size bus.old }
     ensures seat { seat.new ≡ record seat.old { ops = seat.new.ops } }
-    ensures driven { (t : List Event) × Driven B.log B.access_gives (after_chain wiring.now state.now (slot.now.words ∷ []) (fragments_of (slot.now.words ∷ [])))
+    ensures driven { (t : List Event) × Driven B.log B.access_gives
+        (after_chain wiring.now state.now (slot.now.words ∷ []) (fragments_of (slot.now.words ∷ [])))
         (ended result packet.new) bus.old bus.new seat.old.ops seat.new.ops t }
 {
     let requests = [Some(TxReq::of_words(slot.words))];

@@ -5,7 +5,8 @@
 
 ghost use Rattle.std.specs.Prelude.{◌≡◌, ◌≤◌, ◌<◌, ◌+◌, ◌-◌, [], length, slice_index};
 ghost use Rattle.xen_front.specs.Rest.{HasSpace, filling_from, id_of, pieces as pieces_spec, rest_at, sending};
-ghost use Rattle.xen_front.specs.Slots.{buffer, filling as filling_spec, grant_place, told_size as told_size_spec, piece_request as piece_request_spec, piece_words as piece_words_spec, send_writes};
+ghost use Rattle.xen_front.specs.Slots.{buffer, filling as filling_spec, grant_place, told_size as told_size_spec};
+ghost use Rattle.xen_front.specs.Slots.{piece_request as piece_request_spec, piece_words as piece_words_spec, send_writes};
 ghost use Rattle.xen_netif.specs.Slots.{tx_req_words};
 ghost use Rattle.xen_netif.specs.Words.{joined};
 ghost use Rattle.xen_page.specs.Mapping.{frame_place};
@@ -105,7 +106,9 @@ pub(crate) fn request(wiring: &Wiring, sent: &[u8], piece: &Piece) -> TxReq
 pub(crate) fn slot_write(wiring: &Wiring, sent: &[u8], piece: &Piece, word: u32) -> Want
     requires length { length sent.now ≤ 65535 }
     requires word { word < 3 }
-    ensures { result ≡ Want.Write (tx_entry_place wiring.now.tx_frame (add32 piece.now.start piece.now.index) word) (slice_index (tx_req_words (piece_request_spec wiring.now sent.now (pieces_spec piece.now) piece.now.index (id_of piece.now))) word) }
+    ensures { result ≡ Want.Write (tx_entry_place wiring.now.tx_frame (add32 piece.now.start piece.now.index) word)
+        (slice_index (tx_req_words (piece_request_spec wiring.now sent.now (pieces_spec piece.now) piece.now.index
+        (id_of piece.now))) word) }
 {
     let words = request(wiring, sent, piece).words();
     Want::Write(

@@ -29,7 +29,9 @@ impl<'p> Front<'p> {
     /// (fewer free ids than pieces). The front is then as it was.
     pub fn send(&mut self, bytes: &[u8]) -> Result<(), SendRefusal>
         ensures answer { result ≡ send_answer self.old bytes.now }
-        ensures ok { OnOk result (HasBegun self.old self.new (send (wiring_of self.old) (state_of self.old) bytes.now (chosen (pieces_of_spec (length bytes.now)) (state_of self.old).tx.out))) }
+        ensures ok { OnOk result (HasBegun self.old self.new
+            (send (wiring_of self.old) (state_of self.old) bytes.now
+            (chosen (pieces_of_spec (length bytes.now)) (state_of self.old).tx.out))) }
         ensures err { OnErr result (IsSame self.old self.new) }
     {
         match self.state.halt {
@@ -71,7 +73,8 @@ impl<'p> Front<'p> {
     /// The first that applies of `Halted`, `Busy` and `NoSlot` (no free id). The front is then as it was.
     pub fn post_rx(&mut self) -> Result<(), PostRefusal>
         ensures answer { result ≡ post_answer self.old }
-        ensures ok { OnOk result (HasBegun self.old self.new (post (wiring_of self.old) (state_of self.old) (get_or (all_free (state_of self.old).rx.out) 0 0))) }
+        ensures ok { OnOk result (HasBegun self.old self.new
+            (post (wiring_of self.old) (state_of self.old) (get_or (all_free (state_of self.old).rx.out) 0 0))) }
         ensures err { OnErr result (IsSame self.old self.new) }
     {
         match self.state.halt {

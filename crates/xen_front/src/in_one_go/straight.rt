@@ -23,7 +23,8 @@ use xen_steps::tx_entry;
 fn grant_page<B: Bus>(wiring: &Wiring, piece: &Piece, bus: &mut B)
     requires on_bus { AreOnBus (B.size bus.old) (grant_writes wiring.now (buffer wiring.now.tx.now (id_of piece.now)) 5) }
     ensures size { B.size bus.new ≡ B.size bus.old }
-    ensures wrote { Performs B.log B.access_gives bus.old (touched (grant_writes wiring.now (buffer wiring.now.tx.now (id_of piece.now)) 5)) bus.new }
+    ensures wrote { Performs B.log B.access_gives bus.old
+        (touched (grant_writes wiring.now (buffer wiring.now.tx.now (id_of piece.now)) 5)) bus.new }
 {
     let buffer = page(wiring, piece);
     bus.write(grant_frame(wiring, &buffer), buffer.frame);
@@ -36,9 +37,12 @@ fn grant_page<B: Bus>(wiring: &Wiring, piece: &Piece, bus: &mut B)
 /// Fills it with the packet's words.
 fn fill_page<B: Bus>(wiring: &Wiring, sent: &[u8], piece: &Piece, bus: &mut B)
     requires length { length sent.now ≤ 65535 }
-    requires on_bus { AreOnBus (B.size bus.old) (page_writes sent.now (buffer wiring.now.tx.now (id_of piece.now)).frame piece.now.index (piece_words_spec (length sent.now) piece.now.index) 0) }
+    requires on_bus { AreOnBus (B.size bus.old) (page_writes sent.now (buffer wiring.now.tx.now (id_of piece.now)).frame
+        piece.now.index (piece_words_spec (length sent.now) piece.now.index) 0) }
     ensures size { B.size bus.new ≡ B.size bus.old }
-    ensures wrote { Performs B.log B.access_gives bus.old (touched (page_writes sent.now (buffer wiring.now.tx.now (id_of piece.now)).frame piece.now.index (piece_words_spec (length sent.now) piece.now.index) 0)) bus.new }
+    ensures wrote { Performs B.log B.access_gives bus.old
+        (touched (page_writes sent.now (buffer wiring.now.tx.now (id_of piece.now)).frame piece.now.index
+        (piece_words_spec (length sent.now) piece.now.index) 0)) bus.new }
 {
     let frame = page(wiring, piece).frame;
     let first = 4096 * piece.index as usize;
@@ -53,9 +57,11 @@ fn fill_page<B: Bus>(wiring: &Wiring, sent: &[u8], piece: &Piece, bus: &mut B)
 /// Writes its slot.
 fn write_slot<B: Bus>(wiring: &Wiring, sent: &[u8], piece: &Piece, bus: &mut B)
     requires length { length sent.now ≤ 65535 }
-    requires on_bus { AreOnBus (B.size bus.old) (slot_writes wiring.now piece.now.start sent.now (pieces_spec piece.now) piece.now.index (id_of piece.now)) }
+    requires on_bus { AreOnBus (B.size bus.old) (slot_writes wiring.now piece.now.start sent.now (pieces_spec piece.now)
+        piece.now.index (id_of piece.now)) }
     ensures size { B.size bus.new ≡ B.size bus.old }
-    ensures wrote { Performs B.log B.access_gives bus.old (touched (slot_writes wiring.now piece.now.start sent.now (pieces_spec piece.now) piece.now.index (id_of piece.now))) bus.new }
+    ensures wrote { Performs B.log B.access_gives bus.old
+        (touched (slot_writes wiring.now piece.now.start sent.now (pieces_spec piece.now) piece.now.index (id_of piece.now))) bus.new }
 {
     let [first, second, third] = request(wiring, sent, piece).words();
     let index = piece.start.wrapping_add(piece.index);
@@ -67,9 +73,11 @@ fn write_slot<B: Bus>(wiring: &Wiring, sent: &[u8], piece: &Piece, bus: &mut B)
 /// Makes all writes of a piece: its grant, its page and its slot.
 fn write_piece<B: Bus>(wiring: &Wiring, sent: &[u8], piece: &Piece, bus: &mut B)
     requires length { length sent.now ≤ 65535 }
-    requires on_bus { AreOnBus (B.size bus.old) (piece_writes wiring.now piece.now.start sent.now (pieces_spec piece.now) piece.now.index (id_of piece.now)) }
+    requires on_bus { AreOnBus (B.size bus.old) (piece_writes wiring.now piece.now.start sent.now (pieces_spec piece.now)
+        piece.now.index (id_of piece.now)) }
     ensures size { B.size bus.new ≡ B.size bus.old }
-    ensures wrote { Performs B.log B.access_gives bus.old (touched (piece_writes wiring.now piece.now.start sent.now (pieces_spec piece.now) piece.now.index (id_of piece.now))) bus.new }
+    ensures wrote { Performs B.log B.access_gives bus.old
+        (touched (piece_writes wiring.now piece.now.start sent.now (pieces_spec piece.now) piece.now.index (id_of piece.now))) bus.new }
 {
     grant_page(wiring, piece, bus);
     fill_page(wiring, sent, piece, bus);
@@ -90,7 +98,8 @@ pub(crate) fn past_piece<B: Bus>(
     requires bounded { Bounded (IsPageWant (B.size bus.old)) Any (rest_at wiring.now state.now sent.now received.now phase) 17000 }
     ensures size { B.size bus.new ≡ B.size bus.old }
     ensures space { HasSpace result received.now }
-    ensures driven { (t : List Event) × Driven B.log B.access_gives (rest_at wiring.now state.now sent.now received.now phase) (rest_at wiring.now state.now sent.now received.now result) bus.old bus.new t }
+    ensures driven { (t : List Event) × Driven B.log B.access_gives (rest_at wiring.now state.now sent.now received.now phase)
+        (rest_at wiring.now state.now sent.now received.now result) bus.old bus.new t }
 {
     match phase {
         Phase::GrantFrame(piece) => {

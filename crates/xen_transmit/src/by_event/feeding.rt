@@ -74,7 +74,8 @@ impl Transmit {
     /// The transmit after the event that it wanted, with the word that was read, if one was.
     pub fn feed(self, vif: &Vif, rx_index: u32, packet: &[u8], word: u32) -> Progress
         requires { length packet.now ≤ 65535 }
-        ensures rest { (number : ℕ) → rest_after vif.now rx_index packet.now result ≡ next_by (rest_of vif.now rx_index packet.now self.phase) word number }
+        ensures rest { (number : ℕ) → rest_after vif.now rx_index packet.now result
+            ≡ next_by (rest_of vif.now rx_index packet.now self.phase) word number }
         ensures asked { IsTrue (asks (rest_of vif.now rx_index packet.now self.phase)) }
     {
         let Transmit { phase } = self;

@@ -11,7 +11,8 @@ ghost use Rattle.xen_transmit.specs.Packets.{pages};
 ghost use Rattle.xen_steps.specs.Places.{add32};
 ghost use Rattle.xen_transmit.specs.Rest.{rest_of};
 ghost use Rattle.xen_steps.specs.Steps.{bind};
-ghost use Rattle.xen_transmit.specs.Transmit.{after_targets, found as found_spec, posted_second, read_targets, requested as requested_spec, rx_respond, targeted};
+ghost use Rattle.xen_transmit.specs.Transmit.{after_targets, found as found_spec, posted_second, read_targets};
+ghost use Rattle.xen_transmit.specs.Transmit.{requested as requested_spec, rx_respond, targeted};
 ghost use Rattle.xen_steps.specs.declared.want.Want.TheVariants as want;
 
 use crate::by_event::phase::{Granting, Outcome, Phase, Posting};
@@ -42,7 +43,8 @@ pub(crate) fn found(vif: &Vif, rx_index: u32, bytes: &[u8], shown: Option<u32>) 
 /// Before a slot, or before the buffers if none is left to read.
 fn slot_or_fill(vif: &Vif, rx_index: u32, bytes: &[u8], left: u32, targets: Targets) -> Phase
     requires { length targets + left ≤ 16 }
-    ensures { rest_of vif.now rx_index bytes.now result ≡ bind (read_targets vif.now rx_index left targets) (after_targets vif.now rx_index bytes.now) }
+    ensures { rest_of vif.now rx_index bytes.now result
+        ≡ bind (read_targets vif.now rx_index left targets) (after_targets vif.now rx_index bytes.now) }
 {
     if left == 0 {
         Phase::Filling { targets, k: 0 }
@@ -56,7 +58,9 @@ fn slot_or_fill(vif: &Vif, rx_index: u32, bytes: &[u8], left: u32, targets: Targ
 
 /// After a slot's first word.
 pub(crate) fn first_read(vif: &Vif, rx_index: u32, bytes: &[u8], posting: Posting, a: u32) -> Phase
-    ensures { rest_of vif.now rx_index bytes.now result ≡ bind (posted_second vif.now (add32 rx_index (length posting.targets)) (targeted posting.targets (read_targets vif.now rx_index posting.left)) a) (after_targets vif.now rx_index bytes.now) }
+    ensures { rest_of vif.now rx_index bytes.now result
+        ≡ bind (posted_second vif.now (add32 rx_index (length posting.targets))
+        (targeted posting.targets (read_targets vif.now rx_index posting.left)) a) (after_targets vif.now rx_index bytes.now) }
 {
     Phase::Second(posting, a)
 }
@@ -69,7 +73,9 @@ pub(crate) fn requested(
     posting: Posting,
     request: RxReq,
 ) -> Phase
-    ensures { rest_of vif.now rx_index bytes.now result ≡ bind (requested_spec vif.now request (targeted posting.targets (read_targets vif.now rx_index posting.left))) (after_targets vif.now rx_index bytes.now) }
+    ensures { rest_of vif.now rx_index bytes.now result
+        ≡ bind (requested_spec vif.now request (targeted posting.targets (read_targets vif.now rx_index posting.left)))
+        (after_targets vif.now rx_index bytes.now) }
 {
     let Posting { left, targets } = posting;
     match vif.table.place(request.gref) {
@@ -90,7 +96,9 @@ fn granting(
 ) -> Phase
     requires room { length targets + left < 16 }
     requires word { at.word < 1023 }
-    ensures { rest_of vif.now rx_index bytes.now result ≡ bind (bind (entry_at vif.now true (Some at)) (targeted targets (read_targets vif.now rx_index left) id)) (after_targets vif.now rx_index bytes.now) }
+    ensures { rest_of vif.now rx_index bytes.now result
+        ≡ bind (bind (entry_at vif.now true (Some at)) (targeted targets (read_targets vif.now rx_index left) id))
+        (after_targets vif.now rx_index bytes.now) }
 {
     Phase::EntryFlags(Granting {
         left,
@@ -108,7 +116,9 @@ pub(crate) fn flags_read(
     granting: Granting,
     flags_word: u32,
 ) -> Phase
-    ensures { rest_of vif.now rx_index bytes.now result ≡ bind (bind (entry_checked vif.now true granting.at flags_word) (targeted granting.targets (read_targets vif.now rx_index granting.left) granting.id)) (after_targets vif.now rx_index bytes.now) }
+    ensures { rest_of vif.now rx_index bytes.now result
+        ≡ bind (bind (entry_checked vif.now true granting.at flags_word)
+        (targeted granting.targets (read_targets vif.now rx_index granting.left) granting.id)) (after_targets vif.now rx_index bytes.now) }
 {
     Phase::EntryFrame {
         granting,
@@ -125,7 +135,10 @@ pub(crate) fn entry_read(
     flags_word: u32,
     frame_word: u32,
 ) -> Phase
-    ensures { rest_of vif.now rx_index bytes.now result ≡ bind (targeted granting.targets (read_targets vif.now rx_index granting.left) granting.id (checked vif.now.owners.now vif.now.granter vif.now.user (entry_of flags_word frame_word) true)) (after_targets vif.now rx_index bytes.now) }
+    ensures { rest_of vif.now rx_index bytes.now result
+        ≡ bind (targeted granting.targets (read_targets vif.now rx_index granting.left) granting.id
+        (checked vif.now.owners.now vif.now.granter vif.now.user (entry_of flags_word frame_word) true))
+        (after_targets vif.now rx_index bytes.now) }
 {
     let Granting {
         left,
@@ -148,7 +161,8 @@ pub(crate) fn entry_read(
 /// After a slot whose grant was refused.
 fn refused(vif: &Vif, rx_index: u32, bytes: &[u8], targets: Targets, id: u16) -> Phase
     requires { length targets < 16 }
-    ensures { rest_of vif.now rx_index bytes.now result ≡ rx_respond vif.now rx_index bytes.now false (targets ++ record { id = id; frame = None } ∷ []) }
+    ensures { rest_of vif.now rx_index bytes.now result
+        ≡ rx_respond vif.now rx_index bytes.now false (targets ++ record { id = id; frame = None } ∷ []) }
 {
     let mut targets = targets;
     targets.push(Target { id, frame: None });
@@ -170,7 +184,9 @@ fn passed(
     frame: u32,
 ) -> Phase
     requires { length targets + left < 16 }
-    ensures { rest_of vif.now rx_index bytes.now result ≡ bind (read_targets vif.now rx_index left (targets ++ record { id = id; frame = Some frame } ∷ [])) (after_targets vif.now rx_index bytes.now) }
+    ensures { rest_of vif.now rx_index bytes.now result
+        ≡ bind (read_targets vif.now rx_index left (targets ++ record { id = id; frame = Some frame } ∷ []))
+        (after_targets vif.now rx_index bytes.now) }
 {
     let mut targets = targets;
     targets.push(Target {

@@ -39,7 +39,8 @@ pub(crate) fn responded(
     targets: Targets,
     i: u32,
 ) -> Phase
-    ensures { rest_of vif.now rx_index bytes.now result ≡ next_by (rx_answer vif.now rx_index bytes.now passed (length targets) i (drop i targets)) 0 0 }
+    ensures { rest_of vif.now rx_index bytes.now result
+        ≡ next_by (rx_answer vif.now rx_index bytes.now passed (length targets) i (drop i targets)) 0 0 }
 {
     let n = targets.len();
     if i < n {
@@ -59,14 +60,19 @@ fn half_responded(
     i: u32,
 ) -> Phase
     requires { i < length targets }
-    ensures { rest_of vif.now rx_index bytes.now result ≡ ask (want.Write (rx_slot vif.now (add32 rx_index i) 1) (response_word passed bytes.now (length targets) i (target_at_spec targets i).id 1)) (λ _. rx_answer vif.now rx_index bytes.now passed (length targets) (i + 1) (drop (i + 1) targets)) }
+    ensures { rest_of vif.now rx_index bytes.now result
+        ≡ ask (want.Write (rx_slot vif.now (add32 rx_index i) 1)
+        (response_word passed bytes.now (length targets) i (target_at_spec targets i).id 1))
+        (λ _. rx_answer vif.now rx_index bytes.now passed (length targets) (i + 1) (drop (i + 1) targets)) }
 {
     Phase::HalfResponse(Responding { passed, targets, i })
 }
 
 /// After a response.
 pub(crate) fn response_done(vif: &Vif, rx_index: u32, bytes: &[u8], responding: Responding) -> Phase
-    ensures { rest_of vif.now rx_index bytes.now result ≡ rx_answer vif.now rx_index bytes.now responding.passed (length responding.targets) (responding.i + 1) (drop (responding.i + 1) responding.targets) }
+    ensures { rest_of vif.now rx_index bytes.now result
+        ≡ rx_answer vif.now rx_index bytes.now responding.passed (length responding.targets) (responding.i + 1)
+        (drop (responding.i + 1) responding.targets) }
 {
     let Responding { passed, targets, i } = responding;
     let _few = targets.len();
@@ -96,7 +102,8 @@ pub(crate) fn event_read(
     n: u32,
     event: u32,
 ) -> Phase
-    ensures { rest_of vif.now rx_index bytes.now result ≡ rx_notice vif.now (is_due rx_index (add32 rx_index n) event) (outcome_of passed n) }
+    ensures { rest_of vif.now rx_index bytes.now result
+        ≡ rx_notice vif.now (is_due rx_index (add32 rx_index n) event) (outcome_of passed n) }
 {
     if due(rx_index, rx_index.wrapping_add(n), event) {
         Phase::Notice { passed, n }

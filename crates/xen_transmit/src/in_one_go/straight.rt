@@ -17,7 +17,8 @@ ghost use Rattle.xen_steps.specs.Steps.{bind, done};
 ghost use Rattle.xen_transmit.specs.Packets.{pages, words};
 ghost use Rattle.xen_transmit.specs.Shared.{IsEntry};
 ghost use Rattle.xen_transmit.specs.Straight.{Completes, scanned};
-ghost use Rattle.xen_transmit.specs.Transmit.{after_targets, fill, found, outcome_of, read_targets as read_targets_spec, rx_answer, rx_publish, rx_respond, transmit};
+ghost use Rattle.xen_transmit.specs.Transmit.{after_targets, fill, found, outcome_of, read_targets as read_targets_spec, rx_answer};
+ghost use Rattle.xen_transmit.specs.Transmit.{rx_publish, rx_respond, transmit};
 ghost use Rattle.xen_transmit.specs.Wired.{IsWired};
 
 use crate::by_event::phase::Outcome;
@@ -34,7 +35,8 @@ use xen_steps::{header, requests_shown, rx_entry};
 fn look<B: Bus>(vif: &Vif, rx_index: u32, bus: &mut B, packet: &[u8]) -> Option<u32>
     requires frame { vif.now.rx < B.size bus.old }
     ensures size { B.size bus.new ≡ B.size bus.old }
-    ensures driven { (t : List Event) × Driven B.log B.access_gives (transmit vif.now rx_index packet.now) (found vif.now rx_index packet.now result) bus.old bus.new t }
+    ensures driven { (t : List Event) × Driven B.log B.access_gives (transmit vif.now rx_index packet.now)
+        (found vif.now rx_index packet.now result) bus.old bus.new t }
 {
     let producer = bus.read(header(vif.rx, REQ_PROD));
     requests_shown(rx_index, producer)
@@ -45,7 +47,8 @@ fn read_request<B: Bus>(bus: &mut B, frame: u32, index: u32) -> RxReq
     requires { frame < B.size bus.old }
     ensures size { B.size bus.new ≡ B.size bus.old }
     ensures read { (a : ℕ) × (g : ℕ) × (a < 2 ^ 32) × (g < 2 ^ 32) × (result ≡ rx_req_of (a ∷ g ∷ []))
-        × Performs B.log B.access_gives bus.old (accesses.Read (rx_entry_place frame index 0) a ∷ accesses.Read (rx_entry_place frame index 1) g ∷ []) bus.new }
+        × Performs B.log B.access_gives bus.old (accesses.Read (rx_entry_place frame index 0) a
+        ∷ accesses.Read (rx_entry_place frame index 1) g ∷ []) bus.new }
 {
     let a = bus.read(rx_entry(frame, index, 0));
     let g = bus.read(rx_entry(frame, index, 1));
@@ -99,7 +102,8 @@ fn read_targets<B: Bus>(
     requires size { B.size bus.old ≡ length vif.now.owners.now }
     requires wired { IsWired vif.now }
     ensures size { B.size bus.new ≡ B.size bus.old }
-    ensures driven { (t : List Event) × Driven B.log B.access_gives (read_targets_spec vif.now rx_index slots []) (done (scanned result targets.new)) bus.old bus.new t }
+    ensures driven { (t : List Event) × Driven B.log B.access_gives (read_targets_spec vif.now rx_index slots [])
+        (done (scanned result targets.new)) bus.old bus.new t }
 {
     for slot in 0..slots {
         let request = read_request(bus, vif.rx, rx_index.wrapping_add(slot));
@@ -138,7 +142,8 @@ fn fill_buffers<B: Bus>(bus: &mut B, targets: &Targets, packet: &[u8])
     requires short { length packet.now ≤ 65535 }
     requires left { Finishes (IsPageWant (B.size bus.old)) (fill targets.now packet.now (words packet.now) 0) }
     ensures size { B.size bus.new ≡ B.size bus.old }
-    ensures driven { (t : List Event) × Driven B.log B.access_gives (fill targets.now packet.now (words packet.now) 0) (done tt) bus.old bus.new t }
+    ensures driven { (t : List Event) × Driven B.log B.access_gives (fill targets.now packet.now (words packet.now) 0) (done tt)
+        bus.old bus.new t }
 {
     for i in 0..pages_of(packet) {
         fill_buffer(bus, targets, i, packet);
@@ -157,7 +162,8 @@ fn write_responses<B: Bus>(
     requires short { length packet.now ≤ 65535 }
     requires frame { vif.now.rx < B.size bus.old }
     ensures size { B.size bus.new ≡ B.size bus.old }
-    ensures driven { (t : List Event) × Driven B.log B.access_gives (rx_respond vif.now rx_index packet.now passed targets.now) (rx_publish vif.now rx_index passed (length targets.now)) bus.old bus.new t }
+    ensures driven { (t : List Event) × Driven B.log B.access_gives (rx_respond vif.now rx_index packet.now passed targets.now)
+        (rx_publish vif.now rx_index passed (length targets.now)) bus.old bus.new t }
 {
     for i in 0..targets.len() {
         let index = rx_index.wrapping_add(i);
@@ -178,7 +184,8 @@ fn push_responses<B: Bus>(
 )
     requires frame { vif.now.rx < B.size bus.old }
     ensures size { B.size bus.new ≡ B.size bus.old }
-    ensures driven { (t : List Event) × Driven B.log B.access_gives (rx_publish vif.now rx_index passed n) (done (outcome_of passed n)) bus.old bus.new t }
+    ensures driven { (t : List Event) × Driven B.log B.access_gives (rx_publish vif.now rx_index passed n)
+        (done (outcome_of passed n)) bus.old bus.new t }
 {
     let next = rx_index.wrapping_add(n);
     bus.write(header(vif.rx, RSP_PROD), next);
@@ -198,9 +205,12 @@ fn send_pages<B: Bus>(
     requires short { length packet.now ≤ 65535 }
     requires size { B.size bus.old ≡ length vif.now.owners.now }
     requires wired { IsWired vif.now }
-    requires left { Completes vif.now (bind (read_targets_spec vif.now rx_index (pages packet.now) []) (after_targets vif.now rx_index packet.now)) }
+    requires left { Completes vif.now (bind (read_targets_spec vif.now rx_index (pages packet.now) [])
+        (after_targets vif.now rx_index packet.now)) }
     ensures size { B.size bus.new ≡ B.size bus.old }
-    ensures driven { (t : List Event) × Driven B.log B.access_gives (bind (read_targets_spec vif.now rx_index (pages packet.now) []) (after_targets vif.now rx_index packet.now)) (done result) bus.old bus.new t }
+    ensures driven { (t : List Event) × Driven B.log B.access_gives
+        (bind (read_targets_spec vif.now rx_index (pages packet.now) []) (after_targets vif.now rx_index packet.now)) (done result)
+        bus.old bus.new t }
 {
     let mut targets = Targets::new();
     let passed = read_targets(vif, rx_index, bus, pages_of(packet), &mut targets);
