@@ -59,11 +59,6 @@ driven_append log gives s m s' a b c x y z t u d e =
       grown = e.grown ∙ ap (λ l. l ++ labels u) d.grown ∙ append_assoc x (labels t) (labels u) ∙ sym (ap (λ l. x ++ l) (labels-append t u));
     }
 
--- one event
-pub driven_one : {A S : Type 0} (log : S → Option (List Access)) (gives : S → Access → S → Type 0) (s s' : Steps A) (a b : S) (x y : List Op) (e : Event) →
-    Goes s e s' → Performs log gives a (accesses (e ∷ [])) b → y ≡ x ++ labels (e ∷ []) → Driven log gives s s' a b x y (e ∷ [])
-driven_one log gives s s' a b x y e g p o = record { gone = (s', g, refl); performed = p; grown = o }
-
 pub driven_none : {A S : Type 0} (log : S → Option (List Access)) (gives : S → Access → S → Type 0) (s : Steps A) (a : S) (x : List Op) → Driven log gives s s a a x x []
 driven_none log gives s a x = record { gone = refl; performed = performs_none log gives a; grown = ops_none x }
 
@@ -77,18 +72,6 @@ alone_accesses (suc n) = alone_accesses n
 pub alone_labels : (n : ℕ) → labels (instructions_alone n) ≡ []
 alone_labels zero = refl
 alone_labels (suc n) = alone_labels n
-
--- instructions that read no counter touch neither the bus nor the counters
-pub driven_alone : {A S : Type 0} (log : S → Option (List Access)) (gives : S → Access → S → Type 0) (s m s' : Steps A) (a b : S) (x y : List Op) (t : List Event) (n : ℕ) →
-    Driven log gives s m a b x y t → Gone m (instructions_alone n) s' → Driven log gives s s' a b x y (t ++ instructions_alone n)
-driven_alone log gives s m s' a b x y t n d g =
-    let none : accesses (t ++ instructions_alone n) ≡ accesses t = accesses-append t (instructions_alone n) ∙ ap (λ l. accesses t ++ l) (alone_accesses n) ∙ append-nil (accesses t) in
-    let same : labels (t ++ instructions_alone n) ≡ labels t = labels-append t (instructions_alone n) ∙ ap (λ l. labels t ++ l) (alone_labels n) ∙ append-nil (labels t) in
-    record {
-      gone = gone_append s m s' t (instructions_alone n) d.gone g;
-      performed = rw none d.performed;
-      grown = d.grown ∙ ap (λ l. x ++ l) (sym same);
-    }
 
 -- an interpreter that advances does so many instructions
 pub gone_alone : (c : Course) (n ops : ℕ) (f : Left → Steps Ending) → Gone (bind (program (after_steps n c) ops) f) (instructions_alone n) (bind (program c ops) f)
