@@ -1,10 +1,11 @@
 -- What a call prints, and its exit status.
-use Rattle.std.specs.Prelude.{ℕ, ◌≡◌, ◌≢◌, ◌<◌, ◌≤◌, ◌⊎◌, List, length, take, codes, Option, Some, None, IfSome, Result, Ok, Err}
+use Rattle.std.specs.Prelude.{ℕ, ◌≡◌, ◌≢◌, ◌<◌, ◌≤◌, ◌⊎◌, List, ◌++◌, length, take, codes, Option, Some, None, IfSome, Result, Ok, Err}
 use Rattle.std.specs.Result.{result_ok}
 use Rattle.std.specs.Io.KnownBytes.{Appends, Consumes, IsAtEnd, Keeps}
 use Rattle.hex.specs.Hex.{decode_of}
 use Rattle.bpf_insn.specs.declared.refusal.Refusal.{Refusal}
 use Rattle.bpf_vm.specs.declared.ended.Ended.{Ended}
+use Rattle.xdp_load.specs.Places.{IsFaultText}
 use Rattle.xdp_load.specs.Setup.{SetupView, setup_of, text_of}
 use Rattle.xdp_load.specs.declared.fault.Fault.{Fault}
 use Rattle.xdp_load.specs.declared.fault.LoadFault.{LoadFault}
@@ -108,14 +109,27 @@ AnswerTo question.Explain = ExplainAnswer
 AnswerTo question.Run = RunAnswer
 AnswerTo question.Filter = FilterAnswer
 
--- the answer to what settings spell: to a setup, or their first fault
-abbrev pub SpelledAnswer : (SetupView → Said → Type 0) → Result SetupView Fault → Said → Type 0
-SpelledAnswer answer (Ok s) said = answer s said
-SpelledAnswer answer (Err f) said = said ≡ settings_refused (Refused f)
+-- the line of the first fault of settings
+abbrev pub RefusedAnswer : List ℕ → Fault → Said → Type 0
+RefusedAnswer settings f said = said ≡ settings_refused (Refused f)
+
+-- the same, and the line that says where it is and what is allowed there
+abbrev pub PlacedAnswer : List ℕ → Fault → Said → Type 0
+PlacedAnswer settings f said = (line : List ℕ) × IsFaultText f settings line × (said ≡ (settings_text (Refused f) ++ line, 2))
+
+-- the answer to settings with this fault, of which this is asked
+abbrev pub RefusedTo : Question → List ℕ → Fault → Said → Type 0
+RefusedTo question.Explain = PlacedAnswer
+RefusedTo _ = RefusedAnswer
+
+-- the answer to what settings spell: to a setup, or to their first fault
+abbrev pub SpelledAnswer : (SetupView → Said → Type 0) → (Fault → Said → Type 0) → Result SetupView Fault → Said → Type 0
+SpelledAnswer answer refused (Ok s) said = answer s said
+SpelledAnswer answer refused (Err f) said = refused f said
 
 -- the answer to settings; L0 where memory ran out while the settings, which are a text, were loaded
-abbrev pub SettingsAnswer : (SetupView → Said → Type 0) → List ℕ → Said → Type 0
-SettingsAnswer answer settings said = SpelledAnswer answer (setup_of settings) said ⊎
+abbrev pub SettingsAnswer : (SetupView → Said → Type 0) → (List ℕ → Fault → Said → Type 0) → List ℕ → Said → Type 0
+SettingsAnswer answer refused settings said = SpelledAnswer answer (refused settings) (setup_of settings) said ⊎
     ((text_of settings ≢ None) × (said ≡ settings_refused Memory))
 
 -- the settings are what the reader gave, up to its end or 1,048,577 bytes
@@ -126,18 +140,20 @@ pub record IsSettings (old new : Option (List ℕ)) (settings : List ℕ) : Type
   pub known : IfSome old (λ xs. settings ≡ take 1048577 xs)
 
 -- the answer to the settings that a reader gives
-abbrev pub InputAnswer : (SetupView → Said → Type 0) → Option (List ℕ) → Option (List ℕ) → Said → Type 0
-InputAnswer answer old new said = (settings : List ℕ) × IsSettings old new settings × SettingsAnswer answer settings said
+abbrev pub InputAnswer : (SetupView → Said → Type 0) → (List ℕ → Fault → Said → Type 0) → Option (List ℕ) → Option (List ℕ) → Said →
+    Type 0
+InputAnswer answer refused old new said =
+    (settings : List ℕ) × IsSettings old new settings × SettingsAnswer answer refused settings said
 
 -- the answer to what the words ask for, over a reader before and after
 abbrev pub IsAnswer : Option Wanted → Option (List ℕ) → Option (List ℕ) → Said → Type 0
 IsAnswer None old new said = said ≡ words_refused
 IsAnswer (Some (exec program packet)) old new said = ExecAnswer program packet said
-IsAnswer (Some check) old new said = InputAnswer SetupAnswer old new said
-IsAnswer (Some explain) old new said = InputAnswer ExplainAnswer old new said
-IsAnswer (Some run) old new said = InputAnswer RunAnswer old new said
-IsAnswer (Some filter) old new said = InputAnswer FilterAnswer old new said
-IsAnswer (Some (pair turns h)) old new said = InputAnswer (PairAnswer turns h) old new said
+IsAnswer (Some check) old new said = InputAnswer SetupAnswer RefusedAnswer old new said
+IsAnswer (Some explain) old new said = InputAnswer ExplainAnswer PlacedAnswer old new said
+IsAnswer (Some run) old new said = InputAnswer RunAnswer RefusedAnswer old new said
+IsAnswer (Some filter) old new said = InputAnswer FilterAnswer RefusedAnswer old new said
+IsAnswer (Some (pair turns h)) old new said = InputAnswer (PairAnswer turns h) RefusedAnswer old new said
 
 -- at most so many bytes are taken
 abbrev pub TakesAtMost : ℕ → Option (List ℕ) → Option (List ℕ) → Type 0

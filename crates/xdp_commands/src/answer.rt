@@ -3,9 +3,11 @@ ghost use Rattle.std.specs.Prelude.{◌≡◌, ◌≤◌, IfOk, IfErr, Some, len
 ghost use Rattle.xdp_load.specs.SetupSeen.{setup_view};
 ghost use Rattle.xdp_load.specs.Sound.{IsSound};
 ghost use Rattle.xdp_commands.specs.Answer.{AnswerTo, ExecAnswer, ExplainAnswer, FilterAnswer, InputAnswer, IsAnswer, PacketAnswer};
-ghost use Rattle.xdp_commands.specs.Answer.{PairAnswer, Reads, RunAnswer, SettingsAnswer, SetupAnswer, Takes, TakesAtMost};
+ghost use Rattle.xdp_commands.specs.Answer.{PairAnswer, PlacedAnswer, Reads, RefusedAnswer, RefusedTo, RunAnswer, SettingsAnswer, SetupAnswer};
 ghost use Rattle.xdp_commands.specs.Answer.{checked_answer, executed_answer, hex_bytes, program_status, settings_refused};
-ghost use Rattle.xdp_commands.specs.Answer.{words_refused};
+ghost use Rattle.xdp_commands.specs.Answer.{Takes, TakesAtMost, words_refused};
+ghost use Rattle.xdp_load.specs.declared.fault.Fault.{Fault};
+ghost use Rattle.xdp_load.specs.declared.fault.LoadFault.TheVariants as LoadFault;
 ghost use Rattle.xdp_commands.specs.Words as wanted;
 ghost use Rattle.xdp_commands.specs.Seen.{said_of, wanted_of};
 
@@ -25,7 +27,7 @@ use std::alloc::{AllocError, Global};
 use std::io::Read;
 use std::sync::Wait;
 use std::thread::Threads;
-use xdp_load::{LoadFault, Setup, load};
+use xdp_load::{Fault, LoadFault, Setup, fault_text, load};
 use xdp_pair::Host;
 
 /// A text that is printed, and the exit status.
@@ -119,6 +121,16 @@ fn settings_refused(alloc: Global, fault: LoadFault) -> Result<Answer, AllocErro
     ensures { IfOk result (λ a. said_of a ≡ settings_refused fault) }
 {
     let text = settings_text(alloc, fault)?;
+    Ok(Answer { text, status: 2 })
+}
+
+/// The answer to settings that are refused, with the line that says where, and what is allowed there.
+fn placed_answer(alloc: Global, settings: &[u8], fault: Fault) -> Result<Answer, AllocError>
+    ensures { IfOk result (λ a. PlacedAnswer settings.now fault (said_of a)) }
+{
+    let mut text = settings_text(alloc, LoadFault::Refused(fault))?;
+    let line = fault_text(alloc, fault, settings)?;
+    text.push_str(line.as_str())?;
     Ok(Answer { text, status: 2 })
 }
 
@@ -230,13 +242,44 @@ fn setup_answer(alloc: Global, question: Question, setup: &Setup) -> Result<Answ
     }
 }
 
+/// The answer to settings with this fault.
+fn fault_answer(
+    alloc: Global,
+    question: Question,
+    settings: &[u8],
+    fault: Fault,
+) -> Result<Answer, AllocError>
+    ensures { IfOk result (λ a. RefusedTo question settings.now fault (said_of a)) }
+{
+    match question {
+        Question::Explain => placed_answer(alloc, settings, fault),
+        _ => settings_refused(alloc, LoadFault::Refused(fault)),
+    }
+}
+
+/// The answer to settings that were not loaded.
+fn refused_answer(
+    alloc: Global,
+    question: Question,
+    settings: &[u8],
+    fault: LoadFault,
+) -> Result<Answer, AllocError>
+    ensures memory { fault ≡ LoadFault.Memory → IfOk result (λ a. said_of a ≡ settings_refused LoadFault.Memory) }
+    ensures refused { (f : Fault) → fault ≡ LoadFault.Refused f → IfOk result (λ a. RefusedTo question settings.now f (said_of a)) }
+{
+    match fault {
+        LoadFault::Memory => settings_refused(alloc, fault),
+        LoadFault::Refused(fault) => fault_answer(alloc, question, settings, fault),
+    }
+}
+
 /// The answer to settings.
 fn settings_answer(alloc: Global, question: Question, settings: &[u8]) -> Result<Answer, AllocError>
-    ensures { IfOk result (λ a. SettingsAnswer (AnswerTo question) settings.now (said_of a)) }
+    ensures { IfOk result (λ a. SettingsAnswer (AnswerTo question) (RefusedTo question) settings.now (said_of a)) }
 {
     match load(alloc, settings) {
         Ok(setup) => setup_answer(alloc, question, &setup),
-        Err(fault) => settings_refused(alloc, fault),
+        Err(fault) => refused_answer(alloc, question, settings, fault),
     }
 }
 
@@ -248,7 +291,7 @@ fn threads_answer<T: Threads + Wait + Sync>(
     turns: u32,
     settings: &[u8],
 ) -> Result<Answer, AllocError>
-    ensures { IfOk result (λ a. SettingsAnswer (PairAnswer turns host) settings.now (said_of a)) }
+    ensures { IfOk result (λ a. SettingsAnswer (PairAnswer turns host) RefusedAnswer settings.now (said_of a)) }
 {
     match load(alloc, settings) {
         Ok(setup) => pair_answer(rt, alloc, &setup, host, turns),
@@ -258,7 +301,8 @@ fn threads_answer<T: Threads + Wait + Sync>(
 
 /// The answer to the settings that the input gives.
 fn input_answer<R: Read>(alloc: Global, question: Question, input: &mut R) -> Result<Answer, Stop>
-    ensures answer { IfOk result (λ a. InputAnswer (AnswerTo question) (R.remaining input.old) (R.remaining input.new) (said_of a)) }
+    ensures answer { IfOk result (λ a. InputAnswer (AnswerTo question) (RefusedTo question) (R.remaining input.old)
+        (R.remaining input.new) (said_of a)) }
     ensures takes { TakesAtMost 1048577 (R.remaining input.old) (R.remaining input.new) }
 {
     let settings = read_settings(alloc, input)?;

@@ -2,8 +2,11 @@ pub mod Complete
 pub mod Document
 pub mod FaultNumber
 pub mod Gives
+pub mod Keys
 pub mod Limits
 pub mod LimitsSeen
+pub mod Places
+pub mod PlacesSeen
 pub mod Seen
 pub mod Setup
 pub mod SetupSeen

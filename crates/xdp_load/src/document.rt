@@ -12,6 +12,11 @@ use crate::table::{found, has_only, integer_or};
 use std::alloc::Global;
 use toml::Table;
 
+/// The keys of a document.
+pub const TOP_KEYS: [&str; 8] = [
+    "program", "queues", "ifindex", "start", "map", "reloc", "script", "packet",
+];
+
 /// The texts of the program.
 #[tactic(auto, unfolding(crate::specs::Written::program_of))]
 fn program_of(alloc: Global, table: &Table) -> Result<Vec<HexRow<'_>>, LoadFault>
@@ -83,10 +88,7 @@ fn rows_of_table<'a>(alloc: Global, table: &'a Table) -> Result<Written<'a>, Loa
 pub fn read_document<'a>(alloc: Global, table: &'a Table) -> Result<Written<'a>, LoadFault>
     ensures { Gives written_seen result (written_of (table_view table.now)) }
 {
-    let known = [
-        "program", "queues", "ifindex", "start", "map", "reloc", "script", "packet",
-    ];
-    if !has_only(table, &known) {
+    if !has_only(table, &TOP_KEYS) {
         return Err(LoadFault::Refused(Fault::Key));
     }
     rows_of_table(alloc, table)

@@ -2,7 +2,7 @@
 ghost use Rattle.std.specs.Prelude.{◌≡◌, ◌≤◌, IfSome, OnOk, vec_len, map, option_map};
 ghost use Rattle.xdp_load.specs.Gives.{Gives, or_fault};
 ghost use Rattle.xdp_load.specs.Limits.{below, each, limited, limited_lists, limited_numbers, limited_of, limited_packet};
-ghost use Rattle.xdp_load.specs.Limits.{limited_shape, limited_step};
+ghost use Rattle.xdp_load.specs.Limits.{is_packet_text, limited_shape, limited_step};
 ghost use Rattle.xdp_load.specs.Seen.{map_seen, numbers_seen, packet_seen, step_seen, written_seen};
 ghost use Rattle.xdp_load.specs.LimitsSeen.{hex_packet_seen, limited_seen, limits_seen};
 ghost use Rattle.xdp_load.specs.declared.fault.Fault.TheVariants.{Limit};
@@ -14,7 +14,7 @@ use bpf_note::MapShape;
 use std::alloc::Global;
 
 /// The number, where it lies in the range.
-fn limited(least: u32, most: u32, number: i64) -> Option<u32>
+pub fn limited(least: u32, most: u32, number: i64) -> Option<u32>
     ensures value { result ≡ limited least most number }
     ensures within { IfSome result (λ n. (least ≤ n) × (n ≤ most)) }
 {
@@ -25,7 +25,7 @@ fn limited(least: u32, most: u32, number: i64) -> Option<u32>
 }
 
 /// The number, where it is below the other.
-fn below(queues: u32, number: i64) -> Option<u32>
+pub fn below(queues: u32, number: i64) -> Option<u32>
     ensures { result ≡ below queues number }
 {
     let queue = limited(0, u32::MAX, number)?;
@@ -108,14 +108,21 @@ pub struct HexPacket<'a> {
     pub times: u32,
 }
 
+/// Whether a hex text has the length of a packet, at two digits a byte.
+pub fn is_packet_length(text: &str) -> bool
+    ensures { result ≡ is_packet_text text.now }
+{
+    let length = text.len() / 2;
+    14 <= length && length <= 65_535
+}
+
 /// A packet within its limits.
 fn limited_packet<'a>(queues: u32, row: &PacketRow<'a>) -> Option<HexPacket<'a>>
     ensures { option_map hex_packet_seen result ≡ limited_packet queues (packet_seen row.now) }
 {
     let queue = below(queues, row.queue)?;
     let times = limited(1, 100_000, row.times)?;
-    let length = row.bytes.len() / 2;
-    if length < 14 || length > 65_535 {
+    if !is_packet_length(row.bytes) {
         return None;
     }
     Some(HexPacket {

@@ -14,7 +14,7 @@ fn is_repeated(name: &str, rows: &[MapRow<'_>]) -> bool
 }
 
 /// Whether the first map's name is no right one, or is given again.
-fn is_bad_first(rows: &[MapRow<'_>]) -> bool
+pub fn is_bad_first(rows: &[MapRow<'_>]) -> bool
     ensures { result ≡ is_bad_first (map (λ m. m.name.now) rows.now) }
 {
     match rows.split_first() {

@@ -17,7 +17,7 @@ fn is_taken(slot: i64, rows: &[RelocRow<'_>]) -> bool
 }
 
 /// Whether a relocation after the first has its slot.
-fn is_taken_again(rows: &[RelocRow<'_>]) -> bool
+pub fn is_taken_again(rows: &[RelocRow<'_>]) -> bool
     ensures { result ≡ is_taken_again (map reloc_seen rows.now) }
 {
     match rows.split_first() {
@@ -42,7 +42,7 @@ pub fn have_own_slots(rows: &[RelocRow<'_>]) -> bool
 const WIDE_LOAD: u8 = 0x18;
 
 /// The slot where all its eight bytes are in the program, and the first is the opcode of a wide load.
-fn wide_slot(program: &[u8], slot: i64) -> Option<usize>
+pub fn wide_slot(program: &[u8], slot: i64) -> Option<usize>
     ensures value { result ≡ wide_slot program.now slot }
     ensures whole { IfSome result (λ s. 8 * s + 7 < length program.now) }
 {
@@ -66,7 +66,7 @@ fn set_map(program: &mut [u8], at: usize, number: u8)
 }
 
 /// The number of the map with a name.
-fn map_number(name: &str, maps: &[MapRow<'_>]) -> Option<usize>
+pub fn map_number(name: &str, maps: &[MapRow<'_>]) -> Option<usize>
     ensures value { result ≡ position (bytes_eq name.now) (map (λ m. m.name.now) maps.now) }
     ensures within { IfSome result (λ n. n < length maps.now) }
 {

@@ -40,7 +40,7 @@ pub fn rows_in(value: &Value) -> Option<&[Value]>
 }
 
 /// The rows of the array at a key, none where there is no such key.
-fn values_at<'a>(table: &'a Table, key: &str) -> Option<&'a [Value]>
+pub fn values_at<'a>(table: &'a Table, key: &str) -> Option<&'a [Value]>
     ensures { option_map (λ vs. map view vs.now) result ≡ values_at key.now (table_view table.now) }
 {
     match found(table, key) {

@@ -163,7 +163,7 @@ fn utf8_text(bytes: &[u8]) -> Option<&str>
 }
 
 /// The bytes as a text, if they are few enough.
-fn text_of(bytes: &[u8]) -> Option<&str>
+pub fn text_of(bytes: &[u8]) -> Option<&str>
     ensures { option_map (λ t. t.now) result ≡ text_of bytes.now }
 {
     if bytes.len() > 1_048_576 {

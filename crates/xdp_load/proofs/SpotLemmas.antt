@@ -1,0 +1,108 @@
+-- The first row at which a fault is found.
+use Rattle.std.proofs.Common.{IfOk, Result, Ok, Err, tt, Bor, Bool, Global, String, string_bytes, slice_index_or, option_map, ap, sym, ◌∙◌, ◌≤◌, ◌≡◌, ◌<◌, ◌+◌, add-one, arith, ℕ, zero, suc, List, [], ◌∷◌, length, get_or, drop, map, Option, Some, None, is_some, true, false, refl}
+use Rattle.std.proofs.lemmas.List.{drop_more}
+use Rattle.std.specs.List.{list_any}
+use Rattle.std.specs.Map.{keys_of}
+use Rattle.std.specs.Option.{option_or}
+use Rattle.std.specs.Str.{bytes_eq}
+use Rattle.toml.proofs.Views.{Entry}
+use Rattle.toml.specs.View.{members_view}
+use Rattle.xdp_load.proofs.Tables.{known-texts}
+use Rattle.xdp_load.specs.Document.{RelocText, Text}
+use Rattle.xdp_load.specs.Limits.{is_bad_first}
+use Rattle.xdp_load.specs.Places.{IsSyntaxLine, Spot, syntax_text, first_row, name_spot, row, taken_spot, text_hex, unknown_key}
+use Rattle.xdp_load.specs.Setup.{bytes_of, is_taken_again}
+use Rattle.xdp_load.specs.declared.key.Key.{Key}
+use Rattle.xdp_load.specs.declared.key.Key.TheVariants as key
+
+-- no fault at a row
+pub row_passed : {A B : Type 0} (f : B → Option Key) (g : A → B) (xs : List A) (i : ℕ) (d : A) → i < length xs → f (g (get_or xs i d)) ≡ None
+    → first_row f i (map g (drop i xs)) ≡ first_row f (i + 1) (map g (drop (i + 1) xs))
+row_passed f g xs i d h e = rw (drop_more xs i d h, e, add-one)
+
+-- a fault at a row
+pub row_found : {A B : Type 0} (f : B → Option Key) (g : A → B) (xs : List A) (i : ℕ) (d : A) (k : Key) → i < length xs → f (g (get_or xs i d)) ≡ Some k
+    → first_row f i (map g (drop i xs)) ≡ Some (row k i)
+row_found f g xs i d k h e = rw (drop_more xs i d h, e)
+
+name_suc : {A : Type 0} (f : A → Text) (xs : List A) (i n : ℕ) → i < length xs → is_bad_first (map f (drop i xs)) ≡ false
+    → name_spot n (map f (drop i xs)) ≡ name_spot (suc n) (map f (drop (suc i) xs))
+name_suc f [] i n h e = absurd (omega arith)
+name_suc f (x ∷ xs) zero n h e = rw e
+name_suc f (x ∷ xs) (suc i) n h e = name_suc f xs i n (omega arith) e
+
+name_here : {A : Type 0} (f : A → Text) (xs : List A) (i n : ℕ) → i < length xs → is_bad_first (map f (drop i xs)) ≡ true
+    → name_spot n (map f (drop i xs)) ≡ Some (row key.Name n)
+name_here f [] i n h e = absurd (omega arith)
+name_here f (x ∷ xs) zero n h e = rw e
+name_here f (x ∷ xs) (suc i) n h e = name_here f xs i n (omega arith) e
+
+pub name_passed : {A : Type 0} (f : A → Text) (xs : List A) (i : ℕ) → i < length xs → is_bad_first (map f (drop i xs)) ≡ false
+    → name_spot i (map f (drop i xs)) ≡ name_spot (i + 1) (map f (drop (i + 1) xs))
+name_passed f xs i h e = rw add-one (name_suc f xs i i h e)
+
+pub name_found : {A : Type 0} (f : A → Text) (xs : List A) (i : ℕ) → i < length xs → is_bad_first (map f (drop i xs)) ≡ true
+    → name_spot i (map f (drop i xs)) ≡ Some (row key.Name i)
+name_found f xs i h e = name_here f xs i i h e
+
+taken_suc : {A : Type 0} (f : A → RelocText) (xs : List A) (i n : ℕ) → i < length xs → is_taken_again (map f (drop i xs)) ≡ false
+    → taken_spot n (map f (drop i xs)) ≡ taken_spot (suc n) (map f (drop (suc i) xs))
+taken_suc f [] i n h e = absurd (omega arith)
+taken_suc f (x ∷ xs) zero n h e = rw e
+taken_suc f (x ∷ xs) (suc i) n h e = taken_suc f xs i n (omega arith) e
+
+taken_here : {A : Type 0} (f : A → RelocText) (xs : List A) (i n : ℕ) → i < length xs → is_taken_again (map f (drop i xs)) ≡ true
+    → taken_spot n (map f (drop i xs)) ≡ Some (row key.Slot n)
+taken_here f [] i n h e = absurd (omega arith)
+taken_here f (x ∷ xs) zero n h e = rw e
+taken_here f (x ∷ xs) (suc i) n h e = taken_here f xs i n (omega arith) e
+
+pub taken_passed : {A : Type 0} (f : A → RelocText) (xs : List A) (i : ℕ) → i < length xs → is_taken_again (map f (drop i xs)) ≡ false
+    → taken_spot i (map f (drop i xs)) ≡ taken_spot (i + 1) (map f (drop (i + 1) xs))
+taken_passed f xs i h e = rw add-one (taken_suc f xs i i h e)
+
+pub taken_found : {A : Type 0} (f : A → RelocText) (xs : List A) (i : ℕ) → i < length xs → is_taken_again (map f (drop i xs)) ≡ true
+    → taken_spot i (map f (drop i xs)) ≡ Some (row key.Slot i)
+taken_found f xs i h e = taken_here f xs i i h e
+
+-- a hex text is none of the program's, or of a packet's, that is refused
+pub hex_passed : (k : Key) (t : Text) → is_some (bytes_of t) ≡ true → text_hex k t ≡ None
+hex_passed k t h = rw h
+
+-- the first of two that there is
+pub or_seen : {A B : Type 0} (f : A → B) (a b : Option A) → option_map f (option_or a b) ≡ option_or (option_map f a) (option_map f b)
+or_seen f None b = refl
+or_seen f (Some x) b = refl
+
+-- ---- the first key that isn't one of those
+
+abbrev pub is_known : List (Bor Text) → String Global → Bool
+is_known known k = list_any (λ t. bytes_eq (string_bytes k) t.now) known
+
+-- each key is one of those
+pub none_unknown : (known : List (Bor Text)) (es : List Entry) → ((k : ℕ) (d : String Global) → 0 ≤ k → k < length (keys_of es) → is_known known (slice_index_or (keys_of es) k d) ≡ true)
+    → unknown_key (map (λ k. k.now) known) (members_view es) ≡ None
+none_unknown known [] h = refl
+none_unknown known (e ∷ es) h =
+    let head : list_any (bytes_eq (string_bytes e.0)) (map (λ k. k.now) known) ≡ true = sym (known-texts (bytes_eq (string_bytes e.0)) known) ∙ h 0 e.0 (omega arith) (omega arith) in
+    rw (head, none_unknown known es (λ k d low high. h (suc k) d (omega arith) (omega (arith, high))))
+
+-- the one at i isn't, and each before it is
+pub first_unknown : (known : List (Bor Text)) (es : List Entry) (i : ℕ) (x : String Global) → i < length (keys_of es)
+    → ((k : ℕ) (d : String Global) → 0 ≤ k → k < i → is_known known (slice_index_or (keys_of es) k d) ≡ true)
+    → ((d : String Global) → slice_index_or (keys_of es) i d ≡ x) → is_known known x ≡ false
+    → unknown_key (map (λ k. k.now) known) (members_view es) ≡ Some (string_bytes x)
+first_unknown known [] i x h before at no = absurd (omega (arith, h))
+first_unknown known (e ∷ es) zero x h before at no =
+    let same : e.0 ≡ x = at e.0 in
+    let head : list_any (bytes_eq (string_bytes e.0)) (map (λ k. k.now) known) ≡ false = sym (known-texts (bytes_eq (string_bytes e.0)) known) ∙ (ap (is_known known) same ∙ no) in
+    rw (head, same)
+first_unknown known (e ∷ es) (suc i) x h before at no =
+    let head : list_any (bytes_eq (string_bytes e.0)) (map (λ k. k.now) known) ≡ true = sym (known-texts (bytes_eq (string_bytes e.0)) known) ∙ before 0 e.0 (omega arith) (omega arith) in
+    rw (head, first_unknown known es i x (omega (arith, h)) (λ k d low high. before (suc k) d (omega arith) (omega (arith, high))) at no)
+
+-- the line at which TOML's reader stopped
+pub syntax_found : {E : Type 0} (bytes : List ℕ) (n : ℕ) (r : Result (String Global) E) → n ≤ length bytes
+    → IfOk r (λ s. string_bytes s ≡ syntax_text n bytes) → IfOk r (λ s. IsSyntaxLine bytes (string_bytes s))
+syntax_found bytes n (Ok s) h e = (n, h, e)
+syntax_found bytes n (Err e) h x = tt

@@ -1,0 +1,60 @@
+-- The keys of settings: where each stands, and what docs/SETTINGS.md allows there.
+use Rattle.std.specs.Prelude.{ℕ, List, [], codes}
+use Rattle.xdp_load.specs.declared.key.Key.{Key}
+use Rattle.xdp_load.specs.declared.key.Key.TheVariants.{Program, Queues, IfIndex, Start, Map, Name, Entries, Counters, Reloc, Slot}
+use Rattle.xdp_load.specs.declared.key.Key.TheVariants.{OfMap, Step, StepQueue, Answer, Packet, PacketQueue, Bytes, Times}
+
+-- the key of the document that it is, or that holds the rows in which it is
+abbrev pub list_name : Key → List ℕ
+list_name Program = codes "program"
+list_name Queues = codes "queues"
+list_name IfIndex = codes "ifindex"
+list_name Start = codes "start"
+list_name Map = codes "map"
+list_name Name = codes "map"
+list_name Entries = codes "map"
+list_name Counters = codes "map"
+list_name Reloc = codes "reloc"
+list_name Slot = codes "reloc"
+list_name OfMap = codes "reloc"
+list_name Step = codes "script"
+list_name StepQueue = codes "script"
+list_name Answer = codes "script"
+list_name Packet = codes "packet"
+list_name PacketQueue = codes "packet"
+list_name Bytes = codes "packet"
+list_name Times = codes "packet"
+
+-- the key within a row
+abbrev pub part_name : Key → List ℕ
+part_name Name = codes ", name"
+part_name Entries = codes ", entries"
+part_name Counters = codes ", counters"
+part_name Slot = codes ", slot"
+part_name OfMap = codes ", map"
+part_name StepQueue = codes ", queue"
+part_name PacketQueue = codes ", queue"
+part_name Answer = codes ", answer"
+part_name Bytes = codes ", bytes"
+part_name Times = codes ", times"
+part_name _ = []
+
+abbrev pub allowed : Key → List ℕ
+allowed Program = codes "a list of hex texts, each with whole bytes; it has to be there"
+allowed Queues = codes "a whole number, 1 to 8"
+allowed IfIndex = codes "a whole number, 0 to 4294967295"
+allowed Start = codes "a whole number, 0 to 4294967295"
+allowed Answer = codes "a whole number, 0 to 4294967295"
+allowed Map = codes "at most four tables, each with name, entries and, optionally, counters"
+allowed Name = codes "a text of 1 to 32 bytes, no other map's; it has to be there"
+allowed Entries = codes "a whole number, 1 to 1024; it has to be there"
+allowed Counters = codes "a whole number, 1 to 8"
+allowed Reloc = codes "tables, each with slot and map"
+allowed Slot = codes "the number of a slot that holds a wide load, no other relocation's; it has to be there"
+allowed OfMap = codes "the name of a map; it has to be there"
+allowed Step = codes "steps, each of two whole numbers: a queue and an answer"
+allowed StepQueue = codes "a whole number below queues"
+allowed Packet = codes "tables, each with queue, bytes and, optionally, times"
+allowed PacketQueue = codes "a whole number below queues; it has to be there"
+allowed Bytes = codes "a hex text of 14 to 65535 bytes; it has to be there"
+allowed Times = codes "a whole number, 1 to 100000"

@@ -1,0 +1,87 @@
+//! The keys of settings, and what is allowed at each.
+ghost use Rattle.std.specs.Prelude.{◌≡◌};
+ghost use Rattle.xdp_load.specs.Keys.{allowed, list_name, part_name};
+
+/// A key of the settings. `Map`, `Reloc`, `Step` and `Packet` are a list, or one of its rows, as a whole.
+#[derive(Clone, Copy, Debug, PartialEq, Eq)]
+pub enum Key {
+    Program,
+    Queues,
+    IfIndex,
+    Start,
+    Map,
+    Name,
+    Entries,
+    Counters,
+    Reloc,
+    Slot,
+    OfMap,
+    Step,
+    StepQueue,
+    Answer,
+    Packet,
+    PacketQueue,
+    Bytes,
+    Times,
+}
+
+impl Key {
+    /// The key of the document that it is, or that holds the rows in which it is.
+    pub fn list_name(self) -> &'static str
+        ensures { result.now ≡ list_name self }
+    {
+        match self {
+            Key::Program => "program",
+            Key::Queues => "queues",
+            Key::IfIndex => "ifindex",
+            Key::Start => "start",
+            Key::Map | Key::Name | Key::Entries | Key::Counters => "map",
+            Key::Reloc | Key::Slot | Key::OfMap => "reloc",
+            Key::Step | Key::StepQueue | Key::Answer => "script",
+            Key::Packet | Key::PacketQueue | Key::Bytes | Key::Times => "packet",
+        }
+    }
+
+    /// The key within a row; nothing for what is none.
+    pub fn part_name(self) -> &'static str
+        ensures { result.now ≡ part_name self }
+    {
+        match self {
+            Key::Name => ", name",
+            Key::Entries => ", entries",
+            Key::Counters => ", counters",
+            Key::Slot => ", slot",
+            Key::OfMap => ", map",
+            Key::StepQueue | Key::PacketQueue => ", queue",
+            Key::Answer => ", answer",
+            Key::Bytes => ", bytes",
+            Key::Times => ", times",
+            _ => "",
+        }
+    }
+
+    /// What is allowed there.
+    pub fn allowed(self) -> &'static str
+        ensures { result.now ≡ allowed self }
+    {
+        match self {
+            Key::Program => "a list of hex texts, each with whole bytes; it has to be there",
+            Key::Queues => "a whole number, 1 to 8",
+            Key::IfIndex | Key::Start | Key::Answer => "a whole number, 0 to 4294967295",
+            Key::Map => "at most four tables, each with name, entries and, optionally, counters",
+            Key::Name => "a text of 1 to 32 bytes, no other map's; it has to be there",
+            Key::Entries => "a whole number, 1 to 1024; it has to be there",
+            Key::Counters => "a whole number, 1 to 8",
+            Key::Reloc => "tables, each with slot and map",
+            Key::Slot =>
+                "the number of a slot that holds a wide load, no other relocation's; it has to be there",
+            Key::OfMap => "the name of a map; it has to be there",
+            Key::Step => "steps, each of two whole numbers: a queue and an answer",
+            Key::StepQueue => "a whole number below queues",
+            Key::Packet => "tables, each with queue, bytes and, optionally, times",
+            Key::PacketQueue => "a whole number below queues; it has to be there",
+            Key::Bytes => "a hex text of 14 to 65535 bytes; it has to be there",
+            Key::Times => "a whole number, 1 to 100000",
+        }
+    }
+}
