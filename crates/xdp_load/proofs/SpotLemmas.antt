@@ -1,5 +1,5 @@
 -- The first row at which a fault is found.
-use Rattle.std.proofs.Common.{IfOk, Result, Ok, Err, tt, Bor, Bool, Global, String, string_bytes, slice_index_or, option_map, ap, sym, ◌∙◌, ◌≤◌, ◌≡◌, ◌<◌, ◌+◌, add-one, arith, ℕ, zero, suc, List, [], ◌∷◌, length, get_or, drop, map, Option, Some, None, is_some, true, false, refl}
+use Rattle.std.proofs.Common.{IfOk, Result, Ok, Err, Bor, Bool, Global, String, string_bytes, slice_index_or, option_map, ap, sym, ◌∙◌, ◌≤◌, ◌≡◌, ◌<◌, ◌+◌, add-one, arith, ℕ, zero, suc, List, [], ◌∷◌, length, get_or, drop, map, Option, Some, None, is_some, true, false, refl}
 use Rattle.std.proofs.lemmas.List.{drop_more}
 use Rattle.std.specs.List.{list_any}
 use Rattle.std.specs.Map.{keys_of}
@@ -92,14 +92,14 @@ pub first_unknown : (known : List (Bor Text)) (es : List Entry) (i : ℕ) (x : S
     → ((k : ℕ) (d : String Global) → 0 ≤ k → k < i → is_known known (slice_index_or (keys_of es) k d) ≡ true)
     → ((d : String Global) → slice_index_or (keys_of es) i d ≡ x) → is_known known x ≡ false
     → unknown_key (map (λ k. k.now) known) (members_view es) ≡ Some (string_bytes x)
-first_unknown known [] i x h before at no = absurd (omega (arith, h))
-first_unknown known (e ∷ es) zero x h before at no =
+first_unknown known [] i x h before at other = absurd (omega (arith, h))
+first_unknown known (e ∷ es) zero x h before at other =
     let same : e.0 ≡ x = at e.0 in
-    let head : list_any (bytes_eq (string_bytes e.0)) (map (λ k. k.now) known) ≡ false = sym (known-texts (bytes_eq (string_bytes e.0)) known) ∙ (ap (is_known known) same ∙ no) in
+    let head : list_any (bytes_eq (string_bytes e.0)) (map (λ k. k.now) known) ≡ false = sym (known-texts (bytes_eq (string_bytes e.0)) known) ∙ (ap (is_known known) same ∙ other) in
     rw (head, same)
-first_unknown known (e ∷ es) (suc i) x h before at no =
+first_unknown known (e ∷ es) (suc i) x h before at other =
     let head : list_any (bytes_eq (string_bytes e.0)) (map (λ k. k.now) known) ≡ true = sym (known-texts (bytes_eq (string_bytes e.0)) known) ∙ before 0 e.0 (omega arith) (omega arith) in
-    rw (head, first_unknown known es i x (omega (arith, h)) (λ k d low high. before (suc k) d (omega arith) (omega (arith, high))) at no)
+    rw (head, first_unknown known es i x (omega (arith, h)) (λ k d low high. before (suc k) d (omega arith) (omega (arith, high))) at other)
 
 -- the line at which TOML's reader stopped
 pub syntax_found : {E : Type 0} (bytes : List ℕ) (n : ℕ) (r : Result (String Global) E) → n ≤ length bytes

@@ -10,6 +10,7 @@ use Rattle.toml.specs.Data.{Data, Members, no_members, member, as_array, as_inte
 use Rattle.toml.specs.Parse.{parse_document}
 use Rattle.xdp_load.specs.Document.{MapText, PacketText, RelocText, StepText, Text, has_only, integer_at, integer_or, items_list}
 use Rattle.xdp_load.specs.Document.{list_at, map_keys, packet_keys, reloc_keys, step_row, text_at, values_at}
+use Rattle.xdp_load.specs.Gives.{or_fault}
 use Rattle.xdp_load.specs.Limits.{below, is_bad_first, is_packet_text, limited, most_word}
 use Rattle.xdp_load.specs.Setup.{bytes_of, is_taken_again, joined, names_of, text_of, wide_slot}
 use Rattle.xdp_load.specs.Written.{NumberTexts, WrittenText, top_keys, written_of}
@@ -152,13 +153,17 @@ taken_spot n (r ∷ rs) = option_or (option_map (λ k. row k n) (key_if (is_take
 abbrev pub relocs_spot : List ℕ → List Text → List RelocText → Option Spot
 relocs_spot program names rs = option_or (first_row (reloc_fault program names) 0 rs) (taken_spot 0 rs)
 
+abbrev pub reloc_spot : WrittenText → Result (List ℕ) Fault → Option Spot
+reloc_spot w (Ok program) = relocs_spot program (names_of w.maps) w.relocs
+reloc_spot w (Err f) = None
+
 -- ---- the whole
 
 abbrev pub written_spot : Fault → WrittenText → Option Spot
 written_spot fault.Limit w = limit_spot w
 written_spot fault.Name w = name_spot 0 (names_of w.maps)
 written_spot fault.Hex w = hex_spot w
-written_spot fault.Relocation w = option_and_then (λ program. relocs_spot program (names_of w.maps) w.relocs) (joined w.program)
+written_spot fault.Relocation w = reloc_spot w (or_fault fault.Hex (joined w.program))
 written_spot _ w = None
 
 abbrev pub document_spot : Fault → Members → Option Spot

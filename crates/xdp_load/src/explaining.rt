@@ -1,7 +1,7 @@
 //! The line that says where settings are refused.
-ghost use Rattle.std.specs.Prelude.{◌≡◌, ◌≤◌, ◌==◌, IfOk, count_by, length, option_map, string_bytes};
+ghost use Rattle.std.specs.Prelude.{◌≡◌, ◌≤◌, ◌==◌, IfOk, Ok, count_by, length, option_map, string_bytes};
 ghost use Rattle.toml.specs.View.{table_view};
-ghost use Rattle.xdp_load.specs.Places.{IsFaultText, IsSyntaxLine, document_spot, spot_line, syntax_text, written_spot};
+ghost use Rattle.xdp_load.specs.Places.{IsFaultText, IsSyntaxLine, document_spot, reloc_spot, spot_line, syntax_text, written_spot};
 ghost use Rattle.xdp_load.specs.PlacesSeen.{spot_seen};
 ghost use Rattle.xdp_load.specs.Seen.{written_seen};
 ghost use Rattle.xdp_load.specs.declared.fault.Fault.{Fault};
@@ -17,17 +17,19 @@ use crate::spot::{Spot, spot_text};
 use std::alloc::{AllocError, Global};
 use toml::Table;
 
+/// Where the first relocation of a program is refused.
+fn relocs_of(program: &[u8], written: &Written<'_>) -> Option<Spot<'static>>
+    ensures { option_map spot_seen result ≡ reloc_spot (written_seen written.now) (Ok program.now) }
+{
+    relocs_spot(program, written.maps.as_slice(), written.relocs.as_slice())
+}
+
 /// Where the first relocation is refused, of a program whose texts are hex.
-#[tactic(auto, using(crate::proofs::RowLemmas::names_seen))]
 fn reloc_spot(alloc: Global, written: &Written<'_>) -> Result<Option<Spot<'static>>, AllocError>
     ensures { IfOk result (λ o. option_map spot_seen o ≡ written_spot Fault.Relocation (written_seen written.now)) }
 {
     match joined(alloc, written.program.as_slice()) {
-        Ok(program) => Ok(relocs_spot(
-            program.as_slice(),
-            written.maps.as_slice(),
-            written.relocs.as_slice(),
-        )),
+        Ok(program) => Ok(relocs_of(program.as_slice(), written)),
         Err(LoadFault::Memory) => Err(AllocError),
         Err(_) => Ok(None),
     }

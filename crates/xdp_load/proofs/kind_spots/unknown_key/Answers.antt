@@ -16,4 +16,4 @@ returns c =
     let known = c.args.known.now in
     let found = first_from_find _ _ _ (λ k. is_known known k ≡ false) (λ k. is_known known k ≡ true) c.find.ensures.ran (YieldsList-from_rest (keys c.args.table.now) c.keys.ensures.rest) (λ x q k. search rules) (λ x q k. search rules) in
     let at = rw c.in_ok-key.was at found in
-    ap Some c.as_str.ensures.value ∙ sym (first_unknown known c.args.table.now.entries at.1.0 c.in_ok-key.key.now at.1.1 at.1.3 at.1.2 at.0)
+    ap Some c.as_str.ensures.value ∙ sym (first_unknown known c.args.table.now.entries at.1 c.in_ok-key.key.now at.2 at.4 at.3 at.0)
