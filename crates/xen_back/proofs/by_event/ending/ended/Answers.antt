@@ -13,16 +13,18 @@ use Rattle.xen_back.proofs.by_event.ending.ended.Goals as goal
 
 pub unreachable-requires : goal.unreachable-requires
 unreachable-requires c =
-    let w = c.args.wiring.now in
+    let o = c.requires.over in
+    let w = o.0 in
     let s = c.args.state.now in
     let r = c.in-Run.run' in
-    program_asks c.want-want.result (left r.vm) r.ops (after_run w s r.chain) c.want-want.ensures.course (subst (λ (g : Stage). want_of (rest_in w s g) ≡ want.Done) c.in-Run.is c.requires.over)
+    program_asks c.want-want.result (left r.vm) r.ops (after_run w s r.chain) c.want-want.ensures.course (subst (λ (g : Stage). want_of (rest_in w s g) ≡ want.Done) c.in-Run.is o.1)
 
 pub unreachable-requires-in-Send : goal.unreachable-requires-in-Send
 unreachable-requires-in-Send c =
-    let w = c.args.wiring.now in
+    let o = c.requires.over in
+    let w = o.0 in
     let s = c.args.state.now in
-    let packet = c.in-Send.packet in
-    let t = c.in-Send.sent in
+    let packet = c.in-Send.field-0 in
+    let t = c.in-Send.field-1 in
     asks_on (rest_of w.vif s.rx_index packet t.transmit.phase) (after_transmit w s t.chain packet t.ops) (going_asks w.vif s.rx_index packet t.transmit.phase t.transmit.going)
-    (subst (λ (g : Stage). want_of (rest_in w s g) ≡ want.Done) c.in-Send.is c.requires.over)
+    (subst (λ (g : Stage). want_of (rest_in w s g) ≡ want.Done) c.in-Send.is o.1)
