@@ -53,7 +53,6 @@ fn ended(state: &State, stage: &Stage) -> (State, Kind)
             let _want = run.vm.want();
             unreachable!()
         }
-        Stage::Send(_, _) => unreachable!(),
         _ => unreachable!(),
     }
 }
