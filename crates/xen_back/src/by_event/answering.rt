@@ -1,18 +1,16 @@
 //! Answering a chain: one response per slot, the push, and a notice if one is due.
-//!
-//! Some functions take `wiring` and `state` for their contracts alone: both fix what the queue has left.
 
-ghost use Rattle.std.specs.Prelude.{◌≡◌, ◌+◌, length, drop, IsTrue};
+ghost use Rattle.std.specs.Prelude.{◌≡◌, ◌+◌, List, ℕ, length, drop};
 ghost use Rattle.xen_steps.specs.Places.{add32};
-ghost use Rattle.xen_back.specs.Rest.{is_here, rest_in};
+ghost use Rattle.xen_back.specs.Rest.{rest_at};
 ghost use Rattle.xen_steps.specs.Steps.{next_by, want_of};
 ghost use Rattle.xen_back.specs.Tree.{answer, answered, notice, respond, responses as responses_spec};
 ghost use Rattle.xen_back.specs.Turned.{Ending, turned};
 ghost use Rattle.xen_ring.specs.Index.{is_due};
+ghost use Rattle.xen_back.specs.declared.state.State.{State as StateView};
+ghost use Rattle.xen_back.specs.declared.wiring.Wiring.{Wiring as WiringView};
 
 use crate::by_event::phase::Phase;
-use crate::by_event::stage::Stage;
-use crate::copy_buf::CopyBuf;
 use crate::decisions::{after_answers, response};
 use crate::state::State;
 use crate::turn::Kind;
@@ -36,27 +34,16 @@ fn responses(status: Status, chain: &Chain) -> ArrayVec<u32, 23>
 }
 
 /// Before the responses.
-pub(crate) fn begin_answers<'p, 'b>(
-    wiring: &Wiring<'p>,
-    state: &State,
-    packet: CopyBuf<'b>,
-    at: State,
-    chain: &Chain,
-    status: Status,
-    kind: Kind,
-) -> Stage<'p, 'b>
-    ensures here { IsTrue (is_here result) }
-    ensures rest { rest_in wiring.now state.now result ≡ respond wiring.now at chain.now status (turned kind packet.entry) }
+pub(crate) fn begin_answers(at: State, chain: &Chain, status: Status, kind: Kind) -> Phase
+    ensures { (w : WiringView) (s : StateView) (packet : List ℕ) → rest_at w s packet result
+        ≡ respond w at chain.now status (turned kind packet) }
 {
-    Stage::At(
-        packet,
-        Phase::Answering {
-            at,
-            words: responses(status, chain),
-            i: 0,
-            kind,
-        },
-    )
+    Phase::Answering {
+        at,
+        words: responses(status, chain),
+        i: 0,
+        kind,
+    }
 }
 
 /// The next response, or the push if all are written.
@@ -81,58 +68,35 @@ pub(crate) fn answering_want(
 }
 
 /// After a response, or after the push if all responses were written.
-pub(crate) fn answer_written<'p, 'b>(
-    wiring: &Wiring<'p>,
-    state: &State,
-    packet: CopyBuf<'b>,
-    at: State,
-    words: ArrayVec<u32, 23>,
-    i: usize,
-    kind: Kind,
-    word: u32,
-    counter: u64,
-) -> Stage<'p, 'b>
-    ensures here { IsTrue (is_here result) }
-    ensures rest { rest_in wiring.now state.now result
-        ≡ next_by (answer wiring.now at.tx_index (length words.items) i (drop i words.items) (
+pub(crate) fn answer_written(at: State, words: ArrayVec<u32, 23>, i: usize, kind: Kind) -> Phase
+    ensures { (w : WiringView) (s : StateView) (packet : List ℕ) (word counter : ℕ) → rest_at w s packet result
+        ≡ next_by (answer w at.tx_index (length words.items) i (drop i words.items) (
           answered at (length words.items),
-          turned kind packet.entry,
+          turned kind packet,
         )) word counter }
 {
     if i < words.len() {
-        Stage::At(
-            packet,
-            Phase::Answering {
-                at,
-                words,
-                i: i + 1,
-                kind,
-            },
-        )
+        Phase::Answering {
+            at,
+            words,
+            i: i + 1,
+            kind,
+        }
     } else {
         let n = words.len() as u32;
-        Stage::At(packet, Phase::ReadEvent { at, n, kind })
+        Phase::ReadEvent { at, n, kind }
     }
 }
 
 /// After the event index.
-pub(crate) fn event_read<'p, 'b>(
-    wiring: &Wiring<'p>,
-    state: &State,
-    packet: CopyBuf<'b>,
-    at: State,
-    n: u32,
-    kind: Kind,
-    event: u32,
-) -> Stage<'p, 'b>
-    ensures here { IsTrue (is_here result) }
-    ensures rest { rest_in wiring.now state.now result
-        ≡ notice wiring.now (is_due at.tx_index (add32 at.tx_index n) event) (answered at n, turned kind packet.entry) }
+pub(crate) fn after_event(at: State, n: u32, kind: Kind, event: u32) -> Phase
+    ensures { (w : WiringView) (s : StateView) (packet : List ℕ) → rest_at w s packet result
+        ≡ notice w (is_due at.tx_index (add32 at.tx_index n) event) (answered at n, turned kind packet) }
 {
     let after = after_answers(&at, n);
     if due(at.tx_index, at.tx_index.wrapping_add(n), event) {
-        Stage::At(packet, Phase::Notice { after, kind })
+        Phase::Notice { after, kind }
     } else {
-        Stage::At(packet, Phase::Ended { after, kind })
+        Phase::Ended { after, kind }
     }
 }

@@ -1,8 +1,6 @@
 //! Copying a chain's fragments.
-//!
-//! Some functions take `wiring` and `state` for their contracts alone: both fix what the queue has left.
 
-ghost use Rattle.std.specs.Prelude.{◌≡◌, ◌<◌, ◌≤◌, ◌+◌, ◌-◌, ◌/◌, ◌++◌, suc, length, drop, sum_by, false, IsTrue, Ok, Some};
+ghost use Rattle.std.specs.Prelude.{◌≡◌, ◌<◌, ◌≤◌, ◌+◌, ◌-◌, ◌/◌, ◌++◌, List, ℕ, suc, length, drop, sum_by, false, IsTrue, Ok, Some};
 ghost use Rattle.xen_netif.specs.Copy.{Covers, bytes_in};
 ghost use Rattle.xen_netif.specs.Fragments.{fragment_size, fragments_of};
 ghost use Rattle.xen_netif.specs.Standing.{standing};
@@ -10,17 +8,21 @@ ghost use Rattle.xen_netif.specs.declared.chain.ChainState.TheVariants.{Complete
 ghost use Rattle.xen_netif.specs.declared.status.Status.TheVariants.{Error};
 ghost use Rattle.xen_page.specs.Entry.{entry_of};
 ghost use Rattle.xen_page.specs.Grant.{checked};
-ghost use Rattle.xen_back.specs.Rest.{fragment_at, is_here, rest_in};
+ghost use Rattle.xen_back.specs.Rest.{fragment_at, is_here, rest_at, rest_in};
 ghost use Rattle.xen_steps.specs.Pages.{HasRoom};
 ghost use Rattle.xen_steps.specs.Steps.{bind};
-ghost use Rattle.xen_transmit.specs.Entries.{entry_at, entry_checked};
+ghost use Rattle.xen_transmit.specs.Entries.{entry_at};
 ghost use Rattle.xen_back.specs.Tree.{after_chain, after_copy, copy, entered, respond};
 ghost use Rattle.xen_steps.specs.Pages.{copy_words, covered};
 ghost use Rattle.xen_back.specs.Turned.{Refused};
+ghost use Rattle.xen_back.specs.declared.state.State.{State as StateView};
+ghost use Rattle.xen_back.specs.declared.wiring.Wiring.{Wiring as WiringView};
+ghost use Rattle.xen_back.specs.declared.by_event.stage.Stage.TheVariants as stages;
 
 use crate::by_event::answering::begin_answers;
 use crate::by_event::copy::{Entering, Paging};
 use crate::by_event::executing::begin_run;
+use crate::by_event::phase::Phase;
 use crate::by_event::stage::Stage;
 use crate::copy_buf::CopyBuf;
 use crate::state::State;
@@ -42,7 +44,7 @@ pub(crate) fn begin_copy<'p, 'b>(
     ensures rest { rest_in wiring.now state.now result ≡ after_chain wiring.now state.now chain (fragments_of chain) }
 {
     match chain.fragments() {
-        Err(fault) => refuse(wiring, state, packet, chain, Refusal::Size(fault)),
+        Err(fault) => Stage::At(packet, refuse(state, &chain, Refusal::Size(fault))),
         Ok(fragments) => {
             let mut packet = packet;
             packet.clear();
@@ -52,15 +54,9 @@ pub(crate) fn begin_copy<'p, 'b>(
 }
 
 /// The chain is answered with ERROR.
-pub(crate) fn refuse<'p, 'b>(
-    wiring: &Wiring<'p>,
-    state: &State,
-    packet: CopyBuf<'b>,
-    chain: Chain,
-    cause: Refusal,
-) -> Stage<'p, 'b>
-    ensures here { IsTrue (is_here result) }
-    ensures rest { rest_in wiring.now state.now result ≡ respond wiring.now state.now chain Error (Refused cause 0 (length chain)) }
+fn refuse(state: &State, chain: &Chain, cause: Refusal) -> Phase
+    ensures { (w : WiringView) (packet : List ℕ) → rest_at w state.now packet result
+        ≡ respond w state.now chain.now Error (Refused cause 0 (length chain.now)) }
 {
     let slots = chain.requests().len() as u32;
     let kind = Kind::Refused {
@@ -68,7 +64,7 @@ pub(crate) fn refuse<'p, 'b>(
         ops: 0,
         slots,
     };
-    begin_answers(wiring, state, packet, *state, &chain, Status::Error, kind)
+    begin_answers(*state, chain, Status::Error, kind)
 }
 
 /// Before the i-th fragment, or after the last.
@@ -87,63 +83,42 @@ fn next_fragment<'p, 'b>(
         ≡ bind (copy wiring.now (drop i fragments.items) packet.entry) (after_copy wiring.now state.now chain) }
 {
     if i == fragments.len() {
-        begin_run(wiring, state, packet, chain)
+        begin_run(wiring, packet, chain)
     } else {
         let fragment = fragments[i];
         match wiring.vif.table.place(fragment.gref) {
-            None => refuse(wiring, state, packet, chain, Refusal::Grant),
-            Some(at) => entering(wiring, state, packet, chain, fragments, i, at),
+            None => Stage::At(packet, refuse(state, &chain, Refusal::Grant)),
+            Some(at) => Stage::EntryFlags(entering(packet, chain, fragments, i, at)),
         }
     }
 }
 
 /// Before the entry of the i-th fragment.
-fn entering<'p, 'b>(
-    wiring: &Wiring<'p>,
-    state: &State,
+fn entering<'b>(
     packet: CopyBuf<'b>,
     chain: Chain,
     fragments: ArrayVec<Fragment, 18>,
     i: usize,
     at: Place,
-) -> Stage<'p, 'b>
+) -> Entering<'b>
     requires word { at.word < 1023 }
     requires within { i < length fragments.items }
     requires room { length packet + sum_by fragment_size (drop i fragments.items) ≤ 65535 }
-    ensures here { IsTrue (is_here result) }
-    ensures rest { rest_in wiring.now state.now result
-        ≡ bind (bind (entry_at wiring.now.vif false (Some at))
-        (entered (fragment_at fragments.items i) (copy wiring.now (drop (i + 1) fragments.items)) packet.entry))
-        (after_copy wiring.now state.now chain) }
+    ensures { (w : WiringView) (s : StateView) → rest_in w s (stages.EntryFlags result)
+        ≡ bind (bind (entry_at w.vif false (Some at))
+        (entered (fragment_at fragments.items i) (copy w (drop (i + 1) fragments.items)) packet.entry)) (after_copy w s chain) }
 {
-    Stage::EntryFlags(Entering {
+    Entering {
         chain,
         fragments,
         packet,
         i,
         at,
-    })
-}
-
-/// After an entry's flags word.
-pub(crate) fn flags_read<'p, 'b>(
-    wiring: &Wiring<'p>,
-    state: &State,
-    entry: Entering<'b>,
-    flags_word: u32,
-) -> Stage<'p, 'b>
-    ensures here { IsTrue (is_here result) }
-    ensures rest { rest_in wiring.now state.now result
-        ≡ bind (bind (entry_checked wiring.now.vif false entry.entry.at flags_word)
-        (entered (fragment_at entry.entry.fragments.items entry.entry.i)
-        (copy wiring.now (drop (entry.entry.i + 1) entry.entry.fragments.items)) entry.entry.packet))
-        (after_copy wiring.now state.now entry.entry.chain) }
-{
-    Stage::EntryFrame { entry, flags_word }
+    }
 }
 
 /// After an entry.
-pub(crate) fn entry_read<'p, 'b>(
+pub(crate) fn after_entry<'p, 'b>(
     wiring: &Wiring<'p>,
     state: &State,
     entry: Entering<'b>,
@@ -171,7 +146,7 @@ pub(crate) fn entry_read<'p, 'b>(
         Entry::of_words(flags_word, frame_word),
         false,
     ) {
-        Err(_) => refuse(wiring, state, packet, chain, Refusal::Grant),
+        Err(_) => Stage::At(packet, refuse(state, &chain, Refusal::Grant)),
         Ok(frame) => {
             let fragment = fragments[i];
             begin_page(
@@ -212,16 +187,12 @@ fn begin_page<'p, 'b>(
     } else {
         let place = words.start;
         let n = words.end - words.start - 1;
-        paging(
-            wiring, state, packet, chain, fragments, i, fragment, frame, place, n,
-        )
+        Stage::Page(paging(packet, chain, fragments, i, fragment, frame, place, n))
     }
 }
 
 /// Before a word of a page.
-fn paging<'p, 'b>(
-    wiring: &Wiring<'p>,
-    state: &State,
+fn paging<'b>(
     packet: CopyBuf<'b>,
     chain: Chain,
     fragments: ArrayVec<Fragment, 18>,
@@ -230,17 +201,15 @@ fn paging<'p, 'b>(
     frame: u32,
     place: u32,
     n: u32,
-) -> Stage<'p, 'b>
+) -> Paging<'b>
     requires within { i ≤ length fragments.items }
     requires covers { Covers fragment place }
     requires last { place + n ≡ (fragment.offset + fragment.size - 1) / 4 }
     requires room { HasRoom (length packet) fragment place (sum_by fragment_size (drop i fragments.items)) }
-    ensures here { IsTrue (is_here result) }
-    ensures rest { rest_in wiring.now state.now result
-        ≡ bind (bind (copy_words fragment frame place (suc n) packet.entry) (copy wiring.now (drop i fragments.items)))
-        (after_copy wiring.now state.now chain) }
+    ensures { (w : WiringView) (s : StateView) → rest_in w s (stages.Page result)
+        ≡ bind (bind (copy_words fragment frame place (suc n) packet.entry) (copy w (drop i fragments.items))) (after_copy w s chain) }
 {
-    Stage::Page(Paging {
+    Paging {
         chain,
         fragments,
         packet,
@@ -249,11 +218,11 @@ fn paging<'p, 'b>(
         frame,
         place,
         n,
-    })
+    }
 }
 
 /// After a word of a page.
-pub(crate) fn page_read<'p, 'b>(
+pub(crate) fn after_page<'p, 'b>(
     wiring: &Wiring<'p>,
     state: &State,
     page: Paging<'b>,
@@ -280,9 +249,7 @@ pub(crate) fn page_read<'p, 'b>(
     if n == 0 {
         next_fragment(wiring, state, packet, chain, fragments, i)
     } else {
-        paging(
-            wiring,
-            state,
+        Stage::Page(paging(
             packet,
             chain,
             fragments,
@@ -291,6 +258,6 @@ pub(crate) fn page_read<'p, 'b>(
             frame,
             place + 1,
             n - 1,
-        )
+        ))
     }
 }

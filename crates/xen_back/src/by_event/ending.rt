@@ -9,14 +9,12 @@ ghost use Rattle.xen_back.specs.Turned.{IsShort, Shows, turned};
 ghost use Rattle.xen_back.specs.declared.by_event.phase.Phase.{Phase as PhaseView};
 ghost use Rattle.xen_back.specs.declared.by_event.phase.Phase.TheVariants as phases;
 ghost use Rattle.xen_back.specs.declared.by_event.stage.Stage.TheVariants as stages;
+ghost use Rattle.xen_back.specs.declared.wiring.Wiring.{Wiring as WiringView};
 
 use crate::by_event::phase::Phase;
-use crate::by_event::sent::sent_want;
 use crate::by_event::stage::Stage;
-use crate::copy_buf::CopyBuf;
 use crate::state::State;
 use crate::turn::{Kind, Turn};
-use crate::wiring::Wiring;
 use bpf_vm::Action;
 use xen_steps::Want;
 
@@ -30,46 +28,38 @@ fn set_phase(stage: &mut Stage, phase: Phase)
 }
 
 /// The state and the turn of a stage that wants nothing more. The stage is then between turns.
-pub(crate) fn over<'p, 'b>(
-    wiring: &Wiring<'p>,
-    state: &State,
-    stage: &mut Stage<'p, 'b>,
-) -> (State, Kind)
+pub(crate) fn over(state: &State, stage: &mut Stage) -> (State, Kind)
     requires here { IsTrue (is_here stage.old) }
-    requires over { want_of (rest_in wiring.now state.now stage.old) ≡ Want.Done }
+    requires over { (w : WiringView) × (want_of (rest_in w state.now stage.old) ≡ Want.Done) }
     ensures here { IsTrue (is_here stage.new) }
-    ensures over { rest_in wiring.now state.now stage.old ≡ done (result.0, turned result.1 (packet_at stage.new)) }
+    ensures over { (w : WiringView) → rest_in w state.now stage.old ≡ done (result.0, turned result.1 (packet_at stage.new)) }
     ensures ready { (p : List ℕ) × (stage.new ≡ stages.At p phases.Ready) }
 {
-    let end = ended(wiring, state, stage);
+    let end = ended(state, stage);
     set_phase(stage, Phase::Ready);
     end
 }
 
 /// The state and the turn of a stage that wants nothing more.
-fn ended(wiring: &Wiring, state: &State, stage: &Stage) -> (State, Kind)
+fn ended(state: &State, stage: &Stage) -> (State, Kind)
     requires here { IsTrue (is_here stage.now) }
-    requires over { want_of (rest_in wiring.now state.now stage.now) ≡ Want.Done }
+    requires over { (w : WiringView) × (want_of (rest_in w state.now stage.now) ≡ Want.Done) }
     ensures at { (p : List ℕ) × (x : PhaseView) × (stage.now ≡ stages.At p x) }
-    ensures over { rest_in wiring.now state.now stage.now ≡ done (result.0, turned result.1 (packet_at stage.now)) }
+    ensures over { (w : WiringView) → rest_in w state.now stage.now ≡ done (result.0, turned result.1 (packet_at stage.now)) }
 {
     match stage {
-        Stage::At(packet, phase) => ending(wiring, state, packet, phase),
+        Stage::At(_, phase) => ending(state, phase),
         Stage::Run(run) => {
             let _want = run.vm.want();
-            unreachable!()
-        }
-        Stage::Send(packet, sent) => {
-            let _want = sent_want(wiring, state, packet, sent);
             unreachable!()
         }
         _ => unreachable!(),
     }
 }
 
-fn ending(wiring: &Wiring, state: &State, packet: &CopyBuf, phase: &Phase) -> (State, Kind)
-    requires { want_of (rest_at wiring.now state.now packet.now phase.now) ≡ Want.Done }
-    ensures { rest_at wiring.now state.now packet.now phase.now ≡ done (result.0, turned result.1 packet.now) }
+fn ending(state: &State, phase: &Phase) -> (State, Kind)
+    requires { (w : WiringView) × (packet : List ℕ) × (want_of (rest_at w state.now packet phase.now) ≡ Want.Done) }
+    ensures { (w : WiringView) (packet : List ℕ) → rest_at w state.now packet phase.now ≡ done (result.0, turned result.1 packet) }
 {
     match phase {
         Phase::Ended { after, kind } => (*after, *kind),

@@ -1,12 +1,12 @@
 //! Running the program on the copy.
-//!
-//! Some functions take `wiring` and `state` for their contracts alone: both fix what the queue has left.
 
 ghost use Rattle.std.specs.Prelude.{ℕ, ◌≡◌, ◌+◌, IsTrue, Some};
 ghost use Rattle.bpf_vm.specs.Course.{left};
 ghost use Rattle.xen_back.specs.Rest.{is_here, rest_in};
 ghost use Rattle.xen_steps.specs.Steps.{bind, next_by, want_of};
 ghost use Rattle.xen_back.specs.Tree.{after_copy, after_run, program};
+ghost use Rattle.xen_back.specs.declared.state.State.{State as StateView};
+ghost use Rattle.xen_back.specs.declared.wiring.Wiring.{Wiring as WiringView};
 
 use crate::by_event::answering::begin_answers;
 use crate::by_event::sent::begin_send;
@@ -23,12 +23,11 @@ use xen_steps::Want;
 /// After the copy.
 pub(crate) fn begin_run<'p, 'b>(
     wiring: &Wiring<'p>,
-    state: &State,
     packet: CopyBuf<'b>,
     chain: Chain,
 ) -> Stage<'p, 'b>
     ensures here { IsTrue (is_here result) }
-    ensures rest { rest_in wiring.now state.now result ≡ after_copy wiring.now state.now chain (Some packet.entry) }
+    ensures rest { (s : StateView) → rest_in wiring.now s result ≡ after_copy wiring.now s chain (Some packet.entry) }
 {
     let vm = Vm::start(
         wiring.program,
@@ -40,8 +39,9 @@ pub(crate) fn begin_run<'p, 'b>(
 }
 
 /// What the program wants.
-pub(crate) fn executing_want(wiring: &Wiring, state: &State, run: &Executing) -> Want
-    ensures { result ≡ want_of (bind (program (left run.now.vm) run.now.ops) (after_run wiring.now state.now run.now.chain)) }
+pub(crate) fn executing_want(run: &Executing) -> Want
+    ensures { (w : WiringView) (s : StateView) → result
+        ≡ want_of (bind (program (left run.now.vm) run.now.ops) (after_run w s run.now.chain)) }
 {
     match run.vm.want() {
         VmWant::Step => Want::Instr,
@@ -56,11 +56,10 @@ pub(crate) fn executed<'p, 'b>(
     wiring: &Wiring<'p>,
     state: &State,
     run: Executing<'p, 'b>,
-    word: u32,
     counter: u64,
 ) -> Stage<'p, 'b>
     ensures here { IsTrue (is_here result) }
-    ensures rest { rest_in wiring.now state.now result
+    ensures rest { (word : ℕ) → rest_in wiring.now state.now result
         ≡ next_by (bind (program (left run.entry.vm) run.entry.ops) (after_run wiring.now state.now run.entry.chain)) word counter }
 {
     let Executing { chain, mut vm, ops } = run;
@@ -112,6 +111,6 @@ fn ran<'p, 'b>(
     } else {
         let slots = chain.requests().len() as u32;
         let kind = Kind::Ran { number, ops, slots };
-        begin_answers(wiring, state, packet, *state, &chain, status(number), kind)
+        Stage::At(packet, begin_answers(*state, &chain, status(number), kind))
     }
 }

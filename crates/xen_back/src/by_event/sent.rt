@@ -1,15 +1,15 @@
 //! Sending a packet back: a transmit, and the answer to the packet's chain.
-//!
-//! Some functions take `wiring` and `state` for their contracts alone: both fix what the queue has left.
 
-ghost use Rattle.std.specs.Prelude.{◌≡◌, IsTrue};
-ghost use Rattle.xen_back.specs.Rest.{is_here, rest_in};
+ghost use Rattle.std.specs.Prelude.{◌≡◌, List, ℕ, IsTrue};
+ghost use Rattle.xen_back.specs.Rest.{is_here, rest_at, rest_in};
 ghost use Rattle.xen_transmit.specs.Rest.{rest_after, rest_of};
 ghost use Rattle.xen_steps.specs.Steps.{bind, next_by, want_of};
 ghost use Rattle.xen_back.specs.Tree.{after_transmit, send};
+ghost use Rattle.xen_back.specs.declared.wiring.Wiring.{Wiring as WiringView};
 
 use crate::by_event::answering::begin_answers;
 use crate::by_event::looking::halt;
+use crate::by_event::phase::Phase;
 use crate::by_event::stage::{Stage, Transmitting};
 use crate::copy_buf::CopyBuf;
 use crate::decisions::{Reply, after_sending};
@@ -62,10 +62,9 @@ pub(crate) fn sent_fed<'p, 'b>(
     packet: CopyBuf<'b>,
     sent: Transmitting,
     word: u32,
-    counter: u64,
 ) -> Stage<'p, 'b>
     ensures here { IsTrue (is_here result) }
-    ensures rest { rest_in wiring.now state.now result
+    ensures rest { (counter : ℕ) → rest_in wiring.now state.now result
         ≡ next_by (bind (rest_of wiring.now.vif state.now.rx_index packet.entry sent.transmit.phase)
         (after_transmit wiring.now state.now sent.chain packet.entry sent.ops)) word counter }
 {
@@ -75,12 +74,11 @@ pub(crate) fn sent_fed<'p, 'b>(
         ops,
     } = sent;
     let progress = transmit.feed(&wiring.vif, state.rx_index, packet.bytes(), word);
-    progressed(wiring, state, packet, chain, ops, progress)
+    progressed(state, packet, chain, ops, progress)
 }
 
 /// After an event of a transmit that came so far.
 fn progressed<'p, 'b>(
-    wiring: &Wiring<'p>,
     state: &State,
     packet: CopyBuf<'b>,
     chain: Chain,
@@ -88,9 +86,8 @@ fn progressed<'p, 'b>(
     progress: Progress,
 ) -> Stage<'p, 'b>
     ensures here { IsTrue (is_here result) }
-    ensures rest { rest_in wiring.now state.now result
-        ≡ bind (rest_after wiring.now.vif state.now.rx_index packet.entry progress)
-        (after_transmit wiring.now state.now chain packet.entry ops) }
+    ensures rest { (w : WiringView) → rest_in w state.now result
+        ≡ bind (rest_after w.vif state.now.rx_index packet.entry progress) (after_transmit w state.now chain packet.entry ops) }
 {
     match progress {
         Progress::On(transmit) => Stage::Send(
@@ -101,27 +98,18 @@ fn progressed<'p, 'b>(
                 ops,
             },
         ),
-        Progress::Over(outcome) => transmitted(wiring, state, packet, chain, ops, outcome),
+        Progress::Over(outcome) => Stage::At(packet, transmitted(state, &chain, ops, outcome)),
     }
 }
 
 /// After the transmit.
-pub(crate) fn transmitted<'p, 'b>(
-    wiring: &Wiring<'p>,
-    state: &State,
-    packet: CopyBuf<'b>,
-    chain: Chain,
-    ops: u32,
-    outcome: Outcome,
-) -> Stage<'p, 'b>
-    ensures here { IsTrue (is_here result) }
-    ensures rest { rest_in wiring.now state.now result ≡ after_transmit wiring.now state.now chain packet.entry ops outcome }
+fn transmitted(state: &State, chain: &Chain, ops: u32, outcome: Outcome) -> Phase
+    ensures { (w : WiringView) (packet : List ℕ) → rest_at w state.now packet result
+        ≡ after_transmit w state.now chain.now packet ops outcome }
 {
     let slots = chain.requests().len() as u32;
     match after_sending(state, ops, slots, outcome) {
-        Err(cause) => halt(wiring, state, packet, cause),
-        Ok(Reply { at, status, kind }) => {
-            begin_answers(wiring, state, packet, at, &chain, status, kind)
-        }
+        Err(cause) => halt(state, cause),
+        Ok(Reply { at, status, kind }) => begin_answers(at, chain, status, kind),
     }
 }

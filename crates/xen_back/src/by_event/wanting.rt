@@ -1,6 +1,6 @@
 //! What a queue wants next.
 
-ghost use Rattle.std.specs.Prelude.{◌≡◌};
+ghost use Rattle.std.specs.Prelude.{◌≡◌, List, ℕ};
 ghost use Rattle.xen_back.specs.Rest.{rest_at, rest_in};
 ghost use Rattle.xen_steps.specs.Steps.{next, want_of};
 
@@ -9,7 +9,6 @@ use crate::by_event::executing::executing_want;
 use crate::by_event::phase::Phase;
 use crate::by_event::sent::sent_want;
 use crate::by_event::stage::Stage;
-use crate::copy_buf::CopyBuf;
 use crate::decisions::slot_index;
 use crate::state::State;
 use crate::wiring::Wiring;
@@ -18,8 +17,8 @@ use xen_ring::{REQ_EVENT, REQ_PROD, RSP_EVENT};
 use xen_steps::{Want, header, tx_entry};
 
 /// What a phase wants.
-fn phase_want(wiring: &Wiring, state: &State, packet: &CopyBuf, phase: &Phase) -> Want
-    ensures { result ≡ want_of (rest_at wiring.now state.now packet.now phase.now) }
+fn phase_want(wiring: &Wiring, state: &State, phase: &Phase) -> Want
+    ensures { (packet : List ℕ) → result ≡ want_of (rest_at wiring.now state.now packet phase.now) }
 {
     match phase {
         Phase::Ready => match state.halt {
@@ -58,14 +57,14 @@ pub(crate) fn stage_want(wiring: &Wiring, state: &State, stage: &Stage) -> Want
     ensures { result ≡ want_of (rest_in wiring.now state.now stage.now) }
 {
     match stage {
-        Stage::At(packet, phase) => phase_want(wiring, state, packet, phase),
+        Stage::At(_, phase) => phase_want(wiring, state, phase),
         Stage::EntryFlags(entry) => Want::Read(entry.at),
         Stage::EntryFrame { entry, .. } => Want::Read(entry.at.next()),
         Stage::Page(page) => Want::Read(Place {
             frame: page.frame,
             word: page.place,
         }),
-        Stage::Run(run) => executing_want(wiring, state, run),
+        Stage::Run(run) => executing_want(run),
         Stage::Send(packet, sent) => sent_want(wiring, state, packet, sent),
         Stage::Gone => Want::Done,
     }

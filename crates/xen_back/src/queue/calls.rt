@@ -64,7 +64,7 @@ impl<'p, 'b> Queue<'p, 'b> {
             self.entry.ghost_name none (λ _ _. ⊤) (λ q. IsOver self.old q result)) }
     {
         let _vif = &self.wiring.vif;
-        let (after, kind) = over(&self.wiring, &self.state, &mut self.stage);
+        let (after, kind) = over(&self.state, &mut self.stage);
         self.state = after;
         shown(&self.stage, kind)
     }

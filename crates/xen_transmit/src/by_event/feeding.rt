@@ -1,6 +1,4 @@
 //! A transmit, one event at a time.
-//!
-//! Some functions take `vif`, `rx_index` and `bytes` for their contracts alone: these fix what the transmit has left.
 
 ghost use Rattle.std.specs.Prelude.{List, ℕ, ◌≡◌, ◌≤◌, length, true, false};
 ghost use Rattle.xen_netif.specs.declared.rx.RxReq.{RxReq};
@@ -15,9 +13,9 @@ ghost use Rattle.xen_transmit.specs.Transmit.{transmit};
 ghost use Rattle.xen_transmit.specs.declared.vif.Vif.{Vif as VifView};
 
 use crate::by_event::phase::{Outcome, Phase};
-use crate::by_event::reading::{entry_read, first_read, flags_read, found, requested};
+use crate::by_event::reading::{after_entry, after_first, after_flags, found, requested};
 use crate::by_event::wanting::phase_want;
-use crate::by_event::writing::{event_read, filled, outcome, responded, response_done};
+use crate::by_event::writing::{after_event, after_response, filled, outcome, responded};
 use crate::transmit::{Progress, Transmit};
 use crate::vif::Vif;
 use xen_netif::RxReq;
@@ -29,26 +27,18 @@ pub(crate) fn phase_fed(vif: &Vif, rx_index: u32, bytes: &[u8], phase: Phase, wo
     ensures { rest_of vif.now rx_index bytes.now result ≡ next_by (rest_of vif.now rx_index bytes.now phase) word 0 }
 {
     match phase {
-        Phase::Look => found(vif, rx_index, bytes, requests_shown(rx_index, word)),
-        Phase::First(posting) => first_read(vif, rx_index, bytes, posting, word),
-        Phase::Second(posting, a) => requested(
-            vif,
-            rx_index,
-            bytes,
-            posting,
-            RxReq::of_words([a, word]),
-        ),
-        Phase::EntryFlags(granting) => flags_read(vif, rx_index, bytes, granting, word),
+        Phase::Look => found(bytes, requests_shown(rx_index, word)),
+        Phase::First(posting) => after_first(posting, word),
+        Phase::Second(posting, a) => requested(vif, posting, RxReq::of_words([a, word])),
+        Phase::EntryFlags(granting) => after_flags(granting, word),
         Phase::EntryFrame {
             granting,
             flags_word,
-        } => entry_read(vif, rx_index, bytes, granting, flags_word, word),
-        Phase::Filling { targets, k } => filled(vif, rx_index, bytes, targets, k),
-        Phase::Response { passed, targets, i } => responded(
-            vif, rx_index, bytes, passed, targets, i,
-        ),
-        Phase::HalfResponse(responding) => response_done(vif, rx_index, bytes, responding),
-        Phase::ReadEvent { passed, n } => event_read(vif, rx_index, bytes, passed, n, word),
+        } => after_entry(vif, granting, flags_word, word),
+        Phase::Filling { targets, k } => filled(bytes, targets, k),
+        Phase::Response { passed, targets, i } => responded(passed, targets, i),
+        Phase::HalfResponse(responding) => after_response(responding),
+        Phase::ReadEvent { passed, n } => after_event(rx_index, passed, n, word),
         Phase::Notice { passed, n } => Phase::Over(outcome(passed, n)),
         Phase::Over(o) => Phase::Over(o),
     }
@@ -80,7 +70,7 @@ impl Transmit {
     {
         let Transmit { phase } = self;
         let next = phase_fed(vif, rx_index, packet, phase, word);
-        settled(vif, rx_index, packet, next)
+        settled(next)
     }
 }
 
@@ -93,19 +83,19 @@ fn is_going(phase: &Phase) -> bool
     }
 }
 
-fn settled(vif: &Vif, rx_index: u32, packet: &[u8], phase: Phase) -> Progress
-    ensures { rest_after vif.now rx_index packet.now result ≡ rest_of vif.now rx_index packet.now phase }
+fn settled(phase: Phase) -> Progress
+    ensures { (v : VifView) (x : ℕ) (packet : List ℕ) → rest_after v x packet result ≡ rest_of v x packet phase }
 {
     if is_going(&phase) {
         Progress::On(Transmit { phase })
     } else {
-        over(vif, rx_index, packet, phase)
+        over(phase)
     }
 }
 
-fn over(vif: &Vif, rx_index: u32, packet: &[u8], phase: Phase) -> Progress
+fn over(phase: Phase) -> Progress
     requires { is_going phase ≡ false }
-    ensures { rest_after vif.now rx_index packet.now result ≡ rest_of vif.now rx_index packet.now phase }
+    ensures { (v : VifView) (x : ℕ) (packet : List ℕ) → rest_after v x packet result ≡ rest_of v x packet phase }
 {
     match phase {
         Phase::Over(outcome) => Progress::Over(outcome),

@@ -1,8 +1,6 @@
 //! Reading the posted slots and their grants.
-//!
-//! Some functions take `vif`, `rx_index` and `bytes` for their contracts alone: these fix what the transmit has left.
 
-ghost use Rattle.std.specs.Prelude.{◌≡◌, ◌+◌, ◌<◌, ◌≤◌, ◌++◌, [], ◌∷◌, length, true, false, None, Some};
+ghost use Rattle.std.specs.Prelude.{◌≡◌, ◌+◌, ◌<◌, ◌≤◌, ◌++◌, [], ◌∷◌, List, ℕ, length, true, false, None, Some};
 ghost use Rattle.xen_netif.specs.declared.rx.RxReq.{RxReq};
 ghost use Rattle.xen_page.specs.Entry.{entry_of};
 ghost use Rattle.xen_page.specs.Grant.{checked};
@@ -14,6 +12,7 @@ ghost use Rattle.xen_steps.specs.Steps.{bind};
 ghost use Rattle.xen_transmit.specs.Transmit.{after_targets, found as found_spec, posted_second, read_targets};
 ghost use Rattle.xen_transmit.specs.Transmit.{requested as requested_spec, rx_respond, targeted};
 ghost use Rattle.xen_steps.specs.declared.want.Want.TheVariants as want;
+ghost use Rattle.xen_transmit.specs.declared.vif.Vif.{Vif as VifView};
 
 use crate::by_event::phase::{Granting, Outcome, Phase, Posting};
 use crate::target::{Target, Targets};
@@ -23,9 +22,9 @@ use xen_netif::RxReq;
 use xen_page::{Entry, Place, check};
 
 /// After the read of the producer, which shows this many slots.
-pub(crate) fn found(vif: &Vif, rx_index: u32, bytes: &[u8], shown: Option<u32>) -> Phase
+pub(crate) fn found(bytes: &[u8], shown: Option<u32>) -> Phase
     requires { length bytes.now ≤ 65535 }
-    ensures { rest_of vif.now rx_index bytes.now result ≡ found_spec vif.now rx_index bytes.now shown }
+    ensures { (v : VifView) (x : ℕ) → rest_of v x bytes.now result ≡ found_spec v x bytes.now shown }
 {
     match shown {
         None => Phase::Over(Outcome::Overflow),
@@ -34,17 +33,17 @@ pub(crate) fn found(vif: &Vif, rx_index: u32, bytes: &[u8], shown: Option<u32>) 
             if m < pages {
                 Phase::Over(Outcome::TooFew)
             } else {
-                slot_or_fill(vif, rx_index, bytes, pages, Targets::new())
+                slot_or_fill(pages, Targets::new())
             }
         }
     }
 }
 
 /// Before a slot, or before the buffers if none is left to read.
-fn slot_or_fill(vif: &Vif, rx_index: u32, bytes: &[u8], left: u32, targets: Targets) -> Phase
+fn slot_or_fill(left: u32, targets: Targets) -> Phase
     requires { length targets + left ≤ 16 }
-    ensures { rest_of vif.now rx_index bytes.now result
-        ≡ bind (read_targets vif.now rx_index left targets) (after_targets vif.now rx_index bytes.now) }
+    ensures { (v : VifView) (x : ℕ) (packet : List ℕ) → rest_of v x packet result
+        ≡ bind (read_targets v x left targets) (after_targets v x packet) }
 {
     if left == 0 {
         Phase::Filling { targets, k: 0 }
@@ -57,48 +56,33 @@ fn slot_or_fill(vif: &Vif, rx_index: u32, bytes: &[u8], left: u32, targets: Targ
 }
 
 /// After a slot's first word.
-pub(crate) fn first_read(vif: &Vif, rx_index: u32, bytes: &[u8], posting: Posting, a: u32) -> Phase
-    ensures { rest_of vif.now rx_index bytes.now result
-        ≡ bind (posted_second vif.now (add32 rx_index (length posting.targets))
-        (targeted posting.targets (read_targets vif.now rx_index posting.left)) a) (after_targets vif.now rx_index bytes.now) }
+pub(crate) fn after_first(posting: Posting, a: u32) -> Phase
+    ensures { (v : VifView) (x : ℕ) (packet : List ℕ) → rest_of v x packet result
+        ≡ bind (posted_second v (add32 x (length posting.targets))
+        (targeted posting.targets (read_targets v x posting.left)) a) (after_targets v x packet) }
 {
     Phase::Second(posting, a)
 }
 
 /// After a slot.
-pub(crate) fn requested(
-    vif: &Vif,
-    rx_index: u32,
-    bytes: &[u8],
-    posting: Posting,
-    request: RxReq,
-) -> Phase
-    ensures { rest_of vif.now rx_index bytes.now result
-        ≡ bind (requested_spec vif.now request (targeted posting.targets (read_targets vif.now rx_index posting.left)))
-        (after_targets vif.now rx_index bytes.now) }
+pub(crate) fn requested(vif: &Vif, posting: Posting, request: RxReq) -> Phase
+    ensures { (x : ℕ) (packet : List ℕ) → rest_of vif.now x packet result
+        ≡ bind (requested_spec vif.now request (targeted posting.targets (read_targets vif.now x posting.left)))
+        (after_targets vif.now x packet) }
 {
     let Posting { left, targets } = posting;
     match vif.table.place(request.gref) {
-        None => refused(vif, rx_index, bytes, targets, request.id),
-        Some(at) => granting(vif, rx_index, bytes, left, targets, request.id, at),
+        None => refused(targets, request.id),
+        Some(at) => granting(left, targets, request.id, at),
     }
 }
 
 /// Before a slot's entry.
-fn granting(
-    vif: &Vif,
-    rx_index: u32,
-    bytes: &[u8],
-    left: u32,
-    targets: Targets,
-    id: u16,
-    at: Place,
-) -> Phase
+fn granting(left: u32, targets: Targets, id: u16, at: Place) -> Phase
     requires room { length targets + left < 16 }
     requires word { at.word < 1023 }
-    ensures { rest_of vif.now rx_index bytes.now result
-        ≡ bind (bind (entry_at vif.now true (Some at)) (targeted targets (read_targets vif.now rx_index left) id))
-        (after_targets vif.now rx_index bytes.now) }
+    ensures { (v : VifView) (x : ℕ) (packet : List ℕ) → rest_of v x packet result
+        ≡ bind (bind (entry_at v true (Some at)) (targeted targets (read_targets v x left) id)) (after_targets v x packet) }
 {
     Phase::EntryFlags(Granting {
         left,
@@ -109,16 +93,10 @@ fn granting(
 }
 
 /// After an entry's flags word.
-pub(crate) fn flags_read(
-    vif: &Vif,
-    rx_index: u32,
-    bytes: &[u8],
-    granting: Granting,
-    flags_word: u32,
-) -> Phase
-    ensures { rest_of vif.now rx_index bytes.now result
-        ≡ bind (bind (entry_checked vif.now true granting.at flags_word)
-        (targeted granting.targets (read_targets vif.now rx_index granting.left) granting.id)) (after_targets vif.now rx_index bytes.now) }
+pub(crate) fn after_flags(granting: Granting, flags_word: u32) -> Phase
+    ensures { (v : VifView) (x : ℕ) (packet : List ℕ) → rest_of v x packet result
+        ≡ bind (bind (entry_checked v true granting.at flags_word)
+        (targeted granting.targets (read_targets v x granting.left) granting.id)) (after_targets v x packet) }
 {
     Phase::EntryFrame {
         granting,
@@ -127,18 +105,11 @@ pub(crate) fn flags_read(
 }
 
 /// After an entry.
-pub(crate) fn entry_read(
-    vif: &Vif,
-    rx_index: u32,
-    bytes: &[u8],
-    granting: Granting,
-    flags_word: u32,
-    frame_word: u32,
-) -> Phase
-    ensures { rest_of vif.now rx_index bytes.now result
-        ≡ bind (targeted granting.targets (read_targets vif.now rx_index granting.left) granting.id
+pub(crate) fn after_entry(vif: &Vif, granting: Granting, flags_word: u32, frame_word: u32) -> Phase
+    ensures { (x : ℕ) (packet : List ℕ) → rest_of vif.now x packet result
+        ≡ bind (targeted granting.targets (read_targets vif.now x granting.left) granting.id
         (checked vif.now.owners.now vif.now.granter vif.now.user (entry_of flags_word frame_word) true))
-        (after_targets vif.now rx_index bytes.now) }
+        (after_targets vif.now x packet) }
 {
     let Granting {
         left,
@@ -153,16 +124,16 @@ pub(crate) fn entry_read(
         Entry::of_words(flags_word, frame_word),
         true,
     ) {
-        Err(_) => refused(vif, rx_index, bytes, targets, id),
-        Ok(frame) => passed(vif, rx_index, bytes, left, targets, id, frame),
+        Err(_) => refused(targets, id),
+        Ok(frame) => passed(left, targets, id, frame),
     }
 }
 
 /// After a slot whose grant was refused.
-fn refused(vif: &Vif, rx_index: u32, bytes: &[u8], targets: Targets, id: u16) -> Phase
+fn refused(targets: Targets, id: u16) -> Phase
     requires { length targets < 16 }
-    ensures { rest_of vif.now rx_index bytes.now result
-        ≡ rx_respond vif.now rx_index bytes.now false (targets ++ record { id = id; frame = None } ∷ []) }
+    ensures { (v : VifView) (x : ℕ) (packet : List ℕ) → rest_of v x packet result
+        ≡ rx_respond v x packet false (targets ++ record { id = id; frame = None } ∷ []) }
 {
     let mut targets = targets;
     targets.push(Target { id, frame: None });
@@ -174,24 +145,15 @@ fn refused(vif: &Vif, rx_index: u32, bytes: &[u8], targets: Targets, id: u16) ->
 }
 
 /// After a slot whose grant passed its check.
-fn passed(
-    vif: &Vif,
-    rx_index: u32,
-    bytes: &[u8],
-    left: u32,
-    targets: Targets,
-    id: u16,
-    frame: u32,
-) -> Phase
+fn passed(left: u32, targets: Targets, id: u16, frame: u32) -> Phase
     requires { length targets + left < 16 }
-    ensures { rest_of vif.now rx_index bytes.now result
-        ≡ bind (read_targets vif.now rx_index left (targets ++ record { id = id; frame = Some frame } ∷ []))
-        (after_targets vif.now rx_index bytes.now) }
+    ensures { (v : VifView) (x : ℕ) (packet : List ℕ) → rest_of v x packet result
+        ≡ bind (read_targets v x left (targets ++ record { id = id; frame = Some frame } ∷ [])) (after_targets v x packet) }
 {
     let mut targets = targets;
     targets.push(Target {
         id,
         frame: Some(frame),
     });
-    slot_or_fill(vif, rx_index, bytes, left, targets)
+    slot_or_fill(left, targets)
 }

@@ -1,8 +1,6 @@
 //! A transmit that goes straight through over a bus: no phase is made.
-//!
-//! Some functions take `rx_index` for their contracts alone: it fixes what the transmit has left.
 
-ghost use Rattle.std.specs.Prelude.{◌≡◌, ◌≤◌, ◌<◌, ◌+◌, ◌-◌, ◌*◌, ◌∷◌, ◌^◌, [], IfOk, List, ℕ, length, true};
+ghost use Rattle.std.specs.Prelude.{◌≡◌, ◌≤◌, ◌<◌, ◌+◌, ◌-◌, ◌*◌, ◌∷◌, ◌^◌, [], Bool, IfOk, List, ℕ, length, true};
 ghost use Rattle.xen_netif.specs.Slots.{rx_req_of};
 ghost use Rattle.xen_page.specs.Access.{Performs};
 ghost use Rattle.xen_page.specs.Entry.{entry_of};
@@ -32,11 +30,11 @@ use xen_ring::{Ports, REQ_PROD, RSP_EVENT, RSP_PROD, due};
 use xen_steps::{header, requests_shown, rx_entry};
 
 /// How many slots the producer shows, if it hasn't overflowed.
-fn look<B: Bus>(vif: &Vif, rx_index: u32, bus: &mut B, packet: &[u8]) -> Option<u32>
+fn look<B: Bus>(vif: &Vif, rx_index: u32, bus: &mut B) -> Option<u32>
     requires frame { vif.now.rx < B.size bus.old }
     ensures size { B.size bus.new ≡ B.size bus.old }
-    ensures driven { (t : List Event) × Driven B.log B.access_gives (transmit vif.now rx_index packet.now)
-        (found vif.now rx_index packet.now result) bus.old bus.new t }
+    ensures driven { (packet : List ℕ) → (t : List Event) × Driven B.log B.access_gives (transmit vif.now rx_index packet)
+        (found vif.now rx_index packet result) bus.old bus.new t }
 {
     let producer = bus.read(header(vif.rx, REQ_PROD));
     requests_shown(rx_index, producer)
@@ -174,17 +172,10 @@ fn write_responses<B: Bus>(
 }
 
 /// Pushes so many responses, and sends a notice if one is due.
-fn push_responses<B: Bus>(
-    vif: &Vif,
-    rx_index: u32,
-    bus: &mut B,
-    ports: &Ports,
-    passed: bool,
-    n: u32,
-)
+fn push_responses<B: Bus>(vif: &Vif, rx_index: u32, bus: &mut B, ports: &Ports, n: u32)
     requires frame { vif.now.rx < B.size bus.old }
     ensures size { B.size bus.new ≡ B.size bus.old }
-    ensures driven { (t : List Event) × Driven B.log B.access_gives (rx_publish vif.now rx_index passed n)
+    ensures driven { (passed : Bool) → (t : List Event) × Driven B.log B.access_gives (rx_publish vif.now rx_index passed n)
         (done (outcome_of passed n)) bus.old bus.new t }
 {
     let next = rx_index.wrapping_add(n);
@@ -219,7 +210,7 @@ fn send_pages<B: Bus>(
     }
     write_responses(vif, rx_index, bus, passed, &targets, packet);
     let n = targets.len();
-    push_responses(vif, rx_index, bus, ports, passed, n);
+    push_responses(vif, rx_index, bus, ports, n);
     outcome(passed, n)
 }
 
@@ -237,7 +228,7 @@ pub fn send_packet<B: Bus>(
     ensures size { B.size bus.new ≡ B.size bus.old }
     ensures driven { (t : List Event) × Driven B.log B.access_gives (transmit vif.now rx_index packet.now) (done result) bus.old bus.new t }
 {
-    match look(vif, rx_index, bus, packet) {
+    match look(vif, rx_index, bus) {
         None => Outcome::Overflow,
         Some(shown) => {
             if shown < pages_of(packet) {

@@ -5,8 +5,8 @@ use Rattle.xen_back.specs.Turned.{turned}
 use Rattle.xen_back.proofs.RestLemmas.{answer_at}
 use Rattle.xen_back.proofs.by_event.answering.answer_written.Goals as goal
 
-pub returns-then-i-len-clause-rest : goal.returns-then-i-len-clause-rest
-returns-then-i-len-clause-rest c =
+pub returns-then-i-len : goal.returns-then-i-len
+returns-then-i-len c w s packet word counter =
     let words = c.args.words.items in
     let h : c.args.i < length words = omega arith in
-    sym (ap (λ o. next_by o c.args.word c.args.counter) (answer_at c.args.wiring.now c.args.at.tx_index (length words) c.args.i words (answered c.args.at (length words), turned c.args.kind c.args.packet) h))
+    sym (ap (λ o. next_by o word counter) (answer_at w c.args.at.tx_index (length words) c.args.i words (answered c.args.at (length words), turned c.args.kind packet) h))

@@ -36,6 +36,6 @@ returns-else-words-clause-rest c =
     let r = c.covered_words-words.result in
     let e = c.covered_words-words.ensures in
     let all : suc (r.end - r.start - 1) ≡ covered f = omega (arith, e.count, e.ordered, c.if-words.false) in
-    c.paging.ensures.rest
+    c.paging.ensures w c.args.state.now
     ∙ ap (λ p. bind (bind (copy_words f c.args.frame p (suc (r.end - r.start - 1)) c.args.packet) (copy w (drop c.args.i c.args.fragments.items))) (after_copy w c.args.state.now c.args.chain)) e.start
     ∙ ap (λ n. bind (bind (copy_words f c.args.frame (f.offset / 4) n c.args.packet) (copy w (drop c.args.i c.args.fragments.items))) (after_copy w c.args.state.now c.args.chain)) all

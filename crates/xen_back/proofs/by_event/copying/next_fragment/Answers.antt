@@ -13,5 +13,5 @@ returns-in-Some-clause-rest c =
     let fs = c.args.fragments.items in
     let i = c.args.i in
     let h : i < length fs = omega (arith, c.if-i-len.false, c.requires.within, c.len.ensures.value) in
-    c.entering.ensures.rest
+    c.entering.ensures w s
     ∙ sym (ap (λ o. bind o (after_copy w s c.args.chain)) (copy_at w fs i c.args.packet h ∙ ap (λ p. bind (entry_at w.vif false p) (entered (fragment_at fs i) (copy w (drop (i + 1) fs)) c.args.packet)) (rw c.deref.ensures.0 at (sym c.place.ensures.place ∙ c.in-Some.is))))

@@ -11,9 +11,9 @@ pub returns-clause-here : goal.returns-clause-here
 returns-clause-here c = here_at_phase c.args.stage.now phases.Ready c.set_phase.new.stage c.set_phase.ensures c.requires.here
 
 pub returns-clause-over : goal.returns-clause-over
-returns-clause-over c =
+returns-clause-over c w =
     let e = c.ended-end.result in
-    c.ended-end.ensures.over ∙ ap (λ (p : List ℕ). done (e.0, turned e.1 p)) (packet_at_phase c.args.stage.now phases.Ready c.set_phase.new.stage c.set_phase.ensures)
+    c.ended-end.ensures.over w ∙ ap (λ (p : List ℕ). done (e.0, turned e.1 p)) (packet_at_phase c.args.stage.now phases.Ready c.set_phase.new.stage c.set_phase.ensures)
 
 pub returns-clause-ready : goal.returns-clause-ready
 returns-clause-ready c =

@@ -4,9 +4,8 @@ use Rattle.xen_back.specs.Tree.{after_look, seen}
 use Rattle.xen_back.proofs.RestLemmas.{seen_some}
 use Rattle.xen_back.proofs.by_event.looking.first_looked.Goals as goal
 
-pub returns-else-n-eq0-clause-rest : goal.returns-else-n-eq0-clause-rest
-returns-else-n-eq0-clause-rest c =
-    let w = c.args.wiring.now in
+pub returns-else-n-eq0 : goal.returns-else-n-eq0
+returns-else-n-eq0 c w packet =
     let s = c.args.state.now in
     let h : 0 < c.in-Some.n = omega arith in
-    c.looked-else-n-eq0.ensures.rest ∙ sym (ap (λ o. bind o (after_look w s)) (ap (seen w s.tx_index) c.in-Some.is ∙ seen_some w s.tx_index c.in-Some.n h))
+    c.looked-else-n-eq0.ensures w packet ∙ sym (ap (λ o. bind o (after_look w s)) (ap (seen w s.tx_index) c.in-Some.is ∙ seen_some w s.tx_index c.in-Some.n h))

@@ -6,7 +6,7 @@ use Rattle.xen_back.specs.Tree.{after_transmit}
 use Rattle.xen_back.proofs.by_event.sent.sent_fed.Goals as goal
 
 pub returns-clause-rest : goal.returns-clause-rest
-returns-clause-rest c =
+returns-clause-rest c counter =
     let w = c.args.wiring.now in
     let s = c.args.state.now in
     let t = c.args.sent in
@@ -14,9 +14,9 @@ returns-clause-rest c =
     let phase = t.transmit.phase in
     let later = after_transmit w s t.chain packet t.ops in
     let f = c.feed-progress.ensures in
-    let on : rest_after w.vif s.rx_index packet c.feed-progress.result ≡ next_by (rest_of w.vif s.rx_index packet phase) c.args.word c.args.counter =
-    subst (λ (b : List ℕ). rest_after w.vif s.rx_index b c.feed-progress.result ≡ next_by (rest_of w.vif s.rx_index b phase) c.args.word c.args.counter) c.bytes.ensures.same (f.rest c.args.counter) in
-    c.progressed.ensures.rest
+    let on : rest_after w.vif s.rx_index packet c.feed-progress.result ≡ next_by (rest_of w.vif s.rx_index packet phase) c.args.word counter =
+    subst (λ (b : List ℕ). rest_after w.vif s.rx_index b c.feed-progress.result ≡ next_by (rest_of w.vif s.rx_index b phase) c.args.word counter) c.bytes.ensures.same (f.rest counter) in
+    c.progressed.ensures.rest w
     ∙ ap (λ o. bind o later) on
-    ∙ next_bind (rest_of w.vif s.rx_index packet phase) later c.args.word c.args.counter
+    ∙ next_bind (rest_of w.vif s.rx_index packet phase) later c.args.word counter
     (subst (λ (b : List ℕ). IsTrue (asks (rest_of w.vif s.rx_index b phase))) c.bytes.ensures.same f.asked)

@@ -24,7 +24,7 @@ returns c =
         λ v. tt,
         record {
           turned = turned o.result.1 (packet_at o.new.stage);
-          over = o.ensures.over;
+          over = o.ensures.over c.args.self.now.wiring;
           ready = o.ensures.ready;
           same = record { wiring = refl; tx_ring = refl; rx_ring = refl };
           shows = c.shown.ensures.shows;

@@ -13,7 +13,7 @@ returns-in-Second c =
     let x = c.args.rx_index in
     let packet = c.args.bytes.now in
     let r = c.in-Second.posting in
-    c.requested.ensures
+    c.requested.ensures x packet
     ∙ ap (λ (q : RxReq). bind (requested w q (targeted r.targets (read_targets w x r.left))) (after_targets w x packet)) c.of_words.ensures.fields
     ∙ sym (ap (λ (s : Phase). next_by (rest_of w x packet s) c.args.word 0) c.in-Second.is)
 
@@ -23,6 +23,6 @@ returns-in-Response c =
     let x = c.args.rx_index in
     let packet = c.args.bytes.now in
     let r = c.in-Response in
-    c.responded.ensures
+    c.responded.ensures w x packet
     ∙ rx_answer_by w x packet r.passed (length r.targets) r.i (drop r.i r.targets) c.args.word 0
     ∙ sym (ap (λ (s : Phase). next_by (rest_of w x packet s) c.args.word 0) r.is)

@@ -11,12 +11,11 @@ use Rattle.xen_transmit.proofs.StraightLemmas.{look_driven}
 use Rattle.xen_transmit.proofs.in_one_go.straight.look.Goals as goal
 
 pub returns-clause-driven : goal.returns-clause-driven
-returns-clause-driven g c =
+returns-clause-driven g c = λ packet.
     let log = g.B.Bus.log in
     let gives = g.B.Bus.access_gives in
     let w = c.args.vif.now in
     let x = c.args.rx_index in
-    let packet = c.args.packet.now in
     let bus = c.args.bus.now in
     let r = c.read-producer in
     let new = r.new.self in

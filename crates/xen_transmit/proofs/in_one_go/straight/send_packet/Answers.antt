@@ -1,4 +1,4 @@
-use Rattle.std.proofs.Common.{◌≤◌, ◌++◌, [], ap, arith, length, subst, ◌∙◌}
+use Rattle.std.proofs.Common.{◌≤◌, ◌++◌, [], ap, arith, rules, length, subst, ◌∙◌}
 use Rattle.xen_steps.specs.Drive.{Any, Driven, IsPageWant}
 use Rattle.xen_steps.specs.Finish.{Finishes}
 use Rattle.xen_steps.specs.Steps.{Steps, bind, done}
@@ -21,7 +21,7 @@ send_pages-requires-clause-left g c =
     let packet = c.args.packet.now in
     let within = IsPageWant (length w.owners.now) in
     let start = transmit w x packet in
-    let d = c.look.ensures.driven in
+    let d = c.look.ensures.driven packet in
     let enough : pages packet ≤ c.in-Some.shown = omega (arith, c.if-shown-pages_of.false, c.pages_of.ensures.value) in
     let same = ap (found w x packet) c.in-Some.is ∙ found_enough w x packet c.in-Some.shown enough in
     let all = finishes within Any Any start 263684 (bounded_transmit w c.requires.wired x packet) (ends_transmit w x packet) in
@@ -36,10 +36,15 @@ returns-else-shown-pages_of-clause-driven g c =
     let packet = c.args.packet.now in
     let bus = c.args.bus.now in
     let mid = c.look.new.bus in
-    let d = c.look.ensures.driven in
+    let d = c.look.ensures.driven packet in
     let e = c.send_pages.ensures.driven in
     let start = transmit w x packet in
     let enough : pages packet ≤ c.in-Some.shown = omega (arith, c.if-shown-pages_of.false, c.pages_of.ensures.value) in
     let same = ap (found w x packet) c.in-Some.is ∙ found_enough w x packet c.in-Some.shown enough in
     let rest = bind (read_targets w x (pages packet) []) (after_targets w x packet) in
     (d.0 ++ e.0, driven_append log gives start rest (done c.send_pages.result) bus mid c.send_pages.new.bus d.0 e.0 (subst (λ (s : Steps Outcome). Driven log gives start s bus mid d.0) same d.1) e.1)
+
+pub returns-then-shown-pages_of-clause-driven : goal.returns-then-shown-pages_of-clause-driven
+returns-then-shown-pages_of-clause-driven g c =
+    let d = c.look.ensures.driven c.args.packet.now in
+    search rules

@@ -57,7 +57,7 @@ returns-clause-driven g c =
       | else-passed b ↦ ([], subst (λ (k : Bool). between k c.if-passed.bus []) (sym b.if-passed.false) (subst (λ to. between false to []) (sym b.bus-is) (driven_none log gives (rx_respond w x packet false ts) r.new.bus)))
     ] in
     let p = c.write_responses.ensures.driven in
-    let q = c.push_responses.ensures.driven in
+    let q = c.push_responses.ensures.driven passed in
     let n = c.len-n.result in
     let push = rx_publish w x passed n in
     let respond = rx_respond w x packet passed ts in

@@ -4,7 +4,7 @@ use Rattle.xen_steps.specs.Steps.{bind}
 use Rattle.xen_back.specs.Tree.{after_copy, copy}
 use Rattle.xen_steps.specs.Pages.{copy_words}
 use Rattle.xen_steps.proofs.PageLemmas.{copy_words_more}
-use Rattle.xen_back.proofs.by_event.copying.page_read.Goals as goal
+use Rattle.xen_back.proofs.by_event.copying.after_page.Goals as goal
 
 pub returns-else-n-eq0-clause-rest : goal.returns-else-n-eq0-clause-rest
 returns-else-n-eq0-clause-rest c =
@@ -12,6 +12,6 @@ returns-else-n-eq0-clause-rest c =
     let g = c.args.page in
     let h : 0 < g.n = omega (arith, c.if-n-eq0.false) in
     let read = c.push_all.ensures ∙ ap (λ b. g.packet ++ b) (c.as_slice.ensures.value ∙ c.bytes_in-bytes.ensures) in
-    c.paging.ensures.rest
+    c.paging.ensures w c.args.state.now
     ∙ ap (λ p. bind (bind p (copy w (drop g.i g.fragments.items))) (after_copy w c.args.state.now g.chain))
     (ap (λ b. copy_words g.fragment g.frame (g.place + 1) (suc (g.n - 1)) b) read ∙ copy_words_more g.fragment g.frame (g.place + 1) g.n (g.packet ++ bytes_in g.fragment g.place c.args.word) h)
