@@ -1,4 +1,4 @@
-use Rattle.std.proofs.Common.{◌≡◌, List, [], ◌∷◌, ℕ, take, get_or, refl, sym, ◌∙◌, ap, arith}
+use Rattle.std.proofs.Common.{◌≡◌, List, [], ◌∷◌, ℕ, take, get_or, refl, ◌∙◌, ap, arith}
 use Rattle.xen_front.specs.Fronts.{all_free}
 use Rattle.xen_front.specs.Rest.{posting}
 use Rattle.xen_front.specs.Tree.{post}

@@ -1,5 +1,4 @@
-use Rattle.std.proofs.Common.{◌≡◌, List, ℕ, sym, ap, subst, ◌∙◌}
-use Rattle.xen_page.specs.declared.access.Access.{Access}
+use Rattle.std.proofs.Common.{List, ℕ, sym, subst}
 use Rattle.xen_steps.specs.Drive.{Any, Bounded, Driven, Gone, IsPageWant}
 use Rattle.xen_steps.proofs.DriveLemmas.{bounded_wider}
 use Rattle.xen_front.specs.Fronts.{rest}

@@ -1,9 +1,8 @@
-use Rattle.std.proofs.Common.{◌≡◌, ℕ, List, [], ◌∷◌, ◌++◌, sym, ap, ◌∙◌, subst}
+use Rattle.std.proofs.Common.{◌++◌, sym, subst}
 use Rattle.xen_steps.specs.Drive.{Any, Bounded, Driven, IsPageWant}
-use Rattle.xen_steps.specs.Pages.{PageWrite, write_all, writes}
+use Rattle.xen_steps.specs.Pages.{write_all, writes}
 use Rattle.xen_steps.specs.Places.{add32}
 use Rattle.xen_steps.specs.Steps.{Steps}
-use Rattle.xen_steps.proofs.DriveLemmas.{driven_none}
 use Rattle.xen_front.specs.Given.{Ending}
 use Rattle.xen_front.specs.Rest.{id_of, later_writes, pieces, rest_at}
 use Rattle.xen_front.specs.Slots.{piece_writes}
