@@ -1,10 +1,10 @@
 -- Writes one after another, and their accesses.
-use Rattle.std.proofs.Common.{◌≡◌, ℕ, zero, suc, ◌+◌, ◌-◌, ◌*◌, ◌<◌, ◌≤◌, List, [], ◌∷◌, ◌++◌, Option, length, refl, sym, ◌∙◌, ap, arith, subst}
+use Rattle.std.proofs.Common.{◌≡◌, ℕ, zero, suc, ◌+◌, ◌-◌, ◌*◌, List, [], ◌∷◌, ◌++◌, Option, length, refl, ◌∙◌, ap, arith}
 use Rattle.xen_page.specs.Access.{Performs}
 use Rattle.xen_page.specs.declared.access.Access.{Access}
 use Rattle.xen_page.specs.declared.access.Access.TheVariants as access
 use Rattle.xen_steps.specs.Drive.{Any, Bounded, Driven, Gone, IsPageWant}
-use Rattle.xen_steps.specs.Event.{Event, Write}
+use Rattle.xen_steps.specs.Event.{Event}
 use Rattle.xen_steps.specs.Pages.{PageWrite, write_all, writes}
 use Rattle.xen_steps.specs.Places.{page_word}
 use Rattle.xen_steps.specs.Steps.{Steps}

@@ -1,6 +1,6 @@
 //! A front's events: what it wants, and what it does with an answer.
 
-ghost use Rattle.std.specs.Prelude.{◌≡◌, ◌≢◌, ◌≤◌, ◌∷◌, ⊤, [], length};
+ghost use Rattle.std.specs.Prelude.{◌≡◌, ◌≢◌, ◌≤◌, ◌∷◌, ℕ, List, ⊤, [], length};
 ghost use Rattle.std.specs.Borrow.{sem};
 ghost use denote.Follow.{follows_so};
 ghost use mir.Syntax.{named};
@@ -20,15 +20,15 @@ ghost use Rattle.xen_steps.specs.Steps.{done, next_by, want_of};
 
 use crate::by_event::phase::{Chained, Phase};
 use crate::by_event::posting::{
-    event_read, post_first, post_flags, post_frame, post_second, posted,
+    after_event, post_first, post_flags, post_frame, post_second, posted,
 };
 use crate::by_event::receiving::{
-    grant_ended, page_read, response_read, rx_first_looked, rx_looked,
+    after_response, after_word, grant_ended, rx_first_looked, rx_looked,
 };
 use crate::by_event::sending::{
     filled, filling_want, granted, piece_flags, piece_frame, slot_write, slot_written,
 };
-use crate::by_event::taking::{shown, tx_first_looked, tx_looked, tx_response_read};
+use crate::by_event::taking::{after_tx_response, shown, tx_first_looked, tx_looked};
 use crate::front::Front;
 use crate::packet::Packet;
 use crate::state::{Ring, State};
@@ -65,21 +65,21 @@ fn end_grant(wiring: &Wiring, buffer: &Buffer) -> Want
 }
 
 /// What a phase wants.
-fn phase_want(wiring: &Wiring, state: &State, sent: &[u8], received: &Packet, phase: &Phase) -> Want
+fn phase_want(wiring: &Wiring, state: &State, sent: &[u8], phase: &Phase) -> Want
     requires { length sent.now ≤ 65535 }
-    ensures { result ≡ want_of (rest_at wiring.now state.now sent.now received.now phase.now) }
+    ensures { (q : List ℕ) → result ≡ want_of (rest_at wiring.now state.now sent.now q phase.now) }
 {
     match phase {
         Phase::Ready => Want::Done,
         Phase::GrantFrame(piece) => piece_frame(wiring, piece),
         Phase::GrantFlags(piece) => piece_flags(wiring, piece),
-        Phase::Fill(filling) => filling_want(wiring, state, sent, filling),
+        Phase::Fill(filling) => filling_want(wiring, sent, filling),
         Phase::Second(piece) => slot_write(wiring, sent, piece, 1),
         Phase::Third(piece) => slot_write(wiring, sent, piece, 2),
-        Phase::PostFrame { id, start } => post_frame(wiring, state, *id, *start),
-        Phase::PostFlags { id, start } => post_flags(wiring, state, *id, *start),
-        Phase::PostFirst { id, start } => post_first(wiring, state, *id, *start),
-        Phase::PostSecond { id, start } => post_second(wiring, state, *id, *start),
+        Phase::PostFrame { id, .. } => post_frame(wiring, *id),
+        Phase::PostFlags { id, .. } => post_flags(wiring, *id),
+        Phase::PostFirst { id, start } => post_first(wiring, *id, *start),
+        Phase::PostSecond { id, start } => post_second(wiring, *id, *start),
         Phase::Publish(push) => Want::Write(header(push.frame, REQ_PROD), push.new),
         Phase::ReadEvent(push) => Want::Read(header(push.frame, REQ_EVENT)),
         Phase::Notice => Want::Notify(wiring.port),
@@ -101,24 +101,16 @@ fn phase_want(wiring: &Wiring, state: &State, sent: &[u8], received: &Packet, ph
 }
 
 /// After the word of a tx response, or of the rx ring's producer if none was left.
-fn taken(
-    wiring: &Wiring,
-    state: &mut State,
-    sent: &[u8],
-    received: &mut Packet,
-    n: u32,
-    word: u32,
-    counter: u64,
-) -> Phase
+fn taken(state: &mut State, received: &mut Packet, n: u32, word: u32) -> Phase
     ensures space { HasSpace result received.new }
-    ensures rest { rest_at wiring.now state.new sent.now received.new result
-        ≡ next_by (take_all wiring.now n state.old) word counter }
+    ensures rest { (w : Wiring) (p : List ℕ) (counter : ℕ) → rest_at w state.new p received.new result
+        ≡ next_by (take_all w n state.old) word counter }
 {
     if n == 0 {
         let shown = shown(&state.rx, word);
-        rx_first_looked(wiring, state, sent, received, shown)
+        rx_first_looked(state, received, shown)
     } else {
-        tx_response_read(wiring, state, sent, received, n, word)
+        after_tx_response(state, n, word)
     }
 }
 
@@ -137,58 +129,55 @@ fn phase_fed(
     received: &mut Packet,
     phase: Phase,
     word: u32,
-    counter: u64,
 ) -> Phase
     requires length { length sent.now ≤ 65535 }
     requires space { HasSpace phase received.old }
     ensures space { HasSpace result received.new }
-    ensures rest { rest_at wiring.now state.new sent.now received.new result
+    ensures rest { (counter : ℕ) → rest_at wiring.now state.new sent.now received.new result
         ≡ next_by (rest_at wiring.now state.old sent.now received.old phase) word counter }
 {
     match phase {
         Phase::Ready => Phase::Ready,
         Phase::GrantFrame(piece) => Phase::GrantFlags(piece),
-        Phase::GrantFlags(piece) => granted(wiring, state, sent, received, piece),
-        Phase::Fill(filling) => filled(wiring, state, sent, received, filling, word, counter),
+        Phase::GrantFlags(piece) => granted(piece),
+        Phase::Fill(filling) => filled(sent, filling),
         Phase::Second(piece) => Phase::Third(piece),
-        Phase::Third(piece) => slot_written(wiring, state, sent, received, piece),
+        Phase::Third(piece) => slot_written(wiring, piece),
         Phase::PostFrame { id, start } => Phase::PostFlags { id, start },
         Phase::PostFlags { id, start } => Phase::PostFirst { id, start },
         Phase::PostFirst { id, start } => Phase::PostSecond { id, start },
-        Phase::PostSecond { start, .. } => posted(wiring, state, sent, received, start),
+        Phase::PostSecond { start, .. } => posted(wiring, start),
         Phase::Publish(push) => Phase::ReadEvent(push),
-        Phase::ReadEvent(push) => event_read(wiring, state, sent, received, push, word),
+        Phase::ReadEvent(push) => after_event(push, word),
         Phase::Notice => Phase::Ended(Outcome::Idle),
         Phase::TxLook => {
             let shown = shown(&state.tx, word);
-            tx_first_looked(wiring, state, sent, received, shown)
+            tx_first_looked(state, shown)
         }
         Phase::TxAnnounce => Phase::TxLookAgain,
         Phase::TxLookAgain => {
             let shown = shown(&state.tx, word);
-            tx_looked(wiring, state, sent, received, shown)
+            tx_looked(state, shown)
         }
-        Phase::Take(n) => taken(wiring, state, sent, received, n, word, counter),
+        Phase::Take(n) => taken(state, received, n, word),
         Phase::TxEnd { left, .. } => Phase::Take(left),
         Phase::RxAnnounce => Phase::RxLookAgain,
         Phase::RxLookAgain => {
             let shown = shown(&state.rx, word);
-            rx_looked(wiring, state, sent, received, shown)
+            rx_looked(state, received, shown)
         }
         Phase::RxFirst(chained) => response_begun(chained, word),
-        Phase::RxSecond { chained, first } => response_read(
-            wiring, state, sent, received, chained, first, word,
-        ),
-        Phase::RxEnd(part) => grant_ended(wiring, state, sent, received, part),
-        Phase::RxPage(paging) => page_read(wiring, state, sent, received, paging, word),
+        Phase::RxSecond { chained, first } => after_response(state, received, chained, first, word),
+        Phase::RxEnd(part) => grant_ended(wiring, state, part),
+        Phase::RxPage(paging) => after_word(state, received, paging, word),
         Phase::Ended(outcome) => Phase::Ended(outcome),
     }
 }
 
 /// What the activity gave, without the packet.
-fn ending(wiring: &Wiring, state: &State, sent: &[u8], received: &Packet, phase: Phase) -> Outcome
-    requires { want_of (rest_at wiring.now state.now sent.now received.now phase) ≡ Want.Done }
-    ensures { rest_at wiring.now state.now sent.now received.now phase ≡ done (state.now, given result received.now) }
+fn ending(wiring: &Wiring, phase: Phase) -> Outcome
+    requires { (s : State) × (p : List ℕ) × (q : List ℕ) × (want_of (rest_at wiring.now s p q phase) ≡ Want.Done) }
+    ensures { (s : State) (p q : List ℕ) → rest_at wiring.now s p q phase ≡ done (s, given result q) }
 {
     match phase {
         Phase::Ended(outcome) => outcome,
@@ -225,26 +214,14 @@ impl<'p> Front<'p> {
         ensures want { result ≡ want_of (rest self.now) }
         ensures within { result ≢ Want.Done → IsPageWant (wiring_of self.now).frames result }
     {
-        phase_want(
-            &self.wiring,
-            &self.state,
-            self.sent.bytes(),
-            &self.received,
-            &self.phase,
-        )
+        phase_want(&self.wiring, &self.state, self.sent.bytes(), &self.phase)
     }
 
     /// [`want`](Front::want), of a front that is lent for going on.
     pub fn wanted(&mut self) -> Want
         ensures { IsAsked result self.old self.new }
     {
-        phase_want(
-            &self.wiring,
-            &self.state,
-            self.sent.bytes(),
-            &self.received,
-            &self.phase,
-        )
+        phase_want(&self.wiring, &self.state, self.sent.bytes(), &self.phase)
     }
 
     /// Takes the answer to its want, and goes on by it.
@@ -253,7 +230,6 @@ impl<'p> Front<'p> {
         ensures { IsFed answer self.old self.new }
     {
         let word = answer.word();
-        let counter = answer.counter();
         let phase = mem::replace(&mut self.phase, Phase::Ready);
         self.phase = phase_fed(
             &self.wiring,
@@ -262,7 +238,6 @@ impl<'p> Front<'p> {
             &mut self.received,
             phase,
             word,
-            counter,
         );
     }
 
@@ -275,13 +250,7 @@ impl<'p> Front<'p> {
             self.entry.ghost_name none (λ _ _. ⊤) (λ f. IsOver self.old f result)) }
     {
         let phase = mem::replace(&mut self.phase, Phase::Ready);
-        let outcome = ending(
-            &self.wiring,
-            &self.state,
-            self.sent.bytes(),
-            &self.received,
-            phase,
-        );
+        let outcome = ending(&self.wiring, phase);
         show(&self.received, outcome)
     }
 

@@ -1,19 +1,15 @@
 //! Posting a buffer, and the push of requests.
-//!
-//! What answers a phase takes the wiring, the state, the packet that is being sent and the one that is being received, since its
-//! contract speaks of them all. Its body may need fewer.
 
-ghost use Rattle.std.specs.Prelude.{◌≡◌};
+ghost use Rattle.std.specs.Prelude.{◌≡◌, ℕ, List};
 ghost use Rattle.xen_front.specs.Rest.{HasSpace, posting, rest_at};
 ghost use Rattle.xen_front.specs.Slots.{post_writes};
 ghost use Rattle.xen_front.specs.Tree.{notice, publish};
+ghost use Rattle.xen_front.specs.declared.state.State.{State};
 ghost use Rattle.xen_ring.specs.Index.{is_due};
 ghost use Rattle.xen_steps.specs.Places.{add32};
 ghost use Rattle.xen_steps.specs.Steps.{want_of};
 
 use crate::by_event::phase::{Phase, Push};
-use crate::packet::Packet;
-use crate::state::State;
 use crate::turn::Outcome;
 use xen_buffers::{Wiring, buffer_of, grant_flags, grant_frame};
 use xen_netif::RxReq;
@@ -24,31 +20,24 @@ use xen_steps::{Want, rx_entry};
 const WRITE_GRANT: u32 = 1;
 
 /// Before a posted buffer's grant.
-pub(crate) fn begin_post(
-    wiring: &Wiring,
-    state: &State,
-    sent: &[u8],
-    received: &Packet,
-    id: u8,
-    start: u32,
-) -> Phase
-    ensures space { HasSpace result received.now }
-    ensures rest { rest_at wiring.now state.now sent.now received.now result ≡ posting wiring.now state.now id start 0 }
+pub(crate) fn begin_post(wiring: &Wiring, id: u8, start: u32) -> Phase
+    ensures space { (q : List ℕ) → HasSpace result q }
+    ensures rest { (s : State) (p q : List ℕ) → rest_at wiring.now s p q result ≡ posting wiring.now s id start 0 }
 {
     Phase::PostFrame { id, start }
 }
 
 /// The frame word of a posted buffer's grant.
-pub(crate) fn post_frame(wiring: &Wiring, state: &State, id: u8, start: u32) -> Want
-    ensures { result ≡ want_of (posting wiring.now state.now id start 0) }
+pub(crate) fn post_frame(wiring: &Wiring, id: u8) -> Want
+    ensures { (s : State) (start : ℕ) → result ≡ want_of (posting wiring.now s id start 0) }
 {
     let buffer = buffer_of(wiring.rx, u16::from(id));
     Want::Write(grant_frame(wiring, &buffer), buffer.frame)
 }
 
 /// Its flags word: the back may read and write.
-pub(crate) fn post_flags(wiring: &Wiring, state: &State, id: u8, start: u32) -> Want
-    ensures { result ≡ want_of (posting wiring.now state.now id start 1) }
+pub(crate) fn post_flags(wiring: &Wiring, id: u8) -> Want
+    ensures { (s : State) (start : ℕ) → result ≡ want_of (posting wiring.now s id start 1) }
 {
     let buffer = buffer_of(wiring.rx, u16::from(id));
     Want::Write(
@@ -58,8 +47,8 @@ pub(crate) fn post_flags(wiring: &Wiring, state: &State, id: u8, start: u32) -> 
 }
 
 /// The slot's first word: the buffer's id.
-pub(crate) fn post_first(wiring: &Wiring, state: &State, id: u8, start: u32) -> Want
-    ensures { result ≡ want_of (posting wiring.now state.now id start 2) }
+pub(crate) fn post_first(wiring: &Wiring, id: u8, start: u32) -> Want
+    ensures { (s : State) → result ≡ want_of (posting wiring.now s id start 2) }
 {
     let gref = buffer_of(wiring.rx, u16::from(id)).gref;
     let id = u16::from(id);
@@ -70,8 +59,8 @@ pub(crate) fn post_first(wiring: &Wiring, state: &State, id: u8, start: u32) -> 
 }
 
 /// The slot's second word: the buffer's reference.
-pub(crate) fn post_second(wiring: &Wiring, state: &State, id: u8, start: u32) -> Want
-    ensures { result ≡ want_of (posting wiring.now state.now id start 3) }
+pub(crate) fn post_second(wiring: &Wiring, id: u8, start: u32) -> Want
+    ensures { (s : State) → result ≡ want_of (posting wiring.now s id start 3) }
 {
     let gref = buffer_of(wiring.rx, u16::from(id)).gref;
     let id = u16::from(id);
@@ -82,16 +71,10 @@ pub(crate) fn post_second(wiring: &Wiring, state: &State, id: u8, start: u32) ->
 }
 
 /// After a posted buffer's slot.
-pub(crate) fn posted(
-    wiring: &Wiring,
-    state: &State,
-    sent: &[u8],
-    received: &Packet,
-    start: u32,
-) -> Phase
-    ensures space { HasSpace result received.now }
-    ensures rest { rest_at wiring.now state.now sent.now received.now result
-        ≡ publish wiring.now wiring.now.rx_frame start (add32 start 1) state.now }
+pub(crate) fn posted(wiring: &Wiring, start: u32) -> Phase
+    ensures space { (q : List ℕ) → HasSpace result q }
+    ensures rest { (s : State) (p q : List ℕ) → rest_at wiring.now s p q result
+        ≡ publish wiring.now wiring.now.rx_frame start (add32 start 1) s }
 {
     Phase::Publish(Push {
         frame: wiring.rx_frame,
@@ -101,17 +84,9 @@ pub(crate) fn posted(
 }
 
 /// After the event index: a notice if it is due.
-pub(crate) fn event_read(
-    wiring: &Wiring,
-    state: &State,
-    sent: &[u8],
-    received: &Packet,
-    push: Push,
-    event: u32,
-) -> Phase
-    ensures space { HasSpace result received.now }
-    ensures rest { rest_at wiring.now state.now sent.now received.now result
-        ≡ notice wiring.now (is_due push.old push.new event) state.now }
+pub(crate) fn after_event(push: Push, event: u32) -> Phase
+    ensures space { (q : List ℕ) → HasSpace result q }
+    ensures rest { (w : Wiring) (s : State) (p q : List ℕ) → rest_at w s p q result ≡ notice w (is_due push.old push.new event) s }
 {
     if due(push.old, push.new, event) {
         Phase::Notice

@@ -1,9 +1,6 @@
 //! A poll's packet: the responses of the rx ring, checked one by one, and their pages.
-//!
-//! What answers a phase takes the wiring, the state, the packet that is being sent and the one that is being received, since its
-//! contract speaks of them all. Its body may need fewer.
 
-ghost use Rattle.std.specs.Prelude.{◌≡◌, ◌<◌, ◌≤◌, ◌+◌, ◌-◌, ◌/◌, ◌++◌, ◌∷◌, [], ◌||◌, suc, length, true};
+ghost use Rattle.std.specs.Prelude.{◌≡◌, ◌<◌, ◌≤◌, ◌+◌, ◌-◌, ◌/◌, ◌++◌, ◌∷◌, ℕ, List, [], ◌||◌, suc, length, true};
 ghost use Rattle.xen_front.specs.Rest.{HasSpace, bytes_left, gathered, part_rest, rest_at};
 ghost use Rattle.xen_front.specs.Slots.{covered_bytes as covered_bytes_spec, fault_of, in_flight, is_negative as is_negative_spec};
 ghost use Rattle.xen_front.specs.Slots.{part_of as part_of_spec, passes_page as passes_page_spec};
@@ -22,48 +19,36 @@ use xen_buffers::{Buffer, Wiring, buffer_of};
 use xen_netif::{Fragment, RxRsp};
 
 /// After the first look at the rx ring.
-pub(crate) fn rx_first_looked(
-    wiring: &Wiring,
-    state: &mut State,
-    sent: &[u8],
-    received: &mut Packet,
-    n: Option<u32>,
-) -> Phase
+pub(crate) fn rx_first_looked(state: &mut State, received: &mut Packet, n: Option<u32>) -> Phase
     ensures space { HasSpace result received.new }
-    ensures rest { rest_at wiring.now state.new sent.now received.new result
-        ≡ bind (seen wiring.now.rx_frame state.old.rx n) (after_rx_look wiring.now state.old) }
+    ensures rest { (w : Wiring) (p : List ℕ) → rest_at w state.new p received.new result
+        ≡ bind (seen w.rx_frame state.old.rx n) (after_rx_look w state.old) }
 {
     match n {
-        None => rx_looked(wiring, state, sent, received, None),
+        None => rx_looked(state, received, None),
         Some(n) => {
             if n == 0 {
                 Phase::RxAnnounce
             } else {
-                rx_looked(wiring, state, sent, received, Some(n))
+                rx_looked(state, received, Some(n))
             }
         }
     }
 }
 
 /// After the last look at the rx ring.
-pub(crate) fn rx_looked(
-    wiring: &Wiring,
-    state: &mut State,
-    sent: &[u8],
-    received: &mut Packet,
-    n: Option<u32>,
-) -> Phase
+pub(crate) fn rx_looked(state: &mut State, received: &mut Packet, n: Option<u32>) -> Phase
     ensures space { HasSpace result received.new }
-    ensures rest { rest_at wiring.now state.new sent.now received.new result ≡ after_rx_look wiring.now state.old n }
+    ensures rest { (w : Wiring) (p : List ℕ) → rest_at w state.new p received.new result ≡ after_rx_look w state.old n }
 {
     match n {
-        None => halt(wiring, state, sent, received, Halt::RxProducer),
+        None => halt(state, Halt::RxProducer),
         Some(n) => {
             if n == 0 {
                 Phase::Ended(Outcome::Idle)
             } else {
                 received.clear();
-                before_response(wiring, state, sent, received, n - 1, 0, false)
+                before_response(n - 1, 0, false)
             }
         }
     }
@@ -111,20 +96,18 @@ fn fault(ring: &Ring, slots: u32, bytes: u32, response: &RxRsp) -> Option<Halt>
 }
 
 /// After a response's two words.
-pub(crate) fn response_read(
-    wiring: &Wiring,
+pub(crate) fn after_response(
     state: &mut State,
-    sent: &[u8],
     received: &Packet,
     chained: Chained,
     first: u32,
     second: u32,
 ) -> Phase
     ensures space { HasSpace result received.now }
-    ensures rest { rest_at wiring.now state.new sent.now received.now result
-        ≡ checked wiring.now state.old (gathered chained received.now) (rx_rsp_of (first ∷ second ∷ []))
+    ensures rest { (w : Wiring) (p : List ℕ) → rest_at w state.new p received.now result
+        ≡ checked w state.old (gathered chained received.now) (rx_rsp_of (first ∷ second ∷ []))
         (fault_of state.old.rx chained.slots (length received.now) (rx_rsp_of (first ∷ second ∷ [])))
-        (receive wiring.now chained.left) }
+        (receive w chained.left) }
 {
     let response = RxRsp::of_words([first, second]);
     match fault(
@@ -133,7 +116,7 @@ pub(crate) fn response_read(
         received.bytes().len() as u32,
         &response,
     ) {
-        Some(cause) => halt(wiring, state, sent, received, cause),
+        Some(cause) => halt(state, cause),
         None => {
             land(&mut state.rx, response.id);
             Phase::RxEnd(Part { chained, response })
@@ -153,59 +136,30 @@ fn part_of(buffer: &Buffer, response: &RxRsp) -> Fragment
 }
 
 /// After the end of a response's grant.
-pub(crate) fn grant_ended(
-    wiring: &Wiring,
-    state: &mut State,
-    sent: &[u8],
-    received: &Packet,
-    part: Part,
-) -> Phase
-    requires { length received.now + covered_bytes_spec part.response.status ≤ 65535 }
-    ensures space { HasSpace result received.now }
-    ensures rest { rest_at wiring.now state.new sent.now received.now result
-        ≡ read_page wiring.now state.old (gathered part.chained received.now) part.response
-        (receive wiring.now part.chained.left) }
+pub(crate) fn grant_ended(wiring: &Wiring, state: &mut State, part: Part) -> Phase
+    ensures space { (q : List ℕ) → length q + covered_bytes_spec part.response.status ≤ 65535 → HasSpace result q }
+    ensures rest { (p q : List ℕ) → rest_at wiring.now state.new p q result
+        ≡ read_page wiring.now state.old (gathered part.chained q) part.response (receive wiring.now part.chained.left) }
 {
     let buffer = buffer_of(wiring.rx, part.response.id);
     let fragment = part_of(&buffer, &part.response);
     let words = fragment.covered_words();
     if words.start == words.end {
-        part_read(wiring, state, sent, received, part)
+        after_part(state, part)
     } else {
         let place = words.start;
         let more = words.end - words.start - 1;
-        before_word(
-            wiring,
-            state,
-            sent,
-            received,
-            part,
-            buffer.frame,
-            fragment,
-            place,
-            more,
-        )
+        before_word(part, buffer.frame, fragment, place, more)
     }
 }
 
 /// Before a word of a part's page.
-fn before_word(
-    wiring: &Wiring,
-    state: &State,
-    sent: &[u8],
-    received: &Packet,
-    part: Part,
-    frame: u32,
-    fragment: Fragment,
-    place: u32,
-    more: u32,
-) -> Phase
+fn before_word(part: Part, frame: u32, fragment: Fragment, place: u32, more: u32) -> Phase
     requires covers { Covers fragment place }
     requires last { place + more ≡ (fragment.offset + fragment.size - 1) / 4 }
-    requires room { length received.now + bytes_left fragment place ≤ 65535 }
-    ensures space { HasSpace result received.now }
-    ensures rest { rest_at wiring.now state.now sent.now received.now result
-        ≡ bind (copy_words fragment frame place (suc more) received.now) (part_rest wiring.now state.now part) }
+    ensures space { (q : List ℕ) → length q + bytes_left fragment place ≤ 65535 → HasSpace result q }
+    ensures rest { (w : Wiring) (s : State) (p q : List ℕ) → rest_at w s p q result
+        ≡ bind (copy_words fragment frame place (suc more) q) (part_rest w s part) }
 {
     Phase::RxPage(Paging {
         part,
@@ -217,43 +171,26 @@ fn before_word(
 }
 
 /// Before a response, with `left` behind it.
-fn before_response(
-    wiring: &Wiring,
-    state: &State,
-    sent: &[u8],
-    received: &Packet,
-    left: u32,
-    slots: u32,
-    bad: bool,
-) -> Phase
+fn before_response(left: u32, slots: u32, bad: bool) -> Phase
     requires { slots ≤ 15 }
-    ensures space { HasSpace result received.now }
-    ensures rest { rest_at wiring.now state.now sent.now received.now result
-        ≡ first_word wiring.now state.now (record { slots = slots; bad = bad; bytes = received.now })
-        (receive wiring.now left) }
+    ensures space { (q : List ℕ) → HasSpace result q }
+    ensures rest { (w : Wiring) (s : State) (p q : List ℕ) → rest_at w s p q result
+        ≡ first_word w s (record { slots = slots; bad = bad; bytes = q }) (receive w left) }
 {
     Phase::RxFirst(Chained { left, slots, bad })
 }
 
 /// Before a further response of the chain, or the halt if the producer showed none.
-fn more_responses(
-    wiring: &Wiring,
-    state: &mut State,
-    sent: &[u8],
-    received: &Packet,
-    left: u32,
-    slots: u32,
-    bad: bool,
-) -> Phase
+fn more_responses(state: &mut State, left: u32, slots: u32, bad: bool) -> Phase
     requires { slots ≤ 15 }
-    ensures space { HasSpace result received.now }
-    ensures rest { rest_at wiring.now state.new sent.now received.now result
-        ≡ receive wiring.now left state.old (record { slots = slots; bad = bad; bytes = received.now }) }
+    ensures space { (q : List ℕ) → HasSpace result q }
+    ensures rest { (w : Wiring) (p q : List ℕ) → rest_at w state.new p q result
+        ≡ receive w left state.old (record { slots = slots; bad = bad; bytes = q }) }
 {
     if left == 0 {
-        halt(wiring, state, sent, received, Halt::ShortChain)
+        halt(state, Halt::ShortChain)
     } else {
-        before_response(wiring, state, sent, received, left - 1, slots, bad)
+        before_response(left - 1, slots, bad)
     }
 }
 
@@ -265,28 +202,13 @@ fn is_bad(part: &Part) -> bool
 }
 
 /// After a part's page.
-fn part_read(
-    wiring: &Wiring,
-    state: &mut State,
-    sent: &[u8],
-    received: &Packet,
-    part: Part,
-) -> Phase
-    ensures space { HasSpace result received.now }
-    ensures rest { rest_at wiring.now state.new sent.now received.now result
-        ≡ part_rest wiring.now state.old part received.now }
+fn after_part(state: &mut State, part: Part) -> Phase
+    ensures space { (q : List ℕ) → HasSpace result q }
+    ensures rest { (w : Wiring) (p q : List ℕ) → rest_at w state.new p q result ≡ part_rest w state.old part q }
 {
     let bad = is_bad(&part);
     if part.response.flags.more_data {
-        more_responses(
-            wiring,
-            state,
-            sent,
-            received,
-            part.chained.left,
-            part.chained.slots + 1,
-            bad,
-        )
+        more_responses(state, part.chained.left, part.chained.slots + 1, bad)
     } else if bad {
         Phase::Ended(Outcome::Refused)
     } else {
@@ -295,31 +217,24 @@ fn part_read(
 }
 
 /// After a word of a part's page.
-pub(crate) fn page_read(
-    wiring: &Wiring,
+pub(crate) fn after_word(
     state: &mut State,
-    sent: &[u8],
     received: &mut Packet,
     paging: Paging,
     word: u32,
 ) -> Phase
     requires { length received.old + bytes_left paging.fragment paging.place ≤ 65535 }
     ensures space { HasSpace result received.new }
-    ensures rest { rest_at wiring.now state.new sent.now received.new result
+    ensures rest { (w : Wiring) (p : List ℕ) → rest_at w state.new p received.new result
         ≡ bind (copy_words paging.fragment paging.frame (paging.place + 1) paging.more
-        (received.old ++ bytes_in paging.fragment paging.place word))
-        (part_rest wiring.now state.old paging.part) }
+        (received.old ++ bytes_in paging.fragment paging.place word)) (part_rest w state.old paging.part) }
 {
     let bytes = paging.fragment.bytes_in(paging.place, word);
     push_all(received, bytes.as_slice());
     if paging.more == 0 {
-        part_read(wiring, state, sent, received, paging.part)
+        after_part(state, paging.part)
     } else {
         before_word(
-            wiring,
-            state,
-            sent,
-            received,
             paging.part,
             paging.frame,
             paging.fragment,

@@ -1,9 +1,6 @@
 //! Sending a packet: the pieces' writes.
-//!
-//! What answers a phase takes the wiring, the state, the packet that is being sent and the one that is being received, since its
-//! contract speaks of them all. Its body may need fewer.
 
-ghost use Rattle.std.specs.Prelude.{◌≡◌, ◌≤◌, ◌<◌, ◌+◌, ◌-◌, [], length, slice_index};
+ghost use Rattle.std.specs.Prelude.{◌≡◌, ◌≤◌, ◌<◌, ◌+◌, ◌-◌, ℕ, List, [], length, slice_index};
 ghost use Rattle.xen_front.specs.Rest.{HasSpace, filling_from, id_of, pieces as pieces_spec, rest_at, sending};
 ghost use Rattle.xen_front.specs.Slots.{buffer, filling as filling_spec, grant_place, told_size as told_size_spec};
 ghost use Rattle.xen_front.specs.Slots.{piece_request as piece_request_spec, piece_words as piece_words_spec, send_writes};
@@ -11,14 +8,13 @@ ghost use Rattle.xen_netif.specs.Slots.{tx_req_words};
 ghost use Rattle.xen_netif.specs.Words.{joined};
 ghost use Rattle.xen_page.specs.Mapping.{frame_place};
 ghost use Rattle.xen_front.specs.Tree.{publish};
+ghost use Rattle.xen_front.specs.declared.state.State.{State};
 ghost use Rattle.xen_steps.specs.Pages.{write_all};
 ghost use Rattle.xen_steps.specs.Places.{add32, tx_entry as tx_entry_place};
 ghost use Rattle.xen_steps.specs.Steps.{next_by, want_of};
 
 use crate::by_event::phase::{Filling, Phase, Piece, Push};
 use crate::by_event::places::{piece_size, piece_words, word_at};
-use crate::packet::Packet;
-use crate::state::State;
 use arrayvec::ArrayVec;
 use xen_buffers::{Buffer, Wiring, buffer_of, grant_flags, grant_frame};
 use xen_netif::{TxFlags, TxReq};
@@ -118,9 +114,9 @@ pub(crate) fn slot_write(wiring: &Wiring, sent: &[u8], piece: &Piece, word: u32)
 }
 
 /// The next word of a page, or its slot's first word once all are written.
-pub(crate) fn filling_want(wiring: &Wiring, state: &State, sent: &[u8], filling: &Filling) -> Want
+pub(crate) fn filling_want(wiring: &Wiring, sent: &[u8], filling: &Filling) -> Want
     requires { length sent.now ≤ 65535 }
-    ensures { result ≡ want_of (filling_from wiring.now state.now sent.now filling.now.piece filling.now.written) }
+    ensures { (s : State) → result ≡ want_of (filling_from wiring.now s sent.now filling.now.piece filling.now.written) }
 {
     let piece = &filling.piece;
     if filling.written < piece_words(sent.len() as u32, piece.index) {
@@ -141,19 +137,12 @@ pub(crate) fn filling_want(wiring: &Wiring, state: &State, sent: &[u8], filling:
 }
 
 /// Before the first piece.
-pub(crate) fn first_piece(
-    wiring: &Wiring,
-    state: &State,
-    sent: &[u8],
-    received: &Packet,
-    start: u32,
-    ids: ArrayVec<u8, 16>,
-) -> Phase
+pub(crate) fn first_piece(wiring: &Wiring, start: u32, ids: ArrayVec<u8, 16>) -> Phase
     requires { 0 < length ids.items }
-    ensures space { HasSpace result received.now }
-    ensures rest { rest_at wiring.now state.now sent.now received.now result
-        ≡ write_all (send_writes wiring.now start sent.now (length ids.items) 0 ids.items)
-        (publish wiring.now wiring.now.tx_frame start (add32 start (length ids.items)) state.now) }
+    ensures space { (q : List ℕ) → HasSpace result q }
+    ensures rest { (s : State) (p q : List ℕ) → rest_at wiring.now s p q result
+        ≡ write_all (send_writes wiring.now start p (length ids.items) 0 ids.items)
+        (publish wiring.now wiring.now.tx_frame start (add32 start (length ids.items)) s) }
 {
     Phase::GrantFrame(Piece {
         start,
@@ -163,35 +152,21 @@ pub(crate) fn first_piece(
 }
 
 /// After the grant's flags.
-pub(crate) fn granted(
-    wiring: &Wiring,
-    state: &State,
-    sent: &[u8],
-    received: &Packet,
-    piece: Piece,
-) -> Phase
-    ensures space { HasSpace result received.now }
-    ensures rest { rest_at wiring.now state.now sent.now received.now result
-        ≡ sending wiring.now state.now sent.now piece (filling_spec wiring.now piece.start sent.now
-        (pieces_spec piece) piece.index (id_of piece) (piece_words_spec (length sent.now) piece.index) 0) }
+pub(crate) fn granted(piece: Piece) -> Phase
+    ensures space { (q : List ℕ) → HasSpace result q }
+    ensures rest { (w : Wiring) (s : State) (p q : List ℕ) → rest_at w s p q result
+        ≡ sending w s p piece (filling_spec w piece.start p (pieces_spec piece) piece.index (id_of piece)
+        (piece_words_spec (length p) piece.index) 0) }
 {
     Phase::Fill(Filling { piece, written: 0 })
 }
 
 /// After a word of the page, or after the slot's first.
-pub(crate) fn filled(
-    wiring: &Wiring,
-    state: &State,
-    sent: &[u8],
-    received: &Packet,
-    filling: Filling,
-    word: u32,
-    counter: u64,
-) -> Phase
+pub(crate) fn filled(sent: &[u8], filling: Filling) -> Phase
     requires { length sent.now ≤ 65535 }
-    ensures space { HasSpace result received.now }
-    ensures rest { rest_at wiring.now state.now sent.now received.now result
-        ≡ next_by (filling_from wiring.now state.now sent.now filling.piece filling.written) word counter }
+    ensures space { (q : List ℕ) → HasSpace result q }
+    ensures rest { (w : Wiring) (s : State) (q : List ℕ) (word counter : ℕ) → rest_at w s sent.now q result
+        ≡ next_by (filling_from w s sent.now filling.piece filling.written) word counter }
 {
     if filling.written < piece_words(sent.len() as u32, filling.piece.index) {
         let Filling { piece, written } = filling;
@@ -205,16 +180,9 @@ pub(crate) fn filled(
 }
 
 /// After a slot.
-pub(crate) fn slot_written(
-    wiring: &Wiring,
-    state: &State,
-    sent: &[u8],
-    received: &Packet,
-    piece: Piece,
-) -> Phase
-    ensures space { HasSpace result received.now }
-    ensures rest { rest_at wiring.now state.now sent.now received.now result
-        ≡ sending wiring.now state.now sent.now piece [] }
+pub(crate) fn slot_written(wiring: &Wiring, piece: Piece) -> Phase
+    ensures space { (q : List ℕ) → HasSpace result q }
+    ensures rest { (s : State) (p q : List ℕ) → rest_at wiring.now s p q result ≡ sending wiring.now s p piece [] }
 {
     let Piece { start, index, ids } = piece;
     let n = ids.len() as u32;

@@ -1,10 +1,6 @@
 //! A poll: looking for responses, and taking those of the tx ring.
-//!
-//! What answers a phase takes the wiring, the state, the packet that is being sent and the one that is being received, since its
-//! contract speaks of them all. Its body may need fewer.
 
-ghost use Rattle.std.specs.Prelude.{◌≡◌, ◌<◌, ◌-◌, ◌∷◌, [], true};
-ghost use Rattle.xen_front.specs.Bound.{HasFlags};
+ghost use Rattle.std.specs.Prelude.{◌≡◌, ◌<◌, ◌-◌, ◌∷◌, ℕ, List, [], true};
 ghost use Rattle.xen_front.specs.Rest.{HasSpace, rest_at};
 ghost use Rattle.xen_front.specs.Slots.{counted, in_flight as in_flight_spec, outstanding as outstanding_spec, taken, took as took_spec};
 ghost use Rattle.xen_front.specs.Tree.{after_tx_look, halted, judged, poll, seen, take_all};
@@ -13,7 +9,6 @@ ghost use Rattle.xen_steps.specs.Places.{fresh};
 ghost use Rattle.xen_steps.specs.Steps.{bind};
 
 use crate::by_event::phase::Phase;
-use crate::packet::Packet;
 use crate::state::{Counts, Ring, State};
 use crate::turn::{Halt, Outcome};
 use xen_buffers::Wiring;
@@ -21,15 +16,9 @@ use xen_netif::TxRsp;
 use xen_steps::responses_shown;
 
 /// Ends the activity and halts the front.
-pub(crate) fn halt(
-    wiring: &Wiring,
-    state: &mut State,
-    sent: &[u8],
-    received: &Packet,
-    cause: Halt,
-) -> Phase
-    ensures space { HasSpace result received.now }
-    ensures rest { rest_at wiring.now state.new sent.now received.now result ≡ halted state.old cause }
+pub(crate) fn halt(state: &mut State, cause: Halt) -> Phase
+    ensures space { (q : List ℕ) → HasSpace result q }
+    ensures rest { (w : Wiring) (p q : List ℕ) → rest_at w state.new p q result ≡ halted state.old cause }
 {
     state.halt = Some(cause);
     Phase::Ended(Outcome::Halted { cause })
@@ -43,28 +32,21 @@ pub(crate) fn shown(ring: &Ring, producer: u32) -> Option<u32>
 }
 
 /// Before a poll.
-pub(crate) fn begin_poll(wiring: &Wiring, state: &State, sent: &[u8], received: &Packet) -> Phase
-    ensures flags { HasFlags state.now }
-    ensures space { HasSpace result received.now }
-    ensures rest { rest_at wiring.now state.now sent.now received.now result ≡ poll wiring.now state.now }
+pub(crate) fn begin_poll(wiring: &Wiring) -> Phase
+    ensures space { (q : List ℕ) → HasSpace result q }
+    ensures rest { (s : State) (p q : List ℕ) → rest_at wiring.now s p q result ≡ poll wiring.now s }
 {
     Phase::TxLook
 }
 
 /// After the first look at the tx ring.
-pub(crate) fn tx_first_looked(
-    wiring: &Wiring,
-    state: &mut State,
-    sent: &[u8],
-    received: &Packet,
-    n: Option<u32>,
-) -> Phase
-    ensures space { HasSpace result received.now }
-    ensures rest { rest_at wiring.now state.new sent.now received.now result
-        ≡ bind (seen wiring.now.tx_frame state.old.tx n) (after_tx_look wiring.now state.old) }
+pub(crate) fn tx_first_looked(state: &mut State, n: Option<u32>) -> Phase
+    ensures space { (q : List ℕ) → HasSpace result q }
+    ensures rest { (w : Wiring) (p q : List ℕ) → rest_at w state.new p q result
+        ≡ bind (seen w.tx_frame state.old.tx n) (after_tx_look w state.old) }
 {
     match n {
-        None => halt(wiring, state, sent, received, Halt::TxProducer),
+        None => halt(state, Halt::TxProducer),
         Some(n) => {
             if n == 0 {
                 Phase::TxAnnounce
@@ -76,18 +58,12 @@ pub(crate) fn tx_first_looked(
 }
 
 /// After the last look at the tx ring.
-pub(crate) fn tx_looked(
-    wiring: &Wiring,
-    state: &mut State,
-    sent: &[u8],
-    received: &Packet,
-    n: Option<u32>,
-) -> Phase
-    ensures space { HasSpace result received.now }
-    ensures rest { rest_at wiring.now state.new sent.now received.now result ≡ after_tx_look wiring.now state.old n }
+pub(crate) fn tx_looked(state: &mut State, n: Option<u32>) -> Phase
+    ensures space { (q : List ℕ) → HasSpace result q }
+    ensures rest { (w : Wiring) (p q : List ℕ) → rest_at w state.new p q result ≡ after_tx_look w state.old n }
 {
     match n {
-        None => halt(wiring, state, sent, received, Halt::TxProducer),
+        None => halt(state, Halt::TxProducer),
         Some(n) => Phase::Take(n),
     }
 }
@@ -124,19 +100,12 @@ pub(crate) fn is_in_flight(ring: &Ring, id: u16) -> bool
 }
 
 /// After a tx response.
-pub(crate) fn tx_response_read(
-    wiring: &Wiring,
-    state: &mut State,
-    sent: &[u8],
-    received: &Packet,
-    n: u32,
-    word: u32,
-) -> Phase
+pub(crate) fn after_tx_response(state: &mut State, n: u32, word: u32) -> Phase
     requires { 0 < n }
-    ensures space { HasSpace result received.now }
-    ensures rest { rest_at wiring.now state.new sent.now received.now result
-        ≡ judged wiring.now state.old (tx_rsp_of (word ∷ [])) (in_flight_spec state.old.tx (tx_rsp_of
-        (word ∷ [])).id) (take_all wiring.now (n - 1) (took_spec state.old (tx_rsp_of (word ∷ [])))) }
+    ensures space { (q : List ℕ) → HasSpace result q }
+    ensures rest { (w : Wiring) (p q : List ℕ) → rest_at w state.new p q result
+        ≡ judged w state.old (tx_rsp_of (word ∷ [])) (in_flight_spec state.old.tx (tx_rsp_of (word ∷ [])).id)
+        (take_all w (n - 1) (took_spec state.old (tx_rsp_of (word ∷ [])))) }
 {
     let response = TxRsp::of_words([word]);
     if is_in_flight(&state.tx, response.id) {
@@ -147,6 +116,6 @@ pub(crate) fn tx_response_read(
             left: n - 1,
         }
     } else {
-        halt(wiring, state, sent, received, Halt::TxId)
+        halt(state, Halt::TxId)
     }
 }

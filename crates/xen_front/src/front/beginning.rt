@@ -1,7 +1,4 @@
 //! The calls that begin an activity.
-//!
-//! What answers a phase takes the wiring, the state, the packet that is being sent and the one that is being received, since its
-//! contract speaks of them all. Its body may need fewer.
 
 ghost use Rattle.std.specs.Prelude.{◌≡◌, length, get_or, OnErr, OnOk};
 ghost use Rattle.xen_front.specs.Fronts.{HasBegun, IsSame, all_free, chosen, poll_answer, post_answer, send_answer, state_of, wiring_of};
@@ -55,14 +52,7 @@ impl<'p> Front<'p> {
         self.sent.fill(bytes);
         let start = self.state.tx.prod;
         fly(&mut self.state.tx, ids.as_slice());
-        self.phase = first_piece(
-            &self.wiring,
-            &self.state,
-            self.sent.bytes(),
-            &self.received,
-            start,
-            ids,
-        );
+        self.phase = first_piece(&self.wiring, start, ids);
         Ok(())
     }
 
@@ -89,14 +79,7 @@ impl<'p> Front<'p> {
             Some(id) => {
                 let start = self.state.rx.prod;
                 fly(&mut self.state.rx, &[*id]);
-                self.phase = begin_post(
-                    &self.wiring,
-                    &self.state,
-                    self.sent.bytes(),
-                    &self.received,
-                    *id,
-                    start,
-                );
+                self.phase = begin_post(&self.wiring, *id, start);
                 Ok(())
             }
             None => Err(PostRefusal::NoSlot),
@@ -120,7 +103,7 @@ impl<'p> Front<'p> {
         if is_busy(&self.phase) {
             return Err(PollRefusal::Busy);
         }
-        self.phase = begin_poll(&self.wiring, &self.state, self.sent.bytes(), &self.received);
+        self.phase = begin_poll(&self.wiring);
         Ok(())
     }
 }

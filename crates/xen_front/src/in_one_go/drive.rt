@@ -65,14 +65,7 @@ fn drive_piece<B: Bus>(front: &mut Front, bus: &mut B)
     ensures driven { (t : List Event) × Driven B.log B.access_gives (rest front.old) (rest front.new) bus.old bus.new t }
 {
     let phase = mem::replace(&mut front.phase, Phase::Ready);
-    front.phase = past_piece(
-        &front.wiring,
-        &front.state,
-        front.sent.bytes(),
-        &front.received,
-        phase,
-        bus,
-    );
+    front.phase = past_piece(&front.wiring, front.sent.bytes(), phase, bus);
 }
 
 /// Makes all writes of a packet's pieces, where the front is before the first.

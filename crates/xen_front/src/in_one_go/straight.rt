@@ -1,11 +1,10 @@
 //! A piece of a packet, written in one go over a bus: no phase is made between its words.
-//!
-//! Some functions take what their contracts speak of, though their bodies need less.
 
-ghost use Rattle.std.specs.Prelude.{◌≡◌, ◌≤◌, List, length};
+ghost use Rattle.std.specs.Prelude.{◌≡◌, ◌≤◌, ℕ, List, length};
 ghost use Rattle.xen_front.specs.Rest.{HasSpace, id_of, pieces as pieces_spec, rest_at};
 ghost use Rattle.xen_front.specs.Slots.{buffer, grant_writes, page_writes, piece_words as piece_words_spec, piece_writes, slot_writes};
 ghost use Rattle.xen_front.specs.Straight.{AreOnBus, touched};
+ghost use Rattle.xen_front.specs.declared.state.State.{State};
 ghost use Rattle.xen_page.specs.Access.{Performs};
 ghost use Rattle.xen_steps.specs.Drive.{Any, Bounded, Driven, IsPageWant};
 ghost use Rattle.xen_steps.specs.Event.{Event};
@@ -13,8 +12,6 @@ ghost use Rattle.xen_steps.specs.Event.{Event};
 use crate::by_event::phase::{Phase, Piece};
 use crate::by_event::places::{piece_words, word_at};
 use crate::by_event::sending::{READ_GRANT, page, request, slot_written};
-use crate::packet::Packet;
-use crate::state::State;
 use xen_buffers::{Wiring, grant_flags, grant_frame};
 use xen_page::{Bus, Place};
 use xen_steps::tx_entry;
@@ -85,26 +82,19 @@ fn write_piece<B: Bus>(wiring: &Wiring, sent: &[u8], piece: &Piece, bus: &mut B)
 }
 
 /// The phase after a piece, all of whose writes are made, where the phase is before one; else the phase itself.
-pub(crate) fn past_piece<B: Bus>(
-    wiring: &Wiring,
-    state: &State,
-    sent: &[u8],
-    received: &Packet,
-    phase: Phase,
-    bus: &mut B,
-) -> Phase
+pub(crate) fn past_piece<B: Bus>(wiring: &Wiring, sent: &[u8], phase: Phase, bus: &mut B) -> Phase
     requires length { length sent.now ≤ 65535 }
-    requires space { HasSpace phase received.now }
-    requires bounded { Bounded (IsPageWant (B.size bus.old)) Any (rest_at wiring.now state.now sent.now received.now phase) 17000 }
+    requires bounded { (s : State) × (q : List ℕ) ×
+        Bounded (IsPageWant (B.size bus.old)) Any (rest_at wiring.now s sent.now q phase) 17000 }
     ensures size { B.size bus.new ≡ B.size bus.old }
-    ensures space { HasSpace result received.now }
-    ensures driven { (t : List Event) × Driven B.log B.access_gives (rest_at wiring.now state.now sent.now received.now phase)
-        (rest_at wiring.now state.now sent.now received.now result) bus.old bus.new t }
+    ensures space { (q : List ℕ) → HasSpace phase q → HasSpace result q }
+    ensures driven { (s : State) (q : List ℕ) → (t : List Event) × Driven B.log B.access_gives
+        (rest_at wiring.now s sent.now q phase) (rest_at wiring.now s sent.now q result) bus.old bus.new t }
 {
     match phase {
         Phase::GrantFrame(piece) => {
             write_piece(wiring, sent, &piece, bus);
-            slot_written(wiring, state, sent, received, piece)
+            slot_written(wiring, piece)
         }
         phase => phase,
     }

@@ -25,9 +25,8 @@ before_word-requires-clause-last c =
     omega (arith, h, (covered_end f r.start r.end e.start h e.covered).0)
 
 pub returns-then-words-clause-rest : goal.returns-then-words-clause-rest
-returns-then-words-clause-rest c =
+returns-then-words-clause-rest c = λ p q.
     let w = c.args.wiring.now in
-    let q = c.args.received.now in
     let x = c.args.part in
     let b = buffer w.rx.now x.response.id in
     let f = c.part_of-fragment.result in
@@ -37,13 +36,12 @@ returns-then-words-clause-rest c =
     let count = covered_count f r.start r.end e.start e.ordered e.covered in
     let zero : covered f ≡ 0 = omega (arith, count, c.if-words.true) in
     let none : covered (part_of b x.response) ≡ 0 = ap covered (sym same) ∙ zero in
-    c.part_read.ensures.rest
+    c.after_part.ensures.rest w p q
     ∙ sym (ap (λ n. bind (copy_words (part_of b x.response) b.frame (x.response.offset / 4) n q) (part_rest w c.args.state.now x)) none)
 
 pub returns-else-words-clause-rest : goal.returns-else-words-clause-rest
-returns-else-words-clause-rest c =
+returns-else-words-clause-rest c = λ p q.
     let w = c.args.wiring.now in
-    let q = c.args.received.now in
     let x = c.args.part in
     let b = buffer w.rx.now x.response.id in
     let f = c.part_of-fragment.result in
@@ -54,7 +52,7 @@ returns-else-words-clause-rest c =
     let same : f ≡ part_of b x.response = c.part_of-fragment.ensures ∙ ap (λ (b : Buffer). part_of b x.response) c.buffer_of-buffer.ensures in
     let count = covered_count f r.start r.end e.start e.ordered e.covered in
     let all : suc (r.end - r.start - 1) ≡ covered f = omega (arith, count, e.ordered, c.if-words.false) in
-    c.before_word.ensures.rest
+    c.before_word.ensures.rest w c.args.state.now p q
     ∙ ap (λ m. bind (copy_words f frame m (suc (r.end - r.start - 1)) q) k) e.start
     ∙ ap (λ n. bind (copy_words f frame (f.offset / 4) n q) k) all
     ∙ ap (λ (g : Fragment). bind (copy_words g frame (g.offset / 4) (covered g) q) k) same

@@ -1,5 +1,5 @@
 use Rattle.std.proofs.Common.{List, ℕ, ap, refl, sym, ◌∙◌}
-use Rattle.xen_steps.specs.Answers.{number, word_in}
+use Rattle.xen_steps.specs.Answers.{counter_in, number}
 use Rattle.xen_steps.specs.Steps.{next_by}
 use Rattle.xen_steps.proofs.AnswerLemmas.{fed_by}
 use Rattle.xen_front.specs.Fronts.{rest}
@@ -14,11 +14,10 @@ invariant_of-self-clause-short c =
     let s = rest f in
     short_fed f.wiring f.state c.phase_fed-self.new.state f.sent f.sent f.received c.phase_fed-self.new.received f.phase c.phase_fed-self.result (number c.args.answer) f.short
     (ap (λ (p : List ℕ). rest_at f.wiring c.phase_fed-self.new.state p c.phase_fed-self.new.received c.phase_fed-self.result) (sym c.bytes.ensures.same)
-    ∙ c.phase_fed-self.ensures.rest
-    ∙ ap (λ (x : Phase). next_by (rest_at f.wiring f.state c.bytes.result.now f.received x) c.word-word.result c.counter-counter.result) c.replace-phase.ensures.value
-    ∙ ap (λ (p : List ℕ). next_by (rest_at f.wiring f.state p f.received f.phase) c.word-word.result c.counter-counter.result) c.bytes.ensures.same
-    ∙ ap (λ v. next_by s v c.counter-counter.result) c.word-word.ensures
-    ∙ ap (λ v. next_by s (word_in c.args.answer) v) c.counter-counter.ensures
+    ∙ c.phase_fed-self.ensures.rest (counter_in c.args.answer)
+    ∙ ap (λ (x : Phase). next_by (rest_at f.wiring f.state c.bytes.result.now f.received x) c.word-word.result (counter_in c.args.answer)) c.replace-phase.ensures.value
+    ∙ ap (λ (p : List ℕ). next_by (rest_at f.wiring f.state p f.received f.phase) c.word-word.result (counter_in c.args.answer)) c.bytes.ensures.same
+    ∙ ap (λ v. next_by s v (counter_in c.args.answer)) c.word-word.ensures
     ∙ fed_by s c.args.answer c.requires)
 
 pub returns : goal.returns
@@ -28,11 +27,10 @@ returns c =
     record {
       rest =
           ap (λ (p : List ℕ). rest_at f.wiring c.phase_fed-self.new.state p c.phase_fed-self.new.received c.phase_fed-self.result) (sym c.bytes.ensures.same)
-          ∙ c.phase_fed-self.ensures.rest
-          ∙ ap (λ (x : Phase). next_by (rest_at f.wiring f.state c.bytes.result.now f.received x) c.word-word.result c.counter-counter.result) c.replace-phase.ensures.value
-          ∙ ap (λ (p : List ℕ). next_by (rest_at f.wiring f.state p f.received f.phase) c.word-word.result c.counter-counter.result) c.bytes.ensures.same
-          ∙ ap (λ v. next_by s v c.counter-counter.result) c.word-word.ensures
-          ∙ ap (λ v. next_by s (word_in c.args.answer) v) c.counter-counter.ensures
+          ∙ c.phase_fed-self.ensures.rest (counter_in c.args.answer)
+          ∙ ap (λ (x : Phase). next_by (rest_at f.wiring f.state c.bytes.result.now f.received x) c.word-word.result (counter_in c.args.answer)) c.replace-phase.ensures.value
+          ∙ ap (λ (p : List ℕ). next_by (rest_at f.wiring f.state p f.received f.phase) c.word-word.result (counter_in c.args.answer)) c.bytes.ensures.same
+          ∙ ap (λ v. next_by s v (counter_in c.args.answer)) c.word-word.ensures
           ∙ fed_by s c.args.answer c.requires;
       wiring = refl;
     }

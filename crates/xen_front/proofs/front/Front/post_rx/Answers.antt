@@ -1,6 +1,6 @@
-use Rattle.std.proofs.Common.{◌≡◌, List, [], ◌∷◌, ℕ, take, get_or, refl, sym, ◌∙◌, ap, arith}
+use Rattle.std.proofs.Common.{◌≡◌, List, [], ◌∷◌, ℕ, take, get_or, refl, ◌∙◌, ap, arith}
 use Rattle.xen_front.specs.Fronts.{all_free}
-use Rattle.xen_front.specs.Rest.{posting, rest_at}
+use Rattle.xen_front.specs.Rest.{posting}
 use Rattle.xen_front.specs.Tree.{post}
 use Rattle.xen_front.specs.declared.state.Ring.{Ring}
 use Rattle.xen_front.proofs.BoundLemmas.{bounded_post}
@@ -21,14 +21,14 @@ returns-in-Some-get-clause-ok c =
     let found : c.in-Some-get.id.now ≡ get_or c.as_slice.result.now 0 0 = c.in-Some-get.ensures.lookup.3.1 0 in
     let id : c.in-Some-get.id.now ≡ get_or free 0 0 = found ∙ ap (λ (l : List ℕ). get_or l 0 0) (c.as_slice.ensures.value ∙ c.choose-ids.ensures) ∙ first_taken free in
     record {
-      rest = ap (λ (p : List ℕ). rest_at w (record s { rx = c.fly.new.ring }) p f.received c.begin_post-self.result) (sym c.bytes.ensures.same) ∙ c.begin_post-self.ensures.rest
+      rest = c.begin_post-self.ensures.rest (record s { rx = c.fly.new.ring }) f.sent f.received
           ∙ ap (λ (r : Ring). posting w (record s { rx = r }) c.in-Some-get.id.now s.rx.prod 0) c.fly.ensures
           ∙ ap (λ (i : ℕ). post w s i) id;
       wiring = refl;
     }
 
-pub invariant_of-self-in-Some-get-clause-short : goal.invariant_of-self-in-Some-get-clause-short
-invariant_of-self-in-Some-get-clause-short c =
+pub invariant_of-self-clause-short : goal.invariant_of-self-clause-short
+invariant_of-self-clause-short c =
     let f = c.args.self.now in
     let w = f.wiring in
     let s = f.state in
@@ -36,6 +36,6 @@ invariant_of-self-in-Some-get-clause-short c =
     let found : c.in-Some-get.id.now ≡ get_or c.as_slice.result.now 0 0 = c.in-Some-get.ensures.lookup.3.1 0 in
     let id : c.in-Some-get.id.now ≡ get_or free 0 0 = found ∙ ap (λ (l : List ℕ). get_or l 0 0) (c.as_slice.ensures.value ∙ c.choose-ids.ensures) ∙ first_taken free in
     short_begun w (record s { rx = c.fly.new.ring }) f.sent f.received c.begin_post-self.result (post w s (get_or free 0 0)) 7 f.wired (omega arith) (bounded_post w f.wired s (get_or free 0 0) (first_id s.rx.out))
-    (ap (λ (p : List ℕ). rest_at w (record s { rx = c.fly.new.ring }) p f.received c.begin_post-self.result) (sym c.bytes.ensures.same) ∙ c.begin_post-self.ensures.rest
+    (c.begin_post-self.ensures.rest (record s { rx = c.fly.new.ring }) f.sent f.received
     ∙ ap (λ (r : Ring). posting w (record s { rx = r }) c.in-Some-get.id.now s.rx.prod 0) c.fly.ensures
     ∙ ap (λ (i : ℕ). post w s i) id)

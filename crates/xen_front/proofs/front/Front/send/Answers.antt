@@ -6,7 +6,6 @@ use Rattle.xen_front.specs.Slots.{pieces_of, send_writes}
 use Rattle.xen_front.specs.Tree.{flown, publish, send}
 use Rattle.xen_steps.specs.Places.{add32}
 use Rattle.xen_front.specs.declared.turn.Halt.{Halt}
-use Rattle.xen_front.specs.Rest.{rest_at}
 use Rattle.xen_front.specs.declared.state.Ring.{Ring}
 use Rattle.xen_front.proofs.BoundLemmas.{bounded_send}
 use Rattle.xen_front.proofs.IdLemmas.{chosen_few, chosen_ids}
@@ -62,17 +61,16 @@ returns-clause-ok c =
     let taken : c.len.result ≡ length (take n free) = c.len.ensures.value ∙ ap length ids in
     let enough : n ≤ length (take n free) = rw (sym taken) (rw (sym c.pieces_of-n.ensures.value) c.if-len-n.false) in
     let state : c.fly.new.ring ≡ flown s.tx (take n free) = c.fly.ensures ∙ ap (flown s.tx) (c.as_slice.ensures.value ∙ ids) in
-    let bytes : c.bytes.result.now ≡ c.args.bytes.now = c.bytes.ensures.same ∙ c.fill.ensures in
     record {
-      rest = ap (λ (p : List ℕ). rest_at w (record s { tx = c.fly.new.ring }) p f.received c.first_piece-self.result) (sym c.bytes.ensures.same) ∙ c.first_piece-self.ensures.rest
-          ∙ ap (λ (p : List ℕ). write_all (send_writes w s.tx.prod p (length c.choose-ids.result.items) 0 c.choose-ids.result.items) (publish w w.tx_frame s.tx.prod (add32 s.tx.prod (length c.choose-ids.result.items)) (record s { tx = c.fly.new.ring }))) bytes
+      rest = c.first_piece-self.ensures.rest (record s { tx = c.fly.new.ring }) c.fill.new.self f.received
+          ∙ ap (λ (p : List ℕ). write_all (send_writes w s.tx.prod p (length c.choose-ids.result.items) 0 c.choose-ids.result.items) (publish w w.tx_frame s.tx.prod (add32 s.tx.prod (length c.choose-ids.result.items)) (record s { tx = c.fly.new.ring }))) c.fill.ensures
           ∙ ap (λ (l : List ℕ). write_all (send_writes w s.tx.prod c.args.bytes.now (length l) 0 l) (publish w w.tx_frame s.tx.prod (add32 s.tx.prod (length l)) (record s { tx = c.fly.new.ring }))) ids
           ∙ ap (λ (r : Ring). write_all (send_writes w s.tx.prod c.args.bytes.now (length (take n free)) 0 (take n free)) (publish w w.tx_frame s.tx.prod (add32 s.tx.prod (length (take n free))) (record s { tx = r }))) state;
       wiring = refl;
     }
 
-pub invariant_of-self-2-clause-short : goal.invariant_of-self-2-clause-short
-invariant_of-self-2-clause-short c =
+pub invariant_of-self-clause-short : goal.invariant_of-self-clause-short
+invariant_of-self-clause-short c =
     let f = c.args.self.now in
     let w = f.wiring in
     let s = f.state in
@@ -82,12 +80,11 @@ invariant_of-self-2-clause-short c =
     let taken : c.len.result ≡ length (take n free) = c.len.ensures.value ∙ ap length ids in
     let enough : n ≤ length (take n free) = rw (sym taken) (rw (sym c.pieces_of-n.ensures.value) c.if-len-n.false) in
     let state : c.fly.new.ring ≡ flown s.tx (take n free) = c.fly.ensures ∙ ap (flown s.tx) (c.as_slice.ensures.value ∙ ids) in
-    let bytes : c.bytes.result.now ≡ c.args.bytes.now = c.bytes.ensures.same ∙ c.fill.ensures in
     let few : n ≤ 16 = rw (sym c.pieces_of-n.ensures.value) c.pieces_of-n.ensures.few in
     short_begun w (record s { tx = c.fly.new.ring }) c.fill.new.self f.received c.first_piece-self.result (send w s c.args.bytes.now (take n free)) 16467 f.wired (omega arith)
     (bounded_send w f.wired s c.args.bytes.now (take n free) (chosen_few n s.tx.out few) (chosen_ids n s.tx.out))
-    (ap (λ (p : List ℕ). rest_at w (record s { tx = c.fly.new.ring }) p f.received c.first_piece-self.result) (sym c.bytes.ensures.same) ∙ c.first_piece-self.ensures.rest
-    ∙ ap (λ (p : List ℕ). write_all (send_writes w s.tx.prod p (length c.choose-ids.result.items) 0 c.choose-ids.result.items) (publish w w.tx_frame s.tx.prod (add32 s.tx.prod (length c.choose-ids.result.items)) (record s { tx = c.fly.new.ring }))) bytes
+    (c.first_piece-self.ensures.rest (record s { tx = c.fly.new.ring }) c.fill.new.self f.received
+    ∙ ap (λ (p : List ℕ). write_all (send_writes w s.tx.prod p (length c.choose-ids.result.items) 0 c.choose-ids.result.items) (publish w w.tx_frame s.tx.prod (add32 s.tx.prod (length c.choose-ids.result.items)) (record s { tx = c.fly.new.ring }))) c.fill.ensures
     ∙ ap (λ (l : List ℕ). write_all (send_writes w s.tx.prod c.args.bytes.now (length l) 0 l) (publish w w.tx_frame s.tx.prod (add32 s.tx.prod (length l)) (record s { tx = c.fly.new.ring }))) ids
     ∙ ap (λ (r : Ring). write_all (send_writes w s.tx.prod c.args.bytes.now (length (take n free)) 0 (take n free)) (publish w w.tx_frame s.tx.prod (add32 s.tx.prod (length (take n free))) (record s { tx = r }))) state)
 

@@ -12,6 +12,6 @@ pub returns-clause-within : goal.returns-clause-within
 returns-clause-within c = λ asks.
     let f = c.args.self.now in
     let w = f.wiring in
-    let is : c.phase_want.result ≡ want_of (rest f) = c.phase_want.ensures ∙ ap (λ (p : List ℕ). want_of (rest_at w f.state p f.received f.phase)) c.bytes.ensures.same in
+    let is : c.phase_want.result ≡ want_of (rest f) = c.phase_want.ensures f.received ∙ ap (λ (p : List ℕ). want_of (rest_at w f.state p f.received f.phase)) c.bytes.ensures.same in
     subst (λ (v : Want). IsPageWant w.frames v) (sym is)
     (bounded_want (IsPageWant w.frames) Any (rest f) 17000 (short_opened w f.state f.sent f.received f.phase f.short) (λ over. asks (is ∙ over)))

@@ -12,7 +12,7 @@ pub returns : goal.returns
 returns c =
     let f = c.args.self.now in
     let w = f.wiring in
-    let is : c.phase_want.result ≡ want_of (rest f) = c.phase_want.ensures ∙ ap (λ (p : List ℕ). want_of (rest_at w f.state p f.received f.phase)) c.bytes.ensures.same in
+    let is : c.phase_want.result ≡ want_of (rest f) = c.phase_want.ensures f.received ∙ ap (λ (p : List ℕ). want_of (rest_at w f.state p f.received f.phase)) c.bytes.ensures.same in
     record {
       want = is;
       within = λ asks. subst (λ (v : Want). IsPageWant w.frames v) (sym is)

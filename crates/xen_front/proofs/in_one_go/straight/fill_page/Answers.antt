@@ -1,12 +1,11 @@
-use Rattle.std.proofs.Common.{◌≡◌, ◌<◌, ◌+◌, ◌*◌, ◌∷◌, [], ◌++◌, ℕ, List, length, sym, ap, ◌∙◌, arith, subst}
+use Rattle.std.proofs.Common.{◌∷◌, [], ℕ, List, sym, ap, ◌∙◌, subst}
 use Rattle.xen_page.specs.Access.{Performs}
 use Rattle.xen_page.specs.declared.access.Access.{Access}
 use Rattle.xen_page.specs.declared.access.Access.TheVariants as access
 use Rattle.xen_page.proofs.AccessLemmas.{performs_one, performs_then}
-use Rattle.xen_steps.specs.Pages.{PageWrite}
 use Rattle.xen_steps.specs.Places.{page_word}
 use Rattle.xen_front.specs.Rest.{id_of}
-use Rattle.xen_front.specs.Slots.{buffer, page_writes, piece_words, word_at}
+use Rattle.xen_front.specs.Slots.{buffer, page_writes}
 use Rattle.xen_front.specs.Straight.{touched}
 use Rattle.xen_front.proofs.StraightLemmas.{page_write, page_writes_more, touched-append}
 use Rattle.xen_front.proofs.in_one_go.straight.fill_page.Goals as goal

@@ -1,10 +1,9 @@
-use Rattle.std.proofs.Common.{◌≡◌, ℕ, ◌∷◌, [], ◌++◌, List, length, sym, ap, ◌∙◌, subst}
-use Rattle.xen_netif.specs.Words.{joined}
+use Rattle.std.proofs.Common.{ℕ, ◌++◌, List, length, sym, ◌∙◌, subst}
 use Rattle.xen_page.specs.Access.{Performs}
 use Rattle.xen_page.specs.declared.access.Access.{Access}
 use Rattle.xen_page.proofs.AccessLemmas.{performs_then}
 use Rattle.xen_front.specs.Rest.{id_of, pieces}
-use Rattle.xen_front.specs.Slots.{buffer, filling, grant_writes, page_writes, piece_words, slot_writes}
+use Rattle.xen_front.specs.Slots.{buffer, grant_writes, page_writes, piece_words, slot_writes}
 use Rattle.xen_front.specs.Straight.{AreOnBus, touched}
 use Rattle.xen_front.proofs.StraightLemmas.{first_on_bus, second_on_bus, touched-append}
 use Rattle.xen_front.proofs.in_one_go.straight.write_piece.Goals as goal
