@@ -6,8 +6,6 @@ ghost use Rattle.xdp_commands.specs.Answer.{AnswerTo, ExecAnswer, ExplainAnswer,
 ghost use Rattle.xdp_commands.specs.Answer.{PairAnswer, PlacedAnswer, Reads, RefusedAnswer, RefusedTo, RunAnswer, SettingsAnswer, SetupAnswer};
 ghost use Rattle.xdp_commands.specs.Answer.{checked_answer, executed_answer, hex_bytes, program_status, settings_refused};
 ghost use Rattle.xdp_commands.specs.Answer.{Takes, TakesAtMost, words_refused};
-ghost use Rattle.xdp_load.specs.declared.fault.Fault.{Fault};
-ghost use Rattle.xdp_load.specs.declared.fault.LoadFault.TheVariants as LoadFault;
 ghost use Rattle.xdp_commands.specs.Words as wanted;
 ghost use Rattle.xdp_commands.specs.Seen.{said_of, wanted_of};
 
@@ -257,29 +255,14 @@ fn fault_answer(
     }
 }
 
-/// The answer to settings that were not loaded.
-fn refused_answer(
-    alloc: Global,
-    question: Question,
-    settings: &[u8],
-    fault: LoadFault,
-) -> Result<Answer, AllocError>
-    ensures memory { fault ≡ LoadFault.Memory → IfOk result (λ a. said_of a ≡ settings_refused LoadFault.Memory) }
-    ensures refused { (f : Fault) → fault ≡ LoadFault.Refused f → IfOk result (λ a. RefusedTo question settings.now f (said_of a)) }
-{
-    match fault {
-        LoadFault::Memory => settings_refused(alloc, fault),
-        LoadFault::Refused(fault) => fault_answer(alloc, question, settings, fault),
-    }
-}
-
 /// The answer to settings.
 fn settings_answer(alloc: Global, question: Question, settings: &[u8]) -> Result<Answer, AllocError>
     ensures { IfOk result (λ a. SettingsAnswer (AnswerTo question) (RefusedTo question) settings.now (said_of a)) }
 {
     match load(alloc, settings) {
         Ok(setup) => setup_answer(alloc, question, &setup),
-        Err(fault) => refused_answer(alloc, question, settings, fault),
+        Err(LoadFault::Memory) => settings_refused(alloc, LoadFault::Memory),
+        Err(LoadFault::Refused(fault)) => fault_answer(alloc, question, settings, fault),
     }
 }
 
