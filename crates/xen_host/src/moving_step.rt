@@ -18,6 +18,7 @@ use xen_steps::{header, rx_entry};
 use xen_transmit::{buffer_frame, packet_word, response as rx_response, words_of};
 
 /// Where a packet is after what it wanted.
+#[inline(always)]
 pub(crate) fn moving_fed(wires: &Wires, rx_index: u32, moving: Moving, words: &[u32]) -> Moved
     requires { 1024 ≤ length words.now }
     ensures rest { rest_moved (vif_of wires.now) rx_index result
