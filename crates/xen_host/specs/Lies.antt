@@ -1,5 +1,5 @@
 -- Where the slots of a chain lie.
-use Rattle.std.specs.Prelude.{ℕ, ◌≡◌, false, List, [], ◌∷◌}
+use Rattle.std.specs.Prelude.{◌≡◌, false, List, [], ◌∷◌}
 use Rattle.xen_netif.specs.Chain.{Slot, extra_info, more_data}
 use Rattle.xen_host.specs.declared.slots.Lie.{Lie}
 use Rattle.xen_host.specs.declared.slots.Lie.TheVariants as lie

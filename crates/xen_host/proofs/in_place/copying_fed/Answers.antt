@@ -1,4 +1,4 @@
-use Rattle.std.proofs.Common.{◌≡◌, ◌/◌, ℕ, drop, refl, sym, ap, ◌∙◌, arith}
+use Rattle.std.proofs.Common.{◌/◌, drop, refl, sym, ap, ◌∙◌, arith}
 use Rattle.std.specs.Prelude.{slice_index}
 use Rattle.xen_steps.specs.Pages.{covered}
 use Rattle.xen_back.specs.Tree.{after_copy, copy}
