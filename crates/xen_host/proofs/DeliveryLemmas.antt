@@ -1,11 +1,11 @@
 -- A step of a delivery: it goes on, or is a row of the table of deliveries.
-use Rattle.std.proofs.Common.{◌≡◌, ℕ, List, [], ◌++◌, length, ◌≤◌, refl, sym, ap, ◌∙◌, subst}
+use Rattle.std.proofs.Common.{◌≡◌, ℕ, List, ◌++◌, length, refl, sym, ap, ◌∙◌, subst}
 use Rattle.std.specs.Prelude.{IsTrue, None}
 use Rattle.std.specs.Global.{Box}
 use Rattle.xen_transmit.specs.Wired.{IsWired}
 use Rattle.xen_steps.specs.Drive.{Gone, IsPageWant}
 use Rattle.xen_steps.specs.Event.{Event}
-use Rattle.xen_steps.specs.Steps.{Steps, bind}
+use Rattle.xen_steps.specs.Steps.{Steps}
 use Rattle.xen_steps.proofs.DriveLemmas.{gone_append, runs_of_gone}
 use Rattle.xen_steps.proofs.FinishLemmas.{finishes_gone}
 use Rattle.xen_back.specs.Delivered.{IsDelivery}

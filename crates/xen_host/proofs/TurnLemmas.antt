@@ -16,7 +16,6 @@ use Rattle.xen_steps.proofs.DriveLemmas.{occurs_read, occurs_write}
 use Rattle.xen_steps.proofs.FinishLemmas.{finishes_next, finishes_want}
 use Rattle.xen_transmit.specs.Packets.{words}
 use Rattle.xen_transmit.specs.Transmit.{fill, rx_answer, rx_respond}
-use Rattle.xen_transmit.specs.declared.by_event.phase.Outcome.{Outcome}
 use Rattle.xen_transmit.specs.declared.target.Target.{Target}
 use Rattle.xen_transmit.specs.declared.vif.Vif.{Vif}
 use Rattle.xen_back.specs.Deliveries.{Arrival}

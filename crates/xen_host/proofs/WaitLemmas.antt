@@ -4,7 +4,7 @@ use Rattle.std.specs.Prelude.{IsTrue, None, Option, Some, slice_index}
 use Rattle.std.specs.Global.{Box}
 use Rattle.xen_page.specs.declared.place.Place.{Place}
 use Rattle.xen_steps.specs.Event.{Event, Read, Write}
-use Rattle.xen_steps.specs.Places.{add32, page_word}
+use Rattle.xen_steps.specs.Places.{add32}
 use Rattle.xen_transmit.specs.Places.{rx_word}
 use Rattle.xen_transmit.specs.Wired.{IsWired}
 use Rattle.xen_transmit.specs.declared.vif.Vif.{Vif}
@@ -15,14 +15,12 @@ use Rattle.xen_back.specs.Within.{Completes}
 use Rattle.xen_back.specs.declared.delivery.awaiting.Awaited.{Awaited}
 use Rattle.xen_back.specs.declared.delivery.awaiting.Awaited.TheVariants as awaited
 use Rattle.xen_back.specs.declared.state.State.{State}
-use Rattle.xen_back.specs.declared.turn.Halt.{Halt}
 use Rattle.xen_back.specs.declared.wiring.Wiring.{Wiring}
 use Rattle.xen_host.specs.Comes.{Comes}
-use Rattle.xen_host.specs.Fed.{IsInPages}
 use Rattle.xen_host.specs.Queues.{IsWaitStep, IsWaitTakenAt, stage_of_wait}
 use Rattle.xen_host.specs.Rest.{is_there}
 use Rattle.xen_host.specs.Waits.{IsOnItsWay, IsWaitRow, IsWaitedOn, did_waiting, halted, looks, stores, told}
-use Rattle.xen_host.specs.Wired.{vif_of, wiring_of}
+use Rattle.xen_host.specs.Wired.{wiring_of}
 use Rattle.xen_host.specs.declared.op.Op.{Op}
 use Rattle.xen_host.specs.declared.op.Op.TheVariants as op
 use Rattle.xen_host.specs.declared.queue.Queue.{Queue}

@@ -1,5 +1,5 @@
 -- What is left of a transmit.
-use Rattle.std.specs.Prelude.{ℕ, ◌+◌, ◌*◌, true, length, drop, Some}
+use Rattle.std.specs.Prelude.{ℕ, ◌*◌, true, length, drop, Some}
 use Rattle.xen_steps.specs.Places.{add32}
 use Rattle.xen_steps.specs.Steps.{Steps, bind, done}
 use Rattle.xen_transmit.specs.Entries.{entry_at}

@@ -14,20 +14,19 @@ pub(crate) const NO_FLAGS: TxFlags = TxFlags {
     extra_info: false,
 };
 
-/// The flags after what a stage wanted. A turn begins with none, and its first slot has them.
-pub(crate) fn flags_after(stage: &Stage, words: &[u32], flags: TxFlags) -> TxFlags
+/// Notes the flags after what a stage wanted. A turn begins with none, and its first slot has them.
+#[inline(always)]
+pub(crate) fn note_flags(stage: &Stage, words: &[u32], flags: &mut TxFlags)
     requires { 1024 ≤ length words.now }
-    ensures { result ≡ flags_after stage.now words.now flags }
+    ensures { flags.new ≡ flags_after stage.now words.now flags.old }
 {
     match stage {
-        Stage::Ready(_) => NO_FLAGS,
+        Stage::Ready(_) => *flags = NO_FLAGS,
         Stage::Slot(reading) => {
             if reading.work.chain.is_empty() {
-                TxReq::of_words([words[0], words[1], words[2]]).flags
-            } else {
-                flags
+                *flags = TxReq::of_words([words[0], words[1], words[2]]).flags;
             }
         }
-        _ => flags,
+        _ => {}
     }
 }

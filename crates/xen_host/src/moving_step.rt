@@ -5,6 +5,7 @@ ghost use Rattle.xen_host.specs.Fed.{IsAccess, answers_moving, asked_by, asked_o
 ghost use Rattle.xen_host.specs.Moves.{rest_moved, rest_moving, work_in, work_moved};
 ghost use Rattle.xen_host.specs.Wired.{vif_of};
 
+use crate::filling::put_words;
 use crate::moving::{Filling, Moved, Moving, Replying};
 use crate::op::Op;
 use crate::sending::{
@@ -15,9 +16,10 @@ use crate::wires::Wires;
 use xen_page::Place;
 use xen_ring::{REQ_PROD, RSP_EVENT, RSP_PROD};
 use xen_steps::{header, rx_entry};
-use xen_transmit::{buffer_frame, packet_word, response as rx_response, words_of};
+use xen_transmit::{buffer_frame, response as rx_response, words_of};
 
 /// Where a packet is after what it wanted.
+#[inline(always)]
 pub(crate) fn moving_fed(wires: &Wires, rx_index: u32, moving: Moving, words: &[u32]) -> Moved
     requires { 1024 ≤ length words.now }
     ensures rest { rest_moved (vif_of wires.now) rx_index result
@@ -55,9 +57,7 @@ fn fill_want(wires: &Wires, rx_index: u32, filling: &Filling, words: &mut [u32])
     let bytes = filling.work.packet.bytes();
     let from = 1024 * filling.i;
     let to = words_of(bytes).min(from + 1024);
-    for k in from..to {
-        words[(k - from) as usize] = packet_word(bytes, k);
-    }
+    put_words(bytes, from, to - from, words);
     Op::Write {
         at: Place {
             frame: buffer_frame(&filling.work.targets, filling.i),

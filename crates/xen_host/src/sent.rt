@@ -18,6 +18,7 @@ use xen_netif::Status;
 use xen_transmit::Outcome;
 
 /// A turn whose packet is sent back, or whose packet was.
+#[inline(always)]
 pub(crate) fn sent_on(wires: &Wires, state: &State, moved: Moved, ops: u32) -> Stage
     ensures here { IsTrue (is_here result) }
     ensures rest { rest_in (wiring_of wires.now) state.now result ≡ bind (rest_moved (vif_of wires.now) state.now.rx_index moved)

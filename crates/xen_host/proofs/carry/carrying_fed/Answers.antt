@@ -1,7 +1,7 @@
 use Rattle.std.proofs.Common.{ap, sym, ◌∙◌}
 use Rattle.xen_steps.specs.Steps.{Steps, bind}
 use Rattle.xen_transmit.specs.declared.by_event.phase.Outcome.{Outcome}
-use Rattle.xen_back.specs.Deliveries.{arrived, if_frame, unless_halted}
+use Rattle.xen_back.specs.Deliveries.{arrived}
 use Rattle.xen_host.specs.Carries.{answers_carrying, rest_carrying}
 use Rattle.xen_host.specs.Fed.{answers_moving, fed}
 use Rattle.xen_host.specs.Moves.{rest_moving}

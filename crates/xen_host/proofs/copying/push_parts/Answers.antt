@@ -1,5 +1,5 @@
 use Rattle.std.proofs.Common.{◌≡◌, ◌+◌, ◌<◌, ◌++◌, [], ◌∷◌, length, take, length-append, append-nil, append_assoc, refl, sym, ◌∙◌, ap, arith, subst, get_or}
-use Rattle.std.proofs.lemmas.List.{length-take, take_all, take_more}
+use Rattle.std.proofs.lemmas.List.{length-take, take_more}
 use Rattle.xen_netif.specs.Copy.{Covers, bytes_from, bytes_in}
 use Rattle.xen_steps.specs.Pages.{HasRoom}
 use Rattle.xen_steps.proofs.CopyLemmas.{bytes_short, room_at_end, room_goes_on}

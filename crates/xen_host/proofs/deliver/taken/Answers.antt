@@ -3,7 +3,6 @@ use Rattle.std.specs.Prelude.{Some}
 use Rattle.xen_back.specs.declared.state.State.{State}
 use Rattle.xen_host.specs.Queues.{between}
 use Rattle.xen_host.specs.declared.stage.Stage.{Stage}
-use Rattle.xen_host.proofs.DeliveryLemmas.{busy_between}
 use Rattle.xen_host.proofs.deliver.taken.Goals as goal
 
 pub returns-then-can_be_delivered : goal.returns-then-can_be_delivered

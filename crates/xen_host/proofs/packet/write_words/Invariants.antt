@@ -1,4 +1,4 @@
-use Rattle.std.proofs.Common.{◌≡◌, ◌*◌, ◌++◌, length, take, drop}
+use Rattle.std.proofs.Common.{◌≡◌, ◌*◌, length, take}
 use Rattle.xen_netif.specs.Copy.{bytes_of}
 use Rattle.xen_host.proofs.packet.write_words.Given as goal
 

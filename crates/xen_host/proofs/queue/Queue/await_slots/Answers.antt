@@ -1,7 +1,6 @@
-use Rattle.std.proofs.Common.{◌≡◌, refl, subst, sym}
+use Rattle.std.proofs.Common.{subst, sym}
 use Rattle.std.specs.Prelude.{IsTrue}
 use Rattle.xen_host.specs.Comes.{Comes}
-use Rattle.xen_host.specs.Queues.{IsWaitTakenAt}
 use Rattle.xen_host.specs.Rest.{is_there}
 use Rattle.xen_host.specs.declared.stage.Stage.{Stage}
 use Rattle.xen_host.proofs.WaitLemmas.{wait_taken_comes, wait_taken_there}

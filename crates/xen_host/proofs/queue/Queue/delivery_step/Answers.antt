@@ -1,4 +1,4 @@
-use Rattle.std.proofs.Common.{◌≡◌, ◌∙◌, ap, length, refl, subst, sym}
+use Rattle.std.proofs.Common.{◌≡◌, ◌∙◌, length, refl, subst, sym}
 use Rattle.xen_host.specs.Carries.{rest_carrying}
 use Rattle.xen_host.specs.Queues.{task_of}
 use Rattle.xen_host.specs.Wired.{vif_of}

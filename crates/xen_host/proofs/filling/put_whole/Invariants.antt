@@ -1,0 +1,10 @@
+use Rattle.std.proofs.Common.{◌≡◌, length, take}
+use Rattle.xen_host.specs.Filling.{packet_words}
+use Rattle.xen_host.proofs.filling.put_whole.Given as goal
+
+abbrev pub invariant-loop-n : goal.invariant-loop-n
+invariant-loop-n l =
+    record {
+      width : length l.words ≡ length l.fn.words;
+      wrote : take l.n l.words ≡ packet_words l.bytes l.from l.n;
+    }
