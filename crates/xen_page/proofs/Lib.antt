@@ -1,4 +1,5 @@
 pub mod AccessLemmas
 pub mod TableLemmas
+pub mod ExtentLemmas
 pub mod MappingLemmas
 pub mod RewriteLemmas

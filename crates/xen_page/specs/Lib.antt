@@ -8,3 +8,4 @@ pub mod Entry
 pub mod Grant
 pub mod Table
 pub mod Mapping
+pub mod Owned

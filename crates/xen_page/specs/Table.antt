@@ -4,10 +4,14 @@ use Rattle.std.specs.Prelude.{ℕ, ◌≤◌, ◌*◌, ◌/◌, ◌%◌, List, l
 use Rattle.xen_page.specs.Grant.{owns}
 use Rattle.xen_page.specs.declared.place.Place.{Place}
 
--- one to sixteen frames, which exist and are the granter's
+-- one to sixty-four frames, which exist and are the granter's
 abbrev pub IsTable : List ℕ → ℕ → List ℕ → Type 0
 IsTable owners granter frames =
-    (1 ≤ length frames) × (length frames ≤ 16) × All (λ frame. IsTrue (owns owners granter frame)) frames
+    (1 ≤ length frames) × (length frames ≤ 64) × All (λ frame. IsTrue (owns owners granter frame)) frames
+
+-- such a table of at most sixteen
+abbrev pub IsSmallTable : List ℕ → ℕ → List ℕ → Type 0
+IsSmallTable owners granter frames = (length frames ≤ 16) × IsTable owners granter frames
 
 abbrev pub place_in : Option ℕ → ℕ → Option Place
 place_in None gref = None
