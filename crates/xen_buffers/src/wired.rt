@@ -23,7 +23,7 @@ fn are_in_table(table: &Table, buffers: &[Buffer]) -> bool
 
 impl FrontDesc<'_> {
     /// All frames that the front uses.
-    fn own_frames(&self) -> ArrayVec<u32, 530>
+    fn own_frames(&self) -> ArrayVec<u32, 578>
         requires tx { length self.now.tx.now ≡ 256 }
         requires rx { length self.now.rx.now ≡ 256 }
         ensures { result.items ≡ frames_of (wiring_in self.now) }

@@ -1,5 +1,6 @@
 mod buses;
 mod entries;
+mod extents;
 mod growth;
 mod mappings;
 mod tables;

@@ -3,7 +3,7 @@
 
 use crate::bench::FRONT;
 use std::test::Fail;
-use xen_page::{Bus, Frames, Owners, Place, Recorder, ScriptBus};
+use xen_page::{Bus, Extent, Frames, Owners, OwnersFault, Place, Recorder, ScriptBus};
 
 const WORD: Place = Place { frame: 0, word: 5 };
 
@@ -18,6 +18,24 @@ fn owners_are_made_again(rt: HostRuntime) -> Result<(), Fail> {
         }
     };
     assert_eq!(rt; owners.of(1), Some(FRONT));
+    Ok(())
+}
+
+#[test]
+fn owners_of_extents_are_made_again(rt: HostRuntime) -> Result<(), Fail> {
+    let extents = [Extent {
+        frames: 9000,
+        domain: FRONT,
+    }];
+    let owners = match Owners::of_extents(rt.alloc(), &extents) {
+        Ok(owners) => owners,
+        Err(fault) => {
+            assert_eq!(rt; fault, OwnersFault::Memory);
+            println!(rt; "refused")?;
+            Owners::of_extents(rt.alloc(), &extents).map_err(|_| "refused twice")?
+        }
+    };
+    assert_eq!(rt; owners.of(8999), Some(FRONT));
     Ok(())
 }
 

@@ -11,11 +11,11 @@ invariant-loop-frame l = record {
 abbrev pub invariant-loop-tx : goal.invariant-loop-tx
 invariant-loop-tx l = record {
   made : l.frames.items ≡ l.self.tx_frame ∷ l.self.rx_frame ∷ (l.self.table.now ++ map frame_of (take l.tx-index l.self.tx.now));
-  few : length l.frames.items ≤ 18 + l.tx-index;
+  few : length l.frames.items ≤ 66 + l.tx-index;
 }
 
 abbrev pub invariant-loop-rx : goal.invariant-loop-rx
 invariant-loop-rx l = record {
   made : l.frames.items ≡ l.self.tx_frame ∷ l.self.rx_frame ∷ (l.self.table.now ++ (map frame_of l.self.tx.now ++ map frame_of (take l.rx-index l.self.rx.now)));
-  few : length l.frames.items ≤ 274 + l.rx-index;
+  few : length l.frames.items ≤ 322 + l.rx-index;
 }
