@@ -3,7 +3,8 @@ ghost use Rattle.std.specs.Prelude.{◌≡◌, ◌≤◌, IfOk, IfErr, Some, len
 ghost use Rattle.xdp_load.specs.SetupSeen.{setup_view};
 ghost use Rattle.xdp_load.specs.Sound.{IsSound};
 ghost use Rattle.xdp_commands.specs.Answer.{AnswerTo, ExecAnswer, ExplainAnswer, FilterAnswer, InputAnswer, IsAnswer, PacketAnswer};
-ghost use Rattle.xdp_commands.specs.Answer.{PairAnswer, PlacedAnswer, Reads, RefusedAnswer, RefusedTo, RunAnswer, SettingsAnswer, SetupAnswer};
+ghost use Rattle.xdp_commands.specs.Answer.{PairAnswer, PlacedAnswer, Reads, RefusedAnswer, RefusedTo, RunAnswer};
+ghost use Rattle.xdp_commands.specs.Answer.{SettingsAnswer, SetupAnswer};
 ghost use Rattle.xdp_commands.specs.Answer.{checked_answer, executed_answer, hex_bytes, program_status, settings_refused};
 ghost use Rattle.xdp_commands.specs.Answer.{Takes, TakesAtMost, words_refused};
 ghost use Rattle.xdp_commands.specs.Words as wanted;

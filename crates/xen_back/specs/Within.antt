@@ -1,4 +1,5 @@
 -- What a queue may want: words of the frames, and counters of the maps.
+use mathlib.Core.Path.{fun_ext}
 use Rattle.std.specs.Prelude.{ℕ, ◌<◌, List, length, Option, Some, None, slice_get}
 use Rattle.std.specs.Coded.{×_prop, Unit-prop, le_prop}
 use Rattle.bpf_note.specs.Shape.{Shape, IsCounter, IsWithin as IsWithinMap}
@@ -6,7 +7,9 @@ use Rattle.xen_steps.specs.declared.want.Want.{Want}
 use Rattle.xen_steps.specs.declared.want.Want.TheVariants as want
 use Rattle.xen_steps.specs.Finish.{Finishes, Finishes-prop}
 use Rattle.xen_steps.specs.Steps.{Steps}
+use Rattle.xen_back.specs.Tree.{whole_turn}
 use Rattle.xen_back.specs.Turned.{Ending}
+use Rattle.xen_back.specs.declared.state.State.{State}
 use Rattle.xen_back.specs.declared.wiring.Wiring.{Wiring}
 
 -- The want's place is within so many frames, and its counter is one of the maps'.
@@ -42,3 +45,10 @@ Completes w s = Finishes (may_want w) s
 
 pub Completes-prop : (w : Wiring) (s : Steps Ending) → IsProp (Completes w s)
 Completes-prop w s = Finishes-prop (may_want w) (IsWithin-prop (length w.vif.owners.now) w.program.now.shapes) s
+
+-- So does each turn, whatever state it begins in.
+abbrev pub TurnsComplete : Wiring → Type 0
+TurnsComplete w = (s : State) → Completes w (whole_turn w s)
+
+pub TurnsComplete-prop : (w : Wiring) → IsProp (TurnsComplete w)
+TurnsComplete-prop w = λ x y. fun_ext (λ (s : State). Completes-prop w (whole_turn w s) (x s) (y s))

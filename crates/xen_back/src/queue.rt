@@ -3,12 +3,9 @@
 mod calls;
 mod making;
 
-ghost use mathlib.Core.Path.{fun_ext};
 ghost use Rattle.std.specs.Prelude.{IsTrue};
 ghost use Rattle.xen_back.specs.Rest.{is_here, rest_in};
-ghost use Rattle.xen_back.specs.Tree.{whole_turn};
-ghost use Rattle.xen_back.specs.Within.{Completes, Completes-prop};
-ghost use Rattle.xen_back.specs.declared.state.State.{State};
+ghost use Rattle.xen_back.specs.Within.{Completes, Completes-prop, TurnsComplete, TurnsComplete-prop};
 ghost use Rattle.xen_transmit.specs.Wired.{IsWired};
 
 use crate::by_event::stage::Stage;
@@ -26,6 +23,6 @@ pub struct Queue<'p, 'b> {
     pub(crate) stage: Stage<'p, 'b>,
     ghost here: { IsTrue (is_here stage) },
     ghost wired: { IsWired wiring.vif },
-    ghost turns: { (s : State) → Completes wiring (whole_turn wiring s) } by { λ x y. fun_ext (λ (s : State). Completes-prop wiring (whole_turn wiring s) (x s) (y s)) },
+    ghost turns: { TurnsComplete wiring } by { TurnsComplete-prop wiring },
     ghost left: { Completes wiring (rest_in wiring state stage) } by { Completes-prop wiring (rest_in wiring state stage) },
 }
