@@ -1,12 +1,12 @@
-//! What becomes of the packets that come to a front.
+//! Where the packets go that come to a front.
 
-/// Is given each packet that comes to a front, in order: those that the program sent back, and the host's answers.
+/// Takes the packets that come to a front, in order: those that the program sent back, and the host's answers.
 pub trait Inbox {
-    /// A packet came to the front of queue number `queue`, which goes on once this returns.
+    /// Takes a packet that came to the front of queue number `queue`. The front goes on once this returns.
     fn take(&self, queue: usize, packet: &[u8]);
 }
 
-/// Leaves them.
+/// An inbox that keeps no packet.
 #[derive(Drop)]
 pub struct Discard;
 
