@@ -1,8 +1,10 @@
 -- Which words a turn reads, in order, and that it reads each once.
-use Rattle.std.specs.Prelude.{ℕ, zero, suc, ◌≡◌, ◌≢◌, ◌≤◌, ◌+◌, ◌/◌, ◌⊎◌, Bool, List, [], ◌∷◌, ◌++◌, Option, None, Some, Ok, length}
+use Rattle.std.specs.Prelude.{ℕ, zero, suc, ◌≡◌, ◌≢◌, ◌<◌, ◌≤◌, ◌+◌, ◌/◌, ◌⊎◌, Bool, List, [], ◌∷◌, ◌++◌, Option, None, Some, Ok, Err, length}
+use Rattle.std.specs.List.{Contains}
 use Rattle.xen_netif.specs.Chain.{Slot}
 use Rattle.xen_netif.specs.Copy.{covered}
 use Rattle.xen_netif.specs.Fragments.{fragments_of}
+use Rattle.xen_netif.specs.declared.fault.SizeFault.{SizeFault}
 use Rattle.xen_netif.specs.declared.fragment.Fragment.{Fragment}
 use Rattle.xen_page.specs.Mapping.{frame_place}
 use Rattle.xen_page.specs.Table.{entry_place}
@@ -14,9 +16,11 @@ use Rattle.xen_transmit.specs.Places.{rx_slot, rx_word, tx_slot, tx_word}
 use Rattle.xen_transmit.specs.Sending.{AreTargets}
 use Rattle.xen_transmit.specs.declared.target.Target.{Target}
 use Rattle.xen_back.specs.Parts.{HasRead, IsCopy, slots_reads}
-use Rattle.xen_back.specs.Turned.{Turned, Ran, Refused}
+use Rattle.xen_back.specs.Turned.{Turned, Idle, Ran, Refused, Halted}
 use Rattle.xen_back.specs.Turns.{IsTurn}
 use Rattle.xen_back.specs.declared.state.State.{State}
+use Rattle.xen_back.specs.declared.turn.Halt.{Halt}
+use Rattle.xen_back.specs.declared.turn.Halt.TheVariants as halt
 use Rattle.xen_back.specs.declared.turn.Refusal.TheVariants as refusal
 use Rattle.xen_back.specs.declared.wiring.Wiring.{Wiring}
 
@@ -63,10 +67,19 @@ abbrev pub SlotsOnce : Type 0
 SlotsOnce = (w : Wiring) (s : State) (n : ℕ) (look p : List Event) (slots : List Slot) → HasRead w s n look p slots →
     (places_read p ≡ slot_places w s.tx_index 0 (length slots)) × AreDistinct (places_read p)
 
--- Of the fragments that are copied each entry's words and each covered word are read, one after another.
+-- Each frame is what the second word of its fragment's entry was answered.
+abbrev pub AreGranted : Wiring → List Fragment → List ℕ → List Event → Type 0
+AreGranted w fs [] p = Unit {0}
+AreGranted w [] (frame ∷ frames) p = ⊥
+AreGranted w (f ∷ fs) (frame ∷ frames) p =
+    ((at : Place) × (entry_place w.vif.table.now f.gref ≡ Some at) × Contains p (Read (frame_place at) frame)) × AreGranted w fs frames p
+
+-- Of the fragments that are copied each entry's words and each covered word are read, one after another: of all of them, or up to one
+-- whose entry grants nothing.
 abbrev pub FragmentsOnce : Type 0
 FragmentsOnce = (w : Wiring) (fs : List Fragment) (p : List Event) (out : Option (List ℕ)) → IsCopy w fs p out →
-    (frames : List ℕ) × (places_read p ≡ copy_places w fs frames) × (out ≢ None → length frames ≡ length fs)
+    (frames : List ℕ) × (places_read p ≡ copy_places w fs frames) × AreGranted w fs frames p
+    × (out ≢ None → length frames ≡ length fs) × (out ≡ None → length frames < length fs)
 
 -- the two words of each of so many rx slots, the first of them the i-th from x, and of each its entry's words
 abbrev pub target_places : Wiring → ℕ → ℕ → List ℕ → List Place
@@ -75,10 +88,15 @@ target_places w x i (gref ∷ grefs) =
     rx_slot w.vif (add32 x i) 0 ∷ rx_slot w.vif (add32 x i) 1
     ∷ (entry_places (entry_place w.vif.table.now gref) ++ target_places w x (i + 1) grefs)
 
+-- Each reference is what the second word of its rx slot was answered, of slots of which the first is the i-th from x.
+abbrev pub ArePosted : Wiring → ℕ → ℕ → List ℕ → List Event → Type 0
+ArePosted w x i [] p = Unit {0}
+ArePosted w x i (gref ∷ grefs) p = Contains p (Read (rx_slot w.vif (add32 x i) 1) gref) × ArePosted w x (i + 1) grefs p
+
 -- Of the rx slots that a transmit takes both words are read, and its entry's words, one after another and nothing else.
 abbrev pub TargetsOnce : Type 0
 TargetsOnce = (w : Wiring) (x i left : ℕ) (p : List Event) (ok : Bool) (ts : List Target) → AreTargets w.vif x i left p ok ts →
-    (grefs : List ℕ) × (length grefs ≡ length ts) × (places_read p ≡ target_places w x i grefs)
+    (grefs : List ℕ) × (length grefs ≡ length ts) × (places_read p ≡ target_places w x i grefs) × ArePosted w x i grefs p
 
 -- The covered words of one frame are different words.
 abbrev pub CoveredDistinct : Type 0
@@ -97,33 +115,73 @@ PostedDistinct = (w : Wiring) (x n : ℕ) → n ≤ 256 → AreDistinct (posted_
 abbrev pub sent_places : Wiring → ℕ → List ℕ → List Place
 sent_places w x grefs = rx_word w.vif 0 ∷ (target_places w x 0 grefs ++ rx_word w.vif 3 ∷ [])
 
--- All that a turn reads: the producer once or twice, the slots, whose words are what these reads were answered, the fragments, and what is
--- read last.
-pub record TurnReads (w : Wiring) (s : State) (p : List Event) (count : ℕ) (last : List Place) : Type 0 where
+-- The producer is read, and once more if it showed nothing.
+abbrev pub AreLooks : Wiring → List Place → Type 0
+AreLooks w places = (places ≡ tx_word w.vif 0 ∷ []) ⊎ (places ≡ tx_word w.vif 0 ∷ tx_word w.vif 0 ∷ [])
+
+-- All that a turn reads in which slots are read: the producer once or twice, the slots, whose words are what these reads were answered,
+-- and then these places.
+pub record SlotsRead (w : Wiring) (s : State) (p : List Event) (slots : List Slot) (rest : List Place) : Type 0 where
   pub before : List Event
-  pub looked : (places_read before ≡ tx_word w.vif 0 ∷ []) ⊎ (places_read before ≡ tx_word w.vif 0 ∷ tx_word w.vif 0 ∷ [])
-  pub slots : List Slot
-  pub counted : length slots ≡ count
+  pub looked : AreLooks w (places_read before)
   pub later : List Event
   pub answered : p ≡ before ++ (slots_reads w s.tx_index 0 slots ++ later)
+  pub read : places_read p ≡ places_read before ++ (slot_places w s.tx_index 0 (length slots) ++ rest)
+
+-- A packet whose sizes are wrong: nothing but its slots, and what is read last.
+pub record SizeReads (w : Wiring) (s : State) (p : List Event) (fault : SizeFault) (count : ℕ) (last : List Place) : Type 0 where
+  pub slots : List Slot
+  pub counted : length slots ≡ count
+  pub sizes : fragments_of slots ≡ Err fault
+  pub read : SlotsRead w s p slots last
+
+-- A packet of which a grant fails its check: the fragments up to that one.
+pub record GrantReads (w : Wiring) (s : State) (p : List Event) (count : ℕ) (last : List Place) : Type 0 where
+  pub slots : List Slot
+  pub counted : length slots ≡ count
   pub fragments : List Fragment
   pub sizes : fragments_of slots ≡ Ok fragments
   pub frames : List ℕ
-  pub granted : length frames ≡ length fragments
-  pub read : places_read p ≡ places_read before ++ (slot_places w s.tx_index 0 count ++ (copy_places w fragments frames ++ last))
+  pub granted : AreGranted w fragments frames p
+  pub denied : length frames < length fragments
+  pub read : SlotsRead w s p slots (copy_places w fragments frames ++ last)
+
+-- A packet that is copied whole.
+pub record TurnReads (w : Wiring) (s : State) (p : List Event) (count : ℕ) (last : List Place) : Type 0 where
+  pub slots : List Slot
+  pub counted : length slots ≡ count
+  pub fragments : List Fragment
+  pub sizes : fragments_of slots ≡ Ok fragments
+  pub frames : List ℕ
+  pub granted : AreGranted w fragments frames p
+  pub whole : length frames ≡ length fragments
+  pub read : SlotsRead w s p slots (copy_places w fragments frames ++ last)
 
 -- the event index of the responses
 abbrev pub told : Wiring → List Place
 told w = tx_word w.vif 3 ∷ []
 
--- A packet that isn't sent back; one that is, of which each page takes an rx slot; and those that can't be sent.
+-- a packet that is sent into rx slots of these references, or up to one whose grant fails
+abbrev pub SendReads : Wiring → State → List Event → ℕ → List ℕ → Type 0
+SendReads w s p count grefs = ArePosted w s.rx_index 0 grefs p × TurnReads w s p count (sent_places w s.rx_index grefs ++ told w)
+
+-- A queue that halts: at the producer, at a slot, or at the rx producer.
+abbrev pub HaltReads : Wiring → State → List Event → Halt → Type 0
+HaltReads w s p halt.TxProducer = AreLooks w (places_read p)
+HaltReads w s p halt.RxProducer = (count : ℕ) × TurnReads w s p count (rx_word w.vif 0 ∷ [])
+HaltReads w s p cause = (slots : List Slot) × SlotsRead w s p slots []
+
+-- All that a turn reads, by what became of it. One of a queue that had halted before reads nothing.
 abbrev pub ReadsOf : Wiring → State → List Event → Turned → Type 0
+ReadsOf w s p Idle = places_read p ≡ tx_word w.vif 0 ∷ tx_word w.vif 0 ∷ []
 ReadsOf w s p (Ran number packet ops count) =
     (number ≢ 3 → TurnReads w s p count (told w))
-    × (number ≡ 3 → (grefs : List ℕ) × (length grefs ≡ pages packet) × TurnReads w s p count (sent_places w s.rx_index grefs ++ told w))
+    × (number ≡ 3 → (grefs : List ℕ) × (length grefs ≡ pages packet) × SendReads w s p count grefs)
+ReadsOf w s p (Refused (refusal.Size fault) ops count) = SizeReads w s p fault count (told w)
+ReadsOf w s p (Refused refusal.Grant ops count) = GrantReads w s p count (told w)
 ReadsOf w s p (Refused refusal.FewSlots ops count) = TurnReads w s p count (rx_word w.vif 0 ∷ told w)
-ReadsOf w s p (Refused refusal.RxGrant ops count) = (grefs : List ℕ) × TurnReads w s p count (sent_places w s.rx_index grefs ++ told w)
-ReadsOf w s p u = Unit {0}
+ReadsOf w s p (Refused refusal.RxGrant ops count) = (grefs : List ℕ) × SendReads w s p count grefs
+ReadsOf w s p (Halted cause) = (s.halt ≡ None → HaltReads w s p cause) × (s.halt ≢ None → p ≡ [])
 
 abbrev pub TurnsOnce : Type 0
 TurnsOnce = (w : Wiring) (s : State) (p : List Event) (new : State) (u : Turned) → IsTurn w s p new u → ReadsOf w s p u

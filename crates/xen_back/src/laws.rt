@@ -55,8 +55,8 @@ pub fn turns_are_bounded()
 {}
 
 /// A turn reads each word of a slot once, each word of a fragment's entry and each word that the fragment covers; and, if its
-/// packet is to be sent back, each word of an rx slot and of its entry. A turn whose packet was run on, and that doesn't
-/// halt, reads nothing else but the rings' producers and event indices.
+/// packet is to be sent back, each word of an rx slot and of its entry. It reads nothing else but the rings' producers and event
+/// indices, whatever becomes of it. Slots, frames and references are what these reads were answered.
 pub fn words_are_read_once()
     ensures slots { SlotsOnce }
     ensures fragments { FragmentsOnce }
