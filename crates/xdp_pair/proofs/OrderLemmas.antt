@@ -3,7 +3,7 @@ use Rattle.std.proofs.Common.{◌≡◌, ◌<◌, ◌+◌, ℕ, zero, suc, List,
 use Rattle.std.specs.List.{range_with_len}
 use Rattle.std.proofs.lemmas.List.{append_assoc, map-append, length-map}
 use Rattle.std.proofs.lemmas.List.Elements.{Contains-push, Contains-append_left}
-use Rattle.xdp_pair.specs.Kits.{falling}
+use Rattle.xdp_pair.specs.Resources.{falling}
 use Rattle.xdp_pair.proofs.ReturnLemmas.{snoc_same}
 
 pub length_falling : (n : ℕ) → length (falling n) ≡ n

@@ -1,4 +1,4 @@
-pub mod Kits
+pub mod Resources
 pub mod Answering
 pub mod Rounds
 pub mod Working

@@ -5,14 +5,14 @@ ghost use Rattle.xdp_world.specs.Core.{started_at};
 ghost use Rattle.xen_back.specs.Queues.{IsReady, rx_ring_of, state_of, tx_ring_of, wiring_of};
 ghost use Rattle.xen_page.specs.Mapping.{IsMappedBy};
 ghost use Rattle.bpf_maps.specs.Seats.{IsSeatOf};
-ghost use Rattle.xdp_pair.specs.Kits.{IsBackOf};
+ghost use Rattle.xdp_pair.specs.Resources.{IsBackOf};
 ghost use Rattle.xdp_pair.specs.Working.{IsWiredFor, IsWork, IsWorkOver, task_of};
 
 use crate::gate::Gate;
 use crate::host::Host;
-use crate::kits::BackKit;
 use crate::next::Next;
 use crate::report::BackRow;
+use crate::resources::BackResources;
 use crate::round::{Round, drive_round};
 use crate::shared::Shared;
 use bpf_maps::{CounterSeat, Counters};
@@ -122,16 +122,16 @@ pub(crate) fn work_back<R: Wait, G: Gate, B: Bus>(
     shared: &Shared,
     counters: &Counters,
     bus: &mut B,
-    kit: BackKit,
+    own: BackResources,
 ) -> BackDone
-    requires kit { IsBackOf counters.now shared.now.layout.queues kit }
+    requires own { IsBackOf counters.now shared.now.layout.queues own }
     requires shapes { counters.now.shapes ≡ program.now.shapes }
     requires size { B.size bus.old ≡ length (owners_of shared.now.layout.queues) }
     ensures own { IsSeatOf counters.entry.now result.seat }
-    ensures number { result.seat.number ≡ kit.seat.number }
+    ensures number { result.seat.number ≡ own.seat.number }
     ensures work { IsWorkOver B.log B.access_gives (task_of program.now shared.now) turns result.row result.seat bus.old bus.new }
 {
-    let BackKit {
+    let BackResources {
         queue: number,
         tx,
         rx,
@@ -139,7 +139,7 @@ pub(crate) fn work_back<R: Wait, G: Gate, B: Bus>(
         mut answer,
         parker,
         mut seat,
-    } = kit;
+    } = own;
     let lane = &shared.lanes[number];
     let mut queue = make_queue(program, shared, number, tx, rx, &mut room);
     let mut row = BackRow::new();

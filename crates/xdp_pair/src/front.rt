@@ -1,13 +1,13 @@
 //! A front thread.
 ghost use Rattle.std.specs.Prelude.{◌≡◌, ◌≤◌, length};
 ghost use Rattle.xen_front.specs.Fronts.{wiring_of};
-ghost use Rattle.xdp_pair.specs.Kits.{IsFrontOf};
+ghost use Rattle.xdp_pair.specs.Resources.{IsFrontOf};
 
 use crate::inbox::Inbox;
-use crate::kits::FrontKit;
 use crate::next::Next;
 use crate::outbox::Outbox;
 use crate::report::FrontRow;
+use crate::resources::FrontResources;
 use crate::shared::Shared;
 use std::sync::Wait;
 use std::thread::JoinHandle;
@@ -184,15 +184,15 @@ pub(crate) fn work_front<R: Wait, I: Inbox>(
     inbox: &I,
     packets: &[Packet],
     shared: &Shared,
-    kit: FrontKit<'_>,
+    own: FrontResources<'_>,
 ) -> FrontRow
-    requires { IsFrontOf shared.now.layout.queues kit }
+    requires { IsFrontOf shared.now.layout.queues own }
 {
-    let FrontKit {
+    let FrontResources {
         queue,
         mut front,
         parker,
-    } = kit;
+    } = own;
     let lane = &shared.lanes[queue];
     let mut bus = PageBus::of(&shared.frames);
     let mut desk = Desk::new(queue, packets);

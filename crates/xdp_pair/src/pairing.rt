@@ -4,7 +4,7 @@ ghost use Rattle.std.specs.Thread.{IsSync};
 ghost use Rattle.bpf_maps.specs.Seats.{IsSeatOf};
 ghost use Rattle.xdp_load.specs.SetupSeen.{setup_view};
 ghost use Rattle.xdp_load.specs.Sound.{IsSound};
-ghost use Rattle.xdp_pair.specs.Kits.{IsBackOf, IsFrontOf, falling, number_of};
+ghost use Rattle.xdp_pair.specs.Resources.{IsBackOf, IsFrontOf, falling, number_of};
 ghost use Rattle.xdp_pair.specs.Leaving.{AreLeft, HasWorked};
 ghost use Rattle.xdp_pair.specs.Working.{task_for, task_of};
 
@@ -13,8 +13,8 @@ use crate::gate::Gate;
 use crate::host::Host;
 use crate::inbox::{Discard, Inbox};
 use crate::joining::{empty_rows, join_backs, join_fronts};
-use crate::kits::{BackKit, FrontKit, make_backs, make_fronts, make_pages};
 use crate::report::{PairReport, PairRow};
+use crate::resources::{BackResources, FrontResources, make_backs, make_fronts, make_pages};
 use crate::shared::{Parkers, Shared};
 use crate::starting::{start_backs, start_fronts};
 use bpf_maps::{CounterSeat, Counters};
@@ -40,8 +40,8 @@ fn run_all<R: Threads + Wait + Sync, G: Gate + Sync, I: Inbox + Sync>(
     packets: &[Packet],
     shared: &Shared,
     counters: &Counters,
-    backs: Vec<BackKit>,
-    fronts: Vec<FrontKit<'_>>,
+    backs: Vec<BackResources>,
+    fronts: Vec<FrontResources<'_>>,
     mut rows: Vec<PairRow>,
 ) -> Result<(Vec<CounterSeat>, Vec<PairRow>), PairFault>
     requires backs { All (IsBackOf counters.now shared.now.layout.queues) backs.items }

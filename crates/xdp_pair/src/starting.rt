@@ -1,7 +1,7 @@
 //! Starting the threads.
 ghost use Rattle.std.specs.Prelude.{◌≡◌, [], All, map, ◌<◌, ◌≤◌, ◌+◌, length, vec_len, vec_capacity, IfOk};
 ghost use Rattle.std.specs.List.{range_with_len};
-ghost use Rattle.xdp_pair.specs.Kits.{IsBackOf, IsFrontOf, falling, number_of};
+ghost use Rattle.xdp_pair.specs.Resources.{IsBackOf, IsFrontOf, falling, number_of};
 ghost use Rattle.xdp_pair.specs.Promised.{PromisesSeatOf, promised_number};
 ghost use Rattle.bpf_maps.specs.Seats.{IsSeatOf};
 ghost use Rattle.xdp_pair.specs.Working.{IsWork, task_of};
@@ -10,8 +10,8 @@ use crate::back::{BackDone, BackThread, SeatBack, work_back};
 use crate::front::{FrontThread, work_front};
 use crate::gate::Gate;
 use crate::inbox::Inbox;
-use crate::kits::{BackKit, FrontKit};
 use crate::report::FrontRow;
+use crate::resources::{BackResources, FrontResources};
 use crate::shared::{AllEnd, Shared};
 use bpf_maps::Counters;
 use bpf_verify::Verified;
@@ -29,28 +29,28 @@ pub(crate) fn start_backs<'s, E, R: Wait + Sync, G: Gate + Sync>(
     program: &'s Verified,
     shared: &'s Shared,
     counters: &'s Counters,
-    mut kits: Vec<BackKit>,
+    mut resources: Vec<BackResources>,
     mut backs: Vec<BackThread>,
 ) -> Result<Vec<BackThread>, AllEnd>
-    requires kits { All (IsBackOf counters.now shared.now.layout.queues) kits.items }
-    requires numbers { map number_of kits.items ≡ falling (vec_len kits) }
+    requires resources { All (IsBackOf counters.now shared.now.layout.queues) resources.items }
+    requires numbers { map number_of resources.items ≡ falling (vec_len resources) }
     requires shapes { counters.now.shapes ≡ program.now.shapes }
-    requires room { (backs.items ≡ []) × (vec_len kits ≤ vec_capacity backs) }
-    ensures count { IfOk result (λ v. vec_len v ≡ vec_len kits) }
+    requires room { (backs.items ≡ []) × (vec_len resources ≤ vec_capacity backs) }
+    ensures count { IfOk result (λ v. vec_len v ≡ vec_len resources) }
     ensures seats { IfOk result (λ v. All (PromisesSeatOf (task_of program.entry.now shared.entry.now) turns counters.entry.now) v.items) }
-    ensures numbers { IfOk result (λ v. map promised_number v.items ≡ range_with_len 0 (vec_len kits)) }
+    ensures numbers { IfOk result (λ v. map promised_number v.items ≡ range_with_len 0 (vec_len resources)) }
 {
-    while let Some(kit) = kits.pop() {
-        let promise = SeatBack::of(&kit.seat, program, shared, turns);
+    while let Some(own) = resources.pop() {
+        let promise = SeatBack::of(&own.seat, program, shared, turns);
         let Ok(back) = scope.spawn_with(
             promise,
             move || -> BackDone
-                requires { IsBackOf counters.now shared.now.layout.queues kit × (counters.now.shapes ≡ program.now.shapes) }
-                ensures { IsSeatOf counters.entry.now result.seat × (result.seat.number ≡ kit.seat.number) ×
+                requires { IsBackOf counters.now shared.now.layout.queues own × (counters.now.shapes ≡ program.now.shapes) }
+                ensures { IsSeatOf counters.entry.now result.seat × (result.seat.number ≡ own.seat.number) ×
                     IsWork (task_of program.entry.now shared.entry.now) turns result.row result.seat }
             {
                 let mut bus = PageBus::of(&shared.frames);
-                work_back(rt, gate, turns, program, shared, counters, &mut bus, kit)
+                work_back(rt, gate, turns, program, shared, counters, &mut bus, own)
             },
         ) else {
             return Err(shared.end_all());
@@ -69,19 +69,19 @@ pub(crate) fn start_fronts<'s, E, R: Wait + Sync, I: Inbox + Sync>(
     stack: usize,
     packets: &'s [Packet],
     shared: &'s Shared,
-    mut kits: Vec<FrontKit<'s>>,
+    mut resources: Vec<FrontResources<'s>>,
     mut fronts: Vec<FrontThread>,
 ) -> Result<Vec<FrontThread>, AllEnd>
-    requires room { (fronts.items ≡ []) × (vec_len kits ≤ vec_capacity fronts) }
-    requires kits { All (IsFrontOf shared.now.layout.queues) kits.items }
-    ensures count { IfOk result (λ v. vec_len v ≡ vec_len kits.entry) }
+    requires room { (fronts.items ≡ []) × (vec_len resources ≤ vec_capacity fronts) }
+    requires resources { All (IsFrontOf shared.now.layout.queues) resources.items }
+    ensures count { IfOk result (λ v. vec_len v ≡ vec_len resources.entry) }
 {
-    while let Some(kit) = kits.pop() {
+    while let Some(own) = resources.pop() {
         let Ok(front) = Builder::new().stack_size(stack).spawn_scoped(
             scope,
             move || -> FrontRow
-                requires { IsFrontOf shared.now.layout.queues kit }
-            { work_front(rt, inbox, packets, shared, kit) },
+                requires { IsFrontOf shared.now.layout.queues own }
+            { work_front(rt, inbox, packets, shared, own) },
         )
         else {
             return Err(shared.end_all());

@@ -19,7 +19,7 @@ pub loop-done-init : goal.loop-done-init
 loop-done-init g c =
     let q = c.make_queue-queue.result in
     let made = c.make_queue-queue.ensures in
-    let seat = c.requires.kit.seat in
+    let seat = c.requires.own.seat in
     let task = task_of c.args.program.now c.args.shared.now in
     let host = c.args.shared.now.host in
     record {
@@ -33,7 +33,7 @@ loop-done-init g c =
         [],
         [],
         refl,
-        subst (λ (s : State). Works host (wiring_of q) (started_at c.args.shared.now.start) [] c.args.kit.seat.ops [] s) (sym made.start)
+        subst (λ (s : State). Works host (wiring_of q) (started_at c.args.shared.now.start) [] c.args.own.seat.ops [] s) (sym made.start)
             (subst (λ (l : List Op). Works host (wiring_of q) (started_at c.args.shared.now.start) [] l [] (started_at c.args.shared.now.start)) (sym (ap (λ (s : SeatView). s.ops) seat)) nothing),
         c.new-row.ensures,
         performs_none g.B.Bus.log g.B.Bus.access_gives c.args.bus.now,

@@ -15,7 +15,7 @@ invariant-loop-done g l =
       size : g.B.Bus.size l.bus ≡ length (wiring_of l.queue).vif.owners.now;
       shapes : l.counters.shapes ≡ (wiring_of l.queue).program.now.shapes;
       seat : IsSeatOf l.counters l.seat;
-      number : l.seat.number ≡ l.fn.kit.seat.number;
+      number : l.seat.number ≡ l.fn.own.seat.number;
       wired : IsWiredFor (task_of l.program l.shared) l.seat.number (wiring_of l.queue);
       work : (rs : List Round) × (xs : List Access) × (length rs ≡ l.done) × Works l.shared.host (wiring_of l.queue) (started_at l.shared.start) rs l.seat.ops xs (state_of l.queue) × (l.row ≡ counted rs)
           × Performs g.B.Bus.log g.B.Bus.access_gives l.fn.bus xs l.bus;

@@ -2,37 +2,37 @@ use Rattle.std.proofs.Common.{arith, ℕ, suc, ◌≡◌, ◌∷◌, ◌++◌, [
 use Rattle.std.specs.List.{range_with_len}
 use Rattle.std.proofs.lemmas.List.Elements.{All-push}
 use Rattle.bpf_maps.specs.Seats.{SeatView}
-use Rattle.xdp_pair.specs.Kits.{IsBackOf, falling, number_of}
+use Rattle.xdp_pair.specs.Resources.{IsBackOf, falling, number_of}
 use Rattle.xdp_pair.specs.Promised.{Child, PromisesSeatOf, promised, promised_number, promised_task}
 use Rattle.xdp_pair.specs.Working.{IsWork, Task, task_of}
-use Rattle.xdp_pair.specs.declared.kits.BackKit.{BackKit}
+use Rattle.xdp_pair.specs.declared.resources.BackResources.{BackResources}
 use Rattle.xdp_pair.proofs.OrderLemmas.{popped_falls, pushed_rises}
 use Rattle.xdp_pair.proofs.ReturnLemmas.{last_of, empty_list}
 use Rattle.xdp_pair.proofs.starting.start_backs.Goals as goal
 
-pub loop-kit-init : goal.loop-kit-init
-loop-kit-init g c =
+pub loop-own-init : goal.loop-own-init
+loop-own-init g c =
     let none = c.requires.room.0 in
     record {
       shapes = c.requires.shapes;
-      kits = c.requires.kits;
+      resources = c.requires.resources;
       promises = subst (All (PromisesSeatOf (task_of c.args.program.now c.args.shared.now) c.args.turns c.args.counters.now)) (sym none) (λ i e h. absurd (omega (arith, h)));
-      left = ap (λ (l : List Child). map number_of c.args.kits.items ++ falling (length l)) none ∙ (append-nil (map number_of c.args.kits.items) ∙ c.requires.numbers);
+      left = ap (λ (l : List Child). map number_of c.args.resources.items ++ falling (length l)) none ∙ (append-nil (map number_of c.args.resources.items) ∙ c.requires.numbers);
       started = subst (λ (l : List Child). map promised_number l ≡ range_with_len 0 (length l)) (sym none) refl;
       count = (let n = ap length none in let ok = c.args.backs.ok in omega arith);
       room = c.requires.room.1;
     }
 
-pub loop-kit-preserved : goal.loop-kit-preserved
-loop-kit-preserved g c =
-    let before = c.loop-kit.invariant in
+pub loop-own-preserved : goal.loop-own-preserved
+loop-own-preserved g c =
+    let before = c.loop-own.invariant in
     let counters = c.args.counters.now in
     let split = c.in-Some.ensures.items in
-    let known = last_of (IsBackOf counters c.args.shared.now.layout.queues) _ _ _ split before.kits in
+    let known = last_of (IsBackOf counters c.args.shared.now.layout.queues) _ _ _ split before.resources in
     let task = task_of c.args.program.now c.args.shared.now in
     let of = c.of-promise.ensures in
     let ok = c.in-Ok.ensures.ok in
-    let is : promised c.in-Ok.back ≡ c.in-Some.kit.seat = ap (λ p. p.seat.value) ok ∙ of.seat in
+    let is : promised c.in-Ok.back ≡ c.in-Some.own.seat = ap (λ p. p.seat.value) ok ∙ of.seat in
     let same : promised_task c.in-Ok.back ≡ task =
     let program = ap (λ p. p.program.value) ok ∙ of.program in
     let queues = ap (λ p. p.queues) ok ∙ of.queues in
@@ -42,14 +42,14 @@ loop-kit-preserved g c =
     (λ i. record { program = program i; queues = queues i; ifindex = ifindex i; start = start i; host = host i }) in
     let turns = ap (λ p. p.turns) ok ∙ of.numbers.2 in
     let pushed = c.push_reserved.ensures.items in
-    let old = c.loop-kit.backs.items in
+    let old = c.loop-own.backs.items in
     let n = ap length split in
-    let m = length-append c.pop.new.self.items (c.in-Some.kit ∷ []) in
+    let m = length-append c.pop.new.self.items (c.in-Some.own ∷ []) in
     let longer : length c.push_reserved.new.self.items ≡ suc (length old) = ap length pushed ∙ (let k = length-append old (c.in-Ok.back ∷ []) in omega (arith, k)) in
-    let lower = popped_falls number_of c.pop.new.self.items c.in-Some.kit (length old) (vec_len c.args.kits) (ap (λ (l : List BackKit). map number_of l ++ falling (length old)) (sym split) ∙ before.left) in
+    let lower = popped_falls number_of c.pop.new.self.items c.in-Some.own (length old) (vec_len c.args.resources) (ap (λ (l : List BackResources). map number_of l ++ falling (length old)) (sym split) ∙ before.left) in
     record {
       shapes = before.shapes;
-      kits = known.0;
+      resources = known.0;
       promises = subst (All (PromisesSeatOf task c.args.turns counters)) (sym pushed)
           (All-push (PromisesSeatOf task c.args.turns counters) old c.in-Ok.back before.promises ((ap (λ (s : SeatView). s.table) (is ∙ known.1.seat), ap (λ (s : SeatView). s.shapes) (is ∙ known.1.seat)), same, turns));
       left = ap (λ k. map number_of c.pop.new.self.items ++ falling k) longer ∙ lower.1;
@@ -60,19 +60,19 @@ loop-kit-preserved g c =
     }
 
 pub returns-clause-seats : goal.returns-clause-seats
-returns-clause-seats g c = c.loop-kit.invariant.promises
+returns-clause-seats g c = c.loop-own.invariant.promises
 
 pub returns-clause-numbers : goal.returns-clause-numbers
 returns-clause-numbers g c =
-    let before = c.loop-kit.invariant in
-    let none : c.loop-kit.kits.items ≡ [] = empty_list c.loop-kit.kits.items (λ h. true≢false (sym (c.in_default.ensures.variant.1 (let ok = c.loop-kit.kits.ok in omega arith)))) in
-    let all : length c.loop-kit.backs.items ≡ vec_len c.args.kits = (let n = ap length none in let ok = c.loop-kit.kits.ok in let ok' = c.loop-kit.backs.ok in let b = before.count in omega arith) in
+    let before = c.loop-own.invariant in
+    let none : c.loop-own.resources.items ≡ [] = empty_list c.loop-own.resources.items (λ h. true≢false (sym (c.in_default.ensures.variant.1 (let ok = c.loop-own.resources.ok in omega arith)))) in
+    let all : length c.loop-own.backs.items ≡ vec_len c.args.resources = (let n = ap length none in let ok = c.loop-own.resources.ok in let ok' = c.loop-own.backs.ok in let b = before.count in omega arith) in
     before.started ∙ ap (range_with_len 0) all
 
 pub spawn_with-requires-clause-keeps : goal.spawn_with-requires-clause-keeps
 spawn_with-requires-clause-keeps g c κs within r h =
     let counters = c.args.counters.now in
-    let known = last_of (IsBackOf counters c.args.shared.now.layout.queues) _ _ _ c.in-Some.ensures.items c.loop-kit.invariant.kits in
+    let known = last_of (IsBackOf counters c.args.shared.now.layout.queues) _ _ _ c.in-Some.ensures.items c.loop-own.invariant.resources in
     let of = c.of-promise.ensures in
     let p = c.of-promise.result in
     let seat = of.seat ∙ known.1.seat in

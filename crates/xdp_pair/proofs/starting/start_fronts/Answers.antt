@@ -1,15 +1,15 @@
 use Rattle.std.proofs.Common.{arith, ◌∷◌, [], ap, length, length-append}
-use Rattle.xdp_pair.specs.Kits.{IsFrontOf}
+use Rattle.xdp_pair.specs.Resources.{IsFrontOf}
 use Rattle.xdp_pair.proofs.ReturnLemmas.{last_of}
 use Rattle.xdp_pair.proofs.starting.start_fronts.Goals as goal
 
-pub loop-kit-preserved : goal.loop-kit-preserved
-loop-kit-preserved g c = (
-  (last_of (IsFrontOf c.args.shared.now.layout.queues) _ _ _ c.in-Some.ensures.items c.loop-kit.invariant.0).0,
+pub loop-own-preserved : goal.loop-own-preserved
+loop-own-preserved g c = (
+  (last_of (IsFrontOf c.args.shared.now.layout.queues) _ _ _ c.in-Some.ensures.items c.loop-own.invariant.0).0,
   (let n = ap length c.in-Some.ensures.items in
-      let m = length-append c.pop.new.self.items (c.in-Some.kit ∷ []) in
-      let b = c.loop-kit.invariant.1 in
+      let m = length-append c.pop.new.self.items (c.in-Some.own ∷ []) in
+      let b = c.loop-own.invariant.1 in
       let l = c.push_reserved.ensures.len in
       omega arith),
-  (let b = c.loop-kit.invariant.2 in let p = c.push_reserved.ensures.capacity in omega arith),
+  (let b = c.loop-own.invariant.2 in let p = c.push_reserved.ensures.capacity in omega arith),
 )

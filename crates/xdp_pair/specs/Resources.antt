@@ -4,11 +4,11 @@ use Rattle.bpf_maps.specs.Seats.{CountersView, new_seat}
 use Rattle.xdp_world.specs.Frames.{frame_of, owners_of}
 use Rattle.xen_front.specs.Fronts.{wiring_of}
 use Rattle.xen_page.specs.Mapping.{IsMappedBy}
-use Rattle.xdp_pair.specs.declared.kits.BackKit.{BackKit}
-use Rattle.xdp_pair.specs.declared.kits.FrontKit.{FrontKit}
+use Rattle.xdp_pair.specs.declared.resources.BackResources.{BackResources}
+use Rattle.xdp_pair.specs.declared.resources.FrontResources.{FrontResources}
 
--- the number of a kit's seat
-abbrev pub number_of : BackKit → ℕ
+-- the number of a back's seat
+abbrev pub number_of : BackResources → ℕ
 number_of k = k.seat.number
 
 -- so many numbers, from the last down to 0
@@ -16,8 +16,8 @@ abbrev pub falling : ℕ → List ℕ
 falling zero = []
 falling (suc n) = n ∷ falling n
 
--- A back's kit among so many queues: its queue's rings, which the front lent for writing, and its queue's new seat at the counters.
-pub record IsBackOf (c : CountersView) (queues : ℕ) (k : BackKit) : Type 0 where
+-- What a back is given among so many queues: its queue's rings, which the front lent for writing, and its queue's new seat at the counters.
+pub record IsBackOf (c : CountersView) (queues : ℕ) (k : BackResources) : Type 0 where
   pub queue : k.queue < queues
   pub tx : IsMappedBy (owners_of queues) 1 k.tx
   pub rx : IsMappedBy (owners_of queues) 1 k.rx
@@ -27,7 +27,7 @@ pub record IsBackOf (c : CountersView) (queues : ℕ) (k : BackKit) : Type 0 whe
   pub rx_writable : k.rx.write ≡ true
   pub seat : k.seat ≡ new_seat c k.queue
 
--- a front's kit among so many queues: a front whose pages are among their frames
-pub record IsFrontOf (queues : ℕ) (k : FrontKit) : Type 0 where
+-- a front's own among so many queues: a front whose pages are among their frames
+pub record IsFrontOf (queues : ℕ) (k : FrontResources) : Type 0 where
   pub queue : k.queue < queues
   pub frames : (wiring_of k.front).frames ≡ length (owners_of queues)

@@ -1,12 +1,12 @@
 use Rattle.std.proofs.Common.{arith, ◌≡◌, ◌∷◌, ◌++◌, [], All, List, append-nil, length, length-append, map, suc, sym, ap, ◌∙◌, subst, true≢false}
 use Rattle.std.proofs.lemmas.List.Elements.{All-push}
 use Rattle.bpf_maps.specs.Seats.{SeatView, new_seat, new_seats}
-use Rattle.xdp_pair.specs.Kits.{IsBackOf, falling, number_of}
-use Rattle.xdp_pair.specs.declared.kits.BackKit.{BackKit}
+use Rattle.xdp_pair.specs.Resources.{IsBackOf, falling, number_of}
+use Rattle.xdp_pair.specs.declared.resources.BackResources.{BackResources}
 use Rattle.xdp_pair.proofs.OrderLemmas.{pushed_falls}
 use Rattle.xdp_pair.proofs.ReturnLemmas.{empty_list}
 use Rattle.xdp_pair.proofs.SeatLemmas.{last_new, length_new}
-use Rattle.xdp_pair.proofs.kits.make_backs.Goals as goal
+use Rattle.xdp_pair.proofs.resources.make_backs.Goals as goal
 
 pub loop-seat-init : goal.loop-seat-init
 loop-seat-init c = (
@@ -16,7 +16,7 @@ loop-seat-init c = (
       let n : length c.args.seats.items ≡ c.args.shared.now.layout.queues = ap length new ∙ length_new d c.args.shared.now.layout.queues in (
         new ∙ ap (new_seats d) (sym n),
         subst (All (IsBackOf d c.args.shared.now.layout.queues)) (sym c.in_ok-backs.ensures.items) (λ i e h. absurd (omega (arith, h))),
-        ap (λ (l : List BackKit). map number_of l ++ falling (length c.args.seats.items)) c.in_ok-backs.ensures.items ∙ ap falling n,
+        ap (λ (l : List BackResources). map number_of l ++ falling (length c.args.seats.items)) c.in_ok-backs.ensures.items ∙ ap falling n,
       ),
 )
 
@@ -48,7 +48,7 @@ loop-seat-preserved c =
                   rx_writable = c.in_ok-rx.ensures.write;
                   seat = last.1 ∙ ap (new_seat d) (let l = c.len-queue.ensures in omega arith);
                 })),
-            ap (λ (l : List BackKit). map number_of l ++ falling (length c.pop.new.self.items)) c.in_ok-push.ensures.items
+            ap (λ (l : List BackResources). map number_of l ++ falling (length c.pop.new.self.items)) c.in_ok-push.ensures.items
                 ∙ pushed_falls number_of c.loop-seat.backs.items _ (length c.pop.new.self.items) queues (ap (λ (s : SeatView). s.number) last.1)
                 (ap (λ k. map number_of c.loop-seat.backs.items ++ falling k) (sym below) ∙ all.2),
           ),

@@ -1,7 +1,7 @@
 use Rattle.std.proofs.Common.{◌≡◌, ◌≤◌, ◌+◌, ◌++◌, All, length, map, vec_len}
 use Rattle.bpf_maps.specs.Seats.{CountersView, new_seats}
-use Rattle.xdp_pair.specs.Kits.{IsBackOf, falling, number_of}
-use Rattle.xdp_pair.proofs.kits.make_backs.Given as goal
+use Rattle.xdp_pair.specs.Resources.{IsBackOf, falling, number_of}
+use Rattle.xdp_pair.proofs.resources.make_backs.Given as goal
 
 abbrev pub invariant-loop-seat : goal.invariant-loop-seat
 invariant-loop-seat l =

@@ -1,7 +1,7 @@
 use Rattle.std.proofs.Common.{◌≡◌, ◌≤◌, ◌<◌, ◌+◌, All, length, vec_len}
-use Rattle.xdp_pair.specs.Kits.{IsFrontOf}
-use Rattle.xdp_pair.specs.declared.kits.FrontPages.{FrontPages}
-use Rattle.xdp_pair.proofs.kits.make_fronts.Given as goal
+use Rattle.xdp_pair.specs.Resources.{IsFrontOf}
+use Rattle.xdp_pair.specs.declared.resources.FrontPages.{FrontPages}
+use Rattle.xdp_pair.proofs.resources.make_fronts.Given as goal
 
 abbrev pub invariant-loop-parker : goal.invariant-loop-parker
 invariant-loop-parker l =

@@ -1,7 +1,7 @@
 use Rattle.std.proofs.Common.{◌<◌, All, sym, subst, arith}
 use Rattle.std.proofs.lemmas.List.Elements.{All-push}
-use Rattle.xdp_pair.specs.declared.kits.FrontPages.{FrontPages}
-use Rattle.xdp_pair.proofs.kits.make_pages.Goals as goal
+use Rattle.xdp_pair.specs.declared.resources.FrontPages.{FrontPages}
+use Rattle.xdp_pair.proofs.resources.make_pages.Goals as goal
 
 pub invariant_of-push : goal.invariant_of-push
 invariant_of-push c = record { tx_granted = c.in_ok-tx.ensures; rx_granted = c.in_ok-rx.ensures }

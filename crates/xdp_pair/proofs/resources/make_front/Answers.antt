@@ -1,6 +1,6 @@
 use Rattle.std.proofs.Common.{◌∙◌, refl}
 use Rattle.xdp_world.proofs.WiringLemmas.{is_wired}
-use Rattle.xdp_pair.proofs.kits.make_front.Goals as goal
+use Rattle.xdp_pair.proofs.resources.make_front.Goals as goal
 
 pub make-requires : goal.make-requires
 make-requires c =

@@ -4,7 +4,7 @@ ghost use Rattle.bpf_maps.specs.Seats.{CountersView, new_seats};
 ghost use Rattle.xdp_world.specs.Frames.{frame_of, owners_of};
 ghost use Rattle.xdp_world.specs.Buffers.{granted_from};
 ghost use Rattle.xen_front.specs.Fronts.{state_of, wiring_of};
-ghost use Rattle.xdp_pair.specs.Kits.{IsBackOf, IsFrontOf, falling, number_of};
+ghost use Rattle.xdp_pair.specs.Resources.{IsBackOf, IsFrontOf, falling, number_of};
 
 use crate::answer::Answer;
 use crate::fault::PairFault;
@@ -27,7 +27,7 @@ const RX_BUFFERS: u32 = 258;
 /// What the back thread of a queue is given: its rings, room for a packet and for an answer, what it sleeps on, and its
 /// seat at the counters.
 #[derive(Drop)]
-pub(crate) struct BackKit {
+pub(crate) struct BackResources {
     pub queue: usize,
     pub tx: Mapped,
     pub rx: Mapped,
@@ -39,7 +39,7 @@ pub(crate) struct BackKit {
 
 /// What the front thread of a queue is given.
 #[derive(Drop)]
-pub(crate) struct FrontKit<'p> {
+pub(crate) struct FrontResources<'p> {
     pub queue: usize,
     pub front: Front<'p>,
     pub parker: Parker,
@@ -61,7 +61,7 @@ pub(crate) fn make_backs(
     shared: &Shared,
     mut seats: Vec<CounterSeat>,
     mut parkers: Vec<Parker>,
-) -> Result<Vec<BackKit>, PairFault>
+) -> Result<Vec<BackResources>, PairFault>
     requires seats { vec_len seats ≡ shared.now.layout.queues }
     requires parkers { vec_len parkers ≡ shared.now.layout.queues }
     ensures own { (c : CountersView) → seats.items ≡ new_seats c shared.now.layout.queues →
@@ -79,7 +79,7 @@ pub(crate) fn make_backs(
         let rx = make_ring(shared, first + 1)?;
         let room = PacketRoom::make(alloc)?;
         let answer = Answer::make(alloc)?;
-        backs.push(BackKit {
+        backs.push(BackResources {
             queue,
             tx,
             rx,
@@ -145,17 +145,17 @@ pub(crate) fn make_fronts<'p>(
     shared: &'p Shared,
     pages: &'p [FrontPages],
     mut parkers: Vec<Parker>,
-) -> Result<Vec<FrontKit<'p>>, AllocError>
+) -> Result<Vec<FrontResources<'p>>, AllocError>
     requires count { vec_len parkers ≤ length pages.now }
     requires below { All (λ p. p.queue < shared.now.layout.queues) pages.now }
-    ensures kits { IfOk result (λ v. All (IsFrontOf shared.now.layout.queues) v.items) }
+    ensures resources { IfOk result (λ v. All (IsFrontOf shared.now.layout.queues) v.items) }
     ensures count { IfOk result (λ v. vec_len v ≡ vec_len parkers) }
 {
     let mut fronts = Vec::with_capacity(alloc, parkers.len())?;
     while let Some(parker) = parkers.pop() {
         let pages = &pages[parkers.len()];
         let front = make_front(alloc, shared, pages)?;
-        fronts.push(FrontKit {
+        fronts.push(FrontResources {
             queue: pages.queue,
             front,
             parker,
