@@ -8,12 +8,10 @@ use Rattle.std.specs.Str.{bytes_eq}
 use Rattle.toml.proofs.Views.{Entry}
 use Rattle.toml.specs.View.{members_view}
 use Rattle.xdp_load.proofs.Tables.{known-texts}
-use Rattle.xdp_load.specs.Document.{RelocText, Text}
-use Rattle.xdp_load.specs.Limits.{is_bad_first}
-use Rattle.xdp_load.specs.Places.{IsSyntaxLine, Spot, syntax_text, first_row, name_spot, row, taken_spot, text_hex, unknown_key}
-use Rattle.xdp_load.specs.Setup.{bytes_of, is_taken_again}
+use Rattle.xdp_load.specs.Document.{Text}
+use Rattle.xdp_load.specs.Spots.{IsSyntaxLine, syntax_text, first_from, first_row, row, text_hex, unknown_key}
+use Rattle.xdp_load.specs.Setup.{bytes_of}
 use Rattle.xdp_load.specs.declared.key.Key.{Key}
-use Rattle.xdp_load.specs.declared.key.Key.TheVariants as key
 
 -- no fault at a row
 pub row_passed : {A B : Type 0} (f : B → Option Key) (g : A → B) (xs : List A) (i : ℕ) (d : A) → i < length xs → f (g (get_or xs i d)) ≡ None
@@ -25,45 +23,27 @@ pub row_found : {A B : Type 0} (f : B → Option Key) (g : A → B) (xs : List A
     → first_row f i (map g (drop i xs)) ≡ Some (row k i)
 row_found f g xs i d k h e = rw (drop_more xs i d h, e)
 
-name_suc : {A : Type 0} (f : A → Text) (xs : List A) (i n : ℕ) → i < length xs → is_bad_first (map f (drop i xs)) ≡ false
-    → name_spot n (map f (drop i xs)) ≡ name_spot (suc n) (map f (drop (suc i) xs))
-name_suc f [] i n h e = absurd (omega arith)
-name_suc f (x ∷ xs) zero n h e = rw e
-name_suc f (x ∷ xs) (suc i) n h e = name_suc f xs i n (omega arith) e
+tail_passed : {A B : Type 0} (f : List B → Option Key) (g : A → B) (xs : List A) (i n : ℕ) → i < length xs → f (map g (drop i xs)) ≡ None
+    → first_from f n (map g (drop i xs)) ≡ first_from f (suc n) (map g (drop (suc i) xs))
+tail_passed f g [] i n h e = absurd (omega arith)
+tail_passed f g (x ∷ xs) zero n h e = rw e
+tail_passed f g (x ∷ xs) (suc i) n h e = tail_passed f g xs i n (omega arith) e
 
-name_here : {A : Type 0} (f : A → Text) (xs : List A) (i n : ℕ) → i < length xs → is_bad_first (map f (drop i xs)) ≡ true
-    → name_spot n (map f (drop i xs)) ≡ Some (row key.Name n)
-name_here f [] i n h e = absurd (omega arith)
-name_here f (x ∷ xs) zero n h e = rw e
-name_here f (x ∷ xs) (suc i) n h e = name_here f xs i n (omega arith) e
+tail_found : {A B : Type 0} (f : List B → Option Key) (g : A → B) (xs : List A) (i n : ℕ) (k : Key) → i < length xs
+    → f (map g (drop i xs)) ≡ Some k → first_from f n (map g (drop i xs)) ≡ Some (row k n)
+tail_found f g [] i n k h e = absurd (omega arith)
+tail_found f g (x ∷ xs) zero n k h e = rw e
+tail_found f g (x ∷ xs) (suc i) n k h e = tail_found f g xs i n k (omega arith) e
 
-pub name_passed : {A : Type 0} (f : A → Text) (xs : List A) (i : ℕ) → i < length xs → is_bad_first (map f (drop i xs)) ≡ false
-    → name_spot i (map f (drop i xs)) ≡ name_spot (i + 1) (map f (drop (i + 1) xs))
-name_passed f xs i h e = rw add-one (name_suc f xs i i h e)
+-- no fault from a row on
+pub from_passed : {A B : Type 0} (f : List B → Option Key) (g : A → B) (xs : List A) (i : ℕ) → i < length xs → f (map g (drop i xs)) ≡ None
+    → first_from f i (map g (drop i xs)) ≡ first_from f (i + 1) (map g (drop (i + 1) xs))
+from_passed f g xs i h e = rw add-one (tail_passed f g xs i i h e)
 
-pub name_found : {A : Type 0} (f : A → Text) (xs : List A) (i : ℕ) → i < length xs → is_bad_first (map f (drop i xs)) ≡ true
-    → name_spot i (map f (drop i xs)) ≡ Some (row key.Name i)
-name_found f xs i h e = name_here f xs i i h e
-
-taken_suc : {A : Type 0} (f : A → RelocText) (xs : List A) (i n : ℕ) → i < length xs → is_taken_again (map f (drop i xs)) ≡ false
-    → taken_spot n (map f (drop i xs)) ≡ taken_spot (suc n) (map f (drop (suc i) xs))
-taken_suc f [] i n h e = absurd (omega arith)
-taken_suc f (x ∷ xs) zero n h e = rw e
-taken_suc f (x ∷ xs) (suc i) n h e = taken_suc f xs i n (omega arith) e
-
-taken_here : {A : Type 0} (f : A → RelocText) (xs : List A) (i n : ℕ) → i < length xs → is_taken_again (map f (drop i xs)) ≡ true
-    → taken_spot n (map f (drop i xs)) ≡ Some (row key.Slot n)
-taken_here f [] i n h e = absurd (omega arith)
-taken_here f (x ∷ xs) zero n h e = rw e
-taken_here f (x ∷ xs) (suc i) n h e = taken_here f xs i n (omega arith) e
-
-pub taken_passed : {A : Type 0} (f : A → RelocText) (xs : List A) (i : ℕ) → i < length xs → is_taken_again (map f (drop i xs)) ≡ false
-    → taken_spot i (map f (drop i xs)) ≡ taken_spot (i + 1) (map f (drop (i + 1) xs))
-taken_passed f xs i h e = rw add-one (taken_suc f xs i i h e)
-
-pub taken_found : {A : Type 0} (f : A → RelocText) (xs : List A) (i : ℕ) → i < length xs → is_taken_again (map f (drop i xs)) ≡ true
-    → taken_spot i (map f (drop i xs)) ≡ Some (row key.Slot i)
-taken_found f xs i h e = taken_here f xs i i h e
+-- a fault from a row on
+pub from_found : {A B : Type 0} (f : List B → Option Key) (g : A → B) (xs : List A) (i : ℕ) (k : Key) → i < length xs
+    → f (map g (drop i xs)) ≡ Some k → first_from f i (map g (drop i xs)) ≡ Some (row k i)
+from_found f g xs i k h e = tail_found f g xs i i k h e
 
 -- a hex text is none of the program's, or of a packet's, that is refused
 pub hex_passed : (k : Key) (t : Text) → is_some (bytes_of t) ≡ true → text_hex k t ≡ None

@@ -5,10 +5,10 @@ pub mod Gives
 pub mod Keys
 pub mod Limits
 pub mod LimitsSeen
-pub mod Places
-pub mod PlacesSeen
 pub mod Seen
 pub mod Setup
 pub mod SetupSeen
 pub mod Sound
+pub mod Spots
+pub mod SpotsSeen
 pub mod Written

@@ -1,14 +1,14 @@
 //! Where a hex text or a relocation of settings is refused.
-ghost use Rattle.std.specs.Prelude.{◌≡◌, IfOk, is_some, map, option_map};
-ghost use Rattle.xdp_load.specs.Places.{first_row, hex_spot, reloc_fault, relocs_spot, taken_spot, text_hex};
-ghost use Rattle.xdp_load.specs.PlacesSeen.{spot_seen};
+ghost use Rattle.std.specs.Prelude.{◌≡◌, ◌∷◌, IfOk, is_some, map, option_map};
+ghost use Rattle.xdp_load.specs.Spots.{first_from, first_row, hex_spot, reloc_fault, text_hex};
+ghost use Rattle.xdp_load.specs.SpotsSeen.{spot_seen};
 ghost use Rattle.xdp_load.specs.Seen.{hex_seen, packet_seen, reloc_seen, written_seen};
 ghost use Rattle.xdp_load.specs.Setup.{bytes_of};
 
 use crate::document::Written;
 use crate::key::Key;
 use crate::kinds::{HexRow, MapRow, PacketRow, RelocRow};
-use crate::relocations::{is_taken_again, map_number, wide_slot};
+use crate::relocations::{is_taken, map_number, wide_slot};
 use crate::spot::Spot;
 use hex::FromHexError;
 use std::alloc::{AllocError, Global};
@@ -59,11 +59,16 @@ pub fn hex_spot(alloc: Global, written: &Written<'_>) -> Result<Option<Spot<'sta
     Ok(program.or(packets))
 }
 
-/// What a relocation is wrong by, of itself.
-fn reloc_fault(program: &[u8], maps: &[MapRow<'_>], row: &RelocRow<'_>) -> Option<Key>
-    ensures { result ≡ reloc_fault program.now (map (λ m. m.name.now) maps.now) (reloc_seen row.now) }
+/// What a relocation is wrong by, before those later ones.
+fn row_fault(
+    program: &[u8],
+    maps: &[MapRow<'_>],
+    row: &RelocRow<'_>,
+    later: &[RelocRow<'_>],
+) -> Option<Key>
+    ensures { result ≡ reloc_fault program.now (map (λ m. m.name.now) maps.now) (reloc_seen row.now ∷ map reloc_seen later.now) }
 {
-    if wide_slot(program, row.slot).is_none() {
+    if wide_slot(program, row.slot).is_none() || is_taken(row.slot, later) {
         return Some(Key::Slot);
     }
     if map_number(row.map, maps).is_none() {
@@ -72,39 +77,29 @@ fn reloc_fault(program: &[u8], maps: &[MapRow<'_>], row: &RelocRow<'_>) -> Optio
     None
 }
 
-/// The first relocation that is wrong of itself.
-fn own_spot(program: &[u8], maps: &[MapRow<'_>], rows: &[RelocRow<'_>]) -> Option<Spot<'static>>
-    ensures { option_map spot_seen result
-        ≡ first_row (reloc_fault program.now (map (λ m. m.name.now) maps.now)) 0 (map reloc_seen rows.now) }
+/// What the first relocation is wrong by; also if a later one has its slot.
+fn reloc_fault(program: &[u8], maps: &[MapRow<'_>], rows: &[RelocRow<'_>]) -> Option<Key>
+    ensures { result ≡ reloc_fault program.now (map (λ m. m.name.now) maps.now) (map reloc_seen rows.now) }
 {
-    for i in 0..rows.len() {
-        if let Some(key) = reloc_fault(program, maps, &rows[i]) {
-            return Some(Spot::Row(key, i));
-        }
+    match rows.split_first() {
+        Some((first, later)) => row_fault(program, maps, first, later),
+        None => None,
     }
-    None
-}
-
-/// The first relocation whose slot a later one has.
-fn taken_spot(rows: &[RelocRow<'_>]) -> Option<Spot<'static>>
-    ensures { option_map spot_seen result ≡ taken_spot 0 (map reloc_seen rows.now) }
-{
-    for i in 0..rows.len() {
-        if is_taken_again(&rows[i..]) {
-            return Some(Spot::Row(Key::Slot, i));
-        }
-    }
-    None
 }
 
 /// Where the first relocation of a program is refused.
-#[tactic(auto, using(crate::proofs::SpotLemmas::or_seen))]
 pub fn relocs_spot(
     program: &[u8],
     maps: &[MapRow<'_>],
     rows: &[RelocRow<'_>],
 ) -> Option<Spot<'static>>
-    ensures { option_map spot_seen result ≡ relocs_spot program.now (map (λ m. m.name.now) maps.now) (map reloc_seen rows.now) }
+    ensures { option_map spot_seen result
+        ≡ first_from (reloc_fault program.now (map (λ m. m.name.now) maps.now)) 0 (map reloc_seen rows.now) }
 {
-    own_spot(program, maps, rows).or(taken_spot(rows))
+    for i in 0..rows.len() {
+        if let Some(key) = reloc_fault(program, maps, &rows[i..]) {
+            return Some(Spot::Row(key, i));
+        }
+    }
+    None
 }

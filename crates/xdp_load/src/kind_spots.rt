@@ -1,9 +1,9 @@
 //! Where a key of settings is unknown, missing or of the wrong type.
 ghost use Rattle.std.specs.Prelude.{◌≡◌, codes, map, option_map};
 ghost use Rattle.toml.specs.View.{table_view, view};
-ghost use Rattle.xdp_load.specs.Places.{kind_spot, map_kind, number_kind, packet_kind, program_kind, reloc_kind, row_kind};
-ghost use Rattle.xdp_load.specs.Places.{first_row, lists_kind, rows_kind, step_kind, unknown_key};
-ghost use Rattle.xdp_load.specs.PlacesSeen.{spot_seen};
+ghost use Rattle.xdp_load.specs.Spots.{kind_spot, map_kind, number_kind, packet_kind, program_kind, reloc_kind, row_kind};
+ghost use Rattle.xdp_load.specs.Spots.{first_row, lists_kind, rows_kind, step_kind, unknown_key};
+ghost use Rattle.xdp_load.specs.SpotsSeen.{spot_seen};
 ghost use Rattle.xdp_load.specs.Document.{list_at, values_at};
 
 use crate::document::TOP_KEYS;
@@ -167,13 +167,12 @@ fn program_values(table: &Table) -> Option<&[Value]>
     }
 }
 
-/// The first list that is none, or has a row that is wrong.
+/// The first list behind the program that is none, or has a row that is wrong.
 #[tactic(auto, using(crate::proofs::SpotLemmas::or_seen))]
 fn lists_kind(table: &Table) -> Option<Spot<'static>>
     ensures { option_map spot_seen result ≡ lists_kind (table_view table.now) }
 {
-    rows_kind(Key::Program, program_values(table))
-        .or(rows_kind(Key::Map, values_at(table, "map")))
+    rows_kind(Key::Map, values_at(table, "map"))
         .or(rows_kind(Key::Reloc, values_at(table, "reloc")))
         .or(rows_kind(Key::Step, values_at(table, "script")))
         .or(rows_kind(Key::Packet, values_at(table, "packet")))
@@ -185,6 +184,9 @@ pub fn kind_spot(table: &Table) -> Option<Spot<'_>>
 {
     if let Some(name) = unknown_key(table, &TOP_KEYS) {
         return Some(Spot::Unknown(name));
+    }
+    if let Some(spot) = rows_kind(Key::Program, program_values(table)) {
+        return Some(spot);
     }
     if let Some(key) = number_kind(table) {
         return Some(Spot::At(key));

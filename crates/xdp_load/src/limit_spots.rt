@@ -1,7 +1,8 @@
 //! Where a number or a length of settings is outside its limits, or a name is a wrong one.
 ghost use Rattle.std.specs.Prelude.{◌≡◌, ◌≤◌, map, option_map, vec_len};
-ghost use Rattle.xdp_load.specs.Places.{first_row, limit_spot, map_limit, name_spot, number_limit, packet_limit, rows_limit, step_limit};
-ghost use Rattle.xdp_load.specs.PlacesSeen.{spot_seen};
+ghost use Rattle.xdp_load.specs.Spots.{first_from, first_row, limit_spot, map_limit, name_fault, number_limit, packet_limit};
+ghost use Rattle.xdp_load.specs.Spots.{rows_limit, step_limit};
+ghost use Rattle.xdp_load.specs.SpotsSeen.{spot_seen};
 ghost use Rattle.xdp_load.specs.Seen.{map_seen, numbers_seen, packet_seen, step_seen, written_seen};
 
 use crate::document::{Numbers, Written};
@@ -120,18 +121,18 @@ fn rows_limit(written: &Written<'_>, queues: Option<u32>) -> Option<Spot<'static
 pub fn limit_spot(written: &Written<'_>) -> Option<Spot<'static>>
     ensures { option_map spot_seen result ≡ limit_spot (written_seen written.now) }
 {
-    if written.maps.len() > 4 {
-        return Some(Spot::At(Key::Map));
-    }
     if let Some(key) = number_limit(written.numbers) {
         return Some(Spot::At(key));
+    }
+    if written.maps.len() > 4 {
+        return Some(Spot::At(Key::Map));
     }
     rows_limit(written, limited(1, 8, written.numbers.queues))
 }
 
 /// Where the first name is a wrong one, or given again.
 pub fn name_spot(rows: &[MapRow<'_>]) -> Option<Spot<'static>>
-    ensures { option_map spot_seen result ≡ name_spot 0 (map (λ m. m.name.now) rows.now) }
+    ensures { option_map spot_seen result ≡ first_from name_fault 0 (map (λ m. m.name.now) rows.now) }
 {
     for i in 0..rows.len() {
         if is_bad_first(&rows[i..]) {

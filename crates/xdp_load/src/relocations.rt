@@ -10,14 +10,14 @@ ghost use Rattle.xdp_load.specs.Setup.{have_own_slots, is_taken_again, relocated
 use crate::kinds::{MapRow, RelocRow};
 
 /// Whether a relocation has the slot.
-fn is_taken(slot: i64, rows: &[RelocRow<'_>]) -> bool
+pub fn is_taken(slot: i64, rows: &[RelocRow<'_>]) -> bool
     ensures { result ≡ list_any (λ r. int_eq slot r.slot) (map reloc_seen rows.now) }
 {
     rows.iter().any(|row| slot == row.slot)
 }
 
 /// Whether a relocation after the first has its slot.
-pub fn is_taken_again(rows: &[RelocRow<'_>]) -> bool
+fn is_taken_again(rows: &[RelocRow<'_>]) -> bool
     ensures { result ≡ is_taken_again (map reloc_seen rows.now) }
 {
     match rows.split_first() {

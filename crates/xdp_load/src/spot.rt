@@ -1,7 +1,7 @@
 //! A place in settings.
 ghost use Rattle.std.specs.Prelude.{◌≡◌, ◌++◌, IfOk, string_bytes};
-ghost use Rattle.xdp_load.specs.Places.{spot_text};
-ghost use Rattle.xdp_load.specs.PlacesSeen.{spot_seen};
+ghost use Rattle.xdp_load.specs.Spots.{spot_text};
+ghost use Rattle.xdp_load.specs.SpotsSeen.{spot_seen};
 
 use crate::key::Key;
 use std::alloc::{AllocError, Global};

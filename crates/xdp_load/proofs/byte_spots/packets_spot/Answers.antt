@@ -1,6 +1,6 @@
 use Rattle.std.proofs.Common.{◌∙◌, sym}
 use Rattle.xdp_load.proofs.SpotLemmas.{hex_passed, row_passed}
-use Rattle.xdp_load.specs.Places.{text_hex}
+use Rattle.xdp_load.specs.Spots.{text_hex}
 use Rattle.xdp_load.specs.Seen.{packet_seen}
 use Rattle.xdp_load.specs.declared.key.Key.TheVariants as key
 use Rattle.xdp_load.proofs.byte_spots.packets_spot.Goals as goal

@@ -1,5 +1,5 @@
 use Rattle.std.proofs.Common.{◌≡◌, map, drop}
-use Rattle.xdp_load.specs.Places.{first_row, text_hex}
+use Rattle.xdp_load.specs.Spots.{first_row, text_hex}
 use Rattle.xdp_load.specs.Seen.{hex_seen}
 use Rattle.xdp_load.specs.declared.key.Key.TheVariants as key
 use Rattle.xdp_load.proofs.byte_spots.program_spot.Given as goal

@@ -1,7 +1,7 @@
 use Rattle.std.proofs.Common.{◌∙◌, ap, sym}
 use Rattle.toml.specs.View.{view}
-use Rattle.xdp_load.proofs.SpotLemmas.{row_found, row_passed}
-use Rattle.xdp_load.specs.Places.{row_kind}
+use Rattle.xdp_load.proofs.SpotLemmas.{row_passed}
+use Rattle.xdp_load.specs.Spots.{row_kind}
 use Rattle.xdp_load.proofs.kind_spots.first_kind.Goals as goal
 
 pub loop-i-preserved : goal.loop-i-preserved

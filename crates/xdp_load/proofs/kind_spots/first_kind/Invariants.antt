@@ -1,6 +1,6 @@
 use Rattle.std.proofs.Common.{◌≡◌, map, drop}
 use Rattle.toml.specs.View.{view}
-use Rattle.xdp_load.specs.Places.{first_row, row_kind}
+use Rattle.xdp_load.specs.Spots.{first_row, row_kind}
 use Rattle.xdp_load.proofs.kind_spots.first_kind.Given as goal
 
 abbrev pub invariant-loop-i : goal.invariant-loop-i

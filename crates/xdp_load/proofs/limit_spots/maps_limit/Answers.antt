@@ -1,6 +1,6 @@
-use Rattle.std.proofs.Common.{◌∙◌, sym, map}
+use Rattle.std.proofs.Common.{◌∙◌, sym}
 use Rattle.xdp_load.proofs.SpotLemmas.{row_passed}
-use Rattle.xdp_load.specs.Places.{map_limit}
+use Rattle.xdp_load.specs.Spots.{map_limit}
 use Rattle.xdp_load.specs.Seen.{map_seen}
 use Rattle.xdp_load.proofs.limit_spots.maps_limit.Goals as goal
 

@@ -1,5 +1,5 @@
 use Rattle.std.proofs.Common.{◌≡◌, map, drop}
-use Rattle.xdp_load.specs.Places.{first_row, map_limit}
+use Rattle.xdp_load.specs.Spots.{first_row, map_limit}
 use Rattle.xdp_load.specs.Seen.{map_seen}
 use Rattle.xdp_load.proofs.limit_spots.maps_limit.Given as goal
 

@@ -1,5 +1,5 @@
 use Rattle.std.proofs.Common.{◌≡◌, map, drop}
-use Rattle.xdp_load.specs.Places.{first_row, packet_limit}
+use Rattle.xdp_load.specs.Spots.{first_row, packet_limit}
 use Rattle.xdp_load.specs.Seen.{packet_seen}
 use Rattle.xdp_load.proofs.limit_spots.packets_limit.Given as goal
 

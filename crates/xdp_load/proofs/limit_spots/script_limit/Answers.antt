@@ -1,6 +1,6 @@
-use Rattle.std.proofs.Common.{◌∙◌, sym, map}
+use Rattle.std.proofs.Common.{◌∙◌, sym}
 use Rattle.xdp_load.proofs.SpotLemmas.{row_passed}
-use Rattle.xdp_load.specs.Places.{step_limit}
+use Rattle.xdp_load.specs.Spots.{step_limit}
 use Rattle.xdp_load.specs.Seen.{step_seen}
 use Rattle.xdp_load.proofs.limit_spots.script_limit.Goals as goal
 

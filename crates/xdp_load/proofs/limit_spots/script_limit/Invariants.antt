@@ -1,5 +1,5 @@
 use Rattle.std.proofs.Common.{◌≡◌, map, drop}
-use Rattle.xdp_load.specs.Places.{first_row, step_limit}
+use Rattle.xdp_load.specs.Spots.{first_row, step_limit}
 use Rattle.xdp_load.specs.Seen.{step_seen}
 use Rattle.xdp_load.proofs.limit_spots.script_limit.Given as goal
 

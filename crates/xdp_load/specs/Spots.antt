@@ -1,14 +1,14 @@
 -- Where settings are wrong: of the places that have the fault the first, in the order of docs/SETTINGS.md.
-use Rattle.std.specs.Prelude.{ℕ, zero, suc, ◌+◌, ◌≡◌, ◌≤◌, ◌==◌, ◌||◌, List, [], ◌∷◌, ◌++◌, length, take, count_by, codes, decimal}
-use Rattle.std.specs.Prelude.{pos, Bool, true, false, Option, None, Some, option_and_then, option_map, nat_lt, not, position, Result, Ok}
+use Rattle.std.specs.Prelude.{ℕ, suc, ◌+◌, ◌≡◌, ◌≤◌, ◌==◌, ◌||◌, List, [], ◌∷◌, ◌++◌, length, take, count_by, codes, decimal}
+use Rattle.std.specs.Prelude.{pos, Bool, Option, None, Some, option_and_then, option_map, nat_lt, not, position, Result, Ok}
 use Rattle.std.specs.Prelude.{Err, if◌then◌else◌}
 use Rattle.std.specs.List.{list_any}
 use Rattle.std.specs.Option.{is_none, option_or}
 use Rattle.std.specs.Str.{bytes_eq}
 use Rattle.std.specs.Result.{result_ok}
-use Rattle.toml.specs.Data.{Data, Members, no_members, member, as_array, as_integer, as_str, as_table, get_member}
+use Rattle.toml.specs.Data.{Data, Members, no_members, member, as_str, as_table}
 use Rattle.toml.specs.Parse.{parse_document}
-use Rattle.xdp_load.specs.Document.{MapText, PacketText, RelocText, StepText, Text, has_only, integer_at, integer_or, items_list}
+use Rattle.xdp_load.specs.Document.{MapText, PacketText, RelocText, StepText, Text, has_only, integer_at, integer_or}
 use Rattle.xdp_load.specs.Document.{list_at, map_keys, packet_keys, reloc_keys, step_row, text_at, values_at}
 use Rattle.xdp_load.specs.Gives.{or_fault}
 use Rattle.xdp_load.specs.Limits.{below, is_bad_first, is_packet_text, limited, most_word}
@@ -30,6 +30,11 @@ pub data Spot : Type 0 where
 abbrev pub first_row : {A : Type 0} → (A → Option Key) → ℕ → List A → Option Spot
 first_row f n [] = None
 first_row f n (x ∷ xs) = option_or (option_map (λ k. row k n) (f x)) (first_row f (suc n) xs)
+
+-- the first row at which f finds a key, where f is given the row and those after it
+abbrev pub first_from : {A : Type 0} → (List A → Option Key) → ℕ → List A → Option Spot
+first_from f n [] = None
+first_from f n (x ∷ xs) = option_or (option_map (λ k. row k n) (f (x ∷ xs))) (first_from f (suc n) xs)
 
 abbrev pub key_if : Bool → Key → Option Key
 key_if b k = if b then Some k else None
@@ -85,15 +90,16 @@ rows_kind k None = Some (at k)
 rows_kind k (Some ds) = first_row (row_kind k) 0 ds
 
 abbrev pub lists_kind : Members → Option Spot
-lists_kind ms = option_or (option_or (option_or (option_or
-    (rows_kind key.Program (list_at (codes "program") ms))
-    (rows_kind key.Map (values_at (codes "map") ms)))
+lists_kind ms = option_or (option_or (option_or
+    (rows_kind key.Map (values_at (codes "map") ms))
     (rows_kind key.Reloc (values_at (codes "reloc") ms)))
     (rows_kind key.Step (values_at (codes "script") ms)))
     (rows_kind key.Packet (values_at (codes "packet") ms))
 
 abbrev pub kind_spot : Members → Option Spot
-kind_spot ms = option_or (option_map unknown (unknown_key top_keys ms)) (option_or (option_map at (number_kind ms)) (lists_kind ms))
+kind_spot ms = option_or (option_map unknown (unknown_key top_keys ms))
+    (option_or (rows_kind key.Program (list_at (codes "program") ms))
+    (option_or (option_map at (number_kind ms)) (lists_kind ms)))
 
 -- ---- numbers and lengths
 
@@ -121,15 +127,14 @@ rows_limit w (Some queues) = option_or (option_or (first_row map_limit 0 w.maps)
     (first_row (packet_limit queues) 0 w.packets)
 
 abbrev pub limit_spot : WrittenText → Option Spot
-limit_spot w = option_or (option_map at (key_if (nat_lt 4 (length w.maps)) key.Map))
-    (option_or (option_map at (number_limit w.numbers)) (rows_limit w (limited 1 8 w.numbers.queues)))
+limit_spot w = option_or (option_map at (number_limit w.numbers))
+    (option_or (option_map at (key_if (nat_lt 4 (length w.maps)) key.Map)) (rows_limit w (limited 1 8 w.numbers.queues)))
 
 -- ---- names
 
--- the first name that is a wrong one, or is given again
-abbrev pub name_spot : ℕ → List Text → Option Spot
-name_spot n [] = None
-name_spot n (x ∷ xs) = option_or (option_map (λ k. row k n) (key_if (is_bad_first (x ∷ xs)) key.Name)) (name_spot (suc n) xs)
+-- a name is a wrong one, or is given again
+abbrev pub name_fault : List Text → Option Key
+name_fault names = key_if (is_bad_first names) key.Name
 
 -- ---- hex
 
@@ -141,27 +146,22 @@ hex_spot w = option_or (first_row (text_hex key.Program) 0 w.program) (first_row
 
 -- ---- relocations
 
-abbrev pub reloc_fault : List ℕ → List Text → RelocText → Option Key
-reloc_fault program names r = option_or (key_if (is_none (wide_slot program r.slot)) key.Slot)
+-- what the first relocation is wrong by; also if a later one has its slot
+abbrev pub reloc_fault : List ℕ → List Text → List RelocText → Option Key
+reloc_fault program names [] = None
+reloc_fault program names (r ∷ rs) =
+    option_or (key_if (is_none (wide_slot program r.slot) || is_taken_again (r ∷ rs)) key.Slot)
     (key_if (is_none (position (bytes_eq r.map) names)) key.OfMap)
 
--- the first relocation whose slot a later one has
-abbrev pub taken_spot : ℕ → List RelocText → Option Spot
-taken_spot n [] = None
-taken_spot n (r ∷ rs) = option_or (option_map (λ k. row k n) (key_if (is_taken_again (r ∷ rs)) key.Slot)) (taken_spot (suc n) rs)
-
-abbrev pub relocs_spot : List ℕ → List Text → List RelocText → Option Spot
-relocs_spot program names rs = option_or (first_row (reloc_fault program names) 0 rs) (taken_spot 0 rs)
-
 abbrev pub reloc_spot : WrittenText → Result (List ℕ) Fault → Option Spot
-reloc_spot w (Ok program) = relocs_spot program (names_of w.maps) w.relocs
+reloc_spot w (Ok program) = first_from (reloc_fault program (names_of w.maps)) 0 w.relocs
 reloc_spot w (Err f) = None
 
 -- ---- the whole
 
 abbrev pub written_spot : Fault → WrittenText → Option Spot
 written_spot fault.Limit w = limit_spot w
-written_spot fault.Name w = name_spot 0 (names_of w.maps)
+written_spot fault.Name w = first_from name_fault 0 (names_of w.maps)
 written_spot fault.Hex w = hex_spot w
 written_spot fault.Relocation w = reloc_spot w (or_fault fault.Hex (joined w.program))
 written_spot _ w = None

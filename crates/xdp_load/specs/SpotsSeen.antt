@@ -1,5 +1,5 @@
--- What the places of the code stand for.
-use Rattle.xdp_load.specs.Places.{Spot, at, row, unknown}
+-- What the spots of the code stand for.
+use Rattle.xdp_load.specs.Spots.{Spot, at, row, unknown}
 use Rattle.xdp_load.specs.declared.spot.Spot.{Spot as CodeSpot}
 use Rattle.xdp_load.specs.declared.spot.Spot.TheVariants as code
 
