@@ -55,7 +55,7 @@ any_map test f (x ∷ xs) = ap (λ b. test (f x) || b) (any_map test f xs)
 pub rest_is : {A : Type 0} (xs : List A) (i : ℕ) → take (length xs - i) (drop i xs) ≡ drop i xs
 rest_is xs i = rw (← length-drop i xs) (take-length (drop i xs))
 
-prefix_map : {A B : Type 0} (test : B → Bool) (f : A → B) (xs : List A) → prefix_len (λ x. not (test (f x))) xs ≡ prefix_len (λ y. not (test y)) (map f xs)
+pub prefix_map : {A B : Type 0} (test : B → Bool) (f : A → B) (xs : List A) → prefix_len (λ x. not (test (f x))) xs ≡ prefix_len (λ y. not (test y)) (map f xs)
 prefix_map test f [] = refl
 prefix_map test f (x ∷ xs) = ap (λ n. cond (not (test (f x))) (1 + n) 0) (prefix_map test f xs)
 

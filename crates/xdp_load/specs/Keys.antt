@@ -1,5 +1,5 @@
 -- The keys of settings: where each stands, and what docs/SETTINGS.md allows there.
-use Rattle.std.specs.Prelude.{ℕ, List, [], codes}
+use Rattle.std.specs.Prelude.{ℕ, List, Option, Some, None, codes}
 use Rattle.xdp_load.specs.declared.key.Key.{Key}
 use Rattle.xdp_load.specs.declared.key.Key.TheVariants.{Program, Queues, IfIndex, Start, Map, Name, Entries, Counters, Reloc, Slot}
 use Rattle.xdp_load.specs.declared.key.Key.TheVariants.{OfMap, Step, StepQueue, Answer, Packet, PacketQueue, Bytes, Times}
@@ -25,19 +25,19 @@ list_name PacketQueue = codes "packet"
 list_name Bytes = codes "packet"
 list_name Times = codes "packet"
 
--- the key within a row
-abbrev pub part_name : Key → List ℕ
-part_name Name = codes ", name"
-part_name Entries = codes ", entries"
-part_name Counters = codes ", counters"
-part_name Slot = codes ", slot"
-part_name OfMap = codes ", map"
-part_name StepQueue = codes ", queue"
-part_name PacketQueue = codes ", queue"
-part_name Answer = codes ", answer"
-part_name Bytes = codes ", bytes"
-part_name Times = codes ", times"
-part_name _ = []
+-- the key within a row, or the part of a step
+abbrev pub part_name : Key → Option (List ℕ)
+part_name Name = Some (codes "name")
+part_name Entries = Some (codes "entries")
+part_name Counters = Some (codes "counters")
+part_name Slot = Some (codes "slot")
+part_name OfMap = Some (codes "map")
+part_name StepQueue = Some (codes "queue")
+part_name PacketQueue = Some (codes "queue")
+part_name Answer = Some (codes "answer")
+part_name Bytes = Some (codes "bytes")
+part_name Times = Some (codes "times")
+part_name _ = None
 
 abbrev pub allowed : Key → List ℕ
 allowed Program = codes "a list of hex texts, each with whole bytes; it has to be there"

@@ -5,6 +5,7 @@ pub mod Gives
 pub mod Keys
 pub mod Limits
 pub mod LimitsSeen
+pub mod Lines
 pub mod Seen
 pub mod Setup
 pub mod SetupSeen

@@ -3,14 +3,16 @@ use Rattle.std.specs.Prelude.{ℕ, suc, ◌+◌, ◌≡◌, ◌≤◌, ◌==◌,
 use Rattle.std.specs.Prelude.{pos, Bool, Option, None, Some, option_and_then, option_map, nat_lt, not, position, Result, Ok}
 use Rattle.std.specs.Prelude.{Err, if◌then◌else◌}
 use Rattle.std.specs.List.{list_any}
-use Rattle.std.specs.Option.{is_none, option_or}
+use Rattle.std.specs.Option.{is_none, option_map_or, option_or}
 use Rattle.std.specs.Str.{bytes_eq}
+use Rattle.std.specs.Str.Lines.{lines}
 use Rattle.std.specs.Result.{result_ok}
 use Rattle.toml.specs.Data.{Data, Members, no_members, member, as_str, as_table}
 use Rattle.toml.specs.Parse.{parse_document}
 use Rattle.xdp_load.specs.Document.{MapText, PacketText, RelocText, StepText, Text, has_only, integer_at, integer_or}
 use Rattle.xdp_load.specs.Document.{list_at, map_keys, packet_keys, reloc_keys, step_row, text_at, values_at}
 use Rattle.xdp_load.specs.Gives.{or_fault}
+use Rattle.xdp_load.specs.Lines.{row_line, top_line}
 use Rattle.xdp_load.specs.Limits.{below, is_bad_first, is_packet_text, limited, most_word}
 use Rattle.xdp_load.specs.Setup.{bytes_of, is_taken_again, joined, names_of, text_of, wide_slot}
 use Rattle.xdp_load.specs.Written.{NumberTexts, WrittenText, top_keys, written_of}
@@ -170,18 +172,38 @@ abbrev pub document_spot : Fault → Members → Option Spot
 document_spot fault.Key ms = kind_spot ms
 document_spot f ms = option_and_then (written_spot f) (result_ok (written_of ms))
 
+abbrev pub part_text : Option Text → List ℕ
+part_text None = []
+part_text (Some part) = codes ", " ++ part
+
 abbrev pub spot_text : Spot → List ℕ
 spot_text (at k) = list_name k ++ (codes ": " ++ (allowed k ++ codes "\n"))
-spot_text (row k n) = list_name k ++ (codes " " ++ (decimal n ++ (part_name k ++ (codes ": " ++ (allowed k ++ codes "\n")))))
+spot_text (row k n) = list_name k ++ (codes " " ++ (decimal n ++ (part_text (part_name k) ++ (codes ": " ++ (allowed k ++ codes "\n")))))
 spot_text (unknown name) = name ++ codes ": no key of settings\n"
 
--- the line of the first fault of that kind; nothing where there is none
-abbrev pub line_if : Option Spot → List ℕ
-line_if None = []
-line_if (Some s) = spot_text s
+-- ---- the line of the text
 
+-- the line of a spot, counted from 0, where one is found
+abbrev pub spot_number : Spot → List Text → Option ℕ
+spot_number (at k) ls = top_line (list_name k) ls
+spot_number (row k n) ls = row_line (list_name k) (part_name k) n ls
+spot_number (unknown name) ls = top_line name ls
+
+abbrev pub number_text : Option ℕ → List ℕ
+number_text None = []
+number_text (Some n) = codes "line " ++ (decimal (n + 1) ++ codes ": ")
+
+-- what is said of a spot in a text of those lines; nothing where there is no spot
+abbrev pub said_of_spot : List Text → Option Spot → List ℕ
+said_of_spot ls None = []
+said_of_spot ls (Some s) = number_text (spot_number s ls) ++ spot_text s
+
+abbrev pub said_of_text : Fault → Text → List ℕ
+said_of_text f text = said_of_spot (lines text) (option_and_then (document_spot f) (parse_document text))
+
+-- what is said of the first fault of that kind
 abbrev pub spot_line : Fault → List ℕ → List ℕ
-spot_line f bytes = line_if (option_and_then (λ text. option_and_then (document_spot f) (parse_document text)) (text_of bytes))
+spot_line f bytes = option_map_or (said_of_text f) (text_of bytes) []
 
 -- the number of the line that holds the byte at that place, from 1
 abbrev pub line_at : ℕ → List ℕ → ℕ

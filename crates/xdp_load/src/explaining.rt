@@ -1,7 +1,7 @@
 //! The line that says where settings are refused.
 ghost use Rattle.std.specs.Prelude.{◌≡◌, ◌≤◌, ◌==◌, IfOk, Ok, count_by, length, option_map, string_bytes};
 ghost use Rattle.toml.specs.View.{table_view};
-ghost use Rattle.xdp_load.specs.Spots.{IsFaultText, IsSyntaxLine, document_spot, reloc_spot, spot_line, syntax_text, written_spot};
+ghost use Rattle.xdp_load.specs.Spots.{IsFaultText, IsSyntaxLine, document_spot, reloc_spot, said_of_text, spot_line, syntax_text, written_spot};
 ghost use Rattle.xdp_load.specs.SpotsSeen.{spot_seen};
 ghost use Rattle.xdp_load.specs.Seen.{written_seen};
 ghost use Rattle.xdp_load.specs.declared.fault.Fault.{Fault};
@@ -13,7 +13,7 @@ use crate::kind_spots::kind_spot;
 use crate::limit_spots::{limit_spot, name_spot};
 use crate::packets::joined;
 use crate::setup::text_of;
-use crate::spot::{Spot, spot_text};
+use crate::spot::{Spot, said_of_spot};
 use std::alloc::{AllocError, Global};
 use toml::Table;
 
@@ -67,16 +67,13 @@ fn document_spot(alloc: Global, fault: Fault, table: &Table) -> Result<Option<Sp
     }
 }
 
-/// The line of the first fault of that kind in a text; nothing where there is none.
-fn spot_line(alloc: Global, fault: Fault, bytes: &[u8]) -> Result<String, AllocError>
-    ensures { IfOk result (λ s. string_bytes s ≡ spot_line fault bytes.now) }
+/// What is said of the first fault of that kind in a text; nothing where there is none.
+fn said_of_text(alloc: Global, fault: Fault, text: &str) -> Result<String, AllocError>
+    ensures { IfOk result (λ s. string_bytes s ≡ said_of_text fault text.now) }
 {
-    let Some(text) = text_of(bytes) else {
-        return Ok(String::new(alloc));
-    };
     match toml::table_from_str(alloc, text) {
         Ok(table) => match document_spot(alloc, fault, &table)? {
-            Some(spot) => spot_text(alloc, spot),
+            Some(spot) => said_of_spot(alloc, spot, text),
             None => Ok(String::new(alloc)),
         },
         Err(error) => {
@@ -86,6 +83,16 @@ fn spot_line(alloc: Global, fault: Fault, bytes: &[u8]) -> Result<String, AllocE
                 Ok(String::new(alloc))
             }
         }
+    }
+}
+
+/// What is said of the first fault of that kind; nothing of what is no text.
+fn spot_line(alloc: Global, fault: Fault, bytes: &[u8]) -> Result<String, AllocError>
+    ensures { IfOk result (λ s. string_bytes s ≡ spot_line fault bytes.now) }
+{
+    match text_of(bytes) {
+        Some(text) => said_of_text(alloc, fault, text),
+        None => Ok(String::new(alloc)),
     }
 }
 

@@ -1,5 +1,5 @@
 //! The keys of settings, and what is allowed at each.
-ghost use Rattle.std.specs.Prelude.{◌≡◌};
+ghost use Rattle.std.specs.Prelude.{◌≡◌, option_map};
 ghost use Rattle.xdp_load.specs.Keys.{allowed, list_name, part_name};
 
 /// A key of the settings. `Map`, `Reloc`, `Step` and `Packet` are a list, or one of its rows, as a whole.
@@ -42,21 +42,21 @@ impl Key {
         }
     }
 
-    /// The key within a row; nothing for what is none.
-    pub fn part_name(self) -> &'static str
-        ensures { result.now ≡ part_name self }
+    /// The key within a row, or the part of a step.
+    pub fn part_name(self) -> Option<&'static str>
+        ensures { option_map (λ s. s.now) result ≡ part_name self }
     {
         match self {
-            Key::Name => ", name",
-            Key::Entries => ", entries",
-            Key::Counters => ", counters",
-            Key::Slot => ", slot",
-            Key::OfMap => ", map",
-            Key::StepQueue | Key::PacketQueue => ", queue",
-            Key::Answer => ", answer",
-            Key::Bytes => ", bytes",
-            Key::Times => ", times",
-            _ => "",
+            Key::Name => Some("name"),
+            Key::Entries => Some("entries"),
+            Key::Counters => Some("counters"),
+            Key::Slot => Some("slot"),
+            Key::OfMap => Some("map"),
+            Key::StepQueue | Key::PacketQueue => Some("queue"),
+            Key::Answer => Some("answer"),
+            Key::Bytes => Some("bytes"),
+            Key::Times => Some("times"),
+            _ => None,
         }
     }
 

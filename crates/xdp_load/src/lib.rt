@@ -11,6 +11,8 @@ mod kinds;
 mod laws;
 mod limit_spots;
 mod limits;
+mod line_words;
+mod lines;
 mod names;
 mod packets;
 mod relocations;
