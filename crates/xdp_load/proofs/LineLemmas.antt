@@ -3,7 +3,7 @@ use Rattle.std.proofs.Common.{◌≡◌, ◌<◌, ◌≤◌, ◌+◌, ◌-◌, �
 use Rattle.std.proofs.lemmas.List.{drop_more, drop-map, take-map}
 use Rattle.std.specs.List.{prefix_len, slice_get}
 use Rattle.std.specs.Str.{bytes_eq}
-use Rattle.xdp_load.proofs.RowLemmas.{position_map, prefix_map}
+use Rattle.xdp_load.proofs.RowLemmas.{position_map, prefix_map, rest_is}
 use Rattle.xdp_load.specs.Document.{Text}
 use Rattle.xdp_load.specs.Lines.{behind, is_blank, is_header, is_pair, is_row, pair_line, row_lines, skip_blanks}
 
@@ -43,3 +43,7 @@ header_counted name ls i before number d h e less =
 pub header_found : (name : Text) (ls : List (Bor Text)) (i : ℕ) (d : Bor Text) → i < length ls → is_row name (get_or ls i d).now ≡ true
     → slice_get (row_lines name i (map (λ l. l.now) (drop i ls))) 0 ≡ Some i
 header_found name ls i d h e = rw (drop_more ls i d h, e)
+
+-- the lines below a line
+pub below_map : (key : Text) (ls : List (Bor Text)) (i : ℕ) → pair_line key (map (λ l. l.now) (take (length ls - i) (drop i ls))) ≡ pair_line key (drop i (map (λ l. l.now) ls))
+below_map key ls i = rw (rest_is ls i) (ap (pair_line key) (sym (drop-map (λ l. l.now) i ls)))

@@ -1,7 +1,7 @@
 //! The line of settings at which a key, or a row of a list, is found.
-ghost use Rattle.std.specs.Prelude.{◌≡◌, ◌<◌, IfOk, IfSome, length, map, option_map, slice_get};
+ghost use Rattle.std.specs.Prelude.{◌≡◌, ◌<◌, IfOk, IfSome, length, map, option_map, position, slice_get};
 ghost use Rattle.std.specs.Str.Lines.{lines};
-ghost use Rattle.xdp_load.specs.Lines.{pair_line, part_line, row_line, row_lines, top_line};
+ghost use Rattle.xdp_load.specs.Lines.{is_table, pair_line, part_line, row_line, row_lines, top_line};
 
 use crate::line_words::{is_header, is_pair, is_row, is_table};
 use std::alloc::{AllocError, Global};
