@@ -189,14 +189,14 @@ spot_number (at k) ls = top_line (list_name k) ls
 spot_number (row k n) ls = row_line (list_name k) (part_name k) n ls
 spot_number (unknown name) ls = top_line name ls
 
-abbrev pub number_text : Option ℕ → List ℕ
-number_text None = []
-number_text (Some n) = codes "line " ++ (decimal (n + 1) ++ codes ": ")
+abbrev pub numbered : Option ℕ → List ℕ → List ℕ
+numbered None said = said
+numbered (Some n) said = codes "line " ++ (decimal (n + 1) ++ (codes ": " ++ said))
 
 -- what is said of a spot in a text of those lines; nothing where there is no spot
 abbrev pub said_of_spot : List Text → Option Spot → List ℕ
 said_of_spot ls None = []
-said_of_spot ls (Some s) = number_text (spot_number s ls) ++ spot_text s
+said_of_spot ls (Some s) = numbered (spot_number s ls) (spot_text s)
 
 abbrev pub said_of_text : Fault → Text → List ℕ
 said_of_text f text = said_of_spot (lines text) (option_and_then (document_spot f) (parse_document text))

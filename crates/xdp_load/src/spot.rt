@@ -1,7 +1,7 @@
 //! A place in settings.
-ghost use Rattle.std.specs.Prelude.{◌≡◌, ◌<◌, ◌++◌, IfOk, IfSome, Some, length, map, string_bytes};
+ghost use Rattle.std.specs.Prelude.{◌≡◌, ◌<◌, ◌++◌, IfOk, IfSome, Some, codes, decimal, length, map, string_bytes};
 ghost use Rattle.std.specs.Str.Lines.{lines};
-ghost use Rattle.xdp_load.specs.Spots.{number_text, said_of_spot, spot_number, spot_text};
+ghost use Rattle.xdp_load.specs.Spots.{at, numbered, row, said_of_spot, spot_number, spot_text, unknown};
 ghost use Rattle.xdp_load.specs.SpotsSeen.{spot_seen};
 
 use crate::key::Key;
@@ -17,26 +17,60 @@ pub enum Spot<'a> {
     Unknown(&'a str),
 }
 
-/// What is allowed there.
+/// What is allowed at a key of the document.
+fn key_text(alloc: Global, key: Key) -> Result<String, AllocError>
+    ensures { IfOk result (λ s. string_bytes s ≡ spot_text (at key)) }
+{
+    let list = key.list_name();
+    let allowed = key.allowed();
+    format!(in alloc; "{list}: {allowed}\n")
+}
+
+/// What is allowed in a whole row of a list.
+fn whole_text(alloc: Global, list: &str, number: usize, allowed: &str) -> Result<String, AllocError>
+    ensures { IfOk result (λ s. string_bytes s
+        ≡ list.now ++ (codes " " ++ (decimal number ++ (codes ": " ++ (allowed.now ++ codes "\n"))))) }
+{
+    format!(in alloc; "{list} {number}: {allowed}\n")
+}
+
+/// What is allowed in a row of a list.
+fn row_text(alloc: Global, key: Key, number: usize) -> Result<String, AllocError>
+    ensures { IfOk result (λ s. string_bytes s ≡ spot_text (row key number)) }
+{
+    let list = key.list_name();
+    let allowed = key.allowed();
+    match key.part_name() {
+        Some(part) => format!(in alloc; "{list} {number}, {part}: {allowed}\n"),
+        None => whole_text(alloc, list, number, allowed),
+    }
+}
+
+/// That a key is none.
+fn unknown_text(alloc: Global, name: &str) -> Result<String, AllocError>
+    ensures { IfOk result (λ s. string_bytes s ≡ spot_text (unknown name.now)) }
+{
+    format!(in alloc; "{name}: no key of settings\n")
+}
+
+/// What is allowed at a spot.
 fn spot_text(alloc: Global, spot: Spot<'_>) -> Result<String, AllocError>
     ensures { IfOk result (λ s. string_bytes s ≡ spot_text (spot_seen spot.entry)) }
 {
     match spot {
-        Spot::At(key) => {
-            let list = key.list_name();
-            let allowed = key.allowed();
-            format!(in alloc; "{list}: {allowed}\n")
-        }
-        Spot::Row(key, number) => {
-            let list = key.list_name();
-            let allowed = key.allowed();
-            match key.part_name() {
-                Some(part) => format!(in alloc; "{list} {number}, {part}: {allowed}\n"),
-                None => format!(in alloc; "{list} {number}: {allowed}\n"),
-            }
-        }
-        Spot::Unknown(name) => format!(in alloc; "{name}: no key of settings\n"),
+        Spot::At(key) => key_text(alloc, key),
+        Spot::Row(key, number) => row_text(alloc, key, number),
+        Spot::Unknown(name) => unknown_text(alloc, name),
     }
+}
+
+/// The number of a line, counted from 0, before what is said of it.
+fn before_text(alloc: Global, before: usize, said: &str) -> Result<String, AllocError>
+    requires { before < usize.MAX }
+    ensures { IfOk result (λ s. string_bytes s ≡ numbered (Some before) said.now) }
+{
+    let line = before + 1;
+    format!(in alloc; "line {line}: {said}")
 }
 
 /// The line of a spot, counted from 0, where one is found.
@@ -54,14 +88,11 @@ fn spot_number(spot: Spot<'_>, lines: &[&str]) -> Option<usize>
 /// The line that says what is allowed at a spot, with the number of its line in the text.
 fn numbered_text(alloc: Global, spot: Spot<'_>, lines: &[&str]) -> Result<String, AllocError>
     ensures { IfOk result (λ s. string_bytes s
-        ≡ number_text (spot_number (spot_seen spot.entry) (map (λ l. l.now) lines.now)) ++ spot_text (spot_seen spot.entry)) }
+        ≡ numbered (spot_number (spot_seen spot.entry) (map (λ l. l.now) lines.now)) (spot_text (spot_seen spot.entry))) }
 {
     let said = spot_text(alloc, spot)?;
     match spot_number(spot, lines) {
-        Some(before) => {
-            let line = before + 1;
-            format!(in alloc; "line {line}: {said}")
-        }
+        Some(before) => before_text(alloc, before, said.as_str()),
         None => Ok(said),
     }
 }
