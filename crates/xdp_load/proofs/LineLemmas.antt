@@ -1,5 +1,5 @@
 -- What a line begins with, and which line is found.
-use Rattle.std.proofs.Common.{◌≡◌, ◌<◌, ◌≤◌, ◌+◌, ◌-◌, ◌∙◌, Bor, MatchOption, add-one, arith, ap, sym, ℕ, zero, suc, List, [], ◌∷◌, length, get_or, drop, take, map, not, position, Option, Some, None, option_map, true, false, refl}
+use Rattle.std.proofs.Common.{◌≡◌, ◌<◌, ◌+◌, ◌-◌, ◌∙◌, Bor, MatchOption, add-one, arith, ap, sym, ℕ, suc, List, length, get_or, drop, take, map, not, position, Option, Some, None, option_map, true, false}
 use Rattle.std.proofs.lemmas.List.{drop_more, drop-map, take-map}
 use Rattle.std.specs.List.{prefix_len, slice_get}
 use Rattle.std.specs.Str.{bytes_eq}

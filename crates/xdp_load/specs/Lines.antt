@@ -1,6 +1,6 @@
 -- The line of a settings text at which a key, a row of a list or a key of the row is found.
-use Rattle.std.specs.Prelude.{ℕ, zero, suc, ◌+◌, ◌==◌, ◌||◌, List, [], ◌∷◌, length, take, drop, codes, slice_get}
-use Rattle.std.specs.Prelude.{Bool, true, false, not, Option, Some, None, option_map, position, if◌then◌else◌}
+use Rattle.std.specs.Prelude.{ℕ, suc, ◌+◌, ◌==◌, ◌||◌, List, [], ◌∷◌, length, take, drop, codes, slice_get}
+use Rattle.std.specs.Prelude.{Bool, false, not, Option, Some, None, option_map, position, if◌then◌else◌}
 use Rattle.std.specs.List.{find, list_any, take_while}
 use Rattle.std.specs.Option.{option_map_or, option_or}
 use Rattle.std.specs.Str.{bytes_eq}

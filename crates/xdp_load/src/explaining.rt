@@ -1,7 +1,8 @@
 //! The line that says where settings are refused.
 ghost use Rattle.std.specs.Prelude.{◌≡◌, ◌≤◌, ◌==◌, IfOk, Ok, count_by, length, option_map, string_bytes};
 ghost use Rattle.toml.specs.View.{table_view};
-ghost use Rattle.xdp_load.specs.Spots.{IsFaultText, IsSyntaxLine, document_spot, reloc_spot, said_of_text, spot_line, syntax_text, written_spot};
+ghost use Rattle.xdp_load.specs.Spots.{IsFaultText, IsSyntaxLine, document_spot, reloc_spot, said_of_text};
+ghost use Rattle.xdp_load.specs.Spots.{spot_line, syntax_text, written_spot};
 ghost use Rattle.xdp_load.specs.SpotsSeen.{spot_seen};
 ghost use Rattle.xdp_load.specs.Seen.{written_seen};
 ghost use Rattle.xdp_load.specs.declared.fault.Fault.{Fault};

@@ -182,7 +182,8 @@ fn a_key_of_a_row(rt: HostRuntime) {
         ),
         (
             "line 7: ",
-            "program = []\n[[packet]]\nqueue = 0\nbytes = \"000102030405060708090a0b0c0d\"\n[[packet]]\nqueue = 0\nbytes = \"000102030405060708090a0b0c0g\"\n",
+            "program = []\n[[packet]]\nqueue = 0\nbytes = \"000102030405060708090a0b0c0d\"\n\
+             [[packet]]\nqueue = 0\nbytes = \"000102030405060708090a0b0c0g\"\n",
             BYTES_1,
         ),
         (
@@ -245,7 +246,9 @@ fn a_list_as_a_whole(rt: HostRuntime) {
         ("line 3: ", "program = []\n\nmap = 1\n", MAPS),
         (
             "line 5: ",
-            "program = []\n[[reloc]] # one, two\nslot = 0\nmap = \"a\"\n[[map]]\nname = \"a\"\nentries = 1\n[[map]]\nname = \"b\"\nentries = 1\n[[map]]\nname = \"c\"\nentries = 1\n[[map]]\nname = \"d\"\nentries = 1\n[[map]]\nname = \"e\"\nentries = 1\n",
+            "program = []\n[[reloc]] # one, two\nslot = 0\nmap = \"a\"\n[[map]]\nname = \"a\"\nentries = 1\n\
+             [[map]]\nname = \"b\"\nentries = 1\n[[map]]\nname = \"c\"\nentries = 1\n\
+             [[map]]\nname = \"d\"\nentries = 1\n[[map]]\nname = \"e\"\nentries = 1\n",
             MAPS,
         ),
     ];

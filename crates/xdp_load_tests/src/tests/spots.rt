@@ -63,12 +63,16 @@ fn numbers_come_before_maps(rt: HostRuntime) {
     let rows = [
         (
             "line 1: ",
-            "queues = 9\nprogram = []\n[[map]]\nname = \"a\"\nentries = 1\n[[map]]\nname = \"b\"\nentries = 1\n[[map]]\nname = \"c\"\nentries = 1\n[[map]]\nname = \"d\"\nentries = 1\n[[map]]\nname = \"e\"\nentries = 1\n",
+            "queues = 9\nprogram = []\n[[map]]\nname = \"a\"\nentries = 1\n\
+             [[map]]\nname = \"b\"\nentries = 1\n[[map]]\nname = \"c\"\nentries = 1\n\
+             [[map]]\nname = \"d\"\nentries = 1\n[[map]]\nname = \"e\"\nentries = 1\n",
             QUEUES,
         ),
         (
             "line 1: ",
-            "start = -1\nprogram = []\n[[map]]\nname = \"a\"\nentries = 1\n[[map]]\nname = \"b\"\nentries = 1\n[[map]]\nname = \"c\"\nentries = 1\n[[map]]\nname = \"d\"\nentries = 1\n[[map]]\nname = \"e\"\nentries = 1\n",
+            "start = -1\nprogram = []\n[[map]]\nname = \"a\"\nentries = 1\n\
+             [[map]]\nname = \"b\"\nentries = 1\n[[map]]\nname = \"c\"\nentries = 1\n\
+             [[map]]\nname = \"d\"\nentries = 1\n[[map]]\nname = \"e\"\nentries = 1\n",
             START,
         ),
         ("line 2: ", "program = []\nqueues = true\n[map]\n", QUEUES),
@@ -125,22 +129,30 @@ fn relocations_come_in_their_order(rt: HostRuntime) {
     let rows = [
         (
             "line 6: ",
-            "program = [\"18010000000000001801000000000000\"]\n[[map]]\nname = \"a\"\nentries = 1\n[[reloc]]\nslot = 0\nmap = \"a\"\n[[reloc]]\nslot = 0\nmap = \"a\"\n[[reloc]]\nslot = 9\nmap = \"a\"\n",
+            "program = [\"18010000000000001801000000000000\"]\n[[map]]\nname = \"a\"\nentries = 1\n\
+             [[reloc]]\nslot = 0\nmap = \"a\"\n[[reloc]]\nslot = 0\nmap = \"a\"\n\
+             [[reloc]]\nslot = 9\nmap = \"a\"\n",
             SLOT_0,
         ),
         (
             "line 6: ",
-            "program = [\"18010000000000001801000000000000\"]\n[[map]]\nname = \"a\"\nentries = 1\n[[reloc]]\nslot = 0\nmap = \"a\"\n[[reloc]]\nslot = 0\nmap = \"a\"\n[[reloc]]\nslot = 1\nmap = \"b\"\n",
+            "program = [\"18010000000000001801000000000000\"]\n[[map]]\nname = \"a\"\nentries = 1\n\
+             [[reloc]]\nslot = 0\nmap = \"a\"\n[[reloc]]\nslot = 0\nmap = \"a\"\n\
+             [[reloc]]\nslot = 1\nmap = \"b\"\n",
             SLOT_0,
         ),
         (
             "line 9: ",
-            "program = [\"18010000000000001801000000000000\"]\n[[map]]\nname = \"a\"\nentries = 1\n[[reloc]]\nslot = 0\nmap = \"a\"\n[[reloc]]\nslot = 1\nmap = \"a\"\n[[reloc]]\nslot = 1\nmap = \"b\"\n",
+            "program = [\"18010000000000001801000000000000\"]\n[[map]]\nname = \"a\"\nentries = 1\n\
+             [[reloc]]\nslot = 0\nmap = \"a\"\n[[reloc]]\nslot = 1\nmap = \"a\"\n\
+             [[reloc]]\nslot = 1\nmap = \"b\"\n",
             SLOT_1,
         ),
         (
             "line 7: ",
-            "program = [\"18010000000000001801000000000000\"]\n[[map]]\nname = \"a\"\nentries = 1\n[[reloc]]\nslot = 0\nmap = \"b\"\n[[reloc]]\nslot = 1\nmap = \"a\"\n[[reloc]]\nslot = 1\nmap = \"a\"\n",
+            "program = [\"18010000000000001801000000000000\"]\n[[map]]\nname = \"a\"\nentries = 1\n\
+             [[reloc]]\nslot = 0\nmap = \"b\"\n[[reloc]]\nslot = 1\nmap = \"a\"\n\
+             [[reloc]]\nslot = 1\nmap = \"a\"\n",
             OF_MAP_0,
         ),
     ];
