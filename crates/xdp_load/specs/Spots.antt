@@ -1,4 +1,4 @@
--- Where settings are wrong: of the places that have the fault the first, in the order of docs/SETTINGS.md.
+-- Where settings are wrong: of the spots that have the fault the first, in the order of docs/SETTINGS.md.
 use Rattle.std.specs.Prelude.{ℕ, suc, ◌+◌, ◌≡◌, ◌≤◌, ◌==◌, ◌||◌, List, [], ◌∷◌, ◌++◌, length, take, count_by, codes, decimal}
 use Rattle.std.specs.Prelude.{pos, Bool, Option, None, Some, option_and_then, option_map, nat_lt, not, position, Result, Ok}
 use Rattle.std.specs.Prelude.{Err, if◌then◌else◌}

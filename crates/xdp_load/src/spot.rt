@@ -1,4 +1,4 @@
-//! A place in settings.
+//! Where settings can be wrong.
 ghost use Rattle.std.specs.Prelude.{◌≡◌, ◌<◌, ◌++◌, IfOk, IfSome, Some, codes, decimal, length, map, string_bytes};
 ghost use Rattle.std.specs.Str.Lines.{lines};
 ghost use Rattle.xdp_load.specs.Spots.{at, numbered, row, said_of_spot, spot_number, spot_text, unknown};
@@ -8,7 +8,7 @@ use crate::key::Key;
 use crate::lines::{lines_of, row_line, top_line};
 use std::alloc::{AllocError, Global};
 
-/// A place in settings: a key of the document, a row of a list by its number from 0 and which of its keys, or a key that
+/// A spot in settings: a key of the document, a row of a list by its number from 0 and which of its keys, or a key that
 /// settings don't have.
 #[derive(Clone, Copy, Debug)]
 pub enum Spot<'a> {
