@@ -1,19 +1,30 @@
 -- What C is answered where it makes a queue.
-use Rattle.std.specs.Prelude.{ℕ, ◌≡◌, ◌⊎◌, List, Option, Some}
+use Rattle.std.specs.Prelude.{ℕ, ◌≡◌, ◌⊎◌, List, Option, Some, map}
 use Rattle.bpf_verify.specs.Consistent.{Accepted}
+use Rattle.xen_page.specs.declared.extents.Extent.{Extent}
+use Rattle.xen_host.specs.Frames.{Limits}
 use Rattle.xen_host.specs.Making.{Given, IsFaultOf, IsMadeOf}
 use Rattle.xen_host.specs.declared.make.MakeFault.{MakeFault}
 use Rattle.xen_host.specs.declared.make.MakeFault.TheVariants as make
 use Rattle.xen_host.specs.declared.queue.Queue.{Queue}
+use Rattle.xdp_host.specs.declared.queue_extents.XdpExtent.{XdpExtent}
 use Rattle.xdp_host.specs.declared.queue_fault.QueueFault.{QueueFault}
 use Rattle.xdp_host.specs.declared.queue_fault.QueueFault.TheVariants.{Make, Empty}
 use Rattle.xdp_host.specs.declared.queue_plain.XdpQueueDesc.{XdpQueueDesc}
 
--- what C gives
-abbrev pub given : List ℕ → List ℕ → XdpQueueDesc → Given
-given owners table d =
+-- the extents that C gives
+abbrev pub extent_of : XdpExtent → Extent
+extent_of x = record { frames = x.frames; domain = x.domain }
+
+abbrev pub extents_of : List XdpExtent → List Extent
+extents_of extents = map extent_of extents
+
+-- what C gives, with the limits of the form that it gives the owners in
+abbrev pub given : List ℕ → Limits → List ℕ → XdpQueueDesc → Given
+given owners limits table d =
     record {
       owners = owners;
+      limits = limits;
       table = table;
       tx = d.tx;
       rx = d.rx;

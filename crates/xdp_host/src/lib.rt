@@ -17,6 +17,7 @@ ghost use Rattle.xdp_host.specs.Batch.{RanEach};
 ghost use Rattle.xdp_host.specs.Ran.{IsNotRun, action_number};
 ghost use Rattle.xdp_host.specs.Verdict.{accepting, verdict_of, wanting};
 ghost use Rattle.bpf_vm.specs.Actions.{action_of};
+ghost use Rattle.xen_host.specs.Frames.{list_limits};
 ghost use Rattle.xen_host.specs.Queues.{packet_of, resting};
 ghost use Rattle.xdp_host.specs.Made.{MakesOr, fault_number, given};
 ghost use Rattle.xdp_host.specs.Ops.{no_state, state_or};
@@ -31,6 +32,7 @@ mod held;
 mod maps;
 mod plain;
 mod queue_calls;
+mod queue_extents;
 mod queue_fault;
 mod queue_handle;
 mod queue_plain;
@@ -45,12 +47,14 @@ pub use held::Held;
 pub use maps::{laxonje_map_count, laxonje_map_size};
 pub use plain::{XdpMap, XdpRun, XdpVerdict};
 use queue_calls::{boxed, copied, given_packet, stepped};
+pub use queue_extents::{XdpExtent, laxonje_queue_make_extents};
 pub use queue_fault::QueueFault;
 pub use queue_handle::{XdpQueue, queues_cross_threads};
 use queue_plain::NO_QUEUE;
 pub use queue_plain::{XdpOp, XdpQueueDesc, XdpQueueState};
 pub use queue_waits::{laxonje_queue_await, laxonje_queue_flags};
 use std::alloc::Global;
+use xen_host::FrameOwners;
 
 /// The version of `include/laxonje.h`.
 const VERSION: u32 = 1;
@@ -246,12 +250,12 @@ pub extern "C" fn laxonje_queue_make(
 ) -> u32
     ensures kept { program.new.slot.held ≡ program.old.slot.held }
     ensures made { IfSome program.old.slot.held (λ h.
-        MakesOr h.program (given owners.now table.now desc.now) out.old.slot.held out.new.slot.held result) }
+        MakesOr h.program (given owners.now list_limits table.now desc.now) out.old.slot.held out.new.slot.held result) }
     ensures none { IfNone program.old.slot.held ((result ≡ fault_number QueueFault.Empty) × (out.new.slot.held ≡ out.old.slot.held)) }
 {
     match program.take(alloc) {
         Some(held) => {
-            let made = boxed(alloc, &held.program, owners, table, desc);
+            let made = boxed(alloc, &held.program, FrameOwners::Each(owners), table, desc);
             program.put(held);
             out.set(made)
         }

@@ -1,5 +1,6 @@
 //! A queue's calls, on what a handle holds.
 ghost use Rattle.std.specs.Prelude.{◌≡◌, ◌++◌, drop, length, take, IfErr, IfOk};
+ghost use Rattle.xen_host.specs.Frames.{limits_of, owners_in};
 ghost use Rattle.xen_host.specs.Making.{IsFaultOf, IsMadeOf};
 ghost use Rattle.xdp_host.specs.Made.{given};
 ghost use Rattle.xdp_host.specs.Stepped.{AreEnough, AreFew, HasStepped, IsNotStepped};
@@ -7,7 +8,7 @@ ghost use Rattle.xdp_host.specs.Taken.{HasTaken};
 
 use crate::queue_plain::{XdpOp, XdpQueueDesc, taken_number};
 use std::alloc::Global;
-use xen_host::{MakeFault, Program, Queue, QueueParts};
+use xen_host::{FrameOwners, MakeFault, Program, Queue, QueueParts};
 
 /// How many words a host lends to a step: those of a page.
 const PAGE_WORDS: usize = 1024;
@@ -16,12 +17,12 @@ const PAGE_WORDS: usize = 1024;
 pub fn boxed(
     alloc: Global,
     program: &Program,
-    owners: &[u16],
+    owners: FrameOwners<'_>,
     table: &[u32],
     desc: &XdpQueueDesc,
 ) -> Result<Box<Queue>, MakeFault>
-    ensures made { IfOk result (λ b. IsMadeOf program.now (given owners.now table.now desc.now) b.value) }
-    ensures fault { IfErr result (IsFaultOf (given owners.now table.now desc.now)) }
+    ensures made { IfOk result (λ b. IsMadeOf program.now (given (owners_in owners) (limits_of owners) table.now desc.now) b.value) }
+    ensures fault { IfErr result (IsFaultOf (given (owners_in owners) (limits_of owners) table.now desc.now)) }
 {
     let parts = QueueParts {
         owners,

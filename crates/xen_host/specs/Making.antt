@@ -2,8 +2,11 @@
 use Rattle.std.specs.Prelude.{ℕ, ◌≡◌, ◌<◌, ◌≤◌, List, [], None, Some, length, slice_get}
 use Rattle.bpf_verify.specs.Consistent.{Accepted}
 use Rattle.xen_page.specs.Table.{IsTable}
+use Rattle.xen_page.specs.declared.owners.OwnersFault.{OwnersFault}
+use Rattle.xen_page.specs.declared.owners.OwnersFault.TheVariants as owned
 use Rattle.xen_transmit.specs.Wired.{IsWired}
 use Rattle.xen_back.specs.Tree.{whole_turn}
+use Rattle.xen_host.specs.Frames.{Limits, limits_of, owners_in}
 use Rattle.xen_host.specs.Queues.{packet_of, rest}
 use Rattle.xen_host.specs.Rest.{no_flags}
 use Rattle.xen_host.specs.Wired.{wiring_of}
@@ -16,6 +19,7 @@ use Rattle.xen_host.specs.declared.wires.Wires.{Wires}
 -- what a host gives
 pub record Given : Type 0 where
   pub owners : List ℕ
+  pub limits : Limits
   pub table : List ℕ
   pub tx : ℕ
   pub rx : ℕ
@@ -30,7 +34,8 @@ pub record Given : Type 0 where
 abbrev pub given_of : QueueParts → Given
 given_of p =
     record {
-      owners = p.owners.now;
+      owners = owners_in p.owners;
+      limits = limits_of p.owners;
       table = p.table.now;
       tx = p.tx;
       rx = p.rx;
@@ -43,11 +48,18 @@ given_of p =
       rx_index = p.rx_index;
     }
 
+-- no more frames than there may be, and a grant table of the frontend's frames
+abbrev pub AreFrames : Given → Type 0
+AreFrames g = length g.owners ≤ g.limits.frames
+
+abbrev pub IsTableOf : Given → Type 0
+IsTableOf g = (length g.table ≤ g.limits.table) × IsTable g.owners g.granter g.table
+
 -- the frames of both rings are the frontend's
 abbrev pub AreRings : Given → Type 0
 AreRings g = (slice_get g.owners g.tx ≡ Some g.granter) × (slice_get g.owners g.rx ≡ Some g.granter)
 
--- each part is what was given
+-- each part is what was given, within its limits
 pub record IsWiredTo (program : Accepted) (g : Given) (w : Wires) : Type 0 where
   pub tx : w.tx ≡ g.tx
   pub rx : w.rx ≡ g.rx
@@ -60,6 +72,8 @@ pub record IsWiredTo (program : Accepted) (g : Given) (w : Wires) : Type 0 where
   pub ifindex : w.ifindex ≡ g.ifindex
   pub queue : w.queue ≡ g.queue
   pub wired : IsWired (wiring_of w).vif
+  pub frames : AreFrames g
+  pub table_of : IsTableOf g
 
 -- a queue between turns of these parts, with no packet
 pub record IsMadeOf (program : Accepted) (g : Given) (q : Queue) : Type 0 where
@@ -69,10 +83,15 @@ pub record IsMadeOf (program : Accepted) (g : Given) (q : Queue) : Type 0 where
   pub packet : packet_of q ≡ []
   pub flags : q.flags ≡ no_flags
 
+-- what is told of the owners' fault
+abbrev pub made_fault : OwnersFault → MakeFault
+made_fault owned.Memory = fault.Memory
+made_fault owned.Frames = fault.Frames
+
 -- The first of the parts that is wrong. Memory may run out at any of them.
 abbrev pub IsFaultOf : Given → MakeFault → Type 0
 IsFaultOf g fault.Memory = Unit {0}
-IsFaultOf g fault.Frames = 8192 < length g.owners
-IsFaultOf g fault.Table = (length g.owners ≤ 8192) × (IsTable g.owners g.granter g.table → ⊥)
-IsFaultOf g fault.Ring = (length g.owners ≤ 8192) × IsTable g.owners g.granter g.table × (AreRings g → ⊥)
-IsFaultOf g fault.Port = (length g.owners ≤ 8192) × IsTable g.owners g.granter g.table × AreRings g × (64 ≤ g.port)
+IsFaultOf g fault.Frames = g.limits.frames < length g.owners
+IsFaultOf g fault.Table = AreFrames g × (IsTableOf g → ⊥)
+IsFaultOf g fault.Ring = AreFrames g × IsTableOf g × (AreRings g → ⊥)
+IsFaultOf g fault.Port = AreFrames g × IsTableOf g × AreRings g × (64 ≤ g.port)

@@ -1,5 +1,6 @@
 use Rattle.std.proofs.Common.{Option, subst}
 use Rattle.std.specs.Prelude.{IfOk, IfSome}
+use Rattle.xen_host.specs.Frames.{list_limits}
 use Rattle.xen_host.specs.Making.{IsMadeOf}
 use Rattle.xdp_host.specs.Made.{MakesOr, given}
 use Rattle.xdp_host.specs.declared.held.Held.{Held}
@@ -8,7 +9,7 @@ use Rattle.xdp_host.proofs.laxonje_queue_make.Goals as goal
 
 pub returns-in-Some-clause-made : goal.returns-in-Some-clause-made
 returns-in-Some-clause-made c =
-    let g = given c.args.owners.now c.args.table.now c.args.desc.now in
+    let g = given c.args.owners.now list_limits c.args.table.now c.args.desc.now in
     let m = c.boxed-made in
     let old = c.args.out.now.slot.held in
     let new = c.set.new.self.slot.held in

@@ -1,0 +1,19 @@
+use Rattle.std.proofs.Common.{Option, subst}
+use Rattle.std.specs.Prelude.{IfOk, IfSome}
+use Rattle.xen_page.specs.Owned.{domains_of}
+use Rattle.xen_host.specs.Frames.{extent_limits}
+use Rattle.xen_host.specs.Making.{IsMadeOf}
+use Rattle.xdp_host.specs.Made.{MakesOr, extents_of, given}
+use Rattle.xdp_host.specs.declared.held.Held.{Held}
+use Rattle.xdp_host.proofs.MadeLemmas.{makes_or}
+use Rattle.xdp_host.proofs.queue_extents.laxonje_queue_make_extents.Goals as goal
+
+pub returns-in-Some-clause-made : goal.returns-in-Some-clause-made
+returns-in-Some-clause-made c =
+    let g = given (domains_of (extents_of c.args.extents.now)) extent_limits c.args.table.now c.args.desc.now in
+    let m = c.boxed_of_extents-made in
+    let old = c.args.out.now.slot.held in
+    let new = c.set.new.self.slot.held in
+    let made = subst (λ (h : Held). IfOk m.result (λ b. IsMadeOf h.program g b.value)) c.deref.ensures m.ensures.made in
+    let all = makes_or c.in-Some.held.value.program g old new c.set.result m.result made m.ensures.fault c.set.ensures.ok c.set.ensures.err in
+    subst (λ (o : Option Held). IfSome o (λ h. MakesOr h.program g old new c.set.result)) c.in-Some.ensures.gone all
