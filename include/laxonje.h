@@ -124,10 +124,13 @@ struct laxonje_program {
 
 /* ---- Netback's queue, whose accesses of the guest's pages the host makes: docs/HOST.md, "Netback's queue" */
 
-/* How many words are lent to a step: those of a page. The most frames, frames of a grant table, and ports. */
+/* How many words are lent to a step: those of a page. The most frames and frames of a grant table, of laxonje_queue_make and then of
+ * laxonje_queue_make_extents. How many ports there are. */
 #define LAXONJE_PAGE_WORDS 1024
 #define LAXONJE_FRAMES 8192
 #define LAXONJE_TABLE_FRAMES 16
+#define LAXONJE_EXTENT_FRAMES 4294967295
+#define LAXONJE_EXTENT_TABLE_FRAMES 64
 #define LAXONJE_PORTS 64
 
 /* A queue, or none. The fields are the library's own. */
@@ -136,6 +139,12 @@ struct laxonje_queue {
 	uint8_t live;
 };
 #define LAXONJE_QUEUE_NONE { 0, 0 }
+
+/* So many frames, one after another, which one domain owns. */
+struct laxonje_extent {
+	uint32_t frames;
+	uint16_t domain;
+};
 
 /* What a queue is made of: the frames of the two rings' pages, the frontend's domain and the backend's own, the port of the
  * frontend's event channel, what the program is told, and the indices at which the rings are gone on with: 0 for new rings,
@@ -156,8 +165,8 @@ struct laxonje_queue_desc {
 enum laxonje_made {
 	LAXONJE_MADE,         /* a queue was made */
 	LAXONJE_MADE_MEMORY,  /* memory ran out */
-	LAXONJE_MADE_FRAMES,  /* more than LAXONJE_FRAMES frames */
-	LAXONJE_MADE_TABLE,   /* the table isn't 1 to LAXONJE_TABLE_FRAMES of the frontend's frames */
+	LAXONJE_MADE_FRAMES,  /* more than LAXONJE_FRAMES frames, or LAXONJE_EXTENT_FRAMES in extents */
+	LAXONJE_MADE_TABLE,   /* the table isn't 1 to LAXONJE_TABLE_FRAMES, or LAXONJE_EXTENT_TABLE_FRAMES, of the frontend's frames */
 	LAXONJE_MADE_RING,    /* a ring's frame isn't the frontend's */
 	LAXONJE_MADE_PORT,    /* the port isn't below LAXONJE_PORTS */
 	LAXONJE_MADE_PROGRAM  /* there is no program */
@@ -244,7 +253,7 @@ struct laxonje_queue_standing {
 	uint32_t halt;
 };
 
-/* What a host does next. `frame` is below the number of owners, and `word + count` at most LAXONJE_PAGE_WORDS. Of a turn that
+/* What a host does next. `frame` has an owner, and `word + count` is at most LAXONJE_PAGE_WORDS. Of a turn that
  * is over, `ops` is how many operations on counters its run did, and `slots` how many slots the packet took. */
 struct laxonje_op {
 	uint32_t kind;
@@ -266,6 +275,7 @@ LAXONJE_ASSERT(offsetof(struct laxonje_result, instructions) == 8);
 LAXONJE_ASSERT(sizeof(struct laxonje_packet) == 16 && offsetof(struct laxonje_packet, length) == 8);
 LAXONJE_ASSERT(sizeof(struct laxonje_program) == 16 && offsetof(struct laxonje_program, live) == 8);
 LAXONJE_ASSERT(sizeof(struct laxonje_queue) == 16 && offsetof(struct laxonje_queue, live) == 8);
+LAXONJE_ASSERT(sizeof(struct laxonje_extent) == 8 && offsetof(struct laxonje_extent, domain) == 4);
 LAXONJE_ASSERT(sizeof(struct laxonje_queue_desc) == 32 && offsetof(struct laxonje_queue_desc, rx) == 4);
 LAXONJE_ASSERT(offsetof(struct laxonje_queue_desc, granter) == 8 && offsetof(struct laxonje_queue_desc, user) == 10);
 LAXONJE_ASSERT(offsetof(struct laxonje_queue_desc, port) == 12 && offsetof(struct laxonje_queue_desc, ifindex) == 16);
@@ -334,6 +344,13 @@ void laxonje_free(struct laxonje_program *program);
 uint32_t laxonje_queue_make(struct laxonje_program *program, const uint16_t *owners, size_t owner_count,
                             const uint32_t *table, size_t table_count, const struct laxonje_queue_desc *desc,
                             struct laxonje_queue *out);
+
+/* Makes a queue as laxonje_queue_make does, with the owners as extents: so many frames, one after another, from frame 0 on. They have at
+ * most LAXONJE_EXTENT_FRAMES frames in all, and the table 1 to LAXONJE_EXTENT_TABLE_FRAMES. The extents are copied. Each check of a
+ * grant searches them from the first on, so few long ones are best. */
+uint32_t laxonje_queue_make_extents(struct laxonje_program *program, const struct laxonje_extent *extents, size_t extent_count,
+                                    const uint32_t *table, size_t table_count, const struct laxonje_queue_desc *desc,
+                                    struct laxonje_queue *out);
 
 /* Goes on after the op before, and says the next. `words` has the words that a LAXONJE_OP_READ asked for, and then those that a
  * LAXONJE_OP_WRITE is to write: at least LAXONJE_PAGE_WORDS of them. The program's counters are the first of `counters`, as
