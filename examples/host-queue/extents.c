@@ -1,7 +1,7 @@
 /* Queues of guests whose frames are given in extents, in tables: which are made, and packets of some. It is C and C++. */
 #include "rows.h"
 
-enum { NOBODY = 0x7ff0, OTHER = GUEST + 1, FAR = 1 << 18, ENTRIES = 512, MOST_EXTENTS = 3, MOST_TABLE = 65, REFERENCE = 9 };
+enum { NOBODY = 0x7ff4, OTHER = GUEST + 1, FAR = 1 << 18, ENTRIES = 512, MOST_EXTENTS = 3, MOST_TABLE = 65, REFERENCE = 9 };
 #define ALL LAXONJE_EXTENT_FRAMES
 
 /* A try: the extents, the frames of the rings, the first of the table's and how many those are, the port, and the answer. */
