@@ -21,8 +21,9 @@ pub fn boxed(
     table: &[u32],
     desc: &XdpQueueDesc,
 ) -> Result<Box<Queue>, MakeFault>
-    ensures made { IfOk result (λ b. IsMadeOf program.now (given (owners_in owners) (limits_of owners) table.now desc.now) b.value) }
-    ensures fault { IfErr result (IsFaultOf (given (owners_in owners) (limits_of owners) table.now desc.now)) }
+    ensures made { IfOk result (λ b.
+        IsMadeOf program.now (given (owners_in owners.entry) (limits_of owners.entry) table.now desc.now) b.value) }
+    ensures fault { IfErr result (IsFaultOf (given (owners_in owners.entry) (limits_of owners.entry) table.now desc.now)) }
 {
     let parts = QueueParts {
         owners,
