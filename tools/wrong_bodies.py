@@ -34,13 +34,15 @@ class Change:
 
 @dataclasses.dataclass
 class Edit:
-    """An edit with its changes, the functions that are checked for it, and those whose verdicts count: these and the changed ones."""
+    """An edit with its changes, the functions that are checked for it, and those whose verdicts count: these and the changed ones.
+    One is apart that changes what others may use: a constant, a macro."""
 
     path: str
     changes: list
     named: list
     functions: list = dataclasses.field(default_factory=list)
     judged: list = dataclasses.field(default_factory=list)
+    is_apart: bool = False
 
     @property
     def files(self):
@@ -89,7 +91,11 @@ def changed(texts, changes):
 
 
 FN = re.compile(r'^( *)(?:pub(?:\([a-z]+\))? )?(?:const |unsafe |extern "C" )*fn (\w+)', re.M)
-IMPL = re.compile(r"^(?:unsafe )?impl\b(?:<[^{]*?>)? (?:[^{]*? for )?&?(?:'\w+ )?(?:\w+::)*(\w+)", re.M)
+TYPE = re.compile(r"^(?:pub(?:\([a-z]+\))? )?(?:struct|enum) (\w+)", re.M)
+# Of an impl its trait, the first type that the trait is given, and its type.
+IMPL = re.compile(
+    r"^(?:unsafe )?impl\b(?:<[^{]*?>)? (?:(?:\w+::)*(\w+)(?:<(?:\w+::)*(\w+))?[^{]*? for )?&?(?:'\w+ )?(?:\w+::)*(\w+)", re.M
+)
 
 
 def module_of(file):
@@ -98,34 +104,59 @@ def module_of(file):
     return [] if parts in (["lib"], ["main"]) else parts
 
 
-def function_at(file, text, at):
-    """The path below the crate of the function that holds this place of a file; None if none does."""
+def modules_of_types(folder):
+    """The module of each struct and enum of a crate whose name no other one has."""
+    found = {}
+    for at, _, names in os.walk(os.path.join(folder, "src")):
+        for name in names:
+            file = os.path.relpath(os.path.join(at, name), folder)
+            for it in TYPE.findall(text_of(folder, file)) if name.endswith(".rt") else []:
+                found.setdefault(it, []).append(module_of(file))
+    return {name: modules[0] for name, modules in found.items() if len(modules) == 1}
+
+
+def function_at(file, text, at, types):
+    """The path below the crate of the function that holds this place of a file; None if none does. The prover names a method by
+    the module of its type, and one of a trait by the impl's module and both names."""
     before = [it for it in FN.finditer(text) if it.start() <= at]
     if not before:
         return None
-    last = before[-1]
-    inside = []
-    if last[1]:
-        impls = [it for it in IMPL.finditer(text) if it.start() < last.start()]
-        inside = [impls[-1][1]] if impls else []
-    return "::".join([*module_of(file), *inside, last[2]])
+    last, module, inside = before[-1], module_of(file), []
+    impls = [it for it in IMPL.finditer(text) if it.start() < last.start()] if last[1] else []
+    if impls:
+        trait, given, name = impls[-1].groups()
+        inside = [f"{name}{trait or ''}{given or ''}"]
+        module = module if trait else types.get(name, module)
+    return "::".join([*module, *inside, last[2]])
 
 
-def prepare(edit, folder):
-    """Finds the functions that have to be refused: those that the edit names, or those whose bodies change."""
-    changed_ones = changed_functions(edit, folder)
+def prepare(edit, folder, types):
+    """Finds the functions that have to be refused: those that the edit names, or those whose bodies change; and whether it is apart."""
+    changed_ones = changed_functions(edit, folder, types)
     edit.functions = edit.named or changed_ones
     edit.judged = [*edit.functions, *(it for it in changed_ones if it not in edit.functions)]
+    edit.is_apart = any(is_of_all(text_of(folder, it.file), it.old) for it in edit.changes)
 
 
-def changed_functions(edit, folder):
+# How a line begins that functions have in common; an import counts for its file alone.
+ITEM = re.compile(r"(?:pub(?:\([a-z]+\))? )?(?:const|static|type|struct|enum)\b(?! fn)")
+
+
+def is_of_all(text, old):
+    """Whether a text stands outside each function of a file, or begins an item there, and is no import."""
+    at = text.find(old)
+    line = text[text.rfind("\n", 0, at) + 1 :]
+    return at >= 0 and not line.startswith("use ") and (bool(ITEM.match(line)) or not any(it.start() <= at for it in FN.finditer(text)))
+
+
+def changed_functions(edit, folder, types):
     """The functions whose bodies change; none where no change is in a function. An import that comes with a change has none."""
     found = []
     for it in edit.changes:
         if not it.file.startswith("src/"):
             return []
         text = text_of(folder, it.file)
-        name = function_at(it.file, text, text.find(it.old))
+        name = function_at(it.file, text, text.find(it.old), types)
         if name is not None and name not in found:
             found.append(name)
     return found
@@ -150,6 +181,16 @@ def unread(said, files):
             if not found[2] or MISREAD.search(re.sub(r"`[^`]*`", "", found[3])):
                 return line
     return None
+
+
+MISSING = re.compile(r"has no function `([^`]+)`")
+
+
+def is_blamed(edit, said, texts):
+    """Whether a check that came to no verdict says that it is for this edit: for a text that can't be read, or a name that isn't there."""
+    line = unread(said, texts) or ""
+    file = line.removeprefix("./").partition(":")[0]
+    return file in edit.files or not set(edit.functions).isdisjoint(MISSING.findall(said))
 
 
 def lines_of(said, crate):
@@ -180,20 +221,19 @@ def errors_of(said, function):
 
 
 def verdict_of(said, crate, function):
-    """What a check shows of a function whose body, or a callee's, was changed."""
+    """What a check shows of a function whose body, or a callee's, was changed. A callee counts by its contract, which no edit
+    changes: so a clause that is refused is the function's own matter, also where its line names callees that aren't proved."""
     line = of_function(lines_of(said, crate), function)
     if line is None:
         return Verdict.UNKNOWN
     if re.match(r"proved\b", line):
         return Verdict.PROVED
-    if OWN.search(line):
+    errors = errors_of(said, function)
+    if OWN.search(line) or not all(TAKEN_AWAY.search(it) for it in errors):
         return Verdict.CLAUSE
     if WAITS.search(line):
         return Verdict.CALLEE
-    errors = errors_of(said, function)
-    if not errors:
-        return Verdict.UNKNOWN
-    return Verdict.NAMES if all(TAKEN_AWAY.search(it) for it in errors) else Verdict.CLAUSE
+    return Verdict.NAMES if errors else Verdict.UNKNOWN
 
 
 @dataclasses.dataclass
@@ -205,7 +245,8 @@ class Checked:
 
 
 def check(crate, rtlib, texts, only=()):
-    """Checks a copy of a crate with these texts in place of its own: from nothing, these functions alone, or all of it."""
+    """Checks a copy of a crate with these texts in place of its own: from nothing, these functions alone, or all of it. What a check
+    of the crate as it stands proved would spare little: the time goes into the search for proofs that aren't there."""
     with tempfile.TemporaryDirectory(prefix="wrong-bodies-") as room:
         for part in rtlib.PARTS:
             if os.path.isdir(os.path.join(crate.folder, part)):
@@ -215,11 +256,16 @@ def check(crate, rtlib, texts, only=()):
                 it.write(text)
         words = [rtlib.RATTLE, "check", *crate.words(["--jobs", "1"], keeps=False)]
         words += [word for name in only for word in ("--only", name)]
-        started = time.time()
-        with tempfile.TemporaryFile() as said:
-            ran = subprocess.Popen([*rtlib.guarded(), *words], cwd=room, stdin=subprocess.DEVNULL, stdout=said, stderr=said)
-            _, status, used = os.wait4(ran.pid, 0)
-            ran.returncode = os.waitstatus_to_exitcode(status)  # so that it isn't waited for again
-            said.seek(0)
-            text = said.read().decode(errors="replace")
-    return Checked(text, ran.returncode, used.ru_utime + used.ru_stime, time.time() - started)
+        return ran([*rtlib.guarded(), *words], room)
+
+
+def ran(words, room):
+    """What a command says in a folder, its status, and how long it took."""
+    started = time.time()
+    with tempfile.TemporaryFile() as said:
+        command = subprocess.Popen(words, cwd=room, stdin=subprocess.DEVNULL, stdout=said, stderr=said)
+        _, status, used = os.wait4(command.pid, 0)
+        command.returncode = os.waitstatus_to_exitcode(status)  # so that it isn't waited for again
+        said.seek(0)
+        text = said.read().decode(errors="replace")
+    return Checked(text, command.returncode, used.ru_utime + used.ru_stime, time.time() - started)
