@@ -16,7 +16,7 @@ use Rattle.xen_back.specs.declared.delivery.delivering.Delivery.{Delivery}
 use Rattle.xen_back.specs.declared.state.State.{State}
 use Rattle.xen_back.proofs.ArriveLemmas.{arrives, delivery_rows}
 use Rattle.xen_host.specs.Carries.{IsAskedOfDelivery, answers_carrying, asked_of_carrying, packet_carried, rest_carrying}
-use Rattle.xen_host.specs.Comes.{Comes}
+use Rattle.xen_host.specs.Completing.{TaskCompletes}
 use Rattle.xen_host.specs.Fed.{Arrived, answers_moving, asked_by, asked_of_moving, did, fed}
 use Rattle.xen_host.specs.Moves.{rest_moving}
 use Rattle.xen_host.specs.Queues.{IsCarriedOn, IsDelivering, IsDeliveryStep, IsTakenAt, answers_of, between, packet_held, rest_at, rest_of_delivery, settled_of}
@@ -103,22 +103,22 @@ delivery_gone q c left lent at small same =
 -- what is left after a step of a delivery comes to its end
 pub delivery_arrives : (q : Queue) (c left : Carrying) (lent : List ℕ) → q.stage ≡ stage.Carry c → AreSmall lent →
     rest_carrying (vif_of q.wires) q.state left ≡ fed (rest_carrying (vif_of q.wires) q.state c) (answers_carrying c lent) →
-    Comes q.wires q.state q.stage → Arrives (vif_of q.wires) (rest_carrying (vif_of q.wires) q.state left)
-delivery_arrives q c left lent at small same comes =
+    TaskCompletes q.wires q.state q.stage → Arrives (vif_of q.wires) (rest_carrying (vif_of q.wires) q.state left)
+delivery_arrives q c left lent at small same completes =
     let w = q.wires in
     let s = q.state in
     let from = rest_carrying (vif_of w) s c in
-    let arrives : Arrives (vif_of w) from = subst (λ (g : Stage). Comes w s g) at comes in
+    let arrives : Arrives (vif_of w) from = subst (λ (g : Stage). TaskCompletes w s g) at completes in
     let gone : Gone from (did from (answers_carrying c lent)) (rest_carrying (vif_of w) s left) =
     subst (λ (x : Steps Arrival). Gone from (did from (answers_carrying c lent)) x) (sym same) (fit_gone from (answers_carrying c lent) (carrying_fits w s c lent small)) in
     finishes_gone (IsPageWant (length w.owners)) from (rest_carrying (vif_of w) s left) (did from (answers_carrying c lent)) arrives gone
 
 -- and so does what is left between two steps
-pub settled_comes : (w : Wires) (s : State) (left : Carrying) (new : State × Stage) → ((x : State) → Completes (wiring_of w) (whole_turn (wiring_of w) x)) → Arrives (vif_of w) (rest_carrying (vif_of w) s left) →
-    new ≡ settled_of s (stage.Carry left) → Comes w new.0 new.1
-settled_comes w s left new turns a e = subst (λ (x : State × Stage). Comes w x.0 x.1) (sym e) (by left a)
+pub settled_task_completes : (w : Wires) (s : State) (left : Carrying) (new : State × Stage) → ((x : State) → Completes (wiring_of w) (whole_turn (wiring_of w) x)) → Arrives (vif_of w) (rest_carrying (vif_of w) s left) →
+    new ≡ settled_of s (stage.Carry left) → TaskCompletes w new.0 new.1
+settled_task_completes w s left new turns a e = subst (λ (x : State × Stage). TaskCompletes w x.0 x.1) (sym e) (by left a)
   where
-    by : (left : Carrying) → Arrives (vif_of w) (rest_carrying (vif_of w) s left) → Comes w (settled_of s (stage.Carry left)).0 (settled_of s (stage.Carry left)).1
+    by : (left : Carrying) → Arrives (vif_of w) (rest_carrying (vif_of w) s left) → TaskCompletes w (settled_of s (stage.Carry left)).0 (settled_of s (stage.Carry left)).1
     by (carrying.Over b after what) a = turns after
     by (carrying.Begun b) a = a
     by (carrying.Moving m) a = a
@@ -170,11 +170,11 @@ not_between s (stage.Over b after kind) h = refl
 pub busy_between : (g : Stage) → ((b : Box Work) → g ≡ stage.Ready b → ⊥) → (s : State) → between s g ≡ None
 busy_between g h s = not_between s g h
 
-pub taken_comes : (w : Wires) (s : State) (g new : Stage) (packet : List ℕ) (a : Taken) → IsWired (vif_of w) → Comes w s g → IsTakenAt g packet new a → Comes w s new
-taken_comes w s g new packet taken.Begun wired c t =
-    subst (λ (x : Stage). Comes w s x) (sym t.new_is) (arrives (vif_of w) s t.loaded.work.value.packet wired)
-taken_comes w s g new packet taken.Busy wired c t = subst (λ (x : Stage). Comes w s x) (sym t.1) c
-taken_comes w s g new packet taken.NoFrame wired c t = subst (λ (x : Stage). Comes w s x) (sym t.2) c
+pub taken_task_completes : (w : Wires) (s : State) (g new : Stage) (packet : List ℕ) (a : Taken) → IsWired (vif_of w) → TaskCompletes w s g → IsTakenAt g packet new a → TaskCompletes w s new
+taken_task_completes w s g new packet taken.Begun wired c t =
+    subst (λ (x : Stage). TaskCompletes w s x) (sym t.new_is) (arrives (vif_of w) s t.loaded.work.value.packet wired)
+taken_task_completes w s g new packet taken.Busy wired c t = subst (λ (x : Stage). TaskCompletes w s x) (sym t.1) c
+taken_task_completes w s g new packet taken.NoFrame wired c t = subst (λ (x : Stage). TaskCompletes w s x) (sym t.2) c
 
 pub taken_there : (g new : Stage) (packet : List ℕ) (a : Taken) → IsTrue (is_there g) → IsTakenAt g packet new a → IsTrue (is_there new)
 taken_there g new packet taken.Begun h t = subst (λ (x : Stage). IsTrue (is_there x)) (sym t.new_is) refl

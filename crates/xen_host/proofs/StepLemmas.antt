@@ -18,7 +18,7 @@ use Rattle.xen_back.proofs.TurnParts.{turn_parts}
 use Rattle.xen_host.specs.Fed.{IsAskedFor, answers, asked_by, asked_of, did, fed}
 use Rattle.xen_host.specs.Queues.{IsGoneOn, IsTurnStep, IsUnderWay, packet_of, rest, settled_of, task_of}
 use Rattle.xen_host.specs.Ran.{HasGone}
-use Rattle.xen_host.specs.Comes.{Comes}
+use Rattle.xen_host.specs.Completing.{TaskCompletes}
 use Rattle.xen_host.specs.Rest.{flags_after, is_here, is_there, is_turning, packet_in, rest_in}
 use Rattle.xen_host.specs.Wired.{wiring_of}
 use Rattle.xen_host.specs.declared.op.Op.{Op}
@@ -130,7 +130,7 @@ turns_on (stage.Event a) there e = refl
 turns_on (stage.Notice a) there e = refl
 turns_on (stage.Over b after kind) there e = refl
 
-pub completes_of : (w : Wires) (s : State) (g : Stage) → IsTrue (is_turning g) → Comes w s g → Completes (wiring_of w) (rest_in (wiring_of w) s g)
+pub completes_of : (w : Wires) (s : State) (g : Stage) → IsTrue (is_turning g) → TaskCompletes w s g → Completes (wiring_of w) (rest_in (wiring_of w) s g)
 completes_of w s (stage.Carry c) t h = absurd (cc t)
 completes_of w s (stage.Wait b at) t h = absurd (cc t)
 completes_of w s stage.Gone t h = absurd (cc t)
@@ -147,19 +147,19 @@ completes_of w s (stage.Event a) t h = h
 completes_of w s (stage.Notice a) t h = h
 completes_of w s (stage.Over b after kind) t h = h
 
-pub comes_of : (w : Wires) (s : State) (g : Stage) → IsTrue (is_turning g) → Completes (wiring_of w) (rest_in (wiring_of w) s g) → Comes w s g
-comes_of w s (stage.Carry c) t h = absurd (cc t)
-comes_of w s (stage.Wait b at) t h = absurd (cc t)
-comes_of w s stage.Gone t h = absurd (cc t)
-comes_of w s (stage.Ready b) t h = h
-comes_of w s (stage.Look b) t h = h
-comes_of w s (stage.Announce b) t h = h
-comes_of w s (stage.LookAgain b) t h = h
-comes_of w s (stage.Slot r) t h = h
-comes_of w s (stage.Entry x) t h = h
-comes_of w s (stage.Page g) t h = h
-comes_of w s (stage.Send g) t h = h
-comes_of w s (stage.Answer a i) t h = h
-comes_of w s (stage.Event a) t h = h
-comes_of w s (stage.Notice a) t h = h
-comes_of w s (stage.Over b after kind) t h = h
+pub task_completes : (w : Wires) (s : State) (g : Stage) → IsTrue (is_turning g) → Completes (wiring_of w) (rest_in (wiring_of w) s g) → TaskCompletes w s g
+task_completes w s (stage.Carry c) t h = absurd (cc t)
+task_completes w s (stage.Wait b at) t h = absurd (cc t)
+task_completes w s stage.Gone t h = absurd (cc t)
+task_completes w s (stage.Ready b) t h = h
+task_completes w s (stage.Look b) t h = h
+task_completes w s (stage.Announce b) t h = h
+task_completes w s (stage.LookAgain b) t h = h
+task_completes w s (stage.Slot r) t h = h
+task_completes w s (stage.Entry x) t h = h
+task_completes w s (stage.Page g) t h = h
+task_completes w s (stage.Send g) t h = h
+task_completes w s (stage.Answer a i) t h = h
+task_completes w s (stage.Event a) t h = h
+task_completes w s (stage.Notice a) t h = h
+task_completes w s (stage.Over b after kind) t h = h

@@ -16,7 +16,7 @@ use Rattle.xen_back.specs.declared.delivery.awaiting.Awaited.{Awaited}
 use Rattle.xen_back.specs.declared.delivery.awaiting.Awaited.TheVariants as awaited
 use Rattle.xen_back.specs.declared.state.State.{State}
 use Rattle.xen_back.specs.declared.wiring.Wiring.{Wiring}
-use Rattle.xen_host.specs.Comes.{Comes}
+use Rattle.xen_host.specs.Completing.{TaskCompletes}
 use Rattle.xen_host.specs.Queues.{IsWaitStep, IsWaitTakenAt, stage_of_wait}
 use Rattle.xen_host.specs.Rest.{is_there}
 use Rattle.xen_host.specs.Waits.{IsOnItsWay, IsWaitRow, IsWaitedOn, did_waiting, halted, looks, stores, told}
@@ -93,10 +93,10 @@ is_wait_step q new b from left o lent lent_after was row settled wires flags =
     }
 
 -- the stage after a step of a wait comes to its end
-pub wait_comes : (w : Wires) (s : State) (b : Box Work) (left : Option Waiting) (new : Stage) → ((x : State) → Completes (wiring_of w) (whole_turn (wiring_of w) x)) → new ≡ stage_of_wait b left → Comes w s new
-wait_comes w s b left new turns e = subst (λ (g : Stage). Comes w s g) (sym e) (by left)
+pub wait_task_completes : (w : Wires) (s : State) (b : Box Work) (left : Option Waiting) (new : Stage) → ((x : State) → Completes (wiring_of w) (whole_turn (wiring_of w) x)) → new ≡ stage_of_wait b left → TaskCompletes w s new
+wait_task_completes w s b left new turns e = subst (λ (g : Stage). TaskCompletes w s g) (sym e) (by left)
   where
-    by : (left : Option Waiting) → Comes w s (stage_of_wait b left)
+    by : (left : Option Waiting) → TaskCompletes w s (stage_of_wait b left)
     by None = turns s
     by (Some at) = tt
 
@@ -109,10 +109,10 @@ wait_there b left new e = subst (λ (g : Stage). IsTrue (is_there g)) (sym e) (b
 
 -- ---- beginning a wait
 
-pub wait_taken_comes : (w : Wires) (s : State) (g new : Stage) (pages : ℕ) (a : Taken) → Comes w s g → IsWaitTakenAt g pages new a → Comes w s new
-wait_taken_comes w s g new pages taken.Begun c t = subst (λ (x : Stage). Comes w s x) (sym t.begun) tt
-wait_taken_comes w s g new pages taken.Busy c t = subst (λ (x : Stage). Comes w s x) (sym t.1) c
-wait_taken_comes w s g new pages taken.NoFrame c t = absurd t
+pub wait_taken_task_completes : (w : Wires) (s : State) (g new : Stage) (pages : ℕ) (a : Taken) → TaskCompletes w s g → IsWaitTakenAt g pages new a → TaskCompletes w s new
+wait_taken_task_completes w s g new pages taken.Begun c t = subst (λ (x : Stage). TaskCompletes w s x) (sym t.begun) tt
+wait_taken_task_completes w s g new pages taken.Busy c t = subst (λ (x : Stage). TaskCompletes w s x) (sym t.1) c
+wait_taken_task_completes w s g new pages taken.NoFrame c t = absurd t
 
 pub wait_taken_there : (g new : Stage) (pages : ℕ) (a : Taken) → IsTrue (is_there g) → IsWaitTakenAt g pages new a → IsTrue (is_there new)
 wait_taken_there g new pages taken.Begun h t = subst (λ (x : Stage). IsTrue (is_there x)) (sym t.begun) refl

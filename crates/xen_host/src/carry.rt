@@ -2,6 +2,7 @@
 
 ghost use Rattle.std.specs.Prelude.{◌≡◌, ◌≤◌, length, IsTrue, true};
 ghost use Rattle.xen_steps.specs.Steps.{bind};
+ghost use Rattle.xen_transmit.specs.declared.vif.Vif.{Vif};
 ghost use Rattle.xen_back.specs.Delivered.{is_frame};
 ghost use Rattle.xen_back.specs.Deliveries.{arrival, arrived, unless_halted};
 ghost use Rattle.xen_host.specs.Carries.{IsAskedOfDelivery, answers_carrying, asked_of_carrying, is_going, packet_carried, rest_carrying};
@@ -28,9 +29,8 @@ pub(crate) fn can_be_delivered(packet: &[u8]) -> bool
 }
 
 /// Before the first want. A halted queue has none.
-fn set_out(wires: &Wires, state: &State, work: Box<Work>) -> Carrying
-    ensures rest { rest_carrying (vif_of wires.now) state.now result
-        ≡ unless_halted (vif_of wires.now) state.now work.value.packet state.now.halt }
+fn set_out(state: &State, work: Box<Work>) -> Carrying
+    ensures rest { (w : Vif) → rest_carrying w state.now result ≡ unless_halted w state.now work.value.packet state.now.halt }
     ensures packet { packet_carried result ≡ work.value.packet }
     ensures going { IsTrue (is_going result) }
 {
@@ -65,9 +65,9 @@ fn arrived_with(state: &State, outcome: Outcome) -> (State, Delivery)
 }
 
 /// A delivery whose packet is being sent, or whose packet was.
-fn carried_on(wires: &Wires, state: &State, moved: Moved) -> Carrying
-    ensures rest { rest_carrying (vif_of wires.now) state.now result
-        ≡ bind (rest_moved (vif_of wires.now) state.now.rx_index moved) (arrived state.now) }
+fn carried_on(state: &State, moved: Moved) -> Carrying
+    ensures rest { (w : Vif) →
+        rest_carrying w state.now result ≡ bind (rest_moved w state.now.rx_index moved) (arrived state.now) }
     ensures packet { packet_carried result ≡ (work_moved moved).packet }
     ensures going { IsTrue (is_going result) }
 {
@@ -102,11 +102,11 @@ pub(crate) fn carrying_fed(
     match carrying {
         Carrying::Begun(loaded) => {
             let Loaded { work } = loaded;
-            set_out(wires, state, work)
+            set_out(state, work)
         }
         Carrying::Moving(moving) => {
             let moved = moving_fed(wires, state.rx_index, moving, words);
-            carried_on(wires, state, moved)
+            carried_on(state, moved)
         }
         over => over,
     }

@@ -2,6 +2,8 @@
 
 ghost use Rattle.std.specs.Prelude.{◌≡◌, ◌≤◌, length, IfSome, IsTrue};
 ghost use Rattle.bpf_maps.specs.Layout.{total};
+ghost use Rattle.xen_back.specs.declared.state.State.{State as StateView};
+ghost use Rattle.xen_back.specs.declared.wiring.Wiring.{Wiring};
 ghost use Rattle.xen_host.specs.Fed.{answers, fed};
 ghost use Rattle.xen_host.specs.Places.{is_answering, is_copying, is_looking, is_sending};
 ghost use Rattle.xen_host.specs.Queues.{settled_of};
@@ -9,10 +11,10 @@ ghost use Rattle.xen_host.specs.Ran.{HasGone};
 ghost use Rattle.xen_host.specs.Rest.{going_of, is_going_on, is_here, is_there, is_turning, rest_going, rest_in};
 ghost use Rattle.xen_host.specs.Wired.{wiring_of};
 
-use crate::answering::{answer_written, ended, event_read};
-use crate::copying::{entry_read, page_read};
+use crate::answering::{after_answer, after_event, ended};
+use crate::copying::{after_entry, after_page};
 use crate::going::{Going, run_through};
-use crate::looking::{begun, looked, looked_again, slot_read};
+use crate::looking::{after_slot, begun, looked, looked_again};
 use crate::moving::Moving;
 use crate::moving_step::moving_fed;
 use crate::sent::sent_on;
@@ -54,18 +56,18 @@ fn put_going(stage: &mut Stage, going: Going) -> Option<Box<Work>>
 /// After what a look for requests wanted, or before the first. Here and below `AT` changes nothing: there is a copy for each of the
 /// stages that a call is made at, so that each copy reads and writes only what its stage has.
 #[inline(always)]
-fn looking_fed<const AT: u8>(wires: &Wires, state: &State, stage: &mut Stage, words: &[u32])
+fn looking_fed<const AT: u8>(state: &State, stage: &mut Stage, words: &[u32])
     requires looking { IsTrue (is_looking stage.old) }
     requires enough { 1024 ≤ length words.now }
     ensures here { IsTrue (is_here stage.new) }
-    ensures rest { rest_in (wiring_of wires.now) state.now stage.new
-        ≡ fed (rest_in (wiring_of wires.now) state.now stage.old) (answers stage.old words.now) }
+    ensures rest { (w : Wiring) →
+        rest_in w state.now stage.new ≡ fed (rest_in w state.now stage.old) (answers stage.old words.now) }
 {
     match mem::replace(stage, Stage::Gone) {
-        Stage::Ready(work) => put(stage, begun(wires, state, work)),
-        Stage::Look(work) => put(stage, looked(wires, state, work, words[0])),
+        Stage::Ready(work) => put(stage, begun(state, work)),
+        Stage::Look(work) => put(stage, looked(state, work, words[0])),
         Stage::Announce(work) => put(stage, Stage::LookAgain(work)),
-        Stage::LookAgain(work) => put(stage, looked_again(wires, state, work, words[0])),
+        Stage::LookAgain(work) => put(stage, looked_again(state, work, words[0])),
         _ => unreachable!(),
     }
 }
@@ -88,13 +90,13 @@ fn copying_fed<const AT: u8>(
     match mem::replace(stage, Stage::Gone) {
         Stage::Slot(reading) => {
             let slot = [words[0], words[1], words[2]];
-            put_going(stage, slot_read(wires, state, reading, slot))
+            put_going(stage, after_slot(wires, state, reading, slot))
         }
         Stage::Entry(entering) => {
             let entry = [words[0], words[1]];
-            put_going(stage, entry_read(wires, state, entering, entry))
+            put_going(stage, after_entry(wires, state, entering, entry))
         }
-        Stage::Page(paging) => put_going(stage, page_read(wires, state, paging, words)),
+        Stage::Page(paging) => put_going(stage, after_page(wires, state, paging, words)),
         _ => unreachable!(),
     }
 }
@@ -114,7 +116,7 @@ fn sending_fed<const AT: u8>(wires: &Wires, state: &State, stage: &mut Stage, wo
         Stage::Send(sending) => {
             let Sending { moving, ops } = sending;
             let moved = moving_fed(wires, state.rx_index, moving, words);
-            put(stage, sent_on(wires, state, moved, ops))
+            put(stage, sent_on(state, moved, ops))
         }
         _ => unreachable!(),
     }
@@ -146,17 +148,17 @@ fn send_fed(wires: &Wires, state: &State, stage: &mut Stage, words: &[u32])
 
 /// After what answering a chain wanted.
 #[inline(always)]
-fn answering_fed<const AT: u8>(wires: &Wires, state: &State, stage: &mut Stage, words: &[u32])
+fn answering_fed<const AT: u8>(stage: &mut Stage, words: &[u32])
     requires answering { IsTrue (is_answering stage.old) }
     requires enough { 1024 ≤ length words.now }
     ensures here { IsTrue (is_here stage.new) }
-    ensures rest { rest_in (wiring_of wires.now) state.now stage.new
-        ≡ fed (rest_in (wiring_of wires.now) state.now stage.old) (answers stage.old words.now) }
+    ensures rest { (w : Wiring) (s : StateView) →
+        rest_in w s stage.new ≡ fed (rest_in w s stage.old) (answers stage.old words.now) }
 {
     match mem::replace(stage, Stage::Gone) {
-        Stage::Answer(answering, i) => put(stage, answer_written(wires, state, answering, i)),
-        Stage::Event(answering) => put(stage, event_read(wires, state, answering, words[0])),
-        Stage::Notice(answering) => put(stage, ended(wires, state, answering)),
+        Stage::Answer(answering, i) => put(stage, after_answer(answering, i)),
+        Stage::Event(answering) => put(stage, after_event(answering, words[0])),
+        Stage::Notice(answering) => put(stage, ended(answering)),
         _ => unreachable!(),
     }
 }
@@ -172,17 +174,17 @@ fn stage_fed(wires: &Wires, state: &State, stage: &mut Stage, words: &[u32]) -> 
         ≡ fed (rest_in (wiring_of wires.now) state.now stage.old) (answers stage.old words.now) }
 {
     match stage {
-        Stage::Ready(_) => looking_fed::<0>(wires, state, stage, words),
-        Stage::Look(_) => looking_fed::<1>(wires, state, stage, words),
-        Stage::Announce(_) => looking_fed::<2>(wires, state, stage, words),
-        Stage::LookAgain(_) => looking_fed::<3>(wires, state, stage, words),
+        Stage::Ready(_) => looking_fed::<0>(state, stage, words),
+        Stage::Look(_) => looking_fed::<1>(state, stage, words),
+        Stage::Announce(_) => looking_fed::<2>(state, stage, words),
+        Stage::LookAgain(_) => looking_fed::<3>(state, stage, words),
         Stage::Slot(_) => return copying_fed::<0>(wires, state, stage, words),
         Stage::Entry(_) => return copying_fed::<1>(wires, state, stage, words),
         Stage::Page(_) => return copying_fed::<2>(wires, state, stage, words),
         Stage::Send(_) => send_fed(wires, state, stage, words),
-        Stage::Answer(..) => answering_fed::<0>(wires, state, stage, words),
-        Stage::Event(_) => answering_fed::<1>(wires, state, stage, words),
-        Stage::Notice(_) => answering_fed::<2>(wires, state, stage, words),
+        Stage::Answer(..) => answering_fed::<0>(stage, words),
+        Stage::Event(_) => answering_fed::<1>(stage, words),
+        Stage::Notice(_) => answering_fed::<2>(stage, words),
         Stage::Over { .. } => {}
         Stage::Carry(_) => unreachable!(),
         Stage::Wait(..) => unreachable!(),

@@ -1,6 +1,7 @@
 //! A step of a packet that is sent: what it wants, and where it is after that.
 
-ghost use Rattle.std.specs.Prelude.{◌≡◌, ◌≤◌, length};
+ghost use Rattle.std.specs.Prelude.{◌≡◌, ◌≤◌, ℕ, length};
+ghost use Rattle.xen_transmit.specs.declared.vif.Vif.{Vif};
 ghost use Rattle.xen_host.specs.Fed.{IsAccess, answers_moving, asked_by, asked_of_moving, fed};
 ghost use Rattle.xen_host.specs.Moves.{rest_moved, rest_moving, work_in, work_moved};
 ghost use Rattle.xen_host.specs.Wired.{vif_of};
@@ -9,7 +10,7 @@ use crate::filling::put_words;
 use crate::moving::{Filling, Moved, Moving, Replying};
 use crate::op::Op;
 use crate::sending::{
-    all_replied, fill, grant_read, post_read, posts_read, reply, reply_event_read,
+    after_grant, after_post, after_posts, after_reply_event, all_replied, fill, reply,
 };
 use crate::want::write;
 use crate::wires::Wires;
@@ -28,30 +29,30 @@ pub(crate) fn moving_fed(wires: &Wires, rx_index: u32, moving: Moving, words: &[
     ensures packet { (work_moved result).packet ≡ (work_in moving).packet }
 {
     match moving {
-        Moving::Posts(work) => posts_read(wires, rx_index, work, words[0]),
-        Moving::Post(posting) => post_read(wires, rx_index, posting, [words[0], words[1]]),
-        Moving::Grant(granting) => grant_read(wires, rx_index, granting, [words[0], words[1]]),
+        Moving::Posts(work) => after_posts(rx_index, work, words[0]),
+        Moving::Post(posting) => after_post(wires, posting, [words[0], words[1]]),
+        Moving::Grant(granting) => after_grant(wires, granting, [words[0], words[1]]),
         Moving::Fill(filling) => {
             let Filling { work, i } = filling;
-            fill(wires, rx_index, work, i + 1)
+            fill(work, i + 1)
         }
         Moving::Reply(replying) => {
             let Replying { work, passed, i } = replying;
-            reply(wires, rx_index, work, passed, i + 1)
+            reply(work, passed, i + 1)
         }
         Moving::Replied { work, passed } => Moved::On(Moving::ReplyEvent { work, passed }),
         Moving::ReplyEvent { work, passed } => {
-            reply_event_read(wires, rx_index, work, passed, words[0])
+            after_reply_event(rx_index, work, passed, words[0])
         }
-        Moving::ReplyNotice { work, passed } => all_replied(wires, rx_index, work, passed),
+        Moving::ReplyNotice { work, passed } => all_replied(work, passed),
     }
 }
 
 /// The packet's words in a page.
-fn fill_want(wires: &Wires, rx_index: u32, filling: &Filling, words: &mut [u32]) -> Op
+fn fill_want(filling: &Filling, words: &mut [u32]) -> Op
     requires { 1024 ≤ length words.old }
     ensures words { length words.new ≡ length words.old }
-    ensures asked { IsAccess result (rest_moving (vif_of wires.now) rx_index (Moving.Fill filling.now)) words.new }
+    ensures asked { (w : Vif) (x : ℕ) → IsAccess result (rest_moving w x (Moving.Fill filling.now)) words.new }
     ensures said { asked_of_moving (Moving.Fill filling.now) ≡ asked_by result }
 {
     let bytes = filling.work.packet.bytes();
@@ -107,7 +108,7 @@ pub(crate) fn moving_want(wires: &Wires, rx_index: u32, moving: &Moving, words: 
             at: granting.at,
             count: 2,
         },
-        Moving::Fill(filling) => fill_want(wires, rx_index, filling, words),
+        Moving::Fill(filling) => fill_want(filling, words),
         Moving::Reply(replying) => reply_want(wires, rx_index, replying, words),
         Moving::Replied { work, .. } => write(
             words,

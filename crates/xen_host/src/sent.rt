@@ -3,15 +3,14 @@
 ghost use Rattle.std.specs.Prelude.{◌≡◌, IsTrue};
 ghost use Rattle.xen_steps.specs.Steps.{bind};
 ghost use Rattle.xen_back.specs.Tree.{after_transmit, moved};
+ghost use Rattle.xen_back.specs.declared.wiring.Wiring.{Wiring};
 ghost use Rattle.xen_host.specs.Moves.{rest_moved, work_moved};
 ghost use Rattle.xen_host.specs.Rest.{is_here, rest_in};
-ghost use Rattle.xen_host.specs.Wired.{vif_of, wiring_of};
 
 use crate::answering::begin_answers;
 use crate::looking::halt;
 use crate::moving::Moved;
 use crate::stage::{Sending, Stage};
-use crate::wires::Wires;
 use crate::work::Work;
 use xen_back::{Halt, Kind, Refusal, State};
 use xen_netif::Status;
@@ -19,14 +18,14 @@ use xen_transmit::Outcome;
 
 /// A turn whose packet is sent back, or whose packet was.
 #[inline(always)]
-pub(crate) fn sent_on(wires: &Wires, state: &State, moved: Moved, ops: u32) -> Stage
+pub(crate) fn sent_on(state: &State, moved: Moved, ops: u32) -> Stage
     ensures here { IsTrue (is_here result) }
-    ensures rest { rest_in (wiring_of wires.now) state.now result ≡ bind (rest_moved (vif_of wires.now) state.now.rx_index moved)
-        (after_transmit (wiring_of wires.now) state.now (work_moved moved).chain (work_moved moved).packet ops) }
+    ensures rest { (w : Wiring) → rest_in w state.now result ≡ bind (rest_moved w.vif state.now.rx_index moved)
+        (after_transmit w state.now (work_moved moved).chain (work_moved moved).packet ops) }
 {
     match moved {
         Moved::On(moving) => Stage::Send(Sending { moving, ops }),
-        Moved::Over(work, outcome) => sent(wires, state, work, ops, outcome),
+        Moved::Over(work, outcome) => sent(state, work, ops, outcome),
     }
 }
 
@@ -42,21 +41,21 @@ pub(crate) fn after_slots(state: &State, n: u32) -> State
 }
 
 /// After the transmit.
-fn sent(wires: &Wires, state: &State, work: Box<Work>, ops: u32, outcome: Outcome) -> Stage
+fn sent(state: &State, work: Box<Work>, ops: u32, outcome: Outcome) -> Stage
     ensures here { IsTrue (is_here result) }
-    ensures rest { rest_in (wiring_of wires.now) state.now result
-        ≡ after_transmit (wiring_of wires.now) state.now work.value.chain work.value.packet ops outcome }
+    ensures rest { (w : Wiring) →
+        rest_in w state.now result ≡ after_transmit w state.now work.value.chain work.value.packet ops outcome }
 {
     let slots = work.chain.len() as u32;
     match outcome {
-        Outcome::Overflow => halt(wires, state, work, Halt::RxProducer),
+        Outcome::Overflow => halt(state, work, Halt::RxProducer),
         Outcome::TooFew => {
             let kind = Kind::Refused {
                 cause: Refusal::FewSlots,
                 ops,
                 slots,
             };
-            begin_answers(wires, state, work, *state, Status::Error, kind)
+            begin_answers(work, *state, Status::Error, kind)
         }
         Outcome::Refused(used) => {
             let at = after_slots(state, used);
@@ -65,7 +64,7 @@ fn sent(wires: &Wires, state: &State, work: Box<Work>, ops: u32, outcome: Outcom
                 ops,
                 slots,
             };
-            begin_answers(wires, state, work, at, Status::Error, kind)
+            begin_answers(work, at, Status::Error, kind)
         }
         Outcome::Sent(used) => {
             let at = after_slots(state, used);
@@ -74,7 +73,7 @@ fn sent(wires: &Wires, state: &State, work: Box<Work>, ops: u32, outcome: Outcom
                 ops,
                 slots,
             };
-            begin_answers(wires, state, work, at, Status::Okay, kind)
+            begin_answers(work, at, Status::Okay, kind)
         }
     }
 }

@@ -16,7 +16,7 @@ returns-in-Moving-clause-rest c =
     let s = c.args.state.now in
     let m = c.in-Moving.moving in
     let lent = c.args.words.now in
-    c.carried_on.ensures.rest
+    c.carried_on.ensures.rest w
     ∙ ap (λ (o : Steps Outcome). bind o (arrived s)) c.moving_fed-moved.ensures.rest
     ∙ sym (fed_bind (rest_moving w s.rx_index m) (arrived s) (answers_moving m lent) (moving_fits w s.rx_index m lent c.are_words.ensures))
     ∙ sym (ap (λ (x : Carrying). fed (rest_carrying w s x) (answers_carrying x lent)) c.in-Moving.is)

@@ -26,7 +26,7 @@ returns-clause-rest g c =
     let same : after (work_moved r.result) ≡ after (work_in m) =
     ap (λ (l : List Slot). after_transmit w s l (work_moved r.result).packet at.ops) r.ensures.chain ∙ ap (λ (p : List ℕ). after_transmit w s (work_in m).chain p at.ops) r.ensures.packet in
     ap (λ (x : Stage). rest_in w s x) c.put.ensures
-    ∙ c.sent_on.ensures.rest
+    ∙ c.sent_on.ensures.rest w
     ∙ ap (λ (f : Outcome → Steps Ending). bind (rest_moved w.vif s.rx_index r.result) f) same
     ∙ ap (λ (o : Steps Outcome). bind o (after (work_in m))) r.ensures.rest
     ∙ sym (fed_bind start (after (work_in m)) (answers_moving m lent) (moving_fits w.vif s.rx_index m lent c.are_words.ensures))

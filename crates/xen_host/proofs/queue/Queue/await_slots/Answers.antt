@@ -1,9 +1,9 @@
 use Rattle.std.proofs.Common.{subst, sym}
 use Rattle.std.specs.Prelude.{IsTrue}
-use Rattle.xen_host.specs.Comes.{Comes}
+use Rattle.xen_host.specs.Completing.{TaskCompletes}
 use Rattle.xen_host.specs.Rest.{is_there}
 use Rattle.xen_host.specs.declared.stage.Stage.{Stage}
-use Rattle.xen_host.proofs.WaitLemmas.{wait_taken_comes, wait_taken_there}
+use Rattle.xen_host.proofs.WaitLemmas.{wait_taken_task_completes, wait_taken_there}
 use Rattle.xen_host.proofs.queue.Queue.await_slots.Goals as goal
 
 pub invariant_of-self : goal.invariant_of-self
@@ -12,10 +12,10 @@ invariant_of-self c =
     let t = c.wait_taken-stage in
     let old = c.replace-stage.result in
     let there = subst (λ (g : Stage). IsTrue (is_there g)) (sym c.replace-stage.ensures.value) q.there in
-    let comes = subst (λ (g : Stage). Comes q.wires q.state g) (sym c.replace-stage.ensures.value) q.left in
+    let completes = subst (λ (g : Stage). TaskCompletes q.wires q.state g) (sym c.replace-stage.ensures.value) q.left in
     record {
       there = wait_taken_there old t.result.0 c.args.pages t.result.1 there t.ensures;
       wired = q.wired;
       turns = q.turns;
-      left = wait_taken_comes q.wires q.state old t.result.0 c.args.pages t.result.1 comes t.ensures;
+      left = wait_taken_task_completes q.wires q.state old t.result.0 c.args.pages t.result.1 completes t.ensures;
     }

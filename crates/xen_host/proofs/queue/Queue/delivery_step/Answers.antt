@@ -4,7 +4,7 @@ use Rattle.xen_host.specs.Queues.{task_of}
 use Rattle.xen_host.specs.Wired.{vif_of}
 use Rattle.xen_host.specs.declared.stage.Stage.{Stage}
 use Rattle.xen_host.specs.declared.task.Task.TheVariants as task
-use Rattle.xen_host.proofs.DeliveryLemmas.{delivery_arrives, is_delivery_step, settled_comes}
+use Rattle.xen_host.proofs.DeliveryLemmas.{delivery_arrives, is_delivery_step, settled_task_completes}
 use Rattle.xen_host.proofs.TurnLemmas.{delivery_within}
 use Rattle.xen_host.proofs.queue.Queue.delivery_step.Goals as goal
 
@@ -17,7 +17,7 @@ invariant_of-self c =
     let a = c.carrying_fed-carrying in
     let at = sym c.replace.ensures.value ∙ c.carrying_in-carrying.ensures in
     let arrives = delivery_arrives q c.carrying_in-carrying.result a.result c.args.words.now at c.are_words.ensures a.ensures.rest q.left in
-    record { there = c.settled_delivery-stage.ensures.there; wired = q.wired; turns = q.turns; left = settled_comes q.wires q.state a.result c.settled_delivery-stage.result q.turns arrives c.settled_delivery-stage.ensures.settled }
+    record { there = c.settled_delivery-stage.ensures.there; wired = q.wired; turns = q.turns; left = settled_task_completes q.wires q.state a.result c.settled_delivery-stage.result q.turns arrives c.settled_delivery-stage.ensures.settled }
 
 pub returns-clause-within : goal.returns-clause-within
 returns-clause-within c =

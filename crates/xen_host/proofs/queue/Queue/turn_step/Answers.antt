@@ -2,7 +2,7 @@ use Rattle.std.proofs.Common.{length, map, refl}
 use Rattle.xen_back.specs.Program.{event_of}
 use Rattle.xen_host.specs.Rest.{rest_in}
 use Rattle.xen_host.specs.Wired.{wiring_of}
-use Rattle.xen_host.proofs.StepLemmas.{comes_of, completes_of, is_stepped, settled_completes, step_completes, turns_on}
+use Rattle.xen_host.proofs.StepLemmas.{task_completes, completes_of, is_stepped, settled_completes, step_completes, turns_on}
 use Rattle.xen_host.proofs.TurnLemmas.{asked_within}
 use Rattle.xen_host.proofs.queue.Queue.turn_step.Goals as goal
 
@@ -20,7 +20,7 @@ invariant_of-self c =
     let completes = completes_of q.wires q.state q.stage (turns_on q.stage q.there c.requires.turn) q.left in
     let left = step_completes w q.state q.stage q.stage a.new.stage c.args.words.now (map event_of a.ensures.gone.labels) refl c.requires.enough c.are_words.ensures a.ensures.gone.gone completes in
     let settled = settled_completes w q.state a.new.stage (e.new.state, e.new.stage) q.turns a.ensures.here left e.ensures.settled in
-    record { there = e.ensures.there; wired = q.wired; turns = q.turns; left = comes_of q.wires e.new.state e.new.stage e.ensures.turning settled }
+    record { there = e.ensures.there; wired = q.wired; turns = q.turns; left = task_completes q.wires e.new.state e.new.stage e.ensures.turning settled }
 
 pub returns-clause-within : goal.returns-clause-within
 returns-clause-within c =

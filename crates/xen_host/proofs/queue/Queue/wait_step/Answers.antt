@@ -2,7 +2,7 @@ use Rattle.std.proofs.Common.{◌≡◌, ◌∙◌, refl, subst, sym}
 use Rattle.xen_host.specs.Queues.{task_of}
 use Rattle.xen_host.specs.declared.stage.Stage.{Stage}
 use Rattle.xen_host.specs.declared.task.Task.TheVariants as task
-use Rattle.xen_host.proofs.WaitLemmas.{is_wait_step, wait_comes, wait_there}
+use Rattle.xen_host.proofs.WaitLemmas.{is_wait_step, wait_task_completes, wait_there}
 use Rattle.xen_host.proofs.queue.Queue.wait_step.Goals as goal
 
 pub waiting_in-work-requires : goal.waiting_in-work-requires
@@ -17,7 +17,7 @@ invariant_of-self c =
       there = wait_there at.result.0 a.result.left c.stage_of_wait.result c.stage_of_wait.ensures;
       wired = q.wired;
       turns = q.turns;
-      left = wait_comes q.wires a.result.state at.result.0 a.result.left c.stage_of_wait.result q.turns c.stage_of_wait.ensures;
+      left = wait_task_completes q.wires a.result.state at.result.0 a.result.left c.stage_of_wait.result q.turns c.stage_of_wait.ensures;
     }
 
 pub returns-clause-stepped : goal.returns-clause-stepped
