@@ -5,7 +5,8 @@
     bench/mixes.py --settings NAME [SLOTS]   settings for `xdpbox check`
 
 NAME is a mix, or a program that is made for the memory and the time that our verifier takes: `hostile-ids`, `far-jumps`,
-`far-jumps-of-eight`, `far-checks`, `most-waiting`, `late-ids`, `early-ids`, `id-checks`, `set-stack` or `checked-ids`. No peer is measured on those.
+`far-jumps-of-eight`, `far-checks`, `most-waiting`, `late-ids`, `early-ids`, `id-checks`, `set-stack`, `checked-ids`, `joined-checks` or
+`joined-ids`. No peer is measured on those.
 SLOTS is 4096 if it isn't given."""
 import sys
 
@@ -186,9 +187,46 @@ def checked_ids(slots):
     return lines + ["r5 += r3"] * (slots - len(lines) - len(END)) + END
 
 
+def constants(place):
+    """Eight notes with a constant of 1 to 8 each in r6, by what PLACE makes of their numbers 0 to 7. The jumps teach nothing."""
+    bits = [line for bit in range(3) for line in (f"if w3 > {60 * bit + 60} goto +1", f"r6 += {1 << bit}")]
+    return ["r6 = 0", *bits, *place, "r7 &= 7", "r6 = r7", "r6 += 1"]
+
+
+RISING = constants(["r7 = r6", "r7 += 1"])  # 2 to 8, then 1
+FALLING = constants(["r7 = 6", "r7 -= r6"])  # 7 to 1, then 8
+
+
+def joined_far(lines, slots):
+    """A jump that teaches nothing to each slot of a far part, where eight notes wait; each slot of that part splits a range at
+    another place, so what falls through equals none of the eight, and is joined into the last, a note after another."""
+    far = (slots - len(lines) - len(END)) // 2
+    lines = lines + [f"if w3 > 7 goto +{far - 1}"] * far
+    lines += [f"if r3 > {(126 + at) % 255} goto +0" for at in range(slots - len(lines) - len(END))]
+    return lines + END
+
+
+def joined_checks(slots):
+    """The first id of each chunk of bounds is compared with the packet's end at each note's own constant, so each of eight notes has a
+    safe bound of its own in each chunk. Where the packet is shorter the program ends."""
+    lines = [*BEGIN, "r5 = r2", *FALLING]
+    lines += ["r5 += r3"] * (-len(lines) % 32)
+    for _chunk in range(slots * 31 // 64 // 32):
+        lines += ["r5 += r3", "r7 = r5", "r7 += r6"]
+        lines += [f"if r7 > r4 goto +{slots - 2 - len(lines)}"] + ["r5 += r3"] * 28
+    return joined_far(lines, slots)
+
+
+def joined_ids(slots):
+    """The range that is added to make an id begins at each note's own constant, so each of eight notes has a greatest base of
+    its own for each id."""
+    lines = [*BEGIN, "r5 = r2", *RISING, "r8 = r3", "r8 &= 127", "r8 += r6"]
+    return joined_far(lines + ["r5 += r8"] * (slots * 31 // 64), slots)
+
+
 MADE = {"hostile-ids": hostile_ids, "far-jumps": far_jumps, "far-jumps-of-eight": far_jumps_of_eight, "far-checks": far_checks,
         "most-waiting": most_waiting, "late-ids": late_ids, "early-ids": early_ids, "id-checks": id_checks,
-        "set-stack": set_stack, "checked-ids": checked_ids}
+        "set-stack": set_stack, "checked-ids": checked_ids, "joined-checks": joined_checks, "joined-ids": joined_ids}
 
 
 def program(name, slots):

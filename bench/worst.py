@@ -39,6 +39,30 @@ def bits(count, pick):
             (f"{register} = 0", f"if r3 > {60 * at + pick % 60} goto +1", f"{register} = 1")]
 
 
+def constants(count, pick):
+    """Notes with a constant of their own in r6: two, four or eight, in an order that PICK turns."""
+    few = 1 + count % 3
+    return ["r6 = 0", *(line for bit in range(few) for line in (f"if w3 > {60 * bit + pick % 60} goto +1", f"r6 += {1 << bit}")),
+            "r7 = r6", f"r7 {('+=', '-=')[pick % 2]} {pick // 2 % 8}", "r7 &= 7", "r6 = r7", "r6 += 1"]
+
+
+def offsets(count, pick):
+    """Chunks of bounds of which an address is compared at each note's own constant."""
+    few = 1 + pick % 29
+    return [line for _chunk in range(max(1, count // 32)) for line in
+            (*["r5 += r3"] * few, "r7 = r5", "r7 += r6", "if r7 > r4 goto +0", *["r5 += r3"] * (29 - few))]
+
+
+def ranges(count, pick):
+    """Ids of which each note has a greatest base of its own."""
+    return ["r8 = r3", f"r8 &= {(15, 127, 255)[pick % 3]}", "r8 += r6"] + ["r5 += r8"] * count
+
+
+def far_jumps(count, pick):
+    """Jumps that teach nothing, each to a slot of its own."""
+    return [f"if w3 > {pick % 255} goto +{count - 1}"] * count
+
+
 def kept(count, pick):
     """Values that the stack keeps."""
     register = ("r3", "r5", *KEPT)[pick % 7]
@@ -81,7 +105,8 @@ def moves(count, pick):
             (f"{KEPT[at % 5]} = r2", f"{KEPT[at % 5]} += r3", f"if {KEPT[(at + pick) % 5]} <= r4 goto +0")]
 
 
-PARTS = [ids, fresh, bits, kept, stack_bytes, loads, checks, last_checks, far_checks, ids_and_checks, branches, moves]
+PARTS = [ids, fresh, bits, constants, offsets, ranges, kept, stack_bytes, loads, checks, last_checks, far_checks, far_jumps,
+         ids_and_checks, branches, moves]
 
 
 def some_part(rng):

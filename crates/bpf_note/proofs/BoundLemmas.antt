@@ -151,7 +151,7 @@ above : (id : ℕ) (xs : List Bound) (d : Bound) → IsNormalFrom id xs → (0 <
 above id [] d n h = tt
 above id (x ∷ xs) d n h = let ne : x.id ≢ id = h (omega arith) in (omega arith, n.1, n.2)
 
-first_at : (xs : List Bound) (p : ℕ) (d : Bound) → get_or (drop p xs) 0 d ≡ get_or xs p d
+pub first_at : (xs : List Bound) (p : ℕ) (d : Bound) → get_or (drop p xs) 0 d ≡ get_or xs p d
 first_at xs zero d = refl
 first_at [] (suc p) d = refl
 first_at (x ∷ xs) (suc p) d = first_at xs p d

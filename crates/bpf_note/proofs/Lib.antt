@@ -8,3 +8,4 @@ pub mod JoinDescribes
 pub mod ChunkLemmas
 pub mod PartLemmas
 pub mod JoinedParts
+pub mod KeptLemmas

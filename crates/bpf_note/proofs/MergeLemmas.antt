@@ -153,7 +153,7 @@ said_append [] b rest = by (says b)
     by false = refl
 said_append (x ∷ xs) b rest = ap (λ (ys : List Bound). x ∷ ys) (said_append xs b rest)
 
-drop_at : (xs : List Bound) (i : ℕ) (d : Bound) → i < length xs → drop i xs ≡ get_or xs i d ∷ drop (i + 1) xs
+pub drop_at : (xs : List Bound) (i : ℕ) (d : Bound) → i < length xs → drop i xs ≡ get_or xs i d ∷ drop (i + 1) xs
 drop_at xs i d h = let next : suc i ≡ i + 1 = omega arith in drop-cons xs i d h ∙ ap (λ (k : ℕ). get_or xs i d ∷ drop k xs) next
 
 -- one step of the merge in place
@@ -189,7 +189,7 @@ drop_all [] (suc i) h = refl
 drop_all (x ∷ xs) zero h = absurd (omega arith)
 drop_all (x ∷ xs) (suc i) h = drop_all xs i (omega arith)
 
-append_none : (xs : List Bound) → xs ++ [] ≡ xs
+pub append_none : (xs : List Bound) → xs ++ [] ≡ xs
 append_none [] = refl
 append_none (x ∷ xs) = ap (λ (ys : List Bound). x ∷ ys) (append_none xs)
 
@@ -237,14 +237,14 @@ head_goes b x zs xs lt e = by (says b) refl e
     by true g f = let same : b ≡ x = cc in absurd (let ids : b.id ≡ x.id = ap (λ (c : Bound). c.id) same in omega arith)
     by false g f = ((says_nothing b (sym g)).0, f)
 
-alone_silent : (y : Bound) (zs : List Bound) → y.top ≡ 0 → with_said (alone y) zs ≡ zs
+pub alone_silent : (y : Bound) (zs : List Bound) → y.top ≡ 0 → with_said (alone y) zs ≡ zs
 alone_silent y zs e = by (says (alone y)) refl
   where
     by : (s : Bool) → s ≡ says (alone y) → cond s (alone y ∷ zs) zs ≡ zs
     by true f = absurd (let t : (not (y.top == 0) || false) ≡ true = sym f in grind (arith, nat_tests))
     by false f = refl
 
-alone_same : (x : Bound) → x.safe ≡ None → alone x ≡ x
+pub alone_same : (x : Bound) → x.safe ≡ None → alone x ≡ x
 alone_same x e = λ i. record { id = x.id; top = x.top; safe = sym e i }
 
 abbrev pub Stays : List Bound → List Bound → Type 0
@@ -290,7 +290,7 @@ in_place xs ys i j d e hi hj =
       λ s. subst (λ (zs : List Bound). Stays zs (drop j ys)) (sym px) (subst (λ (zs : List Bound). Stays (get_or xs i d ∷ drop (i + 1) xs) zs) (sym py) s),
     )
 
-front_normal : (xs : List Bound) (i : ℕ) (d : Bound) → IsNormal xs → i < length xs → IsNormalFrom 0 (get_or xs i d ∷ drop (i + 1) xs)
+pub front_normal : (xs : List Bound) (i : ℕ) (d : Bound) → IsNormal xs → i < length xs → IsNormalFrom 0 (get_or xs i d ∷ drop (i + 1) xs)
 front_normal xs i d n h = subst (IsNormalFrom 0) (drop_at xs i d h) (normal_drop 0 i xs n)
 
 -- the part of the left list's first bound, and the rest

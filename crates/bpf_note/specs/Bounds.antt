@@ -1,6 +1,6 @@
 -- What is done to lists of bounds.
-use Rattle.std.specs.Prelude.{ℕ, suc, ◌≡◌, List, [], ◌∷◌, Bool, false, Option, None, Some, max, if◌then◌else◌, nat_lt, ◌==◌, ◌||◌}
-use Rattle.std.specs.Prelude.{not, is_some}
+use Rattle.std.specs.Prelude.{ℕ, suc, ◌≡◌, List, [], ◌∷◌, ◌++◌, drop, Bool, false, Option, None, Some, max, if◌then◌else◌}
+use Rattle.std.specs.Prelude.{nat_lt, ◌==◌, ◌||◌, not, is_some}
 use Rattle.bpf_note.specs.declared.bound.Bound.{Bound}
 use Rattle.bpf_note.specs.State.{put}
 use Rattle.bpf_note.specs.Join.{lesser}
@@ -26,6 +26,14 @@ pub record AreJoined (xs ys zs : List Bound) : Type 0 where
   pub normal : IsNormal zs
   pub tops : (id : ℕ) → top_in zs id ≡ max (top_in xs id) (top_in ys id)
   pub safes : (id : ℕ) → safe_in zs id ≡ lesser (safe_in xs id) (safe_in ys id)
+
+-- a list, and behind it the join of two others
+abbrev pub IsJoinedOnto : List Bound → List Bound → List Bound → List Bound → Type 0
+IsJoinedOnto front xs ys new = (zs : List Bound) × (new ≡ front ++ zs) × AreJoined xs ys zs
+
+-- what the join of two lists has in front, up to a place in each of them, whatever the join of the rest
+abbrev pub IsJoinedFront : List Bound → List Bound → ℕ → ℕ → List Bound → Type 0
+IsJoinedFront xs ys i j front = (zs : List Bound) → AreJoined (drop i xs) (drop j ys) zs → AreJoined xs ys (front ++ zs)
 
 abbrev pub says : Bound → Bool
 says b = not (b.top == 0) || is_some b.safe

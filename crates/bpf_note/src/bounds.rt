@@ -1,8 +1,9 @@
 //! Lists of what is known of ids: rising ids, each with something to say.
-ghost use Rattle.std.specs.Prelude.{◌≡◌, ◌↔◌, [], IsTrue, All, None, IfOk, IfSome, IfNone, OnOk, OnErr, ◌++◌, ◌≤◌, length, slice_get};
+ghost use Rattle.std.specs.Prelude.{◌≡◌, ◌↔◌, [], IsTrue, All, None, IfOk, IfSome, IfNone, OnOk, OnErr, ◌++◌, ◌≤◌, length, take, slice_get};
 ghost use Rattle.bpf_note.specs.Join.{lesser};
 ghost use Rattle.bpf_note.specs.Parts.{top_in, safe_in, IsNormal};
-ghost use Rattle.bpf_note.specs.Bounds.{place_of, has_id, IsSet, AreJoined, says, alone, paired, with_said, all_alone};
+ghost use Rattle.bpf_note.specs.Bounds.{place_of, has_id, IsSet, AreJoined, IsJoinedOnto, IsJoinedFront};
+ghost use Rattle.bpf_note.specs.Bounds.{says, alone, paired, with_said, all_alone};
 
 use crate::bound::Bound;
 use std::alloc::{AllocError, Global};
@@ -125,32 +126,107 @@ pub(crate) fn are_same(a: &[Bound], b: &[Bound]) -> bool
     a == b
 }
 
-/// What is known of each id where either list may be true.
-pub(crate) fn join_bounds(alloc: Global, a: &[Bound], b: &[Bound]) -> Result<Vec<Bound>, AllocError>
+/// What is known of each id where either list may be true; `None` where that is the first list.
+pub(crate) fn join_bounds(
+    alloc: Global,
+    a: &[Bound],
+    b: &[Bound],
+) -> Result<Option<Vec<Bound>>, AllocError>
     requires a { IsNormal a.now }
     requires b { IsNormal b.now }
-    ensures { IfOk result (λ c. AreJoined a.now b.now c.items) }
+    ensures some { IfOk result (λ o. IfSome o (λ c. AreJoined a.now b.now c.items)) }
+    ensures none { IfOk result (λ o. IfNone o (AreJoined a.now b.now a.now)) }
 {
+    let (i, j) = kept_front(a, b);
+    let (rest, others) = (&a[i..], &b[j..]);
+    if covers_bounds(rest, others) {
+        return Ok(None);
+    }
     let mut joined = Vec::with_capacity(alloc, a.len().max(b.len()))?;
+    joined.extend_from_slice(a)?;
+    let same = pair_front(&mut joined[i..], others);
+    joined.truncate(i + same);
+    push_joined(&mut joined, &rest[same..], &others[same..])?;
+    Ok(Some(joined))
+}
+
+/// Places in the two lists up to which the first list stays as it is where the two are joined. How far it looks is a matter of
+/// time alone.
+fn kept_front(a: &[Bound], b: &[Bound]) -> (usize, usize)
+    requires a { IsNormal a.now }
+    requires b { IsNormal b.now }
+    ensures inside { (result.0 ≤ length a.now) × (result.1 ≤ length b.now) }
+    ensures front { IsJoinedFront a.now b.now result.0 result.1 (take result.0 a.now) }
+{
     let mut i = 0;
     let mut j = 0;
     while i < a.len() && j < b.len() {
         let (x, y) = (a[i], b[j]);
         if x.id < y.id {
-            push_said(&mut joined, alone(x))?;
+            if x.safe.is_some() {
+                break;
+            }
             i += 1;
         } else if y.id < x.id {
-            push_said(&mut joined, alone(y))?;
+            if y.top != 0 {
+                break;
+            }
             j += 1;
         } else {
-            push_said(&mut joined, paired(x, y))?;
+            if paired(x, y) != x {
+                break;
+            }
             i += 1;
             j += 1;
         }
     }
-    push_alone(&mut joined, &a[i..])?;
-    push_alone(&mut joined, &b[j..])?;
-    Ok(joined)
+    (i, j)
+}
+
+/// Joins the bounds at the front of two lists in the first one, as far as their ids are the same. Gives how many it joined, which
+/// is a matter of time alone.
+fn pair_front(own: &mut [Bound], others: &[Bound]) -> usize
+    requires own { IsNormal own.old }
+    requires others { IsNormal others.now }
+    ensures inside { (result ≤ length own.old) × (result ≤ length others.now) }
+    ensures front { IsJoinedFront own.old others.now result result (take result own.new) }
+{
+    let size = own.len().min(others.len());
+    for k in 0..size {
+        let both = paired(own[k], others[k]);
+        if own[k].id != others[k].id || !says(both) {
+            return k;
+        }
+        own[k] = both;
+    }
+    size
+}
+
+/// Adds the join of two lists.
+fn push_joined(joined: &mut Vec<Bound>, a: &[Bound], b: &[Bound]) -> Result<(), AllocError>
+    requires a { IsNormal a.now }
+    requires b { IsNormal b.now }
+    ensures { OnOk result (IsJoinedOnto joined.old.items a.now b.now joined.new.items) }
+{
+    let mut i = 0;
+    let mut j = 0;
+    while i < a.len() && j < b.len() {
+        let (x, y) = (a[i], b[j]);
+        if x.id < y.id {
+            push_said(joined, alone(x))?;
+            i += 1;
+        } else if y.id < x.id {
+            push_said(joined, alone(y))?;
+            j += 1;
+        } else {
+            push_said(joined, paired(x, y))?;
+            i += 1;
+            j += 1;
+        }
+    }
+    push_alone(joined, &a[i..])?;
+    push_alone(joined, &b[j..])?;
+    Ok(())
 }
 
 /// Whether the join of the two lists is the first.

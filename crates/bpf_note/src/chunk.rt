@@ -124,13 +124,12 @@ impl Chunk {
     pub(crate) fn joined(&self, alloc: Global, other: &Chunk) -> Result<Chunk, AllocError>
         ensures { IfOk result (λ s. AreJoined self.now other.now s) }
     {
-        if self.covers(other) {
-            self.share()
-        } else {
-            Chunk::of(
-                alloc,
-                join_bounds(alloc, self.as_slice(), other.as_slice())?,
-            )
+        if self.same_as(other) {
+            return self.share();
+        }
+        match join_bounds(alloc, self.as_slice(), other.as_slice())? {
+            Some(bounds) => Chunk::of(alloc, bounds),
+            None => self.share(),
         }
     }
 
