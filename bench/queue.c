@@ -1,5 +1,5 @@
 /* Whole turns of the queue for hosts in C: each access is made here, as the queue asks for it, in pages of 1,024 words of 32 bits.
- * Loads acquire and stores release, with a full fence behind a producer or an event index, as docs/HOST.md has it.
+ * Loads acquire and stores release, with a full fence inside a push, as docs/HOST.md has it.
  *
  * usage: queue SIZE BATCHES PROGRAM, as turn.c has it; with `deliver` for PROGRAM a turn is the delivery of a packet of the host's own.
  * Prints the nanoseconds per turn, the least of five rounds, and the calls of laxonje_queue_step per turn. */
@@ -13,7 +13,7 @@
 #include <time.h>
 
 enum { FRAMES = 40, PAGE = 4096, TABLE = 1, TX = 2, RX = 3, FIRST_PAGE = 4, RX_PAGE = 22, HEADER = 16, BATCH = 16, RING = 256 };
-enum { BACK = 0, FRONT = 1, MORE_DATA = 4, PERMIT = 1, FENCED = 4 };
+enum { BACK = 0, FRONT = 1, MORE_DATA = 4, PERMIT = 1 };
 
 struct host {
 	_Atomic uint32_t *pages;
@@ -33,26 +33,49 @@ static void put(struct host *host, uint32_t frame, uint32_t word, uint32_t value
 	atomic_store_explicit(word_at(host, frame, word), value, memory_order_relaxed);
 }
 
-/* What is under way, to its end; or else a turn. */
-static struct laxonje_op take_turn(struct host *host)
+static void read_words(struct host *host, const struct laxonje_op *op)
 {
+	_Atomic uint32_t *at = word_at(host, op->frame, op->word);
+	for (uint32_t i = 0, count = op->count; i < count; i++)
+		host->words[i] = atomic_load_explicit(at + i, memory_order_acquire);
+}
+
+static void write_words(struct host *host, const struct laxonje_op *op, const uint32_t *words)
+{
+	_Atomic uint32_t *at = word_at(host, op->frame, op->word);
+	for (uint32_t i = 0, count = op->count; i < count; i++)
+		atomic_store_explicit(at + i, words[i], memory_order_release);
+}
+
+/* A turn, or a delivery, to its end; the producer of the ring in this frame was not read before. */
+static struct laxonje_op take_turn(struct host *host, uint32_t ring)
+{
+	struct laxonje_op ops[LAXONJE_OPS];
+	host->words[0] = atomic_load_explicit(word_at(host, ring, 0), memory_order_acquire);
 	for (;;) {
-		struct laxonje_op op = laxonje_queue_step(&host->queue, host->words, LAXONJE_PAGE_WORDS, NULL, 0);
-		_Atomic uint32_t *at;
+		size_t count = laxonje_queue_step(&host->queue, host->words, LAXONJE_PAGE_WORDS, NULL, 0, ops, LAXONJE_OPS);
 		host->calls++;
-		if (op.kind == LAXONJE_OP_DONE || op.kind == LAXONJE_OP_NONE)
-			return op;
-		if (op.kind == LAXONJE_OP_NOTIFY)
-			continue;
-		at = word_at(host, op.frame, op.word);
-		if (op.kind == LAXONJE_OP_READ) {
-			for (uint32_t i = 0; i < op.count; i++)
-				host->words[i] = atomic_load_explicit(at + i, memory_order_acquire);
-		} else {
-			for (uint32_t i = 0; i < op.count; i++)
-				atomic_store_explicit(at + i, host->words[i], memory_order_release);
-			if (op.word < FENCED)
+		for (const struct laxonje_op *op = ops; op < ops + count; op++) {
+			switch (op->kind) {
+			case LAXONJE_OP_READ:
+				read_words(host, op);
+				break;
+			case LAXONJE_OP_WRITE:
+				write_words(host, op, host->words);
+				break;
+			case LAXONJE_OP_STORE:
+				write_words(host, op, op->value);
+				break;
+			case LAXONJE_OP_PUSH:
+				write_words(host, op, op->value);
 				atomic_thread_fence(memory_order_seq_cst);
+				host->words[0] = atomic_load_explicit(word_at(host, op->frame, op->value[1]), memory_order_acquire);
+				break;
+			case LAXONJE_OP_NOTIFY:
+				break;
+			default:
+				return *op;
+			}
 		}
 	}
 }
@@ -108,7 +131,7 @@ static void take_batch(struct host *host, uint32_t size, const uint8_t *packet)
 		uint32_t wanted = packet ? LAXONJE_DELIVERY_SENT : size ? LAXONJE_TURN_RAN : LAXONJE_TURN_IDLE;
 		if (packet)
 			laxonje_queue_deliver(&host->queue, packet, size);
-		if (take_turn(host).turn != wanted)
+		if (take_turn(host, packet ? RX : TX).turn != wanted)
 			fprintf(stderr, "unexpected\n"), exit(1);
 	}
 }

@@ -31,7 +31,7 @@ extern "C" {
 #endif
 
 /* The version of this header. laxonje_version says which one the library is made for. */
-#define LAXONJE_VERSION 1
+#define LAXONJE_VERSION 2
 
 /* The most maps, entries of a map, counters of an entry, and bytes of a packet and of a program. */
 #define LAXONJE_MAPS 4
@@ -124,9 +124,11 @@ struct laxonje_program {
 
 /* ---- Netback's queue, whose accesses of the guest's pages the host makes: docs/HOST.md, "Netback's queue" */
 
-/* How many words are lent to a step: those of a page. The most frames and frames of a grant table, of laxonje_queue_make and then of
+/* How many words are lent to a step: those of a page. Room for a step's ops: a packet of n slots has n + 2 at once at most, and more
+ * steps where there is less room. The most frames and frames of a grant table, of laxonje_queue_make and then of
  * laxonje_queue_make_extents. How many ports there are. */
 #define LAXONJE_PAGE_WORDS 1024
+#define LAXONJE_OPS 8
 #define LAXONJE_FRAMES 8192
 #define LAXONJE_TABLE_FRAMES 16
 #define LAXONJE_EXTENT_FRAMES 4294967295
@@ -173,11 +175,13 @@ enum laxonje_made {
 };
 
 enum laxonje_op_kind {
-	LAXONJE_OP_NONE,   /* nothing was done: no queue, or too few words or counters */
-	LAXONJE_OP_READ,   /* read `count` words of `frame`, from `word` on, into the first of the lent words */
-	LAXONJE_OP_WRITE,  /* write the first `count` of the lent words into `frame`, from `word` on */
-	LAXONJE_OP_NOTIFY, /* send a notice to the port `frame` */
-	LAXONJE_OP_DONE    /* the turn, the delivery or the wait is over: `turn` says how. The next step begins a turn */
+	LAXONJE_OP_READ = 1, /* read `count` words of `frame`, from `word` on, into the first of the lent words */
+	LAXONJE_OP_WRITE,    /* write the first `count` of the lent words into `frame`, from `word` on */
+	LAXONJE_OP_NOTIFY,   /* send a notice to the port `frame` */
+	LAXONJE_OP_DONE,     /* the turn, the delivery or the wait is over: `turn` says how. The next step begins a turn */
+	LAXONJE_OP_STORE,    /* write the first `count` of `value`, one or two, into `frame`, from `word` on */
+	LAXONJE_OP_PUSH      /* write value[0] into `word` of `frame`, and behind it, with a full fence between them, read word value[1] of
+	                      * the same frame into the first of the lent words */
 };
 
 enum laxonje_turn {
@@ -260,6 +264,7 @@ struct laxonje_op {
 	uint32_t frame;
 	uint32_t word;
 	uint32_t count;
+	uint32_t value[2];
 	uint32_t turn;
 	uint32_t number;
 	uint32_t ops;
@@ -283,10 +288,11 @@ LAXONJE_ASSERT(offsetof(struct laxonje_queue_desc, queue) == 20 && offsetof(stru
 LAXONJE_ASSERT(offsetof(struct laxonje_queue_desc, rx_index) == 28);
 LAXONJE_ASSERT(sizeof(struct laxonje_queue_standing) == 16 && offsetof(struct laxonje_queue_standing, tx_index) == 4);
 LAXONJE_ASSERT(offsetof(struct laxonje_queue_standing, rx_index) == 8 && offsetof(struct laxonje_queue_standing, halt) == 12);
-LAXONJE_ASSERT(sizeof(struct laxonje_op) == 32 && offsetof(struct laxonje_op, frame) == 4);
+LAXONJE_ASSERT(sizeof(struct laxonje_op) == 40 && offsetof(struct laxonje_op, frame) == 4);
 LAXONJE_ASSERT(offsetof(struct laxonje_op, word) == 8 && offsetof(struct laxonje_op, count) == 12);
-LAXONJE_ASSERT(offsetof(struct laxonje_op, turn) == 16 && offsetof(struct laxonje_op, number) == 20);
-LAXONJE_ASSERT(offsetof(struct laxonje_op, ops) == 24 && offsetof(struct laxonje_op, slots) == 28);
+LAXONJE_ASSERT(offsetof(struct laxonje_op, value) == 16 && offsetof(struct laxonje_op, turn) == 24);
+LAXONJE_ASSERT(offsetof(struct laxonje_op, number) == 28 && offsetof(struct laxonje_op, ops) == 32);
+LAXONJE_ASSERT(offsetof(struct laxonje_op, slots) == 36);
 
 /* The version of the header that fits the library: LAXONJE_VERSION, or the two are of different releases. */
 uint32_t laxonje_version(void);
@@ -352,11 +358,14 @@ uint32_t laxonje_queue_make_extents(struct laxonje_program *program, const struc
                                     const uint32_t *table, size_t table_count, const struct laxonje_queue_desc *desc,
                                     struct laxonje_queue *out);
 
-/* Goes on after the op before, and says the next. `words` has the words that a LAXONJE_OP_READ asked for, and then those that a
- * LAXONJE_OP_WRITE is to write: at least LAXONJE_PAGE_WORDS of them. The program's counters are the first of `counters`, as
- * laxonje_run has them. With fewer words or counters, or no queue, the op is LAXONJE_OP_NONE, and nothing has changed. */
-struct laxonje_op laxonje_queue_step(struct laxonje_queue *queue, uint32_t *words, size_t word_count,
-                                     uint64_t *counters, size_t counter_count);
+/* Goes on after the ops before, and says the next ones, which the host makes in their order: as many as there is room for in `ops`, up to
+ * the first but LAXONJE_OP_STORE and LAXONJE_OP_NOTIFY. The answer is how many. `words` has the words that a LAXONJE_OP_READ or
+ * LAXONJE_OP_PUSH asked for, and then those that a LAXONJE_OP_WRITE is to write: at least LAXONJE_PAGE_WORDS of them. At the first step of
+ * a turn they begin with the tx ring's producer, word 0 of the frame `tx`, as the host has just read it; at that of a delivery, with the rx
+ * ring's. The program's counters are the first of `counters`, as laxonje_run has them. With fewer words or counters, no room, or no queue,
+ * there are no ops, and nothing has changed. */
+size_t laxonje_queue_step(struct laxonje_queue *queue, uint32_t *words, size_t word_count,
+                          uint64_t *counters, size_t counter_count, struct laxonje_op *ops, size_t op_count);
 
 /* Begins to deliver a packet of the host's own to the guest, between two turns. It is copied. The next steps are of its delivery,
  * until the one whose op is LAXONJE_OP_DONE. The answer is LAXONJE_TAKEN, or else why nothing was begun (enum laxonje_taken). */

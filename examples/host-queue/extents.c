@@ -45,10 +45,9 @@ static const struct making makings[] = {
 };
 
 /* A packet in one slot: of the first word of the tx ring at `tx` up to the slot; of the entry in the table's frame; of the answer. */
-#define SLOT(tx, gref) { LAXONJE_OP_READ, tx, 0, 1, { 1 } }, { LAXONJE_OP_READ, tx, 16, 3, { gref, 0, REFERENCE | HALF(HEADER) } }
+#define SLOT(tx, gref) { BEGINS, tx, 0, 1, { 1 } }, { LAXONJE_OP_READ, tx, 16, 3, { gref, 0, REFERENCE | HALF(HEADER) } }
 #define ENTRY(table, word, frame) { LAXONJE_OP_READ, table, word, 2, { PERMIT, frame } }
-#define ANSWER(tx, status) { LAXONJE_OP_WRITE, tx, 16, 1, { REFERENCE | HALF(status) } }, { LAXONJE_OP_WRITE, tx, 2, 1, { 1 } }, \
-	                   { LAXONJE_OP_READ, tx, 3, 1, { 1 } }, NOTICE
+#define ANSWER(tx, status) { LAXONJE_OP_STORE, tx, 16, 1, { REFERENCE | HALF(status) } }, PUSH(tx, 2, 1, 3, 1), NOTICE
 #define BYTES(frame) { LAXONJE_OP_READ, frame, 0, 4, { 0x04030201, 0x08070605, 0x0c0b0a09, 0xffff0e0d } }
 #define PASSED ENDS(LAXONJE_TURN_RAN, LAXONJE_PASS, 1)
 #define REFUSED ENDS(LAXONJE_TURN_REFUSED, LAXONJE_REFUSAL_GRANT, 1)
@@ -74,7 +73,7 @@ static void makes(struct laxonje_program *program, struct laxonje_queue *queue, 
 	is(row->what, row->answer == LAXONJE_MADE || queue->at == at, 1);
 }
 
-#define RUNS(program, queue, making, rows) makes(program, queue, making, 0), GOES(queue, rows)
+#define RUNS(program, queue, making, rows) makes(program, queue, making, 0), GOES(queue, LAXONJE_OPS, rows)
 
 /* With the owner of each frame, both limits are lower. */
 static void lists(struct laxonje_program *program, struct laxonje_queue *queue)

@@ -20,7 +20,7 @@
 #include <sys/wait.h>
 #include <unistd.h>
 
-enum { MOST_COUNTERS = LAXONJE_MAPS * LAXONJE_ENTRIES * LAXONJE_COUNTERS, SESSION = 500, FENCED = 4, ADDRESS = 6, TRIES = 16 };
+enum { MOST_COUNTERS = LAXONJE_MAPS * LAXONJE_ENTRIES * LAXONJE_COUNTERS, SESSION = 500, PRODUCER = 0, ADDRESS = 6, TRIES = 16 };
 
 struct totals { unsigned long packets, taken, blank, answered, waits, back, refused, halted, accesses, strange; };
 
@@ -57,36 +57,61 @@ static void read_words(struct host *host, const struct laxonje_op *op)
 		host->words[i] = atomic_load_explicit(from + i, memory_order_acquire);
 }
 
-static void write_words(struct host *host, const struct laxonje_op *op)
+static void read_word(struct host *host, uint32_t frame, uint32_t word)
+{
+	read_words(host, &(struct laxonje_op){ .kind = LAXONJE_OP_READ, .frame = frame, .word = word, .count = 1 });
+}
+
+static void write_words(struct host *host, const struct laxonje_op *op, const uint32_t *words)
 {
 	_Atomic uint32_t *to = words_of(host, op);
 	for (uint32_t i = 0; i < op->count; i++)
-		atomic_store_explicit(to + i, host->words[i], memory_order_release);
-	if (op->word < FENCED) /* a producer or an event index: the load that follows has to come after it */
-		atomic_thread_fence(memory_order_seq_cst);
+		atomic_store_explicit(to + i, words[i], memory_order_release);
 }
 
-/* What is under way, to its end; or else a turn: at most one packet. */
-static struct laxonje_op take_turn(struct host *host)
+/* Makes an op. */
+static void make(struct host *host, const struct laxonje_op *op)
 {
 	uint64_t one = 1;
-	for (;;) {
-		struct laxonje_op op = laxonje_queue_step(&host->queue, host->words, LAXONJE_PAGE_WORDS, host->counters, MOST_COUNTERS);
-		switch (op.kind) {
-		case LAXONJE_OP_READ:
-			read_words(host, &op);
-			break;
-		case LAXONJE_OP_WRITE:
-			write_words(host, &op);
-			break;
-		case LAXONJE_OP_NOTIFY:
-			if (write(host->channel.interrupt, &one, sizeof one) != sizeof one)
-				fail("eventfd");
-			break;
-		default:
-			return op;
-		}
+	switch (op->kind) {
+	case LAXONJE_OP_READ:
+		read_words(host, op);
+		break;
+	case LAXONJE_OP_WRITE:
+		write_words(host, op, host->words);
+		break;
+	case LAXONJE_OP_STORE:
+		write_words(host, op, op->value);
+		break;
+	case LAXONJE_OP_PUSH: /* a producer or an event index: the load that follows has to come after it */
+		write_words(host, op, op->value);
+		atomic_thread_fence(memory_order_seq_cst);
+		read_word(host, op->frame, op->value[1]);
+		break;
+	case LAXONJE_OP_NOTIFY:
+		if (write(host->channel.interrupt, &one, sizeof one) != sizeof one)
+			fail("eventfd");
 	}
+}
+
+/* What is under way, to its end: the last op says what it came to. */
+static struct laxonje_op finish(struct host *host)
+{
+	struct laxonje_op ops[LAXONJE_OPS];
+	for (;;) {
+		size_t count = laxonje_queue_step(&host->queue, host->words, LAXONJE_PAGE_WORDS, host->counters, MOST_COUNTERS, ops, LAXONJE_OPS);
+		for (size_t i = 0; i < count; i++)
+			make(host, &ops[i]);
+		if (ops[count - 1].kind == LAXONJE_OP_DONE)
+			return ops[count - 1];
+	}
+}
+
+/* A turn: at most one packet. It begins with a read of the producer. */
+static struct laxonje_op take_turn(struct host *host)
+{
+	read_word(host, TX_RING, PRODUCER);
+	return finish(host);
 }
 
 static void connect(struct host *host)
@@ -116,7 +141,7 @@ static bool awaits_slots(struct host *host, int guest, size_t length)
 {
 	struct laxonje_op op;
 	host->totals.strange += laxonje_queue_await(&host->queue, (length + PAGE - 1) / PAGE) != LAXONJE_TAKEN;
-	op = take_turn(host);
+	op = finish(host);
 	host->totals.waits++;
 	return op.turn == LAXONJE_AWAITED_POSTED || (op.turn == LAXONJE_AWAITED_WAITING && awaits(host, guest));
 }
@@ -134,7 +159,8 @@ static bool answer(struct host *host, int guest)
 	memcpy(host->packet + ADDRESS, to, ADDRESS);
 	for (unsigned tries = 0; tries < TRIES; tries++) {
 		host->totals.strange += laxonje_queue_deliver(&host->queue, host->packet, length) != LAXONJE_TAKEN;
-		op = take_turn(host);
+		read_word(host, RX_RING, PRODUCER);
+		op = finish(host);
 		if (op.turn != LAXONJE_DELIVERY_FEW_SLOTS || !awaits_slots(host, guest, length))
 			break;
 	}

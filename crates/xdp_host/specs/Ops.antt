@@ -16,15 +16,18 @@ use Rattle.xdp_host.specs.declared.queue_plain.XdpQueueState.{XdpQueueState}
 
 -- words of a page, or a port
 abbrev pub access : (kind frame word count : ℕ) → XdpOp
-access kind frame word count = record { kind = kind; frame = frame; word = word; count = count; turn = 0; number = 0; ops = 0; slots = 0 }
+access kind frame word count =
+    record { kind = kind; frame = frame; word = word; count = count; first = 0; second = 0; turn = 0; number = 0; ops = 0; slots = 0 }
 
--- nothing is asked
-abbrev pub no_op : XdpOp
-no_op = access 0 0 0 0
+-- words that are told with their place
+abbrev pub store : (kind frame word count first second : ℕ) → XdpOp
+store kind frame word count first second =
+    record { kind = kind; frame = frame; word = word; count = count; first = first; second = second; turn = 0; number = 0; ops = 0; slots = 0 }
 
 -- a turn, a delivery or a wait is over
 abbrev pub over : (turn number ops slots : ℕ) → XdpOp
-over turn number ops slots = record { kind = 4; frame = 0; word = 0; count = 0; turn = turn; number = number; ops = ops; slots = slots }
+over turn number ops slots =
+    record { kind = 4; frame = 0; word = 0; count = 0; first = 0; second = 0; turn = turn; number = number; ops = ops; slots = slots }
 
 abbrev pub over_of : Kind → XdpOp
 over_of kind.Idle = over 0 0 0 0
@@ -49,6 +52,9 @@ awaited_of (awaited.Halted cause) = over 11 (halt_number cause) 0 0
 abbrev pub op_of : Op → XdpOp
 op_of (op.Read at count) = access 1 at.frame at.word count
 op_of (op.Write at count) = access 2 at.frame at.word count
+op_of (op.Store at word) = store 5 at.frame at.word 1 word 0
+op_of (op.StoreTwo at first second) = store 5 at.frame at.word 2 first second
+op_of (op.Push at word read) = store 6 at.frame at.word 1 word read
 op_of (op.Notify port) = access 3 port 0 0
 op_of (op.Done kind) = over_of kind
 op_of (op.Delivered what) = delivered_of what

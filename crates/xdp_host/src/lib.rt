@@ -57,7 +57,7 @@ use std::alloc::Global;
 use xen_host::FrameOwners;
 
 /// The version of `include/laxonje.h`.
-const VERSION: u32 = 1;
+const VERSION: u32 = 2;
 
 /// Whether a program is accepted with its maps.
 #[unsafe(no_mangle)]
@@ -263,32 +263,35 @@ pub extern "C" fn laxonje_queue_make(
     }
 }
 
-/// Goes on after the last op, and says the next. With no queue, fewer words than a page has, or fewer counters than the
-/// program has, nothing is asked and nothing changes.
+/// Goes on after the ops before, and says the next, as far as there is room: up to the first that has to be answered. How many. With
+/// no queue, fewer words than a page has, or fewer counters than the program has, nothing is asked and nothing changes.
 #[unsafe(no_mangle)]
 pub extern "C" fn laxonje_queue_step(
     alloc: Global,
     queue: &mut XdpQueue,
     words: &mut [u32],
     counters: &mut [u64],
-) -> XdpOp
+    ops: &mut [XdpOp],
+) -> usize
     ensures there { IfNone queue.old.slot.held (queue.new.slot.held ≡ None) }
     ensures none { IfNone queue.old.slot.held (IsNothing result words.old words.new counters.old counters.new) }
-    ensures few { IfSome queue.old.slot.held (λ q. AreFew q words.old counters.old →
+    ensures few { IfSome queue.old.slot.held (λ q. AreFew q words.old counters.old (length ops.old) →
         IfSome queue.new.slot.held (λ r. IsNotStepped q r result words.old words.new counters.old counters.new)) }
-    ensures stepped { IfSome queue.old.slot.held (λ q. AreEnough q words.old counters.old →
-        IfSome queue.new.slot.held (λ r. HasStepped q r result words.old words.new counters.old counters.new)) }
+    ensures stepped { IfSome queue.old.slot.held (λ q. AreEnough q words.old counters.old (length ops.old) →
+        IfSome queue.new.slot.held (λ r.
+        HasStepped q r (take result ops.new) (length ops.old) words.old words.new counters.old counters.new)) }
+    ensures rest { drop result ops.new ≡ drop result ops.old }
     ensures kept { IfSome queue.old.slot.held (λ _. IsSome queue.new.slot.held) }
     ensures words { length words.new ≡ length words.old }
     ensures counters { length counters.new ≡ length counters.old }
 {
     match queue.take(alloc) {
         Some(mut held) => {
-            let op = stepped(&mut held, words, counters);
+            let count = stepped(&mut held, words, counters, ops);
             queue.put(held);
-            op
+            count
         }
-        None => XdpOp::none(),
+        None => 0,
     }
 }
 
@@ -360,7 +363,7 @@ pub extern "C" fn laxonje_queue_free(alloc: Global, queue: &mut XdpQueue)
 /// The version of the header that fits this library.
 #[unsafe(no_mangle)]
 pub extern "C" fn laxonje_version() -> u32
-    ensures { result ≡ 1 }
+    ensures { result ≡ 2 }
 {
     VERSION
 }

@@ -42,19 +42,45 @@ pub fn boxed(
     Ok(Box::new(alloc, queue)?)
 }
 
-/// A step, if there are words enough.
-pub fn stepped(queue: &mut Queue, words: &mut [u32], counters: &mut [u64]) -> XdpOp
+/// Steps, as far as there is room for their ops, up to the first that has to be answered. How many.
+#[inline(always)]
+fn steps(queue: &mut Queue, words: &mut [u32], counters: &mut [u64], ops: &mut [XdpOp]) -> usize
+    requires enough { AreEnough queue.old words.old counters.old (length ops.old) }
     ensures words { length words.new ≡ length words.old }
     ensures counters { length counters.new ≡ length counters.old }
-    ensures stepped { AreEnough queue.old words.old counters.old →
-        HasStepped queue.old queue.new result words.old words.new counters.old counters.new }
-    ensures few { AreFew queue.old words.old counters.old →
-        IsNotStepped queue.old queue.new result words.old words.new counters.old counters.new }
+    ensures stepped { HasStepped queue.old queue.new (take result ops.new) (length ops.old) words.old words.new counters.old counters.new }
+    ensures rest { drop result ops.new ≡ drop result ops.old }
 {
-    if words.len() < PAGE_WORDS || counters.len() < queue.counters() {
-        return XdpOp::none();
+    for count in 0..ops.len() {
+        let op = queue.step(words, counters);
+        ops[count] = XdpOp::of(op);
+        if !op.goes_on() {
+            return count + 1;
+        }
     }
-    XdpOp::of(queue.step(words, counters))
+    ops.len()
+}
+
+/// The same, if there is enough for it.
+#[inline(always)]
+pub fn stepped(
+    queue: &mut Queue,
+    words: &mut [u32],
+    counters: &mut [u64],
+    ops: &mut [XdpOp],
+) -> usize
+    ensures words { length words.new ≡ length words.old }
+    ensures counters { length counters.new ≡ length counters.old }
+    ensures stepped { AreEnough queue.old words.old counters.old (length ops.old) →
+        HasStepped queue.old queue.new (take result ops.new) (length ops.old) words.old words.new counters.old counters.new }
+    ensures few { AreFew queue.old words.old counters.old (length ops.old) →
+        IsNotStepped queue.old queue.new result words.old words.new counters.old counters.new }
+    ensures rest { drop result ops.new ≡ drop result ops.old }
+{
+    if words.len() < PAGE_WORDS || counters.len() < queue.counters() || ops.is_empty() {
+        return 0;
+    }
+    steps(queue, words, counters, ops)
 }
 
 /// Gives a queue a packet to deliver.

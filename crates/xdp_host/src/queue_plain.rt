@@ -1,7 +1,7 @@
 //! What crosses to C of a queue. `include/laxonje.h` has these structs in the same order, and these numbers.
 ghost use Rattle.std.specs.Prelude.{◌≡◌};
 ghost use Rattle.xdp_host.specs.Taken.{taken_number};
-ghost use Rattle.xdp_host.specs.Ops.{access, awaited_of, delivered_of, no_op, no_state, op_of, over, over_of, state_of};
+ghost use Rattle.xdp_host.specs.Ops.{access, awaited_of, delivered_of, no_state, op_of, over, over_of, state_of, store};
 
 use xen_host::{Awaited, Delivery, Kind, Op, State, Taken};
 use xen_page::Place;
@@ -22,7 +22,8 @@ pub struct XdpQueueDesc {
     pub rx_index: u32,
 }
 
-/// What a host does next. Of what is over: which it was, the number or the cause, the counter operations, the slots.
+/// What a host does next; `first` and `second` are the words of a store, or the word that is pushed and the number of the one that is read
+/// behind it. Of what is over: which it was, the number or the cause, the counter operations, the slots.
 #[repr(C)]
 #[derive(Clone, Copy, Debug, PartialEq, Eq, Drop)]
 pub struct XdpOp {
@@ -30,6 +31,8 @@ pub struct XdpOp {
     pub frame: u32,
     pub word: u32,
     pub count: u32,
+    pub first: u32,
+    pub second: u32,
     pub turn: u32,
     pub number: u32,
     pub ops: u32,
@@ -37,23 +40,8 @@ pub struct XdpOp {
 }
 
 impl XdpOp {
-    /// Nothing is asked, since nothing was done.
-    pub fn none() -> XdpOp
-        ensures { result ≡ no_op }
-    {
-        XdpOp {
-            kind: 0,
-            frame: 0,
-            word: 0,
-            count: 0,
-            turn: 0,
-            number: 0,
-            ops: 0,
-            slots: 0,
-        }
-    }
-
-    /// Words of a page, or a port.
+    /// Words of a page.
+    #[inline(always)]
     fn access(kind: u32, at: Place, count: u32) -> XdpOp
         ensures { result ≡ access kind at.frame at.word count }
     {
@@ -62,6 +50,27 @@ impl XdpOp {
             frame: at.frame,
             word: at.word,
             count,
+            first: 0,
+            second: 0,
+            turn: 0,
+            number: 0,
+            ops: 0,
+            slots: 0,
+        }
+    }
+
+    /// Words that are told with their place.
+    #[inline(always)]
+    fn store(kind: u32, at: Place, count: u32, first: u32, second: u32) -> XdpOp
+        ensures { result ≡ store kind at.frame at.word count first second }
+    {
+        XdpOp {
+            kind,
+            frame: at.frame,
+            word: at.word,
+            count,
+            first,
+            second,
             turn: 0,
             number: 0,
             ops: 0,
@@ -70,6 +79,7 @@ impl XdpOp {
     }
 
     /// The end of a turn, of a delivery or of a wait.
+    #[inline(always)]
     fn over(turn: u32, number: u32, ops: u32, slots: u32) -> XdpOp
         ensures { result ≡ over turn number ops slots }
     {
@@ -78,6 +88,8 @@ impl XdpOp {
             frame: 0,
             word: 0,
             count: 0,
+            first: 0,
+            second: 0,
             turn,
             number,
             ops,
@@ -86,6 +98,7 @@ impl XdpOp {
     }
 
     /// The end of a turn of this kind.
+    #[inline(always)]
     fn over_of(kind: Kind) -> XdpOp
         ensures { result ≡ over_of kind }
     {
@@ -100,6 +113,7 @@ impl XdpOp {
     }
 
     /// The end of a delivery.
+    #[inline(always)]
     fn delivered(delivery: Delivery) -> XdpOp
         ensures { result ≡ delivered_of delivery }
     {
@@ -113,6 +127,7 @@ impl XdpOp {
     }
 
     /// The end of a wait for rx slots.
+    #[inline(always)]
     fn awaited(awaited: Awaited) -> XdpOp
         ensures { result ≡ awaited_of awaited }
     {
@@ -124,12 +139,16 @@ impl XdpOp {
     }
 
     /// What an op tells a host.
+    #[inline(always)]
     pub fn of(op: Op) -> XdpOp
         ensures { result ≡ op_of op }
     {
         match op {
             Op::Read { at, count } => XdpOp::access(1, at, count),
             Op::Write { at, count } => XdpOp::access(2, at, count),
+            Op::Store { at, word } => XdpOp::store(5, at, 1, word, 0),
+            Op::StoreTwo { at, first, second } => XdpOp::store(5, at, 2, first, second),
+            Op::Push { at, word, read } => XdpOp::store(6, at, 1, word, read),
             Op::Notify(port) => XdpOp::access(
                 3,
                 Place {

@@ -1,19 +1,21 @@
 -- A step of a delivery: it goes on, or is a row of the table of deliveries.
-use Rattle.std.proofs.Common.{◌≡◌, ℕ, List, ◌++◌, length, refl, sym, ap, ◌∙◌, subst}
-use Rattle.std.specs.Prelude.{IsTrue, None}
+use Rattle.std.proofs.Common.{◌≡◌, ℕ, ◌<◌, ◌^◌, List, [], ◌∷◌, ◌++◌, length, refl, sym, ap, ◌∙◌, subst}
+use Rattle.std.specs.Prelude.{Bool, true, IsTrue, None, Option, Some, slice_index}
 use Rattle.std.specs.Global.{Box}
 use Rattle.xen_transmit.specs.Wired.{IsWired}
+use Rattle.xen_transmit.specs.declared.vif.Vif.{Vif}
 use Rattle.xen_steps.specs.Drive.{Gone, IsPageWant}
 use Rattle.xen_steps.specs.Event.{Event}
 use Rattle.xen_steps.specs.Steps.{Steps}
 use Rattle.xen_steps.proofs.DriveLemmas.{gone_append, runs_of_gone}
 use Rattle.xen_steps.proofs.FinishLemmas.{finishes_gone}
-use Rattle.xen_back.specs.Delivered.{IsDelivery}
-use Rattle.xen_back.specs.Deliveries.{Arrival, Arrives, arrived, whole_delivery}
+use Rattle.xen_back.specs.Delivered.{IsDelivery, is_frame}
+use Rattle.xen_back.specs.Deliveries.{Arrival, Arrives, arrived, if_frame, unless_halted, whole_delivery}
 use Rattle.xen_back.specs.Tree.{whole_turn}
 use Rattle.xen_back.specs.Within.{Completes}
 use Rattle.xen_back.specs.declared.delivery.delivering.Delivery.{Delivery}
 use Rattle.xen_back.specs.declared.state.State.{State}
+use Rattle.xen_back.specs.declared.turn.Halt.{Halt}
 use Rattle.xen_back.proofs.ArriveLemmas.{arrives, delivery_rows}
 use Rattle.xen_host.specs.Carries.{IsAskedOfDelivery, answers_carrying, asked_of_carrying, packet_carried, rest_carrying}
 use Rattle.xen_host.specs.Completing.{TaskCompletes}
@@ -35,7 +37,7 @@ use Rattle.xen_host.specs.declared.task.Taken.{Taken}
 use Rattle.xen_host.specs.declared.task.Taken.TheVariants as taken
 use Rattle.xen_host.specs.declared.wires.Wires.{Wires}
 use Rattle.xen_host.specs.declared.work.Work.{Work}
-use Rattle.xen_host.proofs.TurnLemmas.{AreSmall, Fit, fit_gone, fits_bind, moving_fits}
+use Rattle.xen_host.proofs.TurnLemmas.{AreSmall, fit_gone, fits_bind, moving_fits}
 
 -- a packet that is sent isn't there yet
 moving_on_way : (m : Moving) (what : Delivery) → asked_of_moving m ≡ Arrived what → ⊥
@@ -45,14 +47,26 @@ moving_on_way (moving.Grant g) what e = cc
 moving_on_way (moving.Fill f) what e = cc
 moving_on_way (moving.Reply r) what e = cc
 moving_on_way (moving.Replied b passed) what e = cc
-moving_on_way (moving.ReplyEvent b passed) what e = cc
 moving_on_way (moving.ReplyNotice b passed) what e = cc
 
--- what a delivery asked for may be answered by any words
-pub carrying_fits : (w : Wires) (s : State) (c : Carrying) (lent : List ℕ) → AreSmall lent → Fit (rest_carrying (vif_of w) s c) (answers_carrying c lent)
-carrying_fits w s (carrying.Begun b) lent h = tt
-carrying_fits w s (carrying.Moving m) lent h = fits_bind (rest_moving (vif_of w) s.rx_index m) (arrived s) (answers_moving m lent) (moving_fits (vif_of w) s.rx_index m lent h)
-carrying_fits w s (carrying.Over b after what) lent h = tt
+-- the read that begins a delivery: a queue that has halted has no use of it
+begun_gone : (w : Vif) (s : State) (packet : List ℕ) (a : ℕ) → is_frame packet ≡ true → a < 2 ^ 32 →
+    Gone (whole_delivery w s packet) (did (whole_delivery w s packet) (a ∷ [])) (fed (whole_delivery w s packet) (a ∷ []))
+begun_gone w s packet a frame h =
+    let goes : Steps Arrival → Type 0 = λ x. Gone x (did x (a ∷ [])) (fed x (a ∷ [])) in
+    subst (λ (b : Bool). goes (if_frame w s packet b)) (sym frame) (by s.halt)
+  where
+    by : (o : Option Halt) → Gone (unless_halted w s packet o) (did (unless_halted w s packet o) (a ∷ [])) (fed (unless_halted w s packet o) (a ∷ []))
+    by None = fit_gone (unless_halted w s packet None) (a ∷ []) (h, tt)
+    by (Some cause) = refl
+
+-- what a delivery asked for may be answered by any words, and leads where the answers do
+carrying_gone : (w : Wires) (s : State) (c : Carrying) (lent : List ℕ) → AreSmall lent →
+    Gone (rest_carrying (vif_of w) s c) (did (rest_carrying (vif_of w) s c) (answers_carrying c lent)) (fed (rest_carrying (vif_of w) s c) (answers_carrying c lent))
+carrying_gone w s (carrying.Begun b) lent h = begun_gone (vif_of w) s b.work.value.packet (slice_index lent 0) b.frame (h 0)
+carrying_gone w s (carrying.Moving m) lent h =
+    fit_gone (rest_carrying (vif_of w) s (carrying.Moving m)) (answers_moving m lent) (fits_bind (rest_moving (vif_of w) s.rx_index m) (arrived s) (answers_moving m lent) (moving_fits (vif_of w) s.rx_index m lent h))
+carrying_gone w s (carrying.Over b after what) lent h = refl
 
 -- the delivery is where it was, one step on
 still_on : (old new : Queue) (left : Carrying) (packet : List ℕ) (t : List Event) → Gone (whole_delivery (vif_of old.wires) old.state packet) t (rest_carrying (vif_of old.wires) old.state left) →
@@ -74,16 +88,25 @@ carried_on old new (op.Delivered what) (carrying.Begun b) packet t g a s w = cc 
 carried_on old new (op.Delivered what) (carrying.Moving m) packet t g a s w = absurd (moving_on_way m what a)
 carried_on old new (op.Read at count) (carrying.Over b after told) packet t g a s w = cc a
 carried_on old new (op.Write at count) (carrying.Over b after told) packet t g a s w = cc a
+carried_on old new (op.Store at word) (carrying.Over b after told) packet t g a s w = cc a
+carried_on old new (op.StoreTwo at first second) (carrying.Over b after told) packet t g a s w = cc a
+carried_on old new (op.Push at v k) (carrying.Over b after told) packet t g a s w = cc a
 carried_on old new (op.Notify port) (carrying.Over b after told) packet t g a s w = cc a
 carried_on old new (op.Done kind) (carrying.Over b after told) packet t g a s w = cc a
 carried_on old new (op.Awaited what) (carrying.Over b after told) packet t g a s w = cc a
 carried_on old new (op.Read at count) (carrying.Begun b) packet t g a s w = still_on old new (carrying.Begun b) packet t g s w
 carried_on old new (op.Write at count) (carrying.Begun b) packet t g a s w = still_on old new (carrying.Begun b) packet t g s w
+carried_on old new (op.Store at word) (carrying.Begun b) packet t g a s w = still_on old new (carrying.Begun b) packet t g s w
+carried_on old new (op.StoreTwo at first second) (carrying.Begun b) packet t g a s w = still_on old new (carrying.Begun b) packet t g s w
+carried_on old new (op.Push at v k) (carrying.Begun b) packet t g a s w = still_on old new (carrying.Begun b) packet t g s w
 carried_on old new (op.Notify port) (carrying.Begun b) packet t g a s w = still_on old new (carrying.Begun b) packet t g s w
 carried_on old new (op.Done kind) (carrying.Begun b) packet t g a s w = still_on old new (carrying.Begun b) packet t g s w
 carried_on old new (op.Awaited what) (carrying.Begun b) packet t g a s w = still_on old new (carrying.Begun b) packet t g s w
 carried_on old new (op.Read at count) (carrying.Moving m) packet t g a s w = still_on old new (carrying.Moving m) packet t g s w
 carried_on old new (op.Write at count) (carrying.Moving m) packet t g a s w = still_on old new (carrying.Moving m) packet t g s w
+carried_on old new (op.Store at word) (carrying.Moving m) packet t g a s w = still_on old new (carrying.Moving m) packet t g s w
+carried_on old new (op.StoreTwo at first second) (carrying.Moving m) packet t g a s w = still_on old new (carrying.Moving m) packet t g s w
+carried_on old new (op.Push at v k) (carrying.Moving m) packet t g a s w = still_on old new (carrying.Moving m) packet t g s w
 carried_on old new (op.Notify port) (carrying.Moving m) packet t g a s w = still_on old new (carrying.Moving m) packet t g s w
 carried_on old new (op.Done kind) (carrying.Moving m) packet t g a s w = still_on old new (carrying.Moving m) packet t g s w
 carried_on old new (op.Awaited what) (carrying.Moving m) packet t g a s w = still_on old new (carrying.Moving m) packet t g s w
@@ -97,7 +120,7 @@ delivery_gone q c left lent at small same =
     let s = q.state in
     let from = rest_carrying (vif_of w) s c in
     let gone : Gone from (did from (answers_carrying c lent)) (rest_carrying (vif_of w) s left) =
-    subst (λ (x : Steps Arrival). Gone from (did from (answers_carrying c lent)) x) (sym same) (fit_gone from (answers_carrying c lent) (carrying_fits w s c lent small)) in
+    subst (λ (x : Steps Arrival). Gone from (did from (answers_carrying c lent)) x) (sym same) (carrying_gone w s c lent small) in
     subst (λ (g : Stage). Gone (rest_at w s g) (did (rest_at w s g) (answers_of g lent)) (rest_carrying (vif_of w) s left)) (sym at) gone
 
 -- what is left after a step of a delivery comes to its end
@@ -110,7 +133,7 @@ delivery_arrives q c left lent at small same completes =
     let from = rest_carrying (vif_of w) s c in
     let arrives : Arrives (vif_of w) from = subst (λ (g : Stage). TaskCompletes w s g) at completes in
     let gone : Gone from (did from (answers_carrying c lent)) (rest_carrying (vif_of w) s left) =
-    subst (λ (x : Steps Arrival). Gone from (did from (answers_carrying c lent)) x) (sym same) (fit_gone from (answers_carrying c lent) (carrying_fits w s c lent small)) in
+    subst (λ (x : Steps Arrival). Gone from (did from (answers_carrying c lent)) x) (sym same) (carrying_gone w s c lent small) in
     finishes_gone (IsPageWant (length w.owners)) from (rest_carrying (vif_of w) s left) (did from (answers_carrying c lent)) arrives gone
 
 -- and so does what is left between two steps
@@ -155,15 +178,13 @@ not_between s (stage.Ready b) h = absurd (h b refl)
 not_between s (stage.Carry c) h = refl
 not_between s (stage.Wait b at) h = refl
 not_between s stage.Gone h = refl
-not_between s (stage.Look b) h = refl
 not_between s (stage.Announce b) h = refl
-not_between s (stage.LookAgain b) h = refl
 not_between s (stage.Slot r) h = refl
 not_between s (stage.Entry x) h = refl
 not_between s (stage.Page g) h = refl
 not_between s (stage.Send g) h = refl
-not_between s (stage.Answer a i) h = refl
-not_between s (stage.Event a) h = refl
+not_between s (stage.Answer r) h = refl
+not_between s (stage.Push a) h = refl
 not_between s (stage.Notice a) h = refl
 not_between s (stage.Over b after kind) h = refl
 

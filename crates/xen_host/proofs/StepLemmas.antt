@@ -28,7 +28,7 @@ use Rattle.xen_host.specs.declared.stage.Stage.{Stage}
 use Rattle.xen_host.specs.declared.stage.Stage.TheVariants as stage
 use Rattle.xen_host.specs.declared.task.Task.TheVariants as task
 use Rattle.xen_host.specs.declared.wires.Wires.{Wires}
-use Rattle.xen_host.proofs.TurnLemmas.{AreSmall, IsEnd, IsOn, end_or_on, fit_gone, stage_fits}
+use Rattle.xen_host.proofs.TurnLemmas.{AreSmall, IsEnd, IsOn, end_or_on, stage_gone}
 
 on_way : (old new : Queue) (left : Stage) (first : State) (t : List Event) → Gone (whole_turn (wiring_of old.wires) first) t (rest_in (wiring_of old.wires) old.state left) →
     ◌≡◌ {A = State × Stage} (new.state, new.stage) (old.state, left) → new.wires ≡ old.wires → IsUnderWay new first t
@@ -54,12 +54,18 @@ gone_on old new o left first t g here a s w = by (end_or_on left here) o a
         subst (λ p. IsTurn (wiring_of old.wires) first t new.state (turned kind p)) (sym bytes) stated
     by (inl e) (op.Read at count) a = cc (e.asks, a)
     by (inl e) (op.Write at count) a = cc (e.asks, a)
+    by (inl e) (op.Store at word) a = cc (e.asks, a)
+    by (inl e) (op.StoreTwo at x y) a = cc (e.asks, a)
+    by (inl e) (op.Push at v k) a = cc (e.asks, a)
     by (inl e) (op.Notify port) a = cc (e.asks, a)
     by (inl e) (op.Delivered what) a = cc (e.asks, a)
     by (inl e) (op.Awaited what) a = cc (e.asks, a)
     by (inr n) (op.Done kind) a = absurd (n.asks kind a)
     by (inr n) (op.Read at count) a = on_way old new left first t g (s ∙ n.stays old.state) w
     by (inr n) (op.Write at count) a = on_way old new left first t g (s ∙ n.stays old.state) w
+    by (inr n) (op.Store at word) a = on_way old new left first t g (s ∙ n.stays old.state) w
+    by (inr n) (op.StoreTwo at x y) a = on_way old new left first t g (s ∙ n.stays old.state) w
+    by (inr n) (op.Push at v k) a = on_way old new left first t g (s ∙ n.stays old.state) w
     by (inr n) (op.Notify port) a = on_way old new left first t g (s ∙ n.stays old.state) w
     by (inr n) (op.Delivered what) a = on_way old new left first t g (s ∙ n.stays old.state) w
     by (inr n) (op.Awaited what) a = on_way old new left first t g (s ∙ n.stays old.state) w
@@ -68,7 +74,7 @@ gone_on old new o left first t g here a s w = by (end_or_on left here) o a
 pub step_gone : (w : Wiring) (s : State) (g t left : Stage) (lent : List ℕ) (events : List Event) → t ≡ g → 1024 ≤ length lent → AreSmall lent →
     Gone (fed (rest_in w s t) (answers t lent)) events (rest_in w s left) → Gone (rest_in w s g) (did (rest_in w s g) (answers g lent) ++ events) (rest_in w s left)
 step_gone w s g t left lent events same l small h =
-    let answered = fit_gone (rest_in w s g) (answers g lent) (stage_fits w s g lent l small) in
+    let answered = stage_gone w s g lent l small in
     let ran = subst (λ (x : Stage). Gone (fed (rest_in w s x) (answers x lent)) events (rest_in w s left)) same h in
     gone_append (rest_in w s g) (fed (rest_in w s g) (answers g lent)) (rest_in w s left) (did (rest_in w s g) (answers g lent)) events answered ran
 
@@ -118,15 +124,13 @@ turns_on (stage.Carry c) there e = absurd (cc e)
 turns_on (stage.Wait b at) there e = absurd (cc e)
 turns_on stage.Gone there e = there
 turns_on (stage.Ready b) there e = refl
-turns_on (stage.Look b) there e = refl
 turns_on (stage.Announce b) there e = refl
-turns_on (stage.LookAgain b) there e = refl
 turns_on (stage.Slot r) there e = refl
 turns_on (stage.Entry x) there e = refl
 turns_on (stage.Page g) there e = refl
 turns_on (stage.Send g) there e = refl
-turns_on (stage.Answer a i) there e = refl
-turns_on (stage.Event a) there e = refl
+turns_on (stage.Answer r) there e = refl
+turns_on (stage.Push a) there e = refl
 turns_on (stage.Notice a) there e = refl
 turns_on (stage.Over b after kind) there e = refl
 
@@ -135,15 +139,13 @@ completes_of w s (stage.Carry c) t h = absurd (cc t)
 completes_of w s (stage.Wait b at) t h = absurd (cc t)
 completes_of w s stage.Gone t h = absurd (cc t)
 completes_of w s (stage.Ready b) t h = h
-completes_of w s (stage.Look b) t h = h
 completes_of w s (stage.Announce b) t h = h
-completes_of w s (stage.LookAgain b) t h = h
 completes_of w s (stage.Slot r) t h = h
 completes_of w s (stage.Entry x) t h = h
 completes_of w s (stage.Page g) t h = h
 completes_of w s (stage.Send g) t h = h
-completes_of w s (stage.Answer a i) t h = h
-completes_of w s (stage.Event a) t h = h
+completes_of w s (stage.Answer r) t h = h
+completes_of w s (stage.Push a) t h = h
 completes_of w s (stage.Notice a) t h = h
 completes_of w s (stage.Over b after kind) t h = h
 
@@ -152,14 +154,12 @@ task_completes w s (stage.Carry c) t h = absurd (cc t)
 task_completes w s (stage.Wait b at) t h = absurd (cc t)
 task_completes w s stage.Gone t h = absurd (cc t)
 task_completes w s (stage.Ready b) t h = h
-task_completes w s (stage.Look b) t h = h
 task_completes w s (stage.Announce b) t h = h
-task_completes w s (stage.LookAgain b) t h = h
 task_completes w s (stage.Slot r) t h = h
 task_completes w s (stage.Entry x) t h = h
 task_completes w s (stage.Page g) t h = h
 task_completes w s (stage.Send g) t h = h
-task_completes w s (stage.Answer a i) t h = h
-task_completes w s (stage.Event a) t h = h
+task_completes w s (stage.Answer r) t h = h
+task_completes w s (stage.Push a) t h = h
 task_completes w s (stage.Notice a) t h = h
 task_completes w s (stage.Over b after kind) t h = h

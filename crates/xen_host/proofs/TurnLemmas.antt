@@ -1,6 +1,7 @@
 -- What was asked and answered as events, and what is kept by them: a turn's way, its end, and where its accesses lie.
 use Rattle.std.proofs.Common.{◌≡◌, ℕ, zero, suc, ◌+◌, ◌-◌, ◌*◌, ◌<◌, ◌≤◌, ◌^◌, ◌⊎◌, inl, inr, List, [], ◌∷◌, ◌++◌, length, take, drop, refl, sym, ap, ◌∙◌, arith, subst}
-use Rattle.std.specs.Prelude.{replicate, slice_index, ◌/◌, Bool, true, None, IsTrue}
+use Rattle.std.specs.Global.{Box}
+use Rattle.std.specs.Prelude.{replicate, slice_index, ◌/◌, Bool, true, false, None, Option, Some, IsTrue}
 use Rattle.std.proofs.lemmas.List.{drop_more, length-take}
 use Rattle.xen_page.specs.Mapping.{frame_place}
 use Rattle.xen_page.specs.declared.place.Place.{Place}
@@ -19,10 +20,11 @@ use Rattle.xen_transmit.specs.Transmit.{fill, rx_answer, rx_respond}
 use Rattle.xen_transmit.specs.declared.target.Target.{Target}
 use Rattle.xen_transmit.specs.declared.vif.Vif.{Vif}
 use Rattle.xen_back.specs.Deliveries.{Arrival}
-use Rattle.xen_back.specs.Tree.{after_copy, after_transmit, answer, copy, whole_turn}
+use Rattle.xen_back.specs.Tree.{after_copy, after_transmit, answer, copy, unless_halted, whole_turn}
 use Rattle.xen_back.specs.Turned.{Ending, turned}
 use Rattle.xen_back.specs.Within.{IsWithin}
 use Rattle.xen_back.specs.declared.state.State.{State}
+use Rattle.xen_back.specs.declared.turn.Halt.{Halt}
 use Rattle.xen_back.specs.declared.turn.Kind.{Kind}
 use Rattle.xen_back.specs.declared.wiring.Wiring.{Wiring}
 use Rattle.bpf_note.specs.Shape.{Shape}
@@ -39,6 +41,7 @@ use Rattle.xen_host.specs.declared.op.Op.{Op}
 use Rattle.xen_host.specs.declared.op.Op.TheVariants as op
 use Rattle.xen_host.specs.declared.stage.Stage.{Stage}
 use Rattle.xen_host.specs.declared.stage.Stage.TheVariants as stage
+use Rattle.xen_host.specs.declared.work.Work.{Work}
 use Rattle.xen_host.proofs.AskLemmas.{asks_words}
 use Rattle.xen_host.proofs.FedLemmas.{page_short}
 
@@ -115,8 +118,7 @@ moving_fits w x (moving.Fill f) lent h =
 moving_fits w x (moving.Reply r) lent h =
     let b = r.work.value in
     reply_fits w x b.packet r.passed (length b.targets) r.i b.targets r.within
-moving_fits w x (moving.Replied b passed) lent h = (refl, tt)
-moving_fits w x (moving.ReplyEvent b passed) lent h = (h 0, tt)
+moving_fits w x (moving.Replied b passed) lent h = (refl, (h 0, tt))
 moving_fits w x (moving.ReplyNotice b passed) lent h = (refl, tt)
 
 -- what may be answered, before another computation
@@ -132,29 +134,64 @@ fed_bind (done x) f (a ∷ more) h = absurd h.0
 fed_bind (ask w k) f (a ∷ more) h = fed_bind (k a) f more h.1
 fed_bind never f (a ∷ more) h = absurd h.0
 
+-- between two turns
+abbrev is_ready : Stage → Bool
+is_ready (stage.Ready b) = true
+is_ready g = false
+
+ready_or : (g : Stage) → ((b : Box Work) × (g ≡ stage.Ready b)) ⊎ (is_ready g ≡ false)
+ready_or (stage.Ready b) = inl (b, refl)
+ready_or (stage.Announce b) = inr refl
+ready_or (stage.Slot r) = inr refl
+ready_or (stage.Entry e) = inr refl
+ready_or (stage.Page p) = inr refl
+ready_or (stage.Send p) = inr refl
+ready_or (stage.Answer r) = inr refl
+ready_or (stage.Push a) = inr refl
+ready_or (stage.Notice a) = inr refl
+ready_or (stage.Over b after kind) = inr refl
+ready_or (stage.Carry c) = inr refl
+ready_or (stage.Wait b at) = inr refl
+ready_or stage.Gone = inr refl
+
+-- the read that begins a turn: a queue that has halted has no use of it
+begun_gone : (w : Wiring) (s : State) (a : ℕ) (halt : Option Halt) → halt ≡ s.halt → a < 2 ^ 32 → Gone (whole_turn w s) (did (whole_turn w s) (a ∷ [])) (fed (whole_turn w s) (a ∷ []))
+begun_gone w s a halt e h = subst (λ (o : Option Halt). Gone (unless_halted w s o) (did (unless_halted w s o) (a ∷ [])) (fed (unless_halted w s o) (a ∷ []))) e (by halt)
+  where
+    by : (o : Option Halt) → Gone (unless_halted w s o) (did (unless_halted w s o) (a ∷ [])) (fed (unless_halted w s o) (a ∷ []))
+    by None = fit_gone (unless_halted w s None) (a ∷ []) (h, tt)
+    by (Some cause) = refl
+
 -- what a stage asked for may be answered by any words
-pub stage_fits : (w : Wiring) (s : State) (g : Stage) (lent : List ℕ) → 1024 ≤ length lent → AreSmall lent → Fit (rest_in w s g) (answers g lent)
-stage_fits w s (stage.Ready b) lent l h = tt
-stage_fits w s (stage.Look b) lent l h = (h 0, tt)
-stage_fits w s (stage.Announce b) lent l h = (refl, tt)
-stage_fits w s (stage.LookAgain b) lent l h = (h 0, tt)
-stage_fits w s (stage.Slot r) lent l h = (h 0, (h 1, (h 2, tt)))
-stage_fits w s (stage.Entry e) lent l h = (h 0, (h 1, tt))
-stage_fits w s (stage.Page g) lent l h =
+stage_fits : (w : Wiring) (s : State) (g : Stage) (lent : List ℕ) → is_ready g ≡ false → 1024 ≤ length lent → AreSmall lent → Fit (rest_in w s g) (answers g lent)
+stage_fits w s (stage.Ready b) lent busy l h = absurd (cc busy)
+stage_fits w s (stage.Announce b) lent busy l h = (refl, (h 0, tt))
+stage_fits w s (stage.Slot r) lent busy l h = (h 0, (h 1, (h 2, tt)))
+stage_fits w s (stage.Entry e) lent busy l h = (h 0, (h 1, tt))
+stage_fits w s (stage.Page g) lent busy l h =
     let b = g.work.value in
     let f = g.fragment in
     let short = page_short f g.in_page in
     reads_fit (page_word g.frame (f.offset / 4)) (covered f) (rest_in w s (stage.Page g)) lent (asks_words f g.frame (f.offset / 4) (covered f) b.packet (copy w (drop g.i b.fragments.items)) (after_copy w s b.chain)) (omega (arith, short, l)) h
-stage_fits w s (stage.Send g) lent l h =
+stage_fits w s (stage.Send g) lent busy l h =
     let b = work_in g.moving in
     fits_bind (rest_moving w.vif s.rx_index g.moving) (after_transmit w s b.chain b.packet g.ops) (answers_moving g.moving lent) (moving_fits w.vif s.rx_index g.moving lent h)
-stage_fits w s (stage.Carry c) lent l h = tt
-stage_fits w s (stage.Wait b at) lent l h = tt
-stage_fits w s (stage.Answer a i) lent l h = answer_fits w a.at.tx_index (length a.work.value.chain) i _ (ending_of a)
-stage_fits w s (stage.Event a) lent l h = (h 0, tt)
-stage_fits w s (stage.Notice a) lent l h = (refl, tt)
-stage_fits w s (stage.Over b after kind) lent l h = tt
-stage_fits w s stage.Gone lent l h = tt
+stage_fits w s (stage.Carry c) lent busy l h = tt
+stage_fits w s (stage.Wait b at) lent busy l h = tt
+stage_fits w s (stage.Answer r) lent busy l h = answer_fits w r.answering.at.tx_index (length r.answering.work.value.chain) r.i _ (ending_of r.answering)
+stage_fits w s (stage.Push a) lent busy l h = (refl, (h 0, tt))
+stage_fits w s (stage.Notice a) lent busy l h = (refl, tt)
+stage_fits w s (stage.Over b after kind) lent busy l h = tt
+stage_fits w s stage.Gone lent busy l h = tt
+
+-- and leads where the answers do
+pub stage_gone : (w : Wiring) (s : State) (g : Stage) (lent : List ℕ) → 1024 ≤ length lent → AreSmall lent → Gone (rest_in w s g) (did (rest_in w s g) (answers g lent)) (fed (rest_in w s g) (answers g lent))
+stage_gone w s g lent l h = by (ready_or g)
+  where
+    by : ((b : Box Work) × (g ≡ stage.Ready b)) ⊎ (is_ready g ≡ false) → Gone (rest_in w s g) (did (rest_in w s g) (answers g lent)) (fed (rest_in w s g) (answers g lent))
+    by (inl r) =
+        subst (λ (x : Stage). Gone (rest_in w s x) (did (rest_in w s x) (answers x lent)) (fed (rest_in w s x) (answers x lent))) (sym r.1) (begun_gone w s (slice_index lent 0) s.halt refl (h 0))
+    by (inr r) = fit_gone (rest_in w s g) (answers g lent) (stage_fits w s g lent r l h)
 
 -- ---- where what is asked lies
 
@@ -198,6 +235,13 @@ module _ {A : Type 0} (frames : ℕ) (within : Want → Type 0) (in_pages : AreI
       let n : length (take count lent) ≡ count = omega (arith, length-take count lent, a.1) in
       let w = writes_within at (take count lent) s (omega (arith, n, a.0)) a.2 h in
       (w.0, omega (arith, w.1, n))
+  access_within (op.Store at word) s lent a h = writes_within at (word ∷ []) s (omega arith) a h
+  access_within (op.StoreTwo at first second) s lent a h = writes_within at (first ∷ second ∷ []) s (omega arith) a h
+  access_within (op.Push at word read) s lent a h =
+      let wrote = writes_within at (word ∷ []) s (omega arith) a.0 h in
+      let later = finishes_next within s (next s 0) (Write at word) h (0, occurs_write (want_of s) at word a.0.0, refl) in
+      let reads = reads_within (page_word at.frame read) 1 (next s 0) (omega arith) a.1 later in
+      (wrote.0, omega (arith, wrote.1), omega (arith, reads.1))
   access_within (op.Notify port) s lent a h = tt
   access_within (op.Done kind) s lent a h = tt
   access_within (op.Delivered what) s lent a h = tt
@@ -207,6 +251,9 @@ pub asked_within : (frames : ℕ) (shapes : List Shape) (o : Op) (s : Steps Endi
 asked_within frames shapes (op.Done kind) s lent a h = tt
 asked_within frames shapes (op.Read at count) s lent a h = access_within frames (IsWithin frames shapes) (turn_pages frames shapes) (op.Read at count) s lent a h
 asked_within frames shapes (op.Write at count) s lent a h = access_within frames (IsWithin frames shapes) (turn_pages frames shapes) (op.Write at count) s lent a h
+asked_within frames shapes (op.Store at word) s lent a h = access_within frames (IsWithin frames shapes) (turn_pages frames shapes) (op.Store at word) s lent a h
+asked_within frames shapes (op.StoreTwo at first second) s lent a h = access_within frames (IsWithin frames shapes) (turn_pages frames shapes) (op.StoreTwo at first second) s lent a h
+asked_within frames shapes (op.Push at v k) s lent a h = access_within frames (IsWithin frames shapes) (turn_pages frames shapes) (op.Push at v k) s lent a h
 asked_within frames shapes (op.Notify port) s lent a h = tt
 asked_within frames shapes (op.Delivered what) s lent a h = tt
 asked_within frames shapes (op.Awaited what) s lent a h = tt
@@ -215,6 +262,9 @@ pub delivery_within : (frames : ℕ) (o : Op) (s : Steps Arrival) (lent : List �
 delivery_within frames (op.Delivered what) s lent a h = tt
 delivery_within frames (op.Read at count) s lent a h = access_within frames (IsPageWant frames) (page_pages frames) (op.Read at count) s lent a h
 delivery_within frames (op.Write at count) s lent a h = access_within frames (IsPageWant frames) (page_pages frames) (op.Write at count) s lent a h
+delivery_within frames (op.Store at word) s lent a h = access_within frames (IsPageWant frames) (page_pages frames) (op.Store at word) s lent a h
+delivery_within frames (op.StoreTwo at first second) s lent a h = access_within frames (IsPageWant frames) (page_pages frames) (op.StoreTwo at first second) s lent a h
+delivery_within frames (op.Push at v k) s lent a h = access_within frames (IsPageWant frames) (page_pages frames) (op.Push at v k) s lent a h
 delivery_within frames (op.Notify port) s lent a h = tt
 delivery_within frames (op.Awaited what) s lent a h = tt
 delivery_within frames (op.Done kind) s lent a h = tt
@@ -244,7 +294,6 @@ moving_goes_on (moving.Grant g) kind e = cc
 moving_goes_on (moving.Fill f) kind e = cc
 moving_goes_on (moving.Reply r) kind e = cc
 moving_goes_on (moving.Replied b passed) kind e = cc
-moving_goes_on (moving.ReplyEvent b passed) kind e = cc
 moving_goes_on (moving.ReplyNotice b passed) kind e = cc
 
 pub end_or_on : (g : Stage) → IsTrue (is_here g) → IsEnd g ⊎ IsOn g
@@ -253,15 +302,13 @@ end_or_on (stage.Ready b) h = absurd (cc h)
 end_or_on (stage.Carry c) h = absurd (cc h)
 end_or_on (stage.Wait b at) h = absurd (cc h)
 end_or_on stage.Gone h = absurd (cc h)
-end_or_on (stage.Look b) h = inr (record { stays = λ s. refl; asks = λ kind e. cc })
 end_or_on (stage.Announce b) h = inr (record { stays = λ s. refl; asks = λ kind e. cc })
-end_or_on (stage.LookAgain b) h = inr (record { stays = λ s. refl; asks = λ kind e. cc })
 end_or_on (stage.Slot r) h = inr (record { stays = λ s. refl; asks = λ kind e. cc })
 end_or_on (stage.Entry e) h = inr (record { stays = λ s. refl; asks = λ kind e. cc })
 end_or_on (stage.Page g) h = inr (record { stays = λ s. refl; asks = λ kind e. cc })
 end_or_on (stage.Send g) h = inr (record { stays = λ s. refl; asks = moving_goes_on g.moving })
-end_or_on (stage.Answer a i) h = inr (record { stays = λ s. refl; asks = λ kind e. cc })
-end_or_on (stage.Event a) h = inr (record { stays = λ s. refl; asks = λ kind e. cc })
+end_or_on (stage.Answer r) h = inr (record { stays = λ s. refl; asks = λ kind e. cc })
+end_or_on (stage.Push a) h = inr (record { stays = λ s. refl; asks = λ kind e. cc })
 end_or_on (stage.Notice a) h = inr (record { stays = λ s. refl; asks = λ kind e. cc })
 
 -- ---- laws
@@ -273,7 +320,6 @@ moving_answers (moving.Grant g) x y z lent = refl
 moving_answers (moving.Fill f) x y z lent = refl
 moving_answers (moving.Reply r) x y z lent = refl
 moving_answers (moving.Replied b passed) x y z lent = refl
-moving_answers (moving.ReplyEvent b passed) x y z lent = refl
 moving_answers (moving.ReplyNotice b passed) x y z lent = refl
 
 pub carrying_answers_are : (c : Carrying) (lent : List ℕ) → 1024 ≤ length lent → answers_carrying c lent ≡ answers_to (asked_of_carrying c) lent
@@ -292,17 +338,15 @@ answers_are g (x ∷ y ∷ z ∷ lent) l = by g
   where
     by : (g : Stage) → answers g (x ∷ y ∷ z ∷ lent) ≡ answers_to (asked_of g) (x ∷ y ∷ z ∷ lent)
     by (stage.Ready b) = refl
-    by (stage.Look b) = refl
     by (stage.Announce b) = refl
-    by (stage.LookAgain b) = refl
     by (stage.Slot r) = refl
     by (stage.Entry e) = refl
     by (stage.Page g) = refl
     by (stage.Send g) = moving_answers g.moving x y z lent
     by (stage.Carry c) = refl
     by (stage.Wait b at) = refl
-    by (stage.Answer a i) = refl
-    by (stage.Event a) = refl
+    by (stage.Answer r) = refl
+    by (stage.Push a) = refl
     by (stage.Notice a) = refl
     by (stage.Over b after kind) = refl
     by stage.Gone = refl

@@ -1,5 +1,5 @@
 -- A step of a wait: its row, and that it goes on or is a row of the table of waits.
-use Rattle.std.proofs.Common.{◌≡◌, ℕ, ◌+◌, ◌<◌, ◌≤◌, List, [], ◌∷◌, ◌++◌, length, set, refl, sym, ap, ◌∙◌, arith, subst}
+use Rattle.std.proofs.Common.{◌≡◌, ℕ, ◌+◌, ◌<◌, ◌≤◌, List, [], ◌∷◌, ◌++◌, length, refl, sym, ap, ◌∙◌, arith, subst}
 use Rattle.std.specs.Prelude.{IsTrue, None, Option, Some, slice_index}
 use Rattle.std.specs.Global.{Box}
 use Rattle.xen_page.specs.declared.place.Place.{Place}
@@ -19,7 +19,7 @@ use Rattle.xen_back.specs.declared.wiring.Wiring.{Wiring}
 use Rattle.xen_host.specs.Completing.{TaskCompletes}
 use Rattle.xen_host.specs.Queues.{IsWaitStep, IsWaitTakenAt, stage_of_wait}
 use Rattle.xen_host.specs.Rest.{is_there}
-use Rattle.xen_host.specs.Waits.{IsOnItsWay, IsWaitRow, IsWaitedOn, did_waiting, halted, looks, stores, told}
+use Rattle.xen_host.specs.Waits.{IsOnItsWay, IsWaitRow, IsWaitedOn, did_waiting, halted, pushes, told}
 use Rattle.xen_host.specs.Wired.{wiring_of}
 use Rattle.xen_host.specs.declared.op.Op.{Op}
 use Rattle.xen_host.specs.declared.op.Op.TheVariants as op
@@ -33,53 +33,46 @@ use Rattle.xen_host.specs.declared.waiting.Waiting.TheVariants as waiting
 use Rattle.xen_host.specs.declared.wires.Wires.{Wires}
 use Rattle.xen_host.specs.declared.work.Work.{Work}
 
-pub stores_row : (w : Wiring) (s : State) (lent lent_after : List ℕ) (from : Waiting) (pages index : ℕ) (at : Place) (o : Op) → s.halt ≡ None → from ≡ waiting.Begun pages → index ≡ add32 s.rx_index pages →
-    at ≡ rx_word w.vif 1 → lent_after ≡ set lent 0 index → o ≡ op.Write at 1 → IsWaitRow w s lent lent_after from s (Some (waiting.Store pages)) o
-stores_row w s lent lent_after from pages index at o live was value place words asked =
-    let row : IsWaitRow w s lent lent_after (waiting.Begun pages) s (Some (waiting.Store pages)) (op.Write (rx_word w.vif 1) 1) = stores pages live (words ∙ ap (λ i. set lent 0 i) value) in
-    let told : IsWaitRow w s lent lent_after (waiting.Begun pages) s (Some (waiting.Store pages)) o =
-    subst (λ (x : Op). IsWaitRow w s lent lent_after (waiting.Begun pages) s (Some (waiting.Store pages)) x) (sym (asked ∙ ap (λ (p : Place). op.Write p 1) place)) row in
-    subst (λ (x : Waiting). IsWaitRow w s lent lent_after x s (Some (waiting.Store pages)) o) (sym was) told
-
-pub looks_row : (w : Wiring) (s : State) (lent : List ℕ) (from : Waiting) (pages : ℕ) (at : Place) → s.halt ≡ None → from ≡ waiting.Store pages → at ≡ rx_word w.vif 0 →
-    IsWaitRow w s lent lent from s (Some (waiting.Look pages)) (op.Read at 1)
-looks_row w s lent from pages at live was place =
-    let row : IsWaitRow w s lent lent (waiting.Store pages) s (Some (waiting.Look pages)) (op.Read (rx_word w.vif 0) 1) = looks pages live refl in
-    let told : IsWaitRow w s lent lent (waiting.Store pages) s (Some (waiting.Look pages)) (op.Read at 1) =
-    subst (λ (p : Place). IsWaitRow w s lent lent (waiting.Store pages) s (Some (waiting.Look pages)) (op.Read p 1)) (sym place) row in
-    subst (λ (x : Waiting). IsWaitRow w s lent lent x s (Some (waiting.Look pages)) (op.Read at 1)) (sym was) told
+pub pushes_row : (w : Wiring) (s : State) (lent : List ℕ) (from : Waiting) (pages index : ℕ) (at : Place) → s.halt ≡ None → from ≡ waiting.Begun pages → index ≡ add32 s.rx_index pages →
+    at ≡ rx_word w.vif 1 → IsWaitRow w s lent from s (Some (waiting.Look pages)) (op.Push at index 0)
+pushes_row w s lent from pages index at live was value place =
+    let row : IsWaitRow w s lent (waiting.Begun pages) s (Some (waiting.Look pages)) (op.Push (rx_word w.vif 1) (add32 s.rx_index pages) 0) = pushes pages live in
+    let told : IsWaitRow w s lent (waiting.Begun pages) s (Some (waiting.Look pages)) (op.Push at index 0) =
+    subst (λ (x : Op). IsWaitRow w s lent (waiting.Begun pages) s (Some (waiting.Look pages)) x) (sym (ap (λ (p : Place). op.Push p index 0) place ∙ ap (λ i. op.Push (rx_word w.vif 1) i 0) value)) row in
+    subst (λ (x : Waiting). IsWaitRow w s lent x s (Some (waiting.Look pages)) (op.Push at index 0)) (sym was) told
 
 pub told_row : (w : Wiring) (s new : State) (lent : List ℕ) (from : Waiting) (pages : ℕ) (what : Awaited) → s.halt ≡ None → from ≡ waiting.Look pages →
-    IsAwaiting w s pages (last_look w.vif s.rx_index pages (slice_index lent 0)) new what → IsWaitRow w s lent lent from new None (op.Awaited what)
+    IsAwaiting w s pages (last_look w.vif s.rx_index pages (slice_index lent 0)) new what → IsWaitRow w s lent from new None (op.Awaited what)
 told_row w s new lent from pages what live was row =
-    subst (λ (x : Waiting). IsWaitRow w s lent lent x new None (op.Awaited what)) (sym was) (told pages new what live refl row)
+    subst (λ (x : Waiting). IsWaitRow w s lent x new None (op.Awaited what)) (sym was) (told pages new what live row)
 
 -- a word of the rx ring's header lies in its page
 pub header_within : (w : Vif) (at : Place) (n : ℕ) → IsWired w → n < 4 → at ≡ rx_word w n → (at.frame < length w.owners.now) × (at.word + 1 ≤ 1024)
 header_within w at n wired few e =
     subst (λ (p : Place). (p.frame < length w.owners.now) × (p.word + 1 ≤ 1024)) (sym e) (frame_inside w w.rx wired.rx, omega (arith, few))
 
+-- and so does another, which is read behind it
+pub push_within : (w : Vif) (at : Place) (n k : ℕ) → IsWired w → n < 4 → k < 4 → at ≡ rx_word w n → (at.frame < length w.owners.now) × (at.word + 1 ≤ 1024) × (k + 1 ≤ 1024)
+push_within w at n k wired few read e = let h = header_within w at n wired few e in (h.0, h.1, omega (arith, read))
+
 -- ---- the wait of a queue
 
 -- with the events of a step, the wait goes on or is over
-waited_on : (w : Wiring) (s new : State) (from : Waiting) (left : Option Waiting) (o : Op) (lent lent_after : List ℕ) → IsWaitRow w s lent lent_after from new left o → (pages : ℕ) (trace : List Event) →
+waited_on : (w : Wiring) (s new : State) (from : Waiting) (left : Option Waiting) (o : Op) (lent : List ℕ) → IsWaitRow w s lent from new left o → (pages : ℕ) (trace : List Event) →
     IsOnItsWay w s (Some from) pages trace → IsWaitedOn w s new left o pages (trace ++ did_waiting w s from lent)
-waited_on w s new from left o lent lent_after (halted (waiting.Begun n) cause h e) pages trace way =
+waited_on w s new from left o lent (halted (waiting.Begun n) cause h) pages trace way =
     subst (λ (t : List Event). IsAwaiting w s pages (t ++ []) s (awaited.Halted cause)) (sym way.1) (still_halted cause h)
-waited_on w s new from left o lent lent_after (halted (waiting.Store n) cause h e) pages trace way = absurd (cc (h, way.1))
-waited_on w s new from left o lent lent_after (halted (waiting.Look n) cause h e) pages trace way = absurd (cc (h, way.1))
-waited_on w s new from left o lent lent_after (stores n live e) pages trace way =
+waited_on w s new from left o lent (halted (waiting.Look n) cause h) pages trace way = absurd (cc (h, way.1))
+waited_on w s new from left o lent (pushes n live) pages trace way =
     (way.0, live, ap (λ (t : List Event). t ++ []) way.1)
-waited_on w s new from left o lent lent_after (looks n live e) pages trace way =
-    (way.0, live, ap (λ (t : List Event). t ++ Write (rx_word w.vif 1) (add32 s.rx_index n) ∷ []) way.2 ∙ ap (λ k. Write (rx_word w.vif 1) (add32 s.rx_index k) ∷ []) way.0)
-waited_on w s new from left o lent lent_after (told n after what live e row) pages trace way =
-    let at : IsAwaiting w s pages (last_look w.vif s.rx_index pages (slice_index lent 0)) after what =
-    subst (λ k. IsAwaiting w s k (last_look w.vif s.rx_index k (slice_index lent 0)) after what) way.0 row in
-    subst (λ (t : List Event). IsAwaiting w s pages (t ++ Read (rx_word w.vif 0) (slice_index lent 0) ∷ []) after what) (sym way.2) at
+waited_on w s new from left o lent (told n after what live row) pages trace way =
+    let whole : IsAwaiting w s n (trace ++ did_waiting w s (waiting.Look n) lent) after what =
+    subst (λ (t : List Event). IsAwaiting w s n (t ++ did_waiting w s (waiting.Look n) lent) after what) (sym way.2) row in
+    subst (λ k. IsAwaiting w s k (trace ++ did_waiting w s (waiting.Look n) lent) after what) way.0 whole
 
-pub is_wait_step : (q new : Queue) (b : Box Work) (from : Waiting) (left : Option Waiting) (o : Op) (lent lent_after : List ℕ) → q.stage ≡ stage.Wait b from →
-    IsWaitRow (wiring_of q.wires) q.state lent lent_after from new.state left o → new.stage ≡ stage_of_wait b left → new.wires ≡ q.wires → new.flags ≡ q.flags → IsWaitStep q new o lent lent_after
-is_wait_step q new b from left o lent lent_after was row settled wires flags =
+pub is_wait_step : (q new : Queue) (b : Box Work) (from : Waiting) (left : Option Waiting) (o : Op) (lent : List ℕ) → q.stage ≡ stage.Wait b from →
+    IsWaitRow (wiring_of q.wires) q.state lent from new.state left o → new.stage ≡ stage_of_wait b left → new.wires ≡ q.wires → new.flags ≡ q.flags → IsWaitStep q new o lent
+is_wait_step q new b from left o lent was row settled wires flags =
     record {
       work = b;
       at = from;
@@ -89,7 +82,7 @@ is_wait_step q new b from left o lent lent_after was row settled wires flags =
       settled = settled;
       wires = wires;
       flags = flags;
-      wait = waited_on (wiring_of q.wires) q.state new.state from left o lent lent_after row;
+      wait = waited_on (wiring_of q.wires) q.state new.state from left o lent row;
     }
 
 -- the stage after a step of a wait comes to its end

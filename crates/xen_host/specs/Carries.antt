@@ -1,10 +1,10 @@
 -- What is left of a delivery, and what it asks.
-use Rattle.std.specs.Prelude.{ℕ, ◌≡◌, Bool, true, false, List, []}
+use Rattle.std.specs.Prelude.{ℕ, ◌≡◌, Bool, true, false, List, [], ◌∷◌, slice_index}
 use Rattle.xen_steps.specs.Steps.{Steps, bind, done}
 use Rattle.xen_transmit.specs.declared.vif.Vif.{Vif}
 use Rattle.xen_back.specs.Deliveries.{Arrival, arrived, whole_delivery}
 use Rattle.xen_back.specs.declared.state.State.{State}
-use Rattle.xen_host.specs.Fed.{Asked, Arrived, IsAccess, Nothing, answers_moving, asked_of_moving}
+use Rattle.xen_host.specs.Fed.{Asked, Arrived, IsAccess, Reads, answers_moving, asked_of_moving}
 use Rattle.xen_host.specs.Moves.{rest_moving, work_in}
 use Rattle.xen_host.specs.declared.carrying.Carrying.{Carrying}
 use Rattle.xen_host.specs.declared.carrying.Carrying.TheVariants as carrying
@@ -27,14 +27,15 @@ abbrev pub is_going : Carrying → Bool
 is_going (carrying.Begun b) = false
 is_going c = true
 
--- the answers to what a delivery asked for, of the words that a host has put there
+-- the answers to what a delivery asked for, of the words that a host has put there. It begins with what was read of the rx producer.
 abbrev pub answers_carrying : Carrying → List ℕ → List ℕ
+answers_carrying (carrying.Begun b) lent = slice_index lent 0 ∷ []
 answers_carrying (carrying.Moving m) lent = answers_moving m lent
 answers_carrying c lent = []
 
 -- what a delivery asks
 abbrev pub asked_of_carrying : Carrying → Asked
-asked_of_carrying (carrying.Begun b) = Nothing
+asked_of_carrying (carrying.Begun b) = Reads 1
 asked_of_carrying (carrying.Moving m) = asked_of_moving m
 asked_of_carrying (carrying.Over b after what) = Arrived what
 

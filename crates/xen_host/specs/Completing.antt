@@ -22,15 +22,13 @@ pub TaskCompletes-prop : (w : Wires) (s : State) (g : Stage) → IsProp (TaskCom
 TaskCompletes-prop w s (stage.Carry c) = Arrives-prop (vif_of w) (rest_carrying (vif_of w) s c)
 TaskCompletes-prop w s (stage.Wait b at) = λ x y i. x
 TaskCompletes-prop w s (stage.Ready b) = turn-prop w s (stage.Ready b)
-TaskCompletes-prop w s (stage.Look b) = turn-prop w s (stage.Look b)
 TaskCompletes-prop w s (stage.Announce b) = turn-prop w s (stage.Announce b)
-TaskCompletes-prop w s (stage.LookAgain b) = turn-prop w s (stage.LookAgain b)
 TaskCompletes-prop w s (stage.Slot r) = turn-prop w s (stage.Slot r)
 TaskCompletes-prop w s (stage.Entry e) = turn-prop w s (stage.Entry e)
 TaskCompletes-prop w s (stage.Page g) = turn-prop w s (stage.Page g)
 TaskCompletes-prop w s (stage.Send g) = turn-prop w s (stage.Send g)
-TaskCompletes-prop w s (stage.Answer a i) = turn-prop w s (stage.Answer a i)
-TaskCompletes-prop w s (stage.Event a) = turn-prop w s (stage.Event a)
+TaskCompletes-prop w s (stage.Answer r) = turn-prop w s (stage.Answer r)
+TaskCompletes-prop w s (stage.Push a) = turn-prop w s (stage.Push a)
 TaskCompletes-prop w s (stage.Notice a) = turn-prop w s (stage.Notice a)
 TaskCompletes-prop w s (stage.Over b after kind) = turn-prop w s (stage.Over b after kind)
 TaskCompletes-prop w s stage.Gone = turn-prop w s stage.Gone

@@ -3,7 +3,7 @@ use Rattle.std.specs.Prelude.{ℕ, ◌*◌, true, length, drop, Some}
 use Rattle.xen_steps.specs.Places.{add32}
 use Rattle.xen_steps.specs.Steps.{Steps, bind, done}
 use Rattle.xen_transmit.specs.Entries.{entry_at}
-use Rattle.xen_transmit.specs.Transmit.{after_targets, fill_from, outcome_of, posted, read_targets, rx_answer, rx_event, rx_notice}
+use Rattle.xen_transmit.specs.Transmit.{after_targets, fill_from, outcome_of, posted, read_targets, rx_answer, rx_notice}
 use Rattle.xen_transmit.specs.Transmit.{rx_publish, targeted, transmit}
 use Rattle.xen_transmit.specs.declared.by_event.phase.Outcome.{Outcome}
 use Rattle.xen_transmit.specs.declared.vif.Vif.{Vif}
@@ -21,7 +21,6 @@ work_in (moving.Grant g) = g.posting.work.value
 work_in (moving.Fill f) = f.work.value
 work_in (moving.Reply r) = r.work.value
 work_in (moving.Replied b passed) = b.value
-work_in (moving.ReplyEvent b passed) = b.value
 work_in (moving.ReplyNotice b passed) = b.value
 
 -- what is left of a transmit, whose rx slots begin at this index
@@ -38,7 +37,6 @@ rest_moving w x (moving.Reply r) =
     let b = r.work.value in
     rx_answer w x b.packet r.passed (length b.targets) r.i (drop r.i b.targets)
 rest_moving w x (moving.Replied b passed) = rx_publish w x passed (length b.value.targets)
-rest_moving w x (moving.ReplyEvent b passed) = rx_event w x passed (length b.value.targets)
 rest_moving w x (moving.ReplyNotice b passed) = rx_notice w true (outcome_of passed (length b.value.targets))
 
 abbrev pub work_moved : Moved → Work

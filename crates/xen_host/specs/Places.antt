@@ -6,9 +6,7 @@ use Rattle.xen_host.specs.declared.stage.Stage.TheVariants as stage
 -- no slot is read
 abbrev pub is_looking : Stage → Bool
 is_looking (stage.Ready b) = true
-is_looking (stage.Look b) = true
 is_looking (stage.Announce b) = true
-is_looking (stage.LookAgain b) = true
 is_looking g = false
 
 -- the chain is read, or its packet
@@ -25,7 +23,7 @@ is_sending g = false
 
 -- the chain is answered
 abbrev pub is_answering : Stage → Bool
-is_answering (stage.Answer a i) = true
-is_answering (stage.Event a) = true
+is_answering (stage.Answer r) = true
+is_answering (stage.Push a) = true
 is_answering (stage.Notice a) = true
 is_answering g = false

@@ -1,7 +1,7 @@
 //! Delivering a packet of the host's own to the frontend.
 
 ghost use Rattle.std.specs.Prelude.{◌≡◌, ◌≤◌, length, IsTrue, true};
-ghost use Rattle.xen_steps.specs.Steps.{bind};
+ghost use Rattle.xen_steps.specs.Steps.{bind, next};
 ghost use Rattle.xen_transmit.specs.declared.vif.Vif.{Vif};
 ghost use Rattle.xen_back.specs.Delivered.{is_frame};
 ghost use Rattle.xen_back.specs.Deliveries.{arrival, arrived, unless_halted};
@@ -11,9 +11,10 @@ ghost use Rattle.xen_host.specs.Moves.{rest_moved, work_moved};
 ghost use Rattle.xen_host.specs.Wired.{vif_of};
 
 use crate::carrying::{Carrying, Loaded};
-use crate::moving::{Moved, Moving};
+use crate::moving::Moved;
 use crate::moving_step::{moving_fed, moving_want};
 use crate::op::Op;
+use crate::sending::after_posts;
 use crate::sent::after_slots;
 use crate::wires::Wires;
 use crate::words::are_words;
@@ -28,9 +29,11 @@ pub(crate) fn can_be_delivered(packet: &[u8]) -> bool
     !(packet.len() < 14 || packet.len() > 65_535)
 }
 
-/// Before the first want. A halted queue has none.
-fn set_out(state: &State, work: Box<Work>) -> Carrying
-    ensures rest { (w : Vif) → rest_carrying w state.now result ≡ unless_halted w state.now work.value.packet state.now.halt }
+/// After the read of the rx producer that begins a delivery. A halted queue has no use of it.
+#[inline(always)]
+fn set_out(state: &State, work: Box<Work>, producer: u32) -> Carrying
+    ensures rest { (w : Vif) →
+        rest_carrying w state.now result ≡ next (unless_halted w state.now work.value.packet state.now.halt) producer }
     ensures packet { packet_carried result ≡ work.value.packet }
     ensures going { IsTrue (is_going result) }
 {
@@ -40,11 +43,15 @@ fn set_out(state: &State, work: Box<Work>) -> Carrying
             after: *state,
             delivery: Delivery::Halted { cause },
         },
-        None => Carrying::Moving(Moving::Posts(work)),
+        None => {
+            let moved = after_posts(state.rx_index, work, producer);
+            carried_on(state, moved)
+        }
     }
 }
 
 /// What a delivery's transmit came to.
+#[inline(always)]
 fn arrived_with(state: &State, outcome: Outcome) -> (State, Delivery)
     ensures { (result.0, result.1) ≡ arrival state.now outcome }
 {
@@ -65,6 +72,7 @@ fn arrived_with(state: &State, outcome: Outcome) -> (State, Delivery)
 }
 
 /// A delivery whose packet is being sent, or whose packet was.
+#[inline(always)]
 fn carried_on(state: &State, moved: Moved) -> Carrying
     ensures rest { (w : Vif) →
         rest_carrying w state.now result ≡ bind (rest_moved w state.now.rx_index moved) (arrived state.now) }
@@ -85,6 +93,7 @@ fn carried_on(state: &State, moved: Moved) -> Carrying
 }
 
 /// A delivery after what it wanted.
+#[inline(always)]
 pub(crate) fn carrying_fed(
     wires: &Wires,
     state: &State,
@@ -102,7 +111,7 @@ pub(crate) fn carrying_fed(
     match carrying {
         Carrying::Begun(loaded) => {
             let Loaded { work } = loaded;
-            set_out(state, work)
+            set_out(state, work, words[0])
         }
         Carrying::Moving(moving) => {
             let moved = moving_fed(wires, state.rx_index, moving, words);
@@ -113,6 +122,7 @@ pub(crate) fn carrying_fed(
 }
 
 /// What a delivery wants.
+#[inline(always)]
 pub(crate) fn carrying_want(
     wires: &Wires,
     state: &State,

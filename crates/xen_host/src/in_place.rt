@@ -14,7 +14,7 @@ ghost use Rattle.xen_host.specs.Wired.{wiring_of};
 use crate::answering::{after_answer, after_event, ended};
 use crate::copying::{after_entry, after_page};
 use crate::going::{Going, run_through};
-use crate::looking::{after_slot, begun, looked, looked_again};
+use crate::looking::{after_slot, begun, looked_again};
 use crate::moving::Moving;
 use crate::moving_step::moving_fed;
 use crate::sent::sent_on;
@@ -53,7 +53,7 @@ fn put_going(stage: &mut Stage, going: Going) -> Option<Box<Work>>
     }
 }
 
-/// After what a look for requests wanted, or before the first. Here and below `AT` changes nothing: there is a copy for each of the
+/// After what a look for requests wanted. Here and below `AT` changes nothing: there is a copy for each of the
 /// stages that a call is made at, so that each copy reads and writes only what its stage has.
 #[inline(always)]
 fn looking_fed<const AT: u8>(state: &State, stage: &mut Stage, words: &[u32])
@@ -64,10 +64,8 @@ fn looking_fed<const AT: u8>(state: &State, stage: &mut Stage, words: &[u32])
         rest_in w state.now stage.new ≡ fed (rest_in w state.now stage.old) (answers stage.old words.now) }
 {
     match mem::replace(stage, Stage::Gone) {
-        Stage::Ready(work) => put(stage, begun(state, work)),
-        Stage::Look(work) => put(stage, looked(state, work, words[0])),
-        Stage::Announce(work) => put(stage, Stage::LookAgain(work)),
-        Stage::LookAgain(work) => put(stage, looked_again(state, work, words[0])),
+        Stage::Ready(work) => put(stage, begun(state, work, words[0])),
+        Stage::Announce(work) => put(stage, looked_again(state, work, words[0])),
         _ => unreachable!(),
     }
 }
@@ -139,7 +137,6 @@ fn send_fed(wires: &Wires, state: &State, stage: &mut Stage, words: &[u32])
             Moving::Fill(_) => sending_fed::<3>(wires, state, stage, words),
             Moving::Reply(_) => sending_fed::<4>(wires, state, stage, words),
             Moving::Replied { .. } => sending_fed::<5>(wires, state, stage, words),
-            Moving::ReplyEvent { .. } => sending_fed::<6>(wires, state, stage, words),
             Moving::ReplyNotice { .. } => sending_fed::<7>(wires, state, stage, words),
         },
         _ => unreachable!(),
@@ -156,8 +153,8 @@ fn answering_fed<const AT: u8>(stage: &mut Stage, words: &[u32])
         rest_in w s stage.new ≡ fed (rest_in w s stage.old) (answers stage.old words.now) }
 {
     match mem::replace(stage, Stage::Gone) {
-        Stage::Answer(answering, i) => put(stage, after_answer(answering, i)),
-        Stage::Event(answering) => put(stage, after_event(answering, words[0])),
+        Stage::Answer(responding) => put(stage, after_answer(responding)),
+        Stage::Push(answering) => put(stage, after_event(answering, words[0])),
         Stage::Notice(answering) => put(stage, ended(answering)),
         _ => unreachable!(),
     }
@@ -175,15 +172,13 @@ fn stage_fed(wires: &Wires, state: &State, stage: &mut Stage, words: &[u32]) -> 
 {
     match stage {
         Stage::Ready(_) => looking_fed::<0>(state, stage, words),
-        Stage::Look(_) => looking_fed::<1>(state, stage, words),
         Stage::Announce(_) => looking_fed::<2>(state, stage, words),
-        Stage::LookAgain(_) => looking_fed::<3>(state, stage, words),
         Stage::Slot(_) => return copying_fed::<0>(wires, state, stage, words),
         Stage::Entry(_) => return copying_fed::<1>(wires, state, stage, words),
         Stage::Page(_) => return copying_fed::<2>(wires, state, stage, words),
         Stage::Send(_) => send_fed(wires, state, stage, words),
-        Stage::Answer(..) => answering_fed::<0>(stage, words),
-        Stage::Event(_) => answering_fed::<1>(stage, words),
+        Stage::Answer(_) => answering_fed::<0>(stage, words),
+        Stage::Push(_) => answering_fed::<1>(stage, words),
         Stage::Notice(_) => answering_fed::<2>(stage, words),
         Stage::Over { .. } => {}
         Stage::Carry(_) => unreachable!(),

@@ -56,10 +56,8 @@ pub enum Moving {
     Fill(Filling),
     /// The i-th rx response's two words are to be written.
     Reply(Replying),
-    /// The rx responses are to be pushed.
+    /// The rx responses are to be pushed, and the rx event index read.
     Replied { work: Box<Work>, passed: bool },
-    /// The rx event index is to be read.
-    ReplyEvent { work: Box<Work>, passed: bool },
     /// A notice of the rx responses is due.
     ReplyNotice { work: Box<Work>, passed: bool },
 }

@@ -1,6 +1,6 @@
 //! A step of a packet that is sent: what it wants, and where it is after that.
 
-ghost use Rattle.std.specs.Prelude.{◌≡◌, ◌≤◌, ℕ, length};
+ghost use Rattle.std.specs.Prelude.{◌≡◌, ◌≤◌, ℕ, List, length};
 ghost use Rattle.xen_transmit.specs.declared.vif.Vif.{Vif};
 ghost use Rattle.xen_host.specs.Fed.{IsAccess, answers_moving, asked_by, asked_of_moving, fed};
 ghost use Rattle.xen_host.specs.Moves.{rest_moved, rest_moving, work_in, work_moved};
@@ -12,7 +12,6 @@ use crate::op::Op;
 use crate::sending::{
     after_grant, after_post, after_posts, after_reply_event, all_replied, fill, reply,
 };
-use crate::want::write;
 use crate::wires::Wires;
 use xen_page::Place;
 use xen_ring::{REQ_PROD, RSP_EVENT, RSP_PROD};
@@ -40,15 +39,13 @@ pub(crate) fn moving_fed(wires: &Wires, rx_index: u32, moving: Moving, words: &[
             let Replying { work, passed, i } = replying;
             reply(work, passed, i + 1)
         }
-        Moving::Replied { work, passed } => Moved::On(Moving::ReplyEvent { work, passed }),
-        Moving::ReplyEvent { work, passed } => {
-            after_reply_event(rx_index, work, passed, words[0])
-        }
+        Moving::Replied { work, passed } => after_reply_event(rx_index, work, passed, words[0]),
         Moving::ReplyNotice { work, passed } => all_replied(work, passed),
     }
 }
 
 /// The packet's words in a page.
+#[inline(always)]
 fn fill_want(filling: &Filling, words: &mut [u32]) -> Op
     requires { 1024 ≤ length words.old }
     ensures words { length words.new ≡ length words.old }
@@ -69,23 +66,22 @@ fn fill_want(filling: &Filling, words: &mut [u32]) -> Op
 }
 
 /// A response's two words.
-fn reply_want(wires: &Wires, rx_index: u32, replying: &Replying, words: &mut [u32]) -> Op
-    requires { 1024 ≤ length words.old }
-    ensures words { length words.new ≡ length words.old }
-    ensures asked { IsAccess result (rest_moving (vif_of wires.now) rx_index (Moving.Reply replying.now)) words.new }
+#[inline(always)]
+fn reply_want(wires: &Wires, rx_index: u32, replying: &Replying) -> Op
+    ensures asked { (words : List ℕ) → IsAccess result (rest_moving (vif_of wires.now) rx_index (Moving.Reply replying.now)) words }
     ensures said { asked_of_moving (Moving.Reply replying.now) ≡ asked_by result }
 {
     let Replying { work, passed, i } = replying;
     let [first, second] = rx_response(*passed, work.packet.bytes(), &work.targets, *i).words();
-    words[0] = first;
-    words[1] = second;
-    Op::Write {
+    Op::StoreTwo {
         at: rx_entry(wires.rx, rx_index.wrapping_add(*i), 0),
-        count: 2,
+        first,
+        second,
     }
 }
 
 /// What a packet that is sent wants.
+#[inline(always)]
 pub(crate) fn moving_want(wires: &Wires, rx_index: u32, moving: &Moving, words: &mut [u32]) -> Op
     requires { 1024 ≤ length words.old }
     ensures words { length words.new ≡ length words.old }
@@ -109,15 +105,11 @@ pub(crate) fn moving_want(wires: &Wires, rx_index: u32, moving: &Moving, words: 
             count: 2,
         },
         Moving::Fill(filling) => fill_want(filling, words),
-        Moving::Reply(replying) => reply_want(wires, rx_index, replying, words),
-        Moving::Replied { work, .. } => write(
-            words,
-            header(wires.rx, RSP_PROD),
-            rx_index.wrapping_add(work.targets.len()),
-        ),
-        Moving::ReplyEvent { .. } => Op::Read {
-            at: header(wires.rx, RSP_EVENT),
-            count: 1,
+        Moving::Reply(replying) => reply_want(wires, rx_index, replying),
+        Moving::Replied { work, .. } => Op::Push {
+            at: header(wires.rx, RSP_PROD),
+            word: rx_index.wrapping_add(work.targets.len()),
+            read: RSP_EVENT,
         },
         Moving::ReplyNotice { .. } => Op::Notify(wires.port.number()),
     }

@@ -41,6 +41,7 @@ pub(crate) fn after_slots(state: &State, n: u32) -> State
 }
 
 /// After the transmit.
+#[inline(always)]
 fn sent(state: &State, work: Box<Work>, ops: u32, outcome: Outcome) -> Stage
     ensures here { IsTrue (is_here result) }
     ensures rest { (w : Wiring) →

@@ -14,7 +14,6 @@ use crate::op::Op;
 use crate::queue::Queue;
 use crate::stage::Stage;
 use crate::task::{Taken, Task};
-use crate::want::write;
 use crate::wires::Wires;
 use crate::words::are_words;
 use crate::work::Work;
@@ -28,9 +27,7 @@ use xen_steps::{header, requests_shown};
 pub enum Waiting {
     /// Nothing is done.
     Begun { pages: u32 },
-    /// The event index is to be stored.
-    Store { pages: u32 },
-    /// The producer is to be read behind it.
+    /// The event index is to be stored, and the producer read behind it.
     Look { pages: u32 },
 }
 
@@ -68,12 +65,12 @@ fn told(state: &State, pages: u32, shown: Option<u32>) -> (State, Awaited)
 }
 
 /// A step of a wait of a queue that hasn't halted.
-fn waited_live(wires: &Wires, state: &State, waiting: Waiting, words: &mut [u32]) -> AfterStep
-    requires enough { 1024 ≤ length words.old }
+#[inline(always)]
+fn waited_live(wires: &Wires, state: &State, waiting: Waiting, words: &[u32]) -> AfterStep
+    requires enough { 1024 ≤ length words.now }
     requires live { state.now.halt ≡ None }
     requires wired { IsWired (vif_of wires.now) }
-    ensures words { length words.new ≡ length words.old }
-    ensures row { IsWaitRow (wiring_of wires.now) state.now words.old words.new waiting result.state result.left result.op }
+    ensures row { IsWaitRow (wiring_of wires.now) state.now words.now waiting result.state result.left result.op }
     ensures within { IsInPages (length wires.now.owners) result.op }
 {
     // Only the proof uses what this call ensures: a word is below 2^32.
@@ -83,18 +80,14 @@ fn waited_live(wires: &Wires, state: &State, waiting: Waiting, words: &mut [u32]
             let index = state.rx_index.wrapping_add(pages);
             AfterStep {
                 state: *state,
-                left: Some(Waiting::Store { pages }),
-                op: write(words, header(wires.rx, REQ_EVENT), index),
+                left: Some(Waiting::Look { pages }),
+                op: Op::Push {
+                    at: header(wires.rx, REQ_EVENT),
+                    word: index,
+                    read: REQ_PROD,
+                },
             }
         }
-        Waiting::Store { pages } => AfterStep {
-            state: *state,
-            left: Some(Waiting::Look { pages }),
-            op: Op::Read {
-                at: header(wires.rx, REQ_PROD),
-                count: 1,
-            },
-        },
         Waiting::Look { pages } => {
             let (after, awaited) = told(state, pages, requests_shown(state.rx_index, words[0]));
             AfterStep {
@@ -107,11 +100,11 @@ fn waited_live(wires: &Wires, state: &State, waiting: Waiting, words: &mut [u32]
 }
 
 /// A step of a wait.
-fn waited(wires: &Wires, state: &State, waiting: Waiting, words: &mut [u32]) -> AfterStep
-    requires enough { 1024 ≤ length words.old }
+#[inline(always)]
+fn waited(wires: &Wires, state: &State, waiting: Waiting, words: &[u32]) -> AfterStep
+    requires enough { 1024 ≤ length words.now }
     requires wired { IsWired (vif_of wires.now) }
-    ensures words { length words.new ≡ length words.old }
-    ensures row { IsWaitRow (wiring_of wires.now) state.now words.old words.new waiting result.state result.left result.op }
+    ensures row { IsWaitRow (wiring_of wires.now) state.now words.now waiting result.state result.left result.op }
     ensures within { IsInPages (length wires.now.owners) result.op }
 {
     match state.halt {
@@ -157,12 +150,12 @@ fn wait_taken(stage: Stage, pages: u32) -> (Stage, Taken)
 
 impl Queue {
     /// A step of a wait.
-    pub(crate) fn wait_step(&mut self, words: &mut [u32]) -> Op
+    #[inline(always)]
+    pub(crate) fn wait_step(&mut self, words: &[u32]) -> Op
         requires wait { task_of self.old.stage ≡ Task.Wait }
-        requires enough { 1024 ≤ length words.old }
-        ensures words { length words.new ≡ length words.old }
+        requires enough { 1024 ≤ length words.now }
         ensures within { IsInPages (length self.old.wires.owners) result }
-        ensures stepped { IsWaitStep self.old self.new result words.old words.new }
+        ensures stepped { IsWaitStep self.old self.new result words.now }
     {
         let (work, waiting) = waiting_in(mem::replace(&mut self.stage, Stage::Gone));
         let AfterStep { state, left, op } = waited(&self.wires, &self.state, waiting, words);

@@ -3,25 +3,15 @@ use Rattle.std.specs.Prelude.{slice_index}
 use Rattle.xen_host.specs.Fed.{IsInPages}
 use Rattle.xen_host.specs.Wired.{vif_of, wiring_of}
 use Rattle.xen_host.specs.declared.op.Op.{Op}
-use Rattle.xen_host.proofs.WaitLemmas.{header_within, looks_row, stores_row, told_row}
+use Rattle.xen_host.proofs.WaitLemmas.{push_within, pushes_row, told_row}
 use Rattle.xen_host.proofs.waiting.waited_live.Goals as goal
 
 pub returns-in-Begun-clause-row : goal.returns-in-Begun-clause-row
 returns-in-Begun-clause-row c =
-    stores_row (wiring_of c.args.wires.now) c.args.state.now c.args.words.now c.write.new.words c.args.waiting c.in-Begun.pages _ c.header.result c.write.result c.requires.live c.in-Begun.is refl
-    c.header.ensures c.write.ensures.words c.write.ensures.op
+    pushes_row (wiring_of c.args.wires.now) c.args.state.now c.args.words.now c.args.waiting c.in-Begun.pages _ c.header.result c.requires.live c.in-Begun.is refl c.header.ensures
 
 pub returns-in-Begun-clause-within : goal.returns-in-Begun-clause-within
-returns-in-Begun-clause-within c =
-    let inside = header_within (vif_of c.args.wires.now) c.header.result 1 c.requires.wired (omega arith) c.header.ensures in
-    subst (λ (o : Op). IsInPages (length c.args.wires.now.owners) o) (sym c.write.ensures.op) inside
-
-pub returns-in-Store-clause-row : goal.returns-in-Store-clause-row
-returns-in-Store-clause-row c =
-    looks_row (wiring_of c.args.wires.now) c.args.state.now c.args.words.now c.args.waiting c.in-Store.pages c.header-in-Store.result c.requires.live c.in-Store.is c.header-in-Store.ensures
-
-pub returns-in-Store-clause-within : goal.returns-in-Store-clause-within
-returns-in-Store-clause-within c = header_within (vif_of c.args.wires.now) c.header-in-Store.result 0 c.requires.wired (omega arith) c.header-in-Store.ensures
+returns-in-Begun-clause-within c = push_within (vif_of c.args.wires.now) c.header.result 1 0 c.requires.wired (omega arith) (omega arith) c.header.ensures
 
 pub returns-in-Look-clause-row : goal.returns-in-Look-clause-row
 returns-in-Look-clause-row c =

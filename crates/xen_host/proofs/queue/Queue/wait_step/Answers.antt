@@ -25,4 +25,4 @@ returns-clause-stepped c =
     let q = c.args.self.now in
     let at = c.waiting_in-work in
     let a = c.waited-left in
-    is_wait_step q _ at.result.0 at.result.1 a.result.left a.result.op c.args.words.now a.new.words (sym c.replace.ensures.value ∙ at.ensures) a.ensures.row c.stage_of_wait.ensures refl refl
+    is_wait_step q _ at.result.0 at.result.1 a.result.left a.result.op c.args.words.now (sym c.replace.ensures.value ∙ at.ensures) a.ensures.row c.stage_of_wait.ensures refl refl
