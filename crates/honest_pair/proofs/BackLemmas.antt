@@ -257,7 +257,7 @@ goes_on old new a v aw f r vw mem an i sl sh = record {
       let q : Queue = o.0 in
       let q' : Queue = o'.0 in
       let moved : MovedBy a q i.event i.kept q' =
-      subst (λ (x : Queue). MovedBy a x i.event i.kept q') (o.1 q) (subst (λ (x : Queue). MovedBy a (queue_in old.world q) i.event i.kept x) (o'.1 q) (i.moved_by q)) in
+      subst (λ (x : Queue). MovedBy a x i.event i.kept q') (o.1 q) (subst (λ (x : Queue). MovedBy a (queue_in old.world q) i.event i.kept x) (o'.1 q) (i.moved_by old.free q)) in
       let wired : wiring_of q ≡ bw = subst (λ (x : Queue). wiring_of x ≡ bw) (o.1 q) (s.back_wired q) in
       let shows : BackShows bw q false p.at p.back =
       subst (λ (b : Bool). BackShows bw q b p.at p.back) aw (subst (λ (x : Queue). BackShows bw x old.asleep p.at p.back) (o.1 q) (s.back q)) in

@@ -38,6 +38,7 @@ use Rattle.xdp_world.specs.Entries.{Entry, events_of, listed, steps_of}
 use Rattle.xdp_world.specs.Replay.{AreOf}
 use Rattle.xdp_world.specs.Stands.{Stands, kept_in}
 use Rattle.xdp_world.specs.declared.world.World.{World}
+use Rattle.xdp_world.proofs.Plainly.{sofar_of}
 use Rattle.honest_pair.specs.Events.{event_in, events_in}
 use Rattle.honest_pair.specs.Runs.{AllBytes, GoWith, HasDone, IsPairRun}
 use Rattle.honest_pair.specs.Shows.{AllKept, Does, GoesOn, Shows, bytes_in, queue_in}
@@ -135,7 +136,7 @@ is_run program start called r old new b cons small fresh mem aw none sh done rec
     let s : FrontState = front_state old.front in
     let p : Pair = opening s start in
     let some : 0 < length old.world.queues.items = omega (arith, old.one, old.world.queues.ok.0) in
-    let each = λ (d : Queue). b.stands.each 0 d some in
+    let each = λ (d : Queue). sofar_of old.world b.wirings start [] b.stands 0 d some in
     let at = λ (d : Queue). is_begun bw _ _ _ _ _ refl (each d).joined in
     let q : Queue = some_queue old in
     let shows : Shows bw fw old p = record {

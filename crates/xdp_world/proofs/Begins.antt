@@ -1,21 +1,21 @@
 -- A world that begins.
-use Rattle.std.proofs.Common.{◌≡◌, ℕ, zero, suc, ◌+◌, ◌<◌, List, [], ◌∷◌, ◌++◌, length, get_or, refl, sym, ◌∙◌, ap, arith}
+use Rattle.std.proofs.Common.{◌≡◌, ℕ, zero, suc, ◌+◌, ◌<◌, List, [], ◌∷◌, ◌++◌, length, get_or, refl, sym, ap, subst, arith}
 use Rattle.std.specs.Global.{Vec}
 use Rattle.bpf_maps.specs.Seats.{total_at}
 use Rattle.bpf_verify.specs.Consistent.{Accepted}
-use Rattle.xen_back.specs.Queues.{rest, state_of, wiring_of}
-use Rattle.xen_steps.specs.Steps.{Steps, want_of}
-use Rattle.xen_back.specs.Tree.{whole_turn}
-use Rattle.xen_back.specs.Turned.{Ending}
+use Rattle.xen_back.specs.Queues.{wiring_of}
 use Rattle.xen_back.specs.declared.queue.Queue.{Queue}
 use Rattle.xen_back.specs.declared.wiring.Wiring.{Wiring}
 use Rattle.xdp_world.specs.Begin.{Begins, IsFresh}
-use Rattle.xdp_world.specs.Core.{begun, started_at}
-use Rattle.xdp_world.specs.Stands.{SoFar, kept_in}
+use Rattle.xdp_world.specs.Activities.{none_over}
+use Rattle.xdp_world.specs.Core.{started_at}
+use Rattle.xdp_world.specs.Stands.{HasCome, delivered_in, kept_in}
+use Rattle.xdp_world.specs.declared.doing.Doing.{Doing}
+use Rattle.xdp_world.specs.declared.doing.Doing.TheVariants as doing
 use Rattle.xdp_world.specs.declared.kept.Kept.{Kept}
+use Rattle.xdp_world.specs.declared.report.Delivered.{Delivered}
 use Rattle.xdp_world.specs.declared.world.World.{World}
-use Rattle.xen_back.proofs.RestLemmas.{ready_rest}
-use Rattle.xdp_world.proofs.Worlds.{has_rest, open_by}
+use Rattle.xdp_world.proofs.Comes.{fresh_turn}
 
 -- the i-th of a list, which is there
 pub queue_at : {A : Type 0} (l : List A) (i : ℕ) → i < length l → A
@@ -23,7 +23,7 @@ queue_at [] i h = absurd (omega (arith, h))
 queue_at (x ∷ xs) zero h = x
 queue_at (x ∷ xs) (suc i) h = queue_at xs i (omega (arith, h))
 
-any_or : {A : Type 0} (l : List A) (i : ℕ) (d e : A) → i < length l → get_or l i d ≡ get_or l i e
+pub any_or : {A : Type 0} (l : List A) (i : ℕ) (d e : A) → i < length l → get_or l i d ≡ get_or l i e
 any_or [] i d e h = absurd (omega (arith, h))
 any_or (x ∷ xs) zero d e h = refl
 any_or (x ∷ xs) (suc i) d e h = any_or xs i d e (omega (arith, h))
@@ -34,39 +34,46 @@ none_kept [] v e h (suc i) = refl
 none_kept (t ∷ ts) v e h zero = h 0
 none_kept (t ∷ ts) v e h (suc i) = none_kept ts v e (λ j. h (suc j)) i
 
-fresh_so_far : (accepted : Accepted) (queues index start i : ℕ) (w : Wiring) (q : Queue) (kept : List Kept) → IsFresh accepted queues index start i q → wiring_of q ≡ w → kept ≡ [] → SoFar w start [] kept q
-fresh_so_far accepted queues index start i w q kept f wired none =
-    let ready : rest q ≡ whole_turn w (state_of q) = ready_rest q f.ready ∙ ap (λ (x : Wiring). whole_turn x (state_of q)) wired in
-    record {
+fresh_come : (accepted : Accepted) (queues index start i : ℕ) (w : Wiring) (q : Queue) (at : Doing) (kept : List Kept) (dl : List Delivered) → IsFresh accepted queues index start i q → wiring_of q ≡ w →
+    at ≡ doing.Between → kept ≡ [] → dl ≡ [] → HasCome w start [] kept dl q at
+fresh_come accepted queues index start i w q at kept dl f wired is none nothing =
+    subst (λ (x : Doing). HasCome w start [] kept dl q x) (sym is) (record {
       wired = wired;
+      deeds = [];
       front = [];
-      joined = rw (none, f.state) (begun (started_at start) []);
-      unfinished = record {
-        gone = sym ready;
-        isnt_over = λ x o. open_by w (state_of q) (state_of q).halt x (ap (λ (t : Steps Ending). want_of t) (sym ready) ∙ o);
-        stopped = λ cause is. refl;
-        completed = has_rest q;
-      };
-    }
+      joined = rw f.state (none_over (started_at start) []);
+      turns = none;
+      deliveries = nothing;
+      stands_at = (refl, fresh_turn w q wired f.ready);
+    })
 
 pub begins : (accepted : Accepted) (queues index start : ℕ) (w : World) → 0 < length w.queues.items → length w.queues.items ≡ queues →
-    ((i : ℕ) (d : Queue) → i < queues → IsFresh accepted queues index start i (get_or w.queues.items i d)) → ((i : ℕ) → kept_in w.turns.items i ≡ []) → w.history.items ≡ [] →
+    ((i : ℕ) (d : Queue) → i < queues → IsFresh accepted queues index start i (get_or w.queues.items i d)) → ((i : ℕ) → kept_in w.turns.items i ≡ []) → ((i : ℕ) → delivered_in w.deliveries.items i ≡ []) →
+    ((i : ℕ) (e : Doing) → i < queues → get_or w.doing.items i e ≡ doing.Between) → w.history.items ≡ [] →
     ((m k j : ℕ) → total_at w.counters m k j ≡ 0) → Begins accepted queues index start w
-begins accepted queues index start w some count fresh none past zeros =
+begins accepted queues index start w some count fresh none nothing between past zeros =
     let qs = w.queues.items in
     let q0 : Queue = queue_at qs 0 some in
     record {
       wirings = λ i. wiring_of (get_or qs i q0);
       wired = λ i l. (fresh i q0 l).wired;
       stands = record {
-        each = λ i d l. fresh_so_far accepted queues index start i (wiring_of (get_or qs i q0)) (get_or qs i d) (kept_in w.turns.items i) (fresh i d (omega (arith, l, count))) (ap (λ (q : Queue). wiring_of q) (any_or qs i d q0 l)) (none i);
-        events = λ i e at n. absurd (cc);
+        each = λ i d e l. let m : i < queues = omega (arith, l, count) in
+            fresh_come accepted queues index start i (wiring_of (get_or qs i q0)) (get_or qs i d) (get_or w.doing.items i e) (kept_in w.turns.items i) (delivered_in w.deliveries.items i) (fresh i d m)
+            (ap (λ (q : Queue). wiring_of q) (any_or qs i d q0 l)) (between i e m) (none i) (nothing i);
+        come = λ i e at n. absurd (cc);
         serve = tt;
         past = past;
         legal = λ i e at. absurd (cc);
         leaves = λ m k j is. zeros m k j;
       };
     }
+
+pub none_delivered : (ts : List (Vec Delivered)) (v : Vec Delivered) → v.items ≡ [] → ((i : ℕ) → delivered_in ts i ≡ []) → (i : ℕ) → delivered_in (ts ++ v ∷ []) i ≡ []
+none_delivered [] v e h zero = e
+none_delivered [] v e h (suc i) = refl
+none_delivered (t ∷ ts) v e h zero = h 0
+none_delivered (t ∷ ts) v e h (suc i) = none_delivered ts v e (λ j. h (suc j)) i
 
 pub all_more : {A : Type 0} (P : ℕ → A → Type 0) (l : List A) (x : A) → ((i : ℕ) (d : A) → i < length l → P i (get_or l i d)) → P (length l) x → (i : ℕ) (d : A) → i < length l + 1 → P i (get_or (l ++ x ∷ []) i d)
 all_more P [] x h p zero d l = p

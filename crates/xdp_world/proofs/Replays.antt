@@ -1,9 +1,9 @@
 -- A world in which one queue is stepped.
-use Rattle.std.proofs.Common.{◌≡◌, ℕ, ◌+◌, ◌-◌, ◌<◌, ◌≤◌, List, [], ◌∷◌, ◌++◌, Option, Some, None, length, refl, sym, ◌∙◌, ap, subst, arith, append_assoc, ◌⊎◌, inl, inr, ⊎_elim}
+use Rattle.std.proofs.Common.{◌≡◌, ℕ, ◌+◌, ◌-◌, List, [], ◌∷◌, ◌++◌, Option, Some, None, length, refl, sym, ◌∙◌, ap, subst, arith, append_assoc, inl, inr, ⊎_elim}
 use Rattle.std.proofs.lemmas.List.{append-nil}
 use Rattle.bpf_verify.specs.Consistent.{Accepted, IsConsistent, instructions}
 use Rattle.xen_page.specs.declared.place.Place.{Place}
-use Rattle.xen_steps.specs.Drive.{Any, Bounded, Goes, Gone}
+use Rattle.xen_steps.specs.Drive.{Any, Bounded, Gone}
 use Rattle.xen_steps.specs.Event.{Event, Occurs, Read, Write, Instr, Load, Add, Notify}
 use Rattle.xen_steps.specs.Steps.{Steps, want_of}
 use Rattle.xen_steps.specs.declared.want.Want.{Want}
@@ -19,14 +19,14 @@ use Rattle.xen_back.specs.declared.turn.Halt.{Halt}
 use Rattle.xen_back.specs.declared.wiring.Wiring.{Wiring}
 use Rattle.xen_back.proofs.RestLemmas.{ready_rest}
 use Rattle.xen_back.proofs.Bounds.{bounded_turn}
+use Rattle.xdp_world.specs.Core.{IsHalted, IsUnfinished, Turns, started_at}
 use Rattle.xdp_world.specs.Entries.{Entry, Serves}
 use Rattle.xdp_world.specs.Happens.{Comes, Moved}
 use Rattle.xdp_world.specs.Replay.{AreOf, Stops, halts, reads, read_answer, read_answers}
 use Rattle.xdp_world.specs.Replays.{Anything, IsEnough, IsNear, Pauses, Replays, Rests}
-use Rattle.xdp_world.specs.Stands.{IsStep, SoFar, Stands}
+use Rattle.xdp_world.specs.Stands.{IsStep, SoFar}
 use Rattle.xdp_world.specs.declared.kept.Kept.{Kept}
 use Rattle.xdp_world.specs.declared.world.World.{World}
-use Rattle.xdp_world.proofs.Worlds.{halted}
 
 -- so many events are enough for a queue of this program
 pub enough : (q : Queue) (n : ℕ) → IsConsistent (wiring_of q).program.now → instructions (wiring_of q).program.now.code ≡ n → (front : List Event) →
@@ -150,6 +150,16 @@ pub replays_step : (a b : World) (q answer : ℕ) (r : List ℕ) → (s : IsStep
 replays_step a b q answer r s e wirings start es h =
     let entry : Entry = record { queue = q; answer = answer; event = s.event } in
     (entry ∷ [], (refl, tt), append-nil (read_answer s.event) ∙ e, s.stands wirings start es h)
+
+halted_by : (w : Wiring) (start : ℕ) (ev : List Event) (ks : List Kept) (s : State) (front : List Event) (left : Steps Ending) (o : Option Halt) → s.halt ≡ o →
+    Turns w (started_at start) ev ks s front → IsUnfinished w s front left → want_of left ≡ want.Done → IsHalted w start ev
+halted_by w start ev ks s front left None e j u d = absurd (u.isnt_over e d)
+halted_by w start ev ks s front left (Some cause) e j u d =
+    record { kept = ks; end = s; cause = cause; halted = e; joined = subst (λ (l : List Event). Turns w (started_at start) ev ks s l) (u.stopped cause e) j }
+
+-- a queue that wants nothing has halted
+halted : (w : Wiring) (start : ℕ) (ev : List Event) (ks : List Kept) (q : Queue) → SoFar w start ev ks q → want_of (rest q) ≡ want.Done → IsHalted w start ev
+halted w start ev ks q h d = halted_by w start ev ks (state_of q) h.front (rest q) (state_of q).halt refl h.joined h.unfinished d
 
 stops_by : (w : Wiring) (start : ℕ) (ev : List Event) (ks : List Kept) (q : Queue) (left : List ℕ) (x : Want) → want_of (rest q) ≡ x → SoFar w start ev ks q → Rests x left → Stops w start ev ks left
 stops_by w start ev ks q left (want.Read at) e h r =

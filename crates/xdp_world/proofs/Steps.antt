@@ -1,8 +1,6 @@
 -- A world goes on by steps.
-use Rattle.std.proofs.Common.{ℕ, List, [], ◌∷◌, ◌++◌, Option, refl, ◌∙◌, ap, append_assoc}
+use Rattle.std.proofs.Common.{ℕ, List, [], ◌∷◌, ◌++◌, refl, ◌∙◌, ap, append_assoc}
 use Rattle.std.proofs.lemmas.List.{append-nil}
-use Rattle.xen_steps.specs.Event.{Event}
-use Rattle.xen_back.specs.declared.wiring.Wiring.{Wiring}
 use Rattle.xdp_world.specs.Entries.{Entry}
 use Rattle.xdp_world.specs.Stands.{GoesOn, IsStep}
 use Rattle.xdp_world.specs.declared.world.World.{World}

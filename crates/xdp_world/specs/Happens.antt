@@ -52,12 +52,10 @@ pub record Happens (old new : Queue) (c d : TotalsView) (answer : ℕ) (op : Opt
   pub comes : Comes old mid new kept
 
 -- a queue that has halted does nothing
-pub record Rests (old new : Queue) (c d : TotalsView) (op : Option Op) (kept : Option Kept) : Type 0 where
+pub record Rests (old new : Queue) (c d : TotalsView) : Type 0 where
   pub rest : rest new ≡ rest old
   pub state : state_of new ≡ state_of old
   pub counters : d ≡ c
-  pub op_none : op ≡ None
-  pub kept_none : kept ≡ None
 
 -- What a step with this event, or with none where it has halted, does to a queue.
 abbrev pub Moved : ℕ → Queue → Option Event → Queue → Type 0

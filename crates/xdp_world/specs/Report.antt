@@ -1,5 +1,5 @@
 -- What a run reports.
-use Rattle.std.specs.Prelude.{ℕ, ◌≡◌, ◌<◌, List, length}
+use Rattle.std.specs.Prelude.{ℕ, ◌≡◌, ◌<◌, List, [], length}
 use Rattle.bpf_maps.specs.Seats.{total_at}
 use Rattle.bpf_note.specs.History.{IsLegal, left_in, share}
 use Rattle.bpf_note.specs.Shape.{IsCounter}
@@ -13,7 +13,9 @@ use Rattle.xen_back.specs.declared.wiring.Wiring.{Wiring}
 use Rattle.xdp_world.specs.Begin.{IsFor}
 use Rattle.xdp_world.specs.Core.{HaveEvents, IsUnfinished, Turns, started_at}
 use Rattle.xdp_world.specs.Entries.{AllServe, Entry, events_of, history, steps_of}
-use Rattle.xdp_world.specs.Stands.{kept_in}
+use Rattle.xdp_world.specs.Activities.{IsPart}
+use Rattle.xdp_world.specs.Calls.{Call, HaveCome, entries_of, items_of}
+use Rattle.xdp_world.specs.Stands.{delivered_in, kept_in}
 use Rattle.xdp_world.specs.declared.kept.Kept.{Kept}
 use Rattle.xdp_world.specs.declared.report.Report.{Report}
 
@@ -25,9 +27,21 @@ pub record IsShare (w : Wiring) (start : ℕ) (events : List Event) (kept : List
   pub joined : Turns w (started_at start) events kept end front
   pub unfinished : IsUnfinished w end front left
 
--- The report is of these entries.
+-- The report is of these calls.
+pub record Tells (wirings : ℕ → Wiring) (start : ℕ) (cs : List Call) (r : Report) : Type 0 where
+  pub each : (i : ℕ) → i < length r.turns.items →
+      IsPart (wirings i) start (items_of i cs) (kept_in r.turns.items i) (delivered_in r.deliveries.items i)
+  pub come : HaveCome wirings start cs
+  pub serve : AllServe (entries_of cs)
+  pub past : r.history.items ≡ history (entries_of cs)
+  pub shares : (i : ℕ) → share i (history (entries_of cs)) ≡ labels (events_of i (entries_of cs))
+  pub legal : IsLegal (history (entries_of cs))
+  pub leaves : (m k j : ℕ) → IsCounter r.totals.shapes m k j → total_at r.totals m k j ≡ left_in m k j (history (entries_of cs))
+
+-- The report is of these entries, and of no delivery.
 pub record Reports (wirings : ℕ → Wiring) (start : ℕ) (es : List Entry) (r : Report) : Type 0 where
   pub each : (i : ℕ) → i < length r.turns.items → IsShare (wirings i) start (events_of i es) (kept_in r.turns.items i)
+  pub none : (i : ℕ) → i < length r.turns.items → delivered_in r.deliveries.items i ≡ []
   pub events : HaveEvents wirings start es
   pub serve : AllServe es
   pub past : r.history.items ≡ history es

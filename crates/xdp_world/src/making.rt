@@ -1,14 +1,17 @@
 //! Making a world, and running it.
-ghost use Rattle.std.specs.Prelude.{◌≡◌, ◌<◌, ◌≤◌, ℕ, List, All, IfOk, length, vec_len};
+ghost use Rattle.std.specs.Prelude.{◌≡◌, ◌<◌, ◌≤◌, ℕ, List, [], All, IfOk, length, slice_index_or, vec_len};
 ghost use Rattle.xen_back.specs.declared.wiring.Wiring.{Wiring};
 ghost use Rattle.xdp_world.specs.Begin.{Begins, IsFresh};
 ghost use Rattle.xdp_world.specs.Entries.{Entry};
-ghost use Rattle.xdp_world.specs.Report.{IsCoreRun, Reports};
-ghost use Rattle.xdp_world.specs.Stands.{Stands};
+ghost use Rattle.xdp_world.specs.Calls.{Call};
+ghost use Rattle.xdp_world.specs.Report.{IsCoreRun, Reports, Tells};
+ghost use Rattle.xdp_world.specs.Stands.{IsFree, Stands, StandsFor, delivered_in};
+ghost use Rattle.xdp_world.specs.declared.doing.Doing.{Doing as DoingView};
 
+use crate::doing::Doing;
 use crate::kept::Kept;
 use crate::layout::{BACK, FRONT, Layout};
-use crate::report::Report;
+use crate::report::{Delivered, Report};
 use crate::ring::ring;
 use crate::world::World;
 use bpf_maps::Totals;
@@ -58,6 +61,30 @@ pub(crate) fn buffers(alloc: Global, queues: usize) -> Result<Vec<Buffer>, Alloc
     Ok(buffers)
 }
 
+/// So many queues between turns.
+fn all_between<'p, 'b>(alloc: Global, queues: usize) -> Result<Vec<Doing<'p, 'b>>, AllocError>
+    ensures count { IfOk result (λ v. vec_len v ≡ queues) }
+    ensures between { IfOk result (λ v. (i : ℕ) (d : DoingView) → i < queues → slice_index_or v.items i d ≡ Doing.Between) }
+{
+    let mut doing: Vec<Doing<'p, 'b>> = Vec::with_capacity(alloc, queues)?;
+    for _queue in 0..queues {
+        doing.push_reserved(Doing::Between);
+    }
+    Ok(doing)
+}
+
+/// No deliveries of so many queues.
+fn none_delivered(alloc: Global, queues: usize) -> Result<Vec<Vec<Delivered>>, AllocError>
+    ensures count { IfOk result (λ v. vec_len v ≡ queues) }
+    ensures none { IfOk result (λ v. (i : ℕ) → delivered_in v.items i ≡ []) }
+{
+    let mut deliveries: Vec<Vec<Delivered>> = Vec::with_capacity(alloc, queues)?;
+    for _queue in 0..queues {
+        deliveries.push_reserved(Vec::new(alloc));
+    }
+    Ok(deliveries)
+}
+
 impl<'p, 'b> World<'p, 'b> {
     /// So many queues of a program, before their first turns, with all counters 0. Their packets lie in the buffers.
     pub fn make(
@@ -74,11 +101,14 @@ impl<'p, 'b> World<'p, 'b> {
         requires buffers { queues ≤ length buffers.now }
         ensures size { IfOk result (λ w. vec_len w.queues ≡ queues) }
         ensures shapes { IfOk result (λ w. w.counters.shapes ≡ program.now.shapes) }
+        ensures free { IfOk result (λ w. (i : ℕ) → IsFree w i) }
         ensures begins { IfOk result (Begins program.now queues ifindex start) }
     {
         let counters = Totals::make(alloc, program.shapes())?;
         let mut all = Vec::with_capacity(alloc, queues)?;
         let mut turns: Vec<Vec<Kept>> = Vec::with_capacity(alloc, queues)?;
+        let doing = all_between(alloc, queues)?;
+        let deliveries = none_delivered(alloc, queues)?;
         let mut rest = buffers;
         for number in 0..queues {
             let (head, tail) = rest.split_at_mut(1);
@@ -89,7 +119,9 @@ impl<'p, 'b> World<'p, 'b> {
         }
         Ok(World {
             queues: all,
+            doing,
             turns,
+            deliveries,
             history: Vec::new(alloc),
             counters,
             spare: Vec::new(alloc),
@@ -103,16 +135,21 @@ impl<'p, 'b> World<'p, 'b> {
         ensures shapes { result.totals.shapes ≡ self.entry.counters.shapes }
         ensures reports { (wirings : ℕ → Wiring) (start : ℕ) (es : List Entry) → Stands self.entry wirings start es →
             Reports wirings start es result }
+        ensures tells { (wirings : ℕ → Wiring) (start : ℕ) (cs : List Call) → StandsFor self.entry wirings start cs →
+            Tells wirings start cs result }
     {
         let World {
             queues: _,
+            doing: _,
             turns,
+            deliveries,
             history,
             counters,
             spare: _,
         } = self;
         Report {
             turns,
+            deliveries,
             history,
             totals: counters,
         }

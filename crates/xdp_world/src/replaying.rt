@@ -6,6 +6,7 @@ ghost use Rattle.xen_steps.specs.Steps.{want_of};
 ghost use Rattle.xen_steps.specs.declared.want.Want.TheVariants as want;
 ghost use Rattle.xdp_world.specs.Replay.{IsReplay};
 ghost use Rattle.xdp_world.specs.Replays.{IsEnough, Pauses, Replays, Took};
+ghost use Rattle.xdp_world.specs.Stands.{IsFree};
 
 use crate::layout::Layout;
 use crate::making::buffers;
@@ -38,9 +39,11 @@ impl World<'_, '_> {
     /// Steps a queue until it wants to read or has halted. So many steps are enough.
     fn go_on(&mut self, queue: usize, most: u64) -> Result<(), AllocError>
         requires queue { queue < vec_len self.old.queues }
+        requires free { IsFree self.old queue }
         requires enough { (d : Queue) → IsEnough most (slice_index_or self.old.queues.items queue d) }
         ensures size { vec_len self.new.queues ≡ vec_len self.old.queues }
         ensures shapes { self.new.counters.shapes ≡ self.old.counters.shapes }
+        ensures free { OnOk result (IsFree self.new queue) }
         ensures enough { OnOk result ((d : Queue) → IsEnough most (slice_index_or self.new.queues.items queue d)) }
         ensures pauses { OnOk result ((d : Queue) → Pauses (want_of (rest (slice_index_or self.new.queues.items queue d)))) }
         ensures replays { OnOk result (Replays self.old self.new queue []) }
@@ -58,6 +61,7 @@ impl World<'_, '_> {
     /// for a turn.
     fn give(&mut self, queue: usize, answers: &[u32], most: u64) -> Result<(), AllocError>
         requires queue { queue < vec_len self.old.queues }
+        requires free { IsFree self.old queue }
         requires enough { (d : Queue) → IsEnough most (slice_index_or self.old.queues.items queue d) }
         ensures size { vec_len self.new.queues ≡ vec_len self.old.queues }
         ensures shapes { self.new.counters.shapes ≡ self.old.counters.shapes }

@@ -1,48 +1,134 @@
-//! One step of a queue, with the turn that it ends.
-ghost use Rattle.std.specs.Prelude.{◌≡◌, ◌≢◌, ◌≤◌, vec_len, vec_capacity};
+//! One step of a queue, with the turn or the delivery that it ends.
+ghost use Rattle.std.specs.Prelude.{◌≡◌, ◌≢◌, ◌≤◌, Option, Some, false, vec_len, vec_capacity};
 ghost use Rattle.xen_back.specs.Queues.{rest, wiring_of};
+ghost use Rattle.xen_steps.specs.Event.{Event};
 ghost use Rattle.xen_steps.specs.Steps.{want_of};
-ghost use Rattle.xdp_world.specs.Happens.{Happens, Rests, Settles};
+ghost use Rattle.xdp_world.specs.Carries.{Moves, TurnMoves, after_turn as after_turn_spec};
+ghost use Rattle.xdp_world.specs.Doings.{Fits, is_delivery};
+ghost use Rattle.xdp_world.specs.Happens.{Settles};
 
+use crate::carrying::carried;
+use crate::doing::Doing;
 use crate::event::event;
 use crate::kept::{Kept, keep};
 use bpf_maps::{Op, Totals};
-use xen_back::{Queue, Want};
+use std::mem;
+use xen_back::{Delivery, Queue, Want};
 
-/// What a step gave: the counter operation, and the turn that it ended.
+/// What a step gave: the counter operation, and the turn or the delivery that it ended.
 #[derive(Drop)]
 pub(crate) struct Served {
     pub op: Option<Op>,
     pub kept: Option<Kept>,
+    pub delivery: Option<Delivery>,
 }
 
-/// One step. A queue that has halted does nothing.
-pub(crate) fn serve(
-    queue: &mut Queue,
+/// One step: the next event of the delivery that is under way, else of the turn.
+pub(crate) fn serve<'p, 'b>(
+    queue: &mut Queue<'p, 'b>,
+    doing: &mut Doing<'p, 'b>,
     counters: &mut Totals,
     answer: u32,
     spare: &mut Vec<u8>,
 ) -> Served
     requires shapes { (wiring_of queue.old).program.now.shapes ≡ counters.old.shapes }
+    requires fits { Fits doing.old queue.old }
     requires empty { vec_len spare.old ≡ 0 }
     requires room { 65535 ≤ vec_capacity spare.old }
     ensures same { wiring_of queue.new ≡ wiring_of queue.old }
     ensures shapes { counters.new.shapes ≡ counters.old.shapes }
+    ensures fits { Fits doing.new queue.new }
     ensures empty { vec_len spare.new ≡ 0 }
-    ensures halted { want_of (rest queue.old) ≡ Want.Done → Rests queue.old queue.new counters.old counters.new result.op result.kept }
-    ensures event { want_of (rest queue.old) ≢ Want.Done →
-        Happens queue.old queue.new counters.old counters.new answer result.op result.kept }
+    ensures moves { (e : Option Event) × Moves queue.old queue.new doing.old doing.new counters.old counters.new answer
+        e result.op result.kept result.delivery }
 {
-    match queue.wanted() {
-        Want::Done => return Served {
-            op: None,
-            kept: None,
-        },
-        _ => {}
+    match mem::replace(doing, Doing::Between) {
+        Doing::Delivery(delivering) => {
+            let (after, delivery) = carried(queue, delivering, answer);
+            *doing = after;
+            Served {
+                op: None,
+                kept: None,
+                delivery,
+            }
+        }
+        before => {
+            let (after, served) = in_turn(queue, before, counters, answer, spare);
+            *doing = after;
+            served
+        }
     }
+}
+
+/// The next event of a turn. A queue that has halted does nothing.
+fn in_turn<'p, 'b>(
+    queue: &mut Queue<'p, 'b>,
+    before: Doing<'p, 'b>,
+    counters: &mut Totals,
+    answer: u32,
+    spare: &mut Vec<u8>,
+) -> (Doing<'p, 'b>, Served)
+    requires shapes { (wiring_of queue.old).program.now.shapes ≡ counters.old.shapes }
+    requires turn { is_delivery (Some before) ≡ false }
+    requires fits { Fits before queue.old }
+    requires empty { vec_len spare.old ≡ 0 }
+    requires room { 65535 ≤ vec_capacity spare.old }
+    ensures same { wiring_of queue.new ≡ wiring_of queue.old }
+    ensures shapes { counters.new.shapes ≡ counters.old.shapes }
+    ensures fits { Fits result.0 queue.new }
+    ensures empty { vec_len spare.new ≡ 0 }
+    ensures moves { (e : Option Event) × Moves queue.old queue.new before.entry result.0 counters.old counters.new answer
+        e result.1.op result.1.kept result.1.delivery }
+{
+    match queue.want() {
+        Want::Done => {
+            let served = Served {
+                op: None,
+                kept: None,
+                delivery: None,
+            };
+            (before, served)
+        }
+        _ => turned(queue, counters, answer, spare),
+    }
+}
+
+/// The next event of a turn that isn't over.
+fn turned<'p, 'b>(
+    queue: &mut Queue<'p, 'b>,
+    counters: &mut Totals,
+    answer: u32,
+    spare: &mut Vec<u8>,
+) -> (Doing<'p, 'b>, Served)
+    requires shapes { (wiring_of queue.old).program.now.shapes ≡ counters.old.shapes }
+    requires want { want_of (rest queue.old) ≢ Want.Done }
+    requires empty { vec_len spare.old ≡ 0 }
+    requires room { 65535 ≤ vec_capacity spare.old }
+    ensures same { wiring_of queue.new ≡ wiring_of queue.old }
+    ensures shapes { counters.new.shapes ≡ counters.old.shapes }
+    ensures fits { Fits result.0 queue.new }
+    ensures empty { vec_len spare.new ≡ 0 }
+    ensures moves { TurnMoves queue.old queue.new result.0 counters.old counters.new answer result.1.op result.1.kept result.1.delivery }
+{
     let op = event(queue, counters, answer);
     let kept = ended(queue, spare);
-    Served { op, kept }
+    let after: Doing<'p, 'b> = after_turn(&kept);
+    let served = Served {
+        op,
+        kept,
+        delivery: None,
+    };
+    (after, served)
+}
+
+/// What a queue is doing after an event of a turn: the turn goes on, unless it is over.
+fn after_turn<'p, 'd>(kept: &Option<Kept>) -> Doing<'p, 'd>
+    ensures { result ≡ after_turn_spec kept.now }
+{
+    match kept {
+        None => Doing::Turn,
+        Some(_) => Doing::Between,
+    }
 }
 
 /// The turn, if it is over. The next one begins then.

@@ -1,23 +1,49 @@
 //! Steps of a world.
-ghost use Rattle.std.specs.Prelude.{◌≡◌, ◌<◌, ◌≤◌, ◌++◌, All, OnOk, OnErr, vec_len, vec_capacity, length, slice_get};
+ghost use Rattle.std.specs.Prelude.{◌≡◌, ◌<◌, ◌≤◌, ◌++◌, ℕ, All, OnOk, OnErr, vec_len, vec_capacity, length, slice_get};
+ghost use Rattle.xdp_world.specs.Carries.{delivered_list};
 ghost use Rattle.xdp_world.specs.Entries.{tagged};
 ghost use Rattle.xdp_world.specs.Happens.{kept_list, op_list};
-ghost use Rattle.xdp_world.specs.Stands.{GoesOn, HasRoom, IsSame, IsStep, kept_in};
+ghost use Rattle.xdp_world.specs.Stands.{GoesOn, HasRoom, HasRoomFor, IsFree, IsSame, IsStep};
 
 use crate::kept::{Kept, ROOM};
+use crate::report::Delivered;
 use crate::serving::{Served, serve};
 use crate::world::World;
 use bpf_maps::Op;
 use std::alloc::AllocError;
+use xen_back::Delivery;
+
+/// Keeps what became of a packet, if its delivery is over, after so many turns. There is room.
+pub(crate) fn note_delivery(delivered: &mut Vec<Delivered>, turns: usize, over: Option<Delivery>)
+    requires { vec_len delivered.old < vec_capacity delivered.old }
+    ensures { delivered.new.items ≡ delivered.old.items ++ delivered_list turns over }
+{
+    if let Some(delivery) = over {
+        delivered.push_reserved(Delivered { turns, delivery });
+    }
+}
 
 /// Keeps what a step gave. There is room.
-fn note(kept: &mut Vec<Kept>, history: &mut Vec<(usize, Op)>, queue: usize, served: Served)
+fn note(
+    kept: &mut Vec<Kept>,
+    delivered: &mut Vec<Delivered>,
+    history: &mut Vec<(usize, Op)>,
+    queue: usize,
+    served: Served,
+)
     requires kept { vec_len kept.old < vec_capacity kept.old }
+    requires delivered { vec_len delivered.old < vec_capacity delivered.old }
     requires history { vec_len history.old < vec_capacity history.old }
     ensures kept { kept.new.items ≡ kept.old.items ++ kept_list served.kept }
+    ensures delivered { delivered.new.items ≡ delivered.old.items ++ delivered_list (vec_len kept.old) served.delivery }
     ensures history { history.new.items ≡ history.old.items ++ tagged queue (op_list served.op) }
 {
-    let Served { op, kept: turn } = served;
+    let Served {
+        op,
+        kept: turn,
+        delivery,
+    } = served;
+    note_delivery(delivered, kept.len(), delivery);
     if let Some(turn) = turn {
         kept.push_reserved(turn);
     }
@@ -33,30 +59,40 @@ impl<'p, 'b> World<'p, 'b> {
         ensures same { IsSame self.old self.new }
         ensures room { OnOk result ((vec_len self.new.history < vec_capacity self.new.history) × (65535 ≤ vec_capacity self.new.spare)) }
         ensures kept { OnOk result (HasRoom (slice_get self.new.turns.items queue)) }
+        ensures delivered { OnOk result (HasRoomFor (slice_get self.new.deliveries.items queue)) }
     {
         self.turns[queue].reserve(1)?;
+        self.deliveries[queue].reserve(1)?;
         self.history.reserve(1)?;
         self.spare.reserve(ROOM)?;
         Ok(())
     }
 
-    /// One event of a queue, or nothing where it has halted. The answer serves a read, and is ignored else. A turn that is over by it is
-    /// kept, and the next begins.
+    /// One event of a queue: of the delivery that is under way, else of its turn; or nothing where it has halted. The answer serves a read,
+    /// and is ignored else. A turn that is over by it is kept, and the next begins; of a delivery that is over, what became of its packet.
     pub fn step(&mut self, queue: usize, answer: u32) -> Result<(), AllocError>
         requires { queue < vec_len self.old.queues }
         ensures size { vec_len self.new.queues ≡ vec_len self.old.queues }
         ensures shapes { self.new.counters.shapes ≡ self.old.counters.shapes }
+        ensures free { (i : ℕ) → IsFree self.old i → IsFree self.new i }
         ensures ok { OnOk result (IsStep self.old self.new queue answer) }
         ensures err { OnErr result (IsSame self.old self.new) }
     {
         self.make_room(queue)?;
         let served = serve(
             &mut self.queues[queue],
+            &mut self.doing[queue],
             &mut self.counters,
             answer,
             &mut self.spare,
         );
-        note(&mut self.turns[queue], &mut self.history, queue, served);
+        note(
+            &mut self.turns[queue],
+            &mut self.deliveries[queue],
+            &mut self.history,
+            queue,
+            served,
+        );
         Ok(())
     }
 

@@ -1,24 +1,29 @@
 //! What a world's queues want, and what they did.
 ghost use Rattle.std.specs.Prelude.{◌≡◌, ◌≢◌, ◌<◌, vec_len, slice_index_or};
-ghost use Rattle.xen_back.specs.Queues.{rest, wiring_of};
+ghost use Rattle.xen_back.specs.Queues.{wiring_of};
 ghost use Rattle.xen_back.specs.Within.{may_want};
 ghost use Rattle.xen_back.specs.declared.queue.Queue.{Queue};
-ghost use Rattle.xen_steps.specs.Steps.{want_of};
-ghost use Rattle.xdp_world.specs.Stands.{kept_in};
+ghost use Rattle.xdp_world.specs.Doings.{want_at};
+ghost use Rattle.xdp_world.specs.Stands.{delivered_in, doing_in, kept_in};
 
+use crate::doing::Doing;
 use crate::kept::Kept;
+use crate::report::Delivered;
 use crate::world::World;
 use bpf_maps::Op;
 use xen_back::Want;
 
 impl World<'_, '_> {
-    /// What a queue wants next.
+    /// What a queue wants next: its delivery, where one is under way, else its turn.
     pub fn want(&self, queue: usize) -> Want
         requires { queue < vec_len self.now.queues }
         ensures within { (d : Queue) → result ≢ Want.Done → may_want (wiring_of (slice_index_or self.now.queues.items queue d)) result }
-        ensures want { (d : Queue) → result ≡ want_of (rest (slice_index_or self.now.queues.items queue d)) }
+        ensures want { (d : Queue) → result ≡ want_at (slice_index_or self.now.queues.items queue d) (doing_in self.now queue) }
     {
-        self.queues[queue].want()
+        match &self.doing[queue] {
+            Doing::Delivery(delivering) => delivering.want(),
+            _ => self.queues[queue].want(),
+        }
     }
 
     /// The turns that a queue has done.
@@ -27,6 +32,14 @@ impl World<'_, '_> {
         ensures { result.now ≡ kept_in self.now.turns.items queue }
     {
         self.turns[queue].as_slice()
+    }
+
+    /// What became of the packets whose deliveries on a queue are over.
+    pub fn deliveries(&self, queue: usize) -> &[Delivered]
+        requires { queue < vec_len self.now.queues }
+        ensures { result.now ≡ delivered_in self.now.deliveries.items queue }
+    {
+        self.deliveries[queue].as_slice()
     }
 
     /// All counter operations so far, in order, with their queues.

@@ -1,5 +1,6 @@
 //! Worlds that are stepped, run and replayed.
 
+mod deliveries;
 mod growth;
 mod kind;
 mod merges;

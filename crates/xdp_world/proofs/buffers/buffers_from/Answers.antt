@@ -1,8 +1,8 @@
-use Rattle.std.proofs.Common.{◌≡◌, ℕ, List, ◌∷◌, ◌++◌, [], ◌+◌, map, sym, ap, ◌∙◌, refl, arith, subst}
+use Rattle.std.proofs.Common.{◌≡◌, ℕ, List, ◌∷◌, ◌++◌, [], ◌+◌, map, sym, ap, ◌∙◌, refl, arith}
 use Rattle.std.specs.List.{range_with_len}
 use Rattle.std.proofs.lemmas.List.FromFn.{map-range_with_len_more}
 use Rattle.xen_buffers.specs.declared.wiring.Buffer.{Buffer}
-use Rattle.xdp_world.specs.Buffers.{granted, granted_from}
+use Rattle.xdp_world.specs.Buffers.{granted}
 use Rattle.xdp_world.proofs.buffers.buffers_from.Goals as goal
 
 pub loop-id-preserved : goal.loop-id-preserved

@@ -8,6 +8,7 @@ use Rattle.xdp_world.specs.Replays.{IsEnough}
 use Rattle.xdp_world.specs.Stands.{kept_in}
 use Rattle.xdp_world.specs.declared.kept.Kept.{Kept}
 use Rattle.xdp_world.proofs.Begins.{queue_at}
+use Rattle.xdp_world.proofs.Plainly.{sofar_of}
 use Rattle.xdp_world.proofs.Replays.{enough_begun, stops}
 use Rattle.xdp_world.proofs.replaying.replay.Goals as goal
 
@@ -21,7 +22,7 @@ give-requires-clause-enough c = λ d.
     let most : 287383 + instructions program.code ≡ 287383 + c.from-most.result = omega (arith, c.from-most.ensures, c.instructions.ensures.count) in
     subst (λ (n : ℕ). IsEnough n (get_or world.queues.items queue d)) most
     (enough_begun program (b.wirings queue) c.args.start (events_of queue []) (kept_in world.turns.items queue) (get_or world.queues.items queue d)
-    c.instructions.ensures.consistent (b.wired queue c.requires.queue).program (b.stands.each queue d there))
+    c.instructions.ensures.consistent (b.wired queue c.requires.queue).program (sofar_of world b.wirings c.args.start [] b.stands queue d there))
 
 pub returns : goal.returns
 returns c =
@@ -50,5 +51,5 @@ returns c =
       left = took.left;
       answered = took.split ∙ ap (λ (l : List ℕ). l ++ took.left) (sym g.2);
       stops = subst (λ (k : List Kept). Stops (b.wirings queue) start (events_of queue g.0) k took.left) turns
-          (stops (b.wirings queue) start (events_of queue g.0) (kept_in world.turns.items queue) q took.left (g.3.each queue d there) (took.rests d));
+          (stops (b.wirings queue) start (events_of queue g.0) (kept_in world.turns.items queue) q took.left (sofar_of world b.wirings start g.0 g.3 queue d there) (took.rests d));
     }

@@ -1,8 +1,7 @@
-use Rattle.std.proofs.Common.{ℕ, ◌≡◌, ◌+◌, ◌<◌, List, [], ◌∷◌, ◌++◌, drop, get_or, length, refl, sym, ◌∙◌, subst, take, arith}
+use Rattle.std.proofs.Common.{ℕ, ◌≡◌, ◌+◌, ◌<◌, List, [], ◌∷◌, ◌++◌, drop, get_or, length, sym, ◌∙◌, subst, take, arith}
 use Rattle.std.proofs.lemmas.List.{append-nil, take-append-drop, take_all, take_more}
 use Rattle.std.specs.Prelude.{IsTrue}
 use Rattle.xen_back.specs.Queues.{rest}
-use Rattle.xen_back.specs.declared.queue.Queue.{Queue}
 use Rattle.xen_steps.specs.Steps.{want_of}
 use Rattle.xen_steps.specs.declared.want.Want.TheVariants as want
 use Rattle.xdp_world.specs.Replays.{Replays}
@@ -13,7 +12,7 @@ use Rattle.xdp_world.proofs.world.World.give.Goals as goal
 pub loop-answer-init : goal.loop-answer-init
 loop-answer-init c =
     let g = c.in_ok-go_on.ensures in
-    record { size = c.go_on.ensures.size; shapes = c.go_on.ensures.shapes; enough = g.enough; pauses = g.pauses; replays = g.replays }
+    record { size = c.go_on.ensures.size; shapes = c.go_on.ensures.shapes; free = g.free; enough = g.enough; pauses = g.pauses; replays = g.replays }
 
 pub has_halted-requires : goal.has_halted-requires
 has_halted-requires c = omega (arith, c.requires.queue, c.loop-answer.invariant.size)
@@ -54,7 +53,10 @@ go_on-requires-in-loop-answer-clause-enough c = λ d.
     let before = c.loop-answer.self.queues.items in
     let after = c.step.new.self.queues.items in
     let answer : ℕ = get_or c.args.answers.now c.loop-answer.answer-index 0 in
-    moved_enough c.args.most answer (get_or before c.args.queue d) (get_or after c.args.queue d) s.event (c.loop-answer.invariant.enough d) (s.moved d)
+    moved_enough c.args.most answer (get_or before c.args.queue d) (get_or after c.args.queue d) s.event (c.loop-answer.invariant.enough d) (s.moved c.loop-answer.invariant.free d)
+
+pub go_on-requires-in-loop-answer-clause-free : goal.go_on-requires-in-loop-answer-clause-free
+go_on-requires-in-loop-answer-clause-free c = c.step.ensures.free c.args.queue c.loop-answer.invariant.free
 
 pub returns-in_err-go_on-2-clause-size : goal.returns-in_err-go_on-2-clause-size
 returns-in_err-go_on-2-clause-size c = c.go_on-in-loop-answer.ensures.size ∙ c.step.ensures.size ∙ c.loop-answer.invariant.size
@@ -79,13 +81,14 @@ loop-answer-preserved c =
     let q' = get_or mid.queues.items queue d in
     let answer : ℕ = get_or answers n 0 in
     let away : want_of (rest q) ≡ want.Done → ⊥ = λ e. let t : IsTrue c.has_halted.result = (c.has_halted.ensures d).1 e in cc (t, c.if-has_halted.false) in
-    let one : Replays before mid queue (answer ∷ []) = replays_step before mid queue answer (answer ∷ []) s (read_one answer q q' s.event (i.pauses d) away (s.moved d)) in
+    let one : Replays before mid queue (answer ∷ []) = replays_step before mid queue answer (answer ∷ []) s (read_one answer q q' s.event (i.pauses d) away (s.moved i.free d)) in
     let so_far : Replays c.args.self.now mid queue (take n answers ++ answer ∷ []) = replays_then c.args.self.now before mid queue (take n answers) (answer ∷ []) i.replays one in
     let then : Replays c.args.self.now after queue ((take n answers ++ answer ∷ []) ++ []) = replays_then c.args.self.now mid after queue (take n answers ++ answer ∷ []) [] so_far g.replays in
     let more : (take n answers ++ answer ∷ []) ++ [] ≡ take (n + 1) answers = append-nil (take n answers ++ answer ∷ []) ∙ sym (take_more answers n 0 c.loop-answer-test.true) in
     record {
       size = c.go_on-in-loop-answer.ensures.size ∙ c.step.ensures.size ∙ i.size;
       shapes = c.go_on-in-loop-answer.ensures.shapes ∙ c.step.ensures.shapes ∙ i.shapes;
+      free = g.free;
       enough = g.enough;
       pauses = g.pauses;
       replays = subst (λ (l : List ℕ). Replays c.args.self.now after queue l) more then;

@@ -1,4 +1,4 @@
-use Rattle.std.proofs.Common.{ℕ, ◌≡◌, ◌+◌, ◌-◌, ◌<◌, [], get_or, length, refl, sym, ◌∙◌, subst, inr, arith}
+use Rattle.std.proofs.Common.{ℕ, ◌≡◌, ◌+◌, ◌-◌, ◌<◌, [], get_or, length, refl, ◌∙◌, subst, inr, arith}
 use Rattle.std.specs.Prelude.{IsTrue}
 use Rattle.xen_back.specs.Queues.{rest}
 use Rattle.xen_back.specs.declared.queue.Queue.{Queue}
@@ -14,6 +14,7 @@ loop-event-init c =
     record {
       size = refl;
       shapes = refl;
+      free = c.requires.free;
       enough = c.requires.enough;
       near = λ d. subst (λ (n : ℕ). IsNear n (get_or c.args.self.now.queues.items c.args.queue d)) all (inr (c.requires.enough d).now);
       replays = replays_none c.args.self.now c.args.queue;
@@ -27,6 +28,9 @@ returns-then-has_paused-clause-size c = c.loop-event.invariant.size
 
 pub returns-then-has_paused-clause-shapes : goal.returns-then-has_paused-clause-shapes
 returns-then-has_paused-clause-shapes c = c.loop-event.invariant.shapes
+
+pub returns-then-has_paused-clause-free : goal.returns-then-has_paused-clause-free
+returns-then-has_paused-clause-free c = c.loop-event.invariant.free
 
 pub returns-then-has_paused-clause-enough : goal.returns-then-has_paused-clause-enough
 returns-then-has_paused-clause-enough c = c.loop-event.invariant.enough
@@ -60,10 +64,11 @@ loop-event-preserved c =
     record {
       size = c.step.ensures.size ∙ i.size;
       shapes = c.step.ensures.shapes ∙ i.shapes;
-      enough = λ d. moved_enough c.args.most 0 (q d) (q' d) s.event (i.enough d) (s.moved d);
-      near = λ d. subst (λ (n : ℕ). IsNear n (q' d)) fewer (moved_near left 0 (q d) (q' d) s.event (i.near d) (away d) (s.moved d));
+      free = c.step.ensures.free queue i.free;
+      enough = λ d. moved_enough c.args.most 0 (q d) (q' d) s.event (i.enough d) (s.moved i.free d);
+      near = λ d. subst (λ (n : ℕ). IsNear n (q' d)) fewer (moved_near left 0 (q d) (q' d) s.event (i.near d) (away d) (s.moved i.free d));
       replays = replays_then c.args.self.now before after queue [] [] i.replays
-          (replays_step before after queue 0 [] s (read_none 0 (q d) (q' d) s.event (away d) (s.moved d)));
+          (replays_step before after queue 0 [] s (read_none 0 (q d) (q' d) s.event (away d) (s.moved i.free d)));
     }
 
 pub returns-clause-size : goal.returns-clause-size
@@ -71,6 +76,9 @@ returns-clause-size c = c.loop-event.invariant.size
 
 pub returns-clause-shapes : goal.returns-clause-shapes
 returns-clause-shapes c = c.loop-event.invariant.shapes
+
+pub returns-clause-free : goal.returns-clause-free
+returns-clause-free c = c.loop-event.invariant.free
 
 pub returns-clause-enough : goal.returns-clause-enough
 returns-clause-enough c = c.loop-event.invariant.enough

@@ -1,0 +1,63 @@
+-- What one step does to a queue, with what it is doing, and to the counters.
+use Rattle.std.specs.Prelude.{ℕ, ◌≡◌, ◌≢◌, List, [], ◌∷◌, Option, Some, None, false}
+use Rattle.bpf_maps.specs.Seats.{TotalsView}
+use Rattle.bpf_note.specs.declared.op.Op.{Op}
+use Rattle.xen_steps.specs.Drive.{Goes}
+use Rattle.xen_steps.specs.Event.{Event}
+use Rattle.xen_steps.specs.Steps.{Steps, done, want_of}
+use Rattle.xen_steps.specs.declared.want.Want.TheVariants as want
+use Rattle.xen_back.specs.ByEvent.{left_of}
+use Rattle.xen_back.specs.Deliveries.{Arrival}
+use Rattle.xen_back.specs.Drive.{label_of}
+use Rattle.xen_back.specs.Queues.{IsReady, rest, state_of}
+use Rattle.xen_back.specs.declared.delivery.delivering.Delivery.{Delivery}
+use Rattle.xen_back.specs.declared.delivery.underway.Delivering.{Delivering}
+use Rattle.xen_back.specs.declared.queue.Queue.{Queue}
+use Rattle.xdp_world.specs.Doings.{is_delivery}
+use Rattle.xdp_world.specs.Entries.{Serves}
+use Rattle.xdp_world.specs.Happens.{Happens, Rests}
+use Rattle.xdp_world.specs.declared.doing.Doing.{Doing}
+use Rattle.xdp_world.specs.declared.doing.Doing.TheVariants as doing
+use Rattle.xdp_world.specs.declared.kept.Kept.{Kept}
+use Rattle.xdp_world.specs.declared.report.Delivered.{Delivered}
+
+-- the delivery that is over, if one is, after so many turns
+abbrev pub delivered_list : ℕ → Option Delivery → List Delivered
+delivered_list turns None = []
+delivered_list turns (Some what) = record { turns = turns; delivery = what } ∷ []
+
+-- A delivery of a queue has come to this: it goes on, or it is over, and the queue goes on behind it.
+abbrev pub Lands : Queue → Steps Arrival → Queue → Doing → Option Delivery → Type 0
+Lands old m new after None = (d : Delivering) × (after ≡ doing.Delivery d) × (left_of d ≡ m) × (want_of m ≢ want.Done) ×
+    (state_of new ≡ state_of old)
+Lands old m new after (Some what) = (after ≡ doing.Between) × (m ≡ done (state_of new, what)) × IsReady new
+
+-- One event of a delivery.
+pub record Carries (old : Queue) (from : Delivering) (new : Queue) (after : Doing) (answer : ℕ) (delivery : Option Delivery) : Type 0 where
+  pub event : Event
+  pub mid : Steps Arrival
+  pub goes : Goes (left_of from) event mid
+  pub serves : Serves event answer
+  pub quiet : label_of event ≡ []
+  pub lands : Lands old mid new after delivery
+
+-- what a queue is doing after an event of a turn
+abbrev pub after_turn : Option Kept → Doing
+after_turn None = doing.Turn
+after_turn (Some k) = doing.Between
+
+-- One event of a turn.
+abbrev pub TurnMoves : (old new : Queue) (after : Doing) (c d : TotalsView) (answer : ℕ) (op : Option Op) (kept : Option Kept)
+    (delivery : Option Delivery) → Type 0
+TurnMoves old new after c d answer op kept delivery = Happens old new c d answer op kept × (after ≡ after_turn kept) × (delivery ≡ None)
+
+-- One step, with its event, its counter operation, and the turn or the delivery that is over by it: a queue that has halted does nothing;
+-- a turn goes on; a delivery goes on.
+pub data Moves (old new : Queue) (before after : Doing) (c d : TotalsView) (answer : ℕ) : Option Event → Option Op → Option Kept →
+    Option Delivery → Type 0 where
+  rests : is_delivery (Some before) ≡ false → want_of (rest old) ≡ want.Done → after ≡ before → Rests old new c d →
+      Moves old new before after c d answer None None None None
+  turns : (op : Option Op) (kept : Option Kept) → is_delivery (Some before) ≡ false → after ≡ after_turn kept →
+      (v : Happens old new c d answer op kept) → Moves old new before after c d answer (Some v.event) op kept None
+  carries : (a : Delivering) (delivery : Option Delivery) → before ≡ doing.Delivery a → d ≡ c →
+      (v : Carries old a new after answer delivery) → Moves old new before after c d answer (Some v.event) None None delivery

@@ -1,0 +1,14 @@
+//! What a queue is doing.
+
+use xen_back::Delivering;
+
+/// What a queue is doing.
+#[derive(Drop)]
+pub enum Doing<'p, 'd> {
+    /// Nothing: it is between turns.
+    Between,
+    /// It is inside a turn.
+    Turn,
+    /// A packet of the host's own is being delivered.
+    Delivery(Delivering<'p, 'd>),
+}
