@@ -1,6 +1,6 @@
 //! What the verifier and the interpreter answer of programs, as plain values. A program has one slot per line, with its text
 //! beside it.
-ghost use Rattle.std.specs.Prelude.{◌≡◌, ◌≤◌, IfOk, IfSome, length};
+ghost use Rattle.std.specs.Prelude.{◌≡◌, ◌≤◌, [], IfOk, IfSome, length};
 
 use bpf_insn::{Code, decode};
 use bpf_verify::{Cause, Explained, MapShape, Refusal, Verified, explain, verify};
@@ -82,6 +82,18 @@ pub fn accepted(alloc: Global, slots: &[[u8; 8]], shapes: &[MapShape]) -> Option
     verified(alloc, slots, shapes).ok()
 }
 
+/// A program that is accepted, and a buffer for its packets.
+pub fn ready(alloc: Global, slots: &[[u8; 8]], shapes: &[MapShape]) -> Option<(Verified, Buffer)>
+    requires { length shapes.now ≤ 4 }
+    ensures { IfSome result (λ r. r.0.shapes ≡ shapes.now) }
+{
+    let program = accepted(alloc, slots, shapes)?;
+    match Buffer::make(alloc) {
+        Ok(buffer) => Some((program, buffer)),
+        Err(_) => None,
+    }
+}
+
 /// How many instructions an accepted program has, how many slots, and how many maps.
 pub fn counts(program: &Verified) -> (u32, u32, usize) {
     (
@@ -105,12 +117,37 @@ fn code_of(alloc: Global, bytes: &[u8]) -> Option<Code> {
     decode(alloc, bytes).ok()
 }
 
+/// The code of a program.
+pub fn code(alloc: Global, slots: &[[u8; 8]]) -> Option<Code> {
+    match bytes_of(alloc, slots) {
+        Ok(bytes) => code_of(alloc, &bytes),
+        Err(_) => None,
+    }
+}
+
 /// What [`explain`] says of a program that it refuses, over one map of a value. The program is so many times `r0 = 2`, and
 /// then these slots.
 pub fn explained(alloc: Global, count: usize, slots: &[[u8; 8]]) -> Option<Explained> {
-    let bytes = bytes_after(alloc, count, slots).ok()?;
-    let code = code_of(alloc, &bytes)?;
-    explain(alloc, code, &[MapShape::of(1, 1)?]).err()
+    let shape = MapShape::of(1, 1)?;
+    let code = match bytes_after(alloc, count, slots) {
+        Ok(bytes) => code_of(alloc, &bytes),
+        Err(_) => None,
+    };
+    explain(alloc, code?, &[shape]).err()
+}
+
+fn ended_with(
+    program: &Verified,
+    buffer: &mut Buffer,
+    packet: &[u8],
+    left: &[u8],
+) -> Option<(u32, u32, bool)>
+    requires { program.now.shapes ≡ [] }
+{
+    let packet = PacketBuf::copy(buffer, packet).ok()?;
+    let ended = run_to_end(program, packet, 3, 4);
+    let is_left = ended.packet.bytes() == left;
+    Some((ended.number, ended.instructions, is_left))
 }
 
 /// The number, the instructions, and whether these bytes are left of a packet, at the end of a program without maps. The
@@ -121,13 +158,6 @@ pub fn ended(
     packet: &[u8],
     left: &[u8],
 ) -> Option<(u32, u32, bool)> {
-    let program = accepted(alloc, slots, &[])?;
-    let mut buffer = Buffer::make(alloc).ok()?;
-    let packet = PacketBuf::copy(&mut buffer, packet).ok()?;
-    let ended = run_to_end(&program, packet, 3, 4);
-    Some((
-        ended.number,
-        ended.instructions,
-        ended.packet.bytes() == left,
-    ))
+    let (program, mut buffer) = ready(alloc, slots, &[])?;
+    ended_with(&program, &mut buffer, packet, left)
 }

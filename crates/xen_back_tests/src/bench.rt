@@ -1,5 +1,5 @@
 //! What a queue of the tests stands on.
-ghost use Rattle.std.specs.Prelude.{◌≡◌, ◌≤◌, length, IfOk, true};
+ghost use Rattle.std.specs.Prelude.{◌≡◌, ◌≤◌, length, IfSome, true};
 ghost use Rattle.bpf_maps.specs.Seats.{IsSeatOf};
 ghost use Rattle.xen_back.specs.Queues.{IsReady, wiring_of};
 ghost use Rattle.xen_page.specs.Mapping.{IsMappedBy};
@@ -11,7 +11,6 @@ use bpf_note::MapShape;
 use bpf_verify::{Verified, verify};
 use bpf_vm::Buffer;
 use std::alloc::Global;
-use std::test::Fail;
 use xen_back::{Queue, QueueDesc};
 use xen_page::{Mapped, Owners, ScriptBus, Table, map};
 use xen_ring::Port;
@@ -25,46 +24,34 @@ pub const IFINDEX: u32 = 7;
 
 pub const QUEUE: u32 = 5;
 
-fn owners(alloc: Global) -> Result<Owners, Fail>
-    ensures { IfOk result (λ owners. length owners ≡ 20) }
+fn owners(alloc: Global) -> Option<Owners>
+    ensures { IfSome result (λ owners. length owners ≡ 20) }
 {
     let mut domains = [1; 20];
     domains[0] = 0;
-    Ok(Owners::make(alloc, &domains)?)
+    Owners::make(alloc, &domains).ok()
 }
 
-fn program(alloc: Global, bytes: &[u8], shapes: &[MapShape]) -> Result<Verified, Fail>
+fn program(alloc: Global, bytes: &[u8], shapes: &[MapShape]) -> Option<Verified>
     requires { length shapes.now ≤ 4 }
-    ensures { IfOk result (λ p. p.shapes ≡ shapes.now) }
+    ensures { IfSome result (λ p. p.shapes ≡ shapes.now) }
 {
-    let Ok(code) = decode(alloc, bytes) else {
-        return Err("no code".into());
-    };
-    match verify(alloc, code, shapes) {
-        Ok(program) => Ok(program),
-        Err(_) => Err("no program".into()),
+    match decode(alloc, bytes) {
+        Ok(code) => verify(alloc, code, shapes).ok(),
+        Err(_) => None,
     }
 }
 
 /// The ring under a reference, mapped for writing.
-fn ring(
-    alloc: Global,
-    owners: &Owners,
-    table: &Table,
-    gref: u32,
-    frame: u32,
-) -> Result<Mapped, Fail>
+fn ring(alloc: Global, owners: &Owners, table: &Table, gref: u32, frame: u32) -> Option<Mapped>
     requires { IsTable owners.now 1 table.now }
-    ensures { IfOk result (λ m. IsMappedBy owners.now 1 m × (m.write ≡ true)) }
+    ensures { IfSome result (λ m. IsMappedBy owners.now 1 m × (m.write ≡ true)) }
 {
     if !table.is_within(FRAMES) {
-        return Err("no table".into());
+        return None;
     }
-    let mut bus = ScriptBus::make(alloc, FRAMES, &[1, frame, 1], 0)?;
-    match map(&mut bus, table, owners, 1, 0, gref, true) {
-        Ok(mapped) => Ok(mapped),
-        Err(_) => Err("no ring".into()),
-    }
+    let mut bus = ScriptBus::make(alloc, FRAMES, &[1, frame, 1], 0).ok()?;
+    map(&mut bus, table, owners, 1, 0, gref, true).ok()
 }
 
 /// What a queue stands on: the frames' owners, the frontend's table, in frame 1, and the program.
@@ -78,18 +65,20 @@ pub struct Bench {
 }
 
 impl Bench {
-    pub fn make(alloc: Global, bytes: &[u8], shapes: &[MapShape]) -> Result<Bench, Fail>
+    pub fn make(alloc: Global, bytes: &[u8], shapes: &[MapShape]) -> Option<Bench>
         requires { length shapes.now ≤ 4 }
-        ensures { IfOk result (λ bench. bench.program.shapes ≡ shapes.now) }
+        ensures { IfSome result (λ bench. bench.program.shapes ≡ shapes.now) }
     {
         let owners = owners(alloc)?;
-        let table = Table::make(&owners, 1, &[1]).ok_or("no table")?;
-        let program = program(alloc, bytes, shapes)?;
-        Ok(Bench {
-            owners,
-            table,
-            program,
-        })
+        let table = Table::make(&owners, 1, &[1])?;
+        match program(alloc, bytes, shapes) {
+            Some(program) => Some(Bench {
+                owners,
+                table,
+                program,
+            }),
+            None => None,
+        }
     }
 
     /// A queue between turns, of which both rings are at `start`.
@@ -98,10 +87,10 @@ impl Bench {
         alloc: Global,
         start: u32,
         buffer: &'b mut Buffer,
-    ) -> Result<Queue<'p, 'b>, Fail>
-        ensures ready { IfOk result IsReady }
-        ensures owners { IfOk result (λ q. length (wiring_of q).vif.owners.now ≡ 20) }
-        ensures program { IfOk result (λ q. (wiring_of q).program.now.shapes ≡ self.now.program.shapes) }
+    ) -> Option<Queue<'p, 'b>>
+        ensures ready { IfSome result IsReady }
+        ensures owners { IfSome result (λ q. length (wiring_of q).vif.owners.now ≡ 20) }
+        ensures program { IfSome result (λ q. (wiring_of q).program.now.shapes ≡ self.now.program.shapes) }
     {
         let desc = QueueDesc {
             tx: ring(alloc, &self.owners, &self.table, 0, 17)?,
@@ -112,20 +101,34 @@ impl Bench {
             user: 0,
             ifindex: IFINDEX,
             queue: QUEUE,
-            port: Port::of(1).ok_or("no port")?,
+            port: Port::of(1)?,
             start,
         };
-        Ok(Queue::make(&self.program, desc, buffer))
+        Some(Queue::make(&self.program, desc, buffer))
+    }
+}
+
+/// What a queue stands on, and a buffer for its packets.
+pub fn ready(alloc: Global, bytes: &[u8], shapes: &[MapShape]) -> Option<(Bench, Buffer)>
+    requires { length shapes.now ≤ 4 }
+    ensures { IfSome result (λ r. r.0.program.shapes ≡ shapes.now) }
+{
+    let bench = Bench::make(alloc, bytes, shapes)?;
+    match Buffer::make(alloc) {
+        Ok(buffer) => Some((bench, buffer)),
+        Err(_) => None,
     }
 }
 
 /// Counters that are 0, and their only seat.
-pub fn seated(alloc: Global, shapes: &[MapShape]) -> Result<(Counters, CounterSeat), Fail>
+pub fn seated(alloc: Global, shapes: &[MapShape]) -> Option<(Counters, CounterSeat)>
     requires { length shapes.now ≤ 4 }
-    ensures shapes { IfOk result (λ r. r.0.shapes ≡ shapes.now) }
-    ensures seat { IfOk result (λ r. IsSeatOf r.0 r.1) }
+    ensures shapes { IfSome result (λ r. r.0.shapes ≡ shapes.now) }
+    ensures seat { IfSome result (λ r. IsSeatOf r.0 r.1) }
 {
-    let (counters, mut seats) = Counters::make(alloc, shapes, 1)?;
-    let seat = seats.pop().ok_or("no seat")?;
-    Ok((counters, seat))
+    let (counters, mut seats) = Counters::make(alloc, shapes, 1).ok()?;
+    match seats.pop() {
+        Some(seat) => Some((counters, seat)),
+        None => None,
+    }
 }

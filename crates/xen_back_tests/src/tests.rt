@@ -4,6 +4,7 @@ mod awaits;
 mod bounds;
 mod chains;
 mod copies;
+mod delivered;
 mod deliveries;
 mod driving;
 mod fixtures;

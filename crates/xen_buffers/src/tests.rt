@@ -2,14 +2,13 @@
 
 use crate::{Buffer, FrontDesc, Wiring, buffer_of, grant_flags, grant_frame};
 use std::alloc::Global;
-use std::test::Fail;
 use xen_page::{Owners, Place, Table};
 use xen_ring::Port;
 
 /// A table in frames 1 and 2 of ten.
-fn table(alloc: Global) -> Result<Table, Fail> {
-    let owners = Owners::make(alloc, &[1; 10])?;
-    Ok(Table::make(&owners, 1, &[1, 2]).ok_or("a table")?)
+fn table(alloc: Global) -> Option<Table> {
+    let owners = Owners::make(alloc, &[1; 10]).ok()?;
+    Table::make(&owners, 1, &[1, 2])
 }
 
 /// Buffers with the references from `first` on, reference g being of frame 17 + g.
@@ -33,7 +32,7 @@ fn is_wired(
     rx: &[Buffer],
     rings: [u32; 2],
     frames: u32,
-) -> Result<bool, Fail> {
+) -> Option<bool> {
     let table = table(alloc)?;
     let [tx_frame, rx_frame] = rings;
     let desc = FrontDesc {
@@ -44,10 +43,10 @@ fn is_wired(
         tx,
         rx,
         back: 0,
-        port: Port::of(1).ok_or("a port")?,
+        port: Port::of(1)?,
         start: 0,
     };
-    Ok(desc.is_wired())
+    Some(desc.is_wired())
 }
 
 /// The buffers without the first.
@@ -67,61 +66,58 @@ fn with(buffers: &[Buffer; 256], id: usize, buffer: Buffer) -> [Buffer; 256] {
     changed
 }
 
-#[test]
-fn distinct_pages_in_the_table_and_on_the_bus(rt: HostRuntime) -> Result<(), Fail> {
-    let alloc = rt.alloc();
+/// Whether a front may be made with the tests' buffers, these ring pages and a bus of so many frames.
+fn is_wired_with(alloc: Global, rings: [u32; 2], frames: u32) -> Option<bool> {
+    is_wired(alloc, &buffers(2), &buffers(258), rings, frames)
+}
+
+/// The same where one of the lists has other buffers: without the first tx buffer, without the first rx buffer, and with the tx
+/// buffers as both.
+fn are_lists_wired(alloc: Global) -> [Option<bool>; 3] {
     let (tx, rx) = (buffers(2), buffers(258));
-    assert!(rt; is_wired(alloc, &tx, &rx, [17, 18], 531)?);
-    assert!(rt;
-        !is_wired(alloc, &tx, &rx, [17, 18], 530)?,
-        "the last frame is 530"
-    );
-    assert!(rt;
-        !is_wired(alloc, all_but_one(&tx), &rx, [17, 18], 531)?,
-        "255 tx buffers"
-    );
-    assert!(rt;
-        !is_wired(alloc, &tx, all_but_one(&rx), [17, 18], 531)?,
-        "255 rx buffers"
-    );
-    assert!(rt;
-        !is_wired(alloc, &tx, &rx, [17, 17], 531)?,
-        "one page for both rings"
-    );
-    assert!(rt;
-        !is_wired(alloc, &tx, &rx, [17, 2], 531)?,
-        "a page of the table"
-    );
-    assert!(rt;
-        !is_wired(alloc, &tx, &rx, [17, 530], 531)?,
-        "a page of a buffer"
-    );
-    assert!(rt;
-        !is_wired(alloc, &tx, &tx, [17, 18], 531)?,
-        "the same buffers twice"
-    );
-    let frame = 531;
-    let outside = with(&rx, 255, Buffer { gref: 1024, frame });
-    assert!(rt;
-        !is_wired(alloc, &tx, &outside, [17, 18], 532)?,
-        "reference 1,024"
-    );
-    let last = with(&rx, 255, Buffer { gref: 1023, frame });
-    assert!(rt;
-        is_wired(alloc, &tx, &last, [17, 18], 532)?,
-        "reference 1,023"
-    );
-    let again = with(&rx, 255, Buffer { gref: 2, frame });
-    assert!(rt;
-        !is_wired(alloc, &tx, &again, [17, 18], 532)?,
-        "reference 2 twice"
-    );
-    Ok(())
+    [
+        is_wired(alloc, all_but_one(&tx), &rx, [17, 18], 531),
+        is_wired(alloc, &tx, all_but_one(&rx), [17, 18], 531),
+        is_wired(alloc, &tx, &tx, [17, 18], 531),
+    ]
+}
+
+/// The same where the last rx buffer is of frame 531 and has this reference.
+fn is_last_wired(alloc: Global, gref: u32) -> Option<bool> {
+    let rx = with(&buffers(258), 255, Buffer { gref, frame: 531 });
+    is_wired(alloc, &buffers(2), &rx, [17, 18], 532)
 }
 
 #[test]
-fn grants_have_their_words(rt: HostRuntime) -> Result<(), Fail> {
-    let table = table(rt.alloc())?;
+fn distinct_pages_in_the_table_and_on_the_bus(rt: HostRuntime) {
+    let alloc = rt.alloc();
+    // the last frame is 530
+    let by_bus = [
+        is_wired_with(alloc, [17, 18], 531),
+        is_wired_with(alloc, [17, 18], 530),
+    ];
+    assert_eq!(rt; by_bus, [Some(true), Some(false)]);
+    // one page for both rings, a page of the table, and a page of a buffer
+    let by_rings = [
+        is_wired_with(alloc, [17, 17], 531),
+        is_wired_with(alloc, [17, 2], 531),
+        is_wired_with(alloc, [17, 530], 531),
+    ];
+    assert_eq!(rt; by_rings, [Some(false); 3]);
+    // 255 tx buffers, 255 rx buffers, and the same buffers twice
+    assert_eq!(rt; are_lists_wired(alloc), [Some(false); 3]);
+    // past the table, the table's last one, and one that a tx buffer has
+    let by_reference = [
+        is_last_wired(alloc, 1024),
+        is_last_wired(alloc, 1023),
+        is_last_wired(alloc, 2),
+    ];
+    assert_eq!(rt; by_reference, [Some(false), Some(true), Some(false)]);
+}
+
+/// The last rx buffer, and where the two words of its grant lie.
+fn last_grant(alloc: Global) -> Option<(Buffer, [Place; 2])> {
+    let table = table(alloc)?;
     let (tx, rx) = (buffers(2), buffers(258));
     let wiring = Wiring {
         frames: 531,
@@ -131,13 +127,19 @@ fn grants_have_their_words(rt: HostRuntime) -> Result<(), Fail> {
         tx: &tx,
         rx: &rx,
         back: 0,
-        port: Port::of(1).ok_or("a port")?,
+        port: Port::of(1)?,
     };
     let buffer = buffer_of(&rx, 255);
-    let gref = 513;
-    assert_eq!(rt; buffer, Buffer { gref, frame: 530 });
-    let flags = Place { frame: 2, word: 2 };
-    assert_eq!(rt; grant_flags(&wiring, &buffer), flags);
-    assert_eq!(rt; grant_frame(&wiring, &buffer), Place { frame: 2, word: 3 });
-    Ok(())
+    let words = [grant_flags(&wiring, &buffer), grant_frame(&wiring, &buffer)];
+    Some((buffer, words))
+}
+
+#[test]
+fn grants_have_their_words(rt: HostRuntime) {
+    let buffer = Buffer {
+        gref: 513,
+        frame: 530,
+    };
+    let words = [Place { frame: 2, word: 2 }, Place { frame: 2, word: 3 }];
+    assert_eq!(rt; last_grant(rt.alloc()), Some((buffer, words)));
 }

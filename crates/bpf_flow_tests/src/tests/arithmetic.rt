@@ -8,7 +8,6 @@ use bpf_flow::{Successors, after};
 use bpf_insn::{AluOp, Insn, Operand, Register, Size, SwapKind, Width};
 use bpf_note::{MapShape, Note, PACKET_ID, Val};
 use std::alloc::{AllocError, Global};
-use std::test::Fail;
 
 const HALF_FULL: Val = Val::Num {
     lo: 0,
@@ -169,15 +168,17 @@ fn before_a_sum(alloc: Global) -> Result<Note, AllocError> {
 }
 
 /// After `dst += src`: `dst`, `r4`, `r5`, `r6`, stack slot 3, and the bounds of id 7.
-fn sum(
-    alloc: Global,
-    note: &Note,
-    dst: Register,
-    src: Register,
-) -> Option<([Val; 4], Option<Val>, u32, Option<u32>)> {
+type Sum = ([Val; 4], Option<Val>, u32, Option<u32>);
+
+fn sum(alloc: Global, note: &Note, dst: Register, src: Register) -> Option<Sum> {
     match alu(alloc, note, AluOp::Add, true, dst, Operand::Register(src)) {
         Ok(Successors::One(next)) if next.pc == 8 => {
-            let known = [dst.number(), 4, 5, 6].map(|number| next.note.register(number));
+            let known = [
+                next.note.register(dst.number()),
+                next.note.register(4),
+                next.note.register(5),
+                next.note.register(6),
+            ];
             let (top, safe) = (next.note.top(7), next.note.safe(7));
             Some((known, next.note.kept(3), top, safe))
         }
@@ -185,27 +186,37 @@ fn sum(
     }
 }
 
+/// The same after `r2 += r3`, and after `r3 += r2`.
+fn sums(alloc: Global) -> Option<[Option<Sum>; 2]> {
+    let note = before_a_sum(alloc).ok()?;
+    Some([
+        sum(alloc, &note, Register::R2, Register::R3),
+        sum(alloc, &note, Register::R3, Register::R2),
+    ])
+}
+
 #[test]
-fn a_sum_with_a_range_has_an_id_of_its_own(rt: HostRuntime) -> Result<(), Fail> {
-    let note = before_a_sum(rt.alloc())?;
+fn a_sum_with_a_range_has_an_id_of_its_own(rt: HostRuntime) {
     let fresh = Val::Pkt { id: 7, off: 0 };
     let known = [fresh, Val::FULL, Val::Pkt { id: 6, off: 2 }, Val::FULL];
     let wanted = Some((known, Some(Val::FULL), 74, None));
-    let (r2, r3) = (Register::R2, Register::R3);
-    assert!(rt; sum(rt.alloc(), &note, r2, r3) == wanted);
-    assert!(rt; sum(rt.alloc(), &note, r3, r2) == wanted);
-    Ok(())
+    assert!(rt; sums(rt.alloc()) == Some([wanted; 2]));
 }
 
-/// After a sum of an address, whose base is at most `top`, and a range up to `hi`: `r2`, the greatest base of id 7, and
-/// `r4`, which had that id.
-fn base(alloc: Global, top: u32, off: u16, hi: u64) -> Option<(Val, u32, Val)> {
+/// An address, whose base is at most `top`, in `r2`, a range up to `hi` in `r3`, and an address with id 7 in `r4`.
+fn before_a_base(alloc: Global, top: u32, off: u16, hi: u64) -> Result<Note, AllocError> {
     let mut note = Note::entry(alloc);
-    note.set_top(5, top).ok()?;
-    note.set_top(7, 9).ok()?;
     note.set_register(2, Val::Pkt { id: 5, off });
     note.set_register(3, range(0, hi));
     note.set_register(4, Val::Pkt { id: 7, off: 0 });
+    note.set_top(5, top)?;
+    note.set_top(7, 9)?;
+    Ok(note)
+}
+
+/// After the sum of `r2` and `r3`: `r2`, the greatest base of id 7, and `r4`, which had that id.
+fn base(alloc: Global, top: u32, off: u16, hi: u64) -> Option<(Val, u32, Val)> {
+    let note = before_a_base(alloc, top, off, hi).ok()?;
     let src = Operand::Register(Register::R3);
     match alu(alloc, &note, AluOp::Add, true, Register::R2, src) {
         Ok(Successors::One(next)) if next.pc == 8 => {

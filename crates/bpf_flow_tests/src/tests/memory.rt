@@ -107,19 +107,29 @@ fn kept_and_loaded(
     }
 }
 
+/// What slot 62 keeps, and what loads of eight bytes and of four from it give.
+fn loaded_context(alloc: Global, whole: &Note) -> [Option<Val>; 3] {
+    [
+        whole.kept(62),
+        register_after(load(alloc, whole, Size::Double, R10, -16), 0),
+        register_after(load(alloc, whole, Size::Word, R10, -16), 0),
+    ]
+}
+
+/// The same where it keeps the context, and what it keeps and a load of a byte gives after a store of five.
+fn context_and_five(alloc: Global) -> Option<([Option<Val>; 3], [Option<Val>; 2])> {
+    let whole = kept_context(alloc).ok()?;
+    match kept_and_loaded(alloc, &whole, (Size::Double, -16), Size::Byte) {
+        Some((kept, loaded)) => Some((loaded_context(alloc, &whole), [kept, loaded])),
+        None => None,
+    }
+}
+
 #[test]
-fn a_slot_keeps_what_is_stored_to_the_whole_of_it(rt: HostRuntime) -> Result<(), Fail> {
-    let alloc = rt.alloc();
-    let whole = kept_context(alloc)?;
-    assert_eq!(rt; whole.kept(62), Some(Val::Ctx));
-    let loaded = [Size::Double, Size::Word].map(|size| register_after(
-        load(alloc, &whole, size, R10, -16),
-        0,
-    ));
-    assert_eq!(rt; loaded, [Some(Val::Ctx), Some(range(0, 0xffff_ffff))]);
-    let five = kept_and_loaded(alloc, &whole, (Size::Double, -16), Size::Byte);
-    assert_eq!(rt; five, Some((Some(exactly(5)), Some(range(0, 0xff)))));
-    Ok(())
+fn a_slot_keeps_what_is_stored_to_the_whole_of_it(rt: HostRuntime) {
+    let context = [Some(Val::Ctx), Some(Val::Ctx), Some(range(0, 0xffff_ffff))];
+    let five = [Some(exactly(5)), Some(range(0, 0xff))];
+    assert_eq!(rt; context_and_five(rt.alloc()), Some((context, five)));
 }
 
 #[test]
@@ -219,23 +229,25 @@ fn packet_refusals(alloc: Global, note: &Note, size: Size, off: i16) -> [Option<
     ]
 }
 
+/// Those loads of the last bytes, those causes of one byte further on, and whether a store leads on.
+type Reached = ([Option<Val>; 2], [Option<Cause>; 2], bool);
+
+fn reached(alloc: Global, size: Size, bytes: i16) -> Option<Reached> {
+    let note = eight_bytes(alloc).ok()?;
+    Some((
+        packet_loads(alloc, &note, size, 8i16.wrapping_sub(bytes)),
+        packet_refusals(alloc, &note, size, 9i16.wrapping_sub(bytes)),
+        leads_on(store(alloc, &note, size, R2, 0, R1), 8, &note),
+    ))
+}
+
 #[test]
-fn loads_from_the_packet(rt: HostRuntime) -> Result<(), Fail> {
-    let note = eight_bytes(rt.alloc())?;
+fn loads_from_the_packet(rt: HostRuntime) {
     for (size, bytes, most) in SIZES {
-        let loaded = packet_loads(rt.alloc(), &note, size, 8 - bytes);
-        same(
-            &rt,
-            &size,
-            &loaded,
-            &[Some(range(0, most)), Some(Val::FULL)],
-        );
-        let is_stored = leads_on(store(rt.alloc(), &note, size, R2, 0, R1), 8, &note);
-        same(&rt, &size, &is_stored, &true);
-        let refused = packet_refusals(rt.alloc(), &note, size, 9 - bytes);
-        same(&rt, &size, &refused, &[Some(Cause::Packet); 2]);
+        let loaded = [Some(range(0, most)), Some(Val::FULL)];
+        let wanted = Some((loaded, [Some(Cause::Packet); 2], true));
+        same(&rt, &size, &reached(rt.alloc(), size, bytes), &wanted);
     }
-    Ok(())
 }
 
 /// The causes against a load and two stores of eight bytes through a value.

@@ -1,26 +1,35 @@
 //! Two seats on one thread.
 use crate::{Counters, MapShape};
+use std::alloc::Global;
 use std::test::Fail;
 
-#[test]
-fn a_sum_wraps_and_two_seats_meet(rt: HostRuntime) -> Result<(), Fail> {
+/// What two adds of two seats to one counter find, and two loads of it and of another one; and their totals. None without a
+/// seat.
+fn two_seats(alloc: Global) -> Result<Option<([u64; 4], [u64; 2])>, Fail> {
     let shapes = [MapShape::of(2, 3).ok_or("shape")?];
-    let (counters, mut seats) = Counters::make(rt.alloc(), &shapes, 2)?;
+    let (counters, mut seats) = Counters::make(alloc, &shapes, 2)?;
     let Some(mut second) = seats.pop() else {
-        panic!(rt; "no seat");
+        return Ok(None);
     };
     let Some(mut first) = seats.pop() else {
-        panic!(rt; "one seat alone");
+        return Ok(None);
     };
-    assert_eq!(rt; counters.add(&mut first, 0, 1, 2, u64::MAX), 0);
-    assert_eq!(rt; counters.add(&mut second, 0, 1, 2, 2), u64::MAX);
-    assert_eq!(rt; counters.load(&mut first, 0, 1, 2), 1);
-    assert_eq!(rt; counters.load(&mut first, 0, 1, 1), 0);
+    let found = [
+        counters.add(&mut first, 0, 1, 2, u64::MAX),
+        counters.add(&mut second, 0, 1, 2, 2),
+        counters.load(&mut first, 0, 1, 2),
+        counters.load(&mut first, 0, 1, 1),
+    ];
     let (first, second) = counters.meet(first, second);
     seats.push(first)?;
     seats.push(second)?;
     let totals = counters.close(seats);
-    assert_eq!(rt; totals.at(0, 1, 2), 1);
-    assert_eq!(rt; totals.at(0, 1, 1), 0);
+    Ok(Some((found, [totals.at(0, 1, 2), totals.at(0, 1, 1)])))
+}
+
+#[test]
+fn a_sum_wraps_and_two_seats_meet(rt: HostRuntime) -> Result<(), Fail> {
+    let found = two_seats(rt.alloc())?;
+    assert_eq!(rt; found, Some(([0, u64::MAX, 1, 0], [1, 0])));
     Ok(())
 }

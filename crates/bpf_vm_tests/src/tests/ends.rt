@@ -1,5 +1,6 @@
 //! The end of a run that is driven by hand.
-use crate::programs::accepted;
+use crate::programs::ready;
+use bpf_verify::Verified;
 use bpf_vm::{Buffer, PacketBuf, Vm, VmWant};
 use std::alloc::Global;
 
@@ -18,17 +19,21 @@ const STORES: [[u8; 8]; 9] = [
 ];
 
 /// The number, the instructions and the packet's first byte.
-fn ended(alloc: Global) -> Option<(u32, u32, Option<u8>)> {
-    let program = accepted(alloc, &STORES, &[])?;
-    let mut buffer = Buffer::make(alloc).ok()?;
-    let packet = PacketBuf::copy(&mut buffer, &[5, 6]).ok()?;
-    let mut vm = Vm::start(&program, packet, 3, 4);
+fn ended_by_hand(program: &Verified, buffer: &mut Buffer) -> Option<(u32, u32, Option<u8>)> {
+    let packet = PacketBuf::copy(buffer, &[5, 6]).ok()?;
+    let mut vm = Vm::start(program, packet, 3, 4);
     let VmWant::Exit { .. } = vm.advance() else {
         return None;
     };
     let ended = vm.end();
     let first = ended.packet.bytes().first().copied();
     Some((ended.number, ended.instructions, first))
+}
+
+/// The same of [`STORES`].
+fn ended(alloc: Global) -> Option<(u32, u32, Option<u8>)> {
+    let (program, mut buffer) = ready(alloc, &STORES, &[])?;
+    ended_by_hand(&program, &mut buffer)
 }
 
 #[test]

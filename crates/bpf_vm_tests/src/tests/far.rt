@@ -121,77 +121,67 @@ const ARGUMENT: [[u8; 8]; 3] = [
     [0x95, 0, 0, 0, 0, 0, 0, 0], // exit
 ];
 
+/// A program's last slots, its refusal, and what it shows.
+const CAUSES: [(&[[u8; 8]], (Cause, u32, bool), &str); 14] = [
+    (
+        &OUT,
+        (Cause::Target, 4000, false),
+        "a jump out of the program",
+    ),
+    (
+        &CYCLE,
+        (Cause::BackJump, 4000, false),
+        "a jump that closes a cycle",
+    ),
+    (&END, (Cause::End, 4000, false), "an end without an exit"),
+    (&UNSET, (Cause::Unset, 4000, true), "an unset register"),
+    (
+        &FRAME,
+        (Cause::FramePointer, 4000, true),
+        "a write to the frame pointer",
+    ),
+    (
+        &NUMBER,
+        (Cause::NoPointer, 4000, true),
+        "a load through a number",
+    ),
+    (
+        &PACKET,
+        (Cause::Packet, 4001, true),
+        "a load past the packet",
+    ),
+    (&STACK, (Cause::Stack, 4000, true), "a load of unset stack"),
+    (
+        &CONTEXT,
+        (Cause::Context, 4000, true),
+        "a load of part of a field",
+    ),
+    (
+        &NULL,
+        (Cause::MayBeNull, 4006, true),
+        "a load through what may be null",
+    ),
+    (
+        &COUNTER,
+        (Cause::MapAccess, 4007, true),
+        "a load of half a counter",
+    ),
+    (
+        &HELPER,
+        (Cause::Helper, 4000, true),
+        "a helper that is not known",
+    ),
+    (&MAP, (Cause::MapNumber, 4000, false), "a map past the last"),
+    (
+        &ARGUMENT,
+        (Cause::Argument, 4001, true),
+        "a lookup in the context",
+    ),
+];
+
 #[test]
 fn each_cause_has_its_slot(rt: HostRuntime) {
-    let rows = [
-        (
-            &OUT[..],
-            (Cause::Target, 4000, false),
-            "a jump out of the program",
-        ),
-        (
-            &CYCLE[..],
-            (Cause::BackJump, 4000, false),
-            "a jump that closes a cycle",
-        ),
-        (
-            &END[..],
-            (Cause::End, 4000, false),
-            "an end without an exit",
-        ),
-        (&UNSET[..], (Cause::Unset, 4000, true), "an unset register"),
-        (
-            &FRAME[..],
-            (Cause::FramePointer, 4000, true),
-            "a write to the frame pointer",
-        ),
-        (
-            &NUMBER[..],
-            (Cause::NoPointer, 4000, true),
-            "a load through a number",
-        ),
-        (
-            &PACKET[..],
-            (Cause::Packet, 4001, true),
-            "a load past the packet",
-        ),
-        (
-            &STACK[..],
-            (Cause::Stack, 4000, true),
-            "a load of unset stack",
-        ),
-        (
-            &CONTEXT[..],
-            (Cause::Context, 4000, true),
-            "a load of part of a field",
-        ),
-        (
-            &NULL[..],
-            (Cause::MayBeNull, 4006, true),
-            "a load through what may be null",
-        ),
-        (
-            &COUNTER[..],
-            (Cause::MapAccess, 4007, true),
-            "a load of half a counter",
-        ),
-        (
-            &HELPER[..],
-            (Cause::Helper, 4000, true),
-            "a helper that is not known",
-        ),
-        (
-            &MAP[..],
-            (Cause::MapNumber, 4000, false),
-            "a map past the last",
-        ),
-        (
-            &ARGUMENT[..],
-            (Cause::Argument, 4001, true),
-            "a lookup in the context",
-        ),
-    ];
-    for (tail, wanted, text) in rows {
-        assert_eq!(rt; refused_after(rt.alloc(), tail), Some(wanted), "{text}");
+    for (tail, wanted, text) in CAUSES {
+        assert!(rt; refused_after(rt.alloc(), tail) == Some(wanted), "{text}");
     }
 }

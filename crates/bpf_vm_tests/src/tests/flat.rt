@@ -1,6 +1,9 @@
 //! Each instruction by single steps, and by the loop, which goes by the instructions' flat forms. A program has one slot per
 //! line, with its text beside it.
-use crate::programs::accepted;
+ghost use Rattle.std.specs.Prelude.{◌≡◌, []};
+
+use crate::programs::ready;
+use bpf_verify::Verified;
 use bpf_vm::{Buffer, Ended, PacketBuf, Vm, VmWant, run_to_end};
 use std::alloc::Global;
 
@@ -35,17 +38,26 @@ fn stepped<'b>(start: Vm<'_, 'b>) -> Option<Ended<'b>> {
 }
 
 /// Whether a run by single steps and one by the loop end alike: number, instructions and packet.
-fn both(alloc: Global, slots: &[[u8; 8]]) -> Option<bool> {
-    let program = accepted(alloc, slots, &[])?;
-    let (mut first, mut second) = (Buffer::make(alloc).ok()?, Buffer::make(alloc).ok()?);
-    let packet = PacketBuf::copy(&mut first, &PACKET).ok()?;
-    let slow = stepped(Vm::start(&program, packet, 3, 4))?;
-    let fast = run_to_end(&program, PacketBuf::copy(&mut second, &PACKET).ok()?, 3, 4);
+fn alike(program: &Verified, first: &mut Buffer, second: &mut Buffer) -> Option<bool>
+    requires { program.now.shapes ≡ [] }
+{
+    let packet = PacketBuf::copy(first, &PACKET).ok()?;
+    let slow = stepped(Vm::start(program, packet, 3, 4))?;
+    let fast = run_to_end(program, PacketBuf::copy(second, &PACKET).ok()?, 3, 4);
     Some(
         slow.number == fast.number
             && slow.instructions == fast.instructions
             && slow.packet.bytes() == fast.packet.bytes(),
     )
+}
+
+/// The same of a program.
+fn both(alloc: Global, slots: &[[u8; 8]]) -> Option<bool> {
+    let (program, mut first) = ready(alloc, slots, &[])?;
+    match Buffer::make(alloc) {
+        Ok(mut second) => alike(&program, &mut first, &mut second),
+        Err(_) => None,
+    }
 }
 
 /// An operation on two numbers of 64 bits, whose upper half it brings into the number that is returned.
@@ -70,11 +82,14 @@ fn operations_by_steps_and_by_the_loop(rt: HostRuntime) {
     for code in OPERATIONS {
         for width in [4u8, 7] {
             let constant = [code | width, 0, 0, 0, 9, 0, 0, 0];
-            assert_eq!(rt; operation(rt.alloc(), constant), Some(true));
             let negative = [code | width, 0, 0, 0, 0xf9, 0xff, 0xff, 0xff];
-            assert_eq!(rt; operation(rt.alloc(), negative), Some(true));
             let register = [code | width | 8, 0x20, 0, 0, 0, 0, 0, 0];
-            assert_eq!(rt; operation(rt.alloc(), register), Some(true));
+            let found = [
+                operation(rt.alloc(), constant),
+                operation(rt.alloc(), negative),
+                operation(rt.alloc(), register),
+            ];
+            assert!(rt; found == [Some(true); 3], "{code} {width}");
         }
     }
 }
@@ -100,8 +115,11 @@ fn conditions_by_steps_and_by_the_loop(rt: HostRuntime) {
             let constant = [code | width, 0, 1, 0, 5, 0, 0, 0];
             let register = [code | width | 8, 0x20, 1, 0, 0, 0, 0, 0];
             for (low, rest) in [(4u8, 0u8), (5, 0), (6, 0), (0xf9, 0xff)] {
-                assert_eq!(rt; comparison(rt.alloc(), low, rest, constant), Some(true));
-                assert_eq!(rt; comparison(rt.alloc(), low, rest, register), Some(true));
+                let found = [
+                    comparison(rt.alloc(), low, rest, constant),
+                    comparison(rt.alloc(), low, rest, register),
+                ];
+                assert!(rt; found == [Some(true); 2], "{code} {width} {low}");
             }
         }
     }

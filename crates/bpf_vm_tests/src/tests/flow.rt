@@ -68,33 +68,35 @@ const LOOP_AND_FAR_JUMP: [[u8; 8]; 3] = [
     [0x95, 0, 0, 0, 0, 0, 0, 0], // exit
 ];
 
+/// A program, its refusal, and what it shows.
+const FIRST: [(&[[u8; 8]], Option<(Cause, u32)>, &str); 5] = [
+    (&THERE_AND_BACK, None, "a backward jump without a cycle"),
+    (
+        &TEN_TIMES,
+        Some((Cause::BackJump, 2)),
+        "a loop that would end",
+    ),
+    (
+        &LOOP_AT_THE_END,
+        Some((Cause::BackJump, 0)),
+        "a cycle before a missing end",
+    ),
+    (
+        &MAP_AT_THE_END,
+        Some((Cause::End, 0)),
+        "a missing end before a map number",
+    ),
+    (
+        &LOOP_AND_FAR_JUMP,
+        Some((Cause::BackJump, 0)),
+        "a target at a higher slot comes after a cycle",
+    ),
+];
+
 #[test]
 fn the_first_refusal(rt: HostRuntime) {
-    let rows = [
-        (&THERE_AND_BACK[..], None, "a backward jump without a cycle"),
-        (
-            &TEN_TIMES[..],
-            Some((Cause::BackJump, 2)),
-            "a loop that would end",
-        ),
-        (
-            &LOOP_AT_THE_END[..],
-            Some((Cause::BackJump, 0)),
-            "a cycle before a missing end",
-        ),
-        (
-            &MAP_AT_THE_END[..],
-            Some((Cause::End, 0)),
-            "a missing end before a map number",
-        ),
-        (
-            &LOOP_AND_FAR_JUMP[..],
-            Some((Cause::BackJump, 0)),
-            "a target at a higher slot comes after a cycle",
-        ),
-    ];
-    for (slots, wanted, text) in rows {
-        assert_eq!(rt; refusal(rt.alloc(), slots, &[]), wanted, "{text}");
+    for (slots, wanted, text) in FIRST {
+        assert!(rt; refusal(rt.alloc(), slots, &[]) == wanted, "{text}");
     }
 }
 

@@ -1,7 +1,7 @@
 //! Keys past a map's end, and the numbers of counters.
-use crate::programs::accepted;
+use crate::programs::ready;
 use bpf_verify::MapShape;
-use bpf_vm::{Buffer, PacketBuf, Vm, VmWant};
+use bpf_vm::{PacketBuf, Vm, VmWant};
 use std::alloc::Global;
 
 /// The number of a machine at its exit.
@@ -15,8 +15,7 @@ fn number_at_exit(mut vm: Vm<'_, '_>) -> Option<u32> {
 /// The number of a program over two maps of one counter each, which it doesn't ask for.
 fn number_of(alloc: Global, slots: &[[u8; 8]]) -> Option<u32> {
     let shape = MapShape::of(1, 1)?;
-    let program = accepted(alloc, slots, &[shape, shape])?;
-    let mut buffer = Buffer::make(alloc).ok()?;
+    let (program, mut buffer) = ready(alloc, slots, &[shape, shape])?;
     number_at_exit(Vm::start(&program, PacketBuf::empty(&mut buffer), 0, 0))
 }
 
@@ -35,16 +34,19 @@ fn looked_up(alloc: Global, key: [u8; 4]) -> Option<u32> {
     number_of(alloc, &slots)
 }
 
+/// A key's bytes, and what its lookup gives.
+const KEYS: [([u8; 4], u32); 5] = [
+    ([0, 0, 0, 0], 0x4000_0000),
+    ([1, 0, 0, 0], 0),
+    ([0, 1, 0, 0], 0),
+    ([0, 0, 1, 0], 0),
+    ([0, 0, 0, 1], 0),
+];
+
 #[test]
 fn a_key_has_four_bytes(rt: HostRuntime) {
-    for (key, number) in [
-        ([0, 0, 0, 0], 0x4000_0000),
-        ([1, 0, 0, 0], 0),
-        ([0, 1, 0, 0], 0),
-        ([0, 0, 1, 0], 0),
-        ([0, 0, 0, 1], 0),
-    ] {
-        assert_eq!(rt; looked_up(rt.alloc(), key), Some(number), "{key:?}");
+    for (key, number) in KEYS {
+        assert!(rt; looked_up(rt.alloc(), key) == Some(number), "{key:?}");
     }
 }
 
@@ -96,8 +98,7 @@ fn loaded(mut vm: Vm<'_, '_>) -> Option<([u32; 2], u32)> {
 
 /// The same of [`UPPER_HALF`].
 fn loaded_half(alloc: Global) -> Option<([u32; 2], u32)> {
-    let program = accepted(alloc, &UPPER_HALF, &[MapShape::of(1, 1)?])?;
-    let mut buffer = Buffer::make(alloc).ok()?;
+    let (program, mut buffer) = ready(alloc, &UPPER_HALF, &[MapShape::of(1, 1)?])?;
     loaded(Vm::start(&program, PacketBuf::empty(&mut buffer), 0, 0))
 }
 
@@ -136,8 +137,7 @@ fn fetched(mut vm: Vm<'_, '_>) -> Option<(u64, u32)> {
 
 /// The same of [`FETCHED_HALF`].
 fn fetched_half(alloc: Global) -> Option<(u64, u32)> {
-    let program = accepted(alloc, &FETCHED_HALF, &[MapShape::of(1, 1)?])?;
-    let mut buffer = Buffer::make(alloc).ok()?;
+    let (program, mut buffer) = ready(alloc, &FETCHED_HALF, &[MapShape::of(1, 1)?])?;
     fetched(Vm::start(&program, PacketBuf::empty(&mut buffer), 0, 0))
 }
 

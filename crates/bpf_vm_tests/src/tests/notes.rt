@@ -1,14 +1,22 @@
 //! The note of a refusal.
-use crate::programs::{bytes_of, explained};
-use bpf_insn::{Register, decode};
-use bpf_note::Val;
-use bpf_verify::{explain, joined_at, lost_at};
+use crate::programs::{code, explained};
+use bpf_insn::Register;
+use bpf_note::{Note, Val};
+use bpf_verify::{Explained, explain, joined_at, lost_at};
 use std::alloc::Global;
 
+/// What two registers hold by a note.
+fn held(note: &Note, [first, second]: [u8; 2]) -> [Val; 2] {
+    [note.register(first), note.register(second)]
+}
+
 /// What two registers hold by the note of a refused program over one map of a value.
-fn registers(alloc: Global, slots: &[[u8; 8]], [first, second]: [u8; 2]) -> Option<[Val; 2]> {
-    let note = explained(alloc, 0, slots)?.note?;
-    Some([note.register(first), note.register(second)])
+fn registers(alloc: Global, slots: &[[u8; 8]], registers: [u8; 2]) -> Option<[Val; 2]> {
+    let Explained { note, .. } = explained(alloc, 0, slots)?;
+    match note {
+        Some(note) => Some(held(&note, registers)),
+        None => None,
+    }
 }
 
 #[rattlefmt::skip]
@@ -105,9 +113,7 @@ fn the_first_of_two_refused_notes(rt: HostRuntime) {
 
 /// The slot where a register of a program without maps was an address last, before the refusal, and what it held there.
 fn lost(alloc: Global, slots: &[[u8; 8]], register: Register) -> Option<(u32, Val)> {
-    let bytes = bytes_of(alloc, slots).ok()?;
-    let code = decode(alloc, &bytes).ok()?;
-    let Err(refused) = explain(alloc, code, &[]) else {
+    let Err(refused) = explain(alloc, code(alloc, slots)?, &[]) else {
         return None;
     };
     match refused.note {
@@ -147,9 +153,7 @@ const SIXTEEN_WAYS: [[u8; 8]; 12] = [
 
 /// At which slot the sixteen ways are refused, and on how many notes a register is an address, there and at another slot.
 fn joined(alloc: Global, register: Register, other: u32) -> Option<(u32, [Option<usize>; 2])> {
-    let bytes = bytes_of(alloc, &SIXTEEN_WAYS).ok()?;
-    let code = decode(alloc, &bytes).ok()?;
-    let Err(refused) = explain(alloc, code, &[]) else {
+    let Err(refused) = explain(alloc, code(alloc, &SIXTEEN_WAYS)?, &[]) else {
         return None;
     };
     match refused.note {

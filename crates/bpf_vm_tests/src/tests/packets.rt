@@ -35,8 +35,8 @@ fn own_lengths(alloc: Global) -> Option<[Length; 2]> {
 #[test]
 fn packets_end_at_65535_bytes(rt: HostRuntime) {
     let wanted = Some([Ok(65535), Err(PacketFault::TooLong)]);
-    assert_eq!(rt; copied_lengths(rt.alloc()), wanted);
-    assert_eq!(rt; own_lengths(rt.alloc()), wanted);
+    let found = [copied_lengths(rt.alloc()), own_lengths(rt.alloc())];
+    assert_eq!(rt; found, [wanted; 2]);
 }
 
 /// Whether a packet over a host's own bytes has them, and whether it has the bytes that are pushed after it was cleared; the
@@ -60,19 +60,20 @@ fn a_packet_over_a_hosts_own_bytes(rt: HostRuntime) {
 
 /// How long a packet is; whether one that is pushed to the same buffer has its own bytes alone; how many it has once it is
 /// cleared.
-fn pushed_to_same(alloc: Global) -> Option<(usize, bool, usize)> {
-    let mut buffer = Buffer::make(alloc).ok()?;
-    let first = PacketBuf::copy(&mut buffer, &[1, 2, 3, 4])
-        .ok()?
-        .bytes()
-        .len();
-    let mut packet = PacketBuf::empty(&mut buffer);
+fn pushed_to(buffer: &mut Buffer) -> Option<(usize, bool, usize)> {
+    let first = PacketBuf::copy(buffer, &[1, 2, 3, 4]).ok()?.bytes().len();
+    let mut packet = PacketBuf::empty(buffer);
     packet.push(9);
     packet.push_all(&[8, 7]);
     packet.push_all(&[]);
     let has_pushed = packet.bytes() == [9, 8, 7].as_slice();
     packet.clear();
     Some((first, has_pushed, packet.bytes().len()))
+}
+
+/// The same of a new buffer.
+fn pushed_to_same(alloc: Global) -> Option<(usize, bool, usize)> {
+    pushed_to(&mut Buffer::make(alloc).ok()?)
 }
 
 #[test]

@@ -1,6 +1,8 @@
 //! Runs of whole programs. A program has one slot per line, with its text beside it.
-use crate::programs::{COUNTING, EXIT, accepted, ended};
-use bpf_verify::MapShape;
+ghost use Rattle.std.specs.Prelude.{◌≡◌, []};
+
+use crate::programs::{COUNTING, EXIT, accepted, ended, ready};
+use bpf_verify::{MapShape, Verified};
 use bpf_vm::{Buffer, Ended, PacketBuf, STACK_SIZE, Vm, VmWant, run_to_end};
 use std::alloc::Global;
 
@@ -104,11 +106,8 @@ const RUNS: [(&str, &[[u8; 8]], &[u8], &[u8], u32, u32); 7] = [
 #[test]
 fn whole_runs(rt: HostRuntime) {
     for (text, slots, packet, left, number, instructions) in RUNS {
-        assert_eq!(rt;
-            ended(rt.alloc(), slots, packet, left),
-            Some((number, instructions, true)),
-            "{text}"
-        );
+        let found = ended(rt.alloc(), slots, packet, left);
+        assert!(rt; found == Some((number, instructions, true)), "{text}");
     }
 }
 
@@ -127,42 +126,48 @@ const BOUNDS_CHECK: [[u8; 8]; 10] = [
     [0x95, 0, 0, 0, 0, 0, 0, 0], // exit
 ];
 
-/// The numbers and the instructions of that program on 14 bytes and then on 13 bytes in the same buffer, and whether the 13
-/// bytes are left.
-fn ended_in_one_buffer(alloc: Global) -> Option<([(u32, u32); 2], bool)> {
-    let program = accepted(alloc, &BOUNDS_CHECK, &[])?;
-    let mut buffer = Buffer::make(alloc).ok()?;
-    let packet = PacketBuf::copy(&mut buffer, &[5; 14]).ok()?;
-    let ended = run_to_end(&program, packet, 0, 0);
-    let longer = (ended.number, ended.instructions);
-    let packet = PacketBuf::copy(&mut buffer, &[6; 13]).ok()?;
-    let ended = run_to_end(&program, packet, 0, 0);
-    let shorter = (ended.number, ended.instructions);
-    Some((
-        [longer, shorter],
-        ended.packet.bytes() == [6; 13].as_slice(),
-    ))
+/// The number and the instructions of a program on a packet, and whether the packet's bytes are left.
+fn ended_on(program: &Verified, buffer: &mut Buffer, bytes: &[u8]) -> Option<(u32, u32, bool)>
+    requires { program.now.shapes ≡ [] }
+{
+    let packet = PacketBuf::copy(buffer, bytes).ok()?;
+    let ended = run_to_end(program, packet, 0, 0);
+    let is_left = ended.packet.bytes() == bytes;
+    Some((ended.number, ended.instructions, is_left))
+}
+
+/// The same of that program on 14 bytes and then on 13 bytes in the same buffer.
+fn ended_in_one_buffer(alloc: Global) -> Option<[Option<(u32, u32, bool)>; 2]> {
+    let (program, mut buffer) = ready(alloc, &BOUNDS_CHECK, &[])?;
+    let longer = ended_on(&program, &mut buffer, &[5; 14]);
+    Some([longer, ended_on(&program, &mut buffer, &[6; 13])])
 }
 
 #[test]
 fn a_program_never_sees_the_bytes_of_an_earlier_packet(rt: HostRuntime) {
     assert_eq!(rt;
         ended_in_one_buffer(rt.alloc()),
-        Some(([(2, 8), (1, 7)], true))
+        Some([Some((2, 8, true)), Some((1, 7, true))])
     );
 }
 
-/// The number of [`STORES`] on a host's own bytes, and these bytes when their first is 0xff afterwards.
-fn ended_on_own_bytes(alloc: Global) -> Option<(u32, [u8; 16])> {
-    let program = accepted(alloc, &STORES, &[])?;
+/// The number of a program on a host's own bytes, and these bytes when their first is 0xff afterwards.
+fn ended_over(program: &Verified) -> Option<(u32, [u8; 16])>
+    requires { program.now.shapes ≡ [] }
+{
     let mut own = [0xee; 16];
     let mut stack = [0xdd; STACK_SIZE];
     let packet = PacketBuf::over(&mut own, &mut stack).ok()?;
-    let Ended { number, packet, .. } = run_to_end(&program, packet, 0, 0);
+    let Ended { number, packet, .. } = run_to_end(program, packet, 0, 0);
     if let Some(first) = packet.into_bytes().get_mut(0) {
         *first = 0xff;
     }
     Some((number, own))
+}
+
+/// The same of [`STORES`].
+fn ended_on_own_bytes(alloc: Global) -> Option<(u32, [u8; 16])> {
+    ended_over(&accepted(alloc, &STORES, &[])?)
 }
 
 #[test]
@@ -172,19 +177,25 @@ fn a_program_runs_on_a_hosts_own_bytes(rt: HostRuntime) {
     assert_eq!(rt; ended_on_own_bytes(rt.alloc()), Some((0xee02_01ee, left)));
 }
 
-/// The number of [`STACK_STORES`] on a stack whose bytes are these at first, and whether the eight that it stored stand at its
+/// The number of a program on a stack whose bytes are these at first, and whether the eight that it stored stand at its
 /// end, and all others are as they were.
-fn stored_on(alloc: Global, first: u8) -> Option<(u32, bool)> {
-    let program = accepted(alloc, &STACK_STORES, &[])?;
+fn stored_by(program: &Verified, first: u8) -> Option<(u32, bool)>
+    requires { program.now.shapes ≡ [] }
+{
     let mut stack = [first; STACK_SIZE];
     let packet = PacketBuf::over(&mut [], &mut stack).ok()?;
-    let number = run_to_end(&program, packet, 0, 0).number;
+    let number = run_to_end(program, packet, 0, 0).number;
     let (others, stored) = stack.split_at(504);
     let kept = others.iter().all(|byte| *byte == first);
     Some((
         number,
         kept && stored == [1, 2, 3, 0xbb, 0xaa, 6, 7, 8].as_slice(),
     ))
+}
+
+/// The same of [`STACK_STORES`].
+fn stored_on(alloc: Global, first: u8) -> Option<(u32, bool)> {
+    stored_by(&accepted(alloc, &STACK_STORES, &[])?, first)
 }
 
 #[test]
@@ -194,24 +205,26 @@ fn what_the_stack_held_before_does_not_matter(rt: HostRuntime) {
     }
 }
 
+/// The offset of a field of the context, its number and its name.
+const FIELDS: [(u8, u32, &str); 5] = [
+    (0, 0x1000_0000, "data"),
+    (4, 0x1000_0002, "data_end"),
+    (8, 0x1000_0000, "data_meta"),
+    (12, 3, "ingress_ifindex"),
+    (16, 4, "rx_queue_index"),
+];
+
 /// The number of a program that loads a field of the context.
 fn field(alloc: Global, offset: u8) -> Option<u32> {
     // r0 = *(u32 *)(r1 + offset)
     let load = [0x61, 0x10, offset, 0, 0, 0, 0, 0];
-    let (number, _, _) = ended(alloc, &[load, EXIT], &[0x80, 1], &[0x80, 1])?;
-    Some(number)
+    Some(ended(alloc, &[load, EXIT], &[0x80, 1], &[0x80, 1])?.0)
 }
 
 #[test]
 fn fields_of_the_context(rt: HostRuntime) {
-    for (offset, number, text) in [
-        (0, 0x1000_0000, "data"),
-        (4, 0x1000_0002, "data_end"),
-        (8, 0x1000_0000, "data_meta"),
-        (12, 3, "ingress_ifindex"),
-        (16, 4, "rx_queue_index"),
-    ] {
-        assert_eq!(rt; field(rt.alloc(), offset), Some(number), "{text}");
+    for (offset, number, text) in FIELDS {
+        assert!(rt; field(rt.alloc(), offset) == Some(number), "{text}");
     }
 }
 
@@ -219,8 +232,7 @@ fn fields_of_the_context(rt: HostRuntime) {
 fn held(alloc: Global, register: u8) -> Option<u32> {
     // r0 = the register
     let copy = [0xbf, 0x10 * (register % 16), 0, 0, 0, 0, 0, 0];
-    let (number, _, _) = ended(alloc, &[copy, EXIT], &[], &[])?;
-    Some(number)
+    Some(ended(alloc, &[copy, EXIT], &[], &[])?.0)
 }
 
 #[test]
@@ -294,8 +306,7 @@ fn advanced(start: Vm<'_, '_>) -> Option<(Wants, u32, u32)> {
 
 /// What [`COUNTING`] wants by single steps, and by all between two wants.
 fn counted_twice(alloc: Global) -> Option<[Option<(Wants, u32, u32)>; 2]> {
-    let program = accepted(alloc, &COUNTING, &[MapShape::of(2, 1)?])?;
-    let mut buffer = Buffer::make(alloc).ok()?;
+    let (program, mut buffer) = ready(alloc, &COUNTING, &[MapShape::of(2, 1)?])?;
     let first = counted(Vm::start(&program, PacketBuf::empty(&mut buffer), 0, 0));
     let second = advanced(Vm::start(&program, PacketBuf::empty(&mut buffer), 0, 0));
     Some([first, second])
@@ -359,14 +370,17 @@ const FETCH: [[u8; 8]; 12] = [
     [0x95, 0, 0, 0, 0, 0, 0, 0], // exit
 ];
 
+/// What is wanted, and the number.
+fn wants_and_number(start: Vm<'_, '_>) -> Option<(Wants, u32)> {
+    let (wants, number, _count) = advanced(start)?;
+    Some((wants, number))
+}
+
 /// What a program wants of two maps of three values with two counters each, and its number.
 fn looked_up(alloc: Global, slots: &[[u8; 8]]) -> Option<(Wants, u32)> {
     let shape = MapShape::of(3, 2)?;
-    let program = accepted(alloc, slots, &[shape, shape])?;
-    let mut buffer = Buffer::make(alloc).ok()?;
-    let start = Vm::start(&program, PacketBuf::empty(&mut buffer), 0, 0);
-    let (wants, number, _count) = advanced(start)?;
-    Some((wants, number))
+    let (program, mut buffer) = ready(alloc, slots, &[shape, shape])?;
+    wants_and_number(Vm::start(&program, PacketBuf::empty(&mut buffer), 0, 0))
 }
 
 #[test]

@@ -98,51 +98,45 @@ const UNREACHED_READ: [[u8; 8]; 4] = [
     [0x95, 0, 0, 0, 0, 0, 0, 0], // exit
 ];
 
+/// A program, its refusal, and what it shows.
+const WITHOUT_MAPS: [(&[[u8; 8]], Option<(Cause, u32)>, &str); 8] = [
+    (
+        &ONLY_EXIT,
+        Some((Cause::Unset, 0)),
+        "r0 is unset at the start",
+    ),
+    (
+        &WRITES_R10,
+        Some((Cause::FramePointer, 0)),
+        "the frame pointer is read only",
+    ),
+    (&NO_EXIT, Some((Cause::End, 0)), "a program without an exit"),
+    (&TO_ITSELF, Some((Cause::BackJump, 0)), "a jump to itself"),
+    (
+        &UNREACHED_LOOP,
+        Some((Cause::BackJump, 2)),
+        "an unreached jump backwards",
+    ),
+    (
+        &INTO_WIDE,
+        Some((Cause::Target, 0)),
+        "a jump into a wide load",
+    ),
+    (
+        &NO_MAP,
+        Some((Cause::MapNumber, 0)),
+        "a map that is not there",
+    ),
+    (
+        &UNREACHED_READ,
+        None,
+        "unreached code may read what is unset",
+    ),
+];
+
 #[test]
 fn programs_without_maps(rt: HostRuntime) {
-    let rows = [
-        (
-            &ONLY_EXIT[..],
-            Some((Cause::Unset, 0)),
-            "r0 is unset at the start",
-        ),
-        (
-            &WRITES_R10[..],
-            Some((Cause::FramePointer, 0)),
-            "the frame pointer is read only",
-        ),
-        (
-            &NO_EXIT[..],
-            Some((Cause::End, 0)),
-            "a program without an exit",
-        ),
-        (
-            &TO_ITSELF[..],
-            Some((Cause::BackJump, 0)),
-            "a jump to itself",
-        ),
-        (
-            &UNREACHED_LOOP[..],
-            Some((Cause::BackJump, 2)),
-            "an unreached jump backwards",
-        ),
-        (
-            &INTO_WIDE[..],
-            Some((Cause::Target, 0)),
-            "a jump into a wide load",
-        ),
-        (
-            &NO_MAP[..],
-            Some((Cause::MapNumber, 0)),
-            "a map that is not there",
-        ),
-        (
-            &UNREACHED_READ[..],
-            None,
-            "unreached code may read what is unset",
-        ),
-    ];
-    for (slots, wanted, text) in rows {
-        assert_eq!(rt; refusal(rt.alloc(), slots, &[]), wanted, "{text}");
+    for (slots, wanted, text) in WITHOUT_MAPS {
+        assert!(rt; refusal(rt.alloc(), slots, &[]) == wanted, "{text}");
     }
 }

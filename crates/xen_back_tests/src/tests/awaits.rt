@@ -3,74 +3,132 @@
 ghost use Rattle.std.specs.Prelude.{◌≡◌, length};
 ghost use Rattle.xen_back.specs.Queues.{IsReady, IsSameWiring, wiring_of};
 
-use super::deliveries::{FOURTEEN, OVERFLOWN, deliver};
+use super::deliveries::{OVERFLOWN, delivered_behind};
 use super::fixtures::{PASSES, read, write};
 use super::slots::STARTS;
-use crate::bench::{Bench, FRAMES};
+use crate::bench::{Bench, FRAMES, ready};
 use bpf_vm::Buffer;
 use std::alloc::Global;
-use std::test::Fail;
-use xen_back::{Awaited, Halt, Queue};
-use xen_page::{Access, ScriptBus};
+use xen_back::{Awaited, Delivery, Halt, Queue};
+use xen_page::ScriptBus;
 
-/// What waiting for so many slots comes to, and its accesses.
-fn awaited(
-    alloc: Global,
-    queue: &mut Queue,
-    pages: u32,
-    answers: &[u32],
-) -> Result<(Awaited, Vec<Access>), Fail>
+/// What waiting comes to, and how many accesses it makes.
+type Waited = (Awaited, usize);
+
+/// What waiting for so many slots comes to behind this producer.
+fn awaited(alloc: Global, queue: &mut Queue, pages: u32, producer: u32) -> Option<Waited>
     requires ready { IsReady queue.old }
     requires owners { length (wiring_of queue.old).vif.owners.now ≡ 20 }
     ensures ready { IsReady queue.new }
     ensures same { IsSameWiring queue.old queue.new }
 {
-    let mut bus = ScriptBus::make(alloc, FRAMES, answers, 100)?;
+    let mut bus = ScriptBus::make(alloc, FRAMES, &[producer], 100).ok()?;
     let awaited = queue.await_slots(pages, &mut bus);
-    Ok((awaited, Vec::from_slice(alloc, bus.accesses())?))
+    Some((awaited, bus.accesses().len()))
 }
 
-#[test]
-fn slots_are_awaited(rt: HostRuntime) -> Result<(), Fail> {
-    let bench = Bench::make(rt.alloc(), &PASSES, &[])?;
-    let mut buffer = Buffer::make(rt.alloc())?;
-    for start in STARTS {
-        let rows = [
-            (2, 1, Awaited::Waiting),
-            (2, 2, Awaited::Posted),
-            (2, 3, Awaited::Posted),
-            (16, 15, Awaited::Waiting),
-            (16, 256, Awaited::Posted),
-            (0, 0, Awaited::Posted),
-            (257, 256, Awaited::Waiting),
-        ];
-        for (pages, posted, wanted) in rows {
-            let producer = start.wrapping_add(posted);
-            let mut queue = bench.queue(rt.alloc(), start, &mut buffer)?;
-            let (told, accesses) = awaited(rt.alloc(), &mut queue, pages, &[producer])?;
-            let event = write(18, 1, start.wrapping_add(pages));
-            assert_eq!(rt; told, wanted);
-            assert!(rt; accesses.as_slice() == [event, read(18, 0, producer)].as_slice());
+/// What waiting for so many slots comes to where some are posted, if it writes the event index and then reads the producer.
+fn waited(alloc: Global, queue: &mut Queue, start: u32, pages: u32, posted: u32) -> Option<Awaited>
+    requires ready { IsReady queue.old }
+    requires owners { length (wiring_of queue.old).vif.owners.now ≡ 20 }
+{
+    let producer = start.wrapping_add(posted);
+    let accesses = [
+        write(18, 1, start.wrapping_add(pages)),
+        read(18, 0, producer),
+    ];
+    let mut bus = ScriptBus::make(alloc, FRAMES, &[producer], 100).ok()?;
+    let awaited = queue.await_slots(pages, &mut bus);
+    (bus.accesses() == accesses.as_slice()).then_some(awaited)
+}
+
+/// The same of a new queue.
+fn waited_first(
+    alloc: Global,
+    bench: &Bench,
+    buffer: &mut Buffer,
+    start: u32,
+    (pages, posted): (u32, u32),
+) -> Option<Awaited> {
+    let mut queue = bench.queue(alloc, start, buffer)?;
+    waited(alloc, &mut queue, start, pages, posted)
+}
+
+/// How many slots are awaited, how many are posted, and what that comes to.
+const ROWS: [(u32, u32, Awaited); 7] = [
+    (2, 1, Awaited::Waiting),
+    (2, 2, Awaited::Posted),
+    (2, 3, Awaited::Posted),
+    (16, 15, Awaited::Waiting),
+    (16, 256, Awaited::Posted),
+    (0, 0, Awaited::Posted),
+    (257, 256, Awaited::Waiting),
+];
+
+/// The first row that comes out otherwise, where the rings begin at `start`: its slots, and what that comes to.
+fn differing(
+    alloc: Global,
+    bench: &Bench,
+    buffer: &mut Buffer,
+    start: u32,
+) -> Option<(u32, u32, Option<Awaited>)> {
+    for (pages, posted, wanted) in ROWS {
+        let awaited = waited_first(alloc, bench, buffer, start, (pages, posted));
+        if awaited != Some(wanted) {
+            return Some((pages, posted, awaited));
         }
     }
-    Ok(())
+    None
+}
+
+/// The same of new rings.
+fn differing_from(alloc: Global, start: u32) -> Option<Option<(u32, u32, Option<Awaited>)>> {
+    let (bench, mut buffer) = ready(alloc, &PASSES, &[])?;
+    Some(differing(alloc, &bench, &mut buffer, start))
 }
 
 #[test]
-fn waiting_halts_behind_a_producer_past_the_ring(rt: HostRuntime) -> Result<(), Fail> {
-    let bench = Bench::make(rt.alloc(), &PASSES, &[])?;
-    let mut buffer = Buffer::make(rt.alloc())?;
+fn slots_are_awaited(rt: HostRuntime) {
+    for start in STARTS {
+        assert_eq!(rt; differing_from(rt.alloc(), start), Some(None));
+    }
+}
+
+/// What two waits come to, the first behind a producer past the ring, and then a delivery.
+fn halting(
+    alloc: Global,
+    queue: &mut Queue,
+    start: u32,
+) -> ([Option<Waited>; 2], Option<(Delivery, usize)>)
+    requires ready { IsReady queue.old }
+    requires owners { length (wiring_of queue.old).vif.owners.now ≡ 20 }
+{
+    let first = awaited(alloc, queue, 1, start.wrapping_add(257));
+    let second = awaited(alloc, queue, 1, start);
+    let delivered = delivered_behind(alloc, queue, start.wrapping_add(1));
+    ([first, second], delivered)
+}
+
+/// The same of a new queue.
+fn halting_from(
+    alloc: Global,
+    start: u32,
+) -> Option<([Option<Waited>; 2], Option<(Delivery, usize)>)> {
+    let (bench, mut buffer) = ready(alloc, &PASSES, &[])?;
+    match bench.queue(alloc, start, &mut buffer) {
+        Some(mut queue) => Some(halting(alloc, &mut queue, start)),
+        None => None,
+    }
+}
+
+#[test]
+fn waiting_halts_behind_a_producer_past_the_ring(rt: HostRuntime) {
     let halted = Awaited::Halted {
         cause: Halt::RxProducer,
     };
+    let waits = [Some((halted, 2)), Some((halted, 0))];
     for start in STARTS {
-        let mut queue = bench.queue(rt.alloc(), start, &mut buffer)?;
-        let (first, accesses) = awaited(rt.alloc(), &mut queue, 1, &[start.wrapping_add(257)])?;
-        assert_eq!(rt; (first, accesses.len()), (halted, 2));
-        let (second, accesses) = awaited(rt.alloc(), &mut queue, 1, &[start])?;
-        assert_eq!(rt; (second, accesses.len()), (halted, 0));
-        let seen = deliver(rt.alloc(), &mut queue, &FOURTEEN, &[start.wrapping_add(1)])?;
-        assert_eq!(rt; (seen.delivery, seen.accesses.len()), (OVERFLOWN, 0));
+        let found = halting_from(rt.alloc(), start);
+        assert_eq!(rt; found, Some((waits, Some((OVERFLOWN, 0)))));
     }
-    Ok(())
 }

@@ -1,9 +1,9 @@
 //! Turns whose frontend answers at random.
 
 use super::fixtures::SENDS;
-use crate::bench::Bench;
+use crate::bench::{Bench, ready};
 use bpf_vm::Buffer;
-use std::test::Fail;
+use std::alloc::Global;
 use xen_back::{Answer, Queue, Want};
 use xen_page::Place;
 
@@ -117,15 +117,38 @@ fn random_turns(queue: &mut Queue, start: u32, seed: u32) -> Option<u32> {
     Some(seed)
 }
 
-#[test]
-fn random_answers_stay_within_the_bounds(rt: HostRuntime) -> Result<(), Fail> {
-    let bench = Bench::make(rt.alloc(), &SENDS, &[])?;
-    let mut buffer = Buffer::make(rt.alloc())?;
+/// The same of a new queue.
+fn queue_turns(
+    alloc: Global,
+    bench: &Bench,
+    buffer: &mut Buffer,
+    start: u32,
+    seed: u32,
+) -> Option<u32> {
+    let mut queue = bench.queue(alloc, start, buffer)?;
+    random_turns(&mut queue, start, seed)
+}
+
+/// How many queues have turns that are all within the bounds.
+fn queues_within_the_bounds(alloc: Global, bench: &Bench, buffer: &mut Buffer) -> u32 {
     let mut seed = 2_463_534_242;
     for number in 0..QUEUES {
         let start = if number % 2 == 0 { 0 } else { 0xffff_ffff };
-        let mut queue = bench.queue(rt.alloc(), start, &mut buffer)?;
-        seed = random_turns(&mut queue, start, seed).ok_or("a turn past its bounds")?;
+        match queue_turns(alloc, bench, buffer, start, seed) {
+            Some(later) => seed = later,
+            None => return number,
+        }
     }
-    Ok(())
+    QUEUES
+}
+
+/// The same of new queues.
+fn within_the_bounds(alloc: Global) -> Option<u32> {
+    let (bench, mut buffer) = ready(alloc, &SENDS, &[])?;
+    Some(queues_within_the_bounds(alloc, &bench, &mut buffer))
+}
+
+#[test]
+fn random_answers_stay_within_the_bounds(rt: HostRuntime) {
+    assert_eq!(rt; within_the_bounds(rt.alloc()), Some(QUEUES));
 }

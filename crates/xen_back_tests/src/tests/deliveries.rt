@@ -1,123 +1,17 @@
 //! Packets that the host delivers, a test for each row of the table.
 
-ghost use Rattle.std.specs.Prelude.{◌≡◌, ◌<◌, [], length, IfOk};
+ghost use Rattle.std.specs.Prelude.{◌≡◌, [], length};
 ghost use Rattle.xen_back.specs.Queues.{IsReady, IsSameWiring, wiring_of};
 
-use super::fixtures::{
-    PASSES, SENDS, access_to, answer_to, is_notified, joined, read, write, wrote,
-};
+use super::delivered::{Delivered, FOURTEEN, deliver, delivered_first, rx};
+use super::fixtures::{PASSES, SENDS, joined, read, write, wrote};
 use super::kind::{Kind, kind_of};
 use super::slots::{STARTS, slot};
-use crate::bench::{Bench, FRAMES, seated};
-use bpf_vm::Buffer;
+use crate::bench::{FRAMES, ready, seated};
 use std::alloc::{AllocError, Global};
-use std::test::Fail;
-use xen_back::{Delivery, Halt, Queue, Want};
+use xen_back::{Delivery, Halt, Queue};
 use xen_page::{Access, ScriptBus};
 use xen_ring::Ports;
-
-/// Where word `word` of the i-th rx slot from `start` lies in the rx ring's page.
-pub fn rx(start: u32, i: u32, word: u32) -> u32
-    requires { word < 2 }
-{
-    16 + 2 * (start.wrapping_add(i) % 256) + word
-}
-
-/// A delivery, with its accesses and whether a notice was sent.
-#[derive(Debug, PartialEq, Drop)]
-pub struct Delivered {
-    pub delivery: Delivery,
-    pub accesses: Vec<Access>,
-    pub notified: bool,
-}
-
-impl Delivered {
-    /// Whether these are its writes to a frame, in order.
-    fn wrote(&self, frame: u32, wanted: &[Access]) -> bool {
-        wrote(self.accesses.as_slice(), frame, wanted)
-    }
-}
-
-/// A delivery to a frontend that answers from a list.
-pub fn deliver(
-    alloc: Global,
-    queue: &mut Queue,
-    packet: &[u8],
-    answers: &[u32],
-) -> Result<Delivered, Fail>
-    requires ready { IsReady queue.old }
-    requires owners { length (wiring_of queue.old).vif.owners.now ≡ 20 }
-    ensures ready { IsReady queue.new }
-    ensures same { IsSameWiring queue.old queue.new }
-{
-    let mut bus = ScriptBus::make(alloc, FRAMES, answers, 34_000)?;
-    let ports = Ports::new();
-    let delivery = queue.deliver(packet, &mut bus, &ports);
-    let accesses = Vec::from_slice(alloc, bus.accesses())?;
-    Ok(Delivered {
-        delivery,
-        accesses,
-        notified: is_notified(&ports),
-    })
-}
-
-/// The same delivery one event at a time.
-fn deliver_by_event(
-    alloc: Global,
-    queue: &mut Queue,
-    packet: &[u8],
-    answers: &[u32],
-) -> Result<Delivered, Fail>
-    requires ready { IsReady queue.old }
-{
-    let mut delivering = queue.begin_delivery(packet);
-    let mut accesses = Vec::new(alloc);
-    let mut given = answers.iter();
-    let mut notified = false;
-    for _event in 0..100_000u32 {
-        let want = delivering.want();
-        let word = match want {
-            Want::Read(_) => given.next().copied().unwrap_or(0),
-            _ => 0,
-        };
-        let Some(answer) = answer_to(want, word) else {
-            let delivery = queue.end_delivery(delivering);
-            return Ok(Delivered {
-                delivery,
-                accesses,
-                notified,
-            });
-        };
-        if let Some(access) = access_to(want, word) {
-            accesses.push(access)?;
-        }
-        notified |= matches!(want, Want::Notify(_));
-        delivering.feed(answer);
-    }
-    Err("no end".into())
-}
-
-/// The delivery by a new queue, which is the same both ways.
-fn delivered_first(
-    alloc: Global,
-    start: u32,
-    packet: &[u8],
-    answers: &[u32],
-) -> Result<Delivered, Fail> {
-    let bench = Bench::make(alloc, &PASSES, &[])?;
-    let mut buffer = Buffer::make(alloc)?;
-    let mut queue = bench.queue(alloc, start, &mut buffer)?;
-    let seen = deliver(alloc, &mut queue, packet, answers)?;
-    let mut queue = bench.queue(alloc, start, &mut buffer)?;
-    if deliver_by_event(alloc, &mut queue, packet, answers)? == seen {
-        Ok(seen)
-    } else {
-        Err("the two ways differ".into())
-    }
-}
-
-/// Fourteen bytes, of which each says where it lies.
-pub const FOURTEEN: [u8; 14] = [0, 1, 2, 3, 4, 5, 6, 7, 8, 9, 10, 11, 12, 13];
 
 /// What their delivery into the first slot makes, with this event index read at its end.
 fn fourteen_accesses(start: u32, event: u32) -> [Access; 13] {
@@ -139,19 +33,22 @@ fn fourteen_accesses(start: u32, event: u32) -> [Access; 13] {
     ]
 }
 
+/// What the delivery of fourteen bytes comes to, and whether a notice is sent, if it makes these accesses.
+fn short_packet(alloc: Global, start: u32, event: u32) -> Option<(Delivery, bool)> {
+    let answers = [start.wrapping_add(1), 9, 5, 1, 16, event];
+    let seen = delivered_first(alloc, start, &FOURTEEN, &answers)?;
+    let accesses = fourteen_accesses(start, event);
+    (seen.accesses.as_slice() == accesses.as_slice()).then_some((seen.delivery, seen.notified))
+}
+
 #[test]
-fn a_short_packet_takes_one_slot(rt: HostRuntime) -> Result<(), Fail> {
+fn a_short_packet_takes_one_slot(rt: HostRuntime) {
+    let sent = Delivery::Sent { slots: 1 };
     for start in STARTS {
-        let one = start.wrapping_add(1);
-        for (event, is_told) in [(one, true), (start, false)] {
-            let answers = [one, 9, 5, 1, 16, event];
-            let seen = delivered_first(rt.alloc(), start, &FOURTEEN, &answers)?;
-            assert_eq!(rt; seen.delivery, Delivery::Sent { slots: 1 });
-            assert_eq!(rt; seen.notified, is_told);
-            assert!(rt; seen.accesses.as_slice() == fourteen_accesses(start, event).as_slice());
-        }
+        let due = short_packet(rt.alloc(), start, start.wrapping_add(1));
+        let not_due = short_packet(rt.alloc(), start, start);
+        assert_eq!(rt; (due, not_due), (Some((sent, true)), Some((sent, false))));
     }
-    Ok(())
 }
 
 /// So many bytes of 4.
@@ -159,25 +56,34 @@ fn fours(alloc: Global, length: usize) -> Result<Vec<u8>, AllocError> {
     vec![in alloc; 4u8; length]
 }
 
+/// The delivery of so many bytes of 4.
+fn fours_delivered(alloc: Global, start: u32, length: usize, answers: &[u32]) -> Option<Delivered> {
+    let packet = fours(alloc, length).ok()?;
+    delivered_first(alloc, start, packet.as_slice(), answers)
+}
+
+/// What the delivery of 4,097 bytes comes to, and how many accesses it makes, if it writes the second buffer and the rx ring.
+fn two_pages(alloc: Global, start: u32) -> Option<(Delivery, usize)> {
+    let two = start.wrapping_add(2);
+    let responses = [
+        write(18, rx(start, 0, 0), 9),
+        write(18, rx(start, 0, 1), 0x1000_0004),
+        write(18, rx(start, 1, 0), 10),
+        write(18, rx(start, 1, 1), 0x0001_0000),
+        write(18, 2, two),
+    ];
+    let answers = [two, 9, 5, 1, 16, 10, 6, 1, 14, start];
+    let seen = fours_delivered(alloc, start, 4097, &answers)?;
+    let wrote = seen.wrote(14, &[write(14, 0, 4)]) && seen.wrote(18, &responses);
+    wrote.then_some((seen.delivery, seen.accesses.len()))
+}
+
 #[test]
-fn a_packet_longer_than_a_page_takes_two_slots(rt: HostRuntime) -> Result<(), Fail> {
-    let packet = fours(rt.alloc(), 4097)?;
+fn a_packet_longer_than_a_page_takes_two_slots(rt: HostRuntime) {
+    let wanted = (Delivery::Sent { slots: 2 }, 1 + 8 + 1025 + 4 + 2);
     for start in STARTS {
-        let two = start.wrapping_add(2);
-        let answers = [two, 9, 5, 1, 16, 10, 6, 1, 14, start];
-        let responses = [
-            write(18, rx(start, 0, 0), 9),
-            write(18, rx(start, 0, 1), 0x1000_0004),
-            write(18, rx(start, 1, 0), 10),
-            write(18, rx(start, 1, 1), 0x0001_0000),
-            write(18, 2, two),
-        ];
-        let seen = delivered_first(rt.alloc(), start, packet.as_slice(), &answers)?;
-        assert_eq!(rt; seen.delivery, Delivery::Sent { slots: 2 });
-        assert_eq!(rt; seen.accesses.len(), 1 + 8 + 1025 + 4 + 2);
-        assert!(rt; seen.wrote(14, &[write(14, 0, 4)]) && seen.wrote(18, &responses));
+        assert_eq!(rt; two_pages(rt.alloc(), start), Some(wanted));
     }
-    Ok(())
 }
 
 /// The answers for sixteen posted slots.
@@ -186,68 +92,85 @@ fn sixteen_slots(alloc: Global, start: u32) -> Result<Vec<u32>, AllocError> {
     joined(alloc, &[sixteen], &[9, 5, 1, 16], 16, &[sixteen])
 }
 
-#[test]
-fn the_longest_packet_takes_sixteen_slots(rt: HostRuntime) -> Result<(), Fail> {
-    let packet = fours(rt.alloc(), 65_535)?;
-    for start in STARTS {
-        let answers = sixteen_slots(rt.alloc(), start)?;
-        let seen = delivered_first(rt.alloc(), start, packet.as_slice(), answers.as_slice())?;
-        assert_eq!(rt; seen.delivery, Delivery::Sent { slots: 16 });
-        assert_eq!(rt; seen.accesses.len(), 1 + 64 + 16_384 + 32 + 2);
-        assert!(rt; seen.notified);
-    }
-    Ok(())
+/// What the delivery of 65,535 bytes comes to, how many accesses it makes, and whether a notice is sent.
+fn longest(alloc: Global, start: u32) -> Option<(Delivery, usize, bool)> {
+    let answers = sixteen_slots(alloc, start).ok()?;
+    let seen = fours_delivered(alloc, start, 65_535, answers.as_slice())?;
+    Some((seen.delivery, seen.accesses.len(), seen.notified))
 }
 
 #[test]
-fn too_few_slots_take_nothing(rt: HostRuntime) -> Result<(), Fail> {
-    let packet = fours(rt.alloc(), 4097)?;
+fn the_longest_packet_takes_sixteen_slots(rt: HostRuntime) {
+    let sent = Delivery::Sent { slots: 16 };
+    let wanted = (sent, 1 + 64 + 16_384 + 32 + 2, true);
     for start in STARTS {
-        let one = start.wrapping_add(1);
-        let seen = delivered_first(rt.alloc(), start, packet.as_slice(), &[one])?;
-        assert_eq!(rt; seen.delivery, Delivery::FewSlots);
-        assert!(rt; !seen.notified && seen.accesses.as_slice() == [read(18, 0, one)].as_slice());
+        assert_eq!(rt; longest(rt.alloc(), start), Some(wanted));
     }
-    Ok(())
+}
+
+/// What the delivery of 4,097 bytes comes to where one slot is posted, and whether a notice is sent, if it only reads the
+/// producer.
+fn too_few_slots(alloc: Global, start: u32) -> Option<(Delivery, bool)> {
+    let one = start.wrapping_add(1);
+    let seen = fours_delivered(alloc, start, 4097, &[one])?;
+    let is_all = seen.accesses.as_slice() == [read(18, 0, one)].as_slice();
+    is_all.then_some((seen.delivery, seen.notified))
 }
 
 #[test]
-fn a_refused_grant_writes_no_buffer(rt: HostRuntime) -> Result<(), Fail> {
-    let packet = fours(rt.alloc(), 4097)?;
+fn too_few_slots_take_nothing(rt: HostRuntime) {
     for start in STARTS {
-        let two = start.wrapping_add(2);
-        // The second entry's flags, 5, allow reading alone.
-        let answers = [two, 9, 5, 1, 16, 10, 6, 5, 14, two];
-        let responses = [
-            write(18, rx(start, 0, 0), 9),
-            write(18, rx(start, 0, 1), 0xffff_0000),
-            write(18, rx(start, 1, 0), 10),
-            write(18, rx(start, 1, 1), 0xffff_0000),
-            write(18, 2, two),
-        ];
-        let seen = delivered_first(rt.alloc(), start, packet.as_slice(), &answers)?;
-        assert_eq!(rt; seen.delivery, Delivery::Refused { slots: 2 });
-        assert!(rt; seen.wrote(16, &[]) && seen.wrote(14, &[]));
-        assert!(rt; seen.notified && seen.wrote(18, &responses));
+        let found = too_few_slots(rt.alloc(), start);
+        assert_eq!(rt; found, Some((Delivery::FewSlots, false)));
     }
-    Ok(())
+}
+
+/// What the delivery of 4,097 bytes comes to whose second grant is refused, and whether a notice is sent, if it writes the rx
+/// ring and no buffer.
+fn second_grant_refused(alloc: Global, start: u32) -> Option<(Delivery, bool)> {
+    let two = start.wrapping_add(2);
+    let responses = [
+        write(18, rx(start, 0, 0), 9),
+        write(18, rx(start, 0, 1), 0xffff_0000),
+        write(18, rx(start, 1, 0), 10),
+        write(18, rx(start, 1, 1), 0xffff_0000),
+        write(18, 2, two),
+    ];
+    // The second entry's flags, 5, allow reading alone.
+    let answers = [two, 9, 5, 1, 16, 10, 6, 5, 14, two];
+    let seen = fours_delivered(alloc, start, 4097, &answers)?;
+    let wrote = seen.wrote(16, &[]) && seen.wrote(14, &[]) && seen.wrote(18, &responses);
+    wrote.then_some((seen.delivery, seen.notified))
 }
 
 #[test]
-fn a_first_grant_that_is_refused_takes_one_slot(rt: HostRuntime) -> Result<(), Fail> {
-    let packet = fours(rt.alloc(), 4097)?;
+fn a_refused_grant_writes_no_buffer(rt: HostRuntime) {
     for start in STARTS {
-        let answers = [start.wrapping_add(2), 9, 5, 0, 16, start];
-        let responses = [
-            write(18, rx(start, 0, 0), 9),
-            write(18, rx(start, 0, 1), 0xffff_0000),
-            write(18, 2, start.wrapping_add(1)),
-        ];
-        let seen = delivered_first(rt.alloc(), start, packet.as_slice(), &answers)?;
-        assert_eq!(rt; seen.delivery, Delivery::Refused { slots: 1 });
-        assert!(rt; !seen.notified && seen.wrote(18, &responses));
+        let found = second_grant_refused(rt.alloc(), start);
+        assert_eq!(rt; found, Some((Delivery::Refused { slots: 2 }, true)));
     }
-    Ok(())
+}
+
+/// What the delivery of 4,097 bytes comes to whose first grant is refused, and whether a notice is sent, if it writes the rx
+/// ring.
+fn first_grant_refused(alloc: Global, start: u32) -> Option<(Delivery, bool)> {
+    let responses = [
+        write(18, rx(start, 0, 0), 9),
+        write(18, rx(start, 0, 1), 0xffff_0000),
+        write(18, 2, start.wrapping_add(1)),
+    ];
+    let answers = [start.wrapping_add(2), 9, 5, 0, 16, start];
+    let seen = fours_delivered(alloc, start, 4097, &answers)?;
+    seen.wrote(18, &responses)
+        .then_some((seen.delivery, seen.notified))
+}
+
+#[test]
+fn a_first_grant_that_is_refused_takes_one_slot(rt: HostRuntime) {
+    for start in STARTS {
+        let found = first_grant_refused(rt.alloc(), start);
+        assert_eq!(rt; found, Some((Delivery::Refused { slots: 1 }, false)));
+    }
 }
 
 /// The halt of a producer that is more than a whole ring ahead.
@@ -255,33 +178,59 @@ pub const OVERFLOWN: Delivery = Delivery::Halted {
     cause: Halt::RxProducer,
 };
 
-#[test]
-fn a_producer_past_the_ring_halts(rt: HostRuntime) -> Result<(), Fail> {
-    let bench = Bench::make(rt.alloc(), &PASSES, &[])?;
-    let mut buffer = Buffer::make(rt.alloc())?;
-    for start in STARTS {
-        let mut queue = bench.queue(rt.alloc(), start, &mut buffer)?;
-        let past = start.wrapping_add(257);
-        let first = deliver(rt.alloc(), &mut queue, &FOURTEEN, &[past])?;
-        assert_eq!(rt; (first.delivery, first.accesses.len()), (OVERFLOWN, 1));
-        let second = deliver(rt.alloc(), &mut queue, &FOURTEEN, &[start.wrapping_add(1)])?;
-        assert_eq!(rt; (second.delivery, second.accesses.len()), (OVERFLOWN, 0));
+/// What the delivery of fourteen bytes behind this producer comes to, and how many accesses it makes.
+pub fn delivered_behind(
+    alloc: Global,
+    queue: &mut Queue,
+    producer: u32,
+) -> Option<(Delivery, usize)>
+    requires ready { IsReady queue.old }
+    requires owners { length (wiring_of queue.old).vif.owners.now ≡ 20 }
+    ensures ready { IsReady queue.new }
+    ensures same { IsSameWiring queue.old queue.new }
+{
+    let seen = deliver(alloc, queue, &FOURTEEN, &[producer])?;
+    Some((seen.delivery, seen.accesses.len()))
+}
+
+/// What two deliveries come to, the first behind a producer past the ring.
+fn past_the_ring(alloc: Global, start: u32) -> Option<[Option<(Delivery, usize)>; 2]> {
+    let (bench, mut buffer) = ready(alloc, &PASSES, &[])?;
+    match bench.queue(alloc, start, &mut buffer) {
+        Some(mut queue) => Some([
+            delivered_behind(alloc, &mut queue, start.wrapping_add(257)),
+            delivered_behind(alloc, &mut queue, start.wrapping_add(1)),
+        ]),
+        None => None,
     }
-    Ok(())
 }
 
 #[test]
-fn what_is_no_packet_does_nothing(rt: HostRuntime) -> Result<(), Fail> {
-    let long = fours(rt.alloc(), 65_536)?;
-    for packet in [&FOURTEEN[..13], long.as_slice()] {
-        let seen = delivered_first(rt.alloc(), 0, packet, &[256])?;
-        assert_eq!(rt;
-            (seen.delivery, seen.accesses.len()),
-            (Delivery::NoFrame, 0)
-        );
-        assert!(rt; !seen.notified);
+fn a_producer_past_the_ring_halts(rt: HostRuntime) {
+    let wanted = [Some((OVERFLOWN, 1)), Some((OVERFLOWN, 0))];
+    for start in STARTS {
+        assert_eq!(rt; past_the_ring(rt.alloc(), start), Some(wanted));
     }
-    Ok(())
+}
+
+/// What the delivery of bytes comes to where all slots are posted, how many accesses it makes, and whether a notice is sent.
+fn delivery(alloc: Global, packet: &[u8]) -> Option<(Delivery, usize, bool)> {
+    let seen = delivered_first(alloc, 0, packet, &[256])?;
+    Some((seen.delivery, seen.accesses.len(), seen.notified))
+}
+
+/// The same of so many bytes of 4.
+fn fours_delivery(alloc: Global, length: usize) -> Option<(Delivery, usize, bool)> {
+    let packet = fours(alloc, length).ok()?;
+    delivery(alloc, packet.as_slice())
+}
+
+#[test]
+fn what_is_no_packet_does_nothing(rt: HostRuntime) {
+    let short = delivery(rt.alloc(), &FOURTEEN[..13]);
+    let long = fours_delivery(rt.alloc(), 65_536);
+    let wanted = Some((Delivery::NoFrame, 0, false));
+    assert_eq!(rt; [short, long], [wanted; 2]);
 }
 
 /// The writes of a response of fourteen bytes to the i-th slot, with id 9.
@@ -294,7 +243,7 @@ fn fourteen_responses(start: u32, i: u32) -> [Access; 3] {
 }
 
 /// Whether fourteen bytes are delivered into the i-th slot.
-fn delivers_into(alloc: Global, queue: &mut Queue, start: u32, i: u32) -> Result<bool, Fail>
+fn delivers_into(alloc: Global, queue: &mut Queue, start: u32, i: u32) -> bool
     requires ready { IsReady queue.old }
     requires owners { length (wiring_of queue.old).vif.owners.now ≡ 20 }
     requires program { (wiring_of queue.old).program.now.shapes ≡ [] }
@@ -303,9 +252,13 @@ fn delivers_into(alloc: Global, queue: &mut Queue, start: u32, i: u32) -> Result
     ensures program { (wiring_of queue.new).program.now.shapes ≡ [] }
 {
     let answers = [start.wrapping_add(i).wrapping_add(1), 9, 5, 1, 16];
-    let seen = deliver(alloc, queue, &FOURTEEN, &answers)?;
-    let wrote = seen.wrote(18, &fourteen_responses(start, i));
-    Ok(wrote && seen.delivery == Delivery::Sent { slots: 1 })
+    match deliver(alloc, queue, &FOURTEEN, &answers) {
+        Some(seen) => {
+            let wrote = seen.wrote(18, &fourteen_responses(start, i));
+            wrote && seen.delivery == Delivery::Sent { slots: 1 }
+        }
+        None => false,
+    }
 }
 
 /// The answers to a turn of a packet of fourteen bytes in the first slot, which is sent back into the i-th rx slot.
@@ -327,32 +280,56 @@ fn sent_back(alloc: Global, start: u32, i: u32) -> Result<Vec<u32>, AllocError> 
     joined(alloc, &head, &later, 1, &[])
 }
 
-/// Whether a turn sends fourteen bytes back into the i-th slot.
-fn turns_into(alloc: Global, queue: &mut Queue, start: u32, i: u32) -> Result<bool, Fail>
+/// What a turn that finds these answers comes to, if these are its writes to the rx ring.
+fn answering(
+    alloc: Global,
+    queue: &mut Queue,
+    answers: &[u32],
+    responses: &[Access],
+) -> Option<Kind>
     requires ready { IsReady queue.old }
     requires owners { length (wiring_of queue.old).vif.owners.now ≡ 20 }
     requires program { (wiring_of queue.old).program.now.shapes ≡ [] }
     ensures ready { IsReady queue.new }
     ensures same { IsSameWiring queue.old queue.new }
 {
-    let answers = sent_back(alloc, start, i)?;
     let (counters, mut seat) = seated(alloc, &[])?;
-    let mut bus = ScriptBus::make(alloc, FRAMES, answers.as_slice(), 100)?;
+    let mut bus = ScriptBus::make(alloc, FRAMES, answers, 100).ok()?;
     let ports = Ports::new();
     let kind = kind_of(&queue.drive_turn(&mut bus, &counters, &mut seat, &ports));
-    let wrote = wrote(bus.accesses(), 18, &fourteen_responses(start, i));
-    Ok(wrote && kind == Kind::ran(3, 1))
+    wrote(bus.accesses(), 18, responses).then_some(kind)
+}
+
+/// What a turn of a packet of fourteen bytes comes to, if it sends them back into the i-th slot.
+fn sent_into(alloc: Global, queue: &mut Queue, start: u32, i: u32) -> Option<Kind>
+    requires ready { IsReady queue.old }
+    requires owners { length (wiring_of queue.old).vif.owners.now ≡ 20 }
+    requires program { (wiring_of queue.old).program.now.shapes ≡ [] }
+    ensures ready { IsReady queue.new }
+    ensures same { IsSameWiring queue.old queue.new }
+{
+    let answers = sent_back(alloc, start, i).ok()?;
+    let responses = fourteen_responses(start, i);
+    answering(alloc, queue, answers.as_slice(), &responses)
+}
+
+/// Whether a delivery takes the first slot and one behind a turn the third, and what the turn comes to, if it takes the second.
+fn in_order(alloc: Global, start: u32) -> Option<([bool; 2], Option<Kind>)> {
+    let (bench, mut buffer) = ready(alloc, &SENDS, &[])?;
+    match bench.queue(alloc, start, &mut buffer) {
+        Some(mut queue) => {
+            let first = delivers_into(alloc, &mut queue, start, 0);
+            let second = sent_into(alloc, &mut queue, start, 1);
+            Some(([first, delivers_into(alloc, &mut queue, start, 2)], second))
+        }
+        None => None,
+    }
 }
 
 #[test]
-fn deliveries_and_turns_take_their_slots_in_order(rt: HostRuntime) -> Result<(), Fail> {
-    let bench = Bench::make(rt.alloc(), &SENDS, &[])?;
-    let mut buffer = Buffer::make(rt.alloc())?;
+fn deliveries_and_turns_take_their_slots_in_order(rt: HostRuntime) {
+    let wanted = ([true, true], Some(Kind::ran(3, 1)));
     for start in STARTS {
-        let mut queue = bench.queue(rt.alloc(), start, &mut buffer)?;
-        assert!(rt; delivers_into(rt.alloc(), &mut queue, start, 0)?);
-        assert!(rt; turns_into(rt.alloc(), &mut queue, start, 1)?);
-        assert!(rt; delivers_into(rt.alloc(), &mut queue, start, 2)?);
+        assert_eq!(rt; in_order(rt.alloc(), start), Some(wanted));
     }
-    Ok(())
 }

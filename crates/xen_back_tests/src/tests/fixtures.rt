@@ -5,11 +5,9 @@ ghost use Rattle.xen_back.specs.Queues.{IsReady, wiring_of};
 ghost use Rattle.xen_steps.specs.Answers.{Fits};
 
 use super::kind::{Kind, kind_of};
-use crate::bench::{Bench, FRAMES, seated};
+use crate::bench::{FRAMES, ready, seated};
 use bpf_note::MapShape;
-use bpf_vm::Buffer;
 use std::alloc::{AllocError, Global};
-use std::test::Fail;
 use xen_back::{Answer, Queue, Turn, Want};
 use xen_page::{Access, Place, ScriptBus};
 use xen_ring::{Port, Ports};
@@ -91,9 +89,9 @@ pub fn wrote(accesses: &[Access], frame: u32, wanted: &[Access]) -> bool {
 }
 
 /// The packet that a turn shows.
-pub fn packet_of(alloc: Global, turn: &Turn) -> Result<Vec<u8>, Fail> {
+pub fn packet_of(alloc: Global, turn: &Turn) -> Result<Vec<u8>, AllocError> {
     match turn {
-        Turn::Ran { packet, .. } => Ok(Vec::from_slice(alloc, packet)?),
+        Turn::Ran { packet, .. } => Vec::from_slice(alloc, packet),
         _ => Ok(Vec::new(alloc)),
     }
 }
@@ -120,12 +118,9 @@ pub fn access_to(want: Want, answer: u32) -> Option<Access> {
     }
 }
 
-/// Feeds a queue until its turn is over; each counter holds 0. Returns the accesses, and whether a notice was sent.
-pub fn feed_turn(
-    alloc: Global,
-    queue: &mut Queue,
-    answers: &[u32],
-) -> Result<(Vec<Access>, bool), Fail> {
+/// Feeds a queue until its turn is over; each counter holds 0. Returns the accesses, and whether a notice was sent. None if the
+/// turn has no end.
+pub fn feed_turn(alloc: Global, queue: &mut Queue, answers: &[u32]) -> Option<(Vec<Access>, bool)> {
     let mut accesses = Vec::new(alloc);
     let mut given = answers.iter();
     let mut notified = false;
@@ -136,15 +131,15 @@ pub fn feed_turn(
             _ => 0,
         };
         let Some(answer) = answer_to(want, word) else {
-            return Ok((accesses, notified));
+            return Some((accesses, notified));
         };
         if let Some(access) = access_to(want, word) {
-            accesses.push(access)?;
+            accesses.push(access).ok()?;
         }
         notified |= matches!(want, Want::Notify(_));
         queue.feed(answer);
     }
-    Err("no end".into())
+    None
 }
 
 /// Whether a notice was sent to the queue's port.
@@ -156,40 +151,32 @@ pub fn is_notified(ports: &Ports) -> bool {
 }
 
 /// A turn, with its accesses and its notice.
-fn with_packet(
-    alloc: Global,
-    turn: &Turn,
-    accesses: Vec<Access>,
-    notified: bool,
-) -> Result<Seen, Fail> {
-    let packet = packet_of(alloc, turn)?;
-    Ok(Seen {
-        kind: kind_of(turn),
-        packet,
-        accesses,
-        notified,
-    })
+fn with_packet(alloc: Global, turn: &Turn, accesses: Vec<Access>, notified: bool) -> Option<Seen> {
+    match packet_of(alloc, turn) {
+        Ok(packet) => Some(Seen {
+            kind: kind_of(turn),
+            packet,
+            accesses,
+            notified,
+        }),
+        Err(_) => None,
+    }
 }
 
 /// A turn, with the accesses of its bus and its notice.
-pub fn seen_of(
-    alloc: Global,
-    turn: &Turn,
-    accesses: &[Access],
-    ports: &Ports,
-) -> Result<Seen, Fail> {
-    let accesses = Vec::from_slice(alloc, accesses)?;
+pub fn seen_of(alloc: Global, turn: &Turn, accesses: &[Access], ports: &Ports) -> Option<Seen> {
+    let accesses = Vec::from_slice(alloc, accesses).ok()?;
     with_packet(alloc, turn, accesses, is_notified(ports))
 }
 
 /// A turn by `want` and `feed`, of which the counters are 0.
-pub fn fed(alloc: Global, queue: &mut Queue, answers: &[u32]) -> Result<Seen, Fail> {
+pub fn fed(alloc: Global, queue: &mut Queue, answers: &[u32]) -> Option<Seen> {
     let (accesses, notified) = feed_turn(alloc, queue, answers)?;
-    if queue.wanted() != Want::Done {
-        return Err("no end".into());
+    if queue.wanted() == Want::Done {
+        with_packet(alloc, &queue.turn(), accesses, notified)
+    } else {
+        None
     }
-    let turn = queue.turn();
-    with_packet(alloc, &turn, accesses, notified)
 }
 
 /// The turn of a new queue by `want` and `feed`.
@@ -199,29 +186,25 @@ pub fn turn_by_hand(
     shapes: &[MapShape],
     start: u32,
     answers: &[u32],
-) -> Result<Seen, Fail>
+) -> Option<Seen>
     requires { length shapes.now ≤ 4 }
 {
-    let bench = Bench::make(alloc, bytes, shapes)?;
-    let mut buffer = Buffer::make(alloc)?;
-    let mut queue = bench.queue(alloc, start, &mut buffer)?;
-    fed(alloc, &mut queue, answers)
+    let (bench, mut buffer) = ready(alloc, bytes, shapes)?;
+    match bench.queue(alloc, start, &mut buffer) {
+        Some(mut queue) => fed(alloc, &mut queue, answers),
+        None => None,
+    }
 }
 
 /// A turn by `drive_turn`, of which the counters are 0.
-fn driven(
-    alloc: Global,
-    queue: &mut Queue,
-    shapes: &[MapShape],
-    answers: &[u32],
-) -> Result<Seen, Fail>
+fn driven(alloc: Global, queue: &mut Queue, shapes: &[MapShape], answers: &[u32]) -> Option<Seen>
     requires few { length shapes.now ≤ 4 }
     requires ready { IsReady queue.old }
     requires owners { length (wiring_of queue.old).vif.owners.now ≡ 20 }
     requires program { (wiring_of queue.old).program.now.shapes ≡ shapes.now }
 {
     let (counters, mut seat) = seated(alloc, shapes)?;
-    let mut bus = ScriptBus::make(alloc, FRAMES, answers, 34_000)?;
+    let mut bus = ScriptBus::make(alloc, FRAMES, answers, 34_000).ok()?;
     let ports = Ports::new();
     let turn = queue.drive_turn(&mut bus, &counters, &mut seat, &ports);
     seen_of(alloc, &turn, bus.accesses(), &ports)
@@ -234,56 +217,61 @@ pub fn turn_by_driver(
     shapes: &[MapShape],
     start: u32,
     answers: &[u32],
-) -> Result<Seen, Fail>
+) -> Option<Seen>
     requires { length shapes.now ≤ 4 }
 {
-    let bench = Bench::make(alloc, bytes, shapes)?;
-    let mut buffer = Buffer::make(alloc)?;
-    let mut queue = bench.queue(alloc, start, &mut buffer)?;
-    driven(alloc, &mut queue, shapes, answers)
-}
-
-/// Fails where the turn by hand isn't the one that was seen.
-fn same_by_hand(
-    alloc: Global,
-    bytes: &[u8],
-    shapes: &[MapShape],
-    start: u32,
-    answers: &[u32],
-    seen: &Seen,
-) -> Result<(), Fail>
-    requires { length shapes.now ≤ 4 }
-{
-    if turn_by_hand(alloc, bytes, shapes, start, answers)? == *seen {
-        Ok(())
-    } else {
-        Err("the two ways differ".into())
+    let (bench, mut buffer) = ready(alloc, bytes, shapes)?;
+    match bench.queue(alloc, start, &mut buffer) {
+        Some(mut queue) => driven(alloc, &mut queue, shapes, answers),
+        None => None,
     }
 }
 
-/// The same turn both ways, under a program with these maps.
+/// What was seen, if the turn by hand comes to the same.
+fn if_same(seen: Option<Seen>, by_hand: Option<Seen>) -> Option<Seen> {
+    if seen == by_hand { seen } else { None }
+}
+
+/// The turn that comes out both ways, under a program with these maps. None if the two ways differ.
 pub fn turn_with_maps(
     alloc: Global,
     bytes: &[u8],
     shapes: &[MapShape],
     start: u32,
     answers: &[u32],
-) -> Result<Seen, Fail>
+) -> Option<Seen>
     requires { length shapes.now ≤ 4 }
 {
-    let seen = turn_by_driver(alloc, bytes, shapes, start, answers)?;
-    same_by_hand(alloc, bytes, shapes, start, answers, &seen)?;
-    Ok(seen)
+    let seen = turn_by_driver(alloc, bytes, shapes, start, answers);
+    if_same(seen, turn_by_hand(alloc, bytes, shapes, start, answers))
 }
 
-/// The same turn both ways, under a program without maps.
-pub fn turn(alloc: Global, bytes: &[u8], start: u32, answers: &[u32]) -> Result<Seen, Fail> {
+/// The turn that comes out both ways, under a program without maps.
+pub fn turn(alloc: Global, bytes: &[u8], start: u32, answers: &[u32]) -> Option<Seen> {
     turn_with_maps(alloc, bytes, &[], start, answers)
 }
 
-/// What a turn under a program without maps comes to.
-pub fn kind(alloc: Global, bytes: &[u8], start: u32, answers: &[u32]) -> Result<Kind, Fail> {
-    Ok(turn(alloc, bytes, start, answers)?.kind)
+/// What a turn under a program without maps comes to, and how many accesses it makes.
+pub fn count(alloc: Global, bytes: &[u8], start: u32, answers: &[u32]) -> Option<(Kind, usize)> {
+    let seen = turn(alloc, bytes, start, answers)?;
+    Some((seen.kind, seen.accesses.len()))
+}
+
+/// What such a turn comes to.
+pub fn kind(alloc: Global, bytes: &[u8], start: u32, answers: &[u32]) -> Option<Kind> {
+    Some(turn(alloc, bytes, start, answers)?.kind)
+}
+
+/// Whether a notice is sent by such a turn, if it comes to this end with these accesses.
+pub fn notice(
+    alloc: Global,
+    bytes: &[u8],
+    start: u32,
+    answers: &[u32],
+    (kind, accesses): (Kind, &[Access]),
+) -> Option<bool> {
+    let seen = turn(alloc, bytes, start, answers)?;
+    (seen.kind == kind && seen.made(accesses)).then_some(seen.notified)
 }
 
 /// The words of `head`, those of `part` so many times, and those of `tail`.

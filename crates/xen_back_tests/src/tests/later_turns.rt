@@ -2,14 +2,12 @@
 
 ghost use Rattle.std.specs.Prelude.{◌<◌};
 
-use super::fixtures::{SENDS, Seen, fed, joined, turn, turn_with_maps, write};
+use super::fixtures::{SENDS, Seen, fed, joined, kind, turn, turn_with_maps, write};
 use super::kind::Kind;
 use super::slots::{STARTS, slot, tx};
-use crate::bench::{Bench, IFINDEX, QUEUE};
+use crate::bench::{IFINDEX, QUEUE, ready};
 use bpf_note::MapShape;
-use bpf_vm::Buffer;
 use std::alloc::{AllocError, Global};
-use std::test::Fail;
 use xen_back::{Halt, Queue, Refusal};
 use xen_netif::ChainFault;
 
@@ -47,54 +45,68 @@ fn fourteen(alloc: Global, start: u32, i: u32, later: &[u32]) -> Result<Vec<u32>
 }
 
 /// A packet of a whole page in the first slot, which is sent back.
-fn a_page(alloc: Global, start: u32) -> Result<Seen, Fail> {
+fn a_page(alloc: Global, start: u32) -> Option<Seen> {
     let one = start.wrapping_add(1);
     let head = [one, 2, 0, slot(7, 4096), 1, 19];
     let later = [one, 9, 5, 1, 16, start, start];
-    let answers = joined(alloc, &head, &[0x0403_0201], 1024, &later)?;
+    let answers = joined(alloc, &head, &[0x0403_0201], 1024, &later).ok()?;
     turn(alloc, &SENDS, start, answers.as_slice())
 }
 
+/// What it comes to, how often its buffer is written, and whether a notice is sent, if the rx ring is written.
+fn a_page_sent(alloc: Global, start: u32) -> Option<(Kind, usize, bool)> {
+    let responses = [
+        write(18, rx(start, 0, 0), 9),
+        write(18, rx(start, 0, 1), 0x1000_0000),
+        write(18, 2, start.wrapping_add(1)),
+    ];
+    let seen = a_page(alloc, start)?;
+    seen.wrote(18, &responses)
+        .then_some((seen.kind, seen.writes(16), seen.notified))
+}
+
 #[test]
-fn a_whole_page_takes_one_rx_slot(rt: HostRuntime) -> Result<(), Fail> {
+fn a_whole_page_takes_one_rx_slot(rt: HostRuntime) {
     for start in STARTS {
-        let responses = [
-            write(18, rx(start, 0, 0), 9),
-            write(18, rx(start, 0, 1), 0x1000_0000),
-            write(18, 2, start.wrapping_add(1)),
-        ];
-        let seen = a_page(rt.alloc(), start)?;
-        assert_eq!(rt; (seen.kind, seen.writes(16)), (Kind::ran(3, 1), 1024));
-        assert!(rt; seen.wrote(18, &responses) && !seen.notified);
+        let sent = a_page_sent(rt.alloc(), start);
+        assert_eq!(rt; sent, Some((Kind::ran(3, 1), 1024, false)));
     }
-    Ok(())
 }
 
 /// Whether a packet that is sent back is told, where the rx ring's event index is `event`.
-fn is_told(alloc: Global, start: u32, event: u32) -> Result<bool, Fail> {
+fn is_told(alloc: Global, start: u32, event: u32) -> Option<bool> {
     let later = [start.wrapping_add(1), 9, 5, 1, 16, event, start];
-    let answers = fourteen(alloc, start, 0, &later)?;
-    Ok(turn(alloc, &SENDS, start, answers.as_slice())?.notified)
+    let answers = fourteen(alloc, start, 0, &later).ok()?;
+    Some(turn(alloc, &SENDS, start, answers.as_slice())?.notified)
 }
 
 #[test]
-fn a_notice_of_the_rx_ring_is_sent(rt: HostRuntime) -> Result<(), Fail> {
+fn a_notice_of_the_rx_ring_is_sent(rt: HostRuntime) {
     for start in STARTS {
-        assert!(rt; is_told(rt.alloc(), start, start.wrapping_add(1))?);
-        assert!(rt; !is_told(rt.alloc(), start, start)?);
+        let due = is_told(rt.alloc(), start, start.wrapping_add(1));
+        let not_due = is_told(rt.alloc(), start, start);
+        assert_eq!(rt; (due, not_due), (Some(true), Some(false)));
     }
-    Ok(())
 }
 
 /// What a packet of 14 bytes that counts and is then sent comes to with these later answers, by the driver and by hand.
-fn counted(alloc: Global, start: u32, later: &[u32]) -> Result<Kind, Fail> {
-    let shapes = [MapShape::of(2, 1).ok_or("no shape")?];
-    let answers = fourteen(alloc, start, 0, later)?;
-    Ok(turn_with_maps(alloc, &COUNTS_AND_SENDS, &shapes, start, answers.as_slice())?.kind)
+fn counted(alloc: Global, start: u32, later: &[u32]) -> Option<Kind> {
+    let shape = MapShape::of(2, 1)?;
+    let answers = fourteen(alloc, start, 0, later).ok()?;
+    Some(
+        turn_with_maps(
+            alloc,
+            &COUNTS_AND_SENDS,
+            &[shape],
+            start,
+            answers.as_slice(),
+        )?
+        .kind,
+    )
 }
 
 #[test]
-fn operations_count_though_the_packet_is_sent(rt: HostRuntime) -> Result<(), Fail> {
+fn operations_count_though_the_packet_is_sent(rt: HostRuntime) {
     let wanted = Kind::Ran {
         number: 3,
         ops: 1,
@@ -102,10 +114,9 @@ fn operations_count_though_the_packet_is_sent(rt: HostRuntime) -> Result<(), Fai
     };
     for start in STARTS {
         let one = start.wrapping_add(1);
-        let kind = counted(rt.alloc(), start, &[one, 9, 5, 1, 16])?;
-        assert_eq!(rt; kind, wanted);
+        let kind = counted(rt.alloc(), start, &[one, 9, 5, 1, 16]);
+        assert_eq!(rt; kind, Some(wanted));
     }
-    Ok(())
 }
 
 /// The end of a packet in one slot whose program counts and then sends it, and which is refused then.
@@ -118,22 +129,21 @@ fn refused_after_counting(cause: Refusal) -> Kind {
 }
 
 #[test]
-fn operations_count_though_no_rx_slot_is_posted(rt: HostRuntime) -> Result<(), Fail> {
+fn operations_count_though_no_rx_slot_is_posted(rt: HostRuntime) {
+    let wanted = refused_after_counting(Refusal::FewSlots);
     for start in STARTS {
-        let kind = counted(rt.alloc(), start, &[start])?;
-        assert_eq!(rt; kind, refused_after_counting(Refusal::FewSlots));
+        assert_eq!(rt; counted(rt.alloc(), start, &[start]), Some(wanted));
     }
-    Ok(())
 }
 
 #[test]
-fn operations_count_though_an_rx_grant_is_refused(rt: HostRuntime) -> Result<(), Fail> {
+fn operations_count_though_an_rx_grant_is_refused(rt: HostRuntime) {
+    let wanted = refused_after_counting(Refusal::RxGrant);
     for start in STARTS {
         // The entry's flags, 5, allow reading alone.
-        let kind = counted(rt.alloc(), start, &[start.wrapping_add(1), 9, 5, 5, 16])?;
-        assert_eq!(rt; kind, refused_after_counting(Refusal::RxGrant));
+        let kind = counted(rt.alloc(), start, &[start.wrapping_add(1), 9, 5, 5, 16]);
+        assert_eq!(rt; kind, Some(wanted));
     }
-    Ok(())
 }
 
 /// The answers for a packet of 4,097 bytes, which wants two rx slots. The first one's grant is for reading alone.
@@ -145,31 +155,31 @@ fn two_pages(alloc: Global, start: u32) -> Result<Vec<u32>, AllocError> {
 }
 
 /// What that packet comes to.
-fn fed_two_pages(alloc: Global, queue: &mut Queue, start: u32) -> Result<Seen, Fail> {
-    let answers = two_pages(alloc, start)?;
+fn fed_two_pages(alloc: Global, queue: &mut Queue, start: u32) -> Option<Seen> {
+    let answers = two_pages(alloc, start).ok()?;
     fed(alloc, queue, answers.as_slice())
 }
 
 /// What a packet of 14 bytes behind it comes to.
-fn fed_fourteen(alloc: Global, queue: &mut Queue, start: u32) -> Result<Seen, Fail> {
+fn fed_fourteen(alloc: Global, queue: &mut Queue, start: u32) -> Option<Seen> {
     let later = [start.wrapping_add(2), 10, 6, 1, 14, start, start];
-    let answers = fourteen(alloc, start, 2, &later)?;
+    let answers = fourteen(alloc, start, 2, &later).ok()?;
     fed(alloc, queue, answers.as_slice())
 }
 
-/// Whether the first packet is refused, with one response.
-fn refuses_two_pages(alloc: Global, queue: &mut Queue, start: u32) -> Result<bool, Fail> {
+/// What the first packet comes to, if it has one response.
+fn first_of_two(alloc: Global, queue: &mut Queue, start: u32) -> Option<Kind> {
     let responses = [
         write(18, rx(start, 0, 0), 9),
         write(18, rx(start, 0, 1), 0xffff_0000),
         write(18, 2, start.wrapping_add(1)),
     ];
     let seen = fed_two_pages(alloc, queue, start)?;
-    Ok(seen.kind == Kind::refused(Refusal::RxGrant, 2) && seen.wrote(18, &responses))
+    seen.wrote(18, &responses).then_some(seen.kind)
 }
 
-/// Whether the next packet goes on behind it, on both rings.
-fn goes_on_behind(alloc: Global, queue: &mut Queue, start: u32) -> Result<bool, Fail> {
+/// What the next packet comes to, if it goes on behind it, on both rings.
+fn second_of_two(alloc: Global, queue: &mut Queue, start: u32) -> Option<Kind> {
     let responses = [
         write(18, rx(start, 1, 0), 10),
         write(18, rx(start, 1, 1), 0x000e_0000),
@@ -181,77 +191,102 @@ fn goes_on_behind(alloc: Global, queue: &mut Queue, start: u32) -> Result<bool, 
     ];
     let seen = fed_fourteen(alloc, queue, start)?;
     let wrote = seen.wrote(18, &responses) && seen.wrote(17, &answered);
-    Ok(seen.kind == Kind::ran(3, 1) && wrote)
+    wrote.then_some(seen.kind)
+}
+
+/// What the two packets come to on a new queue.
+fn both_of_two(alloc: Global, start: u32) -> Option<[Option<Kind>; 2]> {
+    let (bench, mut buffer) = ready(alloc, &SENDS, &[])?;
+    match bench.queue(alloc, start, &mut buffer) {
+        Some(mut queue) => Some([
+            first_of_two(alloc, &mut queue, start),
+            second_of_two(alloc, &mut queue, start),
+        ]),
+        None => None,
+    }
 }
 
 #[test]
-fn a_refused_rx_slot_is_the_last_that_is_used(rt: HostRuntime) -> Result<(), Fail> {
-    let bench = Bench::make(rt.alloc(), &SENDS, &[])?;
-    let mut buffer = Buffer::make(rt.alloc())?;
+fn a_refused_rx_slot_is_the_last_that_is_used(rt: HostRuntime) {
+    let refused = Kind::refused(Refusal::RxGrant, 2);
+    let wanted = [Some(refused), Some(Kind::ran(3, 1))];
     for start in STARTS {
-        let mut queue = bench.queue(rt.alloc(), start, &mut buffer)?;
-        assert!(rt; refuses_two_pages(rt.alloc(), &mut queue, start)?);
-        assert!(rt; goes_on_behind(rt.alloc(), &mut queue, start)?);
+        assert_eq!(rt; both_of_two(rt.alloc(), start), Some(wanted));
     }
-    Ok(())
 }
 
-/// Whether a turn with these answers halts for this cause, and the next one too, without any access.
-fn halts_twice(alloc: Global, answers: &[u32], cause: Halt) -> Result<bool, Fail> {
-    let bench = Bench::make(alloc, &SENDS, &[])?;
-    let mut buffer = Buffer::make(alloc)?;
-    let mut queue = bench.queue(alloc, 0, &mut buffer)?;
-    let halted = Kind::Halted { cause };
-    let first = fed(alloc, &mut queue, answers)?.kind;
-    let second = fed(alloc, &mut queue, &[1])?;
-    Ok(first == halted && second.kind == halted && second.made(&[]))
+/// What a turn with these answers comes to.
+fn first_kind(alloc: Global, queue: &mut Queue, answers: &[u32]) -> Option<Kind> {
+    Some(fed(alloc, queue, answers)?.kind)
 }
+
+/// What the next turn comes to, if it makes no access.
+fn next_kind(alloc: Global, queue: &mut Queue) -> Option<Kind> {
+    let seen = fed(alloc, queue, &[1])?;
+    seen.made(&[]).then_some(seen.kind)
+}
+
+/// What a turn with these answers comes to, and the next one, if that makes no access.
+fn two_turns(alloc: Global, answers: &[u32]) -> Option<[Option<Kind>; 2]> {
+    let (bench, mut buffer) = ready(alloc, &SENDS, &[])?;
+    match bench.queue(alloc, 0, &mut buffer) {
+        Some(mut queue) => Some([
+            first_kind(alloc, &mut queue, answers),
+            next_kind(alloc, &mut queue),
+        ]),
+        None => None,
+    }
+}
+
+/// The third word of a slot with id 7 and fourteen bytes.
+const FOURTEEN: u32 = 0x000e_0007;
+
+/// Answers, and the cause for which their turn halts.
+const HALTS: [(&[u32], Halt); 4] = [
+    (&[257], Halt::TxProducer),
+    (&[1, 2, 0x4_0000, FOURTEEN], Halt::ShortChain),
+    (
+        &[2, 2, 0x8_0000, FOURTEEN, 6, 0, 0],
+        Halt::Chain(ChainFault::UnknownExtra),
+    ),
+    (
+        &[
+            1,
+            2,
+            0,
+            FOURTEEN,
+            1,
+            19,
+            50_462_976,
+            117_835_012,
+            185_207_048,
+            252_579_084,
+            257,
+        ],
+        Halt::RxProducer,
+    ),
+];
 
 #[test]
-fn each_halt_lasts(rt: HostRuntime) -> Result<(), Fail> {
-    let rows: [(&[u32], Halt); 4] = [
-        (&[257], Halt::TxProducer),
-        (&[1, 2, 0x4_0000, slot(7, 14)], Halt::ShortChain),
-        (
-            &[2, 2, 0x8_0000, slot(7, 14), 6, 0, 0],
-            Halt::Chain(ChainFault::UnknownExtra),
-        ),
-        (
-            &[
-                1,
-                2,
-                0,
-                slot(7, 14),
-                1,
-                19,
-                50_462_976,
-                117_835_012,
-                185_207_048,
-                252_579_084,
-                257,
-            ],
-            Halt::RxProducer,
-        ),
-    ];
-    for (answers, cause) in rows {
-        assert!(rt; halts_twice(rt.alloc(), answers, cause)?);
+fn each_halt_lasts(rt: HostRuntime) {
+    for (answers, cause) in HALTS {
+        let halted = Some(Kind::Halted { cause });
+        assert_eq!(rt; two_turns(rt.alloc(), answers), Some([halted; 2]));
     }
-    Ok(())
 }
 
 /// What a program comes to that ends with the word of its context at an offset.
-fn ends_with_its_word_at(alloc: Global, offset: u8) -> Result<Kind, Fail> {
+fn ends_with_its_word_at(alloc: Global, offset: u8) -> Option<Kind> {
     let code = [0x61, 0x10, offset, 0, 0, 0, 0, 0, 0x95, 0, 0, 0, 0, 0, 0, 0];
-    let answers = fourteen(alloc, 0, 0, &[])?;
-    Ok(turn(alloc, &code, 0, answers.as_slice())?.kind)
+    let answers = fourteen(alloc, 0, 0, &[]).ok()?;
+    kind(alloc, &code, 0, answers.as_slice())
 }
 
 /// LDX W r0, [r1 + 12] or [r1 + 16]; EXIT.
 #[test]
-fn the_program_sees_its_interface_and_its_queue(rt: HostRuntime) -> Result<(), Fail> {
+fn the_program_sees_its_interface_and_its_queue(rt: HostRuntime) {
     for (offset, number) in [(12, IFINDEX), (16, QUEUE)] {
-        let kind = ends_with_its_word_at(rt.alloc(), offset)?;
-        assert_eq!(rt; kind, Kind::ran(number, 1));
+        let kind = ends_with_its_word_at(rt.alloc(), offset);
+        assert_eq!(rt; kind, Some(Kind::ran(number, 1)));
     }
-    Ok(())
 }

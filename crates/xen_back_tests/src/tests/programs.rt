@@ -1,13 +1,11 @@
 //! Turns whose program decides.
 
-use super::fixtures::{Seen, fed, turn, turn_with_maps, write};
+use super::fixtures::{fed, turn, turn_with_maps, write};
 use super::kind::Kind;
 use super::slots::{STARTS, slot, tx};
-use crate::bench::Bench;
+use crate::bench::ready;
 use bpf_note::MapShape;
-use bpf_vm::Buffer;
 use std::alloc::Global;
-use std::test::Fail;
 use xen_back::Queue;
 
 /// Adds 1 to the counter of key 1: ST W [r10 - 4], 1; MOV r2, r10; ADD r2, -4; r1 = map 0; CALL 1; JEQ r0, 0, +2;
@@ -26,59 +24,75 @@ const LOOKS_AT_BYTE_14: [u8; 80] = [
     0, 2, 0, 0, 0, 0x95, 0, 0, 0, 0, 0, 0, 0, 0xb7, 0, 0, 0, 1, 0, 0, 0, 0x95, 0, 0, 0, 0, 0, 0, 0,
 ];
 
-/// A packet of 14 bytes under a program that ends with a number.
-fn ends_with(alloc: Global, start: u32, number: u8) -> Result<Seen, Fail> {
+/// What a packet of 14 bytes comes to under a program that ends with a number, if it is answered by this word.
+fn ends_with(alloc: Global, start: u32, number: u8, response: u32) -> Option<Kind> {
+    let writes = [
+        write(17, tx(start, 0, 0), response),
+        write(17, 2, start.wrapping_add(1)),
+    ];
     let code = [0xb7, 0, 0, 0, number, 0, 0, 0, 0x95, 0, 0, 0, 0, 0, 0, 0];
     let answers = [start.wrapping_add(1), 2, 0, slot(7, 14), 1, 19];
-    turn(alloc, &code, start, &answers)
+    let seen = turn(alloc, &code, start, &answers)?;
+    seen.wrote(17, &writes).then_some(seen.kind)
 }
 
 #[test]
-fn the_response_says_what_the_program_decided(rt: HostRuntime) -> Result<(), Fail> {
+fn the_response_says_what_the_program_decided(rt: HostRuntime) {
     for start in STARTS {
         for (number, response) in [(0, 0xffff_0007), (1, 0xfffe_0007), (2, 7), (7, 0xffff_0007)] {
-            let writes = [
-                write(17, tx(start, 0, 0), response),
-                write(17, 2, start.wrapping_add(1)),
-            ];
-            let seen = ends_with(rt.alloc(), start, number)?;
-            assert!(rt; seen.kind == Kind::ran(u32::from(number), 1) && seen.wrote(17, &writes));
+            let kind = ends_with(rt.alloc(), start, number, response);
+            assert_eq!(rt; kind, Some(Kind::ran(u32::from(number), 1)));
         }
     }
-    Ok(())
+}
+
+/// What a packet of 14 bytes comes to under that program.
+fn counted(alloc: Global, start: u32) -> Option<Kind> {
+    let shape = MapShape::of(2, 1)?;
+    let answers = [start.wrapping_add(1), 2, 0, slot(7, 14), 1, 19];
+    Some(turn_with_maps(alloc, &COUNTS, &[shape], start, &answers)?.kind)
 }
 
 #[test]
-fn a_counter_operation_is_counted(rt: HostRuntime) -> Result<(), Fail> {
-    let shapes = [MapShape::of(2, 1).ok_or("no shape")?];
+fn a_counter_operation_is_counted(rt: HostRuntime) {
+    let wanted = Kind::Ran {
+        number: 2,
+        ops: 1,
+        slots: 1,
+    };
     for start in STARTS {
-        let answers = [start.wrapping_add(1), 2, 0, slot(7, 14), 1, 19];
-        let kind = turn_with_maps(rt.alloc(), &COUNTS, &shapes, start, &answers)?.kind;
-        let wanted = Kind::Ran {
-            number: 2,
-            ops: 1,
-            slots: 1,
-        };
-        assert_eq!(rt; kind, wanted);
+        assert_eq!(rt; counted(rt.alloc(), start), Some(wanted));
     }
-    Ok(())
 }
 
-/// What a longer packet and then a shorter one come to.
-fn fed_in_turn(alloc: Global, queue: &mut Queue) -> Result<(Seen, Seen), Fail> {
-    let longer = [1, 2, 0, slot(7, 15), 1, 19, 1, 2, 3, 4];
-    let longer = fed(alloc, queue, &longer)?;
-    let shorter = fed(alloc, queue, &[2, 2, 0, slot(8, 14), 1, 19])?;
-    Ok((longer, shorter))
+/// What a packet of 15 bytes comes to, and its length.
+fn fed_longer(alloc: Global, queue: &mut Queue) -> Option<(Kind, usize)> {
+    let seen = fed(alloc, queue, &[1, 2, 0, slot(7, 15), 1, 19, 1, 2, 3, 4])?;
+    Some((seen.kind, seen.packet.len()))
+}
+
+/// Whether a packet of 14 bytes that are 0 is dropped behind it.
+fn drops_shorter(alloc: Global, queue: &mut Queue) -> bool {
+    match fed(alloc, queue, &[2, 2, 0, slot(8, 14), 1, 19]) {
+        Some(seen) => seen.shows(Kind::ran(1, 1), &[0; 14]),
+        None => false,
+    }
+}
+
+/// What the longer packet comes to and its length, and whether the shorter one is dropped behind it.
+fn longer_and_shorter(alloc: Global) -> Option<(Option<(Kind, usize)>, bool)> {
+    let (bench, mut buffer) = ready(alloc, &LOOKS_AT_BYTE_14, &[])?;
+    match bench.queue(alloc, 0, &mut buffer) {
+        Some(mut queue) => Some((
+            fed_longer(alloc, &mut queue),
+            drops_shorter(alloc, &mut queue),
+        )),
+        None => None,
+    }
 }
 
 #[test]
-fn no_byte_of_an_earlier_packet_is_seen(rt: HostRuntime) -> Result<(), Fail> {
-    let bench = Bench::make(rt.alloc(), &LOOKS_AT_BYTE_14, &[])?;
-    let mut buffer = Buffer::make(rt.alloc())?;
-    let mut queue = bench.queue(rt.alloc(), 0, &mut buffer)?;
-    let (longer, shorter) = fed_in_turn(rt.alloc(), &mut queue)?;
-    assert_eq!(rt; (longer.kind, longer.packet.len()), (Kind::ran(2, 1), 15));
-    assert!(rt; shorter.shows(Kind::ran(1, 1), &[0; 14]));
-    Ok(())
+fn no_byte_of_an_earlier_packet_is_seen(rt: HostRuntime) {
+    let found = longer_and_shorter(rt.alloc());
+    assert_eq!(rt; found, Some((Some((Kind::ran(2, 1), 15)), true)));
 }

@@ -6,7 +6,6 @@ use super::fixtures::{SENDS, Seen, joined, turn, write};
 use super::kind::Kind;
 use super::slots::{STARTS, slot, tx};
 use std::alloc::{AllocError, Global};
-use std::test::Fail;
 use xen_back::{Halt, Refusal};
 
 /// Where word `word` of the i-th rx slot from `start` lies in the rx ring's page.
@@ -17,7 +16,7 @@ fn rx(start: u32, i: u32, word: u32) -> u32
 }
 
 /// A packet of the bytes 0 to 13, with these answers after its run.
-fn fourteen(alloc: Global, start: u32, later: &[u32]) -> Result<Seen, Fail> {
+fn fourteen(alloc: Global, start: u32, later: &[u32]) -> Option<Seen> {
     let head = [
         start.wrapping_add(1),
         2,
@@ -30,7 +29,7 @@ fn fourteen(alloc: Global, start: u32, later: &[u32]) -> Result<Seen, Fail> {
         185_207_048,
         252_579_084,
     ];
-    let answers = joined(alloc, &head, later, 1, &[])?;
+    let answers = joined(alloc, &head, later, 1, &[]).ok()?;
     turn(alloc, &SENDS, start, answers.as_slice())
 }
 
@@ -52,102 +51,128 @@ fn two_pages_answers(alloc: Global, start: u32, later: &[u32]) -> Result<Vec<u32
 }
 
 /// A packet of 4,097 bytes in two slots, with these answers after its run.
-fn two_pages(alloc: Global, start: u32, later: &[u32]) -> Result<Seen, Fail> {
-    let answers = two_pages_answers(alloc, start, later)?;
+fn two_pages(alloc: Global, start: u32, later: &[u32]) -> Option<Seen> {
+    let answers = two_pages_answers(alloc, start, later).ok()?;
     turn(alloc, &SENDS, start, answers.as_slice())
 }
 
-#[test]
-fn fourteen_bytes_are_sent_back(rt: HostRuntime) -> Result<(), Fail> {
-    for start in STARTS {
-        let one = start.wrapping_add(1);
-        let words = [
-            write(16, 0, 0x0302_0100),
-            write(16, 1, 0x0706_0504),
-            write(16, 2, 0x0b0a_0908),
-            write(16, 3, 0x0000_0d0c),
-        ];
-        let responses = [
-            write(18, rx(start, 0, 0), 9),
-            write(18, rx(start, 0, 1), 0x000e_0000),
-            write(18, 2, one),
-        ];
-        let answered = [write(17, tx(start, 0, 0), 7), write(17, 2, one)];
-        let seen = fourteen(rt.alloc(), start, &[one, 9, 5, 1, 16, one, one])?;
-        let count = 10 + 5 + 4 + 2 + 2 + 1 + 2;
-        assert_eq!(rt; (seen.kind, seen.accesses.len()), (Kind::ran(3, 1), count));
-        assert!(rt;
-            seen.wrote(16, &words) && seen.wrote(18, &responses) && seen.wrote(17, &answered)
-        );
-    }
-    Ok(())
+/// Whether these are a turn's writes to the frame of the buffer, to the rx ring and to the tx ring of fourteen bytes that are
+/// sent back.
+fn sends_fourteen(seen: &Seen, start: u32) -> bool {
+    let one = start.wrapping_add(1);
+    let words = [
+        write(16, 0, 0x0302_0100),
+        write(16, 1, 0x0706_0504),
+        write(16, 2, 0x0b0a_0908),
+        write(16, 3, 0x0000_0d0c),
+    ];
+    let responses = [
+        write(18, rx(start, 0, 0), 9),
+        write(18, rx(start, 0, 1), 0x000e_0000),
+        write(18, 2, one),
+    ];
+    let answered = [write(17, tx(start, 0, 0), 7), write(17, 2, one)];
+    seen.wrote(16, &words) && seen.wrote(18, &responses) && seen.wrote(17, &answered)
+}
+
+/// What fourteen bytes that are sent back come to, and how many accesses they make, if they are written.
+fn fourteen_sent(alloc: Global, start: u32) -> Option<(Kind, usize)> {
+    let one = start.wrapping_add(1);
+    let seen = fourteen(alloc, start, &[one, 9, 5, 1, 16, one, one])?;
+    sends_fourteen(&seen, start).then_some((seen.kind, seen.accesses.len()))
 }
 
 #[test]
-fn a_longer_packet_takes_two_slots(rt: HostRuntime) -> Result<(), Fail> {
+fn fourteen_bytes_are_sent_back(rt: HostRuntime) {
+    let count = 10 + 5 + 4 + 2 + 2 + 1 + 2;
     for start in STARTS {
-        let two = start.wrapping_add(2);
-        let later = [two, 9, 5, 1, 16, 10, 6, 1, 14, start, start];
-        let responses = [
-            write(18, rx(start, 0, 0), 9),
-            write(18, rx(start, 0, 1), 0x1000_0004),
-            write(18, rx(start, 1, 0), 10),
-            write(18, rx(start, 1, 1), 0x0001_0000),
-            write(18, 2, two),
-        ];
-        let seen = two_pages(rt.alloc(), start, &later)?;
-        assert_eq!(rt; (seen.packet.len(), seen.writes(16)), (4097, 1024));
-        assert!(rt; seen.wrote(14, &[write(14, 0, 9)]) && seen.wrote(18, &responses));
+        let sent = fourteen_sent(rt.alloc(), start);
+        assert_eq!(rt; sent, Some((Kind::ran(3, 1), count)));
     }
-    Ok(())
+}
+
+/// The length of a packet of two slots that is sent back, and how often its first buffer is written, if the second one and the
+/// rx ring are written.
+fn two_pages_sent(alloc: Global, start: u32) -> Option<(usize, usize)> {
+    let two = start.wrapping_add(2);
+    let responses = [
+        write(18, rx(start, 0, 0), 9),
+        write(18, rx(start, 0, 1), 0x1000_0004),
+        write(18, rx(start, 1, 0), 10),
+        write(18, rx(start, 1, 1), 0x0001_0000),
+        write(18, 2, two),
+    ];
+    let later = [two, 9, 5, 1, 16, 10, 6, 1, 14, start, start];
+    let seen = two_pages(alloc, start, &later)?;
+    let wrote = seen.wrote(14, &[write(14, 0, 9)]) && seen.wrote(18, &responses);
+    wrote.then_some((seen.packet.len(), seen.writes(16)))
 }
 
 #[test]
-fn a_second_grant_that_fails_writes_no_buffer(rt: HostRuntime) -> Result<(), Fail> {
+fn a_longer_packet_takes_two_slots(rt: HostRuntime) {
     for start in STARTS {
-        let two = start.wrapping_add(2);
-        let later = [two, 9, 5, 1, 16, 10, 6, 5, 14, start, start];
-        let responses = [
-            write(18, rx(start, 0, 0), 9),
-            write(18, rx(start, 0, 1), 0xffff_0000),
-            write(18, rx(start, 1, 0), 10),
-            write(18, rx(start, 1, 1), 0xffff_0000),
-            write(18, 2, two),
-        ];
-        let seen = two_pages(rt.alloc(), start, &later)?;
-        let written = [seen.writes(16), seen.writes(14)];
-        assert!(rt; seen.kind == Kind::refused(Refusal::RxGrant, 2) && written == [0, 0]);
-        assert!(rt; seen.wrote(18, &responses));
+        assert_eq!(rt; two_pages_sent(rt.alloc(), start), Some((4097, 1024)));
     }
-    Ok(())
+}
+
+/// What a packet comes to whose second buffer can't be written, and how often both buffers are written, if the rx ring is.
+fn second_grant_fails(alloc: Global, start: u32) -> Option<(Kind, [usize; 2])> {
+    let two = start.wrapping_add(2);
+    let responses = [
+        write(18, rx(start, 0, 0), 9),
+        write(18, rx(start, 0, 1), 0xffff_0000),
+        write(18, rx(start, 1, 0), 10),
+        write(18, rx(start, 1, 1), 0xffff_0000),
+        write(18, 2, two),
+    ];
+    let later = [two, 9, 5, 1, 16, 10, 6, 5, 14, start, start];
+    let seen = two_pages(alloc, start, &later)?;
+    let written = [seen.writes(16), seen.writes(14)];
+    seen.wrote(18, &responses).then_some((seen.kind, written))
 }
 
 #[test]
-fn one_posted_slot_is_too_few_for_two_pages(rt: HostRuntime) -> Result<(), Fail> {
+fn a_second_grant_that_fails_writes_no_buffer(rt: HostRuntime) {
     for start in STARTS {
-        let answered = [
-            write(17, tx(start, 0, 0), 0xffff_0007),
-            write(17, tx(start, 1, 0), 0xffff_0008),
-            write(17, 2, start.wrapping_add(2)),
-        ];
-        let seen = two_pages(rt.alloc(), start, &[start.wrapping_add(1), start])?;
-        let wanted = (Kind::refused(Refusal::FewSlots, 2), 0);
-        assert_eq!(rt; (seen.kind, seen.writes(18)), wanted);
-        assert!(rt; seen.wrote(17, &answered));
+        let found = second_grant_fails(rt.alloc(), start);
+        assert_eq!(rt; found, Some((Kind::refused(Refusal::RxGrant, 2), [0, 0])));
     }
-    Ok(())
+}
+
+/// What a packet of two pages comes to where one slot is posted, and how often the rx ring is written, if the tx ring is.
+fn one_posted_slot(alloc: Global, start: u32) -> Option<(Kind, usize)> {
+    let answered = [
+        write(17, tx(start, 0, 0), 0xffff_0007),
+        write(17, tx(start, 1, 0), 0xffff_0008),
+        write(17, 2, start.wrapping_add(2)),
+    ];
+    let seen = two_pages(alloc, start, &[start.wrapping_add(1), start])?;
+    seen.wrote(17, &answered)
+        .then_some((seen.kind, seen.writes(18)))
 }
 
 #[test]
-fn an_rx_producer_past_the_ring_halts(rt: HostRuntime) -> Result<(), Fail> {
+fn one_posted_slot_is_too_few_for_two_pages(rt: HostRuntime) {
     for start in STARTS {
-        let seen = fourteen(rt.alloc(), start, &[start.wrapping_add(257)])?;
-        let halted = Kind::Halted {
-            cause: Halt::RxProducer,
-        };
-        assert_eq!(rt; (seen.kind, seen.accesses.len()), (halted, 11));
+        let found = one_posted_slot(rt.alloc(), start);
+        assert_eq!(rt; found, Some((Kind::refused(Refusal::FewSlots, 2), 0)));
     }
-    Ok(())
+}
+
+/// What a packet comes to behind an rx producer past the ring, and how many accesses it makes.
+fn past_the_ring(alloc: Global, start: u32) -> Option<(Kind, usize)> {
+    let seen = fourteen(alloc, start, &[start.wrapping_add(257)])?;
+    Some((seen.kind, seen.accesses.len()))
+}
+
+#[test]
+fn an_rx_producer_past_the_ring_halts(rt: HostRuntime) {
+    let halted = Kind::Halted {
+        cause: Halt::RxProducer,
+    };
+    for start in STARTS {
+        assert_eq!(rt; past_the_ring(rt.alloc(), start), Some((halted, 11)));
+    }
 }
 
 /// The first words of a packet of 65,535 bytes in sixteen slots: the producer and the slots.
@@ -166,17 +191,17 @@ fn longest_answers(alloc: Global, start: u32) -> Result<Vec<u32>, AllocError> {
     joined(alloc, answers.as_slice(), &[0, 2, 1, 16], 16, &[])
 }
 
-fn longest(alloc: Global, start: u32) -> Result<Seen, Fail> {
-    let answers = longest_answers(alloc, start)?;
-    turn(alloc, &SENDS, start, answers.as_slice())
+/// What that packet comes to, its length, and how often the buffer is written.
+fn longest(alloc: Global, start: u32) -> Option<(Kind, [usize; 2])> {
+    let answers = longest_answers(alloc, start).ok()?;
+    let seen = turn(alloc, &SENDS, start, answers.as_slice())?;
+    Some((seen.kind, [seen.packet.len(), seen.writes(16)]))
 }
 
 #[test]
-fn the_longest_packet_takes_sixteen_slots(rt: HostRuntime) -> Result<(), Fail> {
+fn the_longest_packet_takes_sixteen_slots(rt: HostRuntime) {
     for start in STARTS {
-        let seen = longest(rt.alloc(), start)?;
-        let counts = [seen.packet.len(), seen.writes(16)];
-        assert_eq!(rt; (seen.kind, counts), (Kind::ran(3, 16), [65_535, 16_384]));
+        let found = longest(rt.alloc(), start);
+        assert_eq!(rt; found, Some((Kind::ran(3, 16), [65_535, 16_384])));
     }
-    Ok(())
 }

@@ -28,29 +28,28 @@ fn known(alloc: Global, extents: &[Extent], frame: u32) -> Result<(u32, Option<u
     Ok((owners.count(), owners.of(frame)))
 }
 
+/// A frame of the guest's and who owns it, with what it is.
+const FRAMES: [(u32, Option<u16>, &str); 9] = [
+    (0, Some(BACK), "the first frame"),
+    (1, Some(FRONT), "the first of the second extent"),
+    (0xb_ffff, Some(FRONT), "the last before the hole"),
+    (
+        0xc_0000,
+        Some(NOBODY),
+        "the first of the hole, as an extent of no frames is none",
+    ),
+    (0xf_ffff, Some(NOBODY), "the last of the hole"),
+    (0x10_0000, Some(FRONT), "the first behind the hole"),
+    (0x13_ffff, Some(FRONT), "the last"),
+    (0x14_0000, None, "one past the last"),
+    (0xffff_ffff, None, "the largest number"),
+];
+
 #[test]
 fn each_extent_follows_the_one_before(rt: HostRuntime) {
-    let rows = [
-        (0, Some(BACK), "the first frame"),
-        (1, Some(FRONT), "the first of the second extent"),
-        (0xb_ffff, Some(FRONT), "the last before the hole"),
-        (
-            0xc_0000,
-            Some(NOBODY),
-            "the first of the hole, as an extent of no frames is none",
-        ),
-        (0xf_ffff, Some(NOBODY), "the last of the hole"),
-        (0x10_0000, Some(FRONT), "the first behind the hole"),
-        (0x13_ffff, Some(FRONT), "the last"),
-        (0x14_0000, None, "one past the last"),
-        (0xffff_ffff, None, "the largest number"),
-    ];
-    for (frame, owner, text) in rows {
-        assert_eq!(rt;
-            known(rt.alloc(), &guest(), frame),
-            Ok((0x14_0000, owner)),
-            "{text}"
-        );
+    for (frame, owner, text) in FRAMES {
+        let known = known(rt.alloc(), &guest(), frame);
+        assert!(rt; known == Ok((0x14_0000, owner)), "{text}");
     }
 }
 
@@ -58,17 +57,20 @@ fn each_extent_follows_the_one_before(rt: HostRuntime) {
 #[test]
 fn frames_are_counted_in_32_bits(rt: HostRuntime) {
     let most = [extent(0xffff_fffe, FRONT), extent(1, BACK)];
-    assert_eq!(rt;
-        known(rt.alloc(), &most, 0xffff_fffe),
-        Ok((0xffff_ffff, Some(BACK)))
-    );
-    assert_eq!(rt;
-        known(rt.alloc(), &most, 0xffff_ffff),
-        Ok((0xffff_ffff, None))
-    );
     let too_many = [extent(0xffff_fffe, FRONT), extent(2, BACK)];
-    assert_eq!(rt; known(rt.alloc(), &too_many, 0), Err(OwnersFault::Frames));
-    assert_eq!(rt; known(rt.alloc(), &[], 0), Ok((0, None)));
+    let seen = [
+        known(rt.alloc(), &most, 0xffff_fffe),
+        known(rt.alloc(), &most, 0xffff_ffff),
+        known(rt.alloc(), &too_many, 0),
+        known(rt.alloc(), &[], 0),
+    ];
+    let wanted = [
+        Ok((0xffff_ffff, Some(BACK))),
+        Ok((0xffff_ffff, None)),
+        Err(OwnersFault::Frames),
+        Ok((0, None)),
+    ];
+    assert_eq!(rt; seen, wanted);
 }
 
 /// Whether so many frames of the guest's, from one on, are a table that `make` makes, and that `large` does.
@@ -83,24 +85,26 @@ fn is_table(alloc: Global, first: u32, count: usize) -> Result<(bool, bool), Own
     Ok((is_small, Table::large(&owners, FRONT, frames).is_some()))
 }
 
+/// A first frame and a count of the guest's frames, and whether they are a small table and a large one, with what they are.
+const TABLES: [(u32, usize, (bool, bool), &str); 11] = [
+    (1, 0, (false, false), "no frame"),
+    (1, 1, (true, true), "one"),
+    (1, 16, (true, true), "sixteen"),
+    (1, 17, (false, true), "seventeen"),
+    (1, 64, (false, true), "sixty-four"),
+    (1, 65, (false, false), "sixty-five"),
+    (0, 1, (false, false), "the host's page"),
+    (0xb_ffc0, 64, (false, true), "up to the hole"),
+    (0xb_ffc1, 64, (false, false), "into the hole"),
+    (0x13_ffc0, 64, (false, true), "up to the end"),
+    (0x13_ffc1, 64, (false, false), "past the end"),
+];
+
 // Xen's default: a guest's table has at most 64 frames (xen-command-line, gnttab_max_frames).
 #[test]
 fn a_large_table_has_up_to_64_frames(rt: HostRuntime) {
     assert_eq!(rt; MAX_LARGE_TABLE_FRAMES, 64);
-    let rows = [
-        (1, 0, (false, false), "no frame"),
-        (1, 1, (true, true), "one"),
-        (1, 16, (true, true), "sixteen"),
-        (1, 17, (false, true), "seventeen"),
-        (1, 64, (false, true), "sixty-four"),
-        (1, 65, (false, false), "sixty-five"),
-        (0, 1, (false, false), "the host's page"),
-        (0xb_ffc0, 64, (false, true), "up to the hole"),
-        (0xb_ffc1, 64, (false, false), "into the hole"),
-        (0x13_ffc0, 64, (false, true), "up to the end"),
-        (0x13_ffc1, 64, (false, false), "past the end"),
-    ];
-    for (first, count, is_made, text) in rows {
-        assert_eq!(rt; is_table(rt.alloc(), first, count), Ok(is_made), "{text}");
+    for (first, count, is_made, text) in TABLES {
+        assert!(rt; is_table(rt.alloc(), first, count) == Ok(is_made), "{text}");
     }
 }

@@ -1,94 +1,124 @@
 //! What takes memory, called again once it was refused. `tools/refuse-growths` refuses each allocation of these tests in
 //! turn, and counts the runs that print `refused`.
 
+ghost use Rattle.std.specs.Prelude.{◌≡◌, IfOk};
+ghost use Rattle.xen_page.specs.Recorded.{bus_of};
+
 use crate::bench::FRONT;
-use std::test::Fail;
+use std::alloc::{AllocError, Global};
+use std::io;
 use xen_page::{Bus, Extent, Frames, Owners, OwnersFault, Place, Recorder, ScriptBus};
 
 const WORD: Place = Place { frame: 0, word: 5 };
 
-#[test]
-fn owners_are_made_again(rt: HostRuntime) -> Result<(), Fail> {
-    let domains = [0, FRONT];
-    let owners = match Owners::make(rt.alloc(), &domains) {
-        Ok(owners) => owners,
-        Err(_) => {
-            println!(rt; "refused")?;
-            Owners::make(rt.alloc(), &domains)?
-        }
-    };
-    assert_eq!(rt; owners.of(1), Some(FRONT));
-    Ok(())
+/// Says that memory was refused.
+fn say_refused(rt: &HostRuntime) -> io::Result<()> {
+    println!(rt; "refused")
+}
+
+/// Who owns frame 1.
+fn owner(alloc: Global) -> Result<Option<u16>, AllocError> {
+    Ok(Owners::make(alloc, &[0, FRONT])?.of(1))
 }
 
 #[test]
-fn owners_of_extents_are_made_again(rt: HostRuntime) -> Result<(), Fail> {
+fn owners_are_made_again(rt: HostRuntime) -> io::Result<()> {
+    let mut found = owner(rt.alloc()).ok();
+    if found.is_none() {
+        say_refused(&rt)?;
+        found = owner(rt.alloc()).ok();
+    }
+    assert_eq!(rt; found, Some(Some(FRONT)));
+    Ok(())
+}
+
+fn owner_in_extents(alloc: Global) -> Result<Option<u16>, OwnersFault> {
     let extents = [Extent {
         frames: 9000,
         domain: FRONT,
     }];
-    let owners = match Owners::of_extents(rt.alloc(), &extents) {
-        Ok(owners) => owners,
-        Err(fault) => {
-            assert_eq!(rt; fault, OwnersFault::Memory);
-            println!(rt; "refused")?;
-            Owners::of_extents(rt.alloc(), &extents).map_err(|_| "refused twice")?
-        }
-    };
-    assert_eq!(rt; owners.of(8999), Some(FRONT));
-    Ok(())
+    Ok(Owners::of_extents(alloc, &extents)?.of(8999))
 }
 
 #[test]
-fn frames_are_made_again(rt: HostRuntime) -> Result<(), Fail> {
-    let frames = match Frames::make(rt.alloc(), &[FRONT]) {
-        Ok(frames) => frames,
-        Err(_) => {
-            println!(rt; "refused")?;
-            Frames::make(rt.alloc(), &[FRONT])?
-        }
-    };
-    assert_eq!(rt; frames.count(), 1);
+fn owners_of_extents_are_made_again(rt: HostRuntime) -> io::Result<()> {
+    let mut owner = owner_in_extents(rt.alloc());
+    if owner == Err(OwnersFault::Memory) {
+        say_refused(&rt)?;
+        owner = owner_in_extents(rt.alloc());
+    }
+    assert_eq!(rt; owner, Ok(Some(FRONT)));
     Ok(())
 }
 
+fn count(alloc: Global) -> Result<u32, AllocError> {
+    Ok(Frames::make(alloc, &[FRONT])?.count())
+}
+
 #[test]
-fn scripts_are_made_again(rt: HostRuntime) -> Result<(), Fail> {
-    let mut bus = match ScriptBus::make(rt.alloc(), 1, &[7], 1) {
-        Ok(bus) => bus,
-        Err(_) => {
-            println!(rt; "refused")?;
-            ScriptBus::make(rt.alloc(), 1, &[7], 1)?
-        }
-    };
-    assert_eq!(rt; bus.read(WORD), 7);
-    assert_eq!(rt; bus.accesses().len(), 1);
+fn frames_are_made_again(rt: HostRuntime) -> io::Result<()> {
+    let mut found = count(rt.alloc()).ok();
+    if found.is_none() {
+        say_refused(&rt)?;
+        found = count(rt.alloc()).ok();
+    }
+    assert_eq!(rt; found, Some(1));
     Ok(())
 }
 
-/// The bus under a recorder that isn't made is dropped with it.
+/// The word that a script answers, and how many accesses its log has then.
+fn scripted(alloc: Global) -> Result<(u32, usize), AllocError> {
+    let mut bus = ScriptBus::make(alloc, 1, &[7], 1)?;
+    let word = bus.read(WORD);
+    Ok((word, bus.accesses().len()))
+}
+
 #[test]
-fn recorders_are_made_again(rt: HostRuntime) -> Result<(), Fail> {
-    let script = match ScriptBus::make(rt.alloc(), 1, &[7], 0) {
+fn scripts_are_made_again(rt: HostRuntime) -> io::Result<()> {
+    let mut found = scripted(rt.alloc()).ok();
+    if found.is_none() {
+        say_refused(&rt)?;
+        found = scripted(rt.alloc()).ok();
+    }
+    assert_eq!(rt; found, Some((7, 1)));
+    Ok(())
+}
+
+/// A recorder of one access, over a script. The bus under a recorder that isn't made is dropped with it.
+fn recorder(alloc: Global) -> Result<Recorder<ScriptBus>, AllocError>
+    ensures { IfOk result (λ recorder. (bus_of recorder).frames ≡ 1) }
+{
+    let script = match ScriptBus::make(alloc, 1, &[7], 0) {
         Ok(script) => script,
-        Err(_) => ScriptBus::make(rt.alloc(), 1, &[7], 0)?,
+        Err(_) => ScriptBus::make(alloc, 1, &[7], 0)?,
     };
-    let mut bus = match Recorder::make(rt.alloc(), script, 1) {
-        Ok(bus) => bus,
-        Err(_) => {
-            println!(rt; "refused")?;
-            let script = ScriptBus::make(rt.alloc(), 1, &[7], 0)?;
-            Recorder::make(rt.alloc(), script, 1)?
-        }
-    };
-    assert_eq!(rt; bus.read(WORD), 7);
-    let answers = match bus.answers(rt.alloc()) {
-        Ok(answers) => answers,
-        Err(_) => {
-            println!(rt; "refused")?;
-            bus.answers(rt.alloc())?
-        }
-    };
-    assert_eq!(rt; answers.as_slice(), [7].as_slice());
+    Recorder::make(alloc, script, 1)
+}
+
+fn tells_7(alloc: Global, bus: &Recorder<ScriptBus>) -> Result<bool, AllocError> {
+    Ok(bus.answers(alloc)?.as_slice() == [7].as_slice())
+}
+
+/// The word that is read through a recorder, whether the recorder tells it, and whether memory for that was refused once.
+fn recorded(alloc: Global) -> Result<(u32, bool, bool), AllocError> {
+    let mut bus = recorder(alloc)?;
+    let word = bus.read(WORD);
+    match tells_7(alloc, &bus) {
+        Ok(is_told) => Ok((word, is_told, false)),
+        Err(_) => Ok((word, tells_7(alloc, &bus)?, true)),
+    }
+}
+
+#[test]
+fn recorders_are_made_again(rt: HostRuntime) -> io::Result<()> {
+    let mut found = recorded(rt.alloc()).ok();
+    if found.is_none() {
+        say_refused(&rt)?;
+        found = recorded(rt.alloc()).ok();
+    }
+    if let Some((_, _, true)) = found {
+        say_refused(&rt)?;
+    }
+    assert!(rt; matches!(found, Some((7, true, _))));
     Ok(())
 }

@@ -1,8 +1,11 @@
 //! Mapping a frame, and ending the mapping.
 
+ghost use Rattle.std.specs.Prelude.{◌≡◌, ◌<◌, All};
+ghost use Rattle.xen_page.specs.Table.{IsTable};
+
 use crate::bench::{BACK, FRAMES, FRONT, ended, log, mapped, owners};
 use std::alloc::Global;
-use xen_page::{Access, Bus, Frames, GrantFault, PageBus, Place, Table, map, unmap};
+use xen_page::{Access, Bus, Frames, GrantFault, Owners, PageBus, Place, Table, map, unmap};
 
 /// The flags word of reference 5 of a table in frame 1.
 const FLAGS: Place = Place { frame: 1, word: 10 };
@@ -34,24 +37,24 @@ fn a_mapping_marks_its_entry(rt: HostRuntime) {
     }
 }
 
+/// The two words of an entry, and the fault of a mapping for writing.
+const REFUSED: [(u32, u32, GrantFault); 8] = [
+    (0, 17, GrantFault::BadGntref),
+    (0x0001_0001, 17, GrantFault::PermissionDenied),
+    (5, 17, GrantFault::PermissionDenied),
+    (1, 0, GrantFault::BadPage),
+    (9, 0, GrantFault::BadPage),
+    (9, 17, GrantFault::Eagain),
+    (17, 17, GrantFault::Eagain),
+    (25, 17, GrantFault::Eagain),
+];
+
 #[test]
 fn a_refused_mapping_marks_nothing(rt: HostRuntime) {
-    let rows = [
-        (0, 17, GrantFault::BadGntref),
-        (0x0001_0001, 17, GrantFault::PermissionDenied),
-        (5, 17, GrantFault::PermissionDenied),
-        (1, 0, GrantFault::BadPage),
-        (9, 0, GrantFault::BadPage),
-        (9, 17, GrantFault::Eagain),
-        (17, 17, GrantFault::Eagain),
-        (25, 17, GrantFault::Eagain),
-    ];
-    for (a, b, fault) in rows {
-        assert_eq!(rt;
-            mapped(rt.alloc(), &[1], &[a, b], 5, true),
-            Some((Err(fault), log(&[read(FLAGS, a), read(FRAME, b)]))),
-            "{a} {b}"
-        );
+    for (a, b, fault) in REFUSED {
+        let accesses = log(&[read(FLAGS, a), read(FRAME, b)]);
+        let answer = mapped(rt.alloc(), &[1], &[a, b], 5, true);
+        assert!(rt; answer == Some((Err(fault), accesses)), "{a} {b}");
     }
 }
 
@@ -107,26 +110,49 @@ fn a_mapping_takes_its_own_marks_away(rt: HostRuntime) {
     }
 }
 
+/// The flags word while a frame is mapped for writing and once it is unmapped, and the fault of a second mapping.
+fn marks(
+    bus: &mut PageBus,
+    table: &Table,
+    owners: &Owners,
+) -> Option<([u32; 2], Option<GrantFault>)>
+    requires table { IsTable owners.now 1 table.now }
+    requires within { All (λ frame. frame < 20) table.now }
+    requires frames { bus.old ≡ 20 }
+    ensures { bus.new ≡ 20 }
+{
+    let mapped = map(bus, table, owners, FRONT, BACK, 5, true).ok()?;
+    let marked = bus.read(FLAGS);
+    let again = map(bus, table, owners, FRONT, BACK, 5, false).err();
+    unmap(bus, mapped).ok()?;
+    Some(([marked, bus.read(FLAGS)], again))
+}
+
+/// Whether a frame that is mapped for reading may be written, and the two words of its entry then.
+fn readable(bus: &mut PageBus, table: &Table, owners: &Owners) -> Option<(bool, [u32; 2])>
+    requires table { IsTable owners.now 1 table.now }
+    requires within { All (λ frame. frame < 20) table.now }
+    requires frames { bus.old ≡ 20 }
+{
+    let mapped = map(bus, table, owners, FRONT, BACK, 5, false).ok()?;
+    Some((mapped.is_writable(), [bus.read(FLAGS), bus.read(FRAME)]))
+}
+
 /// What is found as pages are mapped for writing, again, unmapped, and mapped for reading: the flags word while they are
 /// mapped and afterwards, the second mapping's fault, whether the third may write, and the entry's two words.
 fn pages(alloc: Global) -> Option<([u32; 2], Option<GrantFault>, bool, [u32; 2])> {
     let owners = owners(alloc).ok()?;
     let table = Table::make(&owners, FRONT, &[1])?;
     let frames = Frames::make(alloc, &[FRONT; FRAMES as usize]).ok()?;
-    let mut bus = PageBus::of(&frames);
-    if !table.is_within(bus.frames()) {
+    if !table.is_within(FRAMES) {
         return None;
     }
+    let mut bus = PageBus::of(&frames);
     bus.write(FLAGS, 1);
     bus.write(FRAME, 17);
-    let mapped = map(&mut bus, &table, &owners, FRONT, BACK, 5, true).ok()?;
-    let marked = bus.read(FLAGS);
-    let again = map(&mut bus, &table, &owners, FRONT, BACK, 5, false).err();
-    unmap(&mut bus, mapped).ok()?;
-    let unmarked = bus.read(FLAGS);
-    let mapped = map(&mut bus, &table, &owners, FRONT, BACK, 5, false).ok()?;
-    let words = [bus.read(FLAGS), bus.read(FRAME)];
-    Some(([marked, unmarked], again, mapped.is_writable(), words))
+    let (marks, again) = marks(&mut bus, &table, &owners)?;
+    let (is_writable, words) = readable(&mut bus, &table, &owners)?;
+    Some((marks, again, is_writable, words))
 }
 
 #[test]

@@ -7,26 +7,26 @@ use xen_page::{ENTRIES, MAX_FRAMES, MAX_TABLE_FRAMES, Owners, Place, Table, WORD
 // grant_table.h: a page of 4,096 octets has 512 entries of eight octets.
 #[test]
 fn limits(rt: HostRuntime) {
-    assert_eq!(rt; WORDS, 1024);
-    assert_eq!(rt; ENTRIES, 512);
-    assert_eq!(rt; MAX_TABLE_FRAMES, 16);
-    assert_eq!(rt; MAX_FRAMES, 8192);
+    assert_eq!(rt; (WORDS, ENTRIES), (1024, 512));
+    assert_eq!(rt; (MAX_TABLE_FRAMES, MAX_FRAMES), (16, 8192));
 }
 
 #[test]
 fn a_place_is_within_its_page(rt: HostRuntime) {
-    assert_eq!(rt;
+    let places = [
         Place::of(7, 1023),
+        Place::of(7, 1024),
+        Some(Place { frame: 7, word: 4 }.next()),
+    ];
+    let wanted = [
         Some(Place {
             frame: 7,
-            word: 1023
-        })
-    );
-    assert_eq!(rt; Place::of(7, 1024), None);
-    assert_eq!(rt;
-        Place { frame: 7, word: 4 }.next(),
-        Place { frame: 7, word: 5 }
-    );
+            word: 1023,
+        }),
+        None,
+        Some(Place { frame: 7, word: 5 }),
+    ];
+    assert_eq!(rt; places, wanted);
 }
 
 /// How many frames have an owner, and those of frames 0, 19 and 20.
@@ -43,11 +43,8 @@ fn none_known(alloc: Global) -> Option<u32> {
 
 #[test]
 fn owners_are_known_by_frame(rt: HostRuntime) {
-    assert_eq!(rt;
-        known(rt.alloc()),
-        Some((20, [Some(BACK), Some(FRONT), None]))
-    );
-    assert_eq!(rt; none_known(rt.alloc()), Some(0));
+    let wanted = (Some((20, [Some(BACK), Some(FRONT), None])), Some(0));
+    assert_eq!(rt; (known(rt.alloc()), none_known(rt.alloc())), wanted);
 }
 
 /// Whether these frames are a table of the granter's.
@@ -56,25 +53,32 @@ fn is_table(alloc: Global, granter: u16, frames: &[u32]) -> Option<bool> {
     Some(Table::make(&owners, granter, frames).is_some())
 }
 
+/// Whether the first so many frames of the front's, at most seventeen, are a table of its.
+fn is_front_table(alloc: Global, count: usize) -> Option<bool> {
+    let frames = [1, 2, 3, 4, 5, 6, 7, 8, 9, 10, 11, 12, 13, 14, 15, 16, 17];
+    is_table(alloc, FRONT, frames.get(..count)?)
+}
+
 #[test]
 fn a_table_is_one_to_sixteen_frames_of_the_granter(rt: HostRuntime) {
-    let frames = [1, 2, 3, 4, 5, 6, 7, 8, 9, 10, 11, 12, 13, 14, 15, 16, 17];
-    let rows = [
-        (FRONT, &frames[..0], false, "no frame"),
-        (FRONT, &frames[..1], true, "one"),
-        (FRONT, &frames[..16], true, "sixteen"),
-        (FRONT, &frames[..], false, "seventeen"),
-        (FRONT, &[1, 0], false, "the back's"),
-        (FRONT, &[1, 20], false, "not there"),
-        (BACK, &[0], true, "the back's own"),
+    let alloc = rt.alloc();
+    let by_count = [
+        is_front_table(alloc, 0),
+        is_front_table(alloc, 1),
+        is_front_table(alloc, 16),
+        is_front_table(alloc, 17),
     ];
-    for (granter, frames, is_made, text) in rows {
-        assert_eq!(rt;
-            is_table(rt.alloc(), granter, frames),
-            Some(is_made),
-            "{text}"
-        );
-    }
+    assert_eq!(rt;
+        by_count,
+        [Some(false), Some(true), Some(true), Some(false)]
+    );
+    // the back's frame, one that isn't there, and the back's own
+    let by_owner = [
+        is_table(alloc, FRONT, &[1, 0]),
+        is_table(alloc, FRONT, &[1, 20]),
+        is_table(alloc, BACK, &[0]),
+    ];
+    assert_eq!(rt; by_owner, [Some(false), Some(false), Some(true)]);
 }
 
 /// The places of references of a table in frames 9 and 3, and whether it is within 10 frames and within 9.

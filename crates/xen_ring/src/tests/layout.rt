@@ -8,23 +8,27 @@ use crate::{
 #[test]
 fn the_header_stands_before_the_entries(rt: HostRuntime) {
     assert_eq!(rt; [REQ_PROD, REQ_EVENT, RSP_PROD, RSP_EVENT], [0, 1, 2, 3]);
-    assert_eq!(rt; RING_SIZE, 256);
-    assert_eq!(rt; TX_ENTRY_WORDS, 3);
-    assert_eq!(rt; RX_ENTRY_WORDS, 2);
+    assert_eq!(rt; [RING_SIZE, TX_ENTRY_WORDS, RX_ENTRY_WORDS], [256, 3, 2]);
 }
+
+/// An index, the first and the last word of its tx entry, and those of its rx entry.
+const ENTRIES: [(u32, [u32; 4]); 5] = [
+    (0, [16, 18, 16, 17]),
+    (1, [19, 21, 18, 19]),
+    (255, [781, 783, 526, 527]),
+    (256, [16, 18, 16, 17]),
+    (0xFFFF_FFFF, [781, 783, 526, 527]),
+];
 
 #[test]
 fn entries_stand_one_behind_another(rt: HostRuntime) {
-    for (index, tx, rx) in [
-        (0, 16, 16),
-        (1, 19, 18),
-        (255, 781, 526),
-        (256, 16, 16),
-        (0xFFFF_FFFF, 781, 526),
-    ] {
-        assert_eq!(rt; tx_entry_word(index, 0), tx, "tx {index}");
-        assert_eq!(rt; tx_entry_word(index, 2), tx + 2, "tx {index}");
-        assert_eq!(rt; rx_entry_word(index, 0), rx, "rx {index}");
-        assert_eq!(rt; rx_entry_word(index, 1), rx + 1, "rx {index}");
+    for (index, words) in ENTRIES {
+        let found = [
+            tx_entry_word(index, 0),
+            tx_entry_word(index, 2),
+            rx_entry_word(index, 0),
+            rx_entry_word(index, 1),
+        ];
+        assert_eq!(rt; found, words, "entry {index}");
     }
 }

@@ -1,70 +1,99 @@
 //! The bits of shared ports, of which no clause can speak.
 
 use crate::{Port, Ports};
-use std::test::Fail;
 
 fn shared<T: Sync>(shared: &T) -> &T {
     shared
 }
 
-#[test]
-fn ports_are_numbered_to_63(rt: HostRuntime) -> Result<(), Fail> {
-    assert_eq!(rt; Port::of(0).ok_or("port 0")?.number(), 0);
-    assert_eq!(rt; Port::of(63).ok_or("port 63")?.number(), 63);
-    assert_eq!(rt; Port::of(64), None);
-    assert_eq!(rt; Port::of(u32::MAX), None);
-    Ok(())
+/// The number of the port of this number, if there is one.
+fn number(number: u32) -> Option<u32> {
+    Some(Port::of(number)?.number())
 }
 
 #[test]
-fn sends_merge_until_taken(rt: HostRuntime) -> Result<(), Fail> {
+fn ports_are_numbered_to_63(rt: HostRuntime) {
+    let found = [number(0), number(63), number(64), number(u32::MAX)];
+    assert_eq!(rt; found, [Some(0), Some(63), None, None]);
+}
+
+/// What is taken of a port before anything was sent, twice after two sends, and after another send.
+fn merged() -> Option<(bool, [bool; 2], bool)> {
     let ports = Ports::new();
     let ports = shared(&ports);
-    let port = Port::of(5).ok_or("port 5")?;
-    assert!(rt; !ports.take(port), "nothing was sent");
+    let port = Port::of(5)?;
+    let before = ports.take(port);
     ports.notify(port);
     ports.notify(port);
-    assert!(rt; ports.take(port), "sent");
-    assert!(rt; !ports.take(port), "two sends merge into one");
+    let merged = [ports.take(port), ports.take(port)];
     ports.notify(port);
-    assert!(rt; ports.take(port), "sent again");
-    Ok(())
+    Some((before, merged, ports.take(port)))
 }
 
 #[test]
-fn a_masked_port_stays_pending(rt: HostRuntime) -> Result<(), Fail> {
+fn sends_merge_until_taken(rt: HostRuntime) {
+    assert_eq!(rt; merged(), Some((false, [true, false], true)));
+}
+
+/// What is taken of a port that is sent to while it is masked: twice while it is, twice once it isn't, and after it was
+/// unmasked again.
+fn masked() -> Option<([bool; 2], [bool; 2], bool)> {
     let ports = Ports::new();
-    let port = Port::of(63).ok_or("port 63")?;
+    let port = Port::of(63)?;
     ports.mask(port);
     ports.notify(port);
-    assert!(rt; !ports.take(port), "masked");
-    assert!(rt; !ports.take(port), "still masked");
+    let masked = [ports.take(port), ports.take(port)];
     ports.unmask(port);
-    assert!(rt; ports.take(port), "pending all the while");
-    assert!(rt; !ports.take(port), "taken");
+    let unmasked = [ports.take(port), ports.take(port)];
     ports.unmask(port);
-    assert!(rt; !ports.take(port), "unmasking sends nothing");
-    Ok(())
+    Some((masked, unmasked, ports.take(port)))
 }
 
 #[test]
-fn each_port_has_its_own_bits(rt: HostRuntime) -> Result<(), Fail> {
-    let ports = Ports::new();
-    for number in 0..64 {
-        let port = Port::of(number).ok_or("a port")?;
-        ports.notify(port);
-        for other in 0..64 {
-            if let Some(other) = Port::of(other) {
-                assert_eq!(rt; ports.take(other), other == port);
+fn a_masked_port_stays_pending(rt: HostRuntime) {
+    // it is pending all the while, and unmasking sends nothing
+    let wanted = ([false, false], [true, false], false);
+    assert_eq!(rt; masked(), Some(wanted));
+}
+
+/// Whether a port that is sent to is the only one of which something is taken.
+fn is_alone(ports: &Ports, port: Port) -> bool {
+    ports.notify(port);
+    for other in 0..64 {
+        if let Some(other) = Port::of(other) {
+            if ports.take(other) != (other == port) {
+                return false;
             }
         }
     }
-    let masked = Port::of(0).ok_or("port 0")?;
-    let open = Port::of(32).ok_or("port 32")?;
+    true
+}
+
+/// How many ports are alone, one after another.
+fn alone() -> Option<u32> {
+    let ports = Ports::new();
+    for number in 0..64 {
+        if !is_alone(&ports, Port::of(number)?) {
+            return Some(number);
+        }
+    }
+    Some(64)
+}
+
+/// What is taken of two ports that are sent to, of which the second is masked.
+fn open_and_masked() -> Option<[bool; 2]> {
+    let ports = Ports::new();
+    let masked = Port::of(0)?;
+    let open = Port::of(32)?;
     ports.mask(masked);
     ports.notify(masked);
     ports.notify(open);
-    assert!(rt; ports.take(open), "another port's mask keeps nothing back");
-    assert!(rt; !ports.take(masked), "masked");
-    Ok(())
+    Some([ports.take(open), ports.take(masked)])
+}
+
+#[test]
+fn each_port_has_its_own_bits(rt: HostRuntime) {
+    assert_eq!(rt; alone(), Some(64));
+    // another port's mask keeps nothing back
+    assert_eq!(rt; open_and_masked(), Some([true, false]));
 }

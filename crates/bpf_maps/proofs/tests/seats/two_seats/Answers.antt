@@ -2,10 +2,10 @@ use Rattle.std.proofs.Common.{arith, ◌≡◌, ℕ, List, [], ◌∷◌, ◌++�
 use Rattle.bpf_maps.specs.Seats.{SeatView}
 use Rattle.bpf_maps.proofs.EverySeatLemmas.{every_in_order}
 use Rattle.bpf_maps.proofs.PairLemmas.{two_last, two_numbers}
-use Rattle.bpf_maps.proofs.tests.seats.a_sum_wraps_and_two_seats_meet.Goals as goal
+use Rattle.bpf_maps.proofs.tests.seats.two_seats.Goals as goal
 
 pub close-totals-requires-clause-every : goal.close-totals-requires-clause-every
-close-totals-requires-clause-every g c =
+close-totals-requires-clause-every c =
     let d = two_last _ _ _ _ _ (ap (λ (l : List SeatView). l ++ c.in-Some.second ∷ []) (sym c.in-Some-pop.ensures.items) ∙ (sym c.in-Some.ensures.items ∙ c.in_ok-counters.ensures.seats)) in
     let number : SeatView → ℕ = λ s. s.number in
     let a : c.meet-first.result.0.number ≡ 0 = ap number c.meet-first.ensures.same.0 ∙ (ap number c.load-2.ensures ∙ (ap number c.load.ensures ∙ (ap number c.add.ensures ∙ ap number d.1))) in
