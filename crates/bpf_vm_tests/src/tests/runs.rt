@@ -187,10 +187,8 @@ fn stored_by(program: &Verified, first: u8) -> Option<(u32, bool)>
     let number = run_to_end(program, packet, 0, 0).number;
     let (others, stored) = stack.split_at(504);
     let kept = others.iter().all(|byte| *byte == first);
-    Some((
-        number,
-        kept && stored == [1, 2, 3, 0xbb, 0xaa, 6, 7, 8].as_slice(),
-    ))
+    let has_stored = stored == [1, 2, 3, 0xbb, 0xaa, 6, 7, 8].as_slice();
+    Some((number, kept && has_stored))
 }
 
 /// The same of [`STACK_STORES`].
@@ -216,8 +214,7 @@ const FIELDS: [(u8, u32, &str); 5] = [
 
 /// The number of a program that loads a field of the context.
 fn field(alloc: Global, offset: u8) -> Option<u32> {
-    // r0 = *(u32 *)(r1 + offset)
-    let load = [0x61, 0x10, offset, 0, 0, 0, 0, 0];
+    let load = [0x61, 0x10, offset, 0, 0, 0, 0, 0]; // r0 = *(u32 *)(r1 + offset)
     Some(ended(alloc, &[load, EXIT], &[0x80, 1], &[0x80, 1])?.0)
 }
 
