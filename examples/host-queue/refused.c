@@ -1,6 +1,7 @@
-/* Calls that take memory, with each allocation refused in turn: the answer is that memory ran out, and the handles have what they
- * had. Link with -Wl,--wrap=malloc,--wrap=realloc, which leads the library's calls here. It is C and C++. */
+/* Calls that take memory, with all allocations refused from each one on: the answer is that memory ran out, and the handles have what
+ * they had. Link with -Wl,--wrap=malloc,--wrap=realloc, which leads the library's calls here. It is C and C++. */
 #include "rows.h"
+#include <malloc.h>
 #include <stdlib.h>
 
 #ifdef __cplusplus
@@ -11,17 +12,20 @@ void *__real_realloc(void *old, size_t size);
 void *__wrap_malloc(size_t size);
 void *__wrap_realloc(void *old, size_t size);
 
-/* How many allocations there were, and the number of the one that is refused, from 1. */
-static size_t count, refused;
+/* How many allocations there were, and the number of the first that is refused, from 1. */
+static size_t count, refused = SIZE_MAX;
 
 void *__wrap_malloc(size_t size)
 {
-	return ++count == refused ? NULL : __real_malloc(size);
+	return ++count >= refused ? NULL : __real_malloc(size);
 }
 
+/* A block that gets smaller isn't counted: where that is refused, the library goes on with the block as it is. */
 void *__wrap_realloc(void *old, size_t size)
 {
-	return ++count == refused ? NULL : __real_realloc(old, size);
+	if (old && size <= malloc_usable_size(old))
+		return __real_realloc(old, size);
+	return ++count >= refused ? NULL : __real_realloc(old, size);
 }
 #ifdef __cplusplus
 }
@@ -83,7 +87,7 @@ static enum answer makes_of_extents(void)
 	return of_made(laxonje_queue_make_extents(&program, extents, 1, table, 1, &desc, &queue));
 }
 
-/* Refuses each allocation of a call in turn, until none is left. The queue, and the program that it is made of, stay as they were. */
+/* Refuses the allocations of a call from each one on, until none is left. The queue, and the program that it is made of, stay as they were. */
 static void tries(const char *what, enum answer (*call)(void))
 {
 	enum answer answer;
@@ -98,12 +102,11 @@ static void tries(const char *what, enum answer (*call)(void))
 		is(what, answer == DONE || queue.at == at, 1);
 	} while (count >= refused);
 	is(what, refused > 1, 1);
-	refused = 0;
+	refused = SIZE_MAX;
 }
 
 /* A turn of a queue that was made after all. */
-static const struct row idle[] = { { LAXONJE_OP_READ, 0, 0, 1, { 0 } }, { LAXONJE_OP_WRITE, 0, 1, 1, { 1 } },
-	                           { LAXONJE_OP_READ, 0, 0, 1, { 0 } }, ENDS(LAXONJE_TURN_IDLE, 0, 0) };
+static const struct row idle[] = { { BEGINS, 0, 0, 1, { 0 } }, PUSH(0, 1, 1, 0, 0), ENDS(LAXONJE_TURN_IDLE, 0, 0) };
 
 int main(void)
 {
@@ -113,7 +116,7 @@ int main(void)
 	tries("the same program again", loads_again);
 	tries("a queue of a list", makes_of_list);
 	tries("a queue of extents", makes_of_extents);
-	GOES(&queue, idle);
+	GOES(&queue, LAXONJE_OPS, idle);
 	laxonje_queue_free(&queue);
 	laxonje_free(&other);
 	laxonje_free(&program);
