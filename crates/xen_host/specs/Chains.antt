@@ -35,7 +35,8 @@ pub record AreStepped (old new : Queue) (ops : List Op) (lent lent_after before 
   pub stepped : IsStepped between new last lent_between lent_after counted after
 
 -- the events of a step: those of what was asked for before it, and the program's
-abbrev pub did_step : (t : Task) (old new : Queue) (o : Op) (lent lent_after before after : List ℕ) → IsStepOf t old new o lent lent_after before after → List Event
+abbrev pub did_step : (t : Task) (old new : Queue) (o : Op) (lent lent_after before after : List ℕ) →
+    IsStepOf t old new o lent lent_after before after → List Event
 did_step task.Turn old new o lent lent_after before after s = did (rest old) (answers old.stage lent) ++ map event_of s.gone.labels
 did_step task.Delivery old new o lent lent_after before after s = did (rest_of_delivery old) (answers_of old.stage lent)
 did_step task.Wait old new o lent lent_after before after s = did_waiting (wiring_of old.wires) old.state s.0.at lent
