@@ -22,8 +22,18 @@ access kind frame word count =
 -- words that are told with their place
 abbrev pub store : (kind frame word count first second : ℕ) → XdpOp
 store kind frame word count first second =
-    record { kind = kind; frame = frame; word = word; count = count; first = first; second = second;
-      turn = 0; number = 0; ops = 0; slots = 0 }
+    record {
+      kind = kind;
+      frame = frame;
+      word = word;
+      count = count;
+      first = first;
+      second = second;
+      turn = 0;
+      number = 0;
+      ops = 0;
+      slots = 0;
+    }
 
 -- a turn, a delivery or a wait is over
 abbrev pub over : (turn number ops slots : ℕ) → XdpOp
