@@ -102,6 +102,8 @@ static struct laxonje_op finish(struct host *host)
 		size_t count = laxonje_queue_step(&host->queue, host->words, LAXONJE_PAGE_WORDS, host->counters, MOST_COUNTERS, ops, LAXONJE_OPS);
 		for (size_t i = 0; i < count; i++)
 			make(host, &ops[i]);
+		if (!count)
+			fail("no queue");
 		if (ops[count - 1].kind == LAXONJE_OP_DONE)
 			return ops[count - 1];
 	}
