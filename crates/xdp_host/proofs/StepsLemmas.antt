@@ -1,4 +1,4 @@
--- Steps that C is told of at once: one more, and all that there is room for.
+-- Steps whose ops one call says: one more, and all that there is room for.
 use Rattle.std.proofs.Common.{◌≡◌, ℕ, suc, ◌+◌, ◌≤◌, ◌<◌, true, false, List, [], ◌∷◌, ◌++◌, length, map, take, drop, set, refl, sym, ap, ◌∙◌, arith, subst, inl, inr}
 use Rattle.std.proofs.lemmas.List.{take_more_set, drop-set-lt}
 use Rattle.std.proofs.lemmas.Grind.{drop_more_same}
@@ -40,7 +40,7 @@ pages_more : (frames : ℕ) (ops : List Op) (o : Op) → AllInPages frames ops �
 pages_more frames [] o all one = (one, tt)
 pages_more frames (p ∷ ops) o all one = (all.0, pages_more frames ops o all.1 one)
 
--- what is told of one more
+-- what is said of one more
 told_more : (slots : List XdpOp) (n : ℕ) (r : XdpOp) (ops : List Op) (o : Op) → n < length slots → take n slots ≡ map op_of ops → r ≡ op_of o → take (n + 1) (set slots n r) ≡ map op_of (ops ++ o ∷ [])
 told_more slots n r ops o room told is =
     take_more_set slots n r room ∙ ap (λ (x : List XdpOp). x ++ r ∷ []) told ∙ ap (λ (x : XdpOp). map op_of ops ++ x ∷ []) is ∙ sym (map_more ops o)

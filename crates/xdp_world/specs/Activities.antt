@@ -17,7 +17,7 @@ use Rattle.xdp_world.specs.Keeping.{Keeps}
 use Rattle.xdp_world.specs.declared.kept.Kept.{Kept}
 use Rattle.xdp_world.specs.declared.report.Delivered.{Delivered}
 
--- what comes to a queue: a packet that the host gives it to deliver, and the events of turns and deliveries
+-- an item of a queue: a packet that the host gives it to deliver, and the events of turns and deliveries
 pub data Item : Type 0 where
   Given : (packet : List ℕ) → Item
   Came : (event : Event) → Item

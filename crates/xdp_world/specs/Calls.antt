@@ -14,7 +14,7 @@ entries_of [] = []
 entries_of (Stepped e ∷ cs) = e ∷ entries_of cs
 entries_of (Delivers q packet ∷ cs) = entries_of cs
 
--- what comes to a queue
+-- a queue's items
 abbrev pub items_of : ℕ → List Call → List Item
 items_of q [] = []
 items_of q (Stepped e ∷ cs) = (if e.queue == q then all_came (listed e.event) else []) ++ items_of q cs

@@ -227,7 +227,7 @@ pub fn turn_by_driver(
     }
 }
 
-/// What was seen, if the turn by hand comes to the same.
+/// What was seen, if the turn by hand gives the same.
 fn if_same(seen: Option<Seen>, by_hand: Option<Seen>) -> Option<Seen> {
     if seen == by_hand { seen } else { None }
 }
