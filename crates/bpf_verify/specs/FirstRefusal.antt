@@ -108,14 +108,14 @@ pub record IsSecondRefusal (code : List Insn) (shapes : List Shape) (pc : ℕ) (
   pub stopped : IsStopped code shapes pc cause
 
 -- memory may run out before the first slot is checked, in a search of the first pass, and as the second pass follows notes
-pub data IsWanting (code : List Insn) (shapes : List Shape) (pc : ℕ) : Type 0 where
-  at_start : pc ≡ 0 → IsWanting code shapes pc
-  in_search : IsSearching code (length shapes) pc → IsWanting code shapes pc
-  in_notes : IsStructured code (length shapes) → IsFollowed code shapes pc → IsWanting code shapes pc
+pub data IsOutOfMemory (code : List Insn) (shapes : List Shape) (pc : ℕ) : Type 0 where
+  at_start : pc ≡ 0 → IsOutOfMemory code shapes pc
+  in_search : IsSearching code (length shapes) pc → IsOutOfMemory code shapes pc
+  in_notes : IsStructured code (length shapes) → IsFollowed code shapes pc → IsOutOfMemory code shapes pc
 
 -- the refusal is the program's: out of memory, or the first cause of the first pass that has one
 abbrev pub IsRefusal : List Insn → List Shape → Cause → ℕ → Type 0
-IsRefusal code shapes Memory pc = IsWanting code shapes pc
+IsRefusal code shapes Memory pc = IsOutOfMemory code shapes pc
 IsRefusal code shapes Target pc = IsFirstFault code (length shapes) pc Target
 IsRefusal code shapes BackJump pc = IsFirstFault code (length shapes) pc BackJump
 IsRefusal code shapes End pc = IsFirstFault code (length shapes) pc End

@@ -8,12 +8,12 @@ mod laws;
 mod lost;
 mod note_list;
 mod notes;
+mod out_of_memory;
 mod slot;
 mod stopped;
 mod structure;
 mod verified;
 mod verifier;
-mod wanting;
 
 pub use bpf_insn::{Cause, Refusal};
 pub use bpf_note::MapShape;

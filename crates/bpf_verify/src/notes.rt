@@ -17,8 +17,8 @@ ghost use Rattle.bpf_verify.specs.Tables.{facts_at, LeadInside, IsMet};
 
 use crate::graph::pass_order;
 use crate::note_list::NoteList;
+use crate::out_of_memory::memory_refusal;
 use crate::stopped::{Stopped, is_rule_cause};
-use crate::wanting::wanting;
 use bpf_flow::{Ways, transfer};
 use bpf_insn::{Cause, Insn};
 use bpf_note::{MapShape, Note};
@@ -88,7 +88,7 @@ fn follow_note(
     match transfer(alloc, &code[pc as usize], pc, &mut note, shapes) {
         Ok(ways) => match spread(alloc, table, note, ways) {
             Ok(()) => Ok(()),
-            Err(error) => Err(Stopped::from(wanting(error, pc))),
+            Err(error) => Err(Stopped::from(memory_refusal(error, pc))),
         },
         Err(cause) => Err(Stopped::at_note(cause, pc, note)),
     }
@@ -152,11 +152,11 @@ pub(crate) fn second_pass(alloc: Global, code: &[Insn], shapes: &[MapShape]) -> 
 {
     let order = match pass_order(alloc, code) {
         Ok(order) => order,
-        Err(error) => return Err(Stopped::from(wanting(error, 0))),
+        Err(error) => return Err(Stopped::from(memory_refusal(error, 0))),
     };
     let mut table = match blank(alloc, code.len()) {
         Ok(table) => table,
-        Err(error) => return Err(Stopped::from(wanting(error, 0))),
+        Err(error) => return Err(Stopped::from(memory_refusal(error, 0))),
     };
     for &pc in &order {
         follow(alloc, code, shapes, &mut table, pc)?;

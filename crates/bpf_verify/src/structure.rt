@@ -7,8 +7,8 @@ ghost use Rattle.bpf_verify.specs.Edges.{JumpsBack};
 ghost use Rattle.bpf_verify.specs.FirstRefusal.{IsFine, IsFault, IsStructured, IsStructureRefusal};
 
 use crate::graph::{closes_cycle_unless, is_ordered};
+use crate::out_of_memory::memory_refusal;
 use crate::slot::{falls_through, jump_of, landing};
-use crate::wanting::wanting;
 use bpf_flow::{jump_target, next_slot};
 use bpf_insn::{Cause, Insn, Refusal};
 use std::alloc::{AllocError, Global};
@@ -87,13 +87,13 @@ pub fn first_fault(alloc: Global, code: &[Insn], maps: u32) -> Option<Refusal>
 {
     let ordered = match is_ordered(alloc, code) {
         Ok(ordered) => ordered,
-        Err(error) => return Some(wanting(error, 0)),
+        Err(error) => return Some(memory_refusal(error, 0)),
     };
     for pc in 0..code.len() as u32 {
         match fault_of(alloc, code, maps, ordered, pc, code[pc as usize]) {
             Ok(None) => {}
             Ok(Some(cause)) => return Some(Refusal { cause, pc }),
-            Err(error) => return Some(wanting(error, pc)),
+            Err(error) => return Some(memory_refusal(error, pc)),
         }
     }
     None

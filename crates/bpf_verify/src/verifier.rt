@@ -10,10 +10,10 @@ ghost use Rattle.bpf_verify.specs.FirstRefusal.{IsRefusal, IsFaultless, IsStoppe
 
 use crate::flat::{FlatInsn, flats_of};
 use crate::notes::second_pass;
+use crate::out_of_memory::memory_refusal;
 use crate::stopped::Stopped;
 use crate::structure::first_fault;
 use crate::verified::Verified;
-use crate::wanting::wanting;
 use bpf_insn::{Code, Insn, Refusal};
 use bpf_note::{MapShape, Note};
 use std::alloc::{AllocError, Global};
@@ -60,7 +60,7 @@ fn both_passes(alloc: Global, code: &[Insn], shapes: &[MapShape]) -> Result<Kept
 {
     let kept = match to_keep(alloc, code, shapes) {
         Ok(kept) => kept,
-        Err(error) => return Err(Stopped::from(wanting(error, 0))),
+        Err(error) => return Err(Stopped::from(memory_refusal(error, 0))),
     };
     are_shapes(shapes);
     if let Some(refusal) = first_fault(alloc, code, shapes.len() as u32) {

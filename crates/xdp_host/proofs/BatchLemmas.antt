@@ -11,7 +11,7 @@ use Rattle.xdp_program.specs.declared.program.Run.{Run}
 use Rattle.xdp_host.specs.Ran.{nothing, run_of}
 use Rattle.xdp_host.specs.Batch.{Shared, end_of, packet_of, IsRunnable, IsUnrunnable, RunsOne, RanEach, one_more}
 use Rattle.xdp_host.specs.declared.batch.XdpPacket.{XdpPacket}
-use Rattle.xdp_host.specs.declared.plain.XdpRun.{XdpRun}
+use Rattle.xdp_host.specs.declared.abi.XdpRun.{XdpRun}
 
 pub packet_length : (bytes : List ℕ) (x : XdpPacket) → end_of x ≤ length bytes → length (packet_of bytes x) ≡ x.length
 packet_length bytes x inside = let e = mid_len x.start (end_of x) bytes inside in omega (arith, e)

@@ -12,7 +12,7 @@ use Rattle.xen_host.specs.declared.task.Task.TheVariants as task
 use Rattle.xen_host.proofs.ChainLemmas.{one_more}
 use Rattle.xdp_host.specs.Ops.{op_of}
 use Rattle.xdp_host.specs.Stepped.{AllInPages, HasStepped}
-use Rattle.xdp_host.specs.declared.queue_plain.XdpOp.{XdpOp}
+use Rattle.xdp_host.specs.declared.queue_abi.XdpOp.{XdpOp}
 
 step_wires : (t : Task) (old new : Queue) (o : Op) (l k b a : List ℕ) → IsStepOf t old new o l k b a → new.wires ≡ old.wires
 step_wires task.Turn old new o l k b a s = s.wires

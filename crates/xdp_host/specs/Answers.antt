@@ -14,8 +14,8 @@ use Rattle.xdp_program.specs.declared.fault.SettingsFault.TheVariants as setting
 use Rattle.xdp_host.specs.Verdict.{accepting, verdict_of}
 use Rattle.xdp_host.specs.declared.fault.Fault.{Fault}
 use Rattle.xdp_host.specs.declared.fault.Fault.TheVariants.{Refused, Map, Text, Empty}
-use Rattle.xdp_host.specs.declared.plain.XdpMap.{XdpMap}
-use Rattle.xdp_host.specs.declared.plain.XdpVerdict.{XdpVerdict}
+use Rattle.xdp_host.specs.declared.abi.XdpMap.{XdpMap}
+use Rattle.xdp_host.specs.declared.abi.XdpVerdict.{XdpVerdict}
 
 abbrev pub shape_of : XdpMap → Shape
 shape_of m = record { entries = m.entries; counters = m.counters }
@@ -81,12 +81,12 @@ RefusesText bytes v = (f : Fault) × IsFaultOfText bytes f × (v ≡ verdict_of 
 -- ---- what isn't refused
 
 -- out of memory: V0, or L0 of a settings text
-abbrev pub IsWanting : Fault → Type 0
-IsWanting (Refused r) = r.cause ≡ Memory
-IsWanting (Map number) = ⊥
-IsWanting (Text f) = f ≡ text.Memory
-IsWanting Empty = ⊥
+abbrev pub IsOutOfMemory : Fault → Type 0
+IsOutOfMemory (Refused r) = r.cause ≡ Memory
+IsOutOfMemory (Map number) = ⊥
+IsOutOfMemory (Text f) = f ≡ text.Memory
+IsOutOfMemory Empty = ⊥
 
 -- the verdict tells of a program, or that memory ran out
-abbrev pub AcceptsUnlessWanting : XdpVerdict → Type 0
-AcceptsUnlessWanting v = (v.kind ≡ 0) ⊎ ((f : Fault) × IsWanting f × (v ≡ verdict_of f))
+abbrev pub AcceptsUnlessOutOfMemory : XdpVerdict → Type 0
+AcceptsUnlessOutOfMemory v = (v.kind ≡ 0) ⊎ ((f : Fault) × IsOutOfMemory f × (v ≡ verdict_of f))

@@ -6,7 +6,7 @@ use Rattle.bpf_vm.specs.Actions.{action_of}
 use Rattle.xdp_program.specs.Ran.{Ran}
 use Rattle.xdp_host.specs.Ran.{action_number, nothing}
 use Rattle.xdp_host.specs.declared.batch.XdpPacket.{XdpPacket}
-use Rattle.xdp_host.specs.declared.plain.XdpRun.{XdpRun}
+use Rattle.xdp_host.specs.declared.abi.XdpRun.{XdpRun}
 
 -- what the packets of a batch share
 pub record Shared : Type 0 where

@@ -10,7 +10,7 @@ use Rattle.xen_host.specs.declared.queue.Queue.{Queue}
 use Rattle.xdp_host.specs.declared.queue_extents.XdpExtent.{XdpExtent}
 use Rattle.xdp_host.specs.declared.queue_fault.QueueFault.{QueueFault}
 use Rattle.xdp_host.specs.declared.queue_fault.QueueFault.TheVariants.{Make, Empty}
-use Rattle.xdp_host.specs.declared.queue_plain.XdpQueueDesc.{XdpQueueDesc}
+use Rattle.xdp_host.specs.declared.queue_abi.XdpQueueDesc.{XdpQueueDesc}
 
 -- the extents that C gives
 abbrev pub extent_of : XdpExtent → Extent

@@ -1,7 +1,7 @@
 -- What C is told of a program's maps.
 use Rattle.std.specs.Prelude.{ℕ, List, Option, None, Some, slice_get}
 use Rattle.bpf_note.specs.Shape.{Shape}
-use Rattle.xdp_host.specs.declared.plain.XdpMap.{XdpMap}
+use Rattle.xdp_host.specs.declared.abi.XdpMap.{XdpMap}
 
 -- there is no such map
 abbrev pub no_map : XdpMap

@@ -11,8 +11,8 @@ use Rattle.xen_back.specs.declared.turn.Kind.{Kind}
 use Rattle.xen_back.specs.declared.turn.Kind.TheVariants as kind
 use Rattle.xen_host.specs.declared.op.Op.{Op}
 use Rattle.xen_host.specs.declared.op.Op.TheVariants as op
-use Rattle.xdp_host.specs.declared.queue_plain.XdpOp.{XdpOp}
-use Rattle.xdp_host.specs.declared.queue_plain.XdpQueueState.{XdpQueueState}
+use Rattle.xdp_host.specs.declared.queue_abi.XdpOp.{XdpOp}
+use Rattle.xdp_host.specs.declared.queue_abi.XdpQueueState.{XdpQueueState}
 
 -- words of a page, or a port
 abbrev pub access : (kind frame word count : ℕ) → XdpOp

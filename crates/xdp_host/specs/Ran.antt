@@ -4,7 +4,7 @@ use Rattle.bpf_vm.specs.Actions.{action_of}
 use Rattle.bpf_vm.specs.declared.action.Action.{Action}
 use Rattle.bpf_vm.specs.declared.action.Action.TheVariants as action
 use Rattle.xdp_program.specs.declared.program.Run.{Run}
-use Rattle.xdp_host.specs.declared.plain.XdpRun.{XdpRun}
+use Rattle.xdp_host.specs.declared.abi.XdpRun.{XdpRun}
 
 -- the numbers of Linux's uapi/linux/bpf.h, enum xdp_action
 abbrev pub action_number : Action → ℕ

@@ -6,7 +6,7 @@ use Rattle.xen_host.specs.Fed.{IsInPages, goes_on}
 use Rattle.xen_host.specs.declared.op.Op.{Op}
 use Rattle.xen_host.specs.declared.queue.Queue.{Queue}
 use Rattle.xdp_host.specs.Ops.{op_of}
-use Rattle.xdp_host.specs.declared.queue_plain.XdpOp.{XdpOp}
+use Rattle.xdp_host.specs.declared.queue_abi.XdpOp.{XdpOp}
 
 -- a page's words, the counters of the queue's program, and room for an op
 pub record AreEnough (q : Queue) (words counters : List ℕ) (room : ℕ) : Type 0 where

@@ -5,7 +5,7 @@ use Rattle.bpf_insn.specs.declared.refusal.Cause.TheVariants.{Memory}
 use Rattle.xdp_load.specs.FaultNumber.{fault_number}
 use Rattle.xdp_host.specs.declared.fault.Fault.{Fault}
 use Rattle.xdp_host.specs.declared.fault.Fault.TheVariants.{Refused, Map, Text, Empty}
-use Rattle.xdp_host.specs.declared.plain.XdpVerdict.{XdpVerdict}
+use Rattle.xdp_host.specs.declared.abi.XdpVerdict.{XdpVerdict}
 
 -- accepted, with so many instructions
 abbrev pub accepting : ℕ → XdpVerdict
@@ -19,5 +19,5 @@ verdict_of (Text f) = record { kind = 3; cause = fault_number f; at = 0 }
 verdict_of Empty = record { kind = 4; cause = 0; at = 0 }
 
 -- out of memory before the first slot is checked
-abbrev pub wanting : Fault
-wanting = Refused (record { cause = Memory; pc = 0 })
+abbrev pub out_of_memory : Fault
+out_of_memory = Refused (record { cause = Memory; pc = 0 })

@@ -2,8 +2,8 @@
 ghost use Rattle.std.specs.Prelude.{◌≡◌, drop, length, min, take};
 ghost use Rattle.xdp_host.specs.Batch.{RanEach, RunsOne};
 
-use crate::held::Held;
-use crate::plain::XdpRun;
+use crate::abi::XdpRun;
+use crate::loaded_program::LoadedProgram;
 
 /// A packet of a batch: so many of its bytes, from a start.
 #[repr(C)]
@@ -15,7 +15,7 @@ pub struct XdpPacket {
 
 /// Runs a program on one packet of a batch.
 fn run_one(
-    held: &mut Held,
+    held: &mut LoadedProgram,
     counters: &mut [u64],
     bytes: &mut [u8],
     packet: XdpPacket,
@@ -36,7 +36,7 @@ fn run_one(
 
 /// Runs a program on the packets of a batch, one after another, as far as there are results. How many that are.
 pub fn run_each(
-    held: &mut Held,
+    held: &mut LoadedProgram,
     counters: &mut [u64],
     bytes: &mut [u8],
     packets: &[XdpPacket],

@@ -18,9 +18,9 @@ pub enum Fault {
 
 impl From<AllocError> for Fault {
     ghost use Rattle.std.specs.Prelude.{◌≡◌};
-    ghost use Rattle.xdp_host.specs.Verdict.{wanting};
+    ghost use Rattle.xdp_host.specs.Verdict.{out_of_memory};
 
-    ghost from_gives = { λ _ e. e ≡ wanting };
+    ghost from_gives = { λ _ e. e ≡ out_of_memory };
 
     fn from(error: AllocError) -> Fault {
         Fault::Refused(Refusal {
@@ -32,9 +32,9 @@ impl From<AllocError> for Fault {
 
 impl<T: Drop> From<AllocFailed<T>> for Fault {
     ghost use Rattle.std.specs.Prelude.{◌≡◌};
-    ghost use Rattle.xdp_host.specs.Verdict.{wanting};
+    ghost use Rattle.xdp_host.specs.Verdict.{out_of_memory};
 
-    ghost from_gives = { λ _ e. e ≡ wanting };
+    ghost from_gives = { λ _ e. e ≡ out_of_memory };
 
     fn from(_error: AllocFailed<T>) -> Fault {
         Fault::Refused(Refusal {

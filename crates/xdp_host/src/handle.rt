@@ -1,17 +1,15 @@
 //! A box that C holds.
 ghost use Rattle.std.specs.Prelude.{◌≡◌, ◌↔◌, Option, None, Some, IsTrue, IsSome, IfErr, IfOk, option_map};
 ghost use Rattle.bpf_verify.specs.Consistent.{instructions};
-ghost use Rattle.xdp_host.specs.declared.held.Held.{Held};
-ghost use Rattle.xdp_host.specs.Answers.{AcceptsUnlessWanting, IsWanting};
+ghost use Rattle.xdp_host.specs.declared.loaded_program.LoadedProgram.{LoadedProgram};
+ghost use Rattle.xdp_host.specs.Answers.{AcceptsUnlessOutOfMemory, IsOutOfMemory};
 ghost use Rattle.xdp_host.specs.Handle.{handle_owns, held_coded};
 ghost use Rattle.xdp_host.specs.Verdict.{accepting, verdict_of};
 
-mod parts;
-
+use crate::abi::XdpVerdict;
 use crate::fault::Fault;
-use crate::held::Held;
-use crate::plain::XdpVerdict;
-use parts::Parts;
+use crate::loaded_program::LoadedProgram;
+use crate::raw_box::RawBox;
 use std::alloc::Global;
 use std::marker::Model;
 use std::mem;
@@ -23,7 +21,7 @@ use std::ptr::null_mut;
 pub struct Slot {
     at: *mut u8,
     alloc: Global,
-    pub ghost held: { Option Held } by { held_coded },
+    pub ghost held: { Option LoadedProgram } by { held_coded },
 }
 
 impl Model for Slot {
@@ -40,23 +38,23 @@ impl Slot {
         }
     }
 
-    fn of_parts(parts: Parts<Held, Global>) -> Slot
+    fn of_parts(parts: RawBox<LoadedProgram, Global>) -> Slot
         ensures { result.held ≡ Some parts.value }
     {
-        let Parts { ptr, alloc } = parts;
+        let RawBox { ptr, alloc } = parts;
         Slot {
             at: ptr as *mut u8,
             alloc,
         }
     }
 
-    fn into_parts(self) -> Parts<Held, Global>
+    fn into_parts(self) -> RawBox<LoadedProgram, Global>
         requires { IsSome self.held }
         ensures { Some result.value ≡ self.held }
     {
         let Slot { at, alloc } = self;
-        Parts {
-            ptr: at as *mut Held,
+        RawBox {
+            ptr: at as *mut LoadedProgram,
             alloc,
         }
     }
@@ -84,17 +82,17 @@ impl XdpProgram {
     }
 
     /// The program in a box.
-    fn of(held: Box<Held>) -> XdpProgram
+    fn of(held: Box<LoadedProgram>) -> XdpProgram
         ensures { result.slot.held ≡ Some held.value }
     {
         XdpProgram {
-            slot: Slot::of_parts(Parts::of(held)),
+            slot: Slot::of_parts(RawBox::of(held)),
             live: true,
         }
     }
 
     /// Takes the box out, if there is one.
-    fn into_box(self) -> Option<Box<Held>>
+    fn into_box(self) -> Option<Box<LoadedProgram>>
         ensures { option_map (λ b. b.value) result ≡ self.slot.held }
     {
         let XdpProgram { slot, live } = self;
@@ -106,7 +104,7 @@ impl XdpProgram {
     }
 
     /// Takes the box out, if there is one. None is left.
-    pub fn take(&mut self, alloc: Global) -> Option<Box<Held>>
+    pub fn take(&mut self, alloc: Global) -> Option<Box<LoadedProgram>>
         ensures gone { option_map (λ b. b.value) result ≡ self.old.slot.held }
         ensures none { self.new.slot.held ≡ None }
     {
@@ -114,17 +112,17 @@ impl XdpProgram {
     }
 
     /// Puts a box in place of what was there, which is dropped.
-    pub fn put(&mut self, held: Box<Held>)
+    pub fn put(&mut self, held: Box<LoadedProgram>)
         ensures { self.new.slot.held ≡ Some held.value }
     {
         *self = XdpProgram::of(held);
     }
 
     /// Puts what was loaded, or none, in place of what was there, and gives the verdict.
-    pub fn set(&mut self, alloc: Global, loaded: Result<Box<Held>, Fault>) -> XdpVerdict
+    pub fn set(&mut self, alloc: Global, loaded: Result<Box<LoadedProgram>, Fault>) -> XdpVerdict
         ensures ok { IfOk loaded (λ b. (self.new.slot.held ≡ Some b.value) × (result ≡ accepting (instructions b.value.program.code))) }
         ensures err { IfErr loaded (λ f. (self.new.slot.held ≡ None) × (result ≡ verdict_of f)) }
-        ensures wanting { IfErr loaded IsWanting → AcceptsUnlessWanting result }
+        ensures out_of_memory { IfErr loaded IsOutOfMemory → AcceptsUnlessOutOfMemory result }
     {
         match loaded {
             Ok(held) => {
@@ -142,7 +140,7 @@ impl XdpProgram {
 
 /// Drops a box. It isn't inlined, so that a call that only puts a box back saves no registers for it.
 #[inline(never)]
-fn release(held: Box<Held>) {
+fn release(held: Box<LoadedProgram>) {
     drop(held);
 }
 
@@ -159,5 +157,5 @@ fn crosses<T: Send>() {}
 /// A program, and a handle of one, may be handed to another thread, or this call isn't proved.
 pub fn programs_cross_threads() {
     crosses::<XdpProgram>();
-    crosses::<Held>()
+    crosses::<LoadedProgram>()
 }

@@ -12,10 +12,10 @@ ghost use Rattle.bpf_verify.specs.FirstRefusal.{IsFaultless};
 ghost use Rattle.xdp_load.specs.Setup.{SetupView, setup_of};
 ghost use Rattle.xdp_program.specs.Ran.{Ran};
 ghost use Rattle.xdp_program.specs.Refused.{IsMade, IsUnmade};
-ghost use Rattle.xdp_host.specs.Answers.{Accepts, AcceptsText, AcceptsUnlessWanting, AreWithin, Refuses, RefusesText, shapes_of};
+ghost use Rattle.xdp_host.specs.Answers.{Accepts, AcceptsText, AcceptsUnlessOutOfMemory, AreWithin, Refuses, RefusesText, shapes_of};
 ghost use Rattle.xdp_host.specs.Batch.{RanEach};
 ghost use Rattle.xdp_host.specs.Ran.{IsNotRun, action_number};
-ghost use Rattle.xdp_host.specs.Verdict.{accepting, verdict_of, wanting};
+ghost use Rattle.xdp_host.specs.Verdict.{accepting, verdict_of, out_of_memory};
 ghost use Rattle.bpf_vm.specs.Actions.{action_of};
 ghost use Rattle.xen_host.specs.Frames.{list_limits};
 ghost use Rattle.xen_host.specs.Queues.{packet_of, resting};
@@ -24,34 +24,35 @@ ghost use Rattle.xdp_host.specs.Ops.{no_state, state_or};
 ghost use Rattle.xdp_host.specs.Stepped.{AreEnough, AreFew, HasStepped, IsNotStepped, IsNothing};
 ghost use Rattle.xdp_host.specs.Taken.{HasTaken, no_queue};
 
+mod abi;
 mod advice;
 mod batch;
 mod fault;
 mod handle;
-mod held;
+mod loaded_program;
 mod maps;
-mod plain;
+mod queue_abi;
 mod queue_calls;
 mod queue_extents;
 mod queue_fault;
 mod queue_handle;
-mod queue_plain;
 mod queue_waits;
+mod raw_box;
 
+pub use abi::{XdpMap, XdpRun, XdpVerdict};
 pub use advice::laxonje_advice;
 pub use batch::XdpPacket;
 use batch::run_each;
 pub use fault::Fault;
 pub use handle::{XdpProgram, programs_cross_threads};
-pub use held::Held;
+pub use loaded_program::LoadedProgram;
 pub use maps::{laxonje_map_count, laxonje_map_size};
-pub use plain::{XdpMap, XdpRun, XdpVerdict};
+use queue_abi::NO_QUEUE;
+pub use queue_abi::{XdpOp, XdpQueueDesc, XdpQueueState};
 use queue_calls::{boxed, copied, given_packet, stepped};
 pub use queue_extents::{XdpExtent, laxonje_queue_make_extents};
 pub use queue_fault::QueueFault;
 pub use queue_handle::{XdpQueue, queues_cross_threads};
-use queue_plain::NO_QUEUE;
-pub use queue_plain::{XdpOp, XdpQueueDesc, XdpQueueState};
 pub use queue_waits::{laxonje_queue_await, laxonje_queue_flags};
 use std::alloc::Global;
 use xen_host::FrameOwners;
@@ -64,9 +65,9 @@ const VERSION: u32 = 2;
 pub extern "C" fn laxonje_check(alloc: Global, program: &[u8], maps: &[XdpMap]) -> XdpVerdict
     ensures answers { ((p : Accepted) × Accepts program.now maps.now p result) ⊎ Refuses program.now maps.now result }
     ensures accepted { (code : List Insn) → Spells code program.now → IsFaultless code (shapes_of maps.now) → AreWithin maps.now →
-        AcceptsUnlessWanting result }
+        AcceptsUnlessOutOfMemory result }
 {
-    match Held::load(alloc, program, maps) {
+    match LoadedProgram::load(alloc, program, maps) {
         Ok(held) => held.verdict(),
         Err(fault) => XdpVerdict::from(fault),
     }
@@ -83,9 +84,9 @@ pub extern "C" fn laxonje_load(
     ensures answers { MatchOption out.new.slot.held (Refuses program.now maps.now result)
         (λ h. Accepts program.now maps.now h.program result) }
     ensures accepted { (code : List Insn) → Spells code program.now → IsFaultless code (shapes_of maps.now) → AreWithin maps.now →
-        AcceptsUnlessWanting result }
+        AcceptsUnlessOutOfMemory result }
 {
-    let loaded = Held::load(alloc, program, maps);
+    let loaded = LoadedProgram::load(alloc, program, maps);
     out.set(alloc, loaded)
 }
 
@@ -98,9 +99,9 @@ pub extern "C" fn laxonje_load_settings(
 ) -> XdpVerdict
     ensures answers { MatchOption out.new.slot.held (RefusesText text.now result) (λ h. AcceptsText text.now h.program result) }
     ensures accepted { (s : SetupView) (code : List Insn) → setup_of text.now ≡ Ok s → Spells code s.program → IsFaultless code s.shapes →
-        AcceptsUnlessWanting result }
+        AcceptsUnlessOutOfMemory result }
 {
-    let loaded = Held::load_settings(alloc, text);
+    let loaded = LoadedProgram::load_settings(alloc, text);
     out.set(alloc, loaded)
 }
 
@@ -114,7 +115,7 @@ pub extern "C" fn laxonje_again(
     ensures kept { program.new.slot.held ≡ program.old.slot.held }
     ensures again { IfSome out.new.slot.held (λ h. (program.old.slot.held ≡ Some h) × (result ≡ accepting (instructions h.program.code))) }
     ensures none { IfNone out.new.slot.held (MatchOption program.old.slot.held (result ≡ verdict_of Fault.Empty)
-        (λ _. result ≡ verdict_of wanting)) }
+        (λ _. result ≡ verdict_of out_of_memory)) }
 {
     let again = match program.take(alloc) {
         Some(held) => {

@@ -2,8 +2,8 @@
 ghost use Rattle.std.specs.Prelude.{◌≡◌, IfNone, MatchOption, length};
 ghost use Rattle.xdp_host.specs.Maps.{map_at, map_or, no_map};
 
+use crate::abi::XdpMap;
 use crate::handle::XdpProgram;
-use crate::plain::XdpMap;
 use std::alloc::Global;
 use xdp_program::{MapShape, Program};
 

@@ -6,7 +6,7 @@ ghost use Rattle.xdp_host.specs.Made.{given};
 ghost use Rattle.xdp_host.specs.Stepped.{AreEnough, AreFew, HasStepped, IsNotStepped};
 ghost use Rattle.xdp_host.specs.Taken.{HasTaken};
 
-use crate::queue_plain::{XdpOp, XdpQueueDesc, taken_number};
+use crate::queue_abi::{XdpOp, XdpQueueDesc, taken_number};
 use std::alloc::Global;
 use xen_host::{FrameOwners, MakeFault, Program, Queue, QueueParts};
 

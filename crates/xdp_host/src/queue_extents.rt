@@ -6,10 +6,10 @@ ghost use Rattle.xen_host.specs.Making.{IsFaultOf, IsMadeOf};
 ghost use Rattle.xdp_host.specs.Made.{MakesOr, extent_of, extents_of, fault_number, given};
 
 use crate::handle::XdpProgram;
+use crate::queue_abi::XdpQueueDesc;
 use crate::queue_calls::boxed;
 use crate::queue_fault::QueueFault;
 use crate::queue_handle::XdpQueue;
-use crate::queue_plain::XdpQueueDesc;
 use std::alloc::{AllocError, Global};
 use xen_host::{Extent, FrameOwners, MakeFault, Program, Queue};
 

@@ -3,8 +3,8 @@ ghost use Rattle.std.specs.Prelude.{◌≡◌, None, IfNone, IfSome, IsSome, Mat
 ghost use Rattle.xen_netif.specs.Slots.{tx_flag_bits};
 ghost use Rattle.xdp_host.specs.Taken.{HasWaited, no_queue};
 
+use crate::queue_abi::{NO_QUEUE, taken_number};
 use crate::queue_handle::XdpQueue;
-use crate::queue_plain::{NO_QUEUE, taken_number};
 use std::alloc::Global;
 use xen_host::Queue;
 

@@ -12,10 +12,10 @@ use Rattle.xdp_load.specs.declared.fault.Fault.{Fault}
 use Rattle.xdp_load.specs.declared.fault.LoadFault.{LoadFault as TextFault}
 use Rattle.xdp_load.specs.declared.fault.LoadFault.TheVariants as text
 use Rattle.xdp_program.specs.Refused.{IsRefused}
-use Rattle.xdp_program.specs.Settings.{IsProgramOf, IsSettingsFault, IsSettingsWanting}
+use Rattle.xdp_program.specs.Settings.{IsProgramOf, IsSettingsFault, IsSettingsOutOfMemory}
 use Rattle.xdp_program.specs.declared.fault.SettingsFault.{SettingsFault}
 use Rattle.xdp_program.specs.declared.fault.SettingsFault.TheVariants.{Text, Program}
-use Rattle.xdp_program.proofs.LoadLemmas.{AloneMemory, refused_wanting}
+use Rattle.xdp_program.proofs.LoadLemmas.{AloneMemory, refused_out_of_memory}
 
 pub one_setup : (s t : SetupView) (r : Result SetupView Fault) → r ≡ Ok s → r ≡ Ok t → s ≡ t
 one_setup s t r a b = cc (a, b)
@@ -23,20 +23,20 @@ one_setup s t r a b = cc (a, b)
 pub setup_or_fault : (s : SetupView) (f : Fault) (r : Result SetupView Fault) → r ≡ Ok s → r ≡ Err f → ⊥
 setup_or_fault s f r e h = cc (e, h)
 
-fails_wanting : (f : TextFault) (s : SetupView) (r : Result SetupView Fault) → r ≡ Ok s → Fails f r → f ≡ text.Memory
-fails_wanting text.Memory s r e h = refl
-fails_wanting (text.Refused f) s r e h = absurd (setup_or_fault s f r e h)
+fails_out_of_memory : (f : TextFault) (s : SetupView) (r : Result SetupView Fault) → r ≡ Ok s → Fails f r → f ≡ text.Memory
+fails_out_of_memory text.Memory s r e h = refl
+fails_out_of_memory (text.Refused f) s r e h = absurd (setup_or_fault s f r e h)
 
-fault_wanting : AloneMemory → (f : SettingsFault) (bytes : List ℕ) → IsSettingsFault bytes f → (s : SetupView) (code : List Insn) → setup_of bytes ≡ Ok s → Spells code s.program → IsFaultless code s.shapes → IsSettingsWanting f
-fault_wanting law (Text f) bytes h s code e spells fine = fails_wanting f s (setup_of bytes) e h
-fault_wanting law (Program f) bytes h s code e spells fine =
+fault_out_of_memory : AloneMemory → (f : SettingsFault) (bytes : List ℕ) → IsSettingsFault bytes f → (s : SetupView) (code : List Insn) → setup_of bytes ≡ Ok s → Spells code s.program → IsFaultless code s.shapes → IsSettingsOutOfMemory f
+fault_out_of_memory law (Text f) bytes h s code e spells fine = fails_out_of_memory f s (setup_of bytes) e h
+fault_out_of_memory law (Program f) bytes h s code e spells fine =
     let same : h.0 ≡ s = one_setup h.0 s (setup_of bytes) h.1 e in
     let few : length s.shapes ≤ 4 = subst (λ (x : SetupView). length x.shapes ≤ 4) same h.2 in
-    refused_wanting law s.program s.shapes code f (subst (λ (x : SetupView). IsRefused x.program x.shapes f) same h.3) spells fine few
+    refused_out_of_memory law s.program s.shapes code f (subst (λ (x : SetupView). IsRefused x.program x.shapes f) same h.3) spells fine few
 
 pub settings_accepted : AloneMemory → (r : Result Accepted SettingsFault) (bytes : List ℕ) → IfOk r (IsProgramOf bytes) → IfErr r (IsSettingsFault bytes) →
-    (s : SetupView) (code : List Insn) → setup_of bytes ≡ Ok s → Spells code s.program → IsFaultless code s.shapes → MatchResult r (λ p. (p.code ≡ code) × (p.shapes ≡ s.shapes)) IsSettingsWanting
+    (s : SetupView) (code : List Insn) → setup_of bytes ≡ Ok s → Spells code s.program → IsFaultless code s.shapes → MatchResult r (λ p. (p.code ≡ code) × (p.shapes ≡ s.shapes)) IsSettingsOutOfMemory
 settings_accepted law (Ok p) bytes h refused s code e spells fine =
     let same : h.0 ≡ s = one_setup h.0 s (setup_of bytes) h.1 e in
     (one_code p.code code s.program (subst (λ (x : SetupView). Spells p.code x.program) same h.2) spells, h.3 ∙ ap (λ (x : SetupView). x.shapes) same)
-settings_accepted law (Err f) bytes program h s code e spells fine = fault_wanting law f bytes h s code e spells fine
+settings_accepted law (Err f) bytes program h s code e spells fine = fault_out_of_memory law f bytes h s code e spells fine

@@ -16,13 +16,13 @@ IsRefused bytes shapes Maps = 4 < length shapes
 IsRefused bytes shapes (Refused r) = IsNoCode bytes r ⊎ ((code : List Insn) × Spells code bytes × IsRefusal code shapes r.cause r.pc)
 
 -- out of memory before the first slot is checked
-abbrev pub wanting : LoadFault
-wanting = Refused (record { cause = Memory; pc = 0 })
+abbrev pub out_of_memory : LoadFault
+out_of_memory = Refused (record { cause = Memory; pc = 0 })
 
 -- out of memory
-abbrev pub IsWanting : LoadFault → Type 0
-IsWanting Maps = ⊥
-IsWanting (Refused r) = r.cause ≡ Memory
+abbrev pub IsOutOfMemory : LoadFault → Type 0
+IsOutOfMemory Maps = ⊥
+IsOutOfMemory (Refused r) = r.cause ≡ Memory
 
 -- there are words enough, and the packet isn't too long
 abbrev pub IsMade : List Shape → List ℕ → List ℕ → Type 0

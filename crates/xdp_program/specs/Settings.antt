@@ -6,7 +6,7 @@ use Rattle.bpf_verify.specs.FirstRefusal.{IsFaultless}
 use Rattle.xdp_load.specs.Gives.{Fails}
 use Rattle.xdp_load.specs.Setup.{SetupView, setup_of}
 use Rattle.xdp_load.specs.declared.fault.LoadFault.TheVariants.{Memory}
-use Rattle.xdp_program.specs.Refused.{IsRefused, IsWanting}
+use Rattle.xdp_program.specs.Refused.{IsRefused, IsOutOfMemory}
 use Rattle.xdp_program.specs.declared.fault.SettingsFault.{SettingsFault}
 use Rattle.xdp_program.specs.declared.fault.SettingsFault.TheVariants.{Text, Program}
 
@@ -22,6 +22,6 @@ IsSettingsFault text (Text f) = Fails f (setup_of text)
 IsSettingsFault text (Program f) = (s : SetupView) × (setup_of text ≡ Ok s) × (length s.shapes ≤ 4) × IsRefused s.program s.shapes f
 
 -- out of memory
-abbrev pub IsSettingsWanting : SettingsFault → Type 0
-IsSettingsWanting (Text f) = f ≡ Memory
-IsSettingsWanting (Program f) = IsWanting f
+abbrev pub IsSettingsOutOfMemory : SettingsFault → Type 0
+IsSettingsOutOfMemory (Text f) = f ≡ Memory
+IsSettingsOutOfMemory (Program f) = IsOutOfMemory f

@@ -13,9 +13,9 @@ pub enum LoadFault {
 
 impl From<AllocError> for LoadFault {
     ghost use Rattle.std.specs.Prelude.{◌≡◌};
-    ghost use Rattle.xdp_program.specs.Refused.{wanting};
+    ghost use Rattle.xdp_program.specs.Refused.{out_of_memory};
 
-    ghost from_gives = { λ _ e. e ≡ wanting };
+    ghost from_gives = { λ _ e. e ≡ out_of_memory };
 
     fn from(error: AllocError) -> LoadFault {
         LoadFault::Refused(Refusal {

@@ -61,10 +61,10 @@ impl Program {
     ghost use Rattle.bpf_verify.specs.Consistent.{instructions};
     ghost use Rattle.bpf_verify.specs.FirstRefusal.{IsFaultless};
     ghost use Rattle.xdp_program.specs.Ran.{Ran};
-    ghost use Rattle.xdp_program.specs.Refused.{IsRefused, IsWanting, IsUnmade, IsMade};
+    ghost use Rattle.xdp_program.specs.Refused.{IsRefused, IsOutOfMemory, IsUnmade, IsMade};
 
     /// What [`Program::load`] does. That nothing more is refused follows from these clauses.
-    #[tactic(auto, using(crate::proofs::LoadLemmas::wanting_refused))]
+    #[tactic(auto, using(crate::proofs::LoadLemmas::out_of_memory_refused))]
     fn accept(alloc: Global, bytes: &[u8], shapes: &[MapShape]) -> Result<Program, LoadFault>
         ensures spelled { IfOk result (λ p. Spells p.code bytes.now) }
         ensures shapes { IfOk result (λ p. p.shapes ≡ shapes.now) }
@@ -99,7 +99,7 @@ impl Program {
 
         // Nothing more is refused.
         ensures accepted { (code : List Insn) → Spells code bytes.now → IsFaultless code shapes.now → length shapes.now ≤ 4 →
-            MatchResult result (λ p. p.code ≡ code) IsWanting }
+            MatchResult result (λ p. p.code ≡ code) IsOutOfMemory }
     {
         faultless_programs_are_accepted();
         Program::accept(alloc, bytes, shapes)

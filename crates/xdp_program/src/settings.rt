@@ -4,7 +4,7 @@ ghost use Rattle.bpf_insn.specs.Code.{Spells};
 ghost use Rattle.bpf_insn.specs.declared.insn.Insn.{Insn};
 ghost use Rattle.bpf_verify.specs.FirstRefusal.{IsFaultless};
 ghost use Rattle.xdp_load.specs.Setup.{SetupView, setup_of};
-ghost use Rattle.xdp_program.specs.Settings.{IsProgramOf, IsSettingsFault, IsSettingsWanting};
+ghost use Rattle.xdp_program.specs.Settings.{IsProgramOf, IsSettingsFault, IsSettingsOutOfMemory};
 
 use crate::fault::SettingsFault;
 use crate::program::Program;
@@ -35,7 +35,7 @@ pub fn load_settings(alloc: Global, text: &[u8]) -> Result<Program, SettingsFaul
 
     // Nothing more is refused.
     ensures accepted { (s : SetupView) (code : List Insn) → setup_of text.now ≡ Ok s → Spells code s.program → IsFaultless code s.shapes →
-        MatchResult result (λ p. (p.code ≡ code) × (p.shapes ≡ s.shapes)) IsSettingsWanting }
+        MatchResult result (λ p. (p.code ≡ code) × (p.shapes ≡ s.shapes)) IsSettingsOutOfMemory }
 {
     faultless_programs_are_accepted();
     accept(alloc, text)

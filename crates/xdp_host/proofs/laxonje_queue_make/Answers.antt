@@ -3,7 +3,7 @@ use Rattle.std.specs.Prelude.{IfOk, IfSome}
 use Rattle.xen_host.specs.Frames.{list_limits}
 use Rattle.xen_host.specs.Making.{IsMadeOf}
 use Rattle.xdp_host.specs.Made.{MakesOr, given}
-use Rattle.xdp_host.specs.declared.held.Held.{Held}
+use Rattle.xdp_host.specs.declared.loaded_program.LoadedProgram.{LoadedProgram}
 use Rattle.xdp_host.proofs.MadeLemmas.{makes_or}
 use Rattle.xdp_host.proofs.laxonje_queue_make.Goals as goal
 
@@ -13,6 +13,6 @@ returns-in-Some-clause-made c =
     let m = c.boxed-made in
     let old = c.args.out.now.slot.held in
     let new = c.set.new.self.slot.held in
-    let made = subst (λ (h : Held). IfOk m.result (λ b. IsMadeOf h.program g b.value)) c.deref.ensures m.ensures.made in
+    let made = subst (λ (h : LoadedProgram). IfOk m.result (λ b. IsMadeOf h.program g b.value)) c.deref.ensures m.ensures.made in
     let all = makes_or c.in-Some.held.value.program g old new c.set.result m.result made m.ensures.fault c.set.ensures.ok c.set.ensures.err in
-    subst (λ (o : Option Held). IfSome o (λ h. MakesOr h.program g old new c.set.result)) c.in-Some.ensures.gone all
+    subst (λ (o : Option LoadedProgram). IfSome o (λ h. MakesOr h.program g old new c.set.result)) c.in-Some.ensures.gone all

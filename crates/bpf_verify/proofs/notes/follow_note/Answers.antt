@@ -40,7 +40,7 @@ returns-in-Err-spread-clause-err c =
     let es = edges_along c.in-Ok.ways (facts c.transfer.new.note) in
     let rule = rule_lent c.args.code.now c.args.shapes.now c.args.pc (slice_index_or c.args.code.now c.args.pc first) c.deref_mut.result.now c.args.note.value (Ok es)
     (get_is c.args.code.now c.args.pc first c.requires.there) c.deref_mut.ensures.value c.in-Ok.ensures.ok in
-    let memory : c.from.result.refusal.cause ≡ Memory = ap (λ (r : Refusal). r.cause) c.from.ensures.0 ∙ c.wanting.ensures.cause in
+    let memory : c.from.result.refusal.cause ≡ Memory = ap (λ (r : Refusal). r.cause) c.from.ensures.0 ∙ c.memory_refusal.ensures.cause in
     rw memory (subst WantsMemory (sym rule) c.in-Err-spread.ensures.err)
 
 pub returns-in-Err-clause-err : goal.returns-in-Err-clause-err

@@ -62,4 +62,4 @@ returns-in-Err-fault_of-clause-some c =
     let code = c.args.code.now in
     let here = slice_get-get_or code c.loop-pc.pc _ (omega (arith, c.loop-pc-test.true)) in
     let e = c.in-Err-fault_of.ensures in
-    rw (c.wanting-in-Err-fault_of.ensures.cause, c.wanting-in-Err-fault_of.ensures.slot) (searching code c.args.maps c.loop-pc.pc _ here e.search e.unordered e.target c.loop-pc.invariant)
+    rw (c.memory_refusal-in-Err-fault_of.ensures.cause, c.memory_refusal-in-Err-fault_of.ensures.slot) (searching code c.args.maps c.loop-pc.pc _ here e.search e.unordered e.target c.loop-pc.invariant)

@@ -4,7 +4,7 @@ use Rattle.xen_page.specs.Owned.{domains_of}
 use Rattle.xen_host.specs.Frames.{extent_limits}
 use Rattle.xen_host.specs.Making.{IsMadeOf}
 use Rattle.xdp_host.specs.Made.{MakesOr, extents_of, given}
-use Rattle.xdp_host.specs.declared.held.Held.{Held}
+use Rattle.xdp_host.specs.declared.loaded_program.LoadedProgram.{LoadedProgram}
 use Rattle.xdp_host.proofs.MadeLemmas.{makes_or}
 use Rattle.xdp_host.proofs.queue_extents.laxonje_queue_make_extents.Goals as goal
 
@@ -14,6 +14,6 @@ returns-in-Some-clause-made c =
     let m = c.boxed_of_extents-made in
     let old = c.args.out.now.slot.held in
     let new = c.set.new.self.slot.held in
-    let made = subst (λ (h : Held). IfOk m.result (λ b. IsMadeOf h.program g b.value)) c.deref.ensures m.ensures.made in
+    let made = subst (λ (h : LoadedProgram). IfOk m.result (λ b. IsMadeOf h.program g b.value)) c.deref.ensures m.ensures.made in
     let all = makes_or c.in-Some.held.value.program g old new c.set.result m.result made m.ensures.fault c.set.ensures.ok c.set.ensures.err in
-    subst (λ (o : Option Held). IfSome o (λ h. MakesOr h.program g old new c.set.result)) c.in-Some.ensures.gone all
+    subst (λ (o : Option LoadedProgram). IfSome o (λ h. MakesOr h.program g old new c.set.result)) c.in-Some.ensures.gone all

@@ -12,8 +12,8 @@ use Rattle.std.proofs.Crossing as heap
 use Rattle.std_alloc.proofs.SendSync.{quiet, lies}
 use Rattle.std_heap.proofs.Global.TheSendSync as handle
 use Rattle.xdp_host.specs.Handle.{handle_owns}
-use Rattle.xdp_host.specs.contracts.held.Held as Home
-use Rattle.xdp_host.proofs.held.Held.TheSendSync.{the_send as home}
+use Rattle.xdp_host.specs.contracts.loaded_program.LoadedProgram as Home
+use Rattle.xdp_host.proofs.loaded_program.LoadedProgram.TheSendSync.{the_send as home}
 use Rattle.xdp_host.specs.contracts.handle.Slot.{the_row, the_type}
 
 owned : (alloc : Global) (p : Ptr) (held : Option Home.the_row.Denot) → Keyless (handle_owns alloc p held)

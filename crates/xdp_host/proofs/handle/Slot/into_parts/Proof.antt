@@ -28,7 +28,7 @@ use Rattle.std.proofs.Common.{Bool, true, false, Option, Some, None, IsSome, ◌
 use contract.Monad.{fact}
 use denote.Steps.{heard}
 use types.Kit.{rewrite}
-use Rattle.xdp_host.specs.declared.held.Held.{Held}
+use Rattle.xdp_host.specs.declared.loaded_program.LoadedProgram.{LoadedProgram}
 use Rattle.xdp_host.proofs.AsBox.{E, FromSeal as From}
 use Rattle.xdp_host.specs.contracts.handle.Slot.{the_row as Handle}
 use Rattle.xdp_host.specs.contracts.handle.Slot.into_parts as F
@@ -44,7 +44,7 @@ not_true true = ⊥
 not_true false = Unit {0}
 
 -- a value that is there
-of_some : (o : Option Held) → IsSome o → (h : Held) × (o ≡ Some h)
+of_some : (o : Option LoadedProgram) → IsSome o → (h : LoadedProgram) × (o ≡ Some h)
 of_some None s = absurd (subst not_true s tt)
 of_some (Some h) s = (h, refl)
 
@@ -59,7 +59,7 @@ module _ {M : Type 1} {𝓤 : Ura M} (𝓛 : Logic 𝓤) (at_mem : Memory → SP
       qed 𝓛 ((‵ ftrue ⊛ ‵ (fsep (Handle.own_val z.0.3.0 z.0.4.0) ftrue)) ∷ raw (fact 𝓤 (IsSome z.0.3.0.held)) ∷ []) ∵ move ! (1 ∷ []) $ heard ! (IsSome z.0.3.0.held) (λ is. let got = of_some z.0.3.0.held is in
       let v : D E = record { ptr = z.0.3.0.at; alloc = z.0.3.0.alloc; value = got.0 } in
       let made : To.Denot = record { ptr = v.ptr; alloc = v.alloc; value = v.value } in
-      split ! $ drop ! $ fsplit ! $ rewrite ! 0 (λ (o : Option Held). ‵ (Handle.own_val (record { at = v.ptr; alloc = v.alloc; held = o }) z.0.4.0)) got.1 refl $
+      split ! $ drop ! $ fsplit ! $ rewrite ! 0 (λ (o : Option LoadedProgram). ‵ (Handle.own_val (record { at = v.ptr; alloc = v.alloc; held = o }) z.0.4.0)) got.1 refl $
       box_out E ! v z.0.4.0 (λ b o hv e ws fa. box_in E ! v b o v.value e refl $ use1 𝓛 (‵ (To.own_val made (word E hv b o ∷ []))) (id⊢ 𝓤 _) $ move ! (1 ∷ 2 ∷ []) $ drop ! $ drop ! $
       let w = word E hv b o in
       let Γ : List (Item 𝓤) = ‵ (To.own_val made (w ∷ [])) ∷ [] in

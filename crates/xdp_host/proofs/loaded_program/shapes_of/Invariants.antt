@@ -1,7 +1,7 @@
 use Rattle.std.proofs.Common.{◌≡◌, All, take}
 use Rattle.bpf_note.specs.Shape.{IsShape}
 use Rattle.xdp_host.specs.Answers.{shapes_of}
-use Rattle.xdp_host.proofs.held.shapes_of.Given as goal
+use Rattle.xdp_host.proofs.loaded_program.shapes_of.Given as goal
 
 abbrev pub invariant-loop-number : goal.invariant-loop-number
 invariant-loop-number l = record {

@@ -1,5 +1,5 @@
 use Rattle.xdp_host.proofs.FaultLemmas.{none_outside}
-use Rattle.xdp_host.proofs.held.accept.Goals as goal
+use Rattle.xdp_host.proofs.loaded_program.accept.Goals as goal
 
 pub returns-in_err-shapes-clause-accepted : goal.returns-in_err-shapes-clause-accepted
 returns-in_err-shapes-clause-accepted c = λ code spelled fine within.

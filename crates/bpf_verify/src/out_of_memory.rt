@@ -6,7 +6,7 @@ use std::alloc::AllocError;
 
 /// The refusal when memory runs out: V0 at the slot being checked, or at 0 before the first. It takes the error of the
 /// allocation that failed, so nothing else can make one.
-pub(crate) fn wanting(error: AllocError, pc: u32) -> Refusal
+pub(crate) fn memory_refusal(error: AllocError, pc: u32) -> Refusal
     ensures cause { result.cause ≡ Memory }
     ensures slot { result.pc ≡ pc }
 {

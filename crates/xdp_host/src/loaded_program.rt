@@ -9,11 +9,11 @@ ghost use Rattle.xdp_load.specs.Setup.{SetupView, setup_of};
 ghost use Rattle.xdp_program.specs.Ran.{Ran};
 ghost use Rattle.xdp_program.specs.Refused.{IsMade, IsUnmade};
 ghost use Rattle.xdp_program.specs.Settings.{IsProgramOf};
-ghost use Rattle.xdp_host.specs.Answers.{AreWithin, IsFault, IsFaultOfText, IsFirstOutside, IsLoaded, IsWanting, shape_of, shapes_of};
-ghost use Rattle.xdp_host.specs.Verdict.{accepting, wanting};
+ghost use Rattle.xdp_host.specs.Answers.{AreWithin, IsFault, IsFaultOfText, IsFirstOutside, IsLoaded, IsOutOfMemory, shape_of, shapes_of};
+ghost use Rattle.xdp_host.specs.Verdict.{accepting, out_of_memory};
 
+use crate::abi::{XdpMap, XdpVerdict};
 use crate::fault::Fault;
-use crate::plain::{XdpMap, XdpVerdict};
 use std::alloc::Global;
 use std::marker::Model;
 use xdp_program::{LoadFault, MapShape, Program, Run, STACK_SIZE, SettingsFault, load_settings};
@@ -35,7 +35,7 @@ impl Model for Stack {
 
 /// An accepted program, and its stack.
 #[derive(Drop)]
-pub struct Held {
+pub struct LoadedProgram {
     pub program: Program,
     stack: Stack,
 }
@@ -78,7 +78,7 @@ fn accept(alloc: Global, program: &[u8], maps: &[XdpMap]) -> Result<Program, Fau
     ensures loaded { IfOk result (IsLoaded program.now maps.now) }
     ensures fault { IfErr result (IsFault program.now maps.now) }
     ensures accepted { (code : List Insn) → Spells code program.now → IsFaultless code (shapes_of maps.now) → AreWithin maps.now →
-        IfErr result IsWanting }
+        IfErr result IsOutOfMemory }
 {
     if maps.len() > MOST_MAPS {
         return Err(Fault::Map(4));
@@ -97,7 +97,7 @@ fn accept_text(alloc: Global, text: &[u8]) -> Result<Program, Fault>
     ensures few { IfOk result (λ p. length p.shapes ≤ 4) }
     ensures fault { IfErr result (IsFaultOfText text.now) }
     ensures accepted { (s : SetupView) (code : List Insn) → setup_of text.now ≡ Ok s → Spells code s.program → IsFaultless code s.shapes →
-        IfErr result IsWanting }
+        IfErr result IsOutOfMemory }
 {
     match load_settings(alloc, text) {
         Ok(program) => Ok(program),
@@ -107,54 +107,54 @@ fn accept_text(alloc: Global, text: &[u8]) -> Result<Program, Fault>
     }
 }
 
-impl Held {
+impl LoadedProgram {
     /// A box of a program.
-    fn boxed(alloc: Global, program: Program) -> Result<Box<Held>, Fault>
+    fn boxed(alloc: Global, program: Program) -> Result<Box<LoadedProgram>, Fault>
         ensures ok { IfOk result (λ b. b.value.program ≡ program) }
-        ensures err { IfErr result (λ f. f ≡ wanting) }
+        ensures err { IfErr result (λ f. f ≡ out_of_memory) }
     {
         let stack = Stack {
             bytes: [0; STACK_SIZE],
         };
-        let held = Box::new(alloc, Held { program, stack })?;
+        let held = Box::new(alloc, LoadedProgram { program, stack })?;
         Ok(held)
     }
 
     /// Accepts a program with its maps.
-    #[tactic(auto, using(crate::proofs::FaultLemmas::wanting_loaded))]
-    pub fn load(alloc: Global, program: &[u8], maps: &[XdpMap]) -> Result<Box<Held>, Fault>
+    #[tactic(auto, using(crate::proofs::FaultLemmas::out_of_memory_loaded))]
+    pub fn load(alloc: Global, program: &[u8], maps: &[XdpMap]) -> Result<Box<LoadedProgram>, Fault>
         ensures loaded { IfOk result (λ b. IsLoaded program.now maps.now b.value.program) }
         ensures fault { IfErr result (IsFault program.now maps.now) }
         ensures accepted { (code : List Insn) → Spells code program.now → IsFaultless code (shapes_of maps.now) → AreWithin maps.now →
-            IfErr result IsWanting }
+            IfErr result IsOutOfMemory }
     {
         match accept(alloc, program, maps) {
-            Ok(program) => Held::boxed(alloc, program),
+            Ok(program) => LoadedProgram::boxed(alloc, program),
             Err(fault) => Err(fault),
         }
     }
 
     /// Accepts the program of a settings text with its maps.
-    pub fn load_settings(alloc: Global, text: &[u8]) -> Result<Box<Held>, Fault>
+    pub fn load_settings(alloc: Global, text: &[u8]) -> Result<Box<LoadedProgram>, Fault>
         ensures loaded { IfOk result (λ b. IsProgramOf text.now b.value.program) }
         ensures fault { IfErr result (IsFaultOfText text.now) }
         ensures accepted { (s : SetupView) (code : List Insn) → setup_of text.now ≡ Ok s → Spells code s.program →
             IsFaultless code s.shapes →
-            IfErr result IsWanting }
+            IfErr result IsOutOfMemory }
     {
         match accept_text(alloc, text) {
-            Ok(program) => Held::boxed(alloc, program),
+            Ok(program) => LoadedProgram::boxed(alloc, program),
             Err(fault) => Err(fault),
         }
     }
 
     /// The same program once more.
-    pub fn again(&self, alloc: Global) -> Result<Box<Held>, Fault>
+    pub fn again(&self, alloc: Global) -> Result<Box<LoadedProgram>, Fault>
         ensures ok { IfOk result (λ b. b.value ≡ self.now) }
-        ensures err { IfErr result (λ f. f ≡ wanting) }
+        ensures err { IfErr result (λ f. f ≡ out_of_memory) }
     {
         let program = self.program.again(alloc)?;
-        Held::boxed(alloc, program)
+        LoadedProgram::boxed(alloc, program)
     }
 
     /// Runs the program on a packet where it lies, as [`Program::run`] does.
@@ -166,7 +166,7 @@ impl Held {
             (result.number ≡ 0) × (result.instructions ≡ 0) × (packet.new ≡ packet.old) × (counters.new ≡ counters.old) }
         ensures words { length counters.new ≡ length counters.old }
     {
-        let Held { program, stack } = self;
+        let LoadedProgram { program, stack } = self;
         program.run(&mut stack.bytes, counters, packet, ifindex, queue)
     }
 
