@@ -18,12 +18,12 @@ pub fn join(alloc: Global, a: &Note, b: &Note) -> Result<Note, AllocError>
     ensures describes { IfOk result (λ n. (s : State) → Describes (facts a.now) s ⊎ Describes (facts b.now) s → Describes (facts n) s) }
 {
     let mut joined = a.copy(alloc)?;
-    join_in_place(alloc, &mut joined, b)?;
+    join_in_place(&mut joined, b)?;
     Ok(joined)
 }
 
 /// [`join`], in the first note. An `Err` changes nothing.
-pub fn join_in_place(alloc: Global, a: &mut Note, b: &Note) -> Result<(), AllocError>
+pub fn join_in_place(a: &mut Note, b: &Note) -> Result<(), AllocError>
     ensures ok { OnOk result (facts a.new ≡ joined (facts a.old) (facts b.now)) }
     ensures err { OnErr result (a.new ≡ a.old) }
 {

@@ -75,7 +75,7 @@ impl NoteList {
     }
 
     /// A note comes to the list.
-    pub(crate) fn arrive(&mut self, alloc: Global, note: Box<Note>) -> Result<(), AllocError>
+    pub(crate) fn arrive(&mut self, note: Box<Note>) -> Result<(), AllocError>
         ensures { OnOk result (Arrives (map facts self.old) (facts note.value) (map facts self.new)) }
     {
         if self.holds(&note) {
@@ -85,6 +85,6 @@ impl NoteList {
             self.notes.push(note)?;
             return Ok(());
         }
-        join_in_place(alloc, &mut self.notes[MOST_NOTES - 1], &note)
+        join_in_place(&mut self.notes[MOST_NOTES - 1], &note)
     }
 }

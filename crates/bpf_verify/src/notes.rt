@@ -26,27 +26,17 @@ use std::alloc::{AllocError, Global};
 use std::mem;
 
 /// Brings a note to a slot.
-fn tell(
-    alloc: Global,
-    table: &mut Vec<NoteList>,
-    pc: u32,
-    note: Box<Note>,
-) -> Result<(), AllocError>
+fn tell(table: &mut Vec<NoteList>, pc: u32, note: Box<Note>) -> Result<(), AllocError>
     requires { pc < vec_len table.old }
     ensures size { OnOk result (vec_len table.new ≡ vec_len table.old) }
     ensures hears { OnOk result ((q : ℕ) → Hears (facts_at table.old.items q) q ((pc, facts note.value) ∷ [])
         (facts_at table.new.items q)) }
 {
-    table[pc as usize].arrive(alloc, note)
+    table[pc as usize].arrive(note)
 }
 
 /// Brings notes to the slots that an instruction leads to: this one to the first of them.
-fn spread(
-    alloc: Global,
-    table: &mut Vec<NoteList>,
-    note: Box<Note>,
-    ways: Ways,
-) -> Result<(), AllocError>
+fn spread(table: &mut Vec<NoteList>, note: Box<Note>, ways: Ways) -> Result<(), AllocError>
     requires { LeadInside (edges_along ways (facts note.value)) (vec_len table.old) }
     ensures size { OnOk result (vec_len table.new ≡ vec_len table.old) }
     ensures hears { OnOk result ((q : ℕ) → Hears (facts_at table.old.items q) q (edges_along ways (facts note.value))
@@ -55,10 +45,10 @@ fn spread(
 {
     match ways {
         Ways::None => Ok(()),
-        Ways::One(next) => tell(alloc, table, next, note),
+        Ways::One(next) => tell(table, next, note),
         Ways::Two(next, target) => {
-            tell(alloc, table, next, note)?;
-            tell(alloc, table, target.pc, target.note)
+            tell(table, next, note)?;
+            tell(table, target.pc, target.note)
         }
     }
 }
@@ -86,7 +76,7 @@ fn follow_note(
     ensures kept { IfErr result (λ s. IfSome s.note (λ n. n.value ≡ note.value)) }
 {
     match transfer(alloc, &code[pc as usize], pc, &mut note, shapes) {
-        Ok(ways) => match spread(alloc, table, note, ways) {
+        Ok(ways) => match spread(table, note, ways) {
             Ok(()) => Ok(()),
             Err(error) => Err(Stopped::from(memory_refusal(error, pc))),
         },

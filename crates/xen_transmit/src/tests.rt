@@ -34,7 +34,7 @@ fn transmit(
     };
     let mut accesses = Vec::new(alloc);
     let mut given = answers.iter();
-    let mut transmit = Transmit::begin(&vif, start, packet);
+    let mut transmit = Transmit::begin();
     for _event in 0..20_000u32 {
         let mut word = 0;
         match transmit.want(&vif, start, packet) {

@@ -30,7 +30,7 @@ pub(crate) fn begin_send<'p, 'b>(
     ensures here { IsTrue (is_here result) }
     ensures rest { rest_in wiring.now state.now result ≡ send wiring.now state.now chain packet.entry ops }
 {
-    let transmit = Transmit::begin(&wiring.vif, state.rx_index, packet.bytes());
+    let transmit = Transmit::begin();
     Stage::Send(
         packet,
         Transmitting {

@@ -44,7 +44,7 @@ fn begun_frame<'d>(vif: &Vif, state: &State, packet: &'d [u8]) -> Moving<'d>
             delivery: Delivery::Halted { cause },
         },
         None => {
-            let transmit = Transmit::begin(vif, state.rx_index, packet);
+            let transmit = Transmit::begin();
             Moving::Sending(Sending { packet, transmit })
         }
     }

@@ -45,14 +45,15 @@ pub(crate) fn phase_fed(vif: &Vif, rx_index: u32, bytes: &[u8], phase: Phase, wo
 }
 
 impl Transmit {
-    /// The transmit of a packet, whose first rx slot is at this index.
-    pub fn begin(vif: &Vif, rx_index: u32, packet: &[u8]) -> Transmit
-        ensures { rest_of vif.now rx_index packet.now result.phase ≡ transmit vif.now rx_index packet.now }
+    /// The transmit of any packet, over any vif and from any rx index on: those that its calls are given.
+    pub fn begin() -> Transmit
+        ensures { (vif : VifView) (rx_index : ℕ) (packet : List ℕ) →
+            rest_of vif rx_index packet result.phase ≡ transmit vif rx_index packet }
     {
         Transmit { phase: Phase::Look }
     }
 
-    /// What the transmit wants next. Vif, index and packet are those that it was begun with.
+    /// What the transmit wants next. Vif, index and packet are the same at each call.
     pub fn want(&self, vif: &Vif, rx_index: u32, packet: &[u8]) -> Want
         requires { length packet.now ≤ 65535 }
         ensures want { result ≡ want_of (rest_of vif.now rx_index packet.now self.now.phase) }

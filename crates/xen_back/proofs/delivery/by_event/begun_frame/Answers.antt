@@ -8,5 +8,5 @@ returns-in-Some c = sym (ap (unless_halted c.args.vif.now c.args.state.now c.arg
 
 pub returns-in-None : goal.returns-in-None
 returns-in-None c =
-    ap (λ o. bind o (arrived c.args.state.now)) c.begin-transmit.ensures
+    ap (λ o. bind o (arrived c.args.state.now)) (c.begin-transmit.ensures c.args.vif.now c.args.state.now.rx_index c.args.packet.now)
     ∙ sym (ap (unless_halted c.args.vif.now c.args.state.now c.args.packet.now) c.in-None.is)
