@@ -43,17 +43,15 @@ impl<'p, 'b> Queue<'p, 'b> {
     {
         // The borrow checker has to see this type in the body.
         let _vif = &self.wiring.vif;
-        let (after, kind) = stage_turned(
+        stage_turned(
             &self.wiring,
-            &self.state,
+            &mut self.state,
             bus,
             counters,
             seat,
             ports,
             &mut self.stage,
-        );
-        self.state = after;
-        kind
+        )
     }
 
     /// A whole turn: its events over the bus, at the counters and to the ports.

@@ -32,28 +32,32 @@ use xen_transmit::send_packet;
 #[inline(never)]
 fn send_back<B: Bus>(
     wiring: &Wiring,
-    state: &State,
+    state: &mut State,
     bus: &mut B,
     ports: &Ports,
     packet: &CopyBuf<'_>,
     requests: &[Option<TxReq>],
     ops: u32,
-) -> (State, Kind)
+) -> Kind
     requires size { B.size bus.old ≡ length wiring.now.vif.owners.now }
     requires wired { IsWired wiring.now.vif }
     requires few { length requests.now ≤ 23 }
     ensures size { B.size bus.new ≡ B.size bus.old }
     ensures driven { (chain : List Slot) → requests_of chain ≡ requests.now → (t : List Event) ×
-        Driven B.log B.access_gives (send wiring.now state.now chain packet.now ops)
-        (ended result packet.now) bus.old bus.new [] [] t }
+        Driven B.log B.access_gives (send wiring.now state.old chain packet.now ops)
+        (ended (state.new, result) packet.now) bus.old bus.new [] [] t }
 {
     let outcome = send_packet(&wiring.vif, state.rx_index, packet.bytes(), bus, ports);
     let slots = requests.len() as u32;
     match after_sending(state, ops, slots, outcome) {
-        Err(cause) => (halted(state, cause), Kind::Halted { cause }),
+        Err(cause) => {
+            *state = halted(state, cause);
+            Kind::Halted { cause }
+        }
         Ok(reply) => {
             answer(wiring, bus, ports, &reply.at, requests, reply.status);
-            (after_answers(&reply.at, slots), reply.kind)
+            *state = after_answers(&reply.at, slots);
+            reply.kind
         }
     }
 }
@@ -61,14 +65,14 @@ fn send_back<B: Bus>(
 /// Runs the program on a packet that was copied, and answers its slots.
 fn run<B: Bus>(
     wiring: &Wiring,
-    state: &State,
+    state: &mut State,
     bus: &mut B,
     counters: &Counters,
     seat: &mut CounterSeat,
     ports: &Ports,
     packet: &mut CopyBuf<'_>,
     requests: &[Option<TxReq>],
-) -> (State, Kind)
+) -> Kind
     requires size { B.size bus.old ≡ length wiring.now.vif.owners.now }
     requires wired { IsWired wiring.now.vif }
     requires shapes { counters.now.shapes ≡ wiring.now.program.now.shapes }
@@ -77,8 +81,8 @@ fn run<B: Bus>(
     ensures size { B.size bus.new ≡ B.size bus.old }
     ensures seat { seat.new ≡ record seat.old { ops = seat.new.ops } }
     ensures driven { (chain : List Slot) → requests_of chain ≡ requests.now → (t : List Event) ×
-        Driven B.log B.access_gives (after_copy wiring.now state.now chain (Some packet.old))
-        (ended result packet.new) bus.old bus.new seat.old.ops seat.new.ops t }
+        Driven B.log B.access_gives (after_copy wiring.now state.old chain (Some packet.old))
+        (ended (state.new, result) packet.new) bus.old bus.new seat.old.ops seat.new.ops t }
 {
     let Ended { number, ops } = packet.run(wiring, counters, seat);
     if number == XDP_TX {
@@ -86,10 +90,8 @@ fn run<B: Bus>(
     } else {
         answer(wiring, bus, ports, state, requests, status(number));
         let slots = requests.len() as u32;
-        (
-            after_answers(state, slots),
-            Kind::Ran { number, ops, slots },
-        )
+        *state = after_answers(state, slots);
+        Kind::Ran { number, ops, slots }
     }
 }
 
@@ -97,34 +99,34 @@ fn run<B: Bus>(
 #[inline(never)]
 pub(crate) fn refuse<B: Bus>(
     wiring: &Wiring,
-    state: &State,
+    state: &mut State,
     bus: &mut B,
     ports: &Ports,
     requests: &[Option<TxReq>],
     cause: Refusal,
-) -> (State, Kind)
+) -> Kind
     requires size { B.size bus.old ≡ length wiring.now.vif.owners.now }
     requires wired { IsWired wiring.now.vif }
     requires few { length requests.now ≤ 23 }
     ensures size { B.size bus.new ≡ B.size bus.old }
     ensures driven { (chain : List Slot) → requests_of chain ≡ requests.now → (packet : List ℕ) → (t : List Event) ×
-        Driven B.log B.access_gives (respond wiring.now state.now chain Error (Refused cause 0 (length chain)))
-        (ended result packet) bus.old bus.new [] [] t }
+        Driven B.log B.access_gives (respond wiring.now state.old chain Error (Refused cause 0 (length chain)))
+        (ended (state.new, result) packet) bus.old bus.new [] [] t }
 {
     answer(wiring, bus, ports, state, requests, Status::Error);
     let slots = requests.len() as u32;
-    let kind = Kind::Refused {
+    *state = after_answers(state, slots);
+    Kind::Refused {
         cause,
         ops: 0,
         slots,
-    };
-    (after_answers(state, slots), kind)
+    }
 }
 
 /// Copies a packet's fragments, runs the program on them, and answers the slots.
 pub(crate) fn copy_and_run<B: Bus>(
     wiring: &Wiring,
-    state: &State,
+    state: &mut State,
     bus: &mut B,
     counters: &Counters,
     seat: &mut CounterSeat,
@@ -132,7 +134,7 @@ pub(crate) fn copy_and_run<B: Bus>(
     packet: &mut CopyBuf<'_>,
     fragments: &[Fragment],
     requests: &[Option<TxReq>],
-) -> (State, Kind)
+) -> Kind
     requires size { B.size bus.old ≡ length wiring.now.vif.owners.now }
     requires wired { IsWired wiring.now.vif }
     requires shapes { counters.now.shapes ≡ wiring.now.program.now.shapes }
@@ -143,8 +145,8 @@ pub(crate) fn copy_and_run<B: Bus>(
     ensures size { B.size bus.new ≡ B.size bus.old }
     ensures seat { seat.new ≡ record seat.old { ops = seat.new.ops } }
     ensures driven { (chain : List Slot) → requests_of chain ≡ requests.now → (t : List Event) ×
-        Driven B.log B.access_gives (bind (copy wiring.now fragments.now []) (after_copy wiring.now state.now chain))
-        (ended result packet.new) bus.old bus.new seat.old.ops seat.new.ops t }
+        Driven B.log B.access_gives (bind (copy wiring.now fragments.now []) (after_copy wiring.now state.old chain))
+        (ended (state.new, result) packet.new) bus.old bus.new seat.old.ops seat.new.ops t }
 {
     packet.clear();
     match copy_fragments(wiring, bus, fragments, packet) {

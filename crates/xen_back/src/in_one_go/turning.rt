@@ -53,14 +53,14 @@ fn lone_fragment(slot: &LoneSlot) -> Result<Fragment, SizeFault>
 /// A turn whose packet is in one slot.
 fn one_slot<B: Bus>(
     wiring: &Wiring,
-    state: &State,
+    state: &mut State,
     bus: &mut B,
     counters: &Counters,
     seat: &mut CounterSeat,
     ports: &Ports,
     packet: &mut CopyBuf<'_>,
     slot: &LoneSlot,
-) -> (State, Kind)
+) -> Kind
     requires size { B.size bus.old ≡ length wiring.now.vif.owners.now }
     requires wired { IsWired wiring.now.vif }
     requires shapes { counters.now.shapes ≡ wiring.now.program.now.shapes }
@@ -68,8 +68,8 @@ fn one_slot<B: Bus>(
     ensures size { B.size bus.new ≡ B.size bus.old }
     ensures seat { seat.new ≡ record seat.old { ops = seat.new.ops } }
     ensures driven { (t : List Event) × Driven B.log B.access_gives
-        (after_chain wiring.now state.now (slot.now.words ∷ []) (fragments_of (slot.now.words ∷ [])))
-        (ended result packet.new) bus.old bus.new seat.old.ops seat.new.ops t }
+        (after_chain wiring.now state.old (slot.now.words ∷ []) (fragments_of (slot.now.words ∷ [])))
+        (ended (state.new, result) packet.new) bus.old bus.new seat.old.ops seat.new.ops t }
 {
     let requests = [Some(TxReq::of_words(slot.words))];
     match lone_fragment(slot) {
@@ -93,7 +93,7 @@ fn one_slot<B: Bus>(
 #[inline(never)]
 fn more_slots<B: Bus>(
     wiring: &Wiring,
-    state: &State,
+    state: &mut State,
     bus: &mut B,
     counters: &Counters,
     seat: &mut CounterSeat,
@@ -101,18 +101,21 @@ fn more_slots<B: Bus>(
     packet: &mut CopyBuf<'_>,
     first: [u32; 3],
     left: u32,
-) -> (State, Kind)
+) -> Kind
     requires size { B.size bus.old ≡ length wiring.now.vif.owners.now }
     requires wired { IsWired wiring.now.vif }
     requires shapes { counters.now.shapes ≡ wiring.now.program.now.shapes }
     requires seat { IsSeatOf counters.now seat.old }
     ensures size { B.size bus.new ≡ B.size bus.old }
     ensures seat { seat.new ≡ record seat.old { ops = seat.new.ops } }
-    ensures driven { (t : List Event) × Driven B.log B.access_gives (after_slot wiring.now state.now left [] first)
-        (ended result packet.new) bus.old bus.new seat.old.ops seat.new.ops t }
+    ensures driven { (t : List Event) × Driven B.log B.access_gives (after_slot wiring.now state.old left [] first)
+        (ended (state.new, result) packet.new) bus.old bus.new seat.old.ops seat.new.ops t }
 {
     match read_chain(wiring, state, bus, first, left) {
-        Err(cause) => (halted(state, cause), Kind::Halted { cause }),
+        Err(cause) => {
+            *state = halted(state, cause);
+            Kind::Halted { cause }
+        }
         Ok(chain) => {
             let requests = chain.requests();
             match chain.fragments() {
@@ -150,22 +153,22 @@ fn next_index(state: &State) -> u32
 /// A turn from its first slot. So many slots are left behind it.
 fn from_slot<B: Bus>(
     wiring: &Wiring,
-    state: &State,
+    state: &mut State,
     bus: &mut B,
     counters: &Counters,
     seat: &mut CounterSeat,
     ports: &Ports,
     packet: &mut CopyBuf<'_>,
     left: u32,
-) -> (State, Kind)
+) -> Kind
     requires size { B.size bus.old ≡ length wiring.now.vif.owners.now }
     requires wired { IsWired wiring.now.vif }
     requires shapes { counters.now.shapes ≡ wiring.now.program.now.shapes }
     requires seat { IsSeatOf counters.now seat.old }
     ensures size { B.size bus.new ≡ B.size bus.old }
     ensures seat { seat.new ≡ record seat.old { ops = seat.new.ops } }
-    ensures driven { (t : List Event) × Driven B.log B.access_gives (after_look wiring.now state.now (Some (suc left)))
-        (ended result packet.new) bus.old bus.new seat.old.ops seat.new.ops t }
+    ensures driven { (t : List Event) × Driven B.log B.access_gives (after_look wiring.now state.old (Some (suc left)))
+        (ended (state.new, result) packet.new) bus.old bus.new seat.old.ops seat.new.ops t }
 {
     let words = read_slot(bus, wiring.vif.tx, next_index(state));
     if is_lone(words) {
@@ -181,31 +184,32 @@ fn from_slot<B: Bus>(
 /// A turn after the last look.
 fn from_look<B: Bus>(
     wiring: &Wiring,
-    state: &State,
+    state: &mut State,
     bus: &mut B,
     counters: &Counters,
     seat: &mut CounterSeat,
     ports: &Ports,
     packet: &mut CopyBuf<'_>,
     shown: Option<u32>,
-) -> (State, Kind)
+) -> Kind
     requires size { B.size bus.old ≡ length wiring.now.vif.owners.now }
     requires wired { IsWired wiring.now.vif }
     requires shapes { counters.now.shapes ≡ wiring.now.program.now.shapes }
     requires seat { IsSeatOf counters.now seat.old }
     ensures size { B.size bus.new ≡ B.size bus.old }
     ensures seat { seat.new ≡ record seat.old { ops = seat.new.ops } }
-    ensures driven { (t : List Event) × Driven B.log B.access_gives (after_look wiring.now state.now shown)
-        (ended result packet.new) bus.old bus.new seat.old.ops seat.new.ops t }
+    ensures driven { (t : List Event) × Driven B.log B.access_gives (after_look wiring.now state.old shown)
+        (ended (state.new, result) packet.new) bus.old bus.new seat.old.ops seat.new.ops t }
 {
     match shown {
         None => {
             let cause = Halt::TxProducer;
-            (halted(state, cause), Kind::Halted { cause })
+            *state = halted(state, cause);
+            Kind::Halted { cause }
         }
         Some(n) => {
             if n == 0 {
-                (*state, Kind::Idle)
+                Kind::Idle
             } else {
                 from_slot(wiring, state, bus, counters, seat, ports, packet, n - 1)
             }
@@ -216,24 +220,24 @@ fn from_look<B: Bus>(
 /// A whole turn.
 fn turn<B: Bus>(
     wiring: &Wiring,
-    state: &State,
+    state: &mut State,
     bus: &mut B,
     counters: &Counters,
     seat: &mut CounterSeat,
     ports: &Ports,
     packet: &mut CopyBuf<'_>,
-) -> (State, Kind)
+) -> Kind
     requires size { B.size bus.old ≡ length wiring.now.vif.owners.now }
     requires wired { IsWired wiring.now.vif }
     requires shapes { counters.now.shapes ≡ wiring.now.program.now.shapes }
     requires seat { IsSeatOf counters.now seat.old }
     ensures size { B.size bus.new ≡ B.size bus.old }
     ensures seat { seat.new ≡ record seat.old { ops = seat.new.ops } }
-    ensures driven { (t : List Event) × Driven B.log B.access_gives (whole_turn wiring.now state.now)
-        (ended result packet.new) bus.old bus.new seat.old.ops seat.new.ops t }
+    ensures driven { (t : List Event) × Driven B.log B.access_gives (whole_turn wiring.now state.old)
+        (ended (state.new, result) packet.new) bus.old bus.new seat.old.ops seat.new.ops t }
 {
     match state.halt {
-        Some(cause) => (*state, Kind::Halted { cause }),
+        Some(cause) => Kind::Halted { cause },
         None => {
             let shown = look(wiring, state, bus);
             from_look(wiring, state, bus, counters, seat, ports, packet, shown)
@@ -244,13 +248,13 @@ fn turn<B: Bus>(
 /// A whole turn of a stage that is between turns, and is so again behind it.
 pub(crate) fn stage_turned<'p, 'b, B: Bus>(
     wiring: &Wiring<'p>,
-    state: &State,
+    state: &mut State,
     bus: &mut B,
     counters: &Counters,
     seat: &mut CounterSeat,
     ports: &Ports,
     stage: &mut Stage<'p, 'b>,
-) -> (State, Kind)
+) -> Kind
     requires ready { (p : List ℕ) × (stage.old ≡ stages.At p phases.Ready) }
     requires size { B.size bus.old ≡ length wiring.now.vif.owners.now }
     requires wired { IsWired wiring.now.vif }
@@ -259,8 +263,8 @@ pub(crate) fn stage_turned<'p, 'b, B: Bus>(
     ensures ready { (p : List ℕ) × (stage.new ≡ stages.At p phases.Ready) }
     ensures size { B.size bus.new ≡ B.size bus.old }
     ensures seat { seat.new ≡ record seat.old { ops = seat.new.ops } }
-    ensures driven { (t : List Event) × Driven B.log B.access_gives (whole_turn wiring.now state.now)
-        (ended result (packet_at stage.new)) bus.old bus.new seat.old.ops seat.new.ops t }
+    ensures driven { (t : List Event) × Driven B.log B.access_gives (whole_turn wiring.now state.old)
+        (ended (state.new, result) (packet_at stage.new)) bus.old bus.new seat.old.ops seat.new.ops t }
 {
     match stage {
         Stage::At(packet, _) => turn(wiring, state, bus, counters, seat, ports, packet),

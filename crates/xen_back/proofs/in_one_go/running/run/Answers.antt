@@ -32,7 +32,7 @@ returns-then-number-eq-XDP_TX-clause-driven g c = λ chain h.
     let asked : Driven log gives start mid bus bus old new ran.trace = subst (λ (q : Steps Ending). Driven log gives start q bus bus old new ran.trace) (ran_to_send w s chain n ops bytes c.if-number-eq-XDP_TX.true) d in
     let a = c.send_back.ensures.driven chain h in
     let after = c.send_back.new.bus in
-    let end = ended c.send_back.result bytes in
+    let end = ended (c.send_back.new.state, c.send_back.result) bytes in
     (ran.trace ++ a.0, driven_append log gives start mid end bus bus after old new new ran.trace a.0 asked (driven_silent log gives mid end bus after new a.0 a.1))
 
 pub returns-else-number-eq-XDP_TX-clause-driven : goal.returns-else-number-eq-XDP_TX-clause-driven

@@ -19,5 +19,5 @@ returns-else-n-eq0-clause-driven g c =
     let same = ap (after_look w s) c.in-Some.is ∙ looked_some w s c.in-Some.n c.if-n-eq0.false in
     let p = c.from_slot in
     let d = p.ensures.driven in
-    let end = ended p.result p.new.packet in
+    let end = ended (p.new.state, p.result) p.new.packet in
     (d.0, subst (λ (q : Steps Ending). Driven log gives q end c.args.bus.now p.new.bus c.args.seat.now.ops p.new.seat.ops d.0) (sym same) d.1)

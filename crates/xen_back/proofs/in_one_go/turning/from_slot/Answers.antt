@@ -29,7 +29,7 @@ returns-then-is_lone-clause-driven g c =
     let is = c.is_lone.ensures c.if-is_lone.true in
     let start = after_look w s (Some (suc c.args.left)) in
     let mid = after_chain w s (slot ∷ []) (fragments_of (slot ∷ [])) in
-    let end = ended p.result p.new.packet in
+    let end = ended (p.new.state, p.result) p.new.packet in
     let first : Driven log gives start mid bus r.new.bus [] [] d.0 = subst (λ (q : Steps Ending). Driven log gives start q bus r.new.bus [] [] d.0) (lone_after w s c.args.left slot is.0 is.1) d.1 in
     let u = p.ensures.driven in
     (d.0 ++ u.0, driven_append log gives start mid end bus r.new.bus p.new.bus ops ops p.new.seat.ops d.0 u.0 (driven_silent log gives start mid bus r.new.bus ops d.0 first) u.1)
@@ -49,7 +49,7 @@ returns-else-is_lone-clause-driven g c =
     let d = first_read log gives w s c.args.left slot bus r.new.bus read in
     let start = after_look w s (Some (suc c.args.left)) in
     let mid = after_slot w s c.args.left [] slot in
-    let end = ended p.result p.new.packet in
+    let end = ended (p.new.state, p.result) p.new.packet in
     let u = p.ensures.driven in
     (d.0 ++ u.0, driven_append log gives start mid end bus r.new.bus p.new.bus ops ops p.new.seat.ops d.0 u.0 (driven_silent log gives start mid bus r.new.bus ops d.0 d.1) u.1)
 

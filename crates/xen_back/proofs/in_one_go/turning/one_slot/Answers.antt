@@ -18,7 +18,7 @@ returns-in-Ok-clause-driven g c =
     let r = c.copy_and_run in
     let asked = ap (λ (q : TxReq). Some q ∷ []) (sym c.of_words.ensures.fields) in
     let d = r.ensures.driven chain asked in
-    (d.0, subst (λ (x : Result (List Fragment) SizeFault). Driven log gives (after_chain w s chain x) (ended r.result r.new.packet) c.args.bus.now r.new.bus c.args.seat.now.ops r.new.seat.ops d.0) (sym c.in-Ok.ensures.answer) d.1)
+    (d.0, subst (λ (x : Result (List Fragment) SizeFault). Driven log gives (after_chain w s chain x) (ended (r.new.state, r.result) r.new.packet) c.args.bus.now r.new.bus c.args.seat.now.ops r.new.seat.ops d.0) (sym c.in-Ok.ensures.answer) d.1)
 
 pub returns-in-Err-clause-driven : goal.returns-in-Err-clause-driven
 returns-in-Err-clause-driven g c =
@@ -31,6 +31,6 @@ returns-in-Err-clause-driven g c =
     let asked = ap (λ (q : TxReq). Some q ∷ []) (sym c.of_words.ensures.fields) in
     let d = r.ensures.driven chain asked c.args.packet.now in
     let ops = c.args.seat.now.ops in
-    let end = ended r.result c.args.packet.now in
+    let end = ended (r.new.state, r.result) c.args.packet.now in
     let one = subst (λ (x : Result (List Fragment) SizeFault). Driven log gives (after_chain w s chain x) end c.args.bus.now r.new.bus [] [] d.0) (sym c.in-Err.ensures.answer) d.1 in
     (d.0, driven_silent log gives _ end c.args.bus.now r.new.bus ops d.0 one)

@@ -25,6 +25,6 @@ returns-in-None-clause-driven g c =
     let ops = c.args.seat.now.ops in
     let start = bind (look w s.tx_index) (after_look w s) in
     let mid = after_look w s l.result in
-    let end = ended r.result r.new.packet in
+    let end = ended (r.new.state, r.result) r.new.packet in
     let all = driven_append log gives start mid end bus l.new.bus r.new.bus ops ops r.new.seat.ops t u (driven_silent log gives start mid bus l.new.bus ops t l.ensures.driven.1) r.ensures.driven.1 in
     (t ++ u, subst (λ (o : Option Halt). Driven log gives (unless_halted w s o) end bus r.new.bus ops r.new.seat.ops (t ++ u)) (sym c.in-None.is) all)
