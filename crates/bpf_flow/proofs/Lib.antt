@@ -1,4 +1,4 @@
-mod StepLemmas
+pub mod StepLemmas
 mod LabelLemmas
 pub mod EdgeLemmas
 mod WorkedLemmas

@@ -13,3 +13,4 @@ mod WalkLemmas
 mod OperandLemmas
 mod ExitLemmas
 mod PassLemmas
+mod FrameLemmas

@@ -1,7 +1,5 @@
-use Rattle.std.proofs.Common.{◌+◌, arith, sym, subst}
-use Rattle.bpf_vm.specs.Advance.{Advanced}
+use Rattle.std.proofs.Common.{arith}
 use Rattle.bpf_vm.specs.Stands.{running_of}
-use Rattle.bpf_vm.specs.declared.machine.Machine.{Machine}
 use Rattle.bpf_vm.proofs.RunLemmas.{few_instructions}
 use Rattle.bpf_vm.proofs.AdvanceLemmas.{advanced_here}
 use Rattle.bpf_vm.proofs.PassLemmas.{advanced_on}
@@ -15,27 +13,13 @@ overflow_add-done c =
     let bound = c.in-Goes.ensures.2.bound in
     omega (arith, bound, few_instructions c.args.program.now.code, c.requires.running.consistent.laid_out.short)
 
-pub overflow_add-done-in-Goes-pass : goal.overflow_add-done-in-Goes-pass
-overflow_add-done-in-Goes-pass c =
-    let bound = c.in-Goes-pass.ensures.2.bound in
-    omega (arith, bound, few_instructions c.args.program.now.code, c.requires.running.consistent.laid_out.short)
-
 pub loop-to-preserved : goal.loop-to-preserved
 loop-to-preserved c =
     let p = c.args.program.now in
     let i = c.loop-to.invariant in
     let one = c.in-Goes.ensures in
-    let two = c.in-Goes-pass.ensures in
-    let first = advanced_on p c.args.pc c.args.self.now c.args.count c.loop-to.at c.loop-to.self c.loop-to.done c.in-Goes.to c.pass.new.self i.running i.advanced one.2 in
     record {
-      maps = two.0;
-      running = two.1;
-      advanced = advanced_on p c.args.pc c.args.self.now c.args.count c.in-Goes.to c.pass.new.self _ c.in-Goes-pass.to c.pass-in-loop-to.new.self one.1 first two.2;
+      maps = one.0;
+      running = one.1;
+      advanced = advanced_on p c.args.pc c.args.self.now c.args.count c.loop-to.at c.loop-to.self c.loop-to.done c.in-Goes.to c.pass.new.self i.running i.advanced one.2;
     }
-
-pub returns-in-Waits-pass-clause-advanced : goal.returns-in-Waits-pass-clause-advanced
-returns-in-Waits-pass-clause-advanced c =
-    let p = c.args.program.now in
-    let i = c.loop-to.invariant in
-    let first = advanced_on p c.args.pc c.args.self.now c.args.count c.loop-to.at c.loop-to.self c.loop-to.done c.in-Goes.to c.pass.new.self i.running i.advanced c.in-Goes.ensures.2 in
-    subst (λ (m : Machine). Advanced (running_of p c.args.pc c.args.self.now c.args.count) (running_of p c.in-Goes.to m (c.loop-to.done + 1))) (sym c.in-Waits-pass.ensures.1) first
