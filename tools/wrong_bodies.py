@@ -236,6 +236,16 @@ def verdict_of(said, crate, function):
     return Verdict.NAMES if errors else Verdict.UNKNOWN
 
 
+def unproved_beside(said, crate, edited):
+    """The functions that aren't edited, and that aren't proved for a reason of their own: none, where what the prover kept is sound."""
+    lines = lines_of(said, crate).items()
+    return [name for name, line in lines if not re.match(r"proved\b|assumed", line) and not WAITS.search(line) and not is_of(name, edited)]
+
+
+def is_of(name, edited):
+    return any(name == it or name.endswith(f"::{it}") for it in edited)
+
+
 @dataclasses.dataclass
 class Checked:
     said: str
@@ -244,9 +254,9 @@ class Checked:
     wall: float
 
 
-def check(crate, rtlib, texts, only=()):
-    """Checks a copy of a crate with these texts in place of its own: from nothing, these functions alone, or all of it. What a check
-    of the crate as it stands proved would spare little: the time goes into the search for proofs that aren't there."""
+def check(crate, rtlib, texts, only=(), kept=None):
+    """Checks a copy of a crate with these texts in place of its own: these functions alone, or all of it; over what the prover kept
+    of earlier checks in the folder `kept`, where that is given, or else from nothing."""
     with tempfile.TemporaryDirectory(prefix="wrong-bodies-") as room:
         for part in rtlib.PARTS:
             if os.path.isdir(os.path.join(crate.folder, part)):
@@ -256,6 +266,7 @@ def check(crate, rtlib, texts, only=()):
                 it.write(text)
         words = [rtlib.RATTLE, "check", *crate.words(["--jobs", "1"], keeps=False)]
         words += [word for name in only for word in ("--only", name)]
+        words += ["--incremental", kept] if kept else []
         return ran([*rtlib.guarded(), *words], room)
 
 
