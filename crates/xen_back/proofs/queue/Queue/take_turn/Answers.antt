@@ -7,5 +7,5 @@ use Rattle.xen_back.proofs.queue.Queue.take_turn.Goals as goal
 pub invariant_of-self : goal.invariant_of-self
 invariant_of-self g c =
     let q = c.args.self.now in
-    let t = c.stage_turned-kind in
-    record { here = subst (λ (f : Stage). IsTrue (is_here f)) (sym t.ensures.ready.1) refl; wired = q.wired; turns = q.turns; left = subst (λ (f : Stage). Completes q.wiring (rest_in q.wiring t.result.0 f)) (sym t.ensures.ready.1) (q.turns t.result.0) }
+    let t = c.stage_turned in
+    record { here = subst (λ (f : Stage). IsTrue (is_here f)) (sym t.ensures.ready.1) refl; wired = q.wired; turns = q.turns; left = subst (λ (f : Stage). Completes q.wiring (rest_in q.wiring t.new.state f)) (sym t.ensures.ready.1) (q.turns t.new.state) }
