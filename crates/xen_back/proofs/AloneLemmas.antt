@@ -1,7 +1,6 @@
 -- What is done in one go where a packet is in one slot is what a turn asks, event by event.
-use Rattle.std.proofs.Common.{◌≡◌, ◌≢◌, ℕ, zero, suc, ◌+◌, ◌-◌, ◌<◌, ◌≤◌, ◌^◌, ◌%◌, Bool, true, false, List, [], ◌∷◌, ◌++◌, length, Option, Some, None, Ok, Err, refl, sym, ◌∙◌, ap, append_assoc, append-nil, subst, arith}
-use Rattle.std.proofs.lemmas.Bool.Decides.{nat_tests}
-use Rattle.std.specs.Prelude.{IsTrue, nat_le, if◌then◌else◌}
+use Rattle.std.proofs.Common.{◌≡◌, ◌≢◌, ℕ, zero, suc, ◌+◌, ◌-◌, ◌<◌, ◌^◌, ◌%◌, Bool, true, false, List, [], ◌∷◌, ◌++◌, length, Option, Some, None, Ok, refl, sym, ◌∙◌, ap, append_assoc, append-nil, subst, arith}
+use Rattle.std.specs.Prelude.{IsTrue, if◌then◌else◌}
 use Rattle.bpf_flow.specs.Step.{Outcome as StepOutcome, Next, Loads, Adds, Exited, Fault}
 use Rattle.bpf_note.specs.declared.op.Op.{Op}
 use Rattle.bpf_vm.specs.Advance.{after_steps}
@@ -9,23 +8,13 @@ use Rattle.bpf_vm.specs.Course.{Course, Exiting, Loading, Adding, after, number_
 use Rattle.bpf_vm.specs.Stands.{label_of as label_at}
 use Rattle.bpf_vm.specs.Wants.{IsAddOf, IsLoadOf}
 use Rattle.xen_netif.specs.Chain.{Slot, extra_info, more_data}
-use Rattle.xen_netif.specs.Fragments.{fragments_of, is_in_page}
-use Rattle.xen_netif.specs.Slots.{tx_req_of}
+use Rattle.xen_netif.specs.Fragments.{fragments_of}
 use Rattle.xen_netif.specs.Standing.{after_data, after_extra, standing}
 use Rattle.xen_netif.specs.declared.chain.ChainState.TheVariants as wanted
-use Rattle.xen_netif.specs.declared.fragment.Fragment.{Fragment}
-use Rattle.xen_netif.specs.declared.status.Status.{Status}
 use Rattle.xen_page.specs.Access.{Performs}
-use Rattle.xen_page.specs.Entry.{entry_of}
-use Rattle.xen_page.specs.Grant.{checked}
-use Rattle.xen_page.specs.Mapping.{frame_place}
-use Rattle.xen_page.specs.Table.{entry_place}
 use Rattle.xen_page.specs.declared.access.Access.{Access}
 use Rattle.xen_page.specs.declared.access.Access.TheVariants as access
-use Rattle.xen_page.specs.declared.fault.GrantFault.{GrantFault}
-use Rattle.xen_page.specs.declared.place.Place.{Place}
-use Rattle.xen_page.proofs.AccessLemmas.{performs_none, performs_then}
-use Rattle.xen_ring.specs.Index.{is_due}
+use Rattle.xen_page.proofs.AccessLemmas.{performs_none}
 use Rattle.xen_steps.proofs.DriveLemmas.{accesses-append, bounded_next, gone_append}
 use Rattle.xen_steps.specs.Drive.{Any, Bounded, Driven as DrivenPages, Goes, Gone, IsPageWant, accesses, accesses_of}
 use Rattle.xen_steps.specs.Event.{Event, Occurs, Instr, Load, Add, Read, Write, Notify}
@@ -33,7 +22,7 @@ use Rattle.xen_steps.specs.Places.{add32, available}
 use Rattle.xen_steps.specs.Steps.{Steps, ask, bind, done, never}
 use Rattle.xen_steps.specs.declared.want.Want.{Want}
 use Rattle.xen_steps.specs.declared.want.Want.TheVariants as wants
-use Rattle.xen_transmit.specs.Places.{tx_slot, tx_word}
+use Rattle.xen_transmit.specs.Places.{tx_word}
 use Rattle.xen_transmit.specs.Transmit.{transmit}
 use Rattle.xen_transmit.specs.Wired.{IsWired}
 use Rattle.xen_transmit.specs.declared.by_event.phase.Outcome.{Outcome}
@@ -44,16 +33,15 @@ use Rattle.xen_back.specs.Program.{instructions_alone}
 use Rattle.xen_back.specs.Ran.{HasRunTo}
 use Rattle.xen_back.specs.Rest.{at_phase, is_here, packet_at}
 use Rattle.xen_back.specs.declared.by_event.phase.Phase.{Phase}
-use Rattle.xen_back.specs.declared.by_event.phase.Phase.TheVariants as phases
 use Rattle.xen_back.specs.declared.by_event.stage.Stage.{Stage}
 use Rattle.xen_back.specs.declared.by_event.stage.Stage.TheVariants as stages
-use Rattle.xen_back.specs.Tree.{Left, after_scan, judged, read_slots, after_chain, after_copy, after_look, after_run, after_transmit, announce, answered, copy, look, notice, program, respond, response, seen, send, status_of, third, whole_turn}
-use Rattle.xen_back.specs.Turned.{Ending, Ran, Turned}
+use Rattle.xen_back.specs.Tree.{Left, after_scan, judged, read_slots, after_chain, after_look, after_run, after_transmit, announce, look, notice, program, respond, seen, send, status_of}
+use Rattle.xen_back.specs.Turned.{Ending, Ran}
 use Rattle.xen_back.specs.declared.state.State.{State}
 use Rattle.xen_back.specs.declared.wiring.Wiring.{Wiring}
 use Rattle.xen_back.proofs.BulkLemmas.{IsSlotRead, slot_on}
 use Rattle.xen_back.specs.InOneGo.{after_slot}
-use Rattle.xen_back.proofs.DriveLemmas.{alone_accesses, alone_labels, driven_append, driven_none, gone_alone, labels-append}
+use Rattle.xen_back.proofs.DriveLemmas.{alone_accesses, alone_labels, driven_none, gone_alone, labels-append}
 use Rattle.xen_back.proofs.TurnRuns.{is_three, not_three}
 
 -- a run goes on by instructions that read no counter

@@ -1,33 +1,22 @@
 -- What a driver does in one go is what a turn asks, event by event.
-use Rattle.std.proofs.Common.{◌≡◌, ℕ, zero, suc, ◌+◌, ◌-◌, ◌/◌, ◌<◌, ◌≤◌, ◌^◌, ◌%◌, Bool, arith, drop, get_or, sum_by, length-take, length-append, false, List, [], ◌∷◌, ◌++◌, Option, Some, None, Result, Ok, Err, length, append-nil, append_assoc, refl, sym, ◌∙◌, ap, subst}
-use Rattle.bpf_note.specs.Shape.{Shape}
+use Rattle.std.proofs.Common.{◌≡◌, ℕ, ◌+◌, ◌-◌, ◌/◌, ◌<◌, ◌≤◌, ◌^◌, Bool, drop, get_or, false, List, [], ◌∷◌, ◌++◌, Option, Some, None, Result, Ok, Err, length, append-nil, append_assoc, refl, sym, ap, subst}
 use Rattle.xen_netif.specs.Chain.{Slot}
-use Rattle.xen_netif.specs.Copy.{bytes_from, bytes_in, bytes_of, covered}
-use Rattle.xen_netif.specs.Fragments.{fragment_size}
-use Rattle.xen_netif.proofs.CopyLemmas.{bytes_from-covered}
+use Rattle.xen_netif.specs.Copy.{bytes_from, bytes_in, covered}
 use Rattle.xen_netif.specs.Standing.{standing}
 use Rattle.xen_netif.specs.declared.chain.ChainState.{ChainState}
 use Rattle.xen_netif.specs.declared.chain.ChainState.TheVariants as wanted
 use Rattle.xen_netif.specs.declared.fault.ChainFault.{ChainFault}
 use Rattle.xen_netif.specs.declared.fragment.Fragment.{Fragment}
 use Rattle.xen_page.specs.Access.{Performs}
-use Rattle.xen_page.specs.Entry.{entry_of}
-use Rattle.xen_page.specs.Grant.{checked}
-use Rattle.xen_page.specs.Mapping.{frame_place}
-use Rattle.xen_page.specs.Table.{entry_place}
 use Rattle.xen_page.specs.declared.access.Access.{Access}
 use Rattle.xen_page.specs.declared.access.Access.TheVariants as access
 use Rattle.xen_page.specs.declared.fault.GrantFault.{GrantFault}
-use Rattle.xen_page.specs.declared.place.Place.{Place}
-use Rattle.xen_page.proofs.AccessLemmas.{performs_then}
 use Rattle.xen_steps.specs.Drive.{Gone, accesses}
 use Rattle.xen_steps.specs.Event.{Event, Read, Write}
 use Rattle.xen_steps.specs.Pages.{AreWords, copy_words, page_reads}
-use Rattle.xen_steps.specs.Finish.{Finishes}
-use Rattle.xen_steps.specs.Places.{add32, page_word, tx_entry}
+use Rattle.xen_steps.specs.Places.{add32, tx_entry}
 use Rattle.xen_steps.specs.Steps.{Steps, ask, bind}
 use Rattle.xen_steps.specs.declared.want.Want.TheVariants as want
-use Rattle.xen_transmit.specs.Entries.{entry}
 use Rattle.xen_transmit.specs.Shared.{IsEntry, inside, outside}
 use Rattle.xen_transmit.proofs.StraightLemmas.{gone_bind, gone_entry}
 use Rattle.xen_transmit.specs.Places.{tx_slot, tx_word}
@@ -37,14 +26,12 @@ use Rattle.std.proofs.lemmas.Option.{slice_get_within}
 use Rattle.xen_ring.specs.Index.{is_due}
 use Rattle.xen_back.specs.Drive.{Driven, labels}
 use Rattle.xen_back.specs.Reads.{AreReadFrom}
-use Rattle.xen_back.specs.Rest.{fragment_at, rest_of_slot}
-use Rattle.xen_back.specs.Tree.{after_copy, answer, notice, publish, after_scan, copy, entered, Scan, halted, judged, read_slot, read_slots}
+use Rattle.xen_back.specs.Rest.{rest_of_slot}
+use Rattle.xen_back.specs.Tree.{answer, notice, publish, after_scan, copy, entered, Scan, halted, judged, read_slot, read_slots}
 use Rattle.xen_back.specs.Turned.{Ending}
-use Rattle.xen_back.specs.Within.{Completes, IsWithin}
 use Rattle.xen_back.proofs.DriveLemmas.{driven_append}
-use Rattle.xen_back.proofs.RestLemmas.{answer_at, copy_at, read_slots_more}
-use Rattle.std.proofs.lemmas.List.{drop_all, drop_more}
-use Rattle.std.proofs.lemmas.List.Sums.{sum_by-cons}
+use Rattle.xen_back.proofs.RestLemmas.{answer_at, read_slots_more}
+use Rattle.std.proofs.lemmas.List.{drop_all}
 use Rattle.xen_back.specs.declared.state.State.{State}
 use Rattle.xen_back.specs.declared.turn.Halt.TheVariants as halt
 use Rattle.xen_back.specs.declared.wiring.Wiring.{Wiring}

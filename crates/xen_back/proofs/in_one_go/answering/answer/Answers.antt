@@ -1,6 +1,5 @@
-use Rattle.std.proofs.Common.{◌≡◌, ◌<◌, ◌≤◌, ◌+◌, ◌++◌, ℕ, List, [], ◌∷◌, None, drop, length, map, get_or, sym, ◌∙◌, ap, arith, subst}
+use Rattle.std.proofs.Common.{◌≡◌, ◌<◌, ◌≤◌, ◌++◌, ℕ, [], ◌∷◌, None, drop, length, map, sym, ◌∙◌, ap, arith, subst}
 use Rattle.std.proofs.lemmas.List.{get_or-map, length-map}
-use Rattle.xen_netif.specs.declared.tx.TxReq.{TxReq}
 use Rattle.xen_page.specs.Access.{Performs}
 use Rattle.xen_page.specs.declared.access.Access.TheVariants as access
 use Rattle.xen_ring.specs.Index.{is_due}

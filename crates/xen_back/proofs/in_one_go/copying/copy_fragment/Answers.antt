@@ -1,4 +1,4 @@
-use Rattle.std.proofs.Common.{◌+◌, ◌/◌, ◌%◌, ◌≤◌, drop, length, length-append, length-take, refl, ap, arith}
+use Rattle.std.proofs.Common.{◌/◌, ◌%◌, drop, length, length-append, length-take, refl, ap, arith}
 use Rattle.xen_netif.specs.Copy.{bytes_from, bytes_of}
 use Rattle.xen_netif.proofs.CopyLemmas.{bytes_from-covered}
 use Rattle.xen_back.proofs.BulkLemmas.{copied_driven, refused_driven}

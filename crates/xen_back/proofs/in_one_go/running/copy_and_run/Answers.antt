@@ -1,10 +1,9 @@
-use Rattle.std.proofs.Common.{◌≡◌, ◌++◌, List, [], ℕ, Option, Result, Some, None, length, ◌+◌, arith, ap, sym, subst}
-use Rattle.xen_steps.specs.Steps.{Steps, bind}
+use Rattle.std.proofs.Common.{◌++◌, List, [], ℕ, Result, Some, None, subst}
+use Rattle.xen_steps.specs.Steps.{bind}
 use Rattle.xen_page.specs.declared.fault.GrantFault.{GrantFault}
 use Rattle.xen_back.specs.Drive.{Driven}
 use Rattle.xen_back.specs.InOneGo.{copied, ended}
 use Rattle.xen_back.specs.Tree.{after_copy, copy}
-use Rattle.xen_back.specs.Turned.{Ending}
 use Rattle.xen_back.proofs.DriveLemmas.{driven_append, driven_silent}
 use Rattle.xen_back.proofs.in_one_go.running.copy_and_run.Goals as goal
 

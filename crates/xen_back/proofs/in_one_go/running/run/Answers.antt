@@ -1,4 +1,4 @@
-use Rattle.std.proofs.Common.{[], ◌++◌, ℕ, Some, length, sym, ◌∙◌, ap, subst}
+use Rattle.std.proofs.Common.{◌++◌, ℕ, Some, length, sym, ◌∙◌, ap, subst}
 use Rattle.xen_netif.specs.declared.status.Status.{Status}
 use Rattle.xen_steps.specs.Steps.{Steps, done}
 use Rattle.xen_back.specs.Drive.{Driven}

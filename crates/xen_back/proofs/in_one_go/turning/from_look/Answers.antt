@@ -1,12 +1,9 @@
-use Rattle.std.proofs.Common.{[], sym, ◌∙◌, ap, subst}
-use Rattle.xen_steps.specs.Steps.{Steps, done}
+use Rattle.std.proofs.Common.{sym, ◌∙◌, ap, subst}
+use Rattle.xen_steps.specs.Steps.{Steps}
 use Rattle.xen_back.specs.Drive.{Driven}
 use Rattle.xen_back.specs.InOneGo.{ended}
 use Rattle.xen_back.specs.Tree.{after_look}
-use Rattle.xen_back.specs.Turned.{Ending, turned}
-use Rattle.xen_back.specs.declared.state.State.{State}
-use Rattle.xen_back.specs.declared.turn.Halt.TheVariants as halt
-use Rattle.xen_back.specs.declared.turn.Kind.TheVariants as kinds
+use Rattle.xen_back.specs.Turned.{Ending}
 use Rattle.xen_back.proofs.AloneLemmas.{looked_some}
 use Rattle.xen_back.proofs.in_one_go.turning.from_look.Goals as goal
 

@@ -1,4 +1,4 @@
-use Rattle.std.proofs.Common.{ℕ, ◌++◌, List, [], ◌∷◌, Some, suc, sym, subst, ◌+◌, arith}
+use Rattle.std.proofs.Common.{ℕ, ◌++◌, [], ◌∷◌, Some, suc, subst, arith}
 use Rattle.xen_netif.specs.Fragments.{fragments_of}
 use Rattle.xen_steps.specs.Steps.{Steps}
 use Rattle.xen_back.specs.Drive.{Driven}

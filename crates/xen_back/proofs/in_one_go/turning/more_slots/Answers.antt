@@ -1,4 +1,4 @@
-use Rattle.std.proofs.Common.{◌≡◌, ◌++◌, [], List, Result, Ok, Err, sym, subst, ap, ◌∙◌, ◌≤◌, arith, refl}
+use Rattle.std.proofs.Common.{◌++◌, [], List, Result, Ok, sym, subst, ap, ◌∙◌}
 use Rattle.xen_netif.specs.Fragments.{fragments_of}
 use Rattle.xen_netif.specs.declared.fault.SizeFault.{SizeFault}
 use Rattle.xen_netif.specs.declared.fragment.Fragment.{Fragment}
