@@ -135,6 +135,20 @@ fn stacks(rt: HostRuntime) -> Result<(), Fail> {
     Ok(())
 }
 
+/// Whether a note with slot 0 kept covers one with a byte of it set.
+fn kept_covers_bytes(alloc: Global) -> bool {
+    let mut kept = Note::entry(alloc);
+    kept.keep(0, Val::FULL);
+    let mut bytes = Note::entry(alloc);
+    bytes.set_byte(0);
+    covers(&kept, &bytes)
+}
+
+#[test]
+fn a_kept_slot_covers_no_bytes(rt: HostRuntime) {
+    assert!(rt; !kept_covers_bytes(rt.alloc()));
+}
+
 /// Bounds of id 2 and of the packet's.
 fn left_ids(alloc: Global) -> Result<Note, AllocError> {
     let mut note = Note::entry(alloc);
