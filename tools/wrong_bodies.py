@@ -55,23 +55,28 @@ class Unreadable(Exception):
 
 def read(path):
     """The edit in a file."""
+    with open(path, encoding="utf-8") as it:
+        return Edit(path, *parsed(it.read()))
+
+
+def parsed(text):
+    """The changes of an edit's text, and the functions that it names."""
     changes, named, file, old = [], [], None, None
-    with open(path, encoding="utf-8") as lines:
-        for line in lines.read().split("\n"):
-            word, _, text = line.partition(": ")
-            if word == "file":
-                file = text.strip()
-            elif word == "fn":
-                named.append(text.strip())
-            elif word == "old":
-                old = text
-            elif word in ("new", "new:"):
-                if not file or not old:
-                    raise Unreadable("a line 'new:' stands before any 'file:' or 'old:'")
-                changes.append(Change(file, old, text))
+    for line in text.split("\n"):
+        word, _, text = line.partition(": ")
+        if word == "file":
+            file = text.strip()
+        elif word == "fn":
+            named.append(text.strip())
+        elif word == "old":
+            old = text
+        elif word in ("new", "new:"):
+            if not file or not old:
+                raise Unreadable("a line 'new:' stands before any 'file:' or 'old:'")
+            changes.append(Change(file, old, text))
     if not changes:
         raise Unreadable("it has no 'old:' and 'new:'")
-    return Edit(path, changes, named)
+    return changes, named
 
 
 def text_of(folder, file):

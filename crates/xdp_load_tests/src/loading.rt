@@ -2,7 +2,7 @@
 ghost use Rattle.std.specs.Prelude.{◌≤◌, length};
 
 use std::alloc::Global;
-use xdp_load::{LoadFault, Setup, fault_text, load};
+use xdp_load::{LoadFault, Setup, load};
 
 /// How many bytes the program has, how many shapes, names, steps and packets there are; the queues; the interface's number;
 /// and the index at which each ring begins.
@@ -21,22 +21,6 @@ pub fn fault_of_beginning(alloc: Global, bytes: &[u8], end: usize) -> Option<u8>
     requires { end ≤ length bytes.now }
 {
     fault_number(alloc, &bytes[..end])
-}
-
-/// What is said of settings that are refused.
-fn said_of(alloc: Global, bytes: &[u8]) -> Option<String> {
-    match load(alloc, bytes) {
-        Err(LoadFault::Refused(fault)) => fault_text(alloc, fault, bytes).ok(),
-        _ => None,
-    }
-}
-
-/// Whether settings are refused with this line of the text, and this is what is allowed there.
-pub fn is_said_at(alloc: Global, bytes: &[u8], line: &str, allowed: &str) -> bool {
-    match said_of(alloc, bytes) {
-        Some(said) => said.as_str().strip_prefix(line) == Some(allowed),
-        None => false,
-    }
 }
 
 fn counts_of(setup: &Setup) -> Counts {

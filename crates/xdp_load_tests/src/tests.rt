@@ -1,9 +1,6 @@
 mod beginnings;
-mod faults;
 mod growth;
-mod lines;
 mod setups;
-mod spots;
 
 /// Settings of forty lines, with every key.
 const EVERY_KEY: &str = "\

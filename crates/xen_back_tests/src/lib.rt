@@ -1,4 +1,5 @@
-//! Tests of [`xen_back`] by what it makes public. They are a crate of their own so that the gate proves xen_back once.
+//! Tests of [`xen_back`] and [`xen_transmit`] by what they make public. They are a crate of their own so that the gate proves
+//! these once.
 #![tactic(auto)]
 
 pub mod bench;

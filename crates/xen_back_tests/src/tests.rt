@@ -11,5 +11,6 @@ mod fixtures;
 mod kind;
 mod later_turns;
 mod programs;
+mod sending;
 mod slots;
 mod transmits;

@@ -4,8 +4,6 @@
 mod desc;
 mod distinct;
 mod grant;
-#[cfg(test)]
-mod tests;
 mod wired;
 mod wiring;
 

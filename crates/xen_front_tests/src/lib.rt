@@ -1,4 +1,5 @@
-//! Tests of [`xen_front`] by what it makes public. They are a crate of their own so that the gate proves xen_front once.
+//! Tests of [`xen_front`], [`xen_buffers`] and [`xen_steps`] by what they make public. They are a crate of their own so that the gate
+//! proves these once.
 #![tactic(auto)]
 
 pub mod bench;

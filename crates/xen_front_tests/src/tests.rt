@@ -9,3 +9,5 @@ mod model;
 mod random;
 mod sends;
 mod steps;
+mod wired;
+mod words;

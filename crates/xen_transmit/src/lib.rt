@@ -23,6 +23,3 @@ pub use target::{Target, Targets};
 pub use transmit::{Progress, Transmit};
 pub use vif::Vif;
 pub use words::{buffer_frame, packet_word, pages_of, response, words_of};
-
-#[cfg(test)]
-mod tests;

@@ -3,7 +3,6 @@
 use crate::known::{bounds, set_bounds, set_bytes};
 use bpf_note::{Note, PACKET_ID, Val, covers, join};
 use std::alloc::{AllocError, Global};
-use std::test::Fail;
 
 /// A note that holds a value in `r0` and in stack slot 5.
 fn holding(alloc: Global, value: Val) -> Note {
@@ -13,14 +12,19 @@ fn holding(alloc: Global, value: Val) -> Note {
     note
 }
 
-/// What is left of two values in `r0` and in stack slot 5, and whether the first one covers the second.
+/// What is left of the values of two notes in `r0` and in stack slot 5, and whether the first note covers the second.
+fn join_of(alloc: Global, left: &Note, right: &Note) -> Option<(Val, Option<Val>, bool)> {
+    match join(alloc, left, right) {
+        Ok(joined) => Some((joined.register(0), joined.kept(5), covers(left, right))),
+        Err(_) => None,
+    }
+}
+
+/// The same of two values.
 fn joined(alloc: Global, left: Val, right: Val) -> Option<(Val, Option<Val>, bool)> {
     let left = holding(alloc, left);
     let right = holding(alloc, right);
-    match join(alloc, &left, &right) {
-        Ok(joined) => Some((joined.register(0), joined.kept(5), covers(&left, &right))),
-        Err(_) => None,
-    }
+    join_of(alloc, &left, &right)
 }
 
 #[test]
@@ -122,17 +126,53 @@ fn stack_of(joined: &Note) -> (Option<Val>, [bool; 3], [bool; 3], bool) {
     (joined.kept(0), first, second, joined.is_set(15))
 }
 
+/// Which of a join, its left side and its right one cover each other: the join and each side, and the two sides.
+fn covering(joined: &Note, left: &Note, right: &Note) -> [[bool; 2]; 3] {
+    [
+        cover_each_other(joined, left),
+        cover_each_other(joined, right),
+        cover_each_other(left, right),
+    ]
+}
+
+/// A join covers each of its sides, which cover nothing.
+const AS_A_JOIN: [[bool; 2]; 3] = [[true, false], [true, false], [false, false]];
+
+/// What the join of two stacks is, and what covers what.
+type Stacks = ((Option<Val>, [bool; 3], [bool; 3], bool), [[bool; 2]; 3]);
+
+fn stacks_of(alloc: Global, left: &Note, right: &Note) -> Option<Stacks> {
+    match join(alloc, left, right) {
+        Ok(joined) => Some((stack_of(&joined), covering(&joined, left, right))),
+        Err(_) => None,
+    }
+}
+
+fn stacks_joined(alloc: Global) -> Option<Stacks> {
+    let left = left_stack(alloc);
+    let right = right_stack(alloc);
+    stacks_of(alloc, &left, &right)
+}
+
 #[test]
-fn stacks(rt: HostRuntime) -> Result<(), Fail> {
-    let left = left_stack(rt.alloc());
-    let right = right_stack(rt.alloc());
-    let joined = join(rt.alloc(), &left, &right)?;
+fn stacks(rt: HostRuntime) {
     let middle = [false, true, false];
-    assert_eq!(rt; stack_of(&joined), (None, middle, middle, true));
-    assert!(rt; cover_each_other(&joined, &left) == [true, false]);
-    assert!(rt; cover_each_other(&joined, &right) == [true, false]);
-    assert!(rt; cover_each_other(&left, &right) == [false, false]);
-    Ok(())
+    let wanted = ((None, middle, middle, true), AS_A_JOIN);
+    assert_eq!(rt; stacks_joined(rt.alloc()), Some(wanted));
+}
+
+/// Whether a note with slot 0 kept covers one with a byte of it set.
+fn kept_covers_bytes(alloc: Global) -> bool {
+    let mut kept = Note::entry(alloc);
+    kept.keep(0, Val::FULL);
+    let mut bytes = Note::entry(alloc);
+    bytes.set_byte(0);
+    covers(&kept, &bytes)
+}
+
+#[test]
+fn a_kept_slot_covers_no_bytes(rt: HostRuntime) {
+    assert!(rt; !kept_covers_bytes(rt.alloc()));
 }
 
 /// Bounds of id 2 and of the packet's.
@@ -164,21 +204,32 @@ fn bounds_of_ids(note: &Note) -> [(u32, Option<u32>); 3] {
     [bounds(note, 2), bounds(note, 1), bounds(note, PACKET_ID)]
 }
 
+/// The bounds of a join, whether it is that of its sides the other way round, whether it covers itself, and what covers what.
+type Ids = ([(u32, Option<u32>); 3], [bool; 2], [[bool; 2]; 3]);
+
+fn ids_of(alloc: Global, left: &Note, right: &Note) -> Option<Ids> {
+    match join(alloc, left, right) {
+        Ok(joined) => {
+            let same = [
+                is_join_of(alloc, &joined, right, left),
+                covers(&joined, &joined),
+            ];
+            Some((bounds_of_ids(&joined), same, covering(&joined, left, right)))
+        }
+        Err(_) => None,
+    }
+}
+
+fn ids_joined(alloc: Global) -> Option<Ids> {
+    match (left_ids(alloc), right_ids(alloc)) {
+        (Ok(left), Ok(right)) => ids_of(alloc, &left, &right),
+        _ => None,
+    }
+}
+
 #[test]
-fn ids(rt: HostRuntime) -> Result<(), Fail> {
-    let left = left_ids(rt.alloc())?;
-    let right = right_ids(rt.alloc())?;
-    let joined = join(rt.alloc(), &left, &right)?;
-    assert_eq!(rt;
-        bounds_of_ids(&joined),
-        [(60, Some(14)), (7, None), (0, None)]
-    );
-    assert!(rt;
-        is_join_of(rt.alloc(), &joined, &right, &left),
-        "the other way round"
-    );
-    assert!(rt; cover_each_other(&left, &right) == [false, false]);
-    assert!(rt; cover_each_other(&joined, &left) == [true, false]);
-    assert!(rt; cover_each_other(&joined, &right) == [true, false] && covers(&joined, &joined));
-    Ok(())
+fn ids(rt: HostRuntime) {
+    let bounds = [(60, Some(14)), (7, None), (0, None)];
+    let wanted = (bounds, [true, true], AS_A_JOIN);
+    assert_eq!(rt; ids_joined(rt.alloc()), Some(wanted));
 }

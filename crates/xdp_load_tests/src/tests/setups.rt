@@ -38,21 +38,6 @@ fn reads_the_run(rt: HostRuntime) {
 }
 
 #[test]
-fn takes_the_limits_themselves(rt: HostRuntime) {
-    let texts = [
-        "queues = 8\nscript = [[7, 0]]\nprogram = []",
-        "queues = 1\nstart = 0\nifindex = 4294967295\nprogram = []",
-        "map = [{name = \"a\", entries = 1, counters = 1}]\nprogram = []",
-        "program = []\n[[map]]\nname = \"a\"\nentries = 1\n[[map]]\nname = \"b\"\nentries = 1\n[[map]]\nname = \"c\"\nentries = 1\n[[map]]\nname = \"A\"\nentries = 1",
-        "program = []\n[[packet]]\nqueue = 0\nbytes = \"000102030405060708090a0b0c0d\"\ntimes = 1",
-        "program = []\n[[map]]\nname = \"abcdefghijklmnopqrstuvwxyz012345\"\nentries = 1",
-    ];
-    for text in texts {
-        assert!(rt; counts(rt.alloc(), text).is_ok(), "{text}");
-    }
-}
-
-#[test]
 fn takes_a_relocation_of_each_slot(rt: HostRuntime) {
     let text =
         "program = [\"18010000000000001801000000000000\"]\nmap = [{name = \"a\", entries = 1}]\nreloc = [{slot = 1, map = \"a\"}, {slot = 0, map = \"a\"}]";

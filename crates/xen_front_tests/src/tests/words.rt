@@ -1,8 +1,8 @@
-//! Places and answers.
+//! Where words of rings lie, what producers show, and answers, by `xen_steps`.
 
-use crate::{Answer, header, requests_shown, responses_shown, rx_entry, tx_entry};
 use xen_page::Place;
 use xen_ring::RSP_PROD;
+use xen_steps::{Answer, header, requests_shown, responses_shown, rx_entry, tx_entry};
 
 #[test]
 fn words_of_rings(rt: HostRuntime) {

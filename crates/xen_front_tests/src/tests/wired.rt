@@ -1,7 +1,8 @@
-//! What a front may be made with.
+//! What a front may be made with, by `xen_buffers`.
 
-use crate::{Buffer, FrontDesc, Wiring, buffer_of, grant_flags, grant_frame};
+use crate::bench::buffers;
 use std::alloc::Global;
+use xen_buffers::{Buffer, FrontDesc, Wiring, buffer_of, grant_flags, grant_frame};
 use xen_page::{Owners, Place, Table};
 use xen_ring::Port;
 
@@ -9,20 +10,6 @@ use xen_ring::Port;
 fn table(alloc: Global) -> Option<Table> {
     let owners = Owners::make(alloc, &[1; 10]).ok()?;
     Table::make(&owners, 1, &[1, 2])
-}
-
-/// Buffers with the references from `first` on, reference g being of frame 17 + g.
-fn buffers(first: u16) -> [Buffer; 256] {
-    let mut buffers = [Buffer { gref: 0, frame: 0 }; 256];
-    let mut gref = u32::from(first);
-    for buffer in buffers.iter_mut() {
-        *buffer = Buffer {
-            gref,
-            frame: gref.saturating_add(17),
-        };
-        gref = gref.saturating_add(1);
-    }
-    buffers
 }
 
 /// Whether a front may be made with these buffers, these ring pages and a bus of so many frames.
