@@ -1,7 +1,8 @@
 //! What buses, entries and mappings answer, as plain values. There are two domains: the back, 0, owns frame 0, and the
 //! front, 1, owns frames 1 to 19.
 
-ghost use Rattle.std.specs.Prelude.{◌≡◌, ◌≤◌};
+ghost use Rattle.std.specs.Prelude.{◌≡◌, ◌≤◌, ◌<◌, All};
+ghost use Rattle.xen_page.specs.Table.{IsTable};
 
 use std::alloc::{AllocError, Global};
 use xen_page::{
@@ -98,19 +99,40 @@ fn ended_again(bus: &mut ScriptBus, mapped: Mapped) -> (Seen, bool) {
     (kept, is_within && unmap(bus, mapped).is_ok())
 }
 
-/// What is mapped after a first try to end the mapping of reference 5, and whether a second one ended it; over a bus that
-/// answers so. If the first ended it, nothing is mapped.
+/// What is mapped after a first try to end a mapping, and whether a second one ended it. If the first ended it, nothing is mapped.
+fn ended_once(bus: &mut ScriptBus, mapped: Mapped) -> Option<(Seen, bool)>
+    requires { mapped.at.frame < bus.old.frames }
+{
+    match unmap(bus, mapped) {
+        Ok(()) => None,
+        Err(mapped) => Some(ended_again(bus, mapped)),
+    }
+}
+
+/// The same of the mapping of reference 5, over a bus that answers so, and its accesses.
+fn ended_over(
+    alloc: Global,
+    table: &Table,
+    owners: &Owners,
+    answers: &[u32],
+    write: bool,
+) -> Option<(Option<(Seen, bool)>, Log)>
+    requires table { IsTable owners.now 1 table.now }
+    requires within { All (λ frame. frame < 20) table.now }
+{
+    let mut bus = ScriptBus::make(alloc, FRAMES, answers, MOST).ok()?;
+    let mapped = map(&mut bus, table, owners, FRONT, BACK, 5, write).ok()?;
+    let stays = ended_once(&mut bus, mapped);
+    Some((stays, log(bus.accesses())))
+}
+
+/// The same with a table of one frame.
 pub fn ended(alloc: Global, answers: &[u32], write: bool) -> Option<(Option<(Seen, bool)>, Log)> {
     let owners = owners(alloc).ok()?;
     let table = Table::make(&owners, FRONT, &[1])?;
-    if !table.is_within(FRAMES) {
-        return None;
+    if table.is_within(FRAMES) {
+        ended_over(alloc, &table, &owners, answers, write)
+    } else {
+        None
     }
-    let mut bus = ScriptBus::make(alloc, FRAMES, answers, MOST).ok()?;
-    let mapped = map(&mut bus, &table, &owners, FRONT, BACK, 5, write).ok()?;
-    let stays = match unmap(&mut bus, mapped) {
-        Ok(()) => None,
-        Err(mapped) => Some(ended_again(&mut bus, mapped)),
-    };
-    Some((stays, log(bus.accesses())))
 }

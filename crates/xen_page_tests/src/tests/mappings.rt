@@ -140,19 +140,41 @@ fn readable(bus: &mut PageBus, table: &Table, owners: &Owners) -> Option<(bool, 
 
 /// What is found as pages are mapped for writing, again, unmapped, and mapped for reading: the flags word while they are
 /// mapped and afterwards, the second mapping's fault, whether the third may write, and the entry's two words.
-fn pages(alloc: Global) -> Option<([u32; 2], Option<GrantFault>, bool, [u32; 2])> {
-    let owners = owners(alloc).ok()?;
-    let table = Table::make(&owners, FRONT, &[1])?;
-    let frames = Frames::make(alloc, &[FRONT; FRAMES as usize]).ok()?;
-    if !table.is_within(FRAMES) {
-        return None;
-    }
-    let mut bus = PageBus::of(&frames);
+type Pages = ([u32; 2], Option<GrantFault>, bool, [u32; 2]);
+
+/// What is found over these pages.
+fn pages_of(frames: &Frames, table: &Table, owners: &Owners) -> Option<Pages>
+    requires table { IsTable owners.now 1 table.now }
+    requires within { All (λ frame. frame < 20) table.now }
+    requires frames { frames.now ≡ 20 }
+{
+    let mut bus = PageBus::of(frames);
     bus.write(FLAGS, 1);
     bus.write(FRAME, 17);
-    let (marks, again) = marks(&mut bus, &table, &owners)?;
-    let (is_writable, words) = readable(&mut bus, &table, &owners)?;
+    let (marks, again) = marks(&mut bus, table, owners)?;
+    let (is_writable, words) = readable(&mut bus, table, owners)?;
     Some((marks, again, is_writable, words))
+}
+
+/// The same over the frontend's pages.
+fn pages_over(alloc: Global, table: &Table, owners: &Owners) -> Option<Pages>
+    requires table { IsTable owners.now 1 table.now }
+    requires within { All (λ frame. frame < 20) table.now }
+{
+    match Frames::make(alloc, &[FRONT; FRAMES as usize]) {
+        Ok(frames) => pages_of(&frames, table, owners),
+        Err(_) => None,
+    }
+}
+
+fn pages(alloc: Global) -> Option<Pages> {
+    let owners = owners(alloc).ok()?;
+    let table = Table::make(&owners, FRONT, &[1])?;
+    if table.is_within(FRAMES) {
+        pages_over(alloc, &table, &owners)
+    } else {
+        None
+    }
 }
 
 #[test]
