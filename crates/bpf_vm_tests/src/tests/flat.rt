@@ -150,9 +150,42 @@ fn accesses(alloc: Global, size: u8) -> Option<bool> {
     both(alloc, &slots)
 }
 
+/// Stores and loads of a size on the stack, at both of its ends: by `r10`, and by another register.
+fn stack_accesses(alloc: Global, size: u8) -> Option<bool> {
+    #[rattlefmt::skip]
+    let slots = [
+        [0x18, 6, 0, 0, 0x81, 0x22, 0x33, 0x44], // r6 = 0x8877665544332281 ll
+        [0, 0, 0, 0, 0x55, 0x66, 0x77, 0x88], // its second slot
+        [0xbf, 0x67, 0, 0, 0, 0, 0, 0], // r7 = r6
+        [0x27, 7, 0, 0, 3, 0, 0, 0], // r7 *= 3
+        [0xbf, 0xa8, 0, 0, 0, 0, 0, 0], // r8 = r10
+        [7, 8, 0, 0, 0, 0xfe, 0xff, 0xff], // r8 += -512
+        [0x7b, 0x68, 0, 0, 0, 0, 0, 0], // *(u64 *)(r8 + 0) = r6
+        [0x7b, 0x6a, 0xf8, 0xff, 0, 0, 0, 0], // *(u64 *)(r10 - 8) = r6
+        [0x62 | size, 0x0a, 0, 0xfe, 0xfe, 0xff, 0xff, 0xff], // *(size *)(r10 - 512) = -2
+        [0x63 | size, 0x7a, 0xf8, 0xff, 0, 0, 0, 0], // *(size *)(r10 - 8) = r7
+        [0x79, 0x80, 0, 0, 0, 0, 0, 0], // r0 = *(u64 *)(r8 + 0)
+        [0x27, 0, 0, 0, 31, 0, 0, 0], // r0 *= 31
+        [0x61 | size, 0xa2, 0, 0xfe, 0, 0, 0, 0], // r2 = *(size *)(r10 - 512)
+        [0x0f, 0x20, 0, 0, 0, 0, 0, 0], // r0 += r2
+        [0x27, 0, 0, 0, 31, 0, 0, 0], // r0 *= 31
+        [0x79, 0x83, 0xf8, 1, 0, 0, 0, 0], // r3 = *(u64 *)(r8 + 504)
+        [0x0f, 0x30, 0, 0, 0, 0, 0, 0], // r0 += r3
+        [0x27, 0, 0, 0, 31, 0, 0, 0], // r0 *= 31
+        [0x61 | size, 0xa4, 0xf8, 0xff, 0, 0, 0, 0], // r4 = *(size *)(r10 - 8)
+        [0x0f, 0x40, 0, 0, 0, 0, 0, 0], // r0 += r4
+        [0xbf, 0x03, 0, 0, 0, 0, 0, 0], // r3 = r0
+        [0x77, 3, 0, 0, 32, 0, 0, 0], // r3 >>= 32
+        [0xaf, 0x30, 0, 0, 0, 0, 0, 0], // r0 ^= r3
+        [0x95, 0, 0, 0, 0, 0, 0, 0], // exit
+    ];
+    both(alloc, &slots)
+}
+
 #[test]
 fn accesses_by_steps_and_by_the_loop(rt: HostRuntime) {
     for size in SIZES {
         assert_eq!(rt; accesses(rt.alloc(), size), Some(true));
+        assert_eq!(rt; stack_accesses(rt.alloc(), size), Some(true));
     }
 }
