@@ -114,7 +114,11 @@ fn a_delivery_takes_14_steps(rt: HostRuntime) {
                 Entry::Back(steps),
             ];
             let seen = run(rt.alloc(), PASS, start, &entries);
-            assert_eq!(rt; seen.map(|seen| seen.deliveries), Some(count), "{steps} steps");
+            assert_eq!(rt;
+                seen.map(|seen| seen.deliveries),
+                Some(count),
+                "{steps} steps"
+            );
         }
     }
 }
@@ -165,7 +169,10 @@ fn a_packet_of_two_pages_needs_two_posts(rt: HostRuntime) {
     ];
     for start in STARTS {
         let seen = run(rt.alloc(), PASS, start, &few);
-        assert_eq!(rt; seen.map(|seen| seen.last), Some(after(0, Delivery::FewSlots)));
+        assert_eq!(rt;
+            seen.map(|seen| seen.last),
+            Some(after(0, Delivery::FewSlots))
+        );
         let seen = run(rt.alloc(), PASS, start, &enough);
         let wanted = Seen {
             turns: 1,
@@ -260,9 +267,15 @@ fn a_back_that_delivers_is_woken_afterwards(rt: HostRuntime) {
     ];
     for start in STARTS {
         let early = run(rt.alloc(), PASS, start, &entries[..7]);
-        assert_eq!(rt; early.map(|seen| (seen.turns, seen.deliveries)), Some((0, 1)));
+        assert_eq!(rt;
+            early.map(|seen| (seen.turns, seen.deliveries)),
+            Some((0, 1))
+        );
         let seen = run(rt.alloc(), PASS, start, &entries);
-        assert_eq!(rt; seen.map(|seen| (seen.turns, seen.deliveries)), Some((2, 1)));
+        assert_eq!(rt;
+            seen.map(|seen| (seen.turns, seen.deliveries)),
+            Some((2, 1))
+        );
     }
 }
 
