@@ -1,12 +1,11 @@
 -- One event of the back.
-use Rattle.std.proofs.Common.{◌≡◌, ◌≢◌, ℕ, ◌<◌, ◌^◌, refl, sym, ◌∙◌, ap, subst, arith, Bool, true, false, List, [], ◌∷◌, ◌++◌, length, map, Option, Some, None}
-use Rattle.std.specs.Prelude.{not, slice_get, slice_index_or}
+use Rattle.std.proofs.Common.{◌≡◌, ◌≢◌, ℕ, ◌+◌, ◌<◌, ◌^◌, refl, sym, ◌∙◌, ap, subst, arith, Bool, true, false, List, [], ◌∷◌, ◌++◌, length, map, Option, Some, None}
+use Rattle.std.specs.Prelude.{slice_get, slice_index_or}
 use Rattle.bpf_note.specs.Shape.{Shape}
 use Rattle.honest_pair.specs.Words.{WantsHeld}
-use Rattle.xdp_world.specs.declared.world.World.{World}
 use Rattle.std.proofs.lemmas.List.{append-nil}
 use Rattle.xen_steps.specs.Drive.{Goes}
-use Rattle.xen_steps.specs.Event.{Event, Occurs, Read, Write, Instr, Load, Add, Notify}
+use Rattle.xen_steps.specs.Event.{Event, Occurs, Read}
 use Rattle.xen_steps.specs.Finish.{Finishes, IsAsked}
 use Rattle.xen_steps.specs.Steps.{Steps, done, ask, never, bind, next, want_of}
 use Rattle.xen_steps.specs.declared.want.Want.{Want}
@@ -16,31 +15,41 @@ use Rattle.xen_back.specs.Queues.{IsReady, rest, state_of, wiring_of}
 use Rattle.xen_back.specs.Tree.{Left, after_run, whole_turn}
 use Rattle.xen_back.specs.Turned.{Ending, Turned, Idle, Ran, Refused, Halted}
 use Rattle.xen_back.specs.Within.{IsWithin, may_want}
+use Rattle.xen_back.specs.declared.delivery.delivering.Delivery.{Delivery}
 use Rattle.xen_back.specs.declared.queue.Queue.{Queue}
 use Rattle.xen_back.specs.declared.state.State.{State}
 use Rattle.xen_back.specs.declared.turn.Halt.{Halt}
 use Rattle.xen_back.specs.declared.wiring.Wiring.{Wiring}
 use Rattle.pair_machine.specs.Halves.{Half, Over, HasRun, half_turn, half_unless, second_half}
-use Rattle.pair_machine.specs.Log.{asked_of, back_asks, event_by}
+use Rattle.pair_machine.specs.Log.{back_asks, event_by}
 use Rattle.pair_machine.specs.Memory.{Memory, after, answer}
-use Rattle.pair_machine.specs.Pair.{BackAt, Asleep, First, Second, Pair, Past, first, halved, next_at, on_back, second, turned, wake}
+use Rattle.pair_machine.specs.Pair.{BackAt, Asleep, First, Second, Delivering, Deed, OfTurn, OfDelivery, Pair, Past, first, next_at, on_back, second, turned, turns_of}
+use Rattle.pair_machine.proofs.Deeds.{turns_turn}
 use Rattle.pair_machine.proofs.HalfLemmas.{halves}
 use Rattle.pair_machine.proofs.TraceLemmas.{back_follows}
-use Rattle.pair_machine.specs.Traces.{BackIsAnswered, IsAnswered}
-use Rattle.xdp_world.specs.Entries.{Serves, listed}
+use Rattle.pair_machine.specs.Traces.{BackIsAnswered}
+use Rattle.xdp_world.specs.Activities.{all_came}
+use Rattle.xdp_world.specs.Calls.{Stepped}
+use Rattle.xdp_world.specs.Carries.{after_turn, delivered_list, doing_after}
+use Rattle.xdp_world.specs.Doings.{is_delivery, want_at}
+use Rattle.xdp_world.specs.Entries.{Entry, Serves, listed}
 use Rattle.xdp_world.specs.Happens.{Comes, MovedBy, kept_list}
 use Rattle.xdp_world.specs.Keeping.{Keeps}
-use Rattle.xdp_world.specs.Stands.{IsStep, Stands, kept_in}
+use Rattle.xdp_world.specs.Stands.{IsStep, delivered_in, doing_in, kept_in}
+use Rattle.xdp_world.specs.declared.doing.Doing.{Doing}
+use Rattle.xdp_world.specs.declared.doing.Doing.TheVariants as doing
 use Rattle.xdp_world.specs.declared.kept.Kept.{Kept}
 use Rattle.xdp_world.specs.declared.kept.Kept.TheVariants as kept
+use Rattle.xdp_world.specs.declared.report.Delivered.{Delivered}
+use Rattle.xdp_world.proofs.Fitting.{free_want}
 use Rattle.xen_front.specs.Fronts.{wiring_of as front_wiring}
 use Rattle.pair_machine.specs.Pair.{BackStep}
 use Rattle.honest_pair.specs.Held.{memory_in}
 use Rattle.honest_pair.specs.declared.pair.Pair.{Pair as Held}
-use Rattle.honest_pair.specs.Shows.{AllKept, BackShows, Does, FrontShows, IsGoing, IsHalfGoing, bytes_in, is_idle, queue_in}
+use Rattle.honest_pair.specs.Shows.{AllKept, BackShows, Does, FrontShows, IsHalfGoing, bytes_in, deliveries_of, doing_at, is_idle, queue_in}
 
 -- an event whose read was answered by the memory
-served : (v : Want) (a : ℕ) (e : Event) (m : Memory) → Occurs v a e → Serves e (answer v m 0) → (a ≡ answer v m a) × (event_by v (answer v m a) ≡ e ∷ []) × (a < 2 ^ 64)
+pub served : (v : Want) (a : ℕ) (e : Event) (m : Memory) → Occurs v a e → Serves e (answer v m 0) → (a ≡ answer v m a) × (event_by v (answer v m a) ≡ e ∷ []) × (a < 2 ^ 64)
 served (want.Read at) a e m o s =
     let is : a ≡ m.word at = subst (λ x. Serves x (m.word at)) o.1 s in
     (is, ap (λ x. Read at x ∷ []) (sym is) ∙ ap (λ x. x ∷ []) (sym o.1), omega (arith, o.0))
@@ -55,30 +64,30 @@ half_going_at : (w : Wiring) (s : State) (o : Option Halt) → IsHalfGoing (half
 half_going_at w s (Some cause) = tt
 half_going_at w s None = tt
 
-half_going : (w : Wiring) (s : State) → IsHalfGoing (half_turn w s)
+pub half_going : (w : Wiring) (s : State) → IsHalfGoing (half_turn w s)
 half_going w s = half_going_at w s s.halt
 
-ready_rest : (w : Wiring) (q : Queue) (s : State) → rest q ≡ whole_turn (wiring_of q) (state_of q) → wiring_of q ≡ w → state_of q ≡ s → rest q ≡ bind (half_turn w s) (second_half w s)
+pub ready_rest : (w : Wiring) (q : Queue) (s : State) → rest q ≡ whole_turn (wiring_of q) (state_of q) → wiring_of q ≡ w → state_of q ≡ s → rest q ≡ bind (half_turn w s) (second_half w s)
 ready_rest w q s r e f = r ∙ ap (λ x. whole_turn x (state_of q)) e ∙ ap (λ x. whole_turn w x) f ∙ sym (halves w s)
 
 -- the next turn begins, or the back sleeps
-next_shows : (w : Wiring) (q : Queue) (s : State) (u : Turned) (k : Kept) → Keeps u k → IsReady q → wiring_of q ≡ w → state_of q ≡ s → BackShows w q (is_idle (Some k)) (next_at w s u) s
-next_shows w q s Idle kept.Idle h r e f = (refl, back_rest q r, f)
+next_shows : (w : Wiring) (q : Queue) (s : State) (u : Turned) (k : Kept) → Keeps u k → IsReady q → wiring_of q ≡ w → state_of q ≡ s → BackShows w q doing.Between (is_idle (Some k)) false (next_at w s u) s
+next_shows w q s Idle kept.Idle h r e f = (refl, refl, refl, back_rest q r, f)
 next_shows w q s Idle (kept.Ran a n p o l) h r e f = absurd h
 next_shows w q s Idle (kept.Refused c o l) h r e f = absurd h
 next_shows w q s Idle (kept.Halted c) h r e f = absurd h
 next_shows w q s (Ran n p o l) kept.Idle h r e f = absurd h
-next_shows w q s (Ran n p o l) (kept.Ran a n' p' o' l') h r e f = (refl, ready_rest w q s (back_rest q r) e f, half_going w s, f)
+next_shows w q s (Ran n p o l) (kept.Ran a n' p' o' l') h r e f = (refl, refl, refl, ready_rest w q s (back_rest q r) e f, half_going w s, f)
 next_shows w q s (Ran n p o l) (kept.Refused c o' l') h r e f = absurd h
 next_shows w q s (Ran n p o l) (kept.Halted c) h r e f = absurd h
 next_shows w q s (Refused c o l) kept.Idle h r e f = absurd h
 next_shows w q s (Refused c o l) (kept.Ran a n' p' o' l') h r e f = absurd h
-next_shows w q s (Refused c o l) (kept.Refused c' o' l') h r e f = (refl, ready_rest w q s (back_rest q r) e f, half_going w s, f)
+next_shows w q s (Refused c o l) (kept.Refused c' o' l') h r e f = (refl, refl, refl, ready_rest w q s (back_rest q r) e f, half_going w s, f)
 next_shows w q s (Refused c o l) (kept.Halted c') h r e f = absurd h
 next_shows w q s (Halted c) kept.Idle h r e f = absurd h
 next_shows w q s (Halted c) (kept.Ran a n' p' o' l') h r e f = absurd h
 next_shows w q s (Halted c) (kept.Refused c' o' l') h r e f = absurd h
-next_shows w q s (Halted c) (kept.Halted c') h r e f = (refl, ready_rest w q s (back_rest q r) e f, half_going w s, f)
+next_shows w q s (Halted c) (kept.Halted c') h r e f = (refl, refl, refl, ready_rest w q s (back_rest q r) e f, half_going w s, f)
 
 kept_more : (ps : List Past) (ks : List Kept) (p : Past) (k : Kept) → AllKept ps ks → Keeps p.turn k → AllKept (ps ++ p ∷ []) (ks ++ k ∷ [])
 kept_more [] [] p k a h = (h, tt)
@@ -86,10 +95,16 @@ kept_more [] (x ∷ ks) p k a h = absurd a
 kept_more (y ∷ ps) [] p k a h = absurd a
 kept_more (y ∷ ps) (x ∷ ks) p k a h = (a.0, kept_more ps ks p k a.1 h)
 
+deliveries_turn : (n : ℕ) (ds : List Deed) (x : Past) → deliveries_of n (ds ++ OfTurn x ∷ []) ≡ deliveries_of n ds
+deliveries_turn n [] x = refl
+deliveries_turn n (OfTurn y ∷ ds) x = deliveries_turn (n + 1) ds x
+deliveries_turn n (OfDelivery packet what ∷ ds) x = ap (λ (l : List Delivered). record { turns = n; delivery = what } ∷ l) (deliveries_turn n ds x)
+
 -- what stays, and what the back is then
 pub record After (w : Wiring) (p p' : Pair) (q' : Queue) (k : Option Kept) : Type 0 where
-  pub back : BackShows w q' (is_idle k) p'.at p'.back
-  pub turns : (ks : List Kept) → AllKept p.turns ks → AllKept p'.turns (ks ++ kept_list k)
+  pub back : BackShows w q' (after_turn k) (is_idle k) false p'.at p'.back
+  pub turns : (ks : List Kept) → AllKept (turns_of p.deeds) ks → AllKept (turns_of p'.deeds) (ks ++ kept_list k)
+  pub deliveries : deliveries_of 0 p'.deeds ≡ deliveries_of 0 p.deeds
   pub memory : p'.memory ≡ p.memory
   pub front : p'.front ≡ p.front
   pub activity : p'.activity ≡ p.activity
@@ -108,7 +123,8 @@ over_shows w p c e q' u k is h r wi =
     let ends : Keeps e.1 k = subst (λ x. Keeps x k) (sym (ap (λ (x : Ending). x.1) is)) h in
     record {
       back = next_shows w q' e.0 e.1 k ends r wi (sym (ap (λ (x : Ending). x.0) is));
-      turns = λ ks a. kept_more p.turns ks (record { turn = e.1; copy = c }) k a ends;
+      turns = λ ks a. subst (λ l. AllKept l (ks ++ k ∷ [])) (sym (turns_turn p.deeds (record { turn = e.1; copy = c }))) (kept_more (turns_of p.deeds) ks (record { turn = e.1; copy = c }) k a ends);
+      deliveries = deliveries_turn 0 p.deeds (record { turn = e.1; copy = c });
       memory = refl;
       front = refl;
       activity = refl;
@@ -119,8 +135,9 @@ second_shows : (w : Wiring) (p : Pair) (packet : List ℕ) (left : Left) (t : St
 second_shows w p packet left (done e) q q' None h wi s = absurd (h.0 refl)
 second_shows w p packet left (done e) q q' (Some k) h wi s = over_shows w p (Some packet) e q' h.0 k (ap (λ x. end_of x e) h.1) h.2 h.3 wi
 second_shows w p packet left (ask v c) q q' None h wi s = record {
-  back = (refl, h.1, tt, h.2 ∙ s);
-  turns = λ ks a. nothing_more p.turns ks a;
+  back = (refl, refl, refl, h.1, tt, h.2 ∙ s);
+  turns = λ ks a. nothing_more (turns_of p.deeds) ks a;
+  deliveries = refl;
   memory = refl;
   front = refl;
   activity = refl;
@@ -135,8 +152,9 @@ first_shows w p (done (Over e)) q q' None h wi s = absurd (h.0 refl)
 first_shows w p (done (Over e)) q q' (Some k) h wi s = over_shows w p None e q' h.0 k (ap (λ x. end_of x e) h.1) h.2 h.3 wi
 first_shows w p (done (HasRun slots packet left)) q q' k h wi s = second_shows w p packet left (after_run w p.back slots left) q q' k h wi s
 first_shows w p (ask v c) q q' None h wi s = record {
-  back = (refl, h.1, tt, h.2 ∙ s);
-  turns = λ ks a. nothing_more p.turns ks a;
+  back = (refl, refl, refl, h.1, tt, h.2 ∙ s);
+  turns = λ ks a. nothing_more (turns_of p.deeds) ks a;
+  deliveries = refl;
   memory = refl;
   front = refl;
   activity = refl;
@@ -156,86 +174,101 @@ no_event : (q : Queue) (t mid : Steps Ending) (e : Event) → rest q ≡ t → w
 no_event q t mid e r d g = subst (λ v. Occurs v g.0 e) (ap want_of r ∙ d) g.1
 
 -- What a step of a back at `at` comes to.
-abbrev pub Steps_to : Wiring → Pair → Pair → Want → Queue → Option Kept → Option Event → List Event → Type 0
-Steps_to w p p' v q' k event made =
-    (listed event ≡ made) × (p'.memory ≡ after v p.memory) × BackShows w q' (is_idle k) p'.at p'.back
-    × ((ks : List Kept) → AllKept p.turns ks → AllKept p'.turns (ks ++ kept_list k)) × (p'.front ≡ p.front) × (p'.activity ≡ p.activity) × (p'.received ≡ p.received)
+abbrev pub Steps_to : Wiring → Pair → Pair → Want → Queue → Doing → Option Kept → Option Event → List Event → Type 0
+Steps_to w p p' v q' e' k event made =
+    (listed event ≡ made) × (p'.memory ≡ after v p.memory) × BackShows w q' e' (is_idle k) false p'.at p'.back
+    × ((ks : List Kept) → AllKept (turns_of p.deeds) ks → AllKept (turns_of p'.deeds) (ks ++ kept_list k)) × (p'.front ≡ p.front) × (p'.activity ≡ p.activity) × (p'.received ≡ p.received)
+    × (deliveries_of 0 p'.deeds ≡ deliveries_of 0 p.deeds)
 
-abbrev pub Comes_to : Wiring → Pair → BackAt → Want → Queue → Option Kept → Option Event → Type 0
-Comes_to w p at v q' k event = (n : ℕ) × (n < 2 ^ 64) × Steps_to w p (on_back w at p n) v q' k event (back_asks at p.memory n) × BackIsAnswered at p.memory n
+abbrev pub Comes_to : Wiring → Pair → BackAt → Want → Queue → Doing → Option Kept → Option Event → Type 0
+Comes_to w p at v q' e k event = (n : ℕ) × (n < 2 ^ 64) × Steps_to w p (on_back w at p n) v q' (doing_after e event k) k event (back_asks at p.memory n) × BackIsAnswered at p.memory n
 
 -- an end that rests
-rests : (w : Wiring) (p : Pair) (at : BackAt) (t : Steps Ending) (a : ℕ) (q q' : Queue) (k : Option Kept) (event : Option Event) → rest q ≡ t → want_of t ≡ want.Done → MovedBy a q event k q' →
-    (rest q' ≡ t → state_of q' ≡ state_of q → BackShows w q' false p.at p.back) → back_asks at p.memory 0 ≡ [] → on_back w at p 0 ≡ p → BackIsAnswered at p.memory 0 → Comes_to w p at want.Done q' k event
-rests w p at t a q q' k (Some e) r d h s n o z = absurd (no_event q t h.0 e r d h.1)
-rests w p at t a q q' k None r d h s n o z = (
+rests : (w : Wiring) (p : Pair) (at : BackAt) (t : Steps Ending) (a : ℕ) (q q' : Queue) (x : Doing) (k : Option Kept) (event : Option Event) → rest q ≡ t → want_of t ≡ want.Done → MovedBy a q event k q' →
+    (rest q' ≡ t → state_of q' ≡ state_of q → BackShows w q' x false false p.at p.back) → back_asks at p.memory 0 ≡ [] → on_back w at p 0 ≡ p → BackIsAnswered at p.memory 0 → Comes_to w p at want.Done q' x k event
+rests w p at t a q q' x k (Some e) r d h s n o z = absurd (no_event q t h.0 e r d h.1)
+rests w p at t a q q' x k None r d h s n o z = (
   0,
   omega arith,
   (
     sym n,
-    ap (λ x. x.memory) o,
-    subst (λ x. BackShows w q' (is_idle k) x.at x.back) (sym o) (subst (λ x. BackShows w q' (is_idle x) p.at p.back) (sym h.4) (s (h.1 ∙ r) h.2)),
-    (λ ks g. subst (λ x. AllKept x.turns (ks ++ kept_list k)) (sym o) (subst (λ x. AllKept p.turns (ks ++ kept_list x)) (sym h.4) (nothing_more p.turns ks g))),
-    ap (λ x. x.front) o,
-    ap (λ x. x.activity) o,
-    ap (λ x. x.received) o,
+    ap (λ y. y.memory) o,
+    subst (λ y. BackShows w q' x (is_idle k) false y.at y.back) (sym o) (subst (λ y. BackShows w q' x (is_idle y) false p.at p.back) (sym h.4) (s (h.1 ∙ r) h.2)),
+    (λ ks g. subst (λ y. AllKept (turns_of y.deeds) (ks ++ kept_list k)) (sym o) (subst (λ y. AllKept (turns_of p.deeds) (ks ++ kept_list y)) (sym h.4) (nothing_more (turns_of p.deeds) ks g))),
+    ap (λ y. y.front) o,
+    ap (λ y. y.activity) o,
+    ap (λ y. y.received) o,
+    ap (λ y. deliveries_of 0 y.deeds) o,
   ),
   z,
 )
 
-goes_first : (w : Wiring) (p : Pair) (v : Want) (c : ℕ → Steps Half) (a : ℕ) (q q' : Queue) (k : Option Kept) (event : Option Event) → rest q ≡ bind (ask v c) (second_half w p.back) →
-    a ≡ answer v p.memory 0 → MovedBy a q event k q' → wiring_of q ≡ w → state_of q ≡ p.back → Comes_to w p (First (ask v c)) v q' k event
-goes_first w p v c a q q' k None r m h wi s = absurd (asks_on q v _ r (sym (ap want_of r) ∙ h.0))
-goes_first w p v c a q q' k (Some e) r m h wi s =
+goes_first : (w : Wiring) (p : Pair) (b : Bool) (v : Want) (c : ℕ → Steps Half) (a : ℕ) (q q' : Queue) (x : Doing) (k : Option Kept) (event : Option Event) → rest q ≡ bind (ask v c) (second_half w p.back) →
+    a ≡ answer v p.memory 0 → MovedBy a q event k q' → wiring_of q ≡ w → state_of q ≡ p.back → Comes_to w p (First b (ask v c)) v q' x k event
+goes_first w p b v c a q q' x k None r m h wi s = absurd (asks_on q v _ r (sym (ap want_of r) ∙ h.0))
+goes_first w p b v c a q q' x k (Some e) r m h wi s =
     let g = h.1 in
     let o : Occurs v g.0 e = subst (λ x. Occurs (want_of x) g.0 e) r g.1 in
     let y = served v g.0 e p.memory o (subst (Serves e) m h.2) in
     let mid : h.0 ≡ bind (c (answer v p.memory g.0)) (second_half w p.back) = g.2 ∙ ap (λ x. next x g.0) r ∙ ap (λ x. bind (c x) (second_half w p.back)) y.0 in
     let p1 : Pair = record p { memory = after v p.memory } in
     let f = first_shows w p1 (c (answer v p.memory g.0)) q q' k (subst (λ x. Comes q x q' k) mid h.3) (h.4 ∙ wi) s in
-    (g.0, y.2, (sym y.1, f.memory, f.back, f.turns, f.front, f.activity, f.received), (e, y.1, subst (λ x. Occurs v x e) y.0 o))
+    (g.0, y.2, (sym y.1, f.memory, f.back, f.turns, f.front, f.activity, f.received, f.deliveries), (e, y.1, subst (λ x. Occurs v x e) y.0 o))
 
-goes_second : (w : Wiring) (p : Pair) (packet : List ℕ) (left : Left) (v : Want) (c : ℕ → Steps Ending) (a : ℕ) (q q' : Queue) (k : Option Kept) (event : Option Event) → rest q ≡ ask v c →
-    a ≡ answer v p.memory 0 → MovedBy a q event k q' → wiring_of q ≡ w → state_of q ≡ p.back → Comes_to w p (Second packet left (ask v c)) v q' k event
-goes_second w p packet left v c a q q' k None r m h wi s = absurd (asks_on q v c r (sym (ap want_of r) ∙ h.0))
-goes_second w p packet left v c a q q' k (Some e) r m h wi s =
+goes_second : (w : Wiring) (p : Pair) (packet : List ℕ) (left : Left) (v : Want) (c : ℕ → Steps Ending) (a : ℕ) (q q' : Queue) (x : Doing) (k : Option Kept) (event : Option Event) → rest q ≡ ask v c →
+    a ≡ answer v p.memory 0 → MovedBy a q event k q' → wiring_of q ≡ w → state_of q ≡ p.back → Comes_to w p (Second packet left (ask v c)) v q' x k event
+goes_second w p packet left v c a q q' x k None r m h wi s = absurd (asks_on q v c r (sym (ap want_of r) ∙ h.0))
+goes_second w p packet left v c a q q' x k (Some e) r m h wi s =
     let g = h.1 in
     let o : Occurs v g.0 e = subst (λ x. Occurs (want_of x) g.0 e) r g.1 in
     let y = served v g.0 e p.memory o (subst (Serves e) m h.2) in
     let mid : h.0 ≡ c (answer v p.memory g.0) = g.2 ∙ ap (λ x. next x g.0) r ∙ ap c y.0 in
     let p1 : Pair = record p { memory = after v p.memory } in
     let f = second_shows w p1 packet left (c (answer v p.memory g.0)) q q' k (subst (λ x. Comes q x q' k) mid h.3) (h.4 ∙ wi) s in
-    (g.0, y.2, (sym y.1, f.memory, f.back, f.turns, f.front, f.activity, f.received), (e, y.1, subst (λ x. Occurs v x e) y.0 o))
+    (g.0, y.2, (sym y.1, f.memory, f.back, f.turns, f.front, f.activity, f.received, f.deliveries), (e, y.1, subst (λ x. Occurs v x e) y.0 o))
 
--- An awake back's step.
-pub back_steps : (w : Wiring) (p : Pair) (at : BackAt) (v : Want) (a : ℕ) (q q' : Queue) (k : Option Kept) (event : Option Event) → p.at ≡ at → v ≡ want_of (rest q) → a ≡ answer v p.memory 0 →
-    MovedBy a q event k q' → wiring_of q ≡ w → BackShows w q false at p.back → Comes_to w p at v q' k event
-back_steps w p Asleep v a q q' k event i x m h wi b = let e = b.0 in absurd (cc)
-back_steps w p (First (ask u c)) v a q q' k event i x m h wi b =
-    let is : v ≡ u = x ∙ ap want_of b.1 in
-    subst (λ z. Comes_to w p (First (ask u c)) z q' k event) (sym is) (goes_first w p u c a q q' k event b.1 (m ∙ ap (λ z. answer z p.memory 0) is) h wi b.3)
-back_steps w p (First (done (Over e))) v a q q' k event i x m h wi b =
-    subst (λ z. Comes_to w p (First (done (Over e))) z q' k event) (sym (x ∙ ap want_of b.1))
-    (rests w p (First (done (Over e))) (done e) a q q' k event b.1 refl h (λ r s. subst (λ z. BackShows w q' false z p.back) (sym i) (refl, r, tt, s ∙ b.3)) refl refl tt)
-back_steps w p (First (done (HasRun l packet left))) v a q q' k event i x m h wi b = absurd b.2
-back_steps w p (First never) v a q q' k event i x m h wi b =
-    subst (λ z. Comes_to w p (First never) z q' k event) (sym (x ∙ ap want_of b.1))
-    (rests w p (First never) never a q q' k event b.1 refl h (λ r s. subst (λ z. BackShows w q' false z p.back) (sym i) (refl, r, tt, s ∙ b.3)) refl refl tt)
-back_steps w p (Second packet left (ask u c)) v a q q' k event i x m h wi b =
-    let is : v ≡ u = x ∙ ap want_of b.1 in
-    subst (λ z. Comes_to w p (Second packet left (ask u c)) z q' k event) (sym is) (goes_second w p packet left u c a q q' k event b.1 (m ∙ ap (λ z. answer z p.memory 0) is) h wi b.3)
-back_steps w p (Second packet left (done e)) v a q q' k event i x m h wi b = absurd b.2
-back_steps w p (Second packet left never) v a q q' k event i x m h wi b =
-    subst (λ z. Comes_to w p (Second packet left never) z q' k event) (sym (x ∙ ap want_of b.1))
-    (rests w p (Second packet left never) never a q q' k event b.1 refl h (λ r s. subst (λ z. BackShows w q' false z p.back) (sym i) (refl, r, tt, s ∙ b.3)) refl refl tt)
+-- An awake back's step in a turn.
+pub back_steps : (w : Wiring) (p : Pair) (at : BackAt) (v : Want) (a : ℕ) (q q' : Queue) (x : Doing) (k : Option Kept) (event : Option Event) → p.at ≡ at → v ≡ want_of (rest q) → a ≡ answer v p.memory 0 →
+    MovedBy a q event k q' → wiring_of q ≡ w → BackShows w q x false false at p.back → Comes_to w p at v q' x k event
+back_steps w p Asleep v a q q' x k event i y m h wi b = let e = b.0 in absurd (cc)
+back_steps w p (First n (ask u c)) v a q q' x k event i y m h wi b =
+    let is : v ≡ u = y ∙ ap want_of b.3 in
+    subst (λ z. Comes_to w p (First n (ask u c)) z q' x k event) (sym is) (goes_first w p n u c a q q' x k event b.3 (m ∙ ap (λ z. answer z p.memory 0) is) h wi b.5)
+back_steps w p (First n (done (Over e))) v a q q' x k event i y m h wi b =
+    subst (λ z. Comes_to w p (First n (done (Over e))) z q' x k event) (sym (y ∙ ap want_of b.3))
+    (rests w p (First n (done (Over e))) (done e) a q q' x k event b.3 refl h (λ r s. subst (λ z. BackShows w q' x false false z p.back) (sym i) (refl, refl, b.2, r, tt, s ∙ b.5)) refl refl tt)
+back_steps w p (First n (done (HasRun l packet left))) v a q q' x k event i y m h wi b = absurd b.4
+back_steps w p (First n never) v a q q' x k event i y m h wi b =
+    subst (λ z. Comes_to w p (First n never) z q' x k event) (sym (y ∙ ap want_of b.3))
+    (rests w p (First n never) never a q q' x k event b.3 refl h (λ r s. subst (λ z. BackShows w q' x false false z p.back) (sym i) (refl, refl, b.2, r, tt, s ∙ b.5)) refl refl tt)
+back_steps w p (Second packet left (ask u c)) v a q q' x k event i y m h wi b =
+    let is : v ≡ u = y ∙ ap want_of b.3 in
+    subst (λ z. Comes_to w p (Second packet left (ask u c)) z q' x k event) (sym is) (goes_second w p packet left u c a q q' x k event b.3 (m ∙ ap (λ z. answer z p.memory 0) is) h wi b.5)
+back_steps w p (Second packet left (done e)) v a q q' x k event i y m h wi b = absurd b.4
+back_steps w p (Second packet left never) v a q q' x k event i y m h wi b =
+    subst (λ z. Comes_to w p (Second packet left never) z q' x k event) (sym (y ∙ ap want_of b.3))
+    (rests w p (Second packet left never) never a q q' x k event b.3 refl h (λ r s. subst (λ z. BackShows w q' x false false z p.back) (sym i) (refl, refl, b.2, r, tt, s ∙ b.5)) refl refl tt)
+back_steps w p (Delivering sl packet t) v a q q' x k event i y m h wi b = let e = b.1 in absurd (cc)
 
-moved_wired : (a : ℕ) (q : Queue) (e : Option Event) (k : Option Kept) (q' : Queue) → MovedBy a q e k q' → wiring_of q' ≡ wiring_of q
-moved_wired a q None k q' h = h.3
-moved_wired a q (Some e) k q' h = h.4
+-- no delivery is under way
+free_shows : (w : Wiring) (q : Queue) (x : Doing) (sl : Bool) (at : BackAt) (s : State) → BackShows w q x sl false at s → is_delivery (Some x) ≡ false
+free_shows w q x sl Asleep s b = ap (λ (y : Doing). is_delivery (Some y)) b.2
+free_shows w q x sl (First true t) s b = ap (λ (y : Doing). is_delivery (Some y)) b.2
+free_shows w q x sl (First false t) s b = ap (λ (y : Doing). is_delivery (Some y)) b.2
+free_shows w q x sl (Second packet left t) s b = ap (λ (y : Doing). is_delivery (Some y)) b.2
+free_shows w q x sl (Delivering asleep packet t) s b = let e = b.1 in absurd (cc)
 
-one_queue : (l : List Queue) → length l ≡ 1 → (q : Queue) × ((d : Queue) → slice_index_or l 0 d ≡ q)
+pub one_queue : (l : List Queue) → length l ≡ 1 → (q : Queue) × ((d : Queue) → slice_index_or l 0 d ≡ q)
 one_queue [] h = absurd (omega (arith, h))
 one_queue (x ∷ l) h = (x, λ d. refl)
+
+pub one_doing : (l : List Doing) → length l ≡ 1 → (x : Doing) × ((d : Doing) → slice_index_or l 0 d ≡ x) × (slice_get l 0 ≡ Some x)
+one_doing [] h = absurd (omega (arith, h))
+one_doing (x ∷ l) h = (x, (λ d. refl), refl)
+
+-- the one thing that the queue does
+pub world_doing : (h : Held) → (x : Doing) × ((d : Doing) → doing_at h.world d ≡ x) × (doing_in h.world 0 ≡ Some x)
+world_doing h = one_doing h.world.doing.items (omega (arith, h.one, h.world.queues.ok.0, h.world.doing.ok.0, h.world.all_doing))
 
 last_kept : (l : List Kept) (k : Option Kept) → slice_get (l ++ kept_list k) (length l) ≡ k
 last_kept [] None = refl
@@ -245,43 +278,55 @@ last_kept (x ∷ l) k = last_kept l k
 pub idle_kept : (l l' : List Kept) (k : Option Kept) → l' ≡ l ++ kept_list k → is_idle (slice_get l' (length l)) ≡ is_idle k
 idle_kept l l' k e = ap (λ x. is_idle (slice_get x (length l))) e ∙ ap is_idle (last_kept l k)
 
--- a world's step is the back's
-pub goes_on : (old new : Held) (a : ℕ) (v : Want) → old.asleep ≡ false → new.front ≡ old.front → new.received ≡ old.received →
-    ((d : Queue) → v ≡ want_of (rest (queue_in old.world d))) → memory_in new.memory ≡ after v (memory_in old.memory) → a ≡ answer v (memory_in old.memory) 0 →
+-- A world's step is the back's, in a turn.
+pub goes_on : (old new : Held) (a : ℕ) (v : Want) → old.asleep ≡ false → old.delivering ≡ false → new.delivering ≡ old.delivering → new.front ≡ old.front → new.received ≡ old.received →
+    ((d : Queue) → v ≡ want_at (queue_in old.world d) (doing_in old.world 0)) → memory_in new.memory ≡ after v (memory_in old.memory) → a ≡ answer v (memory_in old.memory) 0 →
     (i : IsStep old.world new.world 0 a) → new.asleep ≡ is_idle i.kept → new.world.counters.shapes ≡ old.world.counters.shapes → Does old new BackStep
-goes_on old new a v aw f r vw mem an i sl sh = record {
+goes_on old new a v aw dl dn f r vw mem an i sl sh = record {
   bytes = tt;
   does = λ bw fw p s.
       let o = one_queue old.world.queues.items (omega (arith, old.one, old.world.queues.ok.0)) in
       let o' = one_queue new.world.queues.items (omega (arith, new.one, new.world.queues.ok.0)) in
       let q : Queue = o.0 in
       let q' : Queue = o'.0 in
+      let y = world_doing old in
+      let y' = world_doing new in
+      let x : Doing = y.0 in
+      let shows : BackShows bw q x false false p.at p.back =
+      subst (λ (b : Bool). BackShows bw q x b false p.at p.back) aw (subst (λ (b : Bool). BackShows bw q x old.asleep b p.at p.back) dl
+      (subst (λ (z : Doing). BackShows bw q z old.asleep old.delivering p.at p.back) (y.1 x) (subst (λ (z : Queue). BackShows bw z (doing_at old.world x) old.asleep old.delivering p.at p.back) (o.1 q) (s.back q x)))) in
+      let free : is_delivery (doing_in old.world 0) ≡ false = ap is_delivery y.2 ∙ free_shows bw q x false p.at p.back shows in
       let moved : MovedBy a q i.event i.kept q' =
-      subst (λ (x : Queue). MovedBy a x i.event i.kept q') (o.1 q) (subst (λ (x : Queue). MovedBy a (queue_in old.world q) i.event i.kept x) (o'.1 q) (i.moved_by old.free q)) in
-      let wired : wiring_of q ≡ bw = subst (λ (x : Queue). wiring_of x ≡ bw) (o.1 q) (s.back_wired q) in
-      let shows : BackShows bw q false p.at p.back =
-      subst (λ (b : Bool). BackShows bw q b p.at p.back) aw (subst (λ (x : Queue). BackShows bw x old.asleep p.at p.back) (o.1 q) (s.back q)) in
-      let want : v ≡ want_of (rest q) = vw q ∙ ap (λ (x : Queue). want_of (rest x)) (o.1 q) in
+      subst (λ (z : Queue). MovedBy a z i.event i.kept q') (o.1 q) (subst (λ (z : Queue). MovedBy a (queue_in old.world q) i.event i.kept z) (o'.1 q) (i.moved_by free q)) in
+      let does : y'.0 ≡ doing_after x i.event i.kept = sym (y'.1 x) ∙ i.doing_by free x ∙ ap (λ (z : Doing). doing_after z i.event i.kept) (y.1 x) in
+      let wired : wiring_of q ≡ bw = subst (λ (z : Queue). wiring_of z ≡ bw) (o.1 q) (s.back_wired q) in
+      let want : v ≡ want_of (rest q) = vw q ∙ free_want (queue_in old.world q) (doing_in old.world 0) free ∙ ap (λ (z : Queue). want_of (rest z)) (o.1 q) in
       let ans : a ≡ answer v p.memory 0 = an ∙ ap (λ (m : Memory). answer v m 0) s.memory in
-      let g = back_steps bw p p.at v a q q' i.kept i.event refl want ans moved wired shows in
+      let g = back_steps bw p p.at v a q q' x i.kept i.event refl want ans moved wired shows in
       let p' : Pair = on_back bw p.at p g.0 in
       let t = g.2 in
-      let wired' : wiring_of q' ≡ bw = moved_wired a q i.event i.kept q' moved ∙ wired in (
+      let none : delivered_in new.world.deliveries.items 0 ≡ delivered_in old.world.deliveries.items 0 =
+      i.deliveries ∙ ap (λ (z : Option Delivery). delivered_in old.world.deliveries.items 0 ++ delivered_list (length (kept_in old.world.turns.items 0)) z) (i.none free) ∙ append-nil (delivered_in old.world.deliveries.items 0) in (
         g.0,
         g.1,
         record {
           memory = mem ∙ ap (after v) s.memory ∙ sym t.1;
           front_wired = ap front_wiring f ∙ s.front_wired;
-          front = subst (λ x. FrontShows x p'.activity p'.front) (sym f) (subst (λ x. FrontShows old.front x p'.front) (sym t.5) (subst (λ x. FrontShows old.front p.activity x) (sym t.4) s.front));
-          back_wired = λ d. subst (λ (x : Queue). wiring_of x ≡ bw) (sym (o'.1 d)) wired';
-          back = λ d. subst (λ (x : Queue). BackShows bw x new.asleep p'.at p'.back) (sym (o'.1 d)) (subst (λ (b : Bool). BackShows bw q' b p'.at p'.back) (sym sl) t.2);
-          received = ap (λ x. map bytes_in x.items) r ∙ s.received ∙ sym t.6;
-          turns = subst (AllKept p'.turns) (sym i.turns) (t.3 (kept_in old.world.turns.items 0) s.turns);
+          front = subst (λ z. FrontShows z p'.activity p'.front) (sym f) (subst (λ z. FrontShows old.front z p'.front) (sym t.5) (subst (λ z. FrontShows old.front p.activity z) (sym t.4) s.front));
+          back_wired = λ d. i.wired d ∙ s.back_wired d;
+          back = λ d e. subst (λ (z : Queue). BackShows bw z (doing_at new.world e) new.asleep new.delivering p'.at p'.back) (sym (o'.1 d))
+              (subst (λ (z : Doing). BackShows bw q' z new.asleep new.delivering p'.at p'.back) (sym (y'.1 e ∙ does))
+              (subst (λ (b : Bool). BackShows bw q' (doing_after x i.event i.kept) b new.delivering p'.at p'.back) (sym sl)
+              (subst (λ (b : Bool). BackShows bw q' (doing_after x i.event i.kept) (is_idle i.kept) b p'.at p'.back) (sym (dn ∙ dl)) t.2)));
+          received = ap (λ z. map bytes_in z.items) r ∙ s.received ∙ sym t.6;
+          turns = subst (AllKept (turns_of p'.deeds)) (sym i.turns) (t.3 (kept_in old.world.turns.items 0) s.turns);
+          deliveries = none ∙ s.deliveries ∙ sym t.7;
         },
         record {
           shapes = sh;
-          stands = λ wirings start es h.
-              (record { queue = 0; answer = a; event = i.event } ∷ [], i.stands wirings start es h, (refl, tt), append-nil (listed i.event) ∙ t.0);
+          stands = λ wirings start cs h.
+              let e : Entry = record { queue = 0; answer = a; event = i.event } in
+              (Stepped e ∷ [], i.stands_for wirings start cs h, (refl, tt), append-nil (all_came (listed i.event)) ∙ ap all_came t.0);
         },
         back_follows bw p p.at g.0 refl g.3,
       );
@@ -299,50 +344,3 @@ held_back want.Done n l h e = tt
 
 pub some_queue : (h : Held) → Queue
 some_queue h = (one_queue h.world.queues.items (omega (arith, h.one, h.world.queues.ok.0))).0
-
--- a sleeping back looks at its port
-woken_shows : (w : Wiring) (p : Pair) (q : Queue) (b : Bool) (at : BackAt) → wiring_of q ≡ w → BackShows w q true at p.back → p.at ≡ at → p.memory.pending ≡ b →
-    BackShows w q (not b) (on_back w at p 0).at (on_back w at p 0).back × ((on_back w at p 0).memory ≡ record p.memory { pending = false })
-woken_shows w p q b (First t) wi h e i = let x = h.0 in absurd (cc)
-woken_shows w p q b (Second packet left t) wi h e i = let x = h.0 in absurd (cc)
-woken_shows w p q true Asleep wi h e i = subst (λ x. BackShows w q false (wake w x p).at (wake w x p).back × ((wake w x p).memory ≡ record p.memory { pending = false })) (sym i) ((refl, ready_rest w q p.back h.1 wi h.2, half_going w p.back, h.2), refl)
-woken_shows w p q false Asleep wi h e i =
-    subst (λ x. BackShows w q true (wake w x p).at (wake w x p).back × ((wake w x p).memory ≡ record p.memory { pending = false })) (sym i)
-    (subst (λ x. BackShows w q true x p.back) (sym e) h, ap (λ x. record { word = p.memory.word; pending = x }) i)
-
-wake_same : (w : Wiring) (p : Pair) (b : Bool) → ((wake w b p).front ≡ p.front) × ((wake w b p).activity ≡ p.activity) × ((wake w b p).received ≡ p.received) × ((wake w b p).turns ≡ p.turns)
-wake_same w p true = (refl, refl, refl, refl)
-wake_same w p false = (refl, refl, refl, refl)
-
-woken_same : (w : Wiring) (p : Pair) (q : Queue) (at : BackAt) → BackShows w q true at p.back → ((on_back w at p 0).front ≡ p.front) × ((on_back w at p 0).activity ≡ p.activity) × ((on_back w at p 0).received ≡ p.received) × ((on_back w at p 0).turns ≡ p.turns) × (back_asks at p.memory 0 ≡ []) × BackIsAnswered at p.memory 0
-woken_same w p q Asleep h = let r = wake_same w p p.memory.pending in (r.0, r.1, r.2, r.3, refl, tt)
-woken_same w p q (First t) h = let x = h.0 in absurd (cc)
-woken_same w p q (Second packet left t) h = let x = h.0 in absurd (cc)
-
-pub wakes : (old new : Held) → old.asleep ≡ true → new.world ≡ old.world → new.front ≡ old.front → new.received ≡ old.received →
-    memory_in new.memory ≡ record (memory_in old.memory) { pending = false } → new.asleep ≡ not (memory_in old.memory).pending → Does old new BackStep
-wakes old new aw wo f r mem sl = record {
-  bytes = tt;
-  does = λ bw fw p s.
-      let q : Queue = some_queue old in
-      let shows : BackShows bw (queue_in old.world q) true p.at p.back = subst (λ (b : Bool). BackShows bw (queue_in old.world q) b p.at p.back) aw (s.back q) in
-      let same = woken_same bw p (queue_in old.world q) p.at shows in
-      let p' : Pair = on_back bw p.at p 0 in
-      let each : (d : Queue) → BackShows bw (queue_in old.world d) (not p.memory.pending) p'.at p'.back × (p'.memory ≡ record p.memory { pending = false }) =
-      λ d. woken_shows bw p (queue_in old.world d) p.memory.pending p.at (s.back_wired d) (subst (λ (b : Bool). BackShows bw (queue_in old.world d) b p.at p.back) aw (s.back d)) refl refl in
-      let slept : not p.memory.pending ≡ new.asleep = ap (λ (m : Memory). not m.pending) (sym s.memory) ∙ sym sl in (
-        0,
-        omega arith,
-        record {
-          memory = mem ∙ ap (λ (m : Memory). record m { pending = false }) s.memory ∙ sym (each q).1;
-          front_wired = ap front_wiring f ∙ s.front_wired;
-          front = subst (λ x. FrontShows x p'.activity p'.front) (sym f) (subst (λ x. FrontShows old.front x p'.front) (sym same.1) (subst (λ x. FrontShows old.front p.activity x) (sym same.0) s.front));
-          back_wired = λ d. subst (λ (x : World). wiring_of (queue_in x d) ≡ bw) (sym wo) (s.back_wired d);
-          back = λ d. subst (λ (x : World). BackShows bw (queue_in x d) new.asleep p'.at p'.back) (sym wo) (subst (λ (b : Bool). BackShows bw (queue_in old.world d) b p'.at p'.back) slept (each d).0);
-          received = ap (λ x. map bytes_in x.items) r ∙ s.received ∙ sym same.2;
-          turns = subst (λ (x : World). AllKept p'.turns (kept_in x.turns.items 0)) (sym wo) (subst (λ x. AllKept x (kept_in old.world.turns.items 0)) (sym same.3) s.turns);
-        },
-        record { shapes = ap (λ (x : World). x.counters.shapes) wo; stands = λ wirings start es h. ([], subst (λ (x : World). Stands x wirings start (es ++ [])) (sym wo) (subst (Stands old.world wirings start) (sym (append-nil es)) h), tt, sym same.4) },
-        back_follows bw p p.at 0 refl same.5,
-      );
-}

@@ -1,8 +1,7 @@
 -- One event of the front.
-use Rattle.std.proofs.Common.{◌≡◌, ◌≢◌, ℕ, ◌<◌, ◌^◌, ◌⊎◌, inl, inr, refl, sym, ◌∙◌, ap, subst, arith, Bool, true, false, List, [], ◌∷◌, ◌++◌, length, map, get_or, OnOk, OnErr, All, Option, Some, None, Result, Ok, Err}
+use Rattle.std.proofs.Common.{◌≡◌, ◌≢◌, ℕ, ◌⊎◌, inl, inr, refl, sym, ◌∙◌, ap, subst, arith, Bool, true, false, List, [], ◌∷◌, ◌++◌, length, map, get_or, OnOk, OnErr, All, Option, Some, None, Result, Ok, Err}
 use Rattle.std.proofs.lemmas.List.{append-nil}
 use Rattle.std.specs.Prelude.{nat_lt}
-use Rattle.xen_steps.specs.Answers.{number}
 use Rattle.xen_steps.specs.Drive.{Any, Bounded, IsPageWant}
 use Rattle.xen_steps.specs.Steps.{Steps, done, ask, never, next, want_of}
 use Rattle.xen_steps.specs.declared.want.Want.{Want}
@@ -28,14 +27,13 @@ use Rattle.xen_front.specs.declared.turn.SendRefusal.{SendRefusal}
 use Rattle.xen_front.proofs.ShortLemmas.{short_opened}
 use Rattle.xen_steps.specs.Pages.{PageWrite, write_all}
 use Rattle.pair_machine.specs.Law.{IsByte}
-use Rattle.pair_machine.specs.Memory.{Memory, after, answer}
-use Rattle.pair_machine.specs.Pair.{Activity, Free, Sending, Posting, Polling, Pair, PairEvent, FrontStep, Post, Poll, Send, begin_poll, begin_post, begin_send, ended, on_front, on_poll, on_post, on_send, packets_of, poll_result, polling, post_result, post_tree, posting, send_result, send_tree, sending}
+use Rattle.pair_machine.specs.Memory.{after, answer}
+use Rattle.pair_machine.specs.Pair.{Activity, Free, Sending, Posting, Polling, Pair, PairEvent, FrontStep, Post, Poll, Send, begin_poll, begin_post, begin_send, on_front, on_poll, on_post, on_send, packets_of, poll_result, polling, post_result, post_tree, posting, send_result, send_tree, sending, turns_of}
 use Rattle.pair_machine.proofs.TraceLemmas.{front_follows, poll_follows, post_follows, send_follows}
-use Rattle.xdp_world.specs.Stands.{Stands, kept_in}
+use Rattle.xdp_world.specs.Stands.{StandsFor, delivered_in, kept_in}
 use Rattle.xdp_world.specs.declared.world.World.{World}
 use Rattle.honest_pair.specs.Held.{memory_in}
-use Rattle.honest_pair.specs.Shows.{AllKept, BackShows, Does, FrontShows, GoesOn, IsGoing, Received, Shows, bytes_in, queue_in}
-use Rattle.honest_pair.specs.Words.{WantsHeld}
+use Rattle.honest_pair.specs.Shows.{AllKept, BackShows, Does, FrontShows, GoesOn, IsGoing, Shows, bytes_in, deliveries_of, doing_at, queue_in}
 use Rattle.honest_pair.specs.declared.pair.Pair.{Pair as Held}
 
 -- a front that isn't busy has nothing left, and one that has is busy
@@ -106,23 +104,27 @@ asks_on f v c e d =
     subst (IsPageWant f.wiring.frames) d b.1
 
 -- the pair where the front alone moves
-module _ (old new : Held) (world : new.world ≡ old.world) (asleep : new.asleep ≡ old.asleep) where
+module _ (old new : Held) (world : new.world ≡ old.world) (asleep : new.asleep ≡ old.asleep) (delivers : new.delivering ≡ old.delivering) where
   -- the rest of what a pair shows
   carried : (bw : BackWiring) (fw : Wiring) (p p' : Pair) → Shows bw fw old p → memory_in new.memory ≡ p'.memory → wiring_of new.front ≡ fw → FrontShows new.front p'.activity p'.front →
-      map bytes_in new.received.items ≡ p'.received → p'.at ≡ p.at → p'.back ≡ p.back → p'.turns ≡ p.turns → Shows bw fw new p'
+      map bytes_in new.received.items ≡ p'.received → p'.at ≡ p.at → p'.back ≡ p.back → p'.deeds ≡ p.deeds → Shows bw fw new p'
   carried bw fw p p' s m w f r a b t = record {
     memory = m;
     front_wired = w;
     front = f;
     received = r;
     back_wired = subst (λ (x : World). (d : Queue) → back_wiring (queue_in x d) ≡ bw) (sym world) s.back_wired;
-    back = λ d. subst (λ (x : World). BackShows bw (queue_in x d) new.asleep p'.at p'.back) (sym world) (subst (λ x. BackShows bw (queue_in old.world d) x p'.at p'.back) (sym asleep)
-        (subst (λ x. BackShows bw (queue_in old.world d) old.asleep x p'.back) (sym a) (subst (λ x. BackShows bw (queue_in old.world d) old.asleep p.at x) (sym b) (s.back d))));
-    turns = subst (λ (x : World). AllKept p'.turns (kept_in x.turns.items 0)) (sym world) (subst (λ x. AllKept x (kept_in old.world.turns.items 0)) (sym t) s.turns);
+    back = λ d e. subst (λ (x : World). BackShows bw (queue_in x d) (doing_at x e) new.asleep new.delivering p'.at p'.back) (sym world)
+        (subst (λ x. BackShows bw (queue_in old.world d) (doing_at old.world e) x new.delivering p'.at p'.back) (sym asleep)
+        (subst (λ x. BackShows bw (queue_in old.world d) (doing_at old.world e) old.asleep x p'.at p'.back) (sym delivers)
+        (subst (λ x. BackShows bw (queue_in old.world d) (doing_at old.world e) old.asleep old.delivering x p'.back) (sym a)
+        (subst (λ x. BackShows bw (queue_in old.world d) (doing_at old.world e) old.asleep old.delivering p.at x) (sym b) (s.back d e)))));
+    turns = subst (λ (x : World). AllKept (turns_of p'.deeds) (kept_in x.turns.items 0)) (sym world) (subst (λ x. AllKept (turns_of x) (kept_in old.world.turns.items 0)) (sym t) s.turns);
+    deliveries = ap (λ (x : World). delivered_in x.deliveries.items 0) world ∙ s.deliveries ∙ ap (deliveries_of 0) (sym t);
   }
 
   stays : GoesOn old.world new.world []
-  stays = record { shapes = ap (λ (x : World). x.counters.shapes) world; stands = λ wirings start es h. ([], subst (λ (x : World). Stands x wirings start (es ++ [])) (sym world) (subst (Stands old.world wirings start) (sym (append-nil es)) h), tt, refl) }
+  stays = record { shapes = ap (λ (x : World). x.counters.shapes) world; stands = λ wirings start cs h. ([], subst (λ (x : World). StandsFor x wirings start (cs ++ [])) (sym world) (subst (StandsFor old.world wirings start) (sym (append-nil cs)) h), tt, refl) }
 
 pub not_done : (t : Steps Ending) → want_of t ≢ want.Done → IsGoing t
 not_done (done e) n = absurd (n refl)
@@ -131,41 +133,41 @@ not_done never n = tt
 
 -- inside a send
 going_sending : (p : Pair) (f : Front) (t : Steps Ending) → rest f ≡ t → IsGoing t →
-    FrontShows f (sending p t).activity (sending p t).front × ((sending p t).received ≡ p.received) × ((sending p t).memory ≡ p.memory) × ((sending p t).at ≡ p.at) × ((sending p t).back ≡ p.back) × ((sending p t).turns ≡ p.turns)
+    FrontShows f (sending p t).activity (sending p t).front × ((sending p t).received ≡ p.received) × ((sending p t).memory ≡ p.memory) × ((sending p t).at ≡ p.at) × ((sending p t).back ≡ p.back) × ((sending p t).deeds ≡ p.deeds)
 going_sending p f (done e) r h = absurd h
 going_sending p f (ask v c) r h = ((r, tt), refl, refl, refl, refl, refl)
 going_sending p f never r h = ((r, tt), refl, refl, refl, refl, refl)
 
 over_sending : (p : Pair) (f : Front) (t : Steps Ending) (s : State) (g : Given) → t ≡ done (s, g) → state_of f ≡ s → busy f ≡ false →
-    FrontShows f (sending p t).activity (sending p t).front × ((sending p t).received ≡ p.received ++ packets_of g) × ((sending p t).memory ≡ p.memory) × ((sending p t).at ≡ p.at) × ((sending p t).back ≡ p.back) × ((sending p t).turns ≡ p.turns)
+    FrontShows f (sending p t).activity (sending p t).front × ((sending p t).received ≡ p.received ++ packets_of g) × ((sending p t).memory ≡ p.memory) × ((sending p t).at ≡ p.at) × ((sending p t).back ≡ p.back) × ((sending p t).deeds ≡ p.deeds)
 over_sending p f t s g e h b =
-    subst (λ (x : Steps Ending). FrontShows f (sending p x).activity (sending p x).front × ((sending p x).received ≡ p.received ++ packets_of g) × ((sending p x).memory ≡ p.memory) × ((sending p x).at ≡ p.at) × ((sending p x).back ≡ p.back) × ((sending p x).turns ≡ p.turns))
+    subst (λ (x : Steps Ending). FrontShows f (sending p x).activity (sending p x).front × ((sending p x).received ≡ p.received ++ packets_of g) × ((sending p x).memory ≡ p.memory) × ((sending p x).at ≡ p.at) × ((sending p x).back ≡ p.back) × ((sending p x).deeds ≡ p.deeds))
     (sym e) ((h, b), refl, refl, refl, refl, refl)
 
 -- inside a post
 going_posting : (p : Pair) (f : Front) (t : Steps Ending) → rest f ≡ t → IsGoing t →
-    FrontShows f (posting p t).activity (posting p t).front × ((posting p t).received ≡ p.received) × ((posting p t).memory ≡ p.memory) × ((posting p t).at ≡ p.at) × ((posting p t).back ≡ p.back) × ((posting p t).turns ≡ p.turns)
+    FrontShows f (posting p t).activity (posting p t).front × ((posting p t).received ≡ p.received) × ((posting p t).memory ≡ p.memory) × ((posting p t).at ≡ p.at) × ((posting p t).back ≡ p.back) × ((posting p t).deeds ≡ p.deeds)
 going_posting p f (done e) r h = absurd h
 going_posting p f (ask v c) r h = ((r, tt), refl, refl, refl, refl, refl)
 going_posting p f never r h = ((r, tt), refl, refl, refl, refl, refl)
 
 over_posting : (p : Pair) (f : Front) (t : Steps Ending) (s : State) (g : Given) → t ≡ done (s, g) → state_of f ≡ s → busy f ≡ false →
-    FrontShows f (posting p t).activity (posting p t).front × ((posting p t).received ≡ p.received ++ packets_of g) × ((posting p t).memory ≡ p.memory) × ((posting p t).at ≡ p.at) × ((posting p t).back ≡ p.back) × ((posting p t).turns ≡ p.turns)
+    FrontShows f (posting p t).activity (posting p t).front × ((posting p t).received ≡ p.received ++ packets_of g) × ((posting p t).memory ≡ p.memory) × ((posting p t).at ≡ p.at) × ((posting p t).back ≡ p.back) × ((posting p t).deeds ≡ p.deeds)
 over_posting p f t s g e h b =
-    subst (λ (x : Steps Ending). FrontShows f (posting p x).activity (posting p x).front × ((posting p x).received ≡ p.received ++ packets_of g) × ((posting p x).memory ≡ p.memory) × ((posting p x).at ≡ p.at) × ((posting p x).back ≡ p.back) × ((posting p x).turns ≡ p.turns))
+    subst (λ (x : Steps Ending). FrontShows f (posting p x).activity (posting p x).front × ((posting p x).received ≡ p.received ++ packets_of g) × ((posting p x).memory ≡ p.memory) × ((posting p x).at ≡ p.at) × ((posting p x).back ≡ p.back) × ((posting p x).deeds ≡ p.deeds))
     (sym e) ((h, b), refl, refl, refl, refl, refl)
 
 -- inside a poll
 going_polling : (p : Pair) (f : Front) (t : Steps Ending) → rest f ≡ t → IsGoing t →
-    FrontShows f (polling p t).activity (polling p t).front × ((polling p t).received ≡ p.received) × ((polling p t).memory ≡ p.memory) × ((polling p t).at ≡ p.at) × ((polling p t).back ≡ p.back) × ((polling p t).turns ≡ p.turns)
+    FrontShows f (polling p t).activity (polling p t).front × ((polling p t).received ≡ p.received) × ((polling p t).memory ≡ p.memory) × ((polling p t).at ≡ p.at) × ((polling p t).back ≡ p.back) × ((polling p t).deeds ≡ p.deeds)
 going_polling p f (done e) r h = absurd h
 going_polling p f (ask v c) r h = ((r, tt), refl, refl, refl, refl, refl)
 going_polling p f never r h = ((r, tt), refl, refl, refl, refl, refl)
 
 over_polling : (p : Pair) (f : Front) (t : Steps Ending) (s : State) (g : Given) → t ≡ done (s, g) → state_of f ≡ s → busy f ≡ false →
-    FrontShows f (polling p t).activity (polling p t).front × ((polling p t).received ≡ p.received ++ packets_of g) × ((polling p t).memory ≡ p.memory) × ((polling p t).at ≡ p.at) × ((polling p t).back ≡ p.back) × ((polling p t).turns ≡ p.turns)
+    FrontShows f (polling p t).activity (polling p t).front × ((polling p t).received ≡ p.received ++ packets_of g) × ((polling p t).memory ≡ p.memory) × ((polling p t).at ≡ p.at) × ((polling p t).back ≡ p.back) × ((polling p t).deeds ≡ p.deeds)
 over_polling p f t s g e h b =
-    subst (λ (x : Steps Ending). FrontShows f (polling p x).activity (polling p x).front × ((polling p x).received ≡ p.received ++ packets_of g) × ((polling p x).memory ≡ p.memory) × ((polling p x).at ≡ p.at) × ((polling p x).back ≡ p.back) × ((polling p x).turns ≡ p.turns))
+    subst (λ (x : Steps Ending). FrontShows f (polling p x).activity (polling p x).front × ((polling p x).received ≡ p.received ++ packets_of g) × ((polling p x).memory ≡ p.memory) × ((polling p x).at ≡ p.at) × ((polling p x).back ≡ p.back) × ((polling p x).deeds ≡ p.deeds))
     (sym e) ((h, b), refl, refl, refl, refl, refl)
 
 writes_go : (ns : List PageWrite) (t : Steps Ending) → IsGoing t → IsGoing (write_all ns t)
@@ -199,12 +201,12 @@ poll_busy (Some x) e = absurd (cc)
 abbrev Comes_to : Held → Held → BackWiring → Wiring → Pair → Pair → Type 0
 Comes_to old new bw fw p p' = Shows bw fw new p' × GoesOn old.world new.world []
 
-module _ (old new : Held) (world : new.world ≡ old.world) (asleep : new.asleep ≡ old.asleep) where
+module _ (old new : Held) (world : new.world ≡ old.world) (asleep : new.asleep ≡ old.asleep) (delivers : new.delivering ≡ old.delivering) where
   same_pair : (bw : BackWiring) (fw : Wiring) (p : Pair) → Shows bw fw old p → new.front ≡ old.front → new.memory ≡ old.memory → new.received ≡ old.received → Comes_to old new bw fw p p
   same_pair bw fw p s f m r = (
-    carried old new world asleep bw fw p p s (ap memory_in m ∙ s.memory) (ap wiring_of f ∙ s.front_wired) (subst (λ x. FrontShows x p.activity p.front) (sym f) s.front)
+    carried old new world asleep delivers bw fw p p s (ap memory_in m ∙ s.memory) (ap wiring_of f ∙ s.front_wired) (subst (λ x. FrontShows x p.activity p.front) (sym f) s.front)
         (ap (λ x. map bytes_in x.items) r ∙ s.received) refl refl refl,
-    stays old new world asleep,
+    stays old new world asleep delivers,
   )
 
   -- nothing was left
@@ -224,14 +226,14 @@ module _ (old new : Held) (world : new.world ≡ old.world) (asleep : new.asleep
   pub rests_front : new.front ≡ old.front → new.memory ≡ old.memory → new.received ≡ old.received → want_of (rest old.front) ≡ want.Done → Does old new FrontStep
   rests_front f m r d = record { bytes = tt; does = λ bw fw p s. let z = rested bw fw p p.activity refl s f m r d s.front in (0, omega arith, z.0, z.1, front_follows bw p p.activity 0) }
 
-  by_sending : (bw : BackWiring) (fw : Wiring) (p p1 : Pair) (t : Steps Ending) → Shows bw fw old p → memory_in new.memory ≡ p1.memory → wiring_of new.front ≡ fw → p1.received ≡ p.received → p1.at ≡ p.at → p1.back ≡ p.back → p1.turns ≡ p.turns →
+  by_sending : (bw : BackWiring) (fw : Wiring) (p p1 : Pair) (t : Steps Ending) → Shows bw fw old p → memory_in new.memory ≡ p1.memory → wiring_of new.front ≡ fw → p1.received ≡ p.received → p1.at ≡ p.at → p1.back ≡ p.back → p1.deeds ≡ p.deeds →
       Ended_as old new t → Comes_to old new bw fw p (sending p1 t)
   by_sending bw fw p p1 t s m w pr pa pb pt (inl h) =
       let g = going_sending p1 new.front t h.0 h.1 in
-      (carried old new world asleep bw fw p (sending p1 t) s (m ∙ sym g.2) w g.0 (ap (λ x. map bytes_in x.items) h.2 ∙ s.received ∙ sym pr ∙ sym g.1) (g.3 ∙ pa) (g.4 ∙ pb) (g.5 ∙ pt), stays old new world asleep)
+      (carried old new world asleep delivers bw fw p (sending p1 t) s (m ∙ sym g.2) w g.0 (ap (λ x. map bytes_in x.items) h.2 ∙ s.received ∙ sym pr ∙ sym g.1) (g.3 ∙ pa) (g.4 ∙ pb) (g.5 ∙ pt), stays old new world asleep delivers)
   by_sending bw fw p p1 t s m w pr pa pb pt (inr h) =
       let g = over_sending p1 new.front t (state_of new.front) h.0 h.1 refl h.2 in
-      (carried old new world asleep bw fw p (sending p1 t) s (m ∙ sym g.2) w g.0 (h.3 ∙ ap (λ x. x ++ packets_of h.0) (s.received ∙ sym pr) ∙ sym g.1) (g.3 ∙ pa) (g.4 ∙ pb) (g.5 ∙ pt), stays old new world asleep)
+      (carried old new world asleep delivers bw fw p (sending p1 t) s (m ∙ sym g.2) w g.0 (h.3 ∙ ap (λ x. x ++ packets_of h.0) (s.received ∙ sym pr) ∙ sym g.1) (g.3 ∙ pa) (g.4 ∙ pb) (g.5 ∙ pt), stays old new world asleep delivers)
 
   goes_sending : (bw : BackWiring) (fw : Wiring) (p : Pair) (u : Want) (c : ℕ → Steps Ending) (v : Want) → Shows bw fw old p → rest old.front ≡ ask u c → v ≡ want_of (rest old.front) →
       memory_in new.memory ≡ after v (memory_in old.memory) → wiring_of new.front ≡ wiring_of old.front → Ended_as old new (next (rest old.front) (answer v (memory_in old.memory) 0)) → Comes_to old new bw fw p (on_front (Sending (ask u c)) p 0)
@@ -242,14 +244,14 @@ module _ (old new : Held) (world : new.world ≡ old.world) (asleep : new.asleep
       let tree : next (rest old.front) (answer v (memory_in old.memory) 0) ≡ c (answer u p.memory 0) = ap (λ x. next x (answer v (memory_in old.memory) 0)) r ∙ ap c said in
       by_sending bw fw p (record p { memory = after u p.memory }) (c (answer u p.memory 0)) s (m ∙ mem) (w ∙ s.front_wired) refl refl refl refl (subst (Ended_as old new) tree h)
 
-  by_posting : (bw : BackWiring) (fw : Wiring) (p p1 : Pair) (t : Steps Ending) → Shows bw fw old p → memory_in new.memory ≡ p1.memory → wiring_of new.front ≡ fw → p1.received ≡ p.received → p1.at ≡ p.at → p1.back ≡ p.back → p1.turns ≡ p.turns →
+  by_posting : (bw : BackWiring) (fw : Wiring) (p p1 : Pair) (t : Steps Ending) → Shows bw fw old p → memory_in new.memory ≡ p1.memory → wiring_of new.front ≡ fw → p1.received ≡ p.received → p1.at ≡ p.at → p1.back ≡ p.back → p1.deeds ≡ p.deeds →
       Ended_as old new t → Comes_to old new bw fw p (posting p1 t)
   by_posting bw fw p p1 t s m w pr pa pb pt (inl h) =
       let g = going_posting p1 new.front t h.0 h.1 in
-      (carried old new world asleep bw fw p (posting p1 t) s (m ∙ sym g.2) w g.0 (ap (λ x. map bytes_in x.items) h.2 ∙ s.received ∙ sym pr ∙ sym g.1) (g.3 ∙ pa) (g.4 ∙ pb) (g.5 ∙ pt), stays old new world asleep)
+      (carried old new world asleep delivers bw fw p (posting p1 t) s (m ∙ sym g.2) w g.0 (ap (λ x. map bytes_in x.items) h.2 ∙ s.received ∙ sym pr ∙ sym g.1) (g.3 ∙ pa) (g.4 ∙ pb) (g.5 ∙ pt), stays old new world asleep delivers)
   by_posting bw fw p p1 t s m w pr pa pb pt (inr h) =
       let g = over_posting p1 new.front t (state_of new.front) h.0 h.1 refl h.2 in
-      (carried old new world asleep bw fw p (posting p1 t) s (m ∙ sym g.2) w g.0 (h.3 ∙ ap (λ x. x ++ packets_of h.0) (s.received ∙ sym pr) ∙ sym g.1) (g.3 ∙ pa) (g.4 ∙ pb) (g.5 ∙ pt), stays old new world asleep)
+      (carried old new world asleep delivers bw fw p (posting p1 t) s (m ∙ sym g.2) w g.0 (h.3 ∙ ap (λ x. x ++ packets_of h.0) (s.received ∙ sym pr) ∙ sym g.1) (g.3 ∙ pa) (g.4 ∙ pb) (g.5 ∙ pt), stays old new world asleep delivers)
 
   goes_posting : (bw : BackWiring) (fw : Wiring) (p : Pair) (u : Want) (c : ℕ → Steps Ending) (v : Want) → Shows bw fw old p → rest old.front ≡ ask u c → v ≡ want_of (rest old.front) →
       memory_in new.memory ≡ after v (memory_in old.memory) → wiring_of new.front ≡ wiring_of old.front → Ended_as old new (next (rest old.front) (answer v (memory_in old.memory) 0)) → Comes_to old new bw fw p (on_front (Posting (ask u c)) p 0)
@@ -260,14 +262,14 @@ module _ (old new : Held) (world : new.world ≡ old.world) (asleep : new.asleep
       let tree : next (rest old.front) (answer v (memory_in old.memory) 0) ≡ c (answer u p.memory 0) = ap (λ x. next x (answer v (memory_in old.memory) 0)) r ∙ ap c said in
       by_posting bw fw p (record p { memory = after u p.memory }) (c (answer u p.memory 0)) s (m ∙ mem) (w ∙ s.front_wired) refl refl refl refl (subst (Ended_as old new) tree h)
 
-  by_polling : (bw : BackWiring) (fw : Wiring) (p p1 : Pair) (t : Steps Ending) → Shows bw fw old p → memory_in new.memory ≡ p1.memory → wiring_of new.front ≡ fw → p1.received ≡ p.received → p1.at ≡ p.at → p1.back ≡ p.back → p1.turns ≡ p.turns →
+  by_polling : (bw : BackWiring) (fw : Wiring) (p p1 : Pair) (t : Steps Ending) → Shows bw fw old p → memory_in new.memory ≡ p1.memory → wiring_of new.front ≡ fw → p1.received ≡ p.received → p1.at ≡ p.at → p1.back ≡ p.back → p1.deeds ≡ p.deeds →
       Ended_as old new t → Comes_to old new bw fw p (polling p1 t)
   by_polling bw fw p p1 t s m w pr pa pb pt (inl h) =
       let g = going_polling p1 new.front t h.0 h.1 in
-      (carried old new world asleep bw fw p (polling p1 t) s (m ∙ sym g.2) w g.0 (ap (λ x. map bytes_in x.items) h.2 ∙ s.received ∙ sym pr ∙ sym g.1) (g.3 ∙ pa) (g.4 ∙ pb) (g.5 ∙ pt), stays old new world asleep)
+      (carried old new world asleep delivers bw fw p (polling p1 t) s (m ∙ sym g.2) w g.0 (ap (λ x. map bytes_in x.items) h.2 ∙ s.received ∙ sym pr ∙ sym g.1) (g.3 ∙ pa) (g.4 ∙ pb) (g.5 ∙ pt), stays old new world asleep delivers)
   by_polling bw fw p p1 t s m w pr pa pb pt (inr h) =
       let g = over_polling p1 new.front t (state_of new.front) h.0 h.1 refl h.2 in
-      (carried old new world asleep bw fw p (polling p1 t) s (m ∙ sym g.2) w g.0 (h.3 ∙ ap (λ x. x ++ packets_of h.0) (s.received ∙ sym pr) ∙ sym g.1) (g.3 ∙ pa) (g.4 ∙ pb) (g.5 ∙ pt), stays old new world asleep)
+      (carried old new world asleep delivers bw fw p (polling p1 t) s (m ∙ sym g.2) w g.0 (h.3 ∙ ap (λ x. x ++ packets_of h.0) (s.received ∙ sym pr) ∙ sym g.1) (g.3 ∙ pa) (g.4 ∙ pb) (g.5 ∙ pt), stays old new world asleep delivers)
 
   goes_polling : (bw : BackWiring) (fw : Wiring) (p : Pair) (u : Want) (c : ℕ → Steps Ending) (v : Want) → Shows bw fw old p → rest old.front ≡ ask u c → v ≡ want_of (rest old.front) →
       memory_in new.memory ≡ after v (memory_in old.memory) → wiring_of new.front ≡ wiring_of old.front → Ended_as old new (next (rest old.front) (answer v (memory_in old.memory) 0)) → Comes_to old new bw fw p (on_front (Polling (ask u c)) p 0)
@@ -298,9 +300,9 @@ module _ (old new : Held) (world : new.world ≡ old.world) (asleep : new.asleep
   -- the calls
   refused : (bw : BackWiring) (fw : Wiring) (p : Pair) (a : Activity) → Shows bw fw old p → p.activity ≡ a → IsSame old.front new.front → new.memory ≡ old.memory → new.received ≡ old.received → Comes_to old new bw fw p p
   refused bw fw p a s i h m r = (
-    carried old new world asleep bw fw p p s (ap memory_in m ∙ s.memory) (h.wiring ∙ s.front_wired) (subst (λ x. FrontShows new.front x p.front) (sym i) (by a (subst (λ x. FrontShows old.front x p.front) i s.front)))
+    carried old new world asleep delivers bw fw p p s (ap memory_in m ∙ s.memory) (h.wiring ∙ s.front_wired) (subst (λ x. FrontShows new.front x p.front) (sym i) (by a (subst (λ x. FrontShows old.front x p.front) i s.front)))
         (ap (λ x. map bytes_in x.items) r ∙ s.received) refl refl refl,
-    stays old new world asleep,
+    stays old new world asleep delivers,
   )
     where
       by : (a : Activity) → FrontShows old.front a p.front → FrontShows new.front a p.front

@@ -2,4 +2,6 @@ pub mod BackLemmas
 pub mod WordLemmas
 pub mod FrontLemmas
 pub mod CopyLemmas
+pub mod DeliveryLemmas
 pub mod RunLemmas
+pub mod WakeLemmas

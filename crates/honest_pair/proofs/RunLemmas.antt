@@ -1,7 +1,7 @@
 -- Events one after another.
-use Rattle.std.proofs.Common.{◌≡◌, ℕ, zero, suc, ◌<◌, ◌^◌, refl, sym, ◌∙◌, ap, subst, arith, List, [], ◌∷◌, ◌++◌, length, map, get_or, true, Option, Some, None}
+use Rattle.std.proofs.Common.{◌≡◌, ℕ, zero, suc, ◌<◌, ◌^◌, refl, sym, ◌∙◌, ap, subst, arith, List, [], ◌∷◌, ◌++◌, length, map, true, false, Option, Some, None}
 use Rattle.bpf_verify.specs.Consistent.{Accepted, IsConsistent}
-use Rattle.xen_back.specs.Queues.{rest, state_of, wiring_of}
+use Rattle.xen_back.specs.Queues.{rest, state_of}
 use Rattle.xen_back.specs.Tree.{unless_halted, whole_turn}
 use Rattle.xen_back.specs.Turned.{Turned}
 use Rattle.xen_back.specs.Turns.{IsTurn}
@@ -14,34 +14,36 @@ use Rattle.xen_front.specs.declared.state.State.{State as FrontState}
 use Rattle.xen_steps.specs.Drive.{Gone}
 use Rattle.xen_steps.specs.Steps.{Runs}
 use Rattle.pair_machine.specs.Law.{AreFit, Honest, IsBytes, PairLaw}
-use Rattle.pair_machine.specs.Layout.{IsBack, IsFront}
+use Rattle.pair_machine.specs.Layout.{IsBack}
 use Rattle.pair_machine.specs.Memory.{opening_memory}
 use Rattle.xdp_world.specs.Begin.{Begins, IsFor}
-use Rattle.xdp_world.specs.Core.{Turns, begun, turned}
-use Rattle.xdp_world.specs.Report.{Reports}
-use Rattle.xdp_world.specs.declared.kept.Kept.{Kept}
+use Rattle.xdp_world.specs.Activities.{Activities, Came, Deed, Given, Item, all_came, deliveries_in, delivery_over, none_over, turn_over, turns_in}
+use Rattle.xdp_world.specs.Calls.{Call, Delivers, Stepped, all_stepped, entries_of, items_of}
+use Rattle.xdp_world.specs.Doings.{IsAt}
+use Rattle.xdp_world.specs.Report.{Reports, Tells}
+use Rattle.xdp_world.specs.declared.doing.Doing.{Doing}
+use Rattle.xdp_world.specs.declared.doing.Doing.TheVariants as doing
 use Rattle.honest_pair.specs.Held.{memory_in}
 use Rattle.honest_pair.specs.Made.{IsFresh}
 use Rattle.honest_pair.specs.declared.running.PairRun.{PairRun}
-use Rattle.honest_pair.proofs.BackLemmas.{some_queue}
+use Rattle.honest_pair.proofs.BackLemmas.{some_queue, world_doing}
 use Rattle.std.specs.Prelude.{if◌then◌else◌, ◌==◌}
 use Rattle.std.proofs.lemmas.List.{append-nil, append_assoc}
 use Rattle.xen_steps.specs.Event.{Event}
 use Rattle.xen_back.specs.declared.wiring.Wiring.{Wiring as BackWiring}
 use Rattle.xen_buffers.specs.declared.wiring.Wiring.{Wiring as FrontWiring}
-use Rattle.pair_machine.specs.Log.{LogLaw, back_event, back_events}
-use Rattle.pair_machine.specs.Pair.{Pair, PairEvent, opening, run, step}
+use Rattle.pair_machine.specs.Log.{LogLaw, back_asks, back_item, back_items}
+use Rattle.pair_machine.specs.Pair.{BackStep, Deliver, FrontStep, Pair, PairEvent, Poll, Post, Send, opening, run, step, turns_of}
 use Rattle.pair_machine.specs.Traces.{Follows, Traced}
 use Rattle.pair_machine.proofs.TraceLemmas.{follows_more, follows_none, opened_traced}
 use Rattle.honest_pair.proofs.CopyLemmas.{delivers}
-use Rattle.xdp_world.specs.Entries.{Entry, events_of, listed, steps_of}
-use Rattle.xdp_world.specs.Replay.{AreOf}
-use Rattle.xdp_world.specs.Stands.{Stands, kept_in}
+use Rattle.xdp_world.specs.Entries.{Entry, listed, steps_of}
+use Rattle.xdp_world.specs.Stands.{Stands, StandsFor, delivered_in, kept_in}
 use Rattle.xdp_world.specs.declared.world.World.{World}
-use Rattle.xdp_world.proofs.Plainly.{sofar_of}
+use Rattle.xdp_world.proofs.Worlds.{items_append}
 use Rattle.honest_pair.specs.Events.{event_in, events_in}
-use Rattle.honest_pair.specs.Runs.{AllBytes, GoWith, HasDone, IsPairRun}
-use Rattle.honest_pair.specs.Shows.{AllKept, Does, GoesOn, Shows, bytes_in, queue_in}
+use Rattle.honest_pair.specs.Runs.{AllBytes, GoWith, HasDone, IsPairRun, IsPlain, NoneDelivers}
+use Rattle.honest_pair.specs.Shows.{AllKept, AreOwn, Does, GoesOn, Shows, bytes_in, deliveries_of, doing_at, queue_in}
 use Rattle.honest_pair.specs.declared.event.PairEvent.{PairEvent as Called}
 use Rattle.honest_pair.specs.declared.pair.Pair.{Pair as Held}
 
@@ -49,29 +51,25 @@ run_more : (bw : BackWiring) (fw : FrontWiring) (p : Pair) (es : List (PairEvent
 run_more bw fw p [] x = refl
 run_more bw fw p (e ∷ es) x = run_more bw fw (step bw fw p e.0 e.1) es x
 
-events_more : (bw : BackWiring) (fw : FrontWiring) (p : Pair) (es : List (PairEvent × ℕ)) (x : PairEvent × ℕ) →
-    back_events bw fw p (es ++ x ∷ []) ≡ back_events bw fw p es ++ back_event (run bw fw p es) x.0 x.1
-events_more bw fw p [] x = append-nil (back_event p x.0 x.1)
-events_more bw fw p (e ∷ es) x =
+items_more : (bw : BackWiring) (fw : FrontWiring) (p : Pair) (es : List (PairEvent × ℕ)) (x : PairEvent × ℕ) →
+    back_items bw fw p (es ++ x ∷ []) ≡ back_items bw fw p es ++ back_item (run bw fw p es) x.0 x.1
+items_more bw fw p [] x = append-nil (back_item p x.0 x.1)
+items_more bw fw p (e ∷ es) x =
     let q = step bw fw p e.0 e.1 in
-    ap (λ y. back_event p e.0 e.1 ++ y) (events_more bw fw q es x) ∙ sym (append_assoc (back_event p e.0 e.1) (back_events bw fw q es) (back_event (run bw fw q es) x.0 x.1))
+    ap (λ y. back_item p e.0 e.1 ++ y) (items_more bw fw q es x) ∙ sym (append_assoc (back_item p e.0 e.1) (back_items bw fw q es) (back_item (run bw fw q es) x.0 x.1))
 
-own_more : (l m : List Entry) → events_of 0 (l ++ m) ≡ events_of 0 l ++ events_of 0 m
-own_more [] m = refl
-own_more (e ∷ l) m =
-    ap (λ y. (if e.queue == 0 then listed e.event else []) ++ y) (own_more l m) ∙ sym (append_assoc (if e.queue == 0 then listed e.event else []) (events_of 0 l) (events_of 0 m))
+own_more : (a b : List Call) → AreOwn a → AreOwn b → AreOwn (a ++ b)
+own_more [] b h g = g
+own_more (Stepped e ∷ a) b h g = (h.0, own_more a b h.1 g)
+own_more (Delivers q packet ∷ a) b h g = (h.0, own_more a b h.1 g)
 
-are_more : (a b : List Entry) → AreOf 0 a → AreOf 0 b → AreOf 0 (a ++ b)
-are_more [] b h g = g
-are_more (e ∷ a) b h g = (h.0, are_more a b h.1 g)
-
-goes_more : (a b c : World) (l m : List Event) → GoesOn a b l → GoesOn b c m → GoesOn a c (l ++ m)
+goes_more : (a b c : World) (l m : List Item) → GoesOn a b l → GoesOn b c m → GoesOn a c (l ++ m)
 goes_more a b c l m g h = record {
   shapes = h.shapes ∙ g.shapes;
-  stands = λ wirings start es s.
-      let x = g.stands wirings start es s in
-      let y = h.stands wirings start (es ++ x.0) x.1 in
-      (x.0 ++ y.0, subst (Stands c wirings start) (append_assoc es x.0 y.0) y.1, are_more x.0 y.0 x.2 y.2, own_more x.0 y.0 ∙ (λ i. x.3 i ++ y.3 i));
+  stands = λ wirings start cs s.
+      let x = g.stands wirings start cs s in
+      let y = h.stands wirings start (cs ++ x.0) x.1 in
+      (x.0 ++ y.0, subst (StandsFor c wirings start) (append_assoc cs x.0 y.0) y.1, own_more x.0 y.0 x.2 y.2, items_append 0 x.0 y.0 ∙ (λ i. x.3 i ++ y.3 i));
 }
 
 with_more : (es : List PairEvent) (g : List (PairEvent × ℕ)) (e : PairEvent) (n : ℕ) → GoWith es g → n < 2 ^ 64 → GoWith (es ++ e ∷ []) (g ++ (e, n) ∷ [])
@@ -85,7 +83,7 @@ bytes_more [] e h b = (b, tt)
 bytes_more (x ∷ es) e h b = (h.0, bytes_more es e h.1 b)
 
 pub done_none : (h : Held) → HasDone h h []
-done_none h = record { bytes = tt; does = λ bw fw p s. ([], tt, s, record { shapes = refl; stands = λ wirings start es x. ([], subst (Stands h.world wirings start) (sym (append-nil es)) x, tt, refl) }, follows_none bw p) }
+done_none h = record { bytes = tt; does = λ bw fw p s. ([], tt, s, record { shapes = refl; stands = λ wirings start cs x. ([], subst (StandsFor h.world wirings start) (sym (append-nil cs)) x, tt, refl) }, follows_none bw p) }
 
 pub done_more : (old mid new : Held) (es : List PairEvent) (e : PairEvent) → HasDone old mid es → Does mid new e → HasDone old new (es ++ e ∷ [])
 done_more old mid new es e h d = record {
@@ -96,10 +94,10 @@ done_more old mid new es e h d = record {
         a.0 ++ (e, b.0) ∷ [],
         with_more es a.0 e b.0 a.1 b.1,
         subst (Shows bw fw new) (sym (run_more bw fw p a.0 (e, b.0))) b.2,
-        subst (GoesOn old.world new.world) (sym (events_more bw fw p a.0 (e, b.0))) (goes_more old.world mid.world new.world (back_events bw fw p a.0) (back_event (run bw fw p a.0) e b.0) a.3 b.3),
-        subst (λ q. Follows bw p q (back_events bw fw p (a.0 ++ (e, b.0) ∷ []))) (sym (run_more bw fw p a.0 (e, b.0)))
-            (subst (Follows bw p (step bw fw (run bw fw p a.0) e b.0)) (sym (events_more bw fw p a.0 (e, b.0)))
-            (follows_more bw p (run bw fw p a.0) (step bw fw (run bw fw p a.0) e b.0) (back_events bw fw p a.0) (back_event (run bw fw p a.0) e b.0) a.4 b.4)),
+        subst (GoesOn old.world new.world) (sym (items_more bw fw p a.0 (e, b.0))) (goes_more old.world mid.world new.world (back_items bw fw p a.0) (back_item (run bw fw p a.0) e b.0) a.3 b.3),
+        subst (λ q. Follows bw p q (back_items bw fw p (a.0 ++ (e, b.0) ∷ []))) (sym (run_more bw fw p a.0 (e, b.0)))
+            (subst (Follows bw p (step bw fw (run bw fw p a.0) e b.0)) (sym (items_more bw fw p a.0 (e, b.0)))
+            (follows_more bw p (run bw fw p a.0) (step bw fw (run bw fw p a.0) e b.0) (back_items bw fw p a.0) (back_item (run bw fw p a.0) e b.0) a.4 b.4)),
       );
 }
 
@@ -111,10 +109,62 @@ events_in_more (x ∷ l) e = ap (λ y. event_in x ∷ y) (events_in_more l e)
 no_turn : (w : BackWiring) (s mid : BackState) (u : Turned) → s.halt ≡ None → IsTurn w s [] mid u → ⊥
 no_turn w s mid u h t = subst (λ (x : Option Halt). Runs (unless_halted w s x) [] (mid, u)) h (runs_turn w s [] mid u t)
 
-is_begun : (w : BackWiring) (s : BackState) (es : List Event) (ks : List Kept) (end : BackState) (front : List Event) → es ≡ [] → Turns w s es ks end front → (ks ≡ []) × (end ≡ s) × (front ≡ [])
-is_begun w _ _ _ _ _ e (begun s front) = (refl, refl, e)
-is_begun w _ _ _ _ _ e (turned s mid end [] more front u k ks h t g l) = absurd (no_turn w s mid u h t)
-is_begun w _ _ _ _ _ e (turned s mid end (x ∷ t) more front u k ks h i g l) = absurd (cc)
+is_begun : (w : BackWiring) (s : BackState) (items : List Item) (ds : List Deed) (end : BackState) (front : List Item) → items ≡ [] → Activities w s items ds end front → (ds ≡ []) × (end ≡ s) × (front ≡ [])
+is_begun w _ _ _ _ _ e (none_over s front) = (refl, refl, e)
+is_begun w _ _ _ _ _ e (turn_over s mid end [] more front u k ds h t g l) = absurd (no_turn w s mid u h t)
+is_begun w _ _ _ _ _ e (turn_over s mid end (x ∷ t) more front u k ds h i g l) = absurd (cc)
+is_begun w _ _ _ _ _ e (delivery_over s mid end packet t more front what ds i l) = absurd (cc)
+
+-- a queue of which nothing is left is between turns
+none_came : (f : List Event) → (f ≡ [] → ⊥) → [] ≡ all_came f → ⊥
+none_came [] n e = n refl
+none_came (x ∷ f) n e = cc
+
+is_between : (w : BackWiring) (q : Queue) (at : Doing) (front : List Item) → front ≡ [] → IsAt w q at front → (at ≡ doing.Between) × Gone (whole_turn w (state_of q)) [] (rest q)
+is_between w q doing.Between front e h = (refl, h.1.gone)
+is_between w q doing.Turn front e h = absurd (none_came h.0 h.2 (sym e ∙ h.1))
+is_between w q (doing.Delivery d) front e h = let z : Given h.0 ∷ all_came h.1 ≡ [] = sym h.2 ∙ e in absurd (cc)
+
+-- Where no event is a delivery, each item is an event, and each call a step.
+came_append : (a b : List Event) → all_came (a ++ b) ≡ all_came a ++ all_came b
+came_append [] b = refl
+came_append (x ∷ a) b = ap (λ (l : List Item). Came x ∷ l) (came_append a b)
+
+item_plain : (p : Pair) (e : PairEvent) (n : ℕ) → IsPlain e → (f : List Event) × (back_item p e n ≡ all_came f)
+item_plain p (Send packet) n h = ([], refl)
+item_plain p Post n h = ([], refl)
+item_plain p Poll n h = ([], refl)
+item_plain p FrontStep n h = ([], refl)
+item_plain p BackStep n h = (back_asks p.at p.memory n, refl)
+item_plain p (Deliver packet) n h = absurd h
+
+items_plain : (bw : BackWiring) (fw : FrontWiring) (p : Pair) (es : List PairEvent) (g : List (PairEvent × ℕ)) → GoWith es g → NoneDelivers es → (f : List Event) × (back_items bw fw p g ≡ all_came f)
+items_plain bw fw p [] [] w h = ([], refl)
+items_plain bw fw p [] (x ∷ g) w h = absurd w
+items_plain bw fw p (e ∷ es) [] w h = absurd w
+items_plain bw fw p (e ∷ es) (x ∷ g) w h =
+    let a = item_plain p x.0 x.1 (subst IsPlain (sym w.0) h.0) in
+    let b = items_plain bw fw (step bw fw p x.0 x.1) es g w.2 h.1 in
+    (a.0 ++ b.0, (λ i. a.1 i ++ b.1 i) ∙ sym (came_append a.0 b.0))
+
+given_not : (packet : List ℕ) (l : List Item) (f : List Event) → Given packet ∷ l ≡ all_came f → ⊥
+given_not packet l [] e = cc
+given_not packet l (x ∷ f) e = cc
+
+came_tail : (x : Event) (l : List Item) (f : List Event) → Came x ∷ l ≡ all_came f → (f2 : List Event) × (l ≡ all_came f2)
+came_tail x l [] e = absurd (cc)
+came_tail x l (y ∷ f) e = (f, cc)
+
+calls_plain : (cs : List Call) (f : List Event) → AreOwn cs → items_of 0 cs ≡ all_came f → cs ≡ all_stepped (entries_of cs)
+calls_plain [] f h e = refl
+calls_plain (Stepped x ∷ cs) f h e = ap (λ (l : List Call). Stepped x ∷ l)
+    (by (λ f2 z. calls_plain cs f2 h.1 z) x.event (sym (ap (λ n. (if n == 0 then all_came (listed x.event) else []) ++ items_of 0 cs) h.0) ∙ e))
+  where
+    by : ((f2 : List Event) → items_of 0 cs ≡ all_came f2 → cs ≡ all_stepped (entries_of cs)) → (o : Option Event) → all_came (listed o) ++ items_of 0 cs ≡ all_came f → cs ≡ all_stepped (entries_of cs)
+    by more None z = more f z
+    by more (Some y) z = let t = came_tail y (items_of 0 cs) f z in more t.0 t.1
+calls_plain (Delivers q packet ∷ cs) f h e =
+    absurd (given_not packet (items_of 0 cs) f (sym (ap (λ n. (if n == 0 then Given packet ∷ [] else []) ++ items_of 0 cs) h.0) ∙ e))
 
 fit_more : (x : PairEvent × ℕ) (g : List (PairEvent × ℕ)) → IsBytes x.0 × (x.1 < 2 ^ 64) → AreFit g → AreFit (x ∷ g)
 fit_more x g h a zero d l = h
@@ -127,31 +177,30 @@ fit_all (e ∷ es) [] h b = absurd h
 fit_all (e ∷ es) (x ∷ g) h b = fit_more x g (subst IsBytes (sym h.0) b.0, h.1) (fit_all es g h.2 b.1)
 
 pub is_run : (program : Accepted) (start : ℕ) (called : List PairEvent) (r : PairRun) (old new : Held) → Begins program 1 0 start old.world → IsConsistent program → start < 2 ^ 32 → IsFresh start old.front →
-    memory_in old.memory ≡ opening_memory start → old.asleep ≡ true → old.received.items ≡ [] → old.world.counters.shapes ≡ program.shapes → HasDone old new called →
-    r.received ≡ new.received → length r.report.turns.items ≡ 1 → r.report.turns.items ≡ new.world.turns.items → r.report.totals.shapes ≡ new.world.counters.shapes →
-    ((wirings : ℕ → BackWiring) (s : ℕ) (es : List Entry) → Stands new.world wirings s es → Reports wirings s es r.report) → LogLaw → PairLaw → IsPairRun program start called r
-is_run program start called r old new b cons small fresh mem aw none sh done rec count turns shapes reports logs law =
+    memory_in old.memory ≡ opening_memory start → old.asleep ≡ true → old.delivering ≡ false → old.received.items ≡ [] → old.world.counters.shapes ≡ program.shapes → HasDone old new called →
+    r.received ≡ new.received → length r.report.turns.items ≡ 1 → r.report.turns.items ≡ new.world.turns.items → r.report.deliveries.items ≡ new.world.deliveries.items → r.report.totals.shapes ≡ new.world.counters.shapes →
+    ((wirings : ℕ → BackWiring) (s : ℕ) (es : List Entry) → Stands new.world wirings s es → Reports wirings s es r.report) →
+    ((wirings : ℕ → BackWiring) (s : ℕ) (cs : List Call) → StandsFor new.world wirings s cs → Tells wirings s cs r.report) → LogLaw → PairLaw → IsPairRun program start called r
+is_run program start called r old new b cons small fresh mem aw dl none sh done rec count turns deliveries shapes reports tells logs law =
     let bw : BackWiring = b.wirings 0 in
     let fw : FrontWiring = front_wiring old.front in
     let s : FrontState = front_state old.front in
     let p : Pair = opening s start in
     let some : 0 < length old.world.queues.items = omega (arith, old.one, old.world.queues.ok.0) in
-    let each = λ (d : Queue). sofar_of old.world b.wirings start [] b.stands 0 d some in
-    let at = λ (d : Queue). is_begun bw _ _ _ _ _ refl (each d).joined in
+    let each = λ (d : Queue) (e : Doing). b.stands.each 0 d e some in
+    let at = λ (d : Queue) (e : Doing). is_begun bw _ _ _ _ _ refl (each d e).joined in
     let q : Queue = some_queue old in
+    let x0 : Doing = (world_doing old).0 in
+    let now = λ (d : Queue) (e : Doing). is_between bw (queue_in old.world d) (doing_at old.world e) (each d e).front (at d e).2 (each d e).stands_at in
     let shows : Shows bw fw old p = record {
       memory = mem;
       front_wired = refl;
       front = (refl, fresh.free);
-      back_wired = λ d. (each d).wired;
-      back = λ d. (
-        aw,
-        sym (subst (λ (l : List Event). Gone (whole_turn bw (state_of (queue_in old.world d))) l (rest (queue_in old.world d))) (at d).2 (each d).unfinished.gone)
-            ∙ ap (λ (w : BackWiring). whole_turn w (state_of (queue_in old.world d))) (sym (each d).wired),
-        (at d).1,
-      );
+      back_wired = λ d. (each d x0).wired;
+      back = λ d e. (aw, dl, (now d e).0, sym (now d e).1 ∙ ap (λ (w : BackWiring). whole_turn w (state_of (queue_in old.world d))) (sym (each d e).wired), (at d e).1);
       received = ap (λ l. map bytes_in l) none;
-      turns = subst (AllKept []) (sym (at q).0) tt;
+      turns = subst (AllKept []) (sym ((each q x0).turns ∙ ap turns_in (at q x0).0)) tt;
+      deliveries = (each q x0).deliveries ∙ ap (deliveries_in 0) (at q x0).0;
     } in
     let a = done.does bw fw p shows in
     let x = a.3.stands b.wirings start [] b.stands in
@@ -168,11 +217,12 @@ is_run program start called r old new b cons small fresh mem aw none sh done rec
       ifindex = w0.ifindex;
       number = w0.number;
     } in
-    let honest : Honest (run bw fw p a.0) = law program bw fw s start cons laid fresh.laid fresh.new small a.0 (fit_all called a.0 a.1 done.bytes) in
-    let kept : AllKept (run bw fw p a.0).turns (kept_in r.report.turns.items 0) = subst (λ l. AllKept (run bw fw p a.0).turns (kept_in l 0)) (sym turns) a.2.turns in
-    let got : map bytes_in r.received.items ≡ (run bw fw p a.0).received = ap (λ v. map bytes_in v.items) rec ∙ a.2.received in
-    let traced : Traced bw start (events_of 0 x.0) (run bw fw p a.0) =
-    subst (λ l. Traced bw start l (run bw fw p a.0)) (sym x.3) (a.4 start [] (opened_traced bw start p refl refl refl)) in
+    let end : Pair = run bw fw p a.0 in
+    let honest : Honest end = law program bw fw s start cons laid fresh.laid fresh.new small a.0 (fit_all called a.0 a.1 done.bytes) in
+    let kept : AllKept (turns_of end.deeds) (kept_in r.report.turns.items 0) = subst (λ l. AllKept (turns_of end.deeds) (kept_in l 0)) (sym turns) a.2.turns in
+    let arrived : delivered_in r.report.deliveries.items 0 ≡ deliveries_of 0 end.deeds = ap (λ l. delivered_in l 0) deliveries ∙ a.2.deliveries in
+    let got : map bytes_in r.received.items ≡ end.received = ap (λ v. map bytes_in v.items) rec ∙ a.2.received in
+    let traced : Traced bw start (items_of 0 x.0) end = subst (λ l. Traced bw start l end) (sym x.3) (a.4 start [] (opened_traced bw start p refl refl refl)) in
     record {
       back = bw;
       front = fw;
@@ -182,13 +232,29 @@ is_run program start called r old new b cons small fresh mem aw none sh done rec
       new = fresh.new;
       events = a.0;
       called_are = a.1;
-      steps = steps_of x.0;
-      core = record { wirings = b.wirings; wired = b.wired; entries = x.0; steps_are = refl; count = count; shapes = shapes ∙ a.3.shapes ∙ sh; reports = reports b.wirings start x.0 x.1 };
+      calls = x.0;
+      core = record { wirings = b.wirings; wired = b.wired; count = count; shapes = shapes ∙ a.3.shapes ∙ sh; tells = tells b.wirings start x.0 x.1 };
       alone = x.2;
       own = x.3;
+      plain = λ h.
+          let f = items_plain bw fw p called a.0 a.1 h in
+          let all = calls_plain x.0 f.0 x.2 (x.3 ∙ f.1) in (
+            steps_of (entries_of x.0),
+            record {
+              wirings = b.wirings;
+              wired = b.wired;
+              entries = entries_of x.0;
+              steps_are = refl;
+              count = count;
+              shapes = shapes ∙ a.3.shapes ∙ sh;
+              reports = reports b.wirings start (entries_of x.0) (subst (StandsFor new.world b.wirings start) all x.1);
+            },
+            all,
+          );
       faithful = logs bw fw p a.0;
       honest = honest;
       turns = kept;
+      deliveries = arrived;
       received = got;
-      delivers = delivers bw start (events_of 0 x.0) (run bw fw p a.0) (kept_in r.report.turns.items 0) (map bytes_in r.received.items) traced honest kept got;
+      delivers = delivers bw start (items_of 0 x.0) end (kept_in r.report.turns.items 0) (delivered_in r.report.deliveries.items 0) (map bytes_in r.received.items) traced honest kept arrived got;
     }

@@ -1,12 +1,12 @@
 -- The words of a memory that was opened.
-use Rattle.std.proofs.Common.{◌≡◌, ℕ, zero, suc, ◌+◌, ◌*◌, refl, sym, ◌∙◌, ap, subst, arith, Bool, true, false, List, [], ◌∷◌, get_or}
+use Rattle.std.proofs.Common.{◌≡◌, ℕ, zero, suc, ◌+◌, ◌*◌, refl, ◌∙◌, ap, arith, Bool, true, false, List, get_or}
 use Rattle.std.specs.Prelude.{◌==◌, ◌&&◌, if◌then◌else◌, replicate, nat_lt}
 use Rattle.std.proofs.lemmas.Bool.Decides.{nat_tests}
 use mathlib.Core.Path.{fun_ext}
 use Rattle.xen_page.specs.declared.place.Place.{Place}
 use Rattle.xen_steps.specs.Places.{add32}
-use Rattle.pair_machine.specs.Memory.{Memory, header_word, opening_memory, opening_word}
-use Rattle.honest_pair.specs.Words.{empty_memory, opened, words_at}
+use Rattle.pair_machine.specs.Memory.{header_word, opening_word}
+use Rattle.honest_pair.specs.Words.{opened, words_at}
 
 abbrev zeros : ℕ → List ℕ
 zeros n = replicate n 0

@@ -1,16 +1,21 @@
--- What was copied and given in a core run, beside what was sent and received.
-use Rattle.std.specs.Prelude.{ℕ, ◌≡◌, List, [], ◌∷◌, ◌++◌, ◌==◌, if◌then◌else◌, flat_map, None}
+-- What was copied and given in a run, beside what was sent and received.
+use Rattle.std.specs.Prelude.{ℕ, ◌≡◌, List, [], ◌∷◌, ◌++◌, ◌==◌, if◌then◌else◌, None}
 use Rattle.xen_steps.specs.Event.{Event}
+use Rattle.xen_back.specs.Delivered.{IsDelivery}
 use Rattle.xen_back.specs.Tree.{Left}
 use Rattle.xen_back.specs.Turned.{Turned, Idle, Ran, Refused, Halted}
 use Rattle.xen_back.specs.Turns.{IsTurn}
+use Rattle.xen_back.specs.declared.delivery.delivering.Delivery.{Delivery}
 use Rattle.xen_back.specs.declared.state.State.{State}
 use Rattle.xen_back.specs.declared.turn.Refusal.TheVariants as refusal
 use Rattle.xen_back.specs.declared.wiring.Wiring.{Wiring}
+use Rattle.xdp_world.specs.Activities.{Deed, DeliveryOf, Given, Item, TurnOf, all_came, deliveries_in, turns_in}
 use Rattle.xdp_world.specs.Core.{started_at}
 use Rattle.xdp_world.specs.Keeping.{Keeps}
 use Rattle.xdp_world.specs.declared.kept.Kept.{Kept}
 use Rattle.xdp_world.specs.declared.kept.Kept.TheVariants as kept
+use Rattle.xdp_world.specs.declared.report.Delivered.{Delivered}
+use Rattle.pair_machine.specs.Law.{HasArrived, delivered}
 use Rattle.pair_machine.specs.Traces.{HasCopy}
 
 -- it ran, or was refused for want of rx slots
@@ -20,18 +25,6 @@ HasCopied (Ran number packet ops slots) = Unit {0}
 HasCopied (Refused cause ops slots) = cause ≡ refusal.FewSlots
 HasCopied (Halted cause) = ⊥
 
--- A queue's events from a state on are the traces of these turns, each from the last's state, and what is left after them. Each turn that
--- isn't idle ran, or was refused for want of rx slots, and these are the copies in their traces, in order.
-pub data AreCopied (w : Wiring) : State → List Event → List Kept → List (List ℕ) → State → List Event → Type 0 where
-  begun : (s : State) (front : List Event) → AreCopied w s front [] [] s front
-  idle : (s mid end : State) (t more front : List Event) (ks : List Kept) (copies : List (List ℕ)) →
-      s.halt ≡ None → IsTurn w s t mid Idle → AreCopied w mid more ks copies end front →
-      AreCopied w s (t ++ more) (kept.Idle ∷ ks) copies end front
-  copied : (s mid end : State) (t more front : List Event) (u : Turned) (k : Kept) (ks : List Kept) (copy : List ℕ) (out : Left)
-      (copies : List (List ℕ)) →
-      s.halt ≡ None → IsTurn w s t mid u → Keeps u k → HasCopied u → HasCopy w s t copy out → AreCopied w mid more ks copies end front →
-      AreCopied w s (t ++ more) (k ∷ ks) (copy ∷ copies) end front
-
 -- the packets that a turn sent back
 abbrev pub sent_back : Kept → List (List ℕ)
 sent_back kept.Idle = []
@@ -39,20 +32,45 @@ sent_back (kept.Ran action number packet ops slots) = if number == 3 then packet
 sent_back (kept.Refused cause ops slots) = []
 sent_back (kept.Halted cause) = []
 
--- The packet of an unfinished turn whose program's run ended in TX; or none.
-pub data IsLast (w : Wiring) (s : State) (front : List Event) : List (List ℕ) → Type 0 where
-  nothing : IsLast w s front []
-  sends_back : (copy : List ℕ) (out : Left) → HasCopy w s front copy out → out.number ≡ 3 → IsLast w s front (out.packet ∷ [])
+-- A queue's items from a state on are the traces of these turns, and the packets and traces of these deliveries, each from the last's
+-- state, and what is left after them. Each turn that isn't idle ran, or was refused for want of rx slots, and these are the copies in
+-- their traces, in order. Each delivery ended with its packet in posted buffers, or with too few of them, or it was no frame. What turns
+-- sent back and what lies in posted buffers is given, in order.
+pub data AreCopied (w : Wiring) : State → List Item → List Deed → (copies given : List (List ℕ)) → State → List Item → Type 0 where
+  begun : (s : State) (front : List Item) → AreCopied w s front [] [] [] s front
+  idle : (s mid end : State) (t : List Event) (more front : List Item) (ds : List Deed) (copies given : List (List ℕ)) →
+      s.halt ≡ None → IsTurn w s t mid Idle → AreCopied w mid more ds copies given end front →
+      AreCopied w s (all_came t ++ more) (TurnOf kept.Idle ∷ ds) copies given end front
+  copied : (s mid end : State) (t : List Event) (more front : List Item) (u : Turned) (k : Kept) (ds : List Deed) (copy : List ℕ)
+      (out : Left) (copies given : List (List ℕ)) →
+      s.halt ≡ None → IsTurn w s t mid u → Keeps u k → HasCopied u → HasCopy w s t copy out →
+      AreCopied w mid more ds copies given end front →
+      AreCopied w s (all_came t ++ more) (TurnOf k ∷ ds) (copy ∷ copies) (sent_back k ++ given) end front
+  arrived : (s mid end : State) (packet : List ℕ) (t : List Event) (more front : List Item) (what : Delivery) (ds : List Deed)
+      (copies given : List (List ℕ)) →
+      IsDelivery w s packet t mid what → HasArrived what → AreCopied w mid more ds copies given end front →
+      AreCopied w s (Given packet ∷ (all_came t ++ more)) (DeliveryOf what ∷ ds) copies (delivered packet what ++ given) end front
+
+-- The packet of an unfinished turn whose program's run ended in TX, or of an unfinished delivery; or none.
+pub data IsLast (w : Wiring) (s : State) : List Item → List (List ℕ) → Type 0 where
+  nothing : (front : List Item) → IsLast w s front []
+  sends_back : (front : List Event) (copy : List ℕ) (out : Left) → HasCopy w s front copy out → out.number ≡ 3 →
+      IsLast w s (all_came front) (out.packet ∷ [])
+  delivers : (packet : List ℕ) (front : List Event) → IsLast w s (Given packet ∷ all_came front) (packet ∷ [])
 
 -- The turns' copies are a beginning of what was sent, in order and once each; what was received is a beginning of what the turns
--- sent back and
--- an unfinished turn's run gave, in order and once each. `end` is the state after the last turn.
-pub record Delivers (w : Wiring) (start : ℕ) (events : List Event) (turns : List Kept) (end : State)
+-- sent back and the host delivered, joined in order, and of what an unfinished turn's run gave or an unfinished delivery has, in order
+-- and once each. `end` is the state after the last turn or delivery.
+pub record Delivers (w : Wiring) (start : ℕ) (items : List Item) (turns : List Kept) (deliveries : List Delivered) (end : State)
     (sent received : List (List ℕ)) : Type 0 where
+  pub deeds : List Deed
+  pub turns_are : turns ≡ turns_in deeds
+  pub deliveries_are : deliveries ≡ deliveries_in 0 deeds
   pub copies : List (List ℕ)
-  pub front : List Event
-  pub copied : AreCopied w (started_at start) events turns copies end front
+  pub all_given : List (List ℕ)
+  pub front : List Item
+  pub copied : AreCopied w (started_at start) items deeds copies all_given end front
   pub in_order : (more : List (List ℕ)) × (sent ≡ copies ++ more)
   pub last : List (List ℕ)
   pub is_last : IsLast w end front last
-  pub given : (more : List (List ℕ)) × (flat_map sent_back turns ++ last ≡ received ++ more)
+  pub given : (more : List (List ℕ)) × (all_given ++ last ≡ received ++ more)

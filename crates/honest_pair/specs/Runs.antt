@@ -1,22 +1,22 @@
 -- The honest pair: what a run of it is.
-use Rattle.std.specs.Prelude.{ℕ, ◌≡◌, ◌<◌, ◌^◌, List, [], ◌∷◌, map}
+use Rattle.std.specs.Prelude.{ℕ, ◌≡◌, ◌<◌, ◌^◌, List, [], ◌∷◌, length, map}
 use Rattle.bpf_verify.specs.Consistent.{Accepted}
-use Rattle.xen_steps.specs.Event.{Event}
 use Rattle.xen_back.specs.declared.wiring.Wiring.{Wiring as BackWiring}
 use Rattle.xen_buffers.specs.declared.wiring.Wiring.{Wiring as FrontWiring}
 use Rattle.xen_front.specs.declared.state.State.{State as FrontState}
 use Rattle.pair_machine.specs.Law.{Honest, IsBytes, IsNewFront}
 use Rattle.pair_machine.specs.Layout.{IsBack, IsFront}
-use Rattle.pair_machine.specs.Log.{IsFaithful, back_events, log}
+use Rattle.pair_machine.specs.Log.{IsFaithful, back_items, log}
 use Rattle.pair_machine.specs.Memory.{opening_word}
-use Rattle.pair_machine.specs.Pair.{Pair, PairEvent, opening, run}
+use Rattle.pair_machine.specs.Pair.{Deliver, Pair, PairEvent, opening, run, turns_of}
 use Rattle.pair_machine.specs.Traces.{Follows}
-use Rattle.xdp_world.specs.Entries.{Entry, events_of}
-use Rattle.xdp_world.specs.Replay.{AreOf}
-use Rattle.xdp_world.specs.Report.{IsCoreRun}
-use Rattle.xdp_world.specs.Stands.{kept_in}
+use Rattle.xdp_world.specs.Begin.{IsFor}
+use Rattle.xdp_world.specs.Calls.{Call, all_stepped, items_of}
+use Rattle.xdp_world.specs.Report.{IsCoreRun, Tells}
+use Rattle.xdp_world.specs.Stands.{delivered_in, kept_in}
+use Rattle.xdp_world.specs.declared.report.Report.{Report}
 use Rattle.honest_pair.specs.Copies.{Delivers}
-use Rattle.honest_pair.specs.Shows.{AllKept, GoesOn, Shows, bytes_in}
+use Rattle.honest_pair.specs.Shows.{AllKept, AreOwn, GoesOn, Shows, bytes_in, deliveries_of}
 use Rattle.honest_pair.specs.declared.pair.Pair.{Pair as Held}
 use Rattle.honest_pair.specs.declared.running.PairRun.{PairRun}
 
@@ -31,20 +31,41 @@ abbrev pub AllBytes : List PairEvent → Type 0
 AllBytes [] = Unit {0}
 AllBytes (e ∷ es) = IsBytes e × AllBytes es
 
+-- no event is a delivery
+abbrev pub IsPlain : PairEvent → Type 0
+IsPlain (Deliver packet) = ⊥
+IsPlain e = Unit {0}
+
+abbrev pub NoneDelivers : List PairEvent → Type 0
+NoneDelivers [] = Unit {0}
+NoneDelivers (e ∷ es) = IsPlain e × NoneDelivers es
+
 -- The pair has done these events.
 pub record HasDone (old new : Held) (es : List PairEvent) : Type 0 where
   pub bytes : AllBytes es
   pub does : (bw : BackWiring) (fw : FrontWiring) (p : Pair) → Shows bw fw old p →
       (given : List (PairEvent × ℕ)) × GoWith es given × Shows bw fw new (run bw fw p given) ×
-      GoesOn old.world new.world (back_events bw fw p given)
-      × Follows bw p (run bw fw p given) (back_events bw fw p given)
+      GoesOn old.world new.world (back_items bw fw p given)
+      × Follows bw p (run bw fw p given) (back_items bw fw p given)
+
+-- The report is of these calls of one queue of a program.
+pub record IsCallRun (program : Accepted) (start : ℕ) (calls : List Call) (r : Report) : Type 0 where
+  pub wirings : ℕ → BackWiring
+  pub wired : (i : ℕ) → i < 1 → IsFor program 1 0 i (wirings i)
+  pub count : length r.turns.items ≡ 1
+  pub shapes : r.totals.shapes ≡ program.shapes
+  pub tells : Tells wirings start calls r
 
 -- The run of a pair through these events. `events` are they with the numbers that answered the counters' operations.
---   core, alone, own: the back's events, and no others, are a core run with the report's turns, history and totals.
+--   core, alone, own: the back's events and the packets of its deliveries, and no others, are a run of its queue with the report's turns,
+--     deliveries, history and totals.
+--   plain: where no event is a delivery, the calls are the entries of a core run.
 --   faithful: each read of either end answers what was last written to its place, else its opening word.
 --   honest: neither end is halted, and a back that sleeps with no notice pending, while the front is inside no send, has answered all.
---   turns, received: the report's turns are the pair's, and what was received are the packets that its polls gave.
---   delivers: the copies of the report's turns, and what was received, are in order and once each what was sent, and what was sent back.
+--   turns, deliveries, received: the report's turns and deliveries are the pair's, and what was received are the packets that its polls
+--     gave.
+--   delivers: the copies of the report's turns, and what was received, are in order and once each what was sent, and what was sent back
+--     or delivered.
 pub record IsPairRun (program : Accepted) (start : ℕ) (called : List PairEvent) (r : PairRun) : Type 0 where
   pub back : BackWiring
   pub front : FrontWiring
@@ -54,14 +75,18 @@ pub record IsPairRun (program : Accepted) (start : ℕ) (called : List PairEvent
   pub new : IsNewFront state start
   pub events : List (PairEvent × ℕ)
   pub called_are : GoWith called events
-  pub steps : List (ℕ × ℕ)
-  pub core : IsCoreRun program 1 0 start steps r.report
-  pub alone : AreOf 0 core.entries
-  pub own : events_of 0 core.entries ≡ back_events back front (opening state start) events
+  pub calls : List Call
+  pub core : IsCallRun program start calls r.report
+  pub alone : AreOwn calls
+  pub own : items_of 0 calls ≡ back_items back front (opening state start) events
+  pub plain : NoneDelivers called → (steps : List (ℕ × ℕ)) × (plainly : IsCoreRun program 1 0 start steps r.report) ×
+      (calls ≡ all_stepped plainly.entries)
   pub faithful : IsFaithful (opening_word start) (log back front (opening state start) events)
   pub honest : Honest (run back front (opening state start) events)
-  pub turns : AllKept (run back front (opening state start) events).turns (kept_in r.report.turns.items 0)
+  pub turns : AllKept (turns_of (run back front (opening state start) events).deeds) (kept_in r.report.turns.items 0)
+  pub deliveries : delivered_in r.report.deliveries.items 0 ≡ deliveries_of 0 (run back front (opening state start) events).deeds
   pub received : map bytes_in r.received.items ≡ (run back front (opening state start) events).received
   pub delivers :
       let end = run back front (opening state start) events in
-      Delivers back start (events_of 0 core.entries) (kept_in r.report.turns.items 0) end.back end.sent (map bytes_in r.received.items)
+      Delivers back start (items_of 0 calls) (kept_in r.report.turns.items 0) (delivered_in r.report.deliveries.items 0) end.back end.sent
+      (map bytes_in r.received.items)

@@ -1,31 +1,35 @@
 -- What a pair of the code stands for.
-use Rattle.std.specs.Prelude.{ℕ, ◌≡◌, ◌<◌, ◌^◌, ◌++◌, Bool, true, false, List, [], ◌∷◌, length, map, slice_index_or, slice_get}
+use Rattle.std.specs.Prelude.{ℕ, ◌≡◌, ◌+◌, ◌<◌, ◌^◌, ◌++◌, Bool, true, false, List, [], ◌∷◌, map, slice_index_or}
 use Rattle.std.specs.Prelude.{Option, Some, None}
 use Rattle.std.specs.Global.{Vec}
-use Rattle.xen_steps.specs.Event.{Event}
 use Rattle.xen_steps.specs.Steps.{Steps, done, ask, never, bind}
+use Rattle.xen_back.specs.ByEvent.{left_of}
 use Rattle.xen_back.specs.Queues.{rest, state_of, wiring_of}
 use Rattle.xen_back.specs.Tree.{whole_turn}
+use Rattle.xen_back.specs.declared.delivery.underway.Delivering.{Delivering as Carried}
 use Rattle.xen_back.specs.declared.queue.Queue.{Queue}
 use Rattle.xen_back.specs.declared.state.State.{State as BackState}
 use Rattle.xen_back.specs.declared.wiring.Wiring.{Wiring as BackWiring}
 use Rattle.xen_buffers.specs.declared.wiring.Wiring.{Wiring as FrontWiring}
 use Rattle.xen_front.specs.Fronts.{busy, rest as front_rest, state_of as front_state, wiring_of as front_wiring}
-use Rattle.xen_front.specs.Given.{Given, Ending as FrontEnding}
+use Rattle.xen_front.specs.Given.{Given}
 use Rattle.xen_front.specs.declared.front.Front.{Front}
 use Rattle.xen_front.specs.declared.state.State.{State as FrontState}
 use Rattle.pair_machine.specs.Halves.{Half, Over, HasRun, second_half}
 use Rattle.pair_machine.specs.Law.{IsBytes}
-use Rattle.pair_machine.specs.Log.{back_event}
-use Rattle.pair_machine.specs.Pair.{Activity, Free, Sending, Posting, Polling, BackAt, Asleep, First, Second, Pair, PairEvent, Past}
-use Rattle.pair_machine.specs.Pair.{packets_of, step}
+use Rattle.pair_machine.specs.Log.{back_item}
+use Rattle.pair_machine.specs.Pair.{Activity, Free, Sending, Posting, Polling, BackAt, Asleep, First, Second, Delivering, Pair, PairEvent}
+use Rattle.pair_machine.specs.Pair.{Deed, OfTurn, OfDelivery, Past, packets_of, step, turns_of}
 use Rattle.pair_machine.specs.Traces.{Follows}
-use Rattle.xdp_world.specs.Entries.{Entry, events_of}
+use Rattle.xdp_world.specs.Activities.{Item}
+use Rattle.xdp_world.specs.Calls.{Call, Delivers, Stepped, items_of}
 use Rattle.xdp_world.specs.Keeping.{Keeps}
-use Rattle.xdp_world.specs.Replay.{AreOf}
-use Rattle.xdp_world.specs.Stands.{Stands, kept_in}
+use Rattle.xdp_world.specs.Stands.{StandsFor, delivered_in, kept_in}
+use Rattle.xdp_world.specs.declared.doing.Doing.{Doing}
+use Rattle.xdp_world.specs.declared.doing.Doing.TheVariants as doing
 use Rattle.xdp_world.specs.declared.kept.Kept.{Kept}
 use Rattle.xdp_world.specs.declared.kept.Kept.TheVariants as kept
+use Rattle.xdp_world.specs.declared.report.Delivered.{Delivered}
 use Rattle.xdp_world.specs.declared.world.World.{World}
 use Rattle.honest_pair.specs.Held.{memory_in}
 use Rattle.honest_pair.specs.declared.pair.Pair.{Pair as Held}
@@ -49,10 +53,21 @@ FrontShows f (Sending t) s = (front_rest f ≡ t) × IsGoing t
 FrontShows f (Posting t) s = (front_rest f ≡ t) × IsGoing t
 FrontShows f (Polling t) s = (front_rest f ≡ t) × IsGoing t
 
-abbrev pub BackShows : BackWiring → Queue → Bool → BackAt → BackState → Type 0
-BackShows w q asleep Asleep s = (asleep ≡ true) × (rest q ≡ whole_turn (wiring_of q) (state_of q)) × (state_of q ≡ s)
-BackShows w q asleep (First t) s = (asleep ≡ false) × (rest q ≡ bind t (second_half w s)) × IsHalfGoing t × (state_of q ≡ s)
-BackShows w q asleep (Second packet left t) s = (asleep ≡ false) × (rest q ≡ t) × IsGoing t × (state_of q ≡ s)
+-- what the queue does inside a turn's first half, that is begun or not
+abbrev pub doing_first : Bool → Doing
+doing_first true = doing.Turn
+doing_first false = doing.Between
+
+-- The queue has what is left, and the pair knows whether it sleeps and whether it delivers.
+abbrev pub BackShows : BackWiring → Queue → Doing → (asleep delivers : Bool) → BackAt → BackState → Type 0
+BackShows w q e asleep delivers Asleep s =
+    (asleep ≡ true) × (delivers ≡ false) × (e ≡ doing.Between) × (rest q ≡ whole_turn (wiring_of q) (state_of q)) × (state_of q ≡ s)
+BackShows w q e asleep delivers (First begun t) s =
+    (asleep ≡ false) × (delivers ≡ false) × (e ≡ doing_first begun) × (rest q ≡ bind t (second_half w s)) × IsHalfGoing t × (state_of q ≡ s)
+BackShows w q e asleep delivers (Second packet left t) s =
+    (asleep ≡ false) × (delivers ≡ false) × (e ≡ doing.Turn) × (rest q ≡ t) × IsGoing t × (state_of q ≡ s)
+BackShows w q e asleep delivers (Delivering sleeps packet t) s =
+    (asleep ≡ sleeps) × (delivers ≡ true) × (d : Carried) × (e ≡ doing.Delivery d) × (left_of d ≡ t) × IsGoing t × (state_of q ≡ s)
 
 -- the turns are kept, in order
 abbrev pub AllKept : List Past → List Kept → Type 0
@@ -61,33 +76,49 @@ AllKept [] (k ∷ ks) = ⊥
 AllKept (p ∷ ps) [] = ⊥
 AllKept (p ∷ ps) (k ∷ ks) = Keeps p.turn k × AllKept ps ks
 
+-- what became of the deliveries, each with how many turns were over before it, so many being over at first
+abbrev pub deliveries_of : ℕ → List Deed → List Delivered
+deliveries_of n [] = []
+deliveries_of n (OfTurn past ∷ ds) = deliveries_of (n + 1) ds
+deliveries_of n (OfDelivery packet what ∷ ds) = record { turns = n; delivery = what } ∷ deliveries_of n ds
+
 abbrev pub bytes_in : Vec ℕ → List ℕ
 bytes_in v = v.items
 
 abbrev pub queue_in : World → Queue → Queue
 queue_in w d = slice_index_or w.queues.items 0 d
 
+abbrev pub doing_at : World → Doing → Doing
+doing_at w d = slice_index_or w.doing.items 0 d
+
 pub record Shows (bw : BackWiring) (fw : FrontWiring) (held : Held) (p : Pair) : Type 0 where
   pub memory : memory_in held.memory ≡ p.memory
   pub front_wired : front_wiring held.front ≡ fw
   pub front : FrontShows held.front p.activity p.front
   pub back_wired : (d : Queue) → wiring_of (queue_in held.world d) ≡ bw
-  pub back : (d : Queue) → BackShows bw (queue_in held.world d) held.asleep p.at p.back
+  pub back : (d : Queue) (e : Doing) → BackShows bw (queue_in held.world d) (doing_at held.world e) held.asleep held.delivering p.at p.back
   pub received : map bytes_in held.received.items ≡ p.received
-  pub turns : AllKept p.turns (kept_in held.world.turns.items 0)
+  pub turns : AllKept (turns_of p.deeds) (kept_in held.world.turns.items 0)
+  pub deliveries : delivered_in held.world.deliveries.items 0 ≡ deliveries_of 0 p.deeds
 
--- the world has come on by entries of its one queue with these events
-pub record GoesOn (old new : World) (events : List Event) : Type 0 where
+-- each call is of the one queue
+abbrev pub AreOwn : List Call → Type 0
+AreOwn [] = Unit {0}
+AreOwn (Stepped e ∷ cs) = (e.queue ≡ 0) × AreOwn cs
+AreOwn (Delivers queue packet ∷ cs) = (queue ≡ 0) × AreOwn cs
+
+-- the world has come on by calls of its one queue with these items
+pub record GoesOn (old new : World) (items : List Item) : Type 0 where
   pub shapes : new.counters.shapes ≡ old.counters.shapes
-  pub stands : (wirings : ℕ → BackWiring) (start : ℕ) (es : List Entry) → Stands old wirings start es →
-      (more : List Entry) × Stands new wirings start (es ++ more) × AreOf 0 more × (events_of 0 more ≡ events)
+  pub stands : (wirings : ℕ → BackWiring) (start : ℕ) (cs : List Call) → StandsFor old wirings start cs →
+      (more : List Call) × StandsFor new wirings start (cs ++ more) × AreOwn more × (items_of 0 more ≡ items)
 
 -- The pair has done this event.
 pub record Does (old new : Held) (e : PairEvent) : Type 0 where
   pub bytes : IsBytes e
   pub does : (bw : BackWiring) (fw : FrontWiring) (p : Pair) → Shows bw fw old p →
-      (n : ℕ) × (n < 2 ^ 64) × Shows bw fw new (step bw fw p e n) × GoesOn old.world new.world (back_event p e n)
-      × Follows bw p (step bw fw p e n) (back_event p e n)
+      (n : ℕ) × (n < 2 ^ 64) × Shows bw fw new (step bw fw p e n) × GoesOn old.world new.world (back_item p e n)
+      × Follows bw p (step bw fw p e n) (back_item p e n)
 
 -- The activity is over: its packet is kept, and the front is free.
 pub record Received (old new : Held) : Type 0 where
@@ -98,6 +129,7 @@ pub record Received (old new : Held) : Type 0 where
   pub world : new.world ≡ old.world
   pub memory : new.memory ≡ old.memory
   pub asleep : new.asleep ≡ old.asleep
+  pub delivers : new.delivering ≡ old.delivering
   pub received : map bytes_in new.received.items ≡ map bytes_in old.received.items ++ packets_of given
 
 -- whether a turn is idle

@@ -21,9 +21,9 @@ pub struct PairRun {
     pub received: Vec<Vec<u8>>,
 }
 
-impl Pair<'_, '_, '_> {
+impl<'b> Pair<'_, 'b, '_> {
     /// Events in order.
-    fn steps(&mut self, events: &[PairEvent]) -> Result<(), AllocError>
+    fn steps(&mut self, events: &'b [PairEvent]) -> Result<(), AllocError>
         ensures { OnOk result (HasDone self.old self.new (events_in events.now)) }
     {
         for event in events {
@@ -31,7 +31,9 @@ impl Pair<'_, '_, '_> {
         }
         Ok(())
     }
+}
 
+impl Pair<'_, '_, '_> {
     /// Makes a front and a back over one memory, both between activities, and has them do these events. Both rings begin at the index
     /// `start`.
     pub fn run(
@@ -59,6 +61,7 @@ impl Pair<'_, '_, '_> {
             front,
             memory,
             asleep: true,
+            delivering: false,
             received: Vec::new(alloc),
         };
         pair.steps(events)?;
@@ -67,6 +70,7 @@ impl Pair<'_, '_, '_> {
             front: _,
             memory: _,
             asleep: _,
+            delivering: _,
             received,
         } = pair;
         Ok(PairRun {

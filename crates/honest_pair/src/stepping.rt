@@ -2,7 +2,7 @@
 ghost use Rattle.std.specs.Prelude.{◌≡◌, All, OnOk, false, true, slice_get};
 ghost use Rattle.pair_machine.specs.Law.{IsByte};
 ghost use Rattle.xen_front.specs.Fronts.{rest as front_rest};
-ghost use Rattle.pair_machine.specs.Pair.{BackStep, FrontStep, Poll, Post, Send};
+ghost use Rattle.pair_machine.specs.Pair.{BackStep, Deliver, FrontStep, Poll, Post, Send};
 ghost use Rattle.xen_steps.specs.Steps.{want_of};
 ghost use Rattle.honest_pair.specs.Events.{event_in};
 ghost use Rattle.honest_pair.specs.Shows.{Does, Received, is_idle as is_idle_spec};
@@ -10,7 +10,7 @@ ghost use Rattle.honest_pair.specs.Shows.{Does, Received, is_idle as is_idle_spe
 use crate::event::PairEvent;
 use crate::pair::Pair;
 use std::alloc::AllocError;
-use xdp_world::Kept;
+use xdp_world::{Begun, Kept};
 use xen_back::Want;
 use xen_front::{Buffer, RxTurn};
 use xen_page::Table;
@@ -77,7 +77,8 @@ impl Pair<'_, '_, '_> {
 
     /// A back that sleeps wakes where its port is pending.
     fn wake(&mut self)
-        requires { self.old.asleep ≡ true }
+        requires asleep { self.old.asleep ≡ true }
+        requires delivers { self.old.delivering ≡ false }
         ensures { Does self.old self.new BackStep }
     {
         if self.memory.take() {
@@ -87,7 +88,8 @@ impl Pair<'_, '_, '_> {
 
     /// The next event of the back's turn, and a halted back's none.
     fn go_on(&mut self) -> Result<(), AllocError>
-        requires { self.old.asleep ≡ false }
+        requires asleep { self.old.asleep ≡ false }
+        requires delivers { self.old.delivering ≡ false }
         ensures { OnOk result (Does self.old self.new BackStep) }
     {
         let answer = self.memory.serve(self.world.want(0));
@@ -97,8 +99,49 @@ impl Pair<'_, '_, '_> {
         Ok(())
     }
 
+    /// The next event of the back's delivery. Where it is over by that, the back is as before it, asleep or awake.
+    fn carry_on(&mut self) -> Result<(), AllocError>
+        requires { self.old.delivering ≡ true }
+        ensures { OnOk result (Does self.old self.new BackStep) }
+    {
+        let answer = self.memory.serve(self.world.want(0));
+        let before = self.world.deliveries(0).len();
+        self.world.step(0, answer)?;
+        self.delivering = self.world.deliveries(0).len() == before;
+        Ok(())
+    }
+
+    /// The next event of the back.
+    fn back_step(&mut self) -> Result<(), AllocError>
+        ensures { OnOk result (Does self.old self.new BackStep) }
+    {
+        if self.delivering {
+            self.carry_on()
+        } else if self.asleep {
+            self.wake();
+            Ok(())
+        } else {
+            self.go_on()
+        }
+    }
+}
+
+impl<'b> Pair<'_, 'b, '_> {
+    /// The back begins to deliver a packet of the host's own, unless it is inside a turn or a delivery.
+    fn deliver(&mut self, packet: &'b [u8]) -> Result<(), AllocError>
+        requires { All IsByte packet.now }
+        ensures { OnOk result (Does self.old self.new (Deliver packet.now)) }
+    {
+        match self.world.deliver(0, packet)? {
+            Begun::Underway => self.delivering = true,
+            Begun::Over(_) => {}
+            Begun::Busy => {}
+        }
+        Ok(())
+    }
+
     /// One event.
-    pub(crate) fn step(&mut self, event: &PairEvent) -> Result<(), AllocError>
+    pub(crate) fn step(&mut self, event: &'b PairEvent) -> Result<(), AllocError>
         ensures { OnOk result (Does self.old self.new (event_in event.now)) }
     {
         match event {
@@ -118,13 +161,12 @@ impl Pair<'_, '_, '_> {
                 Ok(())
             }
             PairEvent::FrontStep => self.front_step(),
-            PairEvent::BackStep => {
-                if self.asleep {
-                    self.wake();
-                    Ok(())
-                } else {
-                    self.go_on()
-                }
+            PairEvent::BackStep => self.back_step(),
+            PairEvent::Deliver { packet } => {
+                let bytes = packet.as_slice();
+                // Only the proof uses what this call ensures.
+                are_bytes(bytes);
+                self.deliver(bytes)
             }
         }
     }

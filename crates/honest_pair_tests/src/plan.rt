@@ -32,6 +32,12 @@ impl Plan {
         self.add(PairEvent::Send { packet })
     }
 
+    /// A delivery of so many bytes, of which the first is given and the others count on from a seed.
+    pub fn deliver(&mut self, size: usize, first: u8, seed: u32) -> Result<(), AllocError> {
+        let packet = packet(*self.events.allocator(), size, first, seed)?;
+        self.add(PairEvent::Deliver { packet })
+    }
+
     pub fn front_steps(&mut self, count: usize) -> Result<(), AllocError> {
         for _step in 0..count {
             self.add(PairEvent::FrontStep)?;

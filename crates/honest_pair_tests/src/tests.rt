@@ -1,4 +1,6 @@
+mod deliveries;
 mod growth;
+mod joined;
 mod looks;
 mod programs;
 mod random;

@@ -27,7 +27,7 @@ pub all_snoc : {A : Type 0} (P : A → Type 0) (l : List A) (x : A) → AllOf P 
 all_snoc P [] x h p = (p, tt)
 all_snoc P (y ∷ l) x h p = (h.0, all_snoc P l x h.1 p)
 
-module _ (w : Wiring) (start : ℕ) (small : start < 2 ^ 32) (d a : List Sent) (used : ℕ) (g : List Sent) (e : ℕ) (rs : List ℕ) (packet : List ℕ) (N : ℕ) where
+module _ (w : Wiring) (start : ℕ) (small : start < 2 ^ 32) (d a : List Sent) (used : ℕ) (g : List Sent) (e : ℕ) (sl : Bool) (rs : List ℕ) (packet : List ℕ) (N : ℕ) where
   abbrev pub first : ℕ
   first = length (slots g)
 
@@ -54,7 +54,7 @@ module _ (w : Wiring) (start : ℕ) (small : start < 2 ^ 32) (d a : List Sent) (
 
   -- so many of its words are written, and so many of its responses' words
   abbrev pub given_state : ℕ → ℕ → Back
-  given_state fl wr = sending d a used g rs e N (gift ∷ []) fl wr
+  given_state fl wr = sending d a used g rs e sl N (gift ∷ []) fl wr
 
   abbrev pub new : ℕ → Piece
   new i = record { bytes = packet; n = length (ids 0 N); k = i; id = post i }
@@ -108,12 +108,12 @@ module _ (w : Wiring) (start : ℕ) (small : start < 2 ^ 32) (d a : List Sent) (
           subst (λ o. P o (piece all o)) z (subst (P (first + (n - first))) (sym (all_new (n - first) lt)) (q (n - first) lt))
 
   -- the buffers are ready, and the first word is next
-  pub begins : (m : Memory) (f : Front) → first + N ≤ length rs → IsSent gift → Inv w start m f (sending d a used g rs e N [] 0 0) → Inv w start m f (given_state 0 0)
+  pub begins : (m : Memory) (f : Front) → first + N ≤ length rs → IsSent gift → Inv w start m f (sending d a used g rs e sl N [] 0 0) → Inv w start m f (given_state 0 0)
   begins m f p good h =
       let c = all_count in
       let k : length (slots (g ++ [])) ≡ first = ap (λ l. length (slots l)) (nil_right g) in
       record {
-        tx = tx_same w start f d a used g rs e N [] 0 0 g rs N (gift ∷ []) 0 0 h.tx;
+        tx = tx_same w start f d a used g rs e sl N [] 0 0 g rs N (gift ∷ []) 0 0 h.tx;
         tx_head = h.tx_head;
         tx_slots = h.tx_slots;
         rx = record {
@@ -125,7 +125,7 @@ module _ (w : Wiring) (start : ℕ) (small : start < 2 ^ 32) (d a : List Sent) (
           unique = h.rx.unique;
           ids = h.rx.ids;
           giving = omega (arith, c);
-          named = each_slot (λ n z. z.id ≡ id_at f.posts n) (λ n q. h.rx.named n (omega (arith, q, k))) (λ i q. sym (known_post w start small d a used g e rs N [] 0 0 m f (first + i) (omega (arith, p, q)) h).0);
+          named = each_slot (λ n z. z.id ≡ id_at f.posts n) (λ n q. h.rx.named n (omega (arith, q, k))) (λ i q. sym (known_post w start small d a used g e sl rs N [] 0 0 m f (first + i) (omega (arith, p, q)) h).0);
           good = all_snoc IsSent g gift h.rx.good good;
         };
         rx_head = h.rx_head;
@@ -137,7 +137,7 @@ module _ (w : Wiring) (start : ℕ) (small : start < 2 ^ 32) (d a : List Sent) (
         };
         reading = h.reading;
         front_notes = h.front_notes;
-        heard = λ x. cc;
+        heard = h.heard;
       }
     where
       below : (n o : ℕ) → (n < first) ⊎ (1024 * (piece all n).k + o < 0) → n < first
@@ -175,7 +175,7 @@ module _ (w : Wiring) (start : ℕ) (small : start < 2 ^ 32) (d a : List Sent) (
         let r = rx_put w start m.word frame (k % 1024) z f.posts all f.got first (first + N) (2 * first + 0) k (y.page (post (k / 1024)) id) h.rx.ids (omega (arith, ob)) gb
         (λ n o q1 q2 q3 q4 q5. absurd (y.rx_ring_rx (post (k / 1024)) id (sym q5))) (λ n o q1 q2 q3 q4 q5 q6. clash n o q1 q2 q4 q5 q6 inside) h.rx_slots in
         record {
-          tx = tx_same w start f d a used g rs e N (gift ∷ []) k 0 g rs N (gift ∷ []) (k + 1) 0 h.tx;
+          tx = tx_same w start f d a used g rs e sl N (gift ∷ []) k 0 g rs N (gift ∷ []) (k + 1) 0 h.tx;
           tx_head = tx_head_put w start m.word frame (k % 1024) z (tx_sent f) (length (slots d)) e (λ i q1 q2. absurd (y.tx_ring_rx (post (k / 1024)) id (sym q2))) h.tx_head;
           tx_slots = tx_put w start m.word frame (k % 1024) z (slots f.sent) f.taken (length (slots d)) (length (slots d) + 0) (length (slots d) + used) (y.page (post (k / 1024)) id) (small_ids f.sent h.tx.good)
               (omega (arith, c, t)) (omega (arith, c, t)) (omega (arith, sb)) (λ n o q1 q2 q3 q4 q5. absurd (y.tx_ring_rx (post (k / 1024)) id (sym q5))) h.tx_slots;
@@ -189,13 +189,13 @@ module _ (w : Wiring) (start : ℕ) (small : start < 2 ^ 32) (d a : List Sent) (
           };
           reading = λ s q1. reading_put w start m.word frame (k % 1024) z f s (λ q2. apart_reading s (h.reading s q1) inside q2) (h.reading s q1);
           front_notes = notes_put w start m.word frame (k % 1024) z f (λ at q1 q2 q3. fronts_page w start y f (post (k / 1024)) (k % 1024) id at q1 q2 q3) h.front_notes;
-          heard = λ x. cc;
+          heard = h.heard;
         }
       where
         -- another post has another frame
         other_frame : (n : ℕ) → k / 1024 < N → f.got ≤ n → n < length f.posts → (n ≡ first + k / 1024 → ⊥) → id_at f.posts n < 256 → (buffer w.rx.now (id_at f.posts n)).frame ≡ (buffer w.rx.now (post (k / 1024))).frame → ⊥
         other_frame n inside q1 q2 q3 q4 q5 =
-            let there = known_post w start small d a used g e rs N (gift ∷ []) k 0 m f (first + k / 1024) (omega (arith, p, inside)) h in
+            let there = known_post w start small d a used g e sl rs N (gift ∷ []) k 0 m f (first + k / 1024) (omega (arith, p, inside)) h in
             let ob = got_bound w start m f (given_state k 0) h in
             y.pages (id_at f.posts n) (post (k / 1024)) q4 (low (k / 1024) inside)
             (λ same. elim (order n (first + k / 1024) q3) [
@@ -223,7 +223,7 @@ module _ (w : Wiring) (start : ℕ) (small : start < 2 ^ 32) (d a : List Sent) (
 
         apart_reading : (s : Piece) → Reading w start m.word f s → k / 1024 < N → (rx_buffer w start s.id).frame ≡ (buffer w.rx.now (post (k / 1024))).frame → ⊥
         apart_reading s rd inside q =
-            let there = known_post w start small d a used g e rs N (gift ∷ []) k 0 m f (first + k / 1024) (omega (arith, p, inside)) h in
+            let there = known_post w start small d a used g e sl rs N (gift ∷ []) k 0 m f (first + k / 1024) (omega (arith, p, inside)) h in
             let ob = got_bound w start m f (given_state k 0) h in
             y.pages s.id (post (k / 1024)) rd.id (low (k / 1024) inside) (λ same. rd.apart (first + k / 1024) (omega (arith, ob)) there.1 (there.0 ∙ sym same)) q
 

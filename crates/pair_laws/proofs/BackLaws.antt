@@ -17,7 +17,7 @@ use Rattle.pair_laws.proofs.BackTurns.{half_rests}
 use Rattle.pair_laws.proofs.BackSends.{send_safe}
 
 -- the same rings
-same_wiring : (w : Wiring) (v : BackWiring) → Joined w v → over w v ≡ v
+pub same_wiring : (w : Wiring) (v : BackWiring) → Joined w v → over w v ≡ v
 same_wiring w v j =
     ap (λ t. record v { vif = record v.vif { tx = t; rx = w.rx_frame } }) (sym j.tx)
     ∙ ap (λ t. record v { vif = record v.vif { rx = t } }) (sym j.rx)

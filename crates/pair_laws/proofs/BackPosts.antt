@@ -1,5 +1,5 @@
 -- A packet is sent back: the posts are read, and their grants accepted.
-use Rattle.std.proofs.Common.{◌≡◌, ℕ, zero, suc, ◌+◌, ◌-◌, ◌^◌, ◌<◌, ◌≤◌, true, false, List, [], ◌∷◌, ◌++◌, length, length-append, append_assoc, Some, Result, Ok, refl, sym, ◌∙◌, ap, arith, subst}
+use Rattle.std.proofs.Common.{◌≡◌, ℕ, zero, suc, ◌+◌, ◌-◌, ◌^◌, ◌<◌, ◌≤◌, Bool, true, List, [], ◌∷◌, ◌++◌, length, length-append, append_assoc, Some, Result, Ok, refl, sym, ◌∙◌, ap, arith, subst}
 use Rattle.std.specs.Prelude.{get_or}
 use Rattle.std.proofs.lemmas.List.{get_or_append_left}
 use Rattle.xen_back.specs.declared.wiring.Wiring.{Wiring as BackWiring}
@@ -27,29 +27,29 @@ use Rattle.pair_laws.proofs.BackRings.{given_bound, got_bound}
 use Rattle.pair_laws.proofs.BackLooks.{over, safe_bind, read_known}
 use Rattle.pair_laws.proofs.BackChains.{onto}
 
--- a back inside a transmit: so many posts are read, this packet is written into them, so many of its words and of its responses' words are
-abbrev pub sending : (d a : List Sent) → (used : ℕ) → (g : List Sent) → List ℕ → ℕ → (u : ℕ) → (v : List Sent) → (fl wr : ℕ) → Back
-sending d a used g rs e u v fl wr =
-    record { done = d; ahead = a; used = used; given = g; rx_used = u; rx_seen = rs; wrote = 0; giving = v; filled = fl; rx_wrote = wr; event = e; asleep = false }
+-- a back inside a transmit, awake or asleep: so many posts are read, this packet is written into them, so many of its words and of its responses' words are
+abbrev pub sending : (d a : List Sent) → (used : ℕ) → (g : List Sent) → List ℕ → ℕ → Bool → (u : ℕ) → (v : List Sent) → (fl wr : ℕ) → Back
+sending d a used g rs e sl u v fl wr =
+    record { done = d; ahead = a; used = used; given = g; rx_used = u; rx_seen = rs; wrote = 0; giving = v; filled = fl; rx_wrote = wr; event = e; asleep = sl }
 
 -- the counts of the tx ring are as they were
-pub tx_same : (w : Wiring) (start : ℕ) (f : Front) (d a : List Sent) (used : ℕ) (g : List Sent) (rs : List ℕ) (e u : ℕ) (v : List Sent) (fl wr : ℕ) (g2 : List Sent) (rs2 : List ℕ) (u2 : ℕ) (v2 : List Sent) (fl2 wr2 : ℕ) →
-    TxCounts w start f (sending d a used g rs e u v fl wr) → TxCounts w start f (sending d a used g2 rs2 e u2 v2 fl2 wr2)
-tx_same w start f d a used g rs e u v fl wr g2 rs2 u2 v2 fl2 wr2 h =
+pub tx_same : (w : Wiring) (start : ℕ) (f : Front) (d a : List Sent) (used : ℕ) (g : List Sent) (rs : List ℕ) (e : ℕ) (sl : Bool) (u : ℕ) (v : List Sent) (fl wr : ℕ) (g2 : List Sent) (rs2 : List ℕ) (u2 : ℕ) (v2 : List Sent) (fl2 wr2 : ℕ) →
+    TxCounts w start f (sending d a used g rs e sl u v fl wr) → TxCounts w start f (sending d a used g2 rs2 e sl u2 v2 fl2 wr2)
+tx_same w start f d a used g rs e sl u v fl wr g2 rs2 u2 v2 fl2 wr2 h =
     record { took = h.took; told = h.told; wrote = h.wrote; used = h.used; known = h.known; room = h.room; unique = h.unique; good = h.good }
 
 -- a post that is known
-pub known_post : (w : Wiring) (start : ℕ) (small : start < 2 ^ 32) (d a : List Sent) (used : ℕ) (g : List Sent) (e : ℕ) (rs : List ℕ) (u : ℕ) (v2 : List Sent) (fl wr : ℕ) (m : Memory) (f : Front) (n : ℕ) → n < length rs → Inv w start m f (sending d a used g rs e u v2 fl wr) → (id_at f.posts n ≡ id_at rs n) × (n < length f.posts)
-known_post w start small d a used g e rs u v2 fl wr m f n p h =
+pub known_post : (w : Wiring) (start : ℕ) (small : start < 2 ^ 32) (d a : List Sent) (used : ℕ) (g : List Sent) (e : ℕ) (sl : Bool) (rs : List ℕ) (u : ℕ) (v2 : List Sent) (fl wr : ℕ) (m : Memory) (f : Front) (n : ℕ) → n < length rs → Inv w start m f (sending d a used g rs e sl u v2 fl wr) → (id_at f.posts n ≡ id_at rs n) × (n < length f.posts)
+known_post w start small d a used g e sl rs u v2 fl wr m f n p h =
     let k = h.rx.known.1 in
     let c = ap length k in
     let l = length-append rs h.rx.known.0 in
     (ap (λ x. id_at x n) k ∙ get_or_append_left rs h.rx.known.0 0 n p, omega (arith, c, l, p))
 
-module _ (w : Wiring) (start : ℕ) (small : start < 2 ^ 32) (v : BackWiring) (j : Joined w v) (d a : List Sent) (used : ℕ) (g : List Sent) (e : ℕ) where
+module _ (w : Wiring) (start : ℕ) (small : start < 2 ^ 32) (v : BackWiring) (j : Joined w v) (d a : List Sent) (used : ℕ) (g : List Sent) (e : ℕ) (sl : Bool) where
   -- so many posts are read
   abbrev pub posts_read : List ℕ → ℕ → Back
-  posts_read rs u = sending d a used g rs e u [] 0 0
+  posts_read rs u = sending d a used g rs e sl u [] 0 0
 
   abbrev pub first : ℕ
   first = length (slots g)
@@ -60,7 +60,7 @@ module _ (w : Wiring) (start : ℕ) (small : start < 2 ^ 32) (v : BackWiring) (j
       let b = given_bound w start m f (posts_read rs 0) h in
       let c = ap (λ l. length (slots l)) (nil_right g) in
       record {
-        tx = tx_same w start f d a used g rs e 0 [] 0 0 g f.posts 0 [] 0 0 h.tx;
+        tx = tx_same w start f d a used g rs e sl 0 [] 0 0 g f.posts 0 [] 0 0 h.tx;
         tx_head = h.tx_head;
         tx_slots = h.tx_slots;
         rx = record { took = h.rx.took; told = h.rx.told; used = omega (arith, b, c); known = ([], sym (nil_right f.posts)); room = h.rx.room; unique = h.rx.unique; ids = h.rx.ids; giving = h.rx.giving; named = h.rx.named; good = h.rx.good };
@@ -68,7 +68,7 @@ module _ (w : Wiring) (start : ℕ) (small : start < 2 ^ 32) (v : BackWiring) (j
         rx_slots = h.rx_slots;
         reading = h.reading;
         front_notes = h.front_notes;
-        heard = λ c2. cc;
+        heard = h.heard;
       }
 
   pub rx_sees : (rs : List ℕ) (m : Memory) (f : Front) → Inv w start m f (posts_read rs 0) → available (add32 start first) (m.word (page_word w.rx_frame 0)) ≡ Some (length f.posts - first)
@@ -97,7 +97,7 @@ module _ (w : Wiring) (start : ℕ) (small : start < 2 ^ 32) (v : BackWiring) (j
     post_word : (m : Memory) (f : Front) (index i o : ℕ) → index ≡ add32 (add32 start first) i → first + i < length rs → o < 2 → Inv w start m f (posts_read rs i) →
         m.word (rx_entry w.rx_frame index o) ≡ get_or (rx_req_words (record { id = post i; gref = (buffer w.rx.now (post i)).gref })) o 0
     post_word m f index i o at p q h =
-        let k = known_post w start small d a used g e rs i [] 0 0 m f (first + i) p h in
+        let k = known_post w start small d a used g e sl rs i [] 0 0 m f (first + i) p h in
         ap (λ n. m.word (rx_entry w.rx_frame n o)) (at ∙ add_add start first i)
         ∙ h.rx_slots.requests (first + i) o (omega arith) k.1 q
         ∙ ap (λ z. get_or (rx_req_words (record { id = z; gref = (buffer w.rx.now z).gref })) o 0) k.0
@@ -106,7 +106,7 @@ module _ (w : Wiring) (start : ℕ) (small : start < 2 ^ 32) (v : BackWiring) (j
     post_read m f i p h =
         let c = h.rx.giving in
         record {
-          tx = tx_same w start f d a used g rs e i [] 0 0 g rs (i + 1) [] 0 0 h.tx;
+          tx = tx_same w start f d a used g rs e sl i [] 0 0 g rs (i + 1) [] 0 0 h.tx;
           tx_head = h.tx_head;
           tx_slots = h.tx_slots;
           rx = record { took = h.rx.took; told = h.rx.told; used = omega (arith, p); known = h.rx.known; room = h.rx.room; unique = h.rx.unique; ids = h.rx.ids; giving = omega (arith, c); named = h.rx.named; good = h.rx.good };
@@ -114,12 +114,12 @@ module _ (w : Wiring) (start : ℕ) (small : start < 2 ^ 32) (v : BackWiring) (j
           rx_slots = record { requests = λ n o q. h.rx_slots.requests n o (omega (arith, q)); grants = h.rx_slots.grants; responses = h.rx_slots.responses; pages = h.rx_slots.pages };
           reading = h.reading;
           front_notes = h.front_notes;
-          heard = λ c2. cc;
+          heard = h.heard;
         }
 
     post_lent : (m : Memory) (f : Front) (i u : ℕ) → first + i < length rs → Inv w start m f (posts_read rs u) → IsLent w start m.word (buffer w.rx.now (post i)) 1
     post_lent m f i u p h =
-        let k = known_post w start small d a used g e rs u [] 0 0 m f (first + i) p h in
+        let k = known_post w start small d a used g e sl rs u [] 0 0 m f (first + i) p h in
         subst (λ z. IsLent w start m.word (buffer w.rx.now z) 1) k.0 (h.rx_slots.grants (first + i) (omega arith) k.1)
 
     abbrev pub HasPosted : ℕ → Back → Posted → Type 0

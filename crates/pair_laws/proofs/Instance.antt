@@ -1,13 +1,16 @@
 -- The two ends keep to what the pair's assembly asks of them, and so the law of the pair holds.
 use Rattle.pair_laws.proofs.Lists.{bytes_append, nil_right}
-use Rattle.std.proofs.Common.{◌≡◌, ℕ, zero, suc, ◌+◌, ◌*◌, ◌/◌, ◌%◌, ◌^◌, ◌<◌, inl, inr, Bool, false, List, [], ◌∷◌, ◌++◌, length, append_assoc, None, refl, sym, ◌∙◌, ap, arith}
+use Rattle.std.proofs.Common.{◌≡◌, ℕ, zero, suc, ◌+◌, ◌*◌, ◌/◌, ◌%◌, ◌^◌, ◌<◌, inl, inr, Bool, true, false, List, [], ◌∷◌, ◌++◌, length, append_assoc, None, refl, sym, ◌∙◌, ap, arith}
 use Rattle.pair_machine.specs.Halves.{half_turn}
 use Rattle.std.specs.Prelude.{All, get_or, if◌then◌else◌}
 use Rattle.std.proofs.lemmas.List.Elements.{All-head, All-tail}
 use Rattle.bpf_verify.specs.Consistent.{Accepted, IsConsistent}
 use Rattle.xen_back.specs.Turned.{Turned, Idle, Ran, Refused, Halted}
+use Rattle.xen_back.specs.declared.delivery.delivering.Delivery.{Delivery}
+use Rattle.xen_back.specs.declared.delivery.delivering.Delivery.TheVariants as delivery
 use Rattle.xen_back.specs.declared.state.State.{State as BackState}
 use Rattle.xen_back.specs.declared.turn.Refusal.TheVariants as refusal
+use Rattle.xen_back.specs.Deliveries.{whole_delivery}
 use Rattle.xen_back.specs.Tree.{after_run}
 use Rattle.xen_back.specs.declared.wiring.Wiring.{Wiring as BackWiring}
 use Rattle.xen_buffers.specs.Grants.{buffer}
@@ -36,6 +39,7 @@ use Rattle.pair_laws.specs.Inv.{Inv}
 use Rattle.pair_laws.specs.Numbers.{Numbers}
 use Rattle.pair_laws.specs.Rest as rests
 use Rattle.pair_laws.specs.Rest.{Chained, Keeps, Quiet, Rest, Ringed, began}
+use Rattle.pair_laws.proofs.BackDelivers.{delivery_safe}
 use Rattle.pair_laws.proofs.BackLaws.{all_heard, copies_begin, half_safe, told_begins, wakes}
 use Rattle.pair_laws.proofs.Layouts.{ends_joined, laid, place_of, rx_is, tx_is}
 use Rattle.pair_laws.proofs.BackPrograms.{programmed}
@@ -131,6 +135,24 @@ module _ (accepted : Accepted) (bw : BackWiring) (fw : FrontWiring) (start : ℕ
   over_end s c g b t (Refused cause ops k) h = absurd h
   over_end s c g b t (Halted cause) h = absurd h
 
+  resting_as : (asleep : Bool) (s : BackState) (c g : List (List ℕ)) (b : Back) →
+      pairs.Resting bw fw (Inv fw start) (Rest start) Keeps Quiet Keeps Windowless (Ready start) (Slept start) givens asleep s c g b → ended.Resting asleep start s c g b
+  resting_as true s c g b h = h
+  resting_as false s c g b h = h
+
+  rests_as : (asleep : Bool) (s : BackState) (c g : List (List ℕ)) (b : Back) → ended.Resting asleep start s c g b →
+      pairs.Resting bw fw (Inv fw start) (Rest start) Keeps Quiet Keeps Windowless (Ready start) (Slept start) givens asleep s c g b
+  rests_as true s c g b h = h
+  rests_as false s c g b h = h
+
+  landed_end : (asleep : Bool) (c g : List (List ℕ)) (packet : List ℕ) (b : Back) (s : BackState) (what : Delivery) → ended.Landed asleep start c g packet b s what →
+      pairs.Landed bw fw (Inv fw start) (Rest start) Keeps Quiet Keeps Windowless (Ready start) (Slept start) givens asleep c g packet b s what
+  landed_end asleep c g packet b s (delivery.Sent slots) h = rests_as asleep s c (g ++ packet ∷ []) b h
+  landed_end asleep c g packet b s delivery.FewSlots h = rests_as asleep s c g b h
+  landed_end asleep c g packet b s (delivery.Refused slots) h = absurd h
+  landed_end asleep c g packet b s (delivery.Halted cause) h = absurd h
+  landed_end asleep c g packet b s delivery.NoFrame h = rests_as asleep s c g b h
+
   half_end : (s : BackState) (c g : List (List ℕ)) (b : Back) (x : Half) → ended.HalfEnd fw start bw s c g b x →
       pairs.HalfEnd bw fw (Inv fw start) (Rest start) Keeps Quiet Keeps Windowless (Ready start) (Slept start) givens s c g b x
   half_end s c g b (Over e) h = over_end s c g b e.0 e.1 h
@@ -171,6 +193,11 @@ module _ (accepted : Accepted) (bw : BackWiring) (fw : FrontWiring) (start : ℕ
             safe_less (λ m b2 f. Inv fw start m f b2) (ended.GivenAll g) (ended.GivenAll g) (ended.HalfEnd fw start bw s c g)
             (pairs.HalfEnd bw fw (Inv fw start) (Rest start) Keeps Quiet Keeps Windowless (Ready start) (Slept start) givens s c g) b (half_turn bw s)
             (λ b2 k. k) (λ b2 x k. half_end s c g b2 x k) (half_safe fw start small (laid fw isf) bw (ends_joined fw isf accepted bw ib) (programmed accepted bw cons ib) s c g b h);
+        delivery_safe = λ asleep s c g b packet h bytes.
+            safe_less (λ m b2 f. Inv fw start m f b2) (ended.GivesPacket g packet) (ended.GivesPacket g packet) (λ b2 e. ended.Landed asleep start c g packet b2 e.0 e.1)
+            (λ b2 e. pairs.EndedDelivery bw fw (Inv fw start) (Rest start) Keeps Quiet Keeps Windowless (Ready start) (Slept start) givens asleep c g packet b2 e) b (whole_delivery bw.vif s packet)
+            (λ b2 k. k) (λ b2 e k. landed_end asleep c g packet b2 e.0 e.1 k)
+            (delivery_safe fw start small (laid fw isf) bw (ends_joined fw isf accepted bw ib) asleep s c g b (resting_as asleep s c g b h) packet (bytes_small packet bytes));
         ready_runs = λ s c g b h. (ap (λ x. bytes_in x.given) h.back ∙ h.gave, h.between.running);
         slept_runs = λ s c g b h. (ap (λ x. bytes_in x.given) h.back ∙ h.gave, h.between.running);
         copied = λ s w r c g m f b k i h.
@@ -210,7 +237,7 @@ module _ (accepted : Accepted) (bw : BackWiring) (fw : FrontWiring) (start : ℕ
           };
           back = record { answered = []; sent = []; posts = []; back = refl; copied = refl; gave = refl; between = record { tx = z; rx = z; running = refl } };
           running = refl;
-          copies = law.none;
+          copies = (law.none, tt);
           sent = ([], refl);
         },
       )

@@ -1,10 +1,11 @@
 -- What holds of the back of an honest pair.
-use Rattle.std.specs.Prelude.{ℕ, ◌≡◌, ◌<◌, ◌^◌, false, List, ◌++◌, None}
+use Rattle.std.specs.Prelude.{ℕ, ◌≡◌, ◌<◌, ◌^◌, Bool, false, List, ◌++◌, None, get_or}
+use Rattle.xen_back.specs.Deliveries.{whole_delivery}
 use Rattle.xen_back.specs.declared.state.State.{State}
 use Rattle.xen_back.specs.declared.wiring.Wiring.{Wiring as BackWiring}
 use Rattle.xen_buffers.specs.declared.wiring.Wiring.{Wiring}
 use Rattle.xen_steps.specs.Places.{page_word}
-use Rattle.pair_laws.specs.Ended.{GivenAll, HalfEnd, Programmed, Ready, Slept}
+use Rattle.pair_laws.specs.Ended.{GivenAll, GivesPacket, HalfEnd, Landed, Programmed, Ready, Resting, Slept}
 use Rattle.pair_laws.specs.Ends.{BackSafe}
 use Rattle.pair_laws.specs.Ghosts.{Front, Back, bytes_in}
 use Rattle.pair_machine.specs.Halves.{half_turn}
@@ -19,6 +20,14 @@ abbrev pub BackLaw : Type 0
 BackLaw = (w : Wiring) (start : ℕ) → start < 2 ^ 32 → Laid w → (v : BackWiring) → Joined w v → Programmed v →
     (s : State) (copies given : List (List ℕ)) (b : Back) → Ready start s copies given b →
     BackSafe w start (GivenAll given) (HalfEnd w start v s copies given) b (half_turn v s)
+
+-- Whatever the front does between its events, a delivery of a packet of the host's own keeps the invariant, and gives that packet or none.
+abbrev pub DeliveryLaw : Type 0
+DeliveryLaw = (w : Wiring) (start : ℕ) → start < 2 ^ 32 → Laid w → (v : BackWiring) → Joined w v →
+    (asleep : Bool) (s : State) (copies given : List (List ℕ)) (b : Back) → Resting asleep start s copies given b →
+    (packet : List ℕ) → ((i : ℕ) → get_or packet i 0 < 256) →
+    BackSafe w start (GivesPacket given packet) (λ b' e. Landed asleep start copies given packet b' e.0 e.1) b
+    (whole_delivery v.vif s packet)
 
 -- awake
 abbrev pub woken : Back → Back

@@ -1,8 +1,10 @@
--- How a turn of a back that is paired with an honest front ends.
-use Rattle.std.specs.Prelude.{ℕ, ◌≡◌, ◌+◌, ◌<◌, ◌⊎◌, true, false, List, [], ◌∷◌, ◌++◌, length, get_or, None, ◌==◌, if◌then◌else◌}
+-- How a turn or a delivery of a back that is paired with an honest front ends.
+use Rattle.std.specs.Prelude.{ℕ, ◌≡◌, ◌+◌, ◌<◌, ◌⊎◌, Bool, true, false, List, [], ◌∷◌, ◌++◌, length, get_or, None, ◌==◌, if◌then◌else◌}
 use Rattle.bpf_vm.specs.Course.{Course, Exiting, Stepping, Loading, Adding, Broken}
 use Rattle.xen_back.specs.Tree.{Left, after_run, run_of}
 use Rattle.xen_back.specs.Turned.{Ending, Turned, Idle, Ran, Refused, Halted}
+use Rattle.xen_back.specs.declared.delivery.delivering.Delivery.{Delivery}
+use Rattle.xen_back.specs.declared.delivery.delivering.Delivery.TheVariants as delivery
 use Rattle.xen_back.specs.declared.state.State.{State}
 use Rattle.xen_back.specs.declared.turn.Refusal.TheVariants as refusal
 use Rattle.xen_back.specs.declared.wiring.Wiring.{Wiring as BackWiring}
@@ -109,6 +111,23 @@ HalfEnd w start v s copies given b (HasRun slots packet r) =
 
 abbrev pub GivenAll : List (List ℕ) → Back → Type 0
 GivenAll given b = bytes_in b.given ≡ given
+
+-- between turns, asleep or awake
+abbrev pub Resting : Bool → ℕ → State → (copies given : List (List ℕ)) → Back → Type 0
+Resting true = Slept
+Resting false = Ready
+
+-- what is given while a packet of the host's own is delivered
+abbrev pub GivesPacket : List (List ℕ) → List ℕ → Back → Type 0
+GivesPacket given packet b = (bytes_in b.given ≡ given) ⊎ (bytes_in b.given ≡ given ++ packet ∷ [])
+
+-- A delivery ends with its packet given, or with too few posts or no frame; the back is asleep or awake as it was before.
+abbrev pub Landed : Bool → ℕ → (copies given : List (List ℕ)) → List ℕ → Back → State → Delivery → Type 0
+Landed asleep start copies given packet b s (delivery.Sent slots) = Resting asleep start s copies (given ++ packet ∷ []) b
+Landed asleep start copies given packet b s delivery.FewSlots = Resting asleep start s copies given b
+Landed asleep start copies given packet b s (delivery.Refused slots) = ⊥
+Landed asleep start copies given packet b s (delivery.Halted cause) = ⊥
+Landed asleep start copies given packet b s delivery.NoFrame = Resting asleep start s copies given b
 
 -- no fault, and each exit leaves a packet of which P holds
 abbrev pub Leaves : (List ℕ → Type 0) → Course → Type 0

@@ -1,5 +1,5 @@
 -- The parts of a first half that ends in a run.
-use Rattle.std.proofs.Common.{◌≡◌, ℕ, zero, suc, ◌+◌, ◌<◌, ◌^◌, refl, sym, ◌∙◌, ap, subst, arith, List, [], ◌∷◌, ◌++◌, Option, Some, None, Result, Ok, Err, take}
+use Rattle.std.proofs.Common.{◌≡◌, ℕ, zero, suc, ◌<◌, ◌^◌, refl, sym, ◌∙◌, ap, subst, arith, List, [], ◌∷◌, ◌++◌, Option, Some, None, Result, Ok, Err, take}
 use Rattle.std.proofs.lemmas.List.{append-nil}
 use Rattle.xen_netif.specs.Chain.{Slot}
 use Rattle.xen_netif.specs.Fragments.{fragments_of}
@@ -8,7 +8,7 @@ use Rattle.xen_netif.specs.declared.chain.ChainState.TheVariants as wanted
 use Rattle.xen_netif.specs.declared.fault.SizeFault.{SizeFault}
 use Rattle.xen_netif.specs.declared.fragment.Fragment.{Fragment}
 use Rattle.xen_steps.specs.Event.{Event, Read}
-use Rattle.xen_steps.specs.Steps.{Runs, Steps, done, ask, never, bind}
+use Rattle.xen_steps.specs.Steps.{Runs, Steps, done}
 use Rattle.xen_steps.proofs.StepsLemmas.{split}
 use Rattle.xen_steps.specs.Places.{available}
 use Rattle.xen_transmit.specs.Places.{tx_word}

@@ -1,17 +1,17 @@
 -- The two halves of a turn are the turn.
-use Rattle.std.proofs.Common.{◌≡◌, ℕ, zero, suc, refl, sym, ◌∙◌, ap, List, [], Option, Some, None, Result, Ok, Err}
+use Rattle.std.proofs.Common.{◌≡◌, ℕ, zero, suc, refl, ◌∙◌, ap, List, [], Option, Some, None, Result, Ok, Err}
 use mathlib.Core.Path.{fun_ext}
 use Rattle.xen_netif.specs.Chain.{Slot}
 use Rattle.xen_netif.specs.Fragments.{fragments_of}
 use Rattle.xen_netif.specs.declared.fault.SizeFault.{SizeFault}
 use Rattle.xen_netif.specs.declared.fragment.Fragment.{Fragment}
 use Rattle.xen_steps.specs.Steps.{Steps, done, ask, never, bind}
-use Rattle.xen_back.specs.Tree.{Left, Scan, after_chain, after_copy, after_look, after_run, after_scan, copy, look, program, read_slots, run_of, unless_halted, whole_turn}
+use Rattle.xen_back.specs.Tree.{Scan, after_chain, after_copy, after_look, after_scan, copy, look, program, read_slots, run_of, unless_halted, whole_turn}
 use Rattle.xen_back.specs.Turned.{Ending}
 use Rattle.xen_back.specs.declared.state.State.{State}
 use Rattle.xen_back.specs.declared.turn.Halt.{Halt}
 use Rattle.xen_back.specs.declared.wiring.Wiring.{Wiring}
-use Rattle.pair_machine.specs.Halves.{Half, Over, HasRun, over, half_copy, half_chain, half_scan, half_look, half_unless, half_turn, second_half}
+use Rattle.pair_machine.specs.Halves.{Over, HasRun, over, half_copy, half_chain, half_scan, half_look, half_unless, half_turn, second_half}
 
 pub bind_assoc : {A B C : Type 0} (s : Steps A) (f : A → Steps B) (g : B → Steps C) → bind (bind s f) g ≡ bind s (λ x. bind (f x) g)
 bind_assoc (done x) f g = refl

@@ -1,10 +1,9 @@
 -- What the memory answers is what was last written.
-use Rattle.std.proofs.Common.{◌≡◌, ℕ, zero, suc, refl, sym, ◌∙◌, ap, subst, Bool, true, false, List, [], ◌∷◌, ◌++◌, Result, Ok, Err}
-use Rattle.xen_page.specs.declared.place.Place.{Place}
-use Rattle.xen_steps.specs.Event.{Event, Read, Write, Instr, Load, Add, Notify}
+use Rattle.std.proofs.Common.{◌≡◌, ℕ, refl, subst, Bool, true, false, List, [], ◌∷◌, ◌++◌, Result, Ok, Err}
 use Rattle.xen_steps.specs.Steps.{Steps, done, ask, never}
 use Rattle.xen_steps.specs.declared.want.Want.{Want}
 use Rattle.xen_steps.specs.declared.want.Want.TheVariants as want
+use Rattle.xen_back.specs.Deliveries.{Arrival, whole_delivery}
 use Rattle.xen_back.specs.Tree.{Left, after_run}
 use Rattle.xen_back.specs.Turned.{Ending}
 use Rattle.xen_back.specs.declared.wiring.Wiring.{Wiring as BackWiring}
@@ -13,11 +12,11 @@ use Rattle.xen_front.specs.Given.{Ending as FrontEnding}
 use Rattle.xen_front.specs.declared.turn.PollRefusal.{PollRefusal}
 use Rattle.xen_front.specs.declared.turn.PostRefusal.{PostRefusal}
 use Rattle.xen_front.specs.declared.turn.SendRefusal.{SendRefusal}
-use Rattle.pair_machine.specs.Halves.{Half, Over, HasRun, half_turn}
-use Rattle.pair_machine.specs.Memory.{Memory, after, answer, put}
-use Rattle.pair_machine.specs.Pair.{Activity, Free, Sending, Posting, Polling, BackAt, Asleep, First, Second, Pair, PairEvent, Send, Post, Poll, FrontStep, BackStep, step, sending, posting, polling, send_result, post_result, poll_result, send_tree, post_tree, begin_send, begin_post, begin_poll, on_send, on_post, on_poll, on_front, on_back, turned, second, halved, first, wake}
+use Rattle.pair_machine.specs.Halves.{Half, Over, HasRun}
+use Rattle.pair_machine.specs.Memory.{Memory, after, answer}
+use Rattle.pair_machine.specs.Pair.{Activity, Free, Sending, Posting, Polling, BackAt, Asleep, First, Second, Delivering, Pair, PairEvent, Send, Post, Poll, FrontStep, BackStep, Deliver, step, sending, posting, polling, send_result, post_result, poll_result, send_tree, post_tree, begin_send, begin_post, begin_poll, on_send, on_post, on_poll, on_front, on_back, second, halved, first, wake, delivering, on_deliver}
 use Rattle.xen_front.specs.Tree.{poll}
-use Rattle.pair_machine.specs.Log.{Logged, OfFront, OfBack, Woke, event_by, asked_of, front_asks, of_front, of_back, woke, logged_back, logged, log, changed, Reads, IsFaithful}
+use Rattle.pair_machine.specs.Log.{Logged, event_by, front_asks, of_front, of_back, woke, logged_back, logged, log, IsFaithful}
 
 -- the words do not change where an activity or a turn goes on
 sending_words : (p : Pair) (t : Steps FrontEnding) → (sending p t).memory ≡ p.memory
@@ -48,6 +47,18 @@ first_words : (w : BackWiring) (p : Pair) (t : Steps Half) → (first w p t).mem
 first_words w p (done h) = halved_words w p h
 first_words w p (ask v k) = refl
 first_words w p never = refl
+
+delivering_words : (w : BackWiring) (p : Pair) (asleep : Bool) (packet : List ℕ) (t : Steps Arrival) → (delivering w p asleep packet t).memory ≡ p.memory
+delivering_words w p asleep packet (done a) = refl
+delivering_words w p asleep packet (ask v k) = refl
+delivering_words w p asleep packet never = refl
+
+deliver_words : (w : BackWiring) (at : BackAt) (p : Pair) (packet : List ℕ) → (on_deliver w at p packet).memory ≡ p.memory
+deliver_words w Asleep p packet = delivering_words w p true packet (whole_delivery w.vif p.back packet)
+deliver_words w (First false t) p packet = delivering_words w p false packet (whole_delivery w.vif p.back packet)
+deliver_words w (First true t) p packet = refl
+deliver_words w (Second copy left t) p packet = refl
+deliver_words w (Delivering asleep other t) p packet = refl
 
 -- what follows an event is faithful by the words after it
 asked_front : (w : Want) (m : Memory) (n : ℕ) (l : List Logged) → IsFaithful (after w m).word l → IsFaithful m.word (of_front (event_by w (answer w m n)) ++ l)
@@ -122,14 +133,18 @@ wake_faithful w false p l h = h
 
 back_faithful : (w : BackWiring) (a : BackAt) (p : Pair) (n : ℕ) (l : List Logged) → IsFaithful (on_back w a p n).memory.word l → IsFaithful p.memory.word (logged_back a p.memory n ++ l)
 back_faithful w Asleep p n l h = wake_faithful w p.memory.pending p l h
-back_faithful w (First (ask v k)) p n l h =
+back_faithful w (First b (ask v k)) p n l h =
     asked_back v p.memory n l (by_words (after v p.memory) _ l (first_words w (record p { memory = after v p.memory }) (k (answer v p.memory n))) h)
-back_faithful w (First (done x)) p n l h = h
-back_faithful w (First never) p n l h = h
+back_faithful w (First b (done x)) p n l h = h
+back_faithful w (First b never) p n l h = h
 back_faithful w (Second packet left (ask v k)) p n l h =
     asked_back v p.memory n l (by_words (after v p.memory) _ l (second_words w (record p { memory = after v p.memory }) packet left (k (answer v p.memory n))) h)
 back_faithful w (Second packet left (done x)) p n l h = h
 back_faithful w (Second packet left never) p n l h = h
+back_faithful w (Delivering asleep packet (ask v k)) p n l h =
+    asked_back v p.memory n l (by_words (after v p.memory) _ l (delivering_words w (record p { memory = after v p.memory }) asleep packet (k (answer v p.memory n))) h)
+back_faithful w (Delivering asleep packet (done x)) p n l h = h
+back_faithful w (Delivering asleep packet never) p n l h = h
 
 step_faithful : (bw : BackWiring) (fw : FrontWiring) (p : Pair) (e : PairEvent) (n : ℕ) (l : List Logged) → IsFaithful (step bw fw p e n).memory.word l → IsFaithful p.memory.word (logged p e n ++ l)
 step_faithful bw fw p (Send packet) n l h = by_words p.memory _ l (send_words fw p.activity p packet) h
@@ -137,6 +152,7 @@ step_faithful bw fw p Post n l h = by_words p.memory _ l (post_words fw p.activi
 step_faithful bw fw p Poll n l h = by_words p.memory _ l (poll_words fw p.activity p) h
 step_faithful bw fw p FrontStep n l h = front_faithful p.activity p n l h
 step_faithful bw fw p BackStep n l h = back_faithful bw p.at p n l h
+step_faithful bw fw p (Deliver packet) n l h = by_words p.memory _ l (deliver_words bw p.at p packet) h
 
 pub faithful : (bw : BackWiring) (fw : FrontWiring) (p : Pair) (es : List (PairEvent × ℕ)) → IsFaithful p.memory.word (log bw fw p es)
 faithful bw fw p [] = tt

@@ -1,14 +1,16 @@
 -- The pair's events keep what stands, by the laws of its two ends.
-use Rattle.std.proofs.Common.{◌≡◌, ℕ, zero, suc, ◌+◌, ◌<◌, ◌^◌, ◌⊎◌, inl, inr, refl, sym, ◌∙◌, ap, subst, arith, Bool, true, false, List, [], ◌∷◌, ◌++◌, All, Option, Some, None, Result, Ok, Err}
+use Rattle.std.proofs.Common.{◌≡◌, ℕ, ◌<◌, ◌^◌, ◌⊎◌, inl, inr, refl, sym, ◌∙◌, ap, subst, arith, Bool, true, false, List, [], ◌∷◌, ◌++◌, All, Some, None, Result, Ok, Err}
 use Rattle.std.specs.Prelude.{◌==◌, if◌then◌else◌, flat_map}
 use Rattle.std.proofs.lemmas.List.{append-nil, append_assoc}
 use Rattle.std.proofs.lemmas.Bool.Decides.{nat_tests}
 use Rattle.xen_steps.specs.Places.{page_word}
 use Rattle.xen_steps.specs.Steps.{Steps, done, ask, never}
+use Rattle.xen_back.specs.Deliveries.{Arrival, whole_delivery}
 use Rattle.xen_back.specs.Tree.{Left, after_run}
 use Rattle.xen_back.specs.Turned.{Turned, Idle, Ran, Refused, Halted, Ending}
+use Rattle.xen_back.specs.declared.delivery.delivering.Delivery.{Delivery}
+use Rattle.xen_back.specs.declared.delivery.delivering.Delivery.TheVariants as delivery
 use Rattle.xen_back.specs.declared.state.State.{State as BackState}
-use Rattle.xen_back.specs.declared.turn.Refusal.{Refusal}
 use Rattle.xen_back.specs.declared.turn.Refusal.TheVariants as refusal
 use Rattle.xen_back.specs.declared.wiring.Wiring.{Wiring as BackWiring}
 use Rattle.xen_buffers.specs.declared.wiring.Wiring.{Wiring as FrontWiring}
@@ -19,13 +21,11 @@ use Rattle.xen_front.specs.declared.turn.PollRefusal.{PollRefusal}
 use Rattle.xen_front.specs.declared.turn.PostRefusal.{PostRefusal}
 use Rattle.xen_front.specs.declared.turn.SendRefusal.{SendRefusal}
 use Rattle.pair_machine.specs.Halves.{Half, Over, HasRun, half_turn}
-use Rattle.pair_machine.specs.Law.{AreFit, HaveCopies, none, idle, ran, few, Honest, IsByte, IsBytes, IsSending, all_given, given_by, given_now, left_by, sent_back}
-use Rattle.pair_machine.specs.Memory.{Memory, after, answer, opening_memory}
-use Rattle.pair_machine.specs.Pair.{Activity, Free, Sending, Posting, Polling, BackAt, Asleep, First, Second, Pair, PairEvent, Send, Post, Poll, FrontStep, BackStep, Past, packets_of, ended, sending, posting, polling, send_result, post_result, poll_result, send_tree, post_tree, begin_send, begin_post, begin_poll, on_send, on_post, on_poll, on_front, next_at, turned, second, halved, first, wake, on_back, step, run, opening}
+use Rattle.pair_machine.specs.Law.{HasArrived, Honest, IsByte, IsBytes, IsSending, delivered, given_by, given_now, left_by}
+use Rattle.pair_machine.specs.Memory.{Memory, after, answer}
+use Rattle.pair_machine.specs.Pair.{Activity, Free, Sending, Posting, Polling, BackAt, Asleep, First, Second, Delivering, OfTurn, OfDelivery, Pair, PairEvent, Send, Post, Poll, FrontStep, BackStep, Deliver, packets_of, sending, posting, polling, send_result, post_result, poll_result, send_tree, post_tree, begin_send, begin_post, begin_poll, on_send, on_post, on_poll, on_front, turned, second, first, wake, on_back, rested, landed, delivering, begin_delivery, on_deliver, step, run}
 use Rattle.pair_machine.specs.Safe.{Safe}
-
-abbrev Packets : Type 0
-Packets = List (List ℕ)
+use Rattle.pair_machine.proofs.Deeds.{Done, Packets, copies_few, copies_idle, copies_ran, done_delivery, done_turn, given_more, ran_given}
 
 -- Rest: the front between activities, of which these packets were sent and received. Sendings, Quiet: inside a send, or inside a post or a
 -- poll. Says: what is known of it at any time; Windowless: it has no push whose notice is undecided. Ready, Slept: the back between turns,
@@ -67,6 +67,24 @@ module _ (bw : BackWiring) (fw : FrontWiring) {Front Back : Type 0} (Inv : Memor
   HalfEnd s c g b (Over e) = OverAs s c g b e.0 e.1
   HalfEnd s c g b (HasRun slots packet l) = Safe BackInv (GivesLeft g l) (EndedTurn (c ++ packet ∷ []) g) b (after_run bw s slots l)
 
+  -- between turns, asleep or awake
+  abbrev pub Resting : Bool → BackState → Packets → Packets → Back → Type 0
+  Resting true = Slept
+  Resting false = Ready
+
+  abbrev pub GivesPacket : Packets → List ℕ → Back → Type 0
+  GivesPacket g packet b = (givens b ≡ g) ⊎ (givens b ≡ g ++ packet ∷ [])
+
+  abbrev pub Landed : Bool → Packets → Packets → List ℕ → Back → BackState → Delivery → Type 0
+  Landed asleep c g packet b s (delivery.Sent slots) = Resting asleep s c (g ++ packet ∷ []) b
+  Landed asleep c g packet b s delivery.FewSlots = Resting asleep s c g b
+  Landed asleep c g packet b s (delivery.Refused slots) = ⊥
+  Landed asleep c g packet b s (delivery.Halted cause) = ⊥
+  Landed asleep c g packet b s delivery.NoFrame = Resting asleep s c g b
+
+  abbrev pub EndedDelivery : Bool → Packets → Packets → List ℕ → Back → Arrival → Type 0
+  EndedDelivery asleep c g packet b a = Landed asleep c g packet b a.0 a.1
+
   -- what the two ends keep to
   pub record EndLaws : Type 0 where
     pub begin_send : (s : FrontState) (w r : Packets) (p : List ℕ) (f : Front) → Rest s w r f → send_result s p ≡ Ok tt → All IsByte p → (m : Memory) (b : Back) → Inv m f b →
@@ -79,6 +97,8 @@ module _ (bw : BackWiring) (fw : FrontWiring) {Front Back : Type 0} (Inv : Memor
     pub quiet_says : (w r : Packets) (f : Front) → Quiet w r f → Says w r f × Windowless f
     pub wakes : (s : BackState) (c g : Packets) (b : Back) (m : Memory) (f : Front) → Slept s c g b → Inv m f b → (b' : Back) × Inv (record m { pending = false }) f b' × Ready s c g b'
     pub half_safe : (s : BackState) (c g : Packets) (b : Back) → Ready s c g b → Safe BackInv (GivenAll g) (HalfEnd s c g) b (half_turn bw s)
+    pub delivery_safe : (asleep : Bool) (s : BackState) (c g : Packets) (b : Back) (packet : List ℕ) → Resting asleep s c g b → All IsByte packet →
+        Safe BackInv (GivesPacket g packet) (EndedDelivery asleep c g packet) b (whole_delivery bw.vif s packet)
     pub ready_runs : (s : BackState) (c g : Packets) (b : Back) → Ready s c g b → (givens b ≡ g) × (s.halt ≡ None)
     pub slept_runs : (s : BackState) (c g : Packets) (b : Back) → Slept s c g b → (givens b ≡ g) × (s.halt ≡ None)
     pub copied : (s : BackState) (w r c g : Packets) (m : Memory) (f : Front) (b : Back) → Says w r f → Inv m f b → Ready s c g b → (more : Packets) × (w ≡ c ++ more)
@@ -93,16 +113,18 @@ module _ (bw : BackWiring) (fw : FrontWiring) {Front Back : Type 0} (Inv : Memor
 
   abbrev BackStands : BackAt → BackState → Packets → Packets → Back → Type 0
   BackStands Asleep s c g b = Slept s c g b
-  BackStands (First t) s c g b = GivenAll g b × Safe BackInv (GivenAll g) (HalfEnd s c g) b t
+  BackStands (First false t) s c g b = (t ≡ half_turn bw s) × Ready s c g b
+  BackStands (First true t) s c g b = GivenAll g b × Safe BackInv (GivenAll g) (HalfEnd s c g) b t
   BackStands (Second packet l t) s c g b = GivesLeft g l b × Safe BackInv (GivesLeft g l) (EndedTurn (c ++ packet ∷ []) g) b t
+  BackStands (Delivering asleep packet t) s c g b = GivesPacket g packet b × Safe BackInv (GivesPacket g packet) (EndedDelivery asleep c g packet) b t
 
   -- c are the copies of the turns that are over
   pub record Stands (p : Pair) (c : Packets) (f : Front) (b : Back) : Type 0 where
     pub inv : Inv p.memory f b
     pub front : FrontStands p.activity p.front p.sent p.received f
-    pub back : BackStands p.at p.back c (flat_map given_by p.turns) b
+    pub back : BackStands p.at p.back c (flat_map given_by p.deeds) b
     pub running : p.back.halt ≡ None
-    pub copies : HaveCopies p.turns c
+    pub copies : Done p.deeds c
     pub sent : (more : Packets) × (p.sent ≡ c ++ more)
 
   abbrev pub Fit : List (PairEvent × ℕ) → Type 0
@@ -133,22 +155,22 @@ module _ (bw : BackWiring) (fw : FrontWiring) {Front Back : Type 0} (Inv : Memor
 
     -- the front's activities
     sent_stands : (p : Pair) (c : Packets) (f : Front) (b : Back) (t : Steps FrontEnding) → Inv p.memory f b → Sendings p.sent p.received f →
-        Safe Inv (Sendings p.sent p.received) (FrontEnd p.sent p.received) f t → p.front.halt ≡ None → BackStands p.at p.back c (flat_map given_by p.turns) b → p.back.halt ≡ None →
-        HaveCopies p.turns c → ((more : Packets) × (p.sent ≡ c ++ more)) → Good (sending p t)
+        Safe Inv (Sendings p.sent p.received) (FrontEnd p.sent p.received) f t → p.front.halt ≡ None → BackStands p.at p.back c (flat_map given_by p.deeds) b → p.back.halt ≡ None →
+        Done p.deeds c → ((more : Packets) × (p.sent ≡ c ++ more)) → Good (sending p t)
     sent_stands p c f b (done e) i k h n r q v u = (c, f, b, record { inv = i; front = h; back = r; running = q; copies = v; sent = u })
     sent_stands p c f b (ask w g) i k h n r q v u = (c, f, b, record { inv = i; front = (k, h, n); back = r; running = q; copies = v; sent = u })
     sent_stands p c f b never i k h n r q v u = absurd h
 
     posted_stands : (p : Pair) (c : Packets) (f : Front) (b : Back) (t : Steps FrontEnding) → Inv p.memory f b → Quiet p.sent p.received f →
-        Safe Inv (Quiet p.sent p.received) (FrontEnd p.sent p.received) f t → p.front.halt ≡ None → BackStands p.at p.back c (flat_map given_by p.turns) b → p.back.halt ≡ None →
-        HaveCopies p.turns c → ((more : Packets) × (p.sent ≡ c ++ more)) → Good (posting p t)
+        Safe Inv (Quiet p.sent p.received) (FrontEnd p.sent p.received) f t → p.front.halt ≡ None → BackStands p.at p.back c (flat_map given_by p.deeds) b → p.back.halt ≡ None →
+        Done p.deeds c → ((more : Packets) × (p.sent ≡ c ++ more)) → Good (posting p t)
     posted_stands p c f b (done e) i k h n r q v u = (c, f, b, record { inv = i; front = h; back = r; running = q; copies = v; sent = u })
     posted_stands p c f b (ask w g) i k h n r q v u = (c, f, b, record { inv = i; front = (k, h, n); back = r; running = q; copies = v; sent = u })
     posted_stands p c f b never i k h n r q v u = absurd h
 
     polled_stands : (p : Pair) (c : Packets) (f : Front) (b : Back) (t : Steps FrontEnding) → Inv p.memory f b → Quiet p.sent p.received f →
-        Safe Inv (Quiet p.sent p.received) (FrontEnd p.sent p.received) f t → p.front.halt ≡ None → BackStands p.at p.back c (flat_map given_by p.turns) b → p.back.halt ≡ None →
-        HaveCopies p.turns c → ((more : Packets) × (p.sent ≡ c ++ more)) → Good (polling p t)
+        Safe Inv (Quiet p.sent p.received) (FrontEnd p.sent p.received) f t → p.front.halt ≡ None → BackStands p.at p.back c (flat_map given_by p.deeds) b → p.back.halt ≡ None →
+        Done p.deeds c → ((more : Packets) × (p.sent ≡ c ++ more)) → Good (polling p t)
     polled_stands p c f b (done e) i k h n r q v u = (c, f, b, record { inv = i; front = h; back = r; running = q; copies = v; sent = u })
     polled_stands p c f b (ask w g) i k h n r q v u = (c, f, b, record { inv = i; front = (k, h, n); back = r; running = q; copies = v; sent = u })
     polled_stands p c f b never i k h n r q v u = absurd h
@@ -218,42 +240,10 @@ module _ (bw : BackWiring) (fw : FrontWiring) {Front Back : Type 0} (Inv : Memor
         let r = h.1 p.memory b g.inv in
         polled_stands (record p { memory = after w p.memory }) c r.0 b (k (answer w p.memory n)) r.1 r.2 (r.3 n s) h.2 g.back g.running g.copies g.sent
 
-    -- the back's turns
-    given_more : (ps : List Past) (p : Past) → flat_map given_by (ps ++ p ∷ []) ≡ flat_map given_by ps ++ sent_back p.turn
-    given_more [] p = append-nil (sent_back p.turn)
-    given_more (x ∷ ps) p = ap (λ y. given_by x ++ y) (given_more ps p) ∙ sym (append_assoc (given_by x) (flat_map given_by ps) (sent_back p.turn))
-
-    ran_given : (b : Bool) (g : Packets) (packet : List ℕ) → (if b then g ++ packet ∷ [] else g) ≡ g ++ (if b then packet ∷ [] else [])
-    ran_given true g packet = refl
-    ran_given false g packet = sym (append-nil g)
-
-    copies_idle : (ps : List Past) (c : Packets) (o : Option (List ℕ)) → HaveCopies ps c → HaveCopies (ps ++ record { turn = Idle; copy = o } ∷ []) c
-    copies_idle _ _ o none = idle o [] [] none
-    copies_idle _ _ o (idle x ps c h) = idle x (ps ++ record { turn = Idle; copy = o } ∷ []) c (copies_idle ps c o h)
-    copies_idle _ _ o (ran n packet copy ops k ps c h) = ran n packet copy ops k (ps ++ record { turn = Idle; copy = o } ∷ []) c (copies_idle ps c o h)
-    copies_idle _ _ o (few copy ops k ps c h) = few copy ops k (ps ++ record { turn = Idle; copy = o } ∷ []) c (copies_idle ps c o h)
-
-    copies_ran : (ps : List Past) (c : Packets) (n : ℕ) (packet copy : List ℕ) (ops k : ℕ) → HaveCopies ps c →
-        HaveCopies (ps ++ record { turn = Ran n packet ops k; copy = Some copy } ∷ []) (c ++ copy ∷ [])
-    copies_ran _ _ n packet copy ops k none = ran n packet copy ops k [] [] none
-    copies_ran _ _ n packet copy ops k (idle x ps c h) = idle x (ps ++ record { turn = Ran n packet ops k; copy = Some copy } ∷ []) (c ++ copy ∷ []) (copies_ran ps c n packet copy ops k h)
-    copies_ran _ _ n packet copy ops k (ran n' packet' copy' ops' k' ps c h) =
-        ran n' packet' copy' ops' k' (ps ++ record { turn = Ran n packet ops k; copy = Some copy } ∷ []) (c ++ copy ∷ []) (copies_ran ps c n packet copy ops k h)
-    copies_ran _ _ n packet copy ops k (few copy' ops' k' ps c h) =
-        few copy' ops' k' (ps ++ record { turn = Ran n packet ops k; copy = Some copy } ∷ []) (c ++ copy ∷ []) (copies_ran ps c n packet copy ops k h)
-
-    copies_few : (ps : List Past) (c : Packets) (copy : List ℕ) (ops k : ℕ) → HaveCopies ps c →
-        HaveCopies (ps ++ record { turn = Refused refusal.FewSlots ops k; copy = Some copy } ∷ []) (c ++ copy ∷ [])
-    copies_few _ _ copy ops k none = few copy ops k [] [] none
-    copies_few _ _ copy ops k (idle x ps c h) = idle x (ps ++ record { turn = Refused refusal.FewSlots ops k; copy = Some copy } ∷ []) (c ++ copy ∷ []) (copies_few ps c copy ops k h)
-    copies_few _ _ copy ops k (ran n' packet' copy' ops' k' ps c h) =
-        ran n' packet' copy' ops' k' (ps ++ record { turn = Refused refusal.FewSlots ops k; copy = Some copy } ∷ []) (c ++ copy ∷ []) (copies_few ps c copy ops k h)
-    copies_few _ _ copy ops k (few copy' ops' k' ps c h) =
-        few copy' ops' k' (ps ++ record { turn = Refused refusal.FewSlots ops k; copy = Some copy } ∷ []) (c ++ copy ∷ []) (copies_few ps c copy ops k h)
-
+    -- the back's turns and deliveries
     -- a turn that isn't idle is over
     ready_stands : (p : Pair) (c : Packets) (f : Front) (b : Back) (s : BackState) (g : Packets) → Inv p.memory f b → FrontStands p.activity p.front p.sent p.received f → Ready s c g b →
-        p.back ≡ s → p.at ≡ First (half_turn bw s) → flat_map given_by p.turns ≡ g → HaveCopies p.turns c → Good p
+        p.back ≡ s → p.at ≡ First false (half_turn bw s) → flat_map given_by p.deeds ≡ g → Done p.deeds c → Good p
     ready_stands p c f b s g i h r e a v q = (
       c,
       f,
@@ -261,7 +251,7 @@ module _ (bw : BackWiring) (fw : FrontWiring) {Front Back : Type 0} (Inv : Memor
       record {
         inv = i;
         front = h;
-        back = subst (λ x. BackStands p.at p.back c x b) (sym v) (subst (λ x. BackStands x p.back c g b) (sym a) (subst (λ x. BackStands (First (half_turn bw s)) x c g b) (sym e) ((l.ready_runs s c g b r).0, l.half_safe s c g b r)));
+        back = subst (λ x. BackStands p.at p.back c x b) (sym v) (subst (λ x. BackStands x p.back c g b) (sym a) (subst (λ x. BackStands (First false (half_turn bw s)) x c g b) (sym e) (refl, r)));
         running = subst (λ x. x.halt ≡ None) (sym e) (l.ready_runs s c g b r).1;
         copies = q;
         sent = l.copied s p.sent p.received c g p.memory f b (says p.activity p.front p.sent p.received f h) i r;
@@ -269,39 +259,39 @@ module _ (bw : BackWiring) (fw : FrontWiring) {Front Back : Type 0} (Inv : Memor
     )
 
     over_stands : (p : Pair) (packet : List ℕ) (c : Packets) (f : Front) (b : Back) (s : BackState) (u : Turned) → Inv p.memory f b → FrontStands p.activity p.front p.sent p.received f →
-        TurnEnd (c ++ packet ∷ []) (flat_map given_by p.turns) b s u → HaveCopies p.turns c → Good (turned bw p (s, u) (Some packet))
+        TurnEnd (c ++ packet ∷ []) (flat_map given_by p.deeds) b s u → Done p.deeds c → Good (turned bw p (s, u) (Some packet))
     over_stands p packet c f b s Idle i h t q = absurd t
     over_stands p packet c f b s (Ran n bytes ops k) i h t q =
-        ready_stands (turned bw p (s, Ran n bytes ops k) (Some packet)) (c ++ packet ∷ []) f b s (if n == 3 then flat_map given_by p.turns ++ bytes ∷ [] else flat_map given_by p.turns) i h t refl refl
-        (given_more p.turns (record { turn = Ran n bytes ops k; copy = Some packet }) ∙ sym (ran_given (n == 3) (flat_map given_by p.turns) bytes)) (copies_ran p.turns c n bytes packet ops k q)
+        ready_stands (turned bw p (s, Ran n bytes ops k) (Some packet)) (c ++ packet ∷ []) f b s (if n == 3 then flat_map given_by p.deeds ++ bytes ∷ [] else flat_map given_by p.deeds) i h t refl refl
+        (given_more p.deeds (OfTurn (record { turn = Ran n bytes ops k; copy = Some packet })) ∙ sym (ran_given (n == 3) (flat_map given_by p.deeds) bytes)) (done_turn p.deeds (record { turn = Ran n bytes ops k; copy = Some packet }) c (c ++ packet ∷ []) (λ ps h2. copies_ran ps c n bytes packet ops k h2) q)
     over_stands p packet c f b s (Refused (refusal.Size fault) ops k) i h t q = absurd t
     over_stands p packet c f b s (Refused refusal.Grant ops k) i h t q = absurd t
     over_stands p packet c f b s (Refused refusal.FewSlots ops k) i h t q =
-        ready_stands (turned bw p (s, Refused refusal.FewSlots ops k) (Some packet)) (c ++ packet ∷ []) f b s (flat_map given_by p.turns) i h t refl refl
-        (given_more p.turns (record { turn = Refused refusal.FewSlots ops k; copy = Some packet }) ∙ append-nil (flat_map given_by p.turns)) (copies_few p.turns c packet ops k q)
+        ready_stands (turned bw p (s, Refused refusal.FewSlots ops k) (Some packet)) (c ++ packet ∷ []) f b s (flat_map given_by p.deeds) i h t refl refl
+        (given_more p.deeds (OfTurn (record { turn = Refused refusal.FewSlots ops k; copy = Some packet })) ∙ append-nil (flat_map given_by p.deeds)) (done_turn p.deeds (record { turn = Refused refusal.FewSlots ops k; copy = Some packet }) c (c ++ packet ∷ []) (λ ps h2. copies_few ps c packet ops k h2) q)
     over_stands p packet c f b s (Refused refusal.RxGrant ops k) i h t q = absurd t
     over_stands p packet c f b s (Halted x) i h t q = absurd t
 
     second_stands : (p : Pair) (packet : List ℕ) (left : Left) (c : Packets) (f : Front) (b : Back) (t : Steps Ending) → Inv p.memory f b → FrontStands p.activity p.front p.sent p.received f →
-        GivesLeft (flat_map given_by p.turns) left b → Safe BackInv (GivesLeft (flat_map given_by p.turns) left) (EndedTurn (c ++ packet ∷ []) (flat_map given_by p.turns)) b t →
-        p.back.halt ≡ None → HaveCopies p.turns c → ((more : Packets) × (p.sent ≡ c ++ more)) → Good (second bw p packet left t)
+        GivesLeft (flat_map given_by p.deeds) left b → Safe BackInv (GivesLeft (flat_map given_by p.deeds) left) (EndedTurn (c ++ packet ∷ []) (flat_map given_by p.deeds)) b t →
+        p.back.halt ≡ None → Done p.deeds c → ((more : Packets) × (p.sent ≡ c ++ more)) → Good (second bw p packet left t)
     second_stands p packet left c f b (done e) i h k s n q u = over_stands p packet c f b e.0 e.1 i h s q
     second_stands p packet left c f b (ask v g) i h k s n q u = (c, f, b, record { inv = i; front = h; back = (k, s); running = n; copies = q; sent = u })
     second_stands p packet left c f b never i h k s n q u = absurd s
 
     slept_stands : (p : Pair) (c : Packets) (f : Front) (b : Back) (s : BackState) (u : Turned) → Inv p.memory f b → FrontStands p.activity p.front p.sent p.received f →
-        OverAs p.back c (flat_map given_by p.turns) b s u → HaveCopies p.turns c → ((more : Packets) × (p.sent ≡ c ++ more)) → Good (turned bw p (s, u) None)
+        OverAs p.back c (flat_map given_by p.deeds) b s u → Done p.deeds c → ((more : Packets) × (p.sent ≡ c ++ more)) → Good (turned bw p (s, u) None)
     slept_stands p c f b s Idle i h o q u =
-        let z : Slept s c (flat_map given_by p.turns) b = subst (λ x. Slept x c (flat_map given_by p.turns) b) (sym o.0) o.1 in
-        let more = given_more p.turns (record { turn = Idle; copy = None }) ∙ append-nil (flat_map given_by p.turns) in
-        (c, f, b, record { inv = i; front = h; back = subst (λ x. Slept s c x b) (sym more) z; running = (l.slept_runs s c (flat_map given_by p.turns) b z).1; copies = copies_idle p.turns c None q; sent = u })
+        let z : Slept s c (flat_map given_by p.deeds) b = subst (λ x. Slept x c (flat_map given_by p.deeds) b) (sym o.0) o.1 in
+        let more = given_more p.deeds (OfTurn (record { turn = Idle; copy = None })) ∙ append-nil (flat_map given_by p.deeds) in
+        (c, f, b, record { inv = i; front = h; back = subst (λ x. Slept s c x b) (sym more) z; running = (l.slept_runs s c (flat_map given_by p.deeds) b z).1; copies = done_turn p.deeds (record { turn = Idle; copy = None }) c c (λ ps h2. copies_idle ps c None h2) q; sent = u })
     slept_stands p c f b s (Ran n packet ops k) i h o q u = absurd o
     slept_stands p c f b s (Refused x ops k) i h o q u = absurd o
     slept_stands p c f b s (Halted x) i h o q u = absurd o
 
     first_stands : (p : Pair) (c : Packets) (f : Front) (b : Back) (t : Steps Half) → Inv p.memory f b → FrontStands p.activity p.front p.sent p.received f →
-        GivenAll (flat_map given_by p.turns) b → Safe BackInv (GivenAll (flat_map given_by p.turns)) (HalfEnd p.back c (flat_map given_by p.turns)) b t →
-        p.back.halt ≡ None → HaveCopies p.turns c → ((more : Packets) × (p.sent ≡ c ++ more)) → Good (first bw p t)
+        GivenAll (flat_map given_by p.deeds) b → Safe BackInv (GivenAll (flat_map given_by p.deeds)) (HalfEnd p.back c (flat_map given_by p.deeds)) b t →
+        p.back.halt ≡ None → Done p.deeds c → ((more : Packets) × (p.sent ≡ c ++ more)) → Good (first bw p t)
     first_stands p c f b (done (Over e)) i h k s n q u = slept_stands p c f b e.0 e.1 i h s q u
     first_stands p c f b (done (HasRun slots packet left)) i h k s n q u = second_stands p packet left c f b (after_run bw p.back slots left) i h (inl k) s n q u
     first_stands p c f b (ask v g) i h k s n q u = (c, f, b, record { inv = i; front = h; back = (k, s); running = n; copies = q; sent = u })
@@ -310,35 +300,109 @@ module _ (bw : BackWiring) (fw : FrontWiring) {Front Back : Type 0} (Inv : Memor
     wake_stands : (p : Pair) (c : Packets) (f : Front) (b : Back) (n : Bool) → p.at ≡ Asleep → Stands p c f b → Good (wake bw n p)
     wake_stands p c f b false a g = (c, f, b, g)
     wake_stands p c f b true a g =
-        let z : Slept p.back c (flat_map given_by p.turns) b = subst (λ x. BackStands x p.back c (flat_map given_by p.turns) b) a g.back in
-        let k = l.wakes p.back c (flat_map given_by p.turns) b p.memory f z g.inv in (
+        let z : Slept p.back c (flat_map given_by p.deeds) b = subst (λ x. BackStands x p.back c (flat_map given_by p.deeds) b) a g.back in
+        let k = l.wakes p.back c (flat_map given_by p.deeds) b p.memory f z g.inv in (
           c,
           f,
           k.0,
           record {
             inv = k.1;
             front = g.front;
-            back = ((l.ready_runs p.back c (flat_map given_by p.turns) k.0 k.2).0, l.half_safe p.back c (flat_map given_by p.turns) k.0 k.2);
+            back = (refl, k.2);
             running = g.running;
             copies = g.copies;
             sent = g.sent;
           },
         )
 
+    -- a back between turns, and what it has given
+    rest_gives : (s : BackState) (c g : Packets) (b : Back) (asleep : Bool) → Resting asleep s c g b → (givens b ≡ g) × (s.halt ≡ None)
+    rest_gives s c g b true h = l.slept_runs s c g b h
+    rest_gives s c g b false h = l.ready_runs s c g b h
+
+    rest_stands : (s : BackState) (c g : Packets) (b : Back) (asleep : Bool) → Resting asleep s c g b → BackStands (rested bw asleep s) s c g b
+    rest_stands s c g b true h = h
+    rest_stands s c g b false h = (refl, h)
+
+    -- what is left of a turn's first half
+    half_left : (p : Pair) (c : Packets) (b : Back) (x : Bool) (t : Steps Half) → BackStands (First x t) p.back c (flat_map given_by p.deeds) b →
+        GivenAll (flat_map given_by p.deeds) b × Safe BackInv (GivenAll (flat_map given_by p.deeds)) (HalfEnd p.back c (flat_map given_by p.deeds)) b t
+    half_left p c b true t h = h
+    half_left p c b false t h =
+        let g = flat_map given_by p.deeds in
+        ((l.ready_runs p.back c g b h.1).0, subst (Safe BackInv (GivenAll g) (HalfEnd p.back c g) b) (sym h.0) (l.half_safe p.back c g b h.1))
+
+    -- a delivery is over
+    landed_as : (p : Pair) (asleep : Bool) (packet : List ℕ) (c : Packets) (f : Front) (b : Back) (s : BackState) (what : Delivery) → Inv p.memory f b → FrontStands p.activity p.front p.sent p.received f →
+        Resting asleep s c (flat_map given_by p.deeds ++ delivered packet what) b → HasArrived what → Done p.deeds c → ((more : Packets) × (p.sent ≡ c ++ more)) → Good (landed bw p asleep packet (s, what))
+    landed_as p asleep packet c f b s what i h r a q u =
+        let g = flat_map given_by p.deeds ++ delivered packet what in (
+          c,
+          f,
+          b,
+          record {
+            inv = i;
+            front = h;
+            back = subst (λ x. BackStands (rested bw asleep s) s c x b) (sym (given_more p.deeds (OfDelivery packet what))) (rest_stands s c g b asleep r);
+            running = (rest_gives s c g b asleep r).1;
+            copies = done_delivery p.deeds packet what c a q;
+            sent = u;
+          },
+        )
+
+    landed_stands : (p : Pair) (asleep : Bool) (packet : List ℕ) (c : Packets) (f : Front) (b : Back) (s : BackState) (what : Delivery) → Inv p.memory f b → FrontStands p.activity p.front p.sent p.received f →
+        Landed asleep c (flat_map given_by p.deeds) packet b s what → Done p.deeds c → ((more : Packets) × (p.sent ≡ c ++ more)) → Good (landed bw p asleep packet (s, what))
+    landed_stands p asleep packet c f b s (delivery.Sent slots) i h r q u = landed_as p asleep packet c f b s (delivery.Sent slots) i h r tt q u
+    landed_stands p asleep packet c f b s delivery.FewSlots i h r q u =
+        landed_as p asleep packet c f b s delivery.FewSlots i h (subst (λ x. Resting asleep s c x b) (sym (append-nil (flat_map given_by p.deeds))) r) tt q u
+    landed_stands p asleep packet c f b s (delivery.Refused slots) i h r q u = absurd r
+    landed_stands p asleep packet c f b s (delivery.Halted cause) i h r q u = absurd r
+    landed_stands p asleep packet c f b s delivery.NoFrame i h r q u =
+        landed_as p asleep packet c f b s delivery.NoFrame i h (subst (λ x. Resting asleep s c x b) (sym (append-nil (flat_map given_by p.deeds))) r) tt q u
+
+    delivering_stands : (p : Pair) (asleep : Bool) (packet : List ℕ) (c : Packets) (f : Front) (b : Back) (t : Steps Arrival) → Inv p.memory f b → FrontStands p.activity p.front p.sent p.received f →
+        GivesPacket (flat_map given_by p.deeds) packet b → Safe BackInv (GivesPacket (flat_map given_by p.deeds) packet) (EndedDelivery asleep c (flat_map given_by p.deeds) packet) b t →
+        p.back.halt ≡ None → Done p.deeds c → ((more : Packets) × (p.sent ≡ c ++ more)) → Good (delivering bw p asleep packet t)
+    delivering_stands p asleep packet c f b (done a) i h k s n q u = landed_stands p asleep packet c f b a.0 a.1 i h s q u
+    delivering_stands p asleep packet c f b (ask v g) i h k s n q u = (c, f, b, record { inv = i; front = h; back = (k, s); running = n; copies = q; sent = u })
+    delivering_stands p asleep packet c f b never i h k s n q u = absurd s
+
     back_stands : (p : Pair) (n : ℕ) (c : Packets) (f : Front) (b : Back) (at : BackAt) → p.at ≡ at → n < 2 ^ 64 → Stands p c f b → Good (on_back bw at p n)
     back_stands p n c f b Asleep a s g = wake_stands p c f b p.memory.pending a g
-    back_stands p n c f b (First (done h)) a s g = (c, f, b, g)
-    back_stands p n c f b (First never) a s g = (c, f, b, g)
-    back_stands p n c f b (First (ask v k)) a s g =
-        let h : BackStands (First (ask v k)) p.back c (flat_map given_by p.turns) b = subst (λ x. BackStands x p.back c (flat_map given_by p.turns) b) a g.back in
+    back_stands p n c f b (First x (done h)) a s g = (c, f, b, g)
+    back_stands p n c f b (First x never) a s g = (c, f, b, g)
+    back_stands p n c f b (First x (ask v k)) a s g =
+        let h : GivenAll (flat_map given_by p.deeds) b × Safe BackInv (GivenAll (flat_map given_by p.deeds)) (HalfEnd p.back c (flat_map given_by p.deeds)) b (ask v k) =
+        half_left p c b x (ask v k) (subst (λ z. BackStands z p.back c (flat_map given_by p.deeds) b) a g.back) in
         let r = h.1 p.memory f g.inv in
         first_stands (record p { memory = after v p.memory }) c f r.0 (k (answer v p.memory n)) r.1 g.front r.2 (r.3 n s) g.running g.copies g.sent
     back_stands p n c f b (Second packet left (done e)) a s g = (c, f, b, g)
     back_stands p n c f b (Second packet left never) a s g = (c, f, b, g)
     back_stands p n c f b (Second packet left (ask v k)) a s g =
-        let h : BackStands (Second packet left (ask v k)) p.back c (flat_map given_by p.turns) b = subst (λ x. BackStands x p.back c (flat_map given_by p.turns) b) a g.back in
+        let h : BackStands (Second packet left (ask v k)) p.back c (flat_map given_by p.deeds) b = subst (λ x. BackStands x p.back c (flat_map given_by p.deeds) b) a g.back in
         let r = h.1 p.memory f g.inv in
         second_stands (record p { memory = after v p.memory }) packet left c f r.0 (k (answer v p.memory n)) r.1 g.front r.2 (r.3 n s) g.running g.copies g.sent
+    back_stands p n c f b (Delivering asleep packet (done x)) a s g = (c, f, b, g)
+    back_stands p n c f b (Delivering asleep packet never) a s g = (c, f, b, g)
+    back_stands p n c f b (Delivering asleep packet (ask v k)) a s g =
+        let h : BackStands (Delivering asleep packet (ask v k)) p.back c (flat_map given_by p.deeds) b = subst (λ x. BackStands x p.back c (flat_map given_by p.deeds) b) a g.back in
+        let r = h.1 p.memory f g.inv in
+        delivering_stands (record p { memory = after v p.memory }) asleep packet c f r.0 (k (answer v p.memory n)) r.1 g.front r.2 (r.3 n s) g.running g.copies g.sent
+
+    begun_stands : (p : Pair) (packet : List ℕ) (c : Packets) (f : Front) (b : Back) (asleep : Bool) → All IsByte packet → Resting asleep p.back c (flat_map given_by p.deeds) b → Stands p c f b →
+        Good (begin_delivery bw p asleep packet)
+    begun_stands p packet c f b asleep q r g =
+        delivering_stands p asleep packet c f b (whole_delivery bw.vif p.back packet) g.inv g.front (inl (rest_gives p.back c (flat_map given_by p.deeds) b asleep r).0)
+        (l.delivery_safe asleep p.back c (flat_map given_by p.deeds) b packet r q) g.running g.copies g.sent
+
+    deliver_stands : (p : Pair) (packet : List ℕ) (c : Packets) (f : Front) (b : Back) (at : BackAt) → p.at ≡ at → All IsByte packet → Stands p c f b → Good (on_deliver bw at p packet)
+    deliver_stands p packet c f b Asleep a q g = begun_stands p packet c f b true q (subst (λ x. BackStands x p.back c (flat_map given_by p.deeds) b) a g.back) g
+    deliver_stands p packet c f b (First false t) a q g =
+        let h : BackStands (First false t) p.back c (flat_map given_by p.deeds) b = subst (λ x. BackStands x p.back c (flat_map given_by p.deeds) b) a g.back in
+        begun_stands p packet c f b false q h.1 g
+    deliver_stands p packet c f b (First true t) a q g = (c, f, b, g)
+    deliver_stands p packet c f b (Second copy left t) a q g = (c, f, b, g)
+    deliver_stands p packet c f b (Delivering asleep other t) a q g = (c, f, b, g)
 
     step_stands : (p : Pair) (e : PairEvent) (n : ℕ) (c : Packets) (f : Front) (b : Back) → IsBytes e → n < 2 ^ 64 → Stands p c f b → Good (step bw fw p e n)
     step_stands p (Send packet) n c f b q s g = send_stands p packet c f b p.activity refl q g
@@ -346,6 +410,7 @@ module _ (bw : BackWiring) (fw : FrontWiring) {Front Back : Type 0} (Inv : Memor
     step_stands p Poll n c f b q s g = poll_stands p c f b p.activity refl g
     step_stands p FrontStep n c f b q s g = front_stands p n c f b p.activity refl s g
     step_stands p BackStep n c f b q s g = back_stands p n c f b p.at refl s g
+    step_stands p (Deliver packet) n c f b q s g = deliver_stands p packet c f b p.at refl q g
 
     pub run_stands : (p : Pair) (es : List (PairEvent × ℕ)) → Fit es → Good p → Good (run bw fw p es)
     run_stands p [] q g = g
@@ -353,7 +418,13 @@ module _ (bw : BackWiring) (fw : FrontWiring) {Front Back : Type 0} (Inv : Memor
 
     given_end : (at : BackAt) (s : BackState) (c g r : Packets) (b : Back) → BackStands at s c g b → ((more : Packets) × (givens b ≡ r ++ more)) → (more : Packets) × (g ++ given_now at ≡ r ++ more)
     given_end Asleep s c g r b h o = (o.0, append-nil g ∙ sym (l.slept_runs s c g b h).0 ∙ o.1)
-    given_end (First t) s c g r b h o = (o.0, append-nil g ∙ sym h.0 ∙ o.1)
+    given_end (First true t) s c g r b h o = (o.0, append-nil g ∙ sym h.0 ∙ o.1)
+    given_end (First false t) s c g r b h o = (o.0, append-nil g ∙ sym (l.ready_runs s c g b h.1).0 ∙ o.1)
+    given_end (Delivering asleep packet t) s c g r b h o = by h.0
+      where
+        by : GivesPacket g packet b → (more : Packets) × (g ++ packet ∷ [] ≡ r ++ more)
+        by (inl e) = (o.0 ++ packet ∷ [], ap (λ x. x ++ packet ∷ []) (sym e ∙ o.1) ∙ append_assoc r o.0 (packet ∷ []))
+        by (inr e) = (o.0, sym e ∙ o.1)
     given_end (Second packet left t) s c g r b h o = by h.0
       where
         by : GivesLeft g left b → (more : Packets) × (g ++ left_by left ≡ r ++ more)
@@ -371,9 +442,10 @@ module _ (bw : BackWiring) (fw : FrontWiring) {Front Back : Type 0} (Inv : Memor
         record {
           front = no_halt p.activity p.front p.sent p.received f s.front;
           back = s.running;
-          copies = (c, s.copies, s.sent);
-          received = given_end p.at p.back c (flat_map given_by p.turns) p.received b s.back (l.got p.sent p.received p.memory f b (says p.activity p.front p.sent p.received f s.front) s.inv);
+          copies = (c, s.copies.0, s.sent);
+          arrived = s.copies.1;
+          received = given_end p.at p.back c (flat_map given_by p.deeds) p.received b s.back (l.got p.sent p.received p.memory f b (says p.activity p.front p.sent p.received f s.front) s.inv);
           heard = λ a n k.
-              let z : Slept p.back c (flat_map given_by p.turns) b = subst (λ x. BackStands x p.back c (flat_map given_by p.turns) b) a s.back in
-              l.hears p.back c (flat_map given_by p.turns) p.memory f b s.inv z (no_window p.activity p.front p.sent p.received f k s.front) n;
+              let z : Slept p.back c (flat_map given_by p.deeds) b = subst (λ x. BackStands x p.back c (flat_map given_by p.deeds) b) a s.back in
+              l.hears p.back c (flat_map given_by p.deeds) p.memory f b s.inv z (no_window p.activity p.front p.sent p.received f k s.front) n;
         }

@@ -1,7 +1,6 @@
 -- Safe computations, one after another.
-use Rattle.std.specs.Prelude.{ℕ, ◌<◌, ◌^◌}
 use Rattle.xen_steps.specs.Steps.{Steps, done, ask, never, bind}
-use Rattle.pair_machine.specs.Memory.{Memory, after, answer}
+use Rattle.pair_machine.specs.Memory.{Memory, answer}
 use Rattle.pair_machine.specs.Safe.{Safe}
 
 module _ {Mine Other : Type 0} (Inv : Memory → Mine → Other → Type 0) where

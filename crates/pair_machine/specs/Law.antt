@@ -1,9 +1,11 @@
 -- What holds of every list of events of the pair.
-use Rattle.std.specs.Prelude.{ℕ, zero, suc, ◌≡◌, ◌<◌, ◌^◌, ◌==◌, if◌then◌else◌, Bool, true, false, List, [], ◌∷◌, ◌++◌, flat_map}
+use Rattle.std.specs.Prelude.{ℕ, ◌≡◌, ◌<◌, ◌^◌, ◌==◌, if◌then◌else◌, false, List, [], ◌∷◌, ◌++◌, flat_map}
 use Rattle.std.specs.Prelude.{length, Option, Some, None, All}
 use Rattle.bpf_verify.specs.Consistent.{Accepted, IsConsistent}
 use Rattle.xen_back.specs.Tree.{Left}
 use Rattle.xen_back.specs.Turned.{Turned, Idle, Ran, Refused, Halted}
+use Rattle.xen_back.specs.declared.delivery.delivering.Delivery.{Delivery}
+use Rattle.xen_back.specs.declared.delivery.delivering.Delivery.TheVariants as delivery
 use Rattle.xen_back.specs.declared.turn.Refusal.TheVariants as refusal
 use Rattle.xen_back.specs.declared.wiring.Wiring.{Wiring as BackWiring}
 use Rattle.xen_buffers.specs.declared.wiring.Wiring.{Wiring as FrontWiring}
@@ -11,8 +13,8 @@ use Rattle.xen_front.specs.Given.{Ending as FrontEnding}
 use Rattle.xen_front.specs.Making.{IsNew}
 use Rattle.xen_front.specs.declared.state.State.{State as FrontState}
 use Rattle.pair_machine.specs.Layout.{IsBack, IsFront}
-use Rattle.pair_machine.specs.Memory.{Memory}
-use Rattle.pair_machine.specs.Pair.{Activity, Asleep, BackAt, First, Free, Pair, PairEvent, Send, Past, Second, Sending, opening, run}
+use Rattle.pair_machine.specs.Pair.{Activity, Asleep, BackAt, Deed, Deliver, Delivering, First, OfDelivery, OfTurn, Pair, PairEvent, Send}
+use Rattle.pair_machine.specs.Pair.{Past, Second, Sending, opening, run, turns_of}
 use Rattle.xen_steps.specs.Places.{page_word}
 use Rattle.xen_steps.specs.Steps.{Steps}
 
@@ -33,20 +35,44 @@ sent_back (Ran number packet ops slots) = if number == 3 then packet ∷ [] else
 sent_back (Refused cause ops slots) = []
 sent_back (Halted cause) = []
 
-abbrev pub given_by : Past → List (List ℕ)
-given_by p = sent_back p.turn
+-- the packet of a delivery that lies in posted buffers
+abbrev pub delivered : List ℕ → Delivery → List (List ℕ)
+delivered packet (delivery.Sent slots) = packet ∷ []
+delivered packet delivery.FewSlots = []
+delivered packet (delivery.Refused slots) = []
+delivered packet (delivery.Halted cause) = []
+delivered packet delivery.NoFrame = []
+
+-- what a turn sent back, or the host delivered
+abbrev pub given_by : Deed → List (List ℕ)
+given_by (OfTurn past) = sent_back past.turn
+given_by (OfDelivery packet what) = delivered packet what
 
 abbrev pub left_by : Left → List (List ℕ)
 left_by l = if l.number == 3 then l.packet ∷ [] else []
 
--- and the packet of an unfinished turn whose run ended in TX
+-- and the packet of an unfinished turn whose run ended in TX, or of an unfinished delivery
 abbrev pub given_now : BackAt → List (List ℕ)
 given_now Asleep = []
-given_now (First t) = []
+given_now (First b t) = []
 given_now (Second packet left t) = left_by left
+given_now (Delivering asleep packet t) = packet ∷ []
 
 abbrev pub all_given : Pair → List (List ℕ)
-all_given p = flat_map given_by p.turns ++ given_now p.at
+all_given p = flat_map given_by p.deeds ++ given_now p.at
+
+-- A delivery ends with its packet in posted buffers, or with too few of them, or it was no frame.
+abbrev pub HasArrived : Delivery → Type 0
+HasArrived (delivery.Sent slots) = Unit {0}
+HasArrived delivery.FewSlots = Unit {0}
+HasArrived (delivery.Refused slots) = ⊥
+HasArrived (delivery.Halted cause) = ⊥
+HasArrived delivery.NoFrame = Unit {0}
+
+abbrev pub AllArrived : List Deed → Type 0
+AllArrived [] = Unit {0}
+AllArrived (OfTurn past ∷ ds) = AllArrived ds
+AllArrived (OfDelivery packet what ∷ ds) = HasArrived what × AllArrived ds
 
 abbrev pub IsSending : Activity → Type 0
 IsSending a = (t : Steps FrontEnding) × (a ≡ Sending t)
@@ -54,8 +80,9 @@ IsSending a = (t : Steps FrontEnding) × (a ≡ Sending t)
 pub record Honest (p : Pair) : Type 0 where
   pub front : p.front.halt ≡ None
   pub back : p.back.halt ≡ None
-  pub copies : (copies : List (List ℕ)) × HaveCopies p.turns copies × ((more : List (List ℕ)) × (p.sent ≡ copies ++ more))
+  pub copies : (copies : List (List ℕ)) × HaveCopies (turns_of p.deeds) copies × ((more : List (List ℕ)) × (p.sent ≡ copies ++ more))
   pub received : (more : List (List ℕ)) × (all_given p ≡ p.received ++ more)
+  pub arrived : AllArrived p.deeds
   pub heard : p.at ≡ Asleep → p.memory.pending ≡ false → (IsSending p.activity → ⊥) → p.memory.word (page_word 17 0) ≡ p.back.tx_index
 
 -- a front's state before its first activity
@@ -72,6 +99,7 @@ IsByte b = b < 256
 
 abbrev pub IsBytes : PairEvent → Type 0
 IsBytes (Send packet) = All IsByte packet
+IsBytes (Deliver packet) = All IsByte packet
 IsBytes e = Unit {0}
 
 abbrev pub AreFit : List (PairEvent × ℕ) → Type 0

@@ -7,9 +7,10 @@ use Rattle.xen_steps.specs.declared.want.Want.{Want}
 use Rattle.xen_steps.specs.declared.want.Want.TheVariants as want
 use Rattle.xen_back.specs.declared.wiring.Wiring.{Wiring as BackWiring}
 use Rattle.xen_buffers.specs.declared.wiring.Wiring.{Wiring as FrontWiring}
+use Rattle.xdp_world.specs.Activities.{Given, Item, all_came}
 use Rattle.pair_machine.specs.Memory.{Memory, answer, put}
 use Rattle.pair_machine.specs.Pair.{Activity, Free, Sending, Posting, Polling, BackAt, Asleep, First, Second, Pair, PairEvent, Send}
-use Rattle.pair_machine.specs.Pair.{Post, Poll, FrontStep, BackStep, step}
+use Rattle.pair_machine.specs.Pair.{Deliver, Delivering, Post, Poll, FrontStep, BackStep, step}
 
 -- an event of the front, or of the back; or the back woke, and took what was pending
 pub data Logged : Type 0 where
@@ -40,20 +41,30 @@ front_asks (Polling t) m n = asked_of t m n
 
 abbrev pub back_asks : BackAt → Memory → ℕ → List Event
 back_asks Asleep m n = []
-back_asks (First t) m n = asked_of t m n
+back_asks (First b t) m n = asked_of t m n
 back_asks (Second packet left t) m n = asked_of t m n
+back_asks (Delivering asleep packet t) m n = asked_of t m n
 
--- the back's event in a step
-abbrev pub back_event : Pair → PairEvent → ℕ → List Event
-back_event p (Send packet) n = []
-back_event p Post n = []
-back_event p Poll n = []
-back_event p FrontStep n = []
-back_event p BackStep n = back_asks p.at p.memory n
+-- the packet whose delivery begins
+abbrev pub taken_at : BackAt → List ℕ → List Item
+taken_at Asleep packet = Given packet ∷ []
+taken_at (First false t) packet = Given packet ∷ []
+taken_at (First true t) packet = []
+taken_at (Second copy left t) packet = []
+taken_at (Delivering asleep other t) packet = []
 
-abbrev pub back_events : BackWiring → FrontWiring → Pair → List (PairEvent × ℕ) → List Event
-back_events bw fw p [] = []
-back_events bw fw p (e ∷ es) = back_event p e.0 e.1 ++ back_events bw fw (step bw fw p e.0 e.1) es
+-- what the back's queue has of a step: its event, or the packet whose delivery begins
+abbrev pub back_item : Pair → PairEvent → ℕ → List Item
+back_item p (Send packet) n = []
+back_item p Post n = []
+back_item p Poll n = []
+back_item p FrontStep n = []
+back_item p BackStep n = all_came (back_asks p.at p.memory n)
+back_item p (Deliver packet) n = taken_at p.at packet
+
+abbrev pub back_items : BackWiring → FrontWiring → Pair → List (PairEvent × ℕ) → List Item
+back_items bw fw p [] = []
+back_items bw fw p (e ∷ es) = back_item p e.0 e.1 ++ back_items bw fw (step bw fw p e.0 e.1) es
 
 abbrev pub of_front : List Event → List Logged
 of_front [] = []
@@ -69,8 +80,9 @@ woke false = []
 
 abbrev pub logged_back : BackAt → Memory → ℕ → List Logged
 logged_back Asleep m n = woke m.pending
-logged_back (First t) m n = of_back (asked_of t m n)
+logged_back (First b t) m n = of_back (asked_of t m n)
 logged_back (Second packet left t) m n = of_back (asked_of t m n)
+logged_back (Delivering asleep packet t) m n = of_back (asked_of t m n)
 
 -- what a step makes
 abbrev pub logged : Pair → PairEvent → ℕ → List Logged
@@ -79,6 +91,7 @@ logged p Post n = []
 logged p Poll n = []
 logged p FrontStep n = of_front (front_asks p.activity p.memory n)
 logged p BackStep n = logged_back p.at p.memory n
+logged p (Deliver packet) n = []
 
 abbrev pub log : BackWiring → FrontWiring → Pair → List (PairEvent × ℕ) → List Logged
 log bw fw p [] = []

@@ -1,9 +1,11 @@
 -- One front and one back over one memory, event by event. Each event goes with a number, which answers a load or an add of a counter.
-use Rattle.std.specs.Prelude.{ℕ, zero, suc, ◌+◌, Bool, true, false, List, [], ◌∷◌, ◌++◌, length, get_or, Option, Some, None, Result}
+use Rattle.std.specs.Prelude.{ℕ, Bool, true, false, List, [], ◌∷◌, ◌++◌, length, get_or, Option, Some, None, Result}
 use Rattle.std.specs.Prelude.{Ok, Err, nat_lt}
 use Rattle.xen_steps.specs.Steps.{Steps, done, ask, never}
+use Rattle.xen_back.specs.Deliveries.{Arrival, whole_delivery}
 use Rattle.xen_back.specs.Tree.{Left, after_run}
 use Rattle.xen_back.specs.Turned.{Turned, Idle, Ran, Refused, Halted, Ending}
+use Rattle.xen_back.specs.declared.delivery.delivering.Delivery.{Delivery}
 use Rattle.xen_back.specs.declared.state.State.{State as BackState}
 use Rattle.xen_back.specs.declared.wiring.Wiring.{Wiring as BackWiring}
 use Rattle.xen_buffers.specs.declared.wiring.Wiring.{Wiring as FrontWiring}
@@ -25,6 +27,7 @@ pub data PairEvent : Type 0 where
   Poll : PairEvent
   FrontStep : PairEvent
   BackStep : PairEvent
+  Deliver : (packet : List ℕ) → PairEvent
 
 -- what the front is at, with what is left of its activity
 pub data Activity : Type 0 where
@@ -33,19 +36,30 @@ pub data Activity : Type 0 where
   Posting : Steps FrontEnding → Activity
   Polling : Steps FrontEnding → Activity
 
--- What the back is at, with what is left of the half of its turn. In the second half the packet is the copy, and `left` what the
--- program's run left.
+-- What the back is at, with what is left of the half of its turn, or of its delivery. A first half is begun by its first event. In the
+-- second half the packet is the copy, and `left` what the program's run left. A back delivers between turns, asleep or awake.
 pub data BackAt : Type 0 where
   Asleep : BackAt
-  First : Steps Half → BackAt
+  First : (begun : Bool) → Steps Half → BackAt
   Second : (packet : List ℕ) (left : Left) → Steps Ending → BackAt
+  Delivering : (asleep : Bool) (packet : List ℕ) → Steps Arrival → BackAt
 
 -- a turn that is over, with the packet's copy where the program ran on one
 pub record Past : Type 0 where
   pub turn : Turned
   pub copy : Option (List ℕ)
 
--- `front` is the front's state when its last activity was over, `back` the back's at the end of its last turn.
+-- what is over: a turn, or the delivery of a packet of the host's own, with what became of it
+pub data Deed : Type 0 where
+  OfTurn : (past : Past) → Deed
+  OfDelivery : (packet : List ℕ) (what : Delivery) → Deed
+
+abbrev pub turns_of : List Deed → List Past
+turns_of [] = []
+turns_of (OfTurn past ∷ ds) = past ∷ turns_of ds
+turns_of (OfDelivery packet what ∷ ds) = turns_of ds
+
+-- `front` is the front's state when its last activity was over, `back` the back's at the end of its last turn or delivery.
 pub record Pair : Type 0 where
   pub memory : Memory
   pub front : FrontState
@@ -54,7 +68,7 @@ pub record Pair : Type 0 where
   pub at : BackAt
   pub sent : List (List ℕ)
   pub received : List (List ℕ)
-  pub turns : List Past
+  pub deeds : List Deed
 
 -- the packets that an activity gave
 abbrev pub packets_of : Given → List (List ℕ)
@@ -146,12 +160,12 @@ on_front (Polling never) p n = p
 -- After an idle turn the back sleeps; after another the next one begins.
 abbrev pub next_at : BackWiring → BackState → Turned → BackAt
 next_at w s Idle = Asleep
-next_at w s (Ran number packet ops slots) = First (half_turn w s)
-next_at w s (Refused cause ops slots) = First (half_turn w s)
-next_at w s (Halted cause) = First (half_turn w s)
+next_at w s (Ran number packet ops slots) = First false (half_turn w s)
+next_at w s (Refused cause ops slots) = First false (half_turn w s)
+next_at w s (Halted cause) = First false (half_turn w s)
 
 abbrev pub turned : BackWiring → Pair → Ending → Option (List ℕ) → Pair
-turned w p e c = record p { back = e.0; at = next_at w e.0 e.1; turns = p.turns ++ record { turn = e.1; copy = c } ∷ [] }
+turned w p e c = record p { back = e.0; at = next_at w e.0 e.1; deeds = p.deeds ++ OfTurn (record { turn = e.1; copy = c }) ∷ [] }
 
 abbrev pub second : BackWiring → Pair → List ℕ → Left → Steps Ending → Pair
 second w p packet left (done e) = turned w p e (Some packet)
@@ -164,23 +178,51 @@ halved w p (HasRun slots packet left) = second w p packet left (after_run w p.ba
 
 abbrev pub first : BackWiring → Pair → Steps Half → Pair
 first w p (done h) = halved w p h
-first w p (ask v k) = record p { at = First (ask v k) }
-first w p never = record p { at = First never }
+first w p (ask v k) = record p { at = First true (ask v k) }
+first w p never = record p { at = First true never }
 
 -- a sleeping back wakes where its port is pending, and clears it
 abbrev pub wake : BackWiring → Bool → Pair → Pair
-wake w true p = record p { memory = record p.memory { pending = false }; at = First (half_turn w p.back) }
+wake w true p = record p { memory = record p.memory { pending = false }; at = First false (half_turn w p.back) }
 wake w false p = p
+
+-- between turns, asleep or awake
+abbrev pub rested : BackWiring → Bool → BackState → BackAt
+rested w true s = Asleep
+rested w false s = First false (half_turn w s)
+
+abbrev pub landed : BackWiring → Pair → Bool → List ℕ → Arrival → Pair
+landed w p asleep packet a = record p { back = a.0; at = rested w asleep a.0; deeds = p.deeds ++ OfDelivery packet a.1 ∷ [] }
+
+abbrev pub delivering : BackWiring → Pair → Bool → List ℕ → Steps Arrival → Pair
+delivering w p asleep packet (done a) = landed w p asleep packet a
+delivering w p asleep packet (ask v k) = record p { at = Delivering asleep packet (ask v k) }
+delivering w p asleep packet never = record p { at = Delivering asleep packet never }
+
+abbrev pub begin_delivery : BackWiring → Pair → Bool → List ℕ → Pair
+begin_delivery w p asleep packet = delivering w p asleep packet (whole_delivery w.vif p.back packet)
+
+-- Inside a turn or a delivery nothing is done.
+abbrev pub on_deliver : BackWiring → BackAt → Pair → List ℕ → Pair
+on_deliver w Asleep p packet = begin_delivery w p true packet
+on_deliver w (First false t) p packet = begin_delivery w p false packet
+on_deliver w (First true t) p packet = p
+on_deliver w (Second copy left t) p packet = p
+on_deliver w (Delivering asleep other t) p packet = p
 
 -- A halted back's turn is over as it begins, and nothing follows.
 abbrev pub on_back : BackWiring → BackAt → Pair → ℕ → Pair
 on_back w Asleep p n = wake w p.memory.pending p
-on_back w (First (ask v k)) p n = first w (record p { memory = after v p.memory }) (k (answer v p.memory n))
-on_back w (First (done h)) p n = p
-on_back w (First never) p n = p
+on_back w (First b (ask v k)) p n = first w (record p { memory = after v p.memory }) (k (answer v p.memory n))
+on_back w (First b (done h)) p n = p
+on_back w (First b never) p n = p
 on_back w (Second packet left (ask v k)) p n = second w (record p { memory = after v p.memory }) packet left (k (answer v p.memory n))
 on_back w (Second packet left (done e)) p n = p
 on_back w (Second packet left never) p n = p
+on_back w (Delivering asleep packet (ask v k)) p n =
+    delivering w (record p { memory = after v p.memory }) asleep packet (k (answer v p.memory n))
+on_back w (Delivering asleep packet (done a)) p n = p
+on_back w (Delivering asleep packet never) p n = p
 
 abbrev pub step : BackWiring → FrontWiring → Pair → PairEvent → ℕ → Pair
 step bw fw p (Send packet) n = on_send fw p.activity p packet
@@ -188,12 +230,13 @@ step bw fw p Post n = on_post fw p.activity p
 step bw fw p Poll n = on_poll fw p.activity p
 step bw fw p FrontStep n = on_front p.activity p n
 step bw fw p BackStep n = on_back bw p.at p n
+step bw fw p (Deliver packet) n = on_deliver bw p.at p packet
 
 abbrev pub run : BackWiring → FrontWiring → Pair → List (PairEvent × ℕ) → Pair
 run bw fw p [] = p
 run bw fw p (e ∷ es) = run bw fw (step bw fw p e.0 e.1) es
 
--- a back that has done no turn yet
+-- a back that has done nothing yet
 abbrev pub new_back : ℕ → BackState
 new_back start = record { tx_index = start; rx_index = start; halt = None }
 
@@ -207,5 +250,5 @@ opening front start = record {
   at = Asleep;
   sent = [];
   received = [];
-  turns = [];
+  deeds = [];
 }

@@ -1,19 +1,24 @@
--- What the back's events are: the traces of its turns, with the copies that these made, and a beginning of one more.
-use Rattle.std.specs.Prelude.{ℕ, ◌≡◌, List, [], ◌∷◌, ◌++◌, Option, Some, None}
+-- What the back's queue has: the traces of its turns, with the copies that these made, the packets and traces of its deliveries, and a
+-- beginning of one more.
+use Rattle.std.specs.Prelude.{ℕ, ◌≡◌, true, false, List, [], ◌∷◌, ◌++◌, Option, Some, None}
 use Rattle.xen_netif.specs.Chain.{Slot}
 use Rattle.xen_steps.specs.Drive.{Gone}
 use Rattle.xen_steps.specs.Event.{Event, Occurs}
 use Rattle.xen_steps.specs.Steps.{Runs, Steps, done, ask, never}
+use Rattle.xen_back.specs.Delivered.{IsDelivery}
+use Rattle.xen_back.specs.Deliveries.{whole_delivery}
 use Rattle.xen_back.specs.Tree.{Left, after_run}
 use Rattle.xen_back.specs.Turned.{Ending}
 use Rattle.xen_back.specs.Turns.{HasRun as Ran, IsTurn}
+use Rattle.xen_back.specs.declared.delivery.delivering.Delivery.{Delivery}
 use Rattle.xen_back.specs.declared.state.State.{State}
 use Rattle.xen_back.specs.declared.wiring.Wiring.{Wiring}
 use Rattle.pair_machine.specs.Halves.{HasRun, half_turn}
 use Rattle.xen_buffers.specs.declared.wiring.Wiring.{Wiring as FrontWiring}
-use Rattle.pair_machine.specs.Log.{back_event, event_by}
+use Rattle.xdp_world.specs.Activities.{Given, Item, all_came}
+use Rattle.pair_machine.specs.Log.{back_item, event_by}
 use Rattle.pair_machine.specs.Memory.{Memory, answer}
-use Rattle.pair_machine.specs.Pair.{BackAt, Asleep, First, Second, Pair, PairEvent, Send, Post, Poll, FrontStep, BackStep, Past}
+use Rattle.pair_machine.specs.Pair.{BackAt, Asleep, First, Second, Delivering, Deed, OfTurn, OfDelivery, Pair, PairEvent, BackStep, Past}
 use Rattle.pair_machine.specs.Pair.{new_back, step}
 
 -- The trace begins with a look, the reads of a chain, the copy of this packet, and the program's run on it, which left `out`.
@@ -29,12 +34,16 @@ abbrev pub IsCopied : Wiring → State → List Event → Option (List ℕ) → 
 IsCopied w s t None = Unit {0}
 IsCopied w s t (Some copy) = (out : Left) × HasCopy w s t copy out
 
--- The events from a state on are the traces of these turns, each from the last's state, and what is left after them.
-pub data HaveTurns (w : Wiring) : State → List Event → List Past → State → List Event → Type 0 where
-  begun : (s : State) (front : List Event) → HaveTurns w s front [] s front
-  turned : (s mid end : State) (t more front : List Event) (p : Past) (ps : List Past) →
-      s.halt ≡ None → IsTurn w s t mid p.turn → IsCopied w s t p.copy → HaveTurns w mid more ps end front →
-      HaveTurns w s (t ++ more) (p ∷ ps) end front
+-- The items from a state on are the traces of these turns, and the packets and traces of these deliveries, each from the last's state,
+-- and what is left after them.
+pub data HaveDeeds (w : Wiring) : State → List Item → List Deed → State → List Item → Type 0 where
+  begun : (s : State) (front : List Item) → HaveDeeds w s front [] s front
+  turned : (s mid end : State) (t : List Event) (more front : List Item) (p : Past) (ds : List Deed) →
+      s.halt ≡ None → IsTurn w s t mid p.turn → IsCopied w s t p.copy → HaveDeeds w mid more ds end front →
+      HaveDeeds w s (all_came t ++ more) (OfTurn p ∷ ds) end front
+  delivered : (s mid end : State) (packet : List ℕ) (t : List Event) (more front : List Item) (what : Delivery) (ds : List Deed) →
+      IsDelivery w s packet t mid what → HaveDeeds w mid more ds end front →
+      HaveDeeds w s (Given packet ∷ (all_came t ++ more)) (OfDelivery packet what ∷ ds) end front
 
 -- In the second half: the first gave a run on this packet.
 pub record IsSecond (w : Wiring) (s : State) (packet : List ℕ) (left : Left) (t : Steps Ending) (front : List Event) : Type 0 where
@@ -45,21 +54,24 @@ pub record IsSecond (w : Wiring) (s : State) (packet : List ℕ) (left : Left) (
   pub ran : Runs (half_turn w s) first (HasRun slots packet left)
   pub gone : Gone (after_run w s slots left) rest t
 
--- where the back is after these events of a turn
-abbrev pub IsAt : Wiring → State → BackAt → List Event → Type 0
+-- where the back is after these items of a turn or a delivery
+abbrev pub IsAt : Wiring → State → BackAt → List Item → Type 0
 IsAt w s Asleep front = front ≡ []
-IsAt w s (First t) front = Gone (half_turn w s) front t
-IsAt w s (Second packet left t) front = IsSecond w s packet left t front
+IsAt w s (First false t) front = (front ≡ []) × (t ≡ half_turn w s)
+IsAt w s (First true t) front = (f : List Event) × (front ≡ all_came f) × Gone (half_turn w s) f t
+IsAt w s (Second packet left t) front = (f : List Event) × (front ≡ all_came f) × IsSecond w s packet left t f
+IsAt w s (Delivering asleep packet t) front =
+    (f : List Event) × (front ≡ Given packet ∷ all_came f) × Gone (whole_delivery w.vif s packet) f t
 
--- The pair's back has come through these events, from rings that began at this index.
-pub record Traced (w : Wiring) (start : ℕ) (events : List Event) (p : Pair) : Type 0 where
-  pub front : List Event
-  pub turns : HaveTurns w (new_back start) events p.turns p.back front
+-- The pair's back has come through these items, from rings that began at this index.
+pub record Traced (w : Wiring) (start : ℕ) (items : List Item) (p : Pair) : Type 0 where
+  pub front : List Item
+  pub deeds : HaveDeeds w (new_back start) items p.deeds p.back front
   pub at : IsAt w p.back p.at front
 
--- By these events it comes from one pair to the next.
-abbrev pub Follows : Wiring → Pair → Pair → List Event → Type 0
-Follows w p p' events = (start : ℕ) (past : List Event) → Traced w start past p → Traced w start (past ++ events) p'
+-- By these items it comes from one pair to the next.
+abbrev pub Follows : Wiring → Pair → Pair → List Item → Type 0
+Follows w p p' items = (start : ℕ) (past : List Item) → Traced w start past p → Traced w start (past ++ items) p'
 
 -- what is asked next is answered by a number of its width
 abbrev pub IsAnswered : {A : Type 0} → Steps A → Memory → ℕ → Type 0
@@ -69,14 +81,15 @@ IsAnswered never m n = Unit {0}
 
 abbrev pub BackIsAnswered : BackAt → Memory → ℕ → Type 0
 BackIsAnswered Asleep m n = Unit {0}
-BackIsAnswered (First t) m n = IsAnswered t m n
+BackIsAnswered (First b t) m n = IsAnswered t m n
 BackIsAnswered (Second packet left t) m n = IsAnswered t m n
+BackIsAnswered (Delivering asleep packet t) m n = IsAnswered t m n
 
 abbrev pub StepIsAnswered : Pair → PairEvent → ℕ → Type 0
 StepIsAnswered p BackStep n = BackIsAnswered p.at p.memory n
 StepIsAnswered p e n = Unit {0}
 
--- Each event of the pair adds to the traces of its back's turns what the back does in it.
+-- Each event of the pair adds to what its back has what the back does in it.
 abbrev pub TraceLaw : Type 0
 TraceLaw = (bw : Wiring) (fw : FrontWiring) (p : Pair) (e : PairEvent) (n : ℕ) → StepIsAnswered p e n →
-    Follows bw p (step bw fw p e n) (back_event p e n)
+    Follows bw p (step bw fw p e n) (back_item p e n)

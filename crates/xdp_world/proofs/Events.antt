@@ -72,7 +72,7 @@ inside w start items ks dl q at n h = record {
   left = left_at w q at h.front h.stands_at;
 }
 
-same_stands : (a b : World) (wirings : ℕ → Wiring) (start : ℕ) (cs : List Call) → IsSame a b → StandsFor a wirings start cs → StandsFor b wirings start cs
+pub same_stands : (a b : World) (wirings : ℕ → Wiring) (start : ℕ) (cs : List Call) → IsSame a b → StandsFor a wirings start cs → StandsFor b wirings start cs
 same_stands a b wirings start cs s h = record {
   each = λ i d e l. rw (s.queues, s.doing, s.turns i, s.deliveries i) (h.each i d e (omega (arith, l, ap (λ (x : List Queue). length x) s.queues)));
   come = h.come;

@@ -9,7 +9,7 @@ use Rattle.xen_back.specs.Queues.{wiring_of}
 use Rattle.xen_back.specs.declared.delivery.delivering.Delivery.{Delivery}
 use Rattle.xen_back.specs.declared.delivery.underway.Delivering.{Delivering}
 use Rattle.xen_back.specs.declared.queue.Queue.{Queue}
-use Rattle.xdp_world.specs.Carries.{Carries, Moves, after_turn, carries, rests, turns}
+use Rattle.xdp_world.specs.Carries.{Carries, Moves, after_turn, carries, doing_after, rests, turns}
 use Rattle.xdp_world.specs.Doings.{is_delivery}
 use Rattle.xdp_world.specs.Happens.{Moved, MovedBy}
 use Rattle.xdp_world.specs.declared.doing.Doing.{Doing}
@@ -55,3 +55,9 @@ pub free_of : (q q' : Queue) (at at' : Doing) (c d : TotalsView) (a : ℕ) (e : 
 free_of q q' at at' c d a _ _ _ _ (rests n w e r) f = (ap (λ (x : Doing). is_delivery (Some x)) e ∙ n, refl)
 free_of q q' at at' c d a _ _ _ _ (turns o k n e v) f = (ap (λ (x : Doing). is_delivery (Some x)) e ∙ free_after k, refl)
 free_of q q' at at' c d a _ _ _ _ (carries x what e dc v) f = absurd (busy_not at x f e)
+
+pub doing_of : (q q' : Queue) (at at' : Doing) (c d : TotalsView) (a : ℕ) (e : Option Event) (o : Option Op) (k : Option Kept) (what : Option Delivery) →
+    Moves q q' at at' c d a e o k what → is_delivery (Some at) ≡ false → at' ≡ doing_after at e k
+doing_of q q' at at' c d a _ _ _ _ (rests n w e r) f = e
+doing_of q q' at at' c d a _ _ _ _ (turns o k n e v) f = e
+doing_of q q' at at' c d a _ _ _ _ (carries x what e dc v) f = absurd (busy_not at x f e)

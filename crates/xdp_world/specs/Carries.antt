@@ -46,6 +46,11 @@ abbrev pub after_turn : Option Kept → Doing
 after_turn None = doing.Turn
 after_turn (Some k) = doing.Between
 
+-- what a queue is doing after a step that is none of a delivery's: nothing new where it has halted
+abbrev pub doing_after : Doing → Option Event → Option Kept → Doing
+doing_after before None kept = before
+doing_after before (Some e) kept = after_turn kept
+
 -- One event of a turn.
 abbrev pub TurnMoves : (old new : Queue) (after : Doing) (c d : TotalsView) (answer : ℕ) (op : Option Op) (kept : Option Kept)
     (delivery : Option Delivery) → Type 0

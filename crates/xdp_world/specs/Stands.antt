@@ -14,7 +14,7 @@ use Rattle.xen_back.specs.declared.queue.Queue.{Queue}
 use Rattle.xen_back.specs.declared.wiring.Wiring.{Wiring}
 use Rattle.xdp_world.specs.Activities.{Activities, Deed, Item, deliveries_in, turns_in}
 use Rattle.xdp_world.specs.Calls.{Call, Delivers, HaveCome, Stepped, all_stepped, entries_of, items_of}
-use Rattle.xdp_world.specs.Carries.{Carries, Lands, delivered_list}
+use Rattle.xdp_world.specs.Carries.{Carries, Lands, delivered_list, doing_after}
 use Rattle.xdp_world.specs.Core.{IsUnfinished, Turns, started_at}
 use Rattle.xdp_world.specs.Doings.{IsAt, is_between, is_delivery}
 use Rattle.xdp_world.specs.Entries.{AllServe, Entry, history, steps_of}
@@ -94,7 +94,7 @@ pub record IsSame (old new : World) : Type 0 where
   pub counters : new.counters ≡ old.counters
 
 -- The world made one step of a queue, and goes on by its event, where it has one. A turn that is over by it is kept, and what became of
--- a packet whose delivery is over by it.
+-- a packet whose delivery is over by it. The queue stays wired, and is inside a turn by its events until that is over.
 pub record IsStep (old new : World) (queue answer : ℕ) : Type 0 where
   pub event : Option Event
   pub moved : IsFree old queue → (d : Queue) →
@@ -102,6 +102,9 @@ pub record IsStep (old new : World) (queue answer : ℕ) : Type 0 where
   pub kept : Option Kept
   pub moved_by : IsFree old queue → (d : Queue) →
       MovedBy answer (slice_index_or old.queues.items queue d) event kept (slice_index_or new.queues.items queue d)
+  pub wired : (d : Queue) → wiring_of (slice_index_or new.queues.items queue d) ≡ wiring_of (slice_index_or old.queues.items queue d)
+  pub doing_by : IsFree old queue → (d : Doing) →
+      slice_index_or new.doing.items queue d ≡ doing_after (slice_index_or old.doing.items queue d) event kept
   pub turns : kept_in new.turns.items queue ≡ kept_in old.turns.items queue ++ kept_list kept
   pub delivery : Option Delivery
   pub carried : (a : Delivering) → doing_in old queue ≡ Some (doing.Delivery a) → (d : Queue) (e : Doing) →
@@ -121,6 +124,8 @@ pub record HasBegun (old new : World) (queue : ℕ) (packet : List ℕ) (over : 
   pub lands : (d : Queue) (e : Doing) → let q = slice_index_or old.queues.items queue d in
       Lands q (whole_delivery (wiring_of q).vif (state_of q) packet) (slice_index_or new.queues.items queue d)
       (slice_index_or new.doing.items queue e) over
+  pub wired : (d : Queue) → wiring_of (slice_index_or new.queues.items queue d) ≡ wiring_of (slice_index_or old.queues.items queue d)
+  pub turns : kept_in new.turns.items queue ≡ kept_in old.turns.items queue
   pub deliveries : delivered_in new.deliveries.items queue ≡
       delivered_in old.deliveries.items queue ++ delivered_list (length (kept_in old.turns.items queue)) over
   pub stands_for : (wirings : ℕ → Wiring) (start : ℕ) (cs : List Call) → StandsFor old wirings start cs →

@@ -132,6 +132,7 @@ impl<'p, 'b> World<'p, 'b> {
     pub fn report(self) -> Report
         ensures count { vec_len result.turns ≡ vec_len self.entry.queues }
         ensures turns { result.turns.items ≡ self.entry.turns.items }
+        ensures deliveries { result.deliveries.items ≡ self.entry.deliveries.items }
         ensures shapes { result.totals.shapes ≡ self.entry.counters.shapes }
         ensures reports { (wirings : ℕ → Wiring) (start : ℕ) (es : List Entry) → Stands self.entry wirings start es →
             Reports wirings start es result }

@@ -11,12 +11,12 @@ use std::alloc::{AllocError, Global};
 
 /// Numbers by xorshift.
 #[derive(Drop)]
-struct Random {
-    state: u32,
+pub(crate) struct Random {
+    pub(crate) state: u32,
 }
 
 impl Random {
-    fn next(&mut self) -> u32 {
+    pub(crate) fn next(&mut self) -> u32 {
         let mut x = self.state;
         x ^= x << 13;
         x ^= x >> 17;
@@ -26,7 +26,7 @@ impl Random {
     }
 
     /// A number below a limit; 0 where that is 0.
-    fn below(&mut self, limit: usize) -> usize {
+    pub(crate) fn below(&mut self, limit: usize) -> usize {
         if limit == 0 {
             0
         } else {
@@ -35,7 +35,7 @@ impl Random {
     }
 
     /// The size of a packet: most are short, and some have many pieces.
-    fn size(&mut self) -> usize {
+    pub(crate) fn size(&mut self) -> usize {
         let more = match self.below(20) {
             0 => 65_522,
             1 | 2 => 12_000,
@@ -46,7 +46,7 @@ impl Random {
     }
 
     /// How many steps come in a row.
-    fn burst(&mut self) -> usize {
+    pub(crate) fn burst(&mut self) -> usize {
         match self.below(12) {
             0 => 3_000,
             1 | 2 => 300,

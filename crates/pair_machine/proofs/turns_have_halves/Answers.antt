@@ -1,6 +1,4 @@
 use Rattle.pair_machine.proofs.HalfLemmas.{halves}
-use Rattle.pair_machine.proofs.SafeLemmas.{safe_bind}
-use Rattle.pair_machine.proofs.Pairs.{honest}
 use Rattle.pair_machine.proofs.turns_have_halves.Goals as goal
 
 pub returns : goal.returns

@@ -1,4 +1,4 @@
-use Rattle.std.proofs.Common.{◌≡◌, ◌∙◌, ℕ, ◌<◌, ◌+◌, refl, sym, ap, subst, arith, get_or, Result, Ok, Err, IfOk}
+use Rattle.std.proofs.Common.{◌≡◌, ◌∙◌, ℕ, ◌+◌, refl, ap, subst, arith, Result, Ok, Err, IfOk}
 use Rattle.std.proofs.lemmas.List.FromFn.{get_or-map-range_with_len}
 use Rattle.xen_buffers.specs.Grants.{buffer}
 use Rattle.xen_buffers.specs.declared.wiring.Buffer.{Buffer}

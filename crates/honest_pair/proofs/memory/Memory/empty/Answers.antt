@@ -1,5 +1,4 @@
-use Rattle.std.proofs.Common.{◌≡◌, ap, false, ℕ}
-use Rattle.pair_machine.specs.Memory.{Memory}
+use Rattle.std.proofs.Common.{ap, false, ℕ}
 use Rattle.xen_page.specs.declared.place.Place.{Place}
 use Rattle.honest_pair.proofs.WordLemmas.{empty_words}
 use Rattle.honest_pair.proofs.memory.Memory.empty.Goals as goal

@@ -1,4 +1,4 @@
-use Rattle.std.proofs.Common.{◌≡◌, ◌∙◌, ap, ℕ, false}
+use Rattle.std.proofs.Common.{◌∙◌, ap, ℕ, false}
 use Rattle.pair_machine.specs.Memory.{Memory}
 use Rattle.xen_page.specs.declared.place.Place.{Place}
 use Rattle.honest_pair.specs.Words.{opened}

@@ -8,14 +8,14 @@ use Rattle.honest_pair.proofs.FrontLemmas.{goes_front, not_done, on_ok_map, rest
 use Rattle.honest_pair.proofs.pair.Pair.front_step.Goals as goal
 
 pub returns-in-Done : goal.returns-in-Done
-returns-in-Done c = rests_front c.args.self.now _ refl refl refl refl refl (sym c.want-want.ensures.want ∙ c.in-Done.is)
+returns-in-Done c = rests_front c.args.self.now _ refl refl refl refl refl refl (sym c.want-want.ensures.want ∙ c.in-Done.is)
 
 pub returns-in-Done-want : goal.returns-in-Done-want
 returns-in-Done-want c =
     let old = c.args.self.now in
     let v = c.want-want.result in
     let went : rest c.feed.new.self ≡ next (rest old.front) (answer v (memory_in old.memory) 0) = c.feed.ensures.rest ∙ ap (next (rest old.front)) c.answer-answer.ensures.number in
-    on_ok_map c.receive.result c.receive.ensures (λ r. goes_front old c.receive.new.self r.world r.asleep v c.want-want.ensures.want c.in_default.not-Done
+    on_ok_map c.receive.result c.receive.ensures (λ r. goes_front old c.receive.new.self r.world r.asleep r.delivers v c.want-want.ensures.want c.in_default.not-Done
     (ap memory_in r.memory ∙ c.answer-answer.ensures.after) (r.front_wired ∙ c.feed.ensures.wiring) (inr (r.given, sym went ∙ r.over, r.free, r.received)))
 
 pub returns-in_default-want : goal.returns-in_default-want
@@ -23,5 +23,5 @@ returns-in_default-want c =
     let old = c.args.self.now in
     let v = c.want-want.result in
     let went : rest c.feed.new.self ≡ next (rest old.front) (answer v (memory_in old.memory) 0) = c.feed.ensures.rest ∙ ap (next (rest old.front)) c.answer-answer.ensures.number in
-    goes_front old _ refl refl v c.want-want.ensures.want c.in_default.not-Done c.answer-answer.ensures.after c.feed.ensures.wiring
+    goes_front old _ refl refl refl v c.want-want.ensures.want c.in_default.not-Done c.answer-answer.ensures.after c.feed.ensures.wiring
     (inl (went, subst IsGoing went (not_done (rest c.feed.new.self) (λ e. c.in_default-want.not-Done (c.want.ensures.want ∙ e))), refl))

@@ -1,9 +1,5 @@
-use Rattle.std.proofs.Common.{refl, sym, ◌∙◌, ap, ◌++◌, length}
-use Rattle.std.specs.Prelude.{slice_get}
+use Rattle.std.proofs.Common.{refl, sym, ◌∙◌, ap, ◌++◌}
 use Rattle.xdp_world.specs.Happens.{kept_list}
-use Rattle.xdp_world.specs.Stands.{doing_in}
-use Rattle.xdp_world.proofs.Fitting.{free_want}
-use Rattle.honest_pair.specs.Shows.{is_idle, queue_in}
 use Rattle.honest_pair.proofs.BackLemmas.{goes_on, held_back, idle_kept, some_queue}
 use Rattle.honest_pair.proofs.pair.Pair.go_on.Goals as goal
 
@@ -11,7 +7,7 @@ pub returns : goal.returns
 returns c =
     let old = c.args.self.now in
     let i = c.in_ok-step.ensures.ok in
-    goes_on old _ c.serve-answer.result c.want.result c.requires refl refl (λ d. c.want.ensures.want d ∙ free_want (queue_in old.world d) (doing_in old.world 0) old.free) c.serve-answer.ensures.after c.serve-answer.ensures.answer i
+    goes_on old _ c.serve-answer.result c.want.result c.requires.asleep c.requires.delivers refl refl refl c.want.ensures.want c.serve-answer.ensures.after c.serve-answer.ensures.answer i
     (c.is_idle-self.ensures ∙ idle_kept c.turns-before.result.now c.turns.result.now i.kept (c.turns.ensures ∙ i.turns ∙ ap (λ l. l ++ kept_list i.kept) (sym c.turns-before.ensures))) c.step.ensures.shapes
 
 pub serve-answer-requires : goal.serve-answer-requires

@@ -1,9 +1,8 @@
-use Rattle.std.proofs.Common.{◌≡◌, take, get_or, subst, ◌∙◌, ap, refl, sym}
+use Rattle.std.proofs.Common.{◌≡◌, take, get_or, subst, sym}
 use Rattle.std.proofs.lemmas.List.{get_or_read, take_more, take_all}
 use Rattle.honest_pair.specs.Events.{event_in, events_in}
 use Rattle.honest_pair.specs.Runs.{HasDone}
-use Rattle.honest_pair.specs.declared.event.PairEvent.TheVariants as called
-use Rattle.honest_pair.proofs.RunLemmas.{done_more, done_none, events_in_more, is_run}
+use Rattle.honest_pair.proofs.RunLemmas.{done_more, done_none, events_in_more}
 use Rattle.honest_pair.proofs.pair.Pair.steps.Goals as goal
 
 pub loop-event-init : goal.loop-event-init

@@ -1,4 +1,4 @@
-use Rattle.std.proofs.Common.{◌≡◌, take}
+use Rattle.std.proofs.Common.{take}
 use Rattle.honest_pair.specs.Events.{events_in}
 use Rattle.honest_pair.specs.Runs.{HasDone}
 use Rattle.honest_pair.proofs.pair.Pair.steps.Given as goal

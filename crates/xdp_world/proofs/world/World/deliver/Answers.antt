@@ -95,6 +95,8 @@ returns-clause-ok c =
       between = ap is_between now ∙ between;
       lands = λ d e.
           rw (is d, get_or-set_same qs i q' d l, get_or-set_same ats i at' e la) s.ensures.lands;
+      wired = λ d. rw (is d, get_or-set_same qs i q' d l) s.ensures.same;
+      turns = refl;
       deliveries = mine;
       stands_for = λ wirings start cs h.
           let came : After wirings start qs ats kept dels w.history.items w.counters cs = record { each = h.each; come = h.come; serve = h.serve; joined = h.past; legal = h.legal; leaves = h.leaves } in

@@ -6,7 +6,7 @@ use Rattle.xen_back.specs.Queues.{wiring_of}
 use Rattle.xen_back.specs.declared.queue.Queue.{Queue}
 use Rattle.xen_back.specs.declared.wiring.Wiring.{Wiring}
 use Rattle.xdp_world.specs.Calls.{Call, Stepped, all_stepped}
-use Rattle.xdp_world.specs.Carries.{Moves, delivered_list}
+use Rattle.xdp_world.specs.Carries.{Moves, delivered_list, doing_after}
 use Rattle.xdp_world.specs.Doings.{is_delivery}
 use Rattle.xdp_world.specs.Happens.{Moved, MovedBy, kept_list}
 use Rattle.xdp_world.specs.Stands.{StandsFor, delivered_in, delivered_of, kept_in, kept_of}
@@ -16,7 +16,7 @@ use Rattle.xdp_world.specs.declared.kept.Kept.{Kept}
 use Rattle.xdp_world.specs.declared.report.Delivered.{Delivered}
 use Rattle.xdp_world.proofs.Fitting.{fit_set, free_set, shapes_set}
 use Rattle.xdp_world.proofs.Plainly.{stepped_append}
-use Rattle.xdp_world.proofs.Stepped.{carried_of, free_of, moved_by_of, moved_of}
+use Rattle.xdp_world.proofs.Stepped.{carried_of, doing_of, free_of, moved_by_of, moved_of}
 use Rattle.xdp_world.proofs.Worlds.{After, get_set, get_set_other, get_some, stands_step}
 use Rattle.xdp_world.proofs.world.World.step.Goals as goal
 
@@ -89,6 +89,9 @@ returns-clause-ok c =
       moved_by = λ f d.
           subst (λ (x : Queue). MovedBy a x e k (get_or (set qs i q') i d)) (sym (before d))
           (subst (λ (x : Queue). MovedBy a q e k x) (sym (after d)) (moved_by_of q q' at at' b.counters s.new.counters a e o k what s.ensures.same m (is_free f)));
+      wired = λ d. ap (λ (x : Queue). wiring_of x) (after d) ∙ s.ensures.same ∙ ap (λ (x : Queue). wiring_of x) (sym (before d));
+      doing_by = λ f d. get_or-set_same ats i at' d la ∙ doing_of q q' at at' b.counters s.new.counters a e o k what m (is_free f)
+          ∙ ap (λ (x : Doing). doing_after x e k) (sym (does d) ∙ ap (λ (x : List Doing). get_or x i d) same.doing);
       turns = mine ∙ ap (λ (x : List Kept). x ++ kept_list k) (same.turns i);
       delivery = what;
       carried = λ x under d y.
