@@ -18,11 +18,6 @@ pub row_passed : {A B : Type 0} (f : B → Option Key) (g : A → B) (xs : List 
     → first_row f i (map g (drop i xs)) ≡ first_row f (i + 1) (map g (drop (i + 1) xs))
 row_passed f g xs i d h e = rw (drop_more xs i d h, e, add-one)
 
--- a fault at a row
-pub row_found : {A B : Type 0} (f : B → Option Key) (g : A → B) (xs : List A) (i : ℕ) (d : A) (k : Key) → i < length xs → f (g (get_or xs i d)) ≡ Some k
-    → first_row f i (map g (drop i xs)) ≡ Some (row k i)
-row_found f g xs i d k h e = rw (drop_more xs i d h, e)
-
 tail_passed : {A B : Type 0} (f : List B → Option Key) (g : A → B) (xs : List A) (i n : ℕ) → i < length xs → f (map g (drop i xs)) ≡ None
     → first_from f n (map g (drop i xs)) ≡ first_from f (suc n) (map g (drop (suc i) xs))
 tail_passed f g [] i n h e = absurd (omega arith)

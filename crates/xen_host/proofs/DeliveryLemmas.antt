@@ -188,9 +188,6 @@ not_between s (stage.Push a) h = refl
 not_between s (stage.Notice a) h = refl
 not_between s (stage.Over b after kind) h = refl
 
-pub busy_between : (g : Stage) → ((b : Box Work) → g ≡ stage.Ready b → ⊥) → (s : State) → between s g ≡ None
-busy_between g h s = not_between s g h
-
 pub taken_task_completes : (w : Wires) (s : State) (g new : Stage) (packet : List ℕ) (a : Taken) → IsWired (vif_of w) → TaskCompletes w s g → IsTakenAt g packet new a → TaskCompletes w s new
 taken_task_completes w s g new packet taken.Begun wired c t =
     subst (λ (x : Stage). TaskCompletes w s x) (sym t.new_is) (arrives (vif_of w) s t.loaded.work.value.packet wired)

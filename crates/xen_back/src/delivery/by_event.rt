@@ -5,6 +5,7 @@ ghost use Rattle.xen_steps.specs.Answers.{Fits};
 ghost use Rattle.xen_steps.specs.Drive.{IsPageWant};
 ghost use Rattle.xen_steps.specs.Steps.{done, next_by, want_of};
 ghost use Rattle.xen_transmit.specs.Wired.{IsWired};
+ghost use Rattle.xen_transmit.specs.declared.vif.Vif.{Vif as VifView};
 ghost use Rattle.xen_back.specs.Delivered.{is_frame};
 ghost use Rattle.xen_back.specs.ByEvent.{IsBegun, IsDeliveryAsked, IsDeliveryFed, IsDeliveryOf, IsDeliveryOver, frames_of, left_of};
 ghost use Rattle.xen_back.specs.Deliveries.{Arrival, rest_moving, unless_halted, whole_delivery};
@@ -20,11 +21,11 @@ use xen_steps::{Answer, Want};
 use xen_transmit::{Progress, Transmit, Vif};
 
 /// A delivery of which nothing is done.
-fn begun<'d>(vif: &Vif, state: &State, packet: &'d [u8]) -> Moving<'d>
-    ensures { rest_moving vif.now state.now result ≡ whole_delivery vif.now state.now packet.now }
+fn begun<'d>(state: &State, packet: &'d [u8]) -> Moving<'d>
+    ensures { (v : VifView) → rest_moving v state.now result ≡ whole_delivery v state.now packet.now }
 {
     if can_be_delivered(packet) {
-        begun_frame(vif, state, packet)
+        begun_frame(state, packet)
     } else {
         Moving::Over {
             after: *state,
@@ -34,9 +35,9 @@ fn begun<'d>(vif: &Vif, state: &State, packet: &'d [u8]) -> Moving<'d>
 }
 
 /// A delivery of a packet, unless the queue has halted.
-fn begun_frame<'d>(vif: &Vif, state: &State, packet: &'d [u8]) -> Moving<'d>
+fn begun_frame<'d>(state: &State, packet: &'d [u8]) -> Moving<'d>
     requires { is_frame packet.now ≡ true }
-    ensures { rest_moving vif.now state.now result ≡ unless_halted vif.now state.now packet.now state.now.halt }
+    ensures { (v : VifView) → rest_moving v state.now result ≡ unless_halted v state.now packet.now state.now.halt }
 {
     match state.halt {
         Some(cause) => Moving::Over {
@@ -72,7 +73,7 @@ fn underway<'p, 'd>(vif: &Vif<'p>, state: &State, packet: &'d [u8]) -> Deliverin
     ensures vif { result.vif ≡ vif.now }
     ensures state { result.state ≡ state.now }
 {
-    let moving = begun(vif, state, packet);
+    let moving = begun(state, packet);
     Delivering {
         vif: shared(vif),
         state: *state,

@@ -143,7 +143,7 @@ fn more_slots<B: Bus>(
     }
 }
 
-/// Where the next slot is.
+/// Where a chain's first slot is: no slots on from the tx index, as the definitions count them.
 fn next_index(state: &State) -> u32
     ensures { result ≡ add32 state.now.tx_index 0 }
 {

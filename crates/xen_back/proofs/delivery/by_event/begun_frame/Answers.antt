@@ -4,9 +4,9 @@ use Rattle.xen_back.specs.Deliveries.{arrived, unless_halted}
 use Rattle.xen_back.proofs.delivery.by_event.begun_frame.Goals as goal
 
 pub returns-in-Some : goal.returns-in-Some
-returns-in-Some c = sym (ap (unless_halted c.args.vif.now c.args.state.now c.args.packet.now) c.in-Some.is)
+returns-in-Some c v = sym (ap (unless_halted v c.args.state.now c.args.packet.now) c.in-Some.is)
 
 pub returns-in-None : goal.returns-in-None
-returns-in-None c =
-    ap (λ o. bind o (arrived c.args.state.now)) (c.begin-transmit.ensures c.args.vif.now c.args.state.now.rx_index c.args.packet.now)
-    ∙ sym (ap (unless_halted c.args.vif.now c.args.state.now c.args.packet.now) c.in-None.is)
+returns-in-None c v =
+    ap (λ o. bind o (arrived c.args.state.now)) (c.begin-transmit.ensures v c.args.state.now.rx_index c.args.packet.now)
+    ∙ sym (ap (unless_halted v c.args.state.now c.args.packet.now) c.in-None.is)
