@@ -16,3 +16,4 @@ pub mod BulkLemmas
 pub mod OnceLemmas
 pub mod AloneLemmas
 pub mod ArriveLemmas
+pub mod WaitLemmas
