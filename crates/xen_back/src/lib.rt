@@ -4,8 +4,8 @@
 //! - `queue`: a queue, how it is made, and its calls
 //! - `by_event`: a turn one event at a time; what a queue wants (`wanting`), what it does with an answer (`feeding`), and a
 //!   file for each part of a turn: `looking`, `copying`, `executing`, `sent`, `answering`, `ending`
-//! - `in_one_go`: a whole turn over a bus (`drive`), in the order of its parts: `looking`, `slots`, `copying` with the words of a page
-//!   (`pages`), `running`, `answering`; `turning` leads from one to the next, for a chain of any length
+//! - `in_one_go`: a whole turn over a bus (`turning`), for a chain of any length, in the order of its parts: `looking`, `slots`, `copying`,
+//!   `running`, `answering`
 //! - `decisions`: what a turn decides, whichever way it goes
 //! - `delivery`: a packet of the host's own, in one go and by event, and waiting for slots
 //! - `wiring`, `desc`, `state`, `turn`, `copy_buf`: what these work on; `laws`: what holds of every turn

@@ -4,7 +4,7 @@ use Rattle.xen_netif.proofs.CopyLemmas.{length-bytes_of}
 use Rattle.xen_steps.specs.Pages.{HasRoom}
 use Rattle.xen_back.proofs.ReadLemmas.{bytes_from-append, read_then, room_after_whole, whole_bytes, whole_room}
 use Rattle.xen_back.specs.Reads.{AreReadFrom}
-use Rattle.xen_back.proofs.in_one_go.pages.read_fragment.Goals as goal
+use Rattle.xen_back.proofs.in_one_go.copying.read_fragment.Goals as goal
 
 pub read_parts-requires-clause-within : goal.read_parts-requires-clause-within
 read_parts-requires-clause-within g c =
