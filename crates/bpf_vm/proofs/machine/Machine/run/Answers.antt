@@ -1,6 +1,5 @@
 use Rattle.std.proofs.Common.{◌≡◌, arith, subst, sym}
 use Rattle.bpf_vm.specs.Advance.{Advanced}
-use Rattle.bpf_vm.specs.Passes.{Runs}
 use Rattle.bpf_vm.specs.Stands.{IsRunning, now, running_of}
 use Rattle.bpf_vm.specs.Wants.{Waits}
 use Rattle.bpf_vm.specs.declared.machine.Machine.{Machine}

@@ -1,7 +1,7 @@
-use Rattle.std.proofs.Common.{arith, ap, sym, ◌∙◌, ◌≢◌, length, ℕ, subst, refl}
+use Rattle.std.proofs.Common.{arith, ap, sym, ◌∙◌, length, ℕ, subst, refl}
 use Rattle.bpf_insn.specs.Size.{size_bytes}
 use Rattle.bpf_insn.specs.declared.size.Size.{Size}
-use Rattle.bpf_note.specs.Regions.{Place, region, Nowhere}
+use Rattle.bpf_note.specs.Regions.{Place, region}
 use Rattle.bpf_vm.specs.Running.{IsInCounter}
 use Rattle.bpf_vm.specs.Wants.{IsWantAt}
 use Rattle.bpf_vm.specs.declared.want.VmWant.TheVariants.{Load}
