@@ -204,3 +204,38 @@ fn conditions(rt: HostRuntime) {
     ];
     assert_eq!(rt; others, [false, false, true]);
 }
+
+#[test]
+fn equal_operands(rt: HostRuntime) {
+    // R: section 4.3, whose table has an `=` in the forms that hold of equal numbers; section 4.1: 32-bit forms read the
+    // low halves alone. The numbers are -1, the least and the greatest of each width, and 1; none has a zero AND with itself.
+    for (cond, holds_of_equals) in [
+        (Condition::Equal, true),
+        (Condition::NotEqual, false),
+        (Condition::Greater, false),
+        (Condition::GreaterOrEqual, true),
+        (Condition::Less, false),
+        (Condition::LessOrEqual, true),
+        (Condition::SignedGreater, false),
+        (Condition::SignedGreaterOrEqual, true),
+        (Condition::SignedLess, false),
+        (Condition::SignedLessOrEqual, true),
+        (Condition::Set, true),
+    ] {
+        for number in [ONES, LEAST, LEAST - 1, 1] {
+            assert_eq!(rt;
+                holds(cond, true, number, number),
+                holds_of_equals,
+                "{cond} {number}"
+            );
+        }
+        for low in [0xffff_ffff, 0x8000_0000, 0x7fff_ffff, 1] {
+            let other = low + 0xf_0000_0000;
+            assert_eq!(rt;
+                holds(cond, false, low, other),
+                holds_of_equals,
+                "{cond} {low}"
+            );
+        }
+    }
+}

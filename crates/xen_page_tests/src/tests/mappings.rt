@@ -80,18 +80,21 @@ fn a_reference_past_the_table_is_not_looked_at(rt: HostRuntime) {
 
 #[test]
 fn a_changed_entry_stays_mapped(rt: HostRuntime) {
-    // after the second exchange of an end the marked word stands again
-    let accesses = [
-        read(FLAGS, 1),
-        read(FRAME, 17),
-        exchange(1, 25, 1),
-        exchange(0x19, 1, 0x1D),
-        exchange(0x19, 1, 0x19),
-    ];
-    assert_eq!(rt;
-        ended(rt.alloc(), &[1, 17, 1, 0x1D, 0x19], true),
-        Some((Some(((17, true, FLAGS), true)), log(&accesses)))
-    );
+    // The word is one bit more than the marked one, or has lost its marks, or one of them. At the second try to end the mapping
+    // the marked word stands again.
+    for found in [0x1D, 1, 9] {
+        let accesses = [
+            read(FLAGS, 1),
+            read(FRAME, 17),
+            exchange(1, 25, 1),
+            exchange(0x19, 1, found),
+            exchange(0x19, 1, 0x19),
+        ];
+        assert_eq!(rt;
+            ended(rt.alloc(), &[1, 17, 1, found, 0x19], true),
+            Some((Some(((17, true, FLAGS), true)), log(&accesses)))
+        );
+    }
 }
 
 #[test]

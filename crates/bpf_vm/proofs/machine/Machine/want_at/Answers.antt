@@ -1,5 +1,6 @@
 use Rattle.std.proofs.Common.{arith, ap, sym, ◌∙◌, length, ℕ, subst, refl}
 use Rattle.bpf_insn.specs.Size.{size_bytes}
+use Rattle.bpf_insn.specs.declared.size.Size.{Size}
 use Rattle.bpf_note.specs.Regions.{Place, region}
 use Rattle.bpf_vm.specs.Running.{IsInCounter}
 use Rattle.bpf_vm.specs.Wants.{IsWantAt}
@@ -12,16 +13,17 @@ pub counter_at-m-requires-clause-there : goal.counter_at-m-requires-clause-there
 counter_at-m-requires-clause-there c =
     let len = length c.args.self.now.packet.bytes in
     let shapes = c.args.self.now.shapes.now in
-    let p = counter_above len shapes c.args.address (size_bytes c.args.size) (omega (arith, c.bytes-packet.ensures.short, ap length c.bytes-packet.ensures.same)) (some_bytes c.args.size) (omega arith) c.requires.there in
+    let size = c.requires.there.0 in
+    let p = counter_above len shapes c.args.address (size_bytes size) (omega (arith, c.bytes-packet.ensures.short, ap length c.bytes-packet.ensures.same)) (some_bytes size) (omega arith) c.requires.there.1 in
     subst (λ (z : ℕ). IsInCounter (region len shapes c.args.address z)) p.0 p.1
 
 pub returns-then-address-lt-VALUES_START : goal.returns-then-address-lt-VALUES_START
-returns-then-address-lt-VALUES_START c = want_below (length c.args.self.now.packet.bytes) c.args.self.now.shapes.now c.args.address (size_bytes c.args.size) (omega arith) c.requires.there
+returns-then-address-lt-VALUES_START c = λ (size : Size) there. want_below (length c.args.self.now.packet.bytes) c.args.self.now.shapes.now c.args.address (size_bytes size) (omega arith) there
 
 pub returns-else-address-lt-VALUES_START : goal.returns-else-address-lt-VALUES_START
-returns-else-address-lt-VALUES_START c =
+returns-else-address-lt-VALUES_START c = λ (size : Size) there.
     let len = length c.args.self.now.packet.bytes in
     let shapes = c.args.self.now.shapes.now in
-    let p = counter_above len shapes c.args.address (size_bytes c.args.size) (omega (arith, c.bytes-packet.ensures.short, ap length c.bytes-packet.ensures.same)) (some_bytes c.args.size) (omega arith) c.requires.there in
+    let p = counter_above len shapes c.args.address (size_bytes size) (omega (arith, c.bytes-packet.ensures.short, ap length c.bytes-packet.ensures.same)) (some_bytes size) (omega arith) there in
     let at = ap (λ (z : ℕ). region len shapes c.args.address z) p.0 ∙ c.counter_at-m.ensures in
     subst (λ (q : Place). IsWantAt q (Load c.counter_at-m.result.0 c.counter_at-m.result.1 c.counter_at-m.result.2)) (sym at) (refl, refl, refl)
