@@ -42,7 +42,7 @@ over turn number ops slots =
 
 abbrev pub over_of : Kind → XdpOp
 over_of kind.Idle = over 0 0 0 0
-over_of (kind.Ran number ops slots) = over 1 number ops slots
+over_of (kind.Ran ops number slots) = over 1 number ops slots
 over_of (kind.Refused cause ops slots) = over 2 (refusal_number cause) ops slots
 over_of (kind.Halted cause) = over 3 (halt_number cause) 0 0
 

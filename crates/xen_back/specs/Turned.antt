@@ -22,7 +22,7 @@ Ending = State × Turned
 -- the turn of this kind, with these bytes if a program ran
 abbrev pub turned : Kind → List ℕ → Turned
 turned kind.Idle packet = Idle
-turned (kind.Ran number ops slots) packet = Ran number packet ops slots
+turned (kind.Ran ops number slots) packet = Ran number packet ops slots
 turned (kind.Refused cause ops slots) packet = Refused cause ops slots
 turned (kind.Halted cause) packet = Halted cause
 

@@ -62,8 +62,8 @@ pub enum Turn<'t> {
 pub enum Kind {
     Idle,
     Ran {
-        number: u32,
         ops: u32,
+        number: u32,
         slots: u32,
     },
     Refused {
