@@ -164,6 +164,3 @@ push_on log gives w tx i words event e start old bus new t d h l p =
 
 pub tx_within : (v : Vif) → IsWired v → v.tx < length v.owners.now
 tx_within v h = slice_get_within v.owners.now v.tx v.granter h.tx
-
-pub rx_within : (v : Vif) → IsWired v → v.rx < length v.owners.now
-rx_within v h = slice_get_within v.owners.now v.rx v.granter h.rx

@@ -16,4 +16,3 @@ pub mod BulkLemmas
 pub mod OnceLemmas
 pub mod AloneLemmas
 pub mod ArriveLemmas
-pub mod WaitLemmas

@@ -29,7 +29,6 @@ mod wiring;
 pub use bpf_vm::Action;
 pub use delivery::awaiting::Awaited;
 pub use delivery::delivering::Delivery;
-pub use delivery::looking::Awaiting;
 pub use delivery::underway::Delivering;
 pub use desc::QueueDesc;
 pub use queue::Queue;

@@ -52,7 +52,7 @@ fn begun_frame<'d>(state: &State, packet: &'d [u8]) -> Moving<'d>
 }
 
 /// The same vif once more.
-pub(crate) fn shared<'p>(vif: &Vif<'p>) -> Vif<'p>
+fn shared<'p>(vif: &Vif<'p>) -> Vif<'p>
     ensures { result ≡ vif.now }
 {
     Vif {
