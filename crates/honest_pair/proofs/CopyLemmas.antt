@@ -7,20 +7,21 @@ use Rattle.xen_back.specs.Tree.{Left}
 use Rattle.xen_back.specs.Turned.{Turned, Idle, Ran, Refused, Halted}
 use Rattle.xen_back.specs.declared.state.State.{State}
 use Rattle.xen_back.specs.declared.wiring.Wiring.{Wiring}
-use Rattle.xdp_world.specs.Activities.{Deed as WorldDeed, DeliveryOf, Item, TurnOf, all_came, deliveries_in, turns_in}
+use Rattle.xdp_world.specs.Activities.{Deed as WorldDeed, DeliveryOf, Item, TurnOf, WaitOf, all_came, deliveries_in, turns_in, waits_in}
 use Rattle.xdp_world.specs.Keeping.{Keeps}
 use Rattle.xdp_world.specs.declared.kept.Kept.{Kept}
 use Rattle.xdp_world.specs.declared.kept.Kept.TheVariants as kept
 use Rattle.xdp_world.specs.declared.report.Delivered.{Delivered}
+use Rattle.xdp_world.specs.declared.report.Waited.{Waited}
 use Rattle.pair_machine.specs.Law.{AllArrived, HaveCopies, delivered, given_by, given_now, left_by}
 use Rattle.pair_machine.specs.Law as law
-use Rattle.pair_machine.specs.Pair.{BackAt, Asleep, First, Second, Delivering, Deed, OfTurn, OfDelivery, Pair, new_back, turns_of}
+use Rattle.pair_machine.specs.Pair.{BackAt, Asleep, First, Second, Delivering, Waiting, Deed, OfTurn, OfDelivery, OfWait, Pair, new_back, turns_of}
 use Rattle.pair_machine.specs.Traces.{HasCopy, HaveDeeds, IsAt, Traced}
 use Rattle.pair_machine.specs.Traces as traces
 use Rattle.pair_machine.proofs.CopyLemmas.{has_copy}
 use Rattle.honest_pair.specs.Copies.{AreCopied, Delivers, HasCopied, IsLast, sent_back}
 use Rattle.honest_pair.specs.Copies as copies
-use Rattle.honest_pair.specs.Shows.{AllKept, deliveries_of}
+use Rattle.honest_pair.specs.Shows.{AllKept, deliveries_of, waits_of}
 
 -- the deeds, with the turns as they are kept
 abbrev pub world_deeds : List Deed → List Kept → List WorldDeed
@@ -28,6 +29,7 @@ world_deeds [] ks = []
 world_deeds (OfTurn p ∷ ds) [] = []
 world_deeds (OfTurn p ∷ ds) (k ∷ ks) = TurnOf k ∷ world_deeds ds ks
 world_deeds (OfDelivery packet what ∷ ds) ks = DeliveryOf what ∷ world_deeds ds ks
+world_deeds (OfWait pages answer ∷ ds) ks = WaitOf answer ∷ world_deeds ds ks
 
 world_turns : (ds : List Deed) (ks : List Kept) → AllKept (turns_of ds) ks → ks ≡ turns_in (world_deeds ds ks)
 world_turns [] [] a = refl
@@ -35,12 +37,21 @@ world_turns [] (k ∷ ks) a = absurd a
 world_turns (OfTurn p ∷ ds) [] a = absurd a
 world_turns (OfTurn p ∷ ds) (k ∷ ks) a = ap (λ (l : List Kept). k ∷ l) (world_turns ds ks a.1)
 world_turns (OfDelivery packet what ∷ ds) ks a = world_turns ds ks a
+world_turns (OfWait pages answer ∷ ds) ks a = world_turns ds ks a
 
 world_deliveries : (n : ℕ) (ds : List Deed) (ks : List Kept) → AllKept (turns_of ds) ks → deliveries_of n ds ≡ deliveries_in n (world_deeds ds ks)
 world_deliveries n [] ks a = refl
 world_deliveries n (OfTurn p ∷ ds) [] a = absurd a
 world_deliveries n (OfTurn p ∷ ds) (k ∷ ks) a = world_deliveries (n + 1) ds ks a.1
 world_deliveries n (OfDelivery packet what ∷ ds) ks a = ap (λ (l : List Delivered). record { turns = n; delivery = what } ∷ l) (world_deliveries n ds ks a)
+world_deliveries n (OfWait pages answer ∷ ds) ks a = world_deliveries n ds ks a
+
+world_waits : (n m : ℕ) (ds : List Deed) (ks : List Kept) → AllKept (turns_of ds) ks → waits_of n m ds ≡ waits_in n m (world_deeds ds ks)
+world_waits n m [] ks a = refl
+world_waits n m (OfTurn p ∷ ds) [] a = absurd a
+world_waits n m (OfTurn p ∷ ds) (k ∷ ks) a = world_waits (n + 1) m ds ks a.1
+world_waits n m (OfDelivery packet what ∷ ds) ks a = world_waits n (m + 1) ds ks a
+world_waits n m (OfWait pages answer ∷ ds) ks a = ap (λ (l : List Waited). record { turns = n; deliveries = m; awaited = answer } ∷ l) (world_waits n m ds ks a)
 
 back_as : (u : Turned) (k : Kept) → Keeps u k → law.sent_back u ≡ sent_back k
 back_as Idle kept.Idle h = refl
@@ -71,6 +82,8 @@ module _ (w : Wiring) where
       (copies.copied s mid end t more front p.turn k (world_deeds ds ks) copy c.0 cs (flat_map given_by ds) n i a.0 refl c.1 (are_copied mid more ds end front ks cs h l r a.1))
   are_copied _ _ _ _ _ ks cs (traces.delivered s mid end packet t more front what ds i h) l r a =
       copies.arrived s mid end packet t more front what (world_deeds ds ks) cs (flat_map given_by ds) i r.0 (are_copied mid more ds end front ks cs h l r.1 a)
+  are_copied _ _ _ _ _ ks cs (traces.waited s mid end pages t more front answer ds i h) l r a =
+      copies.looked s mid end pages t more front answer (world_deeds ds ks) cs (flat_map given_by ds) i r.0 (are_copied mid more ds end front ks cs h l r.1 a)
 
   last_by : (s : State) (f : List Event) (copy : List ℕ) (out : Left) → HasCopy w s f copy out → (b : Bool) → (out.number == 3) ≡ b → IsLast w s (all_came f) (if b then out.packet ∷ [] else [])
   last_by s f copy out h true e = copies.sends_back f copy out h (grind (arith, nat_tests))
@@ -84,14 +97,16 @@ module _ (w : Wiring) where
       let x = has_copy w s z.slots packet left z.first z.ran in
       subst (λ l. IsLast w s l (left_by left)) (sym h.1)
       (last_by s h.0 packet left (record { slots = z.slots; front = z.first; rest = z.rest; joined = z.joined; ran = x.0; is = x.1 }) (left.number == 3) refl)
+  is_last s (Waiting asleep pages t) front h = copies.nothing front
   is_last s (Delivering asleep packet t) front h = subst (λ l. IsLast w s l (packet ∷ [])) (sym h.1) (copies.delivers packet h.0)
 
-  pub delivers : (start : ℕ) (items : List Item) (p : Pair) (ks : List Kept) (dl : List Delivered) (received : List (List ℕ)) → Traced w start items p → law.Honest p → AllKept (turns_of p.deeds) ks →
-      dl ≡ deliveries_of 0 p.deeds → received ≡ p.received → Delivers w start items ks dl p.back p.sent received
-  delivers start items p ks dl received t h a d r = record {
+  pub delivers : (start : ℕ) (items : List Item) (p : Pair) (ks : List Kept) (dl : List Delivered) (ws : List Waited) (received : List (List ℕ)) → Traced w start items p → law.Honest p → AllKept (turns_of p.deeds) ks →
+      dl ≡ deliveries_of 0 p.deeds → ws ≡ waits_of 0 0 p.deeds → received ≡ p.received → Delivers w start items ks dl ws p.back p.sent received
+  delivers start items p ks dl ws received t h a d v r = record {
     deeds = world_deeds p.deeds ks;
     turns_are = world_turns p.deeds ks a;
     deliveries_are = d ∙ world_deliveries 0 p.deeds ks a;
+    waits_are = v ∙ world_waits 0 0 p.deeds ks a;
     copies = h.copies.0;
     all_given = flat_map given_by p.deeds;
     front = t.front;

@@ -30,10 +30,10 @@ use Rattle.pair_machine.specs.Law.{IsByte}
 use Rattle.pair_machine.specs.Memory.{after, answer}
 use Rattle.pair_machine.specs.Pair.{Activity, Free, Sending, Posting, Polling, Pair, PairEvent, FrontStep, Post, Poll, Send, begin_poll, begin_post, begin_send, on_front, on_poll, on_post, on_send, packets_of, poll_result, polling, post_result, post_tree, posting, send_result, send_tree, sending, turns_of}
 use Rattle.pair_machine.proofs.TraceLemmas.{front_follows, poll_follows, post_follows, send_follows}
-use Rattle.xdp_world.specs.Stands.{StandsFor, delivered_in, kept_in}
+use Rattle.xdp_world.specs.Stands.{StandsFor, delivered_in, kept_in, waited_in}
 use Rattle.xdp_world.specs.declared.world.World.{World}
 use Rattle.honest_pair.specs.Held.{memory_in}
-use Rattle.honest_pair.specs.Shows.{AllKept, BackShows, Does, FrontShows, GoesOn, IsGoing, Shows, bytes_in, deliveries_of, doing_at, queue_in}
+use Rattle.honest_pair.specs.Shows.{AllKept, BackShows, Does, FrontShows, GoesOn, IsGoing, Shows, bytes_in, deliveries_of, doing_at, queue_in, waits_of}
 use Rattle.honest_pair.specs.declared.pair.Pair.{Pair as Held}
 
 -- a front that isn't busy has nothing left, and one that has is busy
@@ -104,7 +104,7 @@ asks_on f v c e d =
     subst (IsPageWant f.wiring.frames) d b.1
 
 -- the pair where the front alone moves
-module _ (old new : Held) (world : new.world ≡ old.world) (asleep : new.asleep ≡ old.asleep) (delivers : new.delivering ≡ old.delivering) where
+module _ (old new : Held) (world : new.world ≡ old.world) (asleep : new.asleep ≡ old.asleep) (calls : new.calling ≡ old.calling) where
   -- the rest of what a pair shows
   carried : (bw : BackWiring) (fw : Wiring) (p p' : Pair) → Shows bw fw old p → memory_in new.memory ≡ p'.memory → wiring_of new.front ≡ fw → FrontShows new.front p'.activity p'.front →
       map bytes_in new.received.items ≡ p'.received → p'.at ≡ p.at → p'.back ≡ p.back → p'.deeds ≡ p.deeds → Shows bw fw new p'
@@ -114,13 +114,14 @@ module _ (old new : Held) (world : new.world ≡ old.world) (asleep : new.asleep
     front = f;
     received = r;
     back_wired = subst (λ (x : World). (d : Queue) → back_wiring (queue_in x d) ≡ bw) (sym world) s.back_wired;
-    back = λ d e. subst (λ (x : World). BackShows bw (queue_in x d) (doing_at x e) new.asleep new.delivering p'.at p'.back) (sym world)
-        (subst (λ x. BackShows bw (queue_in old.world d) (doing_at old.world e) x new.delivering p'.at p'.back) (sym asleep)
-        (subst (λ x. BackShows bw (queue_in old.world d) (doing_at old.world e) old.asleep x p'.at p'.back) (sym delivers)
-        (subst (λ x. BackShows bw (queue_in old.world d) (doing_at old.world e) old.asleep old.delivering x p'.back) (sym a)
-        (subst (λ x. BackShows bw (queue_in old.world d) (doing_at old.world e) old.asleep old.delivering p.at x) (sym b) (s.back d e)))));
+    back = λ d e. subst (λ (x : World). BackShows bw (queue_in x d) (doing_at x e) new.asleep new.calling p'.at p'.back) (sym world)
+        (subst (λ x. BackShows bw (queue_in old.world d) (doing_at old.world e) x new.calling p'.at p'.back) (sym asleep)
+        (subst (λ x. BackShows bw (queue_in old.world d) (doing_at old.world e) old.asleep x p'.at p'.back) (sym calls)
+        (subst (λ x. BackShows bw (queue_in old.world d) (doing_at old.world e) old.asleep old.calling x p'.back) (sym a)
+        (subst (λ x. BackShows bw (queue_in old.world d) (doing_at old.world e) old.asleep old.calling p.at x) (sym b) (s.back d e)))));
     turns = subst (λ (x : World). AllKept (turns_of p'.deeds) (kept_in x.turns.items 0)) (sym world) (subst (λ x. AllKept (turns_of x) (kept_in old.world.turns.items 0)) (sym t) s.turns);
     deliveries = ap (λ (x : World). delivered_in x.deliveries.items 0) world ∙ s.deliveries ∙ ap (deliveries_of 0) (sym t);
+    waits = ap (λ (x : World). waited_in x.waits.items 0) world ∙ s.waits ∙ ap (waits_of 0 0) (sym t);
   }
 
   stays : GoesOn old.world new.world []
@@ -201,12 +202,12 @@ poll_busy (Some x) e = absurd (cc)
 abbrev Comes_to : Held → Held → BackWiring → Wiring → Pair → Pair → Type 0
 Comes_to old new bw fw p p' = Shows bw fw new p' × GoesOn old.world new.world []
 
-module _ (old new : Held) (world : new.world ≡ old.world) (asleep : new.asleep ≡ old.asleep) (delivers : new.delivering ≡ old.delivering) where
+module _ (old new : Held) (world : new.world ≡ old.world) (asleep : new.asleep ≡ old.asleep) (calls : new.calling ≡ old.calling) where
   same_pair : (bw : BackWiring) (fw : Wiring) (p : Pair) → Shows bw fw old p → new.front ≡ old.front → new.memory ≡ old.memory → new.received ≡ old.received → Comes_to old new bw fw p p
   same_pair bw fw p s f m r = (
-    carried old new world asleep delivers bw fw p p s (ap memory_in m ∙ s.memory) (ap wiring_of f ∙ s.front_wired) (subst (λ x. FrontShows x p.activity p.front) (sym f) s.front)
+    carried old new world asleep calls bw fw p p s (ap memory_in m ∙ s.memory) (ap wiring_of f ∙ s.front_wired) (subst (λ x. FrontShows x p.activity p.front) (sym f) s.front)
         (ap (λ x. map bytes_in x.items) r ∙ s.received) refl refl refl,
-    stays old new world asleep delivers,
+    stays old new world asleep calls,
   )
 
   -- nothing was left
@@ -230,10 +231,10 @@ module _ (old new : Held) (world : new.world ≡ old.world) (asleep : new.asleep
       Ended_as old new t → Comes_to old new bw fw p (sending p1 t)
   by_sending bw fw p p1 t s m w pr pa pb pt (inl h) =
       let g = going_sending p1 new.front t h.0 h.1 in
-      (carried old new world asleep delivers bw fw p (sending p1 t) s (m ∙ sym g.2) w g.0 (ap (λ x. map bytes_in x.items) h.2 ∙ s.received ∙ sym pr ∙ sym g.1) (g.3 ∙ pa) (g.4 ∙ pb) (g.5 ∙ pt), stays old new world asleep delivers)
+      (carried old new world asleep calls bw fw p (sending p1 t) s (m ∙ sym g.2) w g.0 (ap (λ x. map bytes_in x.items) h.2 ∙ s.received ∙ sym pr ∙ sym g.1) (g.3 ∙ pa) (g.4 ∙ pb) (g.5 ∙ pt), stays old new world asleep calls)
   by_sending bw fw p p1 t s m w pr pa pb pt (inr h) =
       let g = over_sending p1 new.front t (state_of new.front) h.0 h.1 refl h.2 in
-      (carried old new world asleep delivers bw fw p (sending p1 t) s (m ∙ sym g.2) w g.0 (h.3 ∙ ap (λ x. x ++ packets_of h.0) (s.received ∙ sym pr) ∙ sym g.1) (g.3 ∙ pa) (g.4 ∙ pb) (g.5 ∙ pt), stays old new world asleep delivers)
+      (carried old new world asleep calls bw fw p (sending p1 t) s (m ∙ sym g.2) w g.0 (h.3 ∙ ap (λ x. x ++ packets_of h.0) (s.received ∙ sym pr) ∙ sym g.1) (g.3 ∙ pa) (g.4 ∙ pb) (g.5 ∙ pt), stays old new world asleep calls)
 
   goes_sending : (bw : BackWiring) (fw : Wiring) (p : Pair) (u : Want) (c : ℕ → Steps Ending) (v : Want) → Shows bw fw old p → rest old.front ≡ ask u c → v ≡ want_of (rest old.front) →
       memory_in new.memory ≡ after v (memory_in old.memory) → wiring_of new.front ≡ wiring_of old.front → Ended_as old new (next (rest old.front) (answer v (memory_in old.memory) 0)) → Comes_to old new bw fw p (on_front (Sending (ask u c)) p 0)
@@ -248,10 +249,10 @@ module _ (old new : Held) (world : new.world ≡ old.world) (asleep : new.asleep
       Ended_as old new t → Comes_to old new bw fw p (posting p1 t)
   by_posting bw fw p p1 t s m w pr pa pb pt (inl h) =
       let g = going_posting p1 new.front t h.0 h.1 in
-      (carried old new world asleep delivers bw fw p (posting p1 t) s (m ∙ sym g.2) w g.0 (ap (λ x. map bytes_in x.items) h.2 ∙ s.received ∙ sym pr ∙ sym g.1) (g.3 ∙ pa) (g.4 ∙ pb) (g.5 ∙ pt), stays old new world asleep delivers)
+      (carried old new world asleep calls bw fw p (posting p1 t) s (m ∙ sym g.2) w g.0 (ap (λ x. map bytes_in x.items) h.2 ∙ s.received ∙ sym pr ∙ sym g.1) (g.3 ∙ pa) (g.4 ∙ pb) (g.5 ∙ pt), stays old new world asleep calls)
   by_posting bw fw p p1 t s m w pr pa pb pt (inr h) =
       let g = over_posting p1 new.front t (state_of new.front) h.0 h.1 refl h.2 in
-      (carried old new world asleep delivers bw fw p (posting p1 t) s (m ∙ sym g.2) w g.0 (h.3 ∙ ap (λ x. x ++ packets_of h.0) (s.received ∙ sym pr) ∙ sym g.1) (g.3 ∙ pa) (g.4 ∙ pb) (g.5 ∙ pt), stays old new world asleep delivers)
+      (carried old new world asleep calls bw fw p (posting p1 t) s (m ∙ sym g.2) w g.0 (h.3 ∙ ap (λ x. x ++ packets_of h.0) (s.received ∙ sym pr) ∙ sym g.1) (g.3 ∙ pa) (g.4 ∙ pb) (g.5 ∙ pt), stays old new world asleep calls)
 
   goes_posting : (bw : BackWiring) (fw : Wiring) (p : Pair) (u : Want) (c : ℕ → Steps Ending) (v : Want) → Shows bw fw old p → rest old.front ≡ ask u c → v ≡ want_of (rest old.front) →
       memory_in new.memory ≡ after v (memory_in old.memory) → wiring_of new.front ≡ wiring_of old.front → Ended_as old new (next (rest old.front) (answer v (memory_in old.memory) 0)) → Comes_to old new bw fw p (on_front (Posting (ask u c)) p 0)
@@ -266,10 +267,10 @@ module _ (old new : Held) (world : new.world ≡ old.world) (asleep : new.asleep
       Ended_as old new t → Comes_to old new bw fw p (polling p1 t)
   by_polling bw fw p p1 t s m w pr pa pb pt (inl h) =
       let g = going_polling p1 new.front t h.0 h.1 in
-      (carried old new world asleep delivers bw fw p (polling p1 t) s (m ∙ sym g.2) w g.0 (ap (λ x. map bytes_in x.items) h.2 ∙ s.received ∙ sym pr ∙ sym g.1) (g.3 ∙ pa) (g.4 ∙ pb) (g.5 ∙ pt), stays old new world asleep delivers)
+      (carried old new world asleep calls bw fw p (polling p1 t) s (m ∙ sym g.2) w g.0 (ap (λ x. map bytes_in x.items) h.2 ∙ s.received ∙ sym pr ∙ sym g.1) (g.3 ∙ pa) (g.4 ∙ pb) (g.5 ∙ pt), stays old new world asleep calls)
   by_polling bw fw p p1 t s m w pr pa pb pt (inr h) =
       let g = over_polling p1 new.front t (state_of new.front) h.0 h.1 refl h.2 in
-      (carried old new world asleep delivers bw fw p (polling p1 t) s (m ∙ sym g.2) w g.0 (h.3 ∙ ap (λ x. x ++ packets_of h.0) (s.received ∙ sym pr) ∙ sym g.1) (g.3 ∙ pa) (g.4 ∙ pb) (g.5 ∙ pt), stays old new world asleep delivers)
+      (carried old new world asleep calls bw fw p (polling p1 t) s (m ∙ sym g.2) w g.0 (h.3 ∙ ap (λ x. x ++ packets_of h.0) (s.received ∙ sym pr) ∙ sym g.1) (g.3 ∙ pa) (g.4 ∙ pb) (g.5 ∙ pt), stays old new world asleep calls)
 
   goes_polling : (bw : BackWiring) (fw : Wiring) (p : Pair) (u : Want) (c : ℕ → Steps Ending) (v : Want) → Shows bw fw old p → rest old.front ≡ ask u c → v ≡ want_of (rest old.front) →
       memory_in new.memory ≡ after v (memory_in old.memory) → wiring_of new.front ≡ wiring_of old.front → Ended_as old new (next (rest old.front) (answer v (memory_in old.memory) 0)) → Comes_to old new bw fw p (on_front (Polling (ask u c)) p 0)
@@ -300,9 +301,9 @@ module _ (old new : Held) (world : new.world ≡ old.world) (asleep : new.asleep
   -- the calls
   refused : (bw : BackWiring) (fw : Wiring) (p : Pair) (a : Activity) → Shows bw fw old p → p.activity ≡ a → IsSame old.front new.front → new.memory ≡ old.memory → new.received ≡ old.received → Comes_to old new bw fw p p
   refused bw fw p a s i h m r = (
-    carried old new world asleep delivers bw fw p p s (ap memory_in m ∙ s.memory) (h.wiring ∙ s.front_wired) (subst (λ x. FrontShows new.front x p.front) (sym i) (by a (subst (λ x. FrontShows old.front x p.front) i s.front)))
+    carried old new world asleep calls bw fw p p s (ap memory_in m ∙ s.memory) (h.wiring ∙ s.front_wired) (subst (λ x. FrontShows new.front x p.front) (sym i) (by a (subst (λ x. FrontShows old.front x p.front) i s.front)))
         (ap (λ x. map bytes_in x.items) r ∙ s.received) refl refl refl,
-    stays old new world asleep delivers,
+    stays old new world asleep calls,
   )
     where
       by : (a : Activity) → FrontShows old.front a p.front → FrontShows new.front a p.front

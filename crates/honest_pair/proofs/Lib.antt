@@ -5,3 +5,4 @@ pub mod CopyLemmas
 pub mod DeliveryLemmas
 pub mod RunLemmas
 pub mod WakeLemmas
+pub mod WaitLemmas

@@ -17,13 +17,14 @@ use Rattle.pair_machine.specs.Law.{AreFit, Honest, IsBytes, PairLaw}
 use Rattle.pair_machine.specs.Layout.{IsBack}
 use Rattle.pair_machine.specs.Memory.{opening_memory}
 use Rattle.xdp_world.specs.Begin.{Begins, IsFor}
-use Rattle.xdp_world.specs.Activities.{Activities, Came, Deed, Given, Item, all_came, deliveries_in, delivery_over, none_over, turn_over, turns_in}
-use Rattle.xdp_world.specs.Calls.{Call, Delivers, Stepped, all_stepped, entries_of, items_of}
+use Rattle.xdp_world.specs.Activities.{Activities, Came, Deed, Given, Item, SlotsAwaited, all_came, deliveries_in, delivery_over, none_over, turn_over, turns_in, wait_over, waits_in}
+use Rattle.xdp_world.specs.Calls.{Awaits, Call, Delivers, Stepped, all_stepped, entries_of, items_of}
 use Rattle.xdp_world.specs.Doings.{IsAt}
 use Rattle.xdp_world.specs.Report.{Reports, Tells}
 use Rattle.xdp_world.specs.declared.doing.Doing.{Doing}
 use Rattle.xdp_world.specs.declared.doing.Doing.TheVariants as doing
 use Rattle.honest_pair.specs.Held.{memory_in}
+use Rattle.honest_pair.specs.declared.calling.Calling.TheVariants as calling
 use Rattle.honest_pair.specs.Made.{IsFresh}
 use Rattle.honest_pair.specs.declared.running.PairRun.{PairRun}
 use Rattle.honest_pair.proofs.BackLemmas.{some_queue, world_doing}
@@ -33,17 +34,17 @@ use Rattle.xen_steps.specs.Event.{Event}
 use Rattle.xen_back.specs.declared.wiring.Wiring.{Wiring as BackWiring}
 use Rattle.xen_buffers.specs.declared.wiring.Wiring.{Wiring as FrontWiring}
 use Rattle.pair_machine.specs.Log.{LogLaw, back_asks, back_item, back_items}
-use Rattle.pair_machine.specs.Pair.{BackStep, Deliver, FrontStep, Pair, PairEvent, Poll, Post, Send, opening, run, step, turns_of}
+use Rattle.pair_machine.specs.Pair.{Await, BackStep, Deliver, FrontStep, Pair, PairEvent, Poll, Post, Send, opening, run, step, turns_of}
 use Rattle.pair_machine.specs.Traces.{Follows, Traced}
 use Rattle.pair_machine.proofs.TraceLemmas.{follows_more, follows_none, opened_traced}
 use Rattle.honest_pair.proofs.CopyLemmas.{delivers}
 use Rattle.xdp_world.specs.Entries.{Entry, listed, steps_of}
-use Rattle.xdp_world.specs.Stands.{Stands, StandsFor, delivered_in, kept_in}
+use Rattle.xdp_world.specs.Stands.{Stands, StandsFor, delivered_in, kept_in, waited_in}
 use Rattle.xdp_world.specs.declared.world.World.{World}
 use Rattle.xdp_world.proofs.Worlds.{items_append}
 use Rattle.honest_pair.specs.Events.{event_in, events_in}
 use Rattle.honest_pair.specs.Runs.{AllBytes, GoWith, HasDone, IsPairRun, IsPlain, NoneDelivers}
-use Rattle.honest_pair.specs.Shows.{AllKept, AreOwn, Does, GoesOn, Shows, bytes_in, deliveries_of, doing_at, queue_in}
+use Rattle.honest_pair.specs.Shows.{AllKept, AreOwn, Does, GoesOn, Shows, bytes_in, deliveries_of, doing_at, queue_in, waits_of}
 use Rattle.honest_pair.specs.declared.event.PairEvent.{PairEvent as Called}
 use Rattle.honest_pair.specs.declared.pair.Pair.{Pair as Held}
 
@@ -62,6 +63,7 @@ own_more : (a b : List Call) → AreOwn a → AreOwn b → AreOwn (a ++ b)
 own_more [] b h g = g
 own_more (Stepped e ∷ a) b h g = (h.0, own_more a b h.1 g)
 own_more (Delivers q packet ∷ a) b h g = (h.0, own_more a b h.1 g)
+own_more (Awaits q pages ∷ a) b h g = (h.0, own_more a b h.1 g)
 
 goes_more : (a b c : World) (l m : List Item) → GoesOn a b l → GoesOn b c m → GoesOn a c (l ++ m)
 goes_more a b c l m g h = record {
@@ -114,6 +116,7 @@ is_begun w _ _ _ _ _ e (none_over s front) = (refl, refl, e)
 is_begun w _ _ _ _ _ e (turn_over s mid end [] more front u k ds h t g l) = absurd (no_turn w s mid u h t)
 is_begun w _ _ _ _ _ e (turn_over s mid end (x ∷ t) more front u k ds h i g l) = absurd (cc)
 is_begun w _ _ _ _ _ e (delivery_over s mid end packet t more front what ds i l) = absurd (cc)
+is_begun w _ _ _ _ _ e (wait_over s mid end pages t more front answer ds i l) = absurd (cc)
 
 -- a queue of which nothing is left is between turns
 none_came : (f : List Event) → (f ≡ [] → ⊥) → [] ≡ all_came f → ⊥
@@ -124,8 +127,9 @@ is_between : (w : BackWiring) (q : Queue) (at : Doing) (front : List Item) → f
 is_between w q doing.Between front e h = (refl, h.1.gone)
 is_between w q doing.Turn front e h = absurd (none_came h.0 h.2 (sym e ∙ h.1))
 is_between w q (doing.Delivery d) front e h = let z : Given h.0 ∷ all_came h.1 ≡ [] = sym h.2 ∙ e in absurd (cc)
+is_between w q (doing.Wait a) front e h = let z : SlotsAwaited h.0 ∷ all_came h.1 ≡ [] = sym h.2 ∙ e in absurd (cc)
 
--- Where no event is a delivery, each item is an event, and each call a step.
+-- Where no event is a delivery or a wait, each item is an event, and each call a step.
 came_append : (a b : List Event) → all_came (a ++ b) ≡ all_came a ++ all_came b
 came_append [] b = refl
 came_append (x ∷ a) b = ap (λ (l : List Item). Came x ∷ l) (came_append a b)
@@ -137,6 +141,7 @@ item_plain p Poll n h = ([], refl)
 item_plain p FrontStep n h = ([], refl)
 item_plain p BackStep n h = (back_asks p.at p.memory n, refl)
 item_plain p (Deliver packet) n h = absurd h
+item_plain p (Await pages) n h = absurd h
 
 items_plain : (bw : BackWiring) (fw : FrontWiring) (p : Pair) (es : List PairEvent) (g : List (PairEvent × ℕ)) → GoWith es g → NoneDelivers es → (f : List Event) × (back_items bw fw p g ≡ all_came f)
 items_plain bw fw p [] [] w h = ([], refl)
@@ -150,6 +155,10 @@ items_plain bw fw p (e ∷ es) (x ∷ g) w h =
 given_not : (packet : List ℕ) (l : List Item) (f : List Event) → Given packet ∷ l ≡ all_came f → ⊥
 given_not packet l [] e = cc
 given_not packet l (x ∷ f) e = cc
+
+awaited_not : (pages : ℕ) (l : List Item) (f : List Event) → SlotsAwaited pages ∷ l ≡ all_came f → ⊥
+awaited_not pages l [] e = cc
+awaited_not pages l (x ∷ f) e = cc
 
 came_tail : (x : Event) (l : List Item) (f : List Event) → Came x ∷ l ≡ all_came f → (f2 : List Event) × (l ≡ all_came f2)
 came_tail x l [] e = absurd (cc)
@@ -165,6 +174,8 @@ calls_plain (Stepped x ∷ cs) f h e = ap (λ (l : List Call). Stepped x ∷ l)
     by more (Some y) z = let t = came_tail y (items_of 0 cs) f z in more t.0 t.1
 calls_plain (Delivers q packet ∷ cs) f h e =
     absurd (given_not packet (items_of 0 cs) f (sym (ap (λ n. (if n == 0 then Given packet ∷ [] else []) ++ items_of 0 cs) h.0) ∙ e))
+calls_plain (Awaits q pages ∷ cs) f h e =
+    absurd (awaited_not pages (items_of 0 cs) f (sym (ap (λ n. (if n == 0 then SlotsAwaited pages ∷ [] else []) ++ items_of 0 cs) h.0) ∙ e))
 
 fit_more : (x : PairEvent × ℕ) (g : List (PairEvent × ℕ)) → IsBytes x.0 × (x.1 < 2 ^ 64) → AreFit g → AreFit (x ∷ g)
 fit_more x g h a zero d l = h
@@ -177,11 +188,11 @@ fit_all (e ∷ es) [] h b = absurd h
 fit_all (e ∷ es) (x ∷ g) h b = fit_more x g (subst IsBytes (sym h.0) b.0, h.1) (fit_all es g h.2 b.1)
 
 pub is_run : (program : Accepted) (start : ℕ) (called : List PairEvent) (r : PairRun) (old new : Held) → Begins program 1 0 start old.world → IsConsistent program → start < 2 ^ 32 → IsFresh start old.front →
-    memory_in old.memory ≡ opening_memory start → old.asleep ≡ true → old.delivering ≡ false → old.received.items ≡ [] → old.world.counters.shapes ≡ program.shapes → HasDone old new called →
-    r.received ≡ new.received → length r.report.turns.items ≡ 1 → r.report.turns.items ≡ new.world.turns.items → r.report.deliveries.items ≡ new.world.deliveries.items → r.report.totals.shapes ≡ new.world.counters.shapes →
+    memory_in old.memory ≡ opening_memory start → old.asleep ≡ true → old.calling ≡ calling.Nothing → old.received.items ≡ [] → old.world.counters.shapes ≡ program.shapes → HasDone old new called →
+    r.received ≡ new.received → length r.report.turns.items ≡ 1 → r.report.turns.items ≡ new.world.turns.items → r.report.deliveries.items ≡ new.world.deliveries.items → r.report.waits.items ≡ new.world.waits.items → r.report.totals.shapes ≡ new.world.counters.shapes →
     ((wirings : ℕ → BackWiring) (s : ℕ) (es : List Entry) → Stands new.world wirings s es → Reports wirings s es r.report) →
     ((wirings : ℕ → BackWiring) (s : ℕ) (cs : List Call) → StandsFor new.world wirings s cs → Tells wirings s cs r.report) → LogLaw → PairLaw → IsPairRun program start called r
-is_run program start called r old new b cons small fresh mem aw dl none sh done rec count turns deliveries shapes reports tells logs law =
+is_run program start called r old new b cons small fresh mem aw dl none sh done rec count turns deliveries waits shapes reports tells logs law =
     let bw : BackWiring = b.wirings 0 in
     let fw : FrontWiring = front_wiring old.front in
     let s : FrontState = front_state old.front in
@@ -201,6 +212,7 @@ is_run program start called r old new b cons small fresh mem aw dl none sh done 
       received = ap (λ l. map bytes_in l) none;
       turns = subst (AllKept []) (sym ((each q x0).turns ∙ ap turns_in (at q x0).0)) tt;
       deliveries = (each q x0).deliveries ∙ ap (deliveries_in 0) (at q x0).0;
+      waits = (each q x0).waits ∙ ap (waits_in 0 0) (at q x0).0;
     } in
     let a = done.does bw fw p shows in
     let x = a.3.stands b.wirings start [] b.stands in
@@ -221,6 +233,7 @@ is_run program start called r old new b cons small fresh mem aw dl none sh done 
     let honest : Honest end = law program bw fw s start cons laid fresh.laid fresh.new small a.0 (fit_all called a.0 a.1 done.bytes) in
     let kept : AllKept (turns_of end.deeds) (kept_in r.report.turns.items 0) = subst (λ l. AllKept (turns_of end.deeds) (kept_in l 0)) (sym turns) a.2.turns in
     let arrived : delivered_in r.report.deliveries.items 0 ≡ deliveries_of 0 end.deeds = ap (λ l. delivered_in l 0) deliveries ∙ a.2.deliveries in
+    let looked : waited_in r.report.waits.items 0 ≡ waits_of 0 0 end.deeds = ap (λ l. waited_in l 0) waits ∙ a.2.waits in
     let got : map bytes_in r.received.items ≡ end.received = ap (λ v. map bytes_in v.items) rec ∙ a.2.received in
     let traced : Traced bw start (items_of 0 x.0) end = subst (λ l. Traced bw start l end) (sym x.3) (a.4 start [] (opened_traced bw start p refl refl refl)) in
     record {
@@ -255,6 +268,7 @@ is_run program start called r old new b cons small fresh mem aw dl none sh done 
       honest = honest;
       turns = kept;
       deliveries = arrived;
+      waits = looked;
       received = got;
-      delivers = delivers bw start (items_of 0 x.0) end (kept_in r.report.turns.items 0) (delivered_in r.report.deliveries.items 0) (map bytes_in r.received.items) traced honest kept arrived got;
+      delivers = delivers bw start (items_of 0 x.0) end (kept_in r.report.turns.items 0) (delivered_in r.report.deliveries.items 0) (waited_in r.report.waits.items 0) (map bytes_in r.received.items) traced honest kept arrived looked got;
     }

@@ -1,21 +1,24 @@
 -- What was copied and given in a run, beside what was sent and received.
 use Rattle.std.specs.Prelude.{ℕ, ◌≡◌, List, [], ◌∷◌, ◌++◌, ◌==◌, if◌then◌else◌, None}
 use Rattle.xen_steps.specs.Event.{Event}
+use Rattle.xen_back.specs.Awaited.{IsAwaiting}
 use Rattle.xen_back.specs.Delivered.{IsDelivery}
 use Rattle.xen_back.specs.Tree.{Left}
 use Rattle.xen_back.specs.Turned.{Turned, Idle, Ran, Refused, Halted}
 use Rattle.xen_back.specs.Turns.{IsTurn}
+use Rattle.xen_back.specs.declared.delivery.awaiting.Awaited.{Awaited}
 use Rattle.xen_back.specs.declared.delivery.delivering.Delivery.{Delivery}
 use Rattle.xen_back.specs.declared.state.State.{State}
 use Rattle.xen_back.specs.declared.turn.Refusal.TheVariants as refusal
 use Rattle.xen_back.specs.declared.wiring.Wiring.{Wiring}
-use Rattle.xdp_world.specs.Activities.{Deed, DeliveryOf, Given, Item, TurnOf, all_came, deliveries_in, turns_in}
+use Rattle.xdp_world.specs.Activities.{Deed, DeliveryOf, Given, Item, SlotsAwaited, TurnOf, WaitOf, all_came, deliveries_in, turns_in, waits_in}
 use Rattle.xdp_world.specs.Core.{started_at}
 use Rattle.xdp_world.specs.Keeping.{Keeps}
 use Rattle.xdp_world.specs.declared.kept.Kept.{Kept}
 use Rattle.xdp_world.specs.declared.kept.Kept.TheVariants as kept
 use Rattle.xdp_world.specs.declared.report.Delivered.{Delivered}
-use Rattle.pair_machine.specs.Law.{HasArrived, delivered}
+use Rattle.xdp_world.specs.declared.report.Waited.{Waited}
+use Rattle.pair_machine.specs.Law.{HasArrived, HasLooked, delivered}
 use Rattle.pair_machine.specs.Traces.{HasCopy}
 
 -- it ran, or was refused for want of rx slots
@@ -32,10 +35,10 @@ sent_back (kept.Ran action number packet ops slots) = if number == 3 then packet
 sent_back (kept.Refused cause ops slots) = []
 sent_back (kept.Halted cause) = []
 
--- A queue's items from a state on are the traces of these turns, and the packets and traces of these deliveries, each from the last's
--- state, and what is left after them. Each turn that isn't idle ran, or was refused for want of rx slots, and these are the copies in
--- their traces, in order. Each delivery ended with its packet in posted buffers, or with too few of them, or it was no frame. What turns
--- sent back and what lies in posted buffers is given, in order.
+-- A queue's items from a state on are the traces of these turns, the packets and traces of these deliveries, and the numbers and traces of
+-- these waits, each from the last's state, and what is left after them. Each turn that isn't idle ran, or was refused for want of rx slots,
+-- and these are the copies in their traces, in order. Each delivery ended with its packet in posted buffers, or with too few of them, or it
+-- was no frame; no wait was halted. What turns sent back and what lies in posted buffers is given, in order.
 pub data AreCopied (w : Wiring) : State → List Item → List Deed → (copies given : List (List ℕ)) → State → List Item → Type 0 where
   begun : (s : State) (front : List Item) → AreCopied w s front [] [] [] s front
   idle : (s mid end : State) (t : List Event) (more front : List Item) (ds : List Deed) (copies given : List (List ℕ)) →
@@ -50,6 +53,10 @@ pub data AreCopied (w : Wiring) : State → List Item → List Deed → (copies 
       (copies given : List (List ℕ)) →
       IsDelivery w s packet t mid what → HasArrived what → AreCopied w mid more ds copies given end front →
       AreCopied w s (Given packet ∷ (all_came t ++ more)) (DeliveryOf what ∷ ds) copies (delivered packet what ++ given) end front
+  looked : (s mid end : State) (pages : ℕ) (t : List Event) (more front : List Item) (answer : Awaited) (ds : List Deed)
+      (copies given : List (List ℕ)) →
+      IsAwaiting w s pages t mid answer → HasLooked answer → AreCopied w mid more ds copies given end front →
+      AreCopied w s (SlotsAwaited pages ∷ (all_came t ++ more)) (WaitOf answer ∷ ds) copies given end front
 
 -- The packet of an unfinished turn whose program's run ended in TX, or of an unfinished delivery; or none.
 pub data IsLast (w : Wiring) (s : State) : List Item → List (List ℕ) → Type 0 where
@@ -60,12 +67,13 @@ pub data IsLast (w : Wiring) (s : State) : List Item → List (List ℕ) → Typ
 
 -- The turns' copies are a beginning of what was sent, in order and once each; what was received is a beginning of what the turns
 -- sent back and the host delivered, joined in order, and of what an unfinished turn's run gave or an unfinished delivery has, in order
--- and once each. `end` is the state after the last turn or delivery.
-pub record Delivers (w : Wiring) (start : ℕ) (items : List Item) (turns : List Kept) (deliveries : List Delivered) (end : State)
-    (sent received : List (List ℕ)) : Type 0 where
+-- and once each. `end` is the state after the last turn, delivery or wait.
+pub record Delivers (w : Wiring) (start : ℕ) (items : List Item) (turns : List Kept) (deliveries : List Delivered) (waits : List Waited)
+    (end : State) (sent received : List (List ℕ)) : Type 0 where
   pub deeds : List Deed
   pub turns_are : turns ≡ turns_in deeds
   pub deliveries_are : deliveries ≡ deliveries_in 0 deeds
+  pub waits_are : waits ≡ waits_in 0 0 deeds
   pub copies : List (List ℕ)
   pub all_given : List (List ℕ)
   pub front : List Item

@@ -1,6 +1,6 @@
 -- The events of a pair, as calls have them.
 use Rattle.std.specs.Prelude.{List, [], ◌∷◌}
-use Rattle.pair_machine.specs.Pair.{PairEvent, Send, Post, Poll, FrontStep, BackStep, Deliver}
+use Rattle.pair_machine.specs.Pair.{PairEvent, Send, Post, Poll, FrontStep, BackStep, Deliver, Await}
 use Rattle.honest_pair.specs.declared.event.PairEvent.{PairEvent as Called}
 use Rattle.honest_pair.specs.declared.event.PairEvent.TheVariants as called
 
@@ -11,6 +11,7 @@ event_in called.Poll = Poll
 event_in called.FrontStep = FrontStep
 event_in called.BackStep = BackStep
 event_in (called.Deliver packet) = Deliver packet.items
+event_in (called.Await pages) = Await pages
 
 abbrev pub events_in : List Called → List PairEvent
 events_in [] = []

@@ -4,4 +4,4 @@ use Rattle.honest_pair.specs.Words.{words_at}
 use Rattle.honest_pair.specs.declared.memory.Memory.{Memory as Kept}
 
 abbrev pub memory_in : Kept → Memory
-memory_in m = record { word = words_at m.words.items; pending = m.pending }
+memory_in m = record { word = words_at m.words.items; pending = m.pending; awaits = m.awaits }

@@ -8,15 +8,15 @@ use Rattle.pair_machine.specs.Law.{Honest, IsBytes, IsNewFront}
 use Rattle.pair_machine.specs.Layout.{IsBack, IsFront}
 use Rattle.pair_machine.specs.Log.{IsFaithful, back_items, log}
 use Rattle.pair_machine.specs.Memory.{opening_word}
-use Rattle.pair_machine.specs.Pair.{Deliver, Pair, PairEvent, opening, run, turns_of}
+use Rattle.pair_machine.specs.Pair.{Await, Deliver, Pair, PairEvent, opening, run, turns_of}
 use Rattle.pair_machine.specs.Traces.{Follows}
 use Rattle.xdp_world.specs.Begin.{IsFor}
 use Rattle.xdp_world.specs.Calls.{Call, all_stepped, items_of}
 use Rattle.xdp_world.specs.Report.{IsCoreRun, Tells}
-use Rattle.xdp_world.specs.Stands.{delivered_in, kept_in}
+use Rattle.xdp_world.specs.Stands.{delivered_in, kept_in, waited_in}
 use Rattle.xdp_world.specs.declared.report.Report.{Report}
 use Rattle.honest_pair.specs.Copies.{Delivers}
-use Rattle.honest_pair.specs.Shows.{AllKept, AreOwn, GoesOn, Shows, bytes_in, deliveries_of}
+use Rattle.honest_pair.specs.Shows.{AllKept, AreOwn, GoesOn, Shows, bytes_in, deliveries_of, waits_of}
 use Rattle.honest_pair.specs.declared.pair.Pair.{Pair as Held}
 use Rattle.honest_pair.specs.declared.running.PairRun.{PairRun}
 
@@ -31,9 +31,10 @@ abbrev pub AllBytes : List PairEvent → Type 0
 AllBytes [] = Unit {0}
 AllBytes (e ∷ es) = IsBytes e × AllBytes es
 
--- no event is a delivery
+-- no event is a delivery or a wait
 abbrev pub IsPlain : PairEvent → Type 0
 IsPlain (Deliver packet) = ⊥
+IsPlain (Await pages) = ⊥
 IsPlain e = Unit {0}
 
 abbrev pub NoneDelivers : List PairEvent → Type 0
@@ -57,13 +58,14 @@ pub record IsCallRun (program : Accepted) (start : ℕ) (calls : List Call) (r :
   pub tells : Tells wirings start calls r
 
 -- The run of a pair through these events. `events` are they with the numbers that answered the counters' operations.
---   core, alone, own: the back's events and the packets of its deliveries, and no others, are a run of its queue with the report's turns,
---     deliveries, history and totals.
---   plain: where no event is a delivery, the calls are the entries of a core run.
+--   core, alone, own: the back's events, the packets of its deliveries and the numbers of its waits, and no others, are a run of its queue
+--     with the report's turns, deliveries, waits, history and totals.
+--   plain: where no event is a delivery or a wait, the calls are the entries of a core run.
 --   faithful: each read of either end answers what was last written to its place, else its opening word.
---   honest: neither end is halted, and a back that sleeps with no notice pending, while the front is inside no send, has answered all.
---   turns, deliveries, received: the report's turns and deliveries are the pair's, and what was received are the packets that its polls
---     gave.
+--   honest: neither end is halted, and a back that sleeps with no notice pending, while the front is inside no send, has answered all;
+--     where a wait found too few slots, and no notice is pending, while the front is inside no post, there are still too few.
+--   turns, deliveries, waits, received: the report's turns, deliveries and waits are the pair's, and what was received are the packets that
+--     its polls gave.
 --   delivers: the copies of the report's turns, and what was received, are in order and once each what was sent, and what was sent back
 --     or delivered.
 pub record IsPairRun (program : Accepted) (start : ℕ) (called : List PairEvent) (r : PairRun) : Type 0 where
@@ -85,8 +87,9 @@ pub record IsPairRun (program : Accepted) (start : ℕ) (called : List PairEvent
   pub honest : Honest (run back front (opening state start) events)
   pub turns : AllKept (turns_of (run back front (opening state start) events).deeds) (kept_in r.report.turns.items 0)
   pub deliveries : delivered_in r.report.deliveries.items 0 ≡ deliveries_of 0 (run back front (opening state start) events).deeds
+  pub waits : waited_in r.report.waits.items 0 ≡ waits_of 0 0 (run back front (opening state start) events).deeds
   pub received : map bytes_in r.received.items ≡ (run back front (opening state start) events).received
   pub delivers :
       let end = run back front (opening state start) events in
-      Delivers back start (items_of 0 calls) (kept_in r.report.turns.items 0) (delivered_in r.report.deliveries.items 0) end.back end.sent
-      (map bytes_in r.received.items)
+      Delivers back start (items_of 0 calls) (kept_in r.report.turns.items 0) (delivered_in r.report.deliveries.items 0)
+      (waited_in r.report.waits.items 0) end.back end.sent (map bytes_in r.received.items)

@@ -4,6 +4,10 @@ use Rattle.std.specs.Prelude.{Option, Some, None}
 use Rattle.std.specs.Global.{Vec}
 use Rattle.xen_steps.specs.Steps.{Steps, done, ask, never, bind}
 use Rattle.xen_back.specs.ByEvent.{left_of}
+use Rattle.xen_back.specs.WaitsByEvent.{left_of_wait}
+use Rattle.xen_back.specs.declared.delivery.awaiting.Awaited.{Awaited}
+use Rattle.xen_back.specs.declared.delivery.awaiting.Awaited.TheVariants as awaited
+use Rattle.xen_back.specs.declared.delivery.looking.Awaiting.{Awaiting}
 use Rattle.xen_back.specs.Queues.{rest, state_of, wiring_of}
 use Rattle.xen_back.specs.Tree.{whole_turn}
 use Rattle.xen_back.specs.declared.delivery.underway.Delivering.{Delivering as Carried}
@@ -18,20 +22,25 @@ use Rattle.xen_front.specs.declared.state.State.{State as FrontState}
 use Rattle.pair_machine.specs.Halves.{Half, Over, HasRun, second_half}
 use Rattle.pair_machine.specs.Law.{IsBytes}
 use Rattle.pair_machine.specs.Log.{back_item}
-use Rattle.pair_machine.specs.Pair.{Activity, Free, Sending, Posting, Polling, BackAt, Asleep, First, Second, Delivering, Pair, PairEvent}
-use Rattle.pair_machine.specs.Pair.{Deed, OfTurn, OfDelivery, Past, packets_of, step, turns_of}
+use Rattle.pair_machine.specs.Pair.{Activity, Free, Sending, Posting, Polling, BackAt, Asleep, First, Second, Delivering, Waiting, Pair}
+use Rattle.pair_machine.specs.Pair.{Deed, OfTurn, OfDelivery, OfWait, PairEvent, Past, packets_of, step, turns_of}
+use Rattle.pair_machine.specs.declared.awaits.Awaits.{Awaits}
+use Rattle.pair_machine.specs.declared.awaits.Awaits.TheVariants as awaits
 use Rattle.pair_machine.specs.Traces.{Follows}
 use Rattle.xdp_world.specs.Activities.{Item}
-use Rattle.xdp_world.specs.Calls.{Call, Delivers, Stepped, items_of}
+use Rattle.xdp_world.specs.Calls.{Awaits as AwaitsCall, Call, Delivers, Stepped, items_of}
 use Rattle.xdp_world.specs.Keeping.{Keeps}
-use Rattle.xdp_world.specs.Stands.{StandsFor, delivered_in, kept_in}
+use Rattle.xdp_world.specs.Stands.{StandsFor, delivered_in, kept_in, waited_in}
 use Rattle.xdp_world.specs.declared.doing.Doing.{Doing}
 use Rattle.xdp_world.specs.declared.doing.Doing.TheVariants as doing
 use Rattle.xdp_world.specs.declared.kept.Kept.{Kept}
 use Rattle.xdp_world.specs.declared.kept.Kept.TheVariants as kept
 use Rattle.xdp_world.specs.declared.report.Delivered.{Delivered}
+use Rattle.xdp_world.specs.declared.report.Waited.{Waited}
 use Rattle.xdp_world.specs.declared.world.World.{World}
 use Rattle.honest_pair.specs.Held.{memory_in}
+use Rattle.honest_pair.specs.declared.calling.Calling.{Calling}
+use Rattle.honest_pair.specs.declared.calling.Calling.TheVariants as calling
 use Rattle.honest_pair.specs.declared.pair.Pair.{Pair as Held}
 
 -- it isn't over
@@ -58,16 +67,21 @@ abbrev pub doing_first : Bool → Doing
 doing_first true = doing.Turn
 doing_first false = doing.Between
 
--- The queue has what is left, and the pair knows whether it sleeps and whether it delivers.
-abbrev pub BackShows : BackWiring → Queue → Doing → (asleep delivers : Bool) → BackAt → BackState → Type 0
-BackShows w q e asleep delivers Asleep s =
-    (asleep ≡ true) × (delivers ≡ false) × (e ≡ doing.Between) × (rest q ≡ whole_turn (wiring_of q) (state_of q)) × (state_of q ≡ s)
-BackShows w q e asleep delivers (First begun t) s =
-    (asleep ≡ false) × (delivers ≡ false) × (e ≡ doing_first begun) × (rest q ≡ bind t (second_half w s)) × IsHalfGoing t × (state_of q ≡ s)
-BackShows w q e asleep delivers (Second packet left t) s =
-    (asleep ≡ false) × (delivers ≡ false) × (e ≡ doing.Turn) × (rest q ≡ t) × IsGoing t × (state_of q ≡ s)
-BackShows w q e asleep delivers (Delivering sleeps packet t) s =
-    (asleep ≡ sleeps) × (delivers ≡ true) × (d : Carried) × (e ≡ doing.Delivery d) × (left_of d ≡ t) × IsGoing t × (state_of q ≡ s)
+-- The queue has what is left, and the pair knows whether it sleeps and what it does for its host.
+abbrev pub BackShows : BackWiring → Queue → Doing → (asleep : Bool) → Calling → BackAt → BackState → Type 0
+BackShows w q e asleep calls Asleep s =
+    (asleep ≡ true) × (calls ≡ calling.Nothing) × (e ≡ doing.Between) × (rest q ≡ whole_turn (wiring_of q) (state_of q)) × (state_of q ≡ s)
+BackShows w q e asleep calls (First begun t) s =
+    (asleep ≡ false) × (calls ≡ calling.Nothing) × (e ≡ doing_first begun) × (rest q ≡ bind t (second_half w s)) × IsHalfGoing t ×
+    (state_of q ≡ s)
+BackShows w q e asleep calls (Second packet left t) s =
+    (asleep ≡ false) × (calls ≡ calling.Nothing) × (e ≡ doing.Turn) × (rest q ≡ t) × IsGoing t × (state_of q ≡ s)
+BackShows w q e asleep calls (Delivering sleeps packet t) s =
+    (asleep ≡ sleeps) × (calls ≡ calling.Delivery) × (d : Carried) × (e ≡ doing.Delivery d) × (left_of d ≡ t) × IsGoing t ×
+    (state_of q ≡ s)
+BackShows w q e asleep calls (Waiting sleeps pages t) s =
+    (asleep ≡ sleeps) × (calls ≡ calling.Wait pages) × (a : Awaiting) × (e ≡ doing.Wait a) × (left_of_wait a ≡ t) × IsGoing t ×
+    (state_of q ≡ s)
 
 -- the turns are kept, in order
 abbrev pub AllKept : List Past → List Kept → Type 0
@@ -81,6 +95,14 @@ abbrev pub deliveries_of : ℕ → List Deed → List Delivered
 deliveries_of n [] = []
 deliveries_of n (OfTurn past ∷ ds) = deliveries_of (n + 1) ds
 deliveries_of n (OfDelivery packet what ∷ ds) = record { turns = n; delivery = what } ∷ deliveries_of n ds
+deliveries_of n (OfWait pages answer ∷ ds) = deliveries_of n ds
+
+-- the answers of the waits, each with how many turns and deliveries were over before it, so many being over at first
+abbrev pub waits_of : (turns deliveries : ℕ) → List Deed → List Waited
+waits_of n m [] = []
+waits_of n m (OfTurn past ∷ ds) = waits_of (n + 1) m ds
+waits_of n m (OfDelivery packet what ∷ ds) = waits_of n (m + 1) ds
+waits_of n m (OfWait pages answer ∷ ds) = record { turns = n; deliveries = m; awaited = answer } ∷ waits_of n m ds
 
 abbrev pub bytes_in : Vec ℕ → List ℕ
 bytes_in v = v.items
@@ -96,16 +118,18 @@ pub record Shows (bw : BackWiring) (fw : FrontWiring) (held : Held) (p : Pair) :
   pub front_wired : front_wiring held.front ≡ fw
   pub front : FrontShows held.front p.activity p.front
   pub back_wired : (d : Queue) → wiring_of (queue_in held.world d) ≡ bw
-  pub back : (d : Queue) (e : Doing) → BackShows bw (queue_in held.world d) (doing_at held.world e) held.asleep held.delivering p.at p.back
+  pub back : (d : Queue) (e : Doing) → BackShows bw (queue_in held.world d) (doing_at held.world e) held.asleep held.calling p.at p.back
   pub received : map bytes_in held.received.items ≡ p.received
   pub turns : AllKept (turns_of p.deeds) (kept_in held.world.turns.items 0)
   pub deliveries : delivered_in held.world.deliveries.items 0 ≡ deliveries_of 0 p.deeds
+  pub waits : waited_in held.world.waits.items 0 ≡ waits_of 0 0 p.deeds
 
 -- each call is of the one queue
 abbrev pub AreOwn : List Call → Type 0
 AreOwn [] = Unit {0}
 AreOwn (Stepped e ∷ cs) = (e.queue ≡ 0) × AreOwn cs
 AreOwn (Delivers queue packet ∷ cs) = (queue ≡ 0) × AreOwn cs
+AreOwn (AwaitsCall queue pages ∷ cs) = (queue ≡ 0) × AreOwn cs
 
 -- the world has come on by calls of its one queue with these items
 pub record GoesOn (old new : World) (items : List Item) : Type 0 where
@@ -129,7 +153,7 @@ pub record Received (old new : Held) : Type 0 where
   pub world : new.world ≡ old.world
   pub memory : new.memory ≡ old.memory
   pub asleep : new.asleep ≡ old.asleep
-  pub delivers : new.delivering ≡ old.delivering
+  pub calls : new.calling ≡ old.calling
   pub received : map bytes_in new.received.items ≡ map bytes_in old.received.items ++ packets_of given
 
 -- whether a turn is idle
@@ -139,3 +163,24 @@ is_idle (Some kept.Idle) = true
 is_idle (Some (kept.Ran action number packet ops slots)) = false
 is_idle (Some (kept.Refused cause ops slots)) = false
 is_idle (Some (kept.Halted cause)) = false
+
+-- the answer of a wait
+abbrev pub answer_of : Option Waited → Option Awaited
+answer_of None = None
+answer_of (Some w) = Some w.awaited
+
+abbrev pub is_none : {A : Type 0} → Option A → Bool
+is_none None = true
+is_none (Some x) = false
+
+-- what the back does for its host after an event of a call that goes on, or doesn't
+abbrev pub calls_while : Calling → (going : Bool) → Calling
+calls_while call true = call
+calls_while call false = calling.Nothing
+
+-- what it awaits after an event of a wait: it has asked, and where the wait is over it knows whether there are fewer
+abbrev pub awaits_after : (index pages : ℕ) → Option Awaited → Awaits
+awaits_after index pages None = awaits.Asked index pages
+awaits_after index pages (Some awaited.Posted) = awaits.Nothing
+awaits_after index pages (Some awaited.Waiting) = awaits.Fewer index pages
+awaits_after index pages (Some (awaited.Halted cause)) = awaits.Asked index pages

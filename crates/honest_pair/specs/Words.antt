@@ -1,6 +1,7 @@
 -- The words of all frames, one frame after another.
 use Rattle.std.specs.Prelude.{ℕ, ◌<◌, ◌+◌, ◌*◌, false, List, get_or, nat_lt, if◌then◌else◌}
 use Rattle.pair_machine.specs.Memory.{Memory, put}
+use Rattle.pair_machine.specs.declared.awaits.Awaits.TheVariants as awaits
 use Rattle.xen_page.specs.declared.place.Place.{Place}
 use Rattle.xen_steps.specs.Places.{add32, page_word}
 use Rattle.xen_steps.specs.declared.want.Want.{Want}
@@ -17,7 +18,11 @@ opened frame start word =
     (page_word frame 3) (add32 start 1)
 
 abbrev pub empty_memory : Memory
-empty_memory = record { word = (λ at. 0); pending = false }
+empty_memory = record { word = (λ at. 0); pending = false; awaits = awaits.Nothing }
+
+-- a notice that is pending was taken
+abbrev pub taken : Memory → Memory
+taken m = record m { pending = false; awaits = if m.pending then awaits.Nothing else m.awaits }
 
 -- a place of the 531 frames
 abbrev pub IsHeld : Place → Type 0

@@ -1,7 +1,9 @@
 //! One front and one back queue over one memory, event by event.
 #![tactic(auto)]
 
+mod calling;
 mod event;
+mod hosting;
 mod making;
 mod memory;
 mod pair;

@@ -1,6 +1,7 @@
 //! The words of all frames, and whether the back's port is pending.
 ghost use Rattle.std.specs.Prelude.{◌≡◌, vec_len};
 
+use pair_machine::Awaits;
 use std::alloc::{AllocError, Global};
 use xen_back::{Answer, Want};
 use xen_page::Place;
@@ -21,13 +22,14 @@ const BACK_PORT: u32 = 0;
 pub struct Memory {
     words: Vec<u32>,
     pending: bool,
+    awaits: Awaits,
     ghost full: { vec_len words ≡ 543744 },
 }
 
 impl Memory {
     ghost use Rattle.std.specs.Prelude.{◌≡◌, ◌<◌, true, false, IfOk, replicate, vec_len};
     ghost use Rattle.pair_machine.specs.Memory.{after, answer, opening_memory, put};
-    ghost use Rattle.honest_pair.specs.Words.{IsHeld, WantsHeld, empty_memory, opened};
+    ghost use Rattle.honest_pair.specs.Words.{IsHeld, WantsHeld, empty_memory, opened, taken};
     ghost use Rattle.honest_pair.specs.Held.{memory_in};
     ghost use Rattle.xen_steps.specs.Answers.{Fits, number};
     ghost use Rattle.xen_steps.specs.Drive.{IsPageWant};
@@ -47,6 +49,7 @@ impl Memory {
         Ok(Memory {
             words: Memory::zeros(alloc, TOTAL)?,
             pending: false,
+            awaits: Awaits::Nothing,
         })
     }
 
@@ -131,13 +134,23 @@ impl Memory {
         }
     }
 
-    /// Whether the back's port was pending, which it is no longer.
+    /// Whether the back's port was pending, which it is no longer. A back that was woken by it awaits nothing.
     pub fn take(&mut self) -> bool
         ensures was { result ≡ (memory_in self.old).pending }
-        ensures now { memory_in self.new ≡ record (memory_in self.old) { pending = false } }
+        ensures now { memory_in self.new ≡ taken (memory_in self.old) }
     {
         let pending = self.pending;
-        self.pending = false;
+        if pending {
+            self.pending = false;
+            self.awaits = Awaits::Nothing;
+        }
         pending
+    }
+
+    /// What the back awaits from now on.
+    pub fn awaits(&mut self, awaits: Awaits)
+        ensures { memory_in self.new ≡ record (memory_in self.old) { awaits = awaits } }
+    {
+        self.awaits = awaits;
     }
 }

@@ -3,6 +3,7 @@ ghost use Rattle.std.specs.Prelude.{◌≡◌, IfOk, OnOk};
 ghost use Rattle.honest_pair.specs.Events.{events_in};
 ghost use Rattle.honest_pair.specs.Runs.{HasDone, IsPairRun};
 
+use crate::calling::Calling;
 use crate::event::PairEvent;
 use crate::making::front;
 use crate::memory::Memory;
@@ -61,7 +62,7 @@ impl Pair<'_, '_, '_> {
             front,
             memory,
             asleep: true,
-            delivering: false,
+            calling: Calling::Nothing,
             received: Vec::new(alloc),
         };
         pair.steps(events)?;
@@ -70,7 +71,7 @@ impl Pair<'_, '_, '_> {
             front: _,
             memory: _,
             asleep: _,
-            delivering: _,
+            calling: _,
             received,
         } = pair;
         Ok(PairRun {

@@ -2,15 +2,16 @@
 ghost use Rattle.std.specs.Prelude.{◌≡◌, All, OnOk, false, true, slice_get};
 ghost use Rattle.pair_machine.specs.Law.{IsByte};
 ghost use Rattle.xen_front.specs.Fronts.{rest as front_rest};
-ghost use Rattle.pair_machine.specs.Pair.{BackStep, Deliver, FrontStep, Poll, Post, Send};
+ghost use Rattle.pair_machine.specs.Pair.{BackStep, FrontStep, Poll, Post, Send};
 ghost use Rattle.xen_steps.specs.Steps.{want_of};
 ghost use Rattle.honest_pair.specs.Events.{event_in};
 ghost use Rattle.honest_pair.specs.Shows.{Does, Received, is_idle as is_idle_spec};
 
+use crate::calling::Calling;
 use crate::event::PairEvent;
 use crate::pair::Pair;
 use std::alloc::AllocError;
-use xdp_world::{Begun, Kept};
+use xdp_world::Kept;
 use xen_back::Want;
 use xen_front::{Buffer, RxTurn};
 use xen_page::Table;
@@ -78,7 +79,7 @@ impl Pair<'_, '_, '_> {
     /// A back that sleeps wakes where its port is pending.
     fn wake(&mut self)
         requires asleep { self.old.asleep ≡ true }
-        requires delivers { self.old.delivering ≡ false }
+        requires calls { self.old.calling ≡ Calling.Nothing }
         ensures { Does self.old self.new BackStep }
     {
         if self.memory.take() {
@@ -89,7 +90,7 @@ impl Pair<'_, '_, '_> {
     /// The next event of the back's turn, and a halted back's none.
     fn go_on(&mut self) -> Result<(), AllocError>
         requires asleep { self.old.asleep ≡ false }
-        requires delivers { self.old.delivering ≡ false }
+        requires calls { self.old.calling ≡ Calling.Nothing }
         ensures { OnOk result (Does self.old self.new BackStep) }
     {
         let answer = self.memory.serve(self.world.want(0));
@@ -99,47 +100,32 @@ impl Pair<'_, '_, '_> {
         Ok(())
     }
 
-    /// The next event of the back's delivery. Where it is over by that, the back is as before it, asleep or awake.
-    fn carry_on(&mut self) -> Result<(), AllocError>
-        requires { self.old.delivering ≡ true }
+    /// The next event of a back that does nothing for its host.
+    fn rest_or_go_on(&mut self) -> Result<(), AllocError>
+        requires { self.old.calling ≡ Calling.Nothing }
         ensures { OnOk result (Does self.old self.new BackStep) }
     {
-        let answer = self.memory.serve(self.world.want(0));
-        let before = self.world.deliveries(0).len();
-        self.world.step(0, answer)?;
-        self.delivering = self.world.deliveries(0).len() == before;
-        Ok(())
-    }
-
-    /// The next event of the back.
-    fn back_step(&mut self) -> Result<(), AllocError>
-        ensures { OnOk result (Does self.old self.new BackStep) }
-    {
-        if self.delivering {
-            self.carry_on()
-        } else if self.asleep {
+        if self.asleep {
             self.wake();
             Ok(())
         } else {
             self.go_on()
         }
     }
+
+    /// The next event of the back.
+    fn back_step(&mut self) -> Result<(), AllocError>
+        ensures { OnOk result (Does self.old self.new BackStep) }
+    {
+        match self.calling {
+            Calling::Delivery => self.carry_on(),
+            Calling::Wait { pages } => self.look_on(pages),
+            Calling::Nothing => self.rest_or_go_on(),
+        }
+    }
 }
 
 impl<'b> Pair<'_, 'b, '_> {
-    /// The back begins to deliver a packet of the host's own, unless it is inside a turn or a delivery.
-    fn deliver(&mut self, packet: &'b [u8]) -> Result<(), AllocError>
-        requires { All IsByte packet.now }
-        ensures { OnOk result (Does self.old self.new (Deliver packet.now)) }
-    {
-        match self.world.deliver(0, packet)? {
-            Begun::Underway => self.delivering = true,
-            Begun::Over(_) => {}
-            Begun::Busy => {}
-        }
-        Ok(())
-    }
-
     /// One event.
     pub(crate) fn step(&mut self, event: &'b PairEvent) -> Result<(), AllocError>
         ensures { OnOk result (Does self.old self.new (event_in event.now)) }
@@ -168,6 +154,7 @@ impl<'b> Pair<'_, 'b, '_> {
                 are_bytes(bytes);
                 self.deliver(bytes)
             }
+            PairEvent::Await { pages } => self.await_slots(*pages),
         }
     }
 }

@@ -5,4 +5,5 @@ mod looks;
 mod programs;
 mod random;
 mod rows;
+mod waits;
 mod wrapped;

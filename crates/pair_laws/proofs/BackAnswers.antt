@@ -23,6 +23,7 @@ use Rattle.pair_machine.specs.Memory.{Memory, put, after}
 use Rattle.pair_laws.specs.Ends.{BackSafe, HasGiven}
 use Rattle.pair_laws.proofs.Puts.{add_add, put_apart, put_same, tx_apart}
 use Rattle.pair_laws.proofs.Lists.{pieces_count, slots_count}
+use Rattle.pair_laws.proofs.Asks.{told_by}
 use Rattle.pair_laws.proofs.BackGroups.{tx_head_put}
 use Rattle.pair_laws.proofs.BackRings.{tx_ring_put}
 use Rattle.pair_laws.proofs.BackLooks.{over, read_any, writes}
@@ -89,6 +90,7 @@ module _ (w : Wiring) (start : ℕ) (y : Laid w) (v : BackWiring) (d : List Sent
         reading = r.reading;
         front_notes = r.front_notes;
         heard = λ x. cc;
+        awaited = h.awaited;
       }
     where
       other : (n j : ℕ) → f.taken ≤ n → n < f.taken + 256 → j < 3 → (length (slots d) + length s.ids ≤ n) ⊎ ((n < length (slots d) + i) × (j ≡ 0)) → f.taken ≤ length (slots d) + i → length (slots d) + i < f.taken + 256 →
@@ -145,6 +147,7 @@ module _ (w : Wiring) (start : ℕ) (y : Laid w) (v : BackWiring) (d : List Sent
         reading = r.reading;
         front_notes = r.front_notes;
         heard = λ x. cc;
+        awaited = h.awaited;
       }
 
   abbrev pub after_all : Back
@@ -162,6 +165,7 @@ module _ (w : Wiring) (start : ℕ) (y : Laid w) (v : BackWiring) (d : List Sent
     reading = h.reading;
     front_notes = h.front_notes;
     heard = λ x. cc;
+    awaited = told_by w start port m.pending (length f.posts) f.posting m.awaits h.awaited;
   }
 
   -- the packet is answered, and the turn ends so

@@ -98,6 +98,7 @@ module _ (w : Wiring) (start : ℕ) (v : BackWiring) (d : List Sent) (s : Sent) 
     reading = h.reading;
     front_notes = h.front_notes;
     heard = λ c. cc;
+    awaited = h.awaited;
   }
 
   abbrev IsRead : ℕ → Piece → Back → Slot → Type 0

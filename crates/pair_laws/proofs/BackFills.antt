@@ -138,6 +138,7 @@ module _ (w : Wiring) (start : ℕ) (small : start < 2 ^ 32) (d a : List Sent) (
         reading = h.reading;
         front_notes = h.front_notes;
         heard = h.heard;
+        awaited = h.awaited;
       }
     where
       below : (n o : ℕ) → (n < first) ⊎ (1024 * (piece all n).k + o < 0) → n < first
@@ -190,6 +191,7 @@ module _ (w : Wiring) (start : ℕ) (small : start < 2 ^ 32) (d a : List Sent) (
           reading = λ s q1. reading_put w start m.word frame (k % 1024) z f s (λ q2. apart_reading s (h.reading s q1) inside q2) (h.reading s q1);
           front_notes = notes_put w start m.word frame (k % 1024) z f (λ at q1 q2 q3. fronts_page w start y f (post (k / 1024)) (k % 1024) id at q1 q2 q3) h.front_notes;
           heard = h.heard;
+          awaited = h.awaited;
         }
       where
         -- another post has another frame

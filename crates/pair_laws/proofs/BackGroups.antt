@@ -12,6 +12,8 @@ use Rattle.pair_laws.specs.Ghosts.{Piece, piece, id_at, Front, AllNotes, tx_sent
 use Rattle.pair_laws.specs.Inv.{TxSlots, RxSlots, TxHead, RxHead, Reading, IsLent, IsFronts, tx_slot, tx_flags, tx_frame, tx_page, rx_slot, rx_flags, rx_frame, FrontNotes, tx_at, rx_at, tx_buffer, rx_buffer}
 use Rattle.pair_laws.specs.Laid.{Outside, Laid}
 use Rattle.pair_machine.specs.Memory.{put}
+use Rattle.pair_machine.specs.declared.awaits.Awaits.{Awaits}
+use Rattle.pair_laws.proofs.Asks.{asked_as}
 use Rattle.pair_laws.proofs.Puts.{put_apart}
 
 pub all_map : {P Q : PageWrite → Type 0} → ((n : PageWrite) → P n → Q n) → (ns : List PageWrite) → AllNotes P ns → AllNotes Q ns
@@ -56,8 +58,9 @@ module _ (w : Wiring) (start : ℕ) (x : Place → ℕ) (F k v : ℕ) where
     rsp_prod = put_apart x (page_word F k) v (page_word w.tx_frame 2) (d 2 (omega arith)) ∙ h.rsp_prod;
   }
 
-  pub rx_head_put : (posted given : ℕ) → ((i : ℕ) → i < 3 → w.rx_frame ≡ F → i ≡ k → ⊥) → RxHead w start x posted given → RxHead w start written_word posted given
-  rx_head_put posted given d h = record {
+  pub rx_head_put : {a : Awaits} (posted given : ℕ) → ((i : ℕ) → i < 3 → w.rx_frame ≡ F → i ≡ k → ⊥) → RxHead w start x posted given a → RxHead w start written_word posted given a
+  rx_head_put {a = a} posted given d h = record {
+    event = asked_as w start x written_word a (put_apart x (page_word F k) v (page_word w.rx_frame 1) (d 1 (omega arith))) h.event;
     req_prod = put_apart x (page_word F k) v (page_word w.rx_frame 0) (d 0 (omega arith)) ∙ h.req_prod;
     rsp_prod = put_apart x (page_word F k) v (page_word w.rx_frame 2) (d 2 (omega arith)) ∙ h.rsp_prod;
   }

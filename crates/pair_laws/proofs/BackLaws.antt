@@ -12,6 +12,7 @@ use Rattle.pair_machine.specs.Halves.{half_turn}
 use Rattle.pair_laws.specs.Inv.{Inv}
 use Rattle.pair_laws.specs.Joined.{Joined}
 use Rattle.pair_machine.specs.Memory.{Memory}
+use Rattle.pair_machine.specs.declared.awaits.Awaits.TheVariants as awaits
 use Rattle.pair_laws.proofs.BackLooks.{over, safe_less}
 use Rattle.pair_laws.proofs.BackTurns.{half_rests}
 use Rattle.pair_laws.proofs.BackSends.{send_safe}
@@ -36,22 +37,23 @@ half_safe w start small y v j runs s c g b ready =
     (subst (λ g2. BackSafe w start (GivenAll g2) (HalfEnd w start v s c g2) (resting d ready.ahead gv ready.posts ready.event) (half_turn v s)) ready.gave
     (subst (λ c2. BackSafe w start (GivenAll (bytes_in gv)) (HalfEnd w start v s c2 (bytes_in gv)) (resting d ready.ahead gv ready.posts ready.event) (half_turn v s)) ready.copied less))
 
-wakes_as : (w : Wiring) (start : ℕ) (d g : List Sent) (rs : List ℕ) (m : Memory) (f : Front) → Inv w start m f (slept d g rs) → Inv w start (record m { pending = false }) f (woken (slept d g rs))
+wakes_as : (w : Wiring) (start : ℕ) (d g : List Sent) (rs : List ℕ) (m : Memory) (f : Front) → Inv w start m f (slept d g rs) → Inv w start (record m { pending = false; awaits = awaits.Nothing }) f (woken (slept d g rs))
 wakes_as w start d g rs m f h = record {
   tx = record { took = h.tx.took; told = h.tx.told; wrote = h.tx.wrote; used = h.tx.used; known = h.tx.known; room = h.tx.room; unique = h.tx.unique; good = h.tx.good };
   tx_head = h.tx_head;
   tx_slots = h.tx_slots;
   rx = h.rx;
-  rx_head = h.rx_head;
+  rx_head = record { req_prod = h.rx_head.req_prod; event = tt; rsp_prod = h.rx_head.rsp_prod };
   rx_slots = h.rx_slots;
   reading = h.reading;
   front_notes = h.front_notes;
   heard = λ x. cc;
+  awaited = tt;
 }
 
 pub wakes : WakeLaw
 wakes w start s c g b m f sl h = (
-  subst (λ b2. Inv w start (record m { pending = false }) f (woken b2)) (sym sl.back) (wakes_as w start sl.answered sl.sent sl.posts m f (subst (Inv w start m f) sl.back h)),
+  subst (λ b2. Inv w start (record m { pending = false; awaits = awaits.Nothing }) f (woken b2)) (sym sl.back) (wakes_as w start sl.answered sl.sent sl.posts m f (subst (Inv w start m f) sl.back h)),
   record { answered = sl.answered; ahead = []; sent = sl.sent; posts = sl.posts; event = length (slots sl.answered) + 1; back = ap woken sl.back; copied = sl.copied; gave = sl.gave; between = sl.between },
 )
 

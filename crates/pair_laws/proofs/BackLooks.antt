@@ -83,6 +83,7 @@ module _ (w : Wiring) (start : ℕ) (y : Laid w) (small : start < 2 ^ 32) (v : B
           reading = h.reading;
           front_notes = h.front_notes;
           heard = λ c. cc;
+          awaited = h.awaited;
         },
       )
 
@@ -97,6 +98,7 @@ module _ (w : Wiring) (start : ℕ) (y : Laid w) (small : start < 2 ^ 32) (v : B
     reading = h.reading;
     front_notes = h.front_notes;
     heard = λ c. (refl, inr (inl (shown f x p ∙ omega (arith, z))));
+    awaited = h.awaited;
   }
 
   -- the index at which the back asks to be told
@@ -119,6 +121,7 @@ module _ (w : Wiring) (start : ℕ) (y : Laid w) (small : start < 2 ^ 32) (v : B
         reading = r.reading;
         front_notes = r.front_notes;
         heard = λ c. cc;
+        awaited = h.awaited;
       }
 
   abbrev wiring : BackWiring

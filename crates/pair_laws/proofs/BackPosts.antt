@@ -69,6 +69,7 @@ module _ (w : Wiring) (start : ℕ) (small : start < 2 ^ 32) (v : BackWiring) (j
         reading = h.reading;
         front_notes = h.front_notes;
         heard = h.heard;
+        awaited = h.awaited;
       }
 
   pub rx_sees : (rs : List ℕ) (m : Memory) (f : Front) → Inv w start m f (posts_read rs 0) → available (add32 start first) (m.word (page_word w.rx_frame 0)) ≡ Some (length f.posts - first)
@@ -115,6 +116,7 @@ module _ (w : Wiring) (start : ℕ) (small : start < 2 ^ 32) (v : BackWiring) (j
           reading = h.reading;
           front_notes = h.front_notes;
           heard = h.heard;
+          awaited = h.awaited;
         }
 
     post_lent : (m : Memory) (f : Front) (i u : ℕ) → first + i < length rs → Inv w start m f (posts_read rs u) → IsLent w start m.word (buffer w.rx.now (post i)) 1

@@ -20,6 +20,7 @@ use Rattle.pair_laws.specs.Laid.{Laid}
 use Rattle.pair_machine.specs.Memory.{Memory, put, after}
 use Rattle.pair_laws.proofs.Puts.{add_add, put_apart, put_same, rx_apart}
 use Rattle.pair_laws.proofs.Lists.{nil_right, small_ids}
+use Rattle.pair_laws.proofs.Asks.{asked_as, told_by}
 use Rattle.pair_laws.proofs.BackGroups.{tx_put, rx_put, tx_head_put, rx_head_put, reading_put, notes_put, fronts_rx}
 use Rattle.pair_laws.proofs.BackRings.{given_bound, given_small, got_bound, posts_bound, sent_bound}
 use Rattle.pair_laws.proofs.BackLooks.{over, read_any, writes}
@@ -75,6 +76,7 @@ module _ (w : Wiring) (start : ℕ) (small : start < 2 ^ 32) (d a : List Sent) (
         reading = λ s q. reading_put w start m.word w.rx_frame k z f s (y.rx_ring_rx s.id (h.reading s q).id) (h.reading s q);
         front_notes = notes_put w start m.word w.rx_frame k z f (fronts_rx w start y f k (λ n o2 q1 q2 q3 q4. rx_apart start (G + i) n o2 o (omega (arith, q1, p, ip, pb)) (omega (arith, q2, ob)) q3 op (q4 ∙ place))) h.front_notes;
         heard = h.heard;
+        awaited = h.awaited;
       }
     where
       clash : (n o2 : ℕ) → f.got ≤ n → n < f.got + 256 → o2 < 2 → (G + N ≤ n) ⊎ ((n < length L) × (2 * n + o2 < 2 * G + wr)) → f.got ≤ G + i → G + i < f.got + 256 →
@@ -135,6 +137,7 @@ module _ (w : Wiring) (start : ℕ) (small : start < 2 ^ 32) (d a : List Sent) (
         };
         rx_head = record {
           req_prod = put_apart m.word (page_word w.rx_frame 2) k (page_word w.rx_frame 0) (λ q1 q2. omega (arith, q2)) ∙ h.rx_head.req_prod;
+          event = asked_as w start m.word (put m.word (page_word w.rx_frame 2) k) m.awaits (put_apart m.word (page_word w.rx_frame 2) k (page_word w.rx_frame 1) (λ q1 q2. omega (arith, q2))) h.rx_head.event;
           rsp_prod = put_same m.word (page_word w.rx_frame 2) k ∙ at ∙ add_add start G N ∙ ap (add32 start) (sym lc);
         };
         rx_slots = subst (λ l. RxSlots w start (put m.word (page_word w.rx_frame 2) k) f.posts (slots l) f.got (length L) (length L + 0) (2 * length L + 0) 0) (sym whole)
@@ -147,6 +150,7 @@ module _ (w : Wiring) (start : ℕ) (small : start < 2 ^ 32) (d a : List Sent) (
         reading = λ s q. reading_put w start m.word w.rx_frame 2 k f s (y.rx_ring_rx s.id (h.reading s q).id) (h.reading s q);
         front_notes = notes_put w start m.word w.rx_frame 2 k f (fronts_rx w start y f 2 (λ n o2 q1 q2 q3 q4. omega (arith, q4))) h.front_notes;
         heard = h.heard;
+        awaited = h.awaited;
       }
     where
       page_of : RxSlots w start (put m.word (page_word w.rx_frame 2) k) f.posts L f.got G (G + N) (2 * G + 2 * N) (words packet) → (n o : ℕ) → f.got ≤ n → n < length L → o < 1024 → 1024 * (piece L n).k + o < words (piece L n).bytes →
@@ -174,6 +178,7 @@ module _ (w : Wiring) (start : ℕ) (small : start < 2 ^ 32) (d a : List Sent) (
     reading = h.reading;
     front_notes = h.front_notes;
     heard = λ x. still_heard m f given_all port (h.heard x);
+    awaited = told_by w start port m.pending (length f.posts) f.posting m.awaits h.awaited;
   }
 
   module _ (v : BackWiring) (K : Back → Type 0) (k1 : (fl wr : ℕ) → K (now fl wr)) (k2 : K given_all) where

@@ -7,6 +7,7 @@ use Rattle.pair_laws.specs.Ghosts.{Piece, piece, slots, Front, Back, tx_sent, tx
 use Rattle.pair_laws.specs.Inv.{Inv, TxSlots, RxHead, RxSlots, Reading, FrontNotes}
 use Rattle.pair_laws.specs.Laid.{Laid}
 use Rattle.pair_machine.specs.Memory.{Memory, put}
+use Rattle.pair_machine.specs.declared.awaits.Awaits.{Awaits}
 use Rattle.pair_laws.proofs.Lists.{slots_count, small_ids}
 use Rattle.pair_laws.proofs.BackGroups.{tx_put, rx_put, rx_head_put, reading_put, notes_put, fronts_tx}
 
@@ -40,9 +41,9 @@ module _ (w : Wiring) (start : ℕ) (m : Memory) (f : Front) (b : Back) (h : Inv
       omega (arith, c, d, e)
 
 -- all but the tx ring's header and the sleeping back
-pub record Kept (w : Wiring) (start : ℕ) (x : Place → ℕ) (f : Front) (b : Back) : Type 0 where
+pub record Kept (w : Wiring) (start : ℕ) (x : Place → ℕ) (asked : Awaits) (f : Front) (b : Back) : Type 0 where
   pub tx_slots : TxSlots w start x (slots f.sent) f.taken (tx_answered b) (tx_answered b + b.wrote) (tx_answered b + b.used)
-  pub rx_head : RxHead w start x (length f.posts) (rx_given b)
+  pub rx_head : RxHead w start x (length f.posts) (rx_given b) asked
   pub rx_slots : RxSlots w start x f.posts (slots (b.given ++ b.giving)) f.got (rx_given b) (rx_given b + b.rx_used) (2 * rx_given b + b.rx_wrote) b.filled
   pub reading : (s : Piece) → f.reading ≡ Some s → Reading w start x f s
   pub front_notes : FrontNotes w start x f
@@ -50,7 +51,7 @@ pub record Kept (w : Wiring) (start : ℕ) (x : Place → ℕ) (f : Front) (b : 
 -- a word of the tx ring's page that is no word of a slot in use
 pub tx_ring_put : (w : Wiring) (start : ℕ) (m : Memory) (f : Front) (b : Back) (h : Inv w start m f b) (y : Laid w) (k v : ℕ) →
     ((n j : ℕ) → f.taken ≤ n → n < f.taken + 256 → j < 3 → (tx_answered b + b.used ≤ n) ⊎ ((n < tx_answered b + b.wrote) × (j ≡ 0)) → 16 + 3 * (add32 start n % 256) + j ≡ k → ⊥) →
-    Kept w start (put m.word (page_word w.tx_frame k) v) f b
+    Kept w start (put m.word (page_word w.tx_frame k) v) m.awaits f b
 tx_ring_put w start m f b h y k v ring =
     let sb = sent_bound w start m f b h in
     let gb = given_bound w start m f b h in

@@ -12,7 +12,7 @@ use Rattle.xen_front.specs.declared.turn.Halt.{Halt}
 use Rattle.xen_steps.specs.Places.{add32}
 use Rattle.pair_laws.specs.Ghosts.{Sent, Front, tx_sent, slots, piece, pieces_in, id_at, IsSent, AllOf, bytes_in}
 use Rattle.pair_laws.specs.Inv.{Inv, IsFree}
-use Rattle.pair_laws.specs.Rest.{Ringed, id_of, Rest, Keeps, Quiet, Over, began, Sends}
+use Rattle.pair_laws.specs.Rest.{Ringed, id_of, Rest, Sends, Posts, Polls, Over, began, CanSend}
 use Rattle.pair_machine.specs.Safe.{Safe}
 use Rattle.pair_laws.proofs.Lists.{pieces_count, bytes_append, nil_right}
 use Rattle.pair_laws.specs.Numbers.{Numbers}
@@ -73,8 +73,8 @@ posts_ok s e = by s.halt (all_free s.rx.out) e
 
 module _ (w : Wiring) (laid : Numbers w) (start : ℕ) (small : start < 2 ^ 32) (s : State) (sent received : List (List ℕ)) (f : Front) (r : Rest start s sent received f) where
   -- A send that is taken: what was sent grows by its packet.
-  pub send_safe : (p : List ℕ) → Sends s p → ((i : ℕ) → get_or p i 0 < 256) →
-      Safe (Inv w start) (Keeps (sent ++ p ∷ []) received) (Over start (sent ++ p ∷ []) received) (began f (p ∷ [])) (send w s p (chosen (pieces_of (length p)) s.tx.out))
+  pub send_safe : (p : List ℕ) → CanSend s p → ((i : ℕ) → get_or p i 0 < 256) →
+      Safe (Inv w start) (Sends (sent ++ p ∷ []) received) (Over start (sent ++ p ∷ []) received) (began f (p ∷ [])) (send w s p (chosen (pieces_of (length p)) s.tx.out))
   send_safe p o bytes =
       let n = pieces_of (length p) in
       let out = s.tx.out in
@@ -89,9 +89,9 @@ module _ (w : Wiring) (laid : Numbers w) (start : ℕ) (small : start < 2 ^ 32) 
       let ok : Sendable w start F q = record { good = good; free = all_map (λ j. get_or out j false ≡ false) (IsFree w start F) (λ j h. no_flag start s.tx (id_of f) f.taken (tx_sent f) j r.tx h) ids clear; differ = chosen_differ n out; room = omega (arith, len, room, count) } in
       let c = r.chain in
       let grown : bytes_in (f.sent ++ q ∷ []) ≡ sent ++ p ∷ [] = bytes_append f.sent (q ∷ []) ∙ ap (λ t. t ++ p ∷ []) r.packets in
-      send_tree_safe w laid start small (Keeps (sent ++ p ∷ []) received) (Over start (sent ++ p ∷ []) received) F s p ids r.tx.prod ok (omega (arith, len, least)) (omega (arith, len, most)) refl
-      (λ l. record { packets = ap (λ t. t ++ p ∷ []) r.packets; chain = record { before = c.before; more = c.more; told = c.told; bytes = c.bytes } })
-      (λ win. record { packets = nil_right (bytes_in (f.sent ++ q ∷ [])) ∙ grown; chain = record { before = c.before; more = c.more; told = c.told; bytes = c.bytes } })
+      send_tree_safe w laid start small (Sends (sent ++ p ∷ []) received) (Over start (sent ++ p ∷ []) received) F s p ids r.tx.prod ok (omega (arith, len, least)) (omega (arith, len, most)) refl
+      (λ l. record { packets = ap (λ t. t ++ p ∷ []) r.packets; chain = record { before = c.before; more = c.more; told = c.told; bytes = c.bytes }; posting = refl })
+      (λ win. record { packets = nil_right (bytes_in (f.sent ++ q ∷ [])) ∙ grown; chain = record { before = c.before; more = c.more; told = c.told; bytes = c.bytes }; posting = refl })
       (record {
         running = r.running;
         tx = flown_tx start s.tx f q r.tx (chosen_differ n out) below clear;
@@ -99,6 +99,7 @@ module _ (w : Wiring) (laid : Numbers w) (start : ℕ) (small : start < 2 ^ 32) 
         unsent = refl;
         notes = refl;
         window = refl;
+        posting = refl;
         reading = refl;
         packets = grown;
         chain = record { before = c.before; more = c.more; told = c.told; bytes = c.bytes ∙ sym (nil_right received) };
@@ -106,7 +107,7 @@ module _ (w : Wiring) (laid : Numbers w) (start : ℕ) (small : start < 2 ^ 32) 
       })
 
   -- A post that is taken.
-  pub post_safe : 0 < length (all_free s.rx.out) → Safe (Inv w start) (Quiet sent received) (Over start sent received) (began f []) (post w s (get_or (all_free s.rx.out) 0 0))
+  pub post_safe : 0 < length (all_free s.rx.out) → Safe (Inv w start) (Posts sent received) (Over start sent received) (began f []) (post w s (get_or (all_free s.rx.out) 0 0))
   post_safe some =
       let out = s.rx.out in
       let id = get_or (all_free out) 0 0 in
@@ -115,10 +116,10 @@ module _ (w : Wiring) (laid : Numbers w) (start : ℕ) (small : start < 2 ^ 32) 
       let count = r.rx.count in
       let c = r.chain in
       let packets : bytes_in f.sent ++ [] ≡ sent = nil_right (bytes_in f.sent) ∙ r.packets in
-      post_tree_safe w laid start (Quiet sent received) (Over start sent received) (began f []) s id r.rx.prod below
-      (no_flag start s.rx (id_at f.posts) f.got (length f.posts) id r.rx free.2) (omega (arith, count, some)) refl
+      post_tree_safe w laid start (Posts sent received) (Over start sent received) (began f []) s id r.rx.prod below
+      (no_flag start s.rx (id_at f.posts) f.got (length f.posts) id r.rx free.2) (omega (arith, count, some)) refl refl small
       (λ l. record { packets = packets; chain = record { before = c.before; more = c.more; told = c.told; bytes = c.bytes }; window = refl })
-      (record { packets = packets; chain = record { before = c.before; more = c.more; told = c.told; bytes = c.bytes }; window = refl })
+      (λ going. record { packets = packets; chain = record { before = c.before; more = c.more; told = c.told; bytes = c.bytes }; window = refl })
       (record {
         running = r.running;
         tx = r.tx;
@@ -126,6 +127,7 @@ module _ (w : Wiring) (laid : Numbers w) (start : ℕ) (small : start < 2 ^ 32) 
         unsent = refl;
         notes = refl;
         window = refl;
+        posting = refl;
         reading = refl;
         packets = r.packets;
         chain = record { before = c.before; more = c.more; told = c.told; bytes = c.bytes ∙ sym (nil_right received) };
@@ -133,16 +135,16 @@ module _ (w : Wiring) (laid : Numbers w) (start : ℕ) (small : start < 2 ^ 32) 
       })
 
   -- A poll gives the next packet that the back gave, or none.
-  pub poll_safe : Safe (Inv w start) (Quiet sent received) (Over start sent received) (began f []) (poll w s)
+  pub poll_safe : Safe (Inv w start) (Polls sent received) (Over start sent received) (began f []) (poll w s)
   poll_safe =
       let c = r.chain in
-      let K = Quiet sent received in let P = Over start sent received in
+      let K = Polls sent received in let P = Over start sent received in
       let packets : bytes_in f.sent ++ [] ≡ sent = nil_right (bytes_in f.sent) ∙ r.packets in
-      poll_tx_safe w laid start small f K P (λ a d. record { packets = packets; chain = record { before = c.before; more = c.more; told = c.told; bytes = c.bytes }; window = refl }) f.taken f.told s r.running r.tx
+      poll_tx_safe w laid start small f K P (λ a d. record { packets = packets; chain = record { before = c.before; more = c.more; told = c.told; bytes = c.bytes }; window = refl; posting = refl }) f.taken f.told s r.running r.tx
       (λ d s' halt same ring.
       let go = poll_rx_safe w laid start small K P (polled f d d) c.before f.received s'.tx
-      (λ a x rd. record { packets = packets; chain = record { before = c.before; more = x; told = refl; bytes = c.bytes }; window = refl })
-      (λ q x. record { packets = packets; chain = record { before = c.before; more = q ∷ x; told = refl; bytes = c.bytes }; window = refl })
+      (λ a x rd. record { packets = packets; chain = record { before = c.before; more = x; told = refl; bytes = c.bytes }; window = refl; posting = refl })
+      (λ q x. record { packets = packets; chain = record { before = c.before; more = q ∷ x; told = refl; bytes = c.bytes }; window = refl; posting = refl })
       (λ x t halted tx rx. record {
         running = halted;
         tx = subst (λ y. Ringed start y (id_of f) d (tx_sent f)) (sym tx) ring;
@@ -150,6 +152,7 @@ module _ (w : Wiring) (laid : Numbers w) (start : ℕ) (small : start < 2 ^ 32) 
         unsent = refl;
         notes = refl;
         window = refl;
+        posting = refl;
         reading = refl;
         packets = r.packets;
         chain = record { before = c.before; more = x; told = refl; bytes = c.bytes ∙ sym (nil_right received) };
@@ -166,6 +169,7 @@ module _ (w : Wiring) (laid : Numbers w) (start : ℕ) (small : start < 2 ^ 32) 
         unsent = refl;
         notes = refl;
         window = refl;
+        posting = refl;
         reading = refl;
         packets = r.packets;
         chain = record { before = c.before ++ q ∷ []; more = x; told = sym (append_assoc c.before (q ∷ []) x); bytes = bytes_append c.before (q ∷ []) ∙ ap (λ t. t ++ q.bytes ∷ []) c.bytes };

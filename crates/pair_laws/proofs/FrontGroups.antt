@@ -8,6 +8,8 @@ use Rattle.xen_steps.specs.Places.{add32, page_word}
 use Rattle.pair_laws.specs.Ghosts.{Sent, Piece, Front, Back, tx_sent, tx_answered, slots, piece, id_at}
 use Rattle.pair_laws.specs.Inv.{tx_at, rx_at, tx_buffer, rx_buffer, IsLent, TxSlots, RxSlots, TxCounts, RxCounts, TxHead, RxHead, Reading, IsFree, IsFreePost}
 use Rattle.pair_machine.specs.Memory.{put}
+use Rattle.pair_machine.specs.declared.awaits.Awaits.{Awaits}
+use Rattle.pair_laws.proofs.Asks.{asked_as}
 use Rattle.pair_laws.proofs.Puts.{put_apart}
 use Rattle.pair_laws.proofs.Lists.{slots_count, small_ids}
 use Rattle.pair_laws.specs.Numbers.{Numbers}
@@ -115,8 +117,8 @@ module _ (w : Wiring) (start : ℕ) where
     rhead : (k : ℕ) → h ≤ k → k < 3 → y (page_word w.rx_frame k) ≡ x (page_word w.rx_frame k)
     rhead k p q = same (page_word w.rx_frame k) (rx_head p q laid.rx_ring)
 
-    pub rx_head_same : h ≡ 0 → (c a : ℕ) → RxHead w start x c a → RxHead w start y c a
-    rx_head_same z c a t = record { req_prod = rhead 0 (omega arith) (omega arith) ∙ t.req_prod; rsp_prod = rhead 2 (omega arith) (omega arith) ∙ t.rsp_prod }
+    pub rx_head_same : {k : Awaits} → h ≡ 0 → (c a : ℕ) → RxHead w start x c a k → RxHead w start y c a k
+    rx_head_same {k = k} z c a t = record { req_prod = rhead 0 (omega arith) (omega arith) ∙ t.req_prod; event = asked_as w start x y k (rhead 1 (omega arith) (omega arith)) t.event; rsp_prod = rhead 2 (omega arith) (omega arith) ∙ t.rsp_prod }
 
-    pub rx_head_pushed : h ≤ 1 → (c d a : ℕ) → y (page_word w.rx_frame 0) ≡ add32 start d → RxHead w start x c a → RxHead w start y d a
-    rx_head_pushed z c d a p t = record { req_prod = p; rsp_prod = rhead 2 (omega arith) (omega arith) ∙ t.rsp_prod }
+    pub rx_head_pushed : {k : Awaits} → h ≤ 1 → (c d a : ℕ) → y (page_word w.rx_frame 0) ≡ add32 start d → RxHead w start x c a k → RxHead w start y d a k
+    rx_head_pushed {k = k} z c d a p t = record { req_prod = p; event = asked_as w start x y k (rhead 1 (omega arith) (omega arith)) t.event; rsp_prod = rhead 2 (omega arith) (omega arith) ∙ t.rsp_prod }

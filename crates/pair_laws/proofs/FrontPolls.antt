@@ -29,7 +29,7 @@ use Rattle.pair_laws.proofs.FrontWrites.{write_own}
 
 -- a front that polls: so many tx responses are taken, and so many known
 abbrev pub polled : Front → ℕ → ℕ → Front
-polled f c d = record f { unsent = []; notes = []; window = None; reading = None; taken = c; told = d }
+polled f c d = record f { unsent = []; notes = []; window = None; posting = false; reading = None; taken = c; told = d }
 
 -- A response is taken: its id is free.
 pub ringed_taken : (start : ℕ) (r : Ring) (ids : ℕ → ℕ) (c sent id : ℕ) → Ringed start r ids c sent → c < sent → id ≡ ids c → ids c < 256 → ((n : ℕ) → c < n → n < sent → ids c ≡ ids n → ⊥) → Ringed start (taken r id) ids (c + 1) sent
@@ -56,6 +56,7 @@ module _ (w : Wiring) (laid : Numbers w) (start : ℕ) (small : start < 2 ^ 32) 
         reading = (λ s e. absurd (cc));
         front_notes = tt;
         heard = h.heard;
+        awaited = h.awaited;
       }
 
   -- one more response is taken
@@ -72,6 +73,7 @@ module _ (w : Wiring) (laid : Numbers w) (start : ℕ) (small : start < 2 ^ 32) 
         reading = (λ s e. absurd (cc));
         front_notes = tt;
         heard = h.heard;
+        awaited = h.awaited;
       }
 
   -- and its grant ended

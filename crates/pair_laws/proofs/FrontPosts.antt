@@ -1,5 +1,5 @@
 -- A post is safe.
-use Rattle.std.proofs.Common.{◌≡◌, ℕ, zero, suc, ◌+◌, ◌*◌, ◌<◌, ◌≤◌, inl, Bool, true, false, List, [], ◌∷◌, ◌++◌, length, length-append, get_or, refl, sym, ◌∙◌, ap, arith, subst, Some, None, append_assoc}
+use Rattle.std.proofs.Common.{◌≡◌, ℕ, zero, suc, ◌+◌, ◌*◌, ◌^◌, ◌<◌, ◌≤◌, inl, Bool, true, false, List, [], ◌∷◌, ◌++◌, length, length-append, get_or, refl, sym, ◌∙◌, ap, arith, subst, Some, None, append_assoc}
 use Rattle.std.specs.Prelude.{nat_lt}
 use Rattle.std.proofs.Math.ListN.{get_or-append}
 use Rattle.std.proofs.Math.Seq.{get_or-append_seam}
@@ -16,13 +16,15 @@ use Rattle.xen_steps.specs.Pages.{PageWrite, write_all}
 use Rattle.xen_steps.specs.Places.{add32, page_word}
 use Rattle.xen_steps.specs.declared.want.Want.TheVariants as want
 use Rattle.pair_laws.specs.Ghosts.{Sent, Piece, Front, Back, tx_sent, tx_answered, rx_given, slots, id_at, AllOf}
-use Rattle.pair_laws.specs.Inv.{rx_at, rx_buffer, IsLent, RxCounts, RxSlots, Reading, IsFreePost, IsFronts, rx_slot, rx_flags, rx_frame, Heard, Inv}
+use Rattle.pair_laws.specs.Inv.{rx_at, rx_buffer, IsLent, RxCounts, RxSlots, Reading, IsFreePost, IsFronts, rx_slot, rx_flags, rx_frame, Heard, Inv, Told}
 use Rattle.pair_machine.specs.Memory.{Memory, put, after, told}
 use Rattle.pair_machine.specs.Safe.{Safe}
 use Rattle.pair_laws.proofs.FrontGroups.{rx_span, written, tx_slots_same, rx_slots_same, tx_head_pushed, rx_head_pushed}
 use Rattle.pair_laws.specs.Numbers.{Numbers}
 use Rattle.pair_laws.proofs.FrontOwns.{rx_prod}
+use Rattle.pair_laws.proofs.Asks.{told_at_last, told_by, told_decided, told_pushed}
 use Rattle.pair_laws.proofs.FrontPieces.{all_map}
+use Rattle.pair_laws.proofs.FrontPushes.{due_next}
 use Rattle.pair_laws.proofs.Puts.{put_same, put_apart, add_add}
 use Rattle.pair_laws.proofs.FrontStands.{Stood}
 use Rattle.pair_laws.proofs.FrontWrites.{Spread, with_notes, noted_all, noted_back, cross_none, write_all_safe}
@@ -39,9 +41,25 @@ id_each l id P from f g n p q = by (nat_lt n (length l)) refl
         let s : n ≡ length l = omega arith in
         subst (λ m. P m (id_at (l ++ id ∷ []) m)) (sym s) (subst (P (length l)) (sym (get_or-append_seam l id [] 0)) g)
 
--- a front that has posted a buffer
-abbrev pub posted : Front → ℕ → Front
-posted f id = record f { posts = f.posts ++ id ∷ []; notes = [] }
+-- a front that has posted a buffer, whose notice is still to be decided or sent, or isn't
+abbrev pub posted : Front → ℕ → Bool → Front
+posted f id going = record f { posts = f.posts ++ id ∷ []; notes = []; posting = going }
+
+-- whether a push of posts is going, changes what is told of it alone
+re_opened : (w : Wiring) (start : ℕ) (f : Front) (id : ℕ) (was going : Bool) (m : Memory) (b : Back) → Told w start m.pending (length (f.posts ++ id ∷ [])) going m.awaits →
+    Inv w start m (posted f id was) b → Inv w start m (posted f id going) b
+re_opened w start f id was going m b t h = record {
+  tx = record { took = h.tx.took; told = h.tx.told; wrote = h.tx.wrote; used = h.tx.used; known = h.tx.known; room = h.tx.room; unique = h.tx.unique; good = h.tx.good };
+  tx_head = h.tx_head;
+  tx_slots = h.tx_slots;
+  rx = record { took = h.rx.took; told = h.rx.told; used = h.rx.used; known = h.rx.known; room = h.rx.room; unique = h.rx.unique; ids = h.rx.ids; giving = h.rx.giving; named = h.rx.named; good = h.rx.good };
+  rx_head = h.rx_head;
+  rx_slots = h.rx_slots;
+  reading = (λ s e. let r = h.reading s e in record { id = r.id; page = r.page; apart = r.apart });
+  front_notes = tt;
+  heard = h.heard;
+  awaited = t;
+}
 
 module _ (w : Wiring) (laid : Numbers w) (start : ℕ) (f : Front) (id : ℕ) where
   abbrev its : List PageWrite
@@ -59,7 +77,7 @@ module _ (w : Wiring) (laid : Numbers w) (start : ℕ) (f : Front) (id : ℕ) wh
   older : (n : ℕ) → n < length f.posts → id_at (f.posts ++ id ∷ []) n ≡ id_at f.posts n
   older n h = get_or-append f.posts (id ∷ []) 0 n h
 
-  rx_counts_posted : (g v : List Sent) (u : ℕ) (rs : List ℕ) → id < 256 → IsFreePost w start f id → length f.posts < f.got + 256 → RxCounts w start f g v u rs → RxCounts w start (posted f id) g v u rs
+  rx_counts_posted : (g v : List Sent) (u : ℕ) (rs : List ℕ) → id < 256 → IsFreePost w start f id → length f.posts < f.got + 256 → RxCounts w start f g v u rs → RxCounts w start (posted f id true) g v u rs
   rx_counts_posted g v u rs small free room c =
       let span = rx_span w start f g v u rs c in let high = span.high in let len = length-append f.posts (id ∷ []) in
       record {
@@ -90,13 +108,13 @@ module _ (w : Wiring) (laid : Numbers w) (start : ℕ) (f : Front) (id : ℕ) wh
     pages = t.pages;
   }
 
-  pub publishes : id < 256 → IsFreePost w start f id → length f.posts < f.got + 256 → f.reading ≡ None → (m : Memory) (b : Back) → Inv w start m (with_notes f (noted_all [] its)) b →
-      Inv w start (after (want.Write (page_word w.rx_frame 0) (add32 start (length f.posts + 1))) m) (posted f id) b
-  publishes small free room quiet m b h =
+  pub publishes : id < 256 → IsFreePost w start f id → length f.posts < f.got + 256 → f.reading ≡ None → f.posting ≡ false → (m : Memory) (b : Back) → Inv w start m (with_notes f (noted_all [] its)) b →
+      Inv w start (after (want.Write (page_word w.rx_frame 0) (add32 start (length f.posts + 1))) m) (posted f id true) b
+  publishes small free room quiet closed m b h =
       let at = page_word w.rx_frame 0 in
       let v = add32 start (length f.posts + 1) in
       let x = m.word in let y = put m.word at v in
-      let g = posted f id in
+      let g = posted f id true in
       let tx0 : Rattle.pair_laws.specs.Inv.TxCounts w start g b = record { took = h.tx.took; told = h.tx.told; wrote = h.tx.wrote; used = h.tx.used; known = h.tx.known; room = h.tx.room; unique = h.tx.unique; good = h.tx.good } in
       let rx0 : RxCounts w start f b.given b.giving b.rx_used b.rx_seen =
       record { took = h.rx.took; told = h.rx.told; used = h.rx.used; known = h.rx.known; room = h.rx.room; unique = h.rx.unique; ids = h.rx.ids; giving = h.rx.giving; named = h.rx.named; good = h.rx.good } in
@@ -119,35 +137,54 @@ module _ (w : Wiring) (laid : Numbers w) (start : ℕ) (f : Front) (id : ℕ) wh
         reading = (λ q e. let z : None ≡ Some q = sym quiet ∙ e in absurd (cc));
         front_notes = tt;
         heard = h.heard;
+        awaited = told_pushed w start m.pending (length f.posts) (length g.posts) m.awaits len (subst (λ z. Told w start m.pending (length f.posts) z m.awaits) closed h.awaited);
       }
+
+  -- The notice is decided.
+  pub decides : start < 2 ^ 32 → (m : Memory) (b : Back) → Inv w start m (posted f id true) b →
+      Inv w start m (posted f id (is_due (add32 start (length f.posts)) (add32 start (length f.posts + 1)) (m.word (page_word w.rx_frame 1)))) b
+  decides small m b h =
+      let due = is_due (add32 start (length f.posts)) (add32 start (length f.posts + 1)) (m.word (page_word w.rx_frame 1)) in
+      re_opened w start f id true due m b
+      (told_decided w start m.word m.pending (length f.posts) (length (f.posts ++ id ∷ [])) due m.awaits refl (due_next start (length f.posts) 1 small (omega arith) (omega arith)) (length-append f.posts (id ∷ [])) h.rx_head.event h.awaited) h
 
 module _ (w : Wiring) (laid : Numbers w) (start : ℕ) (K : Front → Type 0) (P : Front → Ending → Type 0) where
   -- a notice to the back
-  pub woken : (f : Front) (m : Memory) (b : Back) → Inv w start m f b → Inv w start (after (want.Notify w.port) m) f b
-  woken f m b h = record {
-    tx = h.tx;
-    tx_head = h.tx_head;
-    tx_slots = h.tx_slots;
-    rx = h.rx;
-    rx_head = h.rx_head;
-    rx_slots = h.rx_slots;
-    reading = h.reading;
-    front_notes = h.front_notes;
-    heard = (λ a. let e = h.heard a in (e.0, inl (ap (λ k. told k m.pending) laid.port)));
-  }
+  woken : (f : Front) (id : ℕ) (m : Memory) (b : Back) → Inv w start m (posted f id true) b → Inv w start (after (want.Notify w.port) m) (posted f id false) b
+  woken f id m b h =
+      let rung : told w.port m.pending ≡ true = ap (λ k. told k m.pending) laid.port in
+      re_opened w start f id true false (after (want.Notify w.port) m) b
+      (told_at_last w start (told w.port m.pending) (length (f.posts ++ id ∷ [])) false m.awaits rung (told_by w start w.port m.pending (length (f.posts ++ id ∷ [])) true m.awaits h.awaited))
+      (record {
+        tx = h.tx;
+        tx_head = h.tx_head;
+        tx_slots = h.tx_slots;
+        rx = h.rx;
+        rx_head = h.rx_head;
+        rx_slots = h.rx_slots;
+        reading = h.reading;
+        front_notes = h.front_notes;
+        heard = (λ a. let e = h.heard a in (e.0, inl rung));
+        awaited = told_by w start w.port m.pending (length (f.posts ++ id ∷ [])) true m.awaits h.awaited;
+      })
 
-  notice_safe : (f : Front) (e : State) (due : Bool) → K f → P f (e, Idle) → Safe (Inv w start) K P f (notice w due e)
-  notice_safe f e false k r = r
-  notice_safe f e true k r = λ m b h. (f, woken f m b h, k, λ a l. r)
+  notice_safe : (f : Front) (id : ℕ) (e : State) (due : Bool) → K (posted f id false) → P (posted f id false) (e, Idle) → Safe (Inv w start) K P (posted f id due) (notice w due e)
+  notice_safe f id e false k r = r
+  notice_safe f id e true k r = λ m b h. (posted f id false, woken f id m b h, k, λ a l. r)
 
-  pub post_tree_safe : (f : Front) (s : State) (id : ℕ) → s.rx.prod ≡ add32 start (length f.posts) → id < 256 → IsFreePost w start f id → length f.posts < f.got + 256 → f.reading ≡ None →
-      ((l : List PageWrite) → K (with_notes f l)) → K (posted f id) → P (posted f id) (record s { rx = flown s.rx (id ∷ []) }, Idle) →
+  pub post_tree_safe : (f : Front) (s : State) (id : ℕ) → s.rx.prod ≡ add32 start (length f.posts) → id < 256 → IsFreePost w start f id → length f.posts < f.got + 256 → f.reading ≡ None → f.posting ≡ false → start < 2 ^ 32 →
+      ((l : List PageWrite) → K (with_notes f l)) → ((going : Bool) → K (posted f id going)) → P (posted f id false) (record s { rx = flown s.rx (id ∷ []) }, Idle) →
       Safe (Inv w start) K P (with_notes f []) (post w s id)
-  post_tree_safe f s id at small free room quiet kn k r =
+  post_tree_safe f s id at small free room quiet closed low kn k r =
       let e : State = record s { rx = flown s.rx (id ∷ []) } in
       let i = add32 start (length f.posts) in
       let new = add32 start (length f.posts + 1) in
       let T : ℕ → Type 0 = λ i. Safe (Inv w start) K P (with_notes f []) (write_all (post_writes w i id) (publish w w.rx_frame i (add32 i 1) e)) in
       subst T (sym at) (subst (λ j. Safe (Inv w start) K P (with_notes f []) (write_all (post_writes w i id) (publish w w.rx_frame i j e))) (sym (add_add start (length f.posts) 1))
       (write_all_safe w start laid K P f [] (post_writes w i id) (publish w w.rx_frame i new e) kn (post_own w laid start f id small free room) (post_spread w laid start f id small) (cross_none (post_writes w i id))
-      (λ m b h. (posted f id, publishes w laid start f id small free room quiet m b h, k, λ a l. λ m1 b1 h1. (posted f id, h1, k, λ c d. notice_safe (posted f id) e (is_due i new (m1.word (page_word w.rx_frame 1))) k r)))))
+      (λ m b h. (
+        posted f id true,
+        publishes w laid start f id small free room quiet closed m b h,
+        k true,
+        λ a l. λ m1 b1 h1. (let due = is_due i new (m1.word (page_word w.rx_frame 1)) in (posted f id due, decides w laid start f id low m1 b1 h1, k due, λ c d. notice_safe f id e due (k false) r)),
+      ))))

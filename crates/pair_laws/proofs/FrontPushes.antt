@@ -11,6 +11,7 @@ use Rattle.xen_steps.specs.declared.want.Want.TheVariants as want
 use Rattle.pair_laws.specs.Ghosts.{Sent, Piece, Front, Back, tx_sent, tx_answered, rx_given, AllOf}
 use Rattle.pair_laws.specs.Inv.{TxCounts, RxCounts, Reading, IsFronts, Inv}
 use Rattle.pair_machine.specs.Memory.{Memory, put, after, told}
+use Rattle.pair_laws.proofs.Asks.{asked_as, told_by}
 use Rattle.pair_laws.proofs.Puts.{put_same, put_apart}
 use Rattle.pair_laws.specs.Numbers.{Numbers}
 use Rattle.pair_laws.proofs.FrontOwns.{tx_prod}
@@ -67,12 +68,14 @@ module _ (w : Wiring) (laid : Numbers w) (start : ℕ) (small : start < 2 ^ 32) 
         rx = rx0;
         rx_head = record {
           req_prod = put_apart x at v (page_word w.rx_frame 0) (λ p q. let c = laid.tx_ring in let d = laid.rx_ring in omega arith) ∙ h.rx_head.req_prod;
+          event = asked_as w start x y m.awaits (put_apart x at v (page_word w.rx_frame 1) (λ p q. let c = laid.tx_ring in let d = laid.rx_ring in omega arith)) h.rx_head.event;
           rsp_prod = put_apart x at v (page_word w.rx_frame 2) (λ p q. let c = laid.tx_ring in let d = laid.rx_ring in omega arith) ∙ h.rx_head.rsp_prod;
         };
         rx_slots = rx_slots_same w start laid 1 g b x y same b.given b.giving b.rx_used (2 * rx_given b + b.rx_wrote) b.filled b.rx_seen rx0 h.rx_slots;
         reading = (λ q e. let r = h.reading q e in reading_same w start laid 1 g b x y same q (record { id = r.id; page = r.page; apart = r.apart }));
         front_notes = tt;
         heard = (λ a. let e = h.heard a in (e.0, elim e.1 [ inl p ↦ inl p | inr q ↦ inr (inr (elim q [ inl p ↦ ap Some p | inr z ↦ (let c : None ≡ Some (tx_answered b) = sym quiet ∙ z in absurd (cc)) ])) ]));
+        awaited = h.awaited;
       }
 
   -- The notice is decided: none is due.
@@ -101,6 +104,7 @@ module _ (w : Wiring) (laid : Numbers w) (start : ℕ) (small : start < 2 ^ 32) 
         ])
       ],
     ));
+    awaited = h.awaited;
   }
 
   -- The notice is sent.
@@ -115,4 +119,5 @@ module _ (w : Wiring) (laid : Numbers w) (start : ℕ) (small : start < 2 ^ 32) 
     reading = (λ t e. let r = h.reading t e in record { id = r.id; page = r.page; apart = r.apart });
     front_notes = tt;
     heard = (λ a. let e = h.heard a in (e.0, inl (ap (λ k. told k m.pending) laid.port)));
+    awaited = told_by w start w.port m.pending (length f.posts) f.posting m.awaits h.awaited;
   }

@@ -1,5 +1,5 @@
 -- The events of receiving a packet.
-use Rattle.std.proofs.Common.{◌≡◌, ℕ, zero, suc, ◌+◌, ◌*◌, ◌<◌, ◌≤◌, inl, List, [], ◌++◌, length, refl, sym, ◌∙◌, ap, arith, subst, Option, Some, None, append_assoc}
+use Rattle.std.proofs.Common.{◌≡◌, ℕ, zero, suc, ◌+◌, ◌*◌, ◌<◌, ◌≤◌, inl, false, List, [], ◌++◌, length, refl, sym, ◌∙◌, ap, arith, subst, Option, Some, None, append_assoc}
 use Rattle.std.proofs.Math.ListN.{get_or-append}
 use Rattle.xen_buffers.specs.Grants.{buffer, grant_place}
 use Rattle.xen_buffers.specs.declared.wiring.Wiring.{Wiring}
@@ -22,7 +22,7 @@ use Rattle.pair_laws.proofs.FrontWrites.{write_own}
 
 -- a front that receives: so many rx responses are taken, of the packets that are known to be given
 abbrev pub rxing : Front → ℕ → List Sent → Option Piece → List (List ℕ) → Front
-rxing f c t rd rcv = record f { unsent = []; notes = []; window = None; reading = rd; got = c; rx_told = t; received = rcv }
+rxing f c t rd rcv = record f { unsent = []; notes = []; window = None; posting = false; reading = rd; got = c; rx_told = t; received = rcv }
 
 some_piece : {a b : Piece} → Some a ≡ Some b → a ≡ b
 some_piece {a = a} {b = b} e = cc
@@ -45,6 +45,7 @@ module _ (w : Wiring) (laid : Numbers w) (start : ℕ) (f : Front) where
         reading = (λ s e. absurd (cc));
         front_notes = tt;
         heard = h.heard;
+        awaited = h.awaited;
       }
 
   pub rx_asks_more : (c v : ℕ) (t : List Sent) (rcv : List (List ℕ)) (m : Memory) (b : Back) → Inv w start m (rxing f c t None rcv) b → Inv w start (after (want.Write (page_word w.rx_frame 3) v) m) (rxing f c t None rcv) b
@@ -100,6 +101,7 @@ module _ (w : Wiring) (laid : Numbers w) (start : ℕ) (f : Front) where
           reading = (λ s e. subst (Reading w start m.word (rxing f (c + 1) t (Some pc) rcv)) (some_piece e) mine);
           front_notes = tt;
           heard = h.heard;
+          awaited = h.awaited;
         }
 
     -- and its grant ended
@@ -127,6 +129,7 @@ module _ (w : Wiring) (laid : Numbers w) (start : ℕ) (f : Front) where
       reading = (λ s e. absurd (cc));
       front_notes = tt;
       heard = h.heard;
+      awaited = h.awaited;
     }
 
 -- the bytes that so many words of a packet's k-th page add, from the j-th on

@@ -9,12 +9,12 @@ use Rattle.xen_front.specs.declared.state.Ring.{Ring}
 use Rattle.xen_front.specs.declared.state.State.{State}
 use Rattle.xen_front.specs.declared.turn.Halt.{Halt}
 use Rattle.pair_laws.specs.Ghosts.{Front, Back, tx_sent, slots}
-use Rattle.pair_laws.specs.Inv.{Inv}
+use Rattle.pair_laws.specs.Inv.{Inv, Told}
 use Rattle.pair_machine.specs.Memory.{Memory}
-use Rattle.pair_laws.specs.Rest.{Ringed, began, Sends}
+use Rattle.pair_laws.specs.Rest.{Ringed, began, CanSend}
 
-pub begins : (w : Wiring) (start : ℕ) (f : Front) (u : List (List ℕ)) (m : Memory) (b : Back) → f.window ≡ None → Inv w start m f b → Inv w start m (began f u) b
-begins w start f u m b quiet h = record {
+pub begins : (w : Wiring) (start : ℕ) (f : Front) (u : List (List ℕ)) (m : Memory) (b : Back) → f.window ≡ None → f.posting ≡ false → Inv w start m f b → Inv w start m (began f u) b
+begins w start f u m b quiet closed h = record {
   tx = record { took = h.tx.took; told = h.tx.told; wrote = h.tx.wrote; used = h.tx.used; known = h.tx.known; room = h.tx.room; unique = h.tx.unique; good = h.tx.good };
   tx_head = h.tx_head;
   tx_slots = h.tx_slots;
@@ -24,6 +24,7 @@ begins w start f u m b quiet h = record {
   reading = (λ s e. absurd (cc));
   front_notes = tt;
   heard = (λ a. let e = h.heard a in subst (λ v. (b.event ≡ length (slots b.done) + 1) × ((m.pending ≡ true) ⊎ ((tx_sent f ≡ length (slots b.done)) ⊎ (v ≡ Some (length (slots b.done)))))) quiet e);
+  awaited = subst (λ v. Told w start m.pending (length f.posts) v m.awaits) closed h.awaited;
 }
 
 pub flag_inside : (out : List Bool) (id : ℕ) → get_or out id false ≡ true → id < length out
@@ -37,10 +38,10 @@ no_flag start r ids c n id h clear i p q e =
     let set : get_or r.out id false ≡ true = ap (λ x. get_or r.out x false) (sym e) ∙ h.busy i p q in
     let bad : true ≡ false = sym set ∙ clear in cc
 
-pub sends_ok : (s : State) (p : List ℕ) → send_tests s.halt false (nat_lt (length p) 14) (nat_lt 65535 (length p)) (nat_lt (length (all_free s.tx.out)) (pieces_of (length p))) ≡ Ok tt → Sends s p
+pub sends_ok : (s : State) (p : List ℕ) → send_tests s.halt false (nat_lt (length p) 14) (nat_lt 65535 (length p)) (nat_lt (length (all_free s.tx.out)) (pieces_of (length p))) ≡ Ok tt → CanSend s p
 sends_ok s p e = by s.halt (nat_lt (length p) 14) (nat_lt 65535 (length p)) (nat_lt (length (all_free s.tx.out)) (pieces_of (length p))) refl refl refl e
   where
-    by : (h : Option Halt) (x y z : Bool) → nat_lt (length p) 14 ≡ x → nat_lt 65535 (length p) ≡ y → nat_lt (length (all_free s.tx.out)) (pieces_of (length p)) ≡ z → send_tests h false x y z ≡ Ok tt → Sends s p
+    by : (h : Option Halt) (x y z : Bool) → nat_lt (length p) 14 ≡ x → nat_lt 65535 (length p) ≡ y → nat_lt (length (all_free s.tx.out)) (pieces_of (length p)) ≡ z → send_tests h false x y z ≡ Ok tt → CanSend s p
     by (Some c) x y z a b d e = absurd (cc)
     by None true y z a b d e = absurd (cc)
     by None false true z a b d e = absurd (cc)

@@ -99,6 +99,7 @@ module _ (w : Wiring) (start : ℕ) where
           reading = (λ s e. reading_same w start laid 0 f b x y same s (h.reading s e));
           front_notes = ns;
           heard = h.heard;
+          awaited = h.awaited;
         }
 
     pub renote : (f : Front) (ns : List PageWrite) (b : Back) (m : Memory) → FrontNotes w start m.word (with_notes f ns) → Inv w start m f b → Inv w start m (with_notes f ns) b
@@ -112,6 +113,7 @@ module _ (w : Wiring) (start : ℕ) where
       reading = (λ s e. reading_like f ns m.word s (h.reading s e));
       front_notes = n;
       heard = h.heard;
+      awaited = h.awaited;
     }
 
     keep : (f : Front) (ms : List PageWrite) (x : Place → ℕ) (at : Place) (v : ℕ) (acc : List PageWrite) → Fresh acc at → AllOf (λ n. (x n.at ≡ n.value) × IsFronts w start f n.at) acc →

@@ -1,10 +1,12 @@
 -- What holds of the back of an honest pair.
-use Rattle.std.specs.Prelude.{ℕ, ◌≡◌, ◌<◌, ◌^◌, Bool, false, List, ◌++◌, None, get_or}
+use Rattle.std.specs.Prelude.{ℕ, ◌≡◌, ◌<◌, ◌^◌, Bool, true, false, List, ◌++◌, Some, None, get_or, nat_lt}
 use Rattle.xen_back.specs.Deliveries.{whole_delivery}
 use Rattle.xen_back.specs.declared.state.State.{State}
 use Rattle.xen_back.specs.declared.wiring.Wiring.{Wiring as BackWiring}
 use Rattle.xen_buffers.specs.declared.wiring.Wiring.{Wiring}
-use Rattle.xen_steps.specs.Places.{page_word}
+use Rattle.xen_ring.specs.Index.{distance}
+use Rattle.xen_steps.specs.Places.{add32, available, page_word}
+use Rattle.xen_steps.specs.declared.want.Want.TheVariants as want
 use Rattle.pair_laws.specs.Ended.{GivenAll, GivesPacket, HalfEnd, Landed, Programmed, Ready, Resting, Slept}
 use Rattle.pair_laws.specs.Ends.{BackSafe}
 use Rattle.pair_laws.specs.Ghosts.{Front, Back, bytes_in}
@@ -12,7 +14,8 @@ use Rattle.pair_machine.specs.Halves.{half_turn}
 use Rattle.pair_laws.specs.Inv.{Inv}
 use Rattle.pair_laws.specs.Joined.{Joined}
 use Rattle.pair_laws.specs.Laid.{Laid}
-use Rattle.pair_machine.specs.Memory.{Memory}
+use Rattle.pair_machine.specs.Memory.{Memory, after}
+use Rattle.pair_machine.specs.declared.awaits.Awaits.TheVariants as awaits
 
 -- Whatever the front does between its events, a turn keeps the invariant, is never halted, copies the next packet, and is Ran, or
 -- Refused 6.
@@ -36,7 +39,30 @@ woken b = record b { asleep = false }
 abbrev pub WakeLaw : Type 0
 WakeLaw = (w : Wiring) (start : ℕ) (s : State) (copies given : List (List ℕ)) (b : Back) (m : Memory) (f : Front) →
     Slept start s copies given b → Inv w start m f b →
-    Inv w start (record m { pending = false }) f (woken b) × Ready start s copies given (woken b)
+    Inv w start (record m { pending = false; awaits = awaits.Nothing }) f (woken b) × Ready start s copies given (woken b)
+
+-- A wait that a back begins between turns, asleep or awake: the store of the event index keeps the invariant, and behind it the producer
+-- shows some number of slots; where that is too few, it stays so or the front tells.
+abbrev pub AskLaw : Type 0
+AskLaw = (w : Wiring) (start : ℕ) → Laid w → (asleep : Bool) (s : State) (copies given : List (List ℕ)) (b : Back) →
+    Resting asleep start s copies given b → (pages : ℕ) (m : Memory) (f : Front) → Inv w start m f b →
+    Inv w start (record (after (want.Write (page_word w.rx_frame 1) (add32 s.rx_index pages)) m) { awaits = awaits.Asked s.rx_index pages }) f b
+
+abbrev pub LookLaw : Type 0
+LookLaw = (w : Wiring) (start : ℕ) → start < 2 ^ 32 → (asleep : Bool) (s : State) (copies given : List (List ℕ)) (b : Back) →
+    Resting asleep start s copies given b → (pages : ℕ) (m : Memory) (f : Front) → Inv w start m f b →
+    m.awaits ≡ awaits.Asked s.rx_index pages → (k : ℕ) × (available s.rx_index (m.word (page_word w.rx_frame 0)) ≡ Some k) ×
+    (nat_lt k pages ≡ true → Inv w start (record m { awaits = awaits.Fewer s.rx_index pages }) f b)
+
+-- a wait that found enough
+abbrev pub ForgetLaw : Type 0
+ForgetLaw = (w : Wiring) (start : ℕ) (m : Memory) (f : Front) (b : Back) → Inv w start m f b →
+    Inv w start (record m { awaits = awaits.Nothing }) f b
+
+-- what was too few still is, where the back's port isn't pending and no push of posts is open
+abbrev pub ToldLaw : Type 0
+ToldLaw = (w : Wiring) (start : ℕ) (m : Memory) (f : Front) (b : Back) (index pages : ℕ) → Inv w start m f b → f.posting ≡ false →
+    m.awaits ≡ awaits.Fewer index pages → m.pending ≡ false → distance index (m.word (page_word w.rx_frame 0)) < pages
 
 -- what is answered is a beginning of what was sent
 abbrev pub PrefixLaw : Type 0

@@ -1,5 +1,5 @@
 -- What the memory of a pair holds between any two events, by what each end has done. Position n of a ring is the index `start + n`.
-use Rattle.std.specs.Prelude.{ℕ, ◌≡◌, ◌+◌, ◌*◌, ◌<◌, ◌≤◌, ◌⊎◌, true, List, ◌++◌, length, get_or, Some}
+use Rattle.std.specs.Prelude.{ℕ, ◌≡◌, ◌+◌, ◌*◌, ◌<◌, ◌≤◌, ◌⊎◌, Bool, true, List, ◌++◌, length, get_or, Some}
 use Rattle.xen_buffers.specs.Grants.{buffer, grant_place}
 use Rattle.xen_buffers.specs.declared.wiring.Buffer.{Buffer}
 use Rattle.xen_buffers.specs.declared.wiring.Wiring.{Wiring}
@@ -12,6 +12,8 @@ use Rattle.xen_steps.specs.Places.{add32, page_word, rx_entry, tx_entry}
 use Rattle.xen_transmit.specs.Packets.{response_word, word_of, words}
 use Rattle.pair_laws.specs.Ghosts.{AllOf, Sent, Piece, slots, piece, id_at, IsSent, Front, Back, tx_sent, tx_answered, rx_given, AllNotes}
 use Rattle.pair_machine.specs.Memory.{Memory}
+use Rattle.pair_machine.specs.declared.awaits.Awaits.{Awaits}
+use Rattle.pair_machine.specs.declared.awaits.Awaits.TheVariants as awaits
 
 -- what the pair is laid out by: the front's wiring, and the index at which both rings begin
 module _ (w : Wiring) (start : ℕ) where
@@ -91,8 +93,15 @@ module _ (w : Wiring) (start : ℕ) where
     pub event : x (page_word w.tx_frame 1) ≡ add32 start asked
     pub rsp_prod : x (page_word w.tx_frame 2) ≡ add32 start answered
 
-  pub record RxHead (x : Place → ℕ) (posted given : ℕ) : Type 0 where
+  -- the event index names the last slot of those that the back awaits
+  abbrev pub IsAsked : (Place → ℕ) → Awaits → Type 0
+  IsAsked x awaits.Nothing = Unit {0}
+  IsAsked x (awaits.Asked index pages) = x (page_word w.rx_frame 1) ≡ add32 index pages
+  IsAsked x (awaits.Fewer index pages) = x (page_word w.rx_frame 1) ≡ add32 index pages
+
+  pub record RxHead (x : Place → ℕ) (posted given : ℕ) (asked : Awaits) : Type 0 where
     pub req_prod : x (page_word w.rx_frame 0) ≡ add32 start posted
+    pub event : IsAsked x asked
     pub rsp_prod : x (page_word w.rx_frame 2) ≡ add32 start given
 
   -- the page of a response that was taken stands as long as it is read
@@ -127,14 +136,27 @@ module _ (w : Wiring) (start : ℕ) where
   abbrev pub Heard : Memory → Front → Back → Type 0
   Heard m f b = (b.event ≡ tx_answered b + 1) × ((m.pending ≡ true) ⊎ ((tx_sent f ≡ tx_answered b) ⊎ (f.window ≡ Some (tx_answered b))))
 
+  -- nor one about posts: where fewer than `pages` were posted past a position, the back is woken, that is still so, or it will be told
+  pub record IsShort (pending : Bool) (posted : ℕ) (posting : Bool) (index pages : ℕ) : Type 0 where
+    pub at : ℕ
+    pub is : index ≡ add32 start at
+    pub past : at ≤ posted
+    pub told : (pending ≡ true) ⊎ ((posted < at + pages) ⊎ ((posting ≡ true) × (posted ≤ at + pages)))
+
+  abbrev pub Told : Bool → ℕ → Bool → Awaits → Type 0
+  Told pending posted posting awaits.Nothing = Unit {0}
+  Told pending posted posting (awaits.Asked index pages) = Unit {0}
+  Told pending posted posting (awaits.Fewer index pages) = IsShort pending posted posting index pages
+
   pub record Inv (m : Memory) (f : Front) (b : Back) : Type 0 where
     pub tx : TxCounts f b
     pub tx_head : TxHead m.word (tx_sent f) (tx_answered b) b.event
     pub tx_slots : TxSlots m.word (slots f.sent) f.taken (tx_answered b) (tx_answered b + b.wrote) (tx_answered b + b.used)
     pub rx : RxCounts f b.given b.giving b.rx_used b.rx_seen
-    pub rx_head : RxHead m.word (length f.posts) (rx_given b)
+    pub rx_head : RxHead m.word (length f.posts) (rx_given b) m.awaits
     pub rx_slots : RxSlots m.word f.posts (slots (b.given ++ b.giving)) f.got (rx_given b) (rx_given b + b.rx_used)
         (2 * rx_given b + b.rx_wrote) b.filled
     pub reading : (s : Piece) → f.reading ≡ Some s → Reading m.word f s
     pub front_notes : FrontNotes m.word f
     pub heard : b.asleep ≡ true → Heard m f b
+    pub awaited : Told m.pending (length f.posts) f.posting m.awaits

@@ -1,6 +1,6 @@
 -- A front between activities and inside one, by its state and by what it has done.
 use Rattle.pair_machine.specs.Pair.{packets_of}
-use Rattle.std.specs.Prelude.{ℕ, ◌≡◌, ◌+◌, ◌<◌, ◌≤◌, true, List, [], ◌++◌, length, None}
+use Rattle.std.specs.Prelude.{ℕ, ◌≡◌, ◌+◌, ◌<◌, ◌≤◌, true, false, List, [], ◌++◌, length, None}
 use Rattle.xen_front.specs.Fronts.{all_free}
 use Rattle.xen_front.specs.Given.{Ending}
 use Rattle.xen_front.specs.Slots.{in_flight, pieces_of}
@@ -35,6 +35,7 @@ pub record Rest (start : ℕ) (s : State) (sent received : List (List ℕ)) (f :
   pub unsent : f.unsent ≡ []
   pub notes : f.notes ≡ []
   pub window : f.window ≡ None
+  pub posting : f.posting ≡ false
   pub reading : f.reading ≡ None
   pub packets : bytes_in f.sent ≡ sent
   pub chain : Chained received f
@@ -45,11 +46,24 @@ pub record Keeps (sent received : List (List ℕ)) (f : Front) : Type 0 where
   pub packets : bytes_in f.sent ++ f.unsent ≡ sent
   pub chain : Chained received f
 
--- and no push of tx requests is open
-pub record Quiet (sent received : List (List ℕ)) (f : Front) : Type 0 where
+-- inside a send no push of posts is open
+pub record Sends (sent received : List (List ℕ)) (f : Front) : Type 0 where
+  pub packets : bytes_in f.sent ++ f.unsent ≡ sent
+  pub chain : Chained received f
+  pub posting : f.posting ≡ false
+
+-- inside a post no push of requests is
+pub record Posts (sent received : List (List ℕ)) (f : Front) : Type 0 where
   pub packets : bytes_in f.sent ++ f.unsent ≡ sent
   pub chain : Chained received f
   pub window : f.window ≡ None
+
+-- and inside a poll neither
+pub record Polls (sent received : List (List ℕ)) (f : Front) : Type 0 where
+  pub packets : bytes_in f.sent ++ f.unsent ≡ sent
+  pub chain : Chained received f
+  pub window : f.window ≡ None
+  pub posting : f.posting ≡ false
 
 -- an activity ends between activities, and never halted
 abbrev pub Over : ℕ → (sent received : List (List ℕ)) → Front → Ending → Type 0
@@ -57,10 +71,10 @@ Over start sent received f e = Rest start e.0 sent (received ++ packets_of e.1) 
 
 -- a front that begins an activity
 abbrev pub began : Front → List (List ℕ) → Front
-began f u = record f { unsent = u; notes = []; window = None; reading = None }
+began f u = record f { unsent = u; notes = []; window = None; posting = false; reading = None }
 
 -- the answer of a call that begins a send
-pub record Sends (s : State) (p : List ℕ) : Type 0 where
+pub record CanSend (s : State) (p : List ℕ) : Type 0 where
   pub least : 14 ≤ length p
   pub most : length p ≤ 65535
   pub room : pieces_of (length p) ≤ length (all_free s.tx.out)

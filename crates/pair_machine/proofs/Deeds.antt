@@ -3,15 +3,16 @@ use Rattle.std.proofs.Common.{◌≡◌, ℕ, refl, sym, ◌∙◌, ap, subst, B
 use Rattle.std.specs.Prelude.{if◌then◌else◌, flat_map}
 use Rattle.std.proofs.lemmas.List.{append-nil, append_assoc}
 use Rattle.xen_back.specs.Turned.{Idle, Ran, Refused}
+use Rattle.xen_back.specs.declared.delivery.awaiting.Awaited.{Awaited}
 use Rattle.xen_back.specs.declared.delivery.delivering.Delivery.{Delivery}
 use Rattle.xen_back.specs.declared.turn.Refusal.TheVariants as refusal
-use Rattle.pair_machine.specs.Law.{AllArrived, HasArrived, HaveCopies, none, idle, ran, few, given_by}
-use Rattle.pair_machine.specs.Pair.{Deed, OfTurn, OfDelivery, Past, turns_of}
+use Rattle.pair_machine.specs.Law.{AllArrived, HasArrived, HasLooked, HaveCopies, none, idle, ran, few, given_by}
+use Rattle.pair_machine.specs.Pair.{Deed, OfTurn, OfDelivery, OfWait, Past, turns_of}
 
 abbrev pub Packets : Type 0
 Packets = List (List ℕ)
 
--- what is over: the copies of the turns, and each delivery with its packet in posted buffers, or with nothing done
+-- what is over: the copies of the turns, each delivery with its packet in posted buffers or with nothing done, and the waits
 abbrev pub Done : List Deed → Packets → Type 0
 Done ds c = HaveCopies (turns_of ds) c × AllArrived ds
 
@@ -19,27 +20,46 @@ pub turns_turn : (ds : List Deed) (x : Past) → turns_of (ds ++ OfTurn x ∷ []
 turns_turn [] x = refl
 turns_turn (OfTurn y ∷ ds) x = ap (λ l. y ∷ l) (turns_turn ds x)
 turns_turn (OfDelivery packet what ∷ ds) x = turns_turn ds x
+turns_turn (OfWait pages answer ∷ ds) x = turns_turn ds x
 
 pub turns_delivery : (ds : List Deed) (packet : List ℕ) (what : Delivery) → turns_of (ds ++ OfDelivery packet what ∷ []) ≡ turns_of ds
 turns_delivery [] packet what = refl
 turns_delivery (OfTurn y ∷ ds) packet what = ap (λ l. y ∷ l) (turns_delivery ds packet what)
 turns_delivery (OfDelivery p w ∷ ds) packet what = turns_delivery ds packet what
+turns_delivery (OfWait pages answer ∷ ds) packet what = turns_delivery ds packet what
+
+pub turns_wait : (ds : List Deed) (pages : ℕ) (answer : Awaited) → turns_of (ds ++ OfWait pages answer ∷ []) ≡ turns_of ds
+turns_wait [] pages answer = refl
+turns_wait (OfTurn y ∷ ds) pages answer = ap (λ l. y ∷ l) (turns_wait ds pages answer)
+turns_wait (OfDelivery p w ∷ ds) pages answer = turns_wait ds pages answer
+turns_wait (OfWait n a ∷ ds) pages answer = turns_wait ds pages answer
 
 arrived_turn : (ds : List Deed) (x : Past) → AllArrived ds → AllArrived (ds ++ OfTurn x ∷ [])
 arrived_turn [] x h = tt
 arrived_turn (OfTurn y ∷ ds) x h = arrived_turn ds x h
 arrived_turn (OfDelivery packet what ∷ ds) x h = (h.0, arrived_turn ds x h.1)
+arrived_turn (OfWait pages answer ∷ ds) x h = (h.0, arrived_turn ds x h.1)
 
 arrived_delivery : (ds : List Deed) (packet : List ℕ) (what : Delivery) → AllArrived ds → HasArrived what → AllArrived (ds ++ OfDelivery packet what ∷ [])
 arrived_delivery [] packet what h a = (a, tt)
 arrived_delivery (OfTurn y ∷ ds) packet what h a = arrived_delivery ds packet what h a
 arrived_delivery (OfDelivery p w ∷ ds) packet what h a = (h.0, arrived_delivery ds packet what h.1 a)
+arrived_delivery (OfWait pages answer ∷ ds) packet what h a = (h.0, arrived_delivery ds packet what h.1 a)
+
+arrived_wait : (ds : List Deed) (pages : ℕ) (answer : Awaited) → AllArrived ds → HasLooked answer → AllArrived (ds ++ OfWait pages answer ∷ [])
+arrived_wait [] pages answer h a = (a, tt)
+arrived_wait (OfTurn y ∷ ds) pages answer h a = arrived_wait ds pages answer h a
+arrived_wait (OfDelivery p w ∷ ds) pages answer h a = (h.0, arrived_wait ds pages answer h.1 a)
+arrived_wait (OfWait n b ∷ ds) pages answer h a = (h.0, arrived_wait ds pages answer h.1 a)
 
 pub done_turn : (ds : List Deed) (x : Past) (c c' : Packets) → ((ps : List Past) → HaveCopies ps c → HaveCopies (ps ++ x ∷ []) c') → Done ds c → Done (ds ++ OfTurn x ∷ []) c'
 done_turn ds x c c' f h = (subst (λ l. HaveCopies l c') (sym (turns_turn ds x)) (f (turns_of ds) h.0), arrived_turn ds x h.1)
 
 pub done_delivery : (ds : List Deed) (packet : List ℕ) (what : Delivery) (c : Packets) → HasArrived what → Done ds c → Done (ds ++ OfDelivery packet what ∷ []) c
 done_delivery ds packet what c a h = (subst (λ l. HaveCopies l c) (sym (turns_delivery ds packet what)) h.0, arrived_delivery ds packet what h.1 a)
+
+pub done_wait : (ds : List Deed) (pages : ℕ) (answer : Awaited) (c : Packets) → HasLooked answer → Done ds c → Done (ds ++ OfWait pages answer ∷ []) c
+done_wait ds pages answer c a h = (subst (λ l. HaveCopies l c) (sym (turns_wait ds pages answer)) h.0, arrived_wait ds pages answer h.1 a)
 
 pub given_more : (ds : List Deed) (x : Deed) → flat_map given_by (ds ++ x ∷ []) ≡ flat_map given_by ds ++ given_by x
 given_more [] x = append-nil (given_by x)

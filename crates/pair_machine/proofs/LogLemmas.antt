@@ -1,11 +1,13 @@
 -- What the memory answers is what was last written.
 use Rattle.std.proofs.Common.{◌≡◌, ℕ, refl, subst, Bool, true, false, List, [], ◌∷◌, ◌++◌, Result, Ok, Err}
+use Rattle.xen_page.specs.declared.place.Place.{Place}
 use Rattle.xen_steps.specs.Steps.{Steps, done, ask, never}
 use Rattle.xen_steps.specs.declared.want.Want.{Want}
 use Rattle.xen_steps.specs.declared.want.Want.TheVariants as want
 use Rattle.xen_back.specs.Deliveries.{Arrival, whole_delivery}
 use Rattle.xen_back.specs.Tree.{Left, after_run}
 use Rattle.xen_back.specs.Turned.{Ending}
+use Rattle.xen_back.specs.Waits.{Wait, whole_wait}
 use Rattle.xen_back.specs.declared.wiring.Wiring.{Wiring as BackWiring}
 use Rattle.xen_buffers.specs.declared.wiring.Wiring.{Wiring as FrontWiring}
 use Rattle.xen_front.specs.Given.{Ending as FrontEnding}
@@ -14,7 +16,7 @@ use Rattle.xen_front.specs.declared.turn.PostRefusal.{PostRefusal}
 use Rattle.xen_front.specs.declared.turn.SendRefusal.{SendRefusal}
 use Rattle.pair_machine.specs.Halves.{Half, Over, HasRun}
 use Rattle.pair_machine.specs.Memory.{Memory, after, answer}
-use Rattle.pair_machine.specs.Pair.{Activity, Free, Sending, Posting, Polling, BackAt, Asleep, First, Second, Delivering, Pair, PairEvent, Send, Post, Poll, FrontStep, BackStep, Deliver, step, sending, posting, polling, send_result, post_result, poll_result, send_tree, post_tree, begin_send, begin_post, begin_poll, on_send, on_post, on_poll, on_front, on_back, second, halved, first, wake, delivering, on_deliver}
+use Rattle.pair_machine.specs.Pair.{Activity, Free, Sending, Posting, Polling, BackAt, Asleep, First, Second, Delivering, Waiting, Pair, PairEvent, Send, Post, Poll, FrontStep, BackStep, Deliver, Await, step, sending, posting, polling, send_result, post_result, poll_result, send_tree, post_tree, begin_send, begin_post, begin_poll, on_send, on_post, on_poll, on_front, on_back, second, halved, first, wake, delivering, on_deliver, asking, waiting, on_await}
 use Rattle.xen_front.specs.Tree.{poll}
 use Rattle.pair_machine.specs.Log.{Logged, event_by, front_asks, of_front, of_back, woke, logged_back, logged, log, IsFaithful}
 
@@ -59,6 +61,20 @@ deliver_words w (First false t) p packet = delivering_words w p false packet (wh
 deliver_words w (First true t) p packet = refl
 deliver_words w (Second copy left t) p packet = refl
 deliver_words w (Delivering asleep other t) p packet = refl
+deliver_words w (Waiting asleep pages t) p packet = refl
+
+waiting_words : (w : BackWiring) (p : Pair) (asleep : Bool) (pages : ℕ) (t : Steps Wait) → (waiting w p asleep pages t).memory.word ≡ p.memory.word
+waiting_words w p asleep pages (done e) = refl
+waiting_words w p asleep pages (ask v k) = refl
+waiting_words w p asleep pages never = refl
+
+await_words : (w : BackWiring) (at : BackAt) (p : Pair) (pages : ℕ) → (on_await w at p pages).memory.word ≡ p.memory.word
+await_words w Asleep p pages = waiting_words w p true pages (whole_wait w.vif.rx p.back pages)
+await_words w (First false t) p pages = waiting_words w p false pages (whole_wait w.vif.rx p.back pages)
+await_words w (First true t) p pages = refl
+await_words w (Second copy left t) p pages = refl
+await_words w (Delivering asleep packet t) p pages = refl
+await_words w (Waiting asleep other t) p pages = refl
 
 -- what follows an event is faithful by the words after it
 asked_front : (w : Want) (m : Memory) (n : ℕ) (l : List Logged) → IsFaithful (after w m).word l → IsFaithful m.word (of_front (event_by w (answer w m n)) ++ l)
@@ -81,6 +97,9 @@ asked_back want.Done m n l h = h
 
 by_words : (m m' : Memory) (l : List Logged) → m' ≡ m → IsFaithful m'.word l → IsFaithful m.word l
 by_words m m' l e h = subst (λ (x : Memory). IsFaithful x.word l) e h
+
+same_words : (x y : Place → ℕ) (l : List Logged) → y ≡ x → IsFaithful y l → IsFaithful x l
+same_words x y l e h = subst (λ (z : Place → ℕ). IsFaithful z l) e h
 
 begun_send : (w : FrontWiring) (r : Result (Unit {0}) SendRefusal) (p : Pair) (bytes : List ℕ) → (begin_send w r p bytes).memory ≡ p.memory
 begun_send w (Ok u) p bytes = sending_words (record p { sent = p.sent ++ bytes ∷ [] }) (send_tree w p.front bytes)
@@ -145,6 +164,11 @@ back_faithful w (Delivering asleep packet (ask v k)) p n l h =
     asked_back v p.memory n l (by_words (after v p.memory) _ l (delivering_words w (record p { memory = after v p.memory }) asleep packet (k (answer v p.memory n))) h)
 back_faithful w (Delivering asleep packet (done x)) p n l h = h
 back_faithful w (Delivering asleep packet never) p n l h = h
+back_faithful w (Waiting asleep pages (ask v k)) p n l h =
+    asked_back v p.memory n l (same_words (after v p.memory).word _ l
+    (waiting_words w (record p { memory = asking p pages (after v p.memory) }) asleep pages (k (answer v p.memory n))) h)
+back_faithful w (Waiting asleep pages (done x)) p n l h = h
+back_faithful w (Waiting asleep pages never) p n l h = h
 
 step_faithful : (bw : BackWiring) (fw : FrontWiring) (p : Pair) (e : PairEvent) (n : ℕ) (l : List Logged) → IsFaithful (step bw fw p e n).memory.word l → IsFaithful p.memory.word (logged p e n ++ l)
 step_faithful bw fw p (Send packet) n l h = by_words p.memory _ l (send_words fw p.activity p packet) h
@@ -153,6 +177,7 @@ step_faithful bw fw p Poll n l h = by_words p.memory _ l (poll_words fw p.activi
 step_faithful bw fw p FrontStep n l h = front_faithful p.activity p n l h
 step_faithful bw fw p BackStep n l h = back_faithful bw p.at p n l h
 step_faithful bw fw p (Deliver packet) n l h = by_words p.memory _ l (deliver_words bw p.at p packet) h
+step_faithful bw fw p (Await pages) n l h = same_words p.memory.word _ l (await_words bw p.at p pages) h
 
 pub faithful : (bw : BackWiring) (fw : FrontWiring) (p : Pair) (es : List (PairEvent × ℕ)) → IsFaithful p.memory.word (log bw fw p es)
 faithful bw fw p [] = tt

@@ -1,13 +1,19 @@
 -- The pair's events keep what stands, by the laws of its two ends.
 use Rattle.std.proofs.Common.{◌≡◌, ℕ, ◌<◌, ◌^◌, ◌⊎◌, inl, inr, refl, sym, ◌∙◌, ap, subst, arith, Bool, true, false, List, [], ◌∷◌, ◌++◌, All, Some, None, Result, Ok, Err}
-use Rattle.std.specs.Prelude.{◌==◌, if◌then◌else◌, flat_map}
+use Rattle.std.specs.Prelude.{◌==◌, if◌then◌else◌, flat_map, nat_lt}
 use Rattle.std.proofs.lemmas.List.{append-nil, append_assoc}
 use Rattle.std.proofs.lemmas.Bool.Decides.{nat_tests}
-use Rattle.xen_steps.specs.Places.{page_word}
+use Rattle.xen_ring.specs.Index.{distance}
+use Rattle.xen_steps.specs.Places.{add32, available, page_word}
 use Rattle.xen_steps.specs.Steps.{Steps, done, ask, never}
+use Rattle.xen_steps.specs.declared.want.Want.{Want}
+use Rattle.xen_steps.specs.declared.want.Want.TheVariants as want
 use Rattle.xen_back.specs.Deliveries.{Arrival, whole_delivery}
 use Rattle.xen_back.specs.Tree.{Left, after_run}
 use Rattle.xen_back.specs.Turned.{Turned, Idle, Ran, Refused, Halted, Ending}
+use Rattle.xen_back.specs.Waits.{Wait, check_unless, final_check, last_read, whole_wait}
+use Rattle.xen_back.specs.declared.delivery.awaiting.Awaited.{Awaited}
+use Rattle.xen_back.specs.declared.delivery.awaiting.Awaited.TheVariants as awaited
 use Rattle.xen_back.specs.declared.delivery.delivering.Delivery.{Delivery}
 use Rattle.xen_back.specs.declared.delivery.delivering.Delivery.TheVariants as delivery
 use Rattle.xen_back.specs.declared.state.State.{State as BackState}
@@ -21,17 +27,19 @@ use Rattle.xen_front.specs.declared.turn.PollRefusal.{PollRefusal}
 use Rattle.xen_front.specs.declared.turn.PostRefusal.{PostRefusal}
 use Rattle.xen_front.specs.declared.turn.SendRefusal.{SendRefusal}
 use Rattle.pair_machine.specs.Halves.{Half, Over, HasRun, half_turn}
-use Rattle.pair_machine.specs.Law.{HasArrived, Honest, IsByte, IsBytes, IsSending, delivered, given_by, given_now, left_by}
+use Rattle.pair_machine.specs.Law.{HasArrived, HasLooked, Honest, IsByte, IsBytes, IsPosting, IsSending, delivered, given_by, given_now, left_by}
 use Rattle.pair_machine.specs.Memory.{Memory, after, answer}
-use Rattle.pair_machine.specs.Pair.{Activity, Free, Sending, Posting, Polling, BackAt, Asleep, First, Second, Delivering, OfTurn, OfDelivery, Pair, PairEvent, Send, Post, Poll, FrontStep, BackStep, Deliver, packets_of, sending, posting, polling, send_result, post_result, poll_result, send_tree, post_tree, begin_send, begin_post, begin_poll, on_send, on_post, on_poll, on_front, turned, second, first, wake, on_back, rested, landed, delivering, begin_delivery, on_deliver, step, run}
+use Rattle.pair_machine.specs.Pair.{Activity, Free, Sending, Posting, Polling, BackAt, Asleep, First, Second, Delivering, Waiting, OfTurn, OfDelivery, OfWait, Pair, PairEvent, Send, Post, Poll, FrontStep, BackStep, Deliver, Await, packets_of, sending, posting, polling, send_result, post_result, poll_result, send_tree, post_tree, begin_send, begin_post, begin_poll, on_send, on_post, on_poll, on_front, turned, second, first, wake, on_back, rested, landed, delivering, begin_delivery, on_deliver, asking, waited, waiting, begin_wait, on_await, step, run}
 use Rattle.pair_machine.specs.Safe.{Safe}
-use Rattle.pair_machine.proofs.Deeds.{Done, Packets, copies_few, copies_idle, copies_ran, done_delivery, done_turn, given_more, ran_given}
+use Rattle.pair_machine.specs.declared.awaits.Awaits.{Awaits}
+use Rattle.pair_machine.specs.declared.awaits.Awaits.TheVariants as awaits
+use Rattle.pair_machine.proofs.Deeds.{Done, Packets, copies_few, copies_idle, copies_ran, done_delivery, done_turn, done_wait, given_more, ran_given}
 
--- Rest: the front between activities, of which these packets were sent and received. Sendings, Quiet: inside a send, or inside a post or a
--- poll. Says: what is known of it at any time; Windowless: it has no push whose notice is undecided. Ready, Slept: the back between turns,
--- that has made these copies and given these packets.
+-- Rest: the front between activities, of which these packets were sent and received. Sendings, Posts, Polls: inside a send, a post or a
+-- poll. Says: what is known of it at any time; Windowless, Postless: it has no push of requests, or of posts, whose notice is undecided.
+-- Ready, Slept: the back between turns, that has made these copies and given these packets.
 module _ (bw : BackWiring) (fw : FrontWiring) {Front Back : Type 0} (Inv : Memory → Front → Back → Type 0)
-    (Rest : FrontState → Packets → Packets → Front → Type 0) (Sendings Quiet Says : Packets → Packets → Front → Type 0) (Windowless : Front → Type 0)
+    (Rest : FrontState → Packets → Packets → Front → Type 0) (Sendings Posts Polls Says : Packets → Packets → Front → Type 0) (Windowless Postless : Front → Type 0)
     (Ready Slept : BackState → Packets → Packets → Back → Type 0) (givens : Back → Packets) where
   abbrev pub BackInv : Memory → Back → Front → Type 0
   BackInv m b f = Inv m f b
@@ -89,40 +97,63 @@ module _ (bw : BackWiring) (fw : FrontWiring) {Front Back : Type 0} (Inv : Memor
   pub record EndLaws : Type 0 where
     pub begin_send : (s : FrontState) (w r : Packets) (p : List ℕ) (f : Front) → Rest s w r f → send_result s p ≡ Ok tt → All IsByte p → (m : Memory) (b : Back) → Inv m f b →
         (f' : Front) × Inv m f' b × Sendings (w ++ p ∷ []) r f' × Safe Inv (Sendings (w ++ p ∷ []) r) (FrontEnd (w ++ p ∷ []) r) f' (send_tree fw s p)
-    pub begin_post : (s : FrontState) (w r : Packets) (f : Front) → Rest s w r f → post_result s ≡ Ok tt → Quiet w r f × Safe Inv (Quiet w r) (FrontEnd w r) f (post_tree fw s)
-    pub begin_poll : (s : FrontState) (w r : Packets) (f : Front) → Rest s w r f → poll_result s ≡ Ok tt → Quiet w r f × Safe Inv (Quiet w r) (FrontEnd w r) f (poll fw s)
+    pub begin_post : (s : FrontState) (w r : Packets) (f : Front) → Rest s w r f → post_result s ≡ Ok tt → Posts w r f × Safe Inv (Posts w r) (FrontEnd w r) f (post_tree fw s)
+    pub begin_poll : (s : FrontState) (w r : Packets) (f : Front) → Rest s w r f → poll_result s ≡ Ok tt → Polls w r f × Safe Inv (Polls w r) (FrontEnd w r) f (poll fw s)
     pub running : (s : FrontState) (w r : Packets) (f : Front) → Rest s w r f → s.halt ≡ None
-    pub rest_says : (s : FrontState) (w r : Packets) (f : Front) → Rest s w r f → Says w r f × Windowless f
-    pub sending_says : (w r : Packets) (f : Front) → Sendings w r f → Says w r f
-    pub quiet_says : (w r : Packets) (f : Front) → Quiet w r f → Says w r f × Windowless f
-    pub wakes : (s : BackState) (c g : Packets) (b : Back) (m : Memory) (f : Front) → Slept s c g b → Inv m f b → (b' : Back) × Inv (record m { pending = false }) f b' × Ready s c g b'
+    pub rest_says : (s : FrontState) (w r : Packets) (f : Front) → Rest s w r f → Says w r f × Windowless f × Postless f
+    pub sending_says : (w r : Packets) (f : Front) → Sendings w r f → Says w r f × Postless f
+    pub post_says : (w r : Packets) (f : Front) → Posts w r f → Says w r f × Windowless f
+    pub poll_says : (w r : Packets) (f : Front) → Polls w r f → Says w r f × Windowless f × Postless f
+    pub wakes : (s : BackState) (c g : Packets) (b : Back) (m : Memory) (f : Front) → Slept s c g b → Inv m f b → (b' : Back) × Inv (record m { pending = false; awaits = awaits.Nothing }) f b' × Ready s c g b'
     pub half_safe : (s : BackState) (c g : Packets) (b : Back) → Ready s c g b → Safe BackInv (GivenAll g) (HalfEnd s c g) b (half_turn bw s)
     pub delivery_safe : (asleep : Bool) (s : BackState) (c g : Packets) (b : Back) (packet : List ℕ) → Resting asleep s c g b → All IsByte packet →
         Safe BackInv (GivesPacket g packet) (EndedDelivery asleep c g packet) b (whole_delivery bw.vif s packet)
+    pub wait_asks : (asleep : Bool) (s : BackState) (c g : Packets) (b : Back) (pages : ℕ) (m : Memory) (f : Front) → Resting asleep s c g b → Inv m f b →
+        Inv (record (after (want.Write (page_word bw.vif.rx 1) (add32 s.rx_index pages)) m) { awaits = awaits.Asked s.rx_index pages }) f b
+    pub wait_looks : (asleep : Bool) (s : BackState) (c g : Packets) (b : Back) (pages : ℕ) (m : Memory) (f : Front) → Resting asleep s c g b → Inv m f b →
+        m.awaits ≡ awaits.Asked s.rx_index pages → (k : ℕ) × (available s.rx_index (m.word (page_word bw.vif.rx 0)) ≡ Some k) ×
+        (nat_lt k pages ≡ true → Inv (record m { awaits = awaits.Fewer s.rx_index pages }) f b)
+    pub forgets : (m : Memory) (f : Front) (b : Back) → Inv m f b → Inv (record m { awaits = awaits.Nothing }) f b
     pub ready_runs : (s : BackState) (c g : Packets) (b : Back) → Ready s c g b → (givens b ≡ g) × (s.halt ≡ None)
     pub slept_runs : (s : BackState) (c g : Packets) (b : Back) → Slept s c g b → (givens b ≡ g) × (s.halt ≡ None)
     pub copied : (s : BackState) (w r c g : Packets) (m : Memory) (f : Front) (b : Back) → Says w r f → Inv m f b → Ready s c g b → (more : Packets) × (w ≡ c ++ more)
     pub got : (w r : Packets) (m : Memory) (f : Front) (b : Back) → Says w r f → Inv m f b → (more : Packets) × (givens b ≡ r ++ more)
+    pub tells : (m : Memory) (f : Front) (b : Back) (index pages : ℕ) → Inv m f b → Postless f → m.awaits ≡ awaits.Fewer index pages → m.pending ≡ false → distance index (m.word (page_word 18 0)) < pages
     pub hears : (s : BackState) (c g : Packets) (m : Memory) (f : Front) (b : Back) → Inv m f b → Slept s c g b → Windowless f → m.pending ≡ false → m.word (page_word 17 0) ≡ s.tx_index
 
   abbrev FrontStands : Activity → FrontState → Packets → Packets → Front → Type 0
   FrontStands Free s w r f = Rest s w r f
   FrontStands (Sending t) s w r f = Sendings w r f × Safe Inv (Sendings w r) (FrontEnd w r) f t × (s.halt ≡ None)
-  FrontStands (Posting t) s w r f = Quiet w r f × Safe Inv (Quiet w r) (FrontEnd w r) f t × (s.halt ≡ None)
-  FrontStands (Polling t) s w r f = Quiet w r f × Safe Inv (Quiet w r) (FrontEnd w r) f t × (s.halt ≡ None)
+  FrontStands (Posting t) s w r f = Posts w r f × Safe Inv (Posts w r) (FrontEnd w r) f t × (s.halt ≡ None)
+  FrontStands (Polling t) s w r f = Polls w r f × Safe Inv (Polls w r) (FrontEnd w r) f t × (s.halt ≡ None)
 
-  abbrev BackStands : BackAt → BackState → Packets → Packets → Back → Type 0
-  BackStands Asleep s c g b = Slept s c g b
-  BackStands (First false t) s c g b = (t ≡ half_turn bw s) × Ready s c g b
-  BackStands (First true t) s c g b = GivenAll g b × Safe BackInv (GivenAll g) (HalfEnd s c g) b t
-  BackStands (Second packet l t) s c g b = GivesLeft g l b × Safe BackInv (GivesLeft g l) (EndedTurn (c ++ packet ∷ []) g) b t
-  BackStands (Delivering asleep packet t) s c g b = GivesPacket g packet b × Safe BackInv (GivesPacket g packet) (EndedDelivery asleep c g packet) b t
+  -- where a wait is: before the store of the event index, or behind it
+  abbrev Looks : BackState → ℕ → Steps Wait → Awaits → Type 0
+  Looks s pages t a = (t ≡ final_check bw.vif.rx s pages) ⊎ ((t ≡ last_read bw.vif.rx s pages) × (a ≡ awaits.Asked s.rx_index pages))
+
+  abbrev BackStands : BackAt → BackState → Packets → Packets → Back → Awaits → Type 0
+  BackStands Asleep s c g b a = Slept s c g b
+  BackStands (First false t) s c g b a = (t ≡ half_turn bw s) × Ready s c g b
+  BackStands (First true t) s c g b a = GivenAll g b × Safe BackInv (GivenAll g) (HalfEnd s c g) b t
+  BackStands (Second packet l t) s c g b a = GivesLeft g l b × Safe BackInv (GivesLeft g l) (EndedTurn (c ++ packet ∷ []) g) b t
+  BackStands (Delivering asleep packet t) s c g b a = GivesPacket g packet b × Safe BackInv (GivesPacket g packet) (EndedDelivery asleep c g packet) b t
+  BackStands (Waiting asleep pages t) s c g b a = Resting asleep s c g b × Looks s pages t a
+
+  -- an event of the front asks for nothing
+  after_awaits : (v : Want) (m : Memory) → (after v m).awaits ≡ m.awaits
+  after_awaits (want.Read at) m = refl
+  after_awaits (want.Write at x) m = refl
+  after_awaits want.Instr m = refl
+  after_awaits (want.Load i k j) m = refl
+  after_awaits (want.Add i k j delta) m = refl
+  after_awaits (want.Notify port) m = refl
+  after_awaits want.Done m = refl
 
   -- c are the copies of the turns that are over
   pub record Stands (p : Pair) (c : Packets) (f : Front) (b : Back) : Type 0 where
     pub inv : Inv p.memory f b
     pub front : FrontStands p.activity p.front p.sent p.received f
-    pub back : BackStands p.at p.back c (flat_map given_by p.deeds) b
+    pub back : BackStands p.at p.back c (flat_map given_by p.deeds) b p.memory.awaits
     pub running : p.back.halt ≡ None
     pub copies : Done p.deeds c
     pub sent : (more : Packets) × (p.sent ≡ c ++ more)
@@ -137,15 +168,21 @@ module _ (bw : BackWiring) (fw : FrontWiring) {Front Back : Type 0} (Inv : Memor
   module _ (l : EndLaws) where
     says : (a : Activity) (s : FrontState) (w r : Packets) (f : Front) → FrontStands a s w r f → Says w r f
     says Free s w r f h = (l.rest_says s w r f h).0
-    says (Sending t) s w r f h = l.sending_says w r f h.0
-    says (Posting t) s w r f h = (l.quiet_says w r f h.0).0
-    says (Polling t) s w r f h = (l.quiet_says w r f h.0).0
+    says (Sending t) s w r f h = (l.sending_says w r f h.0).0
+    says (Posting t) s w r f h = (l.post_says w r f h.0).0
+    says (Polling t) s w r f h = (l.poll_says w r f h.0).0
 
     no_window : (a : Activity) (s : FrontState) (w r : Packets) (f : Front) → (IsSending a → ⊥) → FrontStands a s w r f → Windowless f
     no_window Free s w r f n h = (l.rest_says s w r f h).1
     no_window (Sending t) s w r f n h = absurd (n (t, refl))
-    no_window (Posting t) s w r f n h = (l.quiet_says w r f h.0).1
-    no_window (Polling t) s w r f n h = (l.quiet_says w r f h.0).1
+    no_window (Posting t) s w r f n h = (l.post_says w r f h.0).1
+    no_window (Polling t) s w r f n h = (l.poll_says w r f h.0).1
+
+    no_post : (a : Activity) (s : FrontState) (w r : Packets) (f : Front) → (IsPosting a → ⊥) → FrontStands a s w r f → Postless f
+    no_post Free s w r f n h = (l.rest_says s w r f h).2
+    no_post (Sending t) s w r f n h = (l.sending_says w r f h.0).1
+    no_post (Posting t) s w r f n h = absurd (n (t, refl))
+    no_post (Polling t) s w r f n h = (l.poll_says w r f h.0).2
 
     no_halt : (a : Activity) (s : FrontState) (w r : Packets) (f : Front) → FrontStands a s w r f → s.halt ≡ None
     no_halt Free s w r f h = l.running s w r f h
@@ -155,21 +192,21 @@ module _ (bw : BackWiring) (fw : FrontWiring) {Front Back : Type 0} (Inv : Memor
 
     -- the front's activities
     sent_stands : (p : Pair) (c : Packets) (f : Front) (b : Back) (t : Steps FrontEnding) → Inv p.memory f b → Sendings p.sent p.received f →
-        Safe Inv (Sendings p.sent p.received) (FrontEnd p.sent p.received) f t → p.front.halt ≡ None → BackStands p.at p.back c (flat_map given_by p.deeds) b → p.back.halt ≡ None →
+        Safe Inv (Sendings p.sent p.received) (FrontEnd p.sent p.received) f t → p.front.halt ≡ None → BackStands p.at p.back c (flat_map given_by p.deeds) b p.memory.awaits → p.back.halt ≡ None →
         Done p.deeds c → ((more : Packets) × (p.sent ≡ c ++ more)) → Good (sending p t)
     sent_stands p c f b (done e) i k h n r q v u = (c, f, b, record { inv = i; front = h; back = r; running = q; copies = v; sent = u })
     sent_stands p c f b (ask w g) i k h n r q v u = (c, f, b, record { inv = i; front = (k, h, n); back = r; running = q; copies = v; sent = u })
     sent_stands p c f b never i k h n r q v u = absurd h
 
-    posted_stands : (p : Pair) (c : Packets) (f : Front) (b : Back) (t : Steps FrontEnding) → Inv p.memory f b → Quiet p.sent p.received f →
-        Safe Inv (Quiet p.sent p.received) (FrontEnd p.sent p.received) f t → p.front.halt ≡ None → BackStands p.at p.back c (flat_map given_by p.deeds) b → p.back.halt ≡ None →
+    posted_stands : (p : Pair) (c : Packets) (f : Front) (b : Back) (t : Steps FrontEnding) → Inv p.memory f b → Posts p.sent p.received f →
+        Safe Inv (Posts p.sent p.received) (FrontEnd p.sent p.received) f t → p.front.halt ≡ None → BackStands p.at p.back c (flat_map given_by p.deeds) b p.memory.awaits → p.back.halt ≡ None →
         Done p.deeds c → ((more : Packets) × (p.sent ≡ c ++ more)) → Good (posting p t)
     posted_stands p c f b (done e) i k h n r q v u = (c, f, b, record { inv = i; front = h; back = r; running = q; copies = v; sent = u })
     posted_stands p c f b (ask w g) i k h n r q v u = (c, f, b, record { inv = i; front = (k, h, n); back = r; running = q; copies = v; sent = u })
     posted_stands p c f b never i k h n r q v u = absurd h
 
-    polled_stands : (p : Pair) (c : Packets) (f : Front) (b : Back) (t : Steps FrontEnding) → Inv p.memory f b → Quiet p.sent p.received f →
-        Safe Inv (Quiet p.sent p.received) (FrontEnd p.sent p.received) f t → p.front.halt ≡ None → BackStands p.at p.back c (flat_map given_by p.deeds) b → p.back.halt ≡ None →
+    polled_stands : (p : Pair) (c : Packets) (f : Front) (b : Back) (t : Steps FrontEnding) → Inv p.memory f b → Polls p.sent p.received f →
+        Safe Inv (Polls p.sent p.received) (FrontEnd p.sent p.received) f t → p.front.halt ≡ None → BackStands p.at p.back c (flat_map given_by p.deeds) b p.memory.awaits → p.back.halt ≡ None →
         Done p.deeds c → ((more : Packets) × (p.sent ≡ c ++ more)) → Good (polling p t)
     polled_stands p c f b (done e) i k h n r q v u = (c, f, b, record { inv = i; front = h; back = r; running = q; copies = v; sent = u })
     polled_stands p c f b (ask w g) i k h n r q v u = (c, f, b, record { inv = i; front = (k, h, n); back = r; running = q; copies = v; sent = u })
@@ -219,6 +256,10 @@ module _ (bw : BackWiring) (fw : FrontWiring) {Front Back : Type 0} (Inv : Memor
     poll_stands p c f b (Posting t) a g = (c, f, b, g)
     poll_stands p c f b (Polling t) a g = (c, f, b, g)
 
+    back_kept : (p : Pair) (c : Packets) (b : Back) (v : Want) → BackStands p.at p.back c (flat_map given_by p.deeds) b p.memory.awaits →
+        BackStands p.at p.back c (flat_map given_by p.deeds) b (after v p.memory).awaits
+    back_kept p c b v h = subst (BackStands p.at p.back c (flat_map given_by p.deeds) b) (sym (after_awaits v p.memory)) h
+
     front_stands : (p : Pair) (n : ℕ) (c : Packets) (f : Front) (b : Back) (a : Activity) → p.activity ≡ a → n < 2 ^ 64 → Stands p c f b → Good (on_front a p n)
     front_stands p n c f b Free a s g = (c, f, b, g)
     front_stands p n c f b (Sending (done e)) a s g = (c, f, b, g)
@@ -226,19 +267,19 @@ module _ (bw : BackWiring) (fw : FrontWiring) {Front Back : Type 0} (Inv : Memor
     front_stands p n c f b (Sending (ask w k)) a s g =
         let h : FrontStands (Sending (ask w k)) p.front p.sent p.received f = subst (λ x. FrontStands x p.front p.sent p.received f) a g.front in
         let r = h.1 p.memory b g.inv in
-        sent_stands (record p { memory = after w p.memory }) c r.0 b (k (answer w p.memory n)) r.1 r.2 (r.3 n s) h.2 g.back g.running g.copies g.sent
+        sent_stands (record p { memory = after w p.memory }) c r.0 b (k (answer w p.memory n)) r.1 r.2 (r.3 n s) h.2 (back_kept p c b w g.back) g.running g.copies g.sent
     front_stands p n c f b (Posting (done e)) a s g = (c, f, b, g)
     front_stands p n c f b (Posting never) a s g = (c, f, b, g)
     front_stands p n c f b (Posting (ask w k)) a s g =
         let h : FrontStands (Posting (ask w k)) p.front p.sent p.received f = subst (λ x. FrontStands x p.front p.sent p.received f) a g.front in
         let r = h.1 p.memory b g.inv in
-        posted_stands (record p { memory = after w p.memory }) c r.0 b (k (answer w p.memory n)) r.1 r.2 (r.3 n s) h.2 g.back g.running g.copies g.sent
+        posted_stands (record p { memory = after w p.memory }) c r.0 b (k (answer w p.memory n)) r.1 r.2 (r.3 n s) h.2 (back_kept p c b w g.back) g.running g.copies g.sent
     front_stands p n c f b (Polling (done e)) a s g = (c, f, b, g)
     front_stands p n c f b (Polling never) a s g = (c, f, b, g)
     front_stands p n c f b (Polling (ask w k)) a s g =
         let h : FrontStands (Polling (ask w k)) p.front p.sent p.received f = subst (λ x. FrontStands x p.front p.sent p.received f) a g.front in
         let r = h.1 p.memory b g.inv in
-        polled_stands (record p { memory = after w p.memory }) c r.0 b (k (answer w p.memory n)) r.1 r.2 (r.3 n s) h.2 g.back g.running g.copies g.sent
+        polled_stands (record p { memory = after w p.memory }) c r.0 b (k (answer w p.memory n)) r.1 r.2 (r.3 n s) h.2 (back_kept p c b w g.back) g.running g.copies g.sent
 
     -- the back's turns and deliveries
     -- a turn that isn't idle is over
@@ -251,7 +292,7 @@ module _ (bw : BackWiring) (fw : FrontWiring) {Front Back : Type 0} (Inv : Memor
       record {
         inv = i;
         front = h;
-        back = subst (λ x. BackStands p.at p.back c x b) (sym v) (subst (λ x. BackStands x p.back c g b) (sym a) (subst (λ x. BackStands (First false (half_turn bw s)) x c g b) (sym e) (refl, r)));
+        back = subst (λ x. BackStands p.at p.back c x b p.memory.awaits) (sym v) (subst (λ x. BackStands x p.back c g b p.memory.awaits) (sym a) (subst (λ x. BackStands (First false (half_turn bw s)) x c g b p.memory.awaits) (sym e) (refl, r)));
         running = subst (λ x. x.halt ≡ None) (sym e) (l.ready_runs s c g b r).1;
         copies = q;
         sent = l.copied s p.sent p.received c g p.memory f b (says p.activity p.front p.sent p.received f h) i r;
@@ -300,7 +341,7 @@ module _ (bw : BackWiring) (fw : FrontWiring) {Front Back : Type 0} (Inv : Memor
     wake_stands : (p : Pair) (c : Packets) (f : Front) (b : Back) (n : Bool) → p.at ≡ Asleep → Stands p c f b → Good (wake bw n p)
     wake_stands p c f b false a g = (c, f, b, g)
     wake_stands p c f b true a g =
-        let z : Slept p.back c (flat_map given_by p.deeds) b = subst (λ x. BackStands x p.back c (flat_map given_by p.deeds) b) a g.back in
+        let z : Slept p.back c (flat_map given_by p.deeds) b = subst (λ x. BackStands x p.back c (flat_map given_by p.deeds) b p.memory.awaits) a g.back in
         let k = l.wakes p.back c (flat_map given_by p.deeds) b p.memory f z g.inv in (
           c,
           f,
@@ -320,12 +361,12 @@ module _ (bw : BackWiring) (fw : FrontWiring) {Front Back : Type 0} (Inv : Memor
     rest_gives s c g b true h = l.slept_runs s c g b h
     rest_gives s c g b false h = l.ready_runs s c g b h
 
-    rest_stands : (s : BackState) (c g : Packets) (b : Back) (asleep : Bool) → Resting asleep s c g b → BackStands (rested bw asleep s) s c g b
-    rest_stands s c g b true h = h
-    rest_stands s c g b false h = (refl, h)
+    rest_stands : (s : BackState) (c g : Packets) (b : Back) (a : Awaits) (asleep : Bool) → Resting asleep s c g b → BackStands (rested bw asleep s) s c g b a
+    rest_stands s c g b a true h = h
+    rest_stands s c g b a false h = (refl, h)
 
     -- what is left of a turn's first half
-    half_left : (p : Pair) (c : Packets) (b : Back) (x : Bool) (t : Steps Half) → BackStands (First x t) p.back c (flat_map given_by p.deeds) b →
+    half_left : (p : Pair) (c : Packets) (b : Back) (x : Bool) (t : Steps Half) → BackStands (First x t) p.back c (flat_map given_by p.deeds) b p.memory.awaits →
         GivenAll (flat_map given_by p.deeds) b × Safe BackInv (GivenAll (flat_map given_by p.deeds)) (HalfEnd p.back c (flat_map given_by p.deeds)) b t
     half_left p c b true t h = h
     half_left p c b false t h =
@@ -343,7 +384,7 @@ module _ (bw : BackWiring) (fw : FrontWiring) {Front Back : Type 0} (Inv : Memor
           record {
             inv = i;
             front = h;
-            back = subst (λ x. BackStands (rested bw asleep s) s c x b) (sym (given_more p.deeds (OfDelivery packet what))) (rest_stands s c g b asleep r);
+            back = subst (λ x. BackStands (rested bw asleep s) s c x b p.memory.awaits) (sym (given_more p.deeds (OfDelivery packet what))) (rest_stands s c g b p.memory.awaits asleep r);
             running = (rest_gives s c g b asleep r).1;
             copies = done_delivery p.deeds packet what c a q;
             sent = u;
@@ -367,27 +408,120 @@ module _ (bw : BackWiring) (fw : FrontWiring) {Front Back : Type 0} (Inv : Memor
     delivering_stands p asleep packet c f b (ask v g) i h k s n q u = (c, f, b, record { inv = i; front = h; back = (k, s); running = n; copies = q; sent = u })
     delivering_stands p asleep packet c f b never i h k s n q u = absurd s
 
+    -- a wait is over, which found enough slots or fewer
+    waited_stands : (p : Pair) (asleep : Bool) (pages : ℕ) (c : Packets) (f : Front) (b : Back) (answer : Awaited) (a : Awaits) → HasLooked answer →
+        (waited bw p asleep pages (p.back, answer)).memory ≡ record p.memory { awaits = a } → Inv (record p.memory { awaits = a }) f b →
+        Resting asleep p.back c (flat_map given_by p.deeds) b → Stands p c f b → Good (waited bw p asleep pages (p.back, answer))
+    waited_stands p asleep pages c f b answer a q e i r g =
+        let d = flat_map given_by p.deeds in
+        let after = waited bw p asleep pages (p.back, answer) in
+        let more = given_more p.deeds (OfWait pages answer) ∙ append-nil d in (
+          c,
+          f,
+          b,
+          record {
+            inv = subst (λ m. Inv m f b) (sym e) i;
+            front = g.front;
+            back = subst (λ x. BackStands (rested bw asleep p.back) p.back c x b after.memory.awaits) (sym more) (rest_stands p.back c d b after.memory.awaits asleep r);
+            running = g.running;
+            copies = done_wait p.deeds pages answer c q g.copies;
+            sent = g.sent;
+          },
+        )
+
+    looked_stands : (p : Pair) (asleep : Bool) (pages : ℕ) (c : Packets) (f : Front) (b : Back) (less : Bool) →
+        (less ≡ true → Inv (record p.memory { awaits = awaits.Fewer p.back.rx_index pages }) f b) → Resting asleep p.back c (flat_map given_by p.deeds) b → Stands p c f b →
+        Good (waited bw p asleep pages (p.back, if less then awaited.Waiting else awaited.Posted))
+    looked_stands p asleep pages c f b true i r g =
+        waited_stands p asleep pages c f b awaited.Waiting (awaits.Fewer p.back.rx_index pages) tt refl (i refl) r g
+    looked_stands p asleep pages c f b false i r g =
+        waited_stands p asleep pages c f b awaited.Posted awaits.Nothing tt refl (l.forgets p.memory f b g.inv) r g
+
+    -- the pair, of which the memory alone is another
+    remembers : (p : Pair) (m : Memory) (c : Packets) (f : Front) (b : Back) → Inv m f b → BackStands p.at p.back c (flat_map given_by p.deeds) b m.awaits → Stands p c f b →
+        Stands (record p { memory = m }) c f b
+    remembers p m c f b i h g = record { inv = i; front = g.front; back = h; running = g.running; copies = g.copies; sent = g.sent }
+
+    -- the read of the producer
+    read_stands : (p : Pair) (asleep : Bool) (pages : ℕ) (n : ℕ) (c : Packets) (f : Front) (b : Back) (t : Steps Wait) → p.at ≡ Waiting asleep pages t →
+        Resting asleep p.back c (flat_map given_by p.deeds) b → p.memory.awaits ≡ awaits.Asked p.back.rx_index pages → Stands p c f b →
+        Good (on_back bw (Waiting asleep pages (last_read bw.vif.rx p.back pages)) p n)
+    read_stands p asleep pages n c f b t at r a g =
+        let q = record p { memory = asking p pages p.memory } in
+        let same : q.memory ≡ p.memory = ap (λ x. record p.memory { awaits = x }) (sym a) in
+        let i : Inv q.memory f b = subst (λ m. Inv m f b) (sym same) g.inv in
+        let h : BackStands p.at p.back c (flat_map given_by p.deeds) b q.memory.awaits = subst (BackStands p.at p.back c (flat_map given_by p.deeds) b) (ap (λ (m : Memory). m.awaits) (sym same)) g.back in
+        let k = l.wait_looks asleep p.back c (flat_map given_by p.deeds) b pages q.memory f r i refl in
+        subst (λ o. Good (waiting bw q asleep pages (done (Rattle.xen_back.specs.Waits.wait_end p.back pages o)))) (sym k.1)
+        (looked_stands q asleep pages c f b (nat_lt k.0 pages) k.2 r (remembers p q.memory c f b i h g))
+
+    -- the store of the event index
+    asked_stands : (p : Pair) (asleep : Bool) (pages : ℕ) (n : ℕ) (c : Packets) (f : Front) (b : Back) →
+        Resting asleep p.back c (flat_map given_by p.deeds) b → Stands p c f b →
+        Good (on_back bw (Waiting asleep pages (final_check bw.vif.rx p.back pages)) p n)
+    asked_stands p asleep pages n c f b r g = (
+      c,
+      f,
+      b,
+      record {
+        inv = l.wait_asks asleep p.back c (flat_map given_by p.deeds) b pages p.memory f r g.inv;
+        front = g.front;
+        back = (r, inr (refl, refl));
+        running = g.running;
+        copies = g.copies;
+        sent = g.sent;
+      },
+    )
+
+    look_stands : (p : Pair) (asleep : Bool) (pages : ℕ) (n : ℕ) (c : Packets) (f : Front) (b : Back) (t : Steps Wait) → p.at ≡ Waiting asleep pages t →
+        Resting asleep p.back c (flat_map given_by p.deeds) b → Looks p.back pages t p.memory.awaits → Stands p c f b → Good (on_back bw (Waiting asleep pages t) p n)
+    look_stands p asleep pages n c f b t at r (inl e) g =
+        subst (λ x. Good (on_back bw (Waiting asleep pages x) p n)) (sym e) (asked_stands p asleep pages n c f b r g)
+    look_stands p asleep pages n c f b t at r (inr e) g =
+        subst (λ x. Good (on_back bw (Waiting asleep pages x) p n)) (sym e.0) (read_stands p asleep pages n c f b t at r e.1 g)
+
+    -- a wait begins, of a back that isn't halted
+    wait_stands : (p : Pair) (pages : ℕ) (c : Packets) (f : Front) (b : Back) (asleep : Bool) → Resting asleep p.back c (flat_map given_by p.deeds) b → Stands p c f b →
+        Good (begin_wait bw p asleep pages)
+    wait_stands p pages c f b asleep r g =
+        subst (λ o. Good (waiting bw p asleep pages (check_unless bw.vif.rx p.back pages o))) (sym g.running)
+        (c, f, b, record { inv = g.inv; front = g.front; back = (r, inl refl); running = g.running; copies = g.copies; sent = g.sent })
+
+    await_stands : (p : Pair) (pages : ℕ) (c : Packets) (f : Front) (b : Back) (at : BackAt) → p.at ≡ at → Stands p c f b → Good (on_await bw at p pages)
+    await_stands p pages c f b Asleep a g =
+        wait_stands p pages c f b true (subst (λ x. BackStands x p.back c (flat_map given_by p.deeds) b p.memory.awaits) a g.back) g
+    await_stands p pages c f b (First false t) a g =
+        let h : BackStands (First false t) p.back c (flat_map given_by p.deeds) b p.memory.awaits = subst (λ x. BackStands x p.back c (flat_map given_by p.deeds) b p.memory.awaits) a g.back in
+        wait_stands p pages c f b false h.1 g
+    await_stands p pages c f b (First true t) a g = (c, f, b, g)
+    await_stands p pages c f b (Second copy left t) a g = (c, f, b, g)
+    await_stands p pages c f b (Delivering asleep packet t) a g = (c, f, b, g)
+    await_stands p pages c f b (Waiting asleep other t) a g = (c, f, b, g)
+
     back_stands : (p : Pair) (n : ℕ) (c : Packets) (f : Front) (b : Back) (at : BackAt) → p.at ≡ at → n < 2 ^ 64 → Stands p c f b → Good (on_back bw at p n)
     back_stands p n c f b Asleep a s g = wake_stands p c f b p.memory.pending a g
     back_stands p n c f b (First x (done h)) a s g = (c, f, b, g)
     back_stands p n c f b (First x never) a s g = (c, f, b, g)
     back_stands p n c f b (First x (ask v k)) a s g =
         let h : GivenAll (flat_map given_by p.deeds) b × Safe BackInv (GivenAll (flat_map given_by p.deeds)) (HalfEnd p.back c (flat_map given_by p.deeds)) b (ask v k) =
-        half_left p c b x (ask v k) (subst (λ z. BackStands z p.back c (flat_map given_by p.deeds) b) a g.back) in
+        half_left p c b x (ask v k) (subst (λ z. BackStands z p.back c (flat_map given_by p.deeds) b p.memory.awaits) a g.back) in
         let r = h.1 p.memory f g.inv in
         first_stands (record p { memory = after v p.memory }) c f r.0 (k (answer v p.memory n)) r.1 g.front r.2 (r.3 n s) g.running g.copies g.sent
     back_stands p n c f b (Second packet left (done e)) a s g = (c, f, b, g)
     back_stands p n c f b (Second packet left never) a s g = (c, f, b, g)
     back_stands p n c f b (Second packet left (ask v k)) a s g =
-        let h : BackStands (Second packet left (ask v k)) p.back c (flat_map given_by p.deeds) b = subst (λ x. BackStands x p.back c (flat_map given_by p.deeds) b) a g.back in
+        let h : BackStands (Second packet left (ask v k)) p.back c (flat_map given_by p.deeds) b p.memory.awaits = subst (λ x. BackStands x p.back c (flat_map given_by p.deeds) b p.memory.awaits) a g.back in
         let r = h.1 p.memory f g.inv in
         second_stands (record p { memory = after v p.memory }) packet left c f r.0 (k (answer v p.memory n)) r.1 g.front r.2 (r.3 n s) g.running g.copies g.sent
     back_stands p n c f b (Delivering asleep packet (done x)) a s g = (c, f, b, g)
     back_stands p n c f b (Delivering asleep packet never) a s g = (c, f, b, g)
     back_stands p n c f b (Delivering asleep packet (ask v k)) a s g =
-        let h : BackStands (Delivering asleep packet (ask v k)) p.back c (flat_map given_by p.deeds) b = subst (λ x. BackStands x p.back c (flat_map given_by p.deeds) b) a g.back in
+        let h : BackStands (Delivering asleep packet (ask v k)) p.back c (flat_map given_by p.deeds) b p.memory.awaits = subst (λ x. BackStands x p.back c (flat_map given_by p.deeds) b p.memory.awaits) a g.back in
         let r = h.1 p.memory f g.inv in
         delivering_stands (record p { memory = after v p.memory }) asleep packet c f r.0 (k (answer v p.memory n)) r.1 g.front r.2 (r.3 n s) g.running g.copies g.sent
+    back_stands p n c f b (Waiting asleep pages t) a s g =
+        let h : BackStands (Waiting asleep pages t) p.back c (flat_map given_by p.deeds) b p.memory.awaits = subst (λ x. BackStands x p.back c (flat_map given_by p.deeds) b p.memory.awaits) a g.back in
+        look_stands p asleep pages n c f b t a h.0 h.1 g
 
     begun_stands : (p : Pair) (packet : List ℕ) (c : Packets) (f : Front) (b : Back) (asleep : Bool) → All IsByte packet → Resting asleep p.back c (flat_map given_by p.deeds) b → Stands p c f b →
         Good (begin_delivery bw p asleep packet)
@@ -396,13 +530,14 @@ module _ (bw : BackWiring) (fw : FrontWiring) {Front Back : Type 0} (Inv : Memor
         (l.delivery_safe asleep p.back c (flat_map given_by p.deeds) b packet r q) g.running g.copies g.sent
 
     deliver_stands : (p : Pair) (packet : List ℕ) (c : Packets) (f : Front) (b : Back) (at : BackAt) → p.at ≡ at → All IsByte packet → Stands p c f b → Good (on_deliver bw at p packet)
-    deliver_stands p packet c f b Asleep a q g = begun_stands p packet c f b true q (subst (λ x. BackStands x p.back c (flat_map given_by p.deeds) b) a g.back) g
+    deliver_stands p packet c f b Asleep a q g = begun_stands p packet c f b true q (subst (λ x. BackStands x p.back c (flat_map given_by p.deeds) b p.memory.awaits) a g.back) g
     deliver_stands p packet c f b (First false t) a q g =
-        let h : BackStands (First false t) p.back c (flat_map given_by p.deeds) b = subst (λ x. BackStands x p.back c (flat_map given_by p.deeds) b) a g.back in
+        let h : BackStands (First false t) p.back c (flat_map given_by p.deeds) b p.memory.awaits = subst (λ x. BackStands x p.back c (flat_map given_by p.deeds) b p.memory.awaits) a g.back in
         begun_stands p packet c f b false q h.1 g
     deliver_stands p packet c f b (First true t) a q g = (c, f, b, g)
     deliver_stands p packet c f b (Second copy left t) a q g = (c, f, b, g)
     deliver_stands p packet c f b (Delivering asleep other t) a q g = (c, f, b, g)
+    deliver_stands p packet c f b (Waiting asleep pages t) a q g = (c, f, b, g)
 
     step_stands : (p : Pair) (e : PairEvent) (n : ℕ) (c : Packets) (f : Front) (b : Back) → IsBytes e → n < 2 ^ 64 → Stands p c f b → Good (step bw fw p e n)
     step_stands p (Send packet) n c f b q s g = send_stands p packet c f b p.activity refl q g
@@ -411,21 +546,23 @@ module _ (bw : BackWiring) (fw : FrontWiring) {Front Back : Type 0} (Inv : Memor
     step_stands p FrontStep n c f b q s g = front_stands p n c f b p.activity refl s g
     step_stands p BackStep n c f b q s g = back_stands p n c f b p.at refl s g
     step_stands p (Deliver packet) n c f b q s g = deliver_stands p packet c f b p.at refl q g
+    step_stands p (Await pages) n c f b q s g = await_stands p pages c f b p.at refl g
 
     pub run_stands : (p : Pair) (es : List (PairEvent × ℕ)) → Fit es → Good p → Good (run bw fw p es)
     run_stands p [] q g = g
     run_stands p (e ∷ es) q g = run_stands (step bw fw p e.0 e.1) es q.1 (step_stands p e.0 e.1 g.0 g.1 g.2 q.0.0 q.0.1 g.3)
 
-    given_end : (at : BackAt) (s : BackState) (c g r : Packets) (b : Back) → BackStands at s c g b → ((more : Packets) × (givens b ≡ r ++ more)) → (more : Packets) × (g ++ given_now at ≡ r ++ more)
-    given_end Asleep s c g r b h o = (o.0, append-nil g ∙ sym (l.slept_runs s c g b h).0 ∙ o.1)
-    given_end (First true t) s c g r b h o = (o.0, append-nil g ∙ sym h.0 ∙ o.1)
-    given_end (First false t) s c g r b h o = (o.0, append-nil g ∙ sym (l.ready_runs s c g b h.1).0 ∙ o.1)
-    given_end (Delivering asleep packet t) s c g r b h o = by h.0
+    given_end : (at : BackAt) (s : BackState) (c g r : Packets) (b : Back) (a : Awaits) → BackStands at s c g b a → ((more : Packets) × (givens b ≡ r ++ more)) → (more : Packets) × (g ++ given_now at ≡ r ++ more)
+    given_end Asleep s c g r b a h o = (o.0, append-nil g ∙ sym (l.slept_runs s c g b h).0 ∙ o.1)
+    given_end (First true t) s c g r b a h o = (o.0, append-nil g ∙ sym h.0 ∙ o.1)
+    given_end (First false t) s c g r b a h o = (o.0, append-nil g ∙ sym (l.ready_runs s c g b h.1).0 ∙ o.1)
+    given_end (Waiting asleep pages t) s c g r b a h o = (o.0, append-nil g ∙ sym (rest_gives s c g b asleep h.0).0 ∙ o.1)
+    given_end (Delivering asleep packet t) s c g r b a h o = by h.0
       where
         by : GivesPacket g packet b → (more : Packets) × (g ++ packet ∷ [] ≡ r ++ more)
         by (inl e) = (o.0 ++ packet ∷ [], ap (λ x. x ++ packet ∷ []) (sym e ∙ o.1) ∙ append_assoc r o.0 (packet ∷ []))
         by (inr e) = (o.0, sym e ∙ o.1)
-    given_end (Second packet left t) s c g r b h o = by h.0
+    given_end (Second packet left t) s c g r b a h o = by h.0
       where
         by : GivesLeft g left b → (more : Packets) × (g ++ left_by left ≡ r ++ more)
         by (inl e) = (o.0 ++ left_by left, ap (λ x. x ++ left_by left) (sym e ∙ o.1) ∙ append_assoc r o.0 (left_by left))
@@ -444,8 +581,10 @@ module _ (bw : BackWiring) (fw : FrontWiring) {Front Back : Type 0} (Inv : Memor
           back = s.running;
           copies = (c, s.copies.0, s.sent);
           arrived = s.copies.1;
-          received = given_end p.at p.back c (flat_map given_by p.deeds) p.received b s.back (l.got p.sent p.received p.memory f b (says p.activity p.front p.sent p.received f s.front) s.inv);
+          received = given_end p.at p.back c (flat_map given_by p.deeds) p.received b p.memory.awaits s.back (l.got p.sent p.received p.memory f b (says p.activity p.front p.sent p.received f s.front) s.inv);
+          told = λ index pages a n k.
+              l.tells p.memory f b index pages s.inv (no_post p.activity p.front p.sent p.received f k s.front) a n;
           heard = λ a n k.
-              let z : Slept p.back c (flat_map given_by p.deeds) b = subst (λ x. BackStands x p.back c (flat_map given_by p.deeds) b) a s.back in
+              let z : Slept p.back c (flat_map given_by p.deeds) b = subst (λ x. BackStands x p.back c (flat_map given_by p.deeds) b p.memory.awaits) a s.back in
               l.hears p.back c (flat_map given_by p.deeds) p.memory f b s.inv z (no_window p.activity p.front p.sent p.received f k s.front) n;
         }

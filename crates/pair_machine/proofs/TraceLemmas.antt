@@ -8,18 +8,22 @@ use Rattle.xen_steps.specs.Steps.{Runs, Steps, done, ask, never, bind}
 use Rattle.xen_steps.specs.declared.want.Want.{Want}
 use Rattle.xen_steps.proofs.DriveLemmas.{gone_more, runs_of_gone}
 use Rattle.xen_steps.proofs.StepsLemmas.{join}
+use Rattle.xen_back.specs.Awaited.{IsAwaiting}
 use Rattle.xen_back.specs.Delivered.{IsDelivery}
 use Rattle.xen_back.specs.Deliveries.{Arrival, whole_delivery}
 use Rattle.xen_back.specs.Tree.{Left, after_run, whole_turn}
 use Rattle.xen_back.specs.Turned.{Ending, Turned, Idle, Ran, Refused, Halted}
 use Rattle.xen_back.specs.Turns.{IsTurn}
+use Rattle.xen_back.specs.Waits.{Wait, whole_wait}
+use Rattle.xen_back.specs.declared.delivery.awaiting.Awaited.{Awaited}
 use Rattle.xen_back.specs.declared.delivery.delivering.Delivery.{Delivery}
 use Rattle.xen_back.specs.declared.state.State.{State}
 use Rattle.xen_back.specs.declared.turn.Halt.{Halt}
 use Rattle.xen_back.specs.declared.wiring.Wiring.{Wiring}
 use Rattle.xen_back.proofs.ArriveLemmas.{delivery_rows}
 use Rattle.xen_back.proofs.TurnParts.{turn_parts}
-use Rattle.xdp_world.specs.Activities.{Came, Given, Item, all_came}
+use Rattle.xen_back.proofs.WaitLemmas.{wait_rows}
+use Rattle.xdp_world.specs.Activities.{Came, Given, Item, SlotsAwaited, all_came}
 use Rattle.xdp_world.proofs.Acts.{came_append}
 use Rattle.xen_buffers.specs.declared.wiring.Wiring.{Wiring as FrontWiring}
 use Rattle.xen_front.specs.Given.{Ending as FrontEnding}
@@ -28,9 +32,9 @@ use Rattle.xen_front.specs.declared.turn.PollRefusal.{PollRefusal}
 use Rattle.xen_front.specs.declared.turn.PostRefusal.{PostRefusal}
 use Rattle.xen_front.specs.declared.turn.SendRefusal.{SendRefusal}
 use Rattle.pair_machine.specs.Halves.{Half, Over, HasRun, half_turn, half_unless, second_half}
-use Rattle.pair_machine.specs.Log.{back_asks, taken_at}
+use Rattle.pair_machine.specs.Log.{back_asks, begun_at}
 use Rattle.pair_machine.specs.Memory.{after, answer}
-use Rattle.pair_machine.specs.Pair.{Activity, Free, Sending, Posting, Polling, BackAt, Asleep, First, Second, Delivering, Deed, OfTurn, OfDelivery, Pair, Send, Post, Poll, FrontStep, BackStep, Deliver, Past, begin_delivery, begin_poll, begin_post, begin_send, delivering, first, new_back, next_at, on_back, on_deliver, on_front, on_poll, on_post, on_send, poll_result, polling, post_result, post_tree, posting, rested, second, send_result, send_tree, sending, turned, wake}
+use Rattle.pair_machine.specs.Pair.{Activity, Free, Sending, Posting, Polling, BackAt, Asleep, First, Second, Delivering, Waiting, Deed, OfTurn, OfDelivery, OfWait, Pair, Send, Post, Poll, FrontStep, BackStep, Deliver, Await, Past, asking, begin_delivery, begin_wait, begin_poll, begin_post, begin_send, delivering, first, new_back, next_at, on_back, on_await, on_deliver, on_front, on_poll, on_post, on_send, poll_result, polling, post_result, post_tree, posting, rested, second, send_result, send_tree, sending, turned, waiting, wake}
 use Rattle.pair_machine.specs.Traces.{BackIsAnswered, Follows, HasCopy, HaveDeeds, IsAt, IsCopied, Traced, TraceLaw}
 use Rattle.pair_machine.specs.Traces as traces
 use Rattle.pair_machine.proofs.CopyLemmas.{has_copy}
@@ -43,6 +47,9 @@ deeds_more w _ _ _ _ _ e (traces.turned s mid end t more front p ds n i c h) =
 deeds_more w _ _ _ _ _ e (traces.delivered s mid end packet t more front what ds i h) =
     subst (λ l. HaveDeeds w s (Given packet ∷ l) (OfDelivery packet what ∷ ds) end (front ++ e)) (sym (append_assoc (all_came t) more e))
     (traces.delivered s mid end packet t (more ++ e) (front ++ e) what ds i (deeds_more w mid more ds end front e h))
+deeds_more w _ _ _ _ _ e (traces.waited s mid end pages t more front answer ds i h) =
+    subst (λ l. HaveDeeds w s (SlotsAwaited pages ∷ l) (OfWait pages answer ∷ ds) end (front ++ e)) (sym (append_assoc (all_came t) more e))
+    (traces.waited s mid end pages t (more ++ e) (front ++ e) answer ds i (deeds_more w mid more ds end front e h))
 
 deeds_turn : (w : Wiring) (s : State) (items : List Item) (ds : List Deed) (end : State) (front : List Item) (f : List Event) (new : State) (v : Past) → front ≡ all_came f →
     end.halt ≡ None → IsTurn w end f new v.turn → IsCopied w end f v.copy → HaveDeeds w s items ds end front → HaveDeeds w s items (ds ++ OfTurn v ∷ []) new []
@@ -52,6 +59,8 @@ deeds_turn w _ _ _ _ _ f new v q n j d (traces.turned s mid end t more front p d
     traces.turned s mid new t more [] p (ds ++ OfTurn v ∷ []) m i c (deeds_turn w mid more ds end front f new v q n j d h)
 deeds_turn w _ _ _ _ _ f new v q n j d (traces.delivered s mid end packet t more front what ds i h) =
     traces.delivered s mid new packet t more [] what (ds ++ OfTurn v ∷ []) i (deeds_turn w mid more ds end front f new v q n j d h)
+deeds_turn w _ _ _ _ _ f new v q n j d (traces.waited s mid end pages t more front answer ds i h) =
+    traces.waited s mid new pages t more [] answer (ds ++ OfTurn v ∷ []) i (deeds_turn w mid more ds end front f new v q n j d h)
 
 deeds_delivery : (w : Wiring) (s : State) (items : List Item) (ds : List Deed) (end : State) (front : List Item) (p : List ℕ) (f : List Event) (new : State) (o : Delivery) → front ≡ Given p ∷ all_came f →
     IsDelivery w end p f new o → HaveDeeds w s items ds end front → HaveDeeds w s items (ds ++ OfDelivery p o ∷ []) new []
@@ -61,6 +70,19 @@ deeds_delivery w _ _ _ _ _ p f new o q j (traces.turned s mid end t more front x
     traces.turned s mid new t more [] x (ds ++ OfDelivery p o ∷ []) m i c (deeds_delivery w mid more ds end front p f new o q j h)
 deeds_delivery w _ _ _ _ _ p f new o q j (traces.delivered s mid end packet t more front what ds i h) =
     traces.delivered s mid new packet t more [] what (ds ++ OfDelivery p o ∷ []) i (deeds_delivery w mid more ds end front p f new o q j h)
+deeds_delivery w _ _ _ _ _ p f new o q j (traces.waited s mid end pages t more front answer ds i h) =
+    traces.waited s mid new pages t more [] answer (ds ++ OfDelivery p o ∷ []) i (deeds_delivery w mid more ds end front p f new o q j h)
+
+deeds_wait : (w : Wiring) (s : State) (items : List Item) (ds : List Deed) (end : State) (front : List Item) (n : ℕ) (f : List Event) (new : State) (o : Awaited) → front ≡ SlotsAwaited n ∷ all_came f →
+    IsAwaiting w end n f new o → HaveDeeds w s items ds end front → HaveDeeds w s items (ds ++ OfWait n o ∷ []) new []
+deeds_wait w _ _ _ _ _ n f new o q j (traces.begun s front) =
+    subst (λ l. HaveDeeds w s l (OfWait n o ∷ []) new []) (ap (λ l. SlotsAwaited n ∷ l) (append-nil (all_came f)) ∙ sym q) (traces.waited s new new n f [] [] o [] j (traces.begun new []))
+deeds_wait w _ _ _ _ _ n f new o q j (traces.turned s mid end t more front x ds m i c h) =
+    traces.turned s mid new t more [] x (ds ++ OfWait n o ∷ []) m i c (deeds_wait w mid more ds end front n f new o q j h)
+deeds_wait w _ _ _ _ _ n f new o q j (traces.delivered s mid end packet t more front what ds i h) =
+    traces.delivered s mid new packet t more [] what (ds ++ OfWait n o ∷ []) i (deeds_wait w mid more ds end front n f new o q j h)
+deeds_wait w _ _ _ _ _ n f new o q j (traces.waited s mid end pages t more front answer ds i h) =
+    traces.waited s mid new pages t more [] answer (ds ++ OfWait n o ∷ []) i (deeds_wait w mid more ds end front n f new o q j h)
 
 begins_at : (w : Wiring) (s : State) (u : Turned) → IsAt w s (next_at w s u) []
 begins_at w s Idle = refl
@@ -81,8 +103,8 @@ half_at w s false t front h = ([], h.0, sym h.1)
 came_more : (front : List Item) (f : List Event) (e : Event) → front ≡ all_came f → front ++ Came e ∷ [] ≡ all_came (f ++ e ∷ [])
 came_more front f e q = ap (λ l. l ++ Came e ∷ []) q ∙ sym (came_append f (e ∷ []))
 
-given_more : (front : List Item) (packet : List ℕ) (f : List Event) (e : Event) → front ≡ Given packet ∷ all_came f → front ++ Came e ∷ [] ≡ Given packet ∷ all_came (f ++ e ∷ [])
-given_more front packet f e q = ap (λ l. l ++ Came e ∷ []) q ∙ ap (λ l. Given packet ∷ l) (sym (came_append f (e ∷ [])))
+begun_more : (front : List Item) (item : Item) (f : List Event) (e : Event) → front ≡ item ∷ all_came f → front ++ Came e ∷ [] ≡ item ∷ all_came (f ++ e ∷ [])
+begun_more front item f e q = ap (λ l. l ++ Came e ∷ []) q ∙ ap (λ l. item ∷ l) (sym (came_append f (e ∷ [])))
 
 half_running : (w : Wiring) (s : State) (o : Option Halt) (front : List Event) (v : Want) (k : ℕ → Steps Half) → Gone (half_unless w s o) front (ask v k) → o ≡ None
 half_running w s None front v k h = refl
@@ -132,6 +154,18 @@ module _ (w : Wiring) (start : ℕ) (items : List Item) where
   }
   delivering_at p asleep packet f (ask v k) h g = record { front = Given packet ∷ all_came f; deeds = h; at = (f, refl, g) }
   delivering_at p asleep packet f never h g = record { front = Given packet ∷ all_came f; deeds = h; at = (f, refl, g) }
+
+  -- the wait goes on, or is over
+  waiting_at : (p : Pair) (asleep : Bool) (pages : ℕ) (f : List Event) (t : Steps Wait) → HaveDeeds w (new_back start) items p.deeds p.back (SlotsAwaited pages ∷ all_came f) →
+      Gone (whole_wait w.vif.rx p.back pages) f t → Traced w start items (waiting w p asleep pages t)
+  waiting_at p asleep pages f (done a) h g = record {
+    front = [];
+    deeds = deeds_wait w (new_back start) items p.deeds p.back (SlotsAwaited pages ∷ all_came f) pages f a.0 a.1 refl
+        (wait_rows w p.back pages f a.0 a.1 (runs_of_gone (whole_wait w.vif.rx p.back pages) (done a) f a g refl)) h;
+    at = rested_at w a.0 asleep;
+  }
+  waiting_at p asleep pages f (ask v k) h g = record { front = SlotsAwaited pages ∷ all_came f; deeds = h; at = (f, refl, g) }
+  waiting_at p asleep pages f never h g = record { front = SlotsAwaited pages ∷ all_came f; deeds = h; at = (f, refl, g) }
 
 pub follows_none : (w : Wiring) (p : Pair) → Follows w p p []
 follows_none w p start past t = subst (λ l. Traced w start l p) (sym (append-nil past)) t
@@ -189,7 +223,17 @@ back_follows w p (Delivering asleep packet (ask v k)) n i h = λ start past t.
     let more : Gone (whole_delivery w.vif p.back packet) (z.0 ++ e ∷ []) (k a) = gone_more (whole_delivery w.vif p.back packet) (ask v k) (k a) z.0 e z.2 (a, h.2, refl) in
     subst (λ l. Traced w start (past ++ all_came l) (delivering w (record p { memory = after v p.memory }) asleep packet (k a))) (sym h.1)
     (delivering_at w start (past ++ Came e ∷ []) (record p { memory = after v p.memory }) asleep packet (z.0 ++ e ∷ []) (k a)
-    (subst (HaveDeeds w (new_back start) (past ++ Came e ∷ []) p.deeds p.back) (given_more t.front packet z.0 e z.1) (deeds_more w (new_back start) past p.deeds p.back t.front (Came e ∷ []) t.deeds)) more)
+    (subst (HaveDeeds w (new_back start) (past ++ Came e ∷ []) p.deeds p.back) (begun_more t.front (Given packet) z.0 e z.1) (deeds_more w (new_back start) past p.deeds p.back t.front (Came e ∷ []) t.deeds)) more)
+back_follows w p (Waiting asleep pages (done x)) n i h = follows_none w p
+back_follows w p (Waiting asleep pages never) n i h = follows_none w p
+back_follows w p (Waiting asleep pages (ask v k)) n i h = λ start past t.
+    let a : ℕ = answer v p.memory n in
+    let e : Event = h.0 in
+    let z : (f : List Event) × (t.front ≡ SlotsAwaited pages ∷ all_came f) × Gone (whole_wait w.vif.rx p.back pages) f (ask v k) = subst (λ x. IsAt w p.back x t.front) i t.at in
+    let more : Gone (whole_wait w.vif.rx p.back pages) (z.0 ++ e ∷ []) (k a) = gone_more (whole_wait w.vif.rx p.back pages) (ask v k) (k a) z.0 e z.2 (a, h.2, refl) in
+    subst (λ l. Traced w start (past ++ all_came l) (waiting w (record p { memory = asking p pages (after v p.memory) }) asleep pages (k a))) (sym h.1)
+    (waiting_at w start (past ++ Came e ∷ []) (record p { memory = asking p pages (after v p.memory) }) asleep pages (z.0 ++ e ∷ []) (k a)
+    (subst (HaveDeeds w (new_back start) (past ++ Came e ∷ []) p.deeds p.back) (begun_more t.front (SlotsAwaited pages) z.0 e z.1) (deeds_more w (new_back start) past p.deeds p.back t.front (Came e ∷ []) t.deeds)) more)
 
 -- A delivery begins.
 begun_follows : (w : Wiring) (p : Pair) (asleep : Bool) (packet : List ℕ) → ((front : List Item) → IsAt w p.back p.at front → front ≡ []) → Follows w p (begin_delivery w p asleep packet) (Given packet ∷ [])
@@ -197,12 +241,27 @@ begun_follows w p asleep packet i = λ start past t.
     delivering_at w start (past ++ Given packet ∷ []) p asleep packet [] (whole_delivery w.vif p.back packet)
     (subst (HaveDeeds w (new_back start) (past ++ Given packet ∷ []) p.deeds p.back) (ap (λ l. l ++ Given packet ∷ []) (i t.front t.at)) (deeds_more w (new_back start) past p.deeds p.back t.front (Given packet ∷ []) t.deeds)) refl
 
-pub deliver_follows : (w : Wiring) (p : Pair) (packet : List ℕ) (at : BackAt) → p.at ≡ at → Follows w p (on_deliver w at p packet) (taken_at at packet)
+pub deliver_follows : (w : Wiring) (p : Pair) (packet : List ℕ) (at : BackAt) → p.at ≡ at → Follows w p (on_deliver w at p packet) (begun_at at (Given packet))
 deliver_follows w p packet Asleep i = begun_follows w p true packet (λ front h. subst (λ x. IsAt w p.back x front) i h)
 deliver_follows w p packet (First false t) i = begun_follows w p false packet (λ front h. let z : IsAt w p.back (First false t) front = subst (λ x. IsAt w p.back x front) i h in z.0)
 deliver_follows w p packet (First true t) i = follows_none w p
 deliver_follows w p packet (Second copy left t) i = follows_none w p
 deliver_follows w p packet (Delivering asleep other t) i = follows_none w p
+deliver_follows w p packet (Waiting asleep pages t) i = follows_none w p
+
+-- A wait begins.
+wait_follows : (w : Wiring) (p : Pair) (asleep : Bool) (pages : ℕ) → ((front : List Item) → IsAt w p.back p.at front → front ≡ []) → Follows w p (begin_wait w p asleep pages) (SlotsAwaited pages ∷ [])
+wait_follows w p asleep pages i = λ start past t.
+    waiting_at w start (past ++ SlotsAwaited pages ∷ []) p asleep pages [] (whole_wait w.vif.rx p.back pages)
+    (subst (HaveDeeds w (new_back start) (past ++ SlotsAwaited pages ∷ []) p.deeds p.back) (ap (λ l. l ++ SlotsAwaited pages ∷ []) (i t.front t.at)) (deeds_more w (new_back start) past p.deeds p.back t.front (SlotsAwaited pages ∷ []) t.deeds)) refl
+
+pub await_follows : (w : Wiring) (p : Pair) (pages : ℕ) (at : BackAt) → p.at ≡ at → Follows w p (on_await w at p pages) (begun_at at (SlotsAwaited pages))
+await_follows w p pages Asleep i = wait_follows w p true pages (λ front h. subst (λ x. IsAt w p.back x front) i h)
+await_follows w p pages (First false t) i = wait_follows w p false pages (λ front h. let z : IsAt w p.back (First false t) front = subst (λ x. IsAt w p.back x front) i h in z.0)
+await_follows w p pages (First true t) i = follows_none w p
+await_follows w p pages (Second copy left t) i = follows_none w p
+await_follows w p pages (Delivering asleep packet t) i = follows_none w p
+await_follows w p pages (Waiting asleep other t) i = follows_none w p
 
 -- The front's steps and calls.
 sending_same : (p : Pair) (t : Steps FrontEnding) → Same p (sending p t)
@@ -283,3 +342,4 @@ step_follows bw fw p Poll n h = poll_follows bw fw p p.activity
 step_follows bw fw p FrontStep n h = front_follows bw p p.activity n
 step_follows bw fw p BackStep n h = back_follows bw p p.at n refl h
 step_follows bw fw p (Deliver packet) n h = deliver_follows bw p packet p.at refl
+step_follows bw fw p (Await pages) n h = await_follows bw p pages p.at refl

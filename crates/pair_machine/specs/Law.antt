@@ -4,6 +4,8 @@ use Rattle.std.specs.Prelude.{length, Option, Some, None, All}
 use Rattle.bpf_verify.specs.Consistent.{Accepted, IsConsistent}
 use Rattle.xen_back.specs.Tree.{Left}
 use Rattle.xen_back.specs.Turned.{Turned, Idle, Ran, Refused, Halted}
+use Rattle.xen_back.specs.declared.delivery.awaiting.Awaited.{Awaited}
+use Rattle.xen_back.specs.declared.delivery.awaiting.Awaited.TheVariants as awaited
 use Rattle.xen_back.specs.declared.delivery.delivering.Delivery.{Delivery}
 use Rattle.xen_back.specs.declared.delivery.delivering.Delivery.TheVariants as delivery
 use Rattle.xen_back.specs.declared.turn.Refusal.TheVariants as refusal
@@ -13,8 +15,10 @@ use Rattle.xen_front.specs.Given.{Ending as FrontEnding}
 use Rattle.xen_front.specs.Making.{IsNew}
 use Rattle.xen_front.specs.declared.state.State.{State as FrontState}
 use Rattle.pair_machine.specs.Layout.{IsBack, IsFront}
-use Rattle.pair_machine.specs.Pair.{Activity, Asleep, BackAt, Deed, Deliver, Delivering, First, OfDelivery, OfTurn, Pair, PairEvent, Send}
-use Rattle.pair_machine.specs.Pair.{Past, Second, Sending, opening, run, turns_of}
+use Rattle.pair_machine.specs.Pair.{Activity, Asleep, BackAt, Deed, Deliver, Delivering, First, OfDelivery, OfTurn, OfWait, Pair, PairEvent}
+use Rattle.pair_machine.specs.Pair.{Past, Posting, Second, Send, Sending, Waiting, opening, run, turns_of}
+use Rattle.pair_machine.specs.declared.awaits.Awaits.TheVariants as awaits
+use Rattle.xen_ring.specs.Index.{distance}
 use Rattle.xen_steps.specs.Places.{page_word}
 use Rattle.xen_steps.specs.Steps.{Steps}
 
@@ -47,6 +51,7 @@ delivered packet delivery.NoFrame = []
 abbrev pub given_by : Deed → List (List ℕ)
 given_by (OfTurn past) = sent_back past.turn
 given_by (OfDelivery packet what) = delivered packet what
+given_by (OfWait pages answer) = []
 
 abbrev pub left_by : Left → List (List ℕ)
 left_by l = if l.number == 3 then l.packet ∷ [] else []
@@ -57,6 +62,7 @@ given_now Asleep = []
 given_now (First b t) = []
 given_now (Second packet left t) = left_by left
 given_now (Delivering asleep packet t) = packet ∷ []
+given_now (Waiting asleep pages t) = []
 
 abbrev pub all_given : Pair → List (List ℕ)
 all_given p = flat_map given_by p.deeds ++ given_now p.at
@@ -69,13 +75,23 @@ HasArrived (delivery.Refused slots) = ⊥
 HasArrived (delivery.Halted cause) = ⊥
 HasArrived delivery.NoFrame = Unit {0}
 
+-- A wait ends with as many slots posted as were awaited, or with fewer.
+abbrev pub HasLooked : Awaited → Type 0
+HasLooked awaited.Posted = Unit {0}
+HasLooked awaited.Waiting = Unit {0}
+HasLooked (awaited.Halted cause) = ⊥
+
 abbrev pub AllArrived : List Deed → Type 0
 AllArrived [] = Unit {0}
 AllArrived (OfTurn past ∷ ds) = AllArrived ds
 AllArrived (OfDelivery packet what ∷ ds) = HasArrived what × AllArrived ds
+AllArrived (OfWait pages answer ∷ ds) = HasLooked answer × AllArrived ds
 
 abbrev pub IsSending : Activity → Type 0
 IsSending a = (t : Steps FrontEnding) × (a ≡ Sending t)
+
+abbrev pub IsPosting : Activity → Type 0
+IsPosting a = (t : Steps FrontEnding) × (a ≡ Posting t)
 
 pub record Honest (p : Pair) : Type 0 where
   pub front : p.front.halt ≡ None
@@ -84,6 +100,9 @@ pub record Honest (p : Pair) : Type 0 where
   pub received : (more : List (List ℕ)) × (all_given p ≡ p.received ++ more)
   pub arrived : AllArrived p.deeds
   pub heard : p.at ≡ Asleep → p.memory.pending ≡ false → (IsSending p.activity → ⊥) → p.memory.word (page_word 17 0) ≡ p.back.tx_index
+  -- no notice is lost: what a wait found too few of still isn't posted, or the back's port is pending
+  pub told : (index pages : ℕ) → p.memory.awaits ≡ awaits.Fewer index pages → p.memory.pending ≡ false → (IsPosting p.activity → ⊥) →
+      distance index (p.memory.word (page_word 18 0)) < pages
 
 -- a front's state before its first activity
 pub record IsNewFront (s : FrontState) (start : ℕ) : Type 0 where

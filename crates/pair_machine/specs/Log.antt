@@ -7,10 +7,10 @@ use Rattle.xen_steps.specs.declared.want.Want.{Want}
 use Rattle.xen_steps.specs.declared.want.Want.TheVariants as want
 use Rattle.xen_back.specs.declared.wiring.Wiring.{Wiring as BackWiring}
 use Rattle.xen_buffers.specs.declared.wiring.Wiring.{Wiring as FrontWiring}
-use Rattle.xdp_world.specs.Activities.{Given, Item, all_came}
+use Rattle.xdp_world.specs.Activities.{Given, Item, SlotsAwaited, all_came}
 use Rattle.pair_machine.specs.Memory.{Memory, answer, put}
 use Rattle.pair_machine.specs.Pair.{Activity, Free, Sending, Posting, Polling, BackAt, Asleep, First, Second, Pair, PairEvent, Send}
-use Rattle.pair_machine.specs.Pair.{Deliver, Delivering, Post, Poll, FrontStep, BackStep, step}
+use Rattle.pair_machine.specs.Pair.{Await, Deliver, Delivering, Post, Poll, FrontStep, BackStep, Waiting, step}
 
 -- an event of the front, or of the back; or the back woke, and took what was pending
 pub data Logged : Type 0 where
@@ -44,23 +44,26 @@ back_asks Asleep m n = []
 back_asks (First b t) m n = asked_of t m n
 back_asks (Second packet left t) m n = asked_of t m n
 back_asks (Delivering asleep packet t) m n = asked_of t m n
+back_asks (Waiting asleep pages t) m n = asked_of t m n
 
--- the packet whose delivery begins
-abbrev pub taken_at : BackAt → List ℕ → List Item
-taken_at Asleep packet = Given packet ∷ []
-taken_at (First false t) packet = Given packet ∷ []
-taken_at (First true t) packet = []
-taken_at (Second copy left t) packet = []
-taken_at (Delivering asleep other t) packet = []
+-- what begins, a delivery or a wait, where the back is between turns
+abbrev pub begun_at : BackAt → Item → List Item
+begun_at Asleep item = item ∷ []
+begun_at (First false t) item = item ∷ []
+begun_at (First true t) item = []
+begun_at (Second copy left t) item = []
+begun_at (Delivering asleep packet t) item = []
+begun_at (Waiting asleep pages t) item = []
 
--- what the back's queue has of a step: its event, or the packet whose delivery begins
+-- what the back's queue has of a step: its event, the packet whose delivery begins, or how many slots the wait is for that begins
 abbrev pub back_item : Pair → PairEvent → ℕ → List Item
 back_item p (Send packet) n = []
 back_item p Post n = []
 back_item p Poll n = []
 back_item p FrontStep n = []
 back_item p BackStep n = all_came (back_asks p.at p.memory n)
-back_item p (Deliver packet) n = taken_at p.at packet
+back_item p (Deliver packet) n = begun_at p.at (Given packet)
+back_item p (Await pages) n = begun_at p.at (SlotsAwaited pages)
 
 abbrev pub back_items : BackWiring → FrontWiring → Pair → List (PairEvent × ℕ) → List Item
 back_items bw fw p [] = []
@@ -83,6 +86,7 @@ logged_back Asleep m n = woke m.pending
 logged_back (First b t) m n = of_back (asked_of t m n)
 logged_back (Second packet left t) m n = of_back (asked_of t m n)
 logged_back (Delivering asleep packet t) m n = of_back (asked_of t m n)
+logged_back (Waiting asleep pages t) m n = of_back (asked_of t m n)
 
 -- what a step makes
 abbrev pub logged : Pair → PairEvent → ℕ → List Logged
@@ -92,6 +96,7 @@ logged p Poll n = []
 logged p FrontStep n = of_front (front_asks p.activity p.memory n)
 logged p BackStep n = logged_back p.at p.memory n
 logged p (Deliver packet) n = []
+logged p (Await pages) n = []
 
 abbrev pub log : BackWiring → FrontWiring → Pair → List (PairEvent × ℕ) → List Logged
 log bw fw p [] = []

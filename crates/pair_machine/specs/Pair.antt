@@ -5,6 +5,9 @@ use Rattle.xen_steps.specs.Steps.{Steps, done, ask, never}
 use Rattle.xen_back.specs.Deliveries.{Arrival, whole_delivery}
 use Rattle.xen_back.specs.Tree.{Left, after_run}
 use Rattle.xen_back.specs.Turned.{Turned, Idle, Ran, Refused, Halted, Ending}
+use Rattle.xen_back.specs.Waits.{Wait, whole_wait}
+use Rattle.xen_back.specs.declared.delivery.awaiting.Awaited.{Awaited}
+use Rattle.xen_back.specs.declared.delivery.awaiting.Awaited.TheVariants as awaited
 use Rattle.xen_back.specs.declared.delivery.delivering.Delivery.{Delivery}
 use Rattle.xen_back.specs.declared.state.State.{State as BackState}
 use Rattle.xen_back.specs.declared.wiring.Wiring.{Wiring as BackWiring}
@@ -20,6 +23,8 @@ use Rattle.xen_front.specs.declared.turn.PostRefusal.{PostRefusal}
 use Rattle.xen_front.specs.declared.turn.SendRefusal.{SendRefusal}
 use Rattle.pair_machine.specs.Halves.{Half, Over, HasRun, half_turn}
 use Rattle.pair_machine.specs.Memory.{Memory, after, answer, opening_memory}
+use Rattle.pair_machine.specs.declared.awaits.Awaits.{Awaits}
+use Rattle.pair_machine.specs.declared.awaits.Awaits.TheVariants as awaits
 
 pub data PairEvent : Type 0 where
   Send : (packet : List ℕ) → PairEvent
@@ -28,6 +33,7 @@ pub data PairEvent : Type 0 where
   FrontStep : PairEvent
   BackStep : PairEvent
   Deliver : (packet : List ℕ) → PairEvent
+  Await : (pages : ℕ) → PairEvent
 
 -- what the front is at, with what is left of its activity
 pub data Activity : Type 0 where
@@ -36,30 +42,34 @@ pub data Activity : Type 0 where
   Posting : Steps FrontEnding → Activity
   Polling : Steps FrontEnding → Activity
 
--- What the back is at, with what is left of the half of its turn, or of its delivery. A first half is begun by its first event. In the
--- second half the packet is the copy, and `left` what the program's run left. A back delivers between turns, asleep or awake.
+-- What the back is at, with what is left of the half of its turn, of its delivery, or of its wait for rx slots. A first half is begun by
+-- its first event. In the second half the packet is the copy, and `left` what the program's run left. A back delivers and waits between
+-- turns, asleep or awake.
 pub data BackAt : Type 0 where
   Asleep : BackAt
   First : (begun : Bool) → Steps Half → BackAt
   Second : (packet : List ℕ) (left : Left) → Steps Ending → BackAt
   Delivering : (asleep : Bool) (packet : List ℕ) → Steps Arrival → BackAt
+  Waiting : (asleep : Bool) (pages : ℕ) → Steps Wait → BackAt
 
 -- a turn that is over, with the packet's copy where the program ran on one
 pub record Past : Type 0 where
   pub turn : Turned
   pub copy : Option (List ℕ)
 
--- what is over: a turn, or the delivery of a packet of the host's own, with what became of it
+-- what is over: a turn, the delivery of a packet of the host's own, with what became of it, or a wait for rx slots with its answer
 pub data Deed : Type 0 where
   OfTurn : (past : Past) → Deed
   OfDelivery : (packet : List ℕ) (what : Delivery) → Deed
+  OfWait : (pages : ℕ) (answer : Awaited) → Deed
 
 abbrev pub turns_of : List Deed → List Past
 turns_of [] = []
 turns_of (OfTurn past ∷ ds) = past ∷ turns_of ds
 turns_of (OfDelivery packet what ∷ ds) = turns_of ds
+turns_of (OfWait pages answer ∷ ds) = turns_of ds
 
--- `front` is the front's state when its last activity was over, `back` the back's at the end of its last turn or delivery.
+-- `front` is the front's state when its last activity was over, `back` the back's at the end of its last turn, delivery or wait.
 pub record Pair : Type 0 where
   pub memory : Memory
   pub front : FrontState
@@ -181,9 +191,9 @@ first w p (done h) = halved w p h
 first w p (ask v k) = record p { at = First true (ask v k) }
 first w p never = record p { at = First true never }
 
--- a sleeping back wakes where its port is pending, and clears it
+-- A sleeping back wakes where its port is pending, and clears it. That tells its host to look for posts anew.
 abbrev pub wake : BackWiring → Bool → Pair → Pair
-wake w true p = record p { memory = record p.memory { pending = false }; at = First false (half_turn w p.back) }
+wake w true p = record p { memory = record p.memory { pending = false; awaits = awaits.Nothing }; at = First false (half_turn w p.back) }
 wake w false p = p
 
 -- between turns, asleep or awake
@@ -202,13 +212,43 @@ delivering w p asleep packet never = record p { at = Delivering asleep packet ne
 abbrev pub begin_delivery : BackWiring → Pair → Bool → List ℕ → Pair
 begin_delivery w p asleep packet = delivering w p asleep packet (whole_delivery w.vif p.back packet)
 
--- Inside a turn or a delivery nothing is done.
+-- Inside a turn, a delivery or a wait nothing is done.
 abbrev pub on_deliver : BackWiring → BackAt → Pair → List ℕ → Pair
 on_deliver w Asleep p packet = begin_delivery w p true packet
 on_deliver w (First false t) p packet = begin_delivery w p false packet
 on_deliver w (First true t) p packet = p
 on_deliver w (Second copy left t) p packet = p
 on_deliver w (Delivering asleep other t) p packet = p
+on_deliver w (Waiting asleep pages t) p packet = p
+
+-- The back has asked for so many slots, from the index on that its queue is at.
+abbrev pub asking : Pair → ℕ → Memory → Memory
+asking p pages m = record m { awaits = awaits.Asked p.back.rx_index pages }
+
+abbrev pub answered : Pair → ℕ → Awaited → Awaits
+answered p pages awaited.Posted = awaits.Nothing
+answered p pages awaited.Waiting = awaits.Fewer p.back.rx_index pages
+answered p pages (awaited.Halted cause) = p.memory.awaits
+
+abbrev pub waited : BackWiring → Pair → Bool → ℕ → Wait → Pair
+waited w p asleep pages e =
+    record p { memory = record p.memory { awaits = answered p pages e.1 }; back = e.0; at = rested w asleep e.0; deeds = p.deeds ++ OfWait pages e.1 ∷ [] }
+
+abbrev pub waiting : BackWiring → Pair → Bool → ℕ → Steps Wait → Pair
+waiting w p asleep pages (done e) = waited w p asleep pages e
+waiting w p asleep pages (ask v k) = record p { at = Waiting asleep pages (ask v k) }
+waiting w p asleep pages never = record p { at = Waiting asleep pages never }
+
+abbrev pub begin_wait : BackWiring → Pair → Bool → ℕ → Pair
+begin_wait w p asleep pages = waiting w p asleep pages (whole_wait w.vif.rx p.back pages)
+
+abbrev pub on_await : BackWiring → BackAt → Pair → ℕ → Pair
+on_await w Asleep p pages = begin_wait w p true pages
+on_await w (First false t) p pages = begin_wait w p false pages
+on_await w (First true t) p pages = p
+on_await w (Second copy left t) p pages = p
+on_await w (Delivering asleep packet t) p pages = p
+on_await w (Waiting asleep other t) p pages = p
 
 -- A halted back's turn is over as it begins, and nothing follows.
 abbrev pub on_back : BackWiring → BackAt → Pair → ℕ → Pair
@@ -223,6 +263,10 @@ on_back w (Delivering asleep packet (ask v k)) p n =
     delivering w (record p { memory = after v p.memory }) asleep packet (k (answer v p.memory n))
 on_back w (Delivering asleep packet (done a)) p n = p
 on_back w (Delivering asleep packet never) p n = p
+on_back w (Waiting asleep pages (ask v k)) p n =
+    waiting w (record p { memory = asking p pages (after v p.memory) }) asleep pages (k (answer v p.memory n))
+on_back w (Waiting asleep pages (done e)) p n = p
+on_back w (Waiting asleep pages never) p n = p
 
 abbrev pub step : BackWiring → FrontWiring → Pair → PairEvent → ℕ → Pair
 step bw fw p (Send packet) n = on_send fw p.activity p packet
@@ -231,6 +275,7 @@ step bw fw p Poll n = on_poll fw p.activity p
 step bw fw p FrontStep n = on_front p.activity p n
 step bw fw p BackStep n = on_back bw p.at p n
 step bw fw p (Deliver packet) n = on_deliver bw p.at p packet
+step bw fw p (Await pages) n = on_await bw p.at p pages
 
 abbrev pub run : BackWiring → FrontWiring → Pair → List (PairEvent × ℕ) → Pair
 run bw fw p [] = p

@@ -1,10 +1,14 @@
 //! One front and one back over one memory.
 #![tactic(auto)]
 
+mod awaits;
+
 ghost use Rattle.pair_machine.specs.Copies.{RunsHaveCopies};
 ghost use Rattle.pair_machine.specs.Halves.{AreHalves};
 ghost use Rattle.pair_machine.specs.Log.{LogLaw};
 ghost use Rattle.pair_machine.specs.Traces.{TraceLaw};
+
+pub use awaits::Awaits;
 
 /// The halves of a turn are the whole turn.
 pub fn turns_have_halves()

@@ -4,3 +4,4 @@ mod BatchLemmas
 pub mod AsQueueBox
 mod MadeLemmas
 mod StepsLemmas
+mod ShortLemmas

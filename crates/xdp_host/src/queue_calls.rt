@@ -1,14 +1,15 @@
 //! A queue's calls, on what a handle holds.
-ghost use Rattle.std.specs.Prelude.{◌≡◌, ◌++◌, drop, length, take, IfErr, IfOk};
+ghost use Rattle.std.specs.Prelude.{◌≡◌, ◌≤◌, ◌++◌, drop, length, take, IfErr, IfOk};
 ghost use Rattle.xen_host.specs.Frames.{limits_of, owners_in};
 ghost use Rattle.xen_host.specs.Making.{IsFaultOf, IsMadeOf};
 ghost use Rattle.xdp_host.specs.Made.{given};
+ghost use Rattle.xdp_host.specs.Short.{IsShortly, IsTold};
 ghost use Rattle.xdp_host.specs.Stepped.{AreEnough, AreFew, HasStepped, IsNotStepped};
 ghost use Rattle.xdp_host.specs.Taken.{HasTaken};
 
 use crate::queue_abi::{XdpOp, XdpQueueDesc, taken_number};
 use std::alloc::Global;
-use xen_host::{FrameOwners, MakeFault, Program, Queue, QueueParts};
+use xen_host::{FrameOwners, MakeFault, Op, Program, Queue, QueueParts};
 
 /// How many words a host lends to a step: those of a page.
 const PAGE_WORDS: usize = 1024;
@@ -42,8 +43,9 @@ pub fn boxed(
     Ok(Box::new(alloc, queue)?)
 }
 
-/// Steps, as far as there is room for their ops, up to the first that has to be answered. How many.
-#[inline(always)]
+/// Steps, as far as there is room for their ops, up to the first that has to be answered. How many. It is out of line, so that a short
+/// way saves few registers.
+#[inline(never)]
 fn steps(queue: &mut Queue, words: &mut [u32], counters: &mut [u64], ops: &mut [XdpOp]) -> usize
     requires enough { AreEnough queue.old words.old counters.old (length ops.old) }
     ensures words { length words.new ≡ length words.old }
@@ -61,7 +63,47 @@ fn steps(queue: &mut Queue, words: &mut [u32], counters: &mut [u64], ops: &mut [
     ops.len()
 }
 
-/// The same, if there is enough for it.
+/// Tells C of a short step, if one was made. Whether it was.
+#[inline(always)]
+fn told(step: Option<Op>, ops: &mut [XdpOp]) -> bool
+    requires { 1 ≤ length ops.old }
+    ensures room { length ops.new ≡ length ops.old }
+    ensures told { IsTold step ops.old ops.new result }
+{
+    match step {
+        None => false,
+        Some(op) => {
+            ops[0] = XdpOp::of(op);
+            true
+        }
+    }
+}
+
+/// A step by any of the short ways, if one is open.
+#[inline(always)]
+fn step_shortly(queue: &mut Queue, words: &mut [u32], ops: &mut [XdpOp]) -> bool
+    requires page { 1024 ≤ length words.old }
+    requires some { 1 ≤ length ops.old }
+    ensures words { length words.new ≡ length words.old }
+    ensures room { length ops.new ≡ length ops.old }
+    ensures shortly { IsShortly queue.old queue.new words.old words.new ops.old ops.new result }
+{
+    if told(queue.step_announcing(words), ops) {
+        return true;
+    }
+    if told(queue.step_idle(words), ops) {
+        return true;
+    }
+    if told(queue.step_reading_slot(words), ops) {
+        return true;
+    }
+    if told(queue.step_reading_page(words), ops) {
+        return true;
+    }
+    told(queue.step_ending(words), ops)
+}
+
+/// The steps of a call, if there is enough for them: one by a short way, or else as many as there may be.
 #[inline(always)]
 pub fn stepped(
     queue: &mut Queue,
@@ -79,6 +121,9 @@ pub fn stepped(
 {
     if words.len() < PAGE_WORDS || counters.len() < queue.counters() || ops.is_empty() {
         return 0;
+    }
+    if step_shortly(queue, words, ops) {
+        return 1;
     }
     steps(queue, words, counters, ops)
 }

@@ -6,12 +6,14 @@ use Rattle.xen_steps.specs.Event.{Event}
 use Rattle.xen_back.specs.Queues.{state_of}
 use Rattle.xen_back.specs.declared.queue.Queue.{Queue}
 use Rattle.xen_back.specs.declared.wiring.Wiring.{Wiring}
-use Rattle.xdp_world.specs.Activities.{Given, Item, all_came}
-use Rattle.xdp_world.specs.Asked.{GoesBy, IsInside, Makes, busy, deliver, none, step}
-use Rattle.xdp_world.specs.Calls.{Call, Delivers, Stepped, items_of}
+use Rattle.xdp_world.specs.Activities.{Given, Item, SlotsAwaited, all_came}
+use Rattle.xdp_world.specs.Asked.{GoesBy, IsInside, Makes, await, await_busy, busy, deliver, none, step}
+use Rattle.xdp_world.specs.Calls.{Awaits, Call, Delivers, Stepped, items_of}
 use Rattle.xdp_world.specs.Doings.{IsAt, is_between}
 use Rattle.xdp_world.specs.Entries.{Entry}
-use Rattle.xdp_world.specs.Stands.{HasCome, IsDeliver, IsSame, IsStep, StandsFor}
+use Rattle.xdp_world.specs.Stands.{HasCome, IsAwait, IsDeliver, IsSame, IsStep, StandsFor}
+use Rattle.xdp_world.specs.declared.awaiting.WaitBegun.{WaitBegun}
+use Rattle.xdp_world.specs.declared.awaiting.WaitBegun.TheVariants as wait_begun
 use Rattle.xdp_world.specs.declared.delivering.Begun.{Begun}
 use Rattle.xdp_world.specs.declared.delivering.Begun.TheVariants as begun
 use Rattle.xdp_world.specs.declared.doing.Doing.{Doing}
@@ -20,6 +22,7 @@ use Rattle.xdp_world.specs.declared.happening.WorldEvent.{WorldEvent}
 use Rattle.xdp_world.specs.declared.happening.WorldEvent.TheVariants as event
 use Rattle.xdp_world.specs.declared.kept.Kept.{Kept}
 use Rattle.xdp_world.specs.declared.report.Delivered.{Delivered}
+use Rattle.xdp_world.specs.declared.report.Waited.{Waited}
 use Rattle.xdp_world.specs.declared.world.World.{World}
 use Rattle.xdp_world.proofs.Begins.{any_or, queue_at}
 use Rattle.xdp_world.proofs.Comes.{left_at}
@@ -35,6 +38,10 @@ makes_append wirings start _ _ b _ y (deliver before q p es cs m) h =
     deliver before q p (es ++ b) (cs ++ y) (makes_append wirings start (before ++ Delivers q p.items ∷ []) es b cs y m
     (subst (λ (l : List Call). Makes wirings start l b y) (sym (append_assoc before (Delivers q p.items ∷ []) cs)) h))
 makes_append wirings start _ _ b _ y (busy before q p es cs i m) h = busy before q p (es ++ b) (cs ++ y) i (makes_append wirings start before es b cs y m h)
+makes_append wirings start _ _ b _ y (await before q n es cs m) h =
+    await before q n (es ++ b) (cs ++ y) (makes_append wirings start (before ++ Awaits q n ∷ []) es b cs y m
+    (subst (λ (l : List Call). Makes wirings start l b y) (sym (append_assoc before (Awaits q n ∷ []) cs)) h))
+makes_append wirings start _ _ b _ y (await_busy before q n es cs i m) h = await_busy before q n (es ++ b) (cs ++ y) i (makes_append wirings start before es b cs y m h)
 
 pub by_none : (a : World) → GoesBy a a []
 by_none a wirings start cs h = ([], none cs, subst (λ (l : List Call). StandsFor a wirings start l) (sym (append-nil cs)) h)
@@ -57,13 +64,17 @@ cons_not (x ∷ f) n e = cc
 given_nil : (p : List ℕ) (l : List Item) → Given p ∷ l ≡ [] → ⊥
 given_nil p l e = cc
 
+slots_nil : (n : ℕ) (l : List Item) → SlotsAwaited n ∷ l ≡ [] → ⊥
+slots_nil n l e = cc
+
 front_not : (w : Wiring) (q : Queue) (at : Doing) (front : List Item) → is_between (Some at) ≡ false → IsAt w q at front → front ≡ [] → ⊥
 front_not w q doing.Between front n h e = absurd (cc)
 front_not w q doing.Turn front n h e = cons_not h.0 h.2 (sym h.1 ∙ e)
 front_not w q (doing.Delivery d) front n h e = given_nil h.0 (all_came h.1) (sym h.2 ∙ e)
+front_not w q (doing.Wait a) front n h e = slots_nil h.0 (all_came h.1) (sym h.2 ∙ e)
 
-inside : (w : Wiring) (start : ℕ) (items : List Item) (ks : List Kept) (dl : List Delivered) (q : Queue) (at : Doing) → is_between (Some at) ≡ false → HasCome w start items ks dl q at → IsInside w start items
-inside w start items ks dl q at n h = record {
+inside : (w : Wiring) (start : ℕ) (items : List Item) (ks : List Kept) (dl : List Delivered) (wl : List Waited) (q : Queue) (at : Doing) → is_between (Some at) ≡ false → HasCome w start items ks dl wl q at → IsInside w start items
+inside w start items ks dl wl q at n h = record {
   deeds = h.deeds;
   end = state_of q;
   front = h.front;
@@ -74,7 +85,7 @@ inside w start items ks dl q at n h = record {
 
 pub same_stands : (a b : World) (wirings : ℕ → Wiring) (start : ℕ) (cs : List Call) → IsSame a b → StandsFor a wirings start cs → StandsFor b wirings start cs
 same_stands a b wirings start cs s h = record {
-  each = λ i d e l. rw (s.queues, s.doing, s.turns i, s.deliveries i) (h.each i d e (omega (arith, l, ap (λ (x : List Queue). length x) s.queues)));
+  each = λ i d e l. rw (s.queues, s.doing, s.turns i, s.deliveries i, s.waits i) (h.each i d e (omega (arith, l, ap (λ (x : List Queue). length x) s.queues)));
   come = h.come;
   serve = h.serve;
   past = s.history ∙ h.past;
@@ -82,17 +93,26 @@ same_stands a b wirings start cs s h = record {
   leaves = rw s.counters h.leaves;
 }
 
-pub by_deliver : (a b : World) (q : ℕ) (p : Vec ℕ) (o : Begun) → q < length a.queues.items → IsDeliver a b q p.items o → GoesBy a b (event.Deliver q p ∷ [])
-by_deliver a b q p begun.Busy l s wirings start cs h =
+-- a queue that is not between turns is inside something
+busy_at : (a : World) (q : ℕ) (wirings : ℕ → Wiring) (start : ℕ) (cs : List Call) → q < length a.queues.items → is_between (slice_get a.doing.items q) ≡ false → StandsFor a wirings start cs →
+    IsInside (wirings q) start (items_of q cs)
+busy_at a q wirings start cs l between h =
     let la : q < length a.doing.items = omega (arith, l, a.queues.ok.0, a.doing.ok.0, a.all_doing) in
     let d = queue_at a.queues.items q l in
     let e = queue_at a.doing.items q la in
     let at = get_or a.doing.items q e in
     let is : slice_get a.doing.items q ≡ Some at = get_some a.doing.items q at la (λ x. any_or a.doing.items q x e la) in
-    let n : is_between (Some at) ≡ false = ap is_between (sym is) ∙ s.0 in (
-      [],
-      busy cs q p [] [] (inside (wirings q) start (items_of q cs) _ _ (get_or a.queues.items q d) at n (h.each q d e l)) (none cs),
-      subst (λ (x : List Call). StandsFor b wirings start x) (sym (append-nil cs)) (same_stands a b wirings start cs s.1 h),
-    )
+    let n : is_between (Some at) ≡ false = ap is_between (sym is) ∙ between in
+    inside (wirings q) start (items_of q cs) _ _ _ (get_or a.queues.items q d) at n (h.each q d e l)
+
+pub by_deliver : (a b : World) (q : ℕ) (p : Vec ℕ) (o : Begun) → q < length a.queues.items → IsDeliver a b q p.items o → GoesBy a b (event.Deliver q p ∷ [])
+by_deliver a b q p begun.Busy l s wirings start cs h =
+    ([], busy cs q p [] [] (busy_at a q wirings start cs l s.0 h) (none cs), subst (λ (x : List Call). StandsFor b wirings start x) (sym (append-nil cs)) (same_stands a b wirings start cs s.1 h))
 by_deliver a b q p begun.Underway l s wirings start cs h = (Delivers q p.items ∷ [], deliver cs q p [] [] (none (cs ++ Delivers q p.items ∷ [])), s.stands_for wirings start cs h)
 by_deliver a b q p (begun.Over what) l s wirings start cs h = (Delivers q p.items ∷ [], deliver cs q p [] [] (none (cs ++ Delivers q p.items ∷ [])), s.stands_for wirings start cs h)
+
+pub by_await : (a b : World) (q n : ℕ) (o : WaitBegun) → q < length a.queues.items → IsAwait a b q n o → GoesBy a b (event.Await q n ∷ [])
+by_await a b q n wait_begun.Busy l s wirings start cs h =
+    ([], await_busy cs q n [] [] (busy_at a q wirings start cs l s.0 h) (none cs), subst (λ (x : List Call). StandsFor b wirings start x) (sym (append-nil cs)) (same_stands a b wirings start cs s.1 h))
+by_await a b q n wait_begun.Underway l s wirings start cs h = (Awaits q n ∷ [], await cs q n [] [] (none (cs ++ Awaits q n ∷ [])), s.stands_for wirings start cs h)
+by_await a b q n (wait_begun.Over answer) l s wirings start cs h = (Awaits q n ∷ [], await cs q n [] [] (none (cs ++ Awaits q n ∷ [])), s.stands_for wirings start cs h)

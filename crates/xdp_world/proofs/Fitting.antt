@@ -12,9 +12,10 @@ use Rattle.xen_back.specs.Within.{IsWithin}
 use Rattle.xen_back.specs.declared.by_event.phase.Phase.TheVariants as phase
 use Rattle.xen_back.specs.declared.by_event.stage.Stage.{Stage}
 use Rattle.xen_back.specs.declared.by_event.stage.Stage.TheVariants as stage
+use Rattle.xen_back.specs.declared.delivery.looking.Awaiting.{Awaiting}
 use Rattle.xen_back.specs.declared.delivery.underway.Delivering.{Delivering}
 use Rattle.xen_back.specs.declared.queue.Queue.{Queue}
-use Rattle.xdp_world.specs.Doings.{AllFit, Fits, is_between, is_delivery, is_ready, want_at}
+use Rattle.xdp_world.specs.Doings.{AllFit, Fits, is_between, is_call, is_ready, want_at}
 use Rattle.xdp_world.specs.declared.doing.Doing.{Doing}
 use Rattle.xdp_world.specs.declared.doing.Doing.TheVariants as doing
 use Rattle.xdp_world.proofs.Worlds.{get_set, get_set_other}
@@ -47,22 +48,25 @@ fit_set ats qs i at q la l h f j d e m =
     (λ p. let n : j ≢ i = p.1 in let k : j < length qs = simp length-set at m in rw (get_or-set_other ats i j at d n, get_or-set_other qs i j q e n) (h j d e k))
     (eqb_tells j i)
 
--- a queue that has no delivery under way wants what its turn wants
-pub free_want : (q : Queue) (o : Option Doing) → is_delivery o ≡ false → want_at q o ≡ want_of (rest q)
+-- a queue that has no call of the host under way wants what its turn wants
+pub free_want : (q : Queue) (o : Option Doing) → is_call o ≡ false → want_at q o ≡ want_of (rest q)
 free_want q None h = refl
 free_want q (Some doing.Between) h = refl
 free_want q (Some doing.Turn) h = refl
 free_want q (Some (doing.Delivery d)) h = absurd (cc)
+free_want q (Some (doing.Wait a)) h = absurd (cc)
 
-pub not_delivery : (at : Doing) → ((x : Delivering) → at ≡ doing.Delivery x → ⊥) → is_delivery (Some at) ≡ false
-not_delivery doing.Between n = refl
-not_delivery doing.Turn n = refl
-not_delivery (doing.Delivery d) n = absurd (n d refl)
+pub not_call : (at : Doing) → ((x : Delivering) → at ≡ doing.Delivery x → ⊥) → ((x : Awaiting) → at ≡ doing.Wait x → ⊥) → is_call (Some at) ≡ false
+not_call doing.Between n m = refl
+not_call doing.Turn n m = refl
+not_call (doing.Delivery d) n m = absurd (n d refl)
+not_call (doing.Wait a) n m = absurd (m a refl)
 
 pub between_is : (at : Doing) → is_between (Some at) ≡ true → at ≡ doing.Between
 between_is doing.Between h = refl
 between_is doing.Turn h = absurd (cc)
 between_is (doing.Delivery d) h = absurd (cc)
+between_is (doing.Wait a) h = absurd (cc)
 
 -- one queue changes, and its program keeps the shapes of the counters
 pub shapes_set : (qs : List Queue) (i : ℕ) (q : Queue) (ss ss' : List Shape) → i < length qs → ((j : ℕ) (d : Queue) → j < length qs → (wiring_of (get_or qs j d)).program.now.shapes ≡ ss) →
@@ -74,11 +78,11 @@ shapes_set qs i q ss ss' l h s e j d m =
     (eqb_tells j i)
 
 -- what is free stays free
-pub free_set : (ats : List Doing) (i : ℕ) (at at' : Doing) → i < length ats → slice_get ats i ≡ Some at → (is_delivery (Some at) ≡ false → is_delivery (Some at') ≡ false) →
-    (j : ℕ) → is_delivery (slice_get ats j) ≡ false → is_delivery (slice_get (set ats i at') j) ≡ false
+pub free_set : (ats : List Doing) (i : ℕ) (at at' : Doing) → i < length ats → slice_get ats i ≡ Some at → (is_call (Some at) ≡ false → is_call (Some at') ≡ false) →
+    (j : ℕ) → is_call (slice_get ats j) ≡ false → is_call (slice_get (set ats i at') j) ≡ false
 free_set ats i at at' l is f j h =
-    ⊎_elim {C = is_delivery (slice_get (set ats i at') j) ≡ false}
-    (λ p. ap (λ (n : ℕ). is_delivery (slice_get (set ats i at') n)) p.1 ∙ ap is_delivery (get_set ats i at' l)
-    ∙ f (ap is_delivery (sym is) ∙ ap (λ (n : ℕ). is_delivery (slice_get ats n)) (sym p.1) ∙ h))
-    (λ p. ap is_delivery (get_set_other ats i j at' p.1) ∙ h)
+    ⊎_elim {C = is_call (slice_get (set ats i at') j) ≡ false}
+    (λ p. ap (λ (n : ℕ). is_call (slice_get (set ats i at') n)) p.1 ∙ ap is_call (get_set ats i at' l)
+    ∙ f (ap is_call (sym is) ∙ ap (λ (n : ℕ). is_call (slice_get ats n)) (sym p.1) ∙ h))
+    (λ p. ap is_call (get_set_other ats i j at' p.1) ∙ h)
     (eqb_tells j i)

@@ -1,21 +1,22 @@
--- A world on which no delivery was begun.
+-- A world on which no delivery and no wait was begun.
 use Rattle.std.proofs.Common.{◌≡◌, ℕ, zero, suc, ◌<◌, true, false, Bool, cond, eqb, List, [], ◌∷◌, ◌++◌, Some, length, take, get_or, slice_get, refl, sym, ◌∙◌, ap, subst}
 use Rattle.xen_steps.specs.Event.{Event}
 use Rattle.xen_back.specs.Queues.{state_of}
 use Rattle.xen_back.specs.declared.queue.Queue.{Queue}
 use Rattle.xen_back.specs.declared.wiring.Wiring.{Wiring}
-use Rattle.xdp_world.specs.Activities.{HasHalted, Item, all_came, deliveries_in, turns_in}
+use Rattle.xdp_world.specs.Activities.{HasHalted, Item, all_came, deliveries_in, turns_in, waits_in}
 use Rattle.xdp_world.specs.Calls.{Call, HaveCome, Stepped, all_stepped, entries_of, items_of}
 use Rattle.xdp_world.specs.Core.{HaveEvents, IsHalted, Turns, started_at}
-use Rattle.xdp_world.specs.Doings.{IsAt, is_delivery}
+use Rattle.xdp_world.specs.Doings.{IsAt, is_call}
 use Rattle.xdp_world.specs.Entries.{Entry, events_of, listed}
-use Rattle.xdp_world.specs.Stands.{HasCome, SoFar, Stands, delivered_in, kept_in}
+use Rattle.xdp_world.specs.Stands.{HasCome, SoFar, Stands, delivered_in, kept_in, waited_in}
 use Rattle.xdp_world.specs.declared.doing.Doing.{Doing}
 use Rattle.xdp_world.specs.declared.doing.Doing.TheVariants as doing
 use Rattle.xdp_world.specs.declared.kept.Kept.{Kept}
 use Rattle.xdp_world.specs.declared.report.Delivered.{Delivered}
+use Rattle.xdp_world.specs.declared.report.Waited.{Waited}
 use Rattle.xdp_world.specs.declared.world.World.{World}
-use Rattle.xdp_world.proofs.Acts.{came_append, came_none, came_same, deliveries_all, given_not, plain, turns_all}
+use Rattle.xdp_world.proofs.Acts.{came_append, came_none, came_same, deliveries_all, given_not, plain, slots_not, turns_all, waits_all}
 use Rattle.xdp_world.proofs.Comes.{in_turn}
 
 cond_came : (b : Bool) (l : List Event) → cond b (all_came l) [] ≡ all_came (cond b l [])
@@ -45,22 +46,24 @@ get_stepped [] i e h = absurd (cc)
 get_stepped (x ∷ es) zero e h = let s : x ≡ e = cc in ap (λ (y : Entry). Some (Stepped y)) s
 get_stepped (x ∷ es) (suc i) e h = get_stepped es i e h
 
--- no delivery is under way where no packet was given
-no_delivery : (w : Wiring) (q : Queue) (at : Doing) (front : List Item) (left : List Event) → front ≡ all_came left → IsAt w q at front → is_delivery (Some at) ≡ false
-no_delivery w q doing.Between front left e h = refl
-no_delivery w q doing.Turn front left e h = refl
-no_delivery w q (doing.Delivery d) front left e h = absurd (given_not h.0 h.1 left (sym h.2 ∙ e))
+-- no call of the host is under way where none was begun
+no_call : (w : Wiring) (q : Queue) (at : Doing) (front : List Item) (left : List Event) → front ≡ all_came left → IsAt w q at front → is_call (Some at) ≡ false
+no_call w q doing.Between front left e h = refl
+no_call w q doing.Turn front left e h = refl
+no_call w q (doing.Delivery d) front left e h = absurd (given_not h.0 h.1 left (sym h.2 ∙ e))
+no_call w q (doing.Wait a) front left e h = absurd (slots_not h.0 h.1 left (sym h.2 ∙ e))
 
-pub record Plainly (w : Wiring) (start : ℕ) (ev : List Event) (ks : List Kept) (dl : List Delivered) (q : Queue) (at : Doing) : Type 0 where
+pub record Plainly (w : Wiring) (start : ℕ) (ev : List Event) (ks : List Kept) (dl : List Delivered) (wl : List Waited) (q : Queue) (at : Doing) : Type 0 where
   pub sofar : SoFar w start ev ks q
   pub none : dl ≡ []
-  pub free : is_delivery (Some at) ≡ false
+  pub no_wait : wl ≡ []
+  pub free : is_call (Some at) ≡ false
 
-pub plainly : (w : Wiring) (start : ℕ) (items : List Item) (ev : List Event) (ks : List Kept) (dl : List Delivered) (q : Queue) (at : Doing) → items ≡ all_came ev →
-    HasCome w start items ks dl q at → Plainly w start ev ks dl q at
-plainly w start items ev ks dl q at e h =
+pub plainly : (w : Wiring) (start : ℕ) (items : List Item) (ev : List Event) (ks : List Kept) (dl : List Delivered) (wl : List Waited) (q : Queue) (at : Doing) → items ≡ all_came ev →
+    HasCome w start items ks dl wl q at → Plainly w start ev ks dl wl q at
+plainly w start items ev ks dl wl q at e h =
     let p = plain w (started_at start) items h.deeds (state_of q) h.front ev e h.joined in
-    let n = no_delivery w q at h.front p.left p.rest h.stands_at in
+    let n = no_call w q at h.front p.left p.rest h.stands_at in
     let x = in_turn w q at h.front n h.stands_at in
     let same : p.left ≡ x.events = came_same p.left x.events (sym p.rest ∙ x.are) in
     let kept : p.kept ≡ ks = sym (turns_all p.kept) ∙ ap turns_in (sym p.deeds) ∙ sym h.turns in
@@ -72,6 +75,7 @@ plainly w start items ev ks dl q at e h =
         unfinished = x.unfinished;
       };
       none = h.deliveries ∙ ap (deliveries_in 0) p.deeds ∙ deliveries_all 0 p.kept;
+      no_wait = h.waits ∙ ap (waits_in 0 0) p.deeds ∙ waits_all 0 0 p.kept;
       free = n;
     }
 
@@ -93,9 +97,9 @@ have_events wirings start es h i e at n =
 
 -- what a world stands for that was only stepped, of one queue
 pub plain_queue : (world : World) (wirings : ℕ → Wiring) (start : ℕ) (es : List Entry) → Stands world wirings start es → (i : ℕ) (d : Queue) (e : Doing) → i < length world.queues.items →
-    Plainly (wirings i) start (events_of i es) (kept_in world.turns.items i) (delivered_in world.deliveries.items i) (get_or world.queues.items i d) (get_or world.doing.items i e)
+    Plainly (wirings i) start (events_of i es) (kept_in world.turns.items i) (delivered_in world.deliveries.items i) (waited_in world.waits.items i) (get_or world.queues.items i d) (get_or world.doing.items i e)
 plain_queue world wirings start es h i d e l =
-    plainly (wirings i) start (items_of i (all_stepped es)) (events_of i es) (kept_in world.turns.items i) (delivered_in world.deliveries.items i) (get_or world.queues.items i d) (get_or world.doing.items i e)
+    plainly (wirings i) start (items_of i (all_stepped es)) (events_of i es) (kept_in world.turns.items i) (delivered_in world.deliveries.items i) (waited_in world.waits.items i) (get_or world.queues.items i d) (get_or world.doing.items i e)
     (items_stepped i es) (h.each i d e l)
 
 pub sofar_of : (world : World) (wirings : ℕ → Wiring) (start : ℕ) (es : List Entry) → Stands world wirings start es → (i : ℕ) (d : Queue) → i < length world.queues.items →

@@ -14,14 +14,17 @@ use Rattle.xen_steps.specs.Steps.{want_of}
 use Rattle.xen_steps.specs.declared.want.Want.TheVariants as want
 use Rattle.xen_back.specs.Deliveries.{whole_delivery}
 use Rattle.xen_back.specs.Queues.{rest, state_of, wiring_of}
+use Rattle.xen_back.specs.Waits.{whole_wait}
+use Rattle.xen_back.specs.declared.delivery.awaiting.Awaited.{Awaited}
 use Rattle.xen_back.specs.declared.delivery.delivering.Delivery.{Delivery}
+use Rattle.xen_back.specs.declared.delivery.looking.Awaiting.{Awaiting}
 use Rattle.xen_back.specs.declared.delivery.underway.Delivering.{Delivering}
 use Rattle.xen_back.specs.declared.queue.Queue.{Queue}
 use Rattle.xen_back.specs.declared.wiring.Wiring.{Wiring}
-use Rattle.xdp_world.specs.Activities.{Came, Given, HasHalted, Item, all_came}
-use Rattle.xdp_world.specs.Calls.{Call, Delivers, HaveCome, Stepped, entries_of, items_of}
-use Rattle.xdp_world.specs.Carries.{Carries, Lands, Moves, after_turn, carries, delivered_list, rests, turns}
-use Rattle.xdp_world.specs.Doings.{is_delivery}
+use Rattle.xdp_world.specs.Activities.{Came, Given, HasHalted, Item, SlotsAwaited, all_came}
+use Rattle.xdp_world.specs.Calls.{Awaits, Call, Delivers, HaveCome, Stepped, entries_of, items_of}
+use Rattle.xdp_world.specs.Carries.{Carries, Lands, Looks, Moves, Resumes, after_turn, carries, delivered_list, looks, rests, turns, waited_list}
+use Rattle.xdp_world.specs.Doings.{is_call}
 use Rattle.xdp_world.specs.Entries.{Entry, listed, tagged, ops_of, history, ServesEntry, AllServe, steps_of}
 use Rattle.xdp_world.specs.Happens.{Comes, Counts, Happens, Rests, Settles, kept_list, op_list}
 use Rattle.xdp_world.specs.Stands.{HasCome}
@@ -29,7 +32,8 @@ use Rattle.xdp_world.specs.declared.doing.Doing.{Doing}
 use Rattle.xdp_world.specs.declared.doing.Doing.TheVariants as doing
 use Rattle.xdp_world.specs.declared.kept.Kept.{Kept}
 use Rattle.xdp_world.specs.declared.report.Delivered.{Delivered}
-use Rattle.xdp_world.proofs.Comes.{come_carried, come_comes, come_given, come_rest, halted, none_some}
+use Rattle.xdp_world.specs.declared.report.Waited.{Waited}
+use Rattle.xdp_world.proofs.Comes.{come_awaits, come_carried, come_comes, come_given, come_looked, come_rest, halted, none_some}
 
 pub comes_of : (a b c : Queue) (k : Option Kept) → Settles b c k → state_of b ≡ state_of a → Comes a (rest b) c k
 comes_of a b c None s e = (s.0, s.1, s.2 ∙ e)
@@ -43,11 +47,15 @@ items_append q (Stepped e ∷ a) b =
 items_append q (Delivers i p ∷ a) b =
     ap (λ (l : List Item). cond (eqb i q) (Given p ∷ []) [] ++ l) (items_append q a b)
     ∙ sym (append_assoc (cond (eqb i q) (Given p ∷ []) []) (items_of q a) (items_of q b))
+items_append q (Awaits i n ∷ a) b =
+    ap (λ (l : List Item). cond (eqb i q) (SlotsAwaited n ∷ []) [] ++ l) (items_append q a b)
+    ∙ sym (append_assoc (cond (eqb i q) (SlotsAwaited n ∷ []) []) (items_of q a) (items_of q b))
 
 pub entries_append : (a b : List Call) → entries_of (a ++ b) ≡ entries_of a ++ entries_of b
 entries_append [] b = refl
 entries_append (Stepped e ∷ a) b = ap (λ (l : List Entry). e ∷ l) (entries_append a b)
 entries_append (Delivers i p ∷ a) b = entries_append a b
+entries_append (Awaits i n ∷ a) b = entries_append a b
 
 pub history_more : (es : List Entry) (e : Entry) → history (es ++ e ∷ []) ≡ history es ++ tagged e.queue (ops_of e.event)
 history_more [] e = append-nil _
@@ -83,23 +91,33 @@ item_given i q p = append-nil (cond (eqb i q) (Given p ∷ []) [])
 given_own : (i : ℕ) (p : List ℕ) (cs : List Call) → items_of i (cs ++ Delivers i p ∷ []) ≡ items_of i cs ++ Given p ∷ []
 given_own i p cs = items_append i cs (Delivers i p ∷ []) ∙ ap (λ (l : List Item). items_of i cs ++ l) (item_given i i p ∙ ap (λ b. cond b (Given p ∷ []) []) (eqb_same i))
 
+item_awaits : (i q n : ℕ) → items_of q (Awaits i n ∷ []) ≡ cond (eqb i q) (SlotsAwaited n ∷ []) []
+item_awaits i q n = append-nil (cond (eqb i q) (SlotsAwaited n ∷ []) [])
+
+awaits_own : (i n : ℕ) (cs : List Call) → items_of i (cs ++ Awaits i n ∷ []) ≡ items_of i cs ++ SlotsAwaited n ∷ []
+awaits_own i n cs = items_append i cs (Awaits i n ∷ []) ∙ ap (λ (l : List Item). items_of i cs ++ l) (item_awaits i i n ∙ ap (λ b. cond b (SlotsAwaited n ∷ []) []) (eqb_same i))
+
+awaits_other : (i j n : ℕ) (cs : List Call) → (j ≡ i → ⊥) → items_of j (cs ++ Awaits i n ∷ []) ≡ items_of j cs
+awaits_other i j n cs apart =
+    items_append j cs (Awaits i n ∷ []) ∙ ap (λ (l : List Item). items_of j cs ++ l) (item_awaits i j n ∙ ap (λ b. cond b (SlotsAwaited n ∷ []) []) (eqb_other i j apart)) ∙ append-nil (items_of j cs)
+
 given_other : (i j : ℕ) (p : List ℕ) (cs : List Call) → (j ≡ i → ⊥) → items_of j (cs ++ Delivers i p ∷ []) ≡ items_of j cs
 given_other i j p cs n =
     items_append j cs (Delivers i p ∷ []) ∙ ap (λ (l : List Item). items_of j cs ++ l) (item_given i j p ∙ ap (λ b. cond b (Given p ∷ []) []) (eqb_other i j n)) ∙ append-nil (items_of j cs)
 
-abbrev pub Each : (ℕ → Wiring) → ℕ → List Queue → List Doing → (ℕ → List Kept) → (ℕ → List Delivered) → List Call → Type 0
-Each wirings start qs ats kept dels cs = (i : ℕ) (d : Queue) (e : Doing) → i < length qs → HasCome (wirings i) start (items_of i cs) (kept i) (dels i) (get_or qs i d) (get_or ats i e)
+abbrev pub Each : (ℕ → Wiring) → ℕ → List Queue → List Doing → (ℕ → List Kept) → (ℕ → List Delivered) → (ℕ → List Waited) → List Call → Type 0
+Each wirings start qs ats kept dels waits cs = (i : ℕ) (d : Queue) (e : Doing) → i < length qs → HasCome (wirings i) start (items_of i cs) (kept i) (dels i) (waits i) (get_or qs i d) (get_or ats i e)
 
 -- one queue goes on, and the others stay
-each_more : (wirings : ℕ → Wiring) (start : ℕ) (qs : List Queue) (ats : List Doing) (kept kept' : ℕ → List Kept) (dels dels' : ℕ → List Delivered) (cs : List Call) (i : ℕ) (c : Call) (q' : Queue) (at' : Doing) →
-    i < length qs → i < length ats → Each wirings start qs ats kept dels cs → ((j : ℕ) → (j ≡ i → ⊥) → kept' j ≡ kept j) → ((j : ℕ) → (j ≡ i → ⊥) → dels' j ≡ dels j) →
-    ((j : ℕ) → (j ≡ i → ⊥) → items_of j (cs ++ c ∷ []) ≡ items_of j cs) → HasCome (wirings i) start (items_of i (cs ++ c ∷ [])) (kept' i) (dels' i) q' at' →
-    Each wirings start (set qs i q') (set ats i at') kept' dels' (cs ++ c ∷ [])
-each_more wirings start qs ats kept kept' dels dels' cs i c q' at' l la h others others' items g j d e m =
-    ⊎_elim {C = HasCome (wirings j) start (items_of j (cs ++ c ∷ [])) (kept' j) (dels' j) (get_or (set qs i q') j d) (get_or (set ats i at') j e)}
+each_more : (wirings : ℕ → Wiring) (start : ℕ) (qs : List Queue) (ats : List Doing) (kept kept' : ℕ → List Kept) (dels dels' : ℕ → List Delivered) (waits waits' : ℕ → List Waited) (cs : List Call) (i : ℕ) (c : Call) (q' : Queue) (at' : Doing) →
+    i < length qs → i < length ats → Each wirings start qs ats kept dels waits cs → ((j : ℕ) → (j ≡ i → ⊥) → kept' j ≡ kept j) → ((j : ℕ) → (j ≡ i → ⊥) → dels' j ≡ dels j) → ((j : ℕ) → (j ≡ i → ⊥) → waits' j ≡ waits j) →
+    ((j : ℕ) → (j ≡ i → ⊥) → items_of j (cs ++ c ∷ []) ≡ items_of j cs) → HasCome (wirings i) start (items_of i (cs ++ c ∷ [])) (kept' i) (dels' i) (waits' i) q' at' →
+    Each wirings start (set qs i q') (set ats i at') kept' dels' waits' (cs ++ c ∷ [])
+each_more wirings start qs ats kept kept' dels dels' waits waits' cs i c q' at' l la h others others' others'' items g j d e m =
+    ⊎_elim {C = HasCome (wirings j) start (items_of j (cs ++ c ∷ [])) (kept' j) (dels' j) (waits' j) (get_or (set qs i q') j d) (get_or (set ats i at') j e)}
     (λ p. rw (p.1, get_or-set_same qs i q' d l, get_or-set_same ats i at' e la) g)
     (λ p. let n : j ≢ i = p.1 in let k : j < length qs = simp length-set at m in
-    rw (items j p.1, others j p.1, others' j p.1, get_or-set_other qs i j q' d n, get_or-set_other ats i j at' e n) (h j d e k))
+    rw (items j p.1, others j p.1, others' j p.1, others'' j p.1, get_or-set_other qs i j q' d n, get_or-set_other ats i j at' e n) (h j d e k))
     (eqb_tells j i)
 
 at_more : {A : Type 0} (h : List A) (e : A) (i : ℕ) (x : A) → slice_get (h ++ e ∷ []) i ≡ Some x → (slice_get h i ≡ Some x) ⊎ ((i ≡ length h) × (e ≡ x))
@@ -143,8 +161,8 @@ leaves_op i c d h (Some (op.Add a b e delta old)) shapes leaves counts m k j is 
     ]
 
 -- what is known of a world after one more call
-pub record After (wirings : ℕ → Wiring) (start : ℕ) (qs : List Queue) (ats : List Doing) (kept : ℕ → List Kept) (dels : ℕ → List Delivered) (past : List (ℕ × Op)) (d : TotalsView) (cs : List Call) : Type 0 where
-  pub each : Each wirings start qs ats kept dels cs
+pub record After (wirings : ℕ → Wiring) (start : ℕ) (qs : List Queue) (ats : List Doing) (kept : ℕ → List Kept) (dels : ℕ → List Delivered) (waits : ℕ → List Waited) (past : List (ℕ × Op)) (d : TotalsView) (cs : List Call) : Type 0 where
+  pub each : Each wirings start qs ats kept dels waits cs
   pub come : HaveCome wirings start cs
   pub serve : AllServe (entries_of cs)
   pub joined : past ≡ history (entries_of cs)
@@ -157,25 +175,28 @@ step_event x y e = cc
 not_step : (i : ℕ) (p : List ℕ) (e : Entry) → Delivers i p ≡ Stepped e → ⊥
 not_step i p e h = cc
 
-module _ (wirings : ℕ → Wiring) (start i a : ℕ) (qs : List Queue) (ats : List Doing) (kept kept' : ℕ → List Kept) (dels dels' : ℕ → List Delivered) (past : List (ℕ × Op)) (c : TotalsView) (cs : List Call)
+not_awaits : (i n : ℕ) (e : Entry) → Awaits i n ≡ Stepped e → ⊥
+not_awaits i n e h = cc
+
+module _ (wirings : ℕ → Wiring) (start i a : ℕ) (qs : List Queue) (ats : List Doing) (kept kept' : ℕ → List Kept) (dels dels' : ℕ → List Delivered) (waits waits' : ℕ → List Waited) (past : List (ℕ × Op)) (c : TotalsView) (cs : List Call)
     (q q' : Queue) (at at' : Doing) (l : i < length qs) (la : i < length ats) (is : (x : Queue) → get_or qs i x ≡ q) (does : (x : Doing) → get_or ats i x ≡ at)
-    (h : After wirings start qs ats kept dels past c cs)
-    (others : (j : ℕ) → (j ≡ i → ⊥) → kept' j ≡ kept j) (others' : (j : ℕ) → (j ≡ i → ⊥) → dels' j ≡ dels j) (wi : wiring_of q' ≡ wiring_of q) where
+    (h : After wirings start qs ats kept dels waits past c cs)
+    (others : (j : ℕ) → (j ≡ i → ⊥) → kept' j ≡ kept j) (others' : (j : ℕ) → (j ≡ i → ⊥) → dels' j ≡ dels j) (others'' : (j : ℕ) → (j ≡ i → ⊥) → waits' j ≡ waits j) (wi : wiring_of q' ≡ wiring_of q) where
   abbrev pub entry : Option Event → Entry
   entry e = record { queue = i; answer = a; event = e }
 
   abbrev pub grown : Call → List Call
   grown x = cs ++ x ∷ []
 
-  own : HasCome (wirings i) start (items_of i cs) (kept i) (dels i) q at
-  own = subst (λ (x : Queue). HasCome (wirings i) start (items_of i cs) (kept i) (dels i) x at) (is q)
-      (subst (λ (y : Doing). HasCome (wirings i) start (items_of i cs) (kept i) (dels i) (get_or qs i q) y) (does at) (h.each i q at l))
+  own : HasCome (wirings i) start (items_of i cs) (kept i) (dels i) (waits i) q at
+  own = subst (λ (x : Queue). HasCome (wirings i) start (items_of i cs) (kept i) (dels i) (waits i) x at) (is q)
+      (subst (λ (y : Doing). HasCome (wirings i) start (items_of i cs) (kept i) (dels i) (waits i) (get_or qs i q) y) (does at) (h.each i q at l))
 
   -- the queue's share, where a step has this event
-  step_each : (o : Option Event) → HasCome (wirings i) start (items_of i cs ++ all_came (listed o)) (kept' i) (dels' i) q' at' → Each wirings start (set qs i q') (set ats i at') kept' dels' (grown (Stepped (entry o)))
+  step_each : (o : Option Event) → HasCome (wirings i) start (items_of i cs ++ all_came (listed o)) (kept' i) (dels' i) (waits' i) q' at' → Each wirings start (set qs i q') (set ats i at') kept' dels' waits' (grown (Stepped (entry o)))
   step_each o g =
-      each_more wirings start qs ats kept kept' dels dels' cs i (Stepped (entry o)) q' at' l la h.each others others' (λ j n. step_other i j a o cs n)
-      (subst (λ (x : List Item). HasCome (wirings i) start x (kept' i) (dels' i) q' at') (sym (step_own i a o cs)) g)
+      each_more wirings start qs ats kept kept' dels dels' waits waits' cs i (Stepped (entry o)) q' at' l la h.each others others' others'' (λ j n. step_other i j a o cs n)
+      (subst (λ (x : List Item). HasCome (wirings i) start x (kept' i) (dels' i) (waits' i) q' at') (sym (step_own i a o cs)) g)
 
   step_come : (o : Option Event) → (o ≡ None → HasHalted (wirings i) start (items_of i cs)) → HaveCome wirings start (grown (Stepped (entry o)))
   step_come o g = have_more wirings start cs (Stepped (entry o)) h.come
@@ -187,31 +208,31 @@ module _ (wirings : ℕ → Wiring) (start i a : ℕ) (qs : List Queue) (ats : L
   step_serve : (o : Option Event) → ServesEntry o a → AllServe (entries_of (grown (Stepped (entry o))))
   step_serve o s = subst AllServe (sym (entries_append cs (Stepped (entry o) ∷ []))) (serve_more (entries_of cs) (entry o) h.serve s)
 
-  stands_rest : (d : TotalsView) → is_delivery (Some at) ≡ false → want_of (rest q) ≡ want.Done → at' ≡ at → Rests q q' c d → d.shapes ≡ c.shapes → kept' i ≡ kept i → dels' i ≡ dels i →
-      After wirings start (set qs i q') (set ats i at') kept' dels' past d (grown (Stepped (entry None)))
-  stands_rest d n w e r shapes ke de =
+  stands_rest : (d : TotalsView) → is_call (Some at) ≡ false → want_of (rest q) ≡ want.Done → at' ≡ at → Rests q q' c d → d.shapes ≡ c.shapes → kept' i ≡ kept i → dels' i ≡ dels i → waits' i ≡ waits i →
+      After wirings start (set qs i q') (set ats i at') kept' dels' waits' past d (grown (Stepped (entry None)))
+  stands_rest d n w e r shapes ke de we =
       let same : history (entries_of (grown (Stepped (entry None)))) ≡ history (entries_of cs) = step_past None ∙ append-nil (history (entries_of cs)) in
-      let come : HasCome (wirings i) start (items_of i cs) (kept i) (dels i) q' at' =
-      subst (λ (y : Doing). HasCome (wirings i) start (items_of i cs) (kept i) (dels i) q' y) (sym e) (come_rest (wirings i) start (items_of i cs) (kept i) (dels i) q at q' n own r.rest r.state wi) in
+      let come : HasCome (wirings i) start (items_of i cs) (kept i) (dels i) (waits i) q' at' =
+      subst (λ (y : Doing). HasCome (wirings i) start (items_of i cs) (kept i) (dels i) (waits i) q' y) (sym e) (come_rest (wirings i) start (items_of i cs) (kept i) (dels i) (waits i) q at q' n own r.rest r.state wi) in
       record {
-        each = step_each None (rw (append-nil, ke, de) come);
-        come = step_come None (λ x. halted (wirings i) start (items_of i cs) (kept i) (dels i) q at n own w);
+        each = step_each None (rw (append-nil, ke, de, we) come);
+        come = step_come None (λ x. halted (wirings i) start (items_of i cs) (kept i) (dels i) (waits i) q at n own w);
         serve = step_serve None tt;
         joined = h.joined ∙ sym same;
         legal = subst IsLegal (sym same) h.legal;
         leaves = λ m x j s. ap (λ (t : TotalsView). total_at t m x j) r.counters ∙ h.leaves m x j (subst (λ ss. IsCounter ss m x j) shapes s) ∙ ap (left_in m x j) (sym same);
       }
 
-  stands_turn : (d : TotalsView) (o : Option Op) (k : Option Kept) → is_delivery (Some at) ≡ false → at' ≡ after_turn k → (v : Happens q q' c d a o k) → d.shapes ≡ c.shapes → kept' i ≡ kept i ++ kept_list k → dels' i ≡ dels i →
-      After wirings start (set qs i q') (set ats i at') kept' dels' (past ++ tagged i (op_list o)) d (grown (Stepped (entry (Some v.event))))
-  stands_turn d o k n e v shapes ke de =
+  stands_turn : (d : TotalsView) (o : Option Op) (k : Option Kept) → is_call (Some at) ≡ false → at' ≡ after_turn k → (v : Happens q q' c d a o k) → d.shapes ≡ c.shapes → kept' i ≡ kept i ++ kept_list k → dels' i ≡ dels i → waits' i ≡ waits i →
+      After wirings start (set qs i q') (set ats i at') kept' dels' waits' (past ++ tagged i (op_list o)) d (grown (Stepped (entry (Some v.event))))
+  stands_turn d o k n e v shapes ke de we =
       let more : history (entries_of (grown (Stepped (entry (Some v.event))))) ≡ history (entries_of cs) ++ tagged i (op_list o) =
       step_past (Some v.event) ∙ ap (λ (x : List Op). history (entries_of cs) ++ tagged i x) v.label in
-      let come : HasCome (wirings i) start (items_of i cs ++ Came v.event ∷ []) (kept i ++ kept_list k) (dels i) q' at' =
-      subst (λ (y : Doing). HasCome (wirings i) start (items_of i cs ++ Came v.event ∷ []) (kept i ++ kept_list k) (dels i) q' y) (sym e)
-      (come_comes (wirings i) start (items_of i cs) (kept i) (dels i) q at q' v.event v.mid k n own v.goes v.comes wi) in
+      let come : HasCome (wirings i) start (items_of i cs ++ Came v.event ∷ []) (kept i ++ kept_list k) (dels i) (waits i) q' at' =
+      subst (λ (y : Doing). HasCome (wirings i) start (items_of i cs ++ Came v.event ∷ []) (kept i ++ kept_list k) (dels i) (waits i) q' y) (sym e)
+      (come_comes (wirings i) start (items_of i cs) (kept i) (dels i) (waits i) q at q' v.event v.mid k n own v.goes v.comes wi) in
       record {
-        each = step_each (Some v.event) (rw (ke, de) come);
+        each = step_each (Some v.event) (rw (ke, de, we) come);
         come = step_come (Some v.event) (λ x. absurd (none_some (Some v.event) v.event x refl));
         serve = step_serve (Some v.event) v.serves;
         joined = ap (λ (x : List (ℕ × Op)). x ++ tagged i (op_list o)) h.joined ∙ sym more;
@@ -219,14 +240,14 @@ module _ (wirings : ℕ → Wiring) (start i a : ℕ) (qs : List Queue) (ats : L
         leaves = λ m x j s. leaves_op i c d (history (entries_of cs)) o shapes h.leaves v.counts m x j s ∙ ap (left_in m x j) (sym more);
       }
 
-  stands_carry : (d : TotalsView) (x : Delivering) (o : Option Delivery) → at ≡ doing.Delivery x → d ≡ c → (v : Carries q x q' at' a o) → kept' i ≡ kept i → dels' i ≡ dels i ++ delivered_list (length (kept i)) o →
-      After wirings start (set qs i q') (set ats i at') kept' dels' past d (grown (Stepped (entry (Some v.event))))
-  stands_carry d x o e dc v ke de =
+  stands_carry : (d : TotalsView) (x : Delivering) (o : Option Delivery) → at ≡ doing.Delivery x → d ≡ c → (v : Carries q x q' at' a o) → kept' i ≡ kept i → dels' i ≡ dels i ++ delivered_list (length (kept i)) o → waits' i ≡ waits i →
+      After wirings start (set qs i q') (set ats i at') kept' dels' waits' past d (grown (Stepped (entry (Some v.event))))
+  stands_carry d x o e dc v ke de we =
       let same : history (entries_of (grown (Stepped (entry (Some v.event))))) ≡ history (entries_of cs) =
       step_past (Some v.event) ∙ ap (λ (y : List Op). history (entries_of cs) ++ tagged i y) v.quiet ∙ append-nil (history (entries_of cs)) in
-      let mine : HasCome (wirings i) start (items_of i cs) (kept i) (dels i) q (doing.Delivery x) = subst (λ (y : Doing). HasCome (wirings i) start (items_of i cs) (kept i) (dels i) q y) e own in
+      let mine : HasCome (wirings i) start (items_of i cs) (kept i) (dels i) (waits i) q (doing.Delivery x) = subst (λ (y : Doing). HasCome (wirings i) start (items_of i cs) (kept i) (dels i) (waits i) q y) e own in
       record {
-        each = step_each (Some v.event) (rw (ke, de) (come_carried (wirings i) start (items_of i cs) (kept i) (dels i) q x q' at' a o mine wi v));
+        each = step_each (Some v.event) (rw (ke, de, we) (come_carried (wirings i) start (items_of i cs) (kept i) (dels i) (waits i) q x q' at' a o mine wi v));
         come = step_come (Some v.event) (λ y. absurd (none_some (Some v.event) v.event y refl));
         serve = step_serve (Some v.event) v.serves;
         joined = h.joined ∙ sym same;
@@ -234,22 +255,55 @@ module _ (wirings : ℕ → Wiring) (start i a : ℕ) (qs : List Queue) (ats : L
         leaves = λ m y j s. ap (λ (t : TotalsView). total_at t m y j) dc ∙ h.leaves m y j (subst (λ (t : TotalsView). IsCounter t.shapes m y j) dc s) ∙ ap (left_in m y j) (sym same);
       }
 
-  pub stands_step : (d : TotalsView) (e : Option Event) (o : Option Op) (k : Option Kept) (what : Option Delivery) → Moves q q' at at' c d a e o k what → d.shapes ≡ c.shapes →
-      kept' i ≡ kept i ++ kept_list k → dels' i ≡ dels i ++ delivered_list (length (kept i)) what →
-      After wirings start (set qs i q') (set ats i at') kept' dels' (past ++ tagged i (op_list o)) d (grown (Stepped (entry e)))
-  stands_step d _ _ _ _ (rests n w e r) shapes ke de = rw append-nil (stands_rest d n w e r shapes (ke ∙ append-nil (kept i)) (de ∙ append-nil (dels i)))
-  stands_step d _ _ _ _ (turns o k n e v) shapes ke de = stands_turn d o k n e v shapes ke (de ∙ append-nil (dels i))
-  stands_step d _ _ _ _ (carries x what e dc v) shapes ke de = rw append-nil (stands_carry d x what e dc v (ke ∙ append-nil (kept i)) de)
+  stands_look : (d : TotalsView) (x : Awaiting) (o : Option Awaited) → at ≡ doing.Wait x → d ≡ c → (v : Looks q x q' at' a o) → kept' i ≡ kept i → dels' i ≡ dels i →
+      waits' i ≡ waits i ++ waited_list (length (kept i)) (length (dels i)) o →
+      After wirings start (set qs i q') (set ats i at') kept' dels' waits' past d (grown (Stepped (entry (Some v.event))))
+  stands_look d x o e dc v ke de we =
+      let same : history (entries_of (grown (Stepped (entry (Some v.event))))) ≡ history (entries_of cs) =
+      step_past (Some v.event) ∙ ap (λ (y : List Op). history (entries_of cs) ++ tagged i y) v.quiet ∙ append-nil (history (entries_of cs)) in
+      let mine : HasCome (wirings i) start (items_of i cs) (kept i) (dels i) (waits i) q (doing.Wait x) = subst (λ (y : Doing). HasCome (wirings i) start (items_of i cs) (kept i) (dels i) (waits i) q y) e own in
+      record {
+        each = step_each (Some v.event) (rw (ke, de, we) (come_looked (wirings i) start (items_of i cs) (kept i) (dels i) (waits i) q x q' at' a o mine wi v));
+        come = step_come (Some v.event) (λ y. absurd (none_some (Some v.event) v.event y refl));
+        serve = step_serve (Some v.event) v.serves;
+        joined = h.joined ∙ sym same;
+        legal = subst IsLegal (sym same) h.legal;
+        leaves = λ m y j s. ap (λ (t : TotalsView). total_at t m y j) dc ∙ h.leaves m y j (subst (λ (t : TotalsView). IsCounter t.shapes m y j) dc s) ∙ ap (left_in m y j) (sym same);
+      }
+
+  pub stands_step : (d : TotalsView) (e : Option Event) (o : Option Op) (k : Option Kept) (what : Option Delivery) (r : Option Awaited) → Moves q q' at at' c d a e o k what r → d.shapes ≡ c.shapes →
+      kept' i ≡ kept i ++ kept_list k → dels' i ≡ dels i ++ delivered_list (length (kept i)) what → waits' i ≡ waits i ++ waited_list (length (kept i)) (length (dels i)) r →
+      After wirings start (set qs i q') (set ats i at') kept' dels' waits' (past ++ tagged i (op_list o)) d (grown (Stepped (entry e)))
+  stands_step d _ _ _ _ _ (rests n w e r) shapes ke de we =
+      rw append-nil (stands_rest d n w e r shapes (ke ∙ append-nil (kept i)) (de ∙ append-nil (dels i)) (we ∙ append-nil (waits i)))
+  stands_step d _ _ _ _ _ (turns o k n e v) shapes ke de we = stands_turn d o k n e v shapes ke (de ∙ append-nil (dels i)) (we ∙ append-nil (waits i))
+  stands_step d _ _ _ _ _ (carries x what e dc v) shapes ke de we = rw append-nil (stands_carry d x what e dc v (ke ∙ append-nil (kept i)) de (we ∙ append-nil (waits i)))
+  stands_step d _ _ _ _ _ (looks x r e dc v) shapes ke de we = rw append-nil (stands_look d x r e dc v (ke ∙ append-nil (kept i)) (de ∙ append-nil (dels i)) we)
 
   pub stands_given : (p : List ℕ) (o : Option Delivery) → at ≡ doing.Between → Lands q (whole_delivery (wiring_of q).vif (state_of q) p) q' at' o → kept' i ≡ kept i → dels' i ≡ dels i ++ delivered_list (length (kept i)) o →
-      After wirings start (set qs i q') (set ats i at') kept' dels' past c (grown (Delivers i p))
-  stands_given p o e v ke de =
+      waits' i ≡ waits i → After wirings start (set qs i q') (set ats i at') kept' dels' waits' past c (grown (Delivers i p))
+  stands_given p o e v ke de we =
       let same : entries_of (grown (Delivers i p)) ≡ entries_of cs = entries_append cs (Delivers i p ∷ []) ∙ append-nil (entries_of cs) in
-      let mine : HasCome (wirings i) start (items_of i cs) (kept i) (dels i) q doing.Between = subst (λ (y : Doing). HasCome (wirings i) start (items_of i cs) (kept i) (dels i) q y) e own in
-      let come = come_given (wirings i) start (items_of i cs) (kept i) (dels i) q q' at' p o mine wi v in
+      let mine : HasCome (wirings i) start (items_of i cs) (kept i) (dels i) (waits i) q doing.Between = subst (λ (y : Doing). HasCome (wirings i) start (items_of i cs) (kept i) (dels i) (waits i) q y) e own in
+      let come = come_given (wirings i) start (items_of i cs) (kept i) (dels i) (waits i) q q' at' p o mine wi v in
       record {
-        each = each_more wirings start qs ats kept kept' dels dels' cs i (Delivers i p) q' at' l la h.each others others' (λ j n. given_other i j p cs n) (rw (given_own i p cs, ke, de) come);
+        each = each_more wirings start qs ats kept kept' dels dels' waits waits' cs i (Delivers i p) q' at' l la h.each others others' others'' (λ j n. given_other i j p cs n) (rw (given_own i p cs, ke, de, we) come);
         come = have_more wirings start cs (Delivers i p) h.come (λ x s n. absurd (not_step i p x s));
+        serve = subst AllServe (sym same) h.serve;
+        joined = h.joined ∙ ap history (sym same);
+        legal = subst (λ (x : List Entry). IsLegal (history x)) (sym same) h.legal;
+        leaves = λ m x j s. h.leaves m x j s ∙ ap (λ (y : List Entry). left_in m x j (history y)) (sym same);
+      }
+
+  pub stands_awaits : (p : ℕ) (o : Option Awaited) → at ≡ doing.Between → Resumes q (whole_wait (wiring_of q).vif.rx (state_of q) p) q' at' o → kept' i ≡ kept i → dels' i ≡ dels i →
+      waits' i ≡ waits i ++ waited_list (length (kept i)) (length (dels i)) o → After wirings start (set qs i q') (set ats i at') kept' dels' waits' past c (grown (Awaits i p))
+  stands_awaits p o e v ke de we =
+      let same : entries_of (grown (Awaits i p)) ≡ entries_of cs = entries_append cs (Awaits i p ∷ []) ∙ append-nil (entries_of cs) in
+      let mine : HasCome (wirings i) start (items_of i cs) (kept i) (dels i) (waits i) q doing.Between = subst (λ (y : Doing). HasCome (wirings i) start (items_of i cs) (kept i) (dels i) (waits i) q y) e own in
+      let come = come_awaits (wirings i) start (items_of i cs) (kept i) (dels i) (waits i) q q' at' p o mine wi v in
+      record {
+        each = each_more wirings start qs ats kept kept' dels dels' waits waits' cs i (Awaits i p) q' at' l la h.each others others' others'' (λ j n. awaits_other i j p cs n) (rw (awaits_own i p cs, ke, de, we) come);
+        come = have_more wirings start cs (Awaits i p) h.come (λ x s n. absurd (not_awaits i p x s));
         serve = subst AllServe (sym same) h.serve;
         joined = h.joined ∙ ap history (sym same);
         legal = subst (λ (x : List Entry). IsLegal (history x)) (sym same) h.legal;

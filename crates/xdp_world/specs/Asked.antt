@@ -1,4 +1,4 @@
--- A run of a world's events, deliveries among them.
+-- A run of a world's events, deliveries and waits among them.
 use Rattle.std.specs.Prelude.{ℕ, ◌≡◌, ◌≢◌, ◌<◌, List, [], ◌∷◌, ◌++◌, Option, length}
 use Rattle.std.specs.Global.{Vec}
 use Rattle.bpf_verify.specs.Consistent.{Accepted}
@@ -7,7 +7,7 @@ use Rattle.xen_back.specs.declared.state.State.{State}
 use Rattle.xen_back.specs.declared.wiring.Wiring.{Wiring}
 use Rattle.xdp_world.specs.Activities.{Activities, Deed, IsLeft, Item}
 use Rattle.xdp_world.specs.Begin.{IsFor}
-use Rattle.xdp_world.specs.Calls.{Call, Delivers, Stepped, items_of}
+use Rattle.xdp_world.specs.Calls.{Awaits, Call, Delivers, Stepped, items_of}
 use Rattle.xdp_world.specs.Core.{started_at}
 use Rattle.xdp_world.specs.Report.{Tells}
 use Rattle.xdp_world.specs.Stands.{StandsFor}
@@ -19,8 +19,9 @@ use Rattle.xdp_world.specs.declared.world.World.{World}
 abbrev pub queue_of : WorldEvent → ℕ
 queue_of (event.Step queue answer) = queue
 queue_of (event.Deliver queue packet) = queue
+queue_of (event.Await queue pages) = queue
 
--- The queue is inside a turn or a delivery by these items.
+-- The queue is inside a turn, a delivery or a wait by these items.
 pub record IsInside (w : Wiring) (start : ℕ) (items : List Item) : Type 0 where
   pub deeds : List Deed
   pub end : State
@@ -29,8 +30,8 @@ pub record IsInside (w : Wiring) (start : ℕ) (items : List Item) : Type 0 wher
   pub begun : front ≢ []
   pub left : IsLeft w end front
 
--- What the events come to, as calls behind earlier ones: each step is a call, and each packet, but one for a queue that is inside a turn
--- or a delivery by the calls before it.
+-- What the events come to, as calls behind earlier ones: each step is a call, and each packet and each wait, but one for a queue that is
+-- inside a turn, a delivery or a wait by the calls before it.
 pub data Makes (wirings : ℕ → Wiring) (start : ℕ) : List Call → List WorldEvent → List Call → Type 0 where
   none : (before : List Call) → Makes wirings start before [] []
   step : (before : List Call) (queue answer : ℕ) (came : Option Event) (es : List WorldEvent) (cs : List Call) →
@@ -42,6 +43,12 @@ pub data Makes (wirings : ℕ → Wiring) (start : ℕ) : List Call → List Wor
   busy : (before : List Call) (queue : ℕ) (packet : Vec ℕ) (es : List WorldEvent) (cs : List Call) →
       IsInside (wirings queue) start (items_of queue before) → Makes wirings start before es cs →
       Makes wirings start before (event.Deliver queue packet ∷ es) cs
+  await : (before : List Call) (queue pages : ℕ) (es : List WorldEvent) (cs : List Call) →
+      Makes wirings start (before ++ Awaits queue pages ∷ []) es cs →
+      Makes wirings start before (event.Await queue pages ∷ es) (Awaits queue pages ∷ cs)
+  await_busy : (before : List Call) (queue pages : ℕ) (es : List WorldEvent) (cs : List Call) →
+      IsInside (wirings queue) start (items_of queue before) → Makes wirings start before es cs →
+      Makes wirings start before (event.Await queue pages ∷ es) cs
 
 -- The world goes on by these events.
 abbrev pub GoesBy : World → World → List WorldEvent → Type 0

@@ -10,21 +10,31 @@ use Rattle.xen_back.specs.ByEvent.{left_of}
 use Rattle.xen_back.specs.Deliveries.{Arrival}
 use Rattle.xen_back.specs.Drive.{label_of}
 use Rattle.xen_back.specs.Queues.{IsReady, rest, state_of}
+use Rattle.xen_back.specs.Waits.{Wait}
+use Rattle.xen_back.specs.WaitsByEvent.{left_of_wait}
+use Rattle.xen_back.specs.declared.delivery.awaiting.Awaited.{Awaited}
 use Rattle.xen_back.specs.declared.delivery.delivering.Delivery.{Delivery}
+use Rattle.xen_back.specs.declared.delivery.looking.Awaiting.{Awaiting}
 use Rattle.xen_back.specs.declared.delivery.underway.Delivering.{Delivering}
 use Rattle.xen_back.specs.declared.queue.Queue.{Queue}
-use Rattle.xdp_world.specs.Doings.{is_delivery}
+use Rattle.xdp_world.specs.Doings.{is_call}
 use Rattle.xdp_world.specs.Entries.{Serves}
 use Rattle.xdp_world.specs.Happens.{Happens, Rests}
 use Rattle.xdp_world.specs.declared.doing.Doing.{Doing}
 use Rattle.xdp_world.specs.declared.doing.Doing.TheVariants as doing
 use Rattle.xdp_world.specs.declared.kept.Kept.{Kept}
 use Rattle.xdp_world.specs.declared.report.Delivered.{Delivered}
+use Rattle.xdp_world.specs.declared.report.Waited.{Waited}
 
 -- the delivery that is over, if one is, after so many turns
 abbrev pub delivered_list : ℕ → Option Delivery → List Delivered
 delivered_list turns None = []
 delivered_list turns (Some what) = record { turns = turns; delivery = what } ∷ []
+
+-- the wait that is over, if one is, after so many turns and deliveries
+abbrev pub waited_list : ℕ → ℕ → Option Awaited → List Waited
+waited_list turns deliveries None = []
+waited_list turns deliveries (Some answer) = record { turns = turns; deliveries = deliveries; awaited = answer } ∷ []
 
 -- A delivery of a queue has come to this: it goes on, or it is over, and the queue goes on behind it.
 abbrev pub Lands : Queue → Steps Arrival → Queue → Doing → Option Delivery → Type 0
@@ -41,28 +51,46 @@ pub record Carries (old : Queue) (from : Delivering) (new : Queue) (after : Doin
   pub quiet : label_of event ≡ []
   pub lands : Lands old mid new after delivery
 
+-- A wait of a queue has come to this: it goes on, or it is over, and the queue goes on behind it.
+abbrev pub Resumes : Queue → Steps Wait → Queue → Doing → Option Awaited → Type 0
+Resumes old m new after None = (a : Awaiting) × (after ≡ doing.Wait a) × (left_of_wait a ≡ m) × (want_of m ≢ want.Done) ×
+    (state_of new ≡ state_of old)
+Resumes old m new after (Some answer) = (after ≡ doing.Between) × (m ≡ done (state_of new, answer)) × IsReady new
+
+-- One event of a wait.
+pub record Looks (old : Queue) (from : Awaiting) (new : Queue) (after : Doing) (answer : ℕ) (awaited : Option Awaited) : Type 0 where
+  pub event : Event
+  pub mid : Steps Wait
+  pub goes : Goes (left_of_wait from) event mid
+  pub serves : Serves event answer
+  pub quiet : label_of event ≡ []
+  pub resumes : Resumes old mid new after awaited
+
 -- what a queue is doing after an event of a turn
 abbrev pub after_turn : Option Kept → Doing
 after_turn None = doing.Turn
 after_turn (Some k) = doing.Between
 
--- what a queue is doing after a step that is none of a delivery's: nothing new where it has halted
+-- what a queue is doing after a step that is none of a delivery's or a wait's: nothing new where it has halted
 abbrev pub doing_after : Doing → Option Event → Option Kept → Doing
 doing_after before None kept = before
 doing_after before (Some e) kept = after_turn kept
 
 -- One event of a turn.
 abbrev pub TurnMoves : (old new : Queue) (after : Doing) (c d : TotalsView) (answer : ℕ) (op : Option Op) (kept : Option Kept)
-    (delivery : Option Delivery) → Type 0
-TurnMoves old new after c d answer op kept delivery = Happens old new c d answer op kept × (after ≡ after_turn kept) × (delivery ≡ None)
+    (delivery : Option Delivery) (awaited : Option Awaited) → Type 0
+TurnMoves old new after c d answer op kept delivery awaited =
+    Happens old new c d answer op kept × (after ≡ after_turn kept) × (delivery ≡ None) × (awaited ≡ None)
 
--- One step, with its event, its counter operation, and the turn or the delivery that is over by it: a queue that has halted does nothing;
--- a turn goes on; a delivery goes on.
+-- One step, with its event, its counter operation, and the turn, the delivery or the wait that is over by it: a queue that has halted does
+-- nothing; a turn goes on; a delivery goes on; a wait goes on.
 pub data Moves (old new : Queue) (before after : Doing) (c d : TotalsView) (answer : ℕ) : Option Event → Option Op → Option Kept →
-    Option Delivery → Type 0 where
-  rests : is_delivery (Some before) ≡ false → want_of (rest old) ≡ want.Done → after ≡ before → Rests old new c d →
-      Moves old new before after c d answer None None None None
-  turns : (op : Option Op) (kept : Option Kept) → is_delivery (Some before) ≡ false → after ≡ after_turn kept →
-      (v : Happens old new c d answer op kept) → Moves old new before after c d answer (Some v.event) op kept None
+    Option Delivery → Option Awaited → Type 0 where
+  rests : is_call (Some before) ≡ false → want_of (rest old) ≡ want.Done → after ≡ before → Rests old new c d →
+      Moves old new before after c d answer None None None None None
+  turns : (op : Option Op) (kept : Option Kept) → is_call (Some before) ≡ false → after ≡ after_turn kept →
+      (v : Happens old new c d answer op kept) → Moves old new before after c d answer (Some v.event) op kept None None
   carries : (a : Delivering) (delivery : Option Delivery) → before ≡ doing.Delivery a → d ≡ c →
-      (v : Carries old a new after answer delivery) → Moves old new before after c d answer (Some v.event) None None delivery
+      (v : Carries old a new after answer delivery) → Moves old new before after c d answer (Some v.event) None None delivery None
+  looks : (a : Awaiting) (awaited : Option Awaited) → before ≡ doing.Wait a → d ≡ c →
+      (v : Looks old a new after answer awaited) → Moves old new before after c d answer (Some v.event) None None None awaited

@@ -15,7 +15,7 @@ use Rattle.xdp_world.specs.Core.{HaveEvents, IsUnfinished, Turns, started_at}
 use Rattle.xdp_world.specs.Entries.{AllServe, Entry, events_of, history, steps_of}
 use Rattle.xdp_world.specs.Activities.{IsPart}
 use Rattle.xdp_world.specs.Calls.{Call, HaveCome, entries_of, items_of}
-use Rattle.xdp_world.specs.Stands.{delivered_in, kept_in}
+use Rattle.xdp_world.specs.Stands.{delivered_in, kept_in, waited_in}
 use Rattle.xdp_world.specs.declared.kept.Kept.{Kept}
 use Rattle.xdp_world.specs.declared.report.Report.{Report}
 
@@ -30,7 +30,7 @@ pub record IsShare (w : Wiring) (start : ℕ) (events : List Event) (kept : List
 -- The report is of these calls.
 pub record Tells (wirings : ℕ → Wiring) (start : ℕ) (cs : List Call) (r : Report) : Type 0 where
   pub each : (i : ℕ) → i < length r.turns.items →
-      IsPart (wirings i) start (items_of i cs) (kept_in r.turns.items i) (delivered_in r.deliveries.items i)
+      IsPart (wirings i) start (items_of i cs) (kept_in r.turns.items i) (delivered_in r.deliveries.items i) (waited_in r.waits.items i)
   pub come : HaveCome wirings start cs
   pub serve : AllServe (entries_of cs)
   pub past : r.history.items ≡ history (entries_of cs)
@@ -38,10 +38,11 @@ pub record Tells (wirings : ℕ → Wiring) (start : ℕ) (cs : List Call) (r : 
   pub legal : IsLegal (history (entries_of cs))
   pub leaves : (m k j : ℕ) → IsCounter r.totals.shapes m k j → total_at r.totals m k j ≡ left_in m k j (history (entries_of cs))
 
--- The report is of these entries, and of no delivery.
+-- The report is of these entries, and of no delivery and no wait.
 pub record Reports (wirings : ℕ → Wiring) (start : ℕ) (es : List Entry) (r : Report) : Type 0 where
   pub each : (i : ℕ) → i < length r.turns.items → IsShare (wirings i) start (events_of i es) (kept_in r.turns.items i)
   pub none : (i : ℕ) → i < length r.turns.items → delivered_in r.deliveries.items i ≡ []
+  pub no_wait : (i : ℕ) → i < length r.turns.items → waited_in r.waits.items i ≡ []
   pub events : HaveEvents wirings start es
   pub serve : AllServe es
   pub past : r.history.items ≡ history es

@@ -17,12 +17,12 @@ pub enum Begun {
     Underway,
     /// It is over by that: the packet is no frame, or the queue has halted. It is kept among the deliveries.
     Over(Delivery),
-    /// The queue is inside a turn or a delivery. Nothing was done.
+    /// The queue is inside a turn, a delivery or a wait. Nothing was done.
     Busy,
 }
 
 /// Whether nothing is under way.
-fn is_between(doing: &Doing) -> bool
+pub(crate) fn is_between(doing: &Doing) -> bool
     ensures { result ≡ is_between_spec (Some doing.now) }
 {
     matches!(doing, Doing::Between)

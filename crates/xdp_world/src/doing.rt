@@ -1,6 +1,6 @@
 //! What a queue is doing.
 
-use xen_back::Delivering;
+use xen_back::{Awaiting, Delivering};
 
 /// What a queue is doing.
 #[derive(Drop)]
@@ -11,4 +11,6 @@ pub enum Doing<'p, 'd> {
     Turn,
     /// A packet of the host's own is being delivered.
     Delivery(Delivering<'p, 'd>),
+    /// The host waits for rx slots.
+    Wait(Awaiting),
 }

@@ -1,4 +1,4 @@
-//! Runs with deliveries.
+//! Runs with deliveries and waits.
 ghost use Rattle.std.specs.Prelude.{◌≡◌, ◌≤◌, ◌<◌, All, IfOk, OnOk, [], ◌∷◌, vec_len};
 ghost use Rattle.xdp_world.specs.Asked.{GoesBy, IsWorldRun, queue_of};
 
@@ -14,8 +14,10 @@ use std::alloc::{AllocError, Global};
 pub enum WorldEvent {
     /// A step of a queue. The answer serves a read.
     Step { queue: usize, answer: u32 },
-    /// A packet of the host's own is to be delivered on a queue. Inside a turn or another delivery nothing happens.
+    /// A packet of the host's own is to be delivered on a queue. Inside a turn, another delivery or a wait nothing happens.
     Deliver { queue: usize, packet: Vec<u8> },
+    /// The host waits for so many rx slots on a queue. Inside a turn, a delivery or another wait nothing happens.
+    Await { queue: usize, pages: u32 },
 }
 
 impl<'p, 'b> World<'p, 'b> {
@@ -33,6 +35,10 @@ impl<'p, 'b> World<'p, 'b> {
             }
             WorldEvent::Deliver { queue, packet } => {
                 self.deliver(*queue, packet.as_slice())?;
+                Ok(())
+            }
+            WorldEvent::Await { queue, pages } => {
+                self.await_slots(*queue, *pages)?;
                 Ok(())
             }
         }

@@ -5,13 +5,13 @@ ghost use Rattle.xdp_world.specs.Begin.{Begins, IsFresh};
 ghost use Rattle.xdp_world.specs.Entries.{Entry};
 ghost use Rattle.xdp_world.specs.Calls.{Call};
 ghost use Rattle.xdp_world.specs.Report.{IsCoreRun, Reports, Tells};
-ghost use Rattle.xdp_world.specs.Stands.{IsFree, Stands, StandsFor, delivered_in};
+ghost use Rattle.xdp_world.specs.Stands.{IsFree, Stands, StandsFor, delivered_in, waited_in};
 ghost use Rattle.xdp_world.specs.declared.doing.Doing.{Doing as DoingView};
 
 use crate::doing::Doing;
 use crate::kept::Kept;
 use crate::layout::{BACK, FRONT, Layout};
-use crate::report::{Delivered, Report};
+use crate::report::{Delivered, Report, Waited};
 use crate::ring::ring;
 use crate::world::World;
 use bpf_maps::Totals;
@@ -85,6 +85,18 @@ fn none_delivered(alloc: Global, queues: usize) -> Result<Vec<Vec<Delivered>>, A
     Ok(deliveries)
 }
 
+/// No waits of so many queues.
+fn none_waited(alloc: Global, queues: usize) -> Result<Vec<Vec<Waited>>, AllocError>
+    ensures count { IfOk result (λ v. vec_len v ≡ queues) }
+    ensures none { IfOk result (λ v. (i : ℕ) → waited_in v.items i ≡ []) }
+{
+    let mut waits: Vec<Vec<Waited>> = Vec::with_capacity(alloc, queues)?;
+    for _queue in 0..queues {
+        waits.push_reserved(Vec::new(alloc));
+    }
+    Ok(waits)
+}
+
 impl<'p, 'b> World<'p, 'b> {
     /// So many queues of a program, before their first turns, with all counters 0. Their packets lie in the buffers.
     pub fn make(
@@ -109,6 +121,7 @@ impl<'p, 'b> World<'p, 'b> {
         let mut turns: Vec<Vec<Kept>> = Vec::with_capacity(alloc, queues)?;
         let doing = all_between(alloc, queues)?;
         let deliveries = none_delivered(alloc, queues)?;
+        let waits = none_waited(alloc, queues)?;
         let mut rest = buffers;
         for number in 0..queues {
             let (head, tail) = rest.split_at_mut(1);
@@ -122,6 +135,7 @@ impl<'p, 'b> World<'p, 'b> {
             doing,
             turns,
             deliveries,
+            waits,
             history: Vec::new(alloc),
             counters,
             spare: Vec::new(alloc),
@@ -133,6 +147,7 @@ impl<'p, 'b> World<'p, 'b> {
         ensures count { vec_len result.turns ≡ vec_len self.entry.queues }
         ensures turns { result.turns.items ≡ self.entry.turns.items }
         ensures deliveries { result.deliveries.items ≡ self.entry.deliveries.items }
+        ensures waits { result.waits.items ≡ self.entry.waits.items }
         ensures shapes { result.totals.shapes ≡ self.entry.counters.shapes }
         ensures reports { (wirings : ℕ → Wiring) (start : ℕ) (es : List Entry) → Stands self.entry wirings start es →
             Reports wirings start es result }
@@ -144,6 +159,7 @@ impl<'p, 'b> World<'p, 'b> {
             doing: _,
             turns,
             deliveries,
+            waits,
             history,
             counters,
             spare: _,
@@ -151,6 +167,7 @@ impl<'p, 'b> World<'p, 'b> {
         Report {
             turns,
             deliveries,
+            waits,
             history,
             totals: counters,
         }

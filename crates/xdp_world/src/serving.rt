@@ -1,29 +1,31 @@
-//! One step of a queue, with the turn or the delivery that it ends.
+//! One step of a queue, with the turn, the delivery or the wait that it ends.
 ghost use Rattle.std.specs.Prelude.{◌≡◌, ◌≢◌, ◌≤◌, Option, Some, false, vec_len, vec_capacity};
 ghost use Rattle.xen_back.specs.Queues.{rest, wiring_of};
 ghost use Rattle.xen_steps.specs.Event.{Event};
 ghost use Rattle.xen_steps.specs.Steps.{want_of};
 ghost use Rattle.xdp_world.specs.Carries.{Moves, TurnMoves, after_turn as after_turn_spec};
-ghost use Rattle.xdp_world.specs.Doings.{Fits, is_delivery};
+ghost use Rattle.xdp_world.specs.Doings.{Fits, is_call};
 ghost use Rattle.xdp_world.specs.Happens.{Settles};
 
 use crate::carrying::carried;
 use crate::doing::Doing;
 use crate::event::event;
 use crate::kept::{Kept, keep};
+use crate::looking::waited;
 use bpf_maps::{Op, Totals};
 use std::mem;
-use xen_back::{Delivery, Queue, Want};
+use xen_back::{Awaited, Delivery, Queue, Want};
 
-/// What a step gave: the counter operation, and the turn or the delivery that it ended.
+/// What a step gave: the counter operation, and the turn, the delivery or the wait that it ended.
 #[derive(Drop)]
 pub(crate) struct Served {
     pub op: Option<Op>,
     pub kept: Option<Kept>,
     pub delivery: Option<Delivery>,
+    pub awaited: Option<Awaited>,
 }
 
-/// One step: the next event of the delivery that is under way, else of the turn.
+/// One step: the next event of the delivery or the wait that is under way, else of the turn.
 pub(crate) fn serve<'p, 'b>(
     queue: &mut Queue<'p, 'b>,
     doing: &mut Doing<'p, 'b>,
@@ -40,7 +42,7 @@ pub(crate) fn serve<'p, 'b>(
     ensures fits { Fits doing.new queue.new }
     ensures empty { vec_len spare.new ≡ 0 }
     ensures moves { (e : Option Event) × Moves queue.old queue.new doing.old doing.new counters.old counters.new answer
-        e result.op result.kept result.delivery }
+        e result.op result.kept result.delivery result.awaited }
 {
     match mem::replace(doing, Doing::Between) {
         Doing::Delivery(delivering) => {
@@ -50,6 +52,17 @@ pub(crate) fn serve<'p, 'b>(
                 op: None,
                 kept: None,
                 delivery,
+                awaited: None,
+            }
+        }
+        Doing::Wait(awaiting) => {
+            let (after, awaited) = waited(queue, awaiting, answer);
+            *doing = after;
+            Served {
+                op: None,
+                kept: None,
+                delivery: None,
+                awaited,
             }
         }
         before => {
@@ -69,7 +82,7 @@ fn in_turn<'p, 'b>(
     spare: &mut Vec<u8>,
 ) -> (Doing<'p, 'b>, Served)
     requires shapes { (wiring_of queue.old).program.now.shapes ≡ counters.old.shapes }
-    requires turn { is_delivery (Some before) ≡ false }
+    requires turn { is_call (Some before) ≡ false }
     requires fits { Fits before queue.old }
     requires empty { vec_len spare.old ≡ 0 }
     requires room { 65535 ≤ vec_capacity spare.old }
@@ -78,7 +91,7 @@ fn in_turn<'p, 'b>(
     ensures fits { Fits result.0 queue.new }
     ensures empty { vec_len spare.new ≡ 0 }
     ensures moves { (e : Option Event) × Moves queue.old queue.new before.entry result.0 counters.old counters.new answer
-        e result.1.op result.1.kept result.1.delivery }
+        e result.1.op result.1.kept result.1.delivery result.1.awaited }
 {
     match queue.want() {
         Want::Done => {
@@ -86,6 +99,7 @@ fn in_turn<'p, 'b>(
                 op: None,
                 kept: None,
                 delivery: None,
+                awaited: None,
             };
             (before, served)
         }
@@ -108,7 +122,8 @@ fn turned<'p, 'b>(
     ensures shapes { counters.new.shapes ≡ counters.old.shapes }
     ensures fits { Fits result.0 queue.new }
     ensures empty { vec_len spare.new ≡ 0 }
-    ensures moves { TurnMoves queue.old queue.new result.0 counters.old counters.new answer result.1.op result.1.kept result.1.delivery }
+    ensures moves { TurnMoves queue.old queue.new result.0 counters.old counters.new answer result.1.op result.1.kept result.1.delivery
+        result.1.awaited }
 {
     let op = event(queue, counters, answer);
     let kept = ended(queue, spare);
@@ -117,6 +132,7 @@ fn turned<'p, 'b>(
         op,
         kept,
         delivery: None,
+        awaited: None,
     };
     (after, served)
 }

@@ -1,17 +1,17 @@
 //! Steps of a world.
 ghost use Rattle.std.specs.Prelude.{◌≡◌, ◌<◌, ◌≤◌, ◌++◌, ℕ, All, OnOk, OnErr, vec_len, vec_capacity, length, slice_get};
-ghost use Rattle.xdp_world.specs.Carries.{delivered_list};
+ghost use Rattle.xdp_world.specs.Carries.{delivered_list, waited_list};
 ghost use Rattle.xdp_world.specs.Entries.{tagged};
 ghost use Rattle.xdp_world.specs.Happens.{kept_list, op_list};
-ghost use Rattle.xdp_world.specs.Stands.{GoesOn, HasRoom, HasRoomFor, IsFree, IsSame, IsStep};
+ghost use Rattle.xdp_world.specs.Stands.{GoesOn, HasRoom, IsFree, IsSame, IsStep};
 
 use crate::kept::{Kept, ROOM};
-use crate::report::Delivered;
+use crate::report::{Delivered, Waited};
 use crate::serving::{Served, serve};
 use crate::world::World;
 use bpf_maps::Op;
 use std::alloc::AllocError;
-use xen_back::Delivery;
+use xen_back::{Awaited, Delivery};
 
 /// Keeps what became of a packet, if its delivery is over, after so many turns. There is room.
 pub(crate) fn note_delivery(delivered: &mut Vec<Delivered>, turns: usize, over: Option<Delivery>)
@@ -23,26 +23,50 @@ pub(crate) fn note_delivery(delivered: &mut Vec<Delivered>, turns: usize, over: 
     }
 }
 
+/// Keeps the answer of a wait, if it is over, after so many turns and deliveries. There is room.
+pub(crate) fn note_wait(
+    waited: &mut Vec<Waited>,
+    turns: usize,
+    deliveries: usize,
+    over: Option<Awaited>,
+)
+    requires { vec_len waited.old < vec_capacity waited.old }
+    ensures { waited.new.items ≡ waited.old.items ++ waited_list turns deliveries over }
+{
+    if let Some(awaited) = over {
+        waited.push_reserved(Waited {
+            turns,
+            deliveries,
+            awaited,
+        });
+    }
+}
+
 /// Keeps what a step gave. There is room.
 fn note(
     kept: &mut Vec<Kept>,
     delivered: &mut Vec<Delivered>,
+    waited: &mut Vec<Waited>,
     history: &mut Vec<(usize, Op)>,
     queue: usize,
     served: Served,
 )
     requires kept { vec_len kept.old < vec_capacity kept.old }
     requires delivered { vec_len delivered.old < vec_capacity delivered.old }
+    requires waited { vec_len waited.old < vec_capacity waited.old }
     requires history { vec_len history.old < vec_capacity history.old }
     ensures kept { kept.new.items ≡ kept.old.items ++ kept_list served.kept }
     ensures delivered { delivered.new.items ≡ delivered.old.items ++ delivered_list (vec_len kept.old) served.delivery }
+    ensures waited { waited.new.items ≡ waited.old.items ++ waited_list (vec_len kept.old) (vec_len delivered.old) served.awaited }
     ensures history { history.new.items ≡ history.old.items ++ tagged queue (op_list served.op) }
 {
     let Served {
         op,
         kept: turn,
         delivery,
+        awaited,
     } = served;
+    note_wait(waited, kept.len(), delivered.len(), awaited);
     note_delivery(delivered, kept.len(), delivery);
     if let Some(turn) = turn {
         kept.push_reserved(turn);
@@ -59,17 +83,20 @@ impl<'p, 'b> World<'p, 'b> {
         ensures same { IsSame self.old self.new }
         ensures room { OnOk result ((vec_len self.new.history < vec_capacity self.new.history) × (65535 ≤ vec_capacity self.new.spare)) }
         ensures kept { OnOk result (HasRoom (slice_get self.new.turns.items queue)) }
-        ensures delivered { OnOk result (HasRoomFor (slice_get self.new.deliveries.items queue)) }
+        ensures delivered { OnOk result (HasRoom (slice_get self.new.deliveries.items queue)) }
+        ensures waited { OnOk result (HasRoom (slice_get self.new.waits.items queue)) }
     {
         self.turns[queue].reserve(1)?;
         self.deliveries[queue].reserve(1)?;
+        self.waits[queue].reserve(1)?;
         self.history.reserve(1)?;
         self.spare.reserve(ROOM)?;
         Ok(())
     }
 
-    /// One event of a queue: of the delivery that is under way, else of its turn; or nothing where it has halted. The answer serves a read,
-    /// and is ignored else. A turn that is over by it is kept, and the next begins; of a delivery that is over, what became of its packet.
+    /// One event of a queue: of the delivery or the wait that is under way, else of its turn; or nothing where it has halted. The answer
+    /// serves a read, and is ignored else. A turn that is over by it is kept, and the next begins; of a delivery that is over, what became
+    /// of its packet; of a wait that is over, its answer.
     pub fn step(&mut self, queue: usize, answer: u32) -> Result<(), AllocError>
         requires { queue < vec_len self.old.queues }
         ensures size { vec_len self.new.queues ≡ vec_len self.old.queues }
@@ -89,6 +116,7 @@ impl<'p, 'b> World<'p, 'b> {
         note(
             &mut self.turns[queue],
             &mut self.deliveries[queue],
+            &mut self.waits[queue],
             &mut self.history,
             queue,
             served,

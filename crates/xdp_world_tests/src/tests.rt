@@ -11,3 +11,4 @@ mod rewrites;
 mod runs;
 mod scripts;
 mod second_queue;
+mod waits;

@@ -16,3 +16,5 @@ pub mod BulkLemmas
 pub mod OnceLemmas
 pub mod AloneLemmas
 pub mod ArriveLemmas
+pub mod WaitLemmas
+pub mod RunLemmas

@@ -18,4 +18,6 @@ pub mod Held
 pub mod Delivered
 pub mod Awaited
 pub mod Deliveries
+pub mod Waits
+pub mod WaitsByEvent
 pub mod ByEvent

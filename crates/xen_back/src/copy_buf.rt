@@ -6,11 +6,12 @@ ghost use Rattle.xen_netif.specs.Copy.{bytes_of};
 ghost use Rattle.xen_back.specs.Ran.{HasRunOn};
 ghost use Rattle.xen_back.specs.Reads.{AreReadFrom};
 
+use crate::page_run::push_words;
 use crate::wiring::Wiring;
 use bpf_maps::{CounterSeat, Counters};
 use bpf_vm::{Buffer, PacketBuf, Vm, VmWant};
 use std::marker::Model;
-use xen_page::{Bus, Place};
+use xen_page::Bus;
 
 /// What a run left beside the packet.
 #[derive(Clone, Copy)]
@@ -72,32 +73,6 @@ fn run_on<'b>(
             VmWant::Step => unreachable!(),
         }
     }
-}
-
-/// Puts whole words of a page behind a packet's bytes. The packet is taken by value, so that its length stays in a register.
-fn words_behind<'b, B: Bus>(
-    bus: &mut B,
-    frame: u32,
-    from: u32,
-    to: u32,
-    packet: PacketBuf<'b>,
-) -> PacketBuf<'b>
-    requires frame { from < to → frame < B.size bus.old }
-    requires ordered { from ≤ to }
-    requires within { from < to → to ≤ 1024 }
-    requires room { from < to → length packet.bytes + 4 * (to - from) ≤ packet.room.size }
-    ensures size { B.size bus.new ≡ B.size bus.old }
-    ensures room { result.room ≡ packet.entry.room }
-    ensures read { (words : List ℕ) × (length words ≡ to - from)
-        × AreReadFrom B.log B.access_gives frame from words bus.old bus.new
-        × (result.bytes ≡ packet.entry.bytes ++ bytes_of words) }
-{
-    let mut packet = packet;
-    for place in from..to {
-        let word = bus.read(Place { frame, word: place });
-        packet.push_all(&word.to_le_bytes());
-    }
-    packet
 }
 
 impl<'b> CopyBuf<'b> {
@@ -164,8 +139,8 @@ impl<'b> CopyBuf<'b> {
             × AreReadFrom B.log B.access_gives frame from words bus.old bus.new
             × (self.new ≡ self.old ++ bytes_of words) }
     {
-        match self.packet.take() {
-            Some(packet) => self.packet = Some(words_behind(bus, frame, from, to, packet)),
+        match &mut self.packet {
+            Some(packet) => push_words(bus, frame, from, to, packet),
             None => unreachable!(),
         }
     }

@@ -1,4 +1,4 @@
-//! Laws of turns and of deliveries.
+//! Laws of turns, of deliveries and of waits.
 
 ghost use Rattle.std.specs.Prelude.{ℕ, ◌≡◌, ◌<◌, ◌≤◌, ◌^◌, ◌++◌, List, [], ◌∷◌, Option, length, true, false};
 ghost use Rattle.xen_netif.specs.declared.fragment.Fragment.{Fragment};
@@ -12,6 +12,7 @@ ghost use Rattle.xen_back.specs.Program.{IsProgram};
 ghost use Rattle.xen_steps.specs.Steps.{Runs, Steps, next, want_of};
 ghost use Rattle.xen_steps.specs.declared.want.Answer.{Answer};
 ghost use Rattle.xen_transmit.specs.Touched.{AllAllowed};
+ghost use Rattle.xen_back.specs.Awaited.{IsAwaiting};
 ghost use Rattle.xen_back.specs.Delivered.{IsDelivery};
 ghost use Rattle.xen_back.specs.Deliveries.{whole_delivery};
 ghost use Rattle.xen_back.specs.Tree.{Left, copy, program, run_of, whole_turn};
@@ -19,6 +20,8 @@ ghost use Rattle.xen_back.specs.Turned.{Ending, Turned};
 ghost use Rattle.xen_back.specs.Once.{CoveredDistinct, FragmentsOnce, PostedDistinct, SlotsOnce, TargetsOnce, TurnsOnce};
 ghost use Rattle.xen_back.specs.Parts.{IsCopy};
 ghost use Rattle.xen_back.specs.Turns.{IsTurn};
+ghost use Rattle.xen_back.specs.Waits.{WaitEnds, whole_wait};
+ghost use Rattle.xen_back.specs.declared.delivery.awaiting.Awaited.{Awaited};
 ghost use Rattle.xen_back.specs.declared.delivery.delivering.Delivery.{Delivery};
 ghost use Rattle.xen_back.specs.declared.state.State.{State};
 ghost use Rattle.xen_back.specs.declared.wiring.Wiring.{Wiring};
@@ -100,6 +103,16 @@ pub fn deliveries_are_bounded()
         → IsDelivery w s packet p after what → notices_in p ≤ 1 }
     ensures touches { (w : Wiring) (s : State) (packet : List ℕ) (p : List Event) (after : State) (what : Delivery)
         → IsDelivery w s packet p after what → AllAllowed w.vif p p }
+{}
+
+/// The ways of a wait by events to its end are exactly the waits; it ends whatever it is answered, and wants words of the rx
+/// ring's page alone.
+pub fn waits_are_rests()
+    ensures rests { (w : Wiring) (s : State) (pages : ℕ) (p : List Event) (after : State) (what : Awaited)
+        → Runs (whole_wait w.vif.rx s pages) p (after, what) → IsAwaiting w s pages p after what }
+    ensures waits { (w : Wiring) (s : State) (pages : ℕ) (p : List Event) (after : State) (what : Awaited)
+        → IsAwaiting w s pages p after what → Runs (whole_wait w.vif.rx s pages) p (after, what) }
+    ensures ends { (frames rx : ℕ) (s : State) (pages : ℕ) → rx < frames → WaitEnds frames (whole_wait rx s pages) }
 {}
 
 /// Where a host awaits rx slots, a push from fewer slots to so many, or more, owes a notice, and one that stays below owes

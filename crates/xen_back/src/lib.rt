@@ -8,7 +8,7 @@
 //!   `running`, `answering`
 //! - `decisions`: what a turn decides, whichever way it goes
 //! - `delivery`: a packet of the host's own, in one go and by event, and waiting for slots
-//! - `wiring`, `desc`, `state`, `turn`, `copy_buf`: what these work on; `laws`: what holds of every turn
+//! - `wiring`, `desc`, `state`, `turn`, `copy_buf`, `page_run`: what these work on; `laws`: what holds of every turn
 //!
 //! Of the definitions `Turns` is the authority, the table of turns; `Tree` is the computation that makes them, and `Rest` what
 //! is left of it at a stage. Both ways are proved of the same computation.
@@ -21,6 +21,7 @@ mod delivery;
 mod desc;
 mod in_one_go;
 pub mod laws;
+mod page_run;
 mod queue;
 mod state;
 mod turn;
@@ -29,6 +30,7 @@ mod wiring;
 pub use bpf_vm::Action;
 pub use delivery::awaiting::Awaited;
 pub use delivery::delivering::Delivery;
+pub use delivery::looking::Awaiting;
 pub use delivery::underway::Delivering;
 pub use desc::QueueDesc;
 pub use queue::Queue;

@@ -3,3 +3,5 @@ pub mod TableLemmas
 pub mod ExtentLemmas
 pub mod MappingLemmas
 pub mod RewriteLemmas
+pub mod RunLemmas
+pub mod SetLemmas

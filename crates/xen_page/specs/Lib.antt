@@ -1,6 +1,7 @@
 pub mod Access
 pub mod Answered
 pub mod Log
+pub mod Run
 pub mod Script
 pub mod Recorded
 pub mod Rewritten

@@ -1,10 +1,12 @@
 //! What reaches page words.
 
-ghost use Rattle.std.specs.Prelude.{◌≡◌, ◌<◌, ◌∷◌, [], List, ℕ, Option};
+ghost use Rattle.std.specs.Prelude.{◌≡◌, ◌<◌, ◌≤◌, ◌+◌, ◌/◌, ◌%◌, ◌∷◌, [], List, ℕ, Option, length};
 ghost use Rattle.xen_page.specs.declared.access.Access.{Access};
 ghost use Rattle.xen_page.specs.Access.{Tells};
+ghost use Rattle.xen_page.specs.Run.{ReadsRun};
 
 use crate::place::Place;
+use crate::run::put_word;
 
 /// Reaches the words of frames, each access being one step. What a read returns is tied to no earlier
 /// access: another domain may write between any two of them.
@@ -29,6 +31,26 @@ pub trait Bus {
         ensures told { Tells (log self.old) (log self.new) (Access.Read at result ∷ []) }
         ensures given { access_gives self.old (Access.Read at result) self.new }
         ensures size { size self.new ≡ size self.old };
+
+    /// Reads a run of words of one frame from a place on, four bytes of room for each, and writes their bytes there, each
+    /// word's lowest byte first. Each word is read once and in order, as by [`Bus::read`]: this is for a bus that has a
+    /// faster way to do that.
+    fn read_run(&mut self, at: Place, room: &mut [u8])
+        requires frame { at.frame < size self.old }
+        requires whole { length room.old % 4 ≡ 0 }
+        requires within { at.word + length room.old / 4 ≤ 1024 }
+        ensures read { ReadsRun log access_gives at self.old room.new self.new }
+        ensures length { length room.new ≡ length room.old }
+        ensures size { size self.new ≡ size self.old }
+    {
+        for number in 0..room.len() / 4 {
+            let word = self.read(Place {
+                frame: at.frame,
+                word: at.word + number as u32,
+            });
+            put_word(room, number, word);
+        }
+    }
 
     /// Writes the word at a place.
     fn write(&mut self, at: Place, value: u32)

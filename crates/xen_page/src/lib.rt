@@ -18,6 +18,7 @@ pub mod place;
 pub mod recorder;
 pub mod rewriter;
 mod rewriting;
+mod run;
 pub mod script_bus;
 pub mod table;
 

@@ -1,10 +1,11 @@
 //! A bus over frames.
 
-ghost use Rattle.std.specs.Prelude.{◌≡◌, ◌<◌, None};
+ghost use Rattle.std.specs.Prelude.{◌≡◌, ◌<◌, ◌≤◌, ◌+◌, ◌*◌, None, length};
 
 use crate::bus::Bus;
 use crate::frames::Frames;
 use crate::place::{Place, WORDS};
+use crate::run::put_word;
 use std::marker::Model;
 use std::sync::atomic::{AtomicU32, Ordering};
 
@@ -45,6 +46,38 @@ impl<'f> PageBus<'f> {
     }
 }
 
+/// Writes the bytes of eight words of a run from the word of this number on. Each word is loaded once, in order.
+#[inline(always)]
+fn put_eight(room: &mut [u8], words: &[AtomicU32], number: usize)
+    requires words { number + 8 ≤ length words.now }
+    requires room { 4 * (number + 8) ≤ length room.old }
+    ensures { length room.new ≡ length room.old }
+{
+    put_word(room, number, words[number].load(Ordering::SeqCst));
+    put_word(room, number + 1, words[number + 1].load(Ordering::SeqCst));
+    put_word(room, number + 2, words[number + 2].load(Ordering::SeqCst));
+    put_word(room, number + 3, words[number + 3].load(Ordering::SeqCst));
+    put_word(room, number + 4, words[number + 4].load(Ordering::SeqCst));
+    put_word(room, number + 5, words[number + 5].load(Ordering::SeqCst));
+    put_word(room, number + 6, words[number + 6].load(Ordering::SeqCst));
+    put_word(room, number + 7, words[number + 7].load(Ordering::SeqCst));
+}
+
+/// Writes the bytes of words. Each word is loaded once, in order, and eight of them without a test between.
+fn put_words(room: &mut [u8], words: &[AtomicU32])
+    requires { 4 * length words.now ≤ length room.old }
+    ensures { length room.new ≡ length room.old }
+{
+    let mut number = 0;
+    while words.len() - number >= 8 {
+        put_eight(room, words, number);
+        number += 8;
+    }
+    for number in number..words.len() {
+        put_word(room, number, words[number].load(Ordering::SeqCst));
+    }
+}
+
 impl Bus for PageBus<'_> {
     ghost size = { λ b. b };
 
@@ -58,6 +91,11 @@ impl Bus for PageBus<'_> {
 
     fn read(&mut self, at: Place) -> u32 {
         self.word(at).load(Ordering::SeqCst)
+    }
+
+    fn read_run(&mut self, at: Place, room: &mut [u8]) {
+        let first = at.frame as usize * WORDS as usize + at.word as usize;
+        put_words(room, &self.words[first..first + room.len() / 4]);
     }
 
     fn write(&mut self, at: Place, value: u32) {

@@ -3,5 +3,6 @@ mod entries;
 mod extents;
 mod growth;
 mod mappings;
+mod runs;
 mod tables;
 mod threads;

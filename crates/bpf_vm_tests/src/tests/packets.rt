@@ -1,5 +1,7 @@
 //! Packets in a lent buffer.
-use bpf_vm::{Buffer, PacketBuf, PacketFault, STACK_SIZE};
+ghost use Rattle.std.specs.Prelude.{◌≡◌, ◌≤◌, ◌++◌, length};
+
+use bpf_vm::{Buffer, Fill, PacketBuf, PacketFault, STACK_SIZE};
 use std::alloc::Global;
 
 /// How long a packet is, or why it is none.
@@ -79,4 +81,46 @@ fn pushed_to_same(alloc: Global) -> Option<(usize, bool, usize)> {
 #[test]
 fn a_shorter_packet_in_the_same_buffer(rt: HostRuntime) {
     assert_eq!(rt; pushed_to_same(rt.alloc()), Some((4, true, 0)));
+}
+
+/// Takes bytes off the front of a slice.
+#[derive(Clone, Copy)]
+struct Front;
+
+impl<'s> Fill<&'s [u8]> for Front {
+    ghost fits = { λ _ source count. count ≤ length source.now };
+
+    ghost fills = { λ _ old bytes new. old.now ≡ bytes ++ new.now };
+
+    fn fill(&self, source: &mut &'s [u8], room: &mut [u8]) {
+        let bytes: &'s [u8] = source;
+        let (front, behind) = bytes.split_at(room.len());
+        room.copy_from_slice(front);
+        *source = behind;
+    }
+}
+
+/// The bytes of a packet that is filled by two, by one and by none off a slice, and how many are left of the slice.
+fn filled(buffer: &mut Buffer) -> Option<([u8; 4], usize)> {
+    let mut source: &[u8] = &[1, 2, 3, 4, 5];
+    let mut packet = PacketBuf::empty(buffer);
+    packet.push(9);
+    packet.push_from(2, &Front, &mut source);
+    packet.push_from(1, &Front, &mut source);
+    packet.push_from(0, &Front, &mut source);
+    let bytes = packet.bytes();
+    if bytes.len() != 4 {
+        return None;
+    }
+    Some(([bytes[0], bytes[1], bytes[2], bytes[3]], source.len()))
+}
+
+/// The same of a new buffer.
+fn filled_anew(alloc: Global) -> Option<([u8; 4], usize)> {
+    filled(&mut Buffer::make(alloc).ok()?)
+}
+
+#[test]
+fn a_packet_is_filled_where_it_lies(rt: HostRuntime) {
+    assert_eq!(rt; filled_anew(rt.alloc()), Some(([9, 1, 2, 3], 2)));
 }

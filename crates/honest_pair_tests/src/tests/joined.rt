@@ -1,4 +1,4 @@
-//! Random runs with deliveries: what was received is a beginning of what turns sent back and the host delivered, joined in order.
+//! Random runs with deliveries and waits: what was received is a beginning of what turns sent back and the host delivered, joined in order.
 
 use crate::plan::Plan;
 use crate::tests::deliveries::deliveries;
@@ -17,10 +17,13 @@ fn plan(alloc: Global, seed: u32, calls: usize) -> Result<Plan, AllocError> {
     for _call in 0..calls {
         let size = random.size();
         let (first, more) = ((random.next() & 0xFF) as u8, random.next());
-        match random.below(6) {
+        match random.below(7) {
             0 => plan.send(size, first, more)?,
             1 | 2 => plan.add(PairEvent::Post)?,
             3 => plan.add(PairEvent::Poll)?,
+            4 => plan.add(PairEvent::Await {
+                pages: random.next() % 6,
+            })?,
             _ => plan.deliver(size, first, more)?,
         }
         for _part in 0..3 {

@@ -9,24 +9,24 @@ use xen_back::{Delivery, Halt, Want};
 use xen_page::Place;
 
 /// Fourteen bytes, of which each says where it lies.
-static FOURTEEN: [u8; 14] = [0, 1, 2, 3, 4, 5, 6, 7, 8, 9, 10, 11, 12, 13];
+pub static FOURTEEN: [u8; 14] = [0, 1, 2, 3, 4, 5, 6, 7, 8, 9, 10, 11, 12, 13];
 
 /// A packet that is longer than a page, and one that is no frame.
 static LONG: [u8; 4097] = [4; 4097];
 
 static SHORT: [u8; 13] = [7; 13];
 
-fn read(frame: u32, word: u32) -> Want {
+pub fn read(frame: u32, word: u32) -> Want {
     Want::Read(Place { frame, word })
 }
 
-fn write(frame: u32, word: u32, value: u32) -> Want {
+pub fn write(frame: u32, word: u32, value: u32) -> Want {
     Want::Write(Place { frame, word }, value)
 }
 
 /// What the delivery of the fourteen bytes wants as the i-th packet on the rx ring, with what it is answered: `posted` slots are there,
 /// the slot has id 9 and reference 5, its entry permits frame 22, and `event` is the ring's event index.
-fn fourteen(i: u32, posted: u32, event: u32) -> [(Want, u32); 13]
+pub fn fourteen(i: u32, posted: u32, event: u32) -> [(Want, u32); 13]
     requires { i < 100 }
 {
     let word = 16 + 2 * i;
@@ -48,7 +48,7 @@ fn fourteen(i: u32, posted: u32, event: u32) -> [(Want, u32); 13]
 }
 
 /// Steps a queue, each step with an answer. Whether it wanted these.
-fn goes(world: &mut World, queue: usize, steps: &[(Want, u32)]) -> Result<bool, AllocError>
+pub fn goes(world: &mut World, queue: usize, steps: &[(Want, u32)]) -> Result<bool, AllocError>
     requires { queue < vec_len world.old.queues }
     ensures { vec_len world.new.queues ≡ vec_len world.old.queues }
 {
@@ -62,7 +62,7 @@ fn goes(world: &mut World, queue: usize, steps: &[(Want, u32)]) -> Result<bool, 
 }
 
 /// Steps a queue, whatever it wants.
-fn answered(world: &mut World, queue: usize, answers: &[u32]) -> Result<(), AllocError>
+pub fn answered(world: &mut World, queue: usize, answers: &[u32]) -> Result<(), AllocError>
     requires { queue < vec_len world.old.queues }
     ensures { vec_len world.new.queues ≡ vec_len world.old.queues }
 {
@@ -73,14 +73,14 @@ fn answered(world: &mut World, queue: usize, answers: &[u32]) -> Result<(), Allo
 }
 
 /// A delivery that was over after so many turns.
-fn over(turns: usize, delivery: Delivery) -> Delivered {
+pub fn over(turns: usize, delivery: Delivery) -> Delivered {
     Delivered { turns, delivery }
 }
 
-const SENT: Delivery = Delivery::Sent { slots: 1 };
+pub const SENT: Delivery = Delivery::Sent { slots: 1 };
 
 /// The halt of a producer that is more than a whole ring ahead.
-const HALTED: Delivery = Delivery::Halted {
+pub const HALTED: Delivery = Delivery::Halted {
     cause: Halt::RxProducer,
 };
 

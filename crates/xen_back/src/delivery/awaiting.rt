@@ -1,14 +1,13 @@
 //! Waiting for rx slots.
 
-ghost use Rattle.std.specs.Prelude.{◌≡◌, ◌<◌, ◌^◌, List, ℕ, None, Option, length};
+ghost use Rattle.std.specs.Prelude.{◌≡◌, ◌<◌, List, None, Option, length};
 ghost use Rattle.xen_page.specs.Access.{Performs};
 ghost use Rattle.xen_steps.specs.Drive.{accesses};
 ghost use Rattle.xen_steps.specs.Event.{Event};
-ghost use Rattle.xen_steps.specs.Places.{available};
 ghost use Rattle.xen_transmit.specs.Wired.{IsWired};
-ghost use Rattle.xen_back.specs.Awaited.{HasAwaited, IsAwaiting, last_look};
+ghost use Rattle.xen_back.specs.Awaited.{HasAwaited, IsAwaiting};
 ghost use Rattle.xen_back.specs.Queues.{IsReady, wiring_of};
-ghost use Rattle.xen_back.specs.declared.wiring.Wiring.{Wiring as WiringView};
+ghost use Rattle.xen_back.specs.Waits.{wait_end};
 
 use crate::decisions::halted;
 use crate::in_one_go::looking::look_behind;
@@ -31,9 +30,8 @@ pub enum Awaited {
 }
 
 /// The answer where the producer shows so many slots.
-fn told(state: &State, pages: u32, shown: Option<u32>) -> (State, Awaited)
-    ensures { (w : WiringView) (p : ℕ) → state.now.halt ≡ None → p < 2 ^ 32 → available state.now.rx_index p ≡ shown
-        → IsAwaiting w state.now pages (last_look w.vif state.now.rx_index pages p) result.0 result.1 }
+pub(crate) fn told(state: &State, pages: u32, shown: Option<u32>) -> (State, Awaited)
+    ensures { (result.0, result.1) ≡ wait_end state.now pages shown }
 {
     match shown {
         None => {

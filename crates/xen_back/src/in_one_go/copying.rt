@@ -4,7 +4,7 @@ ghost use Rattle.std.specs.List.{list_all};
 ghost use Rattle.std.specs.Prelude.{◌≡◌, ◌≤◌, ◌+◌, IsTrue, List, ℕ, Option, [], ◌∷◌, length, sum_by, ◌<◌, ◌-◌, ◌*◌, ◌/◌, ◌++◌};
 ghost use Rattle.xen_netif.specs.Fragments.{fragment_size, is_in_page};
 ghost use Rattle.xen_netif.specs.declared.fragment.Fragment.{Fragment as FragmentView};
-ghost use Rattle.xen_netif.specs.Copy.{Covers, bytes_from, covered};
+ghost use Rattle.xen_netif.specs.Copy.{Covers, bytes_from, bytes_in, covered};
 ghost use Rattle.xen_steps.specs.Event.{Event};
 ghost use Rattle.xen_steps.specs.Steps.{Steps, bind};
 ghost use Rattle.xen_steps.specs.Pages.{HasRoom};
@@ -21,6 +21,20 @@ use std::ops::Range;
 use xen_netif::Fragment;
 use xen_page::{Bus, GrantFault, Place};
 use xen_transmit::read_grant;
+
+/// Puts a fragment's bytes in a word of its page behind a packet's bytes.
+fn push_part(fragment: &Fragment, place: u32, word: u32, packet: &mut CopyBuf<'_>)
+    requires covers { Covers fragment.now place }
+    requires room { length packet.old + length (bytes_in fragment.now place word) ≤ 65535 }
+    ensures { packet.new ≡ packet.old ++ bytes_in fragment.now place word }
+{
+    let word_start = 4 * u64::from(place);
+    let start = u64::from(fragment.offset);
+    let end = start + u64::from(fragment.size);
+    let from = start.saturating_sub(word_start) as usize;
+    let to = (end - word_start).min(4) as usize;
+    packet.push_all(&word.to_le_bytes()[from..to]);
+}
 
 /// Puts a fragment's bytes in words of its page behind a packet's bytes.
 fn read_parts<B: Bus>(
@@ -44,7 +58,7 @@ fn read_parts<B: Bus>(
 {
     for place in from..to {
         let word = bus.read(Place { frame, word: place });
-        packet.push_all(fragment.bytes_in(place, word).as_slice());
+        push_part(fragment, place, word, packet);
     }
 }
 

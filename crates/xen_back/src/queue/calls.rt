@@ -7,7 +7,7 @@ ghost use mir.Syntax.{named};
 ghost use mathlib.Core.Option.{none};
 ghost use Rattle.xen_steps.specs.Answers.{Fits};
 ghost use Rattle.xen_steps.specs.Steps.{done, want_of};
-ghost use Rattle.xen_back.specs.Queues.{HasRest, IsAsked, IsFed, IsOver, IsReady, rest, rx_ring_of, tx_ring_of, wiring_of};
+ghost use Rattle.xen_back.specs.Queues.{HasRest, IsAsked, IsFed, IsOver, IsReady, rest, rx_ring_of, state_of, tx_ring_of, wiring_of};
 ghost use Rattle.xen_back.specs.Turned.{Ending};
 ghost use Rattle.xen_back.specs.Within.{may_want};
 ghost use Rattle.xen_back.specs.contracts.queue.Queue.{the_row};
@@ -17,6 +17,7 @@ use crate::by_event::feeding::stage_fed;
 use crate::by_event::stage::Stage;
 use crate::by_event::wanting::stage_want;
 use crate::queue::Queue;
+use crate::state::State;
 use crate::turn::Turn;
 use std::mem;
 use xen_page::Mapped;
@@ -67,6 +68,13 @@ impl<'p, 'b> Queue<'p, 'b> {
         let (after, kind) = over(&self.state, &mut self.stage);
         self.state = after;
         shown(&self.stage, kind)
+    }
+
+    /// What the queue is between turns; inside one, what it was when that began.
+    pub fn state(&self) -> State
+        ensures { result ≡ state_of self.now }
+    {
+        self.state
     }
 
     /// Ends a queue that is between turns, and hands back the mappings of its tx ring and its rx ring, so that they can be

@@ -1,4 +1,5 @@
 use Rattle.std.proofs.Common.{Option, Some, None, refl, sym, ◌∙◌, subst}
+use Rattle.xen_back.specs.declared.delivery.awaiting.Awaited.{Awaited}
 use Rattle.xen_back.specs.declared.delivery.delivering.Delivery.{Delivery}
 use Rattle.xdp_world.specs.Carries.{Moves, rests, turns}
 use Rattle.xdp_world.proofs.serving.in_turn.Goals as goal
@@ -18,7 +19,8 @@ returns-in_default c =
       empty = t.ensures.empty;
       moves = (
         Some m.0.event,
-        subst (λ (x : Option Delivery). Moves c.args.queue.now t.new.queue c.args.before t.result.0 c.args.counters.now t.new.counters c.args.answer (Some m.0.event) t.result.1.op t.result.1.kept x) (sym m.2)
-            (turns t.result.1.op t.result.1.kept c.requires.turn m.1 m.0),
+        subst (λ (x : Option Delivery). Moves c.args.queue.now t.new.queue c.args.before t.result.0 c.args.counters.now t.new.counters c.args.answer (Some m.0.event) t.result.1.op t.result.1.kept x t.result.1.awaited) (sym m.2)
+            (subst (λ (x : Option Awaited). Moves c.args.queue.now t.new.queue c.args.before t.result.0 c.args.counters.now t.new.counters c.args.answer (Some m.0.event) t.result.1.op t.result.1.kept None x) (sym m.3)
+            (turns t.result.1.op t.result.1.kept c.requires.turn m.1 m.0)),
       );
     }

@@ -1,4 +1,4 @@
-use Rattle.std.proofs.Common.{◌≡◌, Option, Some, None, refl, sym, subst}
+use Rattle.std.proofs.Common.{Option, Some, None, refl, sym, subst}
 use Rattle.xen_back.specs.Queues.{rest}
 use Rattle.xen_back.specs.declared.queue.Queue.{Queue}
 use Rattle.xdp_world.specs.Carries.{after_turn}
@@ -33,5 +33,6 @@ returns-clause-moves c =
         comes = comes_of q b c.ended-kept.new.queue c.ended-kept.result c.ended-kept.ensures.settles c.event-op.ensures.state;
       },
       c.after_turn-after.ensures,
+      refl,
       refl,
     )

@@ -15,7 +15,7 @@ returns-in-Done-want c =
     let old = c.args.self.now in
     let v = c.want-want.result in
     let went : rest c.feed.new.self ≡ next (rest old.front) (answer v (memory_in old.memory) 0) = c.feed.ensures.rest ∙ ap (next (rest old.front)) c.answer-answer.ensures.number in
-    on_ok_map c.receive.result c.receive.ensures (λ r. goes_front old c.receive.new.self r.world r.asleep r.delivers v c.want-want.ensures.want c.in_default.not-Done
+    on_ok_map c.receive.result c.receive.ensures (λ r. goes_front old c.receive.new.self r.world r.asleep r.calls v c.want-want.ensures.want c.in_default.not-Done
     (ap memory_in r.memory ∙ c.answer-answer.ensures.after) (r.front_wired ∙ c.feed.ensures.wiring) (inr (r.given, sym went ∙ r.over, r.free, r.received)))
 
 pub returns-in_default-want : goal.returns-in_default-want

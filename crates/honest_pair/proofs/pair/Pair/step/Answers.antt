@@ -1,5 +1,5 @@
 use Rattle.std.proofs.Common.{◌≡◌, refl, sym, ◌∙◌, ap}
-use Rattle.pair_machine.specs.Pair.{Deliver, Poll, Post, Send}
+use Rattle.pair_machine.specs.Pair.{Await, Deliver, Poll, Post, Send}
 use Rattle.honest_pair.specs.Events.{event_in}
 use Rattle.honest_pair.proofs.FrontLemmas.{does_as, on_ok_map, poll_does, post_does, send_does}
 use Rattle.honest_pair.proofs.pair.Pair.step.Goals as goal
@@ -26,3 +26,7 @@ returns-in-Deliver c =
     let bytes = c.as_slice-bytes-in-Deliver.result.now in
     let same : event_in c.args.event.now ≡ Deliver bytes = ap event_in c.in-Deliver.is ∙ ap Deliver (sym c.as_slice-bytes-in-Deliver.ensures.value) in
     on_ok_map c.deliver.result c.deliver.ensures (λ d. does_as c.args.self.now _ (Deliver bytes) (event_in c.args.event.now) same d)
+
+pub returns-in-Await : goal.returns-in-Await
+returns-in-Await c =
+    on_ok_map c.await_slots.result c.await_slots.ensures (λ d. does_as c.args.self.now _ (Await c.in-Await.pages) (event_in c.args.event.now) (ap event_in c.in-Await.is) d)

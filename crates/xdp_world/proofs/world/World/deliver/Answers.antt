@@ -6,11 +6,12 @@ use Rattle.xen_back.specs.declared.queue.Queue.{Queue}
 use Rattle.xen_back.specs.declared.wiring.Wiring.{Wiring}
 use Rattle.xdp_world.specs.Carries.{delivered_list}
 use Rattle.xdp_world.specs.Doings.{Fits, is_between}
-use Rattle.xdp_world.specs.Stands.{delivered_in, delivered_of, kept_in, kept_of}
+use Rattle.xdp_world.specs.Stands.{delivered_in, delivered_of, kept_in, kept_of, waited_in}
 use Rattle.xdp_world.specs.declared.doing.Doing.{Doing}
 use Rattle.xdp_world.specs.declared.doing.Doing.TheVariants as doing
 use Rattle.xdp_world.specs.declared.kept.Kept.{Kept}
 use Rattle.xdp_world.specs.declared.report.Delivered.{Delivered}
+use Rattle.xdp_world.specs.declared.report.Waited.{Waited}
 use Rattle.xdp_world.proofs.Delivers.{deliver_of}
 use Rattle.xdp_world.proofs.Fitting.{between_is, fit_set, shapes_set, true_ready}
 use Rattle.xdp_world.proofs.Worlds.{After, get_set, get_set_other, get_some, stands_given}
@@ -46,6 +47,7 @@ invariant_of-self-2 c =
       size = w.size;
       all_doing = w.all_doing;
       all_delivered = w.all_delivered;
+      all_waited = w.all_waited;
       empty = w.empty;
       shapes = shapes_set qs i s.new.queue w.counters.shapes w.counters.shapes l w.shapes refl mine;
       fits = fit_set ats qs i s.result.0 s.new.queue la l w.fits s.ensures.fits;
@@ -82,6 +84,7 @@ returns-clause-ok c =
     let there : slice_get ls i ≡ Some v = get_some ls i v ll (λ d. sym (get_or_read ls i v ll c.index_mut.ensures.value d)) in
     let there' : slice_get w.turns.items i ≡ Some t = get_some w.turns.items i t lt (λ d. sym (get_or_read w.turns.items i t lt c.index-2.ensures d)) in
     let kept : ℕ → List Kept = kept_in w.turns.items in
+    let waits : ℕ → List Waited = waited_in w.waits.items in
     let dels : ℕ → List Delivered = delivered_in ls in
     let dels' : ℕ → List Delivered = delivered_in (set ls' i n) in
     let room : u ≡ r = get_or_read ls' i u ll' c.index_mut-4.ensures.value u ∙ get_or-set_same ls i r u ll in
@@ -98,9 +101,10 @@ returns-clause-ok c =
       wired = λ d. rw (is d, get_or-set_same qs i q' d l) s.ensures.same;
       turns = refl;
       deliveries = mine;
+      waits = refl;
       stands_for = λ wirings start cs h.
-          let came : After wirings start qs ats kept dels w.history.items w.counters cs = record { each = h.each; come = h.come; serve = h.serve; joined = h.past; legal = h.legal; leaves = h.leaves } in
-          let x = stands_given wirings start i 0 qs ats kept kept dels dels' w.history.items w.counters cs q q' at at' l la is does came (λ j y. refl) others s.ensures.same
-          p o (between_is at between) s.ensures.lands refl mine in
+          let came : After wirings start qs ats kept dels waits w.history.items w.counters cs = record { each = h.each; come = h.come; serve = h.serve; joined = h.past; legal = h.legal; leaves = h.leaves } in
+          let x = stands_given wirings start i 0 qs ats kept kept dels dels' waits waits w.history.items w.counters cs q q' at at' l la is does came (λ j y. refl) others (λ j y. refl) s.ensures.same
+          p o (between_is at between) s.ensures.lands refl mine refl in
           record { each = x.each; come = x.come; serve = x.serve; past = x.joined; legal = x.legal; leaves = x.leaves };
     })

@@ -1,6 +1,8 @@
-use Rattle.std.proofs.Common.{[], sym}
+use Rattle.std.proofs.Common.{[], ap, sym, subst, ◌∙◌}
 use Rattle.xen_page.proofs.AccessLemmas.{performs_none}
-use Rattle.xen_back.specs.Awaited.{last_look, still_halted}
+use Rattle.xen_back.specs.Awaited.{IsAwaiting, last_look, still_halted}
+use Rattle.xen_back.specs.Waits.{Wait, wait_end}
+use Rattle.xen_back.proofs.WaitLemmas.{wait_row}
 use Rattle.xen_back.proofs.delivery.awaiting.looked_for.Goals as goal
 
 pub returns-in-Some-clause-awaited : goal.returns-in-Some-clause-awaited
@@ -10,5 +12,9 @@ pub returns-in-None-clause-awaited : goal.returns-in-None-clause-awaited
 returns-in-None-clause-awaited g c =
     let w = c.args.wiring.now in
     let s = c.args.state.now in
+    let pages = c.args.pages in
     let p = c.look_behind-producer in
-    (last_look w.vif s.rx_index c.args.pages p.result, c.told.ensures w p.result c.in-None.is p.ensures.word (sym c.requests_shown.ensures), p.ensures.read)
+    let look = last_look w.vif s.rx_index pages p.result in
+    let end = c.told.ensures ∙ ap (wait_end s pages) c.requests_shown.ensures in
+    let row = wait_row w s pages p.result c.in-None.is p.ensures.word in
+    (look, subst (λ (e : Wait). IsAwaiting w s pages look e.0 e.1) (sym end) row, p.ensures.read)

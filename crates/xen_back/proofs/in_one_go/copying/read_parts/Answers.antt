@@ -8,15 +8,14 @@ use Rattle.xen_steps.proofs.CopyLemmas.{bytes_short, room_at_end, room_goes_on}
 use Rattle.xen_back.proofs.ReadLemmas.{bytes_from-append, read_one, read_then}
 use Rattle.xen_back.proofs.in_one_go.copying.read_parts.Goals as goal
 
-pub push_all-requires : goal.push_all-requires
-push_all-requires g c =
+pub push_part-requires-clause-room : goal.push_part-requires-clause-room
+push_part-requires-clause-room g c =
     let f = c.args.fragment.now in
     let i = c.loop-place.invariant in
     let place = c.loop-place.place in
     let v = c.read-word.result in
-    let e = ap length (c.as_slice.ensures.value ∙ c.bytes_in.ensures) in
     let b = bytes_short f place v refl in
-    omega (arith, e, room_at_end f place (length c.loop-place.packet) (length (bytes_in f place v)) 0 (c.requires.covers place i.up c.loop-place-test.true) b.0 i.room)
+    omega (arith, room_at_end f place (length c.loop-place.packet) (length (bytes_in f place v)) 0 (c.requires.covers place i.up c.loop-place-test.true) b.0 i.room)
 
 pub loop-place-preserved : goal.loop-place-preserved
 loop-place-preserved g c =
@@ -28,8 +27,7 @@ loop-place-preserved g c =
     let packet = c.loop-place.packet in
     let at : place ≡ c.args.from + length ws = omega (arith, i.up, i.read.1) in
     let b = bytes_short f place v refl in
-    let same : c.push_all.new.self ≡ packet ++ bytes_in f place v = c.push_all.ensures ∙ ap (λ l. packet ++ l) (c.as_slice.ensures.value ∙ c.bytes_in.ensures) in
-    let len : length c.push_all.new.self ≡ length packet + length (bytes_in f place v) = ap length same ∙ length-append packet (bytes_in f place v) in
+    let len : length c.push_part.new.packet ≡ length packet + length (bytes_in f place v) = ap length c.push_part.ensures ∙ length-append packet (bytes_in f place v) in
     let one = read_one g.B.Bus.log g.B.Bus.access_gives c.args.frame place v c.loop-place.bus c.read-word.new.self c.read-word.type_inv
     (performs_one g.B.Bus.log g.B.Bus.access_gives c.loop-place.bus (access.Read (page_word c.args.frame place) v) c.read-word.new.self c.read-word.ensures.told c.read-word.ensures.given) in
     record {
@@ -40,7 +38,7 @@ loop-place-preserved g c =
         ws ++ v ∷ [],
         omega (arith, length-append ws (v ∷ []), i.read.1, i.up),
         read_then g.B.Bus.log g.B.Bus.access_gives c.args.frame c.args.from place ws (v ∷ []) c.args.bus.now c.loop-place.bus c.read-word.new.self at i.read.2 one,
-        same
+        c.push_part.ensures
             ∙ ap (λ l. l ++ bytes_in f place v) i.read.3
             ∙ append_assoc c.args.packet.now (bytes_from f c.args.from ws) (bytes_in f place v)
             ∙ ap (λ l. c.args.packet.now ++ (bytes_from f c.args.from ws ++ l)) (ap (λ p. bytes_in f p v) at ∙ sym (append-nil (bytes_in f (c.args.from + length ws) v)))

@@ -1,0 +1,11 @@
+//! What the back does for its host.
+
+/// What the back does for its host, between turns or in its sleep.
+#[derive(Clone, Copy, Debug, PartialEq, Eq)]
+pub enum Calling {
+    Nothing,
+    /// A packet of the host's own is being delivered.
+    Delivery,
+    /// So many rx slots are awaited.
+    Wait { pages: u32 },
+}

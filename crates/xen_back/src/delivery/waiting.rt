@@ -1,0 +1,102 @@
+//! A wait for rx slots one event at a time, for a host that serves each event itself.
+
+ghost use Rattle.std.specs.Prelude.{◌≡◌, ◌≢◌, ◌<◌, ℕ};
+ghost use Rattle.xen_steps.specs.Answers.{Fits};
+ghost use Rattle.xen_steps.specs.Drive.{IsPageWant};
+ghost use Rattle.xen_steps.specs.Steps.{done, next_by, want_of};
+ghost use Rattle.xen_back.specs.Queues.{IsReady};
+ghost use Rattle.xen_back.specs.Waits.{Wait, rest_looking, whole_wait};
+ghost use Rattle.xen_back.specs.WaitsByEvent.{IsWaitBegun, IsWaitFed, IsWaitOf, IsWaitOver, left_of_wait};
+
+use crate::delivery::awaiting::{Awaited, told};
+use crate::delivery::looking::{Awaiting, Looking};
+use crate::queue::Queue;
+use crate::state::State;
+use xen_ring::{REQ_EVENT, REQ_PROD};
+use xen_steps::{Answer, Want, header, requests_shown};
+
+/// A wait of which nothing is done.
+fn begun(state: &State) -> Looking
+    ensures { (rx pages : ℕ) → rest_looking rx state.now pages result ≡ whole_wait rx state.now pages }
+{
+    match state.halt {
+        Some(cause) => Looking::Over {
+            after: *state,
+            awaited: Awaited::Halted { cause },
+        },
+        None => Looking::Index,
+    }
+}
+
+/// A wait after an event.
+fn looking_fed(state: &State, pages: u32, looking: Looking, word: u32) -> Looking
+    ensures { (rx counter : ℕ) → rest_looking rx state.now pages result ≡ next_by (rest_looking rx state.now pages looking) word counter }
+{
+    match looking {
+        Looking::Index => Looking::Producer,
+        Looking::Producer => {
+            let (after, awaited) = told(state, pages, requests_shown(state.rx_index, word));
+            Looking::Over { after, awaited }
+        }
+        over => over,
+    }
+}
+
+impl Awaiting {
+    /// What the wait wants next: [`Want::Done`] once it is over.
+    pub fn want(&self) -> Want
+        ensures want { result ≡ want_of (left_of_wait self.now) }
+        ensures within { (frames : ℕ) → self.now.rx < frames → result ≢ Want.Done → IsPageWant frames result }
+        ensures over { result ≡ Want.Done → (end : Wait) × (left_of_wait self.now ≡ done end) }
+    {
+        match self.looking {
+            Looking::Index => Want::Write(
+                header(self.rx, REQ_EVENT),
+                self.state.rx_index.wrapping_add(self.pages),
+            ),
+            Looking::Producer => Want::Read(header(self.rx, REQ_PROD)),
+            Looking::Over { .. } => Want::Done,
+        }
+    }
+
+    /// Goes on with the answer to what the wait wants.
+    pub fn feed(&mut self, answer: Answer)
+        requires { Fits (want_of (left_of_wait self.old)) answer }
+        ensures { IsWaitFed answer self.old self.new }
+    {
+        let word = answer.word();
+        self.looking = looking_fed(&self.state, self.pages, self.looking, word);
+    }
+}
+
+impl<'p, 'b> Queue<'p, 'b> {
+    /// Begins a wait for so many rx slots, as [`Queue::await_slots`] makes it, one event at a time. The queue takes no turn
+    /// and no delivery until [`Queue::end_wait`].
+    pub fn begin_wait(&self, pages: u32) -> Awaiting
+        requires { IsReady self.now }
+        ensures { IsWaitBegun self.now pages result }
+    {
+        let state = self.state;
+        Awaiting {
+            rx: self.wiring.vif.rx,
+            state,
+            pages,
+            looking: begun(&state),
+        }
+    }
+
+    /// Ends a wait that wants nothing more: the queue goes on behind it.
+    pub fn end_wait(&mut self, awaiting: Awaiting) -> Awaited
+        requires ready { IsReady self.old }
+        requires own { IsWaitOf self.old awaiting }
+        requires over { want_of (left_of_wait awaiting) ≡ Want.Done }
+        ensures { IsWaitOver self.old self.new awaiting result }
+    {
+        let _vif = &self.wiring.vif;
+        let Looking::Over { after, awaited } = awaiting.looking else {
+            unreachable!()
+        };
+        self.state = after;
+        awaited
+    }
+}

@@ -1,0 +1,95 @@
+-- A step of a turn that runs no program: what its queue is then, and what it has left.
+use Rattle.std.proofs.Common.{◌≡◌, ℕ, suc, ◌+◌, ◌<◌, ◌∷◌, drop, ◌≤◌, List, [], length, refl, sym, ap, ◌∙◌, subst}
+use Rattle.std.specs.Prelude.{◌/◌, false, slice_index, IfSome, IsTrue, None, Ok, Option, Some}
+use Rattle.xen_page.specs.Entry.{entry_of}
+use Rattle.xen_page.specs.Grant.{checked}
+use Rattle.xen_steps.specs.Pages.{copy_words, covered}
+use Rattle.xen_back.specs.Rest.{fragment_at}
+use Rattle.xen_steps.specs.Steps.{bind, next}
+use Rattle.xen_back.specs.Tree.{after_copy, after_look, after_scan, copy, entered, read_slots, seen, unless_halted}
+use Rattle.xen_back.specs.Within.{Completes}
+use Rattle.xen_back.specs.declared.state.State.{State}
+use Rattle.xen_back.specs.declared.wiring.Wiring.{Wiring}
+use Rattle.xen_host.specs.Completing.{TaskCompletes}
+use Rattle.xen_host.specs.Fed.{IsAskedFor, answers, asked_by, asked_of, fed}
+use Rattle.xen_host.specs.Queues.{IsStepOf, IsStepped, rest, settled_of, task_of}
+use Rattle.xen_host.specs.Rest.{flags_after, is_here, is_turning, rest_in}
+use Rattle.xen_host.specs.Short.{FindsOne, FindsPage}
+use Rattle.xen_host.specs.Wired.{wiring_of}
+use Rattle.xen_host.specs.declared.op.Op.{Op}
+use Rattle.xen_host.specs.declared.queue.Queue.{Queue}
+use Rattle.xen_host.specs.declared.stage.Entering.{Entering}
+use Rattle.xen_host.specs.declared.stage.Stage.{Stage}
+use Rattle.xen_host.specs.declared.stage.Stage.TheVariants as stage
+use Rattle.xen_host.specs.declared.task.Task.{Task}
+use Rattle.xen_host.specs.declared.task.Task.TheVariants as task
+use Rattle.xen_host.specs.declared.wires.Wires.{Wires}
+use Rattle.xen_host.proofs.StepLemmas.{completes_of, is_stepped, settled_completes, step_completes, task_completes}
+use Rattle.xen_host.proofs.TurnLemmas.{AreSmall}
+
+turning_task : (g : Stage) → IsTrue (is_turning g) → task_of g ≡ task.Turn
+turning_task (stage.Carry c) h = absurd (cc h)
+turning_task (stage.Wait b at) h = absurd (cc h)
+turning_task stage.Gone h = absurd (cc h)
+turning_task (stage.Ready b) h = refl
+turning_task (stage.Announce b) h = refl
+turning_task (stage.Slot r) h = refl
+turning_task (stage.Entry x) h = refl
+turning_task (stage.Page g) h = refl
+turning_task (stage.Send g) h = refl
+turning_task (stage.Answer r) h = refl
+turning_task (stage.Push a) h = refl
+turning_task (stage.Notice a) h = refl
+turning_task (stage.Over b after kind) h = refl
+
+-- the stage that was taken out of the queue is the queue's
+pub taken_rest : (q : Queue) (g left : Stage) (lent : List ℕ) → g ≡ q.stage → rest_in (wiring_of q.wires) q.state left ≡ fed (rest_in (wiring_of q.wires) q.state g) (answers g lent) →
+    rest_in (wiring_of q.wires) q.state left ≡ fed (rest q) (answers q.stage lent)
+taken_rest q g left lent same e = e ∙ ap (λ (x : Stage). fed (rest_in (wiring_of q.wires) q.state x) (answers x lent)) same
+
+-- a turn that begins with a request
+pub found_one : (w : Wiring) (s : State) (g : Stage) (lent : List ℕ) (behind : ℕ) → FindsOne s g (slice_index lent 0) behind →
+    bind (read_slots w s.tx_index (suc behind) []) (after_scan w s) ≡ fed (rest_in w s g) (answers g lent)
+found_one w s g lent behind f =
+    sym (ap (λ o. bind (seen w s.tx_index o) (after_look w s)) f.some)
+    ∙ sym (ap (λ h. next (unless_halted w s h) (slice_index lent 0)) f.live)
+    ∙ sym (ap (λ (x : Stage). fed (rest_in w s x) (answers x lent)) f.is)
+
+-- an entry that permits its page
+pub found_page : (w : Wires) (s : State) (g : Stage) (lent : List ℕ) (frame : ℕ) → (f : FindsPage w g (slice_index lent 0) (slice_index lent 1) frame) →
+    bind (bind (copy_words (fragment_at f.entering.work.value.fragments.items f.entering.i) frame ((fragment_at f.entering.work.value.fragments.items f.entering.i).offset / 4)
+    (covered (fragment_at f.entering.work.value.fragments.items f.entering.i)) f.entering.work.value.packet)
+    (copy (wiring_of w) (drop (f.entering.i + 1) f.entering.work.value.fragments.items))) (after_copy (wiring_of w) s f.entering.work.value.chain)
+    ≡ fed (rest_in (wiring_of w) s g) (answers g lent)
+found_page w s g lent frame f =
+    let e = f.entering in
+    let b = e.work.value in
+    let k = copy (wiring_of w) (drop (e.i + 1) b.fragments.items) in
+    sym (ap (λ r. bind (entered (fragment_at b.fragments.items e.i) k b.packet r) (after_copy (wiring_of w) s b.chain)) f.permitted)
+    ∙ sym (ap (λ (x : Stage). fed (rest_in (wiring_of w) s x) (answers x lent)) f.is)
+
+pub page_found : (w : Wires) (g : Stage) (e : Entering) (a b : ℕ) (r : Option ℕ) → g ≡ stage.Entry e →
+    IfSome r (λ frame. (x : ℕ) → (y : ℕ) → ◌≡◌ {A = List ℕ} (a ∷ b ∷ []) (x ∷ y ∷ []) →
+    (checked w.owners w.granter w.user (entry_of x y) false ≡ Ok frame) × (0 < covered (fragment_at e.work.value.fragments.items e.i))) →
+    IfSome r (FindsPage w g a b)
+page_found w g e a b None is h = tt
+page_found w g e a b (Some frame) is h = let f = h a b refl in record { entering = e; is = is; permitted = f.0; some = f.1 }
+
+-- what is left completes
+pub short_completes : (q : Queue) (left : Stage) (lent : List ℕ) → IsTrue (is_turning q.stage) → 1024 ≤ length lent → AreSmall lent → rest_in (wiring_of q.wires) q.state left ≡ fed (rest q) (answers q.stage lent) →
+    Completes (wiring_of q.wires) (rest_in (wiring_of q.wires) q.state left)
+short_completes q left lent turning l small e =
+    step_completes (wiring_of q.wires) q.state q.stage q.stage left lent [] refl l small (sym e) (completes_of q.wires q.state q.stage turning q.left)
+
+pub short_left : (q : Queue) (after : State) (at left : Stage) (lent : List ℕ) → IsTrue (is_turning q.stage) → 1024 ≤ length lent → AreSmall lent → rest_in (wiring_of q.wires) q.state left ≡ fed (rest q) (answers q.stage lent) →
+    IsTrue (is_here left) → ◌≡◌ {A = State × Stage} (after, at) (settled_of q.state left) → IsTrue (is_turning at) → TaskCompletes q.wires after at
+short_left q after at left lent turning l small e here settled on =
+    task_completes q.wires after at on (settled_completes (wiring_of q.wires) q.state left (after, at) q.turns here (short_completes q left lent turning l small e) settled)
+
+-- and it is a step
+pub short_stepped : (q new : Queue) (o : Op) (left : Stage) (lent lent_after counters : List ℕ) → IsTrue (is_turning q.stage) → 1024 ≤ length lent → AreSmall lent → rest_in (wiring_of q.wires) q.state left ≡ fed (rest q) (answers q.stage lent) →
+    IsTrue (is_here left) → IsAskedFor o (rest_in (wiring_of q.wires) q.state left) lent_after → asked_of left ≡ asked_by o → ◌≡◌ {A = State × Stage} (new.state, new.stage) (settled_of q.state left) → new.wires ≡ q.wires →
+    new.flags ≡ flags_after q.stage lent q.flags → IsStepped q new o lent lent_after counters counters
+short_stepped q new o left lent lent_after counters turning l small e here asked said settled wires flags =
+    subst (λ (t : Task). IsStepOf t q new o lent lent_after counters counters) (sym (turning_task q.stage turning))
+    (is_stepped q new o q.stage left lent lent_after counters counters refl l small (record { labels = []; history = refl; gone = sym e }) here asked said settled wires flags)

@@ -1,0 +1,50 @@
+use Rattle.std.proofs.Common.{◌≡◌, length, refl, sym, subst}
+use Rattle.std.specs.Prelude.{ℕ, slice_index, IfSome, IsTrue, Option}
+use Rattle.xen_host.specs.Fed.{answers, fed}
+use Rattle.xen_host.specs.Queues.{rest}
+use Rattle.xen_host.specs.Rest.{is_turning, rest_in}
+use Rattle.xen_host.specs.Short.{FindsPage}
+use Rattle.xen_host.specs.Wired.{wiring_of}
+use Rattle.xen_host.specs.declared.stage.Stage.{Stage}
+use Rattle.xen_host.proofs.ShortLemmas.{short_completes, short_left, short_stepped, taken_rest}
+use Rattle.xen_host.proofs.TurnLemmas.{asked_within}
+use Rattle.xen_host.proofs.queue.Queue.step_reading_page.Goals as goal
+
+pub invariant_of-self : goal.invariant_of-self
+invariant_of-self c =
+    let q = c.args.self.now in
+    let lent = c.args.words.now in
+    let left = c.reading_page-left in
+    let e = c.enter-op in
+    let found = subst (λ (r : Option ℕ). IfSome r (FindsPage q.wires q.stage (slice_index lent 0) (slice_index lent 1))) c.in-Some.is c.finds_page.ensures in
+    let turning : IsTrue (is_turning q.stage) = subst (λ (g : Stage). IsTrue (is_turning g)) (sym found.is) refl in
+    let fed_rest = taken_rest q c.replace-stage.result left.result lent c.replace-stage.ensures.value left.ensures.rest in
+    record {
+      there = e.ensures.there;
+      wired = q.wired;
+      turns = q.turns;
+      left = short_left q e.new.state e.new.stage left.result lent turning c.requires.enough c.are_words.ensures fed_rest left.ensures.here e.ensures.settled e.ensures.turning;
+    }
+
+pub returns-in-Some-clause-stepped : goal.returns-in-Some-clause-stepped
+returns-in-Some-clause-stepped c counters =
+    let q = c.args.self.now in
+    let lent = c.args.words.now in
+    let left = c.reading_page-left in
+    let e = c.enter-op in
+    let found = subst (λ (r : Option ℕ). IfSome r (FindsPage q.wires q.stage (slice_index lent 0) (slice_index lent 1))) c.in-Some.is c.finds_page.ensures in
+    let turning : IsTrue (is_turning q.stage) = subst (λ (g : Stage). IsTrue (is_turning g)) (sym found.is) refl in
+    let fed_rest = taken_rest q c.replace-stage.result left.result lent c.replace-stage.ensures.value left.ensures.rest in
+    short_stepped q _ e.result left.result lent e.new.words counters turning c.requires.enough c.are_words.ensures fed_rest left.ensures.here e.ensures.asked e.ensures.said e.ensures.settled refl c.note_flags.ensures
+
+pub returns-in-Some-clause-within : goal.returns-in-Some-clause-within
+returns-in-Some-clause-within c =
+    let q = c.args.self.now in
+    let lent = c.args.words.now in
+    let left = c.reading_page-left in
+    let e = c.enter-op in
+    let found = subst (λ (r : Option ℕ). IfSome r (FindsPage q.wires q.stage (slice_index lent 0) (slice_index lent 1))) c.in-Some.is c.finds_page.ensures in
+    let turning : IsTrue (is_turning q.stage) = subst (λ (g : Stage). IsTrue (is_turning g)) (sym (found).is) refl in
+    let fed_rest = taken_rest q c.replace-stage.result left.result lent c.replace-stage.ensures.value left.ensures.rest in
+    asked_within (length q.wires.owners) q.wires.program.shapes e.result (rest_in (wiring_of q.wires) q.state left.result) e.new.words e.ensures.asked
+    (short_completes q left.result lent turning c.requires.enough c.are_words.ensures fed_rest)

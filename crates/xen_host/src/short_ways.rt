@@ -1,0 +1,202 @@
+//! Short ways of a turn: what most steps do, each by code of its own that knows the stage before it and the one behind it.
+
+ghost use Rattle.std.specs.Prelude.{◌≡◌, ◌≤◌, ◌<◌, ◌∷◌, [], ℕ, length, slice_index, suc, false, IfSome, IsTrue, Ok, Some};
+ghost use Rattle.xen_page.specs.Entry.{entry_of};
+ghost use Rattle.xen_page.specs.Grant.{checked};
+ghost use Rattle.xen_ring.specs.Index.{is_due};
+ghost use Rattle.xen_steps.specs.Pages.{covered};
+ghost use Rattle.xen_steps.specs.Places.{add32, available};
+ghost use Rattle.xen_back.specs.Rest.{fragment_at};
+ghost use Rattle.xen_back.specs.declared.wiring.Wiring.{Wiring};
+ghost use Rattle.xen_host.specs.Fed.{IsAskedFor, Reads, Pushes, Ended, answers, asked_by, asked_of, fed};
+ghost use Rattle.xen_host.specs.Queues.{settled_of};
+ghost use Rattle.xen_host.specs.Rest.{is_here, is_there, is_turning, rest_in};
+ghost use Rattle.xen_host.specs.Short.{FindsNone, FindsNoneAgain, FindsOne, FindsPage, OwesNone};
+ghost use Rattle.xen_host.specs.Wired.{wiring_of};
+ghost use Rattle.xen_back.specs.declared.turn.Kind.TheVariants as kinds;
+
+use crate::answering::ended;
+use crate::copying::fragment_of;
+use crate::in_place::settle;
+use crate::looking::next_slot;
+use crate::op::Op;
+use crate::stage::{Answering, Entering, Paging, Stage};
+use crate::want::stage_want;
+use crate::wires::Wires;
+use crate::words::are_words;
+use xen_back::{Kind, State};
+use xen_page::{Entry, check};
+use xen_ring::due;
+use xen_steps::requests_shown;
+
+/// Puts a stage, and says what it wants.
+#[inline(always)]
+pub(crate) fn enter(
+    wires: &Wires,
+    state: &mut State,
+    stage: &mut Stage,
+    left: Stage,
+    words: &mut [u32],
+) -> Op
+    requires here { IsTrue (is_here left) }
+    requires enough { 1024 ≤ length words.old }
+    ensures words { length words.new ≡ length words.old }
+    ensures asked { IsAskedFor result (rest_in (wiring_of wires.now) state.old left) words.new }
+    ensures said { asked_of left ≡ asked_by result }
+    ensures settled { (state.new, stage.new) ≡ settled_of state.old left }
+    ensures turning { IsTrue (is_turning stage.new) }
+    ensures there { IsTrue (is_there stage.new) }
+{
+    let op = stage_want(wires, state, &left, words);
+    *stage = left;
+    settle(state, stage);
+    op
+}
+
+/// Whether a producer shows no request.
+#[inline(always)]
+pub(crate) fn shows_none(state: &State, producer: u32) -> bool
+    ensures { IsTrue result → available state.now.tx_index producer ≡ Some 0 }
+{
+    match requests_shown(state.tx_index, producer) {
+        None => false,
+        Some(n) => n == 0,
+    }
+}
+
+/// How many requests a producer shows behind the first, if it shows one.
+#[inline(always)]
+pub(crate) fn shown_behind(state: &State, producer: u32) -> Option<u32>
+    ensures { IfSome result (λ behind. available state.now.tx_index producer ≡ Some (suc behind)) }
+{
+    match requests_shown(state.tx_index, producer) {
+        None => None,
+        Some(n) => { if n == 0 { None } else { Some(n - 1) } }
+    }
+}
+
+/// The event index is to be stored.
+#[inline(always)]
+pub(crate) fn announcing(state: &State, stage: Stage, words: &[u32]) -> Stage
+    requires { FindsNone state.now stage (slice_index words.now 0) }
+    ensures here { IsTrue (is_here result) }
+    ensures asked { asked_of result ≡ Pushes }
+    ensures rest { (w : Wiring) → rest_in w state.now result ≡ fed (rest_in w state.now stage) (answers stage words.now) }
+{
+    match stage {
+        Stage::Ready(work) => Stage::Announce(work),
+        _ => unreachable!(),
+    }
+}
+
+/// The first slot is to be read.
+#[inline(always)]
+pub(crate) fn reading_first(state: &State, stage: Stage, words: &[u32], behind: u32) -> Stage
+    requires { FindsOne state.now stage (slice_index words.now 0) behind }
+    ensures here { IsTrue (is_here result) }
+    ensures asked { asked_of result ≡ Reads 3 }
+    ensures rest { (w : Wiring) → rest_in w state.now result ≡ fed (rest_in w state.now stage) (answers stage words.now) }
+{
+    match stage {
+        Stage::Ready(work) => {
+            let mut work = work;
+            work.chain.clear();
+            next_slot(work, behind)
+        }
+        _ => unreachable!(),
+    }
+}
+
+/// The turn was idle.
+#[inline(always)]
+pub(crate) fn idle(state: &State, stage: Stage, words: &[u32]) -> Stage
+    requires { FindsNoneAgain state.now stage (slice_index words.now 0) }
+    ensures here { IsTrue (is_here result) }
+    ensures asked { asked_of result ≡ Ended kinds.Idle }
+    ensures rest { (w : Wiring) → rest_in w state.now result ≡ fed (rest_in w state.now stage) (answers stage words.now) }
+{
+    match stage {
+        Stage::Announce(work) => Stage::Over {
+            work,
+            after: *state,
+            kind: Kind::Idle,
+        },
+        _ => unreachable!(),
+    }
+}
+
+/// Whether no notice is due behind the responses.
+#[inline(always)]
+pub(crate) fn owes_none(answering: &Answering, event: u32) -> bool
+    ensures { IsTrue result → is_due answering.now.at.tx_index
+        (add32 answering.now.at.tx_index (length answering.now.work.value.chain)) event ≡ false }
+{
+    let old = answering.at.tx_index;
+    let new = old.wrapping_add(answering.work.chain.len() as u32);
+    !due(old, new, event)
+}
+
+/// The turn is over without a notice.
+#[inline(always)]
+pub(crate) fn over(state: &State, stage: Stage, words: &[u32]) -> Stage
+    requires { OwesNone stage (slice_index words.now 0) }
+    ensures here { IsTrue (is_here result) }
+    ensures asked { (kind : Kind) × (asked_of result ≡ Ended kind) }
+    ensures rest { (w : Wiring) → rest_in w state.now result ≡ fed (rest_in w state.now stage) (answers stage words.now) }
+{
+    match stage {
+        Stage::Push(answering) => ended(answering),
+        _ => unreachable!(),
+    }
+}
+
+/// The frame of a fragment's page, where the entry of these words permits it and the fragment has bytes in it.
+#[inline(always)]
+pub(crate) fn permitted_page(wires: &Wires, entering: &Entering, words: [u32; 2]) -> Option<u32>
+    ensures { IfSome result (λ frame. (a : ℕ) → (b : ℕ) → words ≡ a ∷ b ∷ [] →
+        (checked wires.now.owners wires.now.granter wires.now.user (entry_of a b) false ≡ Ok frame) ×
+        (0 < covered (fragment_at entering.now.work.value.fragments.items entering.now.i))) }
+{
+    let entry = Entry::of_words(words[0], words[1]);
+    match check(&wires.owners, wires.granter, wires.user, entry, false) {
+        Err(_) => None,
+        Ok(frame) => {
+            let covered = fragment_of(&entering.work, entering.i).covered_words();
+            if covered.start == covered.end {
+                None
+            } else {
+                Some(frame)
+            }
+        }
+    }
+}
+
+/// The words of a fragment's page are to be read.
+#[inline(always)]
+pub(crate) fn reading_page(
+    wires: &Wires,
+    state: &State,
+    stage: Stage,
+    words: &[u32],
+    frame: u32,
+) -> Stage
+    requires { FindsPage wires.now stage (slice_index words.now 0) (slice_index words.now 1) frame }
+    ensures here { IsTrue (is_here result) }
+    ensures asked { (count : ℕ) × (asked_of result ≡ Reads count) }
+    ensures rest { rest_in (wiring_of wires.now) state.now result
+        ≡ fed (rest_in (wiring_of wires.now) state.now stage) (answers stage words.now) }
+{
+    match stage {
+        Stage::Entry(entering) => {
+            let Entering { work, i, at: _ } = entering;
+            let fragment = fragment_of(&work, i);
+            Stage::Page(Paging {
+                work,
+                i: i + 1,
+                fragment,
+                frame,
+            })
+        }
+        _ => unreachable!(),
+    }
+}

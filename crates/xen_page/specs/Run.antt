@@ -1,0 +1,21 @@
+-- A run: consecutive words of a frame, read one after another.
+use Rattle.std.specs.Prelude.{ℕ, ◌+◌, ◌<◌, ◌^◌, ◌≡◌, List, [], ◌∷◌, All, Option}
+use Rattle.std.specs.Int.{w32, to_le_bytes}
+use Rattle.std.specs.List.{flat_map}
+use Rattle.xen_page.specs.Access.{Performs}
+use Rattle.xen_page.specs.declared.access.Access.{Access}
+use Rattle.xen_page.specs.declared.access.Access.TheVariants as access
+use Rattle.xen_page.specs.declared.place.Place.{Place}
+
+-- a read that answers each of the words, in rising order from a place on
+abbrev pub reads_of : Place → List ℕ → List Access
+reads_of at [] = []
+reads_of at (word ∷ words) = access.Read at word ∷ reads_of (record at { word = at.word + 1 }) words
+
+-- A bus read words of 32 bits, each once and in rising order, and these are their bytes, each word's lowest byte first.
+pub record ReadsRun {S : Type 0} (log : S → Option (List Access)) (gives : S → Access → S → Type 0)
+    (at : Place) (old : S) (bytes : List ℕ) (new : S) : Type 0 where
+  pub words : List ℕ
+  pub below : All (λ word. word < 2 ^ 32) words
+  pub performed : Performs log gives old (reads_of at words) new
+  pub told : bytes ≡ flat_map (to_le_bytes w32) words
