@@ -1,16 +1,24 @@
 -- How far decoding has come: the slots read so far, and the bytes that are left.
-use Rattle.std.proofs.Common.{◌≡◌, ◌≢◌, ℕ, ◌+◌, ◌*◌, ◌≤◌, refl, true, false, List, [], ◌∷◌, ◌++◌, length, ap, sym, ◌∙◌, arith, append_assoc, append-nil, drop, length-append, inl, inr}
+use Rattle.std.proofs.Common.{◌≡◌, ℕ, ◌+◌, ◌*◌, refl, true, false, List, [], ◌∷◌, ◌++◌, length, ap, sym, ◌∙◌, arith, append_assoc, append-nil, drop, length-append, inl, inr}
 use Rattle.std.specs.Prelude.{flat_map}
 use Rattle.std.specs.List.{AllByRecursion}
 use Rattle.bpf_insn.specs.Code.{takes, Spells}
-use Rattle.bpf_insn.specs.Refusal.{HasLength, IsNoCode, IsRefused, Reaches, Stops}
-use Rattle.bpf_insn.specs.declared.refusal.Cause.TheVariants.{Memory, Length as BadLength}
+use Rattle.bpf_insn.specs.Refusal.{HasLength, IsNoCode, Reaches, RunsOut, Stops}
 use Rattle.bpf_insn.specs.declared.refusal.Refusal.{Refusal}
 use Rattle.bpf_insn.specs.Spelling.{spelling, HasSpelling}
 use Rattle.bpf_insn.specs.declared.insn.Insn.{Insn}
 use Rattle.bpf_insn.specs.declared.insn.Insn.TheVariants.{Alu, Neg, End, MovSx, Const, MapRef, Ldx, St, Stx, AddCounter, Ja, Jump, Call, Exit, Second}
 use Rattle.bpf_insn.specs.declared.operand.Operand.TheVariants.{Immediate, Register as InRegister}
 use Rattle.bpf_insn.specs.declared.size.Size.TheVariants.{Byte, Half, Word, Double}
+
+-- memory may run out before the first slot is read
+pub runs_out_first : (bytes : List ℕ) → HasLength bytes → RunsOut bytes 0
+runs_out_first bytes h = record {
+  length = h;
+  rest = bytes;
+  reached = record { front = []; spelled = tt; written = refl; counted = refl };
+  some = λ e. let none : length bytes ≡ 0 = ap length e in absurd (omega (arith, none, h.some));
+}
 
 pub record Progress (bytes : List ℕ) (insns : List Insn) (rest : List ℕ) : Type 0 where
   pub front : List Insn

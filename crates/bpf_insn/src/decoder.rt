@@ -49,6 +49,16 @@ fn add(insns: &mut Vec<Insn>, insn: Insn) -> Result<(), AllocError>
     Ok(())
 }
 
+/// The refusal when memory runs out at `pc`.
+fn memory_refusal(error: AllocError, pc: u32) -> Refusal
+    ensures { result ≡ record { cause = Cause.Memory; pc = pc } }
+{
+    Refusal {
+        cause: Cause::from(error),
+        pc,
+    }
+}
+
 /// Adds the slots of an instruction, the first of them at `pc`.
 fn push(insns: &mut Vec<Insn>, insn: Insn, pc: u32) -> Result<(), Refusal>
     ensures ok { OnOk result (insns.new.items ≡ insns.old.items ++ takes insn) }
@@ -56,10 +66,7 @@ fn push(insns: &mut Vec<Insn>, insn: Insn, pc: u32) -> Result<(), Refusal>
 {
     match add(insns, insn) {
         Ok(()) => Ok(()),
-        Err(error) => Err(Refusal {
-            cause: Cause::from(error),
-            pc,
-        }),
+        Err(error) => Err(memory_refusal(error, pc)),
     }
 }
 
@@ -159,7 +166,10 @@ fn slots_of(alloc: Global, bytes: &[u8]) -> Result<Vec<Insn>, Refusal>
     ensures ok { IfOk result (λ v. Spells v.items bytes.now) }
     ensures err { IfErr result (λ r. IsNoCode bytes.now r) }
 {
-    let mut insns = Vec::new(alloc);
+    let mut insns = match Vec::with_capacity(alloc, bytes.len() / 8) {
+        Ok(insns) => insns,
+        Err(error) => return Err(memory_refusal(error, 0)),
+    };
     let mut rest = bytes;
     'slots: while !rest.is_empty() {
         let pc = insns.len() as u32;
@@ -204,11 +214,18 @@ pub fn decode(alloc: Global, bytes: &[u8]) -> Result<Code, Refusal>
     ensures spelled { (code : List Insn) → Spells code bytes.now → MatchResult result (λ c. c ≡ code) (λ r. r.cause ≡ Cause.Memory) }
     ensures refused { (cause : Cause) (pc : ℕ) → IsRefused bytes.now cause pc → IsErrAnd result (λ r. (r.cause ≡ cause) × (r.pc ≡ pc)) }
 {
-    if let Some(refusal) = refusal_of(bytes) {
-        return Err(refusal);
+    if !has_length(bytes) {
+        return Err(Refusal {
+            cause: Cause::Length,
+            pc: 0,
+        });
     }
+    // Where reading stops the bytes are read again without memory, so that a refusal doesn't hang on it.
     match slots_of(alloc, bytes) {
         Ok(insns) => Ok(Code::of_slots(insns)),
-        Err(refusal) => Err(refusal),
+        Err(stopped) => match refusal_of(bytes) {
+            Some(refusal) => Err(refusal),
+            None => Err(stopped),
+        },
     }
 }

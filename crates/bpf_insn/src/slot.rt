@@ -176,16 +176,16 @@ fn arithmetic(f: Fields) -> Option<Insn>
     ensures swap { IfNone result ((kind : SwapKind) (width : Width) (dst : Register) → slots (Insn.End kind width dst) ≡ f ∷ [] → ⊥) }
     ensures extend { IfNone result ((wide : Bool) (bits : Size) (dst src : Register) → slots (Insn.MovSx wide bits dst src) ≡ f ∷ [] → ⊥) }
 {
+    if let Some(insn) = binary(f) {
+        return Some(insn);
+    }
     if let Some(insn) = negation(f) {
         return Some(insn);
     }
     if let Some(insn) = byte_swap(f) {
         return Some(insn);
     }
-    if let Some(insn) = extending_move(f) {
-        return Some(insn);
-    }
-    binary(f)
+    extending_move(f)
 }
 
 /// A JMP or JMP32 instruction.
@@ -198,10 +198,10 @@ fn jump(f: Fields) -> Option<Insn>
     ensures call { IfNone result ((helper : ℤ) → slots (Insn.Call helper) ≡ f ∷ [] → ⊥) }
     ensures exit { IfNone result (slots Insn.Exit ≡ f ∷ [] → ⊥) }
 {
-    if let Some(insn) = bare(f) {
+    if let Some(insn) = conditional(f) {
         return Some(insn);
     }
-    conditional(f)
+    bare(f)
 }
 
 /// The instruction that one slot spells.

@@ -40,6 +40,16 @@ drop_all [] (suc i) h = refl
 drop_all (x ∷ xs) zero h = absurd (omega arith)
 drop_all (x ∷ xs) (suc i) h = drop_all xs i (omega arith)
 
+-- the first of those behind i is item i, and the others are behind i + 1
+pub drop_head : {A : Type 0} (xs : List A) (i : ℕ) (x : A) (ys : List A) → drop i xs ≡ x ∷ ys → (slice_get xs i ≡ Some x) × (drop (i + 1) xs ≡ ys)
+drop_head [] zero x ys e = absurd (cc)
+drop_head [] (suc i) x ys e = absurd (cc)
+drop_head (z ∷ zs) zero x ys e = (cc, cc)
+drop_head (z ∷ zs) (suc i) x ys e = let r = drop_head zs i x ys e in (r.0, ap (λ (k : ℕ). drop k (z ∷ zs)) (add-suc i) ∙ r.1)
+  where
+    add-suc : (i : ℕ) → suc i + 1 ≡ suc (i + 1)
+    add-suc i = omega arith
+
 -- the first i notes of slot pc have gone along its edges: what is left does the rest
 pub record IsFollowing (code : List Insn) (shapes : List Shape) (pc i : ℕ) (old new : ℕ → List Facts) : Type 0 where
   pub rest : (q : ℕ) → q ≢ pc → (r : List Facts) → Hears (new q) q (told code shapes pc (drop i (old pc))) r → Hears (old q) q (told code shapes pc (old pc)) r

@@ -6,6 +6,7 @@ mod WaitLemmas
 mod TakeLemmas
 mod RankLemmas
 mod OrderLemmas
+mod RisingLemmas
 mod LawLemmas
 mod CodeLemmas
 mod FlowLemmas

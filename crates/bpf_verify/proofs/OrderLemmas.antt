@@ -113,7 +113,7 @@ ordered_closes code p o c = rank_circle p o.falls (closes_circle code p c)
 ready_same : {Edge : ℕ → ℕ → Type 0} {In In' : ℕ → Type 0} {taken : List ℕ} {q : ℕ} → ((r : ℕ) → In r → In' r) → ((r : ℕ) → In' r → In r) → IsReady Edge In taken q → IsReady Edge In' taken q
 ready_same to from r = record { within = to _ r.within; open' = r.open'; preds = λ p on e. r.preds p (from p on) e }
 
-takes_same : {Edge : ℕ → ℕ → Type 0} {In In' : ℕ → Type 0} {xs : List ℕ} → ((r : ℕ) → In r → In' r) → ((r : ℕ) → In' r → In r) → Takes Edge In xs → Takes Edge In' xs
+pub takes_same : {Edge : ℕ → ℕ → Type 0} {In In' : ℕ → Type 0} {xs : List ℕ} → ((r : ℕ) → In r → In' r) → ((r : ℕ) → In' r → In r) → Takes Edge In xs → Takes Edge In' xs
 takes_same to from none = none
 takes_same to from (more t ready low) = more (takes_same to from t) (ready_same to from ready) (λ q r. low q (ready_same from to r))
 

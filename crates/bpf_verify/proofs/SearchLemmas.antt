@@ -51,7 +51,7 @@ explored_on code from pc m m' m'' pile pile' pile'' e a b =
     }
 
 -- what is marked spreads along paths, once the pile is empty
-spread : {Edge : ℕ → ℕ → Type 0} (m : List Bool) {p q : ℕ} → ((p q : ℕ) → marked m p ≡ true → Edge p q → marked m q ≡ true) → Reaches Edge p q → marked m p ≡ true → marked m q ≡ true
+pub spread : {Edge : ℕ → ℕ → Type 0} (m : List Bool) {p q : ℕ} → ((p q : ℕ) → marked m p ≡ true → Edge p q → marked m q ≡ true) → Reaches Edge p q → marked m p ≡ true → marked m q ≡ true
 spread m closed here mp = mp
 spread m closed (along e l) mp = spread m closed l (closed _ _ mp e)
 

@@ -28,6 +28,12 @@ marked_inside [] q e = cc
 marked_inside (b ∷ m) zero e = omega arith
 marked_inside (b ∷ m) (suc q) e = let low = marked_inside m q e in omega arith
 
+-- the mark that was read
+pub is_marked : (m : List Bool) (k : ℕ) (b : Bool) → b ≡ slice_index_or m k b → k < length m → b ≡ slice_index_or m k false
+is_marked [] k b e low = absurd (omega arith)
+is_marked (x ∷ m) zero b e low = e
+is_marked (x ∷ m) (suc k) b e low = is_marked m k b e (omega arith)
+
 landed_by : (code : List Insn) (r q : ℕ) (b : Bool) → begins (slice_get code r) ≡ b → (if b then Some r else None) ≡ Some q → (Some r ≡ Some q) × Stands code q
 landed_by code r q true is e = let same : r ≡ q = cc in (e, subst (Stands code) same is)
 landed_by code r q false is e = cc

@@ -3,6 +3,7 @@ pub mod Paths
 pub mod Orders
 pub mod Edges
 pub mod Ways
+pub mod Rising
 pub mod Marks
 pub mod Waits
 pub mod Unwritten

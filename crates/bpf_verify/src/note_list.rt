@@ -1,5 +1,5 @@
 //! The notes at a slot.
-ghost use Rattle.std.specs.Prelude.{◌≡◌, ◌↔◌, map, Contains, IsTrue, OnOk, IfOk, [], ◌∷◌};
+ghost use Rattle.std.specs.Prelude.{◌≡◌, ◌↔◌, map, Contains, IsTrue, OnOk, IfOk, IfSome, IfNone, [], ◌∷◌};
 ghost use Rattle.bpf_note.specs.Facts.{entry};
 ghost use Rattle.bpf_note.specs.Parts.{facts};
 ghost use Rattle.bpf_verify.specs.Gathered.{Arrives};
@@ -7,6 +7,7 @@ ghost use Rattle.bpf_verify.specs.Gathered.{Arrives};
 use bpf_note::{Note, join_in_place, notes_that_say_the_same_are_equal};
 use std::alloc::{AllocError, Global};
 use std::marker::Model;
+use std::mem;
 
 /// How many notes a slot has at most.
 pub(crate) const MOST_NOTES: usize = 8;
@@ -60,6 +61,26 @@ impl NoteList {
         ensures { map (λ b. b.value) result.items ≡ self }
     {
         self.notes
+    }
+
+    /// The first note goes.
+    pub(crate) fn take_first(&mut self) -> Option<Box<Note>>
+        ensures some { IfSome result (λ b. self.old ≡ b.value ∷ self.new) }
+        ensures none { IfNone result (self.old ≡ []) }
+    {
+        if self.notes.is_empty() {
+            return None;
+        }
+        Some(self.notes.remove(0))
+    }
+
+    /// Takes over the memory of a list without notes, if it has no notes either.
+    pub(crate) fn take_over(&mut self, spare: &mut NoteList)
+        ensures { self.new ≡ self.old }
+    {
+        if self.notes.is_empty() && spare.notes.is_empty() {
+            mem::swap(&mut self.notes, &mut spare.notes);
+        }
     }
 
     /// Whether a note of the list says the same as this one.

@@ -25,22 +25,31 @@ use bpf_note::{MapShape, Note};
 use std::alloc::{AllocError, Global};
 use std::mem;
 
+/// The notes at each slot, and the memory of the list that was followed last, which the next list without notes takes over.
+#[derive(Drop)]
+struct Table {
+    lists: Vec<NoteList>,
+    spare: NoteList,
+}
+
 /// Brings a note to a slot.
-fn tell(table: &mut Vec<NoteList>, pc: u32, note: Box<Note>) -> Result<(), AllocError>
-    requires { pc < vec_len table.old }
-    ensures size { OnOk result (vec_len table.new ≡ vec_len table.old) }
-    ensures hears { OnOk result ((q : ℕ) → Hears (facts_at table.old.items q) q ((pc, facts note.value) ∷ [])
-        (facts_at table.new.items q)) }
+fn tell(table: &mut Table, pc: u32, note: Box<Note>) -> Result<(), AllocError>
+    requires { pc < vec_len table.old.lists }
+    ensures size { OnOk result (vec_len table.new.lists ≡ vec_len table.old.lists) }
+    ensures hears { OnOk result ((q : ℕ) → Hears (facts_at table.old.lists.items q) q ((pc, facts note.value) ∷ [])
+        (facts_at table.new.lists.items q)) }
 {
-    table[pc as usize].arrive(note)
+    let list = &mut table.lists[pc as usize];
+    list.take_over(&mut table.spare);
+    list.arrive(note)
 }
 
 /// Brings notes to the slots that an instruction leads to: this one to the first of them.
-fn spread(table: &mut Vec<NoteList>, note: Box<Note>, ways: Ways) -> Result<(), AllocError>
-    requires { LeadInside (edges_along ways (facts note.value)) (vec_len table.old) }
-    ensures size { OnOk result (vec_len table.new ≡ vec_len table.old) }
-    ensures hears { OnOk result ((q : ℕ) → Hears (facts_at table.old.items q) q (edges_along ways (facts note.value))
-        (facts_at table.new.items q)) }
+fn spread(table: &mut Table, note: Box<Note>, ways: Ways) -> Result<(), AllocError>
+    requires { LeadInside (edges_along ways (facts note.value)) (vec_len table.old.lists) }
+    ensures size { OnOk result (vec_len table.new.lists ≡ vec_len table.old.lists) }
+    ensures hears { OnOk result ((q : ℕ) → Hears (facts_at table.old.lists.items q) q (edges_along ways (facts note.value))
+        (facts_at table.new.lists.items q)) }
     ensures err { OnErr result (WantsMemory (Ok (edges_along ways (facts note.value)))) }
 {
     match ways {
@@ -58,7 +67,7 @@ fn follow_note(
     alloc: Global,
     code: &[Insn],
     shapes: &[MapShape],
-    table: &mut Vec<NoteList>,
+    table: &mut Table,
     pc: u32,
     mut note: Box<Note>,
 ) -> Result<(), Stopped>
@@ -66,10 +75,10 @@ fn follow_note(
     requires structured { IsStructured code.now (length shapes.now) }
     requires there { pc < length code.now }
     requires begins { begins (slice_get code.now pc) ≡ true }
-    requires size { vec_len table.old ≡ length code.now }
-    ensures size { OnOk result (vec_len table.new ≡ length code.now) }
+    requires size { vec_len table.old.lists ≡ length code.now }
+    ensures size { OnOk result (vec_len table.new.lists ≡ length code.now) }
     ensures hears { OnOk result ((es : Edges) × (rule_at code.now shapes.now pc (facts note.value) ≡ Ok es) ×
-        ((q : ℕ) → Hears (facts_at table.old.items q) q es (facts_at table.new.items q))) }
+        ((q : ℕ) → Hears (facts_at table.old.lists.items q) q es (facts_at table.new.lists.items q))) }
     ensures slot { IfErr result (λ s. s.refusal.pc ≡ pc) }
     ensures err { IfErr result (λ s. Fails s.refusal.cause (rule_at code.now shapes.now pc (facts note.value))) }
     ensures there { IfErr result (λ s. IsSome s.note ↔ IsRuleCause s.refusal.cause) }
@@ -89,44 +98,48 @@ fn follow(
     alloc: Global,
     code: &[Insn],
     shapes: &[MapShape],
-    table: &mut Vec<NoteList>,
+    table: &mut Table,
     pc: u32,
 ) -> Result<(), Stopped>
     requires laid { IsCode code.now }
     requires structured { IsStructured code.now (length shapes.now) }
     requires there { pc < length code.now }
     requires begins { begins (slice_get code.now pc) ≡ true }
-    requires size { vec_len table.old ≡ length code.now }
-    ensures size { OnOk result (vec_len table.new ≡ length code.now) }
+    requires size { vec_len table.old.lists ≡ length code.now }
+    ensures size { OnOk result (vec_len table.new.lists ≡ length code.now) }
     ensures hears { OnOk result ((q : ℕ) → q ≢ pc →
-        Hears (facts_at table.old.items q) q (told code.now shapes.now pc (facts_at table.old.items pc)) (facts_at table.new.items q)) }
-    ensures allowed { OnOk result (AreAllowed code.now shapes.now pc (facts_at table.old.items pc)) }
+        Hears (facts_at table.old.lists.items q) q (told code.now shapes.now pc (facts_at table.old.lists.items pc)) (facts_at table.new.lists.items q)) }
+    ensures allowed { OnOk result (AreAllowed code.now shapes.now pc (facts_at table.old.lists.items pc)) }
     ensures slot { IfErr result (λ s. s.refusal.pc ≡ pc) }
-    ensures err { IfErr result (λ s. IsMet s.refusal.cause (TakesMemory code.now shapes.now pc (facts_at table.old.items pc))
-        (IsFirstCause code.now shapes.now pc (facts_at table.old.items pc) s.refusal.cause)) }
+    ensures err { IfErr result (λ s. IsMet s.refusal.cause (TakesMemory code.now shapes.now pc (facts_at table.old.lists.items pc))
+        (IsFirstCause code.now shapes.now pc (facts_at table.old.lists.items pc) s.refusal.cause)) }
     ensures there { IfErr result (λ s. IsSome s.note ↔ IsRuleCause s.refusal.cause) }
     ensures note { IfErr result (λ s. IfSome s.note
-        (λ n. IsFirstRefused code.now shapes.now pc (facts_at table.old.items pc) s.refusal.cause (facts n.value))) }
+        (λ n. IsFirstRefused code.now shapes.now pc (facts_at table.old.lists.items pc) s.refusal.cause (facts n.value))) }
 {
-    let notes = mem::replace(&mut table[pc as usize], NoteList::empty(alloc)).into_notes();
-    for note in notes {
+    let mut list = mem::replace(&mut table.lists[pc as usize], NoteList::empty(alloc));
+    while let Some(note) = list.take_first() {
         follow_note(alloc, code, shapes, table, pc, note)?;
     }
+    table.spare = list;
     Ok(())
 }
 
 /// What is known at the first slot, and nothing at the others.
-fn blank(alloc: Global, slots: usize) -> Result<Vec<NoteList>, AllocError>
+fn blank(alloc: Global, slots: usize) -> Result<Table, AllocError>
     requires { 0 < slots }
-    ensures size { IfOk result (λ v. vec_len v ≡ slots) }
-    ensures first { IfOk result (λ v. (q : ℕ) → facts_at v.items q ≡ first_notes q) }
+    ensures size { IfOk result (λ t. vec_len t.lists ≡ slots) }
+    ensures first { IfOk result (λ t. (q : ℕ) → facts_at t.lists.items q ≡ first_notes q) }
 {
-    let mut table = Vec::with_capacity(alloc, slots)?;
-    table.push(NoteList::at_entry(alloc)?)?;
+    let mut lists = Vec::with_capacity(alloc, slots)?;
+    lists.push(NoteList::at_entry(alloc)?)?;
     for _slot in 1..slots {
-        table.push(NoteList::empty(alloc))?;
+        lists.push(NoteList::empty(alloc))?;
     }
-    Ok(table)
+    Ok(Table {
+        lists,
+        spare: NoteList::empty(alloc),
+    })
 }
 
 /// The second pass: over the reached slots in their order, or up to the first refusal. Out of memory is V0 at the slot being
@@ -172,7 +185,7 @@ pub(crate) fn notes_at(
     let mut table = blank(alloc, code.len())?;
     for &pc in &order {
         if pc == at {
-            let list = mem::replace(&mut table[at as usize], NoteList::empty(alloc));
+            let list = mem::replace(&mut table.lists[at as usize], NoteList::empty(alloc));
             return Ok(Some(list.into_notes()));
         }
         if let Err(stopped) = follow(alloc, code, shapes, &mut table, pc) {

@@ -7,6 +7,7 @@ ghost use Rattle.bpf_verify.specs.Marks.{is_instruction, marked};
 use crate::graph::edges::jump_to;
 use crate::graph::order::order;
 use crate::graph::reach::reached;
+use crate::graph::rising::is_rising;
 use crate::slot::begins;
 use bpf_insn::Insn;
 use std::alloc::{AllocError, Global};
@@ -60,6 +61,9 @@ pub(crate) fn is_ordered(alloc: Global, code: &[Insn]) -> Result<bool, AllocErro
     ensures ordered { IfOk result (λ b. IsTrue b ↔ IsOrdered code.now) }
     ensures acyclic { IfOk result (λ _. ((q : ℕ) → q < length code.now → ClosesCycle code.now q → ⊥) → IsOrdered code.now) }
 {
+    if is_rising(code) {
+        return Ok(true);
+    }
     let all = instructions(alloc, code)?;
     let whole = order(alloc, code, all)?;
     Ok(is_clear(&whole.left))

@@ -8,6 +8,7 @@ ghost use Rattle.bpf_verify.specs.Waits.{one, into, IsFree};
 
 use crate::graph::edges::{fall_to, jump_to};
 use crate::graph::reach::reached;
+use crate::graph::rising::{is_rising, rising_order};
 use bpf_insn::Insn;
 use std::alloc::{AllocError, Global};
 
@@ -121,6 +122,9 @@ pub fn pass_order(alloc: Global, code: &[Insn]) -> Result<Vec<u32>, AllocError>
     requires ordered { IsOrdered code.now }
     ensures { IfOk result (λ v. IsPassOrder code.now v.items) }
 {
+    if is_rising(code) {
+        return rising_order(alloc, code);
+    }
     let start = reached(alloc, code, 0)?;
     let order = order(alloc, code, start)?;
     Ok(order.taken)

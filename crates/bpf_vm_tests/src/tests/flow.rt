@@ -42,6 +42,26 @@ fn a_backward_jump_without_a_cycle(rt: HostRuntime) {
     );
 }
 
+/// A jump over an instruction to which nothing leads, and one over a wide load.
+#[rattlefmt::skip]
+const UPWARDS: [[u8; 8]; 7] = [
+    [5, 0, 1, 0, 0, 0, 0, 0], // goto +1
+    [0xb7, 0, 0, 0, 1, 0, 0, 0], // r0 = 1
+    [0xb7, 0, 0, 0, 2, 0, 0, 0], // r0 = 2
+    [0x15, 0, 2, 0, 0, 0, 0, 0], // if r0 == 0 goto +2
+    [0x18, 1, 0, 0, 9, 0, 0, 0], // r1 = 9 ll
+    [0, 0, 0, 0, 0, 0, 0, 0],
+    [0x95, 0, 0, 0, 0, 0, 0, 0], // exit
+];
+
+#[test]
+fn reached_slots_are_taken_upwards(rt: HostRuntime) {
+    assert_eq!(rt;
+        has_order(rt.alloc(), &UPWARDS, &[0, 2, 3, 4, 6]),
+        Some(true)
+    );
+}
+
 #[rattlefmt::skip]
 const TEN_TIMES: [[u8; 8]; 4] = [
     [0xb7, 0, 0, 0, 0, 0, 0, 0], // r0 = 0

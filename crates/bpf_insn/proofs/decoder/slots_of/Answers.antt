@@ -1,7 +1,10 @@
-use Rattle.std.proofs.Common.{arith}
+use Rattle.std.proofs.Common.{inr, refl, arith}
 use Rattle.std.proofs.lemmas.Bool.Decides.{nat_tests}
-use Rattle.bpf_insn.proofs.ProgressLemmas.{more_progress, all_read}
+use Rattle.bpf_insn.proofs.ProgressLemmas.{runs_out_first, more_progress, all_read}
 use Rattle.bpf_insn.proofs.decoder.slots_of.Goals as goal
+
+pub returns-in-Err-clause-err : goal.returns-in-Err-clause-err
+returns-in-Err-clause-err c = rw c.memory_refusal.ensures (inr (refl, runs_out_first c.args.bytes.now c.requires))
 
 pub slots-preserved : goal.slots-preserved
 slots-preserved c =

@@ -5,4 +5,4 @@ use Rattle.bpf_verify.specs.Tables.{facts_at}
 use Rattle.bpf_verify.proofs.notes.blank.Given as goal
 
 abbrev pub invariant-loop-slot : goal.invariant-loop-slot
-invariant-loop-slot l = (vec_len l.table ≡ l._slot) × ((q : ℕ) → facts_at l.table.items q ≡ first_notes q)
+invariant-loop-slot l = (vec_len l.lists ≡ l._slot) × ((q : ℕ) → facts_at l.lists.items q ≡ first_notes q)

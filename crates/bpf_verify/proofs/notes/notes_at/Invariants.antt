@@ -5,4 +5,4 @@ use Rattle.bpf_verify.proofs.PassingLemmas.{IsPassingWith}
 use Rattle.bpf_verify.proofs.notes.notes_at.Given as goal
 
 abbrev pub invariant-loop-pc : goal.invariant-loop-pc
-invariant-loop-pc l = (vec_len l.table ≡ length l.code) × IsPassingWith l.code l.shapes l.pc-items l.pc-index (facts_at l.table.items) × ((j : ℕ) → j < l.pc-index → get_or l.pc-items j 0 ≡ l.at → ⊥)
+invariant-loop-pc l = (vec_len l.table.lists ≡ length l.code) × IsPassingWith l.code l.shapes l.pc-items l.pc-index (facts_at l.table.lists.items) × ((j : ℕ) → j < l.pc-index → get_or l.pc-items j 0 ≡ l.at → ⊥)

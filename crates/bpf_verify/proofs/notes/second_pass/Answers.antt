@@ -29,8 +29,8 @@ returns-in_err-follow-clause-halted c =
     let taken = c.loop-pc.invariant.1 in
     let s = c.in_err-follow.field-0.0 in
     let p = err_from_is_err_and c.from_residual.result c.from_residual.ensures.1 in
-    let here = list_there c.args.code.now c.args.shapes.now c.deref-pc-items.result.now c.requires.laid c.requires.structured is c.loop-pc.pc-index pc (omega arith) refl taken.notes taken.passing (facts_at c.loop-pc.table.items) taken.same in
-    let halted = halted_by c.args.code.now c.args.shapes.now pc s.refusal.cause _ (IsFirstCause c.args.code.now c.args.shapes.now pc (facts_at c.loop-pc.table.items pc) s.refusal.cause) c.in_err-follow.ensures.err
+    let here = list_there c.args.code.now c.args.shapes.now c.deref-pc-items.result.now c.requires.laid c.requires.structured is c.loop-pc.pc-index pc (omega arith) refl taken.notes taken.passing (facts_at c.loop-pc.table.lists.items) taken.same in
+    let halted = halted_by c.args.code.now c.args.shapes.now pc s.refusal.cause _ (IsFirstCause c.args.code.now c.args.shapes.now pc (facts_at c.loop-pc.table.lists.items pc) s.refusal.cause) c.in_err-follow.ensures.err
     (λ h. passing_takes c.args.code.now c.args.shapes.now c.deref-pc-items.result.now c.requires.laid c.requires.structured is c.loop-pc.pc-index pc (omega arith) refl taken.notes taken.passing (subst (λ (ns : List Facts). TakesMemory c.args.code.now c.args.shapes.now pc ns) here h))
     (λ h. passing_stops c.args.code.now c.args.shapes.now c.deref-pc-items.result.now c.requires.laid c.requires.structured is c.loop-pc.pc-index pc (omega arith) refl taken.notes taken.passing s.refusal.cause (subst (λ (ns : List Facts). IsFirstCause c.args.code.now c.args.shapes.now pc ns s.refusal.cause) here h)) in
     rw (p.1, p.2) (subst (λ (pc : ℕ). IsHalted c.args.code.now c.args.shapes.now pc s.refusal.cause) (sym c.in_err-follow.ensures.slot) halted)
@@ -42,15 +42,15 @@ returns-in_err-follow-clause-note c =
     let taken = c.loop-pc.invariant.1 in
     let s = c.in_err-follow.field-0.0 in
     let p = err_from_is_err_and c.from_residual.result c.from_residual.ensures.1 in
-    let here = list_there c.args.code.now c.args.shapes.now c.deref-pc-items.result.now c.requires.laid c.requires.structured is c.loop-pc.pc-index pc (omega arith) refl taken.notes taken.passing (facts_at c.loop-pc.table.items) taken.same in
-    let by : (b : Box Noted) → IsFirstRefused c.args.code.now c.args.shapes.now pc (facts_at c.loop-pc.table.items pc) s.refusal.cause (facts b.value) → IsStoppedBy c.args.code.now c.args.shapes.now s.refusal.pc s.refusal.cause (facts b.value) =
+    let here = list_there c.args.code.now c.args.shapes.now c.deref-pc-items.result.now c.requires.laid c.requires.structured is c.loop-pc.pc-index pc (omega arith) refl taken.notes taken.passing (facts_at c.loop-pc.table.lists.items) taken.same in
+    let by : (b : Box Noted) → IsFirstRefused c.args.code.now c.args.shapes.now pc (facts_at c.loop-pc.table.lists.items pc) s.refusal.cause (facts b.value) → IsStoppedBy c.args.code.now c.args.shapes.now s.refusal.pc s.refusal.cause (facts b.value) =
     λ b h. subst (λ (pc : ℕ). IsStoppedBy c.args.code.now c.args.shapes.now pc s.refusal.cause (facts b.value)) (sym c.in_err-follow.ensures.slot)
     (passing_stops_by c.args.code.now c.args.shapes.now c.deref-pc-items.result.now c.requires.laid c.requires.structured is c.loop-pc.pc-index pc (omega arith) refl taken.notes taken.passing s.refusal.cause (facts b.value)
     (subst (λ (ns : List Facts). IsFirstRefused c.args.code.now c.args.shapes.now pc ns s.refusal.cause (facts b.value)) here h)) in
     rw (p.1, p.2) (IfSome_then s.note c.in_err-follow.ensures.note by)
 
 pub loop-pc-init : goal.loop-pc-init
-loop-pc-init c = (c.in-Ok-blank.ensures.size, record { notes = facts_at c.in-Ok-blank.table.items; passing = passing_first c.args.code.now c.args.shapes.now c.deref-pc-items.result.now (facts_at c.in-Ok-blank.table.items) c.in-Ok-blank.ensures.first; same = λ q out. refl })
+loop-pc-init c = (c.in-Ok-blank.ensures.size, record { notes = facts_at c.in-Ok-blank.table.lists.items; passing = passing_first c.args.code.now c.args.shapes.now c.deref-pc-items.result.now (facts_at c.in-Ok-blank.table.lists.items) c.in-Ok-blank.ensures.first; same = λ q out. refl })
 
 pub loop-pc-preserved : goal.loop-pc-preserved
 loop-pc-preserved c =
@@ -59,7 +59,7 @@ loop-pc-preserved c =
     let taken = c.loop-pc.invariant.1 in (
       c.in_ok-follow.ensures.size,
       passing_with c.args.code.now c.args.shapes.now c.deref-pc-items.result.now c.requires.laid c.requires.structured is c.loop-pc.pc-index pc (omega arith) refl taken.notes taken.passing
-          (facts_at c.loop-pc.table.items) (facts_at c.follow.new.table.items) taken.same c.in_ok-follow.ensures.hears c.in_ok-follow.ensures.allowed,
+          (facts_at c.loop-pc.table.lists.items) (facts_at c.follow.new.table.lists.items) taken.same c.in_ok-follow.ensures.hears c.in_ok-follow.ensures.allowed,
     )
 
 pub returns-clause-passed : goal.returns-clause-passed

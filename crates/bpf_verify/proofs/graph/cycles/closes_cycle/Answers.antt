@@ -1,15 +1,8 @@
-use Rattle.std.proofs.Common.{◌≡◌, ◌<◌, ℕ, zero, suc, List, [], ◌∷◌, length, Some, arith, sym, ◌∙◌, Bool}
-use Rattle.std.specs.Prelude.{slice_index_or}
+use Rattle.std.proofs.Common.{◌≡◌, Some, arith, sym, ◌∙◌}
 use Rattle.bpf_verify.specs.Ways.{jump_to}
-use Rattle.bpf_verify.specs.Marks.{marked}
-use Rattle.bpf_verify.proofs.WayLemmas.{jump_found, closes, closes_from, closes_nowhere}
+use Rattle.bpf_verify.proofs.WayLemmas.{is_marked, jump_found, closes, closes_from, closes_nowhere}
 use Rattle.bpf_verify.proofs.ListLemmas.{any_error}
 use Rattle.bpf_verify.proofs.graph.cycles.closes_cycle.Goals as goal
-
-is_marked : (m : List Bool) (k : ℕ) (b : Bool) → b ≡ slice_index_or m k b → k < length m → b ≡ marked m k
-is_marked [] k b e low = absurd (omega arith)
-is_marked (x ∷ m) zero b e low = e
-is_marked (x ∷ m) (suc k) b e low = is_marked m k b e (omega arith)
 
 pub returns-in_default-clause-closes : goal.returns-in_default-clause-closes
 returns-in_default-clause-closes c = (λ e. cc, λ k. absurd (closes_nowhere c.args.code.now c.args.pc (sym c.jump_to.ensures ∙ c.in_default.is) k))

@@ -1,7 +1,14 @@
-use Rattle.std.proofs.Common.{ap, sym, ◌∙◌, List, Bool}
+use Rattle.std.proofs.Common.{ap, refl, sym, ◌∙◌, List, Bool}
 use Rattle.bpf_verify.specs.Marks.{marked}
 use Rattle.bpf_verify.proofs.OrderLemmas.{ordered_clear, ordered_acyclic, nothing_left}
+use Rattle.bpf_verify.proofs.RisingLemmas.{rising_ordered}
 use Rattle.bpf_verify.proofs.graph.cycles.is_ordered.Goals as goal
+
+pub returns-then-is_rising-clause-ordered : goal.returns-then-is_rising-clause-ordered
+returns-then-is_rising-clause-ordered c = (λ t. rising_ordered c.args.code.now (c.is_rising.ensures.0 c.if-is_rising.true), λ o. refl)
+
+pub returns-then-is_rising-clause-acyclic : goal.returns-then-is_rising-clause-acyclic
+returns-then-is_rising-clause-acyclic c = λ clear. rising_ordered c.args.code.now (c.is_rising.ensures.0 c.if-is_rising.true)
 
 pub returns-clause-ordered : goal.returns-clause-ordered
 returns-clause-ordered c =
