@@ -7,7 +7,7 @@
  *
  * usage: turn SIZE BATCHES PROGRAM; a batch is 16 turns, filling isn't timed; of 0 bytes no packet is there, and the turns
  * are idle. With `deliver` for PROGRAM a turn is the delivery of a packet of the host's own: what follows TX, alone. Built with
- * -DEXCHANGES each store of a packet's word is an exchange, as ours is. Prints the nanoseconds per turn, the least of five rounds. The program is hex, and runs by DPDK's rte_bpf_exec where this is built with -DDPDK (and then
+ * -DEXCHANGES each store of a packet's word is an exchange, as ours is; with -DDENSE a word takes four bytes; with -DBARE it does, and is no atomic. Prints the nanoseconds per turn, the least of five rounds. The program is hex, and runs by DPDK's rte_bpf_exec where this is built with -DDPDK (and then
  * librte_bpf), else by the small interpreter below, which has what the two programs of `bench/turns` need. */
 #define _GNU_SOURCE
 #include <stdatomic.h>
@@ -33,9 +33,21 @@ enum { FRAMES = 20, WORDS = 1024, TABLE = 1, TX = 2, RX = 3, FIRST_PAGE = 4, HEA
 enum { BACK = 0, FRONT = 1, MORE_DATA = 4, EXTRA_INFO = 8, MOST_SLOTS = 18 };
 enum { OKAY = 0, ERROR = -1, DROPPED = -2 };
 
+#ifdef BARE
+typedef uint32_t cell;
+#define load(cell, order) (cell)
+#define store(cell, value, order) ((cell) = (value))
+#else
+typedef _Atomic uint32_t cell;
+#define load(cell, order) atomic_load_explicit(&(cell), order)
+#define store(cell, value, order) atomic_store_explicit(&(cell), value, order)
+#endif
+
 struct word {
-	_Atomic uint32_t value;
+	cell value;
+#if !defined DENSE && !defined BARE
 	uint32_t unused;
+#endif
 };
 
 struct insn {
@@ -73,12 +85,12 @@ enum { IDLE, RAN, REFUSED, HALTED };
 
 static uint32_t get(struct netback *b, uint32_t frame, uint32_t word)
 {
-	return atomic_load(&b->words[frame * WORDS + word].value);
+	return load(b->words[frame * WORDS + word].value, memory_order_seq_cst);
 }
 
 static void put(struct netback *b, uint32_t frame, uint32_t word, uint32_t value)
 {
-	atomic_store(&b->words[frame * WORDS + word].value, value);
+	store(b->words[frame * WORDS + word].value, value, memory_order_seq_cst);
 }
 
 static uint32_t entry_at(uint32_t index)
@@ -89,7 +101,7 @@ static uint32_t entry_at(uint32_t index)
 /* A word of a packet's page, which is told nothing about the others. */
 static uint32_t word_of(struct netback *b, uint32_t frame, uint32_t word)
 {
-	return atomic_load_explicit(&b->words[frame * WORDS + word].value, memory_order_relaxed);
+	return load(b->words[frame * WORDS + word].value, memory_order_relaxed);
 }
 
 /* The frame of a granted reference; -1 where the entry doesn't allow it. */
@@ -191,12 +203,12 @@ static void filled(struct netback *b, uint32_t frame, const uint8_t *from, uint3
 	for (; at + 4 <= size; at += 4) {
 		uint32_t value;
 		memcpy(&value, from + at, 4);
-		atomic_store_explicit(&b->words[frame * WORDS + at / 4].value, value, FILL);
+		store(b->words[frame * WORDS + at / 4].value, value, FILL);
 	}
 	if (at < size) {
 		uint32_t value = 0;
 		memcpy(&value, from + at, size - at);
-		atomic_store_explicit(&b->words[frame * WORDS + at / 4].value, value, FILL);
+		store(b->words[frame * WORDS + at / 4].value, value, FILL);
 	}
 }
 

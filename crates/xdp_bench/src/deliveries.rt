@@ -3,7 +3,8 @@ ghost use Rattle.std.specs.Prelude.{◌≡◌, length};
 ghost use Rattle.xen_back.specs.Queues.{IsReady, wiring_of};
 
 use crate::fault::Fault;
-use crate::pages::{FRONT, TABLE, domains, fill, owners, publish};
+use crate::line::Memory;
+use crate::pages::{FRONT, TABLE, domains, fill, owners, plain_words, publish};
 use crate::program::accepted;
 use crate::timing::{Timed, since};
 use crate::turns::{BATCH, batches, queue};
@@ -11,7 +12,7 @@ use bpf_vm::Buffer;
 use std::alloc::Alloc;
 use std::time::Instant;
 use xen_back::Delivery;
-use xen_page::{Frames, PageBus, Table};
+use xen_page::{Bus, Frames, PageBus, PlainBus, Table};
 use xen_ring::Ports;
 
 /// `r0 = 2` and `exit`: no delivery runs it.
@@ -25,28 +26,42 @@ fn timed(delivery: Delivery) -> Result<(), Fault> {
     }
 }
 
-/// Times so many deliveries of a packet of so many bytes. Posting the buffers isn't timed.
-pub fn time(rt: &HostRuntime, size: usize, times: u32) -> Result<Timed, Fault> {
+/// Times so many deliveries over a bus of the interface's frames.
+fn time_over<B: Bus>(rt: &HostRuntime, bus: &mut B, size: usize, times: u32) -> Result<Timed, Fault>
+    requires { B.size bus.old ≡ 20 }
+{
     let program = accepted(rt.alloc(), PASSES)?;
     let owners = owners(rt.alloc())?;
     let table = Table::make(&owners, FRONT, &[TABLE]).ok_or(Fault::Unexpected)?;
-    let frames = Frames::make(rt.alloc(), &domains())?;
-    fill(&frames);
-    let mut bus = PageBus::of(&frames);
+    fill(bus);
     let mut buffer = Buffer::make(rt.alloc())?;
-    let mut queue = queue(&mut bus, &table, &owners, &program, &mut buffer)?;
+    let mut queue = queue(bus, &table, &owners, &program, &mut buffer)?;
     let ports = Ports::new();
     let bytes = [0x5a; 65_535];
     let packet = bytes.get(..size).ok_or(Fault::Line)?;
     let mut nanoseconds = 0u64;
     let mut producer = 0u32;
     for _batch in 0..times {
-        producer = publish(&frames, producer, size, BATCH);
+        producer = publish(bus, producer, size, BATCH);
         let start = Instant::now(rt).map_err(|_| Fault::Clock)?;
         for _delivery in 0..BATCH {
-            timed(queue.deliver(packet, &mut bus, &ports))?;
+            timed(queue.deliver(packet, bus, &ports))?;
         }
         nanoseconds = nanoseconds.saturating_add(since(rt, &start)?);
     }
     Ok(batches(times, nanoseconds))
+}
+
+/// Times so many deliveries of a packet of so many bytes. Posting the buffers isn't timed.
+pub fn time(rt: &HostRuntime, memory: Memory, size: usize, times: u32) -> Result<Timed, Fault> {
+    match memory {
+        Memory::Shared => {
+            let frames = Frames::make(rt.alloc(), &domains())?;
+            time_over(rt, &mut PageBus::of(&frames), size, times)
+        }
+        Memory::Plain => {
+            let mut words = plain_words(rt.alloc())?;
+            time_over(rt, &mut PlainBus::of(words.as_mut_slice()), size, times)
+        }
+    }
 }

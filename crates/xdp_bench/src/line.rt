@@ -3,17 +3,28 @@
 use crate::fault::Fault;
 use std::alloc::Global;
 
+/// What the pages are made of.
+#[derive(Clone, Copy, Debug, PartialEq, Eq, Drop)]
+pub enum Memory {
+    /// Words that threads may share, as a `PageBus` reaches them.
+    Shared,
+    /// Words that one thread owns, as a `PlainBus` does.
+    Plain,
+}
+
 /// What a line asks for, so many times.
 #[derive(Drop)]
 pub enum Work {
-    /// `turn SIZE TIMES PROGRAM`: turns of a packet of so many bytes, or idle ones.
+    /// `turn SIZE TIMES PROGRAM`, or `plain-turn`: turns of a packet of so many bytes, or idle ones.
     Turns {
+        memory: Memory,
         size: usize,
         times: u32,
         program: Vec<u8>,
     },
-    /// `deliver SIZE TIMES`: deliveries of a packet of so many bytes.
+    /// `deliver SIZE TIMES`, or `plain-deliver`: deliveries of a packet of so many bytes.
     Deliveries {
+        memory: Memory,
         size: usize,
         times: u32,
     },
@@ -39,24 +50,40 @@ fn bytes(alloc: Global, word: Option<&str>) -> Result<Vec<u8>, Fault> {
     hex::decode(alloc, word).map_err(|_| Fault::Line)
 }
 
+/// What a line of turns asks for, by its words behind the first.
+fn turns(alloc: Global, memory: Memory, words: [Option<&str>; 3]) -> Result<Work, Fault> {
+    let [size, times, program] = words;
+    Ok(Work::Turns {
+        memory,
+        size: number(size)? as usize,
+        times: number(times)?,
+        program: bytes(alloc, program)?,
+    })
+}
+
+/// What a line of deliveries asks for, by its words behind the first.
+fn deliveries(memory: Memory, words: [Option<&str>; 2]) -> Result<Work, Fault> {
+    let [size, times] = words;
+    Ok(Work::Deliveries {
+        memory,
+        size: number(size)? as usize,
+        times: number(times)?,
+    })
+}
+
 pub fn read_line(alloc: Global, line: &str) -> Result<Work, Fault> {
     let mut words = line.split(' ');
     match words.next() {
         Some("turn") => {
-            let size = number(words.next())? as usize;
-            let times = number(words.next())?;
-            let program = bytes(alloc, words.next())?;
-            Ok(Work::Turns {
-                size,
-                times,
-                program,
-            })
+            let behind = [words.next(), words.next(), words.next()];
+            turns(alloc, Memory::Shared, behind)
         }
-        Some("deliver") => {
-            let size = number(words.next())? as usize;
-            let times = number(words.next())?;
-            Ok(Work::Deliveries { size, times })
+        Some("plain-turn") => {
+            let behind = [words.next(), words.next(), words.next()];
+            turns(alloc, Memory::Plain, behind)
         }
+        Some("deliver") => deliveries(Memory::Shared, [words.next(), words.next()]),
+        Some("plain-deliver") => deliveries(Memory::Plain, [words.next(), words.next()]),
         Some("verify") => {
             let times = number(words.next())?;
             let program = bytes(alloc, words.next())?;

@@ -9,37 +9,38 @@ mod program;
 mod timing;
 mod turns;
 
+use crate::fault::Fault;
 use crate::line::{Work, read_line};
 use crate::timing::{Timed, told};
 use std::io;
 
+/// Does what a line asks for.
+fn timed(rt: &HostRuntime, line: &str) -> Result<Timed, Fault> {
+    match read_line(rt.alloc(), line)? {
+        Work::Turns {
+            memory,
+            size,
+            times,
+            program,
+        } => turns::time(rt, memory, size, times, program.as_slice()),
+        Work::Deliveries {
+            memory,
+            size,
+            times,
+        } => deliveries::time(rt, memory, size, times),
+        Work::Verify { times, program } => program::time_verify(rt, times, program.as_slice()),
+        Work::Run {
+            times,
+            program,
+            packet,
+        } => program::time_run(rt, times, program.as_slice(), packet.as_slice()),
+    }
+}
+
 fn main(rt: HostRuntime) -> io::Result<()> {
     for line in rt.lines(rt.alloc()) {
         let line = line?;
-        let timed = match read_line(rt.alloc(), line.as_str()) {
-            Ok(
-                Work::Turns {
-                    size,
-                    times,
-                    program,
-                },
-            ) => turns::time(&rt, size, times, program.as_slice()),
-            Ok(Work::Deliveries { size, times }) => deliveries::time(&rt, size, times),
-            Ok(Work::Verify { times, program }) => program::time_verify(
-                &rt,
-                times,
-                program.as_slice(),
-            ),
-            Ok(
-                Work::Run {
-                    times,
-                    program,
-                    packet,
-                },
-            ) => program::time_run(&rt, times, program.as_slice(), packet.as_slice()),
-            Err(fault) => Err(fault),
-        };
-        match timed {
+        match timed(&rt, line.as_str()) {
             Ok(Timed { done, nanoseconds }) => {
                 let text = told(rt.alloc(), done, nanoseconds)?;
                 println!(rt; "{text}")?;

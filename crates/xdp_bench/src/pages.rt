@@ -2,7 +2,7 @@
 ghost use Rattle.std.specs.Prelude.{◌≡◌, ◌≤◌, IfOk, length};
 
 use std::alloc::{AllocError, Global};
-use xen_page::{Bus, Frames, Owners, PageBus, Place};
+use xen_page::{Bus, Owners, Place, WORDS};
 
 /// Frame 0 is the backend's, 4 to 19 are a packet's pages, which are also the buffers of its posted rx slots, and the
 /// frontend's own lie between.
@@ -40,28 +40,38 @@ pub fn owners(alloc: Global) -> Result<Owners, AllocError>
     Owners::make(alloc, &domains())
 }
 
+/// The words of as many frames, which one thread owns.
+pub fn plain_words(alloc: Global) -> Result<Vec<u32>, AllocError>
+    ensures { IfOk result (λ words. length words.items ≡ 20480) }
+{
+    Vec::from_slice(alloc, &[0; FRAMES * WORDS as usize])
+}
+
 /// Writes a word of a page.
-fn put(frames: &Frames, frame: u32, word: u32, value: u32) {
-    let mut pages = PageBus::of(frames);
-    if frame < pages.frames() && word < 1024 {
-        pages.write(Place { frame, word }, value);
+fn put<B: Bus>(bus: &mut B, frame: u32, word: u32, value: u32)
+    ensures { B.size bus.new ≡ B.size bus.old }
+{
+    if frame < bus.frames() && word < 1024 {
+        bus.write(Place { frame, word }, value);
     }
 }
 
 /// Grants each frame under the reference of its number, and fills the packet's pages.
-pub fn fill(frames: &Frames) {
+pub fn fill<B: Bus>(bus: &mut B)
+    ensures { B.size bus.new ≡ B.size bus.old }
+{
     for frame in 0..FRAMES as u32 {
-        put(frames, TABLE, 2 * frame, 1);
-        put(frames, TABLE, 2 * frame + 1, frame);
+        put(bus, TABLE, 2 * frame, 1);
+        put(bus, TABLE, 2 * frame + 1, frame);
     }
     for frame in FIRST_PAGE..FRAMES as u32 {
         for word in 0..1024u32 {
-            put(frames, frame, word, word.wrapping_mul(0x0101_0101));
+            put(bus, frame, word, word.wrapping_mul(0x0101_0101));
         }
     }
     for ring in [TX, RX] {
-        put(frames, ring, 1, 1);
-        put(frames, ring, 3, 1);
+        put(bus, ring, 1, 1);
+        put(bus, ring, 3, 1);
     }
 }
 
@@ -74,7 +84,9 @@ pub fn slots_of(size: usize) -> u32
 }
 
 /// Writes the slots of one packet from an index on.
-fn put_packet(frames: &Frames, index: u32, size: usize) {
+fn put_packet<B: Bus>(bus: &mut B, index: u32, size: usize)
+    ensures { B.size bus.new ≡ B.size bus.old }
+{
     let slots = slots_of(size);
     for slot in 0..slots {
         let at = HEADER + 3 * (index.wrapping_add(slot) % 256);
@@ -84,10 +96,10 @@ fn put_packet(frames: &Frames, index: u32, size: usize) {
         } else {
             PAGE.min(size.saturating_sub(PAGE * slot as usize))
         };
-        put(frames, TX, at, FIRST_PAGE + slot);
-        put(frames, TX, at + 1, more * 0x1_0000);
+        put(bus, TX, at, FIRST_PAGE + slot);
+        put(bus, TX, at + 1, more * 0x1_0000);
         put(
-            frames,
+            bus,
             TX,
             at + 2,
             (length % 0x1_0000) as u32 * 0x1_0000 + slot,
@@ -96,23 +108,27 @@ fn put_packet(frames: &Frames, index: u32, size: usize) {
 }
 
 /// Posts as many rx slots from an index on as one packet takes.
-fn post_slots(frames: &Frames, index: u32, size: usize) {
+fn post_slots<B: Bus>(bus: &mut B, index: u32, size: usize)
+    ensures { B.size bus.new ≡ B.size bus.old }
+{
     for slot in 0..slots_of(size) {
         let at = HEADER + 2 * (index.wrapping_add(slot) % 256);
-        put(frames, RX, at, slot);
-        put(frames, RX, at + 1, FIRST_PAGE + slot);
+        put(bus, RX, at, slot);
+        put(bus, RX, at + 1, FIRST_PAGE + slot);
     }
 }
 
 /// Publishes so many packets from an index on, posts the rx slots that they take, and returns the producer of both rings.
-pub fn publish(frames: &Frames, index: u32, size: usize, packets: u32) -> u32 {
+pub fn publish<B: Bus>(bus: &mut B, index: u32, size: usize, packets: u32) -> u32
+    ensures { B.size bus.new ≡ B.size bus.old }
+{
     let mut producer = index;
     for _packet in 0..packets {
-        put_packet(frames, producer, size);
-        post_slots(frames, producer, size);
+        put_packet(bus, producer, size);
+        post_slots(bus, producer, size);
         producer = producer.wrapping_add(slots_of(size));
     }
-    put(frames, TX, 0, producer);
-    put(frames, RX, 0, producer);
+    put(bus, TX, 0, producer);
+    put(bus, RX, 0, producer);
     producer
 }

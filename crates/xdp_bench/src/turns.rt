@@ -5,7 +5,8 @@ ghost use Rattle.xen_page.specs.Mapping.{IsMappedBy};
 ghost use Rattle.xen_page.specs.Table.{IsTable};
 
 use crate::fault::Fault;
-use crate::pages::{FRONT, RX, TABLE, TX, domains, fill, owners, publish};
+use crate::line::Memory;
+use crate::pages::{FRONT, RX, TABLE, TX, domains, fill, owners, plain_words, publish};
 use crate::program::accepted;
 use crate::timing::{Timed, since};
 use bpf_maps::{CounterSeat, Counters};
@@ -14,7 +15,7 @@ use bpf_vm::Buffer;
 use std::alloc::Alloc;
 use std::time::Instant;
 use xen_back::{Queue, QueueDesc, Turn};
-use xen_page::{Frames, Mapped, Owners, PageBus, Table, map};
+use xen_page::{Bus, Frames, Mapped, Owners, PageBus, PlainBus, Table, map};
 use xen_ring::{Port, Ports};
 
 /// How many packets are published at once.
@@ -38,10 +39,10 @@ pub fn batches(times: u32, nanoseconds: u64) -> Timed {
 }
 
 /// The ring under a reference, mapped for writing.
-fn ring(bus: &mut PageBus<'_>, table: &Table, owners: &Owners, gref: u32) -> Result<Mapped, Fault>
+fn ring<B: Bus>(bus: &mut B, table: &Table, owners: &Owners, gref: u32) -> Result<Mapped, Fault>
     requires table { IsTable owners.now 1 table.now }
-    requires size { bus.old ≡ length owners.now }
-    ensures size { bus.new ≡ bus.old }
+    requires size { B.size bus.old ≡ length owners.now }
+    ensures size { B.size bus.new ≡ B.size bus.old }
     ensures lent { IfOk result (IsMappedBy owners.now 1) }
     ensures write { IfOk result (λ m. m.write ≡ true) }
 {
@@ -49,16 +50,16 @@ fn ring(bus: &mut PageBus<'_>, table: &Table, owners: &Owners, gref: u32) -> Res
 }
 
 /// A queue over both rings, which are new.
-pub fn queue<'p, 'b>(
-    bus: &mut PageBus<'_>,
+pub fn queue<'p, 'b, B: Bus>(
+    bus: &mut B,
     table: &'p Table,
     owners: &'p Owners,
     program: &'p Verified,
     buffer: &'b mut Buffer,
 ) -> Result<Queue<'p, 'b>, Fault>
     requires table { IsTable owners.now 1 table.now }
-    requires size { bus.old ≡ length owners.now }
-    ensures size { bus.new ≡ bus.old }
+    requires size { B.size bus.old ≡ length owners.now }
+    ensures size { B.size bus.new ≡ B.size bus.old }
     ensures ready { IfOk result IsReady }
     ensures owners { IfOk result (λ q. (wiring_of q).vif.owners.now ≡ owners.now) }
     ensures program { IfOk result (λ q. (wiring_of q).program.now ≡ program.now) }
@@ -78,16 +79,22 @@ pub fn queue<'p, 'b>(
     Ok(Queue::make(program, desc, buffer))
 }
 
-/// Times so many turns, of a packet of so many bytes each; of 0 bytes no packet is published. Filling the pages isn't timed.
-pub fn time(rt: &HostRuntime, size: usize, times: u32, program: &[u8]) -> Result<Timed, Fault> {
+/// Times so many turns over a bus of the interface's frames.
+fn time_over<B: Bus>(
+    rt: &HostRuntime,
+    bus: &mut B,
+    size: usize,
+    times: u32,
+    program: &[u8],
+) -> Result<Timed, Fault>
+    requires { B.size bus.old ≡ 20 }
+{
     let program = accepted(rt.alloc(), program)?;
     let owners = owners(rt.alloc())?;
     let table = Table::make(&owners, FRONT, &[TABLE]).ok_or(Fault::Unexpected)?;
-    let frames = Frames::make(rt.alloc(), &domains())?;
-    fill(&frames);
-    let mut bus = PageBus::of(&frames);
+    fill(bus);
     let mut buffer = Buffer::make(rt.alloc())?;
-    let mut queue = queue(&mut bus, &table, &owners, &program, &mut buffer)?;
+    let mut queue = queue(bus, &table, &owners, &program, &mut buffer)?;
     let (counters, mut seats) = Counters::make(rt.alloc(), program.shapes(), 1)?;
     let mut seat = seats.pop().ok_or(Fault::Unexpected)?;
     let ports = Ports::new();
@@ -95,13 +102,39 @@ pub fn time(rt: &HostRuntime, size: usize, times: u32, program: &[u8]) -> Result
     let mut producer = 0u32;
     let packets = if size == 0 { 0 } else { BATCH };
     for _batch in 0..times {
-        producer = publish(&frames, producer, size, packets);
+        producer = publish(bus, producer, size, packets);
         let start = Instant::now(rt).map_err(|_| Fault::Clock)?;
         for _turn in 0..BATCH {
-            let turn = queue.drive_turn(&mut bus, &counters, &mut seat, &ports);
+            let turn = queue.drive_turn(bus, &counters, &mut seat, &ports);
             timed(turn, packets)?;
         }
         nanoseconds = nanoseconds.saturating_add(since(rt, &start)?);
     }
     Ok(batches(times, nanoseconds))
+}
+
+/// Times so many turns, of a packet of so many bytes each; of 0 bytes no packet is published. Filling the pages isn't timed.
+pub fn time(
+    rt: &HostRuntime,
+    memory: Memory,
+    size: usize,
+    times: u32,
+    program: &[u8],
+) -> Result<Timed, Fault> {
+    match memory {
+        Memory::Shared => {
+            let frames = Frames::make(rt.alloc(), &domains())?;
+            time_over(rt, &mut PageBus::of(&frames), size, times, program)
+        }
+        Memory::Plain => {
+            let mut words = plain_words(rt.alloc())?;
+            time_over(
+                rt,
+                &mut PlainBus::of(words.as_mut_slice()),
+                size,
+                times,
+                program,
+            )
+        }
+    }
 }

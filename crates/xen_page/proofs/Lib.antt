@@ -4,4 +4,5 @@ pub mod ExtentLemmas
 pub mod MappingLemmas
 pub mod RewriteLemmas
 pub mod RunLemmas
+pub mod PlainLemmas
 pub mod SetLemmas

@@ -1,16 +1,16 @@
 -- Words of a run, and their bytes.
-use Rattle.std.proofs.Common.{◌≡◌, ℕ, suc, ◌+◌, ◌*◌, ◌<◌, ◌^◌, List, [], ◌∷◌, ◌++◌, Option, length, take, drop, get_or, zero, refl, sym, ◌∙◌, ap, arith, length-append, lit<, subst}
+use Rattle.std.proofs.Common.{◌≡◌, ℕ, suc, ◌+◌, ◌*◌, ◌<◌, ◌≤◌, ◌^◌, List, [], ◌∷◌, ◌++◌, Option, length, length-drop, set, take, drop, get_or, zero, refl, sym, ◌∙◌, ap, arith, length-append, lit<, subst}
 use Rattle.std.specs.Prelude.{All}
 use Rattle.std.specs.Int.{w32, from_le_bytes, to_le_bytes}
 use Rattle.std.specs.List.{flat_map}
-use Rattle.std.proofs.lemmas.Grind.{flat_map-append}
-use Rattle.std.proofs.lemmas.List.{drop-drop}
+use Rattle.std.proofs.lemmas.Grind.{flat_map-append, take-set_at}
+use Rattle.std.proofs.lemmas.List.{append-nil, drop-drop, drop_all, get_or-drop, get_or_default, length-take, take_all, take_more}
 use Rattle.std.proofs.lemmas.List.Elements.{All-append, All-nil}
 use Rattle.std.proofs.lemmas.Nat.{le_bytes_4}
-use Rattle.std.proofs.Math.Seq.{take-append_seam, drop-append-add}
+use Rattle.std.proofs.Math.Seq.{take-add, take-append_seam, drop-append-add}
 use Rattle.xen_page.proofs.AccessLemmas.{performs_one, performs_then}
 use Rattle.xen_page.specs.Access.{Passes, Performs, Tells}
-use Rattle.xen_page.specs.Run.{reads_of}
+use Rattle.xen_page.specs.Run.{reads_of, writes_of}
 use Rattle.xen_page.specs.declared.access.Access.{Access}
 use Rattle.xen_page.specs.declared.access.Access.TheVariants as access
 use Rattle.xen_page.specs.declared.place.Place.{Place}
@@ -104,3 +104,70 @@ words_of-below (a ∷ b ∷ c ∷ d ∷ bs) h =
 pub passes_same : {S : Type 0} (s : S) (t : List Access) → Passes (λ old a new. new ≡ old) s t s
 passes_same s [] = refl
 passes_same s (a ∷ t) = (s, refl, passes_same s t)
+
+pub writes_of-append : (at : Place) (ws vs : List ℕ) → writes_of at (ws ++ vs) ≡ writes_of at ws ++ writes_of (further at (length ws)) vs
+writes_of-append at [] vs = let e : at.word + 0 ≡ at.word = omega arith in rw e refl
+writes_of-append at (w ∷ ws) vs =
+    let e : at.word + 1 + length ws ≡ at.word + suc (length ws) = omega arith in
+    ap (λ t. access.Write at w ∷ t) (writes_of-append (further at 1) ws vs ∙ ap (λ k. writes_of (further at 1) ws ++ writes_of (record { frame = at.frame; word = k }) vs) e)
+
+-- one more word written
+pub writes_more : {S : Type 0} (log : S → Option (List Access)) (gives : S → Access → S → Type 0) (at : Place) (words : List ℕ) (n v : ℕ) (old mid new : S) →
+    length words ≡ n → Performs log gives old (writes_of at words) mid →
+    Tells (log mid) (log new) (access.Write (further at n) v ∷ []) → gives mid (access.Write (further at n) v) new →
+    Performs log gives old (writes_of at (words ++ v ∷ [])) new
+writes_more log gives at words n v old mid new e p told given =
+    let is : writes_of at (words ++ v ∷ []) ≡ writes_of at words ++ access.Write (further at n) v ∷ [] =
+    writes_of-append at words (v ∷ []) ∙ ap (λ k. writes_of at words ++ access.Write (further at k) v ∷ []) e in
+    rw is (performs_then log gives old mid new (writes_of at words) (access.Write (further at n) v ∷ []) p
+    (performs_one log gives mid (access.Write (further at n) v) new told given))
+
+-- the bytes up to the next word's end
+pub bytes_up_to : (words bs : List ℕ) (n v : ℕ) → to_le_bytes w32 v ≡ take 4 (drop (4 * n) bs) → take (4 * n) bs ≡ bytes words →
+    take (4 * (n + 1)) bs ≡ bytes (words ++ v ∷ [])
+bytes_up_to words bs n v here before =
+    let at : 4 * (n + 1) ≡ 4 * n + 4 = omega arith in
+    let more : bytes (words ++ v ∷ []) ≡ bytes words ++ to_le_bytes w32 v = flat_map-append (to_le_bytes w32) words (v ∷ []) in
+    ap (λ k. take k bs) at ∙ take-add (4 * n) 4 bs ∙ ap (λ l. l ++ take 4 (drop (4 * n) bs)) before
+    ∙ ap (λ l. bytes words ++ l) (sym here) ∙ sym more
+
+-- a word set behind those whose bytes these are
+pub set_more : (words bs : List ℕ) (n v : ℕ) → n < length words → to_le_bytes w32 v ≡ take 4 (drop (4 * n) bs) → take (4 * n) bs ≡ bytes (take n words) →
+    take (4 * (n + 1)) bs ≡ bytes (take (n + 1) (set words n v))
+set_more words bs n v h here before =
+    bytes_up_to (take n words) bs n v here before ∙ ap bytes (sym (take-set_at words n (n + 1) v refl h))
+
+pub set_below : (words : List ℕ) (n v : ℕ) → n < length words → v < 2 ^ 32 → All (λ word. word < 2 ^ 32) (take n words) →
+    All (λ word. word < 2 ^ 32) (take (n + 1) (set words n v))
+set_below words n v h small before = rw (take-set_at words n (n + 1) v refl h) (below_more (take n words) v before small)
+
+-- four bytes of bytes
+take_below : (m : ℕ) (bs : List ℕ) → ((i : ℕ) → get_or bs i 0 < 256) → (i : ℕ) → get_or (take m bs) i 0 < 256
+take_below zero bs h i = lit< tt
+take_below (suc m) [] h i = lit< tt
+take_below (suc m) (b ∷ bs) h zero = h 0
+take_below (suc m) (b ∷ bs) h (suc i) = take_below m bs (λ j. h (suc j)) i
+
+pub four_of : (bs four : List ℕ) (n v : ℕ) → n + 4 ≤ length bs → ((i : ℕ) → get_or bs i 0 < 256) → four ≡ take 4 (drop n bs) → v ≡ from_le_bytes w32 four →
+    to_le_bytes w32 v ≡ take 4 (drop n bs)
+four_of bs four n v room small is value =
+    let behind : (i : ℕ) → get_or (drop n bs) i 0 < 256 = λ i. rw (get_or-drop n bs i 0) (small (n + i)) in
+    let count : length (take 4 (drop n bs)) ≡ 4 = omega (arith, length-take 4 (drop n bs), length-drop n bs, room) in
+    le_bytes_4 (take 4 (drop n bs)) v count (take_below 4 (drop n bs) behind) (value ∙ ap (from_le_bytes w32) is)
+
+-- one more word's bytes in their room
+pub bytes_on : (words room start : List ℕ) (n : ℕ) → n < length words → room ≡ bytes (take n words) ++ drop (4 * n) start →
+    take (4 * n) room ++ to_le_bytes w32 (get_or words n 0) ++ drop (4 * n + 4) room ≡ bytes (take (n + 1) words) ++ drop (4 * (n + 1)) start
+bytes_on words room start n h is =
+    let v = get_or words n 0 in
+    let count : length (take n words) ≡ n = omega (arith, length-take n words, h) in
+    ap (λ l. take (4 * n) l ++ to_le_bytes w32 v ++ drop (4 * n + 4) l) is ∙ bytes_more (take n words) start n v count
+    ∙ ap (λ l. bytes l ++ drop (4 * (n + 1)) start) (sym (take_more words n 0 h))
+
+pub bytes_all : (words start : List ℕ) (n : ℕ) → length words ≤ n → length start ≡ 4 * length words → bytes (take n words) ++ drop (4 * n) start ≡ bytes words
+bytes_all words start n h e =
+    let none : drop (4 * n) start ≡ [] = drop_all (4 * n) start (omega (arith, h, e)) in
+    ap (λ l. bytes (take n words) ++ l) none ∙ append-nil (bytes (take n words)) ∙ ap bytes (take_all n words h)
+
+pub all_below : (words : List ℕ) → ((i : ℕ) → get_or words i 0 < 2 ^ 32) → All (λ word. word < 2 ^ 32) words
+all_below words h = λ i d lt. rw (get_or_default words i d 0 lt) (h i)

@@ -2,7 +2,7 @@
 use Rattle.std.proofs.Common.{◌≡◌, ℕ, ◌+◌, ◌-◌, ◌≤◌, List, [], ◌∷◌, ◌++◌, length, length-drop, take, drop, set, refl, sym, ◌∙◌, ap, append_assoc, arith}
 use Rattle.std.proofs.lemmas.List.{drop-drop, length-take, set-append_right, take-append-drop}
 
-set_behind : (f ys : List ℕ) (n i k y : ℕ) → length f ≡ n → i ≡ n + k → set (f ++ ys) i y ≡ f ++ set ys k y
+pub set_behind : (f ys : List ℕ) (n i k y : ℕ) → length f ≡ n → i ≡ n + k → set (f ++ ys) i y ≡ f ++ set ys k y
 set_behind f ys n i k y e at =
     set-append_right f ys n i y e (omega (arith, at)) ∙ ap (λ j. f ++ set ys j y) (let q : i - n ≡ k = omega (arith, at) in q)
 

@@ -2,6 +2,7 @@ pub mod Access
 pub mod Answered
 pub mod Log
 pub mod Run
+pub mod Plain
 pub mod Script
 pub mod Recorded
 pub mod Rewritten

@@ -1,4 +1,4 @@
--- A run: consecutive words of a frame, read one after another.
+-- A run: consecutive words of a frame, read or written one after another.
 use Rattle.std.specs.Prelude.{ℕ, ◌+◌, ◌<◌, ◌^◌, ◌≡◌, List, [], ◌∷◌, All, Option}
 use Rattle.std.specs.Int.{w32, to_le_bytes}
 use Rattle.std.specs.List.{flat_map}
@@ -19,3 +19,16 @@ pub record ReadsRun {S : Type 0} (log : S → Option (List Access)) (gives : S �
   pub below : All (λ word. word < 2 ^ 32) words
   pub performed : Performs log gives old (reads_of at words) new
   pub told : bytes ≡ flat_map (to_le_bytes w32) words
+
+-- a write of each of the words, in rising order from a place on
+abbrev pub writes_of : Place → List ℕ → List Access
+writes_of at [] = []
+writes_of at (word ∷ words) = access.Write at word ∷ writes_of (record at { word = at.word + 1 }) words
+
+-- These bytes are those of words of 32 bits, each word's lowest byte first, and a bus wrote the words, each once and in rising order.
+pub record WritesRun {S : Type 0} (log : S → Option (List Access)) (gives : S → Access → S → Type 0)
+    (at : Place) (old : S) (bytes : List ℕ) (new : S) : Type 0 where
+  pub words : List ℕ
+  pub below : All (λ word. word < 2 ^ 32) words
+  pub told : bytes ≡ flat_map (to_le_bytes w32) words
+  pub performed : Performs log gives old (writes_of at words) new

@@ -3,13 +3,13 @@
 ghost use Rattle.std.specs.Prelude.{◌≡◌, ◌<◌, ◌≤◌, ◌+◌, ◌/◌, ◌%◌, ◌∷◌, [], List, ℕ, Option, length};
 ghost use Rattle.xen_page.specs.declared.access.Access.{Access};
 ghost use Rattle.xen_page.specs.Access.{Tells};
-ghost use Rattle.xen_page.specs.Run.{ReadsRun};
+ghost use Rattle.xen_page.specs.Run.{ReadsRun, WritesRun};
 
 use crate::place::Place;
-use crate::run::put_word;
+use crate::run::{put_word, word_at};
 
-/// Reaches the words of frames, each access being one step. What a read returns is tied to no earlier
-/// access: another domain may write between any two of them.
+/// Reaches the words of frames, each access being one step. Of what a read returns nothing is known but what the bus
+/// says (`access_gives`): of pages that another domain may write between any two accesses, nothing.
 pub trait Bus {
     // The number of frames.
     ghost size: { Self → ℕ };
@@ -59,6 +59,22 @@ pub trait Bus {
         ensures told { Tells (log self.old) (log self.new) (Access.Write at value ∷ []) }
         ensures given { access_gives self.old (Access.Write at value) self.new }
         ensures size { size self.new ≡ size self.old };
+
+    /// Writes a run of words of one frame from a place on, whose bytes these are, each word's lowest byte first. Each word is
+    /// written once and in order, as by [`Bus::write`]: this is for a bus that has a faster way to do that.
+    fn write_run(&mut self, at: Place, bytes: &[u8])
+        requires frame { at.frame < size self.old }
+        requires whole { length bytes.now % 4 ≡ 0 }
+        requires within { at.word + length bytes.now / 4 ≤ 1024 }
+        ensures written { WritesRun log access_gives at self.old bytes.now self.new }
+        ensures size { size self.new ≡ size self.old }
+    {
+        for number in 0..bytes.len() / 4 {
+            let frame = at.frame;
+            let word = at.word + number as u32;
+            self.write(Place { frame, word }, word_at(bytes, number));
+        }
+    }
 
     /// A compare-exchange: returns the word that it found, and writes `new` if that is `old`.
     fn cas(&mut self, at: Place, old: u32, new: u32) -> u32

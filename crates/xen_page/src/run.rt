@@ -16,3 +16,15 @@ pub(crate) fn put_word(bytes: &mut [u8], number: usize, word: u32)
     bytes[at + 2] = four[2];
     bytes[at + 3] = four[3];
 }
+
+/// The word of this number of a run whose bytes these are.
+#[inline(always)]
+pub(crate) fn word_at(bytes: &[u8], number: usize) -> u32
+    requires { 4 * number + 4 ≤ length bytes.now }
+    ensures { to_le_bytes w32 result ≡ take 4 (drop (4 * number) bytes.now) }
+{
+    match bytes[4 * number..].split_first_chunk::<4>() {
+        Some((four, _)) => u32::from_le_bytes(*four),
+        None => unreachable!(),
+    }
+}

@@ -3,6 +3,7 @@ mod entries;
 mod extents;
 mod growth;
 mod mappings;
+mod plain;
 mod runs;
 mod tables;
 mod threads;

@@ -7,3 +7,4 @@ pub mod Figures
 pub mod TouchedLemmas
 pub mod ByteLemmas
 pub mod StraightLemmas
+pub mod FillLemmas

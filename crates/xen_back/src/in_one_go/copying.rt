@@ -17,7 +17,6 @@ ghost use Rattle.xen_back.specs.Reads.{AreReadFrom};
 
 use crate::copy_buf::CopyBuf;
 use crate::wiring::Wiring;
-use std::ops::Range;
 use xen_netif::Fragment;
 use xen_page::{Bus, GrantFault, Place};
 use xen_transmit::read_grant;
@@ -62,20 +61,6 @@ fn read_parts<B: Bus>(
     }
 }
 
-/// Of the words that a fragment covers, those that lie whole in it.
-fn whole_words(fragment: &Fragment, words: &Range<u32>) -> Range<u32>
-    requires start { words.now.start ≡ fragment.now.offset / 4 }
-    requires end { words.now.end ≡ words.now.start + covered fragment.now }
-    ensures inside { (words.now.start ≤ result.start) × (result.start ≤ result.end) × (result.end ≤ words.now.end) }
-    ensures whole { result.start < result.end → (fragment.now.offset ≤ 4 * result.start) ×
-        (4 * result.end ≤ fragment.now.offset + fragment.now.size) }
-{
-    let offset = u32::from(fragment.offset);
-    let start = ((offset + 3) / 4).min(words.end);
-    let end = (offset + u32::from(fragment.size)) / 4;
-    start..end.max(start)
-}
-
 /// Puts a fragment's bytes behind a packet's bytes. Each word of the page that the fragment covers is read once.
 pub(crate) fn read_fragment<B: Bus>(
     bus: &mut B,
@@ -92,7 +77,7 @@ pub(crate) fn read_fragment<B: Bus>(
         × (packet.new ≡ packet.old ++ bytes_from fragment.now (fragment.now.offset / 4) words) }
 {
     let words = fragment.covered_words();
-    let whole = whole_words(fragment, &words);
+    let whole = fragment.whole_words();
     read_parts(bus, fragment, frame, words.start, whole.start, packet);
     packet.read_whole(bus, frame, whole.start, whole.end);
     read_parts(bus, fragment, frame, whole.end, words.end, packet);

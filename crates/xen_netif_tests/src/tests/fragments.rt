@@ -121,6 +121,22 @@ fn covers_words(rt: HostRuntime) {
 }
 
 #[test]
+fn whole_words_lie_in_the_fragment(rt: HostRuntime) {
+    // none, at a word's beginning and inside it; two; one, of which the others are covered in part; none of a word, and of two
+    for (offset, size, words) in [
+        (0, 0, 0..0),
+        (4095, 0, 1023..1023),
+        (0, 8, 0..2),
+        (4082, 14, 1021..1024),
+        (3, 8, 1..2),
+        (29, 2, 8..8),
+        (30, 4, 8..8),
+    ] {
+        assert_eq!(rt; fragment(offset, size).whole_words(), words, "at {offset}");
+    }
+}
+
+#[test]
 fn one_word_of_two_fragments(rt: HostRuntime) {
     assert_eq!(rt;
         bytes_in(fragment(0, 30), 7, 0x4433_2211),

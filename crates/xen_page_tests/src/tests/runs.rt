@@ -221,3 +221,106 @@ fn nothing_read(alloc: Global) -> Option<(bool, Log, u32)> {
 fn a_run_of_no_words_reads_nothing(rt: HostRuntime) {
     assert_eq!(rt; nothing_read(rt.alloc()), Some((false, [None; MOST], 7)));
 }
+
+/// The bytes of the three words that are written.
+const WRITTEN: [u8; 12] = [1, 2, 3, 4, 5, 6, 7, 8, 9, 10, 11, 12];
+
+/// Writes the three words by a run.
+fn write_by_run<T: Bus>(bus: &mut T)
+    requires { 2 ≤ T.size bus.old }
+    ensures { T.size bus.new ≡ T.size bus.old }
+{
+    bus.write_run(THREE, &WRITTEN);
+}
+
+/// A run of no words is written.
+fn write_none<T: Bus>(bus: &mut T)
+    requires { 2 ≤ T.size bus.old }
+{
+    bus.write_run(THREE, &[]);
+}
+
+/// The writes of the three words.
+fn writes() -> Log {
+    log(&[
+        Access::Write {
+            at: THREE,
+            value: 0x0403_0201,
+        },
+        Access::Write {
+            at: THREE.next(),
+            value: 0x0807_0605,
+        },
+        Access::Write {
+            at: THREE.next().next(),
+            value: 0x0c0b_0a09,
+        },
+    ])
+}
+
+/// The word before the three, and the three, after a run over pages.
+fn written_to_pages(alloc: Global) -> Option<(u32, [u8; 12])> {
+    let frames = frames(alloc)?;
+    if frames.count() < 2 {
+        return None;
+    }
+    let mut bus = PageBus::of(&frames);
+    write_by_run(&mut bus);
+    let before = bus.read(Place {
+        frame: 1,
+        word: 1020,
+    });
+    Some((before, three_by_reads(&mut bus)))
+}
+
+#[test]
+fn a_run_over_pages_is_written(rt: HostRuntime) {
+    assert_eq!(rt; written_to_pages(rt.alloc()), Some((0x1716_1514, WRITTEN)));
+}
+
+/// The log of a run that a script with room for so many accesses is written, and whether it is full.
+fn written_to_script(alloc: Global, cap: usize) -> Option<(bool, Log)> {
+    let mut bus = ScriptBus::make(alloc, 2, &[], cap).ok()?;
+    write_by_run(&mut bus);
+    Some((bus.full(), log(bus.accesses())))
+}
+
+#[test]
+fn a_script_tells_each_write_of_a_run(rt: HostRuntime) {
+    assert_eq!(rt; written_to_script(rt.alloc(), 3), Some((false, writes())));
+    let mut first = writes();
+    first[2] = None;
+    assert_eq!(rt; written_to_script(rt.alloc(), 2), Some((true, first)));
+}
+
+/// What a run leaves that is written to pages which are rewritten in it, and its log.
+fn written_and_rewritten(alloc: Global) -> Option<([u8; 12], Log)> {
+    let frames = frames(alloc)?;
+    if frames.count() < 2 {
+        return None;
+    }
+    let rewriter = Rewriter::make(PageBus::of(&frames), &WRITES);
+    let mut bus = Recorder::make(alloc, rewriter, 3).ok()?;
+    write_by_run(&mut bus);
+    let told = log(bus.accesses());
+    Some((three_by_reads(&mut bus), told))
+}
+
+#[test]
+fn a_run_is_written_word_by_word(rt: HostRuntime) {
+    // the first word is rewritten once it was written, and the third before that
+    let left = [255, 255, 255, 255, 5, 6, 7, 8, 9, 10, 11, 12];
+    assert_eq!(rt; written_and_rewritten(rt.alloc()), Some((left, writes())));
+}
+
+/// The log of a run of no words.
+fn none_written(alloc: Global) -> Option<(bool, Log)> {
+    let mut bus = ScriptBus::make(alloc, 2, &[], 3).ok()?;
+    write_none(&mut bus);
+    Some((bus.full(), log(bus.accesses())))
+}
+
+#[test]
+fn a_run_of_no_words_writes_nothing(rt: HostRuntime) {
+    assert_eq!(rt; none_written(rt.alloc()), Some((false, [None; MOST])));
+}

@@ -25,7 +25,7 @@ use crate::target::{Target, Targets};
 use crate::vif::Vif;
 use crate::words::{buffer_frame, packet_word, pages_of, response, words_of};
 use xen_netif::RxReq;
-use xen_page::{Bus, Entry, GrantFault, Place, check};
+use xen_page::{Bus, Entry, GrantFault, Place, WORDS, check};
 use xen_ring::{Ports, REQ_PROD, RSP_EVENT, RSP_PROD, due};
 use xen_steps::{header, requests_shown, rx_entry};
 
@@ -117,7 +117,7 @@ fn read_targets<B: Bus>(
     true
 }
 
-/// Writes the words in a packet's i-th page into their buffer.
+/// Writes the words in a packet's i-th page into their buffer: those that lie whole in the packet as a run, then one whose end is zeros.
 fn fill_buffer<B: Bus>(bus: &mut B, targets: &Targets, i: u32, packet: &[u8])
     requires short { length packet.now ≤ 65535 }
     requires page { 1024 * i < words packet.now }
@@ -127,11 +127,14 @@ fn fill_buffer<B: Bus>(bus: &mut B, targets: &Targets, i: u32, packet: &[u8])
         (fill targets.now packet.now (words packet.now - 1024 * (i + 1)) (1024 * (i + 1))) bus.old bus.new t }
 {
     let frame = buffer_frame(targets, i);
-    let from = 1024 * i;
-    let to = words_of(packet).min(from + 1024);
-    for k in from..to {
-        let word = k - from;
-        bus.write(Place { frame, word }, packet_word(packet, k));
+    let from = WORDS * i;
+    let to = words_of(packet).min(from + WORDS);
+    let whole = to.min(packet.len() as u32 / 4);
+    let bytes = &packet[4 * from as usize..4 * whole as usize];
+    bus.write_run(Place { frame, word: 0 }, bytes);
+    if whole < to {
+        let word = whole - from;
+        bus.write(Place { frame, word }, packet_word(packet, whole));
     }
 }
 
