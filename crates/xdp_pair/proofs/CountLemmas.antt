@@ -1,5 +1,5 @@
 -- What a row counts of one turn more, and of its answer.
-use Rattle.std.proofs.Common.{◌≡◌, ◌∙◌, ℕ, ◌+◌, ◌≤◌, ◌*◌, List, [], ◌∷◌, Option, None, Some, length, ap, sym, subst, refl, arith}
+use Rattle.std.proofs.Common.{◌≡◌, ◌∙◌, ◌+◌, ◌≤◌, List, ◌∷◌, None, Some, length, ap, sym, subst, refl, arith}
 use Rattle.std.specs.Prelude.{Bool, true, false, cond, count_by}
 use Rattle.std.proofs.lemmas.List.Sums.{count_by-le-length, sum_by-cons}
 use Rattle.xen_back.specs.Turned.{Turned, Idle, Ran, Refused, Halted, Shows}

@@ -1,5 +1,5 @@
 -- Rows that are noted one after another, from the last.
-use Rattle.std.proofs.Common.{◌≡◌, ◌≢◌, ◌<◌, ◌≤◌, ℕ, zero, suc, List, [], ◌∷◌, length, get_or, set, slice_get, Option, Some, ap, refl, sym, subst, ◌∙◌, All, arith}
+use Rattle.std.proofs.Common.{◌≡◌, ◌≢◌, ◌<◌, ◌≤◌, ℕ, zero, suc, List, [], ◌∷◌, length, get_or, set, slice_get, Some, ap, refl, subst, ◌∙◌, All, arith}
 use Rattle.std.specs.Prelude.{option_map}
 use Rattle.bpf_maps.specs.Seats.{SeatView}
 use Rattle.xdp_pair.specs.Leaving.{HasWorked, back_of}

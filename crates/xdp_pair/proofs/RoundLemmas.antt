@@ -1,9 +1,9 @@
 -- A round from its turn, and from its answer's delivery.
-use Rattle.std.proofs.Common.{◌≡◌, ◌∙◌, List, [], ◌∷◌, ◌++◌, Option, None, Some, ap, sym, subst, ℕ}
+use Rattle.std.proofs.Common.{◌≡◌, ◌∙◌, List, [], Option, None, Some, sym, subst, ℕ}
 use Rattle.bpf_note.specs.declared.op.Op.{Op}
 use Rattle.xen_back.specs.Delivered.{IsDelivered, IsDelivery}
 use Rattle.xen_back.specs.Drive.{IsTurnOver}
-use Rattle.xen_back.specs.Queues.{IsSameWiring, state_of, wiring_of}
+use Rattle.xen_back.specs.Queues.{state_of}
 use Rattle.xen_back.specs.declared.delivery.delivering.Delivery.{Delivery}
 use Rattle.xen_back.specs.declared.queue.Queue.{Queue}
 use Rattle.xen_back.specs.declared.turn.Turn.{Turn}
@@ -12,8 +12,8 @@ use Rattle.xen_back.specs.declared.wiring.Wiring.{Wiring}
 use Rattle.xen_page.specs.declared.access.Access.{Access}
 use Rattle.xen_page.proofs.AccessLemmas.{performs_none, performs_then}
 use Rattle.xen_steps.specs.Drive.{accesses}
-use Rattle.xdp_pair.specs.Answering.{reply, shown_reply}
-use Rattle.xdp_pair.specs.Rounds.{IsHalt, IsRoundOver, Round, counted, silent, answered, with_delivery, with_turn}
+use Rattle.xdp_pair.specs.Answering.{shown_reply}
+use Rattle.xdp_pair.specs.Rounds.{IsHalt, IsRoundOver, silent, answered, with_delivery, with_turn}
 use Rattle.xdp_pair.specs.declared.host.Host.{Host}
 use Rattle.xdp_pair.specs.declared.next.Next.{Next}
 use Rattle.xdp_pair.specs.declared.next.Next.TheVariants as next

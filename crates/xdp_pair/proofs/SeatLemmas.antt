@@ -1,6 +1,5 @@
 -- New seats, taken from the end.
-use Rattle.std.proofs.Common.{◌≡◌, ℕ, ◌+◌, ◌<◌, Contains, List, [], ◌∷◌, ◌++◌, length, length-append, map, sym, ap, subst, ◌∙◌, refl, arith}
-use Rattle.std.specs.List.{range_with_len}
+use Rattle.std.proofs.Common.{◌≡◌, ℕ, ◌+◌, List, [], ◌∷◌, ◌++◌, length, length-append, sym, ap, ◌∙◌, arith}
 use Rattle.std.proofs.lemmas.List.FromFn.{length-map-range_with_len, map-range_with_len_more}
 use Rattle.bpf_maps.specs.Seats.{SeatView, CountersView, new_seat, new_seats}
 use Rattle.xdp_pair.proofs.ReturnLemmas.{snoc_same}

@@ -1,5 +1,5 @@
 -- One round more, and the last one.
-use Rattle.std.proofs.Common.{◌≡◌, ℕ, ◌+◌, ◌≤◌, ◌*◌, ◌⊎◌, List, [], ◌∷◌, ◌++◌, Option, length, sym, subst, arith}
+use Rattle.std.proofs.Common.{◌≡◌, ℕ, ◌+◌, ◌≤◌, ◌⊎◌, List, ◌∷◌, ◌++◌, Option, length, sym, subst, arith}
 use Rattle.bpf_note.specs.declared.op.Op.{Op}
 use Rattle.bpf_maps.specs.Seats.{SeatView}
 use Rattle.xdp_world.specs.Core.{started_at}

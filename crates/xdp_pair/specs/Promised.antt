@@ -1,5 +1,5 @@
 -- What a back thread that was lent a seat has promised.
-use Rattle.std.specs.Prelude.{ℕ, ◌≡◌, ◌*◌}
+use Rattle.std.specs.Prelude.{ℕ, ◌≡◌}
 use Rattle.std.specs.declared.thread.PromisedHandle.{PromisedHandle}
 use Rattle.bpf_maps.specs.Seats.{CountersView, SeatView, IsSeatOf}
 use Rattle.xdp_pair.specs.Working.{Task}

@@ -12,6 +12,7 @@ use crate::fault::PairFault;
 use crate::gate::Gate;
 use crate::host::Host;
 use crate::inbox::{Discard, Inbox};
+use crate::job::Job;
 use crate::joining::{empty_rows, join_backs, join_fronts};
 use crate::report::{PairReport, PairRow};
 use crate::resources::{BackResources, FrontResources, make_backs, make_fronts, make_pages};
@@ -23,7 +24,7 @@ use std::alloc::Global;
 use std::sync::Wait;
 use std::thread;
 use std::thread::Threads;
-use xdp_load::{Packet, Setup};
+use xdp_load::Setup;
 
 /// The bytes of a front thread's stack.
 pub const STACK: usize = 0x10_0000;
@@ -32,63 +33,38 @@ pub const STACK: usize = 0x10_0000;
 fn run_all<R: Threads + Wait + Sync, G: Gate + Sync, I: Inbox + Sync>(
     rt: &R,
     alloc: Global,
-    gate: &G,
-    inbox: &I,
-    turns: u32,
-    stack: usize,
-    program: &Verified,
-    packets: &[Packet],
-    shared: &Shared,
+    job: &Job<'_, G, I>,
     counters: &Counters,
     backs: Vec<BackResources>,
     fronts: Vec<FrontResources<'_>>,
-    mut rows: Vec<PairRow>,
 ) -> Result<(Vec<CounterSeat>, Vec<PairRow>), PairFault>
-    requires backs { All (IsBackOf counters.now shared.now.layout.queues) backs.items }
-    requires fronts { All (IsFrontOf shared.now.layout.queues) fronts.items }
+    requires backs { All (IsBackOf counters.now job.now.shared.now.layout.queues) backs.items }
+    requires fronts { All (IsFrontOf job.now.shared.now.layout.queues) fronts.items }
     requires numbers { map number_of backs.items ≡ falling (vec_len backs) }
-    requires counts { (vec_len backs ≡ vec_len rows) × (vec_len fronts ≡ vec_len rows) }
-    requires shapes { counters.now.shapes ≡ program.now.shapes }
+    requires count { vec_len fronts ≡ vec_len backs }
+    requires shapes { counters.now.shapes ≡ job.now.program.now.shapes }
     ensures { IfOk result (λ v. All (IsSeatOf counters.entry.now) v.0.items ×
-        All (HasWorked (task_of program.entry.now shared.entry.now) turns v.1.items) v.0.items ×
-        ((q : ℕ) → q < vec_len rows → Contains (map (λ s. s.number) v.0.items) q) × (vec_len v.1 ≡ vec_len rows)) }
+        All (HasWorked (task_of job.entry.now.program.now job.entry.now.shared.now) job.entry.now.turns v.1.items) v.0.items ×
+        ((q : ℕ) → q < vec_len backs → Contains (map (λ s. s.number) v.0.items) q) × (vec_len v.1 ≡ vec_len backs)) }
 {
+    let mut rows = empty_rows(alloc, backs.len())?;
     thread::scope(
         thread::scope_env(),
         rt,
         |scope| -> Result<(Vec<CounterSeat>, Vec<PairRow>), PairFault>
             requires { IsSync R.row × IsSync G.row × IsSync I.row ×
-                All (IsBackOf counters.now shared.now.layout.queues) backs.items ×
-                All (IsFrontOf shared.now.layout.queues) fronts.items × (map number_of backs.items ≡ falling (vec_len backs)) ×
-                (vec_len backs ≡ vec_len rows) × (vec_len fronts ≡ vec_len rows) × (counters.now.shapes ≡ program.now.shapes) }
+                All (IsBackOf counters.now job.now.shared.now.layout.queues) backs.items ×
+                All (IsFrontOf job.now.shared.now.layout.queues) fronts.items × (map number_of backs.items ≡ falling (vec_len backs)) ×
+                (vec_len backs ≡ vec_len rows) × (vec_len fronts ≡ vec_len rows) × (counters.now.shapes ≡ job.now.program.now.shapes) }
             ensures { IfOk result (λ v. All (IsSeatOf counters.entry.now) v.0.items ×
-                All (HasWorked (task_of program.entry.now shared.entry.now) turns v.1.items) v.0.items ×
+                All (HasWorked (task_of job.entry.now.program.now job.entry.now.shared.now) job.entry.now.turns v.1.items) v.0.items ×
                 ((q : ℕ) → q < vec_len rows → Contains (map (λ s. s.number) v.0.items) q) × (vec_len v.1 ≡ vec_len rows)) }
         {
             let started_backs = Vec::with_capacity(alloc, backs.len())?;
             let started_fronts = Vec::with_capacity(alloc, fronts.len())?;
             let seats = Vec::with_capacity(alloc, backs.len())?;
-            let backs = start_backs(
-                scope,
-                rt,
-                gate,
-                turns,
-                program,
-                shared,
-                counters,
-                backs,
-                started_backs,
-            )?;
-            let fronts = start_fronts(
-                scope,
-                rt,
-                inbox,
-                stack,
-                packets,
-                shared,
-                fronts,
-                started_fronts,
-            )?;
+            let backs = start_backs(scope, rt, job, counters, backs, started_backs)?;
+            let fronts = start_fronts(scope, rt, job, fronts, started_fronts)?;
             join_fronts(rt, fronts, &mut rows);
             let seats = join_backs(rt, backs, &mut rows, seats);
             Ok((seats, rows))
@@ -96,8 +72,7 @@ fn run_all<R: Threads + Wait + Sync, G: Gate + Sync, I: Inbox + Sync>(
     )
 }
 
-/// Runs the setup's queues over this memory, as [`pair_with`] does over memory of its own. The inbox is given each packet that
-/// comes back to a front, and the fronts have stacks of so many bytes.
+/// Runs the job's queues over its memory, as [`pair_with`] does over memory of its own.
 ///
 /// # Errors
 ///
@@ -105,43 +80,23 @@ fn run_all<R: Threads + Wait + Sync, G: Gate + Sync, I: Inbox + Sync>(
 pub fn pair_over<R: Threads + Wait + Sync, G: Gate + Sync, I: Inbox + Sync>(
     rt: &R,
     alloc: Global,
-    setup: &Setup,
-    program: &Verified,
-    turns: u32,
-    gate: &G,
-    inbox: &I,
-    stack: usize,
-    shared: &Shared,
+    job: &Job<'_, G, I>,
     parkers: Parkers,
 ) -> Result<PairReport, PairFault>
-    requires queues { (1 ≤ setup.now.queues) × (setup.now.queues ≤ 8) }
-    requires shared { shared.now.layout.queues ≡ setup.now.queues }
-    requires numbers { (shared.now.ifindex ≡ setup.now.ifindex) × (shared.now.start ≡ setup.now.start) }
-    requires parkers { (vec_len parkers.fronts ≡ setup.now.queues) × (vec_len parkers.backs ≡ setup.now.queues) }
-    ensures rows { IfOk result (λ r. vec_len r.rows ≡ setup.now.queues) }
-    ensures shapes { IfOk result (λ r. r.totals.shapes ≡ program.now.shapes) }
-    ensures account { IfOk result (λ r. AreLeft (task_for program.now setup.now shared.now.host) turns r) }
+    requires queues { (1 ≤ job.now.setup.now.queues) × (job.now.setup.now.queues ≤ 8) }
+    requires shared { job.now.shared.now.layout.queues ≡ job.now.setup.now.queues }
+    requires numbers { (job.now.shared.now.ifindex ≡ job.now.setup.now.ifindex) × (job.now.shared.now.start ≡ job.now.setup.now.start) }
+    requires parkers { (vec_len parkers.fronts ≡ job.now.setup.now.queues) × (vec_len parkers.backs ≡ job.now.setup.now.queues) }
+    ensures rows { IfOk result (λ r. vec_len r.rows ≡ job.now.setup.now.queues) }
+    ensures shapes { IfOk result (λ r. r.totals.shapes ≡ job.now.program.now.shapes) }
+    ensures account { IfOk result (λ r. AreLeft (task_for job.now.program.now job.now.setup.now job.now.shared.now.host) job.now.turns r) }
 {
-    let (counters, seats) = Counters::make(alloc, program.shapes(), setup.queues)?;
-    let backs = make_backs(alloc, shared, seats, parkers.backs)?;
-    let pages = make_pages(alloc, setup.queues)?;
-    let fronts = make_fronts(alloc, shared, pages.as_slice(), parkers.fronts)?;
-    let rows = empty_rows(alloc, setup.queues)?;
-    let (seats, rows) = run_all(
-        rt,
-        alloc,
-        gate,
-        inbox,
-        turns,
-        stack,
-        program,
-        setup.packets.as_slice(),
-        shared,
-        &counters,
-        backs,
-        fronts,
-        rows,
-    )?;
+    let queues = job.setup.queues;
+    let (counters, seats) = Counters::make(alloc, job.program.shapes(), queues)?;
+    let backs = make_backs(alloc, job.shared, seats, parkers.backs)?;
+    let pages = make_pages(alloc, queues)?;
+    let fronts = make_fronts(alloc, job.shared, pages.as_slice(), parkers.fronts)?;
+    let (seats, rows) = run_all(rt, alloc, job, &counters, backs, fronts)?;
     Ok(PairReport {
         rows,
         totals: counters.close(seats),
@@ -170,7 +125,14 @@ pub fn pair_with<R: Threads + Wait + Sync, G: Gate + Sync>(
     ensures account { IfOk result (λ r. AreLeft (task_for program.now setup.now host) turns r) }
 {
     let (shared, parkers) = Shared::make(alloc, setup, host)?;
-    pair_over(
-        rt, alloc, setup, program, turns, gate, &Discard, STACK, &shared, parkers,
-    )
+    let job = Job {
+        setup,
+        program,
+        turns,
+        gate,
+        inbox: &Discard,
+        stack: STACK,
+        shared: &shared,
+    };
+    pair_over(rt, alloc, &job, parkers)
 }

@@ -10,36 +10,40 @@ use crate::back::{BackDone, BackThread, SeatBack, work_back};
 use crate::front::{FrontThread, work_front};
 use crate::gate::Gate;
 use crate::inbox::Inbox;
+use crate::job::Job;
 use crate::report::FrontRow;
 use crate::resources::{BackResources, FrontResources};
-use crate::shared::{AllEnd, Shared};
+use crate::shared::AllEnd;
 use bpf_maps::Counters;
-use bpf_verify::Verified;
 use std::sync::Wait;
 use std::thread::{Builder, Scope};
-use xdp_load::Packet;
 use xen_page::PageBus;
 
 /// Starts a thread for each back. There is room for their handles. If one can't be started, all workers are told to end.
-pub(crate) fn start_backs<'s, E, R: Wait + Sync, G: Gate + Sync>(
+pub(crate) fn start_backs<'s, E, R: Wait + Sync, G: Gate + Sync, I: Sync>(
     scope: &Scope<'s, E>,
     rt: &'s R,
-    gate: &'s G,
-    turns: u32,
-    program: &'s Verified,
-    shared: &'s Shared,
+    job: &'s Job<'s, G, I>,
     counters: &'s Counters,
     mut resources: Vec<BackResources>,
     mut backs: Vec<BackThread>,
 ) -> Result<Vec<BackThread>, AllEnd>
-    requires resources { All (IsBackOf counters.now shared.now.layout.queues) resources.items }
+    requires resources { All (IsBackOf counters.now job.now.shared.now.layout.queues) resources.items }
     requires numbers { map number_of resources.items ≡ falling (vec_len resources) }
-    requires shapes { counters.now.shapes ≡ program.now.shapes }
+    requires shapes { counters.now.shapes ≡ job.now.program.now.shapes }
     requires room { (backs.items ≡ []) × (vec_len resources ≤ vec_capacity backs) }
     ensures count { IfOk result (λ v. vec_len v ≡ vec_len resources) }
-    ensures seats { IfOk result (λ v. All (PromisesSeatOf (task_of program.entry.now shared.entry.now) turns counters.entry.now) v.items) }
+    ensures seats { IfOk result (λ v. All (PromisesSeatOf (task_of job.entry.now.program.now job.entry.now.shared.now) job.entry.now.turns
+        counters.entry.now) v.items) }
     ensures numbers { IfOk result (λ v. map promised_number v.items ≡ range_with_len 0 (vec_len resources)) }
 {
+    let Job {
+        program,
+        turns,
+        gate,
+        shared,
+        ..
+    } = *job;
     while let Some(own) = resources.pop() {
         let promise = SeatBack::of(&own.seat, program, shared, turns);
         let Ok(back) = scope.spawn_with(
@@ -60,22 +64,27 @@ pub(crate) fn start_backs<'s, E, R: Wait + Sync, G: Gate + Sync>(
     Ok(backs)
 }
 
-/// Starts a thread for each front, with stacks of so many bytes. There is room for their handles. If one
+/// Starts a thread for each front. There is room for their handles. If one
 /// can't be started, all workers are told to end.
-pub(crate) fn start_fronts<'s, E, R: Wait + Sync, I: Inbox + Sync>(
+pub(crate) fn start_fronts<'s, E, R: Wait + Sync, G: Sync, I: Inbox + Sync>(
     scope: &Scope<'s, E>,
     rt: &'s R,
-    inbox: &'s I,
-    stack: usize,
-    packets: &'s [Packet],
-    shared: &'s Shared,
+    job: &'s Job<'s, G, I>,
     mut resources: Vec<FrontResources<'s>>,
     mut fronts: Vec<FrontThread>,
 ) -> Result<Vec<FrontThread>, AllEnd>
     requires room { (fronts.items ≡ []) × (vec_len resources ≤ vec_capacity fronts) }
-    requires resources { All (IsFrontOf shared.now.layout.queues) resources.items }
+    requires resources { All (IsFrontOf job.now.shared.now.layout.queues) resources.items }
     ensures count { IfOk result (λ v. vec_len v ≡ vec_len resources.entry) }
 {
+    let Job {
+        setup,
+        inbox,
+        stack,
+        shared,
+        ..
+    } = *job;
+    let packets = setup.packets.as_slice();
     while let Some(own) = resources.pop() {
         let Ok(front) = Builder::new().stack_size(stack).spawn_scoped(
             scope,

@@ -7,7 +7,7 @@ use std::alloc::Global;
 use std::sync::Wait;
 use std::thread::Threads;
 use xdp_load::Setup;
-use xdp_pair::{Discard, Gate, Inbox, Open, PairFault, Parkers, STACK, pair_over};
+use xdp_pair::{Discard, Gate, Inbox, Job, Open, PairFault, Parkers, STACK, pair_over};
 
 impl Bench {
     /// The rows of a run over these pages.
@@ -23,19 +23,16 @@ impl Bench {
     ) -> Option<Rows>
         requires { (vec_len parkers.fronts ≡ self.now.setup.queues) × (vec_len parkers.backs ≡ self.now.setup.queues) }
     {
-        let report = pair_over(
-            rt,
-            alloc,
-            &self.setup,
+        let job = Job {
+            setup: &self.setup,
             program,
             turns,
             gate,
             inbox,
-            STACK,
-            &self.shared,
-            parkers,
-        );
-        match report {
+            stack: STACK,
+            shared: &self.shared,
+        };
+        match pair_over(rt, alloc, &job, parkers) {
             Ok(report) => Some(rows_of(report.rows.as_slice())),
             Err(_) => None,
         }
@@ -52,19 +49,16 @@ impl Bench {
     ) -> Option<PairFault>
         requires { (vec_len parkers.fronts ≡ self.now.setup.queues) × (vec_len parkers.backs ≡ self.now.setup.queues) }
     {
-        pair_over(
-            rt,
-            alloc,
-            &self.setup,
+        let job = Job {
+            setup: &self.setup,
             program,
             turns,
-            &Open,
-            &Discard,
-            usize::MAX,
-            &self.shared,
-            parkers,
-        )
-        .err()
+            gate: &Open,
+            inbox: &Discard,
+            stack: usize::MAX,
+            shared: &self.shared,
+        };
+        pair_over(rt, alloc, &job, parkers).err()
     }
 
     /// The rows of a run of a program with one map of two counters, and the second counter.
@@ -78,19 +72,16 @@ impl Bench {
         requires parkers { (vec_len parkers.fronts ≡ self.now.setup.queues) × (vec_len parkers.backs ≡ self.now.setup.queues) }
         requires shape { slice_get program.now.shapes 0 ≡ Some (record { entries = 2; counters = 1 }) }
     {
-        let report = pair_over(
-            rt,
-            alloc,
-            &self.setup,
+        let job = Job {
+            setup: &self.setup,
             program,
-            TURNS,
-            &Open,
-            &Discard,
-            STACK,
-            &self.shared,
-            parkers,
-        );
-        match report {
+            turns: TURNS,
+            gate: &Open,
+            inbox: &Discard,
+            stack: STACK,
+            shared: &self.shared,
+        };
+        match pair_over(rt, alloc, &job, parkers) {
             Ok(report) => Some((rows_of(report.rows.as_slice()), report.totals.at(0, 1, 0))),
             Err(_) => None,
         }

@@ -2,7 +2,7 @@ use Rattle.std.proofs.Common.{◌≡◌, ◌∙◌, ℕ, ◌≤◌, List, [], �
 use Rattle.bpf_note.specs.declared.op.Op.{Op}
 use Rattle.bpf_maps.specs.Seats.{SeatView}
 use Rattle.xdp_world.specs.Core.{started_at}
-use Rattle.xen_back.specs.Queues.{state_of, wiring_of}
+use Rattle.xen_back.specs.Queues.{wiring_of}
 use Rattle.xen_back.specs.declared.state.State.{State}
 use Rattle.xen_back.specs.declared.wiring.Wiring.{Wiring}
 use Rattle.xen_page.specs.declared.access.Access.{Access}

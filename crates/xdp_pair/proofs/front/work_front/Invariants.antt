@@ -1,4 +1,4 @@
-use Rattle.std.proofs.Common.{◌≡◌, ◌≤◌}
+use Rattle.std.proofs.Common.{◌≤◌}
 use Rattle.xen_front.specs.Fronts.{wiring_of}
 use Rattle.xdp_pair.proofs.front.work_front.Given as goal
 

@@ -1,4 +1,4 @@
-use Rattle.std.proofs.Common.{arith, ℕ, suc, ◌≡◌, ◌≢◌, ◌<◌, ◌∷◌, ◌++◌, [], All, Contains, List, map, length, length-append, sym, ap, ◌∙◌, ◌⊎◌, inl, inr, ⊎_elim, slice_get, refl, subst, true≢false, vec_len}
+use Rattle.std.proofs.Common.{arith, ℕ, suc, ◌≡◌, ◌≢◌, ◌<◌, ◌∷◌, [], All, Contains, List, map, length, length-append, sym, ap, ◌∙◌, ◌⊎◌, inl, ⊎_elim, slice_get, refl, subst, true≢false, vec_len}
 use Rattle.std.specs.Prelude.{option_map}
 use Rattle.std.specs.List.{range_with_len}
 use Rattle.std.proofs.lemmas.List.{map-append}

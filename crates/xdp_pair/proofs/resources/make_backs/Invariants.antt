@@ -1,4 +1,4 @@
-use Rattle.std.proofs.Common.{◌≡◌, ◌≤◌, ◌+◌, ◌++◌, All, length, map, vec_len}
+use Rattle.std.proofs.Common.{◌≡◌, ◌+◌, ◌++◌, All, length, map, vec_len}
 use Rattle.bpf_maps.specs.Seats.{CountersView, new_seats}
 use Rattle.xdp_pair.specs.Resources.{IsBackOf, falling, number_of}
 use Rattle.xdp_pair.proofs.resources.make_backs.Given as goal

@@ -16,7 +16,7 @@ loop-own-init g c =
     record {
       shapes = c.requires.shapes;
       resources = c.requires.resources;
-      promises = subst (All (PromisesSeatOf (task_of c.args.program.now c.args.shared.now) c.args.turns c.args.counters.now)) (sym none) (λ i e h. absurd (omega (arith, h)));
+      promises = subst (All (PromisesSeatOf (task_of c.args.job.now.program.now c.args.job.now.shared.now) c.args.job.now.turns c.args.counters.now)) (sym none) (λ i e h. absurd (omega (arith, h)));
       left = ap (λ (l : List Child). map number_of c.args.resources.items ++ falling (length l)) none ∙ (append-nil (map number_of c.args.resources.items) ∙ c.requires.numbers);
       started = subst (λ (l : List Child). map promised_number l ≡ range_with_len 0 (length l)) (sym none) refl;
       count = (let n = ap length none in let ok = c.args.backs.ok in omega arith);
@@ -28,8 +28,8 @@ loop-own-preserved g c =
     let before = c.loop-own.invariant in
     let counters = c.args.counters.now in
     let split = c.in-Some.ensures.items in
-    let known = last_of (IsBackOf counters c.args.shared.now.layout.queues) _ _ _ split before.resources in
-    let task = task_of c.args.program.now c.args.shared.now in
+    let known = last_of (IsBackOf counters c.args.job.now.shared.now.layout.queues) _ _ _ split before.resources in
+    let task = task_of c.args.job.now.program.now c.args.job.now.shared.now in
     let of = c.of-promise.ensures in
     let ok = c.in-Ok.ensures.ok in
     let is : promised c.in-Ok.back ≡ c.in-Some.own.seat = ap (λ p. p.seat.value) ok ∙ of.seat in
@@ -50,8 +50,8 @@ loop-own-preserved g c =
     record {
       shapes = before.shapes;
       resources = known.0;
-      promises = subst (All (PromisesSeatOf task c.args.turns counters)) (sym pushed)
-          (All-push (PromisesSeatOf task c.args.turns counters) old c.in-Ok.back before.promises ((ap (λ (s : SeatView). s.table) (is ∙ known.1.seat), ap (λ (s : SeatView). s.shapes) (is ∙ known.1.seat)), same, turns));
+      promises = subst (All (PromisesSeatOf task c.args.job.now.turns counters)) (sym pushed)
+          (All-push (PromisesSeatOf task c.args.job.now.turns counters) old c.in-Ok.back before.promises ((ap (λ (s : SeatView). s.table) (is ∙ known.1.seat), ap (λ (s : SeatView). s.shapes) (is ∙ known.1.seat)), same, turns));
       left = ap (λ k. map number_of c.pop.new.self.items ++ falling k) longer ∙ lower.1;
       started = subst (λ (l : List Child). map promised_number l ≡ range_with_len 0 (length l)) (sym pushed)
           (pushed_rises promised_number old c.in-Ok.back (ap (λ (s : SeatView). s.number) is ∙ lower.0) before.started);
@@ -72,11 +72,11 @@ returns-clause-numbers g c =
 pub spawn_with-requires-clause-keeps : goal.spawn_with-requires-clause-keeps
 spawn_with-requires-clause-keeps g c κs within r h =
     let counters = c.args.counters.now in
-    let known = last_of (IsBackOf counters c.args.shared.now.layout.queues) _ _ _ c.in-Some.ensures.items c.loop-own.invariant.resources in
+    let known = last_of (IsBackOf counters c.args.job.now.shared.now.layout.queues) _ _ _ c.in-Some.ensures.items c.loop-own.invariant.resources in
     let of = c.of-promise.ensures in
     let p = c.of-promise.result in
     let seat = of.seat ∙ known.1.seat in
-    let task = task_of c.args.program.now c.args.shared.now in
+    let task = task_of c.args.job.now.program.now c.args.job.now.shared.now in
     let program = of.program in
     let queues = of.queues in
     let ifindex = of.numbers.0 in
@@ -87,5 +87,5 @@ spawn_with-requires-clause-keeps g c κs within r h =
       h.0.0 ∙ sym (ap (λ (s : SeatView). s.table) seat),
       h.0.1 ∙ sym (ap (λ (s : SeatView). s.shapes) seat),
       h.1 ∙ sym (ap (λ (s : SeatView). s.number) of.seat),
-      subst (λ (n : ℕ). IsWork told n r.row r.seat) (sym of.numbers.2) (subst (λ (k : Task). IsWork k c.args.turns r.row r.seat) (sym same) h.2),
+      subst (λ (n : ℕ). IsWork told n r.row r.seat) (sym of.numbers.2) (subst (λ (k : Task). IsWork k c.args.job.now.turns r.row r.seat) (sym same) h.2),
     )

@@ -10,7 +10,7 @@ invariant-loop-own g l =
     record {
       shapes : l.counters.shapes ≡ l.program.shapes;
       resources : All (IsBackOf l.counters l.shared.layout.queues) l.resources.items;
-      promises : All (PromisesSeatOf (task_of l.program l.shared) l.fn.turns l.counters) l.backs.items;
+      promises : All (PromisesSeatOf (task_of l.program l.shared) l.turns l.counters) l.backs.items;
       left : map number_of l.resources.items ++ falling (length l.backs.items) ≡ falling (vec_len l.fn.resources);
       started : map promised_number l.backs.items ≡ range_with_len 0 (length l.backs.items);
       count : vec_len l.resources + vec_len l.backs ≡ vec_len l.fn.resources;
