@@ -55,6 +55,21 @@ static const struct row sent_back[] = { { BEGINS, TX, 0, 1, { 1 } },
 	                                NOTICE,
 	                                ENDS(LAXONJE_TURN_RAN, LAXONJE_TX, 1) };
 
+/* The same where the frontend wants no notice of either response. */
+static const struct row sent_quietly[] = { { BEGINS, TX, 0, 1, { 2 } },
+				   { LAXONJE_OP_READ, TX, 19, 3, { 0, 0, 10 | HALF(HEADER) } },
+				   { LAXONJE_OP_READ, TABLE, 0, 2, { PERMIT, DATA } },
+				   { LAXONJE_OP_READ, DATA, 0, 4, { 0x04030201, 0x08070605, 0x0c0b0a09, 0xffff0e0d } },
+				   { LAXONJE_OP_READ, RX, 0, 1, { 2 } },
+				   { LAXONJE_OP_READ, RX, 18, 2, { 9, 1 } },
+				   { LAXONJE_OP_READ, TABLE, 2, 2, { PERMIT, DATA } },
+				   { LAXONJE_OP_WRITE, DATA, 0, 4, { 0x04030201, 0x08070605, 0x0c0b0a09, 0x00000e0d } },
+				   { LAXONJE_OP_STORE, RX, 18, 2, { 9, HALF(HEADER) } },
+				   PUSH(RX, 2, 2, 3, 1),
+				   { LAXONJE_OP_STORE, TX, 19, 1, { 10 } },
+				   PUSH(TX, 2, 2, 3, 1),
+				   ENDS(LAXONJE_TURN_RAN, LAXONJE_TX, 1) };
+
 /* The tx producer is more than a ring ahead. */
 static const struct row far_ahead[] = { { BEGINS, TX, 0, 1, { AGAIN } }, ENDS(LAXONJE_TURN_HALTED, LAXONJE_HALT_TX_PRODUCER, 0) };
 
@@ -157,6 +172,7 @@ int main(void)
 		exchanges(&queue, room);
 		makes(&queue, LAXONJE_TX);
 		GOES(&queue, room, sent_back);
+		GOES(&queue, room, sent_quietly);
 		GOES(&queue, room, far_ahead);
 	}
 	laxonje_queue_free(&queue);

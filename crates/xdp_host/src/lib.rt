@@ -36,6 +36,7 @@ mod queue_calls;
 mod queue_extents;
 mod queue_fault;
 mod queue_handle;
+mod queue_running;
 mod queue_waits;
 mod raw_box;
 
@@ -286,14 +287,13 @@ pub extern "C" fn laxonje_queue_step(
     ensures words { length words.new ≡ length words.old }
     ensures counters { length counters.new ≡ length counters.old }
 {
-    match queue.take(alloc) {
-        Some(mut held) => {
-            let count = stepped(&mut held, words, counters, ops);
-            queue.put(held);
-            count
-        }
-        None => 0,
+    if !queue.is_live() {
+        return 0;
     }
+    let mut held = queue.take_held(alloc);
+    let count = stepped(&mut held, words, counters, ops);
+    queue.put(held);
+    count
 }
 
 /// Begins to deliver a packet of the host's own to the guest. It is copied; the steps that follow are of its delivery, until the op

@@ -8,6 +8,7 @@ ghost use Rattle.xdp_host.specs.Stepped.{AreEnough, AreFew, HasStepped, IsNotSte
 ghost use Rattle.xdp_host.specs.Taken.{HasTaken};
 
 use crate::queue_abi::{XdpOp, XdpQueueDesc, taken_number};
+use crate::queue_running::steps_on;
 use std::alloc::Global;
 use xen_host::{FrameOwners, MakeFault, Op, Program, Queue, QueueParts};
 
@@ -46,7 +47,7 @@ pub fn boxed(
 /// Steps, as far as there is room for their ops, up to the first that has to be answered. How many. It is out of line, so that a short
 /// way saves few registers.
 #[inline(never)]
-fn steps(queue: &mut Queue, words: &mut [u32], counters: &mut [u64], ops: &mut [XdpOp]) -> usize
+pub fn steps(queue: &mut Queue, words: &mut [u32], counters: &mut [u64], ops: &mut [XdpOp]) -> usize
     requires enough { AreEnough queue.old words.old counters.old (length ops.old) }
     ensures words { length words.new ≡ length words.old }
     ensures counters { length counters.new ≡ length counters.old }
@@ -97,13 +98,16 @@ fn step_shortly(queue: &mut Queue, words: &mut [u32], ops: &mut [XdpOp]) -> bool
     if told(queue.step_reading_slot(words), ops) {
         return true;
     }
+    if told(queue.step_reading_entry(words), ops) {
+        return true;
+    }
     if told(queue.step_reading_page(words), ops) {
         return true;
     }
     told(queue.step_ending(words), ops)
 }
 
-/// The steps of a call, if there is enough for them: one by a short way, or else as many as there may be.
+/// The steps of a call, if there is enough for them: those of a short way, or else as many as there may be.
 #[inline(always)]
 pub fn stepped(
     queue: &mut Queue,
@@ -125,7 +129,7 @@ pub fn stepped(
     if step_shortly(queue, words, ops) {
         return 1;
     }
-    steps(queue, words, counters, ops)
+    steps_on(queue, words, counters, ops)
 }
 
 /// Gives a queue a packet to deliver.

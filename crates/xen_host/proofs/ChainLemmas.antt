@@ -3,14 +3,14 @@ use Rattle.std.proofs.Common.{◌≡◌, ℕ, true, List, [], ◌∷◌, ◌++�
 use Rattle.std.specs.Prelude.{Option, Some, None}
 use Rattle.std.specs.Global.{Box}
 use Rattle.xen_steps.specs.Event.{Event}
-use Rattle.xen_steps.specs.Steps.{Steps, done, never}
+use Rattle.xen_steps.specs.Steps.{done, never}
 use Rattle.xen_back.specs.Deliveries.{Arrival}
 use Rattle.xen_back.specs.declared.state.State.{State}
 use Rattle.xen_back.specs.declared.wiring.Wiring.{Wiring}
 use Rattle.xen_host.specs.Carries.{IsAskedOfDelivery, rest_carrying}
 use Rattle.xen_host.specs.Chains.{AreStepped, HaveGoneOn, IsAwaitedOn, IsWaiting, did_all, did_step, did_steps, wait_in}
 use Rattle.xen_host.specs.Fed.{IsAskedFor, goes_on}
-use Rattle.xen_host.specs.Queues.{IsCarriedOn, IsDelivering, IsDeliveryStep, IsGoneOn, IsStepOf, IsStepped, IsTurnStep, IsUnderWay, IsWaitStep, settled_of, stage_of_wait, task_of}
+use Rattle.xen_host.specs.Queues.{IsCarriedOn, IsDelivering, IsGoneOn, IsStepOf, IsStepped, IsUnderWay, settled_of, stage_of_wait, task_of}
 use Rattle.xen_host.specs.Rest.{rest_in}
 use Rattle.xen_host.specs.Waits.{IsOnItsWay, IsWaitRow, IsWaitedOn, did_waiting, halted, pushes, told}
 use Rattle.xen_host.specs.Wired.{vif_of, wiring_of}

@@ -1,12 +1,20 @@
 -- A step of a turn that runs no program: what its queue is then, and what it has left.
-use Rattle.std.proofs.Common.{◌≡◌, ℕ, suc, ◌+◌, ◌<◌, ◌∷◌, drop, ◌≤◌, List, [], length, refl, sym, ap, ◌∙◌, subst}
+use Rattle.std.proofs.Common.{◌≡◌, ℕ, suc, ◌+◌, ◌<◌, ◌∷◌, ◌++◌, drop, ◌≤◌, List, [], length, refl, sym, ap, ◌∙◌, subst}
 use Rattle.std.specs.Prelude.{◌/◌, false, slice_index, IfSome, IsTrue, None, Ok, Option, Some}
+use Rattle.xen_netif.specs.Chain.{Slot, extra_info, more_data}
+use Rattle.xen_netif.specs.Standing.{after_extra, standing}
+use Rattle.xen_netif.specs.declared.chain.ChainState.TheVariants as wanted
+use Rattle.xen_netif.specs.declared.fragment.Fragment.{Fragment}
+use Rattle.xen_page.specs.Table.{entry_place}
+use Rattle.xen_page.specs.declared.place.Place.{Place}
+use Rattle.xen_transmit.specs.Entries.{entry_at}
 use Rattle.xen_page.specs.Entry.{entry_of}
 use Rattle.xen_page.specs.Grant.{checked}
 use Rattle.xen_steps.specs.Pages.{copy_words, covered}
 use Rattle.xen_back.specs.Rest.{fragment_at}
-use Rattle.xen_steps.specs.Steps.{bind, next}
-use Rattle.xen_back.specs.Tree.{after_copy, after_look, after_scan, copy, entered, read_slots, seen, unless_halted}
+use Rattle.xen_steps.specs.Steps.{Steps, bind, next}
+use Rattle.xen_back.specs.Tree.{after_chain, after_copy, after_look, after_scan, copy, entered, judged, read_slots, seen, unless_halted}
+use Rattle.xen_back.specs.Turned.{Ending}
 use Rattle.xen_back.specs.Within.{Completes}
 use Rattle.xen_back.specs.declared.state.State.{State}
 use Rattle.xen_back.specs.declared.wiring.Wiring.{Wiring}
@@ -14,11 +22,12 @@ use Rattle.xen_host.specs.Completing.{TaskCompletes}
 use Rattle.xen_host.specs.Fed.{IsAskedFor, answers, asked_by, asked_of, fed}
 use Rattle.xen_host.specs.Queues.{IsStepOf, IsStepped, rest, settled_of, task_of}
 use Rattle.xen_host.specs.Rest.{flags_after, is_here, is_turning, rest_in}
-use Rattle.xen_host.specs.Short.{FindsOne, FindsPage}
+use Rattle.xen_host.specs.Short.{FindsLone, FindsOne, FindsPage, IsLone}
 use Rattle.xen_host.specs.Wired.{wiring_of}
 use Rattle.xen_host.specs.declared.op.Op.{Op}
 use Rattle.xen_host.specs.declared.queue.Queue.{Queue}
 use Rattle.xen_host.specs.declared.stage.Entering.{Entering}
+use Rattle.xen_host.specs.declared.stage.Reading.{Reading}
 use Rattle.xen_host.specs.declared.stage.Stage.{Stage}
 use Rattle.xen_host.specs.declared.stage.Stage.TheVariants as stage
 use Rattle.xen_host.specs.declared.task.Task.{Task}
@@ -27,7 +36,7 @@ use Rattle.xen_host.specs.declared.wires.Wires.{Wires}
 use Rattle.xen_host.proofs.StepLemmas.{completes_of, is_stepped, settled_completes, step_completes, task_completes}
 use Rattle.xen_host.proofs.TurnLemmas.{AreSmall}
 
-turning_task : (g : Stage) → IsTrue (is_turning g) → task_of g ≡ task.Turn
+pub turning_task : (g : Stage) → IsTrue (is_turning g) → task_of g ≡ task.Turn
 turning_task (stage.Carry c) h = absurd (cc h)
 turning_task (stage.Wait b at) h = absurd (cc h)
 turning_task stage.Gone h = absurd (cc h)
@@ -74,6 +83,30 @@ pub page_found : (w : Wires) (g : Stage) (e : Entering) (a b : ℕ) (r : Option 
     IfSome r (FindsPage w g a b)
 page_found w g e a b None is h = tt
 page_found w g e a b (Some frame) is h = let f = h a b refl in record { entering = e; is = is; permitted = f.0; some = f.1 }
+
+-- a slot that asks for no other is a whole chain
+lone_stands : (slot : Slot) → (extra_info slot ≡ false) × (more_data slot ≡ false) → standing (slot ∷ []) ≡ Some (Ok wanted.Complete)
+lone_stands slot p = ap (λ x. after_extra 5 x (more_data slot) []) p.0 ∙ ap (λ x. after_extra 5 false x []) p.1
+
+-- a first slot that is a whole chain, whose fragment has an entry
+pub found_lone : (w : Wiring) (s : State) (g : Stage) (slot lent : List ℕ) (f : Fragment) (at : Place) → FindsLone g slot f at →
+    slot ≡ slice_index lent 0 ∷ slice_index lent 1 ∷ slice_index lent 2 ∷ [] → entry_place w.vif.table.now f.gref ≡ Some at →
+    bind (bind (entry_at w.vif false (Some at)) (entered f (copy w []) [])) (after_copy w s (slot ∷ [])) ≡ fed (rest_in w s g) (answers g lent)
+found_lone w s g slot lent f at h same there =
+    let r = h.reading in
+    let scan : List Slot → Steps Ending = λ ch. bind (judged ch (standing ch) (read_slots w s.tx_index r.left ch)) (after_scan w s) in
+    let read : Slot = slice_index lent 0 ∷ slice_index lent 1 ∷ slice_index lent 2 ∷ [] in
+    sym (ap (λ p. bind (bind (entry_at w.vif false p) (entered f (copy w []) [])) (after_copy w s (slot ∷ []))) there)
+    ∙ sym (ap (λ fs. after_chain w s (slot ∷ []) fs) h.lone.alone)
+    ∙ sym (ap (λ st. bind (judged (slot ∷ []) st (read_slots w s.tx_index r.left (slot ∷ []))) (after_scan w s)) (lone_stands slot h.lone.plain))
+    ∙ ap (λ (x : Slot). scan (x ∷ [])) same
+    ∙ sym (ap (λ (ch : List Slot). scan (ch ++ read ∷ [])) h.lone.first)
+    ∙ sym (ap (λ (x : Stage). fed (rest_in w s x) (answers x lent)) h.is)
+
+pub lone_found : (g : Stage) (r : Reading) (chain : List Slot) (slot : Slot) (o : Option (Fragment × Place)) → g ≡ stage.Slot r → chain ≡ r.work.value.chain →
+    IfSome o (λ f. IsLone chain slot f.0 f.1) → IfSome o (λ f. FindsLone g slot f.0 f.1)
+lone_found g r chain slot None is same h = tt
+lone_found g r chain slot (Some f) is same h = record { reading = r; is = is; lone = subst (λ (ch : List Slot). IsLone ch slot f.0 f.1) same h }
 
 -- what is left completes
 pub short_completes : (q : Queue) (left : Stage) (lent : List ℕ) → IsTrue (is_turning q.stage) → 1024 ≤ length lent → AreSmall lent → rest_in (wiring_of q.wires) q.state left ≡ fed (rest q) (answers q.stage lent) →

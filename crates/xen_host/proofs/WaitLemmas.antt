@@ -1,9 +1,9 @@
 -- A step of a wait: its row, and that it goes on or is a row of the table of waits.
-use Rattle.std.proofs.Common.{◌≡◌, ℕ, ◌+◌, ◌<◌, ◌≤◌, List, [], ◌∷◌, ◌++◌, length, refl, sym, ap, ◌∙◌, arith, subst}
+use Rattle.std.proofs.Common.{◌≡◌, ℕ, ◌+◌, ◌<◌, ◌≤◌, List, [], ◌++◌, length, refl, sym, ap, ◌∙◌, arith, subst}
 use Rattle.std.specs.Prelude.{IsTrue, None, Option, Some, slice_index}
 use Rattle.std.specs.Global.{Box}
 use Rattle.xen_page.specs.declared.place.Place.{Place}
-use Rattle.xen_steps.specs.Event.{Event, Read, Write}
+use Rattle.xen_steps.specs.Event.{Event}
 use Rattle.xen_steps.specs.Places.{add32}
 use Rattle.xen_transmit.specs.Places.{rx_word}
 use Rattle.xen_transmit.specs.Wired.{IsWired}

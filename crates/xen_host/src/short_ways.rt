@@ -1,35 +1,41 @@
 //! Short ways of a turn: what most steps do, each by code of its own that knows the stage before it and the one behind it.
 
-ghost use Rattle.std.specs.Prelude.{◌≡◌, ◌≤◌, ◌<◌, ◌∷◌, [], ℕ, length, slice_index, suc, false, IfSome, IsTrue, Ok, Some};
+ghost use Rattle.std.specs.Prelude.{◌≡◌, ◌≤◌, ◌<◌, ◌∷◌, [], List, ℕ, length, slice_index, suc, false, IfSome, IsTrue, Ok, Some};
+ghost use Rattle.xen_netif.specs.Chain.{extra_info, more_data};
 ghost use Rattle.xen_page.specs.Entry.{entry_of};
 ghost use Rattle.xen_page.specs.Grant.{checked};
+ghost use Rattle.xen_page.specs.Table.{entry_place};
 ghost use Rattle.xen_ring.specs.Index.{is_due};
 ghost use Rattle.xen_steps.specs.Pages.{covered};
 ghost use Rattle.xen_steps.specs.Places.{add32, available};
 ghost use Rattle.xen_back.specs.Rest.{fragment_at};
+ghost use Rattle.xen_back.specs.declared.state.State.{State as StateView};
 ghost use Rattle.xen_back.specs.declared.wiring.Wiring.{Wiring};
 ghost use Rattle.xen_host.specs.Fed.{IsAskedFor, Reads, Pushes, Ended, answers, asked_by, asked_of, fed};
 ghost use Rattle.xen_host.specs.Queues.{settled_of};
 ghost use Rattle.xen_host.specs.Rest.{is_here, is_there, is_turning, rest_in};
-ghost use Rattle.xen_host.specs.Short.{FindsNone, FindsNoneAgain, FindsOne, FindsPage, OwesNone};
+ghost use Rattle.xen_host.specs.Short.{FindsLone, FindsNone, FindsNoneAgain, FindsOne, FindsPage, IsLone, OwesNone};
 ghost use Rattle.xen_host.specs.Wired.{wiring_of};
 ghost use Rattle.xen_back.specs.declared.turn.Kind.TheVariants as kinds;
 
 use crate::answering::ended;
-use crate::copying::fragment_of;
-use crate::in_place::settle;
+use crate::copying::{entering, fragment_of};
+use crate::in_place::{put, settle};
 use crate::looking::next_slot;
 use crate::op::Op;
-use crate::stage::{Answering, Entering, Paging, Stage};
+use crate::slots::{Slots, is_lone, lone_fragment, put_alone};
+use crate::stage::{Answering, Entering, Paging, Reading, Stage};
 use crate::want::stage_want;
 use crate::wires::Wires;
 use crate::words::are_words;
+use crate::work::Work;
 use xen_back::{Kind, State};
-use xen_page::{Entry, check};
+use xen_netif::Fragment;
+use xen_page::{Entry, Place, check};
 use xen_ring::due;
 use xen_steps::requests_shown;
 
-/// Puts a stage, and says what it wants.
+/// Puts a stage where none is, and says what it wants.
 #[inline(always)]
 pub(crate) fn enter(
     wires: &Wires,
@@ -39,6 +45,7 @@ pub(crate) fn enter(
     words: &mut [u32],
 ) -> Op
     requires here { IsTrue (is_here left) }
+    requires gone { stage.old ≡ Stage.Gone }
     requires enough { 1024 ≤ length words.old }
     ensures words { length words.new ≡ length words.old }
     ensures asked { IsAskedFor result (rest_in (wiring_of wires.now) state.old left) words.new }
@@ -48,7 +55,7 @@ pub(crate) fn enter(
     ensures there { IsTrue (is_there stage.new) }
 {
     let op = stage_want(wires, state, &left, words);
-    *stage = left;
+    put(stage, left);
     settle(state, stage);
     op
 }
@@ -196,6 +203,57 @@ pub(crate) fn reading_page(
                 fragment,
                 frame,
             })
+        }
+        _ => unreachable!(),
+    }
+}
+
+/// The fragment of a first slot that is a whole chain, and the place of the fragment's entry.
+#[inline(always)]
+pub(crate) fn lone_entry(wires: &Wires, chain: &Slots, slot: [u32; 3]) -> Option<(Fragment, Place)>
+    ensures lone { IfSome result (λ found. IsLone chain.now slot found.0 found.1) }
+    ensures there { IfSome result (λ found. entry_place wires.now.table found.0.gref ≡ Some found.1) }
+{
+    if !chain.is_empty() || !is_lone(slot) {
+        return None;
+    }
+    match lone_fragment(slot) {
+        Err(_) => None,
+        Ok(fragment) => match wires.table.place(fragment.gref) {
+            None => None,
+            Some(at) => Some((fragment, at)),
+        },
+    }
+}
+
+/// Takes a slot that is a whole chain, and its fragment.
+#[inline(always)]
+fn take_lone(work: &mut Work, slot: [u32; 3], fragment: Fragment)
+    requires { (extra_info slot ≡ false) × (more_data slot ≡ false) }
+    ensures chain { work.new.chain ≡ slot ∷ [] }
+    ensures fragments { work.new.fragments.items ≡ fragment ∷ [] }
+    ensures packet { work.new.packet ≡ [] }
+{
+    work.chain.take_lone(slot);
+    put_alone(&mut work.fragments, fragment);
+    work.packet.clear();
+}
+
+/// The entry of a slot that is a whole chain is to be read.
+#[inline(always)]
+pub(crate) fn reading_entry(stage: Stage, slot: [u32; 3], fragment: Fragment, at: Place) -> Stage
+    requires { FindsLone stage slot fragment at }
+    ensures here { IsTrue (is_here result) }
+    ensures asked { asked_of result ≡ Reads 2 }
+    ensures rest { (w : Wiring) (s : StateView) (lent : List ℕ) →
+        slot ≡ slice_index lent 0 ∷ slice_index lent 1 ∷ slice_index lent 2 ∷ [] → entry_place w.vif.table.now fragment.gref ≡ Some at →
+        rest_in w s result ≡ fed (rest_in w s stage) (answers stage lent) }
+{
+    match stage {
+        Stage::Slot(reading) => {
+            let Reading { mut work, left: _ } = reading;
+            take_lone(&mut work, slot, fragment);
+            entering(work, 0, at)
         }
         _ => unreachable!(),
     }

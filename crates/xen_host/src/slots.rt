@@ -43,7 +43,7 @@ impl Model for Slots {
 }
 
 /// Whether a slot is a whole chain: it asks for no other.
-fn is_lone(slot: [u32; 3]) -> bool
+pub(crate) fn is_lone(slot: [u32; 3]) -> bool
     ensures { IsTrue result → (extra_info slot ≡ false) × (more_data slot ≡ false) }
 {
     let TxReq { flags, .. } = TxReq::of_words(slot);
@@ -51,7 +51,7 @@ fn is_lone(slot: [u32; 3]) -> bool
 }
 
 /// The fragment of a slot that is a whole chain.
-fn lone_fragment(slot: [u32; 3]) -> Result<Fragment, SizeFault>
+pub(crate) fn lone_fragment(slot: [u32; 3]) -> Result<Fragment, SizeFault>
     requires plain { extra_info slot ≡ false }
     ensures in_page { IfOk result (λ f. IsTrue (is_in_page f)) }
     ensures short { IfOk result (λ f. f.size ≤ 65535) }
@@ -74,6 +74,19 @@ fn lone_fragment(slot: [u32; 3]) -> Result<Fragment, SizeFault>
     }
 }
 
+/// Puts a fragment that is all into the room for fragments. Where one was before it is replaced, without a call that clears the room.
+#[inline(always)]
+pub(crate) fn put_alone(room: &mut ArrayVec<Fragment, 18>, fragment: Fragment)
+    ensures { room.new.items ≡ fragment ∷ [] }
+{
+    if room.len() == 1 {
+        room[0] = fragment;
+    } else {
+        room.clear();
+        room.push(fragment);
+    }
+}
+
 /// Puts the fragment of a slot that is a whole chain into the room for fragments.
 fn place_lone(slot: [u32; 3], room: &mut ArrayVec<Fragment, 18>) -> Result<(), SizeFault>
     requires plain { extra_info slot ≡ false }
@@ -85,8 +98,7 @@ fn place_lone(slot: [u32; 3], room: &mut ArrayVec<Fragment, 18>) -> Result<(), S
     match lone_fragment(slot) {
         Err(fault) => Err(fault),
         Ok(fragment) => {
-            room.clear();
-            room.push(fragment);
+            put_alone(room, fragment);
             Ok(())
         }
     }
@@ -122,7 +134,8 @@ fn response_in(chain: &Chain, status: Status, i: usize) -> u32
 }
 
 impl Slots {
-    ghost use Rattle.std.specs.Prelude.{◌≡◌, ◌≢◌, ◌≤◌, ◌<◌, ◌↔◌, ◌++◌, ◌∷◌, [], length, slice_index, sum_by, IfOk, IsTrue, MatchResult, Ok, Err, OnErr, OnOk, Some};
+    ghost use Rattle.std.specs.Prelude.{◌≡◌, ◌≢◌, ◌≤◌, ◌<◌, ◌↔◌, ◌++◌, ◌∷◌, [], length, slice_index, sum_by, IfOk, IsTrue, MatchResult, Ok, Err, OnErr, OnOk, Some, false};
+    ghost use Rattle.xen_netif.specs.Chain.{extra_info, more_data};
     ghost use Rattle.std.specs.List.{list_all};
     ghost use Rattle.xen_netif.specs.Fragments.{fragment_size, fragments_of, is_in_page};
     ghost use Rattle.xen_netif.specs.Standing.{standing};
@@ -144,6 +157,16 @@ impl Slots {
         ensures { self.new ≡ [] }
     {
         self.lie = Lie::Nowhere;
+    }
+
+    /// Takes a slot that is a whole chain, in place of what there was.
+    #[inline(always)]
+    pub fn take_lone(&mut self, words: [u32; 3])
+        requires { (extra_info words ≡ false) × (more_data words ≡ false) }
+        ensures { self.new ≡ words ∷ [] }
+    {
+        self.lone = words;
+        self.lie = Lie::Alone;
     }
 
     /// How many there are.

@@ -1,4 +1,4 @@
-use Rattle.std.proofs.Common.{◌≡◌, length, subst, take}
+use Rattle.std.proofs.Common.{length, subst, take}
 use Rattle.std.specs.Prelude.{Bool}
 use Rattle.xdp_host.specs.Short.{IsShortly}
 use Rattle.xdp_host.proofs.ShortLemmas.{alone_has, has_then}
@@ -16,7 +16,7 @@ returns-then-step_shortly-clause-stepped c enough =
 pub returns-clause-stepped : goal.returns-clause-stepped
 returns-clause-stepped c enough =
     let s = c.step_shortly in
-    let t = c.steps in
+    let t = c.steps_on in
     let q = c.args.queue.now in
     let l = c.args.words.now in
     let o = c.args.ops.now in

@@ -1,5 +1,4 @@
-use Rattle.std.proofs.Common.{◌≡◌, ◌≤◌, drop, length, take}
-use Rattle.bpf_maps.specs.Layout.{total}
+use Rattle.std.proofs.Common.{◌≡◌, drop, length, take}
 use Rattle.xdp_host.proofs.StepsLemmas.{SoFar}
 use Rattle.xdp_host.proofs.queue_calls.steps.Given as goal
 

@@ -1,8 +1,6 @@
-use Rattle.std.proofs.Common.{arith, length, refl, subst, sym}
+use Rattle.std.proofs.Common.{arith, refl, sym}
 use Rattle.std.specs.Prelude.{slice_index}
-use Rattle.xen_host.specs.Fed.{IsInPages}
 use Rattle.xen_host.specs.Wired.{vif_of, wiring_of}
-use Rattle.xen_host.specs.declared.op.Op.{Op}
 use Rattle.xen_host.proofs.WaitLemmas.{push_within, pushes_row, told_row}
 use Rattle.xen_host.proofs.waiting.waited_live.Goals as goal
 

@@ -1,8 +1,6 @@
-use Rattle.std.proofs.Common.{◌≡◌, refl, sym, subst}
+use Rattle.std.proofs.Common.{refl, sym, subst}
 use Rattle.std.specs.Prelude.{IsTrue}
-use Rattle.xen_host.specs.Fed.{answers, fed}
-use Rattle.xen_host.specs.Queues.{rest}
-use Rattle.xen_host.specs.Rest.{is_turning, rest_in}
+use Rattle.xen_host.specs.Rest.{is_turning}
 use Rattle.xen_host.specs.Wired.{wiring_of}
 use Rattle.xen_host.specs.declared.stage.Stage.{Stage}
 use Rattle.xen_host.proofs.ShortLemmas.{short_left, short_stepped, taken_rest}

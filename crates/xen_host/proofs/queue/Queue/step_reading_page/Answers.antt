@@ -1,7 +1,5 @@
-use Rattle.std.proofs.Common.{◌≡◌, length, refl, sym, subst}
+use Rattle.std.proofs.Common.{length, refl, sym, subst}
 use Rattle.std.specs.Prelude.{ℕ, slice_index, IfSome, IsTrue, Option}
-use Rattle.xen_host.specs.Fed.{answers, fed}
-use Rattle.xen_host.specs.Queues.{rest}
 use Rattle.xen_host.specs.Rest.{is_turning, rest_in}
 use Rattle.xen_host.specs.Short.{FindsPage}
 use Rattle.xen_host.specs.Wired.{wiring_of}
