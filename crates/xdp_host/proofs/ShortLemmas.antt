@@ -2,8 +2,7 @@
 use Rattle.std.proofs.Common.{◌≡◌, ℕ, ◌≤◌, Bool, true, false, List, [], ◌∷◌, arith, length, map, set, take, refl, ap, ◌∙◌, subst, inr}
 use Rattle.std.proofs.lemmas.List.{take_more_set}
 use Rattle.std.specs.Prelude.{IfNone, IfSome, None, Option, Some}
-use Rattle.xen_host.specs.Fed.{IsInPages, goes_on}
-use Rattle.xen_host.specs.Queues.{IsStepped}
+use Rattle.xen_host.specs.Short.{IsShortStep}
 use Rattle.xen_host.specs.declared.op.Op.{Op}
 use Rattle.xen_host.specs.declared.queue.Queue.{Queue}
 use Rattle.xen_host.specs.Said.{AreInPages, AreSaid, ops_of}
@@ -20,12 +19,12 @@ pub told_first : (slots : List XdpOp) (r : XdpOp) (o : Op) → 1 ≤ length slot
 told_first slots r o some is = (take_more_set slots 0 r some ∙ ap (λ (x : XdpOp). x ∷ []) is, one_slot_less slots slots 0 r refl)
 
 -- a short way is open, and C is told so, or it isn't
-pub shortly : (a b : Queue) (l m : List ℕ) (o p : List XdpOp) (step : Option Op) (r : Bool) → IsTold step o p r → IfSome step (IsInPages (length a.wires.owners)) →
-    IfSome step (λ op. (c : List ℕ) → IsStepped a b op l m c c) → IfSome step (λ op. goes_on op ≡ false) → IfNone step ((b ≡ a) × (m ≡ l)) → IsShortly a b l m o p r
-shortly a b l m o p None true t within stepped ends none = absurd t
-shortly a b l m o p None false t within stepped ends none = (none.0, none.1, t)
-shortly a b l m o p (Some op) false t within stepped ends none = absurd t
-shortly a b l m o p (Some op) true t within stepped ends none = record { op = op; told_is = t.0; rest = t.1; within = within; stepped = stepped; ends = ends }
+pub shortly : (a b : Queue) (l m : List ℕ) (o p : List XdpOp) (step : Option Op) (r : Bool) → IsTold step o p r → IfSome step (IsShortStep a b l m) → IfNone step ((b ≡ a) × (m ≡ l)) →
+    IsShortly a b l m o p r
+shortly a b l m o p None true t stepped none = absurd t
+shortly a b l m o p None false t stepped none = (none.0, none.1, t)
+shortly a b l m o p (Some op) false t stepped none = absurd t
+shortly a b l m o p (Some op) true t stepped none = record { op = op; told_is = t.0; rest = t.1; step = stepped }
 
 -- a way that wasn't open changes nothing for the next
 pub or_else : (a b c : Queue) (l m k : List ℕ) (o p q : List XdpOp) (r : Bool) → IsShortly a b l m o p false → IsShortly b c m k p q r → IsShortly a c l k o q r
@@ -39,9 +38,9 @@ alone_has q r l k o p room c h =
     record {
       ops = h.op ∷ [];
       told_is = h.told_is;
-      within = (h.within, tt);
-      stepped = record { first = []; last = h.op; ops_are = refl; between = q; lent_between = l; counted = c; gone = (refl, refl, refl); stepped = h.stepped c };
-      stops = inr h.ends;
+      within = (h.step.within, tt);
+      stepped = record { first = []; last = h.op; ops_are = refl; between = q; lent_between = l; counted = c; gone = (refl, refl, refl); stepped = h.step.stepped c };
+      stops = inr h.step.ends;
     }
 
 -- steps behind no short way

@@ -1,7 +1,6 @@
 -- A step by a short way, which one call says alone.
-use Rattle.std.specs.Prelude.{ℕ, ◌≡◌, Bool, true, false, List, [], ◌∷◌, Option, Some, None, drop, length, take}
-use Rattle.xen_host.specs.Fed.{IsInPages, goes_on}
-use Rattle.xen_host.specs.Queues.{IsStepped}
+use Rattle.std.specs.Prelude.{ℕ, ◌≡◌, Bool, true, false, List, [], ◌∷◌, Option, Some, None, drop, take}
+use Rattle.xen_host.specs.Short.{IsShortStep}
 use Rattle.xen_host.specs.declared.op.Op.{Op}
 use Rattle.xen_host.specs.declared.queue.Queue.{Queue}
 use Rattle.xdp_host.specs.Ops.{op_of}
@@ -12,9 +11,7 @@ pub record IsToldAlone (old new : Queue) (words words_after : List ℕ) (told to
   pub op : Op
   pub told_is : take 1 told_after ≡ op_of op ∷ []
   pub rest : drop 1 told_after ≡ drop 1 told
-  pub within : IsInPages (length old.wires.owners) op
-  pub stepped : (counters : List ℕ) → IsStepped old new op words words_after counters counters
-  pub ends : goes_on op ≡ false
+  pub step : IsShortStep old new words words_after op
 
 -- whether it has; else nothing has changed
 abbrev pub IsShortly : (old new : Queue) (words words_after : List ℕ) (told told_after : List XdpOp) → Bool → Type 0

@@ -1,6 +1,6 @@
 -- A step of a turn that runs no program: what its queue is then, and what it has left.
-use Rattle.std.proofs.Common.{◌≡◌, ℕ, suc, ◌+◌, ◌<◌, ◌∷◌, ◌++◌, drop, ◌≤◌, List, [], length, refl, sym, ap, ◌∙◌, subst}
-use Rattle.std.specs.Prelude.{◌/◌, false, slice_index, IfSome, IsTrue, None, Ok, Option, Some}
+use Rattle.std.proofs.Common.{◌≡◌, ℕ, suc, ◌<◌, ◌∷◌, ◌++◌, ◌≤◌, List, [], length, refl, sym, ap, ◌∙◌, subst}
+use Rattle.std.specs.Prelude.{Bool, true, false, slice_index, IfSome, IsTrue, None, Ok, Option, Some}
 use Rattle.xen_netif.specs.Chain.{Slot, extra_info, more_data}
 use Rattle.xen_netif.specs.Standing.{after_extra, standing}
 use Rattle.xen_netif.specs.declared.chain.ChainState.TheVariants as wanted
@@ -8,9 +8,7 @@ use Rattle.xen_netif.specs.declared.fragment.Fragment.{Fragment}
 use Rattle.xen_page.specs.Table.{entry_place}
 use Rattle.xen_page.specs.declared.place.Place.{Place}
 use Rattle.xen_transmit.specs.Entries.{entry_at}
-use Rattle.xen_page.specs.Entry.{entry_of}
-use Rattle.xen_page.specs.Grant.{checked}
-use Rattle.xen_steps.specs.Pages.{copy_words, covered}
+use Rattle.xen_steps.specs.Pages.{covered}
 use Rattle.xen_back.specs.Rest.{fragment_at}
 use Rattle.xen_steps.specs.Steps.{Steps, bind, next}
 use Rattle.xen_back.specs.Tree.{after_chain, after_copy, after_look, after_scan, copy, entered, judged, read_slots, seen, unless_halted}
@@ -19,12 +17,13 @@ use Rattle.xen_back.specs.Within.{Completes}
 use Rattle.xen_back.specs.declared.state.State.{State}
 use Rattle.xen_back.specs.declared.wiring.Wiring.{Wiring}
 use Rattle.xen_host.specs.Completing.{TaskCompletes}
-use Rattle.xen_host.specs.Fed.{IsAskedFor, answers, asked_by, asked_of, fed}
+use Rattle.xen_host.specs.Fed.{Asked, IsAskedFor, Notice, Writes, answers, asked_by, asked_of, fed, goes_on}
 use Rattle.xen_host.specs.Queues.{IsStepOf, IsStepped, rest, settled_of, task_of}
 use Rattle.xen_host.specs.Rest.{flags_after, is_here, is_turning, rest_in}
-use Rattle.xen_host.specs.Short.{FindsLone, FindsOne, FindsPage, IsLone}
+use Rattle.xen_host.specs.Short.{EntersBytes, FindsLone, IsLone, IsPermitted, IsReady, IsShortStep, ShowsRequests}
 use Rattle.xen_host.specs.Wired.{wiring_of}
 use Rattle.xen_host.specs.declared.op.Op.{Op}
+use Rattle.xen_host.specs.declared.op.Op.TheVariants as op
 use Rattle.xen_host.specs.declared.queue.Queue.{Queue}
 use Rattle.xen_host.specs.declared.stage.Entering.{Entering}
 use Rattle.xen_host.specs.declared.stage.Reading.{Reading}
@@ -34,7 +33,7 @@ use Rattle.xen_host.specs.declared.task.Task.{Task}
 use Rattle.xen_host.specs.declared.task.Task.TheVariants as task
 use Rattle.xen_host.specs.declared.wires.Wires.{Wires}
 use Rattle.xen_host.proofs.StepLemmas.{completes_of, is_stepped, settled_completes, step_completes, task_completes}
-use Rattle.xen_host.proofs.TurnLemmas.{AreSmall}
+use Rattle.xen_host.proofs.TurnLemmas.{AreSmall, asked_within}
 
 pub turning_task : (g : Stage) → IsTrue (is_turning g) → task_of g ≡ task.Turn
 turning_task (stage.Carry c) h = absurd (cc h)
@@ -57,32 +56,25 @@ pub taken_rest : (q : Queue) (g left : Stage) (lent : List ℕ) → g ≡ q.stag
 taken_rest q g left lent same e = e ∙ ap (λ (x : Stage). fed (rest_in (wiring_of q.wires) q.state x) (answers x lent)) same
 
 -- a turn that begins with a request
-pub found_one : (w : Wiring) (s : State) (g : Stage) (lent : List ℕ) (behind : ℕ) → FindsOne s g (slice_index lent 0) behind →
+pub found_one : (w : Wiring) (s : State) (g : Stage) (lent : List ℕ) (behind : ℕ) → IsReady g → ShowsRequests s (slice_index lent 0) (suc behind) →
     bind (read_slots w s.tx_index (suc behind) []) (after_scan w s) ≡ fed (rest_in w s g) (answers g lent)
-found_one w s g lent behind f =
-    sym (ap (λ o. bind (seen w s.tx_index o) (after_look w s)) f.some)
-    ∙ sym (ap (λ h. next (unless_halted w s h) (slice_index lent 0)) f.live)
-    ∙ sym (ap (λ (x : Stage). fed (rest_in w s x) (answers x lent)) f.is)
+found_one w s g lent behind ready shows =
+    sym (ap (λ o. bind (seen w s.tx_index o) (after_look w s)) shows.shown)
+    ∙ sym (ap (λ h. next (unless_halted w s h) (slice_index lent 0)) shows.live)
+    ∙ sym (ap (λ (x : Stage). fed (rest_in w s x) (answers x lent)) ready.1)
 
--- an entry that permits its page
-pub found_page : (w : Wires) (s : State) (g : Stage) (lent : List ℕ) (frame : ℕ) → (f : FindsPage w g (slice_index lent 0) (slice_index lent 1) frame) →
-    bind (bind (copy_words (fragment_at f.entering.work.value.fragments.items f.entering.i) frame ((fragment_at f.entering.work.value.fragments.items f.entering.i).offset / 4)
-    (covered (fragment_at f.entering.work.value.fragments.items f.entering.i)) f.entering.work.value.packet)
-    (copy (wiring_of w) (drop (f.entering.i + 1) f.entering.work.value.fragments.items))) (after_copy (wiring_of w) s f.entering.work.value.chain)
-    ≡ fed (rest_in (wiring_of w) s g) (answers g lent)
-found_page w s g lent frame f =
-    let e = f.entering in
-    let b = e.work.value in
-    let k = copy (wiring_of w) (drop (e.i + 1) b.fragments.items) in
-    sym (ap (λ r. bind (entered (fragment_at b.fragments.items e.i) k b.packet r) (after_copy (wiring_of w) s b.chain)) f.permitted)
-    ∙ sym (ap (λ (x : Stage). fed (rest_in (wiring_of w) s x) (answers x lent)) f.is)
+-- an entry that permits its page, of a fragment that has bytes in it
+abbrev pub PermitsBytes : Wires → Entering → (a b : ℕ) → Option ℕ → Type 0
+PermitsBytes w e a b r = IfSome r (λ frame. (x : ℕ) → (y : ℕ) → ◌≡◌ {A = List ℕ} (a ∷ b ∷ []) (x ∷ y ∷ []) →
+    IsPermitted w x y frame × (0 < covered (fragment_at e.work.value.fragments.items e.i)))
 
-pub page_found : (w : Wires) (g : Stage) (e : Entering) (a b : ℕ) (r : Option ℕ) → g ≡ stage.Entry e →
-    IfSome r (λ frame. (x : ℕ) → (y : ℕ) → ◌≡◌ {A = List ℕ} (a ∷ b ∷ []) (x ∷ y ∷ []) →
-    (checked w.owners w.granter w.user (entry_of x y) false ≡ Ok frame) × (0 < covered (fragment_at e.work.value.fragments.items e.i))) →
-    IfSome r (FindsPage w g a b)
-page_found w g e a b None is h = tt
-page_found w g e a b (Some frame) is h = let f = h a b refl in record { entering = e; is = is; permitted = f.0; some = f.1 }
+pub permits : (w : Wires) (e : Entering) (a b : ℕ) (r : Option ℕ) → PermitsBytes w e a b r → IfSome r (IsPermitted w a b)
+permits w e a b None h = tt
+permits w e a b (Some frame) h = (h a b refl).0
+
+pub enters : (w : Wires) (g : Stage) (e : Entering) (a b : ℕ) (r : Option ℕ) → g ≡ stage.Entry e → PermitsBytes w e a b r → IfSome r (λ frame. EntersBytes g)
+enters w g e a b None is h = tt
+enters w g e a b (Some frame) is h = record { entering = e; is = is; some = (h a b refl).1 }
 
 -- a slot that asks for no other is a whole chain
 lone_stands : (slot : Slot) → (extra_info slot ≡ false) × (more_data slot ≡ false) → standing (slot ∷ []) ≡ Some (Ok wanted.Complete)
@@ -126,3 +118,30 @@ pub short_stepped : (q new : Queue) (o : Op) (left : Stage) (lent lent_after cou
 short_stepped q new o left lent lent_after counters turning l small e here asked said settled wires flags =
     subst (λ (t : Task). IsStepOf t q new o lent lent_after counters counters) (sym (turning_task q.stage turning))
     (is_stepped q new o q.stage left lent lent_after counters counters refl l small (record { labels = []; history = refl; gone = sym e }) here asked said settled wires flags)
+
+-- what a host is asked for wants an answer, or nothing goes on behind it
+abbrev pub is_answered : Asked → Bool
+is_answered (Writes count) = false
+is_answered Notice = false
+is_answered a = true
+
+answered_ends : (o : Op) → is_answered (asked_by o) ≡ true → goes_on o ≡ false
+answered_ends (op.Read at count) h = refl
+answered_ends (op.Write at count) h = refl
+answered_ends (op.Store at word) h = absurd (cc h)
+answered_ends (op.StoreTwo at first second) h = absurd (cc h)
+answered_ends (op.Push at word read) h = refl
+answered_ends (op.Notify port) h = absurd (cc h)
+answered_ends (op.Done kind) h = refl
+answered_ends (op.Delivered what) h = refl
+answered_ends (op.Awaited what) h = refl
+
+pub short_step : (q new : Queue) (o : Op) (left : Stage) (lent lent_after : List ℕ) → IsTrue (is_turning q.stage) → 1024 ≤ length lent → AreSmall lent → rest_in (wiring_of q.wires) q.state left ≡ fed (rest q) (answers q.stage lent) →
+    IsTrue (is_here left) → IsAskedFor o (rest_in (wiring_of q.wires) q.state left) lent_after → asked_of left ≡ asked_by o → ◌≡◌ {A = State × Stage} (new.state, new.stage) (settled_of q.state left) → new.wires ≡ q.wires →
+    new.flags ≡ flags_after q.stage lent q.flags → is_answered (asked_of left) ≡ true → IsShortStep q new lent lent_after o
+short_step q new o left lent lent_after turning l small e here asked said settled wires flags answered =
+    record {
+      within = asked_within (length q.wires.owners) q.wires.program.shapes o (rest_in (wiring_of q.wires) q.state left) lent_after asked (short_completes q left lent turning l small e);
+      stepped = λ counters. short_stepped q new o left lent lent_after counters turning l small e here asked said settled wires flags;
+      ends = answered_ends o (sym (ap is_answered said) ∙ answered);
+    }

@@ -1,5 +1,5 @@
--- Where a short way of a turn is open: at a stage, with the words that a host has put there.
-use Rattle.std.specs.Prelude.{ℕ, ◌≡◌, ◌<◌, ◌≤◌, ◌+◌, List, [], ◌∷◌, suc, true, false, length, IsTrue, None, Ok, Some}
+-- Where a short way of a turn is open: at a stage, with the words that a host has put there. And what a step by it is.
+use Rattle.std.specs.Prelude.{ℕ, ◌≡◌, ◌<◌, ◌≤◌, ◌+◌, List, [], ◌∷◌, true, false, length, IsTrue, None, Ok, Some}
 use Rattle.std.specs.Global.{Box}
 use Rattle.xen_netif.specs.Chain.{Slot, extra_info, more_data}
 use Rattle.xen_netif.specs.Fragments.{fragments_of, is_in_page}
@@ -12,7 +12,11 @@ use Rattle.xen_steps.specs.Pages.{covered}
 use Rattle.xen_steps.specs.Places.{add32, available}
 use Rattle.xen_back.specs.Rest.{fragment_at}
 use Rattle.xen_back.specs.declared.state.State.{State}
+use Rattle.xen_host.specs.Fed.{IsInPages, goes_on}
+use Rattle.xen_host.specs.Queues.{IsStepped}
 use Rattle.xen_host.specs.declared.moving.Moving.TheVariants as moving
+use Rattle.xen_host.specs.declared.op.Op.{Op}
+use Rattle.xen_host.specs.declared.queue.Queue.{Queue}
 use Rattle.xen_host.specs.declared.stage.Answering.{Answering}
 use Rattle.xen_host.specs.declared.stage.Entering.{Entering}
 use Rattle.xen_host.specs.declared.stage.Paging.{Paging}
@@ -23,25 +27,34 @@ use Rattle.xen_host.specs.declared.stage.Stage.TheVariants as stage
 use Rattle.xen_host.specs.declared.wires.Wires.{Wires}
 use Rattle.xen_host.specs.declared.work.Work.{Work}
 
--- A turn is to begin, and the producer shows no request.
-pub record FindsNone (s : State) (at : Stage) (producer : ℕ) : Type 0 where
-  pub work : Box Work
-  pub is : at ≡ stage.Ready work
-  pub live : s.halt ≡ None
-  pub none : available s.tx_index producer ≡ Some 0
+-- A step by a short way: the queue has made it, whatever the counters are, and its op wants an answer.
+pub record IsShortStep (old new : Queue) (words words_after : List ℕ) (op : Op) : Type 0 where
+  pub within : IsInPages (length old.wires.owners) op
+  pub stepped : (counters : List ℕ) → IsStepped old new op words words_after counters counters
+  pub ends : goes_on op ≡ false
 
--- A turn is to begin, and the producer shows a request, with so many behind it.
-pub record FindsOne (s : State) (at : Stage) (producer behind : ℕ) : Type 0 where
-  pub work : Box Work
-  pub is : at ≡ stage.Ready work
-  pub live : s.halt ≡ None
-  pub some : available s.tx_index producer ≡ Some (suc behind)
+-- A turn is to begin.
+abbrev pub IsReady : Stage → Type 0
+IsReady at = (work : Box Work) × (at ≡ stage.Ready work)
 
--- The producer shows no request behind the event index either.
-pub record FindsNoneAgain (s : State) (at : Stage) (producer : ℕ) : Type 0 where
-  pub work : Box Work
-  pub is : at ≡ stage.Announce work
-  pub none : available s.tx_index producer ≡ Some 0
+-- The event index is to be stored, and the producer read again.
+abbrev pub IsAnnouncing : Stage → Type 0
+IsAnnouncing at = (work : Box Work) × (at ≡ stage.Announce work)
+
+-- The responses are to be pushed, and the event index read.
+abbrev pub IsPushing : Stage → Type 0
+IsPushing at = (answering : Answering) × (at ≡ stage.Push answering)
+
+-- The entry of a fragment that has bytes in it is to be read.
+pub record EntersBytes (at : Stage) : Type 0 where
+  pub entering : Entering
+  pub is : at ≡ stage.Entry entering
+  pub some : 0 < covered (fragment_at entering.work.value.fragments.items entering.i)
+
+-- The queue isn't halted, and the producer shows so many requests.
+pub record ShowsRequests (s : State) (producer count : ℕ) : Type 0 where
+  pub live : s.halt ≡ None
+  pub shown : available s.tx_index producer ≡ Some count
 
 -- The responses are pushed, and no notice is due.
 pub record OwesNone (at : Stage) (event : ℕ) : Type 0 where
@@ -49,12 +62,9 @@ pub record OwesNone (at : Stage) (event : ℕ) : Type 0 where
   pub is : at ≡ stage.Push answering
   pub quiet : is_due answering.at.tx_index (add32 answering.at.tx_index (length answering.work.value.chain)) event ≡ false
 
--- An entry of these two words permits a fragment's page, which is this frame, and the fragment has bytes in it.
-pub record FindsPage (w : Wires) (at : Stage) (first second frame : ℕ) : Type 0 where
-  pub entering : Entering
-  pub is : at ≡ stage.Entry entering
-  pub permitted : checked w.owners w.granter w.user (entry_of first second) false ≡ Ok frame
-  pub some : 0 < covered (fragment_at entering.work.value.fragments.items entering.i)
+-- An entry of these two words permits its page, which is this frame.
+abbrev pub IsPermitted : Wires → (first second frame : ℕ) → Type 0
+IsPermitted w first second frame = checked w.owners w.granter w.user (entry_of first second) false ≡ Ok frame
 
 -- A slot behind none is a whole chain, with this fragment, which lies in a page; a place for both words of an entry.
 pub record IsLone (chain : List Slot) (slot : Slot) (fragment : Fragment) (entry : Place) : Type 0 where

@@ -20,18 +20,19 @@ use xen_netif::Fragment;
 use xen_page::Place;
 
 impl Queue {
-    ghost use Rattle.std.specs.Prelude.{◌≡◌, ◌≤◌, ◌∷◌, [], List, ℕ, length, slice_index, IfNone, IfSome, IsTrue, Some, false};
+    ghost use Rattle.std.specs.Prelude.{◌≡◌, ◌≤◌, ◌∷◌, [], length, slice_index, suc, IfNone, IfSome, IsTrue, Some};
     ghost use Rattle.bpf_maps.specs.Layout.{total};
     ghost use Rattle.xen_page.specs.Table.{entry_place};
-    ghost use Rattle.xen_host.specs.Fed.{IsInPages, goes_on};
-    ghost use Rattle.xen_host.specs.Queues.{IsStepped};
+    ghost use Rattle.xen_steps.specs.Places.{available};
     ghost use Rattle.xen_host.specs.Said.{AreSaid};
-    ghost use Rattle.xen_host.specs.Short.{FindsLone, FindsNone, FindsNoneAgain, FindsOne, FindsPage, FindsSent, FindsWhole, OwesNone};
+    ghost use Rattle.xen_host.specs.Short.{EntersBytes, IsAnnouncing, IsReady};
+    ghost use Rattle.xen_host.specs.Short.{FindsLone, FindsSent, FindsWhole, IsPermitted, IsShortStep, OwesNone, ShowsRequests};
 
     /// Whether a turn that is to begin finds no request.
     #[inline(always)]
     fn finds_none(&self, producer: u32) -> bool
-        ensures { IsTrue result → FindsNone self.now.state self.now.stage producer }
+        ensures ready { IsTrue result → IsReady self.now.stage }
+        ensures shows { IsTrue result → ShowsRequests self.now.state producer 0 }
     {
         match &self.stage {
             Stage::Ready(_) => match self.state.halt {
@@ -45,7 +46,8 @@ impl Queue {
     /// Whether a turn that is to begin finds a request, and how many more are shown.
     #[inline(always)]
     fn finds_one(&self, producer: u32) -> Option<u32>
-        ensures { IfSome result (FindsOne self.now.state self.now.stage producer) }
+        ensures ready { IfSome result (λ behind. IsReady self.now.stage) }
+        ensures shows { IfSome result (λ behind. ShowsRequests self.now.state producer (suc behind)) }
     {
         match &self.stage {
             Stage::Ready(_) => match self.state.halt {
@@ -59,7 +61,8 @@ impl Queue {
     /// Whether there is no request behind the event index.
     #[inline(always)]
     fn finds_none_again(&self, producer: u32) -> bool
-        ensures { IsTrue result → FindsNoneAgain self.now.state self.now.stage producer }
+        ensures announcing { IsTrue result → IsAnnouncing self.now.stage }
+        ensures none { IsTrue result → available self.now.state.tx_index producer ≡ Some 0 }
     {
         match &self.stage {
             Stage::Announce(_) => shows_none(&self.state, producer),
@@ -83,9 +86,7 @@ impl Queue {
     pub fn step_announcing(&mut self, words: &mut [u32]) -> Option<Op>
         requires enough { 1024 ≤ length words.old }
         ensures words { length words.new ≡ length words.old }
-        ensures within { IfSome result (IsInPages (length self.old.wires.owners)) }
-        ensures stepped { IfSome result (λ op. (counters : List ℕ) → IsStepped self.old self.new op words.old words.new counters counters) }
-        ensures ends { IfSome result (λ op. goes_on op ≡ false) }
+        ensures stepped { IfSome result (IsShortStep self.old self.new words.old words.new) }
         ensures none { IfNone result ((self.new ≡ self.old) × (words.new ≡ words.old)) }
     {
         are_words(words);
@@ -94,7 +95,7 @@ impl Queue {
         }
         note_flags(&self.stage, words, &mut self.flags);
         let stage = mem::replace(&mut self.stage, Stage::Gone);
-        let left = announcing(&self.state, stage, words);
+        let left = announcing(stage);
         let op = enter(&self.wires, &mut self.state, &mut self.stage, left, words);
         Some(op)
     }
@@ -103,7 +104,8 @@ impl Queue {
     #[inline(always)]
     fn finds_page(&self, words: &[u32]) -> Option<u32>
         requires { 1024 ≤ length words.now }
-        ensures { IfSome result (FindsPage self.now.wires self.now.stage (slice_index words.now 0) (slice_index words.now 1)) }
+        ensures bytes { IfSome result (λ frame. EntersBytes self.now.stage) }
+        ensures permitted { IfSome result (IsPermitted self.now.wires (slice_index words.now 0) (slice_index words.now 1)) }
     {
         match &self.stage {
             Stage::Entry(entering) => permitted_page(&self.wires, entering, [words[0], words[1]]),
@@ -116,9 +118,7 @@ impl Queue {
     pub fn step_reading_slot(&mut self, words: &mut [u32]) -> Option<Op>
         requires enough { 1024 ≤ length words.old }
         ensures words { length words.new ≡ length words.old }
-        ensures within { IfSome result (IsInPages (length self.old.wires.owners)) }
-        ensures stepped { IfSome result (λ op. (counters : List ℕ) → IsStepped self.old self.new op words.old words.new counters counters) }
-        ensures ends { IfSome result (λ op. goes_on op ≡ false) }
+        ensures stepped { IfSome result (IsShortStep self.old self.new words.old words.new) }
         ensures none { IfNone result ((self.new ≡ self.old) × (words.new ≡ words.old)) }
     {
         are_words(words);
@@ -127,7 +127,7 @@ impl Queue {
             Some(behind) => {
                 note_flags(&self.stage, words, &mut self.flags);
                 let stage = mem::replace(&mut self.stage, Stage::Gone);
-                let left = reading_first(&self.state, stage, words, behind);
+                let left = reading_first(stage, behind);
                 let op = enter(&self.wires, &mut self.state, &mut self.stage, left, words);
                 Some(op)
             }
@@ -139,9 +139,7 @@ impl Queue {
     pub fn step_reading_page(&mut self, words: &mut [u32]) -> Option<Op>
         requires enough { 1024 ≤ length words.old }
         ensures words { length words.new ≡ length words.old }
-        ensures within { IfSome result (IsInPages (length self.old.wires.owners)) }
-        ensures stepped { IfSome result (λ op. (counters : List ℕ) → IsStepped self.old self.new op words.old words.new counters counters) }
-        ensures ends { IfSome result (λ op. goes_on op ≡ false) }
+        ensures stepped { IfSome result (IsShortStep self.old self.new words.old words.new) }
         ensures none { IfNone result ((self.new ≡ self.old) × (words.new ≡ words.old)) }
     {
         are_words(words);
@@ -150,7 +148,7 @@ impl Queue {
             Some(frame) => {
                 note_flags(&self.stage, words, &mut self.flags);
                 let stage = mem::replace(&mut self.stage, Stage::Gone);
-                let left = reading_page(&self.wires, &self.state, stage, words, frame);
+                let left = reading_page(stage, frame);
                 let op = enter(&self.wires, &mut self.state, &mut self.stage, left, words);
                 Some(op)
             }
@@ -162,9 +160,7 @@ impl Queue {
     pub fn step_idle(&mut self, words: &mut [u32]) -> Option<Op>
         requires enough { 1024 ≤ length words.old }
         ensures words { length words.new ≡ length words.old }
-        ensures within { IfSome result (IsInPages (length self.old.wires.owners)) }
-        ensures stepped { IfSome result (λ op. (counters : List ℕ) → IsStepped self.old self.new op words.old words.new counters counters) }
-        ensures ends { IfSome result (λ op. goes_on op ≡ false) }
+        ensures stepped { IfSome result (IsShortStep self.old self.new words.old words.new) }
         ensures none { IfNone result ((self.new ≡ self.old) × (words.new ≡ words.old)) }
     {
         are_words(words);
@@ -173,7 +169,7 @@ impl Queue {
         }
         note_flags(&self.stage, words, &mut self.flags);
         let stage = mem::replace(&mut self.stage, Stage::Gone);
-        let left = idle(&self.state, stage, words);
+        let left = idle(&self.state, stage);
         let op = enter(&self.wires, &mut self.state, &mut self.stage, left, words);
         Some(op)
     }
@@ -183,9 +179,7 @@ impl Queue {
     pub fn step_ending(&mut self, words: &mut [u32]) -> Option<Op>
         requires enough { 1024 ≤ length words.old }
         ensures words { length words.new ≡ length words.old }
-        ensures within { IfSome result (IsInPages (length self.old.wires.owners)) }
-        ensures stepped { IfSome result (λ op. (counters : List ℕ) → IsStepped self.old self.new op words.old words.new counters counters) }
-        ensures ends { IfSome result (λ op. goes_on op ≡ false) }
+        ensures stepped { IfSome result (IsShortStep self.old self.new words.old words.new) }
         ensures none { IfNone result ((self.new ≡ self.old) × (words.new ≡ words.old)) }
     {
         are_words(words);
@@ -194,7 +188,7 @@ impl Queue {
         }
         note_flags(&self.stage, words, &mut self.flags);
         let stage = mem::replace(&mut self.stage, Stage::Gone);
-        let left = over(&self.state, stage, words);
+        let left = over(stage);
         let op = enter(&self.wires, &mut self.state, &mut self.stage, left, words);
         Some(op)
     }
@@ -221,9 +215,7 @@ impl Queue {
     pub fn step_reading_entry(&mut self, words: &mut [u32]) -> Option<Op>
         requires enough { 1024 ≤ length words.old }
         ensures words { length words.new ≡ length words.old }
-        ensures within { IfSome result (IsInPages (length self.old.wires.owners)) }
-        ensures stepped { IfSome result (λ op. (counters : List ℕ) → IsStepped self.old self.new op words.old words.new counters counters) }
-        ensures ends { IfSome result (λ op. goes_on op ≡ false) }
+        ensures stepped { IfSome result (IsShortStep self.old self.new words.old words.new) }
         ensures none { IfNone result ((self.new ≡ self.old) × (words.new ≡ words.old)) }
     {
         are_words(words);

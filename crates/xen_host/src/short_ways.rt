@@ -1,9 +1,7 @@
 //! Short ways of a turn: what most steps do, each by code of its own that knows the stage before it and the one behind it.
 
-ghost use Rattle.std.specs.Prelude.{◌≡◌, ◌≤◌, ◌<◌, ◌∷◌, [], List, ℕ, length, slice_index, suc, false, IfSome, IsTrue, Ok, Some};
+ghost use Rattle.std.specs.Prelude.{◌≡◌, ◌≤◌, ◌<◌, ◌∷◌, [], List, ℕ, length, slice_index, suc, false, IfSome, IsTrue, Some};
 ghost use Rattle.xen_netif.specs.Chain.{extra_info, more_data};
-ghost use Rattle.xen_page.specs.Entry.{entry_of};
-ghost use Rattle.xen_page.specs.Grant.{checked};
 ghost use Rattle.xen_page.specs.Table.{entry_place};
 ghost use Rattle.xen_ring.specs.Index.{is_due};
 ghost use Rattle.xen_steps.specs.Pages.{covered};
@@ -14,8 +12,10 @@ ghost use Rattle.xen_back.specs.declared.wiring.Wiring.{Wiring};
 ghost use Rattle.xen_host.specs.Fed.{IsAskedFor, Reads, Pushes, Ended, answers, asked_by, asked_of, fed};
 ghost use Rattle.xen_host.specs.Queues.{settled_of};
 ghost use Rattle.xen_host.specs.Rest.{is_here, is_there, is_turning, rest_in};
-ghost use Rattle.xen_host.specs.Short.{FindsLone, FindsNone, FindsNoneAgain, FindsOne, FindsPage, IsLone, OwesNone};
+ghost use Rattle.xen_host.specs.Short.{EntersBytes, IsAnnouncing, IsPushing, IsReady};
+ghost use Rattle.xen_host.specs.Short.{FindsLone, IsLone, IsPermitted, OwesNone, ShowsRequests};
 ghost use Rattle.xen_host.specs.Wired.{wiring_of};
+ghost use Rattle.xen_host.specs.declared.wires.Wires.{Wires as WiresView};
 ghost use Rattle.xen_back.specs.declared.turn.Kind.TheVariants as kinds;
 
 use crate::answering::ended;
@@ -84,11 +84,12 @@ pub(crate) fn shown_behind(state: &State, producer: u32) -> Option<u32>
 
 /// The event index is to be stored.
 #[inline(always)]
-pub(crate) fn announcing(state: &State, stage: Stage, words: &[u32]) -> Stage
-    requires { FindsNone state.now stage (slice_index words.now 0) }
+pub(crate) fn announcing(stage: Stage) -> Stage
+    requires { IsReady stage }
     ensures here { IsTrue (is_here result) }
     ensures asked { asked_of result ≡ Pushes }
-    ensures rest { (w : Wiring) → rest_in w state.now result ≡ fed (rest_in w state.now stage) (answers stage words.now) }
+    ensures rest { (w : Wiring) (s : StateView) (lent : List ℕ) → ShowsRequests s (slice_index lent 0) 0 →
+        rest_in w s result ≡ fed (rest_in w s stage) (answers stage lent) }
 {
     match stage {
         Stage::Ready(work) => Stage::Announce(work),
@@ -98,11 +99,12 @@ pub(crate) fn announcing(state: &State, stage: Stage, words: &[u32]) -> Stage
 
 /// The first slot is to be read.
 #[inline(always)]
-pub(crate) fn reading_first(state: &State, stage: Stage, words: &[u32], behind: u32) -> Stage
-    requires { FindsOne state.now stage (slice_index words.now 0) behind }
+pub(crate) fn reading_first(stage: Stage, behind: u32) -> Stage
+    requires { IsReady stage }
     ensures here { IsTrue (is_here result) }
     ensures asked { asked_of result ≡ Reads 3 }
-    ensures rest { (w : Wiring) → rest_in w state.now result ≡ fed (rest_in w state.now stage) (answers stage words.now) }
+    ensures rest { (w : Wiring) (s : StateView) (lent : List ℕ) → ShowsRequests s (slice_index lent 0) (suc behind) →
+        rest_in w s result ≡ fed (rest_in w s stage) (answers stage lent) }
 {
     match stage {
         Stage::Ready(work) => {
@@ -116,11 +118,12 @@ pub(crate) fn reading_first(state: &State, stage: Stage, words: &[u32], behind: 
 
 /// The turn was idle.
 #[inline(always)]
-pub(crate) fn idle(state: &State, stage: Stage, words: &[u32]) -> Stage
-    requires { FindsNoneAgain state.now stage (slice_index words.now 0) }
+pub(crate) fn idle(state: &State, stage: Stage) -> Stage
+    requires { IsAnnouncing stage }
     ensures here { IsTrue (is_here result) }
     ensures asked { asked_of result ≡ Ended kinds.Idle }
-    ensures rest { (w : Wiring) → rest_in w state.now result ≡ fed (rest_in w state.now stage) (answers stage words.now) }
+    ensures rest { (w : Wiring) (lent : List ℕ) → available state.now.tx_index (slice_index lent 0) ≡ Some 0 →
+        rest_in w state.now result ≡ fed (rest_in w state.now stage) (answers stage lent) }
 {
     match stage {
         Stage::Announce(work) => Stage::Over {
@@ -145,11 +148,12 @@ pub(crate) fn owes_none(answering: &Answering, event: u32) -> bool
 
 /// The turn is over without a notice.
 #[inline(always)]
-pub(crate) fn over(state: &State, stage: Stage, words: &[u32]) -> Stage
-    requires { OwesNone stage (slice_index words.now 0) }
+pub(crate) fn over(stage: Stage) -> Stage
+    requires { IsPushing stage }
     ensures here { IsTrue (is_here result) }
     ensures asked { (kind : Kind) × (asked_of result ≡ Ended kind) }
-    ensures rest { (w : Wiring) → rest_in w state.now result ≡ fed (rest_in w state.now stage) (answers stage words.now) }
+    ensures rest { (w : Wiring) (s : StateView) (lent : List ℕ) → OwesNone stage (slice_index lent 0) →
+        rest_in w s result ≡ fed (rest_in w s stage) (answers stage lent) }
 {
     match stage {
         Stage::Push(answering) => ended(answering),
@@ -161,8 +165,7 @@ pub(crate) fn over(state: &State, stage: Stage, words: &[u32]) -> Stage
 #[inline(always)]
 pub(crate) fn permitted_page(wires: &Wires, entering: &Entering, words: [u32; 2]) -> Option<u32>
     ensures { IfSome result (λ frame. (a : ℕ) → (b : ℕ) → words ≡ a ∷ b ∷ [] →
-        (checked wires.now.owners wires.now.granter wires.now.user (entry_of a b) false ≡ Ok frame) ×
-        (0 < covered (fragment_at entering.now.work.value.fragments.items entering.now.i))) }
+        IsPermitted wires.now a b frame × (0 < covered (fragment_at entering.now.work.value.fragments.items entering.now.i))) }
 {
     let entry = Entry::of_words(words[0], words[1]);
     match check(&wires.owners, wires.granter, wires.user, entry, false) {
@@ -180,18 +183,12 @@ pub(crate) fn permitted_page(wires: &Wires, entering: &Entering, words: [u32; 2]
 
 /// The words of a fragment's page are to be read.
 #[inline(always)]
-pub(crate) fn reading_page(
-    wires: &Wires,
-    state: &State,
-    stage: Stage,
-    words: &[u32],
-    frame: u32,
-) -> Stage
-    requires { FindsPage wires.now stage (slice_index words.now 0) (slice_index words.now 1) frame }
+pub(crate) fn reading_page(stage: Stage, frame: u32) -> Stage
+    requires { EntersBytes stage }
     ensures here { IsTrue (is_here result) }
     ensures asked { (count : ℕ) × (asked_of result ≡ Reads count) }
-    ensures rest { rest_in (wiring_of wires.now) state.now result
-        ≡ fed (rest_in (wiring_of wires.now) state.now stage) (answers stage words.now) }
+    ensures rest { (w : WiresView) (s : StateView) (lent : List ℕ) → IsPermitted w (slice_index lent 0) (slice_index lent 1) frame →
+        rest_in (wiring_of w) s result ≡ fed (rest_in (wiring_of w) s stage) (answers stage lent) }
 {
     match stage {
         Stage::Entry(entering) => {

@@ -5,8 +5,7 @@ use Rattle.xen_host.proofs.ShortLemmas.{found_one}
 use Rattle.xen_host.proofs.short_ways.reading_first.Goals as goal
 
 pub returns-clause-rest : goal.returns-clause-rest
-returns-clause-rest c w =
-    let s = c.args.state.now in
+returns-clause-rest c w s lent shows =
     c.next_slot.ensures.rest w s
     ∙ ap (λ ch. bind (read_slots w s.tx_index (suc c.args.behind) ch) (after_scan w s)) c.clear.ensures
-    ∙ found_one w s c.args.stage c.args.words.now c.args.behind c.requires
+    ∙ found_one w s c.args.stage lent c.args.behind c.requires shows

@@ -1,11 +1,9 @@
-use Rattle.std.proofs.Common.{length, refl, sym, subst}
+use Rattle.std.proofs.Common.{ap, refl, sym, subst}
 use Rattle.std.specs.Prelude.{ℕ, slice_index, IfSome, IsTrue, Option}
-use Rattle.xen_host.specs.Rest.{is_turning, rest_in}
-use Rattle.xen_host.specs.Short.{FindsPage}
-use Rattle.xen_host.specs.Wired.{wiring_of}
+use Rattle.xen_host.specs.Rest.{is_turning}
+use Rattle.xen_host.specs.Short.{EntersBytes, IsPermitted}
 use Rattle.xen_host.specs.declared.stage.Stage.{Stage}
-use Rattle.xen_host.proofs.ShortLemmas.{short_completes, short_left, short_stepped, taken_rest}
-use Rattle.xen_host.proofs.TurnLemmas.{asked_within}
+use Rattle.xen_host.proofs.ShortLemmas.{is_answered, short_left, short_step, taken_rest}
 use Rattle.xen_host.proofs.queue.Queue.step_reading_page.Goals as goal
 
 pub invariant_of-self : goal.invariant_of-self
@@ -14,9 +12,10 @@ invariant_of-self c =
     let lent = c.args.words.now in
     let left = c.reading_page-left in
     let e = c.enter-op in
-    let found = subst (λ (r : Option ℕ). IfSome r (FindsPage q.wires q.stage (slice_index lent 0) (slice_index lent 1))) c.in-Some.is c.finds_page.ensures in
-    let turning : IsTrue (is_turning q.stage) = subst (λ (g : Stage). IsTrue (is_turning g)) (sym found.is) refl in
-    let fed_rest = taken_rest q c.replace-stage.result left.result lent c.replace-stage.ensures.value left.ensures.rest in
+    let enters = subst (λ (r : Option ℕ). IfSome r (λ frame. EntersBytes q.stage)) c.in-Some.is c.finds_page.ensures.bytes in
+    let permits = subst (λ (r : Option ℕ). IfSome r (IsPermitted q.wires (slice_index lent 0) (slice_index lent 1))) c.in-Some.is c.finds_page.ensures.permitted in
+    let turning : IsTrue (is_turning q.stage) = subst (λ (g : Stage). IsTrue (is_turning g)) (sym enters.is) refl in
+    let fed_rest = taken_rest q c.replace-stage.result left.result lent c.replace-stage.ensures.value (left.ensures.rest q.wires q.state lent permits) in
     record {
       there = e.ensures.there;
       wired = q.wired;
@@ -25,24 +24,13 @@ invariant_of-self c =
     }
 
 pub returns-in-Some-clause-stepped : goal.returns-in-Some-clause-stepped
-returns-in-Some-clause-stepped c counters =
+returns-in-Some-clause-stepped c =
     let q = c.args.self.now in
     let lent = c.args.words.now in
     let left = c.reading_page-left in
     let e = c.enter-op in
-    let found = subst (λ (r : Option ℕ). IfSome r (FindsPage q.wires q.stage (slice_index lent 0) (slice_index lent 1))) c.in-Some.is c.finds_page.ensures in
-    let turning : IsTrue (is_turning q.stage) = subst (λ (g : Stage). IsTrue (is_turning g)) (sym found.is) refl in
-    let fed_rest = taken_rest q c.replace-stage.result left.result lent c.replace-stage.ensures.value left.ensures.rest in
-    short_stepped q _ e.result left.result lent e.new.words counters turning c.requires.enough c.are_words.ensures fed_rest left.ensures.here e.ensures.asked e.ensures.said e.ensures.settled refl c.note_flags.ensures
-
-pub returns-in-Some-clause-within : goal.returns-in-Some-clause-within
-returns-in-Some-clause-within c =
-    let q = c.args.self.now in
-    let lent = c.args.words.now in
-    let left = c.reading_page-left in
-    let e = c.enter-op in
-    let found = subst (λ (r : Option ℕ). IfSome r (FindsPage q.wires q.stage (slice_index lent 0) (slice_index lent 1))) c.in-Some.is c.finds_page.ensures in
-    let turning : IsTrue (is_turning q.stage) = subst (λ (g : Stage). IsTrue (is_turning g)) (sym (found).is) refl in
-    let fed_rest = taken_rest q c.replace-stage.result left.result lent c.replace-stage.ensures.value left.ensures.rest in
-    asked_within (length q.wires.owners) q.wires.program.shapes e.result (rest_in (wiring_of q.wires) q.state left.result) e.new.words e.ensures.asked
-    (short_completes q left.result lent turning c.requires.enough c.are_words.ensures fed_rest)
+    let enters = subst (λ (r : Option ℕ). IfSome r (λ frame. EntersBytes q.stage)) c.in-Some.is c.finds_page.ensures.bytes in
+    let permits = subst (λ (r : Option ℕ). IfSome r (IsPermitted q.wires (slice_index lent 0) (slice_index lent 1))) c.in-Some.is c.finds_page.ensures.permitted in
+    let turning : IsTrue (is_turning q.stage) = subst (λ (g : Stage). IsTrue (is_turning g)) (sym enters.is) refl in
+    let fed_rest = taken_rest q c.replace-stage.result left.result lent c.replace-stage.ensures.value (left.ensures.rest q.wires q.state lent permits) in
+    short_step q _ e.result left.result lent e.new.words turning c.requires.enough c.are_words.ensures fed_rest left.ensures.here e.ensures.asked e.ensures.said e.ensures.settled refl c.note_flags.ensures (ap is_answered left.ensures.asked.1)

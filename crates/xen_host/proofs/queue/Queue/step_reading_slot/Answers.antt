@@ -1,10 +1,10 @@
-use Rattle.std.proofs.Common.{refl, sym, subst}
-use Rattle.std.specs.Prelude.{ℕ, slice_index, IfSome, IsTrue, Option}
+use Rattle.std.proofs.Common.{ap, refl, sym, subst}
+use Rattle.std.specs.Prelude.{ℕ, slice_index, suc, IfSome, IsTrue, Option}
 use Rattle.xen_host.specs.Rest.{is_turning}
-use Rattle.xen_host.specs.Short.{FindsOne}
+use Rattle.xen_host.specs.Short.{IsReady, ShowsRequests}
 use Rattle.xen_host.specs.Wired.{wiring_of}
 use Rattle.xen_host.specs.declared.stage.Stage.{Stage}
-use Rattle.xen_host.proofs.ShortLemmas.{short_left, short_stepped, taken_rest}
+use Rattle.xen_host.proofs.ShortLemmas.{is_answered, short_left, short_step, taken_rest}
 use Rattle.xen_host.proofs.queue.Queue.step_reading_slot.Goals as goal
 
 pub invariant_of-self : goal.invariant_of-self
@@ -13,9 +13,10 @@ invariant_of-self c =
     let lent = c.args.words.now in
     let left = c.reading_first-left in
     let e = c.enter-op in
-    let found = subst (λ (r : Option ℕ). IfSome r (FindsOne q.state q.stage (slice_index lent 0))) c.in-Some.is c.finds_one.ensures in
-    let turning : IsTrue (is_turning q.stage) = subst (λ (g : Stage). IsTrue (is_turning g)) (sym found.is) refl in
-    let fed_rest = taken_rest q c.replace-stage.result left.result lent c.replace-stage.ensures.value (left.ensures.rest (wiring_of q.wires)) in
+    let ready = subst (λ (r : Option ℕ). IfSome r (λ behind. IsReady q.stage)) c.in-Some.is c.finds_one.ensures.ready in
+    let shows = subst (λ (r : Option ℕ). IfSome r (λ behind. ShowsRequests q.state (slice_index lent 0) (suc behind))) c.in-Some.is c.finds_one.ensures.shows in
+    let turning : IsTrue (is_turning q.stage) = subst (λ (g : Stage). IsTrue (is_turning g)) (sym ready.1) refl in
+    let fed_rest = taken_rest q c.replace-stage.result left.result lent c.replace-stage.ensures.value (left.ensures.rest (wiring_of q.wires) q.state lent shows) in
     record {
       there = e.ensures.there;
       wired = q.wired;
@@ -24,12 +25,13 @@ invariant_of-self c =
     }
 
 pub returns-in-Some-clause-stepped : goal.returns-in-Some-clause-stepped
-returns-in-Some-clause-stepped c counters =
+returns-in-Some-clause-stepped c =
     let q = c.args.self.now in
     let lent = c.args.words.now in
     let left = c.reading_first-left in
     let e = c.enter-op in
-    let found = subst (λ (r : Option ℕ). IfSome r (FindsOne q.state q.stage (slice_index lent 0))) c.in-Some.is c.finds_one.ensures in
-    let turning : IsTrue (is_turning q.stage) = subst (λ (g : Stage). IsTrue (is_turning g)) (sym found.is) refl in
-    let fed_rest = taken_rest q c.replace-stage.result left.result lent c.replace-stage.ensures.value (left.ensures.rest (wiring_of q.wires)) in
-    short_stepped q _ e.result left.result lent e.new.words counters turning c.requires.enough c.are_words.ensures fed_rest left.ensures.here e.ensures.asked e.ensures.said e.ensures.settled refl c.note_flags.ensures
+    let ready = subst (λ (r : Option ℕ). IfSome r (λ behind. IsReady q.stage)) c.in-Some.is c.finds_one.ensures.ready in
+    let shows = subst (λ (r : Option ℕ). IfSome r (λ behind. ShowsRequests q.state (slice_index lent 0) (suc behind))) c.in-Some.is c.finds_one.ensures.shows in
+    let turning : IsTrue (is_turning q.stage) = subst (λ (g : Stage). IsTrue (is_turning g)) (sym ready.1) refl in
+    let fed_rest = taken_rest q c.replace-stage.result left.result lent c.replace-stage.ensures.value (left.ensures.rest (wiring_of q.wires) q.state lent shows) in
+    short_step q _ e.result left.result lent e.new.words turning c.requires.enough c.are_words.ensures fed_rest left.ensures.here e.ensures.asked e.ensures.said e.ensures.settled refl c.note_flags.ensures (ap is_answered left.ensures.asked)
