@@ -1,4 +1,4 @@
--- What has been run so far, and what follows it.
+-- What has been run so far with how many operations it did, and what follows it.
 use Rattle.std.proofs.Common.{◌≡◌, ℕ, zero, suc, ◌+◌, ◌<◌, ◌≤◌, ◌%◌, ◌^◌, refl, Some, None, List, [], ◌∷◌, length, set, slice_index_or, length-set, subst, sym, ap, ◌∙◌, arith}
 use Rattle.std.specs.Prelude.{Option, replicate}
 use Rattle.std.proofs.lemmas.List.{length-replicate}
@@ -14,15 +14,16 @@ use Rattle.bpf_vm.specs.Advance.{Silent, stays, steps, Advanced}
 use Rattle.bpf_vm.specs.Run.{Walk, ends, goes, IsRunOf, IsStep}
 use Rattle.bpf_vm.specs.Stands.{Running, Stands, label_of, now}
 use Rattle.bpf_vm.specs.Wants.{IsLoadOf, IsAddOf, IsLoad, IsAdd}
-use Rattle.xdp_program.specs.Ran.{IsHistory, Ran}
+use Rattle.xdp_program.specs.Ran.{IsHistory, Ran, RanCounting, operations}
 use Rattle.bpf_maps.proofs.PlaceLemmas.{place_within}
 
 -- what has been run of a run: the labels so far before whatever follows, what they made of the words, and where each start stands
-pub record Sofar (p : Accepted) (packet : List ℕ) (ifindex queue : ℕ) (first : List ℕ) (v : Running) (words : List ℕ) : Type 0 where
+pub record Sofar (p : Accepted) (packet : List ℕ) (ifindex queue : ℕ) (first : List ℕ) (v : Running) (words : List ℕ) (ops : ℕ) : Type 0 where
   pub program : v.program ≡ p
   pub width : length words ≡ length first
   pub grown : List (Option Op) → List (Option Op)
   pub counted : (rest : List (Option Op)) → length (grown rest) ≡ v.count + length rest
+  pub ops_done : (rest : List (Option Op)) → operations (grown rest) ≡ ops + operations rest
   pub history : (rest : List (Option Op)) (after : List ℕ) → IsHistory p.shapes rest words after → IsHistory p.shapes (grown rest) first after
   pub walks : (s : State) → IsStart s → s.packet ≡ packet → s.ifindex ≡ ifindex → s.queue ≡ queue → s.shapes ≡ p.shapes →
       (t : State) × Stands v t × ((r0 : ℕ) (bytes : List ℕ) (rest : List (Option Op)) → Walk p.code r0 bytes t rest → Walk p.code r0 bytes s (grown rest))
@@ -35,6 +36,10 @@ pub nones_length : (n : ℕ) (rest : List (Option Op)) → length (nones n rest)
 nones_length zero rest = omega arith
 nones_length (suc n) rest = let r = nones_length n (None ∷ rest) in omega (arith, r)
 
+pub nones_ops : (n : ℕ) (rest : List (Option Op)) → operations (nones n rest) ≡ operations rest
+nones_ops zero rest = refl
+nones_ops (suc n) rest = nones_ops n (None ∷ rest)
+
 pub nones_history : (n : ℕ) (shapes : List Shape) (rest : List (Option Op)) (before after : List ℕ) → IsHistory shapes rest before after → IsHistory shapes (nones n rest) before after
 nones_history zero shapes rest before after h = h
 nones_history (suc n) shapes rest before after h = nones_history n shapes (None ∷ rest) before after h
@@ -44,12 +49,13 @@ nones_walk code _ r0 bytes rest _ _ (stays s) w = w
 nones_walk code _ r0 bytes rest _ _ (steps n s t u h l) w = nones_walk code n r0 bytes (None ∷ rest) s t h (goes t u None rest l w)
 
 -- steps that read no counter
-pub sofar_advanced : (p : Accepted) (packet : List ℕ) (ifindex queue : ℕ) (first : List ℕ) (v w : Running) (words : List ℕ) → Sofar p packet ifindex queue first v words → Advanced v w → Sofar p packet ifindex queue first w words
-sofar_advanced p packet ifindex queue first v w words so a = record {
+pub sofar_advanced : (p : Accepted) (packet : List ℕ) (ifindex queue : ℕ) (first : List ℕ) (v w : Running) (words : List ℕ) (ops : ℕ) → Sofar p packet ifindex queue first v words ops → Advanced v w → Sofar p packet ifindex queue first w words ops
+sofar_advanced p packet ifindex queue first v w words ops so a = record {
   program = a.program ∙ so.program;
   width = so.width;
   grown = λ rest. so.grown (nones a.done rest);
   counted = λ rest. let c = so.counted (nones a.done rest) in let d = nones_length a.done rest in let e = a.count in omega (arith, c, d, e);
+  ops_done = λ rest. let c = so.ops_done (nones a.done rest) in let d = nones_ops a.done rest in omega (arith, c, d);
   history = λ rest after h. so.history (nones a.done rest) after (nones_history a.done p.shapes rest words after h);
   walks = λ s h b i q e.
       let g = so.walks s h b i q e in
@@ -59,13 +65,14 @@ sofar_advanced p packet ifindex queue first v w words so a = record {
 }
 
 -- one more step, with a label that takes the words to others
-pub sofar_step : (p : Accepted) (packet : List ℕ) (ifindex queue : ℕ) (first : List ℕ) (v w : Running) (words more : List ℕ) (label : Option Op) → Sofar p packet ifindex queue first v words → IsStep label v w → length more ≡ length words →
-    ((rest : List (Option Op)) (after : List ℕ) → IsHistory p.shapes rest more after → IsHistory p.shapes (label ∷ rest) words after) → Sofar p packet ifindex queue first w more
-sofar_step p packet ifindex queue first v w words more label so st wide h = record {
+pub sofar_step : (p : Accepted) (packet : List ℕ) (ifindex queue : ℕ) (first : List ℕ) (v w : Running) (words more : List ℕ) (ops : ℕ) (label : Option Op) → Sofar p packet ifindex queue first v words ops → ((rest : List (Option Op)) → operations (label ∷ rest) ≡ suc (operations rest)) → IsStep label v w → length more ≡ length words →
+    ((rest : List (Option Op)) (after : List ℕ) → IsHistory p.shapes rest more after → IsHistory p.shapes (label ∷ rest) words after) → Sofar p packet ifindex queue first w more (ops + 1)
+sofar_step p packet ifindex queue first v w words more ops label so one_op st wide h = record {
   program = st.program ∙ so.program;
   width = wide ∙ so.width;
   grown = λ rest. so.grown (label ∷ rest);
   counted = λ rest. let c = so.counted (label ∷ rest) in let e = st.count in let one : length (label ∷ rest) ≡ 1 + length rest = omega arith in omega (arith, c, e, one);
+  ops_done = λ rest. let c = so.ops_done (label ∷ rest) in let d = one_op rest in omega (arith, c, d);
   history = λ rest after x. so.history (label ∷ rest) after (h rest after x);
   walks = λ s i b j q e.
       let g = so.walks s i b j q e in
@@ -103,17 +110,20 @@ add_is (Exited y) m k j d h = absurd h
 add_is Fault m k j d h = absurd h
 
 -- the end
-pub ran_of : (p : Accepted) (packet : List ℕ) (ifindex queue : ℕ) (first : List ℕ) (v : Running) (words : List ℕ) (number count : ℕ) (bytes : List ℕ) → Sofar p packet ifindex queue first v words →
-    ((s : State) → Stands v s → (r0 : ℕ) × (step v.program.code s ≡ Exited r0) × (number ≡ r0 % 2 ^ 32) × (bytes ≡ s.packet)) → count ≡ v.count + 1 → Ran p packet ifindex queue first number bytes words count
-ran_of p packet ifindex queue first v words number count bytes so f n = record {
-  labels = so.grown (None ∷ []);
-  counted = let c = so.counted (None ∷ []) in let one : length {A = Option Op} (None ∷ []) ≡ 1 = refl in omega (arith, c, n, one);
-  history = so.history (None ∷ []) words refl;
-  walks = λ s h b i q e.
-      let g = so.walks s h b i q e in
-      let k = f g.0 g.1 in
-      let ended = subst (λ (x : Accepted). step x.code g.0 ≡ Exited k.0) so.program k.1 in
-      (k.0, k.2, g.2 k.0 bytes (None ∷ []) (ends g.0 ended (sym k.3)));
+pub ran_of : (p : Accepted) (packet : List ℕ) (ifindex queue : ℕ) (first : List ℕ) (v : Running) (words : List ℕ) (number count : ℕ) (bytes : List ℕ) (ops : ℕ) → Sofar p packet ifindex queue first v words ops →
+    ((s : State) → Stands v s → (r0 : ℕ) × (step v.program.code s ≡ Exited r0) × (number ≡ r0 % 2 ^ 32) × (bytes ≡ s.packet)) → count ≡ v.count + 1 → RanCounting p packet ifindex queue first number bytes words count ops
+ran_of p packet ifindex queue first v words number count bytes ops so f n = record {
+  counted = let c = so.ops_done (None ∷ []) in omega (arith, c);
+  ran = record {
+    labels = so.grown (None ∷ []);
+    counted = let c = so.counted (None ∷ []) in let one : length {A = Option Op} (None ∷ []) ≡ 1 = refl in omega (arith, c, n, one);
+    history = so.history (None ∷ []) words refl;
+    walks = λ s h b i q e.
+        let g = so.walks s h b i q e in
+        let k = f g.0 g.1 in
+        let ended = subst (λ (x : Accepted). step x.code g.0 ≡ Exited k.0) so.program k.1 in
+        (k.0, k.2, g.2 k.0 bytes (None ∷ []) (ends g.0 ended (sym k.3)));
+  };
 }
 
 -- a counter's word lies among those of the host
@@ -130,23 +140,23 @@ word_of p v words first shapes m k j at same maps h e enough wide =
     let within = place_within p.shapes m k j mine in
     record { counter = mine; place = place; inside = omega (arith, within, place, enough, wide) }
 
-pub sofar_load : (p : Accepted) (packet : List ℕ) (ifindex queue : ℕ) (first : List ℕ) (v w : Running) (words : List ℕ) (m k j at : ℕ) → Sofar p packet ifindex queue first v words → HasWord p words m k j at → IsLoadOf m k j (now v) →
-    IsStep (label_of (now v) (slice_index_or words at 0)) v w → Sofar p packet ifindex queue first w words
-sofar_load p packet ifindex queue first v w words m k j at so has load st =
+pub sofar_load : (p : Accepted) (packet : List ℕ) (ifindex queue : ℕ) (first : List ℕ) (v w : Running) (words : List ℕ) (ops : ℕ) (m k j at : ℕ) → Sofar p packet ifindex queue first v words ops → HasWord p words m k j at → IsLoadOf m k j (now v) →
+    IsStep (label_of (now v) (slice_index_or words at 0)) v w → Sofar p packet ifindex queue first w words (ops + 1)
+sofar_load p packet ifindex queue first v w words ops m k j at so has load st =
     let x = slice_index_or words at 0 in
     let label : label_of (now v) x ≡ Some (Load m k j x) = load_label (now v) m k j x load in
     let step' : IsStep (Some (Load m k j x)) v w = subst (λ (l : Option Op). IsStep l v w) label st in
-    sofar_step p packet ifindex queue first v w words words (Some (Load m k j x)) so step' refl
+    sofar_step p packet ifindex queue first v w words words ops (Some (Load m k j x)) so (λ rest. refl) step' refl
     (λ rest after h. (has.counter, ap (λ (i : ℕ). slice_index_or words i 0) has.place, h))
 
-pub sofar_add : (p : Accepted) (packet : List ℕ) (ifindex queue : ℕ) (first : List ℕ) (v w : Running) (words : List ℕ) (m k j d at : ℕ) → Sofar p packet ifindex queue first v words → HasWord p words m k j at → IsAddOf m k j d (now v) →
-    IsStep (label_of (now v) (slice_index_or words at 0)) v w → Sofar p packet ifindex queue first w (set words at ((slice_index_or words at 0 + d) % 2 ^ 64))
-sofar_add p packet ifindex queue first v w words m k j d at so has add st =
+pub sofar_add : (p : Accepted) (packet : List ℕ) (ifindex queue : ℕ) (first : List ℕ) (v w : Running) (words : List ℕ) (ops : ℕ) (m k j d at : ℕ) → Sofar p packet ifindex queue first v words ops → HasWord p words m k j at → IsAddOf m k j d (now v) →
+    IsStep (label_of (now v) (slice_index_or words at 0)) v w → Sofar p packet ifindex queue first w (set words at ((slice_index_or words at 0 + d) % 2 ^ 64)) (ops + 1)
+sofar_add p packet ifindex queue first v w words ops m k j d at so has add st =
     let x = slice_index_or words at 0 in
     let more = set words at ((x + d) % 2 ^ 64) in
     let label : label_of (now v) x ≡ Some (Add m k j d x) = add_label (now v) m k j d x add in
     let step' : IsStep (Some (Add m k j d x)) v w = subst (λ (l : Option Op). IsStep l v w) label st in
-    sofar_step p packet ifindex queue first v w words more (Some (Add m k j d x)) so step' (length-set words at ((x + d) % 2 ^ 64))
+    sofar_step p packet ifindex queue first v w words more ops (Some (Add m k j d x)) so (λ rest. refl) step' (length-set words at ((x + d) % 2 ^ 64))
     (λ rest after h. (has.counter, ap (λ (i : ℕ). slice_index_or words i 0) has.place, subst (λ (i : ℕ). IsHistory p.shapes rest (set words i ((x + d) % 2 ^ 64)) after) has.place h))
 
 none_history : (n : ℕ) (shapes : List Shape) (words : List ℕ) → IsHistory shapes (replicate n None) words words

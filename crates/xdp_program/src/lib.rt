@@ -11,6 +11,6 @@ pub use bpf_verify::MapShape;
 pub use bpf_vm::{Ended, STACK_SIZE};
 pub use fault::{LoadFault, SettingsFault};
 pub use program::{Program, Run};
-pub use run::run_on;
+pub use run::{run_counting, run_on};
 pub use settings::load_settings;
 pub use xdp_load::{Fault, LoadFault as TextFault};
