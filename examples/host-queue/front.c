@@ -75,6 +75,22 @@ static void post(struct front *front, unsigned k)
 		kick(front);
 }
 
+static void post_all(struct front *front, unsigned count)
+{
+	for (unsigned k = 0; k < count; k++)
+		post(front, k);
+}
+
+/* Posts the first buffers once the host waits for them: it stores its event index, which was 0. Five seconds at most. */
+static void post_awaited(struct front *front)
+{
+	volatile uint32_t *event = &front->rx.sring->req_event;
+	for (unsigned tries = 0; !*event && tries < 50000; tries++)
+		usleep(100);
+	front->wrong += !*event;
+	post_all(front, FEW_FRAMES);
+}
+
 /* A packet of UDP over IPv4, or of another protocol, in one page or two: whether it is to come back. */
 static bool send(struct front *front, unsigned n, unsigned size)
 {
@@ -139,6 +155,8 @@ static void exchange(struct front *front, unsigned first, unsigned count)
 	RING_PUSH_REQUESTS_AND_CHECK_NOTIFY(&front->tx, notify);
 	if (notify)
 		kick(front);
+	if (front->behaviour == FEW && !front->rx.req_prod_pvt)
+		post_awaited(front);
 	while (front->tx.rsp_cons != front->tx.req_prod_pvt || seen < count) {
 		RING_FINAL_CHECK_FOR_RESPONSES(&front->tx, more);
 		RING_FINAL_CHECK_FOR_RESPONSES(&front->rx, packets);
@@ -172,8 +190,8 @@ static void attack(struct front *front, unsigned n)
 	int notify;
 	if (n % 8 == 0)
 		connect(front);
-	for (unsigned k = 0; k < RX_FRAMES && n % 8 == 0; k++)
-		post(front, k);
+	if (n % 8 == 0)
+		post_all(front, RX_FRAMES);
 	for (unsigned k = 0; k < BATCH; k++)
 		send(front, k, HEADERS + any(front, 1472));
 	RING_PUSH_REQUESTS_AND_CHECK_NOTIFY(&front->tx, notify);
@@ -187,8 +205,10 @@ unsigned run_front(uint8_t *memory, struct channel channel, enum behaviour behav
 {
 	struct front front = { .memory = memory, .channel = channel, .behaviour = behaviour, .seed = seed };
 	connect(&front);
-	for (unsigned k = 0; k < (behaviour == FEW ? FEW_FRAMES : RX_FRAMES); k++)
-		post(&front, k);
+	if (behaviour == FEW)
+		front.rx.sring->req_event = 0;
+	else
+		post_all(&front, RX_FRAMES);
 	kick(&front);
 	for (unsigned n = 0; behaviour != HOSTILE && n < packets; n += BATCH)
 		exchange(&front, n, packets - n < BATCH ? packets - n : BATCH);

@@ -10,7 +10,8 @@ enum { HOST_DOMAIN = 0, GUEST_DOMAIN = 5, OTHER_DOMAIN = 6 };
 enum { TX_RING, RX_RING, TABLE, DATA, OTHERS = 48, FRAMES = 64, PAGE = 4096 };
 enum { PORT = 7 };
 
-/* How the guest behaves. FEW: it posts two buffers at a time, and wants no packet back but the host's own. */
+/* How the guest behaves. FEW: it posts two buffers at a time, the first ones once the host waits for them, and wants no packet back but
+ * the host's own. */
 enum behaviour { HONEST, FEW, HOSTILE };
 
 struct channel {
