@@ -108,7 +108,8 @@ fn follow(
     requires size { vec_len table.old.lists ≡ length code.now }
     ensures size { OnOk result (vec_len table.new.lists ≡ length code.now) }
     ensures hears { OnOk result ((q : ℕ) → q ≢ pc →
-        Hears (facts_at table.old.lists.items q) q (told code.now shapes.now pc (facts_at table.old.lists.items pc)) (facts_at table.new.lists.items q)) }
+        Hears (facts_at table.old.lists.items q) q (told code.now shapes.now pc (facts_at table.old.lists.items pc))
+        (facts_at table.new.lists.items q)) }
     ensures allowed { OnOk result (AreAllowed code.now shapes.now pc (facts_at table.old.lists.items pc)) }
     ensures slot { IfErr result (λ s. s.refusal.pc ≡ pc) }
     ensures err { IfErr result (λ s. IsMet s.refusal.cause (TakesMemory code.now shapes.now pc (facts_at table.old.lists.items pc))

@@ -46,7 +46,8 @@ WakeLaw = (w : Wiring) (start : ℕ) (s : State) (copies given : List (List ℕ)
 abbrev pub AskLaw : Type 0
 AskLaw = (w : Wiring) (start : ℕ) → Laid w → (asleep : Bool) (s : State) (copies given : List (List ℕ)) (b : Back) →
     Resting asleep start s copies given b → (pages : ℕ) (m : Memory) (f : Front) → Inv w start m f b →
-    Inv w start (record (after (want.Write (page_word w.rx_frame 1) (add32 s.rx_index pages)) m) { awaits = awaits.Asked s.rx_index pages }) f b
+    Inv w start (record (after (want.Write (page_word w.rx_frame 1) (add32 s.rx_index pages)) m)
+    { awaits = awaits.Asked s.rx_index pages }) f b
 
 abbrev pub LookLaw : Type 0
 LookLaw = (w : Wiring) (start : ℕ) → start < 2 ^ 32 → (asleep : Bool) (s : State) (copies given : List (List ℕ)) (b : Back) →

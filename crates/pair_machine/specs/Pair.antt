@@ -232,7 +232,12 @@ answered p pages (awaited.Halted cause) = p.memory.awaits
 
 abbrev pub waited : BackWiring → Pair → Bool → ℕ → Wait → Pair
 waited w p asleep pages e =
-    record p { memory = record p.memory { awaits = answered p pages e.1 }; back = e.0; at = rested w asleep e.0; deeds = p.deeds ++ OfWait pages e.1 ∷ [] }
+    record p {
+      memory = record p.memory { awaits = answered p pages e.1 };
+      back = e.0;
+      at = rested w asleep e.0;
+      deeds = p.deeds ++ OfWait pages e.1 ∷ [];
+    }
 
 abbrev pub waiting : BackWiring → Pair → Bool → ℕ → Steps Wait → Pair
 waiting w p asleep pages (done e) = waited w p asleep pages e
