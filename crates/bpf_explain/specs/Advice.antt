@@ -1,5 +1,5 @@
 -- What to write instead of what a cause refuses.
-use Rattle.std.specs.Prelude.{ℕ, List, codes, Option, None, Some}
+use Rattle.std.specs.Prelude.{ℕ, List, ◌++◌, codes, Option, None, Some}
 use Rattle.bpf_insn.specs.declared.insn.Insn.{Insn}
 use Rattle.bpf_insn.specs.declared.insn.Insn.TheVariants.{St, Stx, AddCounter}
 use Rattle.bpf_insn.specs.declared.refusal.Cause.{Cause}
@@ -23,7 +23,8 @@ cause_advice BackJump = codes "the loop's body as often as it may run, each time
 cause_advice End = codes "exit at the end of each way through the program"
 cause_advice Unset = codes "set the register on each way that leads here; a call leaves r1 to r5 unset"
 cause_advice FramePointer = codes "copy r10 to another register, and change the copy"
-cause_advice NoPointer = codes "only add to an address and subtract from it, in 64 bits: constants, or to a packet's address a number of at most 65535; where more than eight ways meet, keep the offset as a number and add it to data anew"
+cause_advice NoPointer = codes "only add to an address and subtract from it, in 64 bits: constants, or to a packet's address a number "
+    ++ codes "of at most 65535; where more than eight ways meet, keep the offset as a number and add it to data anew"
 cause_advice Packet = codes "compare the address past the last byte with data_end on each way that leads here, after the last addition"
 cause_advice Stack = codes "store these bytes first, within the 512 bytes below r10"
 cause_advice Context = codes "load four bytes of a field: at 0, 4, 8, 12 or 16"
@@ -50,13 +51,17 @@ lost_advice v = codes "keep a copy of the address"
 unfoldable pub joined_advice : List ℕ
 joined_advice = codes "keep the offset as a number and add it to data anew"
 
+-- V14, at a store to a value
+abbrev pub store_advice : List ℕ
+store_advice = codes "add to the counter in one step, as __sync_fetch_and_add: a store loses what another queue counts"
+
 -- V14: through a map's reference; an add elsewhere than to a counter; a store to a value; or a load
 abbrev pub map_advice : Insn → Val → List ℕ
 map_advice i (val.Map m) = codes "look a key up first: the reference to a map is no address"
 map_advice (AddCounter fetch dst src off) (val.Value m) = codes "add at 8*j of the value, j below its number of counters"
 map_advice (AddCounter fetch dst src off) v = codes "add atomically to a map's counter alone; elsewhere load, add and store"
-map_advice (St size dst off imm) v = codes "add to the counter in one step, as __sync_fetch_and_add: a store loses what another queue counts"
-map_advice (Stx size dst src off) v = codes "add to the counter in one step, as __sync_fetch_and_add: a store loses what another queue counts"
+map_advice (St size dst off imm) v = store_advice
+map_advice (Stx size dst src off) v = store_advice
 map_advice i v = codes "load eight bytes, unsigned, at 8*j of the value, j below its number of counters"
 
 -- V17: r1 is no map; or r2 is no address of the stack; or the key isn't there

@@ -26,7 +26,8 @@ pub(crate) fn cause_advice(cause: Cause) -> &'static str
             "set the register on each way that leads here; a call leaves r1 to r5 unset",
         Cause::FramePointer => "copy r10 to another register, and change the copy",
         Cause::NoPointer =>
-            "only add to an address and subtract from it, in 64 bits: constants, or to a packet's address a number of at most 65535; where more than eight ways meet, keep the offset as a number and add it to data anew",
+            "only add to an address and subtract from it, in 64 bits: constants, or to a packet's address a number \
+             of at most 65535; where more than eight ways meet, keep the offset as a number and add it to data anew",
         Cause::Packet =>
             "compare the address past the last byte with data_end on each way that leads here, after the last addition",
         Cause::Stack => "store these bytes first, within the 512 bytes below r10",

@@ -1,5 +1,5 @@
 //! What is printed of a refused program.
-ghost use Rattle.std.specs.Prelude.{◌≡◌, ◌≤◌, ◌++◌, IfOk, OnOk, length, map, option_map, slice_get, string_bytes};
+ghost use Rattle.std.specs.Prelude.{◌≡◌, IfOk, map, option_map, slice_get, string_bytes};
 ghost use Rattle.bpf_note.specs.Parts.{facts};
 ghost use Rattle.bpf_explain.specs.Explained.{addresses_text, asked_register, below_text, explained_text, is_about_values};
 ghost use Rattle.bpf_explain.specs.Explained.{joined_text, operand_of, operand_text, reached_text, undecoded_text, values_text};

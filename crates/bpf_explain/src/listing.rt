@@ -1,5 +1,5 @@
 //! The listing of a program.
-ghost use Rattle.std.specs.Prelude.{◌≡◌, ◌++◌, ◌<◌, ◌≤◌, ◌^◌, IfOk, OnOk, length, string_bytes};
+ghost use Rattle.std.specs.Prelude.{◌≡◌, ◌++◌, ◌<◌, ◌≤◌, IfOk, OnOk, length, string_bytes};
 ghost use Rattle.bpf_explain.specs.Listing.{is_marked, is_second, line_text, listing_text, slot_text};
 
 use bpf_insn::Insn;

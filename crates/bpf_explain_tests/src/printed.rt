@@ -1,5 +1,5 @@
 //! What is printed of refused programs, compared with what it should be.
-ghost use Rattle.std.specs.Prelude.{ℕ, ◌<◌, All};
+ghost use Rattle.std.specs.Prelude.{◌<◌, All};
 
 use bpf_explain::{advice_for, explained_text, undecoded_text};
 use bpf_insn::{Cause, Insn, Refusal, decode};

@@ -1,4 +1,4 @@
--- The definitions, computed on small programs.
+-- The definitions, computed on small programs. No proof uses these; they are checked with the crate, and show what the definitions say.
 use Rattle.std.proofs.Common.{◌≡◌, ◌^◌, ◌-◌, ℕ, zero, suc, List, [], ◌∷◌, None, refl, true, false}
 use Rattle.std.specs.Prelude.{pos, negsuc}
 use Rattle.bpf_insn.specs.Arithmetic.{computed}

@@ -5,7 +5,7 @@ ghost use Rattle.bpf_insn.specs.Signed.{sign_extended};
 ghost use Rattle.bpf_note.specs.Parts.{facts};
 ghost use Rattle.bpf_flow.specs.Alu.{exactly, constant, any_number, operand_value, signed, packet_at, stack_at, packet_sum};
 ghost use Rattle.bpf_flow.specs.Alu.{stack_sum, range_sum, sum_of, packet_difference, stack_difference, difference_of, range_by};
-ghost use Rattle.bpf_flow.specs.Alu.{ranged, unfolded, folded, first_constant, result_of, negated_value, extended_value};
+ghost use Rattle.bpf_flow.specs.Alu.{ranged, unfolded, first_constant, result_of, negated_value, extended_value};
 ghost use Rattle.bpf_flow.specs.Alu.{any_of_width, swapped_value};
 
 use crate::computed::Computed;

@@ -1,11 +1,11 @@
 //! Jumps, the exit, and what the edges of a conditional jump say.
-ghost use Rattle.std.specs.Prelude.{◌≡◌, ◌<◌, ◌≤◌, OnOk, OnErr, IfOk, IsSome, true};
+ghost use Rattle.std.specs.Prelude.{◌≡◌, ◌<◌, OnOk, IfOk, IsSome, true};
 ghost use Rattle.bpf_insn.specs.Register.{number};
 ghost use Rattle.bpf_insn.specs.declared.insn.Insn.{Insn};
 ghost use Rattle.bpf_note.specs.Parts.{facts};
 ghost use Rattle.bpf_flow.specs.Alu.{operand_value};
-ghost use Rattle.bpf_flow.specs.Branch.{opposite, raise, narrowed, without, below, compared, against_end, end_against, is_null};
-ghost use Rattle.bpf_flow.specs.Branch.{checked, refined, refined_if};
+ghost use Rattle.bpf_flow.specs.Branch.{opposite, raise, narrowed, without, compared, against_end, end_against, is_null};
+ghost use Rattle.bpf_flow.specs.Branch.{checked, refined};
 ghost use Rattle.bpf_flow.specs.Effect.{Allocates, Decides, edges_by, met, missed};
 ghost use Rattle.bpf_flow.specs.Gives.{edges_along};
 ghost use Rattle.bpf_flow.specs.declared.effect.Effect.TheVariants.{Branches};

@@ -1,5 +1,5 @@
 //! Which registers an instruction reads and writes, and where it may lead.
-ghost use Rattle.std.specs.Prelude.{◌≡◌, ◌<◌, ◌≤◌};
+ghost use Rattle.std.specs.Prelude.{◌≡◌, ◌<◌};
 ghost use Rattle.bpf_flow.specs.Graph.{is_operand, reads, writes, next_slot};
 ghost use Rattle.bpf_flow.specs.Step.{target};
 ghost use Rattle.bpf_insn.specs.Register.{number};

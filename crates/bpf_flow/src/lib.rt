@@ -1,4 +1,11 @@
 //! What one instruction does to the machine, and to what the verifier knows of it.
+//!
+//! - `rule`: the verifier's rule for one instruction: what it does (`effect`) and where it leads (`successors`), or the first
+//!   cause against it
+//! - `point`: a point of a program, at which the rule decides: `arithmetic`, `memory`, `branch`, `call`
+//! - `alu`, `computed`, `access`: what arithmetic makes of values, and what an access lies in
+//! - `graph`: what an instruction reads and writes, and where it may lead
+//! - `laws`: what holds of a program's steps
 #![tactic(auto)]
 
 mod access;

@@ -1,4 +1,12 @@
 //! BPF instructions (RFC 9669): their bytes, what they compute, and their text.
+//!
+//! - `insn`, `register`, `size`, `alu_op`, `condition`, `operand`, `swap_kind`, `width`: the parts of an instruction; `code`: a
+//!   program
+//! - `decoder`: bytes to instructions, or the first refusal (`refusal`); `slot`, `fields`, `access_slot`: one slot
+//! - `encoder`: instructions to bytes
+//! - `arithmetic`, `byte_order`, `conditions`, `extension`, `truncated`: what instructions compute
+//! - `text`, `text_parts`: how they print
+//! - `laws`: what holds of spellings and operations
 #![tactic(auto)]
 
 mod access_slot;

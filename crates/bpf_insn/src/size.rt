@@ -9,7 +9,7 @@ pub enum Size {
 }
 
 impl Size {
-    ghost use Rattle.std.specs.Prelude.{◌≡◌, ◌≤◌, IfNone, IfSome};
+    ghost use Rattle.std.specs.Prelude.{◌≡◌, ◌≤◌};
     ghost use Rattle.bpf_insn.specs.Spelling.{size_code};
     ghost use Rattle.bpf_insn.specs.declared.size.Size.{Size};
     ghost use Rattle.bpf_insn.specs.Size.{size_bytes};

@@ -1,5 +1,5 @@
 //! Slots to instructions.
-ghost use Rattle.std.specs.Prelude.{◌≡◌, ◌+◌, ◌/◌, ◌%◌, ◌⊎◌, Bool, ℤ, pos, [], ◌∷◌, IfNone, IfSome};
+ghost use Rattle.std.specs.Prelude.{◌≡◌, ◌+◌, ◌/◌, ◌%◌, ◌⊎◌, Bool, ℤ, [], ◌∷◌, IfNone, IfSome};
 ghost use Rattle.std.specs.Prelude.{◌^◌};
 ghost use Rattle.std.specs.Int.{cast_signed, w32};
 ghost use Rattle.bpf_insn.specs.Register.{number};

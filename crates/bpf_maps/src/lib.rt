@@ -1,4 +1,9 @@
 //! Counters that threads share. Each load and each add is one atomic step.
+//!
+//! - `counters`, `seat`: the counters, and what a thread steps with
+//! - `totals`: counters of one owner
+//! - `layout`: where a counter lies among the words
+//! - `rule`, `plays`, `view`: what holds between two steps, what each step tells, and what a seat knows
 #![tactic(auto)]
 
 mod counters;

@@ -82,13 +82,6 @@ rest_normal xs i n = subst IsNormal (sym (slice_rest xs i)) (normal_drop 0 i xs 
 rest_joined : (xs ys zs : List Bound) (i j : ℕ) → AreJoined (take (length xs - i) (drop i xs)) (take (length ys - j) (drop j ys)) zs → AreJoined (drop i xs) (drop j ys) zs
 rest_joined xs ys zs i j a = subst (λ (us : List Bound). AreJoined us (drop j ys) zs) (slice_rest xs i) (subst (λ (vs : List Bound). AreJoined (take (length xs - i) (drop i xs)) vs zs) (slice_rest ys j) a)
 
--- where the rest stays too, all of the list does
-pub all_kept : (xs ys : List Bound) (i j : ℕ) → IsJoinedFront xs ys i j (take i xs) →
-    AreJoined (take (length xs - i) (drop i xs)) (take (length ys - j) (drop j ys)) (take (length xs - i) (drop i xs)) → AreJoined xs ys xs
-all_kept xs ys i j k a =
-    let rest : AreJoined (drop i xs) (drop j ys) (drop i xs) = rest_joined xs ys (drop i xs) i j (subst (AreJoined (take (length xs - i) (drop i xs)) (take (length ys - j) (drop j ys))) (slice_rest xs i) a) in
-    subst (AreJoined xs ys) (take-append-drop i xs) (k (drop i xs) rest)
-
 -- what is cut off behind two fronts
 pub cut_front : (new xs front behind others : List Bound) (i n size : ℕ) → i ≤ length xs → n ≤ length front → i + n ≤ size →
     new ≡ take (i + n) (take size ((take i xs ++ (front ++ behind)) ++ others)) → new ≡ take i xs ++ take n front

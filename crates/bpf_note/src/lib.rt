@@ -1,4 +1,12 @@
 //! What the verifier knows at a point of a program, and the machine that it speaks of.
+//!
+//! - `shape`, `op`, `layout`: the machine: how large a map is, what a program does to counters, and where memory lies
+//! - `val`, `slot`, `slots`: what is known of a register and of eight bytes of the stack, and what is done to these
+//! - `bound`, `bounds`: what is known of ids, and lists of it; `chunk`, `chunks`, `shared`, `fingerprint`: how notes share
+//!   these lists
+//! - `note`: all that is known before an instruction
+//! - `joins`, `replacement`: what is known where two notes meet, and what becomes of values that carry an id
+//! - `laws`: what holds of notes
 #![tactic(auto)]
 
 mod bound;

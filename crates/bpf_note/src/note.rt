@@ -1,6 +1,6 @@
 //! What is known of a state before an instruction.
-ghost use Rattle.std.specs.Prelude.{◌≡◌, ◌<◌, ◌≤◌, ◌⊎◌, ◌↔◌, ℕ, IsTrue, IfOk, OnOk, OnErr, slice_index_or};
-ghost use Rattle.bpf_note.specs.Facts.{Facts, with_reg, with_kept, with_byte, with_top, with_safe, with_id, with_each, resolved};
+ghost use Rattle.std.specs.Prelude.{◌≡◌, ◌<◌, ◌≤◌, ◌↔◌, ℕ, IsTrue, IfOk, OnOk, OnErr, slice_index_or};
+ghost use Rattle.bpf_note.specs.Facts.{with_reg, with_kept, with_byte, with_top, with_safe, with_id, with_each, resolved};
 ghost use Rattle.bpf_note.specs.Facts.{entry, entry_reg};
 ghost use Rattle.bpf_note.specs.Parts.{facts, no_bytes};
 

@@ -1,5 +1,5 @@
 //! How large a map is.
-ghost use Rattle.std.specs.Prelude.{◌≡◌, ◌≤◌, IfSome, IfNone};
+ghost use Rattle.std.specs.Prelude.{◌≡◌, IfSome, IfNone};
 ghost use Rattle.bpf_note.specs.Shape.{IsShape};
 
 use std::marker::Model;
@@ -13,7 +13,6 @@ pub struct MapShape {
 }
 
 impl Model for MapShape {
-    ghost use Rattle.std.specs.Prelude.{ℕ, ◌≤◌};
     ghost use Rattle.bpf_note.specs.Shape.{Shape, IsShape};
 
     ghost Value = { Shape };

@@ -1,4 +1,11 @@
 //! The verifier: which programs are accepted, and with what notes.
+//!
+//! - `verifier`: both passes; `verified`: an accepted program; `stopped`, `out_of_memory`: why there is none
+//! - `structure`: the first pass, over all slots (`slot`); `graph`: the flow graph, its order and its cycles
+//! - `notes`: the second pass, by the notes at a slot (`note_list`)
+//! - `flat`: the form in which the interpreter takes instructions
+//! - `lost`, `joined`: where a register was an address last, for explanations
+//! - `laws`: what holds of the answers
 #![tactic(auto)]
 
 mod flat;

@@ -1,5 +1,5 @@
 //! Where a register was an address last.
-ghost use Rattle.std.specs.Prelude.{◌≡◌, ◌<◌, ◌≤◌, ◌↔◌, ℕ, List, true, length, map, slice_get, IsTrue, IfOk, IfErr, IfSome, IfNone};
+ghost use Rattle.std.specs.Prelude.{◌≡◌, ◌<◌, ◌≤◌, ◌↔◌, ℕ, true, length, map, slice_get, IsTrue, IfOk, IfErr, IfSome, IfNone};
 ghost use Rattle.std.specs.Prelude.{Contains};
 ghost use Rattle.bpf_insn.specs.Code.{IsCode};
 ghost use Rattle.bpf_insn.specs.Register.{number};
@@ -9,7 +9,7 @@ ghost use Rattle.bpf_note.specs.Parts.{facts};
 ghost use Rattle.bpf_flow.specs.Gives.{edges_of};
 ghost use Rattle.bpf_verify.specs.Consistent.{IsOrdered};
 ghost use Rattle.bpf_verify.specs.FirstRefusal.{IsStructured};
-ghost use Rattle.bpf_verify.specs.Lost.{is_address, is_number, MakesNumber, writes_by, IsLastWrite, ComesWith, Loses, IsLost};
+ghost use Rattle.bpf_verify.specs.Lost.{is_address, is_number, MakesNumber, IsLastWrite, Loses, IsLost};
 ghost use Rattle.bpf_verify.specs.Structure.{begins};
 
 use crate::notes::notes_at;

@@ -1,3 +1,5 @@
+//! The refusal when memory runs out.
+
 ghost use Rattle.std.specs.Prelude.{◌≡◌};
 ghost use Rattle.bpf_insn.specs.declared.refusal.Cause.TheVariants.{Memory};
 

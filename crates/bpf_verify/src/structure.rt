@@ -1,5 +1,5 @@
 //! The first pass: the structure of a program, over all slots, reached or not.
-ghost use Rattle.std.specs.Prelude.{◌≡◌, ◌<◌, ◌≤◌, ◌↔◌, ℕ, Some, true, false, length, slice_get, IsTrue, IfOk, IfErr, IfSome, IfNone};
+ghost use Rattle.std.specs.Prelude.{◌≡◌, ◌<◌, ◌≤◌, ◌↔◌, Some, false, length, IsTrue, IfOk, IfErr, IfSome, IfNone};
 ghost use Rattle.bpf_insn.specs.declared.insn.Insn.{Insn};
 ghost use Rattle.bpf_verify.specs.Structure.{jump_of, misses_target, runs_off, lacks_map};
 ghost use Rattle.bpf_verify.specs.Consistent.{IsOrdered};

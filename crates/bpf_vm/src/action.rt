@@ -1,3 +1,5 @@
+//! The actions of XDP, by their numbers.
+
 ghost use Rattle.std.specs.Prelude.{◌≡◌};
 ghost use Rattle.bpf_vm.specs.Actions.{action_of, action_name};
 

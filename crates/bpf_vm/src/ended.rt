@@ -1,3 +1,5 @@
+//! How a run ended.
+
 use crate::packet::PacketBuf;
 
 /// What a run left: the action's number, the packet, and how many instructions were done, the exit included.

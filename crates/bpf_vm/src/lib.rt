@@ -1,4 +1,12 @@
 //! The interpreter of accepted programs, and the packets that they run on.
+//!
+//! - `vm`: an interpreter: `want`, what it waits for; `turn`, what an instruction came to; `ended`, how a run ended
+//! - `run`: a whole run of a program without maps
+//! - `running`: all instructions up to one that waits; `flow`: one in its flat form; `execute`: one by its kind
+//! - `machine`, `memory`, `bytes`: registers, stack and packet, and what is done to them
+//! - `packet`, `buffer`, `fill`: a packet, the memory that it lies in, and how it is filled
+//! - `action`: the actions of XDP
+//! - `laws`: what holds of accepted programs
 #![tactic(auto)]
 
 mod action;

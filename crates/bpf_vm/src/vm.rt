@@ -74,7 +74,7 @@ impl<'p, 'b> Vm<'p, 'b> {
         ensures { IsWantOf result self.now }
     {
         let insn = *self.program.insn(self.pc);
-        self.machine.want(self.pc, insn)
+        self.machine.want(insn)
     }
 
     /// Does all instructions up to one that wants a counter's number, or the exit. Without maps that is the exit.
@@ -82,7 +82,7 @@ impl<'p, 'b> Vm<'p, 'b> {
     pub(crate) fn run(&mut self)
         ensures advanced { Advanced self.old self.new }
         ensures waits { Waits (now self.new) }
-        ensures alone { self.new.program.shapes ≡ [] → Ends (now self.new) }
+        ensures no_maps { self.new.program.shapes ≡ [] → Ends (now self.new) }
     {
         let Stop { pc, count } = self.machine.run(self.program, self.pc, self.count);
         self.pc = pc;

@@ -11,7 +11,8 @@ use Rattle.xen_back.specs.declared.delivery.delivering.Delivery.{Delivery}
 use Rattle.xen_back.specs.declared.state.State.{State}
 use Rattle.xen_back.specs.declared.turn.Refusal.TheVariants as refusal
 use Rattle.xen_back.specs.declared.wiring.Wiring.{Wiring}
-use Rattle.xdp_world.specs.Activities.{Deed, DeliveryOf, Given, Item, SlotsAwaited, TurnOf, WaitOf, all_came, deliveries_in, turns_in, waits_in}
+use Rattle.xdp_world.specs.Activities.{Deed, DeliveryOf, Given, Item, SlotsAwaited, TurnOf, WaitOf}
+use Rattle.xdp_world.specs.Activities.{all_came, deliveries_in, turns_in, waits_in}
 use Rattle.xdp_world.specs.Core.{started_at}
 use Rattle.xdp_world.specs.Keeping.{Keeps}
 use Rattle.xdp_world.specs.declared.kept.Kept.{Kept}

@@ -121,11 +121,11 @@ impl Memory {
             Want::Read(_) => Answer::Word(self.serve(want)),
             Want::Write(_, _) => {
                 self.serve(want);
-                Answer::Went
+                Answer::Nothing
             }
             Want::Notify(_) => {
                 self.serve(want);
-                Answer::Went
+                Answer::Nothing
             }
             Want::Instr => unreachable!(),
             Want::Load { .. } => unreachable!(),

@@ -1,5 +1,5 @@
 //! Runs of a pair.
-ghost use Rattle.std.specs.Prelude.{◌≡◌, IfOk, OnOk};
+ghost use Rattle.std.specs.Prelude.{IfOk, OnOk};
 ghost use Rattle.honest_pair.specs.Events.{events_in};
 ghost use Rattle.honest_pair.specs.Runs.{HasDone, IsPairRun};
 

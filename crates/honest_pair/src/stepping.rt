@@ -135,14 +135,17 @@ impl<'b> Pair<'_, 'b, '_> {
                 let bytes = packet.as_slice();
                 // Only the proof uses what this call ensures.
                 are_bytes(bytes);
+                // A call that is refused leaves the front as it was.
                 let _ = self.front.send(bytes);
                 Ok(())
             }
             PairEvent::Post => {
+                // A call that is refused leaves the front as it was.
                 let _ = self.front.post_rx();
                 Ok(())
             }
             PairEvent::Poll => {
+                // A call that is refused leaves the front as it was.
                 let _ = self.front.poll();
                 Ok(())
             }

@@ -1,4 +1,8 @@
 //! A host that drives a queue of netback over a bus of its own. docs/EMBEDDING.md shows this file and its modules.
+//!
+//! - `bus`: a bus over pages that this host has itself
+//! - `guest`: what the guest does, which a host doesn't write
+//! - `fault`: why the host ends
 #![tactic(auto)]
 
 ghost use Rattle.std.specs.Prelude.{◌≡◌, IfOk, length};

@@ -1,5 +1,7 @@
 //! `outside_rows`: answers the questions of standard input, one per line, by this product's functions. What it has to
 //! write, the file `stdout`, is what Xen's headers, LLVM's assembler and Linux's interpreter answered.
+//!
+//! - `instructions`, `grants`, `rings`, `slots`: questions by their matter; `numbers`: the numbers in one
 #![tactic(auto)]
 
 mod grants;

@@ -10,6 +10,7 @@ use Rattle.bpf_flow.proofs.KeptLemmas.{kept}
 use Rattle.bpf_verify.specs.Consistent.{Accepted, GoesOn, IsConsistent, IsDescribed, OneDescribes, instructions}
 use Rattle.bpf_vm.specs.Course.{course, course_by, start_state}
 use Rattle.bpf_vm.proofs.RunLemmas.{edge_of, rank_below}
+use Rattle.xen_back.proofs.EndLemmas.{start_none, start_words}
 use Rattle.xen_back.specs.declared.wiring.Wiring.{Wiring as BackWiring}
 use Rattle.pair_laws.specs.Ended.{Fits, Leaves, Programmed}
 use Rattle.pair_machine.specs.Layout.{IsBack}
@@ -52,22 +53,6 @@ module _ (p : Accepted) (k : IsConsistent p) (bytes : List ℕ) where
 
   leaves_all : (s : State) → IsStart s → s.shapes ≡ p.shapes → length s.packet ≡ length bytes → Leaves (Fits bytes) (course (instructions p.code) p.code s)
   leaves_all s is e l = let d = k.starts s is e in leaves_within (instructions p.code) s d l (rank_below p s k d)
-
-start_words : (k x : ℕ) → start_register k ≡ Some x → x < 2 ^ 64
-start_words k x e = by (k == 1) (k == 10) e
-  where
-    by : (a b : Bool) → (if a then Some context_start else if b then Some stack_end else None) ≡ Some x → x < 2 ^ 64
-    by true b e = let same : context_start ≡ x = cc in subst (λ y. y < 2 ^ 64) same (omega arith)
-    by false true e = let same : stack_end ≡ x = cc in subst (λ y. y < 2 ^ 64) same (omega arith)
-    by false false e = cc
-
-start_none : (k : ℕ) → 11 ≤ k → start_register k ≡ None
-start_none k l = by (k == 1) (k == 10) refl refl
-  where
-    by : (a b : Bool) → (k == 1) ≡ a → (k == 10) ≡ b → (if a then Some context_start else if b then Some stack_end else None) ≡ None
-    by true b e f = absurd (grind (arith, nat_tests))
-    by false true e f = absurd (grind (arith, nat_tests))
-    by false false e f = refl
 
 runs_leave : (v : BackWiring) → IsConsistent v.program.now → v.ifindex < 2 ^ 32 → v.queue < 2 ^ 32 → Programmed v
 runs_leave v c i q s good =

@@ -13,17 +13,16 @@ use Rattle.xen_steps.proofs.StepsLemmas.{split}
 use Rattle.xen_steps.specs.Places.{available}
 use Rattle.xen_transmit.specs.Places.{tx_word}
 use Rattle.xen_back.specs.declared.turn.Halt.TheVariants as halt
-use Rattle.xen_back.proofs.TurnParts.{regroup}
+use Rattle.xen_back.proofs.TurnParts.{regroup, run_parts}
+use Rattle.xen_back.specs.Turns.{HasRun as Ran}
 use Rattle.xen_back.specs.Parts.{HasRead, IsCopy, IsLook, once, twice}
 use Rattle.xen_back.specs.Tree.{Left, Scan, after_chain, after_copy, after_look, after_scan, copy, look, program, read_slots, run_of, seen, unless_halted}
 use Rattle.xen_back.specs.Turned.{Ending}
-use Rattle.xen_back.specs.Turns.{HasRun as Ran}
 use Rattle.xen_back.specs.declared.state.State.{State}
 use Rattle.xen_back.specs.declared.turn.Halt.{Halt}
 use Rattle.xen_back.specs.declared.wiring.Wiring.{Wiring}
-use Rattle.xen_back.proofs.ChainLemmas.{beginning_by, chain_by}
+use Rattle.xen_back.proofs.ChainLemmas.{beginning_by}
 use Rattle.xen_back.proofs.CopyParts.{copy_parts}
-use Rattle.xen_back.proofs.ProgramLemmas.{program_parts}
 use Rattle.xen_back.proofs.TurnParts.{ScanEnds, is_faulty, is_whole, none_left, slots_parts}
 use Rattle.pair_machine.specs.Halves.{Half, Over, HasRun, half_chain, half_copy, half_look, half_scan, half_turn, half_unless, over}
 
@@ -78,21 +77,7 @@ module _ (w : Wiring) (s : State) (slots : List Slot) (packet : List ℕ) (left 
   copied p1 p2 p3 p n ss fragments a v f None c h = absurd (never_runs (after_copy w s ss None) p slots packet left h)
   copied p1 p2 p3 p n ss fragments a v f (Some bytes) c h =
       let i = split (program (run_of w bytes) 0) (λ l. done (HasRun ss bytes l)) p (HasRun slots packet left) h in
-      let run : Ran w s (p1 ++ (p2 ++ (p3 ++ i.front))) ss i.mid = record {
-        p1 = p1;
-        p2 = p2;
-        p3 = p3;
-        p4 = i.front;
-        joined = refl;
-        n = n;
-        fragments = fragments;
-        packet = bytes;
-        read = a;
-        whole = chain_by ss v;
-        sizes = f;
-        copied = c;
-        ran = program_parts w bytes i.front i.mid i.first;
-      } in
+      let run = run_parts w s p1 p2 p3 i.front n ss fragments bytes i.mid a v f c i.first in
       subst Has (sym (ap (λ q. p1 ++ (p2 ++ (p3 ++ q))) i.joined ∙ regroup p1 p2 p3 i.front i.back)) (gives ss bytes i.mid i.back (p1 ++ (p2 ++ (p3 ++ i.front))) run refl i.later)
 
   chain_has : (p1 p2 p : List Event) (n : ℕ) (ss : List Slot) → HasRead w s n p1 p2 ss → standing ss ≡ Some (Ok wanted.Complete) → (o : Result (List Fragment) SizeFault) → fragments_of ss ≡ o →

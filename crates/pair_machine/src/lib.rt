@@ -1,4 +1,6 @@
 //! One front and one back over one memory.
+//!
+//! - `awaits`: what the back has asked of the front. All else is in `specs`: the memory, and the steps of both ends
 #![tactic(auto)]
 
 mod awaits;

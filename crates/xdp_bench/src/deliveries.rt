@@ -1,6 +1,5 @@
 //! Deliveries of a host's own packet over pages.
-ghost use Rattle.std.specs.Prelude.{◌≡◌, length};
-ghost use Rattle.xen_back.specs.Queues.{IsReady, wiring_of};
+ghost use Rattle.std.specs.Prelude.{◌≡◌};
 
 use crate::fault::Fault;
 use crate::line::Memory;

@@ -1,4 +1,9 @@
 //! `xdp_bench`: times turns, deliveries, verifications and runs, a line of standard input each; see bench/README.md.
+//!
+//! - `line`, `fault`: what a line asks for, and why it has no time
+//! - `program`: verifications and runs
+//! - `pages`, `turns`, `deliveries`: turns and deliveries over pages
+//! - `timing`: times, and their text
 #![tactic(auto)]
 
 mod deliveries;

@@ -1,5 +1,5 @@
 //! Times, and their text.
-ghost use Rattle.std.specs.Prelude.{◌≡◌, ◌++◌, IfOk, codes, decimal, string_bytes};
+ghost use Rattle.std.specs.Prelude.{◌≡◌, IfOk, string_bytes};
 ghost use Rattle.xdp_bench.specs.Told.{told};
 
 use crate::fault::Fault;

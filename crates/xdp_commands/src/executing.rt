@@ -1,5 +1,5 @@
 //! What becomes of a program's bytes.
-ghost use Rattle.std.specs.Prelude.{◌≡◌, ◌≤◌, IfErr, IfOk, length};
+ghost use Rattle.std.specs.Prelude.{◌≤◌, IfErr, IfOk, length};
 ghost use Rattle.xdp_load.specs.SetupSeen.{setup_view};
 ghost use Rattle.xdp_load.specs.Sound.{IsSound};
 ghost use Rattle.xdp_commands.specs.Executing.{Checks, Executes, IsProgramOf, IsRefusalOfBytes, Runs};

@@ -1,6 +1,6 @@
 //! What becomes of a program's bytes, with what a refusal rests on.
 ghost use Rattle.std.specs.Prelude.{◌≡◌, ◌≤◌, IfOk, IfSome, Some, length, map, string_bytes};
-ghost use Rattle.bpf_verify.specs.Consistent.{IsConsistent, IsOrdered};
+ghost use Rattle.bpf_verify.specs.Consistent.{IsOrdered};
 ghost use Rattle.bpf_verify.specs.FirstRefusal.{IsStructured};
 ghost use Rattle.xdp_commands.specs.Explaining.{IsLossOf, IsOutcome, accepted_text, asked_of, loss_line, loss_text, outcome_status};
 ghost use Rattle.xdp_commands.specs.Explaining.{outcome_text, refused_text};

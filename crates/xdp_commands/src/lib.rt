@@ -1,4 +1,10 @@
 //! The commands of `xdpbox`: what its words ask for, what is done, and what is printed.
+//!
+//! - `program`: a call of the program: what its words ask for (`request`, `command_line`), and the `answer`, or why there is
+//!   none (`stop`)
+//! - `input`, `output`: reading settings, and writing
+//! - `executing`, `explaining`, `filtering`, `pairing`: what each command does
+//! - `lines`, `turn_lines`, `pair_lines`, `counter_lines`, `numbers`: what is printed
 #![tactic(auto)]
 
 mod answer;

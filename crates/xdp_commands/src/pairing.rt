@@ -1,6 +1,5 @@
 //! A setup whose queues run on threads.
 ghost use Rattle.std.specs.Prelude.{IfOk};
-ghost use Rattle.std.specs.Thread.{IsSync};
 ghost use Rattle.xdp_load.specs.SetupSeen.{setup_view};
 ghost use Rattle.xdp_load.specs.Sound.{IsSound};
 ghost use Rattle.xdp_commands.specs.Executing.{IsProgramOf};

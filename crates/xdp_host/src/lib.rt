@@ -1,5 +1,12 @@
 //! A library for hosts that are not written in Rattle: a program is verified once, and runs on their packets and
 //! counters. No call has a condition. `include/laxonje.h` has the calls as C sees them.
+//!
+//! - `abi`, `queue_abi`: what crosses to C, as the header has it
+//! - `handle`, `loaded_program`, `raw_box`: a program that C holds; `fault`, `advice`: why there is none, and what to write
+//!   instead
+//! - `batch`, `maps`: many packets in one call, and what C asks of maps
+//! - `queue_handle`, `queue_extents`, `queue_fault`: a queue that C holds, for a guest of one range of frames or of several
+//! - `queue_calls`, `queue_running`, `queue_waits`: a queue's calls: general steps, several at once, and waits
 #![tactic(auto)]
 
 ghost use Rattle.std.specs.Prelude.{◌≡◌, ◌⊎◌, ◌++◌, List, IfNone, IfSome, IsSome, MatchOption, None, drop, length, min, take};

@@ -1,5 +1,5 @@
 //! What C asks of a program's maps.
-ghost use Rattle.std.specs.Prelude.{◌≡◌, IfNone, MatchOption, length};
+ghost use Rattle.std.specs.Prelude.{◌≡◌, MatchOption, length};
 ghost use Rattle.xdp_host.specs.Maps.{map_at, map_or, no_map};
 
 use crate::abi::XdpMap;

@@ -1,4 +1,12 @@
 //! The settings of a run, read from a TOML text.
+//!
+//! - `table`, `rows`, `kinds`, `key`: a document's keys, and the type of each
+//! - `document`, `limits`, `names`, `packets`, `relocations`: the phases, each of which refuses the first fault of its own kind
+//!   (`fault`)
+//! - `setup`: all phases in their order, and the setup that they give
+//! - `explaining`: at which line settings are refused; `spot`, `kind_spots`, `limit_spots`, `byte_spots`, `lines`,
+//!   `line_words`: how it is found
+//! - `laws`: what holds of settings
 #![tactic(auto)]
 
 mod byte_spots;

@@ -1,5 +1,5 @@
 //! Where a number or a length of settings is outside its limits, or a name is a wrong one.
-ghost use Rattle.std.specs.Prelude.{◌≡◌, ◌≤◌, map, option_map, vec_len};
+ghost use Rattle.std.specs.Prelude.{◌≡◌, map, option_map};
 ghost use Rattle.xdp_load.specs.Spots.{first_from, first_row, limit_spot, map_limit, name_fault, number_limit, packet_limit};
 ghost use Rattle.xdp_load.specs.Spots.{rows_limit, step_limit};
 ghost use Rattle.xdp_load.specs.SpotsSeen.{spot_seen};

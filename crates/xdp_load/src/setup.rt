@@ -4,7 +4,6 @@ ghost use Rattle.std.specs.Bool.{OnFalse, OnTrue};
 ghost use Rattle.std.specs.Str.{is_utf8};
 ghost use Rattle.xdp_load.specs.Gives.{Gives};
 ghost use Rattle.xdp_load.specs.Limits.{are_names, limited_of};
-ghost use Rattle.xdp_load.specs.Written.{written_of};
 ghost use Rattle.xdp_load.specs.Seen.{written_seen};
 ghost use Rattle.xdp_load.specs.LimitsSeen.{limited_seen};
 ghost use Rattle.xdp_load.specs.Setup.{decoded_of, document_of, loaded_program, names_of, relocated_setup, setup_of};

@@ -1,5 +1,5 @@
 //! Waiting for the threads.
-ghost use Rattle.std.specs.Prelude.{◌≡◌, ◌≢◌, ◌*◌, ◌<◌, ◌≤◌, ℕ, [], All, Contains, Some, map, option_map, slice_get, vec_len};
+ghost use Rattle.std.specs.Prelude.{◌≡◌, ◌≢◌, ◌<◌, ◌≤◌, ℕ, [], All, Contains, Some, map, option_map, slice_get, vec_len};
 ghost use Rattle.std.specs.Prelude.{vec_capacity, IfOk};
 ghost use Rattle.std.specs.List.{range_with_len};
 ghost use Rattle.bpf_maps.specs.Seats.{CountersView, IsSeatOf};

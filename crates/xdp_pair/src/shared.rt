@@ -1,5 +1,5 @@
 //! What all workers share.
-ghost use Rattle.std.specs.Prelude.{◌≡◌, ◌≤◌, ◌*◌, IfOk, length, vec_len};
+ghost use Rattle.std.specs.Prelude.{◌≡◌, ◌≤◌, IfOk, length, vec_len};
 ghost use Rattle.xdp_world.specs.Frames.{owners_of};
 ghost use Rattle.xdp_pair.specs.declared.fault.PairFault.TheVariants.{Thread};
 

@@ -1,5 +1,5 @@
 //! Starting the threads.
-ghost use Rattle.std.specs.Prelude.{◌≡◌, [], All, map, ◌<◌, ◌≤◌, ◌+◌, length, vec_len, vec_capacity, IfOk};
+ghost use Rattle.std.specs.Prelude.{◌≡◌, [], All, map, ◌<◌, ◌≤◌, ◌+◌, vec_len, vec_capacity, IfOk};
 ghost use Rattle.std.specs.List.{range_with_len};
 ghost use Rattle.xdp_pair.specs.Resources.{IsBackOf, IsFrontOf, falling, number_of};
 ghost use Rattle.xdp_pair.specs.Promised.{PromisesSeatOf, promised_number};

@@ -88,26 +88,12 @@ load_label (Adds m' k' j' d go) m k j x h = absurd h
 load_label (Exited y) m k j x h = absurd h
 load_label Fault m k j x h = absurd h
 
-pub load_is : (o : Outcome) (m k j : ℕ) → IsLoadOf m k j o → IsLoad o
-load_is (Next t) m k j h = absurd h
-load_is (Loads m' k' j' go) m k j h = tt
-load_is (Adds m' k' j' d go) m k j h = absurd h
-load_is (Exited y) m k j h = absurd h
-load_is Fault m k j h = absurd h
-
 pub add_label : (o : Outcome) (m k j d x : ℕ) → IsAddOf m k j d o → label_of o x ≡ Some (Add m k j d x)
 add_label (Next t) m k j d x h = absurd h
 add_label (Adds m' k' j' d' go) m k j d x h = let a = h.0 in let b = h.1 in let c = h.2 in let e = h.3 in cc (a, b, c, e)
 add_label (Loads m' k' j' go) m k j d x h = absurd h
 add_label (Exited y) m k j d x h = absurd h
 add_label Fault m k j d x h = absurd h
-
-pub add_is : (o : Outcome) (m k j d : ℕ) → IsAddOf m k j d o → IsAdd o
-add_is (Next t) m k j d h = absurd h
-add_is (Adds m' k' j' d' go) m k j d h = tt
-add_is (Loads m' k' j' go) m k j d h = absurd h
-add_is (Exited y) m k j d h = absurd h
-add_is Fault m k j d h = absurd h
 
 -- the end
 pub ran_of : (p : Accepted) (packet : List ℕ) (ifindex queue : ℕ) (first : List ℕ) (v : Running) (words : List ℕ) (number count : ℕ) (bytes : List ℕ) (ops : ℕ) → Sofar p packet ifindex queue first v words ops →

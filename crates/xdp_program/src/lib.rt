@@ -1,4 +1,9 @@
 //! An accepted program with its maps, run on a host's own bytes and counters.
+//!
+//! - `program`: an accepted program that its holder owns, and its calls
+//! - `run`: whole runs over counters in a slice
+//! - `settings`: programs of settings texts
+//! - `fault`: why there is no program
 #![tactic(auto)]
 
 mod fault;

@@ -53,7 +53,7 @@ impl Model for Program {
 }
 
 impl Program {
-    ghost use Rattle.std.specs.Prelude.{◌≡◌, ◌≤◌, ◌<◌, List, ℕ, length, IfOk, IfErr, IfSome, IfNone, MatchResult};
+    ghost use Rattle.std.specs.Prelude.{◌≡◌, ◌≤◌, ◌<◌, List, length, IfOk, IfErr, IfSome, IfNone, MatchResult};
     ghost use Rattle.bpf_insn.specs.Code.{Spells};
     ghost use Rattle.bpf_insn.specs.declared.insn.Insn.{Insn};
     ghost use Rattle.bpf_maps.specs.Layout.{total, place_of};
@@ -178,9 +178,11 @@ impl Program {
         ensures bound { result.instructions ≤ instructions self.now.code }
         ensures words { length counters.new ≡ length counters.old }
     {
+        // Only the proof uses what this call ensures: the program is consistent.
         let _shapes = self.verified.shapes();
         match PacketBuf::over(packet, stack) {
             Ok(lent) => {
+                // Only the proof uses what this call ensures: a packet is of bytes.
                 let _bytes = lent.bytes();
                 let Ended {
                     number,

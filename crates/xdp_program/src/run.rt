@@ -32,6 +32,7 @@ pub fn run_counting<'b>(
             VmWant::Load { m, k, j } => {
                 let number = counters[place(program.shapes(), m, k, j)];
                 vm.loaded(number);
+                // Only the proof uses what this call ensures: the bound of the instructions.
                 let _count = vm.count();
                 ops += 1;
             }
@@ -40,6 +41,7 @@ pub fn run_counting<'b>(
                 let old = counters[at];
                 counters[at] = old.wrapping_add(delta);
                 vm.added(old);
+                // Only the proof uses what this call ensures: the bound of the instructions.
                 let _count = vm.count();
                 ops += 1;
             }

@@ -21,10 +21,10 @@ use Rattle.xdp_world.specs.declared.doing.Doing.TheVariants as doing
 use Rattle.xdp_world.proofs.Worlds.{get_set, get_set_other}
 
 pub ready_true : (q : Queue) → IsReady q → IsTrue (is_ready q.stage)
-ready_true q h = subst (λ (s : Stage). IsTrue (is_ready s)) (sym h.1) refl
+ready_true q h = subst (λ (s : Option Stage). IsTrue (is_ready s)) (sym h.1) refl
 
-at_ready : (s : Stage) → IsTrue (is_ready s) → (p : List ℕ) × (s ≡ stage.At p phase.Ready)
-at_ready (stage.At p phase.Ready) h = (p, refl)
+at_ready : (s : Option Stage) → IsTrue (is_ready s) → (p : List ℕ) × (s ≡ Some (stage.At p phase.Ready))
+at_ready (Some (stage.At p phase.Ready)) h = (p, refl)
 at_ready s h = absurd (cc)
 
 pub true_ready : (q : Queue) → IsTrue (is_ready q.stage) → IsReady q

@@ -20,8 +20,8 @@ use Rattle.xdp_world.specs.declared.doing.Doing.{Doing}
 use Rattle.xdp_world.specs.declared.doing.Doing.TheVariants as doing
 
 -- whether a queue at this stage is between turns
-abbrev pub is_ready : Stage → Bool
-is_ready (stage.At packet phase.Ready) = true
+abbrev pub is_ready : Option Stage → Bool
+is_ready (Some (stage.At packet phase.Ready)) = true
 is_ready s = false
 
 -- What a queue is doing is so. A delivery or a wait that is under way is the queue's, and wants something.

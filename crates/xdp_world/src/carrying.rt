@@ -23,8 +23,8 @@ fn answered(delivering: &mut Delivering, answer: u32)
 {
     match delivering.wanted() {
         Want::Read(_) => delivering.feed(Answer::Word(answer)),
-        Want::Write(_, _) => delivering.feed(Answer::Went),
-        Want::Notify(_) => delivering.feed(Answer::Went),
+        Want::Write(_, _) => delivering.feed(Answer::Nothing),
+        Want::Notify(_) => delivering.feed(Answer::Nothing),
         Want::Instr => unreachable!(),
         Want::Load { .. } => unreachable!(),
         Want::Add { .. } => unreachable!(),

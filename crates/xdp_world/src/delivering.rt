@@ -1,6 +1,6 @@
 //! Packets of the host's own.
 ghost use Rattle.std.specs.Prelude.{◌≡◌, ◌<◌, IfOk, OnErr, vec_len};
-ghost use Rattle.xdp_world.specs.Doings.{Fits, is_between as is_between_spec};
+ghost use Rattle.xdp_world.specs.Doings.{is_between as is_between_spec};
 ghost use Rattle.xdp_world.specs.Stands.{IsDeliver, IsSame};
 
 use crate::carrying::begun;

@@ -27,11 +27,11 @@ pub(crate) fn event(queue: &mut Queue, counters: &mut Totals, answer: u32) -> Op
             None
         }
         Want::Write(_, _) => {
-            queue.feed(Answer::Went);
+            queue.feed(Answer::Nothing);
             None
         }
         Want::Instr => {
-            queue.feed(Answer::Went);
+            queue.feed(Answer::Nothing);
             None
         }
         Want::Load { m, k, j } => {
@@ -51,7 +51,7 @@ pub(crate) fn event(queue: &mut Queue, counters: &mut Totals, answer: u32) -> Op
             })
         }
         Want::Notify(_) => {
-            queue.feed(Answer::Went);
+            queue.feed(Answer::Nothing);
             None
         }
         Want::Done => unreachable!(),

@@ -23,7 +23,7 @@ fn looked(awaiting: &mut Awaiting, answer: u32)
 {
     match awaiting.want() {
         Want::Read(_) => awaiting.feed(Answer::Word(answer)),
-        Want::Write(_, _) => awaiting.feed(Answer::Went),
+        Want::Write(_, _) => awaiting.feed(Answer::Nothing),
         _ => unreachable!(),
     }
 }

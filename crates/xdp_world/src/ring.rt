@@ -1,6 +1,6 @@
 //! A ring's page, mapped.
 ghost use Rattle.std.specs.Prelude.{◌≡◌, ◌<◌, ◌*◌, IfOk, Some, true, slice_get};
-ghost use Rattle.xdp_world.specs.Frames.{frame_of, owners_of};
+ghost use Rattle.xdp_world.specs.Frames.{frame_of};
 
 use crate::layout::{BACK, FRONT, Layout};
 use std::alloc::{AllocError, Global};

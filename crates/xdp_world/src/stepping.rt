@@ -1,5 +1,5 @@
 //! Steps of a world.
-ghost use Rattle.std.specs.Prelude.{◌≡◌, ◌<◌, ◌≤◌, ◌++◌, ℕ, All, OnOk, OnErr, vec_len, vec_capacity, length, slice_get};
+ghost use Rattle.std.specs.Prelude.{◌≡◌, ◌<◌, ◌≤◌, ◌++◌, ℕ, All, OnOk, OnErr, vec_len, vec_capacity, slice_get};
 ghost use Rattle.xdp_world.specs.Carries.{delivered_list, waited_list};
 ghost use Rattle.xdp_world.specs.Entries.{tagged};
 ghost use Rattle.xdp_world.specs.Happens.{kept_list, op_list};

@@ -1,7 +1,7 @@
 -- Laws of runs, logs and bounds.
 use Rattle.bpf_vm.specs.Advance.{after_steps}
 use Rattle.bpf_vm.specs.Course.{Course}
-use Rattle.xen_back.specs.Program.{instructions_alone}
+use Rattle.xen_back.specs.Program.{plain_instructions}
 use Rattle.xen_back.specs.Queues.{IsSameWiring}
 use Rattle.xen_back.specs.Tree.{Left, program}
 use Rattle.xen_back.specs.Turned.{Ending}
@@ -18,24 +18,6 @@ use Rattle.xen_steps.specs.Drive.{Gone, accesses}
 use Rattle.xen_back.specs.Drive.{Driven, labels, label_of}
 use Rattle.xen_steps.specs.declared.want.Want.{Want}
 use Rattle.xen_steps.specs.declared.want.Want.TheVariants as want
-
-pub occurs_read : (w : Want) (at : Place) (v : ℕ) → w ≡ want.Read at → v < 2 ^ 32 → Occurs w v (Read at v)
-occurs_read w at v e h = rw e (h, refl)
-
-pub occurs_write : (w : Want) (at : Place) (v : ℕ) → w ≡ want.Write at v → Occurs w 0 (Write at v)
-occurs_write w at v e = rw e (refl, refl)
-
-pub occurs_instr : (w : Want) → w ≡ want.Instr → Occurs w 0 Instr
-occurs_instr w e = rw e (refl, refl)
-
-pub occurs_load : (w : Want) (m k j v : ℕ) → w ≡ want.Load m k j → v < 2 ^ 64 → Occurs w v (Load m k j v)
-occurs_load w m k j v e h = rw e (h, refl)
-
-pub occurs_add : (w : Want) (m k j delta v : ℕ) → w ≡ want.Add m k j delta → v < 2 ^ 64 → Occurs w v (Add m k j delta v)
-occurs_add w m k j delta v e h = rw e (h, refl)
-
-pub occurs_notify : (w : Want) (p : ℕ) → w ≡ want.Notify p → Occurs w 0 (Notify p)
-occurs_notify w p e = rw e (refl, refl)
 
 append_none : {A : Type 0} (l : List A) → l ++ [] ≡ l
 append_none [] = refl
@@ -64,18 +46,18 @@ driven_none log gives s a x = record { gone = refl; performed = performs_none lo
 pub both_same : (a b c : Queue) → IsSameWiring a b → IsSameWiring b c → IsSameWiring a c
 both_same a b c h g = record { wiring = g.wiring ∙ h.wiring; tx_ring = g.tx_ring ∙ h.tx_ring; rx_ring = g.rx_ring ∙ h.rx_ring }
 
-pub alone_accesses : (n : ℕ) → accesses (instructions_alone n) ≡ []
-alone_accesses zero = refl
-alone_accesses (suc n) = alone_accesses n
+pub plain_accesses : (n : ℕ) → accesses (plain_instructions n) ≡ []
+plain_accesses zero = refl
+plain_accesses (suc n) = plain_accesses n
 
-pub alone_labels : (n : ℕ) → labels (instructions_alone n) ≡ []
-alone_labels zero = refl
-alone_labels (suc n) = alone_labels n
+pub plain_labels : (n : ℕ) → labels (plain_instructions n) ≡ []
+plain_labels zero = refl
+plain_labels (suc n) = plain_labels n
 
 -- an interpreter that advances does so many instructions
-pub gone_alone : (c : Course) (n ops : ℕ) (f : Left → Steps Ending) → Gone (bind (program (after_steps n c) ops) f) (instructions_alone n) (bind (program c ops) f)
-gone_alone c zero ops f = refl
-gone_alone c (suc n) ops f = (bind (program (after_steps n c) ops) f, (0, (refl, refl), refl), gone_alone c n ops f)
+pub gone_plain : (c : Course) (n ops : ℕ) (f : Left → Steps Ending) → Gone (bind (program (after_steps n c) ops) f) (plain_instructions n) (bind (program c ops) f)
+gone_plain c zero ops f = refl
+gone_plain c (suc n) ops f = (bind (program (after_steps n c) ops) f, (0, (refl, refl), refl), gone_plain c n ops f)
 
 -- what counts nothing leaves any list of operations as it was
 pub driven_silent : {A S : Type 0} (log : S → Option (List Access)) (gives : S → Access → S → Type 0) (s s' : Steps A) (a b : S) (x : List Op) (t : List Event) →

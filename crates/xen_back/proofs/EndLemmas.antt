@@ -242,7 +242,7 @@ module _ (w : Wiring) where
     ends_turn s = ends_unless s s.halt
 
 -- the start of an accepted program on a packet
-start_words : (k x : ℕ) → start_register k ≡ Some x → x < 2 ^ 64
+pub start_words : (k x : ℕ) → start_register k ≡ Some x → x < 2 ^ 64
 start_words k x e = by (k == 1) (k == 10) e
   where
     by : (a b : Bool) → (if a then Some context_start else if b then Some stack_end else None) ≡ Some x → x < 2 ^ 64
@@ -250,7 +250,7 @@ start_words k x e = by (k == 1) (k == 10) e
     by false true e = let same : stack_end ≡ x = cc in subst (λ y. y < 2 ^ 64) same (omega arith)
     by false false e = cc
 
-start_none : (k : ℕ) → 11 ≤ k → start_register k ≡ None
+pub start_none : (k : ℕ) → 11 ≤ k → start_register k ≡ None
 start_none k l = by (k == 1) (k == 10) refl refl
   where
     by : (a b : Bool) → (k == 1) ≡ a → (k == 10) ≡ b → (if a then Some context_start else if b then Some stack_end else None) ≡ None

@@ -1,9 +1,9 @@
 -- Taking an answer, and coming to the end of a turn.
-use Rattle.std.proofs.Common.{◌≡◌, ℕ, List, [], ◌∷◌, IsTrue, length, drop, refl, subst}
+use Rattle.std.proofs.Common.{◌≡◌, ℕ, List, [], ◌∷◌, length, drop, refl, subst}
 use Rattle.bpf_vm.specs.Course.{Course, Begins}
 use Rattle.bpf_vm.specs.declared.want.VmWant.{VmWant}
 use Rattle.bpf_vm.specs.declared.want.VmWant.TheVariants as vm_want
-use Rattle.xen_back.specs.Rest.{is_here, rest_at, rest_in}
+use Rattle.xen_back.specs.Rest.{rest_at, rest_in}
 use Rattle.xen_steps.proofs.BindLemmas.{asks_on}
 use Rattle.xen_steps.specs.Steps.{Steps, bind, want_of}
 use Rattle.xen_transmit.proofs.SendLemmas.{going_asks}
@@ -45,11 +45,10 @@ asks_nothing w s packet (phase.Notice after kind) r e h = cc
 asks_nothing w s packet (phase.Ended after kind) r e h = e after kind refl
 
 -- a stage that wants nothing stands at a phase, unless a program runs
-pub stage_asks : (w : Wiring) (s : State) (g : Stage) → ((packet : List ℕ) (p : Phase) → g ≡ stage.At packet p → ⊥) → ((r : Executing) → g ≡ stage.Run r → ⊥) → IsTrue (is_here g) → want_of (rest_in w s g) ≡ want.Done → ⊥
-stage_asks w s (stage.At packet p) at run here h = at packet p refl
-stage_asks w s (stage.EntryFlags e) at run here h = cc
-stage_asks w s (stage.EntryFrame e a) at run here h = cc
-stage_asks w s (stage.Page g) at run here h = cc
-stage_asks w s (stage.Run r) at run here h = run r refl
-stage_asks w s (stage.Send packet t) at run here h = asks_on (rest_of w.vif s.rx_index packet t.transmit.phase) (after_transmit w s t.chain packet t.ops) (going_asks w.vif s.rx_index packet t.transmit.phase t.transmit.going) h
-stage_asks w s stage.Gone at run here h = cc
+pub stage_asks : (w : Wiring) (s : State) (g : Stage) → ((packet : List ℕ) (p : Phase) → g ≡ stage.At packet p → ⊥) → ((r : Executing) → g ≡ stage.Run r → ⊥) → want_of (rest_in w s g) ≡ want.Done → ⊥
+stage_asks w s (stage.At packet p) at run h = at packet p refl
+stage_asks w s (stage.EntryFlags e) at run h = cc
+stage_asks w s (stage.EntryFrame e a) at run h = cc
+stage_asks w s (stage.Page g) at run h = cc
+stage_asks w s (stage.Run r) at run h = run r refl
+stage_asks w s (stage.Send packet t) at run h = asks_on (rest_of w.vif s.rx_index packet t.transmit.phase) (after_transmit w s t.chain packet t.ops) (going_asks w.vif s.rx_index packet t.transmit.phase t.transmit.going) h

@@ -14,7 +14,7 @@ pub mod EndLemmas
 pub mod ReadLemmas
 pub mod BulkLemmas
 pub mod OnceLemmas
-pub mod AloneLemmas
+pub mod InOneGoLemmas
 pub mod ArriveLemmas
 pub mod WaitLemmas
 pub mod RunLemmas

@@ -1,12 +1,12 @@
 -- What a turn's computation is at a phase that waits on an index or on a number.
-use Rattle.std.proofs.Common.{◌≡◌, ℕ, zero, suc, ◌+◌, ◌-◌, ◌<◌, false, List, [], length, drop, Some, refl, arith, ap, get_or}
+use Rattle.std.proofs.Common.{◌≡◌, ℕ, zero, suc, ◌+◌, ◌-◌, ◌<◌, false, List, [], length, drop, Some, refl, arith, ap, get_or, Option}
 use Rattle.std.proofs.lemmas.List.{drop_more}
 use Rattle.xen_netif.specs.Chain.{Slot}
 use Rattle.xen_steps.specs.Places.{add32}
 use Rattle.xen_transmit.specs.Places.{tx_slot}
 use Rattle.xen_steps.specs.Steps.{done, ask, bind}
 use Rattle.xen_back.specs.Queues.{IsReady, rest, state_of, wiring_of}
-use Rattle.xen_back.specs.Rest.{fragment_at, rest_in}
+use Rattle.xen_back.specs.Rest.{fragment_at, rest_of_stage}
 use Rattle.xen_transmit.specs.Entries.{entry}
 use Rattle.xen_back.specs.Tree.{after_look, after_scan, answer, copy, entered, read_slots, seen, whole_turn}
 use Rattle.xen_netif.specs.declared.fragment.Fragment.{Fragment}
@@ -19,7 +19,7 @@ use Rattle.xen_back.specs.declared.wiring.Wiring.{Wiring}
 
 -- A queue between turns has a whole turn left.
 pub ready_rest : (q : Queue) → IsReady q → rest q ≡ whole_turn (wiring_of q) (state_of q)
-ready_rest q h = ap (λ (g : Stage). rest_in (wiring_of q) (state_of q) g) h.1
+ready_rest q h = ap (λ (g : Option Stage). rest_of_stage (wiring_of q) (state_of q) g) h.1
 
 pub after_look_some : (w : Wiring) (s : State) (n : ℕ) → 0 < n → after_look w s (Some n) ≡ bind (read_slots w s.tx_index (suc (n - 1)) []) (after_scan w s)
 after_look_some w s zero h = absurd (omega arith)

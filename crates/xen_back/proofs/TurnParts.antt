@@ -38,6 +38,26 @@ use Rattle.xen_back.proofs.ProgramLemmas.{program_parts}
 use Rattle.xen_transmit.proofs.SendParts.{transmit_parts}
 use Rattle.xen_steps.proofs.StepsLemmas.{split}
 
+-- a program's run on a packet that was read and copied, from its parts
+abbrev pub run_parts : (w : Wiring) (s : State) (p1 p2 p3 p4 : List Event) (n : ℕ) (slots : List Slot) (fragments : List Fragment) (bytes : List ℕ) (out : Left) →
+    HasRead w s n p1 p2 slots → standing slots ≡ Some (Ok wanted.Complete) → fragments_of slots ≡ Ok fragments → IsCopy w fragments p3 (Some bytes) →
+    Runs (program (run_of w bytes) 0) p4 out → HasRun w s (p1 ++ (p2 ++ (p3 ++ p4))) slots out
+run_parts w s p1 p2 p3 p4 n slots fragments bytes out read whole sizes copied done = record {
+  p1 = p1;
+  p2 = p2;
+  p3 = p3;
+  p4 = p4;
+  joined = refl;
+  n = n;
+  fragments = fragments;
+  packet = bytes;
+  read = read;
+  whole = chain_by slots whole;
+  sizes = sizes;
+  copied = copied;
+  ran = program_parts w bytes p4 out done;
+}
+
 -- looking
 seen_parts : (w : Wiring) (t p : ℕ) (tr : List Event) (o x : Option ℕ) → p < 2 ^ 32 → available t p ≡ x → Runs (seen w t x) tr o → IsLook w t (Read (tx_word w.vif 0) p ∷ tr) o
 seen_parts w t p [] o None l e h = rw (← (e ∙ h)) (once p l (λ z. cc))
@@ -202,21 +222,7 @@ module _ (w : Wiring) (s : State) where
       ended w s (p1 ++ (p2 ++ (p3 ++ p))) r _ _ q.1 (refused_grant p1 p2 p3 p n slots fragments a (chain_by slots v) f c q.0)
   program_rows p1 p2 p3 p n slots fragments r a v f (Some bytes) c h =
       let i = split (program (run_of w bytes) 0) (after_run w s slots) p r h in
-      let run : HasRun w s (p1 ++ (p2 ++ (p3 ++ i.front))) slots i.mid = record {
-        p1 = p1;
-        p2 = p2;
-        p3 = p3;
-        p4 = i.front;
-        joined = refl;
-        n = n;
-        fragments = fragments;
-        packet = bytes;
-        read = a;
-        whole = chain_by slots v;
-        sizes = f;
-        copied = c;
-        ran = program_parts w bytes i.front i.mid i.first;
-      } in
+      let run = run_parts w s p1 p2 p3 i.front n slots fragments bytes i.mid a v f c i.first in
       subst (λ t. IsTurn w s t r.0 r.1) (sym (ap (λ q. p1 ++ (p2 ++ (p3 ++ q))) i.joined ∙ regroup p1 p2 p3 i.front i.back))
       (run_rows (p1 ++ (p2 ++ (p3 ++ i.front))) i.back slots i.mid r run (i.mid.number == 3) refl i.later)
 

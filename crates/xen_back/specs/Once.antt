@@ -1,5 +1,6 @@
 -- Which words a turn reads, in order, and that it reads each once.
-use Rattle.std.specs.Prelude.{ℕ, zero, suc, ◌≡◌, ◌≢◌, ◌<◌, ◌≤◌, ◌+◌, ◌/◌, ◌⊎◌, Bool, List, [], ◌∷◌, ◌++◌, Option, None, Some, Ok, Err, length}
+use Rattle.std.specs.Prelude.{ℕ, zero, suc, ◌≡◌, ◌≢◌, ◌<◌, ◌≤◌, ◌+◌, ◌/◌, ◌⊎◌, Bool, List}
+use Rattle.std.specs.Prelude.{[], ◌∷◌, ◌++◌, Option, None, Some, Ok, Err, length}
 use Rattle.std.specs.List.{Contains}
 use Rattle.xen_netif.specs.Chain.{Slot}
 use Rattle.xen_netif.specs.Copy.{covered}

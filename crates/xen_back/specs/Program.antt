@@ -32,6 +32,6 @@ pub record IsProgram (w : Wiring) (packet : List ℕ) (p : List Event) (out : Le
   pub ops : out.ops ≡ ops_in labels
 
 -- so many instructions that read no counter
-abbrev pub instructions_alone : ℕ → List Event
-instructions_alone zero = []
-instructions_alone (suc n) = Instr ∷ instructions_alone n
+abbrev pub plain_instructions : ℕ → List Event
+plain_instructions zero = []
+plain_instructions (suc n) = Instr ∷ plain_instructions n

@@ -1,12 +1,12 @@
 -- What contracts see of a queue.
-use Rattle.std.specs.Prelude.{ℕ, ◌≡◌, ◌≢◌, List}
+use Rattle.std.specs.Prelude.{ℕ, ◌≡◌, ◌≢◌, List, Some}
 use Rattle.xen_steps.specs.Answers.{number}
 use Rattle.xen_page.specs.Mapping.{Mapping}
 use Rattle.xen_steps.specs.Event.{Event}
 use Rattle.xen_steps.specs.declared.want.Answer.{Answer}
 use Rattle.xen_steps.specs.declared.want.Want.{Want}
 use Rattle.xen_steps.specs.declared.want.Want.TheVariants as wants
-use Rattle.xen_back.specs.Rest.{rest_in}
+use Rattle.xen_back.specs.Rest.{rest_of_stage}
 use Rattle.xen_steps.specs.Steps.{Runs, Steps, done, next, want_of}
 use Rattle.xen_back.specs.Within.{may_want}
 use Rattle.xen_back.specs.Turned.{Ending, IsShort, Turned, Shows}
@@ -38,11 +38,11 @@ pub record IsSameWiring (old new : Queue) : Type 0 where
 
 -- what is left of its turn
 abbrev pub rest : Queue → Steps Ending
-rest q = rest_in q.wiring q.state q.stage
+rest q = rest_of_stage q.wiring q.state q.stage
 
 -- between turns
 abbrev pub IsReady : Queue → Type 0
-IsReady q = (p : List ℕ) × (q.stage ≡ stage.At p phase.Ready)
+IsReady q = (p : List ℕ) × (q.stage ≡ Some (stage.At p phase.Ready))
 
 -- A queue that was fed an answer: what it has left is what follows that answer.
 pub record IsFed (answer : Answer) (old new : Queue) : Type 0 where

@@ -12,7 +12,7 @@ use Rattle.xen_back.specs.declared.wiring.Wiring.{Wiring}
 -- Events of a program: no access, what the seat's operations grew by, and where the program is then, whatever follows it.
 pub record HasRunTo (start now : Steps Left) (ops ops' : List Op) : Type 0 where
   pub trace : List Event
-  pub alone : accesses trace ≡ []
+  pub no_access : accesses trace ≡ []
   pub grown : ops' ≡ ops ++ labels trace
   pub gone : (f : Left → Steps Ending) → Gone (bind start f) trace (bind now f)
 

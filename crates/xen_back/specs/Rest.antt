@@ -1,5 +1,6 @@
--- What a queue has left of its turn.
-use Rattle.std.specs.Prelude.{ℕ, suc, ◌+◌, Bool, true, false, List, [], ◌∷◌, ◌++◌, length, drop, slice_index_or, Some, Result, Ok, Err}
+-- What a queue has left of its turn (its continuation).
+use Rattle.std.specs.Prelude.{ℕ, suc, ◌+◌, true, false, List, [], ◌∷◌, ◌++◌, length, drop}
+use Rattle.std.specs.Prelude.{slice_index_or, Option, Some, None, Result, Ok, Err}
 use Rattle.xen_netif.specs.Chain.{Slot}
 use Rattle.xen_netif.specs.Standing.{standing}
 use Rattle.xen_netif.specs.declared.fragment.Fragment.{Fragment}
@@ -57,17 +58,16 @@ rest_in w s (stage.Page g) = bind (bind (copy_words g.fragment g.frame g.place (
     (copy w (drop g.i g.fragments.items))) (after_copy w s g.chain)
 rest_in w s (stage.Run r) = bind (program (left r.vm) r.ops) (after_run w s r.chain)
 rest_in w s (stage.Send packet t) = bind (rest_of w.vif s.rx_index packet t.transmit.phase) (after_transmit w s t.chain packet t.ops)
-rest_in w s stage.Gone = never
+
+-- the same of a queue's stage, which is out only while the next one is made of it
+abbrev pub rest_of_stage : Wiring → State → Option Stage → Steps Ending
+rest_of_stage w s (Some g) = rest_in w s g
+rest_of_stage w s None = never
 
 -- a chain's reply, or the halt that it ends in
 abbrev pub after_reply : Wiring → State → List Slot → List ℕ → Result Reply Halt → Steps Ending
 after_reply w s chain packet (Ok r) = respond w r.at chain r.status (turned r.kind packet)
 after_reply w s chain packet (Err cause) = halted s cause
-
--- a stage is there
-abbrev pub is_here : Stage → Bool
-is_here stage.Gone = false
-is_here g = true
 
 -- the bytes of a stage's packet
 abbrev pub packet_at : Stage → List ℕ
@@ -77,7 +77,11 @@ packet_at (stage.EntryFrame e a) = e.packet
 packet_at (stage.Page g) = g.packet
 packet_at (stage.Run r) = []
 packet_at (stage.Send packet t) = packet
-packet_at stage.Gone = []
+
+-- the bytes of a queue's packet
+abbrev pub packet_of_stage : Option Stage → List ℕ
+packet_of_stage (Some g) = packet_at g
+packet_of_stage None = []
 
 -- a stage with another phase, where it has one
 abbrev pub at_phase : Stage → Phase → Stage

@@ -1,17 +1,17 @@
-//! The copy of a packet.
+//! The copy of a packet: how it is filled from pages, and the program's run on it.
 
-ghost use Rattle.std.specs.Prelude.{◌≡◌, ◌≤◌, ◌<◌, ◌+◌, ◌-◌, ◌*◌, ◌++◌, [], List, ℕ, length};
+ghost use Rattle.std.specs.Prelude.{◌≡◌, ◌≤◌, ◌<◌, ◌+◌, ◌-◌, ◌*◌, ◌/◌, ◌%◌, ◌++◌, [], List, ℕ, length};
 ghost use Rattle.bpf_maps.specs.Seats.{IsSeatOf};
 ghost use Rattle.xen_netif.specs.Copy.{bytes_of};
+ghost use Rattle.xen_page.specs.Run.{ReadsRun};
 ghost use Rattle.xen_back.specs.Ran.{HasRunOn};
 ghost use Rattle.xen_back.specs.Reads.{AreReadFrom};
 
-use crate::page_run::push_words;
 use crate::wiring::Wiring;
 use bpf_maps::{CounterSeat, Counters};
-use bpf_vm::{Buffer, PacketBuf, Vm, VmWant};
+use bpf_vm::{Buffer, Fill, PacketBuf, Vm, VmWant};
 use std::marker::Model;
-use xen_page::Bus;
+use xen_page::{Bus, Place};
 
 /// What a run left beside the packet.
 #[derive(Clone, Copy)]
@@ -37,6 +37,41 @@ impl<'b> Model for CopyBuf<'b> {
     ghost invariant = { λ c. IsHeld c.packet };
 }
 
+/// The words of a page from a place on.
+#[derive(Clone, Copy)]
+struct PageRun {
+    at: Place,
+}
+
+impl<B: Bus> Fill<B> for PageRun {
+    ghost fits = { λ run bus count. (run.at.frame < B.size bus) × (count % 4 ≡ 0) × (run.at.word + count / 4 ≤ 1024) };
+
+    ghost fills = { λ run old bytes new. ReadsRun B.log B.access_gives run.at old bytes new × (B.size new ≡ B.size old) };
+
+    fn fill(&self, source: &mut B, room: &mut [u8]) {
+        source.read_run(self.at, room);
+    }
+}
+
+/// Puts whole words of a page behind a packet's bytes, each read once.
+fn push_words<B: Bus>(bus: &mut B, frame: u32, from: u32, to: u32, packet: &mut PacketBuf<'_>)
+    requires frame { from < to → frame < B.size bus.old }
+    requires ordered { from ≤ to }
+    requires within { from < to → to ≤ 1024 }
+    requires room { from < to → length packet.old.bytes + 4 * (to - from) ≤ packet.old.room.size }
+    ensures size { B.size bus.new ≡ B.size bus.old }
+    ensures room { packet.new.room ≡ packet.old.room }
+    ensures read { (words : List ℕ) × (length words ≡ to - from)
+        × AreReadFrom B.log B.access_gives frame from words bus.old bus.new
+        × (packet.new.bytes ≡ packet.old.bytes ++ bytes_of words) }
+{
+    if from == to {
+        return;
+    }
+    let at = Place { frame, word: from };
+    packet.push_from(4 * (to - from) as usize, &PageRun { at }, bus);
+}
+
 /// Runs the program on a packet.
 fn run_on<'b>(
     wiring: &Wiring,
@@ -57,12 +92,14 @@ fn run_on<'b>(
             VmWant::Load { m, k, j } => {
                 let number = counters.load(seat, m, k, j);
                 vm.loaded(number);
+                // Only the proof uses what this call ensures: the bound of the instructions.
                 let _count = vm.count();
                 ops += 1;
             }
             VmWant::Add { m, k, j, delta } => {
                 let old = counters.add(seat, m, k, j, delta);
                 vm.added(old);
+                // Only the proof uses what this call ensures: the bound of the instructions.
                 let _count = vm.count();
                 ops += 1;
             }

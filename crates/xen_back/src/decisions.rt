@@ -1,20 +1,26 @@
-//! What a turn decides, whichever way it goes: the status and the response of a slot, and the state behind it.
-ghost use Rattle.std.specs.Prelude.{◌≡◌, List, Option, Some, length, ℕ};
-ghost use Rattle.xen_back.specs.Rest.{after_reply};
+//! What a turn, a delivery and a wait decide, whichever way they go, also where a host makes the accesses (`xen_host`): the status
+//! and the response of a slot, the state behind it, and what the host gets as the answer.
+
+ghost use Rattle.std.specs.Prelude.{◌≡◌, ◌≤◌, [], List, Option, Some, length, ℕ};
+ghost use Rattle.xen_back.specs.Rest.{after_reply, packet_at};
 ghost use Rattle.xen_back.specs.Tree.{after_transmit, answered, moved, response as response_spec, status_of};
+ghost use Rattle.xen_back.specs.Turned.{IsShort, Shows, turned};
 ghost use Rattle.xen_back.specs.declared.wiring.Wiring.{Wiring as WiringView};
 ghost use Rattle.xen_netif.specs.Chain.{Slot};
 ghost use Rattle.xen_netif.specs.declared.tx.TxReq.{TxReq};
 ghost use Rattle.xen_steps.specs.Places.{add32};
 
+use crate::by_event::stage::Stage;
+pub use crate::delivery::awaiting::told;
+pub use crate::delivery::delivering::{can_be_delivered, delivered};
 use crate::state::State;
-use crate::turn::{Halt, Kind, Refusal};
-use bpf_vm::{XDP_DROP, XDP_PASS, XDP_TX};
+use crate::turn::{Halt, Kind, Refusal, Turn};
+use bpf_vm::{Action, XDP_DROP, XDP_PASS, XDP_TX};
 use xen_netif::{Chain, Status, TxReq, TxRsp};
 use xen_transmit::Outcome;
 
 /// The status of the responses to a packet that isn't sent back, by the number that the program ended with.
-pub(crate) fn status(number: u32) -> Status
+pub fn status(number: u32) -> Status
     ensures { result ≡ status_of number }
 {
     match number {
@@ -25,7 +31,7 @@ pub(crate) fn status(number: u32) -> Status
 }
 
 /// The first word of the response to a slot: of an extra where there is no request.
-pub(crate) fn response(status: Status, request: &Option<TxReq>) -> u32
+pub fn response(status: Status, request: &Option<TxReq>) -> u32
     ensures { result ≡ response_spec status request.now }
 {
     let response = match request {
@@ -49,7 +55,7 @@ pub(crate) fn slot_index(state: &State, chain: &Chain) -> u32
 }
 
 /// The state after so many tx slots are answered.
-pub(crate) fn after_answers(state: &State, n: u32) -> State
+pub fn after_answers(state: &State, n: u32) -> State
     ensures { result ≡ answered state.now n }
 {
     State {
@@ -60,7 +66,7 @@ pub(crate) fn after_answers(state: &State, n: u32) -> State
 }
 
 /// The state after so many rx slots are answered.
-pub(crate) fn after_slots(state: &State, n: u32) -> State
+pub fn after_slots(state: &State, n: u32) -> State
     ensures { result ≡ moved state.now n }
 {
     State {
@@ -71,7 +77,7 @@ pub(crate) fn after_slots(state: &State, n: u32) -> State
 }
 
 /// A state that has halted.
-pub(crate) fn halted(state: &State, cause: Halt) -> State
+pub fn halted(state: &State, cause: Halt) -> State
     ensures { result ≡ record state.now { halt = Some cause } }
 {
     State {
@@ -90,12 +96,7 @@ pub struct Reply {
 }
 
 /// What follows a transmit: an answer to the packet's chain, or a halt.
-pub(crate) fn after_sending(
-    state: &State,
-    ops: u32,
-    slots: u32,
-    outcome: Outcome,
-) -> Result<Reply, Halt>
+pub fn after_sending(state: &State, ops: u32, slots: u32, outcome: Outcome) -> Result<Reply, Halt>
     ensures { (w : WiringView) → (chain : List Slot) → (packet : List ℕ) → length chain ≡ slots →
         after_transmit w state.now chain packet ops outcome ≡ after_reply w state.now chain packet result }
 {
@@ -128,5 +129,38 @@ pub(crate) fn after_sending(
                 slots,
             },
         }),
+    }
+}
+
+/// The turn that a host is shown.
+pub(crate) fn shown<'t>(stage: &'t Stage<'_, '_>, kind: Kind) -> Turn<'t>
+    ensures shows { Shows (turned kind (packet_at stage.now)) result }
+    ensures short { IsShort result }
+{
+    match kind {
+        Kind::Idle => Turn::Idle,
+        Kind::Ran { number, ops, slots } => Turn::Ran {
+            action: Action::of(number),
+            number,
+            packet: packet_in(stage),
+            ops,
+            slots,
+        },
+        Kind::Refused { cause, ops, slots } => Turn::Refused { cause, ops, slots },
+        Kind::Halted { cause } => Turn::Halted { cause },
+    }
+}
+
+fn packet_in<'t>(stage: &'t Stage<'_, '_>) -> &'t [u8]
+    ensures same { result.now ≡ packet_at stage.now }
+    ensures short { length result.now ≤ 65535 }
+{
+    match stage {
+        Stage::At(packet, _) => packet.bytes(),
+        Stage::EntryFlags(entry) => entry.packet.bytes(),
+        Stage::EntryFrame { entry, .. } => entry.packet.bytes(),
+        Stage::Page(page) => page.packet.bytes(),
+        Stage::Run(_) => &[],
+        Stage::Send(packet, _) => packet.bytes(),
     }
 }

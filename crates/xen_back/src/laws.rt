@@ -73,7 +73,7 @@ pub fn words_are_read_once()
 pub fn feeding_takes_the_rests()
     ensures kept { (s left : Steps Ending) (e : Event) (p : List Event) (end : Ending) → Goes s e left → Runs s (e ∷ p) end →
         Runs left p end }
-    ensures alone { (s left : Steps Ending) (e : Event) (p : List Event) (end : Ending) → Goes s e left → Runs left p end →
+    ensures only { (s left : Steps Ending) (e : Event) (p : List Event) (end : Ending) → Goes s e left → Runs left p end →
         Runs s (e ∷ p) end }
     ensures fed { (s : Steps Ending) (answer : Answer) → Fits (want_of s) answer → word_in answer < 2 ^ 32 → counter_in answer < 2 ^ 64 →
         (e : Event) × Goes s e (next s (number answer)) }

@@ -6,9 +6,9 @@
 //!   file for each part of a turn: `looking`, `copying`, `executing`, `sent`, `answering`, `ending`
 //! - `in_one_go`: a whole turn over a bus (`turning`), for a chain of any length, in the order of its parts: `looking`, `slots`, `copying`,
 //!   `running`, `answering`
-//! - `decisions`: what a turn decides, whichever way it goes
+//! - `decisions`: what a turn, a delivery and a wait decide, whichever way they go
 //! - `delivery`: a packet of the host's own, in one go and by event, and waiting for slots
-//! - `wiring`, `desc`, `state`, `turn`, `copy_buf`, `page_run`: what these work on; `laws`: what holds of every turn
+//! - `wiring`, `desc`, `state`, `turn`, `copy_buf`: what these work on; `laws`: what holds of every turn
 //!
 //! Of the definitions `Turns` is the authority, the table of turns; `Tree` is the computation that makes them, and `Rest` what
 //! is left of it at a stage. Both ways are proved of the same computation.
@@ -16,12 +16,11 @@
 
 mod by_event;
 mod copy_buf;
-mod decisions;
+pub mod decisions;
 mod delivery;
 mod desc;
 mod in_one_go;
 pub mod laws;
-mod page_run;
 mod queue;
 mod state;
 mod turn;

@@ -1,5 +1,11 @@
 //! Tests of [`xen_back`] and [`xen_transmit`] by what they make public. They are a crate of their own so that the gate proves
 //! these once.
+//!
+//! - `bench`: what a queue of the tests stands on
+//! - `tests`, of turns: `chains`, `slots`, `copies`, `programs`, `transmits`, `later_turns`, `driving`, and answers at random
+//!   (`bounds`)
+//! - `tests`, of what a host does: `deliveries` and `awaits` by their tables, and what the frontend sees (`delivered`)
+//! - `tests`, of a transmit by itself: `sending`; `fixtures` and `kind` are for all of them
 #![tactic(auto)]
 
 pub mod bench;

@@ -1,6 +1,6 @@
 //! The grants of a frontend's buffers.
 
-ghost use Rattle.std.specs.Prelude.{◌≡◌, ◌<◌, ◌+◌};
+ghost use Rattle.std.specs.Prelude.{◌≡◌, ◌<◌};
 ghost use Rattle.xen_buffers.specs.Grants.{buffer, grant_place};
 ghost use Rattle.xen_page.specs.Mapping.{frame_place};
 

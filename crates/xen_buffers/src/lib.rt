@@ -1,4 +1,8 @@
 //! The pages that a frontend lends: the buffers of both rings with the references that grant them.
+//!
+//! - `desc`: what a front is made with; `wired`, `distinct`: whether it can be
+//! - `wiring`: the part of it that stays
+//! - `grant`: the grants of its buffers
 #![tactic(auto)]
 
 mod desc;

@@ -173,21 +173,6 @@ is_delivery_step q new o c left lent lent_after at small same packet asked said 
 
 -- ---- taking a packet
 
-not_between : (s : State) (g : Stage) → ((b : Box Work) → g ≡ stage.Ready b → ⊥) → between s g ≡ None
-not_between s (stage.Ready b) h = absurd (h b refl)
-not_between s (stage.Carry c) h = refl
-not_between s (stage.Wait b at) h = refl
-not_between s stage.Gone h = refl
-not_between s (stage.Announce b) h = refl
-not_between s (stage.Slot r) h = refl
-not_between s (stage.Entry x) h = refl
-not_between s (stage.Page g) h = refl
-not_between s (stage.Send g) h = refl
-not_between s (stage.Answer r) h = refl
-not_between s (stage.Push a) h = refl
-not_between s (stage.Notice a) h = refl
-not_between s (stage.Over b after kind) h = refl
-
 pub taken_task_completes : (w : Wires) (s : State) (g new : Stage) (packet : List ℕ) (a : Taken) → IsWired (vif_of w) → TaskCompletes w s g → IsTakenAt g packet new a → TaskCompletes w s new
 taken_task_completes w s g new packet taken.Begun wired c t =
     subst (λ (x : Stage). TaskCompletes w s x) (sym t.new_is) (arrives (vif_of w) s t.loaded.work.value.packet wired)

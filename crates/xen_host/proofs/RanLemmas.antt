@@ -76,7 +76,7 @@ sent_same s g event b ops f is =
     let at : f.sending ≡ record { moving = moving.Replied b true; ops = ops } = cc (f.is, is) in
     let m : moving.Replied f.sent.work true ≡ moving.Replied b true = sym f.sent.is ∙ ap (λ (x : Sending). x.moving) at in
     let same : f.sent.work ≡ b = cc m in
-    (subst (λ (x : Box Work). length x.value.chain ≡ 1) same f.sent.alone, subst (λ (x : Box Work). is_due s.rx_index (add32 s.rx_index (length x.value.targets)) event ≡ false) same f.sent.quiet)
+    (subst (λ (x : Box Work). length x.value.chain ≡ 1) same f.sent.one_slot, subst (λ (x : Box Work). is_due s.rx_index (add32 s.rx_index (length x.value.targets)) event ≡ false) same f.sent.quiet)
 
 -- no program has run
 pub still_gone : (q : Queue) (left : Stage) (lent counters : List ℕ) → rest_in (wiring_of q.wires) q.state left ≡ fed (rest q) (answers q.stage lent) →

@@ -89,7 +89,7 @@ found_lone w s g slot lent f at h same there =
     let scan : List Slot → Steps Ending = λ ch. bind (judged ch (standing ch) (read_slots w s.tx_index r.left ch)) (after_scan w s) in
     let read : Slot = slice_index lent 0 ∷ slice_index lent 1 ∷ slice_index lent 2 ∷ [] in
     sym (ap (λ p. bind (bind (entry_at w.vif false p) (entered f (copy w []) [])) (after_copy w s (slot ∷ []))) there)
-    ∙ sym (ap (λ fs. after_chain w s (slot ∷ []) fs) h.lone.alone)
+    ∙ sym (ap (λ fs. after_chain w s (slot ∷ []) fs) h.lone.one_fragment)
     ∙ sym (ap (λ st. bind (judged (slot ∷ []) st (read_slots w s.tx_index r.left (slot ∷ []))) (after_scan w s)) (lone_stands slot h.lone.plain))
     ∙ ap (λ (x : Slot). scan (x ∷ [])) same
     ∙ sym (ap (λ (ch : List Slot). scan (ch ++ read ∷ [])) h.lone.first)

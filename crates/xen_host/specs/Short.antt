@@ -70,7 +70,7 @@ IsPermitted w first second frame = checked w.owners w.granter w.user (entry_of f
 pub record IsLone (chain : List Slot) (slot : Slot) (fragment : Fragment) (entry : Place) : Type 0 where
   pub first : chain ≡ []
   pub plain : (extra_info slot ≡ false) × (more_data slot ≡ false)
-  pub alone : fragments_of (slot ∷ []) ≡ Ok (fragment ∷ [])
+  pub one_fragment : fragments_of (slot ∷ []) ≡ Ok (fragment ∷ [])
   pub in_page : IsTrue (is_in_page fragment)
   pub short : fragment.size ≤ 65535
   pub word : entry.word + 1 < 1024
@@ -95,7 +95,7 @@ pub record FindsWhole (at : Stage) : Type 0 where
 pub record IsSent (s : State) (g : Sending) (event : ℕ) : Type 0 where
   pub work : Box Work
   pub is : g.moving ≡ moving.Replied work true
-  pub alone : length work.value.chain ≡ 1
+  pub one_slot : length work.value.chain ≡ 1
   pub quiet : is_due s.rx_index (add32 s.rx_index (length work.value.targets)) event ≡ false
 
 -- At this stage, with this event index.

@@ -1,10 +1,9 @@
 //! Delivering a packet of the host's own to the frontend.
 
-ghost use Rattle.std.specs.Prelude.{◌≡◌, ◌≤◌, length, IsTrue, true};
+ghost use Rattle.std.specs.Prelude.{◌≡◌, ◌≤◌, length, IsTrue};
 ghost use Rattle.xen_steps.specs.Steps.{bind, next};
 ghost use Rattle.xen_transmit.specs.declared.vif.Vif.{Vif};
-ghost use Rattle.xen_back.specs.Delivered.{is_frame};
-ghost use Rattle.xen_back.specs.Deliveries.{arrival, arrived, unless_halted};
+ghost use Rattle.xen_back.specs.Deliveries.{arrived, unless_halted};
 ghost use Rattle.xen_host.specs.Carries.{IsAskedOfDelivery, answers_carrying, asked_of_carrying, is_going, packet_carried, rest_carrying};
 ghost use Rattle.xen_host.specs.Fed.{asked_by, fed};
 ghost use Rattle.xen_host.specs.Moves.{rest_moved, work_moved};
@@ -15,19 +14,11 @@ use crate::moving::Moved;
 use crate::moving_step::{moving_fed, moving_want};
 use crate::op::Op;
 use crate::sending::after_posts;
-use crate::sent::after_slots;
 use crate::wires::Wires;
 use crate::words::are_words;
 use crate::work::Work;
-use xen_back::{Delivery, Halt, State};
-use xen_transmit::Outcome;
-
-/// Whether a packet can be delivered.
-pub(crate) fn can_be_delivered(packet: &[u8]) -> bool
-    ensures { result ≡ is_frame packet.now }
-{
-    !(packet.len() < 14 || packet.len() > 65_535)
-}
+use xen_back::decisions::delivered;
+use xen_back::{Delivery, State};
 
 /// After the read of the rx producer that begins a delivery. A halted queue has no use of it.
 #[inline(always)]
@@ -50,27 +41,6 @@ fn set_out(state: &State, work: Box<Work>, producer: u32) -> Carrying
     }
 }
 
-/// What a delivery's transmit came to.
-#[inline(always)]
-fn arrived_with(state: &State, outcome: Outcome) -> (State, Delivery)
-    ensures { (result.0, result.1) ≡ arrival state.now outcome }
-{
-    match outcome {
-        Outcome::Overflow => {
-            let cause = Halt::RxProducer;
-            let halted = State {
-                tx_index: state.tx_index,
-                rx_index: state.rx_index,
-                halt: Some(cause),
-            };
-            (halted, Delivery::Halted { cause })
-        }
-        Outcome::TooFew => (*state, Delivery::FewSlots),
-        Outcome::Refused(slots) => (after_slots(state, slots), Delivery::Refused { slots }),
-        Outcome::Sent(slots) => (after_slots(state, slots), Delivery::Sent { slots }),
-    }
-}
-
 /// A delivery whose packet is being sent, or whose packet was.
 #[inline(always)]
 fn carried_on(state: &State, moved: Moved) -> Carrying
@@ -82,7 +52,7 @@ fn carried_on(state: &State, moved: Moved) -> Carrying
     match moved {
         Moved::On(moving) => Carrying::Moving(moving),
         Moved::Over(work, outcome) => {
-            let (after, delivery) = arrived_with(state, outcome);
+            let (after, delivery) = delivered(state, outcome);
             Carrying::Over {
                 work,
                 after,

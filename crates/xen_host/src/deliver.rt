@@ -4,13 +4,13 @@ ghost use Rattle.std.specs.Prelude.{◌≡◌, true};
 ghost use Rattle.xen_back.specs.Delivered.{is_frame};
 ghost use Rattle.xen_host.specs.Queues.{IsTaken, IsTakenAt, task_of};
 
-use crate::carry::can_be_delivered;
 use crate::carrying::{Carrying, Loaded};
 use crate::queue::Queue;
 use crate::stage::Stage;
 use crate::task::{Taken, Task};
 use crate::work::Work;
 use std::mem;
+use xen_back::decisions::can_be_delivered;
 
 /// A packet, copied into the room for one.
 fn loaded(work: Box<Work>, packet: &[u8]) -> Loaded

@@ -7,9 +7,9 @@ ghost use Rattle.xen_netif.specs.Fragments.{fragment_size, fragments_of, is_in_p
 ghost use Rattle.xen_netif.specs.Standing.{standing};
 ghost use Rattle.xen_back.specs.Tree.{responses};
 
-use crate::answering::response_word;
 use arrayvec::ArrayVec;
 use std::marker::Model;
+use xen_back::decisions::response;
 use xen_netif::{Chain, ChainFault, ChainState, Fragment, SizeFault, Status, TxReq};
 
 /// Where the slots lie.
@@ -130,11 +130,12 @@ fn response_in(chain: &Chain, status: Status, i: usize) -> u32
     ensures { result ≡ slice_index (responses status chain.now) i }
 {
     let requests = chain.requests();
-    response_word(status, &requests[i])
+    response(status, &requests[i])
 }
 
 impl Slots {
-    ghost use Rattle.std.specs.Prelude.{◌≡◌, ◌≢◌, ◌≤◌, ◌<◌, ◌↔◌, ◌++◌, ◌∷◌, [], length, slice_index, sum_by, IfOk, IsTrue, MatchResult, Ok, Err, OnErr, OnOk, Some, false};
+    ghost use Rattle.std.specs.Prelude.{◌≡◌, ◌≢◌, ◌≤◌, ◌<◌, ◌↔◌, ◌++◌, ◌∷◌, [], length, slice_index, sum_by, IfOk};
+    ghost use Rattle.std.specs.Prelude.{IsTrue, MatchResult, Ok, Err, OnErr, OnOk, Some, false};
     ghost use Rattle.xen_netif.specs.Chain.{extra_info, more_data};
     ghost use Rattle.std.specs.List.{list_all};
     ghost use Rattle.xen_netif.specs.Fragments.{fragment_size, fragments_of, is_in_page};
@@ -249,7 +250,7 @@ impl Slots {
     {
         match self.lie {
             Lie::Nowhere => unreachable!(),
-            Lie::Alone => response_word(status, &Some(TxReq::of_words(self.lone))),
+            Lie::Alone => response(status, &Some(TxReq::of_words(self.lone))),
             Lie::InChain => response_in(&self.chain, status, i),
         }
     }

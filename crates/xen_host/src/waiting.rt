@@ -1,10 +1,7 @@
 //! Waiting for rx slots: the end of `ring.h`'s final check, for as many requests as a packet has pages.
 
-ghost use Rattle.std.specs.Prelude.{◌≡◌, ◌≤◌, ◌<◌, ◌^◌, ℕ, None, length};
-ghost use Rattle.xen_steps.specs.Places.{available};
+ghost use Rattle.std.specs.Prelude.{◌≡◌, ◌≤◌, ◌<◌, ◌^◌, None, length};
 ghost use Rattle.xen_transmit.specs.Wired.{IsWired};
-ghost use Rattle.xen_back.specs.Awaited.{IsAwaiting, last_look};
-ghost use Rattle.xen_back.specs.declared.wiring.Wiring.{Wiring as WiringView};
 ghost use Rattle.xen_host.specs.Fed.{IsInPages};
 ghost use Rattle.xen_host.specs.Queues.{IsWaitStep, IsWaitTaken, IsWaitTakenAt, stage_of_wait, task_of};
 ghost use Rattle.xen_host.specs.Waits.{IsWaitRow};
@@ -18,7 +15,8 @@ use crate::wires::Wires;
 use crate::words::are_words;
 use crate::work::Work;
 use std::mem;
-use xen_back::{Awaited, Halt, State};
+use xen_back::decisions::told;
+use xen_back::{Awaited, State};
 use xen_ring::{REQ_EVENT, REQ_PROD};
 use xen_steps::{header, requests_shown};
 
@@ -37,31 +35,6 @@ pub(crate) struct AfterStep {
     pub state: State,
     pub left: Option<Waiting>,
     pub op: Op,
-}
-
-/// The answer where the producer shows so many slots.
-fn told(state: &State, pages: u32, shown: Option<u32>) -> (State, Awaited)
-    ensures { (w : WiringView) (p : ℕ) → state.now.halt ≡ None → p < 2 ^ 32 → available state.now.rx_index p ≡ shown
-        → IsAwaiting w state.now pages (last_look w.vif state.now.rx_index pages p) result.0 result.1 }
-{
-    match shown {
-        None => {
-            let cause = Halt::RxProducer;
-            let halted = State {
-                tx_index: state.tx_index,
-                rx_index: state.rx_index,
-                halt: Some(cause),
-            };
-            (halted, Awaited::Halted { cause })
-        }
-        Some(slots) => {
-            if slots < pages {
-                (*state, Awaited::Waiting)
-            } else {
-                (*state, Awaited::Posted)
-            }
-        }
-    }
 }
 
 /// A step of a wait of a queue that hasn't halted.

@@ -12,17 +12,16 @@ ghost use Rattle.xen_host.specs.Wired.{wiring_of};
 ghost use Rattle.xen_host.specs.declared.moving.Moving.TheVariants as movings;
 ghost use Rattle.xen_host.specs.declared.stage.Stage.TheVariants as stages;
 
-use crate::answering::status;
 use crate::copying::{count_of, push_words};
 use crate::in_place::put;
 use crate::moving::Moving;
 use crate::op::Op;
-use crate::sent::after_slots;
 use crate::stage::{Answering, Paging, Responding, Sending, Stage};
 use crate::want::{answer_want, push_want};
 use crate::wires::Wires;
 use crate::work::Work;
 use bpf_vm::XDP_TX;
+use xen_back::decisions::{after_slots, status};
 use xen_back::{Kind, State};
 use xen_netif::Status;
 use xen_ring::due;
@@ -49,7 +48,7 @@ pub(crate) fn is_last(paging: &Paging) -> bool
 pub(crate) fn whole(stage: Stage, words: &[u32]) -> Box<Work>
     requires found { FindsWhole stage }
     requires enough { 1024 ≤ length words.now }
-    ensures alone { length result.value.chain ≡ 1 }
+    ensures one_slot { length result.value.chain ≡ 1 }
     ensures rest { (w : Wiring) (s : StateView) → after_copy w s result.value.chain (Some result.value.packet)
         ≡ fed (rest_in w s stage) (answers stage words.now) }
 {
@@ -84,7 +83,7 @@ pub(crate) fn sent_back(work: Box<Work>, ops: u32) -> Stage
 /// A packet that the program doesn't send back: its one response is to be written, and then pushed.
 #[inline(always)]
 pub(crate) fn lone_response(state: &State, work: Box<Work>, number: u32, ops: u32) -> Responding
-    requires alone { length work.value.chain ≡ 1 }
+    requires one_slot { length work.value.chain ≡ 1 }
     requires stays { number ≢ 3 }
     ensures rest { (w : Wiring) → rest_in w state.now (stages.Answer result)
         ≡ after_run w state.now work.value.chain (record { number = number; packet = work.value.packet; ops = ops }) }
@@ -140,7 +139,7 @@ pub(crate) fn sent_work(stage: Stage) -> (Box<Work>, u32)
 /// A packet that was sent back: its one tx response is to be written, and then pushed.
 #[inline(always)]
 pub(crate) fn sent_response(state: &State, work: Box<Work>, ops: u32) -> Responding
-    requires alone { length work.value.chain ≡ 1 }
+    requires one_slot { length work.value.chain ≡ 1 }
     ensures rest { (w : Wiring) → rest_in w state.now (stages.Answer result)
         ≡ after_transmit w state.now work.value.chain work.value.packet ops (outcomes.Sent (length work.value.targets)) }
     ensures pushed { (w : Wiring) (s : StateView) →

@@ -1,5 +1,13 @@
 //! Shared pages: frames of words that another domain may rewrite between any two accesses, the buses that
 //! reach them, and the grants by which a domain lends its frames.
+//!
+//! - `place`, `access`, `bus`: a word of a frame, one access to it, and what makes it; `run`: words in a row
+//! - `frames`, `page_bus`: shared words; `plain_bus`: words that one thread owns
+//! - `script_bus`, `recorder`, `rewriter`, `rewriting`, `log`: buses for tests, and what a bus reports
+//! - `owners`, `extents`: who owns each frame
+//! - `table`, `entry`, `fault`: a domain's grants, and why one may not be used
+//! - `mapping`, `mapped`: a granted frame, mapped
+//! - `laws`: what holds of these
 #![tactic(auto)]
 
 pub mod access;

@@ -1,7 +1,7 @@
 //! A bus that answers from a list.
 
 ghost use Rattle.std.specs.Prelude.{◌≡◌, IfOk, slice_index, drop};
-ghost use Rattle.xen_page.specs.Log.{empty_log, noted, told};
+ghost use Rattle.xen_page.specs.Log.{empty_log, told};
 ghost use Rattle.xen_page.specs.Script.{Answers};
 
 use crate::access::Access;
@@ -22,7 +22,7 @@ pub struct ScriptBus {
 }
 
 impl Model for ScriptBus {
-    ghost use Rattle.std.specs.Prelude.{◌≤◌, drop, vec_len};
+    ghost use Rattle.std.specs.Prelude.{drop};
     ghost use Rattle.xen_page.specs.Script.{Script};
 
     ghost Value = { Script };

@@ -1,6 +1,6 @@
 //! A domain's grant table.
 
-ghost use Rattle.std.specs.Prelude.{◌≡◌, ◌+◌, ◌<◌, ◌≤◌, ◌↔◌, All, Contains, IfSome, IsTrue, length, slice_get};
+ghost use Rattle.std.specs.Prelude.{◌≡◌, ◌+◌, ◌<◌, ◌≤◌, ◌↔◌, All, Contains, IfSome, IsTrue, length};
 ghost use Rattle.std.specs.Option.{SomeIff};
 ghost use Rattle.xen_page.specs.Table.{IsSmallTable, IsTable, entry_place};
 

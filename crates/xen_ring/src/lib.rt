@@ -1,4 +1,9 @@
 //! The arithmetic of a Xen I/O ring's indices, the words of a ring's page, and the event ports of a domain.
+//!
+//! - `index`: free-running indices of a ring, and when a notice is due
+//! - `layout`: the words of a ring's page
+//! - `overflow`: more requests than a ring has entries
+//! - `port`, `ports`: event ports
 #![tactic(auto)]
 
 pub mod index;

@@ -18,7 +18,7 @@ written_words ts packet zero k = refl
 written_words ts packet (suc n) k = ap (λ l. word_of packet k ∷ l) (written_words ts packet n (k + 1))
 
 -- four bytes of a word
-four : (a b c d : ℕ) → a < 256 → b < 256 → c < 256 → d < 256 → to_le_bytes w32 (a + 2 ^ 8 * b + 2 ^ 16 * c + 2 ^ 24 * d) ≡ a ∷ b ∷ c ∷ d ∷ []
+pub four : (a b c d : ℕ) → a < 256 → b < 256 → c < 256 → d < 256 → to_le_bytes w32 (a + 2 ^ 8 * b + 2 ^ 16 * c + 2 ^ 24 * d) ≡ a ∷ b ∷ c ∷ d ∷ []
 four a b c d h i j k = le_bytes_4 (a ∷ b ∷ c ∷ d ∷ []) (a + 2 ^ 8 * b + 2 ^ 16 * c + 2 ^ 24 * d) refl by (omega arith)
   where
     by : (n : ℕ) → get_or (a ∷ b ∷ c ∷ d ∷ []) n 0 < 256

@@ -3,7 +3,6 @@
 ghost use Rattle.std.specs.Prelude.{◌≡◌, ◌+◌, ◌*◌, ◌/◌, ◌%◌, ◌<◌, ◌≤◌, length, false, None, Some, slice_index};
 ghost use Rattle.xen_transmit.specs.Packets.{buffer_word, frame_in, pages, rx_response, size_at, status_at};
 ghost use Rattle.xen_transmit.specs.Packets.{target_at as target_at_spec, word_of, words};
-ghost use Rattle.xen_steps.specs.declared.want.Want.TheVariants as want;
 
 use crate::target::{Target, Targets};
 use xen_netif::{RxFlags, RxRsp, Status};

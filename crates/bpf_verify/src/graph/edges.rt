@@ -1,5 +1,5 @@
 //! Where an instruction leads.
-ghost use Rattle.std.specs.Prelude.{◌≡◌, ◌<◌, slice_get};
+ghost use Rattle.std.specs.Prelude.{◌≡◌, ◌<◌};
 ghost use Rattle.bpf_verify.specs.Ways.{fall_to, jump_to};
 
 use crate::slot::{falls_through, insn_at, jump_of, landing};

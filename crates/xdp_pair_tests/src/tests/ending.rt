@@ -1,7 +1,5 @@
 //! How runs end, and their notices.
 
-ghost use Rattle.std.specs.Prelude.{◌≤◌};
-
 use super::fixtures::rows_behind;
 use crate::bench::{Bench, PASSES, Rows, TURNS, passed, program, rows_of, setup_of};
 use std::alloc::Global;

@@ -1,5 +1,5 @@
 //! Packets of the host's own, delivered between the turns of a world's queues.
-ghost use Rattle.std.specs.Prelude.{◌≡◌, ◌<◌, ◌≤◌, length, vec_len};
+ghost use Rattle.std.specs.Prelude.{◌≡◌, ◌<◌, vec_len};
 
 use super::programs::{PASS, SEND, accepted, buffers};
 use std::alloc::{AllocError, Global};

@@ -1,5 +1,5 @@
 //! Turns over pages that are rewritten between their accesses, driven, driven again from a script, and replayed.
-ghost use Rattle.std.specs.Prelude.{◌≡◌, ◌≤◌, length};
+ghost use Rattle.std.specs.Prelude.{◌≡◌, length};
 ghost use Rattle.xen_back.specs.Queues.{IsReady, wiring_of};
 
 use super::kind::{Kind, kind_of};
@@ -205,11 +205,11 @@ fn notices_of(queue: &mut Queue, answers: &[u32]) -> Option<u32> {
         match queue.wanted() {
             Want::Read(_) => queue.feed(Answer::Word(given.next().copied().unwrap_or(0))),
             Want::Load { .. } | Want::Add { .. } => queue.feed(Answer::Counter(0)),
-            Want::Write(..) => queue.feed(Answer::Went),
-            Want::Instr => queue.feed(Answer::Went),
+            Want::Write(..) => queue.feed(Answer::Nothing),
+            Want::Instr => queue.feed(Answer::Nothing),
             Want::Notify(_) => {
                 sent = sent.saturating_add(1);
-                queue.feed(Answer::Went);
+                queue.feed(Answer::Nothing);
             }
             Want::Done => return Some(sent),
         }

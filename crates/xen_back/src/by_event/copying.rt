@@ -1,6 +1,6 @@
 //! Copying a chain's fragments.
 
-ghost use Rattle.std.specs.Prelude.{◌≡◌, ◌<◌, ◌≤◌, ◌+◌, ◌-◌, ◌/◌, ◌++◌, List, ℕ, suc, length, drop, sum_by, false, IsTrue, Ok, Some};
+ghost use Rattle.std.specs.Prelude.{◌≡◌, ◌<◌, ◌≤◌, ◌+◌, ◌-◌, ◌/◌, ◌++◌, List, ℕ, suc, length, drop, sum_by, false, Ok, Some};
 ghost use Rattle.xen_netif.specs.Copy.{Covers, bytes_in};
 ghost use Rattle.xen_netif.specs.Fragments.{fragment_size, fragments_of};
 ghost use Rattle.xen_netif.specs.Standing.{standing};
@@ -8,7 +8,7 @@ ghost use Rattle.xen_netif.specs.declared.chain.ChainState.TheVariants.{Complete
 ghost use Rattle.xen_netif.specs.declared.status.Status.TheVariants.{Error};
 ghost use Rattle.xen_page.specs.Entry.{entry_of};
 ghost use Rattle.xen_page.specs.Grant.{checked};
-ghost use Rattle.xen_back.specs.Rest.{fragment_at, is_here, rest_at, rest_in};
+ghost use Rattle.xen_back.specs.Rest.{fragment_at, rest_at, rest_in};
 ghost use Rattle.xen_steps.specs.Pages.{HasRoom};
 ghost use Rattle.xen_steps.specs.Steps.{bind};
 ghost use Rattle.xen_transmit.specs.Entries.{entry_at};
@@ -40,8 +40,7 @@ pub(crate) fn begin_copy<'p, 'b>(
     chain: Chain,
 ) -> Stage<'p, 'b>
     requires { standing chain ≡ Some (Ok Complete) }
-    ensures here { IsTrue (is_here result) }
-    ensures rest { rest_in wiring.now state.now result ≡ after_chain wiring.now state.now chain (fragments_of chain) }
+    ensures { rest_in wiring.now state.now result ≡ after_chain wiring.now state.now chain (fragments_of chain) }
 {
     match chain.fragments() {
         Err(fault) => Stage::At(packet, refuse(state, &chain, Refusal::Size(fault))),
@@ -78,8 +77,7 @@ fn next_fragment<'p, 'b>(
 ) -> Stage<'p, 'b>
     requires within { i ≤ length fragments.items }
     requires room { length packet + sum_by fragment_size (drop i fragments.items) ≤ 65535 }
-    ensures here { IsTrue (is_here result) }
-    ensures rest { rest_in wiring.now state.now result
+    ensures { rest_in wiring.now state.now result
         ≡ bind (copy wiring.now (drop i fragments.items) packet.entry) (after_copy wiring.now state.now chain) }
 {
     if i == fragments.len() {
@@ -125,8 +123,7 @@ pub(crate) fn after_entry<'p, 'b>(
     flags_word: u32,
     frame_word: u32,
 ) -> Stage<'p, 'b>
-    ensures here { IsTrue (is_here result) }
-    ensures rest { rest_in wiring.now state.now result
+    ensures { rest_in wiring.now state.now result
         ≡ bind (entered (fragment_at entry.entry.fragments.items entry.entry.i)
         (copy wiring.now (drop (entry.entry.i + 1) entry.entry.fragments.items)) entry.entry.packet
         (checked wiring.now.vif.owners.now wiring.now.vif.granter wiring.now.vif.user (entry_of flags_word frame_word) false))
@@ -176,8 +173,7 @@ fn begin_page<'p, 'b>(
 ) -> Stage<'p, 'b>
     requires within { i ≤ length fragments.items }
     requires room { length packet + fragment.size + sum_by fragment_size (drop i fragments.items) ≤ 65535 }
-    ensures here { IsTrue (is_here result) }
-    ensures rest { rest_in wiring.now state.now result
+    ensures { rest_in wiring.now state.now result
         ≡ bind (bind (copy_words fragment frame (fragment.offset / 4) (covered fragment) packet.entry)
         (copy wiring.now (drop i fragments.items))) (after_copy wiring.now state.now chain) }
 {
@@ -228,8 +224,7 @@ pub(crate) fn after_page<'p, 'b>(
     page: Paging<'b>,
     word: u32,
 ) -> Stage<'p, 'b>
-    ensures here { IsTrue (is_here result) }
-    ensures rest { rest_in wiring.now state.now result
+    ensures { rest_in wiring.now state.now result
         ≡ bind (bind (copy_words page.entry.fragment page.entry.frame (page.entry.place + 1) page.entry.n (page.entry.packet
         ++ bytes_in page.entry.fragment page.entry.place word)) (copy wiring.now (drop page.entry.i page.entry.fragments.items)))
         (after_copy wiring.now state.now page.entry.chain) }

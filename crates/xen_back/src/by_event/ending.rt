@@ -1,11 +1,9 @@
 //! The end of a turn.
 
-ghost use Rattle.std.specs.Prelude.{◌≡◌, IsTrue};
-ghost use Rattle.std.specs.Prelude.{◌≤◌, [], List, ℕ, length};
-ghost use Rattle.xen_steps.specs.Answers.{number};
-ghost use Rattle.xen_back.specs.Rest.{at_phase, is_here, packet_at, rest_at, rest_in};
+ghost use Rattle.std.specs.Prelude.{◌≡◌, List, ℕ};
+ghost use Rattle.xen_back.specs.Rest.{at_phase, packet_at, rest_at, rest_in};
 ghost use Rattle.xen_steps.specs.Steps.{done, want_of};
-ghost use Rattle.xen_back.specs.Turned.{IsShort, Shows, turned};
+ghost use Rattle.xen_back.specs.Turned.{turned};
 ghost use Rattle.xen_back.specs.declared.by_event.phase.Phase.{Phase as PhaseView};
 ghost use Rattle.xen_back.specs.declared.by_event.phase.Phase.TheVariants as phases;
 ghost use Rattle.xen_back.specs.declared.by_event.stage.Stage.TheVariants as stages;
@@ -14,8 +12,7 @@ ghost use Rattle.xen_back.specs.declared.wiring.Wiring.{Wiring as WiringView};
 use crate::by_event::phase::Phase;
 use crate::by_event::stage::Stage;
 use crate::state::State;
-use crate::turn::{Kind, Turn};
-use bpf_vm::Action;
+use crate::turn::Kind;
 use xen_steps::Want;
 
 /// Gives a stage another phase, where it has one.
@@ -29,9 +26,7 @@ fn set_phase(stage: &mut Stage, phase: Phase)
 
 /// The state and the turn of a stage that wants nothing more. The stage is then between turns.
 pub(crate) fn over(state: &State, stage: &mut Stage) -> (State, Kind)
-    requires here { IsTrue (is_here stage.old) }
-    requires over { (w : WiringView) × (want_of (rest_in w state.now stage.old) ≡ Want.Done) }
-    ensures here { IsTrue (is_here stage.new) }
+    requires { (w : WiringView) × (want_of (rest_in w state.now stage.old) ≡ Want.Done) }
     ensures over { (w : WiringView) → rest_in w state.now stage.old ≡ done (result.0, turned result.1 (packet_at stage.new)) }
     ensures ready { (p : List ℕ) × (stage.new ≡ stages.At p phases.Ready) }
 {
@@ -42,14 +37,14 @@ pub(crate) fn over(state: &State, stage: &mut Stage) -> (State, Kind)
 
 /// The state and the turn of a stage that wants nothing more.
 fn ended(state: &State, stage: &Stage) -> (State, Kind)
-    requires here { IsTrue (is_here stage.now) }
-    requires over { (w : WiringView) × (want_of (rest_in w state.now stage.now) ≡ Want.Done) }
+    requires { (w : WiringView) × (want_of (rest_in w state.now stage.now) ≡ Want.Done) }
     ensures at { (p : List ℕ) × (x : PhaseView) × (stage.now ≡ stages.At p x) }
     ensures over { (w : WiringView) → rest_in w state.now stage.now ≡ done (result.0, turned result.1 (packet_at stage.now)) }
 {
     match stage {
         Stage::At(_, phase) => ending(state, phase),
         Stage::Run(run) => {
+            // Only the proof uses what this call ensures: a program that runs wants something.
             let _want = run.vm.want();
             unreachable!()
         }
@@ -68,39 +63,5 @@ fn ending(state: &State, phase: &Phase) -> (State, Kind)
             None => unreachable!(),
         },
         _ => unreachable!(),
-    }
-}
-
-/// The turn that a host is shown.
-pub(crate) fn shown<'t>(stage: &'t Stage<'_, '_>, kind: Kind) -> Turn<'t>
-    ensures shows { Shows (turned kind (packet_at stage.now)) result }
-    ensures short { IsShort result }
-{
-    match kind {
-        Kind::Idle => Turn::Idle,
-        Kind::Ran { number, ops, slots } => Turn::Ran {
-            action: Action::of(number),
-            number,
-            packet: packet_in(stage),
-            ops,
-            slots,
-        },
-        Kind::Refused { cause, ops, slots } => Turn::Refused { cause, ops, slots },
-        Kind::Halted { cause } => Turn::Halted { cause },
-    }
-}
-
-fn packet_in<'t>(stage: &'t Stage<'_, '_>) -> &'t [u8]
-    ensures same { result.now ≡ packet_at stage.now }
-    ensures short { length result.now ≤ 65535 }
-{
-    match stage {
-        Stage::At(packet, _) => packet.bytes(),
-        Stage::EntryFlags(entry) => entry.packet.bytes(),
-        Stage::EntryFrame { entry, .. } => entry.packet.bytes(),
-        Stage::Page(page) => page.packet.bytes(),
-        Stage::Run(_) => &[],
-        Stage::Send(packet, _) => packet.bytes(),
-        Stage::Gone => &[],
     }
 }

@@ -1,14 +1,15 @@
 //! Running the program on the copy.
 
-ghost use Rattle.std.specs.Prelude.{ℕ, ◌≡◌, ◌+◌, IsTrue, Some};
+ghost use Rattle.std.specs.Prelude.{ℕ, List, ◌≡◌, ◌≢◌, ◌+◌, Some};
 ghost use Rattle.bpf_vm.specs.Course.{left};
-ghost use Rattle.xen_back.specs.Rest.{is_here, rest_in};
+ghost use Rattle.xen_back.specs.Rest.{rest_at, rest_in};
 ghost use Rattle.xen_steps.specs.Steps.{bind, next_by, want_of};
 ghost use Rattle.xen_back.specs.Tree.{after_copy, after_run, program};
 ghost use Rattle.xen_back.specs.declared.state.State.{State as StateView};
 ghost use Rattle.xen_back.specs.declared.wiring.Wiring.{Wiring as WiringView};
 
 use crate::by_event::answering::begin_answers;
+use crate::by_event::phase::Phase;
 use crate::by_event::sent::begin_send;
 use crate::by_event::stage::{Executing, Stage};
 use crate::copy_buf::CopyBuf;
@@ -26,8 +27,7 @@ pub(crate) fn begin_run<'p, 'b>(
     packet: CopyBuf<'b>,
     chain: Chain,
 ) -> Stage<'p, 'b>
-    ensures here { IsTrue (is_here result) }
-    ensures rest { (s : StateView) → rest_in wiring.now s result ≡ after_copy wiring.now s chain (Some packet.entry) }
+    ensures { (s : StateView) → rest_in wiring.now s result ≡ after_copy wiring.now s chain (Some packet.entry) }
 {
     let vm = Vm::start(
         wiring.program,
@@ -52,15 +52,9 @@ pub(crate) fn executing_want(run: &Executing) -> Want
 }
 
 /// After an instruction.
-pub(crate) fn executed<'p, 'b>(
-    wiring: &Wiring<'p>,
-    state: &State,
-    run: Executing<'p, 'b>,
-    counter: u64,
-) -> Stage<'p, 'b>
-    ensures here { IsTrue (is_here result) }
-    ensures rest { (word : ℕ) → rest_in wiring.now state.now result
-        ≡ next_by (bind (program (left run.entry.vm) run.entry.ops) (after_run wiring.now state.now run.entry.chain)) word counter }
+pub(crate) fn executed<'p, 'b>(state: &State, run: Executing<'p, 'b>, counter: u64) -> Stage<'p, 'b>
+    ensures { (w : WiringView) (word : ℕ) → rest_in w state.now result
+        ≡ next_by (bind (program (left run.entry.vm) run.entry.ops) (after_run w state.now run.entry.chain)) word counter }
 {
     let Executing { chain, mut vm, ops } = run;
     match vm.want() {
@@ -70,6 +64,7 @@ pub(crate) fn executed<'p, 'b>(
         }
         VmWant::Load { .. } => {
             vm.loaded(counter);
+            // Only the proof uses what this call ensures: the bound of the instructions.
             let _count = vm.count();
             Stage::Run(Executing {
                 chain,
@@ -79,6 +74,7 @@ pub(crate) fn executed<'p, 'b>(
         }
         VmWant::Add { .. } => {
             vm.added(counter);
+            // Only the proof uses what this call ensures: the bound of the instructions.
             let _count = vm.count();
             Stage::Run(Executing {
                 chain,
@@ -88,29 +84,23 @@ pub(crate) fn executed<'p, 'b>(
         }
         VmWant::Exit { .. } => {
             let (number, packet) = vm.finish();
-            ran(wiring, state, CopyBuf::of(packet), chain, number, ops)
+            let packet = CopyBuf::of(packet);
+            if number == XDP_TX {
+                Stage::Send(packet, begin_send(chain, ops))
+            } else {
+                Stage::At(packet, answer_run(state, &chain, number, ops))
+            }
         }
     }
 }
 
-/// After the run.
-fn ran<'p, 'b>(
-    wiring: &Wiring<'p>,
-    state: &State,
-    packet: CopyBuf<'b>,
-    chain: Chain,
-    number: u32,
-    ops: u32,
-) -> Stage<'p, 'b>
-    ensures here { IsTrue (is_here result) }
-    ensures rest { rest_in wiring.now state.now result
-        ≡ after_run wiring.now state.now chain (record { number = number; packet = packet.entry; ops = ops }) }
+/// After a run whose packet isn't sent back.
+fn answer_run(state: &State, chain: &Chain, number: u32, ops: u32) -> Phase
+    requires { number ≢ 3 }
+    ensures { (w : WiringView) (packet : List ℕ) → rest_at w state.now packet result
+        ≡ after_run w state.now chain.now (record { number = number; packet = packet; ops = ops }) }
 {
-    if number == XDP_TX {
-        begin_send(wiring, state, packet, chain, ops)
-    } else {
-        let slots = chain.requests().len() as u32;
-        let kind = Kind::Ran { number, ops, slots };
-        Stage::At(packet, begin_answers(*state, &chain, status(number), kind))
-    }
+    let slots = chain.requests().len() as u32;
+    let kind = Kind::Ran { number, ops, slots };
+    begin_answers(*state, chain, status(number), kind)
 }

@@ -1,8 +1,7 @@
 //! A stage after an answer.
 
-ghost use Rattle.std.specs.Prelude.{◌≡◌, ℕ, IsTrue};
-ghost use Rattle.xen_back.specs.Queues.{rest};
-ghost use Rattle.xen_back.specs.Rest.{is_here, rest_at, rest_in};
+ghost use Rattle.std.specs.Prelude.{◌≡◌, ℕ};
+ghost use Rattle.xen_back.specs.Rest.{rest_at, rest_in};
 ghost use Rattle.xen_steps.specs.Steps.{next_by};
 
 use crate::by_event::answering::{after_event, answer_written};
@@ -24,8 +23,7 @@ fn phase_fed<'p, 'b>(
     phase: Phase,
     word: u32,
 ) -> Stage<'p, 'b>
-    ensures here { IsTrue (is_here result) }
-    ensures rest { (counter : ℕ) → rest_in wiring.now state.now result
+    ensures { (counter : ℕ) → rest_in wiring.now state.now result
         ≡ next_by (rest_at wiring.now state.now packet.entry phase) word counter }
 {
     match phase {
@@ -53,9 +51,7 @@ pub(crate) fn stage_fed<'p, 'b>(
     word: u32,
     counter: u64,
 ) -> Stage<'p, 'b>
-    requires { IsTrue (is_here stage) }
-    ensures here { IsTrue (is_here result) }
-    ensures rest { rest_in wiring.now state.now result ≡ next_by (rest_in wiring.now state.now stage.entry) word counter }
+    ensures { rest_in wiring.now state.now result ≡ next_by (rest_in wiring.now state.now stage.entry) word counter }
 {
     match stage {
         Stage::At(packet, phase) => phase_fed(wiring, state, packet, phase, word),
@@ -67,8 +63,7 @@ pub(crate) fn stage_fed<'p, 'b>(
             after_entry(wiring, state, entry, flags_word, word)
         },
         Stage::Page(page) => after_page(wiring, state, page, word),
-        Stage::Run(run) => executed(wiring, state, run, counter),
+        Stage::Run(run) => executed(state, run, counter),
         Stage::Send(packet, sent) => sent_fed(wiring, state, packet, sent, word),
-        Stage::Gone => unreachable!(),
     }
 }

@@ -1,10 +1,10 @@
 //! Looking for requests, and reading the slots of a chain.
 
-ghost use Rattle.std.specs.Prelude.{◌≡◌, ◌≢◌, ◌+◌, ◌-◌, ◌<◌, ◌++◌, ◌∷◌, [], List, ℕ, suc, length, IsTrue, Ok, Some};
+ghost use Rattle.std.specs.Prelude.{◌≡◌, ◌≢◌, ◌+◌, ◌-◌, ◌<◌, ◌++◌, ◌∷◌, [], List, ℕ, suc, length, Ok, Some};
 ghost use Rattle.xen_netif.specs.Standing.{standing};
 ghost use Rattle.xen_netif.specs.declared.chain.ChainState.TheVariants.{Complete};
 ghost use Rattle.xen_steps.specs.Places.{add32, available};
-ghost use Rattle.xen_back.specs.Rest.{is_here, rest_at, rest_in, rest_of_slot};
+ghost use Rattle.xen_back.specs.Rest.{rest_at, rest_in, rest_of_slot};
 ghost use Rattle.xen_steps.specs.Steps.{bind, next_by};
 ghost use Rattle.xen_back.specs.Tree.{after_look, after_scan, halted as halted_spec, judged, read_slots, second, seen, third, whole_turn};
 ghost use Rattle.xen_back.specs.declared.state.State.{State as StateView};
@@ -118,8 +118,7 @@ pub(crate) fn after_slot<'p, 'b>(
     reading: Reading,
     slot: [u32; 3],
 ) -> Stage<'p, 'b>
-    ensures here { IsTrue (is_here result) }
-    ensures rest { rest_in wiring.now state.now result
+    ensures { rest_in wiring.now state.now result
         ≡ bind (judged (reading.chain ++ slot ∷ []) (standing (reading.chain ++ slot ∷ []))
         (read_slots wiring.now state.now.tx_index reading.left (reading.chain ++ slot ∷ []))) (after_scan wiring.now state.now) }
 {

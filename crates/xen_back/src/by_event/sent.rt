@@ -1,10 +1,12 @@
 //! Sending a packet back: a transmit, and the answer to the packet's chain.
 
-ghost use Rattle.std.specs.Prelude.{◌≡◌, List, ℕ, IsTrue};
-ghost use Rattle.xen_back.specs.Rest.{is_here, rest_at, rest_in};
+ghost use Rattle.std.specs.Prelude.{◌≡◌, List, ℕ};
+ghost use Rattle.xen_back.specs.Rest.{rest_at, rest_in};
 ghost use Rattle.xen_transmit.specs.Rest.{rest_after, rest_of};
 ghost use Rattle.xen_steps.specs.Steps.{bind, next_by, want_of};
 ghost use Rattle.xen_back.specs.Tree.{after_transmit, send};
+ghost use Rattle.xen_back.specs.declared.by_event.stage.Stage.TheVariants as stages;
+ghost use Rattle.xen_back.specs.declared.state.State.{State as StateView};
 ghost use Rattle.xen_back.specs.declared.wiring.Wiring.{Wiring as WiringView};
 
 use crate::by_event::answering::begin_answers;
@@ -20,25 +22,14 @@ use xen_steps::Want;
 use xen_transmit::{Outcome, Progress, Transmit};
 
 /// After a run that ended in TX.
-pub(crate) fn begin_send<'p, 'b>(
-    wiring: &Wiring<'p>,
-    state: &State,
-    packet: CopyBuf<'b>,
-    chain: Chain,
-    ops: u32,
-) -> Stage<'p, 'b>
-    ensures here { IsTrue (is_here result) }
-    ensures rest { rest_in wiring.now state.now result ≡ send wiring.now state.now chain packet.entry ops }
+pub(crate) fn begin_send(chain: Chain, ops: u32) -> Transmitting
+    ensures { (w : WiringView) (s : StateView) (packet : List ℕ) → rest_in w s (stages.Send packet result) ≡ send w s chain packet ops }
 {
-    let transmit = Transmit::begin();
-    Stage::Send(
-        packet,
-        Transmitting {
-            chain,
-            transmit,
-            ops,
-        },
-    )
+    Transmitting {
+        chain,
+        transmit: Transmit::begin(),
+        ops,
+    }
 }
 
 /// What a transmit wants.
@@ -63,8 +54,7 @@ pub(crate) fn sent_fed<'p, 'b>(
     sent: Transmitting,
     word: u32,
 ) -> Stage<'p, 'b>
-    ensures here { IsTrue (is_here result) }
-    ensures rest { (counter : ℕ) → rest_in wiring.now state.now result
+    ensures { (counter : ℕ) → rest_in wiring.now state.now result
         ≡ next_by (bind (rest_of wiring.now.vif state.now.rx_index packet.entry sent.transmit.phase)
         (after_transmit wiring.now state.now sent.chain packet.entry sent.ops)) word counter }
 {
@@ -85,8 +75,7 @@ fn progressed<'p, 'b>(
     ops: u32,
     progress: Progress,
 ) -> Stage<'p, 'b>
-    ensures here { IsTrue (is_here result) }
-    ensures rest { (w : WiringView) → rest_in w state.now result
+    ensures { (w : WiringView) → rest_in w state.now result
         ≡ bind (rest_after w.vif state.now.rx_index packet.entry progress) (after_transmit w state.now chain packet.entry ops) }
 {
     match progress {

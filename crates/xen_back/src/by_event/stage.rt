@@ -40,6 +40,4 @@ pub enum Stage<'p, 'b> {
     Page(Paging<'b>),
     Run(Executing<'p, 'b>),
     Send(CopyBuf<'b>, Transmitting),
-    /// Nothing is here while a stage is made of another.
-    Gone,
 }

@@ -66,6 +66,5 @@ pub(crate) fn stage_want(wiring: &Wiring, state: &State, stage: &Stage) -> Want
         }),
         Stage::Run(run) => executing_want(run),
         Stage::Send(packet, sent) => sent_want(wiring, state, packet, sent),
-        Stage::Gone => Want::Done,
     }
 }

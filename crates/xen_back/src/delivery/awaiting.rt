@@ -30,7 +30,7 @@ pub enum Awaited {
 }
 
 /// The answer where the producer shows so many slots.
-pub(crate) fn told(state: &State, pages: u32, shown: Option<u32>) -> (State, Awaited)
+pub fn told(state: &State, pages: u32, shown: Option<u32>) -> (State, Awaited)
     ensures { (result.0, result.1) ≡ wait_end state.now pages shown }
 {
     match shown {
@@ -77,6 +77,7 @@ impl<'p, 'b> Queue<'p, 'b> {
         ensures size { B.size bus.new ≡ B.size bus.old }
         ensures awaited { HasAwaited B.log B.access_gives self.old self.new pages result bus.old bus.new }
     {
+        // The borrow checker has to see this type in the body.
         let _vif = &self.wiring.vif;
         let (after, awaited) = looked_for(&self.wiring, &self.state, pages, bus);
         self.state = after;

@@ -132,6 +132,7 @@ fn moved(vif: &Vif, state: &State, moving: &Moving) -> (State, Delivery)
     match moving {
         Moving::Over { after, delivery } => (*after, *delivery),
         Moving::Sending(sending) => {
+            // Only the proof uses what this call ensures: a transmit that goes on wants something.
             let _want = sending_want(vif, state, sending);
             unreachable!()
         }
@@ -187,6 +188,7 @@ impl<'p, 'b> Queue<'p, 'b> {
         requires over { want_of (left_of delivering) ≡ Want.Done }
         ensures { IsDeliveryOver self.old self.new delivering.entry result }
     {
+        // The borrow checker has to see this type in the body.
         let _vif = &self.wiring.vif;
         let (after, delivery) = moved(&delivering.vif, &delivering.state, &delivering.moving);
         self.state = after;

@@ -37,14 +37,14 @@ pub enum Delivery {
 }
 
 /// Whether a packet can be delivered.
-pub(crate) fn can_be_delivered(packet: &[u8]) -> bool
+pub fn can_be_delivered(packet: &[u8]) -> bool
     ensures { result ≡ is_frame packet.now }
 {
     !(packet.len() < 14 || packet.len() > 65_535)
 }
 
 /// What a transmit of the host's packet came to.
-pub(crate) fn delivered(state: &State, outcome: Outcome) -> (State, Delivery)
+pub fn delivered(state: &State, outcome: Outcome) -> (State, Delivery)
     ensures arrival { arrival state.now outcome ≡ (result.0, result.1) }
     ensures rows { (w : WiringView) (packet : List ℕ) (p : List Event) → is_frame packet ≡ true → state.now.halt ≡ None
         → IsTransmit w.vif state.now.rx_index packet p outcome → IsDelivery w state.now packet p result.0 result.1 }
@@ -117,6 +117,7 @@ impl<'p, 'b> Queue<'p, 'b> {
         ensures size { B.size bus.new ≡ B.size bus.old }
         ensures delivered { IsDelivered B.log B.access_gives self.old self.new packet.now result bus.old bus.new }
     {
+        // The borrow checker has to see this type in the body.
         let _vif = &self.wiring.vif;
         let (after, delivery) = sent_out(&self.wiring, &self.state, packet, bus, ports);
         self.state = after;

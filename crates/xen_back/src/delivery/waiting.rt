@@ -92,6 +92,7 @@ impl<'p, 'b> Queue<'p, 'b> {
         requires over { want_of (left_of_wait awaiting) ≡ Want.Done }
         ensures { IsWaitOver self.old self.new awaiting result }
     {
+        // The borrow checker has to see this type in the body.
         let _vif = &self.wiring.vif;
         let Looking::Over { after, awaited } = awaiting.looking else {
             unreachable!()

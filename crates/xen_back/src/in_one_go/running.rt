@@ -2,7 +2,6 @@
 
 ghost use Rattle.std.specs.List.{list_all};
 ghost use Rattle.std.specs.Prelude.{◌≡◌, ◌≤◌, IsTrue, List, ℕ, [], length, Some, sum_by};
-ghost use Rattle.bpf_maps.specs.Seats.{IsSeatOf};
 ghost use Rattle.xen_netif.specs.Chain.{Slot, requests_of};
 ghost use Rattle.xen_netif.specs.Fragments.{fragment_size, is_in_page};
 ghost use Rattle.xen_netif.specs.declared.status.Status.TheVariants.{Error};
@@ -10,7 +9,7 @@ ghost use Rattle.xen_steps.specs.Event.{Event};
 ghost use Rattle.xen_steps.specs.Steps.{bind};
 ghost use Rattle.xen_transmit.specs.Wired.{IsWired};
 ghost use Rattle.xen_back.specs.Drive.{Driven};
-ghost use Rattle.xen_back.specs.InOneGo.{ended};
+ghost use Rattle.xen_back.specs.InOneGo.{Serve, ServeOn, ended};
 ghost use Rattle.xen_back.specs.Tree.{after_copy, copy, respond, send};
 ghost use Rattle.xen_back.specs.Turned.{Refused};
 
@@ -73,13 +72,9 @@ fn run<B: Bus>(
     packet: &mut CopyBuf<'_>,
     requests: &[Option<TxReq>],
 ) -> Kind
-    requires size { B.size bus.old ≡ length wiring.now.vif.owners.now }
-    requires wired { IsWired wiring.now.vif }
-    requires shapes { counters.now.shapes ≡ wiring.now.program.now.shapes }
-    requires seat { IsSeatOf counters.now seat.old }
+    requires served { Serve wiring.now (B.size bus.old) counters.now seat.old }
     requires few { length requests.now ≤ 23 }
-    ensures size { B.size bus.new ≡ B.size bus.old }
-    ensures seat { seat.new ≡ record seat.old { ops = seat.new.ops } }
+    ensures on { ServeOn (B.size bus.old) (B.size bus.new) seat.old seat.new }
     ensures driven { (chain : List Slot) → requests_of chain ≡ requests.now → (t : List Event) ×
         Driven B.log B.access_gives (after_copy wiring.now state.old chain (Some packet.old))
         (ended (state.new, result) packet.new) bus.old bus.new seat.old.ops seat.new.ops t }
@@ -135,15 +130,11 @@ pub(crate) fn copy_and_run<B: Bus>(
     fragments: &[Fragment],
     requests: &[Option<TxReq>],
 ) -> Kind
-    requires size { B.size bus.old ≡ length wiring.now.vif.owners.now }
-    requires wired { IsWired wiring.now.vif }
-    requires shapes { counters.now.shapes ≡ wiring.now.program.now.shapes }
-    requires seat { IsSeatOf counters.now seat.old }
+    requires served { Serve wiring.now (B.size bus.old) counters.now seat.old }
     requires few { length requests.now ≤ 23 }
     requires in_page { IsTrue (list_all is_in_page fragments.now) }
     requires short { sum_by fragment_size fragments.now ≤ 65535 }
-    ensures size { B.size bus.new ≡ B.size bus.old }
-    ensures seat { seat.new ≡ record seat.old { ops = seat.new.ops } }
+    ensures on { ServeOn (B.size bus.old) (B.size bus.new) seat.old seat.new }
     ensures driven { (chain : List Slot) → requests_of chain ≡ requests.now → (t : List Event) ×
         Driven B.log B.access_gives (bind (copy wiring.now fragments.now []) (after_copy wiring.now state.old chain))
         (ended (state.new, result) packet.new) bus.old bus.new seat.old.ops seat.new.ops t }

@@ -9,9 +9,8 @@ ghost use Rattle.bpf_maps.specs.Seats.{IsSeatOf};
 ghost use Rattle.xen_netif.specs.Fragments.{fragments_of, is_in_page};
 ghost use Rattle.xen_steps.specs.Event.{Event};
 ghost use Rattle.xen_steps.specs.Places.{add32};
-ghost use Rattle.xen_transmit.specs.Wired.{IsWired};
 ghost use Rattle.xen_back.specs.Drive.{Driven, IsTurnOver};
-ghost use Rattle.xen_back.specs.InOneGo.{after_slot, ended, ended_in};
+ghost use Rattle.xen_back.specs.InOneGo.{Serve, ServeOn, after_slot, ended, ended_in};
 ghost use Rattle.xen_back.specs.Rest.{packet_at};
 ghost use Rattle.xen_back.specs.Tree.{after_chain, after_look, whole_turn};
 ghost use Rattle.xen_back.specs.contracts.queue.Queue.{the_row};
@@ -19,10 +18,9 @@ ghost use Rattle.xen_back.specs.Queues.{IsReady, IsSameWiring, state_of, wiring_
 ghost use Rattle.xen_back.specs.declared.by_event.phase.Phase.TheVariants as phases;
 ghost use Rattle.xen_back.specs.declared.by_event.stage.Stage.TheVariants as stages;
 
-use crate::by_event::ending::shown;
 use crate::by_event::stage::Stage;
 use crate::copy_buf::CopyBuf;
-use crate::decisions::halted;
+use crate::decisions::{halted, shown};
 use crate::in_one_go::looking::look;
 use crate::in_one_go::running::{copy_and_run, refuse};
 use crate::in_one_go::slots::{LoneSlot, is_lone, read_chain, read_slot};
@@ -69,12 +67,8 @@ fn one_slot<B: Bus>(
     packet: &mut CopyBuf<'_>,
     slot: &LoneSlot,
 ) -> Kind
-    requires size { B.size bus.old ≡ length wiring.now.vif.owners.now }
-    requires wired { IsWired wiring.now.vif }
-    requires shapes { counters.now.shapes ≡ wiring.now.program.now.shapes }
-    requires seat { IsSeatOf counters.now seat.old }
-    ensures size { B.size bus.new ≡ B.size bus.old }
-    ensures seat { seat.new ≡ record seat.old { ops = seat.new.ops } }
+    requires served { Serve wiring.now (B.size bus.old) counters.now seat.old }
+    ensures on { ServeOn (B.size bus.old) (B.size bus.new) seat.old seat.new }
     ensures driven { (t : List Event) × Driven B.log B.access_gives
         (after_chain wiring.now state.old (slot.now.words ∷ []) (fragments_of (slot.now.words ∷ [])))
         (ended (state.new, result) packet.new) bus.old bus.new seat.old.ops seat.new.ops t }
@@ -110,12 +104,8 @@ fn more_slots<B: Bus>(
     first: [u32; 3],
     left: u32,
 ) -> Kind
-    requires size { B.size bus.old ≡ length wiring.now.vif.owners.now }
-    requires wired { IsWired wiring.now.vif }
-    requires shapes { counters.now.shapes ≡ wiring.now.program.now.shapes }
-    requires seat { IsSeatOf counters.now seat.old }
-    ensures size { B.size bus.new ≡ B.size bus.old }
-    ensures seat { seat.new ≡ record seat.old { ops = seat.new.ops } }
+    requires served { Serve wiring.now (B.size bus.old) counters.now seat.old }
+    ensures on { ServeOn (B.size bus.old) (B.size bus.new) seat.old seat.new }
     ensures driven { (t : List Event) × Driven B.log B.access_gives (after_slot wiring.now state.old left [] first)
         (ended (state.new, result) packet.new) bus.old bus.new seat.old.ops seat.new.ops t }
 {
@@ -169,12 +159,8 @@ fn from_slot<B: Bus>(
     packet: &mut CopyBuf<'_>,
     left: u32,
 ) -> Kind
-    requires size { B.size bus.old ≡ length wiring.now.vif.owners.now }
-    requires wired { IsWired wiring.now.vif }
-    requires shapes { counters.now.shapes ≡ wiring.now.program.now.shapes }
-    requires seat { IsSeatOf counters.now seat.old }
-    ensures size { B.size bus.new ≡ B.size bus.old }
-    ensures seat { seat.new ≡ record seat.old { ops = seat.new.ops } }
+    requires served { Serve wiring.now (B.size bus.old) counters.now seat.old }
+    ensures on { ServeOn (B.size bus.old) (B.size bus.new) seat.old seat.new }
     ensures driven { (t : List Event) × Driven B.log B.access_gives (after_look wiring.now state.old (Some (suc left)))
         (ended (state.new, result) packet.new) bus.old bus.new seat.old.ops seat.new.ops t }
 {
@@ -200,12 +186,8 @@ fn from_look<B: Bus>(
     packet: &mut CopyBuf<'_>,
     shown: Option<u32>,
 ) -> Kind
-    requires size { B.size bus.old ≡ length wiring.now.vif.owners.now }
-    requires wired { IsWired wiring.now.vif }
-    requires shapes { counters.now.shapes ≡ wiring.now.program.now.shapes }
-    requires seat { IsSeatOf counters.now seat.old }
-    ensures size { B.size bus.new ≡ B.size bus.old }
-    ensures seat { seat.new ≡ record seat.old { ops = seat.new.ops } }
+    requires served { Serve wiring.now (B.size bus.old) counters.now seat.old }
+    ensures on { ServeOn (B.size bus.old) (B.size bus.new) seat.old seat.new }
     ensures driven { (t : List Event) × Driven B.log B.access_gives (after_look wiring.now state.old shown)
         (ended (state.new, result) packet.new) bus.old bus.new seat.old.ops seat.new.ops t }
 {
@@ -235,12 +217,8 @@ fn turn<B: Bus>(
     ports: &Ports,
     packet: &mut CopyBuf<'_>,
 ) -> Kind
-    requires size { B.size bus.old ≡ length wiring.now.vif.owners.now }
-    requires wired { IsWired wiring.now.vif }
-    requires shapes { counters.now.shapes ≡ wiring.now.program.now.shapes }
-    requires seat { IsSeatOf counters.now seat.old }
-    ensures size { B.size bus.new ≡ B.size bus.old }
-    ensures seat { seat.new ≡ record seat.old { ops = seat.new.ops } }
+    requires served { Serve wiring.now (B.size bus.old) counters.now seat.old }
+    ensures on { ServeOn (B.size bus.old) (B.size bus.new) seat.old seat.new }
     ensures driven { (t : List Event) × Driven B.log B.access_gives (whole_turn wiring.now state.old)
         (ended (state.new, result) packet.new) bus.old bus.new seat.old.ops seat.new.ops t }
 {
@@ -264,13 +242,9 @@ pub(crate) fn stage_turned<'p, 'b, B: Bus>(
     stage: &mut Stage<'p, 'b>,
 ) -> Kind
     requires ready { (p : List ℕ) × (stage.old ≡ stages.At p phases.Ready) }
-    requires size { B.size bus.old ≡ length wiring.now.vif.owners.now }
-    requires wired { IsWired wiring.now.vif }
-    requires shapes { counters.now.shapes ≡ wiring.now.program.now.shapes }
-    requires seat { IsSeatOf counters.now seat.old }
+    requires served { Serve wiring.now (B.size bus.old) counters.now seat.old }
     ensures ready { (p : List ℕ) × (stage.new ≡ stages.At p phases.Ready) }
-    ensures size { B.size bus.new ≡ B.size bus.old }
-    ensures seat { seat.new ≡ record seat.old { ops = seat.new.ops } }
+    ensures on { ServeOn (B.size bus.old) (B.size bus.new) seat.old seat.new }
     ensures driven { (t : List Event) × Driven B.log B.access_gives (whole_turn wiring.now state.old)
         (ended (state.new, result) (packet_at stage.new)) bus.old bus.new seat.old.ops seat.new.ops t }
 {
@@ -302,15 +276,18 @@ impl<'p, 'b> Queue<'p, 'b> {
     {
         // The borrow checker has to see this type in the body.
         let _vif = &self.wiring.vif;
-        stage_turned(
-            &self.wiring,
-            &mut self.state,
-            bus,
-            counters,
-            seat,
-            ports,
-            &mut self.stage,
-        )
+        match &mut self.stage {
+            Some(stage) => stage_turned(
+                &self.wiring,
+                &mut self.state,
+                bus,
+                counters,
+                seat,
+                ports,
+                stage,
+            ),
+            None => unreachable!(),
+        }
     }
 
     /// A whole turn: its events over the bus, at the counters and to the ports.
@@ -333,8 +310,12 @@ impl<'p, 'b> Queue<'p, 'b> {
             self.entry.ghost_name none (λ _ _. ⊤)
             (λ q. IsTurnOver B.log B.access_gives self.old q result bus.old bus.new seat.old.ops seat.new.ops)) }
     {
+        // The borrow checker has to see this type in the body.
         let _vif = &self.wiring.vif;
         let kind = self.take_turn(bus, counters, seat, ports);
-        shown(&self.stage, kind)
+        match &self.stage {
+            Some(stage) => shown(stage, kind),
+            None => unreachable!(),
+        }
     }
 }

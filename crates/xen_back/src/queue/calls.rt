@@ -12,14 +12,13 @@ ghost use Rattle.xen_back.specs.Turned.{Ending};
 ghost use Rattle.xen_back.specs.Within.{may_want};
 ghost use Rattle.xen_back.specs.contracts.queue.Queue.{the_row};
 
-use crate::by_event::ending::{over, shown};
+use crate::by_event::ending::over;
 use crate::by_event::feeding::stage_fed;
-use crate::by_event::stage::Stage;
 use crate::by_event::wanting::stage_want;
+use crate::decisions::shown;
 use crate::queue::Queue;
 use crate::state::State;
 use crate::turn::Turn;
-use std::mem;
 use xen_page::Mapped;
 use xen_steps::{Answer, Want};
 
@@ -31,7 +30,10 @@ impl<'p, 'b> Queue<'p, 'b> {
         ensures over { result ≡ Want.Done → (end : Ending) × (rest self.now ≡ done end) }
         ensures rests { HasRest self.now }
     {
-        stage_want(&self.wiring, &self.state, &self.stage)
+        match &self.stage {
+            Some(stage) => stage_want(&self.wiring, &self.state, stage),
+            None => unreachable!(),
+        }
     }
 
     /// What the queue wants next, for a caller that holds it by `&mut`.
@@ -40,7 +42,10 @@ impl<'p, 'b> Queue<'p, 'b> {
     {
         // The borrow checker has to see this type in the body.
         let _vif = &self.wiring.vif;
-        stage_want(&self.wiring, &self.state, &self.stage)
+        match &self.stage {
+            Some(stage) => stage_want(&self.wiring, &self.state, stage),
+            None => unreachable!(),
+        }
     }
 
     /// Goes on with the answer to what the queue wants.
@@ -48,11 +53,17 @@ impl<'p, 'b> Queue<'p, 'b> {
         requires { Fits (want_of (rest self.old)) answer }
         ensures { IsFed answer self.old self.new }
     {
+        // The borrow checker has to see this type in the body.
         let _vif = &self.wiring.vif;
         let word = answer.word();
         let counter = answer.counter();
-        let stage = mem::replace(&mut self.stage, Stage::Gone);
-        self.stage = stage_fed(&self.wiring, &self.state, stage, word, counter);
+        match self.stage.take() {
+            Some(stage) => {
+                let next = stage_fed(&self.wiring, &self.state, stage, word, counter);
+                self.stage = Some(next);
+            }
+            None => unreachable!(),
+        }
     }
 
     /// The turn that is over. Its packet lies in the queue's buffer, so the next turn can begin only once it is no longer
@@ -64,10 +75,17 @@ impl<'p, 'b> Queue<'p, 'b> {
             (the_row (record { mir = named 1; lft = [] }) (record { mir = named 2; lft = [] }))
             self.entry.ghost_name none (λ _ _. ⊤) (λ q. IsOver self.old q result)) }
     {
+        // The borrow checker has to see this type in the body.
         let _vif = &self.wiring.vif;
-        let (after, kind) = over(&self.state, &mut self.stage);
+        let (after, kind) = match &mut self.stage {
+            Some(stage) => over(&self.state, stage),
+            None => unreachable!(),
+        };
         self.state = after;
-        shown(&self.stage, kind)
+        match &self.stage {
+            Some(stage) => shown(stage, kind),
+            None => unreachable!(),
+        }
     }
 
     /// What the queue is between turns; inside one, what it was when that began.

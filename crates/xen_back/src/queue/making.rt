@@ -53,7 +53,7 @@ impl<'p, 'b> Queue<'p, 'b> {
             tx_ring: desc.tx,
             rx_ring: desc.rx,
             state,
-            stage,
+            stage: Some(stage),
         }
     }
 }

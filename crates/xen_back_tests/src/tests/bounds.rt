@@ -82,16 +82,16 @@ fn random_turn(queue: &mut Queue, indices: &mut Indices, seed: u32) -> Option<(E
                     _ => {}
                 }
                 events.accesses = events.accesses.saturating_add(1);
-                queue.feed(Answer::Went);
+                queue.feed(Answer::Nothing);
             }
             Want::Instr => {
                 events.instructions = events.instructions.saturating_add(1);
-                queue.feed(Answer::Went);
+                queue.feed(Answer::Nothing);
             }
             Want::Load { .. } | Want::Add { .. } => queue.feed(Answer::Counter(0)),
             Want::Notify(_) => {
                 events.notices = events.notices.saturating_add(1);
-                queue.feed(Answer::Went);
+                queue.feed(Answer::Nothing);
             }
             Want::Done => return Some((events, number)),
         }

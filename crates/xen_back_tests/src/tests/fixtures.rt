@@ -103,7 +103,7 @@ pub fn answer_to(want: Want, word: u32) -> Option<Answer>
 {
     match want {
         Want::Read(_) => Some(Answer::Word(word)),
-        Want::Write(..) | Want::Instr | Want::Notify(_) => Some(Answer::Went),
+        Want::Write(..) | Want::Instr | Want::Notify(_) => Some(Answer::Nothing),
         Want::Load { .. } | Want::Add { .. } => Some(Answer::Counter(0)),
         Want::Done => None,
     }

@@ -175,9 +175,9 @@ fn phase_fed(
 }
 
 /// What the activity gave, without the packet.
-fn ending(wiring: &Wiring, phase: Phase) -> Outcome
-    requires { (s : State) × (p : List ℕ) × (q : List ℕ) × (want_of (rest_at wiring.now s p q phase) ≡ Want.Done) }
-    ensures { (s : State) (p q : List ℕ) → rest_at wiring.now s p q phase ≡ done (s, given result q) }
+fn ending(phase: Phase) -> Outcome
+    requires { (w : Wiring) × (s : State) × (p : List ℕ) × (q : List ℕ) × (want_of (rest_at w s p q phase) ≡ Want.Done) }
+    ensures { (w : Wiring) (s : State) (p q : List ℕ) → rest_at w s p q phase ≡ done (s, given result q) }
 {
     match phase {
         Phase::Ended(outcome) => outcome,
@@ -249,8 +249,10 @@ impl<'p> Front<'p> {
             (the_row (record { mir = named 1; lft = [] }))
             self.entry.ghost_name none (λ _ _. ⊤) (λ f. IsOver self.old f result)) }
     {
+        // The borrow checker has to see these two types in the body.
+        let (_table, _buffers) = (self.wiring.table, self.wiring.tx);
         let phase = mem::replace(&mut self.phase, Phase::Ready);
-        let outcome = ending(&self.wiring, phase);
+        let outcome = ending(phase);
         show(&self.received, outcome)
     }
 

@@ -1,9 +1,8 @@
 //! The words of a packet's pages.
 
 ghost use Rattle.std.specs.Prelude.{◌≡◌, ◌<◌, ◌≤◌, ◌+◌, get_or};
-ghost use Rattle.xen_front.specs.Slots.{buffer, grant_place, piece_size as piece_size_spec, piece_words as piece_words_spec};
+ghost use Rattle.xen_front.specs.Slots.{piece_size as piece_size_spec, piece_words as piece_words_spec};
 ghost use Rattle.xen_front.specs.Slots.{word_at as word_at_spec};
-ghost use Rattle.xen_page.specs.Mapping.{frame_place};
 
 /// A byte of a packet, 0 past its end.
 fn byte_at(bytes: &[u8], at: usize) -> u8

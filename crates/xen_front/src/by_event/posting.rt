@@ -2,7 +2,6 @@
 
 ghost use Rattle.std.specs.Prelude.{◌≡◌, ℕ, List};
 ghost use Rattle.xen_front.specs.Rest.{HasSpace, posting, rest_at};
-ghost use Rattle.xen_front.specs.Slots.{post_writes};
 ghost use Rattle.xen_front.specs.Tree.{notice, publish};
 ghost use Rattle.xen_front.specs.declared.state.State.{State};
 ghost use Rattle.xen_ring.specs.Index.{is_due};
@@ -20,9 +19,9 @@ use xen_steps::{Want, rx_entry};
 const WRITE_GRANT: u32 = 1;
 
 /// Before a posted buffer's grant.
-pub(crate) fn begin_post(wiring: &Wiring, id: u8, start: u32) -> Phase
+pub(crate) fn begin_post(id: u8, start: u32) -> Phase
     ensures space { (q : List ℕ) → HasSpace result q }
-    ensures rest { (s : State) (p q : List ℕ) → rest_at wiring.now s p q result ≡ posting wiring.now s id start 0 }
+    ensures rest { (w : Wiring) (s : State) (p q : List ℕ) → rest_at w s p q result ≡ posting w s id start 0 }
 {
     Phase::PostFrame { id, start }
 }

@@ -1,8 +1,8 @@
 //! A poll's packet: the responses of the rx ring, checked one by one, and their pages.
 
-ghost use Rattle.std.specs.Prelude.{◌≡◌, ◌<◌, ◌≤◌, ◌+◌, ◌-◌, ◌/◌, ◌++◌, ◌∷◌, ℕ, List, [], ◌||◌, suc, length, true};
+ghost use Rattle.std.specs.Prelude.{◌≡◌, ◌<◌, ◌≤◌, ◌+◌, ◌-◌, ◌/◌, ◌++◌, ◌∷◌, ℕ, List, [], ◌||◌, suc, length};
 ghost use Rattle.xen_front.specs.Rest.{HasSpace, bytes_left, gathered, part_rest, rest_at};
-ghost use Rattle.xen_front.specs.Slots.{covered_bytes as covered_bytes_spec, fault_of, in_flight, is_negative as is_negative_spec};
+ghost use Rattle.xen_front.specs.Slots.{covered_bytes as covered_bytes_spec, fault_of, is_negative as is_negative_spec};
 ghost use Rattle.xen_front.specs.Slots.{part_of as part_of_spec, passes_page as passes_page_spec};
 ghost use Rattle.xen_front.specs.Tree.{after_rx_look, checked, first_word, read_page, receive, seen};
 ghost use Rattle.xen_netif.specs.Copy.{Covers, bytes_in};

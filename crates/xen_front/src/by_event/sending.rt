@@ -137,12 +137,12 @@ pub(crate) fn filling_want(wiring: &Wiring, sent: &[u8], filling: &Filling) -> W
 }
 
 /// Before the first piece.
-pub(crate) fn first_piece(wiring: &Wiring, start: u32, ids: ArrayVec<u8, 16>) -> Phase
+pub(crate) fn first_piece(start: u32, ids: ArrayVec<u8, 16>) -> Phase
     requires { 0 < length ids.items }
     ensures space { (q : List ℕ) → HasSpace result q }
-    ensures rest { (s : State) (p q : List ℕ) → rest_at wiring.now s p q result
-        ≡ write_all (send_writes wiring.now start p (length ids.items) 0 ids.items)
-        (publish wiring.now wiring.now.tx_frame start (add32 start (length ids.items)) s) }
+    ensures rest { (w : Wiring) (s : State) (p q : List ℕ) → rest_at w s p q result
+        ≡ write_all (send_writes w start p (length ids.items) 0 ids.items)
+        (publish w w.tx_frame start (add32 start (length ids.items)) s) }
 {
     Phase::GrantFrame(Piece {
         start,

@@ -32,9 +32,9 @@ pub(crate) fn shown(ring: &Ring, producer: u32) -> Option<u32>
 }
 
 /// Before a poll.
-pub(crate) fn begin_poll(wiring: &Wiring) -> Phase
+pub(crate) fn begin_poll() -> Phase
     ensures space { (q : List ℕ) → HasSpace result q }
-    ensures rest { (s : State) (p q : List ℕ) → rest_at wiring.now s p q result ≡ poll wiring.now s }
+    ensures rest { (w : Wiring) (s : State) (p q : List ℕ) → rest_at w s p q result ≡ poll w s }
 {
     Phase::TxLook
 }

@@ -31,6 +31,8 @@ impl<'p> Front<'p> {
             (chosen (pieces_of_spec (length bytes.now)) (state_of self.old).tx.out))) }
         ensures err { OnErr result (IsSame self.old self.new) }
     {
+        // The borrow checker has to see these two types in the body.
+        let (_table, _buffers) = (self.wiring.table, self.wiring.tx);
         match self.state.halt {
             Some(_) => return Err(SendRefusal::Halted),
             None => (),
@@ -52,7 +54,7 @@ impl<'p> Front<'p> {
         self.sent.fill(bytes);
         let start = self.state.tx.prod;
         fly(&mut self.state.tx, ids.as_slice());
-        self.phase = first_piece(&self.wiring, start, ids);
+        self.phase = first_piece(start, ids);
         Ok(())
     }
 
@@ -67,6 +69,8 @@ impl<'p> Front<'p> {
             (post (wiring_of self.old) (state_of self.old) (get_or (all_free (state_of self.old).rx.out) 0 0))) }
         ensures err { OnErr result (IsSame self.old self.new) }
     {
+        // The borrow checker has to see these two types in the body.
+        let (_table, _buffers) = (self.wiring.table, self.wiring.tx);
         match self.state.halt {
             Some(_) => return Err(PostRefusal::Halted),
             None => (),
@@ -79,7 +83,7 @@ impl<'p> Front<'p> {
             Some(id) => {
                 let start = self.state.rx.prod;
                 fly(&mut self.state.rx, &[*id]);
-                self.phase = begin_post(&self.wiring, *id, start);
+                self.phase = begin_post(*id, start);
                 Ok(())
             }
             None => Err(PostRefusal::NoSlot),
@@ -96,6 +100,8 @@ impl<'p> Front<'p> {
         ensures ok { OnOk result (HasBegun self.old self.new (poll (wiring_of self.old) (state_of self.old))) }
         ensures err { OnErr result (IsSame self.old self.new) }
     {
+        // The borrow checker has to see these two types in the body.
+        let (_table, _buffers) = (self.wiring.table, self.wiring.tx);
         match self.state.halt {
             Some(_) => return Err(PollRefusal::Halted),
             None => (),
@@ -103,7 +109,7 @@ impl<'p> Front<'p> {
         if is_busy(&self.phase) {
             return Err(PollRefusal::Busy);
         }
-        self.phase = begin_poll(&self.wiring);
+        self.phase = begin_poll();
         Ok(())
     }
 }

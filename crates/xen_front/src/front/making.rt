@@ -1,6 +1,6 @@
 //! Making a front.
 
-ghost use Rattle.std.specs.Prelude.{◌≡◌, IfOk};
+ghost use Rattle.std.specs.Prelude.{IfOk};
 ghost use Rattle.xen_front.specs.Making.{IsMade, IsNew};
 ghost use Rattle.xen_buffers.specs.Wired.{IsWired, wiring_in};
 

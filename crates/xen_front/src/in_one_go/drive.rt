@@ -44,11 +44,11 @@ fn drive_event<B: Bus>(front: &mut Front, bus: &mut B, ports: &Ports, want: Want
         }
         Want::Write(at, value) => {
             bus.write(at, value);
-            front.feed(Answer::Went);
+            front.feed(Answer::Nothing);
         }
         Want::Notify(port) => {
             ports.notify(port);
-            front.feed(Answer::Went);
+            front.feed(Answer::Nothing);
         }
         Want::Instr => unreachable!(),
         Want::Load { .. } => unreachable!(),

@@ -59,7 +59,7 @@ fn a_second_page_has_the_later_bytes(rt: HostRuntime) {
 /// The flags word of the first grant of an activity.
 fn flags_word(front: &mut Front) -> Option<u32> {
     match front.wanted() {
-        Want::Write(..) => front.feed(Answer::Went),
+        Want::Write(..) => front.feed(Answer::Nothing),
         _ => return None,
     }
     match front.wanted() {

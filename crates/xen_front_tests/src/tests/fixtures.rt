@@ -158,11 +158,11 @@ fn feed_one(front: &mut Front, word: u32) -> Event
             Event::Read(Access::Read { at, answer: word })
         }
         Want::Write(at, value) => {
-            front.feed(Answer::Went);
+            front.feed(Answer::Nothing);
             Event::Wrote(Access::Write { at, value })
         }
         Want::Notify(_) => {
-            front.feed(Answer::Went);
+            front.feed(Answer::Nothing);
             Event::Noticed
         }
         _ => Event::Over,

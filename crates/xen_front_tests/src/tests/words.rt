@@ -61,5 +61,5 @@ fn answers_have_their_numbers(rt: HostRuntime) {
     assert_eq!(rt; Answer::Word(7).counter(), 0);
     assert_eq!(rt; Answer::Counter(0x1_0000_0000).counter(), 0x1_0000_0000);
     assert_eq!(rt; Answer::Counter(7).word(), 0);
-    assert_eq!(rt; Answer::Went.word(), 0);
+    assert_eq!(rt; Answer::Nothing.word(), 0);
 }

@@ -1,6 +1,6 @@
 //! What a bus over plain words answers, and what it leaves.
 
-ghost use Rattle.std.specs.Prelude.{◌≤◌, ◌/◌, length};
+ghost use Rattle.std.specs.Prelude.{◌/◌};
 
 use crate::bench::{A, B, visit};
 use xen_page::{Bus, Place, PlainBus};

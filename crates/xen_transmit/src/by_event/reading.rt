@@ -11,7 +11,6 @@ ghost use Rattle.xen_transmit.specs.Rest.{rest_of};
 ghost use Rattle.xen_steps.specs.Steps.{bind};
 ghost use Rattle.xen_transmit.specs.Transmit.{after_targets, found as found_spec, posted_second, read_targets};
 ghost use Rattle.xen_transmit.specs.Transmit.{requested as requested_spec, rx_respond, targeted};
-ghost use Rattle.xen_steps.specs.declared.want.Want.TheVariants as want;
 ghost use Rattle.xen_transmit.specs.declared.vif.Vif.{Vif as VifView};
 
 use crate::by_event::phase::{Granting, Outcome, Phase, Posting};

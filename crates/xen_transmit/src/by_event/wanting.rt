@@ -6,7 +6,6 @@ ghost use Rattle.xen_steps.specs.Places.{add32};
 ghost use Rattle.xen_transmit.specs.Rest.{rest_of};
 ghost use Rattle.xen_steps.specs.Steps.{want_of};
 ghost use Rattle.xen_transmit.specs.Transmit.{fill_from, rx_answer};
-ghost use Rattle.xen_steps.specs.declared.want.Want.TheVariants as want;
 
 use crate::by_event::phase::Phase;
 use crate::target::Targets;

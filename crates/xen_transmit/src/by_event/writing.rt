@@ -58,6 +58,7 @@ pub(crate) fn after_response(responding: Responding) -> Phase
         (drop (responding.i + 1) responding.targets) }
 {
     let Responding { passed, targets, i } = responding;
+    // Only the proof uses what this call ensures: there are few targets.
     let _few = targets.len();
     Phase::Response {
         passed,

@@ -10,12 +10,12 @@ ghost use Rattle.xen_page.specs.declared.access.Access.TheVariants as accesses;
 ghost use Rattle.xen_steps.specs.Drive.{Driven, IsPageWant, accesses as accesses_in};
 ghost use Rattle.xen_steps.specs.Event.{Event};
 ghost use Rattle.xen_steps.specs.Finish.{Finishes};
-ghost use Rattle.xen_steps.specs.Places.{add32, page_word, rx_entry as rx_entry_place};
+ghost use Rattle.xen_steps.specs.Places.{rx_entry as rx_entry_place};
 ghost use Rattle.xen_steps.specs.Steps.{bind, done};
 ghost use Rattle.xen_transmit.specs.Packets.{pages, words};
 ghost use Rattle.xen_transmit.specs.Shared.{IsEntry};
 ghost use Rattle.xen_transmit.specs.Straight.{Completes, scanned};
-ghost use Rattle.xen_transmit.specs.Transmit.{after_targets, fill, found, outcome_of, read_targets as read_targets_spec, rx_answer};
+ghost use Rattle.xen_transmit.specs.Transmit.{after_targets, fill, found, outcome_of, read_targets as read_targets_spec};
 ghost use Rattle.xen_transmit.specs.Transmit.{rx_publish, rx_respond, transmit};
 ghost use Rattle.xen_transmit.specs.Wired.{IsWired};
 

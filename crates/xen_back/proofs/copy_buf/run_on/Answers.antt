@@ -10,7 +10,7 @@ use Rattle.xen_steps.specs.Event.{Instr, Load, Add}
 use Rattle.xen_steps.specs.Steps.{bind, done}
 use Rattle.xen_back.specs.Ran.{HasRunTo}
 use Rattle.xen_back.specs.Tree.{program, run_of}
-use Rattle.xen_back.proofs.AloneLemmas.{add_number, goes_add, goes_exit, goes_load, load_number, run_alone, run_event}
+use Rattle.xen_back.proofs.InOneGoLemmas.{add_number, goes_add, goes_exit, goes_load, load_number, run_plain, run_event}
 use Rattle.xen_back.proofs.DriveLemmas.{ops_none}
 use Rattle.xen_back.proofs.copy_buf.run_on.Goals as goal
 
@@ -29,7 +29,7 @@ loop-m-init c =
       seat = refl;
       ran = record {
         trace = [];
-        alone = refl;
+        no_access = refl;
         grown = ops_none c.args.seat.now.ops;
         gone = λ f. ap (λ (k : Course). bind (program k 0) f) (sym c.start-vm.ensures.course);
       };
@@ -60,7 +60,7 @@ loop-m-preserved-in-Load c =
     let mid = c.advance.new.self in
     let new = c.loaded.new.self in
     let grown : c.load-number.new.seat.ops ≡ ops = ap ops_of c.load-number.ensures in
-    let one = run_alone start (left l.vm) (left mid) l.ops a.done c.args.seat.now.ops l.seat.ops i.ran a.left in
+    let one = run_plain start (left l.vm) (left mid) l.ops a.done c.args.seat.now.ops l.seat.ops i.ran a.left in
     let next : left new ≡ after (left mid) v = st.left ∙ ap (λ n. after (left mid) n) (load_number c.in-Load.m c.in-Load.k c.in-Load.j (now mid) v want.own) in
     record {
       wired = st.program ∙ a.program ∙ i.wired;
@@ -84,7 +84,7 @@ loop-m-preserved c =
     let mid = c.advance.new.self in
     let new = c.added.new.self in
     let grown : c.add-old.new.seat.ops ≡ ops = ap ops_of c.add-old.ensures in
-    let one = run_alone start (left l.vm) (left mid) l.ops a.done c.args.seat.now.ops l.seat.ops i.ran a.left in
+    let one = run_plain start (left l.vm) (left mid) l.ops a.done c.args.seat.now.ops l.seat.ops i.ran a.left in
     let next : left new ≡ after (left mid) v = st.left ∙ ap (λ n. after (left mid) n) (add_number c.in-Add.m c.in-Add.k c.in-Add.j c.in-Add.delta (now mid) v want.own) in
     record {
       wired = st.program ∙ a.program ∙ i.wired;
@@ -107,6 +107,6 @@ returns-in-Exit-clause-ran c =
     let start = program (run_of c.args.wiring.now c.args.packet.bytes) 0 in
     let mid = c.advance.new.self in
     let bytes = c.finish-number.result.1.bytes in
-    let one = run_alone start (left l.vm) (left mid) l.ops a.done c.args.seat.now.ops l.seat.ops i.ran a.left in
+    let one = run_plain start (left l.vm) (left mid) l.ops a.done c.args.seat.now.ops l.seat.ops i.ran a.left in
     let all = run_event start (program (left mid) l.ops) _ Instr c.args.seat.now.ops l.seat.ops l.seat.ops one (goes_exit (left mid) f.0 l.ops bytes f.1) refl (ops_none l.seat.ops) in
     subst (λ (n : ℕ). HasRunTo start (done (record { number = n; packet = bytes; ops = l.ops })) c.args.seat.now.ops l.seat.ops) (sym f.2) all

@@ -12,7 +12,7 @@ insn-insn-requires c = inside_of c.self.inside.program.now (own_of c.self.inside
 
 pub want-requires-clause-fine : goal.want-requires-clause-fine
 want-requires-clause-fine c =
-    fine_here c.self.inside.program.now c.self.inside.pc c.self.inside.machine c.insn-insn.result.now c.self.invariant.1.consistent c.self.invariant.0 c.insn-insn.ensures.at c.self.invariant.1.described
+    (c.self.inside.pc, fine_here c.self.inside.program.now c.self.inside.pc c.self.inside.machine c.insn-insn.result.now c.self.invariant.1.consistent c.self.invariant.0 c.insn-insn.ensures.at c.self.invariant.1.described)
 
 pub returns : goal.returns
 returns c =
@@ -21,5 +21,6 @@ returns c =
     let r = c.self.invariant.1 in
     let k = r.consistent in
     let v = running_of p c.self.inside.pc m c.self.inside.count in
-    let mine = subst (λ (o : Outcome). Answers c.want.result o) (here p c.self.inside.pc m c.insn-insn.result.now k c.self.invariant.0 c.insn-insn.ensures.at) c.want.ensures in
+    let fine = fine_here p c.self.inside.pc m c.insn-insn.result.now k c.self.invariant.0 c.insn-insn.ensures.at r.described in
+    let mine = subst (λ (o : Outcome). Answers c.want.result o) (here p c.self.inside.pc m c.insn-insn.result.now k c.self.invariant.0 c.insn-insn.ensures.at) (c.want.ensures c.self.inside.pc fine) in
     rw (← c.self.view_is) (wanted_of v c.want.result r mine)

@@ -6,8 +6,8 @@ use Rattle.xen_steps.specs.Pages.{copy_words}
 use Rattle.xen_steps.proofs.PageLemmas.{copy_words_more}
 use Rattle.xen_back.proofs.by_event.copying.after_page.Goals as goal
 
-pub returns-else-n-eq0-clause-rest : goal.returns-else-n-eq0-clause-rest
-returns-else-n-eq0-clause-rest c =
+pub returns-else-n-eq0 : goal.returns-else-n-eq0
+returns-else-n-eq0 c =
     let w = c.args.wiring.now in
     let g = c.args.page in
     let h : 0 < g.n = omega (arith, c.if-n-eq0.false) in

@@ -19,18 +19,18 @@ paging-requires-clause-last c =
     let h : r.start < r.end = omega (arith, e.ordered, c.if-words.false) in
     omega (arith, h, (covered_end c.args.fragment r.start r.end e.start h e.covered).0)
 
-pub returns-then-words-clause-rest : goal.returns-then-words-clause-rest
-returns-then-words-clause-rest c =
+pub returns-then-words : goal.returns-then-words
+returns-then-words c =
     let w = c.args.wiring.now in
     let f = c.args.fragment in
     let r = c.covered_words-words.result in
     let e = c.covered_words-words.ensures in
     let none : covered f ≡ 0 = omega (arith, e.count, c.if-words.true) in
-    c.next_fragment.ensures.rest
+    c.next_fragment.ensures
     ∙ sym (ap (λ n. bind (bind (copy_words f c.args.frame (f.offset / 4) n c.args.packet) (copy w (drop c.args.i c.args.fragments.items))) (after_copy w c.args.state.now c.args.chain)) none)
 
-pub returns-else-words-clause-rest : goal.returns-else-words-clause-rest
-returns-else-words-clause-rest c =
+pub returns-else-words : goal.returns-else-words
+returns-else-words c =
     let w = c.args.wiring.now in
     let f = c.args.fragment in
     let r = c.covered_words-words.result in

@@ -6,8 +6,8 @@ use Rattle.xen_back.specs.Tree.{after_copy, copy, entered}
 use Rattle.xen_back.proofs.RestLemmas.{copy_at}
 use Rattle.xen_back.proofs.by_event.copying.next_fragment.Goals as goal
 
-pub returns-in-Some-clause-rest : goal.returns-in-Some-clause-rest
-returns-in-Some-clause-rest c =
+pub returns-in-Some : goal.returns-in-Some
+returns-in-Some c =
     let w = c.args.wiring.now in
     let s = c.args.state.now in
     let fs = c.args.fragments.items in

@@ -10,7 +10,7 @@ use Rattle.xen_back.proofs.by_event.ending.ended.Goals as goal
 
 pub unreachable-requires : goal.unreachable-requires
 unreachable-requires c =
-    let o = c.requires.over in
+    let o = c.requires in
     let w = o.0 in
     let s = c.args.state.now in
     let r = c.in-Run.run' in
@@ -18,5 +18,5 @@ unreachable-requires c =
 
 pub unreachable-requires-in_default : goal.unreachable-requires-in_default
 unreachable-requires-in_default c =
-    let o = c.requires.over in
-    stage_asks o.0 c.args.state.now c.args.stage.now c.in_default.not-At c.in_default.not-Run c.requires.here o.1
+    let o = c.requires in
+    stage_asks o.0 c.args.state.now c.args.stage.now c.in_default.not-At c.in_default.not-Run o.1

@@ -2,13 +2,10 @@ use Rattle.std.proofs.Common.{List, ℕ, ◌∙◌, ap}
 use Rattle.xen_back.specs.Turned.{turned}
 use Rattle.xen_steps.specs.Steps.{done}
 use Rattle.xen_back.specs.declared.by_event.phase.Phase.TheVariants as phases
-use Rattle.xen_back.proofs.AloneLemmas.{here_at_phase, packet_at_phase}
+use Rattle.xen_back.proofs.InOneGoLemmas.{packet_at_phase}
 use Rattle.xen_back.specs.Rest.{at_phase}
 use Rattle.xen_back.specs.declared.by_event.stage.Stage.{Stage}
 use Rattle.xen_back.proofs.by_event.ending.over.Goals as goal
-
-pub returns-clause-here : goal.returns-clause-here
-returns-clause-here c = here_at_phase c.args.stage.now phases.Ready c.set_phase.new.stage c.set_phase.ensures c.requires.here
 
 pub returns-clause-over : goal.returns-clause-over
 returns-clause-over c w =

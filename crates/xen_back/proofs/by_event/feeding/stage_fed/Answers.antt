@@ -4,9 +4,9 @@ use Rattle.xen_back.specs.Rest.{rest_in}
 use Rattle.xen_back.specs.declared.by_event.stage.Stage.{Stage}
 use Rattle.xen_back.proofs.by_event.feeding.stage_fed.Goals as goal
 
-pub returns-in-Send-clause-rest : goal.returns-in-Send-clause-rest
-returns-in-Send-clause-rest c =
+pub returns-in-Send : goal.returns-in-Send
+returns-in-Send c =
     let w = c.args.wiring.now in
     let s = c.args.state.now in
-    c.sent_fed.ensures.rest c.args.counter
+    c.sent_fed.ensures c.args.counter
     ∙ sym (ap (λ (g : Stage). next_by (rest_in w s g) c.args.word c.args.counter) c.in-Send.is)

@@ -5,8 +5,8 @@ use Rattle.xen_transmit.specs.Rest.{rest_after, rest_of}
 use Rattle.xen_back.specs.Tree.{after_transmit}
 use Rattle.xen_back.proofs.by_event.sent.sent_fed.Goals as goal
 
-pub returns-clause-rest : goal.returns-clause-rest
-returns-clause-rest c counter =
+pub returns : goal.returns
+returns c counter =
     let w = c.args.wiring.now in
     let s = c.args.state.now in
     let t = c.args.sent in
@@ -16,7 +16,7 @@ returns-clause-rest c counter =
     let f = c.feed-progress.ensures in
     let on : rest_after w.vif s.rx_index packet c.feed-progress.result ≡ next_by (rest_of w.vif s.rx_index packet phase) c.args.word counter =
     subst (λ (b : List ℕ). rest_after w.vif s.rx_index b c.feed-progress.result ≡ next_by (rest_of w.vif s.rx_index b phase) c.args.word counter) c.bytes.ensures.same (f.rest counter) in
-    c.progressed.ensures.rest w
+    c.progressed.ensures w
     ∙ ap (λ o. bind o later) on
     ∙ next_bind (rest_of w.vif s.rx_index packet phase) later c.args.word counter
     (subst (λ (b : List ℕ). IsTrue (asks (rest_of w.vif s.rx_index b phase))) c.bytes.ensures.same f.asked)

@@ -10,7 +10,7 @@ use Rattle.xen_back.specs.Drive.{Driven}
 use Rattle.xen_back.specs.Responses.{response}
 use Rattle.xen_back.specs.Tree.{answer, answered, notice, respond}
 use Rattle.xen_back.specs.Turned.{Ending}
-use Rattle.xen_back.proofs.AloneLemmas.{notice_driven}
+use Rattle.xen_back.proofs.InOneGoLemmas.{notice_driven}
 use Rattle.xen_back.proofs.Bounds.{requests_count}
 use Rattle.xen_back.proofs.BulkLemmas.{answer_on, push_on, tx_within}
 use Rattle.xen_back.proofs.DriveLemmas.{driven_append}

@@ -4,7 +4,7 @@ use Rattle.xen_steps.specs.Steps.{bind}
 use Rattle.xen_transmit.specs.Places.{tx_word}
 use Rattle.xen_back.specs.Drive.{Driven}
 use Rattle.xen_back.specs.Tree.{after_look, announce, look, seen}
-use Rattle.xen_back.proofs.AloneLemmas.{look_read, looked_at}
+use Rattle.xen_back.proofs.InOneGoLemmas.{look_read, looked_at}
 use Rattle.xen_back.proofs.DriveLemmas.{driven_append}
 use Rattle.xen_back.proofs.in_one_go.looking.look.Goals as goal
 

@@ -5,7 +5,7 @@ use Rattle.xen_steps.specs.Steps.{bind}
 use Rattle.xen_transmit.specs.Places.{tx_word}
 use Rattle.xen_back.specs.Drive.{Driven}
 use Rattle.xen_back.specs.Tree.{after_look, announce}
-use Rattle.xen_back.proofs.AloneLemmas.{look_again_read}
+use Rattle.xen_back.proofs.InOneGoLemmas.{look_again_read}
 use Rattle.xen_back.proofs.in_one_go.looking.look_again.Goals as goal
 
 pub returns-clause-driven : goal.returns-clause-driven

@@ -6,7 +6,7 @@ use Rattle.xen_back.specs.InOneGo.{ended}
 use Rattle.xen_back.specs.Tree.{Left, after_copy, after_run, answered, program, respond, run_of, send}
 use Rattle.xen_back.specs.Turned.{Ending, Ran}
 use Rattle.xen_back.specs.declared.state.State.{State}
-use Rattle.xen_back.proofs.AloneLemmas.{ran_driven, ran_to_answer, ran_to_send}
+use Rattle.xen_back.proofs.InOneGoLemmas.{ran_driven, ran_to_answer, ran_to_send}
 use Rattle.xen_back.proofs.Bounds.{requests_count}
 use Rattle.xen_back.proofs.DriveLemmas.{driven_append, driven_silent}
 use Rattle.xen_back.proofs.in_one_go.running.run.Goals as goal

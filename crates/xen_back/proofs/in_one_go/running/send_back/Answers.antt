@@ -8,7 +8,7 @@ use Rattle.xen_back.specs.Tree.{answered, respond, send}
 use Rattle.xen_back.specs.Turned.{Ending, turned}
 use Rattle.xen_back.specs.declared.state.State.{State}
 use Rattle.xen_back.specs.declared.turn.Kind.TheVariants as kinds
-use Rattle.xen_back.proofs.AloneLemmas.{sent_driven}
+use Rattle.xen_back.proofs.InOneGoLemmas.{sent_driven}
 use Rattle.xen_back.proofs.Bounds.{requests_count}
 use Rattle.xen_back.proofs.DriveLemmas.{driven_append}
 use Rattle.xen_back.proofs.in_one_go.running.send_back.Goals as goal

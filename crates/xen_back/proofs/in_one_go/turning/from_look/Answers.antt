@@ -4,7 +4,7 @@ use Rattle.xen_back.specs.Drive.{Driven}
 use Rattle.xen_back.specs.InOneGo.{ended}
 use Rattle.xen_back.specs.Tree.{after_look}
 use Rattle.xen_back.specs.Turned.{Ending}
-use Rattle.xen_back.proofs.AloneLemmas.{looked_some}
+use Rattle.xen_back.proofs.InOneGoLemmas.{looked_some}
 use Rattle.xen_back.proofs.in_one_go.turning.from_look.Goals as goal
 
 pub returns-else-n-eq0-clause-driven : goal.returns-else-n-eq0-clause-driven

@@ -5,13 +5,13 @@ use Rattle.xen_back.specs.Drive.{Driven}
 use Rattle.xen_back.specs.InOneGo.{after_slot, ended}
 use Rattle.xen_back.specs.Tree.{after_chain, after_look}
 use Rattle.xen_back.specs.Turned.{Ending}
-use Rattle.xen_back.proofs.AloneLemmas.{first_read, lone_after}
+use Rattle.xen_back.proofs.InOneGoLemmas.{first_read, lone_after}
 use Rattle.xen_back.proofs.BulkLemmas.{IsSlotRead, tx_within}
 use Rattle.xen_back.proofs.DriveLemmas.{driven_append, driven_silent}
 use Rattle.xen_back.proofs.in_one_go.turning.from_slot.Goals as goal
 
 pub read_slot-words-requires : goal.read_slot-words-requires
-read_slot-words-requires g c = omega (arith, tx_within c.args.wiring.now.vif c.requires.wired, c.requires.size)
+read_slot-words-requires g c = omega (arith, tx_within c.args.wiring.now.vif c.requires.served.wired, c.requires.served.size)
 
 pub returns-then-is_lone-clause-driven : goal.returns-then-is_lone-clause-driven
 returns-then-is_lone-clause-driven g c =

@@ -9,7 +9,7 @@ use Rattle.xen_back.proofs.DriveLemmas.{driven_append, driven_silent}
 use Rattle.xen_back.proofs.in_one_go.turning.turn.Goals as goal
 
 pub look-shown-requires : goal.look-shown-requires
-look-shown-requires g c = record { frame = omega (arith, tx_within c.args.wiring.now.vif c.requires.wired, c.requires.size) }
+look-shown-requires g c = record { frame = omega (arith, tx_within c.args.wiring.now.vif c.requires.served.wired, c.requires.served.size) }
 
 pub returns-in-None-clause-driven : goal.returns-in-None-clause-driven
 returns-in-None-clause-driven g c =

@@ -1,8 +1,9 @@
-use Rattle.std.proofs.Common.{refl}
+use Rattle.std.proofs.Common.{Option, refl, sym, subst}
 use Rattle.xen_back.specs.Queues.{state_of, wiring_of}
-use Rattle.xen_back.specs.Rest.{packet_at}
+use Rattle.xen_back.specs.Rest.{packet_of_stage}
 use Rattle.xen_back.specs.Tree.{whole_turn}
-use Rattle.xen_back.specs.Turned.{turned}
+use Rattle.xen_back.specs.Turned.{Shows, turned}
+use Rattle.xen_back.specs.declared.by_event.stage.Stage.{Stage}
 use Rattle.xen_steps.specs.Steps.{done}
 use Rattle.xen_steps.proofs.DriveLemmas.{runs_of_gone}
 use Rattle.xen_back.proofs.TurnParts.{turn_parts}
@@ -16,7 +17,7 @@ returns g c =
     let e = c.take_turn-kind in
     let d = e.ensures in
     let n = e.new.self in
-    let u = turned e.result (packet_at n.stage) in
+    let u = turned e.result (packet_of_stage n.stage) in
     let t = d.driven.0 in (
       (
         refl,
@@ -27,7 +28,7 @@ returns g c =
           is_turn = turn_parts w s t (state_of n) u (runs_of_gone (whole_turn w s) (done (state_of n, u)) t (state_of n, u) d.driven.1.gone refl);
           performed = d.driven.1.performed;
           grown = d.driven.1.grown;
-          shows = c.shown.ensures.shows;
+          shows = subst (λ (x : Option Stage). Shows (turned e.result (packet_of_stage x)) c.shown.result) (sym c.in-Some.is) c.shown.ensures.shows;
           short = c.shown.ensures.short;
           ready = d.ready;
           same = d.same;

@@ -1,5 +1,5 @@
-use Rattle.std.proofs.Common.{IsTrue, refl, sym, subst}
-use Rattle.xen_back.specs.Rest.{is_here, rest_in}
+use Rattle.std.proofs.Common.{refl, sym, subst}
+use Rattle.xen_back.specs.Rest.{rest_in}
 use Rattle.xen_back.specs.Within.{Completes}
 use Rattle.xen_back.specs.declared.by_event.stage.Stage.{Stage}
 use Rattle.xen_back.proofs.queue.Queue.take_turn.Goals as goal
@@ -8,4 +8,9 @@ pub invariant_of-self : goal.invariant_of-self
 invariant_of-self g c =
     let q = c.args.self.now in
     let t = c.stage_turned in
-    record { here = subst (λ (f : Stage). IsTrue (is_here f)) (sym t.ensures.ready.1) refl; wired = q.wired; turns = q.turns; left = subst (λ (f : Stage). Completes q.wiring (rest_in q.wiring t.new.state f)) (sym t.ensures.ready.1) (q.turns t.new.state) }
+    record {
+      here = refl;
+      wired = q.wired;
+      turns = q.turns;
+      left = subst (λ (x : Stage). Completes q.wiring (rest_in q.wiring t.new.state x)) (sym t.ensures.ready.1) (q.turns t.new.state);
+    }

@@ -1,6 +1,6 @@
-use Rattle.std.proofs.Common.{refl, sym, subst}
-use Rattle.xen_back.specs.Rest.{packet_at, rest_in}
-use Rattle.xen_back.specs.Turned.{turned}
+use Rattle.std.proofs.Common.{Option, Some, refl, sym, subst, ap, ◌∙◌}
+use Rattle.xen_back.specs.Rest.{packet_at, packet_of_stage, rest_in, rest_of_stage}
+use Rattle.xen_back.specs.Turned.{Shows, turned}
 use Rattle.xen_back.specs.declared.by_event.stage.Stage.{Stage}
 use Rattle.xen_back.specs.Within.{Completes}
 use Rattle.xen_back.proofs.queue.Queue.turn.Goals as goal
@@ -8,26 +8,28 @@ use Rattle.xen_back.proofs.queue.Queue.turn.Goals as goal
 pub invariant_of-self : goal.invariant_of-self
 invariant_of-self c =
     let q = c.args.self.now in
-    let o = c.over-kind in
+    let o = c.over in
     record {
-      here = o.ensures.here;
+      here = refl;
       wired = q.wired;
       turns = q.turns;
-      left = subst (λ (f : Stage). Completes q.wiring (rest_in q.wiring o.result.0 f)) (sym o.ensures.ready.1) (q.turns o.result.0);
+      left = subst (λ (g : Stage). Completes q.wiring (rest_in q.wiring o.result.0 g)) (sym o.ensures.ready.1) (q.turns o.result.0);
     }
 
 pub returns : goal.returns
 returns c =
-    let o = c.over-kind in (
+    let q = c.args.self.now in
+    let o = c.over in
+    let kind = o.result.1 in (
       (
         refl,
         λ v. tt,
         record {
-          turned = turned o.result.1 (packet_at o.new.stage);
-          over = o.ensures.over c.args.self.now.wiring;
-          ready = o.ensures.ready;
+          turned = turned kind (packet_at o.new.stage);
+          over = ap (λ (g : Option Stage). rest_of_stage q.wiring q.state g) c.in-Some.is ∙ o.ensures.over q.wiring;
+          ready = (o.ensures.ready.0, ap Some o.ensures.ready.1);
           same = record { wiring = refl; tx_ring = refl; rx_ring = refl };
-          shows = c.shown.ensures.shows;
+          shows = subst (λ (g : Option Stage). Shows (turned kind (packet_of_stage g)) c.shown.result) (sym c.in-Some-stage.is) c.shown.ensures.shows;
           short = c.shown.ensures.short;
         },
       ),

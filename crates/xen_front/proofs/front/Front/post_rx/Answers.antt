@@ -21,7 +21,7 @@ returns-in-Some-get-clause-ok c =
     let found : c.in-Some-get.id.now ≡ get_or c.as_slice.result.now 0 0 = c.in-Some-get.ensures.lookup.3.1 0 in
     let id : c.in-Some-get.id.now ≡ get_or free 0 0 = found ∙ ap (λ (l : List ℕ). get_or l 0 0) (c.as_slice.ensures.value ∙ c.choose-ids.ensures) ∙ first_taken free in
     record {
-      rest = c.begin_post-self.ensures.rest (record s { rx = c.fly.new.ring }) f.sent f.received
+      rest = c.begin_post-self.ensures.rest w (record s { rx = c.fly.new.ring }) f.sent f.received
           ∙ ap (λ (r : Ring). posting w (record s { rx = r }) c.in-Some-get.id.now s.rx.prod 0) c.fly.ensures
           ∙ ap (λ (i : ℕ). post w s i) id;
       wiring = refl;
@@ -36,6 +36,6 @@ invariant_of-self-clause-short c =
     let found : c.in-Some-get.id.now ≡ get_or c.as_slice.result.now 0 0 = c.in-Some-get.ensures.lookup.3.1 0 in
     let id : c.in-Some-get.id.now ≡ get_or free 0 0 = found ∙ ap (λ (l : List ℕ). get_or l 0 0) (c.as_slice.ensures.value ∙ c.choose-ids.ensures) ∙ first_taken free in
     short_begun w (record s { rx = c.fly.new.ring }) f.sent f.received c.begin_post-self.result (post w s (get_or free 0 0)) 7 f.wired (omega arith) (bounded_post w f.wired s (get_or free 0 0) (first_id s.rx.out))
-    (c.begin_post-self.ensures.rest (record s { rx = c.fly.new.ring }) f.sent f.received
+    (c.begin_post-self.ensures.rest w (record s { rx = c.fly.new.ring }) f.sent f.received
     ∙ ap (λ (r : Ring). posting w (record s { rx = r }) c.in-Some-get.id.now s.rx.prod 0) c.fly.ensures
     ∙ ap (λ (i : ℕ). post w s i) id)

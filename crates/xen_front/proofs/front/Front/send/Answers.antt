@@ -62,7 +62,7 @@ returns-clause-ok c =
     let enough : n ≤ length (take n free) = rw (sym taken) (rw (sym c.pieces_of-n.ensures.value) c.if-len-n.false) in
     let state : c.fly.new.ring ≡ flown s.tx (take n free) = c.fly.ensures ∙ ap (flown s.tx) (c.as_slice.ensures.value ∙ ids) in
     record {
-      rest = c.first_piece-self.ensures.rest (record s { tx = c.fly.new.ring }) c.fill.new.self f.received
+      rest = c.first_piece-self.ensures.rest w (record s { tx = c.fly.new.ring }) c.fill.new.self f.received
           ∙ ap (λ (p : List ℕ). write_all (send_writes w s.tx.prod p (length c.choose-ids.result.items) 0 c.choose-ids.result.items) (publish w w.tx_frame s.tx.prod (add32 s.tx.prod (length c.choose-ids.result.items)) (record s { tx = c.fly.new.ring }))) c.fill.ensures
           ∙ ap (λ (l : List ℕ). write_all (send_writes w s.tx.prod c.args.bytes.now (length l) 0 l) (publish w w.tx_frame s.tx.prod (add32 s.tx.prod (length l)) (record s { tx = c.fly.new.ring }))) ids
           ∙ ap (λ (r : Ring). write_all (send_writes w s.tx.prod c.args.bytes.now (length (take n free)) 0 (take n free)) (publish w w.tx_frame s.tx.prod (add32 s.tx.prod (length (take n free))) (record s { tx = r }))) state;
@@ -83,7 +83,7 @@ invariant_of-self-clause-short c =
     let few : n ≤ 16 = rw (sym c.pieces_of-n.ensures.value) c.pieces_of-n.ensures.few in
     short_begun w (record s { tx = c.fly.new.ring }) c.fill.new.self f.received c.first_piece-self.result (send w s c.args.bytes.now (take n free)) 16467 f.wired (omega arith)
     (bounded_send w f.wired s c.args.bytes.now (take n free) (chosen_few n s.tx.out few) (chosen_ids n s.tx.out))
-    (c.first_piece-self.ensures.rest (record s { tx = c.fly.new.ring }) c.fill.new.self f.received
+    (c.first_piece-self.ensures.rest w (record s { tx = c.fly.new.ring }) c.fill.new.self f.received
     ∙ ap (λ (p : List ℕ). write_all (send_writes w s.tx.prod p (length c.choose-ids.result.items) 0 c.choose-ids.result.items) (publish w w.tx_frame s.tx.prod (add32 s.tx.prod (length c.choose-ids.result.items)) (record s { tx = c.fly.new.ring }))) c.fill.ensures
     ∙ ap (λ (l : List ℕ). write_all (send_writes w s.tx.prod c.args.bytes.now (length l) 0 l) (publish w w.tx_frame s.tx.prod (add32 s.tx.prod (length l)) (record s { tx = c.fly.new.ring }))) ids
     ∙ ap (λ (r : Ring). write_all (send_writes w s.tx.prod c.args.bytes.now (length (take n free)) 0 (take n free)) (publish w w.tx_frame s.tx.prod (add32 s.tx.prod (length (take n free))) (record s { tx = r }))) state)

@@ -19,7 +19,7 @@ pub sent_response-responding-requires : goal.sent_response-responding-requires
 sent_response-responding-requires c =
     let q = c.args.self.now in
     let b = c.sent_work-work in
-    record { alone = (sent_same q.state q.stage _ b.result.0 b.result.1 (c.finds_sent.ensures c.if-finds_sent.true) (sym c.replace.ensures.value ∙ b.ensures)).0 }
+    record { one_slot = (sent_same q.state q.stage _ b.result.0 b.result.1 (c.finds_sent.ensures c.if-finds_sent.true) (sym c.replace.ensures.value ∙ b.ensures)).0 }
 
 pub invariant_of-self : goal.invariant_of-self
 invariant_of-self c =

@@ -1,6 +1,6 @@
 -- What is done in one go where a packet is in one slot is what a turn asks, event by event.
 use Rattle.std.proofs.Common.{◌≡◌, ◌≢◌, ℕ, zero, suc, ◌+◌, ◌-◌, ◌<◌, ◌^◌, ◌%◌, Bool, true, false, List, [], ◌∷◌, ◌++◌, length, Option, Some, None, Ok, refl, sym, ◌∙◌, ap, append_assoc, append-nil, subst, arith}
-use Rattle.std.specs.Prelude.{IsTrue, if◌then◌else◌}
+use Rattle.std.specs.Prelude.{if◌then◌else◌}
 use Rattle.bpf_flow.specs.Step.{Outcome as StepOutcome, Next, Loads, Adds, Exited, Fault}
 use Rattle.bpf_note.specs.declared.op.Op.{Op}
 use Rattle.bpf_vm.specs.Advance.{after_steps}
@@ -29,9 +29,9 @@ use Rattle.xen_transmit.specs.declared.by_event.phase.Outcome.{Outcome}
 use Rattle.xen_transmit.proofs.Bounds.{bounded_transmit}
 use Rattle.xen_transmit.proofs.StraightLemmas.{driven_bind}
 use Rattle.xen_back.specs.Drive.{Driven, label_of, labels}
-use Rattle.xen_back.specs.Program.{instructions_alone}
+use Rattle.xen_back.specs.Program.{plain_instructions}
 use Rattle.xen_back.specs.Ran.{HasRunTo}
-use Rattle.xen_back.specs.Rest.{at_phase, is_here, packet_at}
+use Rattle.xen_back.specs.Rest.{at_phase, packet_at}
 use Rattle.xen_back.specs.declared.by_event.phase.Phase.{Phase}
 use Rattle.xen_back.specs.declared.by_event.stage.Stage.{Stage}
 use Rattle.xen_back.specs.declared.by_event.stage.Stage.TheVariants as stages
@@ -41,18 +41,18 @@ use Rattle.xen_back.specs.declared.state.State.{State}
 use Rattle.xen_back.specs.declared.wiring.Wiring.{Wiring}
 use Rattle.xen_back.proofs.BulkLemmas.{IsSlotRead, slot_on}
 use Rattle.xen_back.specs.InOneGo.{after_slot}
-use Rattle.xen_back.proofs.DriveLemmas.{alone_accesses, alone_labels, driven_none, gone_alone, labels-append}
+use Rattle.xen_back.proofs.DriveLemmas.{plain_accesses, plain_labels, driven_none, gone_plain, labels-append}
 use Rattle.xen_back.proofs.TurnRuns.{is_three, not_three}
 
 -- a run goes on by instructions that read no counter
-pub run_alone : (start : Steps Left) (x y : Course) (ops n : ℕ) (a b : List Op) → HasRunTo start (program x ops) a b → x ≡ after_steps n y → HasRunTo start (program y ops) a b
-run_alone start x y ops n a b r e =
+pub run_plain : (start : Steps Left) (x y : Course) (ops n : ℕ) (a b : List Op) → HasRunTo start (program x ops) a b → x ≡ after_steps n y → HasRunTo start (program y ops) a b
+run_plain start x y ops n a b r e =
     record {
-      trace = r.trace ++ instructions_alone n;
-      alone = accesses-append r.trace (instructions_alone n) ∙ ap (λ l. l ++ accesses (instructions_alone n)) r.alone ∙ alone_accesses n;
-      grown = r.grown ∙ ap (λ l. a ++ l) (sym (labels-append r.trace (instructions_alone n) ∙ ap (λ l. labels r.trace ++ l) (alone_labels n) ∙ append-nil (labels r.trace)));
-      gone = λ f. gone_append (bind start f) (bind (program x ops) f) (bind (program y ops) f) r.trace (instructions_alone n) (r.gone f)
-          (subst (λ (c : Course). Gone (bind (program c ops) f) (instructions_alone n) (bind (program y ops) f)) (sym e) (gone_alone y n ops f));
+      trace = r.trace ++ plain_instructions n;
+      no_access = accesses-append r.trace (plain_instructions n) ∙ ap (λ l. l ++ accesses (plain_instructions n)) r.no_access ∙ plain_accesses n;
+      grown = r.grown ∙ ap (λ l. a ++ l) (sym (labels-append r.trace (plain_instructions n) ∙ ap (λ l. labels r.trace ++ l) (plain_labels n) ∙ append-nil (labels r.trace)));
+      gone = λ f. gone_append (bind start f) (bind (program x ops) f) (bind (program y ops) f) r.trace (plain_instructions n) (r.gone f)
+          (subst (λ (c : Course). Gone (bind (program c ops) f) (plain_instructions n) (bind (program y ops) f)) (sym e) (gone_plain y n ops f));
     }
 
 -- and by one event that is no access
@@ -60,7 +60,7 @@ pub run_event : (start s s' : Steps Left) (e : Event) (a b c : List Op) → HasR
 run_event start s s' e a b c r g n h =
     record {
       trace = r.trace ++ e ∷ [];
-      alone = accesses-append r.trace (e ∷ []) ∙ ap (λ l. l ++ accesses (e ∷ [])) r.alone ∙ ap (λ l. l ++ []) n;
+      no_access = accesses-append r.trace (e ∷ []) ∙ ap (λ l. l ++ accesses (e ∷ [])) r.no_access ∙ ap (λ l. l ++ []) n;
       grown = h ∙ ap (λ l. l ++ label_of e) r.grown ∙ append_assoc a (labels r.trace) (label_of e) ∙ ap (λ l. a ++ l) (sym (labels-append r.trace (e ∷ []) ∙ ap (λ l. labels r.trace ++ l) (append-nil (label_of e))));
       gone = λ f. gone_append (bind start f) (bind s f) (bind s' f) r.trace (e ∷ []) (r.gone f) (bind s' f, g f, refl);
     }
@@ -116,7 +116,7 @@ lone_after w s left slot plain last = ap (λ o. bind (judged (slot ∷ []) o (re
 pub ran_driven : {S : Type 0} (log : S → Option (List Access)) (gives : S → Access → S → Type 0) (start : Steps Left) (out : Left) (f : Left → Steps Ending) (bus : S) (a b : List Op) (r : HasRunTo start (done out) a b) →
     Driven log gives (bind start f) (f out) bus bus a b r.trace
 ran_driven log gives start out f bus a b r =
-    record { gone = r.gone f; performed = subst (λ (l : List Access). Performs log gives bus l bus) (sym r.alone) (performs_none log gives bus); grown = r.grown }
+    record { gone = r.gone f; performed = subst (λ (l : List Access). Performs log gives bus l bus) (sym r.no_access) (performs_none log gives bus); grown = r.grown }
 
 pub ran_to_send : (w : Wiring) (s : State) (chain : List Slot) (n ops : ℕ) (packet : List ℕ) → n ≡ 3 → after_run w s chain (record { number = n; packet = packet; ops = ops }) ≡ send w s chain packet ops
 ran_to_send w s chain n ops packet e = ap (λ b. if b then send w s chain packet ops else respond w s chain (status_of n) (Ran n packet ops (length chain))) (is_three n e)
@@ -185,18 +185,6 @@ pub look_again_read : {S : Type 0} (log : S → Option (List Access)) (gives : S
     Driven log gives (bind (announce w s.tx_index) (after_look w s)) (after_look w s (available s.tx_index p)) bus new [] [] (Write (tx_word w.vif 1) (add32 s.tx_index 1) ∷ Read (tx_word w.vif 0) p ∷ [])
 look_again_read log gives w s p bus new l q = record { gone = (_, (0, (refl, refl), refl), (_, (p, (l, refl), refl), refl)); performed = q; grown = refl }
 
-pub here_at_phase : (g : Stage) (x : Phase) (new : Stage) → new ≡ at_phase g x → IsTrue (is_here g) → IsTrue (is_here new)
-here_at_phase g x new e h = subst (λ (q : Stage). IsTrue (is_here q)) (sym e) (by g h)
-  where
-    by : (g : Stage) → IsTrue (is_here g) → IsTrue (is_here (at_phase g x))
-    by (stages.At p y) h = h
-    by (stages.EntryFlags a) h = h
-    by (stages.EntryFrame a n) h = h
-    by (stages.Page a) h = h
-    by (stages.Run a) h = h
-    by (stages.Send p t) h = h
-    by stages.Gone h = h
-
 pub packet_at_phase : (g : Stage) (x : Phase) (new : Stage) → new ≡ at_phase g x → packet_at g ≡ packet_at new
 packet_at_phase g x new e = by g ∙ sym (ap packet_at e)
   where
@@ -207,4 +195,3 @@ packet_at_phase g x new e = by g ∙ sym (ap packet_at e)
     by (stages.Page a) = refl
     by (stages.Run a) = refl
     by (stages.Send p t) = refl
-    by stages.Gone = refl

@@ -3,7 +3,7 @@ use Rattle.bpf_vm.specs.Packet.{Packet}
 use Rattle.xen_netif.specs.Copy.{bytes_of}
 use Rattle.xen_netif.proofs.CopyLemmas.{length-bytes_of}
 use Rattle.xen_back.proofs.RunLemmas.{bytes_of-run, run_read}
-use Rattle.xen_back.proofs.page_run.push_words.Goals as goal
+use Rattle.xen_back.proofs.copy_buf.push_words.Goals as goal
 
 abbrev bytes_in : Packet → List ℕ
 bytes_in p = p.bytes
