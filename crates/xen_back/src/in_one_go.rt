@@ -1,9 +1,8 @@
-//! A whole turn over a bus, on references alone: `turning` is the queue's call and goes from the first look to the end, by
-//! `looking`, the chain's `slots`, and `running` (with `copying` and `answering`).
+//! A whole turn over a bus, on references alone: `turning` goes from the first look to the end, by `looking`, which reads the chain's
+//! slots too, and `running` (with `copying` and `answering`).
 
 mod answering;
 mod copying;
 pub(crate) mod looking;
 mod running;
-mod slots;
-mod turning;
+pub(crate) mod turning;

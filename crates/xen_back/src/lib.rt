@@ -1,11 +1,11 @@
 //! Netback's queue: each packet of another domain is copied, a verified program runs on the copy, and the packet is
 //! answered; and packets of the host's own are delivered to that domain.
 //!
-//! - `queue`: a queue, how it is made, and its calls
+//! - `queue`: a queue and all of its calls
 //! - `by_event`: a turn one event at a time; what a queue wants (`wanting`), what it does with an answer (`feeding`), and a
 //!   file for each part of a turn: `looking`, `copying`, `executing`, `sent`, `answering`, `ending`
-//! - `in_one_go`: a whole turn over a bus (`turning`), for a chain of any length, in the order of its parts: `looking`, `slots`, `copying`,
-//!   `running`, `answering`
+//! - `in_one_go`: a whole turn over a bus (`turning`), for a chain of any length, in the order of its parts: `looking`, `copying`, `running`,
+//!   `answering`
 //! - `decisions`: what a turn, a delivery and a wait decide, whichever way they go
 //! - `delivery`: a packet of the host's own, in one go and by event, and waiting for slots
 //! - `wiring`, `desc`, `state`, `turn`, `copy_buf`: what these work on; `laws`: what holds of every turn

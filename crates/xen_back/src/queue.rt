@@ -1,7 +1,9 @@
-//! A back queue.
+//! A back queue, and all of its calls: how it is made (`making`), its turns (`calls`), its `deliveries` and its `waits`.
 
 mod calls;
+mod deliveries;
 mod making;
+mod waits;
 
 ghost use Rattle.std.specs.Prelude.{IsTrue, is_some};
 ghost use Rattle.xen_back.specs.Rest.{rest_of_stage};

@@ -5,13 +5,11 @@ ghost use Rattle.xen_page.specs.Access.{Performs};
 ghost use Rattle.xen_steps.specs.Drive.{accesses};
 ghost use Rattle.xen_steps.specs.Event.{Event};
 ghost use Rattle.xen_transmit.specs.Wired.{IsWired};
-ghost use Rattle.xen_back.specs.Awaited.{HasAwaited, IsAwaiting};
-ghost use Rattle.xen_back.specs.Queues.{IsReady, wiring_of};
+ghost use Rattle.xen_back.specs.Awaited.{IsAwaiting};
 ghost use Rattle.xen_back.specs.Waits.{wait_end};
 
 use crate::decisions::halted;
 use crate::in_one_go::looking::look_behind;
-use crate::queue::Queue;
 use crate::state::State;
 use crate::turn::Halt;
 use crate::wiring::Wiring;
@@ -49,7 +47,12 @@ pub fn told(state: &State, pages: u32, shown: Option<u32>) -> (State, Awaited)
 }
 
 /// Looks for so many slots behind the event index, unless the queue has halted.
-fn looked_for<B: Bus>(wiring: &Wiring, state: &State, pages: u32, bus: &mut B) -> (State, Awaited)
+pub(crate) fn looked_for<B: Bus>(
+    wiring: &Wiring,
+    state: &State,
+    pages: u32,
+    bus: &mut B,
+) -> (State, Awaited)
     requires size { B.size bus.old ≡ length wiring.now.vif.owners.now }
     requires wired { IsWired wiring.now.vif }
     ensures size { B.size bus.new ≡ B.size bus.old }
@@ -63,24 +66,5 @@ fn looked_for<B: Bus>(wiring: &Wiring, state: &State, pages: u32, bus: &mut B) -
             let producer = look_behind(bus, wiring.vif.rx, event);
             told(state, pages, requests_shown(state.rx_index, producer))
         }
-    }
-}
-
-impl<'p, 'b> Queue<'p, 'b> {
-    /// Asks the frontend for a notice as soon as it has posted so many rx slots, and looks whether it has by now: after
-    /// [`Delivery::FewSlots`](crate::Delivery::FewSlots), with the packet's length in pages of 4,096 bytes. A ring has 256
-    /// slots, so more are never there.
-    pub fn await_slots<B: Bus>(&mut self, pages: u32, bus: &mut B) -> Awaited
-        requires ready { IsReady self.old }
-        requires size { B.size bus.old ≡ length (wiring_of self.old).vif.owners.now }
-        ensures ready { IsReady self.new }
-        ensures size { B.size bus.new ≡ B.size bus.old }
-        ensures awaited { HasAwaited B.log B.access_gives self.old self.new pages result bus.old bus.new }
-    {
-        // The borrow checker has to see this type in the body.
-        let _vif = &self.wiring.vif;
-        let (after, awaited) = looked_for(&self.wiring, &self.state, pages, bus);
-        self.state = after;
-        awaited
     }
 }

@@ -7,14 +7,12 @@ ghost use Rattle.xen_steps.specs.Steps.{done, next_by, want_of};
 ghost use Rattle.xen_transmit.specs.Wired.{IsWired};
 ghost use Rattle.xen_transmit.specs.declared.vif.Vif.{Vif as VifView};
 ghost use Rattle.xen_back.specs.Delivered.{is_frame};
-ghost use Rattle.xen_back.specs.ByEvent.{IsBegun, IsDeliveryAsked, IsDeliveryFed, IsDeliveryOf, IsDeliveryOver, frames_of, left_of};
+ghost use Rattle.xen_back.specs.ByEvent.{IsDeliveryAsked, IsDeliveryFed, frames_of, left_of};
 ghost use Rattle.xen_back.specs.Deliveries.{Arrival, rest_moving, unless_halted, whole_delivery};
-ghost use Rattle.xen_back.specs.Queues.{IsReady};
 
 use crate::delivery::delivering::{Delivery, can_be_delivered, delivered};
 use crate::delivery::moving::{Moving, Sending};
 use crate::delivery::underway::Delivering;
-use crate::queue::Queue;
 use crate::state::State;
 use std::mem;
 use xen_steps::{Answer, Want};
@@ -67,7 +65,7 @@ fn shared<'p>(vif: &Vif<'p>) -> Vif<'p>
 }
 
 /// A delivery of which nothing is done, with what it is wired to.
-fn underway<'p, 'd>(vif: &Vif<'p>, state: &State, packet: &'d [u8]) -> Delivering<'p, 'd>
+pub(crate) fn underway<'p, 'd>(vif: &Vif<'p>, state: &State, packet: &'d [u8]) -> Delivering<'p, 'd>
     requires wired { IsWired vif.now }
     ensures left { left_of result ≡ whole_delivery vif.now state.now packet.now }
     ensures vif { result.vif ≡ vif.now }
@@ -125,7 +123,7 @@ fn sending_fed<'d>(vif: &Vif, state: &State, sending: Sending<'d>, word: u32) ->
 }
 
 /// What a delivery that wants nothing more came to.
-fn moved(vif: &Vif, state: &State, moving: &Moving) -> (State, Delivery)
+pub(crate) fn moved(vif: &Vif, state: &State, moving: &Moving) -> (State, Delivery)
     requires { want_of (rest_moving vif.now state.now moving.now) ≡ Want.Done }
     ensures { rest_moving vif.now state.now moving.now ≡ done (result.0, result.1) }
 {
@@ -168,30 +166,5 @@ impl<'p, 'd> Delivering<'p, 'd> {
         };
         let moving = mem::replace(&mut self.moving, gone);
         self.moving = moving_fed(&self.vif, &self.state, moving, word);
-    }
-}
-
-impl<'p, 'b> Queue<'p, 'b> {
-    /// Begins the delivery of a packet of the host's own, one event at a time. The queue takes no turn until
-    /// [`Queue::end_delivery`].
-    pub fn begin_delivery<'d>(&self, packet: &'d [u8]) -> Delivering<'p, 'd>
-        requires ready { IsReady self.now }
-        ensures { IsBegun self.now packet.now result }
-    {
-        underway(&self.wiring.vif, &self.state, packet)
-    }
-
-    /// Ends a delivery that wants nothing more: the queue goes on behind it.
-    pub fn end_delivery(&mut self, delivering: Delivering<'_, '_>) -> Delivery
-        requires ready { IsReady self.old }
-        requires own { IsDeliveryOf self.old delivering }
-        requires over { want_of (left_of delivering) ≡ Want.Done }
-        ensures { IsDeliveryOver self.old self.new delivering.entry result }
-    {
-        // The borrow checker has to see this type in the body.
-        let _vif = &self.wiring.vif;
-        let (after, delivery) = moved(&delivering.vif, &delivering.state, &delivering.moving);
-        self.state = after;
-        delivery
     }
 }

@@ -6,13 +6,11 @@ ghost use Rattle.xen_steps.specs.Drive.{accesses};
 ghost use Rattle.xen_steps.specs.Event.{Event};
 ghost use Rattle.xen_transmit.specs.Sending.{IsTransmit};
 ghost use Rattle.xen_transmit.specs.Wired.{IsWired};
-ghost use Rattle.xen_back.specs.Delivered.{IsDelivered, IsDelivery, is_frame};
+ghost use Rattle.xen_back.specs.Delivered.{IsDelivery, is_frame};
 ghost use Rattle.xen_back.specs.Deliveries.{arrival};
-ghost use Rattle.xen_back.specs.Queues.{IsReady, wiring_of};
 ghost use Rattle.xen_back.specs.declared.wiring.Wiring.{Wiring as WiringView};
 
 use crate::decisions::{after_slots, halted};
-use crate::queue::Queue;
 use crate::state::State;
 use crate::turn::Halt;
 use crate::wiring::Wiring;
@@ -87,7 +85,7 @@ fn transmitted<B: Bus>(
 }
 
 /// Delivers a packet, or says why not.
-fn sent_out<B: Bus>(
+pub(crate) fn sent_out<B: Bus>(
     wiring: &Wiring,
     state: &State,
     packet: &[u8],
@@ -104,23 +102,5 @@ fn sent_out<B: Bus>(
         transmitted(wiring, state, packet, bus, ports)
     } else {
         (*state, Delivery::NoFrame)
-    }
-}
-
-impl<'p, 'b> Queue<'p, 'b> {
-    /// Delivers a packet of the host's own to the frontend: it is copied into the buffers of posted rx slots, which are
-    /// answered. No program runs on it.
-    pub fn deliver<B: Bus>(&mut self, packet: &[u8], bus: &mut B, ports: &Ports) -> Delivery
-        requires ready { IsReady self.old }
-        requires size { B.size bus.old ≡ length (wiring_of self.old).vif.owners.now }
-        ensures ready { IsReady self.new }
-        ensures size { B.size bus.new ≡ B.size bus.old }
-        ensures delivered { IsDelivered B.log B.access_gives self.old self.new packet.now result bus.old bus.new }
-    {
-        // The borrow checker has to see this type in the body.
-        let _vif = &self.wiring.vif;
-        let (after, delivery) = sent_out(&self.wiring, &self.state, packet, bus, ports);
-        self.state = after;
-        delivery
     }
 }

@@ -4,19 +4,17 @@ ghost use Rattle.std.specs.Prelude.{◌≡◌, ◌≢◌, ◌<◌, ℕ};
 ghost use Rattle.xen_steps.specs.Answers.{Fits};
 ghost use Rattle.xen_steps.specs.Drive.{IsPageWant};
 ghost use Rattle.xen_steps.specs.Steps.{done, next_by, want_of};
-ghost use Rattle.xen_back.specs.Queues.{IsReady};
 ghost use Rattle.xen_back.specs.Waits.{Wait, rest_looking, whole_wait};
-ghost use Rattle.xen_back.specs.WaitsByEvent.{IsWaitBegun, IsWaitFed, IsWaitOf, IsWaitOver, left_of_wait};
+ghost use Rattle.xen_back.specs.WaitsByEvent.{IsWaitFed, left_of_wait};
 
 use crate::delivery::awaiting::{Awaited, told};
 use crate::delivery::looking::{Awaiting, Looking};
-use crate::queue::Queue;
 use crate::state::State;
 use xen_ring::{REQ_EVENT, REQ_PROD};
 use xen_steps::{Answer, Want, header, requests_shown};
 
 /// A wait of which nothing is done.
-fn begun(state: &State) -> Looking
+pub(crate) fn begun(state: &State) -> Looking
     ensures { (rx pages : ℕ) → rest_looking rx state.now pages result ≡ whole_wait rx state.now pages }
 {
     match state.halt {
@@ -66,38 +64,5 @@ impl Awaiting {
     {
         let word = answer.word();
         self.looking = looking_fed(&self.state, self.pages, self.looking, word);
-    }
-}
-
-impl<'p, 'b> Queue<'p, 'b> {
-    /// Begins a wait for so many rx slots, as [`Queue::await_slots`] makes it, one event at a time. The queue takes no turn
-    /// and no delivery until [`Queue::end_wait`].
-    pub fn begin_wait(&self, pages: u32) -> Awaiting
-        requires { IsReady self.now }
-        ensures { IsWaitBegun self.now pages result }
-    {
-        let state = self.state;
-        Awaiting {
-            rx: self.wiring.vif.rx,
-            state,
-            pages,
-            looking: begun(&state),
-        }
-    }
-
-    /// Ends a wait that wants nothing more: the queue goes on behind it.
-    pub fn end_wait(&mut self, awaiting: Awaiting) -> Awaited
-        requires ready { IsReady self.old }
-        requires own { IsWaitOf self.old awaiting }
-        requires over { want_of (left_of_wait awaiting) ≡ Want.Done }
-        ensures { IsWaitOver self.old self.new awaiting result }
-    {
-        // The borrow checker has to see this type in the body.
-        let _vif = &self.wiring.vif;
-        let Looking::Over { after, awaited } = awaiting.looking else {
-            unreachable!()
-        };
-        self.state = after;
-        awaited
     }
 }

@@ -1,19 +1,27 @@
-//! How many requests are there: where the producer shows none, it is read again behind the event index.
+//! How many requests are there, where the producer shows none by a second read behind the event index; and a chain's slots.
 
-ghost use Rattle.std.specs.Prelude.{◌≡◌, ◌<◌, ◌^◌, List, [], ◌∷◌};
+ghost use Rattle.std.specs.Prelude.{◌≡◌, ◌<◌, ◌^◌, IfOk, IsTrue, List, ℕ, Ok, Some, [], ◌∷◌, length, false};
+ghost use Rattle.xen_netif.specs.Chain.{extra_info, more_data};
+ghost use Rattle.xen_netif.specs.Standing.{standing};
+ghost use Rattle.xen_netif.specs.declared.chain.ChainState.TheVariants.{Complete};
 ghost use Rattle.xen_page.specs.Access.{Performs};
 ghost use Rattle.xen_page.specs.declared.access.Access.TheVariants as accesses;
 ghost use Rattle.xen_steps.specs.Event.{Event};
-ghost use Rattle.xen_steps.specs.Places.{page_word};
+ghost use Rattle.xen_steps.specs.Places.{page_word, tx_entry as tx_entry_place};
 ghost use Rattle.xen_steps.specs.Steps.{bind};
+ghost use Rattle.xen_transmit.specs.Wired.{IsWired};
 ghost use Rattle.xen_back.specs.Drive.{Driven};
-ghost use Rattle.xen_back.specs.Tree.{after_look, announce, look as look_spec};
+ghost use Rattle.xen_back.specs.InOneGo.{after_slot};
+ghost use Rattle.xen_back.specs.Tree.{after_look, after_scan, announce, look as look_spec};
 
+use crate::decisions::slot_index;
 use crate::state::State;
+use crate::turn::Halt;
 use crate::wiring::Wiring;
+use xen_netif::{Chain, ChainState, TxReq};
 use xen_page::Bus;
 use xen_ring::{REQ_EVENT, REQ_PROD};
-use xen_steps::{header, requests_shown};
+use xen_steps::{header, requests_shown, tx_entry};
 
 /// Reads the producer.
 fn read_producer<B: Bus>(bus: &mut B, frame: u32) -> u32
@@ -67,5 +75,78 @@ pub(crate) fn look<B: Bus>(wiring: &Wiring, state: &State, bus: &mut B) -> Optio
                 Some(n)
             }
         }
+    }
+}
+
+/// A slot that is a whole chain: it asks for no other.
+#[derive(Drop)]
+pub struct LoneSlot {
+    pub words: [u32; 3],
+    ghost plain: { extra_info words ≡ false },
+    ghost last: { more_data words ≡ false },
+}
+
+/// Reads a slot's three words.
+pub(crate) fn read_slot<B: Bus>(bus: &mut B, frame: u32, index: u32) -> [u32; 3]
+    requires { frame < B.size bus.old }
+    ensures size { B.size bus.new ≡ B.size bus.old }
+    ensures read { (a : ℕ) × (b : ℕ) × (c : ℕ) × (a < 2 ^ 32) × (b < 2 ^ 32) × (c < 2 ^ 32) × (result ≡ a ∷ b ∷ c ∷ [])
+        × Performs B.log B.access_gives bus.old (accesses.Read (tx_entry_place frame index 0) a
+        ∷ accesses.Read (tx_entry_place frame index 1) b ∷ accesses.Read (tx_entry_place frame index 2) c ∷ []) bus.new }
+{
+    let a = bus.read(tx_entry(frame, index, 0));
+    let b = bus.read(tx_entry(frame, index, 1));
+    let c = bus.read(tx_entry(frame, index, 2));
+    [a, b, c]
+}
+
+/// Whether a slot is a whole chain.
+pub(crate) fn is_lone(slot: [u32; 3]) -> bool
+    ensures { IsTrue result → (extra_info slot ≡ false) × (more_data slot ≡ false) }
+{
+    let TxReq { flags, .. } = TxReq::of_words(slot);
+    !flags.extra_info && !flags.more_data
+}
+
+/// Whether a chain that wants this is whole.
+fn is_whole(wanted: ChainState) -> bool
+    ensures whole { IsTrue result → wanted ≡ ChainState.Complete }
+    ensures more { wanted ≡ ChainState.Complete → IsTrue result }
+{
+    matches!(wanted, ChainState::Complete)
+}
+
+/// The chain that begins with a slot, or why there is none. So many slots are left behind the first.
+pub(crate) fn read_chain<B: Bus>(
+    wiring: &Wiring,
+    state: &State,
+    bus: &mut B,
+    first: [u32; 3],
+    left: u32,
+) -> Result<Chain, Halt>
+    requires size { B.size bus.old ≡ length wiring.now.vif.owners.now }
+    requires wired { IsWired wiring.now.vif }
+    ensures size { B.size bus.new ≡ B.size bus.old }
+    ensures whole { IfOk result (λ chain. standing chain ≡ Some (Ok Complete)) }
+    ensures driven { (t : List Event) × Driven B.log B.access_gives (after_slot wiring.now state.now left [] first)
+        (after_scan wiring.now state.now result) bus.old bus.new [] [] t }
+{
+    let mut chain = Chain::new();
+    let mut slot = first;
+    let mut behind = left;
+    loop {
+        match chain.push(slot) {
+            Err(fault) => return Err(Halt::Chain(fault)),
+            Ok(wanted) => {
+                if is_whole(wanted) {
+                    return Ok(chain);
+                }
+            }
+        }
+        if behind == 0 {
+            return Err(Halt::ShortChain);
+        }
+        behind -= 1;
+        slot = read_slot(bus, wiring.vif.tx, slot_index(state, &chain));
     }
 }

@@ -1,32 +1,23 @@
-//! A queue's whole turn over a bus, counters and ports, from its first look to its end.
+//! A whole turn over a bus, counters and ports, from its first look to its end.
 
-ghost use Rattle.std.specs.Prelude.{◌≡◌, IsTrue, IfOk, List, ℕ, suc, [], ◌∷◌, length, MatchResult, Ok, Err, Some, ⊤};
-ghost use Rattle.std.specs.Borrow.{sem};
-ghost use denote.Follow.{follows_so};
-ghost use mir.Syntax.{named};
-ghost use mathlib.Core.Option.{none};
-ghost use Rattle.bpf_maps.specs.Seats.{IsSeatOf};
+ghost use Rattle.std.specs.Prelude.{◌≡◌, IsTrue, IfOk, List, ℕ, suc, [], ◌∷◌, MatchResult, Ok, Err, Some};
 ghost use Rattle.xen_netif.specs.Fragments.{fragments_of, is_in_page};
 ghost use Rattle.xen_steps.specs.Event.{Event};
 ghost use Rattle.xen_steps.specs.Places.{add32};
-ghost use Rattle.xen_back.specs.Drive.{Driven, IsTurnOver};
-ghost use Rattle.xen_back.specs.InOneGo.{Serve, ServeOn, after_slot, ended, ended_in};
+ghost use Rattle.xen_back.specs.Drive.{Driven};
+ghost use Rattle.xen_back.specs.InOneGo.{Serve, ServeOn, after_slot, ended};
 ghost use Rattle.xen_back.specs.Rest.{packet_at};
 ghost use Rattle.xen_back.specs.Tree.{after_chain, after_look, whole_turn};
-ghost use Rattle.xen_back.specs.contracts.queue.Queue.{the_row};
-ghost use Rattle.xen_back.specs.Queues.{IsReady, IsSameWiring, state_of, wiring_of};
 ghost use Rattle.xen_back.specs.declared.by_event.phase.Phase.TheVariants as phases;
 ghost use Rattle.xen_back.specs.declared.by_event.stage.Stage.TheVariants as stages;
 
 use crate::by_event::stage::Stage;
 use crate::copy_buf::CopyBuf;
-use crate::decisions::{halted, shown};
-use crate::in_one_go::looking::look;
+use crate::decisions::halted;
+use crate::in_one_go::looking::{LoneSlot, is_lone, look, read_chain, read_slot};
 use crate::in_one_go::running::{copy_and_run, refuse};
-use crate::in_one_go::slots::{LoneSlot, is_lone, read_chain, read_slot};
-use crate::queue::Queue;
 use crate::state::State;
-use crate::turn::{Halt, Kind, Refusal, Turn};
+use crate::turn::{Halt, Kind, Refusal};
 use crate::wiring::Wiring;
 use bpf_maps::{CounterSeat, Counters};
 use xen_netif::{Fragment, SizeFault, TxReq};
@@ -251,71 +242,5 @@ pub(crate) fn stage_turned<'p, 'b, B: Bus>(
     match stage {
         Stage::At(packet, _) => turn(wiring, state, bus, counters, seat, ports, packet),
         _ => unreachable!(),
-    }
-}
-
-impl<'p, 'b> Queue<'p, 'b> {
-    /// Takes a whole turn.
-    fn take_turn<B: Bus>(
-        &mut self,
-        bus: &mut B,
-        counters: &Counters,
-        seat: &mut CounterSeat,
-        ports: &Ports,
-    ) -> Kind
-        requires ready { IsReady self.old }
-        requires size { B.size bus.old ≡ length (wiring_of self.old).vif.owners.now }
-        requires shapes { counters.now.shapes ≡ (wiring_of self.old).program.now.shapes }
-        requires seat { IsSeatOf counters.now seat.old }
-        ensures ready { IsReady self.new }
-        ensures size { B.size bus.new ≡ B.size bus.old }
-        ensures same { IsSameWiring self.old self.new }
-        ensures seat { seat.new ≡ record seat.old { ops = seat.new.ops } }
-        ensures driven { (t : List Event) × Driven B.log B.access_gives (whole_turn (wiring_of self.old) (state_of self.old))
-            (ended_in self.new result) bus.old bus.new seat.old.ops seat.new.ops t }
-    {
-        // The borrow checker has to see this type in the body.
-        let _vif = &self.wiring.vif;
-        match &mut self.stage {
-            Some(stage) => stage_turned(
-                &self.wiring,
-                &mut self.state,
-                bus,
-                counters,
-                seat,
-                ports,
-                stage,
-            ),
-            None => unreachable!(),
-        }
-    }
-
-    /// A whole turn: its events over the bus, at the counters and to the ports.
-    pub fn drive_turn<B: Bus>(
-        &mut self,
-        bus: &mut B,
-        counters: &Counters,
-        seat: &mut CounterSeat,
-        ports: &Ports,
-    ) -> Turn<'_>
-        requires ready { IsReady self.old }
-        requires size { B.size bus.old ≡ length (wiring_of self.old).vif.owners.now }
-        requires shapes { counters.now.shapes ≡ (wiring_of self.old).program.now.shapes }
-        requires seat { IsSeatOf counters.now seat.old }
-        ensures size { B.size bus.new ≡ B.size bus.old }
-        ensures seat { seat.new ≡ record seat.old { ops = seat.new.ops } }
-        ensures* turn { sem 𝓛 (follows_so
-            (the_row (record { mir = named 1; lft = [] }) (record { mir = named 2; lft = [] }))
-            (the_row (record { mir = named 1; lft = [] }) (record { mir = named 2; lft = [] }))
-            self.entry.ghost_name none (λ _ _. ⊤)
-            (λ q. IsTurnOver B.log B.access_gives self.old q result bus.old bus.new seat.old.ops seat.new.ops)) }
-    {
-        // The borrow checker has to see this type in the body.
-        let _vif = &self.wiring.vif;
-        let kind = self.take_turn(bus, counters, seat, ports);
-        match &self.stage {
-            Some(stage) => shown(stage, kind),
-            None => unreachable!(),
-        }
     }
 }

@@ -11,7 +11,7 @@ use Rattle.xen_back.specs.Rest.{rest_of_slot}
 use Rattle.xen_back.specs.Tree.{after_scan, judged, read_slot, read_slots}
 use Rattle.xen_back.specs.Turned.{Ending}
 use Rattle.xen_back.proofs.BulkLemmas.{IsSlotRead, judged_more, none_left, one_left, slot_on}
-use Rattle.xen_back.proofs.in_one_go.slots.read_chain.Goals as goal
+use Rattle.xen_back.proofs.in_one_go.looking.read_chain.Goals as goal
 
 pub returns-in-Err-clause-driven : goal.returns-in-Err-clause-driven
 returns-in-Err-clause-driven g c =

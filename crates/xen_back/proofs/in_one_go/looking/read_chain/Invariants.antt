@@ -4,7 +4,7 @@ use Rattle.xen_netif.specs.declared.chain.ChainState.TheVariants.{Complete}
 use Rattle.xen_steps.specs.Event.{Event}
 use Rattle.xen_back.specs.Drive.{Driven}
 use Rattle.xen_back.specs.InOneGo.{after_slot}
-use Rattle.xen_back.proofs.in_one_go.slots.read_chain.Given as goal
+use Rattle.xen_back.proofs.in_one_go.looking.read_chain.Given as goal
 
 abbrev pub invariant-loop-fault : goal.invariant-loop-fault
 invariant-loop-fault g l =

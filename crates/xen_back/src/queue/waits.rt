@@ -1,0 +1,64 @@
+//! A queue's waits for rx slots, in one go and one event at a time.
+
+ghost use Rattle.std.specs.Prelude.{◌≡◌, length};
+ghost use Rattle.xen_steps.specs.Steps.{want_of};
+ghost use Rattle.xen_back.specs.Awaited.{HasAwaited};
+ghost use Rattle.xen_back.specs.Queues.{IsReady, wiring_of};
+ghost use Rattle.xen_back.specs.WaitsByEvent.{IsWaitBegun, IsWaitOf, IsWaitOver, left_of_wait};
+
+use crate::delivery::awaiting::{Awaited, looked_for};
+use crate::delivery::looking::{Awaiting, Looking};
+use crate::delivery::waiting::begun;
+use crate::queue::Queue;
+use xen_page::Bus;
+use xen_steps::Want;
+
+impl<'p, 'b> Queue<'p, 'b> {
+    /// Asks the frontend for a notice as soon as it has posted so many rx slots, and looks whether it has by now: after
+    /// [`Delivery::FewSlots`](crate::Delivery::FewSlots), with the packet's length in pages of 4,096 bytes. A ring has 256
+    /// slots, so more are never there.
+    pub fn await_slots<B: Bus>(&mut self, pages: u32, bus: &mut B) -> Awaited
+        requires ready { IsReady self.old }
+        requires size { B.size bus.old ≡ length (wiring_of self.old).vif.owners.now }
+        ensures ready { IsReady self.new }
+        ensures size { B.size bus.new ≡ B.size bus.old }
+        ensures awaited { HasAwaited B.log B.access_gives self.old self.new pages result bus.old bus.new }
+    {
+        // The borrow checker has to see this type in the body.
+        let _vif = &self.wiring.vif;
+        let (after, awaited) = looked_for(&self.wiring, &self.state, pages, bus);
+        self.state = after;
+        awaited
+    }
+
+    /// Begins a wait for so many rx slots, as [`Queue::await_slots`] makes it, one event at a time. The queue takes no turn
+    /// and no delivery until [`Queue::end_wait`].
+    pub fn begin_wait(&self, pages: u32) -> Awaiting
+        requires { IsReady self.now }
+        ensures { IsWaitBegun self.now pages result }
+    {
+        let state = self.state;
+        Awaiting {
+            rx: self.wiring.vif.rx,
+            state,
+            pages,
+            looking: begun(&state),
+        }
+    }
+
+    /// Ends a wait that wants nothing more: the queue goes on behind it.
+    pub fn end_wait(&mut self, awaiting: Awaiting) -> Awaited
+        requires ready { IsReady self.old }
+        requires own { IsWaitOf self.old awaiting }
+        requires over { want_of (left_of_wait awaiting) ≡ Want.Done }
+        ensures { IsWaitOver self.old self.new awaiting result }
+    {
+        // The borrow checker has to see this type in the body.
+        let _vif = &self.wiring.vif;
+        let Looking::Over { after, awaited } = awaiting.looking else {
+            unreachable!()
+        };
+        self.state = after;
+        awaited
+    }
+}
