@@ -1,6 +1,7 @@
-//! A front.
+//! A front, and all of its calls: how it is made (`making`), those that begin an activity (`beginning`), and those that make it (`calls`).
 
 mod beginning;
+mod calls;
 mod making;
 
 ghost use Rattle.xen_front.specs.Rest.{HasSpace};

@@ -1,7 +1,7 @@
 //! Netfront's queue: it sends packets through granted pages, posts buffers, and takes what the other end gives, one
 //! event at a time.
 //!
-//! - `front`: a front, how it is made, and the calls that begin an activity
+//! - `front`: a front and all of its calls
 //! - `by_event`: what an activity wants and does with an answer (`feeding`): a send (`sending`), a post (`posting`), a poll
 //!   (`taking` for tx responses, `receiving` for a packet); its ids and places
 //! - `in_one_go`: a whole activity over a bus (`drive`), a packet's pieces on references alone (`straight`)

@@ -1,4 +1,6 @@
-//! A transmit that is under way.
+//! A transmit that is under way, and its `calls`.
+
+mod calls;
 
 ghost use Rattle.std.specs.Prelude.{IsTrue};
 ghost use Rattle.xen_transmit.specs.Going.{is_going};

@@ -1,20 +1,14 @@
-//! A front's events: what it wants, and what it does with an answer.
+//! What a phase wants, and the phase after an answer.
 
-ghost use Rattle.std.specs.Prelude.{◌≡◌, ◌≢◌, ◌≤◌, ◌∷◌, ℕ, List, ⊤, [], length};
-ghost use Rattle.std.specs.Borrow.{sem};
-ghost use denote.Follow.{follows_so};
-ghost use mir.Syntax.{named};
+ghost use Rattle.std.specs.Prelude.{◌≡◌, ◌≤◌, ℕ, List, length};
 ghost use mathlib.Core.Option.{none};
-ghost use Rattle.xen_front.specs.contracts.front.Front.{the_row};
-ghost use Rattle.xen_front.specs.Fronts.{IsAsked, IsFed, IsOver, rest, state_of, wiring_of};
+ghost use Rattle.xen_front.specs.Fronts.{rest};
 ghost use Rattle.xen_front.specs.Given.{Shows, given};
 ghost use Rattle.xen_front.specs.Rest.{HasSpace, busy_in, rest_at};
-ghost use Rattle.xen_front.specs.Slots.{ended, outstanding};
+ghost use Rattle.xen_front.specs.Slots.{ended};
 ghost use Rattle.xen_front.specs.Tree.{take_all};
 ghost use Rattle.xen_front.specs.declared.by_event.phase.Phase.TheVariants as phases;
 ghost use Rattle.xen_ring.specs.Layout.{rsp_event};
-ghost use Rattle.xen_steps.specs.Answers.{Fits};
-ghost use Rattle.xen_steps.specs.Drive.{IsPageWant};
 ghost use Rattle.xen_steps.specs.Places.{add32, page_word};
 ghost use Rattle.xen_steps.specs.Steps.{done, next_by, want_of};
 
@@ -29,15 +23,13 @@ use crate::by_event::sending::{
     filled, filling_want, granted, piece_flags, piece_frame, slot_write, slot_written,
 };
 use crate::by_event::taking::{after_tx_response, shown, tx_first_looked, tx_looked};
-use crate::front::Front;
 use crate::packet::Packet;
 use crate::state::{Ring, State};
 use crate::turn::{Outcome, RxTurn};
-use std::mem;
 use xen_buffers::{Buffer, Wiring, buffer_of, grant_flags};
 use xen_page::Place;
 use xen_ring::{REQ_EVENT, REQ_PROD, RSP_EVENT, RSP_PROD};
-use xen_steps::{Answer, Want, header, rx_entry, tx_entry};
+use xen_steps::{Want, header, rx_entry, tx_entry};
 
 /// The next tx response, or the rx ring's producer if none is left.
 fn taking(wiring: &Wiring, state: &State, n: u32) -> Want
@@ -65,7 +57,7 @@ fn end_grant(wiring: &Wiring, buffer: &Buffer) -> Want
 }
 
 /// What a phase wants.
-fn phase_want(wiring: &Wiring, state: &State, sent: &[u8], phase: &Phase) -> Want
+pub(crate) fn phase_want(wiring: &Wiring, state: &State, sent: &[u8], phase: &Phase) -> Want
     requires { length sent.now ≤ 65535 }
     ensures { (q : List ℕ) → result ≡ want_of (rest_at wiring.now state.now sent.now q phase.now) }
 {
@@ -122,7 +114,7 @@ fn response_begun(chained: Chained, first: u32) -> Phase
 }
 
 /// The phase after an answer.
-fn phase_fed(
+pub(crate) fn phase_fed(
     wiring: &Wiring,
     state: &mut State,
     sent: &[u8],
@@ -175,7 +167,7 @@ fn phase_fed(
 }
 
 /// What the activity gave, without the packet.
-fn ending(phase: Phase) -> Outcome
+pub(crate) fn ending(phase: Phase) -> Outcome
     requires { (w : Wiring) × (s : State) × (p : List ℕ) × (q : List ℕ) × (want_of (rest_at w s p q phase) ≡ Want.Done) }
     ensures { (w : Wiring) (s : State) (p q : List ℕ) → rest_at w s p q phase ≡ done (s, given result q) }
 {
@@ -187,7 +179,7 @@ fn ending(phase: Phase) -> Outcome
 }
 
 /// What an activity gave, as the host is shown it.
-fn show<'t>(received: &'t Packet, outcome: Outcome) -> RxTurn<'t>
+pub(crate) fn show<'t>(received: &'t Packet, outcome: Outcome) -> RxTurn<'t>
     ensures { Shows (given outcome received.now) result }
 {
     match outcome {
@@ -205,70 +197,5 @@ pub(crate) fn is_busy(phase: &Phase) -> bool
     match phase {
         Phase::Ready => false,
         _ => true,
-    }
-}
-
-impl<'p> Front<'p> {
-    /// What the front wants next: an access to a page of its own, a notice, or `Done` when the activity is over.
-    pub fn want(&self) -> Want
-        ensures want { result ≡ want_of (rest self.now) }
-        ensures within { result ≢ Want.Done → IsPageWant (wiring_of self.now).frames result }
-    {
-        phase_want(&self.wiring, &self.state, self.sent.bytes(), &self.phase)
-    }
-
-    /// [`want`](Front::want), of a front that is lent for going on.
-    pub fn wanted(&mut self) -> Want
-        ensures { IsAsked result self.old self.new }
-    {
-        phase_want(&self.wiring, &self.state, self.sent.bytes(), &self.phase)
-    }
-
-    /// Takes the answer to its want, and goes on by it.
-    pub fn feed(&mut self, answer: Answer)
-        requires { Fits (want_of (rest self.old)) answer }
-        ensures { IsFed answer self.old self.new }
-    {
-        let word = answer.word();
-        let phase = mem::replace(&mut self.phase, Phase::Ready);
-        self.phase = phase_fed(
-            &self.wiring,
-            &mut self.state,
-            self.sent.bytes(),
-            &mut self.received,
-            phase,
-            word,
-        );
-    }
-
-    /// What the activity gave. The next activity may begin once the borrow of the packet has ended.
-    pub fn received(&mut self) -> RxTurn<'_>
-        requires { want_of (rest self.old) ≡ Want.Done }
-        ensures* after { sem 𝓛 (follows_so
-            (the_row (record { mir = named 1; lft = [] }))
-            (the_row (record { mir = named 1; lft = [] }))
-            self.entry.ghost_name none (λ _ _. ⊤) (λ f. IsOver self.old f result)) }
-    {
-        // The borrow checker has to see these two types in the body.
-        let (_table, _buffers) = (self.wiring.table, self.wiring.tx);
-        let phase = mem::replace(&mut self.phase, Phase::Ready);
-        let outcome = ending(phase);
-        show(&self.received, outcome)
-    }
-
-    /// The numbers of tx responses that were OKAY, DROPPED, ERROR and anything else, each staying at 2^64 - 1 once there.
-    pub fn statuses(&self) -> [u64; 4]
-        ensures { let c = (state_of self.now).counts in result ≡ c.okay ∷ c.dropped ∷ c.error ∷ c.other ∷ [] }
-    {
-        let c = &self.state.counts;
-        [c.okay, c.dropped, c.error, c.other]
-    }
-
-    /// How many requests of the tx ring and of the rx ring aren't answered, as far as the polls have seen.
-    pub fn unanswered(&self) -> (u32, u32)
-        ensures { let s = state_of self.now in result ≡ (outstanding s.tx, outstanding s.rx) }
-    {
-        let State { tx, rx, .. } = &self.state;
-        (tx.prod.wrapping_sub(tx.cons), rx.prod.wrapping_sub(rx.cons))
     }
 }

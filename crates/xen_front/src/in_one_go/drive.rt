@@ -1,12 +1,6 @@
 //! A whole activity over a bus and ports.
 
-ghost use Rattle.std.specs.Prelude.{◌≡◌, ◌≤◌, ◌∷◌, ⊤, [], List};
-ghost use Rattle.std.specs.Borrow.{sem};
-ghost use denote.Follow.{follows_so};
-ghost use mir.Syntax.{named};
-ghost use mathlib.Core.Option.{none};
-ghost use Rattle.xen_front.specs.contracts.front.Front.{the_row};
-ghost use Rattle.xen_front.specs.Drive.{IsDriven};
+ghost use Rattle.std.specs.Prelude.{◌≡◌, ◌≤◌, ◌∷◌, [], List};
 ghost use Rattle.xen_front.specs.Fronts.{rest, wiring_of};
 ghost use Rattle.xen_page.specs.Access.{Performs};
 ghost use Rattle.xen_steps.specs.Drive.{Any, Bounded, Driven, Goes, IsPageWant, accesses};
@@ -16,7 +10,6 @@ ghost use Rattle.xen_steps.specs.Steps.{want_of};
 use crate::by_event::phase::Phase;
 use crate::front::Front;
 use crate::in_one_go::straight::past_piece;
-use crate::turn::RxTurn;
 use std::mem;
 use xen_page::Bus;
 use xen_ring::Ports;
@@ -69,7 +62,7 @@ fn drive_piece<B: Bus>(front: &mut Front, bus: &mut B)
 }
 
 /// Makes all writes of a packet's pieces, where the front is before the first.
-fn drive_pieces<B: Bus>(front: &mut Front, bus: &mut B)
+pub(crate) fn drive_pieces<B: Bus>(front: &mut Front, bus: &mut B)
     requires { (wiring_of front.old).frames ≤ B.size bus.old }
     ensures size { B.size bus.new ≡ B.size bus.old }
     ensures same { wiring_of front.new ≡ wiring_of front.old }
@@ -84,7 +77,7 @@ fn drive_pieces<B: Bus>(front: &mut Front, bus: &mut B)
 }
 
 /// Makes events until the activity is over.
-fn drive_events<B: Bus>(front: &mut Front, bus: &mut B, ports: &Ports)
+pub(crate) fn drive_events<B: Bus>(front: &mut Front, bus: &mut B, ports: &Ports)
     requires { Bounded (IsPageWant (B.size bus.old)) Any (rest front.old) 17000 }
     ensures size { B.size bus.new ≡ B.size bus.old }
     ensures same { wiring_of front.new ≡ wiring_of front.old }
@@ -96,23 +89,5 @@ fn drive_events<B: Bus>(front: &mut Front, bus: &mut B, ports: &Ports)
             Want::Done => return,
             want => drive_event(front, bus, ports, want),
         }
-    }
-}
-
-impl<'p> Front<'p> {
-    /// Makes all events of the activity that has begun, over the bus and to the ports, and says what it gave. The bus
-    /// has at least the frames that the front was made for.
-    pub fn drive_front<B: Bus>(&mut self, bus: &mut B, ports: &Ports) -> RxTurn<'_>
-        requires { (wiring_of self.old).frames ≤ B.size bus.old }
-        ensures size { B.size bus.new ≡ B.size bus.old }
-        ensures* over { sem 𝓛 (follows_so
-            (the_row (record { mir = named 1; lft = [] }))
-            (the_row (record { mir = named 1; lft = [] }))
-            self.entry.ghost_name none (λ _ _. ⊤)
-            (λ f. IsDriven B.log B.access_gives self.old f result bus.old bus.new)) }
-    {
-        drive_pieces(self, bus);
-        drive_events(self, bus, ports);
-        self.received()
     }
 }
