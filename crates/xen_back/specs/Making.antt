@@ -1,12 +1,14 @@
--- A queue that was made.
+-- A queue that was made, new or from where another one ended.
 use Rattle.std.specs.Prelude.{◌≡◌, None}
 use Rattle.bpf_verify.specs.Consistent.{Accepted}
 use Rattle.xen_back.specs.Queues.{IsReady, rx_ring_of, state_of, tx_ring_of, wiring_of}
 use Rattle.xen_back.specs.declared.desc.QueueDesc.{QueueDesc}
 use Rattle.xen_back.specs.declared.queue.Queue.{Queue}
+use Rattle.xen_back.specs.declared.state.State.{State}
 use Rattle.xen_transmit.specs.Wired.{IsWired}
 
-pub record IsMade (program : Accepted) (desc : QueueDesc) (q : Queue) : Type 0 where
+-- It is of the description, but for the index at which that has both rings begin, and is between turns in this state.
+pub record IsResumed (program : Accepted) (desc : QueueDesc) (s : State) (q : Queue) : Type 0 where
   pub tx_ring : tx_ring_of q ≡ desc.tx
   pub rx_ring : rx_ring_of q ≡ desc.rx
   pub tx : (wiring_of q).vif.tx ≡ desc.tx.frame
@@ -19,6 +21,10 @@ pub record IsMade (program : Accepted) (desc : QueueDesc) (q : Queue) : Type 0 w
   pub accepted : (wiring_of q).program.now ≡ program
   pub ifindex : (wiring_of q).ifindex ≡ desc.ifindex
   pub queue : (wiring_of q).queue ≡ desc.queue
-  pub state : state_of q ≡ record { tx_index = desc.start; rx_index = desc.start; halt = None }
+  pub state : state_of q ≡ s
   pub ready : IsReady q
   pub wired : IsWired (wiring_of q).vif
+
+-- Both rings begin at the description's index.
+abbrev pub IsMade : Accepted → QueueDesc → Queue → Type 0
+IsMade program desc q = IsResumed program desc (record { tx_index = desc.start; rx_index = desc.start; halt = None }) q

@@ -11,7 +11,7 @@ use bpf_note::MapShape;
 use bpf_verify::{Verified, verify};
 use bpf_vm::Buffer;
 use std::alloc::Global;
-use xen_back::{Queue, QueueDesc};
+use xen_back::{Queue, QueueDesc, State};
 use xen_page::{Mapped, Owners, ScriptBus, Table, map};
 use xen_ring::Port;
 
@@ -105,6 +105,30 @@ impl Bench {
             start,
         };
         Some(Queue::make(&self.program, desc, buffer))
+    }
+
+    /// A queue that goes on from a state.
+    pub fn resumed<'p, 'b>(
+        &'p self,
+        alloc: Global,
+        state: State,
+        buffer: &'b mut Buffer,
+    ) -> Option<Queue<'p, 'b>>
+        ensures { IfSome result IsReady }
+    {
+        let desc = QueueDesc {
+            tx: ring(alloc, &self.owners, &self.table, 0, 17)?,
+            rx: ring(alloc, &self.owners, &self.table, 1, 18)?,
+            table: &self.table,
+            owners: &self.owners,
+            granter: 1,
+            user: 0,
+            ifindex: IFINDEX,
+            queue: QUEUE,
+            port: Port::of(1)?,
+            start: 0,
+        };
+        Some(Queue::resume(&self.program, desc, state, buffer))
     }
 }
 

@@ -5,7 +5,8 @@
 //! - `tests`, of turns: `chains`, `slots`, `copies`, `programs`, `transmits`, `later_turns`, `driving`, and answers at random
 //!   (`bounds`)
 //! - `tests`, of what a host does: `deliveries` and `awaits` by their tables, and what the frontend sees (`delivered`)
-//! - `tests`, of a transmit by itself: `sending`; `fixtures` and `kind` are for all of them
+//! - `tests`, of a transmit by itself: `sending`; of a queue that goes on where another one ended: `resumed`; `fixtures` and `kind`
+//!   are for all of them
 #![tactic(auto)]
 
 pub mod bench;

@@ -11,6 +11,7 @@ mod fixtures;
 mod kind;
 mod later_turns;
 mod programs;
+mod resumed;
 mod sending;
 mod slots;
 mod transmits;

@@ -3,7 +3,7 @@
 ghost use Rattle.std.specs.Prelude.{◌≡◌, true};
 ghost use Rattle.xen_page.specs.Mapping.{IsMappedBy};
 ghost use Rattle.xen_page.specs.Table.{IsTable};
-ghost use Rattle.xen_back.specs.Making.{IsMade};
+ghost use Rattle.xen_back.specs.Making.{IsMade, IsResumed};
 
 use crate::by_event::phase::Phase;
 use crate::by_event::stage::Stage;
@@ -25,6 +25,28 @@ impl<'p, 'b> Queue<'p, 'b> {
         requires table { IsTable desc.owners.now desc.granter desc.table.now }
         ensures { IsMade program.now desc.entry result }
     {
+        let state = State {
+            tx_index: desc.start,
+            rx_index: desc.start,
+            halt: None,
+        };
+        Queue::resume(program, desc, state, buffer)
+    }
+
+    /// A queue that goes on where another one over the same rings ended, maybe with another program: `state` is what that one's
+    /// [`Queue::state`] was between turns. The description's `start` isn't looked at; a queue that had halted stays halted.
+    pub fn resume(
+        program: &'p Verified,
+        desc: QueueDesc<'p>,
+        state: State,
+        buffer: &'b mut Buffer,
+    ) -> Queue<'p, 'b>
+        requires tx { IsMappedBy desc.owners.now desc.granter desc.tx }
+        requires rx { IsMappedBy desc.owners.now desc.granter desc.rx }
+        requires writable { (desc.tx.write ≡ true) × (desc.rx.write ≡ true) }
+        requires table { IsTable desc.owners.now desc.granter desc.table.now }
+        ensures { IsResumed program.now desc.entry state result }
+    {
         // Only the proof uses what this call ensures: every accepted program is consistent.
         program.instructions();
         let vif = Vif {
@@ -41,11 +63,6 @@ impl<'p, 'b> Queue<'p, 'b> {
             program,
             ifindex: desc.ifindex,
             queue: desc.queue,
-        };
-        let state = State {
-            tx_index: desc.start,
-            rx_index: desc.start,
-            halt: None,
         };
         let stage = Stage::At(CopyBuf::empty(buffer), Phase::Ready);
         Queue {

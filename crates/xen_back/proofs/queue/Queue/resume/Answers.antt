@@ -10,7 +10,7 @@ use Rattle.xen_back.specs.declared.state.State.{State}
 use Rattle.xen_back.specs.declared.wiring.Wiring.{Wiring}
 use Rattle.xen_back.proofs.Bounds.{bounded_turn}
 use Rattle.xen_back.proofs.EndLemmas.{ends_turn, run_whole}
-use Rattle.xen_back.proofs.queue.Queue.make.Goals as goal
+use Rattle.xen_back.proofs.queue.Queue.resume.Goals as goal
 
 pub invariant_of-result : goal.invariant_of-result
 invariant_of-result c =
@@ -25,4 +25,4 @@ invariant_of-result c =
     let consistent = c.instructions.ensures.consistent in
     let turns : (s : State) → Completes w (whole_turn w s) = λ s. finishes (may_want w) Any Any (whole_turn w s) (287383 + instructions w.program.now.code)
     (bounded_turn w w.program.now.shapes wired consistent.maps refl s) (ends_turn w (run_whole w consistent (omega arith) (omega arith)) s) in
-    record { here = refl; wired = wired; turns = turns; left = turns (record { tx_index = d.start; rx_index = d.start; halt = None }) }
+    record { here = refl; wired = wired; turns = turns; left = turns c.args.state }
