@@ -1,7 +1,7 @@
 //! What a queue of the tests stands on.
 ghost use Rattle.std.specs.Prelude.{◌≡◌, ◌≤◌, length, IfSome, true};
 ghost use Rattle.bpf_maps.specs.Seats.{IsSeatOf};
-ghost use Rattle.xen_back.specs.Queues.{IsReady, wiring_of};
+ghost use Rattle.xen_back.specs.Queues.{IsReady, rx_ring_of, tx_ring_of, wiring_of};
 ghost use Rattle.xen_page.specs.Mapping.{IsMappedBy};
 ghost use Rattle.xen_page.specs.Table.{IsTable};
 
@@ -91,6 +91,8 @@ impl Bench {
         ensures ready { IfSome result IsReady }
         ensures owners { IfSome result (λ q. length (wiring_of q).vif.owners.now ≡ 20) }
         ensures program { IfSome result (λ q. (wiring_of q).program.now.shapes ≡ self.now.program.shapes) }
+        ensures tx { IfSome result (λ q. IsMappedBy self.now.owners 1 (tx_ring_of q) × ((tx_ring_of q).write ≡ true)) }
+        ensures rx { IfSome result (λ q. IsMappedBy self.now.owners 1 (rx_ring_of q) × ((rx_ring_of q).write ≡ true)) }
     {
         let desc = QueueDesc {
             tx: ring(alloc, &self.owners, &self.table, 0, 17)?,
@@ -107,7 +109,7 @@ impl Bench {
         Some(Queue::make(&self.program, desc, buffer))
     }
 
-    /// A queue that goes on from a state.
+    /// A queue that goes on from a state, over the rings of one that has ended.
     pub fn resumed<'p, 'b>(
         &'p self,
         alloc: Global,
@@ -116,9 +118,10 @@ impl Bench {
     ) -> Option<Queue<'p, 'b>>
         ensures { IfSome result IsReady }
     {
+        let (tx, rx) = self.queue(alloc, 0, &mut *buffer)?.close();
         let desc = QueueDesc {
-            tx: ring(alloc, &self.owners, &self.table, 0, 17)?,
-            rx: ring(alloc, &self.owners, &self.table, 1, 18)?,
+            tx,
+            rx,
             table: &self.table,
             owners: &self.owners,
             granter: 1,
