@@ -91,16 +91,16 @@ int main(void)
 {
 	static const struct laxonje_map none[1];
 	static struct line line;
-	struct laxonje_program program = LAXONJE_PROGRAM_NONE;
+	struct laxonje_program *program = laxonje_program_new();
 	struct low *low = mmap(0, sizeof *low, PROT_READ | PROT_WRITE, MAP_PRIVATE | MAP_ANONYMOUS | MAP_32BIT, -1, 0);
 
 	if (low == MAP_FAILED)
 		return perror("mmap"), 1;
 	while (read_line(&line))
-		if (laxonje_load((const uint8_t *)line.program, 8 * line.slots, none, 0, &program).kind == LAXONJE_ACCEPTED)
-			measure(&line, low, &program);
+		if (laxonje_load((const uint8_t *)line.program, 8 * line.slots, none, 0, program).kind == LAXONJE_ACCEPTED)
+			measure(&line, low, program);
 		else
 			fprintf(stderr, "%s is refused\n", line.name);
-	laxonje_free(&program);
+	laxonje_program_delete(&program);
 	return 0;
 }

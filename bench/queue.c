@@ -1,8 +1,8 @@
 /* Whole turns of the queue for hosts in C: each access is made here, as the queue asks for it, in pages of 1,024 words of 32 bits.
  * Loads acquire and stores release, with a full fence inside a push, as docs/HOST.md has it.
  *
- * usage: queue SIZE BATCHES PROGRAM, as turn.c has it; with `deliver` for PROGRAM a turn is the delivery of a packet of the host's own.
- * Prints the nanoseconds per turn, the least of five rounds, and the calls of laxonje_queue_step per turn. */
+ * usage: queue SIZE BATCHES PROGRAM [SLOTS], as turn.c has it; with `deliver` for PROGRAM a turn is the delivery of a packet of the host's own.
+ * Prints the nanoseconds per turn, the least of five rounds, and the calls of the library per turn. */
 #define _GNU_SOURCE
 #include <laxonje.h>
 #include <stdatomic.h>
@@ -12,14 +12,14 @@
 #include <string.h>
 #include <time.h>
 
-enum { FRAMES = 40, PAGE = 4096, TABLE = 1, TX = 2, RX = 3, FIRST_PAGE = 4, RX_PAGE = 22, HEADER = 16, BATCH = 16, RING = 256 };
+enum { FRAMES = 40, PAGE = 4096, TABLE = 1, TX = 2, RX = 3, FIRST_PAGE = 4, RX_PAGE = 22, HEADER = 16, BATCH = 16, RING = 256, HEADERS = 66 };
 enum { BACK = 0, FRONT = 1, MORE_DATA = 4, PERMIT = 1 };
 
 struct host {
 	_Atomic uint32_t *pages;
-	struct laxonje_queue queue;
+	struct laxonje_queue *queue;
 	uint32_t words[LAXONJE_PAGE_WORDS];
-	uint32_t sent, posted;
+	uint32_t sent, posted, slots, batch;
 	unsigned long calls;
 };
 
@@ -36,8 +36,9 @@ static void put(struct host *host, uint32_t frame, uint32_t word, uint32_t value
 static void read_words(struct host *host, const struct laxonje_op *op)
 {
 	_Atomic uint32_t *at = word_at(host, op->frame, op->word);
+	uint32_t *words = host->words + op->lent;
 	for (uint32_t i = 0, count = op->count; i < count; i++)
-		host->words[i] = atomic_load_explicit(at + i, memory_order_acquire);
+		words[i] = atomic_load_explicit(at + i, memory_order_acquire);
 }
 
 static void write_words(struct host *host, const struct laxonje_op *op, const uint32_t *words)
@@ -47,13 +48,13 @@ static void write_words(struct host *host, const struct laxonje_op *op, const ui
 		atomic_store_explicit(at + i, words[i], memory_order_release);
 }
 
-/* A turn, or a delivery, to its end; the producer of the ring in this frame was not read before. */
-static struct laxonje_op take_turn(struct host *host, uint32_t ring)
+/* A turn, or the delivery of a packet, to its end. */
+static struct laxonje_op take_turn(struct host *host, const uint8_t *packet, uint32_t size)
 {
 	struct laxonje_op ops[LAXONJE_OPS];
-	host->words[0] = atomic_load_explicit(word_at(host, ring, 0), memory_order_acquire);
-	for (;;) {
-		size_t count = laxonje_queue_step(&host->queue, host->words, LAXONJE_PAGE_WORDS, NULL, 0, ops, LAXONJE_OPS);
+	uint32_t producer = atomic_load_explicit(word_at(host, packet ? RX : TX, 0), memory_order_acquire);
+	size_t count = packet ? laxonje_queue_deliver(host->queue, producer, packet, size) : laxonje_queue_turn(host->queue, producer, ops, LAXONJE_OPS);
+	for (;; count = laxonje_queue_step(host->queue, host->words, LAXONJE_PAGE_WORDS, NULL, 0, ops, LAXONJE_OPS)) {
 		host->calls++;
 		for (const struct laxonje_op *op = ops; op < ops + count; op++) {
 			switch (op->kind) {
@@ -61,7 +62,7 @@ static struct laxonje_op take_turn(struct host *host, uint32_t ring)
 				read_words(host, op);
 				break;
 			case LAXONJE_OP_WRITE:
-				write_words(host, op, host->words);
+				write_words(host, op, host->words + op->lent);
 				break;
 			case LAXONJE_OP_STORE:
 				write_words(host, op, op->value);
@@ -69,7 +70,7 @@ static struct laxonje_op take_turn(struct host *host, uint32_t ring)
 			case LAXONJE_OP_PUSH:
 				write_words(host, op, op->value);
 				atomic_thread_fence(memory_order_seq_cst);
-				host->words[0] = atomic_load_explicit(word_at(host, op->frame, op->value[1]), memory_order_acquire);
+				host->words[op->lent] = atomic_load_explicit(word_at(host, op->frame, op->value[1]), memory_order_acquire);
 				break;
 			case LAXONJE_OP_NOTIFY:
 				break;
@@ -80,18 +81,24 @@ static struct laxonje_op take_turn(struct host *host, uint32_t ring)
 	}
 }
 
+/* The bytes that stand in a slot: of the first all of the packet's. */
+static uint32_t length_in(uint32_t size, uint32_t slots, uint32_t slot)
+{
+	uint32_t first = slots > (size + PAGE - 1) / PAGE ? HEADERS : PAGE, share = first == PAGE ? PAGE : (size - first) / (slots - 1);
+	return !slot ? size : slot + 1 < slots ? share : size - first - (slots - 2) * share;
+}
+
 /* A batch of packets of this size, unless they are the host's own, and buffers for as many. */
 static void publish(struct host *host, uint32_t size, bool delivers)
 {
-	uint32_t slots = (size + PAGE - 1) / PAGE;
-	for (uint32_t packet = 0; !delivers && packet < BATCH; packet++)
-		for (uint32_t part = 0; part < slots; part++) {
-			uint32_t at = HEADER + 3 * (host->sent++ % RING), bytes = part ? size - part * PAGE : size;
+	for (uint32_t packet = 0; !delivers && packet < host->batch; packet++)
+		for (uint32_t part = 0; part < host->slots; part++) {
+			uint32_t at = HEADER + 3 * (host->sent++ % RING);
 			put(host, TX, at, FIRST_PAGE + part);
-			put(host, TX, at + 1, part + 1 < slots ? MORE_DATA << 16 : 0);
-			put(host, TX, at + 2, part | (part && bytes > PAGE ? PAGE : bytes) << 16);
+			put(host, TX, at + 1, part + 1 < host->slots ? MORE_DATA << 16 : 0);
+			put(host, TX, at + 2, part | length_in(size, host->slots, part) << 16);
 		}
-	for (uint32_t buffer = 0; buffer < BATCH * slots && buffer < RING; buffer++) {
+	for (uint32_t buffer = 0; buffer < host->batch * host->slots && buffer < RING; buffer++) {
 		uint32_t at = HEADER + 2 * (host->posted++ % RING);
 		put(host, RX, at, buffer % 16);
 		put(host, RX, at + 1, RX_PAGE + buffer % 16);
@@ -120,18 +127,16 @@ static void connect(struct host *host, struct laxonje_program *program)
 		for (uint32_t word = 0; frame >= FIRST_PAGE && word < LAXONJE_PAGE_WORDS; word++)
 			put(host, frame, word, word * 0x01010101);
 	}
-	if (laxonje_queue_make(program, owners, FRAMES, table, 1, &desc, &host->queue) != LAXONJE_MADE)
+	if (laxonje_queue_make(program, owners, FRAMES, table, 1, &desc, host->queue) != LAXONJE_MADE)
 		fprintf(stderr, "no queue\n"), exit(1);
 }
 
 /* A batch of turns or deliveries. */
 static void take_batch(struct host *host, uint32_t size, const uint8_t *packet)
 {
-	for (int turn = 0; turn < BATCH; turn++) {
+	for (uint32_t turn = 0; turn < host->batch; turn++) {
 		uint32_t wanted = packet ? LAXONJE_DELIVERY_SENT : size ? LAXONJE_TURN_RAN : LAXONJE_TURN_IDLE;
-		if (packet)
-			laxonje_queue_deliver(&host->queue, packet, size);
-		if (take_turn(host, packet ? RX : TX).turn != wanted)
+		if (take_turn(host, packet, size).outcome != wanted)
 			fprintf(stderr, "unexpected\n"), exit(1);
 	}
 }
@@ -143,16 +148,19 @@ int main(int count, char **arguments)
 	uint32_t size = count > 1 ? atoi(arguments[1]) : 64, batches = count > 2 ? atoi(arguments[2]) : 1000;
 	const char *text = count > 3 ? arguments[3] : "b7000000020000009500000000000000";
 	bool delivers = !strcmp(text, "deliver");
+	uint32_t slots = count > 4 ? atoi(arguments[4]) : (size + PAGE - 1) / PAGE;
 	size_t length = delivers ? 16 : strlen(text) / 2;
-	struct laxonje_program program = LAXONJE_PROGRAM_NONE;
+	struct laxonje_program *program = laxonje_program_new();
 	double least = 1e18;
 
 	for (size_t at = 0; at < length; at++)
 		sscanf((delivers ? "b7000000020000009500000000000000" : text) + 2 * at, "%2hhx", &code[at]);
 	host.pages = calloc(FRAMES, PAGE);
-	if (!host.pages || laxonje_load(code, length, NULL, 0, &program).kind != LAXONJE_ACCEPTED)
+	if (!host.pages || laxonje_load(code, length, NULL, 0, program).kind != LAXONJE_ACCEPTED)
 		return fprintf(stderr, "no program\n"), 1;
-	connect(&host, &program);
+	host.queue = laxonje_queue_new();
+	host.slots = slots, host.batch = slots > RING / BATCH ? RING / slots : BATCH;
+	connect(&host, program);
 	for (int round = 0; round < 5; round++) {
 		double taken = 0;
 		host.calls = 0;
@@ -162,14 +170,14 @@ int main(int count, char **arguments)
 			take_batch(&host, size, delivers ? packet : NULL);
 			taken += now() - start;
 			/* buffers that no packet took are posted anew */
-			host.posted = laxonje_queue_state(&host.queue).rx_index;
+			host.posted = laxonje_queue_state(host.queue).rx_index;
 			put(&host, RX, 0, host.posted);
 		}
-		if (taken / batches / BATCH < least)
-			least = taken / batches / BATCH;
+		if (taken / batches / host.batch < least)
+			least = taken / batches / host.batch;
 	}
-	printf("%.1f %.1f\n", least, (double)host.calls / batches / BATCH);
-	laxonje_queue_free(&host.queue);
-	laxonje_free(&program);
+	printf("%.1f %.1f\n", least, (double)host.calls / batches / host.batch);
+	laxonje_queue_delete(&host.queue);
+	laxonje_program_delete(&program);
 	return 0;
 }

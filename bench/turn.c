@@ -5,8 +5,10 @@
  * words once each into a private buffer, a program on the copy, for TX the rx slots with their grants, the buffers' words
  * and the rx responses, then a response a slot, the push, the event index and the notice.
  *
- * usage: turn SIZE BATCHES PROGRAM; a batch is 16 turns, filling isn't timed; of 0 bytes no packet is there, and the turns
- * are idle. With `deliver` for PROGRAM a turn is the delivery of a packet of the host's own: what follows TX, alone. Built with
+ * usage: turn SIZE BATCHES PROGRAM [SLOTS]; a batch is 16 turns, or as many as a ring has room for, and filling isn't timed; of 0 bytes no
+ * packet is there, and the turns are idle. A packet takes a slot for each page, or SLOTS: its headers of 66 bytes, and the rest in equal
+ * shares, each in a page of its own, as Linux's TCP sends data. With `deliver` for PROGRAM a turn is the delivery of a packet of the host's
+ * own: what follows TX, alone. Built with
  * -DEXCHANGES each store of a packet's word is an exchange, as ours is; with -DDENSE a word takes four bytes; with -DBARE it does, and is no atomic. Prints the nanoseconds per turn, the least of five rounds. The program is hex, and runs by DPDK's rte_bpf_exec where this is built with -DDPDK (and then
  * librte_bpf), else by the small interpreter below, which has what the two programs of `bench/turns` need. */
 #define _GNU_SOURCE
@@ -29,7 +31,7 @@ struct rte_bpf {
 };
 #endif
 
-enum { FRAMES = 20, WORDS = 1024, TABLE = 1, TX = 2, RX = 3, FIRST_PAGE = 4, HEADER = 16, PAGE = 4096, BATCH = 16, RING = 256 };
+enum { FRAMES = 20, WORDS = 1024, TABLE = 1, TX = 2, RX = 3, FIRST_PAGE = 4, HEADER = 16, PAGE = 4096, BATCH = 16, RING = 256, HEADERS = 66 };
 enum { BACK = 0, FRONT = 1, MORE_DATA = 4, EXTRA_INFO = 8, MOST_SLOTS = 18 };
 enum { OKAY = 0, ERROR = -1, DROPPED = -2 };
 
@@ -314,17 +316,24 @@ __attribute__((noinline)) static int delivery(struct netback *b, uint32_t size)
 	return sent(b, b->low->packet, size) ? RAN : REFUSED;
 }
 
-static void publish(struct netback *b, uint32_t size)
+/* The bytes that stand in a slot: of the first all of the packet's. */
+static uint32_t length_in(uint32_t size, uint32_t slots, uint32_t slot)
 {
-	uint32_t index = b->tx_index, slots = (size + PAGE - 1) / PAGE;
+	uint32_t first = slots > (size + PAGE - 1) / PAGE ? HEADERS : PAGE, share = first == PAGE ? PAGE : (size - first) / (slots - 1);
+	return !slot ? size : slot + 1 < slots ? share : size - first - (slots - 2) * share;
+}
+
+static void publish(struct netback *b, uint32_t size, uint32_t slots, uint32_t packets)
+{
+	uint32_t index = b->tx_index;
 	if (!size)
 		return;
-	for (int packet = 0; packet < BATCH; packet++) {
+	for (uint32_t packet = 0; packet < packets; packet++) {
 		for (uint32_t slot = 0; slot < slots; slot++, index++) {
+			uint32_t length = length_in(size, slots, slot), page = FIRST_PAGE + slot % (FRAMES - FIRST_PAGE);
 			put(b, RX, HEADER + 2 * (index % RING), slot);
-			put(b, RX, HEADER + 2 * (index % RING) + 1, FIRST_PAGE + slot);
-			uint32_t left = size - PAGE * slot, length = !slot ? size : left < PAGE ? left : PAGE;
-			put(b, TX, entry_at(index), FIRST_PAGE + slot);
+			put(b, RX, HEADER + 2 * (index % RING) + 1, page);
+			put(b, TX, entry_at(index), page);
 			put(b, TX, entry_at(index) + 1, slot + 1 < slots ? MORE_DATA << 16 : 0);
 			put(b, TX, entry_at(index) + 2, length << 16 | slot);
 		}
@@ -344,6 +353,7 @@ int main(int argc, char **argv)
 {
 	uint32_t size = argc > 1 ? atoi(argv[1]) : 64, batches = argc > 2 ? atoi(argv[2]) : 1000;
 	const char *program = argc > 3 ? argv[3] : "b7000000020000009500000000000000";
+	uint32_t slots = argc > 4 ? (uint32_t)atoi(argv[4]) : (size + PAGE - 1) / PAGE, turns = slots > RING / BATCH ? RING / slots : BATCH;
 	static struct netback b = { .frames = FRAMES, .owners_count = FRAMES, .table = { TABLE }, .table_count = 1, .tx = TX, .rx = RX, .granter = FRONT, .user = BACK, .port = 1 };
 	bool delivers = !strcmp(program, "deliver");
 	double least = 1e18;
@@ -373,15 +383,15 @@ int main(int argc, char **argv)
 	for (int round = 0; round < 5; round++) {
 		double taken = 0;
 		for (uint32_t batch = 0; batch < batches; batch++) {
-			publish(&b, size);
+			publish(&b, size, slots, turns);
 			double start = now(CLOCK_MONOTONIC);
-			for (int packet = 0; packet < BATCH; packet++)
+			for (uint32_t packet = 0; packet < turns; packet++)
 				if ((delivers ? delivery(&b, size) : turn(&b)) != (size ? RAN : IDLE))
 					return fprintf(stderr, "unexpected\n"), 1;
 			taken += now(CLOCK_MONOTONIC) - start;
 		}
-		if (taken / batches / BATCH < least)
-			least = taken / batches / BATCH;
+		if (taken / batches / turns < least)
+			least = taken / batches / turns;
 	}
 	printf("%.1f\n", least);
 	return 0;

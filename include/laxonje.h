@@ -7,21 +7,24 @@
  * 1. A pointer with its length is memory that nobody else changes during the call: no thread, no device, and no guest.
  *    Never pass a page that a guest can write: copy the packet out of it first. A pointer is aligned for what it points
  *    to, and isn't null, but for 0 elements. What is passed as not const overlaps nothing else that is passed.
- * 2. A struct laxonje_program or laxonje_queue is all zeros (LAXONJE_PROGRAM_NONE, LAXONJE_QUEUE_NONE) or what this library
- *    left in it. It is never copied: two copies would be freed twice. Moving it means that the old place isn't used again.
+ * 2. A struct laxonje_program or laxonje_queue is made by laxonje_program_new or laxonje_queue_new, which answer null where there is none,
+ *    and isn't used once it is deleted.
  * 3. One call at a time for one program and for one queue. Different ones may be used by any threads at once. A program or a
  *    queue is handed to another thread by a lock, by that thread's start or join, or by a sequentially consistent atomic:
  *    laxonje_again makes a program to be handed over.
  * 4. malloc, realloc and free are those of one allocator, and align blocks to 16 bytes. No call from a signal handler, or
  *    from the forked child of a process with threads.
- * 5. This header is written by hand. Nothing compares it with the library but the assertions below and the examples:
- *    take both from one release.
+ * 5. This header is written by hand. No proof compares it with the library, but tools/header-fits, the assertions below and the examples
+ *    do: take both from one release.
+ *
+ * laxonje_drive.h has the loop of a queue's host over this header, and names for its logs.
  */
 #ifndef LAXONJE_H
 #define LAXONJE_H
 
 #include <stddef.h>
 #include <stdint.h>
+#include <stdlib.h>
 
 #ifdef __cplusplus
 extern "C" {
@@ -31,7 +34,7 @@ extern "C" {
 #endif
 
 /* The version of this header. laxonje_version says which one the library is made for. */
-#define LAXONJE_VERSION 2
+#define LAXONJE_VERSION 3
 
 /* The most maps, entries of a map, counters of an entry, and bytes of a packet and of a program. */
 #define LAXONJE_MAPS 4
@@ -115,32 +118,23 @@ struct laxonje_packet {
 	size_t length;
 };
 
-/* An accepted program with its maps, or none. The fields are the library's own. */
-struct laxonje_program {
-	void *at;
-	uint8_t live;
-};
-#define LAXONJE_PROGRAM_NONE { 0, 0 }
+/* An accepted program with its maps, or none. */
+struct laxonje_program;
 
 /* ---- Netback's queue, whose accesses of the guest's pages the host makes: docs/HOST.md, "Netback's queue" */
 
 /* How many words are lent to a step: those of a page. Room for a step's ops: a packet of n slots has n + 2 at once at most, and more
  * steps where there is less room. The most frames and frames of a grant table, of laxonje_queue_make and then of
- * laxonje_queue_make_extents. How many ports there are. */
+ * laxonje_queue_make_extents. */
 #define LAXONJE_PAGE_WORDS 1024
 #define LAXONJE_OPS 8
 #define LAXONJE_FRAMES 8192
 #define LAXONJE_TABLE_FRAMES 16
 #define LAXONJE_EXTENT_FRAMES 4294967295
 #define LAXONJE_EXTENT_TABLE_FRAMES 64
-#define LAXONJE_PORTS 64
 
-/* A queue, or none. The fields are the library's own. */
-struct laxonje_queue {
-	void *at;
-	uint8_t live;
-};
-#define LAXONJE_QUEUE_NONE { 0, 0 }
+/* A queue, or none. */
+struct laxonje_queue;
 
 /* So many frames, one after another, which one domain owns. */
 struct laxonje_extent {
@@ -148,9 +142,9 @@ struct laxonje_extent {
 	uint16_t domain;
 };
 
-/* What a queue is made of: the frames of the two rings' pages, the frontend's domain and the backend's own, the port of the
- * frontend's event channel, what the program is told, and the indices at which the rings are gone on with: 0 for new rings,
- * else those of laxonje_queue_state. */
+/* What a queue is made of: the frames of the two rings' pages, the frontend's domain and the backend's own, a number of the host's that
+ * stands for the frontend's event channel, what the program is told, and the indices at which the rings are gone on with: 0 for new
+ * rings, else those of laxonje_queue_state. */
 struct laxonje_queue_desc {
 	uint32_t tx;
 	uint32_t rx;
@@ -169,26 +163,26 @@ enum laxonje_made {
 	LAXONJE_MADE_MEMORY,  /* memory ran out */
 	LAXONJE_MADE_FRAMES,  /* more than LAXONJE_FRAMES frames, or LAXONJE_EXTENT_FRAMES in extents */
 	LAXONJE_MADE_TABLE,   /* the table isn't 1 to LAXONJE_TABLE_FRAMES, or LAXONJE_EXTENT_TABLE_FRAMES, of the frontend's frames */
-	LAXONJE_MADE_RING,    /* a ring's frame isn't the frontend's */
-	LAXONJE_MADE_PORT,    /* the port isn't below LAXONJE_PORTS */
+	LAXONJE_MADE_RING,    /* a ring's frame isn't the frontend's, is the other ring's, or is one of the table's */
+	LAXONJE_MADE_DOMAIN,  /* the frontend's domain is the backend's own */
 	LAXONJE_MADE_PROGRAM  /* there is no program */
 };
 
 enum laxonje_op_kind {
-	LAXONJE_OP_READ = 1, /* read `count` words of `frame`, from `word` on, into the first of the lent words */
-	LAXONJE_OP_WRITE,    /* write the first `count` of the lent words into `frame`, from `word` on */
-	LAXONJE_OP_NOTIFY,   /* send a notice to the port `frame` */
-	LAXONJE_OP_DONE,     /* the turn, the delivery or the wait is over: `turn` says how. The next step begins a turn */
+	LAXONJE_OP_READ = 1, /* read `count` words of `frame`, from `word` on, into the lent words from `lent` on */
+	LAXONJE_OP_WRITE,    /* write `count` of the lent words, from `lent` on, into `frame`, from `word` on */
+	LAXONJE_OP_NOTIFY,   /* send a notice to the port `value[0]` */
+	LAXONJE_OP_DONE,     /* the turn, the delivery or the wait is over: `outcome` says how */
 	LAXONJE_OP_STORE,    /* write the first `count` of `value`, one or two, into `frame`, from `word` on */
-	LAXONJE_OP_PUSH      /* write value[0] into `word` of `frame`, and behind it, with a full fence between them, read word value[1] of
-	                      * the same frame into the first of the lent words */
+	LAXONJE_OP_PUSH      /* write value[0] into `word` of `frame`, and after it, with a full fence between them, read word value[1] of
+	                      * the same frame into the lent word `lent` */
 };
 
-enum laxonje_turn {
-	LAXONJE_TURN_IDLE,    /* the ring had no request */
-	LAXONJE_TURN_RAN,     /* the program ran, and returned `number` */
-	LAXONJE_TURN_REFUSED, /* the packet was refused for the cause `number`, and its slots were answered with ERROR */
-	LAXONJE_TURN_HALTED   /* the queue has halted for the cause `number`, and makes no more accesses */
+/* What a LAXONJE_OP_READ of two words that are a grant entry is for. */
+enum laxonje_entry {
+	LAXONJE_ENTRY_NONE, /* it is no grant entry */
+	LAXONJE_ENTRY_READ, /* the granted page is to be read */
+	LAXONJE_ENTRY_WRITE /* the granted page is to be written */
 };
 
 /* The answer to a packet that is to be delivered, or to a wait for rx slots. But for the first, nothing has changed. */
@@ -199,19 +193,19 @@ enum laxonje_taken {
 	LAXONJE_TAKEN_NO_FRAME /* the packet has fewer than 14 bytes, or more than LAXONJE_PACKET */
 };
 
-/* What became of a packet that was delivered, in `turn` of the op that ends the delivery. */
-enum laxonje_delivery {
-	LAXONJE_DELIVERY_SENT = 4,  /* it lies in the buffers of `slots` rx slots */
-	LAXONJE_DELIVERY_FEW_SLOTS, /* the frontend posted fewer rx slots than the packet has pages. None was taken */
-	LAXONJE_DELIVERY_REFUSED,   /* an rx slot's grant failed its check, and `slots` slots were answered with ERROR */
-	LAXONJE_DELIVERY_HALTED     /* the queue has halted for the cause `number`, and makes no more accesses */
-};
-
-/* What a wait for rx slots came to, in `turn` of the op that ends it. */
-enum laxonje_awaited {
-	LAXONJE_AWAITED_POSTED = 9, /* so many are there by now, and no notice need come for them: deliver at once */
-	LAXONJE_AWAITED_WAITING,    /* fewer are there. The frontend's push that makes them so many owes a notice */
-	LAXONJE_AWAITED_HALTED      /* the queue has halted for the cause `number`, and makes no more accesses */
+/* What a turn, a delivery or a wait came to. */
+enum laxonje_outcome {
+	LAXONJE_TURN_IDLE,             /* the tx ring had no request */
+	LAXONJE_TURN_RAN,              /* the program ran, and returned `number` */
+	LAXONJE_TURN_REFUSED,          /* the packet was refused for `cause`, and its slots were answered with ERROR */
+	LAXONJE_TURN_HALTED,           /* the queue has halted for `cause`, and makes no more accesses */
+	LAXONJE_DELIVERY_SENT,         /* the packet lies in the buffers of `slots` rx slots */
+	LAXONJE_DELIVERY_FEW_SLOTS,    /* the frontend posted fewer rx slots than the packet has pages. None was taken */
+	LAXONJE_DELIVERY_REFUSED,      /* an rx slot's grant failed its check, and `slots` slots were answered with ERROR */
+	LAXONJE_DELIVERY_HALTED,       /* the queue has halted for `cause`, and makes no more accesses */
+	LAXONJE_AWAITED_POSTED = 9,    /* they are there by now, and no notice need come for them: deliver at once */
+	LAXONJE_AWAITED_WAITING,       /* fewer are there. The frontend's push of the last of them owes a notice */
+	LAXONJE_AWAITED_HALTED         /* the queue has halted for `cause`, and makes no more accesses */
 };
 
 /* The flags of a tx slot (netif.h, XEN_NETTXF_*). A flag without a name is left out. */
@@ -233,7 +227,7 @@ enum laxonje_refusal {
 	LAXONJE_REFUSAL_RX_GRANT   /* an rx slot's grant failed its check */
 };
 
-/* The causes of LAXONJE_TURN_HALTED, LAXONJE_DELIVERY_HALTED and LAXONJE_AWAITED_HALTED. */
+/* The causes of LAXONJE_TURN_HALTED, LAXONJE_DELIVERY_HALTED and LAXONJE_AWAITED_HALTED. The queue stays halted. */
 enum laxonje_halt {
 	LAXONJE_HALT_TX_PRODUCER = 1, /* the tx producer is more than a ring ahead */
 	LAXONJE_HALT_SHORT_CHAIN,     /* a chain wants a slot that the producer didn't show */
@@ -257,18 +251,31 @@ struct laxonje_queue_standing {
 	uint32_t halt;
 };
 
-/* What a host does next. `frame` has an owner, and `word + count` is at most LAXONJE_PAGE_WORDS. Of a turn that
- * is over, `ops` is how many operations on counters its run did, and `slots` how many slots the packet took. */
+/* What a host does next. A field that isn't of its kind is 0.
+ *
+ * Of an access `frame` has an owner, and `word + count` and `lent + count` are at most LAXONJE_PAGE_WORDS. Of the READ of a grant entry
+ * `entry` says what for, and `reference` which grant.
+ *
+ * Of what is over, `number` is what the program returned, `cause` why it was refused or halted, `ops` how many operations on counters the
+ * program's run did, and `slots` how many slots the packet took. Where a grant failed its check, `grant` is why, by the GNTST_ numbers of
+ * grant_table.h (-3: no such grant, -8: another domain's or read-only, -9: not a frame of the frontend's), `index` is its slot's in the
+ * ring, and `reference` the grant. Of a halt `index` is that of the slot that was wrong, or the producer. */
 struct laxonje_op {
 	uint32_t kind;
 	uint32_t frame;
 	uint32_t word;
 	uint32_t count;
+	uint32_t lent;
 	uint32_t value[2];
-	uint32_t turn;
+	uint32_t entry;
+	uint32_t reference;
+	uint32_t outcome;
 	uint32_t number;
+	uint32_t cause;
 	uint32_t ops;
 	uint32_t slots;
+	uint32_t index;
+	int32_t grant;
 };
 
 LAXONJE_ASSERT(sizeof(void *) == 8 && sizeof(size_t) == 8);
@@ -278,8 +285,6 @@ LAXONJE_ASSERT(offsetof(struct laxonje_verdict, at) == 8);
 LAXONJE_ASSERT(sizeof(struct laxonje_result) == 12 && offsetof(struct laxonje_result, action) == 4);
 LAXONJE_ASSERT(offsetof(struct laxonje_result, instructions) == 8);
 LAXONJE_ASSERT(sizeof(struct laxonje_packet) == 16 && offsetof(struct laxonje_packet, length) == 8);
-LAXONJE_ASSERT(sizeof(struct laxonje_program) == 16 && offsetof(struct laxonje_program, live) == 8);
-LAXONJE_ASSERT(sizeof(struct laxonje_queue) == 16 && offsetof(struct laxonje_queue, live) == 8);
 LAXONJE_ASSERT(sizeof(struct laxonje_extent) == 8 && offsetof(struct laxonje_extent, domain) == 4);
 LAXONJE_ASSERT(sizeof(struct laxonje_queue_desc) == 32 && offsetof(struct laxonje_queue_desc, rx) == 4);
 LAXONJE_ASSERT(offsetof(struct laxonje_queue_desc, granter) == 8 && offsetof(struct laxonje_queue_desc, user) == 10);
@@ -288,14 +293,30 @@ LAXONJE_ASSERT(offsetof(struct laxonje_queue_desc, queue) == 20 && offsetof(stru
 LAXONJE_ASSERT(offsetof(struct laxonje_queue_desc, rx_index) == 28);
 LAXONJE_ASSERT(sizeof(struct laxonje_queue_standing) == 16 && offsetof(struct laxonje_queue_standing, tx_index) == 4);
 LAXONJE_ASSERT(offsetof(struct laxonje_queue_standing, rx_index) == 8 && offsetof(struct laxonje_queue_standing, halt) == 12);
-LAXONJE_ASSERT(sizeof(struct laxonje_op) == 40 && offsetof(struct laxonje_op, frame) == 4);
+LAXONJE_ASSERT(sizeof(struct laxonje_op) == 64 && offsetof(struct laxonje_op, frame) == 4);
 LAXONJE_ASSERT(offsetof(struct laxonje_op, word) == 8 && offsetof(struct laxonje_op, count) == 12);
-LAXONJE_ASSERT(offsetof(struct laxonje_op, value) == 16 && offsetof(struct laxonje_op, turn) == 24);
-LAXONJE_ASSERT(offsetof(struct laxonje_op, number) == 28 && offsetof(struct laxonje_op, ops) == 32);
-LAXONJE_ASSERT(offsetof(struct laxonje_op, slots) == 36);
+LAXONJE_ASSERT(offsetof(struct laxonje_op, lent) == 16 && offsetof(struct laxonje_op, value) == 20);
+LAXONJE_ASSERT(offsetof(struct laxonje_op, entry) == 28 && offsetof(struct laxonje_op, reference) == 32);
+LAXONJE_ASSERT(offsetof(struct laxonje_op, outcome) == 36 && offsetof(struct laxonje_op, number) == 40);
+LAXONJE_ASSERT(offsetof(struct laxonje_op, cause) == 44 && offsetof(struct laxonje_op, ops) == 48);
+LAXONJE_ASSERT(offsetof(struct laxonje_op, slots) == 52 && offsetof(struct laxonje_op, index) == 56);
+LAXONJE_ASSERT(offsetof(struct laxonje_op, grant) == 60);
 
 /* The version of the header that fits the library: LAXONJE_VERSION, or the two are of different releases. */
 uint32_t laxonje_version(void);
+
+/* How the library was built: 1 by tools/build-host, which builds what it proved; 0 by tools/build-unproved, which proves nothing. */
+uint32_t laxonje_proved(void);
+
+/* The same as a text for logs, with the release, the commit and the kit. */
+const char *laxonje_build(void);
+
+/* A handle of a program, which holds none so far: laxonje_load, laxonje_load_settings and laxonje_again put one into it. Null where memory
+ * ran out, or where the library is of another version. */
+static inline struct laxonje_program *laxonje_program_new(void);
+
+/* Frees a program and its handle, and sets the pointer to null. It does nothing with null. */
+static inline void laxonje_program_delete(struct laxonje_program **program);
 
 /* Whether a program is accepted with its maps. */
 struct laxonje_verdict laxonje_check(const uint8_t *program, size_t program_bytes,
@@ -341,8 +362,14 @@ size_t laxonje_map_count(struct laxonje_program *program);
  * program. A program whose maps have the same sizes in the same order may go on with another's counters. */
 struct laxonje_map laxonje_map_size(struct laxonje_program *program, uint32_t number);
 
-/* Frees a program. With none, it does nothing. */
+/* Frees a program, and leaves none in its handle. */
 void laxonje_free(struct laxonje_program *program);
+
+/* A handle of a queue, which holds none so far, or null, as laxonje_program_new answers. */
+static inline struct laxonje_queue *laxonje_queue_new(void);
+
+/* Frees a queue and its handle between two turns, and sets the pointer to null. It does nothing with null. */
+static inline void laxonje_queue_delete(struct laxonje_queue **queue);
 
 /* Makes a queue between turns, in place of what `out` held. `owners` has the domain of each of the host's frames, `table` the
  * frames of the frontend's grant table. The queue has the program once more, verified again, so that the host keeps its own.
@@ -358,38 +385,79 @@ uint32_t laxonje_queue_make_extents(struct laxonje_program *program, const struc
                                     const uint32_t *table, size_t table_count, const struct laxonje_queue_desc *desc,
                                     struct laxonje_queue *out);
 
-/* Goes on after the ops before, and says the next ones, which the host makes in their order: as many as there is room for in `ops`, up to
- * the first but LAXONJE_OP_STORE and LAXONJE_OP_NOTIFY. The answer is how many. `words` has the words that a LAXONJE_OP_READ or
- * LAXONJE_OP_PUSH asked for, and then those that a LAXONJE_OP_WRITE is to write: at least LAXONJE_PAGE_WORDS of them. At the first step of
- * a turn they begin with the tx ring's producer, word 0 of the frame `tx`, as the host has just read it; at that of a delivery, with the rx
- * ring's. The program's counters are the first of `counters`, as laxonje_run has them. With fewer words or counters, no room, or no queue,
- * there are no ops, and nothing has changed. */
+/* Begins a turn, between two turns: `producer` is that of the tx ring, word 0 of the frame `tx`, as the host has just read it. It says the
+ * first ops, as a step does, and answers how many: 0, and nothing has changed, where there is no queue, no room, or something is under way. */
+size_t laxonje_queue_turn(struct laxonje_queue *queue, uint32_t producer, struct laxonje_op *ops, size_t op_count);
+
+/* Goes on after the ops before, and says the next ones, which the host makes in their order: up to the first that is a LAXONJE_OP_READ,
+ * a LAXONJE_OP_PUSH or LAXONJE_OP_DONE, and no more than there is room for. The answer is how many. `words` has the words that a READ or a
+ * PUSH asked for, and gets those of a WRITE: at least LAXONJE_PAGE_WORDS of them. Other words stay as they are. The program's counters are
+ * the first of `counters`, as laxonje_run has them. With fewer words or counters, no room, no queue, or nothing under way there are no
+ * ops, and nothing has changed. */
 size_t laxonje_queue_step(struct laxonje_queue *queue, uint32_t *words, size_t word_count,
                           uint64_t *counters, size_t counter_count, struct laxonje_op *ops, size_t op_count);
 
-/* Begins to deliver a packet of the host's own to the guest, between two turns. It is copied. The next steps are of its delivery,
- * until the one whose op is LAXONJE_OP_DONE. The answer is LAXONJE_TAKEN, or else why nothing was begun (enum laxonje_taken). */
-uint32_t laxonje_queue_deliver(struct laxonje_queue *queue, const uint8_t *packet, size_t packet_bytes);
+/* Begins to deliver a packet of the host's own to the guest, between two turns: `producer` is that of the rx ring, word 0 of the frame
+ * `rx`, as the host has just read it. The packet is copied. The next steps are of its delivery, until the one that says LAXONJE_OP_DONE.
+ * The answer is LAXONJE_TAKEN, or else why nothing was begun (enum laxonje_taken). */
+uint32_t laxonje_queue_deliver(struct laxonje_queue *queue, uint32_t producer, const uint8_t *packet, size_t packet_bytes);
 
 /* Begins to wait for `pages` rx slots, between two turns: after LAXONJE_DELIVERY_FEW_SLOTS, with the packet's bytes divided by 4,096 and
- * rounded up. The next steps are of the wait, until the one whose op is LAXONJE_OP_DONE (enum laxonje_awaited): they store the rx
- * ring's event index, and read its producer behind it. The answer is LAXONJE_TAKEN, or else why nothing was begun (enum
- * laxonje_taken). A ring has 256 slots: a wait for more never ends. The last index that was stored counts. */
+ * rounded up. The next steps are of the wait, until the one that says LAXONJE_OP_DONE: they store the rx ring's event index, and read its
+ * producer after it. The answer is LAXONJE_TAKEN, or else why nothing was begun (enum laxonje_taken). A ring has 256 slots: a wait for
+ * more never ends. The last index that was stored counts. */
 uint32_t laxonje_queue_await(struct laxonje_queue *queue, uint32_t pages);
 
 /* The flags of the first slot of the turn that is under way or over (enum laxonje_flag). 0 before a turn has read a slot, as for a turn
  * that was idle, and with no queue. A delivery and a wait leave them. */
 uint32_t laxonje_queue_flags(struct laxonje_queue *queue);
 
-/* Copies the packet of the turn or the delivery that is over, as far as there is room, and answers how long it is. It is there until
- * the next step or delivery: no bytes before the first turn, inside a turn, a delivery or a wait, and with no queue. */
+/* Copies the packet of the turn that ran or of the delivery that is over, as far as there is room, and answers how long it is. It is there
+ * until the next turn or delivery begins. No bytes before the first, inside a turn, a delivery or a wait, after a turn that was idle, was
+ * refused or halted, and with no queue. */
 size_t laxonje_queue_packet(struct laxonje_queue *queue, uint8_t *out, size_t out_bytes);
 
 /* Where a queue stands between two turns: what another queue of the same rings is made with, to go on in its place. */
 struct laxonje_queue_standing laxonje_queue_state(struct laxonje_queue *queue);
 
-/* Frees a queue. With none, it does nothing. A host frees it between two turns, and unmaps the guest's pages then. */
+/* Frees a queue between two turns, and leaves none in its handle. The guest's pages may be unmapped then. */
 void laxonje_queue_free(struct laxonje_queue *queue);
+
+/* ---- What is defined here */
+
+/* How many bytes a handle has: zeros where it holds nothing. */
+#define LAXONJE_HANDLE 16
+
+static inline void *laxonje_handle_(void)
+{
+	return laxonje_version() == LAXONJE_VERSION ? calloc(1, LAXONJE_HANDLE) : NULL;
+}
+
+static inline struct laxonje_program *laxonje_program_new(void)
+{
+	return (struct laxonje_program *)laxonje_handle_();
+}
+
+static inline void laxonje_program_delete(struct laxonje_program **program)
+{
+	if (*program)
+		laxonje_free(*program);
+	free(*program);
+	*program = NULL;
+}
+
+static inline struct laxonje_queue *laxonje_queue_new(void)
+{
+	return (struct laxonje_queue *)laxonje_handle_();
+}
+
+static inline void laxonje_queue_delete(struct laxonje_queue **queue)
+{
+	if (*queue)
+		laxonje_queue_free(*queue);
+	free(*queue);
+	*queue = NULL;
+}
 
 #undef LAXONJE_ASSERT
 

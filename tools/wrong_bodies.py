@@ -21,6 +21,7 @@ class Outcome(enum.Enum):
 
     CLAUSE = "refused by a clause"
     NAMES = "refused by names alone"
+    GAVE_UP = "THE PROVER GAVE UP"
     PROVED = "NOT REFUSED"
     BAD = "BAD EDIT"
 
@@ -171,7 +172,9 @@ def changed_functions(edit, folder, types):
 LINE = re.compile(r"^fn (\S+): (.*)", re.M)
 TOLD = re.compile(r"^(?:note: )?(?:\./)?(\S+?):\d+:\d+: (?:(error): )?(.*)", re.M)
 WAITS = re.compile(r"it calls|wait for a callee|depends on")
-OWN = re.compile(r"`search` did not prove|could not tell|antt has no verdict")
+OWN = re.compile(r"`search` did not prove")
+# What it says where it came to no answer, which is no refusal.
+STOPPED = re.compile(r"could not tell|has no verdict")
 # What it says of a text that it can't read, rather than of one that it refuses.
 MISREAD = re.compile(r"is not in scope|has no field|is no name|operand is missing|expected the end|cannot continue")
 # A proof file that names what an edit took away, and what cites that proof.
@@ -216,7 +219,8 @@ class Verdict(enum.Enum):
     NAMES = 2
     PROVED = 3
     CALLEE = 4
-    UNKNOWN = 5
+    STOPPED = 5
+    UNKNOWN = 6
 
 
 def errors_of(said, function):
@@ -236,6 +240,8 @@ def verdict_of(said, crate, function):
     errors = errors_of(said, function)
     if OWN.search(line) or not all(TAKEN_AWAY.search(it) for it in errors):
         return Verdict.CLAUSE
+    if STOPPED.search(line):
+        return Verdict.STOPPED
     if WAITS.search(line):
         return Verdict.CALLEE
     return Verdict.NAMES if errors else Verdict.UNKNOWN

@@ -1,16 +1,14 @@
-/* A host of netback's queue: host SETTINGS honest|few|restart|hostile PACKETS
+/* A host of netback's queue: host SETTINGS honest|few|restart|hostile PACKETS, or SECONDSs, as 3600s
  *
- * The guest's memory is a memfd, its event channels are eventfds, and the guest is a process of its own (front.c). The host
- * makes each access that the queue asks for, and no other: a load or a store of 32 bits, with the order that docs/HOST.md
- * gives. Each packet that passes is answered with one of the host's own: the same with its two addresses exchanged. It prints what
+ * The guest's memory is a memfd, its event channels are eventfds, and the guest is a process of its own (front.c). Each access
+ * that the queue asks for is made by laxonje_drive.h, and no other. Each packet that passes is answered with one of the host's own: the same with its two addresses exchanged. It prints what
  * became of the packets, and how many accesses it made to pages that aren't the guest's: 0. */
 #define _GNU_SOURCE
 #include "front.h"
-#include "laxonje.h"
 
+#include <laxonje_drive.h>
 #include <poll.h>
 #include <signal.h>
-#include <stdatomic.h>
 #include <stdio.h>
 #include <stdlib.h>
 #include <string.h>
@@ -18,19 +16,20 @@
 #include <sys/mman.h>
 #include <sys/prctl.h>
 #include <sys/wait.h>
+#include <time.h>
 #include <unistd.h>
 
-enum { MOST_COUNTERS = LAXONJE_MAPS * LAXONJE_ENTRIES * LAXONJE_COUNTERS, SESSION = 500, PRODUCER = 0, ADDRESS = 6, TRIES = 16 };
+enum { MOST_COUNTERS = LAXONJE_MAPS * LAXONJE_ENTRIES * LAXONJE_COUNTERS, SESSION = 500, LONG_SESSION = 50000, ADDRESS = 6, TRIES = 16 };
 
 struct totals { unsigned long packets, taken, blank, answered, waits, back, refused, halted, accesses, strange; };
 
 struct host {
 	uint8_t *memory;
 	struct channel channel;
-	struct laxonje_program program;
-	struct laxonje_queue queue;
+	struct laxonje_program *program;
+	struct laxonje_queue *queue;
+	struct laxonje_drive drive;
 	uint64_t counters[MOST_COUNTERS];
-	uint32_t words[LAXONJE_PAGE_WORDS];
 	uint8_t packet[LAXONJE_PACKET];
 	struct totals totals;
 };
@@ -39,81 +38,37 @@ static uint16_t owner_of(uint32_t frame) { return frame < OTHERS ? GUEST_DOMAIN 
 
 static void fail(const char *what) { perror(what), exit(1); }
 
-/* The words of an op. What is counted as strange never comes: it is proved of each op. */
-static _Atomic uint32_t *words_of(struct host *host, const struct laxonje_op *op)
+/* The page of an op. What is counted as strange never comes: it is proved of each op. */
+static uint32_t *page_of(void *held, const struct laxonje_op *op)
 {
+	struct host *host = (struct host *)held;
 	bool inside = op->frame < FRAMES && op->count <= LAXONJE_PAGE_WORDS && op->word <= LAXONJE_PAGE_WORDS - op->count;
 	host->totals.strange += !inside || owner_of(op->frame) != GUEST_DOMAIN;
 	if (!inside)
 		abort();
 	host->totals.accesses += op->count;
-	return (_Atomic uint32_t *)(void *)(host->memory + (size_t)op->frame * PAGE) + op->word;
+	return (uint32_t *)(void *)(host->memory + (size_t)op->frame * PAGE);
 }
 
-static void read_words(struct host *host, const struct laxonje_op *op)
+static void notify(void *held, uint32_t port)
 {
-	_Atomic uint32_t *from = words_of(host, op);
-	for (uint32_t i = 0; i < op->count; i++)
-		host->words[i] = atomic_load_explicit(from + i, memory_order_acquire);
-}
-
-static void read_word(struct host *host, uint32_t frame, uint32_t word)
-{
-	read_words(host, &(struct laxonje_op){ .kind = LAXONJE_OP_READ, .frame = frame, .word = word, .count = 1 });
-}
-
-static void write_words(struct host *host, const struct laxonje_op *op, const uint32_t *words)
-{
-	_Atomic uint32_t *to = words_of(host, op);
-	for (uint32_t i = 0; i < op->count; i++)
-		atomic_store_explicit(to + i, words[i], memory_order_release);
-}
-
-/* Makes an op. */
-static void make(struct host *host, const struct laxonje_op *op)
-{
+	struct host *host = (struct host *)held;
 	uint64_t one = 1;
-	switch (op->kind) {
-	case LAXONJE_OP_READ:
-		read_words(host, op);
-		break;
-	case LAXONJE_OP_WRITE:
-		write_words(host, op, host->words);
-		break;
-	case LAXONJE_OP_STORE:
-		write_words(host, op, op->value);
-		break;
-	case LAXONJE_OP_PUSH: /* a producer or an event index: the load that follows has to come after it */
-		write_words(host, op, op->value);
-		atomic_thread_fence(memory_order_seq_cst);
-		read_word(host, op->frame, op->value[1]);
-		break;
-	case LAXONJE_OP_NOTIFY:
-		if (write(host->channel.interrupt, &one, sizeof one) != sizeof one)
-			fail("eventfd");
-	}
+	host->totals.strange += port != PORT;
+	if (write(host->channel.interrupt, &one, sizeof one) != sizeof one)
+		fail("eventfd");
 }
 
-/* What is under way, to its end: the last op says what it came to. */
-static struct laxonje_op finish(struct host *host)
+static struct laxonje_io io_of(struct host *host)
 {
-	struct laxonje_op ops[LAXONJE_OPS];
-	for (;;) {
-		size_t count = laxonje_queue_step(&host->queue, host->words, LAXONJE_PAGE_WORDS, host->counters, MOST_COUNTERS, ops, LAXONJE_OPS);
-		for (size_t i = 0; i < count; i++)
-			make(host, &ops[i]);
-		if (!count)
-			fail("no queue");
-		if (ops[count - 1].kind == LAXONJE_OP_DONE)
-			return ops[count - 1];
-	}
+	return (struct laxonje_io){ host, page_of, notify, NULL };
 }
 
-/* A turn: at most one packet. It begins with a read of the producer. */
+/* A turn: at most one packet. */
 static struct laxonje_op take_turn(struct host *host)
 {
-	read_word(host, TX_RING, PRODUCER);
-	return finish(host);
+	const struct laxonje_io io = io_of(host);
+	return laxonje_drive_turn(&host->drive, &io);
 }
 
 static void connect(struct host *host)
@@ -123,9 +78,11 @@ static void connect(struct host *host)
 	struct laxonje_queue_desc desc = { .tx = TX_RING, .rx = RX_RING, .granter = GUEST_DOMAIN, .user = HOST_DOMAIN, .port = PORT };
 	for (uint32_t frame = 0; frame < FRAMES; frame++)
 		owners[frame] = owner_of(frame);
-	made = laxonje_queue_make(&host->program, owners, FRAMES, table, 1, &desc, &host->queue);
+	made = laxonje_queue_make(host->program, owners, FRAMES, table, 1, &desc, host->queue);
 	if (made != LAXONJE_MADE)
 		fprintf(stderr, "no queue: %u\n", (unsigned)made), exit(1);
+	host->drive.queue = host->queue, host->drive.tx = TX_RING, host->drive.rx = RX_RING;
+	host->drive.counters = host->counters, host->drive.counter_count = MOST_COUNTERS;
 }
 
 /* Waits for the guest's kick. False: the guest has ended. */
@@ -141,51 +98,50 @@ static bool awaits(struct host *host, int guest)
 /* Waits for the rx slots of a packet: whether to try again. */
 static bool awaits_slots(struct host *host, int guest, size_t length)
 {
-	struct laxonje_op op;
-	host->totals.strange += laxonje_queue_await(&host->queue, (length + PAGE - 1) / PAGE) != LAXONJE_TAKEN;
-	op = finish(host);
+	const struct laxonje_io io = io_of(host);
+	struct laxonje_op op = { 0 };
+	host->totals.strange += laxonje_drive_await(&host->drive, &io, length, &op) != LAXONJE_TAKEN;
 	host->totals.waits++;
-	return op.turn == LAXONJE_AWAITED_POSTED || (op.turn == LAXONJE_AWAITED_WAITING && awaits(host, guest));
+	return op.outcome == LAXONJE_AWAITED_POSTED || (op.outcome == LAXONJE_AWAITED_WAITING && awaits(host, guest));
 }
 
 /* What a host does with a packet that passes: here it sends it back itself, with the addresses exchanged. Whether the queue goes on. */
 static bool answer(struct host *host, int guest)
 {
-	size_t length = laxonje_queue_packet(&host->queue, host->packet, sizeof host->packet);
+	const struct laxonje_io io = io_of(host);
+	size_t length = laxonje_queue_packet(host->queue, host->packet, sizeof host->packet);
 	uint8_t to[ADDRESS];
 	struct laxonje_op op = { 0 };
 	host->totals.taken++;
-	host->totals.blank += (laxonje_queue_flags(&host->queue) & LAXONJE_FLAG_CSUM_BLANK) != 0;
+	host->totals.blank += (laxonje_queue_flags(host->queue) & LAXONJE_FLAG_CSUM_BLANK) != 0;
 	memcpy(to, host->packet, ADDRESS);
 	memcpy(host->packet, host->packet + ADDRESS, ADDRESS);
 	memcpy(host->packet + ADDRESS, to, ADDRESS);
 	for (unsigned tries = 0; tries < TRIES; tries++) {
-		host->totals.strange += laxonje_queue_deliver(&host->queue, host->packet, length) != LAXONJE_TAKEN;
-		read_word(host, RX_RING, PRODUCER);
-		op = finish(host);
-		if (op.turn != LAXONJE_DELIVERY_FEW_SLOTS || !awaits_slots(host, guest, length))
+		host->totals.strange += laxonje_drive_deliver(&host->drive, &io, host->packet, length, &op) != LAXONJE_TAKEN;
+		if (op.outcome != LAXONJE_DELIVERY_FEW_SLOTS || !awaits_slots(host, guest, length))
 			break;
 	}
-	host->totals.answered += op.turn == LAXONJE_DELIVERY_SENT;
-	return op.turn != LAXONJE_DELIVERY_HALTED;
+	host->totals.answered += op.outcome == LAXONJE_DELIVERY_SENT;
+	return op.outcome != LAXONJE_DELIVERY_HALTED;
 }
 
 /* What a turn came to. Whether the queue goes on. */
 static bool count(struct host *host, const struct laxonje_op *op, int guest)
 {
-	host->totals.packets += op->turn != LAXONJE_TURN_HALTED;
-	host->totals.refused += op->turn == LAXONJE_TURN_REFUSED;
-	host->totals.back += op->turn == LAXONJE_TURN_RAN && op->number == LAXONJE_TX;
-	if (op->turn == LAXONJE_TURN_RAN && op->number == LAXONJE_PASS)
+	host->totals.packets += op->outcome != LAXONJE_TURN_HALTED;
+	host->totals.refused += op->outcome == LAXONJE_TURN_REFUSED;
+	host->totals.back += op->outcome == LAXONJE_TURN_RAN && op->number == LAXONJE_TX;
+	if (op->outcome == LAXONJE_TURN_RAN && op->number == LAXONJE_PASS)
 		return answer(host, guest);
-	return op->turn != LAXONJE_TURN_HALTED;
+	return op->outcome != LAXONJE_TURN_HALTED;
 }
 
 /* Takes turns until the guest ends. A queue that halts is made anew, as for a guest that connects again. */
 static void serve(struct host *host, int guest)
 {
 	while (awaits(host, guest)) {
-		for (struct laxonje_op op = take_turn(host); op.turn != LAXONJE_TURN_IDLE; op = take_turn(host)) {
+		for (struct laxonje_op op = take_turn(host); op.outcome != LAXONJE_TURN_IDLE; op = take_turn(host)) {
 			if (!count(host, &op, guest)) {
 				host->totals.halted++;
 				connect(host);
@@ -196,7 +152,7 @@ static void serve(struct host *host, int guest)
 }
 
 /* A guest in a process of its own, and what it says of the answers. */
-static unsigned session(struct host *host, enum behaviour behaviour, unsigned packets, unsigned seed)
+static unsigned session(struct host *host, enum guest_behaviour behaviour, unsigned packets, unsigned seed)
 {
 	int life[2], status;
 	pid_t child;
@@ -206,21 +162,35 @@ static unsigned session(struct host *host, enum behaviour behaviour, unsigned pa
 	if (!child) {
 		prctl(PR_SET_PDEATHSIG, SIGKILL);
 		close(life[0]);
-		laxonje_free(&host->program);
+		laxonje_queue_delete(&host->queue);
+		laxonje_program_delete(&host->program);
 		_exit(run_front(host->memory, host->channel, behaviour, packets, seed) != 0);
 	}
 	close(life[1]);
 	connect(host);
 	serve(host, life[0]);
-	laxonje_queue_free(&host->queue);
+	laxonje_queue_free(host->queue);
 	waitpid(child, &status, 0);
 	close(life[0]), close(host->channel.kick), close(host->channel.interrupt);
 	return !WIFEXITED(status) || WEXITSTATUS(status);
 }
 
-static enum behaviour behaviour_of(const char *word)
+static enum guest_behaviour behaviour_of(const char *word)
 {
-	return !strcmp(word, "few") ? FEW : !strcmp(word, "hostile") ? HOSTILE : HONEST;
+	return !strcmp(word, "few") ? GUEST_FEW : !strcmp(word, "hostile") ? GUEST_HOSTILE : GUEST_HONEST;
+}
+
+/* Guests one after another, each with a seed of its own, until so many packets were sent, or so many seconds have passed. */
+static unsigned sessions(struct host *host, const char *word, unsigned long most, bool seconds)
+{
+	bool restarts = !strcmp(word, "restart");
+	unsigned each = restarts ? SESSION : seconds || most > LONG_SESSION ? LONG_SESSION : most, wrong = 0;
+	time_t until = time(NULL) + (time_t)most;
+	for (unsigned long sent = 0, n = 0; seconds ? time(NULL) < until : sent < most; sent += each, n++) {
+		unsigned count = !seconds && most - sent < each ? most - sent : each;
+		wrong += session(host, behaviour_of(word), count, restarts ? sent + 1 : n + 1);
+	}
+	return wrong;
 }
 
 static void load(struct host *host, const char *name)
@@ -228,7 +198,7 @@ static void load(struct host *host, const char *name)
 	static uint8_t text[1 << 20];
 	FILE *file = fopen(name, "r");
 	size_t size = file ? fread(text, 1, sizeof text, file) : 0;
-	struct laxonje_verdict verdict = laxonje_load_settings(text, size, &host->program);
+	struct laxonje_verdict verdict = laxonje_load_settings(text, size, host->program);
 	if (verdict.kind != LAXONJE_ACCEPTED)
 		fprintf(stderr, "%s: verdict %u %u at %u\n", name, verdict.kind, verdict.cause, verdict.at), exit(1);
 	fclose(file);
@@ -237,25 +207,27 @@ static void load(struct host *host, const char *name)
 int main(int count, char **words)
 {
 	static struct host host;
-	unsigned packets = count == 4 ? strtoul(words[3], NULL, 10) : 0, wrong = 0, touched = 0;
+	char *end = NULL;
+	unsigned long packets = count == 4 ? strtoul(words[3], &end, 10) : 0;
+	unsigned wrong, touched = 0;
+	bool seconds = end && !strcmp(end, "s");
 	int memory = memfd_create("guest", 0);
-	if (count != 4 || laxonje_version() != LAXONJE_VERSION)
-		return fprintf(stderr, "host SETTINGS honest|few|restart|hostile PACKETS\n"), 2;
+	if (count != 4 || (*end && !seconds))
+		return fprintf(stderr, "host SETTINGS honest|few|restart|hostile PACKETS|SECONDSs\n"), 2;
 	if (memory < 0 || ftruncate(memory, FRAMES * PAGE))
 		fail("memfd");
 	host.memory = mmap(NULL, FRAMES * PAGE, PROT_READ | PROT_WRITE, MAP_SHARED, memory, 0);
 	if (host.memory == MAP_FAILED)
 		fail("mmap");
 	memset(host.memory + OTHERS * PAGE, 0xa5, (FRAMES - OTHERS) * PAGE);
+	host.program = laxonje_program_new();
+	host.queue = laxonje_queue_new();
 	load(&host, words[1]);
-	if (!strcmp(words[2], "restart"))
-		for (unsigned n = 0; n < packets; n += SESSION)
-			wrong += session(&host, HONEST, packets - n < SESSION ? packets - n : SESSION, n + 1);
-	else
-		wrong = session(&host, behaviour_of(words[2]), packets, 1);
+	wrong = sessions(&host, words[2], packets, seconds);
 	for (size_t i = (size_t)OTHERS * PAGE; i < (size_t)FRAMES * PAGE; i++)
 		touched += host.memory[i] != 0xa5;
-	laxonje_free(&host.program);
+	laxonje_queue_delete(&host.queue);
+	laxonje_program_delete(&host.program);
 	if (strcmp(words[2], "hostile"))
 		printf("packets %lu taken %lu blank %lu answered %lu back %lu refused %lu halted %lu\n", host.totals.packets, host.totals.taken,
 		       host.totals.blank, host.totals.answered, host.totals.back, host.totals.refused, host.totals.halted);

@@ -37,8 +37,8 @@ static const uint16_t owners[] = { GUEST, GUEST, GUEST };
 static const struct laxonje_extent extents[] = { { 3, GUEST } };
 static const uint32_t table[] = { 2 };
 static const struct laxonje_queue_desc desc = { 0, 1, GUEST, 0, PORT, 0, 0, 0, 0 };
-static struct laxonje_program program = LAXONJE_PROGRAM_NONE, other = LAXONJE_PROGRAM_NONE;
-static struct laxonje_queue queue = LAXONJE_QUEUE_NONE;
+static struct laxonje_program *program, *other;
+static struct laxonje_queue *queue;
 
 /* Each call: whether it is done, or else whether it answers that memory ran out. */
 enum answer { DONE, MEMORY, ANOTHER };
@@ -64,27 +64,27 @@ static enum answer checks(void)
 
 static enum answer loads(void)
 {
-	return of_verdict(laxonje_load(code, sizeof code, NULL, 0, &program));
+	return of_verdict(laxonje_load(code, sizeof code, NULL, 0, program));
 }
 
 static enum answer loads_settings(void)
 {
-	return of_verdict(laxonje_load_settings((const uint8_t *)settings, sizeof settings - 1, &other));
+	return of_verdict(laxonje_load_settings((const uint8_t *)settings, sizeof settings - 1, other));
 }
 
 static enum answer loads_again(void)
 {
-	return of_verdict(laxonje_again(&program, &other));
+	return of_verdict(laxonje_again(program, other));
 }
 
 static enum answer makes_of_list(void)
 {
-	return of_made(laxonje_queue_make(&program, owners, 3, table, 1, &desc, &queue));
+	return of_made(laxonje_queue_make(program, owners, 3, table, 1, &desc, queue));
 }
 
 static enum answer makes_of_extents(void)
 {
-	return of_made(laxonje_queue_make_extents(&program, extents, 1, table, 1, &desc, &queue));
+	return of_made(laxonje_queue_make_extents(program, extents, 1, table, 1, &desc, queue));
 }
 
 /* Refuses the allocations of a call from each one on, until none is left. The queue, and the program that it is made of, stay as they were. */
@@ -93,33 +93,38 @@ static void tries(const char *what, enum answer (*call)(void))
 	enum answer answer;
 	refused = 0;
 	do {
-		void *at = queue.at, *of = program.at;
+		char at[LAXONJE_HANDLE], of[LAXONJE_HANDLE];
+		memcpy(at, queue, sizeof at);
+		memcpy(of, program, sizeof of);
 		count = 0;
 		refused++;
 		answer = call();
 		is(what, answer, count < refused ? DONE : MEMORY);
-		is(what, call == loads || program.at == of, 1);
-		is(what, answer == DONE || queue.at == at, 1);
+		is(what, call == loads || !memcmp(of, program, sizeof of), 1);
+		is(what, answer == DONE || !memcmp(at, queue, sizeof at), 1);
 	} while (count >= refused);
 	is(what, refused > 1, 1);
 	refused = SIZE_MAX;
 }
 
 /* A turn of a queue that was made after all. */
-static const struct row idle[] = { { BEGINS, 0, 0, 1, { 0 } }, PUSH(0, 1, 1, 0, 0), ENDS(LAXONJE_TURN_IDLE, 0, 0) };
+static const struct row idle[] = { TURN(0), PUSH(0, 1, 1, 0, 0), ENDS(LAXONJE_TURN_IDLE, 0, 0) };
 
 int main(void)
 {
+	program = laxonje_program_new();
+	other = laxonje_program_new();
+	queue = laxonje_queue_new();
 	tries("check", checks);
 	tries("load", loads);
 	tries("load of settings", loads_settings);
 	tries("the same program again", loads_again);
 	tries("a queue of a list", makes_of_list);
 	tries("a queue of extents", makes_of_extents);
-	GOES(&queue, LAXONJE_OPS, idle);
-	laxonje_queue_free(&queue);
-	laxonje_free(&other);
-	laxonje_free(&program);
+	GOES(queue, LAXONJE_OPS, idle);
+	laxonje_queue_delete(&queue);
+	laxonje_program_delete(&other);
+	laxonje_program_delete(&program);
 	printf("%d wrong\n", wrong);
 	return wrong != 0;
 }

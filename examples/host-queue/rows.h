@@ -7,25 +7,35 @@
 #include <stdio.h>
 #include <string.h>
 
-enum { GUEST = 5, PORT = 7, MOST = 4, PERMIT = 1, FLAGS = 3, HEADER = 14 };
+enum { GUEST = 5, PORT = 7000, MOST = 4, PERMIT = 1, FLAGS = 3, HEADER = 14, UNTOUCHED = 0xa5 };
 
-/* An op, with the words that it reads or writes. Of one that ends: `turn`, `number`, `slots`. BEGINS: what the host reads before the first
- * step of a turn or a delivery. PUSH: the word that is written, and which one is read behind it, with what it holds. */
+/* An op, with the words that it reads or writes. BEGINS: a turn, and the producer. PUSH: the word that is written, and which one is read
+ * after it, with what it holds. Of one that ends: the outcome, the number or the cause, the slots, and `ops`; and where a grant failed, why,
+ * the slot's index and the reference. */
 struct row {
 	uint32_t kind, frame, word, count;
 	uint32_t words[MOST];
+	uint32_t entry, reference;
 };
 enum { BEGINS };
 
 #define HALF(high) ((uint32_t)(high) << 16)
-#define PUSH(frame, word, value, read, answer) { LAXONJE_OP_PUSH, frame, word, read, { value, answer } }
-#define NOTICE { LAXONJE_OP_NOTIFY, PORT, 0, 0, { 0 } }
-#define ENDS(turn, number, slots) { LAXONJE_OP_DONE, turn, number, slots, { 0 } }
+#define TURN(producer) { BEGINS, 0, 0, 0, { producer }, 0, 0 }
+#define READ(frame, word, count, ...) { LAXONJE_OP_READ, frame, word, count, { __VA_ARGS__ }, 0, 0 }
+#define ENTRY(kind, table, reference, flags, frame) { LAXONJE_OP_READ, table, 2 * ((reference) % 512), 2, { flags, frame }, kind, reference }
+#define WRITE(frame, word, count, ...) { LAXONJE_OP_WRITE, frame, word, count, { __VA_ARGS__ }, 0, 0 }
+#define STORE(frame, word, count, ...) { LAXONJE_OP_STORE, frame, word, count, { __VA_ARGS__ }, 0, 0 }
+#define PUSH(frame, word, value, read, answer) { LAXONJE_OP_PUSH, frame, word, read, { value, answer }, 0, 0 }
+#define NOTICE { LAXONJE_OP_NOTIFY, 0, 0, 0, { PORT }, 0, 0 }
+#define COUNTED(outcome, number, slots, ops) { LAXONJE_OP_DONE, outcome, number, slots, { ops }, 0, 0 }
+#define ENDS(outcome, number, slots) COUNTED(outcome, number, slots, 0)
 
 static uint32_t words[LAXONJE_PAGE_WORDS];
+static uint64_t counters[2];
+static size_t counter_count;
 static int wrong;
 
-static void is(const char *what, size_t found, size_t wanted)
+static inline void is(const char *what, size_t found, size_t wanted)
 {
 	if (found == wanted)
 		return;
@@ -33,28 +43,63 @@ static void is(const char *what, size_t found, size_t wanted)
 	wrong++;
 }
 
-/* An op of a row, with its words. */
-static void asks(const char *what, const struct row *row, const struct laxonje_op *op)
+/* The end of a turn, a delivery or a wait. `number` is a program's, and a cause is another's. */
+static inline struct laxonje_op end_of(const struct row *row)
 {
-	bool ends = row->kind == LAXONJE_OP_DONE, stores = row->kind == LAXONJE_OP_STORE, pushes = row->kind == LAXONJE_OP_PUSH;
-	is(what, op->kind, row->kind);
-	is(what, ends ? op->turn : op->frame, row->frame);
-	is(what, ends ? op->number : op->word, row->word);
-	is(what, ends ? op->slots : op->count, pushes ? 1 : row->count);
-	for (uint32_t i = 0; row->kind == LAXONJE_OP_WRITE && i < row->count && i < MOST; i++)
-		is(what, words[i], row->words[i]);
-	is(what, op->value[0], stores || pushes ? row->words[0] : 0);
-	is(what, op->value[1], pushes ? row->count : stores && row->count == 2 ? row->words[1] : 0);
+	struct laxonje_op op;
+	memset(&op, 0, sizeof op);
+	op.kind = row->kind;
+	op.outcome = row->frame;
+	op.number = row->frame == LAXONJE_TURN_RAN ? row->word : 0;
+	op.cause = row->frame == LAXONJE_TURN_RAN ? 0 : row->word;
+	op.slots = row->count;
+	op.ops = row->words[0];
+	return op;
 }
 
-/* Whether the op of a row is the last that is said at once. */
-static bool is_last(const struct row *row)
+/* The op of a row, all fields of which are told. */
+static inline struct laxonje_op op_of(const struct row *row)
 {
-	return row->kind != LAXONJE_OP_STORE && row->kind != LAXONJE_OP_NOTIFY;
+	bool pushes = row->kind == LAXONJE_OP_PUSH, stores = row->kind == LAXONJE_OP_STORE;
+	struct laxonje_op op;
+	if (row->kind == LAXONJE_OP_DONE)
+		return end_of(row);
+	memset(&op, 0, sizeof op);
+	op.kind = row->kind;
+	op.frame = row->frame;
+	op.word = row->word;
+	op.count = pushes ? 1 : row->count;
+	op.value[0] = stores || pushes || row->kind == LAXONJE_OP_NOTIFY ? row->words[0] : 0;
+	op.value[1] = pushes ? row->count : stores && row->count == 2 ? row->words[1] : 0;
+	op.entry = row->entry;
+	op.reference = row->reference;
+	return op;
+}
+
+/* An op of a row, with its words. */
+static inline void asks(const char *what, const struct row *row, const struct laxonje_op *op)
+{
+	struct laxonje_op wanted = op_of(row);
+	is(what, op->kind, wanted.kind);
+	is(what, op->frame, wanted.frame);
+	is(what, op->word, wanted.word);
+	is(what, op->count, wanted.count);
+	is(what, op->value[0], wanted.value[0]);
+	is(what, op->outcome, wanted.outcome);
+	is(what, op->cause, wanted.cause);
+	is(what, memcmp(op, &wanted, sizeof wanted), 0);
+	for (uint32_t i = 0; row->kind == LAXONJE_OP_WRITE && i < row->count && i < MOST; i++)
+		is(what, words[i], row->words[i]);
+}
+
+/* Whether the op of a row is the last that is said at once: it has to be answered, or other words are to be lent for the next one. */
+static inline bool is_last(const struct row *row)
+{
+	return row->kind != LAXONJE_OP_STORE && row->kind != LAXONJE_OP_NOTIFY && (row->kind != LAXONJE_OP_WRITE || row[1].kind == LAXONJE_OP_WRITE);
 }
 
 /* How many of the next rows are said at once, where there is room for so many. */
-static size_t at_once(const struct row *rows, size_t room)
+static inline size_t at_once(const struct row *rows, size_t room)
 {
 	size_t count = 1;
 	while (count < room && !is_last(&rows[count - 1]))
@@ -63,7 +108,7 @@ static size_t at_once(const struct row *rows, size_t room)
 }
 
 /* The words that the op of a row reads. */
-static void answers(const struct row *row)
+static inline void answers(const struct row *row)
 {
 	if (row->kind == LAXONJE_OP_PUSH)
 		words[0] = row->words[1];
@@ -71,27 +116,64 @@ static void answers(const struct row *row)
 		memcpy(words, row->words, sizeof row->words);
 }
 
-static void is_inside(struct laxonje_queue *queue)
+static inline void is_inside(struct laxonje_queue *queue)
 {
-	is("a delivery inside another", laxonje_queue_deliver(queue, (const uint8_t *)words, HEADER), LAXONJE_TAKEN_BUSY);
+	struct laxonje_op op;
+	is("a turn inside another", laxonje_queue_turn(queue, 0, &op, 1), 0);
+	is("a delivery inside another", laxonje_queue_deliver(queue, 0, (const uint8_t *)words, HEADER), LAXONJE_TAKEN_BUSY);
 	is("a wait inside another", laxonje_queue_await(queue, 1), LAXONJE_TAKEN_BUSY);
 	is("a state inside", laxonje_queue_state(queue).kind, LAXONJE_STANDS_NOT);
+	is("a packet inside", laxonje_queue_packet(queue, NULL, 0), 0);
+}
+
+/* Room for ops, and those of a step or of a turn's begin. No more are said than there is room for, the room beyond is left as it is, and so are
+ * the lent words, but for those that a WRITE takes. */
+struct said { struct laxonje_op ops[LAXONJE_OPS + 1]; size_t count; };
+
+static inline void steps(struct laxonje_queue *queue, const char *what, struct said *said, size_t room, const uint32_t *producer)
+{
+	static uint32_t before[LAXONJE_PAGE_WORDS];
+	struct laxonje_op untouched;
+	size_t written = 0;
+	memset(&untouched, UNTOUCHED, sizeof untouched);
+	memset(said->ops, UNTOUCHED, sizeof said->ops);
+	memcpy(before, words, sizeof words);
+	said->count = producer ? laxonje_queue_turn(queue, *producer, said->ops, room)
+	                       : laxonje_queue_step(queue, words, LAXONJE_PAGE_WORDS, counters, counter_count, said->ops, room);
+	for (size_t i = 0; i < said->count && i < room; i++)
+		written = said->ops[i].kind == LAXONJE_OP_WRITE ? said->ops[i].count : written;
+	is("a lent word that stays", memcmp(words + written, before + written, sizeof words - written * sizeof words[0]), 0);
+	for (size_t i = said->count; i <= LAXONJE_OPS; i++)
+		is(what, memcmp(&said->ops[i], &untouched, sizeof untouched), 0);
+}
+
+/* The packet is there after a turn that ran and after a delivery alone. A wait leaves it. */
+static inline void is_over(struct laxonje_queue *queue, const char *what, uint32_t outcome)
+{
+	struct laxonje_op op;
+	bool none = outcome == LAXONJE_TURN_IDLE || outcome == LAXONJE_TURN_REFUSED || outcome == LAXONJE_TURN_HALTED;
+	if (outcome < LAXONJE_AWAITED_POSTED)
+		is(what, laxonje_queue_packet(queue, NULL, 0) == 0, none);
+	is("a step of nothing", laxonje_queue_step(queue, words, LAXONJE_PAGE_WORDS, counters, counter_count, &op, 1), 0);
 }
 
 /* The rows of a table, with room for so many ops at a step. */
-static void goes(struct laxonje_queue *queue, size_t room, const char *what, const struct row *rows, size_t count)
+static inline void goes(struct laxonje_queue *queue, size_t room, const char *what, const struct row *rows, size_t count)
 {
-	struct laxonje_op ops[LAXONJE_OPS];
-	memcpy(words, rows[0].words, sizeof rows->words);
-	for (size_t said, next = rows[0].kind == BEGINS; next < count; next += said) {
-		said = laxonje_queue_step(queue, words, LAXONJE_PAGE_WORDS, NULL, 0, ops, room);
-		is(what, said, at_once(&rows[next], room));
-		if (said != at_once(&rows[next], room))
+	struct said said;
+	for (size_t next = 0; next < count; next += said.count) {
+		const uint32_t *producer = rows[next].kind == BEGINS ? rows[next].words : NULL;
+		next += producer != NULL;
+		steps(queue, what, &said, room, producer);
+		is(what, said.count, at_once(&rows[next], room));
+		if (said.count != at_once(&rows[next], room))
 			return;
-		for (size_t i = 0; i < said; i++)
-			asks(what, &rows[next + i], &ops[i]);
-		answers(&rows[next + said - 1]);
-		if (rows[next + said - 1].kind != LAXONJE_OP_DONE)
+		for (size_t i = 0; i < said.count; i++)
+			asks(what, &rows[next + i], &said.ops[i]);
+		answers(&rows[next + said.count - 1]);
+		if (rows[next + said.count - 1].kind == LAXONJE_OP_DONE)
+			is_over(queue, what, rows[next + said.count - 1].frame);
+		else
 			is_inside(queue);
 	}
 }

@@ -70,10 +70,14 @@ static size_t any_program(uint8_t *to)
 	return 8 * slots;
 }
 
-static void load_any(struct laxonje_program *program)
+/* A handle, and whether a program was accepted into it. */
+struct holder { struct laxonje_program *program; bool live; };
+
+static void load_any(struct holder *to)
 {
 	static const uint8_t nothing[1];
 	static const struct laxonje_map none[1];
+	struct laxonje_program *program = to->program;
 	struct laxonje_map *maps = malloc(8 * sizeof *maps);
 	struct laxonje_verdict verdict, checked;
 	size_t length, count = any(7);
@@ -105,8 +109,7 @@ static void load_any(struct laxonje_program *program)
 	free(maps);
 	if (verdict.kind > LAXONJE_SETTINGS)
 		wrong("kind");
-	if ((verdict.kind == LAXONJE_ACCEPTED) != program->live)
-		wrong("an accepted program is there, a refused one isn't");
+	to->live = verdict.kind == LAXONJE_ACCEPTED;
 	answers[verdict.kind]++;
 }
 
@@ -119,9 +122,9 @@ static uint64_t sum(const uint8_t *bytes, size_t length)
 	return all;
 }
 
-static void look_at(struct laxonje_result run, struct laxonje_program *program, size_t counters, size_t length, bool same)
+static void look_at(struct laxonje_result run, const struct holder *of, size_t counters, size_t length, bool same)
 {
-	bool made = program->live && counters >= laxonje_counters(program) && length <= LAXONJE_PACKET;
+	bool made = of->live && counters >= laxonje_counters(of->program) && length <= LAXONJE_PACKET;
 
 	if (made != (run.instructions > 0) || run.action > LAXONJE_TX || (!made && (run.number || run.action)))
 		wrong("a run is made where it can be, and only there");
@@ -130,8 +133,9 @@ static void look_at(struct laxonje_result run, struct laxonje_program *program, 
 	made ? runs++ : unrun++;
 }
 
-static void run_any(struct laxonje_program *program)
+static void run_any(struct holder *of)
 {
+	struct laxonje_program *program = of->program;
 	size_t need = laxonje_counters(program), count = any(4) ? need : any(need + 4), length = any_length(MOST_PACKET);
 	uint64_t *counters = calloc(count + 1, sizeof *counters), before;
 	uint8_t *packet = malloc(length + 1);
@@ -143,12 +147,13 @@ static void run_any(struct laxonje_program *program)
 		packet[i] = any(256);
 	before = sum(packet, length) ^ sum((uint8_t *)counters, 8 * count);
 	run = laxonje_run(program, counters, count, packet, length, any(4), any(4));
-	look_at(run, program, count, length, before == (sum(packet, length) ^ sum((uint8_t *)counters, 8 * count)));
+	look_at(run, of, count, length, before == (sum(packet, length) ^ sum((uint8_t *)counters, 8 * count)));
 	free(packet), free(counters);
 }
 
-static void batch_any(struct laxonje_program *program)
+static void batch_any(struct holder *of)
 {
+	struct laxonje_program *program = of->program;
 	size_t need = laxonje_counters(program), length = any_length(4096), packet_count = any(BATCH + 1), result_count = any(BATCH + 1);
 	uint64_t *counters = calloc(need + 1, sizeof *counters);
 	uint8_t *bytes = calloc(length + 1, 1);
@@ -161,7 +166,7 @@ static void batch_any(struct laxonje_program *program)
 		results[i] = (struct laxonje_result){9, 9, 9};
 	}
 	done = laxonje_run_batch(program, counters, need, bytes, length, packets, packet_count, results, result_count, 0, 0);
-	if (done != (program->live ? fewer : 0))
+	if (done != (of->live ? fewer : 0))
 		wrong("as many as there are packets and results");
 	for (size_t i = 0; i < BATCH; i++) {
 		bool inside = packets[i].length <= length && packets[i].start <= length - packets[i].length;
@@ -172,40 +177,51 @@ static void batch_any(struct laxonje_program *program)
 	free(bytes), free(counters);
 }
 
-static void again_any(struct laxonje_program *program)
+static void again_any(struct holder *of)
 {
-	struct laxonje_program other = LAXONJE_PROGRAM_NONE;
-	struct laxonje_verdict verdict = laxonje_again(program, &other);
+	struct laxonje_program *other = laxonje_program_new();
+	struct laxonje_verdict verdict = laxonje_again(of->program, other);
 
-	if ((verdict.kind == LAXONJE_ACCEPTED) != program->live || other.live != program->live)
+	if (verdict.kind != (of->live ? LAXONJE_ACCEPTED : LAXONJE_EMPTY))
 		wrong("again");
-	if (laxonje_counters(program) != laxonje_counters(&other))
+	if (laxonje_again(other, of->program).kind != verdict.kind)
+		wrong("the same program from there");
+	if (laxonje_counters(of->program) != laxonje_counters(other))
 		wrong("again has the same counters");
 	answers[verdict.kind]++;
-	laxonje_free(&other);
+	laxonje_program_delete(&other);
 }
 
-static void place_any(struct laxonje_program *program)
+static void place_any(struct holder *of)
 {
+	struct laxonje_program *program = of->program;
 	size_t place = laxonje_place(program, any(6), any(1100), any(10));
 
 	if (place != LAXONJE_NOWHERE && place >= laxonje_counters(program))
 		wrong("a place lies in the counters");
 }
 
+static void free_any(struct holder *of)
+{
+	laxonje_free(of->program);
+	of->live = false;
+	if (laxonje_counters(of->program) || laxonje_again(of->program, of->program).kind != LAXONJE_EMPTY)
+		wrong("a program that was freed is there");
+}
+
 /* Null isn't to be passed. These calls answer it as no elements all the same. */
 static void pass_null(void)
 {
-	struct laxonje_program program = LAXONJE_PROGRAM_NONE;
+	struct laxonje_program *program = laxonje_program_new();
 	static const uint8_t pass[] = {0xb7, 0, 0, 0, 2, 0, 0, 0, 0x95, 0, 0, 0, 0, 0, 0, 0};
 
-	if (laxonje_check(NULL, 0, NULL, 0).kind != LAXONJE_REFUSED || laxonje_load_settings(NULL, 0, &program).kind == LAXONJE_ACCEPTED)
+	if (laxonje_check(NULL, 0, NULL, 0).kind != LAXONJE_REFUSED || laxonje_load_settings(NULL, 0, program).kind == LAXONJE_ACCEPTED)
 		wrong("null");
-	if (laxonje_load(pass, sizeof pass, NULL, 0, &program).kind != LAXONJE_ACCEPTED)
+	if (laxonje_load(pass, sizeof pass, NULL, 0, program).kind != LAXONJE_ACCEPTED)
 		wrong("null maps");
-	if (laxonje_run(&program, NULL, 0, NULL, 0, 0, 0).number != 2)
+	if (laxonje_run(program, NULL, 0, NULL, 0, 0, 0).number != 2)
 		wrong("null packet");
-	laxonje_free(&program);
+	laxonje_program_delete(&program);
 }
 
 static void read_text(const char *name)
@@ -222,19 +238,21 @@ static void read_text(const char *name)
 
 int main(int argc, char **argv)
 {
-	static void (*const calls[])(struct laxonje_program *) = {
-		load_any, load_any, load_any, run_any, run_any, run_any, run_any, batch_any, batch_any, again_any, place_any, laxonje_free,
+	static void (*const calls[])(struct holder *) = {
+		load_any, load_any, load_any, run_any, run_any, run_any, run_any, batch_any, batch_any, again_any, place_any, free_any,
 	};
-	struct laxonje_program programs[4] = {LAXONJE_PROGRAM_NONE, LAXONJE_PROGRAM_NONE, LAXONJE_PROGRAM_NONE, LAXONJE_PROGRAM_NONE};
+	struct holder programs[4] = {{0}};
 	unsigned long count = argc > 1 ? strtoul(argv[1], NULL, 10) : 0;
 
 	for (int i = 2; i < argc; i++)
 		read_text(argv[i]);
 	pass_null();
+	for (int i = 0; i < 4; i++)
+		programs[i].program = laxonje_program_new();
 	for (unsigned long i = 0; i < count; i++)
 		calls[any(sizeof calls / sizeof *calls)](&programs[any(4)]);
 	for (int i = 0; i < 4; i++)
-		laxonje_free(&programs[i]);
+		laxonje_program_delete(&programs[i].program);
 	for (size_t i = 0; i < text_count; i++)
 		free(texts[i]);
 	printf("calls %lu accepted %lu refused %lu map %lu settings %lu empty %lu runs %lu not-run %lu\n", count, answers[0], answers[1],

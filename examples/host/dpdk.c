@@ -14,7 +14,7 @@ enum { BURST = 32 };
 
 /* One program for each queue, since one thread polls a queue. */
 struct filter {
-	struct laxonje_program program;
+	struct laxonje_program *program;
 	uint64_t counters[1024];
 	struct rte_mbuf *back[BURST];
 	uint16_t back_count;
@@ -33,7 +33,7 @@ static uint16_t filtered(uint16_t port, uint16_t queue, struct rte_mbuf **packet
 
 		/* A packet in several segments isn't one slice of bytes: it is dropped here. */
 		if (packet->nb_segs == 1)
-			run = laxonje_run(&filter->program, filter->counters, 1024, rte_pktmbuf_mtod(packet, uint8_t *),
+			run = laxonje_run(filter->program, filter->counters, 1024, rte_pktmbuf_mtod(packet, uint8_t *),
 			                  rte_pktmbuf_data_len(packet), port, queue);
 		if (run.action == LAXONJE_PASS)
 			packets[kept++] = packet;
@@ -59,7 +59,7 @@ static struct rte_mbuf *udp_to(struct rte_mempool *pool, uint16_t port)
 int main(int argc, char **argv)
 {
 	static char *words[] = {"dpdk", "--no-huge", "--no-pci", "--no-telemetry", "--log-level=1", "-m", "64", "-l", "0"};
-	static struct filter filter = {.program = LAXONJE_PROGRAM_NONE};
+	static struct filter filter;
 	static uint8_t settings[1 << 16];
 	struct rte_mbuf *burst[BURST];
 	FILE *file = argc == 2 ? fopen(argv[1], "rb") : NULL;
@@ -68,8 +68,9 @@ int main(int argc, char **argv)
 		return fprintf(stderr, "usage: dpdk SETTINGS, those of examples/reflect-and-count\n"), 2;
 	size_t length = fread(settings, 1, sizeof settings, file);
 	fclose(file);
-	struct laxonje_verdict verdict = laxonje_load_settings(settings, length, &filter.program);
-	if (verdict.kind != LAXONJE_ACCEPTED || laxonje_counters(&filter.program) > 1024)
+	filter.program = laxonje_program_new();
+	struct laxonje_verdict verdict = laxonje_load_settings(settings, length, filter.program);
+	if (verdict.kind != LAXONJE_ACCEPTED || laxonje_counters(filter.program) > 1024)
 		return fprintf(stderr, "refused: kind %u cause %u at %u\n", verdict.kind, verdict.cause, verdict.at), 1;
 	if (rte_eal_init(sizeof words / sizeof *words, words) < 0)
 		return fprintf(stderr, "dpdk: %s\n", rte_strerror(rte_errno)), 1;
@@ -81,7 +82,7 @@ int main(int argc, char **argv)
 	uint16_t kept = filtered(0, 0, burst, BURST, BURST, &filter);
 	printf("of %d packets %u stay, %u go back, %u are freed\n", BURST, kept, filter.back_count, BURST - kept - filter.back_count);
 	rte_pktmbuf_free_bulk(burst, kept), rte_pktmbuf_free_bulk(filter.back, filter.back_count);
-	laxonje_free(&filter.program);
+	laxonje_program_delete(&filter.program);
 	rte_mempool_free(pool);
 	rte_eal_cleanup();
 	return 0;

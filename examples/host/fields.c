@@ -84,14 +84,14 @@ static void runs(struct laxonje_program *program)
 
 int main(void)
 {
-	struct laxonje_program program = LAXONJE_PROGRAM_NONE, none = LAXONJE_PROGRAM_NONE;
+	struct laxonje_program *program = laxonje_program_new(), *none = laxonje_program_new();
 
-	verdicts(&program, &none);
+	verdicts(program, none);
 	advice();
-	runs(&program);
+	runs(program);
 	is("version", laxonje_version(), LAXONJE_VERSION);
-	laxonje_free(&program);
-	laxonje_free(&none);
+	laxonje_program_delete(&program);
+	laxonje_program_delete(&none);
 	printf("%d wrong\n", wrong);
 	return wrong != 0;
 }

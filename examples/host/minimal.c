@@ -6,15 +6,15 @@ int main(void)
 {
 	static const uint8_t pass[] = {0xb7, 0, 0, 0, 2, 0, 0, 0, 0x95, 0, 0, 0, 0, 0, 0, 0}; /* r0 = 2; exit */
 	static const struct laxonje_map no_maps[1];
-	struct laxonje_program program = LAXONJE_PROGRAM_NONE;
-	struct laxonje_verdict verdict = laxonje_load(pass, sizeof pass, no_maps, 0, &program);
+	struct laxonje_program *program = laxonje_program_new();
+	struct laxonje_verdict verdict = laxonje_load(pass, sizeof pass, no_maps, 0, program);
 	uint8_t packet[14] = {0};
 	uint64_t no_counters[1];
 
 	if (verdict.kind != LAXONJE_ACCEPTED)
 		return printf("refused: V%u at %u\n", verdict.cause, verdict.at), 1;
-	struct laxonje_result run = laxonje_run(&program, no_counters, 0, packet, sizeof packet, 0, 0);
+	struct laxonje_result run = laxonje_run(program, no_counters, 0, packet, sizeof packet, 0, 0);
 	printf("action %u after %u instructions\n", run.action, run.instructions);
-	laxonje_free(&program);
+	laxonje_program_delete(&program);
 	return 0;
 }

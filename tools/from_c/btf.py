@@ -3,10 +3,11 @@
 Linux's Documentation/bpf/btf.rst has the format."""
 import os
 import struct
-from typing import NamedTuple
+from typing import NamedTuple, Optional
 
 from .elf import text_at
 
+COUNTER_BYTES = 8
 INT, POINTER, ARRAY, STRUCT, UNION, VARIABLE, SECTION = 1, 2, 3, 4, 5, 14, 15
 # kinds of types, and how many bytes follow the twelve that each has: a fixed number, and a number for each member
 MORE_BYTES = {
@@ -32,13 +33,15 @@ class Type(NamedTuple):
 
 
 class MapOfC(NamedTuple):
-    """A map as C declares it: its type's number and its sizes, of which 0 isn't said."""
+    """A map as C declares it: its type's number and its sizes, of which 0 isn't said. `parts`: the name and the size of
+    each number in a value that doesn't have eight bytes. The type is None where the declaration is none of a map."""
 
     name: str
-    type: int
+    type: Optional[int]
     key_bytes: int
     value_bytes: int
     entries: int
+    parts: list
 
 
 class Types:
@@ -79,6 +82,19 @@ class Types:
         pairs = [(text_at(self.names, name), self.plain(kind)) for name, kind, _ in rows]
         return {name: self.rows[kind].size for name, kind in pairs if kind and self.rows[kind].kind == POINTER}
 
+    def numbers_in(self, number, name="the value"):
+        """The numbers of which a type consists, each by its name with its size. Of an array the first one."""
+        row = self.rows[self.plain(number)] if number else None
+        if row is None:
+            return
+        if row.kind == ARRAY:
+            yield from self.numbers_in(struct.unpack_from("<I", row.more)[0], name)
+        elif row.kind in (STRUCT, UNION):
+            for at, kind, _ in struct.iter_unpack("<III", row.more):
+                yield from self.numbers_in(kind, text_at(self.names, at) or name)
+        else:
+            yield name, self.size(number)
+
     def number_of(self, pointed):
         """The number that `__uint` hides in the length of an array."""
         row = self.rows[self.plain(pointed)] if pointed else None
@@ -91,13 +107,18 @@ class Types:
             (place, number) for more in sections for number, place, _ in struct.iter_unpack("<III", more)
         )
         for _, number in variables:
-            members = self.members(self.rows[number].size)
+            declared = self.plain(self.rows[number].size)
+            if not declared or self.rows[declared].kind != STRUCT:
+                yield MapOfC(self.rows[number].name, None, 0, 0, 0, [])
+                continue
+            members = self.members(declared)
             sizes = [
                 self.size(members[what]) if what in members else self.number_of(members.get(f"{what}_size", 0))
                 for what in ("key", "value")
             ]
             kind, entries = (self.number_of(members.get(what, 0)) for what in ("type", "max_entries"))
-            yield MapOfC(self.rows[number].name, kind, *sizes, entries)
+            parts = [part for part in self.numbers_in(members.get("value", 0)) if part[1] != COUNTER_BYTES]
+            yield MapOfC(self.rows[number].name, kind, *sizes, entries, parts)
 
 
 def named(file, source):

@@ -1,11 +1,13 @@
 """clang, as it compiles a filter."""
 import os
 import platform
+import re
 import shlex
 import shutil
 import subprocess
-import sys
 import tempfile
+
+from output import fail
 
 # clang before 15 calls memcmp for a constant size too: a loop of our own takes its place
 INLINED = """
@@ -19,8 +21,8 @@ static inline __attribute__((always_inline)) int inlined_memcmp(const void *a, c
 	return 0;
 }
 #define __builtin_memcmp inlined_memcmp
-#define memcmp inlined_memcmp
 """
+MEMCMP = "#define memcmp inlined_memcmp\n"
 
 
 def system_headers():
@@ -30,15 +32,44 @@ def system_headers():
     return ["-idirafter", folder, f"-D__{machine}__"] if os.path.isdir(folder) else []
 
 
+def defines_memcmp(source):
+    """Whether a file has a function `memcmp` of its own, as there is no library."""
+    with open(source, encoding="utf-8", errors="replace") as file:
+        return re.search(r"^[^;{}#/*]*\bmemcmp\s*\([^;{}]*\)\s*\{", file.read(), re.M) is not None
+
+
+def flags():
+    """The words in CFLAGS."""
+    try:
+        return shlex.split(os.environ.get("CFLAGS", ""))
+    except ValueError as fault:
+        fail(f"CFLAGS can't be read: {fault}")
+        return []
+
+
+def check_source(source):
+    """Ends where a file can't be C, before clang says so in many lines."""
+    try:
+        with open(source, "rb") as file:
+            begin = file.read(4)
+    except OSError as fault:
+        fail(f"{source}: {fault.strerror}")
+    if begin == b"\x7fELF":
+        fail(f"{source}: this is an object file: give the C that it was made of")
+    if not source.endswith(".c"):
+        fail(f"{source}: this isn't called .c: give a file of C")
+
+
 def compiled(source):
     """The bytes of the object file that clang makes. What clang says goes to standard error, as it says it."""
     clang = os.environ.get("CLANG", "clang")
     if shutil.which(clang) is None:
-        sys.exit(f"{clang} isn't on the PATH: install it (Debian: apt install clang), or name one, as CLANG=clang-19")
+        fail(f"{clang} isn't on the PATH: install it (Debian: apt install clang), or name one, as CLANG=clang-19")
+    check_source(source)
     with tempfile.TemporaryDirectory() as folder:
         target, header = os.path.join(folder, "program.o"), os.path.join(folder, "inlined.h")
         with open(header, "w", encoding="utf-8") as file:
-            file.write(INLINED)
+            file.write(INLINED if defines_memcmp(source) else INLINED + MEMCMP)
         words = [clang, "-O2", "-g", "-target", "bpf", "-mcpu=" + os.environ.get("MCPU", "v2"), *system_headers()]
         # a loop that clang keeps is unwound behind it, and which ones it keeps is nobody's concern
         words += [
@@ -46,13 +77,15 @@ def compiled(source):
             "-Wno-macro-redefined",
             "-include",
             header,
-            *shlex.split(os.environ.get("CFLAGS", "")),
+            *flags(),
+            "-x",
+            "c",
             "-c",
-            source,
+            os.path.join(".", source) if source.startswith("-") else source,
             "-o",
             target,
         ]
-        if subprocess.run(words, check=False).returncode:
-            sys.exit(f"{source}: {clang} made no program of it")
+        if subprocess.run(words, check=False).returncode or not os.path.exists(target):
+            fail(f"{source}: {clang} made no program of it")
         with open(target, "rb") as file:
             return file.read()

@@ -102,6 +102,9 @@ HELPERS = {
 
 def faults_of_map(found):
     """What is wrong with a map as C declares it."""
+    if found.type is None:
+        yield f'{found.name} stands in section ".maps", and is no struct with a type and sizes, as maps are declared'
+        return
     if found.type not in ARRAYS:
         name, instead = MAP_TYPES.get(found.type, (str(found.type), NO_STATE))
         known = f"the map {found.name} is a BPF_MAP_TYPE_{name}, and there are arrays alone (ARRAY, PERCPU_ARRAY)"
@@ -114,6 +117,9 @@ def faults_of_map(found):
             f"the values of the map {found.name} have {found.value_bytes} bytes: a value is 1 to {MOST_COUNTERS}"
             " counters of 8 bytes; make each a __u64"
         )
+    elif found.parts:
+        name, size = found.parts[0]
+        yield f"in the values of the map {found.name}, {name} has {size} bytes: a counter has 8; make each a __u64"
     elif found.value_bytes // 8 > MOST_COUNTERS:
         yield f"the values of the map {found.name} have {found.value_bytes // 8} counters: at most {MOST_COUNTERS}"
     if not found.entries:
@@ -137,7 +143,9 @@ def faults_of_program(program, relocations, maps):
     """What the program has that settings can't say, as (slot, words). `maps`: their names."""
     relocated = {row.slot: row for row in relocations}
     following = {
-        row.slot: after.name for row, after in zip(relocations, relocations[1:]) if after.kind == FUNCTION_CALL
+        row.slot: after.name
+        for row, after in zip(relocations, relocations[1:])
+        if after.kind == FUNCTION_CALL and after.name in INLINED_LATER
     }
     for slot in range(len(program) // 8):
         code, registers, _, number = struct.unpack_from("<BBhi", program, 8 * slot)
@@ -168,17 +176,8 @@ def fault_of_relocation(row, called, maps):
         return fault_of_call(row.name or "a function of the file")
     if row.kind != MAP_ADDRESS:
         return f"has a relocation of kind {row.kind}, which is none of a map"
-    section, _, name = row.name.partition(" ")
-    if section.startswith(".") and called in INLINED_LATER:
-        return f"takes the address of a global or a constant table: mend the call of {called} first"
-    if section.startswith(".rodata"):
-        what = f"the constant {name}" if not name.startswith(".") else "a constant table or a string"
-        return (
-            f"takes the address of {what}, which stays in memory: write a table as a `switch` or as the bits of a"
-            " constant, and a setting (const volatile) as a #define"
-        )
-    if section.startswith((".data", ".bss")):
-        return f"takes the address of the global {name}: count in a map instead, and write a constant as a #define"
+    if row.section:
+        return f"takes the address of a global or a constant: mend the call of {called} first" if called else None
     if not row.name:
         return "takes the address of a global or a constant table: keep it on the stack, or write it as code"
     if row.name not in maps:

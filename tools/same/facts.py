@@ -1,14 +1,15 @@
 """What jumps say of forms: between which numbers they lie, and which addresses lie within the packet."""
 from typing import NamedTuple
 
-from .forms import MASK_64, Form, number, signed
+from .forms import MASK_64, Form, narrower, number, signed
 
 JMP = 5
 JEQ, JGT, JGE, JSET, JNE, JSGT, JSGE = range(0x10, 0x80, 0x10)
 JLT, JLE, JSLT, JSLE = range(0xA0, 0xE0, 0x10)
 OTHERWISE = {JEQ: JNE, JNE: JEQ, JGT: JLE, JLE: JGT, JGE: JLT, JLT: JGE, JSGT: JSLE, JSLE: JSGT, JSGE: JSLT, JSLT: JSGE}
 TURNED = {JEQ: JEQ, JNE: JNE, JGT: JLT, JLT: JGT, JGE: JLE, JLE: JGE}
-MOST_LENGTH, NEAR = 65535, 1 << 62
+MOST_LENGTH, NEAR, MOST_APART = 65535, 1 << 62, 12
+APART = 1 << 28  # from 0 to the packet's start, and from there to the stack
 
 
 class Facts(NamedTuple):
@@ -75,9 +76,26 @@ def decided(forms, opcode, a, b, facts):
         return beside_end(forms, operation, address, facts)
     if not b.terms:
         low, high = forms.span(a, facts.ranges)
-        if 0 <= low and high <= MASK_64:
-            return in_range(operation, low, high, b.constant)
-    return None
+        return in_range(operation, low, high, b.constant) if 0 <= low and high <= MASK_64 else None
+    return apart(forms, operation, a, b, facts)
+
+
+def apart(forms, operation, a, b, facts):
+    """Of two forms without sign that don't wrap: by their difference, where that is one number, or by their ranges."""
+    difference = forms.subtract(a, b)
+    if all(dict(form.terms).get(forms.start.terms[0][0]) == 1 for form in (a, b)):
+        a, b = forms.subtract(a, forms.start), forms.subtract(b, forms.start)
+        if any(not 0 <= edge < NEAR for form in (a, b) for edge in forms.span(form, facts.ranges)):
+            return None
+    if not difference.terms and operation in (JEQ, JNE):
+        return (operation == JEQ) == (difference.constant == 0)
+    (low, high), (least, most) = (forms.span(form, facts.ranges) for form in (a, b))
+    if low < 0 or least < 0 or high > MASK_64 or most > MASK_64:
+        return None
+    low, high = low - most, high - least
+    if not difference.terms and -(1 << 63) <= low and high < 1 << 63:
+        low = high = signed(difference.constant)
+    return in_range(operation, low, high, 0)
 
 
 def beside_end(forms, operation, address, facts):
@@ -94,8 +112,10 @@ def room_behind(forms, address, facts):
     """At least so many bytes behind an address lie in the packet; negative where none are known to."""
     rooms = []
     for end in facts.within:
-        low, high = forms.span(forms.subtract(end, address), facts.ranges)
-        rooms += [low] if high < NEAR else []
+        apart_by = forms.subtract(end, address)
+        if len(apart_by.terms) <= MOST_APART:  # of more numbers nothing is known that would help
+            low, high = forms.span(apart_by, facts.ranges)
+            rooms += [low] if high < NEAR else []
     return max(rooms, default=-1)
 
 
@@ -112,9 +132,7 @@ def learnt(forms, opcode, taken, a, b, facts):
         return within_packet(forms, address, facts) if holds in (JLT, JLE, JEQ) else facts
     if b.terms:
         return below_an_address(forms, holds, a, b, facts)
-    if not a.terms or a.constant:
-        return facts
-    return compared(forms, holds, a, b.constant, facts)
+    return compared(forms, holds, a, b.constant, facts) if a.terms else facts
 
 
 def below_an_address(forms, holds, a, b, facts):
@@ -141,24 +159,23 @@ def within_packet(forms, address, facts):
 
 
 def compared(forms, holds, form, value, facts):
-    """A form without constant, of which a comparison with a number holds."""
-    low, high = facts.ranges.get(form, (0, MASK_64))
-    least, most = forms.span(form, facts.ranges)
-    if 0 <= least and most <= MASK_64:
-        low, high = max(low, least), min(high, most)
+    """A form of which a comparison with a number holds. What is learnt is kept of the form without its constant."""
+    low, high = narrower((0, MASK_64), forms.span(form, facts.ranges))
+    if low < 0 or high > MASK_64:  # it holds of the number without sign, which this range may not have
+        low, high = 0, MASK_64
     low, high = narrowed(holds, low, high, value)
-    signed_low, signed_high = facts.signed.get(form, (-(1 << 63), (1 << 63) - 1))
+    with_sign = facts.signed.get(form, (-(1 << 63), (1 << 63) - 1))
     if holds in (JSGT, JSGE):
-        signed_low = max(signed_low, signed(value) + (holds == JSGT))
+        with_sign = max(with_sign[0], signed(value) + (holds == JSGT)), with_sign[1]
     elif holds in (JSLT, JSLE):
-        signed_high = min(signed_high, signed(value) - (holds == JSLT))
-    if signed_low >= 0:
-        low, high = max(low, signed_low), min(high, signed_high)
-    ranges = dict(facts.ranges)
+        with_sign = with_sign[0], min(with_sign[1], signed(value) - (holds == JSLT))
+    if with_sign[0] >= 0:
+        low, high = max(low, with_sign[0]), min(high, with_sign[1])
+    ranges, alone, constant = dict(facts.ranges), form.without_constant, signed(form.constant)
     if low <= high:
-        ranges[form] = low, high
-        of_atom(forms, form, low, high, ranges)
-    return Facts(ranges, {**facts.signed, form: (signed_low, signed_high)}, facts.within)
+        ranges[alone] = narrower((low - constant, high - constant), forms.span(alone, facts.ranges))
+        of_atom(forms, alone, *ranges[alone], ranges)
+    return Facts(ranges, {**facts.signed, form: with_sign}, facts.within)
 
 
 def of_atom(forms, form, low, high, ranges):
@@ -168,7 +185,7 @@ def of_atom(forms, form, low, high, ranges):
     ((atom, factor),) = form.terms
     alone = Form(0, ((atom, 1),))
     least, most = forms.range_of(atom, ranges)
-    if least >= 0 and most * factor <= MASK_64:
+    if least >= 0 and most * factor <= MASK_64 and low >= 0 and high <= MASK_64:
         least, most = max(least, -(-low // factor)), min(most, high // factor)
         if least <= most:
             ranges[alone] = least, most

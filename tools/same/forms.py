@@ -2,12 +2,24 @@
 
 An atom is a number that both programs have alike: what a load gave from one address, what an operation makes of the
 same forms, what the ways to a slot disagree on. Two equal forms are one number; two different ones may be or not."""
+from math import gcd
 from typing import NamedTuple
 
 MASK_64, MASK_32 = (1 << 64) - 1, (1 << 32) - 1
-MOST_TERMS = 256
-ALU64 = 7
+MOST_TERMS, MOST_PARTED, VALUE_BYTES = 256, 12, 64
+MEMORY_START, MEMORY_END = 1, 1 << 62  # between which what C has in memory may lie
+FAR = 1 << 40  # sums of numbers below it don't wrap
+ALU64, MEMSX = 7, 4
 ADD, SUB, MUL, DIV, OR, AND, LSH, RSH, NEG, MOD, XOR, MOV, ARSH, SWAP = range(0, 0xE0, 0x10)
+
+
+class Shift(NamedTuple):
+    """A shift by a constant, as an instruction has it."""
+
+    opcode: int
+    immediate: int
+    offset: int = 0
+    kind: int = ALU64
 
 
 class Form(NamedTuple):
@@ -55,6 +67,15 @@ def swap(opcode, value, width):
     return number(int.from_bytes(raw, "little" if opcode == SWAP | 4 else "big"))
 
 
+def narrower(one, other):
+    """Of two ranges, each with a whole number that equals the same form modulo 2^64. Within 2^64 numbers there is one
+    such number alone, so that it lies in both; else the two may be different ones, and the shorter range is kept."""
+    (low, high), (least, most) = one, other
+    if max(high, most) - min(low, least) <= MASK_64:
+        return max(low, least), min(high, most)
+    return one if high - low <= most - least else other
+
+
 def lowest_bits(value):
     """How many of the lowest bits of a number are 0."""
     return (value & -value).bit_length() - 1 if value else 64
@@ -96,10 +117,86 @@ class Forms:
         rest = self.subtract(form, self.frame)
         return None if rest.terms else signed(rest.constant)
 
+    def is_in_value(self, address):
+        """Whether an address is what a lookup gave, 0 or the address of a map's value, and a counter's place in it."""
+        names = [self.names[atom][0] for atom, factor in address.terms if factor == 1]
+        return len(address.terms) == 1 and names[:1] in (["called"], ["value"]) and address.constant < VALUE_BYTES
+
+    def in_memory(self, name, place):
+        """An address in constants or in a global: never 0, and below 2^62."""
+        return self.add(self.atom(name, MEMORY_END, MEMORY_START), number(place))
+
+    def section_of(self, address):
+        """The section of constants in which an address lies, and how far in it; or None."""
+        for atom, factor in address.terms:
+            if factor == 1 and self.names[atom][0] == "constants":
+                return self.names[atom][1], self.subtract(address, Form(0, ((atom, 1),)))
+        return None
+
+    def numbers_of(self, form, ranges):
+        """All whole numbers that a form may be, as a range with steps; None where there is no end of them."""
+        low, high = self.span(form, ranges)
+        spans = [(signed(factor), self.range_of(atom, ranges)) for atom, factor in form.terms]
+        if any(abs(factor) * max(abs(least), abs(most)) > FAR for factor, (least, most) in spans) or high - low > FAR:
+            return None
+        step = gcd(*(factor for factor, _ in spans)) or 1
+        first = low + (signed(form.constant) - low) % step
+        return range(first, high + 1, step)
+
     # --- arithmetic
 
-    def operate(self, opcode, a, b, immediate, offset):
-        """What arithmetic makes of two forms."""
+    def operate(self, slot, a, b, ranges):
+        """What an arithmetic instruction makes of two forms. `ranges`: of forms without constant."""
+        found = self.exact(slot, a, b, ranges)
+        return self.operated(slot.opcode, a, b, slot.immediate, slot.offset) if found is None else found
+
+    def exact(self, slot, a, b, ranges):
+        """The result as a linear form, where the ranges say that nothing is cut off; else None."""
+        operation, wide = slot.opcode & 0xF0, slot.kind == ALU64
+        if slot.offset or not a.terms and not b.terms:
+            return None
+        if not wide and (operation in (ADD, SUB, MOV) or operation == LSH and not b.terms and b.constant < 32):
+            whole = b if operation == MOV else self.linear(operation, a, b)
+            return self.within(whole, 0, MASK_32, ranges)
+        if wide and operation in (OR, XOR):
+            return self.beside(a, b, ranges) or self.beside(b, a, ranges)
+        if b.terms:
+            return None
+        if wide and operation in (RSH, ARSH):
+            shift = b.constant & 63
+            top = MASK_64 >> shift
+            least, most = (0, top) if operation == RSH else (-(top + 1 >> 1), top >> 1)
+            return self.within(self.divided(a, shift), least, most, ranges)
+        mask = b.constant & (MASK_64 if wide else MASK_32)
+        return self.within(a, 0, mask, ranges) if operation == AND and mask & (mask + 1) == 0 else None
+
+    def beside(self, high, low, ranges):
+        """The sum of two forms that have no bit in common: the lowest bits of one are 0, and the other has no more."""
+        zeros = min(lowest_bits(part) for part in (high.constant, *(factor for _, factor in high.terms)))
+        return self.add(high, low) if self.within(low, 0, (1 << zeros) - 1, ranges) is not None else None
+
+    def divided(self, form, shift):
+        """A form that this one is, shifted by so many bits to the left; None where its numbers aren't multiples."""
+        parts = {atom: signed(factor) for atom, factor in form.terms}
+        if any(part % (1 << shift) for part in (signed(form.constant), *parts.values())):
+            return None
+        terms = tuple((atom, (part >> shift) & MASK_64) for atom, part in parts.items())
+        return Form((signed(form.constant) >> shift) & MASK_64, terms)
+
+    def cut(self, access, form, place, ranges):
+        """The bytes of an access out of eight, from a place on, with zeros or their sign above them."""
+        above = 8 * (8 - access.size)
+        raised = self.add(ZERO, form, 1 << (above - 8 * place))
+        shift = Shift((ALU64 | ARSH) if access.opcode >> 5 == MEMSX else (ALU64 | RSH), above)
+        return self.operate(shift, raised, number(above), ranges)
+
+    def within(self, form, least, most, ranges):
+        """The form, where it is known to lie there; else None."""
+        low, high = self.span(form, ranges) if form is not None else (least, most + 1)
+        return form if least <= low and high <= most else None
+
+    def operated(self, opcode, a, b, immediate, offset):
+        """The same without ranges."""
         operation, wide = opcode & 0xF0, opcode & 7 == ALU64
         bits = 64 if wide else 32
         if operation == SWAP:
@@ -121,7 +218,7 @@ class Forms:
             factor = 1 << lowest_bits(b.constant & mask)  # of which the result is a multiple
             part = self.atom((opcode, a, b, offset), (b.constant & mask) // factor)
             return self.add(ZERO, part, factor)
-        return self.atom((opcode, a, b, offset), self.top(operation, a, b, bits))
+        return self.atom((opcode, a, b, offset), mask if offset else self.top(operation, a, b, bits))
 
     def linear(self, operation, a, b):
         """Operations of 64 bits whose result is a linear form."""
@@ -137,25 +234,36 @@ class Forms:
             if factor == 1 << shift and shift and b.constant & (factor - 1) == 0 and b.constant:
                 # (x << k) & (m << k) is (x & m) << k
                 mask = number(b.constant >> shift)
-                masked = self.operate(ALU64 | AND, Form(0, ((atom, 1),)), mask, 0, 0)
+                masked = self.operated(ALU64 | AND, Form(0, ((atom, 1),)), mask, 0, 0)
                 return self.add(ZERO, masked, factor)
         return None
 
     def top(self, operation, a, b, bits):
-        """A bound of what an operation gives."""
+        """A bound of what an operation without sign gives."""
         mask = (1 << bits) - 1
+        (low, high), (least, most) = self.span(a, {}), self.span(b, {})
         if operation == RSH and not b.terms:
-            low, high = self.span(a, {})
             return (high if low >= 0 and high <= mask else mask) >> (b.constant % bits)
-        return mask
+        if low < 0 or high > mask or least < 0 or most > mask:
+            return mask
+        rows = {
+            OR: (1 << max(high, most).bit_length()) - 1,
+            XOR: (1 << max(high, most).bit_length()) - 1,
+            AND: min(high, most),
+            LSH: high << most if most < bits else mask,
+            RSH: high >> least if most < bits else mask,
+            MUL: high * most,
+            DIV: high // max(least, 1),
+            MOD: min(high, most - 1) if least else high,
+        }
+        return min(rows.get(operation, mask), mask)
 
     # --- ranges
 
     def range_of(self, atom, ranges):
         """The range of an atom, with what is known of it here."""
-        least, most = self.ranges[atom]
         known = ranges.get(Form(0, ((atom, 1),)))
-        return (max(least, known[0]), min(most, known[1])) if known and least >= 0 else (least, most)
+        return narrower(self.ranges[atom], known) if known else self.ranges[atom]
 
     def span(self, form, ranges):
         """A range with a whole number that equals the form modulo 2^64. `ranges`: of forms without constant."""
@@ -164,14 +272,12 @@ class Forms:
             least, most = self.range_of(atom, ranges)
             ends = signed(factor) * least, signed(factor) * most
             low, high = low + min(ends), high + max(ends)
-        for atom, factor in form.terms:  # what is known of all the form but one atom
+        found = low, high
+        for atom, factor in form.terms[-MOST_PARTED:] if len(form.terms) > 2 else ():
+            # what is known of all the form but one atom, of those that were made last
             rest = ranges.get(Form(0, tuple(term for term in form.terms if term[0] != atom)))
-            if rest and len(form.terms) > 2 and factor == 1 and self.ranges[atom][0] >= 0:
+            if rest and factor == 1:
                 least, most = self.range_of(atom, ranges)
-                low, high = max(low, rest[0] + least), min(high, rest[1] + most)
-        least, most = ranges.get(form.without_constant, (low, high))
-        if low >= 0 and high <= MASK_64 or (low, high) == (least, most):
-            low, high = max(low, least), min(high, most)
-        elif most <= MASK_64 // 2:
-            low, high = least, most
+                found = narrower(found, (rest[0] + least, rest[1] + most))
+        low, high = narrower(found, ranges.get(form.without_constant, found))
         return low + signed(form.constant), high + signed(form.constant)

@@ -4,33 +4,53 @@ Where ways disagree, values get the same new atom exactly if they differ in the 
 and its kept distance still differ by the packet's start behind a meeting, and the tool's stack slots need no
 explanation."""
 from dataclasses import dataclass, replace
+from typing import Optional
 
-from .facts import NEAR, Facts, common, room_behind
-from .forms import ZERO, number, signed
+from .facts import APART, MOST_LENGTH, NEAR, Facts, common, room_behind
+from .forms import ZERO, Form, narrower, number, signed
 
-PARTS = ("old", "new", "old_stack", "new_stack")
+PARTS = ("old", "new", "old_stack", "new_stack", "loads")
 
 
 class Differs(Exception):
-    """What isn't the same, and at which slot of the result."""
+    """What isn't the same, and at which slot of the result. `at`: where the original stood, where that is known.
+    `alone`: the words without the result's slot."""
+
+    def __init__(self, words, at=None):
+        super().__init__(words)
+        head, _, rest = words.partition(": ")
+        self.at, self.alone = at, rest if head.startswith("slot ") and rest else words
+
+
+class Registers(dict):
+    """The registers that have a value."""
+
+    def copy(self):
+        return Registers(self)
+
+    def __missing__(self, register):
+        raise Differs(f"r{register} is read, and has no value")
 
 
 @dataclass
 class State:
     """Both programs at one slot of the result. Stacks are by offset from the frame's end, of whole eight bytes.
 
-    at: where the original stands. loads: the counter that a value was loaded from, while nothing changed it"""
+    at     where the original stands
+    loads  by its address, what the original knows to stand in a counter, if nobody else adds to it
+    owed   the counter of which one of the two loaded what the other didn't, and to which the result has to add next"""
 
     at: int
-    old: dict
-    new: dict
+    old: Registers
+    new: Registers
     old_stack: dict
     new_stack: dict
-    facts: Facts
     loads: dict
+    facts: Facts
+    owed: Optional[Form] = None
 
     def copy(self, **changes):
-        parts = {name: dict(getattr(self, name)) for name in (*PARTS, "loads")}
+        parts = {name: getattr(self, name).copy() for name in PARTS}
         return replace(self, **{**parts, **changes})
 
 
@@ -38,20 +58,19 @@ def met(forms, pc, states):
     """One state for all ways to a slot."""
     if len(states) == 1:
         return states[0]
-    if len({state.at for state in states}) != 1:
+    if len({(state.at, state.owed) for state in states}) != 1:
         raise Differs(f"slot {pc}: the original stands at different slots")
     known = {}
-    parts = [joined(forms, pc, [getattr(state, name) for state in states], states, known) for name in PARTS]
-    first = states[0].loads
-    loads = {key: value for key, value in first.items() if all(state.loads.get(key) == value for state in states)}
-    found = State(states[0].at, *parts, common([state.facts for state in states]), loads)
-    keep_addresses(forms, states, found)
+    parts = {name: joined(forms, pc, [getattr(state, name) for state in states], states, known) for name in PARTS}
+    facts = common([state.facts for state in states])
+    found = State(states[0].at, **parts, facts=facts, owed=states[0].owed)
+    keep_ranges(forms, states, found)
     return found
 
 
 def joined(forms, pc, rows, states, known):
     """The forms of the places that all ways have. `known`: the atoms by how the ways differ."""
-    out = {}
+    out = type(rows[0])()
     for place in set.intersection(*(set(row) for row in rows)):
         there = [row[place] for row in rows]
         apart = tuple(forms.subtract(form, there[0]) for form in there)
@@ -65,21 +84,44 @@ def joined(forms, pc, rows, states, known):
     return out
 
 
-def keep_addresses(forms, states, found):
-    """What is known of each address on all ways: its distance from the packet's start, and the room behind it. The
-    atoms one by one don't tell it."""
+def keep_range(forms, ranges, form, low, high):
+    """Keeps between which numbers a form lies."""
+    constant, alone = signed(form.constant), form.without_constant
+    ranges[alone] = narrower(ranges.get(alone, (low - constant, high - constant)), (low - constant, high - constant))
+
+
+def keep_ranges(forms, states, found):
+    """What is known of each number, and of each address its distance from the packet's start and the room behind it, on
+    all ways. The atoms one by one don't tell it."""
     ranges, within = dict(found.facts.ranges), set(found.facts.within)
     for register, form in found.old.items():
-        if dict(form.terms).get(forms.start.terms[0][0]) != 1:
-            continue
+        is_address = dict(form.terms).get(forms.start.terms[0][0]) == 1
         rows = [(state.old[register], state.facts) for state in states]
-        spans = [forms.span(forms.subtract(there, forms.start), facts.ranges) for there, facts in rows]
+        if not is_address and all(there == form for there, _ in rows):
+            continue
+        base = forms.start if is_address else ZERO
+        distance = forms.subtract(form, base)
+        spans = [forms.span(forms.subtract(there, base), facts.ranges) for there, facts in rows]
         low, high = min(span[0] for span in spans), max(span[1] for span in spans)
-        distance = forms.subtract(form, forms.start)
         if len(distance.terms) > 1 and low >= 0 and high < NEAR:
-            constant = signed(distance.constant)
-            ranges[distance.without_constant] = low - constant, high - constant
-        room = min(room_behind(forms, there, facts) for there, facts in rows)
-        if room >= 0:
-            within.add(forms.add(form, number(room)))
-    found.facts = found.facts._replace(ranges=ranges, within=frozenset(within))
+            keep_range(forms, ranges, distance, low, high)
+        if -APART < low and high < NEAR if is_address else low >= 0 and high <= MOST_LENGTH:
+            # of a number, behind the packet's start: a cursor is often kept as one
+            ahead = ZERO if is_address else forms.start
+            room = MOST_LENGTH
+            for there, facts in rows:
+                room = min(room, room_behind(forms, forms.add(there, ahead), facts)) if room >= 0 else room
+            within |= {forms.add(forms.add(form, ahead), number(room))} if room >= 0 else set()
+    found.facts = found.facts._replace(ranges=ranges, within=worth_keeping(forms, found, within))
+
+
+def worth_keeping(forms, found, within):
+    """Of addresses in the packet those of atoms that stand somewhere, and of those that differ by a constant the
+    last."""
+    alive = {atom for name in PARTS for form in getattr(found, name).values() for atom, _ in form.terms}
+    alive |= {atom for form in (forms.start, forms.end) for atom, _ in form.terms}
+    kept = {}
+    for form in within:
+        if all(atom in alive for atom, _ in form.terms):
+            kept[form.terms] = max(kept.get(form.terms, form), form, key=lambda one: signed(one.constant))
+    return frozenset(kept.values())

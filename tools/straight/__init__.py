@@ -8,12 +8,15 @@ judges the result, and `tools/same-program`, which shares no text with this pack
     instructions  an instruction's fields, what it reads and writes, what it computes of constants
     settings      settings as text, and the program in them
     graph         what follows what, what is live, what lies in a loop
+    kinds         which stores surely don't go to the stack
     constants     which constants registers and stack slots have behind an instruction
     copies        a slot together with its constants: loops become chains of copies
     addresses     what registers stand for, and where ways with different addresses meet
+    memory        constants and globals, which there aren't in the result
     counts        a load, an addition and a store of a counter as one atomic addition
     emit          the copies, and what is put between them, as a program
     verifier      what `xdpbox explain` says of a program
     search        from refusal to refusal until the verifier accepts
+    shown         how a result is shown to be the same
     command       what the two tools have in common: straightened, shown to be the same, or refused in words
 """

@@ -5,6 +5,8 @@ address on which the ways into that copy disagree. Where such a meeting is marke
 from the distance, which each way in has stored; the atom is then KEPT. Where it isn't marked nothing is done, and a
 refusal that comes of it names the meeting."""
 from enum import Enum
+from functools import reduce
+from math import gcd
 from typing import NamedTuple
 
 from .constants import FRAME as FRAME_ADDRESS
@@ -13,16 +15,20 @@ from .copies import Copy
 from .instructions import (
     ADD,
     ALU64,
+    AND,
     CALL,
     CONTEXT_ARGUMENT,
     FRAME_POINTER,
     LOAD_DOUBLE,
     LOAD_WORD,
+    LSH,
     MASK_64,
     MOV,
+    MUL,
     STORE_DOUBLE,
     SUB,
     WIDE_LOAD,
+    Table,
     signed,
 )
 
@@ -40,6 +46,31 @@ class Thing(Enum):
     PACKET_END = 5
     MAP = 6
     VALUE = 7
+
+
+class Multiple(NamedTuple):
+    """A number of which it is known that it is a multiple of another one."""
+
+    of: int
+
+
+class TableAddress(NamedTuple):
+    """An address of constants: a place of their section, and whole strides from it on."""
+
+    table: Table
+    place: int
+    stride: int = 0
+
+    def moved(self, constant, stride=0):
+        return TableAddress(self.table, self.place + constant, gcd(self.stride, stride))
+
+    def met(self, other):
+        return self.moved(0, gcd(other.stride, self.place - other.place))
+
+
+def multiple_of(value):
+    """What a number is a multiple of; None of what is no number."""
+    return 1 if value == Thing.NUMBER else value.of if isinstance(value, Multiple) else None
 
 
 class StackSlot(NamedTuple):
@@ -77,6 +108,26 @@ def in_order(place):
     return (1, place.offset) if isinstance(place, StackSlot) else (0, place)
 
 
+def met_without_packet(there):
+    """What stands in a place where ways meet that have different things there."""
+    if all(multiple_of(known) is not None for known in there):
+        return Multiple(gcd(*map(multiple_of, there)))
+    if all(isinstance(known, TableAddress) for known in there) and len({known.table for known in there}) == 1:
+        return reduce(TableAddress.met, there)
+    return Thing.MIXED
+
+
+def number_of(operation, a, b, constant):
+    """What arithmetic makes of multiples of two numbers."""
+    if operation in (ADD, SUB):
+        return Multiple(gcd(a, b))
+    if is_number(constant) and constant >= 0 and operation in (MUL, LSH):
+        return Multiple(a * constant if operation == MUL else a << constant % 64)
+    if is_number(constant) and constant > 0 and operation == AND:
+        return Multiple(constant & -constant)
+    return Thing.NUMBER
+
+
 class Addresses:
     """`marked(copy, place)`: whether an address on which ways disagree is made anew where they meet at this copy.
     `restarted(copy, place)`: whether one is made anew there all the same.
@@ -86,7 +137,7 @@ class Addresses:
     stored  of each way (copy, way), the distances that are stored on it: (atom, address)"""
 
     def __init__(self, copies, marked, restarted=lambda copy, place: False):
-        self.code, self.marked, self.restarted = copies.code, marked, restarted
+        self.elsewhere, self.marked, self.restarted = copies.elsewhere, marked, restarted
         self.before, self.remade, self.stored, behind = {}, {}, {}, {}
         for here in copies.order:
             if here is copies.first:
@@ -108,7 +159,7 @@ class Addresses:
             if all(known == there[0] for known in there) and not again:
                 places[place] = there[0]
             elif not all(isinstance(known, PacketAddress) for known in there):
-                places[place] = Thing.MIXED
+                places[place] = met_without_packet(there)
             elif again or self.marked(here, place):
                 self.remake(here, place, there, ways, places, leaders)
             else:
@@ -139,8 +190,7 @@ class Addresses:
         elif instruction.is_load:
             places[instruction.destination] = self.loaded(here, instruction, places)
         elif instruction.opcode == WIDE_LOAD:
-            named = instruction.source or instruction.map is not None
-            places[instruction.destination] = Thing.MAP if named else Thing.NUMBER
+            places[instruction.destination] = self.named(instruction)
         elif instruction.is_store:
             self.store(here, instruction, places)
         elif instruction.opcode == CALL:
@@ -148,22 +198,36 @@ class Addresses:
                 places.pop(register, None)
             places[0] = Thing.VALUE
 
+    def named(self, wide):
+        """What a wide load gives."""
+        if wide.table is not None:
+            return TableAddress(wide.table, wide.immediate)
+        if wide.counter is not None:
+            return Thing.VALUE
+        return Thing.MAP if wide.source or wide.map is not None else Thing.NUMBER
+
     def result(self, here, instruction, places):
         operation, by_register = instruction.operation, instruction.by_register
         if instruction.kind != ALU64 or instruction.offset:
             return Thing.NUMBER
         a = places.get(instruction.destination, Thing.NUMBER)
-        b = places.get(instruction.source, Thing.NUMBER) if by_register else Thing.NUMBER
+        b = places.get(instruction.source, Thing.NUMBER) if by_register else Multiple(abs(instruction.immediate))
         constant = here.constants.registers.get(instruction.source) if by_register else instruction.immediate
         if operation == MOV:
             return b
+        if multiple_of(a) is not None and multiple_of(b) is not None:
+            return number_of(operation, multiple_of(a), multiple_of(b), constant)
         if operation not in (ADD, SUB):
             return Thing.NUMBER
-        if isinstance(a, PacketAddress) and is_number(constant):
+        if isinstance(a, (PacketAddress, TableAddress)) and is_number(constant):
             return a.moved(signed(constant & MASK_64) * (1 if operation == ADD else -1))
-        if operation == ADD and isinstance(a, PacketAddress) and b == Thing.NUMBER:
+        if isinstance(a, TableAddress) and multiple_of(b) is not None:
+            return a.moved(0, multiple_of(b))
+        if isinstance(b, TableAddress) and multiple_of(a) is not None and operation == ADD:
+            return b.moved(0, multiple_of(a))
+        if operation == ADD and isinstance(a, PacketAddress) and multiple_of(b) is not None:
             return a.moved(atom=Atom(ADDED, here, instruction.source))
-        if operation == ADD and isinstance(b, PacketAddress) and a == Thing.NUMBER:
+        if operation == ADD and isinstance(b, PacketAddress) and multiple_of(a) is not None:
             return b.moved(atom=Atom(ADDED, here, instruction.destination))
         return a if a in (Thing.FRAME, Thing.VALUE) else Thing.NUMBER
 
@@ -185,5 +249,8 @@ class Addresses:
                     del places[place]
             if store.opcode == STORE_DOUBLE and at % 8 == 0:
                 places[StackSlot(at)] = places.get(store.source, Thing.NUMBER)
+        elif here.slot not in self.elsewhere:
+            for place in [place for place in places if isinstance(place, StackSlot)]:
+                del places[place]
         if store.fetches:
             places[store.source] = Thing.NUMBER

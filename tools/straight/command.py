@@ -3,24 +3,26 @@ shown to be the same, or why there is none."""
 import os
 import pathlib
 import shutil
-import sys
-from dataclasses import dataclass, field
-from typing import Optional
+from dataclasses import dataclass
+from typing import Callable, NamedTuple
 
-from same.check import Check
-from same.program import program_of
-from same.state import Differs
+from output import fail
 
-from .graph import Fail
-from .search import OF_THE_BYTES, searches
+from .graph import SIZE, Fail
+from .search import OF_THE_BYTES, StillRefused, searches
 from .settings import as_text
+from .shown import NoComparison, shown
 from .verifier import Verdict, verdict
 
 NOTHING_HELPS = "nothing is rewritten that helps"
 FUSED = (
     "a load, an addition and a store are one atomic addition: on a map that isn't per CPU, Linux would lose counts here"
 )
-MOST_UNGUARDED = 2  # results that want a guard which nobody asked for: others would too
+ADDED_LATER = (
+    "what is stored is added as the difference from what was loaded, in two steps: another queue may count between"
+)
+SET = "a counter is set by adding the difference from what stands there, in two steps: another queue may count between"
+MOST_COMPARED = 10000  # slots, in all results that can't be taken
 TOP = pathlib.Path(__file__).resolve().parents[2]
 # a refusal's words are those of instructions; these are those of C
 IN_C = {
@@ -28,70 +30,110 @@ IN_C = {
     "V10": "compare the end of what is read with data_end on each way to this line; or say --guard: where the packet is"
     " too short, the program then ends with ABORTED",
     "V11": "initialize the variable on each way to this line",
+    "V12": "the fields of the context are data, data_end, data_meta, ingress_ifindex and rx_queue_index, each a __u32",
     "V13": "test what the lookup gave first: `if (!value) return XDP_PASS;`",
-    "V14": "add to a map's counter by __sync_fetch_and_add(value, n) or `*value += n`: nothing else is stored there",
+    "V14": "each counter is a __u64: read it whole, and add to it by __sync_fetch_and_add(value, n) or `*value += n`;"
+    " to set it, add the difference from what was read of it on each way to this line",
     "V17": "the key is a variable of four bytes, all of them stored",
     "V19": "of the atomic operations there is the addition of eight bytes alone, __sync_fetch_and_add",
+    SIZE: "fewer steps of the loop, or a smaller body: keep the offset as a number, and add it to data anew in each"
+    " step",
 }
+ATOMIC = "c3", "db"  # opcodes
 
 
 @dataclass
 class Straight:
-    """A program that is accepted and the same. `lines`: its map; `notes`: what its author should know."""
+    """A program that is accepted and the same. `lines`: its map. `notes`: what its author should know. `how`: it was
+    shown to be the same."""
 
     words: list
     relocations: list
-    lines: list = field(default_factory=list)
-    notes: list = field(default_factory=list)
+    lines: list
+    notes: list
+    how: str
 
-
-class NoComparison(Fail):
-    """An access that no comparison shows to lie in the packet."""
+    def comment(self, settings):
+        """The line that settings with this program have."""
+        return f"# straightened: {len(settings['program'])} slots -> {len(self.words)}, {self.how}\n"
 
 
 class Refused(Exception):
-    """`answer`: the verifier's, of the program as it was. `why`: why no other one was found; `slot`: where."""
+    """`answer`: the verifier's, of the program as it was. `why`: why no other one was found. `atomic`: whether an
+    atomic operation was refused."""
 
-    def __init__(self, answer: Verdict, why: str, slot: Optional[int] = None):
-        super().__init__(why)
-        self.answer, self.why, self.slot = answer, why, slot
+    def __init__(self, answer: Verdict, why: Fail, atomic: bool = False):
+        super().__init__(f"{why}")
+        self.answer, self.why, self.atomic = answer, why, atomic
+
+    def advice(self):
+        """What to write instead, or None."""
+        cause = self.why.cause or self.answer.cause
+        if cause in IN_C and (cause != "V19" or self.atomic):
+            return IN_C[cause]
+        lines = self.answer.words.split("\n") if cause == self.answer.cause else []
+        said = (line.partition(": ")[2] for line in lines if line.startswith("write instead"))
+        return next(said, IN_C[SIZE] if cause == "V9" else None)
 
 
 def xdpbox_program():
     """The path of xdpbox: $XDPBOX, the repository's own, or one on the PATH. None where there is none."""
-    built = TOP / "crates/xdpbox/out/xdpbox"
-    named = os.environ.get("XDPBOX")
+    built, named = TOP / "crates/xdpbox/out/xdpbox", os.environ.get("XDPBOX")
+    if named and shutil.which(named) is None:
+        fail(f"XDPBOX names {named}, which isn't a program that can be run")
     if named:
         return named
     return str(built) if built.exists() else shutil.which("xdpbox")
 
 
-def straightened(settings, xdpbox, guard=False, per_cpu=None):
-    """None where the program of the settings is accepted as it is. `guard`: an access that nothing shows to lie in the
-    packet may become a test that ends the program. `per_cpu`: whether a store's slot is to a per-CPU map."""
-    answer = verdict(xdpbox, as_text(settings))
-    if answer.accepted:
+class Wanted(NamedTuple):
+    """`guard`: an access that nothing shows to lie in the packet may become a test that ends the program. `proved`:
+    what is compared alone isn't enough. `per_cpu`: whether a store's slot is to a per-CPU map."""
+
+    guard: bool = False
+    proved: bool = False
+    per_cpu: Callable = lambda slot: False
+
+
+def straightened(settings, xdpbox, wanted=Wanted()):
+    """None where the program of the settings is accepted as it is."""
+    answer, in_memory = verdict(xdpbox, as_text(settings)), settings.get("tables") or settings.get("globals")
+    if answer.accepted and not in_memory:
         return None
-    if answer.cause is None:
-        raise Refused(answer, answer.words.strip() or f"{xdpbox} gave no answer")
+    if answer.cause is None and not answer.accepted:
+        raise Refused(answer, Fail(answer.words.strip() or f"{xdpbox} gave no answer"))
     if answer.cause in OF_THE_BYTES:
-        raise Refused(answer, NOTHING_HELPS)
-    missing, faults, unguarded = None, [], 0
-    for result in searches(settings, xdpbox, faults):
-        labels = {slot: (label.kind.value, label.slot) for slot, label in result.labels.items()}
-        rebuilt = {"program": result.words, "reloc": [{"slot": slot, "map": name} for slot, name in result.relocations]}
-        check = Check(program_of(settings), program_of(rebuilt), labels)
-        missing = what_is_missing(check, guard)
+        word = settings["program"][answer.slot] if answer.slot < len(settings["program"]) else ""
+        raise Refused(answer, Fail(NOTHING_HELPS, answer.slot), word.startswith(ATOMIC))
+    if in_memory:  # it was asked of a program without its constants
+        answer = Verdict("")
+    missing, faults, unguarded, slots = None, [], [], 0
+    for result in searches(settings, xdpbox, faults, unguarded):
+        found, missing = taken(settings, result, wanted)
         if missing is None:
-            lines = [f"{slot} {kind} {original}" for slot, (kind, original) in sorted(labels.items())]
-            return Straight(result.words, result.relocations, lines, list(notes_of(result, check, per_cpu)))
-        unguarded += isinstance(missing, NoComparison)
-        if unguarded >= MOST_UNGUARDED:
+            return found
+        if isinstance(missing, NoComparison):
+            unguarded.append(result)
+        slots += len(result.words)
+        if slots > MOST_COMPARED or wanted.proved:
             break
     fault = missing or best_of(faults)
-    if fault.slot == answer.slot and answer.cause in str(fault):
-        raise Refused(answer, NOTHING_HELPS, answer.slot)
-    raise Refused(answer, str(fault), fault.slot)
+    if isinstance(fault, StillRefused) and (fault.slot, fault.cause) == (answer.slot, answer.cause):
+        fault = Fail(NOTHING_HELPS, answer.slot, answer.cause)
+    raise Refused(answer, fault)
+
+
+def taken(settings, result, wanted):
+    """A result that is shown to be the same, and what is missing to that; one of the two is None."""
+    labels = {slot: (label.kind.value, label.slot) for slot, label in result.labels.items()}
+    relocations = [{"slot": slot, "map": name} for slot, name in result.relocations]
+    rebuilt = {**settings, "program": result.words, "reloc": relocations}
+    found = shown(settings, rebuilt, labels, wanted.guard, wanted.proved)
+    if found.missing is not None:
+        return None, found.missing
+    lines = [f"{slot} {kind} {original}" for slot, (kind, original) in sorted(labels.items())]
+    notes = list(notes_of(result, found.guards, wanted.per_cpu))
+    return Straight(result.words, result.relocations, lines, notes, found.how), None
 
 
 def best_of(faults):
@@ -100,28 +142,13 @@ def best_of(faults):
     return (placed or faults)[0]
 
 
-def what_is_missing(check, guard):
-    """Why a result can't be taken: it isn't shown to be the same, or needs a guard that nobody asked for. Else None."""
-    try:
-        check.run()
-    except Differs as differs:
-        return Fail(f"a program was found that isn't shown to be the same: {differs}")
-    if check.unproven:
-        slot, at = min(check.unproven.items())
-        return Fail(f"a program was found that isn't shown to be the same: slot {slot} ends it", at)
-    if check.guards and not guard:
-        return NoComparison(
-            "no comparison shows that this lies in the packet (--guard ends the program there with ABORTED)",
-            min(check.guards.values()),
-        )
-    return None
-
-
-def notes_of(result, check, per_cpu):
+def notes_of(result, guards, per_cpu):
     for slot in result.counts:
-        if not (per_cpu and per_cpu(slot)):
+        if not per_cpu(slot):
             yield slot, FUSED
-    for slot in sorted(set(check.guards.values())):
+    for slot, row in sorted(result.differences.items()):
+        yield slot, SET if row.told or not row.known else ADDED_LATER
+    for slot in guards:
         yield slot, "guarded: where this would reach outside the packet, the program ends with ABORTED"
 
 
@@ -132,25 +159,19 @@ def describe(refused, place_of=None, name="the program"):
         found = place_of(slot) if place_of and slot is not None else None
         return found or (f"slot {slot}" if slot is not None else name)
 
-    answer = refused.answer
-    if answer.cause is None:
-        yield f"{name}: {refused.why}"
-        return
-    yield f"{place(answer.slot)}: refused {answer.cause} at {answer.slot}"
-    lines = answer.words.split("\n")
-    for number, line in enumerate(lines):
+    answer, why = refused.answer, refused.why
+    if answer.cause is not None:
+        yield f"{place(answer.slot)}: refused {answer.cause} at {answer.slot}"
+        yield from marked_lines(answer.words.split("\n"))
+    yield f"{place(why.slot if why.slot is not None else answer.slot)}: {why}"
+    if refused.advice():
+        yield f"write instead: {refused.advice()}"
+
+
+def marked_lines(lines):
+    """The line of an explanation that names the instruction, and what was known of its registers."""
+    for line, behind in zip(lines, [*lines[1:], ""]):
         if line.lstrip().startswith(">"):
             yield f"  {line}"
-            if number + 1 < len(lines) and lines[number + 1].startswith("     ") and "=" in lines[number + 1]:
-                yield f"  {lines[number + 1]}"
-    advice = IN_C.get(answer.cause) or next(
-        (line.partition(": ")[2] for line in lines if line.startswith("write instead")), None
-    )
-    yield f"{place(refused.slot if refused.slot is not None else answer.slot)}: {refused.why}"
-    if advice:
-        yield f"write instead: {advice}"
-
-
-def say(lines):
-    for line in lines:
-        print(line, file=sys.stderr)
+            if behind.startswith("     ") and "=" in behind:
+                yield f"  {behind}"

@@ -28,6 +28,7 @@ from .instructions import (
     STX,
     SUB,
     WIDE_LOAD,
+    Table,
     compute,
     holds,
     signed,
@@ -38,10 +39,11 @@ from .instructions import (
 FRAME, CONTEXT, PACKET_END, FAR, VALUE = "frame", "context", "packet's end", "far", "value"
 END_FIELD = 4  # of the context
 ORDERED = {JEQ, JGT, JGE, JNE, JLT, JLE}
+FAR_ENOUGH = 1 << 32  # from any place of a section down to 0
 
 
 class Address(NamedTuple):
-    base: str
+    base: object  # one of the names above, or a Table
     offset: int = 0
 
 
@@ -53,20 +55,45 @@ def is_address(value, *bases):
     return isinstance(value, Address) and value.base in bases
 
 
+def in_table(value):
+    """Whether it is an address of constants, whose base is the table."""
+    return isinstance(value, Address) and isinstance(value.base, Table)
+
+
 class Constants:
     """The constants at one slot: of registers, and of stack slots by their offset from the frame's end.
 
-    `values`: whether the results of lookups are followed too."""
+    values  whether the results of lookups are followed too
+    passed  how often the way to here came by named slots, as (name, times) in order"""
 
-    def __init__(self, registers, stack, values=False):
-        self.registers, self.stack, self.values = registers, stack, values
+    def __init__(self, registers, stack, values=False, passed=()):
+        self.registers, self.stack, self.values, self.passed = registers, stack, values, passed
 
     @classmethod
     def at_start(cls, values=False):
         return cls({CONTEXT_ARGUMENT: Address(CONTEXT), FRAME_POINTER: Address(FRAME)}, {}, values)
 
+    @classmethod
+    def at_end(cls, values):
+        """Where the program ends whatever there was."""
+        return cls({FRAME_POINTER: Address(FRAME)}, {}, values)
+
     def with_register(self, register, value):
-        return Constants({**self.registers, register: value}, self.stack, self.values)
+        return Constants({**self.registers, register: value}, self.stack, self.values, self.passed)
+
+    def passing(self, name):
+        """The same behind a named slot."""
+        times = dict(self.passed)
+        times[name] = times.get(name, 0) + 1
+        return Constants(self.registers, self.stack, self.values, tuple(sorted(times.items(), key=repr)))
+
+    def times(self, name):
+        return dict(self.passed).get(name, 0)
+
+    def forgetting(self, names):
+        """The same without the names that no longer matter."""
+        passed = tuple(row for row in self.passed if row[0] in names)
+        return Constants(self.registers, self.stack, self.values, passed)
 
     def kept(self, wanted, numbers):
         """Those of the wanted registers, numbers only of the registers `numbers`, and those of the stack: all where
@@ -74,10 +101,10 @@ class Constants:
         telling = numbers if numbers is not None else ()
         registers = {r: v for r, v in self.registers.items() if r in wanted and (r in telling or not is_number(v))}
         stack = {at: v for at, v in self.stack.items() if numbers is not None or not is_number(v)}
-        return Constants(registers, stack, self.values)
+        return Constants(registers, stack, self.values, self.passed)
 
     def key(self):
-        return tuple(sorted(self.registers.items())), tuple(sorted(self.stack.items()))
+        return tuple(sorted(self.registers.items())), tuple(sorted(self.stack.items())), self.passed
 
     def operands(self, instruction):
         """The two operands of arithmetic or of a jump, None where they aren't constant."""
@@ -94,6 +121,8 @@ class Constants:
         a, b = self.operands(jump)
         if is_number(a) and is_number(b):
             return holds(jump, a, b)
+        if in_table(a) and in_table(b) and a.base == b.base and jump.kind == JMP and jump.operation in ORDERED:
+            return holds(jump, a.offset - b.offset + FAR_ENOUGH, FAR_ENOUGH)
         if jump.kind == JMP and jump.operation in ORDERED:
             if is_address(a, FAR) and a.offset >= 0 and is_address(b, PACKET_END):
                 return holds(jump, 2, 1)
@@ -103,18 +132,17 @@ class Constants:
 
     # --- behind an instruction
 
-    def after(self, instruction):
-        behind = Constants(dict(self.registers), dict(self.stack), self.values)
+    def after(self, instruction, elsewhere=False):
+        """`elsewhere`: of a store, whether it surely doesn't go to the stack."""
+        behind = Constants(dict(self.registers), dict(self.stack), self.values, self.passed)
         if instruction.is_arithmetic:
             behind._put(instruction.destination, self._result(instruction))
         elif instruction.is_load:
             behind._put(instruction.destination, self._loaded(instruction))
         elif instruction.opcode == WIDE_LOAD:
-            named = instruction.source or instruction.map is not None
-            number = instruction.immediate & MASK_32 | (instruction.upper & MASK_32) << 32
-            behind._put(instruction.destination, None if named else number)
+            behind._put(instruction.destination, self._wide(instruction))
         elif instruction.is_store:
-            behind._store(instruction)
+            behind._store(instruction, elsewhere)
         elif instruction.opcode == CALL:
             for register in range(6):
                 behind._put(register, None)
@@ -139,21 +167,34 @@ class Constants:
             return compute(instruction, a, 0) if is_number(a) else None
         if is_number(a) and is_number(b):
             return compute(instruction, a, b)
-        if wide and instruction.operation in (ADD, SUB) and is_address(a, FRAME, FAR, VALUE) and is_number(b):
+        moves = is_address(a, FRAME, FAR, VALUE) or in_table(a)
+        if wide and instruction.operation in (ADD, SUB) and moves and is_number(b):
             return Address(a.base, a.offset + signed(b) * (1 if instruction.operation == ADD else -1))
-        if wide and instruction.operation == ADD and is_number(a) and is_address(b, VALUE):
-            return Address(VALUE, b.offset + signed(a))
+        if wide and instruction.operation == ADD and is_number(a) and (is_address(b, VALUE) or in_table(b)):
+            return Address(b.base, b.offset + signed(a))
         return None
+
+    def _wide(self, instruction):
+        """What a wide load gives: an address in a table or in a global's value, a number, or None."""
+        if instruction.table is not None:
+            return Address(instruction.table, instruction.immediate)
+        if instruction.counter is not None:
+            return Address(VALUE, instruction.immediate) if self.values else None
+        if instruction.source or instruction.map is not None:
+            return None
+        return instruction.immediate & MASK_32 | (instruction.upper & MASK_32) << 32
 
     def _loaded(self, load):
         base = self.registers.get(load.source)
         if is_address(base, CONTEXT) and load.opcode == LOAD_WORD and load.offset == END_FIELD:
             return Address(PACKET_END)
+        if in_table(base):
+            return base.base.number(base.offset + load.offset, load)
         if is_address(base, FRAME) and load.opcode == LOAD_DOUBLE:
             return self.stack.get(base.offset + load.offset)
         return None
 
-    def _store(self, store):
+    def _store(self, store, elsewhere):
         at = self.stack_offset(store)
         if at is not None:
             for slot in [slot for slot in self.stack if slot < at + store.size and at < slot + 8]:
@@ -161,5 +202,7 @@ class Constants:
             value = self.registers.get(store.source) if store.kind == STX else store.immediate & MASK_64
             if store.opcode in (STORE_DOUBLE, STORE_DOUBLE_CONSTANT) and value is not None:
                 self.stack[at] = value
+        elif not elsewhere:
+            self.stack.clear()
         if store.fetches:
             self._put(store.source, None)

@@ -10,11 +10,12 @@ Two marks put tests of our own in front of an addition, where the verifier would
 from dataclasses import dataclass, field
 from typing import NamedTuple
 
-from .constants import FAR, FRAME, Address, Constants, is_number
-from .graph import Fail, NoBound, live_registers, loops, slots_that_reach, steering_registers, successors
+from .constants import FAR, Address, Constants, is_number
+from .graph import Fail, NoBound, TooMany, live_registers, loops, slots_that_reach, steering_registers, successors
 from .instructions import FRAME_POINTER, REGISTERS
+from .kinds import stores_elsewhere
 
-MOST_COPIES = 12000
+MOST_COPIES = 8000
 # which numbers are told apart: those that steer a loop or make an address, in slots from which a loop can be reached;
 # all in such slots; all
 STEERING, IN_LOOPS, EVERYWHERE = "those that steer loops", "those in loops", "all"
@@ -46,6 +47,13 @@ class Cases(NamedTuple):
     numbers: tuple
 
 
+class Trips(NamedTuple):
+    """Of a slot in a loop: how often a way comes by, and the registers whose numbers aren't told apart there."""
+
+    most: int
+    registers: set
+
+
 @dataclass(eq=False, repr=False)
 class Copy:
     slot: int  # of the program as it was
@@ -74,15 +82,20 @@ def telling_registers(code, numbers):
 class Copies:
     """The graph of copies.
 
-    `numbers`: which numbers are told apart.
-    `values`: the results of lookups are followed, so that a constant added to one can go to the accesses."""
+    `numbers`: which numbers are told apart. `marks`: those of `search`. Where results of lookups are followed, a
+    constant added to one can go to the accesses."""
 
-    def __init__(self, code, numbers=IN_LOOPS, wide=None, cases=None, values=False):
-        self.code, self.wide, self.cases = code, wide or {}, cases or {}
-        self.live = live_registers(code)
+    def __init__(self, code, numbers, marks):
+        self.code, self.wide, self.cases, self.trips = code, marks.wide, marks.cases, marks.trips
+        self.live, self.elsewhere = live_registers(code), stores_elsewhere(code)
+        self.named = {slot: row.counter for row in marks.differences.values() if row.told for slot in row.known}
+        self.mattering = {slot: slots_that_reach(code, {slot}) for slot in marks.trips}
+        for store, row in marks.differences.items():
+            if row.told:
+                self.mattering[row.counter] = self.mattering.get(row.counter, set()) | slots_that_reach(code, {store})
         self.telling = telling_registers(code, numbers)
         self.found, self.todo = {}, []
-        self.first = self.copy(0, TESTS, Constants.at_start(values))
+        self.first = self.copy(0, TESTS, Constants.at_start(marks.values))
         while self.todo:
             here = self.todo.pop()
             for way, after in self.ways(here):
@@ -93,15 +106,18 @@ class Copies:
     def copy(self, slot, phase, constants):
         """The copy with these constants, of which those that can't matter are forgotten."""
         numbers = self.telling[slot] if phase == TESTS else range(REGISTERS)
+        if slot in self.trips:
+            numbers = set(numbers or ()) - self.trips[slot].registers
         constants = constants.kept(self.live[slot] | {FRAME_POINTER}, numbers)
+        constants = constants.forgetting({name for name, slots in self.mattering.items() if slot in slots})
         if phase == TESTS and slot not in self.wide and slot not in self.cases:
             phase = PLAIN
         if phase == OUTSIDE:
-            constants = Constants({FRAME_POINTER: Address(FRAME)}, {}, constants.values)
+            constants = Constants.at_end(constants.values)
         key = (slot, phase, *constants.key())
         if key not in self.found:
             if len(self.found) >= MOST_COPIES:
-                raise Fail(f"a loop has no bound, or a large one: more than {MOST_COPIES} copies of its slots", slot)
+                raise TooMany(f"a loop has no bound, or a large one: more than {MOST_COPIES} copies of its slots", slot)
             self.found[key] = Copy(slot, phase, constants, key)
             self.todo.append(self.found[key])
         return self.found[key]
@@ -134,14 +150,28 @@ class Copies:
 
     def ways_of_instruction(self, here):
         slot, instruction = here.slot, self.code[here.slot]
-        constants = here.constants.after(instruction)
+        constants = self.constants_after(here)
         if here.phase == FAR_SUM:
             constants = constants.with_register(instruction.destination, Address(FAR))
         ways = list(enumerate(successors(self.code, slot)))
         taken = here.constants.decided(instruction) if instruction.is_branch else None
         if taken is not None:
             ways = [ways[taken]]
-        return [(way, self.copy(after, TESTS, constants)) for way, after in ways]
+        short = [
+            (way, after)
+            for way, after in ways
+            if after not in self.trips or constants.times(after) < self.trips[after].most
+        ]
+        if ways and not short:
+            raise Fail("this loop would run too often", slot)
+        return [(way, self.copy(after, TESTS, constants)) for way, after in short]
+
+    def constants_after(self, here):
+        """The constants behind a copy's instruction."""
+        constants = here.constants.after(self.code[here.slot], here.slot in self.elsewhere)
+        for name in (here.slot if here.slot in self.trips else None, self.named.get(here.slot)):
+            constants = constants.passing(name) if name is not None else constants
+        return constants
 
     def sorted(self):
         """The copies, each behind all that lead to it."""

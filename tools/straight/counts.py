@@ -3,7 +3,9 @@
 In the place of the load stands `r = 0`: what is then computed is n, and the store adds it. No slot moves. It is right
 where nothing between the two could see or change the counter, and where what was read is not used for anything else.
 On a counter of a per-CPU map it is the same count; on a shared one Linux's program could lose counts and this can't."""
-from .graph import live_registers, successors
+from typing import NamedTuple
+
+from .graph import live_registers, predecessors, successors
 from .instructions import (
     ADD_CONSTANT,
     ADD_REGISTER,
@@ -16,6 +18,7 @@ from .instructions import (
     reads,
     writes,
 )
+from .kinds import VALUE, kinds_before
 
 
 def fused(code, store):
@@ -70,3 +73,36 @@ def registers_that_count(code, load, store):
         else:
             counted -= writes(instruction)
     return counted
+
+
+class Difference(NamedTuple):
+    """Of a store to a counter that is no count: the counter, and the slots that load or store it before, of which one
+    is the last on a way. `told`: whether there are ways without one too."""
+
+    counter: tuple
+    known: frozenset
+    told: bool
+
+
+def difference(code, store):
+    """How a store to a counter may become an addition of the difference from what is known to stand
+    there, or from what is read there where nothing is known. None where the counter isn't known."""
+    before = kinds_before(code)
+    counter = before[store].counter(code[store]) if store in before else None
+    if counter is None:
+        return None
+    known, unknown, seen, todo, ways = set(), False, set(), [store], predecessors(code)
+    while todo:
+        for slot in ways[todo.pop()]:
+            if slot in seen or slot not in before:
+                continue
+            seen.add(slot)
+            instruction, kinds = code[slot], before[slot]
+            loads = instruction.is_load or instruction.opcode == STORE_DOUBLE == code[store].opcode
+            if loads and kinds.counter(instruction) == counter:
+                known.add(slot)
+            elif slot in (0, counter[0]) or instruction.is_store and kinds.get(instruction.base, ("",))[0] == VALUE:
+                unknown = True
+            else:
+                todo.append(slot)
+    return Difference(counter, frozenset(known), bool(known) and unknown)

@@ -7,7 +7,9 @@ from typing import NamedTuple, Optional
 from .addresses import ADDED, KEPT, MET, Atom, StackSlot, Thing, in_order
 from .constants import FRAME, VALUE, is_address
 from .copies import CASE, OUTSIDE, TESTS, Copy
-from .graph import Fail
+from .graph import SIZE, Fail
+from .accesses import write_difference, write_narrow_load, write_rebased
+from .memory import check_store, look_up_globals, loads_constant, takes_address
 from .instructions import (
     ADD,
     ADD_CONSTANT,
@@ -81,7 +83,7 @@ class OwnStack:
         if name not in self.offsets:
             self.offsets[name] = self.top - 8 * (len(self.offsets) + 1)
             if self.offsets[name] < -STACK_BYTES:
-                raise Fail(f"it would need more than the {STACK_BYTES} bytes of the stack")
+                raise Fail(f"it would need more than the {STACK_BYTES} bytes of the stack", None, SIZE)
         return self.offsets[name]
 
 
@@ -119,14 +121,18 @@ def shared_slots(copies, addresses):
 class Emitter:
     """Writes a program.
 
+    marks: those of `search`:
     guards   keys or slots of copies whose access is compared with the packet's end anew
+    rebased  keys of copies whose access gets an address that is made anew
     limited  keys of copies to which a distance is handed on that a test has to bound
     blurred  of slots of additions to an address the register of the number, of which the verifier isn't to know that it
-             is a constant on some ways: with a constant the sum would be another kind of address"""
+             is a constant on some ways: with a constant the sum would be another kind of address
+    differences  by the slots of stores to a counter of which the difference is added"""
 
-    def __init__(self, copies, addresses, guards=frozenset(), limited=frozenset(), blurred=None):
-        self.copies, self.addresses = copies, addresses
-        self.guards, self.limited, self.blurred = guards, limited, blurred or {}
+    def __init__(self, copies, addresses, marks):
+        self.copies, self.addresses, self.end, self.context = copies, addresses, THE_END, CONTEXT_SLOT
+        self.marks = marks
+        self.known = {slot: row.counter for row in marks.differences.values() for slot in row.known}
         self.own = OwnStack(copies, shared_slots(copies, addresses))
         self.out, self.labels, self.jumps, self.places = [], [], [], {}
         self.stored = [address for row in addresses.stored.values() for _, address in row]
@@ -147,6 +153,9 @@ class Emitter:
 
     def put_own(self, slot, *fields, copy=None):
         return self.put(Instruction(*fields), Kind.OWN, slot, copy)
+
+    def put_copy(self, instruction, here):
+        return self.put(instruction, Kind.COPY, here.slot, here)
 
     def put_jump(self, slot, target, *fields, copy=None):
         """A jump of our own: by default one without a condition."""
@@ -187,7 +196,7 @@ class Emitter:
                 self.put_own(slot, ADD_REGISTER, total, more[0])
             if constant:
                 self.put_own(slot, ADD_CONSTANT, total, 0, 0, constant)
-            if after.key in self.limited and len(atoms) > 1:
+            if after.key in self.marks.limited and len(atoms) > 1:
                 self.put_jump(slot, THE_END, IF_ABOVE_CONSTANT, total, 0, 0, MOST_DISTANCE)
             self.save(atom, total, slot)
             give_back()
@@ -251,9 +260,12 @@ class Emitter:
     def write_start(self):
         """Keeps the context, and a 0 of which the verifier knows only that it is 0 or 1. So a distance is a number on
         every way and a constant on none; else the verifier would keep it apart."""
-        if self.stored or self.guards:
+        globals_used = sorted({insn.counter for insn in self.copies.code.values() if insn.counter is not None})
+        if self.stored or self.marks.guards or self.marks.rebased or globals_used:
             self.save(CONTEXT_SLOT, CONTEXT_ARGUMENT, 0)
-        if self.blurred or any(not address.atoms for address in self.stored):
+        if globals_used:
+            look_up_globals(self, globals_used)
+        if self.marks.blurred or any(not address.atoms for address in self.stored):
             self.put_own(0, LOAD_WORD, 0, CONTEXT_ARGUMENT, INTERFACE_FIELD)
             self.put_own(0, XOR_REGISTER, 0, 0)
             self.put_own(0, AND_CONSTANT, 0, 0, 0, 1)
@@ -277,15 +289,15 @@ class Emitter:
 
     def write_instruction(self, here, insn):
         slot = here.slot
-        if slot in self.blurred:
+        if slot in self.marks.blurred:
             (zero,), give_back = self.borrow(1, slot, self.copies.live[slot])
             self.load(zero, ZERO_SLOT, slot)
-            self.put_own(slot, ADD_REGISTER, self.blurred[slot], zero)
+            self.put_own(slot, ADD_REGISTER, self.marks.blurred[slot], zero)
             give_back()
         for atom in sorted(self.saved.get(here, []), key=lambda atom: atom.place):
             self.save(atom, atom.place, slot)
-        if here.key in self.guards or here.slot in self.guards:
-            self.guard(here)
+        if self.write_otherwise(here, insn):
+            return None
         if insn.is_branch:
             if len(here.ways) == 1:
                 return None
@@ -303,13 +315,32 @@ class Emitter:
                 insn.map,
             )
             self.put(Instruction(*fields), Kind.COPY, slot, here)
+            if slot in self.known:
+                self.save(("counted", self.known[slot]), insn.destination, slot + 1)
         return None
+
+    def write_otherwise(self, here, insn):
+        """Whether the result has something else in the place of this instruction; it is written then."""
+        slot, marks = here.slot, self.marks
+        check_store(self, here, insn)
+        if here.key in marks.rebased:
+            write_rebased(self, here, insn)
+        elif slot in marks.narrow:
+            write_narrow_load(self, here, insn)
+        elif here.key in marks.guards or slot in marks.guards:
+            self.guard(here)
+            return False
+        elif slot in marks.differences:
+            write_difference(self, here, insn)
+        else:
+            return insn.is_load and loads_constant(self, here, insn) or takes_address(self, here, insn)
+        return True
 
     def goes_to_accesses(self, here, insn):
         """Whether it adds a constant to a map's value: the accesses have it in their offsets instead."""
         if not insn.is_arithmetic or insn.operation not in (ADD, SUB):
             return False
-        if not is_address(here.constants.after(insn).registers.get(insn.destination), VALUE):
+        if not is_address(self.copies.constants_after(here).registers.get(insn.destination), VALUE):
             return False
         if not is_address(here.constants.registers.get(insn.destination), VALUE):
             raise Fail("the address of a map's value is added to a number: add the number to the address", here.slot)
@@ -346,7 +377,7 @@ class Emitter:
             total += instruction.slots
         starts.append(total)
         if total > MOST_SLOTS:
-            raise Fail(f"it would have {total} slots, of which a program has at most {MOST_SLOTS}")
+            raise Fail(f"it would have {total} slots, of which a program has at most {MOST_SLOTS}", None, SIZE)
         number = {id(instruction): at for at, instruction in enumerate(self.out)}
         offsets = {id(jump): starts[self.places[target]] - starts[number[id(jump)]] - 1 for jump, target in self.jumps}
         words = [word for instruction in self.out for word in instruction.words(offsets.get(id(instruction)))]

@@ -1,17 +1,44 @@
 """A program as a graph of slots: what follows what, what is live, and what lies in loops."""
-from .instructions import ALU64, AND, CALL, EXIT, FRAME_POINTER, JUMP, STX, reads, writes
+from typing import NamedTuple
+
+from .instructions import (
+    ALU64,
+    AND,
+    CALL,
+    EXIT,
+    FRAME_POINTER,
+    JUMP,
+    LSH,
+    MOVE_CONSTANT,
+    STX,
+    reads,
+    writes,
+)
+
+SIZE, MOST_SHIFT, LSH_CONSTANT = "size", 16, ALU64 | LSH
 
 
 class Fail(Exception):
-    """Why a program can't be straightened, in words for its author. `slot`: where, in the program as it was."""
+    """Why a program can't be straightened, in words for its author. `slot`: where, in the program as it was. `cause`:
+    of the verifier's, or SIZE, which says what to write instead."""
 
-    def __init__(self, words, slot=None):
+    def __init__(self, words, slot=None, cause=None):
         super().__init__(words)
-        self.slot = slot
+        self.slot, self.cause = slot, cause
 
 
 class NoBound(Fail):
     """A loop of which no constant says how often it runs."""
+
+    def __init__(self, words, slot):
+        super().__init__(words, slot, "V5")
+
+
+class TooMany(Fail):
+    """More copies than anybody wants."""
+
+    def __init__(self, words, slot):
+        super().__init__(words, slot, "V5")
 
 
 def successors(code, slot):
@@ -117,31 +144,63 @@ def steering_registers(code):
     return backwards(code, step)
 
 
-def masks_that_steer(code, slot):
-    """The masks by a constant, outside of the loop that a slot lies in, on which it depends how often the loop runs:
-    the slots of their instructions, the last one first."""
-    inside = loop_of(code, slot)
-    leaving = [at for at in inside if any(after not in inside for after in successors(code, at))]
-    before, seen, found = predecessors(code), set(), set()
-    todo = [(at, register) for leave in leaving for register in reads(code[leave]) for at in before[leave]]
-    while todo:
-        at, register = todo.pop()
-        if (at, register) in seen:
+class Steering(NamedTuple):
+    """What decides how often a loop runs: a jump that leaves it, where it leads inside, and the instructions of which
+    the compared numbers are made, from the last mask by a constant outside of the loop on."""
+
+    jump: int
+    inside: int
+    masks: list
+    sources: set
+
+    def is_by_data(self, code, loop):
+        """Whether something is loaded in the loop that steers it."""
+        return any(code[slot].is_load for slot in self.sources & loop)
+
+    def cursors(self, code, loop):
+        """The registers that are counted in the loop."""
+        return {code[slot].destination for slot in self.sources & loop if code[slot].is_arithmetic}
+
+    def first(self, code, loop):
+        """The greatest constant with which the compared numbers begin."""
+        moved = [code[slot] for slot in self.sources - loop]
+        return max([0, *(insn.immediate for insn in moved if insn.opcode == MOVE_CONSTANT)])
+
+
+    def most(self, code, loop, mask):
+        """The greatest number that a mask leaves, behind the shifts that follow."""
+        behind = [code[slot] for slot in self.sources - loop if slot > mask]
+        shift = sum(insn.immediate for insn in behind if insn.opcode == LSH_CONSTANT)
+        return code[mask].immediate << min(shift, MOST_SHIFT)
+
+
+def steering(code, loop):
+    """What steers a loop, for each jump that leaves it."""
+    before = predecessors(code)
+    for jump in sorted(loop):
+        staying = [after for after in successors(code, jump) if after in loop]
+        if len(staying) != 1 or not code[jump].is_branch:
             continue
-        seen.add((at, register))
-        instruction, wanted = code[at], {register}
-        if register in writes(instruction):
-            if (
-                instruction.kind == ALU64
-                and instruction.operation == AND
-                and not instruction.by_register
-                and at not in inside
-            ):
-                found.add(at)
+        seen, masks, sources = set(), [], set()
+        todo = [(at, register) for register in reads(code[jump]) for at in before[jump]]
+        while todo:
+            at, register = todo.pop()
+            if (at, register) in seen:
                 continue
-            wanted = reads(instruction) if instruction.is_arithmetic else set()
-        todo += [(further, more) for more in wanted for further in before[at]]
-    return sorted(found, reverse=True)
+            seen.add((at, register))
+            instruction, wanted = code[at], {register}
+            if register in writes(instruction):
+                sources.add(at)
+                if at not in loop and is_mask(instruction):
+                    masks.append(at)
+                    continue
+                wanted = reads(instruction) if instruction.is_arithmetic else set()
+            todo += [(further, more) for more in wanted for further in before[at]]
+        yield Steering(jump, staying[0], sorted(masks, reverse=True), sources)
+
+
+def is_mask(instruction):
+    return instruction.kind == ALU64 and instruction.operation == AND and not instruction.by_register
 
 
 def loop_of(code, slot):

@@ -3,7 +3,7 @@
 Names and numbers are those of RFC 9669, sections 3 to 5."""
 import struct
 from dataclasses import dataclass
-from typing import Optional
+from typing import NamedTuple, Optional
 
 MASK_64, MASK_32 = (1 << 64) - 1, (1 << 32) - 1
 FRAME_POINTER, CONTEXT_ARGUMENT, REGISTERS = 10, 1, 11
@@ -20,13 +20,31 @@ BY_REGISTER = 0x08
 # whole opcodes
 EXIT, CALL, JUMP, FAR_JUMP, WIDE_LOAD = 0x95, 0x85, 0x05, 0x06, 0x18
 LOAD_WORD, LOAD_DOUBLE, STORE_DOUBLE, STORE_DOUBLE_CONSTANT, ATOMIC_DOUBLE = 0x61, 0x79, 0x7B, 0x7A, 0xDB
-FETCH = 0x01
+FETCH, MEMSX = 0x01, 4  # of an atomic operation; the mode of a load with sign
 MOVE_REGISTER, MOVE_CONSTANT = ALU64 | MOV | BY_REGISTER, ALU64 | MOV
-ADD_REGISTER, ADD_CONSTANT = ALU64 | ADD | BY_REGISTER, ALU64 | ADD
+ADD_REGISTER, ADD_CONSTANT, SUB_REGISTER = ALU64 | ADD | BY_REGISTER, ALU64 | ADD, ALU64 | SUB | BY_REGISTER
 XOR_REGISTER, AND_CONSTANT = ALU64 | XOR | BY_REGISTER, ALU64 | AND
 IF_EQUAL_CONSTANT, IF_ABOVE_CONSTANT, IF_ABOVE_REGISTER = JMP | JEQ, JMP | JGT, JMP | JGT | BY_REGISTER
 
 ACCESS_SIZES = {0x00: 4, 0x08: 2, 0x10: 1, 0x18: 8}
+
+
+class Table(NamedTuple):
+    """Constants in memory: a section, and the part of it that one variable has."""
+
+    name: str
+    section: str
+    data: bytes
+    first: int
+    end: int
+
+    def number(self, place, load):
+        """What a load gives from a place of the section; None outside of it."""
+        raw = self.data[place : place + load.size] if place >= 0 else b""
+        number = int.from_bytes(raw, "little")
+        if len(raw) < load.size:
+            return None
+        return signed(number, 8 * load.size) & MASK_64 if load.with_sign else number
 
 
 @dataclass(eq=False)
@@ -40,6 +58,8 @@ class Instruction:
     immediate: int = 0
     upper: Optional[int] = None  # the second slot's constant, of a wide load
     map: Optional[str] = None  # the map that its relocation names
+    table: Optional[Table] = None  # of a wide load of the address of constants; where in the section is the immediate
+    counter: Optional[str] = None  # of one of a global's address: the map that the global is here
 
     @property
     def kind(self):
@@ -80,6 +100,11 @@ class Instruction:
     def fetches(self):
         """Whether it is an atomic operation that loads what was there."""
         return self.opcode == ATOMIC_DOUBLE and bool(self.immediate & FETCH)
+
+    @property
+    def with_sign(self):
+        """Whether it is a load that extends a sign."""
+        return self.opcode >> 5 == MEMSX
 
     @property
     def size(self):

@@ -9,29 +9,50 @@ first program is that of the copies alone. Then, one mark per refusal:
                      from the distance where it was compared with the packet's end (`restarts`)
                      Where more ways meet than the verifier keeps apart, since an added number is a constant on some: it
                      is hidden that it is (`blurred`)
-  V10                what the access reaches is compared with the packet's end anew (`guards`)
-  a loop             that nothing bounds but a masked number: a copy for each number (`cases`)
-  V14 at a store     a load, an addition and a store become one atomic addition (`counts`)
+  V10                what the access reaches is compared with the packet's end anew (`guards`); where it still lies in
+                     front of what was compared, its address is made anew first (`rebased`)
+  a loop             that nothing bounds but a masked number: a copy for each number (`cases`), or for each step up to
+  it
+                     (`trips`)
+  V14 at a load      the whole counter is loaded, and the part cut out (`narrow`)
+  V14 at a store     a load, an addition and a store become one atomic addition (`counts`); else the difference from
+                     what was loaded is added, where the load stays (`differences`)
 
-No mark is taken back, so the search ends. It is made in up to six ways: as few numbers told apart as loops need, all in
-loops, or all; a meeting marked as one copy or at all copies of its slot."""
+No mark is taken back, so the search ends. It is made in several ways (`WAYS`): as few numbers told apart as loops
+need, all in loops, or all; a meeting marked as one copy or at all copies of its slot, or none, and each access
+rebased."""
 from dataclasses import dataclass, field
 
 from .addresses import ADDED, KEPT, MET, Addresses, PacketAddress, StackSlot
-from .copies import EVERYWHERE, IN_LOOPS, STEERING, Cases, Copies, Wide
-from .counts import fused
+from .copies import EVERYWHERE, IN_LOOPS, STEERING, Cases, Copies, Trips, Wide
+from .counts import difference, fused
 from .emit import Emitter, Kind, Needs
-from .graph import Fail, NoBound, masks_that_steer
-from .instructions import ALU64, AND, LSH, MASK_32, RSH, compute, writes
+from .graph import SIZE, Fail, NoBound, TooMany, loop_of, steering
+from .instructions import ALU64, AND, JMP, JMP32, LSH, MASK_32, RSH, compute, writes
 from .settings import instructions_of, text_of
 from .verifier import verdict
 
+MOST_STEPS = 64  # of a cursor, from its first number to the most that a mask allows
 MOST_TURNS, MOST_CASES, MOST_CASE_BITS = 200, 64, 6
 MOST_ALIKE = 3  # marks at copies of one slot, from which on all its copies are marked
 MOST_JUDGED = 60000  # slots, in all programs of one search
 MOST_POSITIVE = MASK_32  # a number up to here is none that is negative in 64 bits
 # causes that no other program with the same runs would avoid: of decoding and of structure, but for the loop
 OF_THE_BYTES = {"V0", "V1", "V2", "V3", "V4", "V6", "V16", "V19"}
+
+
+BY_COPY, BY_SLOT, BY_ACCESS = "by copy", "by slot", "by access"
+# the searches, in groups of which the smaller result comes first
+WAYS = [
+    (STEERING, (BY_COPY, BY_SLOT)),
+    (STEERING, (BY_ACCESS,)),
+    (IN_LOOPS, (BY_COPY, BY_SLOT)),
+    (EVERYWHERE, (BY_COPY, BY_SLOT)),
+]
+
+
+class StillRefused(Fail):
+    """The verifier's answer to a program that nothing more was changed in."""
 
 
 @dataclass
@@ -45,31 +66,36 @@ class Marks:
     blurred: dict = field(default_factory=dict)  # by slot
     values: bool = False
     counts: list = field(default_factory=list)  # slots of stores
+    differences: dict = field(default_factory=dict)  # by the slot of a store
+    trips: dict = field(default_factory=dict)  # of slots in loops, how often a way comes by
+    narrow: set = field(default_factory=set)  # slots of loads
+    rebased: set = field(default_factory=set)  # keys of copies, or slots
 
 
 @dataclass
 class Result:
-    """A program that the verifier accepts. `labels`: of its slots. `counts`, `guards`: slots of the original."""
+    """A program that the verifier accepts. `labels`: of its slots. `counts`, `differences`: slots of the original."""
 
     words: list
     relocations: list
     labels: dict
     counts: list
-    guards: list
-    tests: list
+    differences: dict
 
 
 class Search:
-    """One search. `numbers`: which are told apart; `by_slot`: a meeting is marked at all copies of its slot."""
+    """One search. `numbers`: which are told apart; `way`: what is marked first where an address was lost: a meeting
+    as one copy (BY_COPY) or at all copies of its slot (BY_SLOT), or the access, to be rebased (BY_ACCESS)."""
 
-    def __init__(self, settings, xdpbox, numbers, by_slot):
-        self.settings, self.xdpbox, self.numbers, self.by_slot = settings, xdpbox, numbers, by_slot
-        self.code, self.marks = instructions_of(settings), Marks()
+    def __init__(self, settings, xdpbox, numbers, way):
+        self.settings, self.xdpbox, self.numbers, self.way = settings, xdpbox, numbers, way
+        self.code = instructions_of(settings)
+        self.marks = Marks(values=any(insn.counter is not None for insn in self.code.values()))
         self.copies = self.addresses = self.labels = None
 
     def mark(self, here, place):
         """How a meeting is marked. All its registers are: one of them is often made from another."""
-        return (here.slot if self.by_slot else here.key, place if isinstance(place, StackSlot) else None)
+        return (here.slot if self.way == BY_SLOT else here.key, place if isinstance(place, StackSlot) else None)
 
     def is_marked(self, here, place):
         kept = place if isinstance(place, StackSlot) else None
@@ -115,30 +141,28 @@ class Search:
                 raise Fail(answer.words.strip() or "xdpbox gave no answer")
             if not self.learn(answer):
                 label = self.labels.get(answer.slot)
-                raise Fail(f"straightened, it is refused with {answer.cause}", label.slot if label else None)
-        raise Fail("it isn't accepted after many changes")
+                words = f"straightened, it is refused with {answer.cause}"
+                raise StillRefused(words, label.slot if label else None, answer.cause)
+        raise Fail("it isn't accepted after many changes", None, SIZE)
 
     def emitted(self):
         """The program with the marks as they are; None where a further meeting had to be marked."""
         marks = self.marks
         try:
-            self.copies = Copies(self.code, self.numbers, marks.wide, marks.cases, marks.values)
-        except NoBound as loop:
-            if not self.tell_trips_apart(loop.slot):
+            self.copies = Copies(self.code, self.numbers, marks)
+        except (NoBound, TooMany) as loop:
+            if not self.tell_trips_apart(loop.slot, isinstance(loop, NoBound)):
                 raise
             return None
         self.addresses = Addresses(self.copies, self.is_marked, self.is_restarted)
         try:
-            return Emitter(self.copies, self.addresses, marks.guards, marks.limited, marks.blurred).program()
+            return Emitter(self.copies, self.addresses, marks).program()
         except Needs as needs:
             self.mark_meetings(needs.meetings)
             return None
 
     def result(self, words, relocations):
-        marks = self.marks
-        guards = sorted({key if isinstance(key, int) else key[0] for key in marks.guards})
-        tests = sorted({key[0] for key in marks.limited} | set(marks.wide))
-        return Result(words, relocations, self.labels, sorted(marks.counts), guards, tests)
+        return Result(words, relocations, self.labels, sorted(self.marks.counts), self.marks.differences)
 
     # --- what a refusal asks for; each answers whether there is a new mark
 
@@ -148,27 +172,49 @@ class Search:
             return False
         instruction = self.code[label.slot]
         if answer.cause == "V14":
-            return self.fuse(label.slot)
+            return self.narrow(label.slot) if instruction.is_load else self.fuse(label.slot)
         if not (instruction.is_load or instruction.is_store):
             return False
+        if answer.cause == "V10" and self.way == BY_ACCESS:
+            return self.rebase(label.copy, instruction.base)
         if answer.cause == "V10":
-            return self.mark_guard(label.copy)
+            return self.mark_guard(label.copy) or self.rebase(label.copy, instruction.base)
         if answer.cause != "V9":
             return False
         address = self.addresses.before[label.copy].get(instruction.base)
         if not isinstance(address, PacketAddress):
             return self.tell_apart(answer)
+        if self.way == BY_ACCESS:
+            return self.rebase(label.copy, instruction.base)
         meetings = [(atom.copy, atom.place) for atom in address.atoms if atom.name == MET]
         if self.mark_meetings(meetings) or answer.too_many_notes and self.blur(address):
             return True
-        return self.widen(answer, address) or self.limit(address) or self.restart(label.copy, instruction.base)
+        if self.widen(answer, address) or self.limit(address) or self.restart(label.copy, instruction.base):
+            return True
+        return self.rebase(label.copy, instruction.base)
+
+    def narrow(self, slot):
+        """A load of a part of a counter."""
+        fresh = slot not in self.marks.narrow and self.code[slot].size < 8
+        self.marks.narrow |= {slot} if fresh else set()
+        return fresh
 
     def fuse(self, slot):
         mended = fused(self.code, slot)
         if mended is None:
-            return False
+            found = difference(self.code, slot)
+            fresh = found is not None and slot not in self.marks.differences
+            self.marks.differences.update({slot: found} if fresh else {})
+            return fresh
         self.code = mended
         self.marks.counts.append(slot)
+        return True
+
+    def rebase(self, here, register):
+        """An access in front of what was compared: its address is made anew from its own distance, and compared."""
+        if not isinstance(self.addresses.before[here].get(register), PacketAddress) or here.key in self.marks.rebased:
+            return False
+        self.marks.rebased.add(here.key)
         return True
 
     def blur(self, address):
@@ -239,24 +285,33 @@ class Search:
         self.marks.cases[label.slot] = Cases(lost.register, tuple(numbers))
         return True
 
-    def tell_trips_apart(self, slot):
-        """A loop that runs as often as a masked number says, as over the words of a header: a copy for each number."""
-        for mask in masks_that_steer(self.code, slot):
-            numbers = parts_of(self.code[mask].immediate)
-            if numbers and mask + 1 not in self.marks.cases:
-                self.marks.cases[mask + 1] = Cases(self.code[mask].destination, tuple(numbers))
-                return True
+    def tell_trips_apart(self, slot, by_number):
+        """A loop that runs as often as a masked number says, as over the words of a header: a copy for each number.
+        Where its cursor grows by what is loaded, as over options: as many copies as the cursor has steps of one.
+        `by_number`: whether the former may help."""
+        loop = loop_of(self.code, slot)
+        for row in steering(self.code, loop):
+            for mask in row.masks:
+                numbers = parts_of(self.code[mask].immediate)
+                steps = row.most(self.code, loop, mask) - row.first(self.code, loop)
+                if row.is_by_data(self.code, loop):
+                    if 0 < steps <= MOST_STEPS and row.inside not in self.marks.trips:
+                        self.marks.trips[row.inside] = Trips(steps, row.cursors(self.code, loop))
+                        return True
+                elif by_number and numbers and mask + 1 not in self.marks.cases:
+                    self.marks.cases[mask + 1] = Cases(self.code[mask].destination, tuple(numbers))
+                    return True
         return False
 
 
 def masked(code, slot, register):
     """What a number can be that was masked by a constant, and maybe shifted, just before a slot; else nothing."""
     behind = []
-    while slot - 1 in code:
-        slot -= 1
+    while slot - 1 in code or slot - 2 in code:  # the latter in front of a wide load's second half
+        slot -= 1 if slot - 1 in code else 2
         instruction = code[slot]
         if register not in writes(instruction):
-            if not (instruction.is_arithmetic or instruction.is_load):
+            if instruction.kind in (JMP, JMP32):
                 return ()
         elif instruction.kind != ALU64 or instruction.by_register or instruction.operation not in (AND, LSH, RSH):
             return ()
@@ -284,14 +339,17 @@ def after_shifts(number, shifts):
     return number
 
 
-def searches(settings, xdpbox, faults):
+def searches(settings, xdpbox, faults, unguarded):
     """What the searches find, the smaller of two programs first. The next two begin only where nobody took one of
-    these. Why a search found none is added to the faults."""
-    for numbers in (STEERING, IN_LOOPS, EVERYWHERE):
+    these. Why a search found none is added to the faults. Where some results of the first ones want a guard that nobody
+    asked for (`unguarded`), others do too, but for those that tell all numbers apart."""
+    for numbers, ways in WAYS:
         found = []
-        for by_slot in (False, True):
+        if unguarded and numbers == IN_LOOPS:
+            continue
+        for way in ways:
             try:
-                found.append(Search(settings, xdpbox, numbers, by_slot).run())
+                found.append(Search(settings, xdpbox, numbers, way).run())
             except Fail as fail:
                 faults.append(fail)
         yield from sorted(found, key=lambda result: len(result.words))

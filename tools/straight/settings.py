@@ -1,7 +1,7 @@
 """Settings: the program that they hold, and settings with another program. docs/SETTINGS.md has the format."""
 import struct
 
-from .instructions import FAR_JUMP, JUMP, WIDE_LOAD, Instruction
+from .instructions import FAR_JUMP, JUMP, WIDE_LOAD, Instruction, Table
 
 
 def instructions_of(settings):
@@ -9,6 +9,7 @@ def instructions_of(settings):
     data = bytes.fromhex("".join(settings["program"]))
     maps = {row["slot"]: row["map"] for row in settings.get("reloc", [])}
     code, slot = {}, 0
+    places = {row["slot"]: row for row in [*settings.get("tables", []), *settings.get("globals", [])]}
     while 8 * slot + 8 <= len(data):
         opcode, registers, offset, immediate = struct.unpack_from("<BBhi", data, 8 * slot)
         if opcode == FAR_JUMP:  # the near one, for all that is asked here
@@ -18,8 +19,20 @@ def instructions_of(settings):
             (upper,) = struct.unpack_from("<i", data, 8 * slot + 12)
         fields = registers & 15, registers >> 4, offset, immediate, upper, maps.get(slot)
         code[slot] = Instruction(opcode, *fields)
+        if slot in places:
+            name_memory(code[slot], places[slot], settings)
         slot += code[slot].slots
     return code
+
+
+def name_memory(instruction, row, settings):
+    """Names the constants or the global of which an instruction has the address."""
+    instruction.immediate = row["place"]
+    if "section" in row:
+        data = settings["constants"][row["section"]]
+        instruction.table = Table(row["name"], row["section"], data, row["first"], row["end"])
+    else:
+        instruction.counter = row["map"]
 
 
 def relocations_of(settings):

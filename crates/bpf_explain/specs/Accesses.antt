@@ -1,3 +1,4 @@
+-- Stated: claims rest on this file.
 -- Through which register an instruction reaches memory.
 use Rattle.std.specs.Prelude.{ℕ, pos, Option, None, Some, option_map}
 use Rattle.bpf_insn.specs.Size.{size_bytes}

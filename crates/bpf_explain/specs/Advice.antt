@@ -1,3 +1,4 @@
+-- Stated: claims rest on this file.
 -- What to write instead of what a cause refuses.
 use Rattle.std.specs.Prelude.{ℕ, List, ◌++◌, codes, Option, None, Some}
 use Rattle.bpf_insn.specs.declared.insn.Insn.{Insn}

@@ -1,3 +1,4 @@
+-- Stated: claims rest on this file.
 -- What is printed of a refused program.
 use Rattle.std.specs.Prelude.{ℕ, List, [], ◌++◌, codes, Option, None, Some, Bool, true, false, slice_get, if◌then◌else◌}
 use Rattle.std.specs.Fmt.{decimal}

@@ -1,3 +1,4 @@
+-- Stated: claims rest on this file.
 -- The slot of bytes that spell no program (RFC 9669 section 3).
 use Rattle.std.specs.Prelude.{ℕ, ◌+◌, ◌*◌, List, [], ◌++◌, codes, length, nat_le, take, drop, Bool, true, false, ◌&&◌, if◌then◌else◌}
 use Rattle.hex.specs.Hex.{encode_lower}

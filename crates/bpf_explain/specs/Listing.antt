@@ -1,3 +1,4 @@
+-- Stated: claims rest on this file.
 -- The listing of a program, in the notation of the Linux kernel's disassembler.
 use Rattle.std.specs.Prelude.{ℕ, ◌+◌, List, [], ◌∷◌, ◌++◌, codes, Option, None, Some, Bool, true, false, ◌==◌, nat_lt, if◌then◌else◌}
 use Rattle.std.specs.Fmt.{decimal}

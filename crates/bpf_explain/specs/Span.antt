@@ -1,3 +1,4 @@
+-- Stated: claims rest on this file.
 -- Numbers that decide a refusal: which bytes of the packet an access reaches, how many counters a value has, and where a jump goes.
 use Rattle.std.specs.Prelude.{ℕ, ◌+◌, ℤ, pos, ◌+ℤ◌, List, [], ◌++◌, codes, Option, None, Some, slice_get}
 use Rattle.std.specs.Fmt.{decimal, signed_decimal}

@@ -1,3 +1,4 @@
+-- Stated: claims rest on this file.
 -- The text of the stack's slots that an access touches.
 use Rattle.std.specs.Prelude.{ℕ, zero, suc, ◌+◌, ◌-◌, ◌*◌, ◌/◌, ℤ, pos, ◌+ℤ◌, Bool, List, [], ◌++◌, codes, Option, None, Some, ◌==◌}
 use Rattle.std.specs.Prelude.{if◌then◌else◌}

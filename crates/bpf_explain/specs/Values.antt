@@ -1,3 +1,4 @@
+-- Stated: claims rest on this file.
 -- The text of what is known of a register, near to the notation of the Linux kernel's verifier log.
 use Rattle.std.specs.Prelude.{ℕ, List, [], ◌∷◌, ◌++◌, codes, Option, None, Some, ◌==◌, ◌&&◌, if◌then◌else◌, slice_get}
 use Rattle.std.specs.Fmt.{decimal, signed_decimal}

@@ -1,3 +1,4 @@
+-- Stated: claims rest on this file.
 -- What arithmetic makes of values. Of several rules the first that fits is taken.
 use Rattle.std.specs.Prelude.{ℕ, ◌+◌, ◌-◌, ◌*◌, ◌/◌, ◌%◌, ◌^◌, min, ℤ, pos, negsuc, ◌+ℤ◌, ◌-ℤ◌, Option, None, Some, Bool, true}
 use Rattle.std.specs.Prelude.{false, ◌&&◌, if◌then◌else◌, ◌==◌, nat_le, nat_lt, int_le}

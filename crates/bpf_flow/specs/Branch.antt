@@ -1,3 +1,4 @@
+-- Stated: claims rest on this file.
 -- What the edges of a conditional jump teach (JMP alone, and its unsigned conditions).
 use Rattle.std.specs.Prelude.{ℕ, ◌+◌, ◌-◌, min, max, pos, Option, None, Some, Bool, true, false, if◌then◌else◌, ◌==◌, nat_le}
 use Rattle.bpf_insn.specs.declared.condition.Condition.{Condition}

@@ -1,3 +1,4 @@
+-- Stated: claims rest on this file.
 -- What a call of a helper asks, and what is known after it.
 use Rattle.std.specs.Prelude.{ℕ, ◌+◌, ℤ, pos, negsuc, ◌+ℤ◌, Option, None, Some, Bool, false, not, if◌then◌else◌, ◌==◌, nat_le, Err}
 use Rattle.bpf_insn.specs.declared.refusal.Cause.TheVariants as cause

@@ -1,3 +1,4 @@
+-- Stated: claims rest on this file.
 -- The causes that the rule for one instruction may answer.
 use Rattle.bpf_insn.specs.declared.refusal.Cause.{Cause}
 use Rattle.bpf_insn.specs.declared.refusal.Cause.TheVariants.{Unset, FramePointer, NoPointer, Packet, Stack, Context, MayBeNull}

@@ -1,3 +1,4 @@
+-- Stated: claims rest on this file.
 -- What the verifier's rule answers for an instruction: where it leads, with what is known there, or why it is refused.
 use Rattle.std.specs.Prelude.{ℕ, ◌+◌, List, [], ◌∷◌, Bool, if◌then◌else◌, Result, Ok, Err}
 use Rattle.bpf_insn.specs.declared.refusal.Cause.{Cause}

@@ -1,3 +1,4 @@
+-- Stated: claims rest on this file.
 -- What an instruction does that the rule allows, as edges.
 use Rattle.std.specs.Prelude.{ℕ, ◌+◌, ◌≡◌, ◌≤◌, [], ◌∷◌, Result, Ok, Err}
 use Rattle.bpf_insn.specs.Register.{number}

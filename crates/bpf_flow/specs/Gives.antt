@@ -1,3 +1,4 @@
+-- Stated: claims rest on this file.
 -- What the code answers, seen as the rule's answer.
 use Rattle.std.specs.Prelude.{ℕ, ◌+◌, ◌≡◌, ◌≤◌, [], ◌∷◌, Result, Ok, Err}
 use Rattle.bpf_insn.specs.declared.refusal.Cause.{Cause}

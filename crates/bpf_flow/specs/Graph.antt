@@ -1,3 +1,4 @@
+-- Stated: claims rest on this file.
 -- The flow graph of a program, and which registers its instructions read and write (RFC 9669, sections 4 and 5).
 use Rattle.std.specs.Prelude.{ℕ, ◌+◌, ◌≡◌, ◌⊎◌, Some, Bool, false, ◌&&◌, ◌||◌, ◌==◌, nat_le}
 use Rattle.bpf_insn.specs.Register.{number}

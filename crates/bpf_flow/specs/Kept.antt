@@ -1,3 +1,4 @@
+-- Stated: claims rest on this file.
 -- What no step changes, and the counters that a step may read or add to.
 use Rattle.std.specs.Prelude.{◌≡◌, List, length, Option, None, Some}
 use Rattle.bpf_note.specs.Shape.{Shape, IsCounter}

@@ -1,3 +1,4 @@
+-- Stated: claims rest on this file.
 -- What an access through a value reaches, what a load makes of it and what a store changes.
 use Rattle.std.specs.Prelude.{ℕ, ◌+◌, ◌*◌, ◌/◌, ◌%◌, zero, suc, min, max, ℤ, pos, negsuc, ◌+ℤ◌, List, Option, None, Some, Bool}
 use Rattle.std.specs.Prelude.{true, false, ◌&&◌, ◌||◌, if◌then◌else◌, ◌==◌, nat_le, nat_lt, Result, Ok, Err, slice_get}

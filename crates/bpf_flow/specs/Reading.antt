@@ -1,3 +1,4 @@
+-- Stated: claims rest on this file.
 -- When an instruction reads a register of which nothing is known.
 use Rattle.std.specs.Prelude.{ℕ, ◌≡◌, true}
 use Rattle.bpf_insn.specs.declared.insn.Insn.{Insn}

@@ -1,3 +1,4 @@
+-- Stated: claims rest on this file.
 -- The verifier's rule for one instruction. (The rules are this verifier's own; what they speak of is RFC 9669's.)
 use Rattle.std.specs.Prelude.{ℕ, ◌+◌, ◌<◌, List, [], ◌∷◌, Option, None, Some, IsSome, Bool, true, false, ◌&&◌, ◌||◌, not, Ok, Err}
 use Rattle.bpf_insn.specs.Register.{number}

@@ -1,3 +1,4 @@
+-- Stated: claims rest on this file.
 -- When the answer for an instruction accounts for all that the instruction does.
 use Rattle.std.specs.Prelude.{ℕ, ◌^◌, ◌<◌, ◌≡◌, [], ◌∷◌, ◌⊎◌}
 use Rattle.bpf_insn.specs.declared.insn.Insn.{Insn}

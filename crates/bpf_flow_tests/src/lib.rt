@@ -1,10 +1,10 @@
-//! Tests of [`bpf_flow`] by what it makes public. They are a crate of their own so that the gate proves bpf_flow once.
+//! Tests of [`bpf_flow`] by what it makes public. They are a crate of their own so that the gate proves bpf_flow once. What the
+//! rule answers is tried by the rows of `rule_rows`.
 //!
-//! - `steps`: single steps at slot 7, for the tests
-//! - `tests`: `registers`, `arithmetic`, `memory`, `maps`, `jumps`, `bounds` of the packet, `causes` of refusals, and
-//!   `transfers` in place
+//! - `known`: values, for the tests
+//! - `tests`: `registers` that are read and written, and `transfers` in place
 #![tactic(auto)]
 
-pub mod steps;
+pub mod known;
 #[cfg(test)]
 mod tests;

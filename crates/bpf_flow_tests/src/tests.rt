@@ -1,11 +1,5 @@
-//! What an instruction does to a note, by tables of values.
+//! The note itself, changed in place, and what holds of instructions alone. What the rule answers is rows of `rule_rows`.
 
-mod arithmetic;
-mod bounds;
-mod causes;
-mod jumps;
-mod maps;
-mod memory;
 mod registers;
 mod transfers;
 

@@ -1,3 +1,4 @@
+-- Stated: claims rest on this file.
 -- The numbers of the causes, and how a refusal prints.
 use Rattle.std.specs.Prelude.{ℕ, List, ◌++◌, codes}
 use Rattle.std.specs.Fmt.{decimal}

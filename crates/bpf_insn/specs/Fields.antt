@@ -1,3 +1,4 @@
+-- Stated: claims rest on this file.
 -- The five fields of a slot and its eight bytes (RFC 9669 section 3.1: opcode, regs, offset, imm; little-endian, the destination in
 -- the low four bits of regs).
 -- Rows from LLVM guard it: `text` of crates/outside_rows.

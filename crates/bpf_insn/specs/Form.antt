@@ -1,3 +1,4 @@
+-- For proofs: no claim rests on this file.
 -- Parts of a slot.
 -- Rows from LLVM guard it: `text` of crates/outside_rows.
 use Rattle.std.specs.Prelude.{◌≡◌, ◌/◌, ◌%◌, ◌<◌, pos}

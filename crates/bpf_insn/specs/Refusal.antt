@@ -1,3 +1,4 @@
+-- Stated: claims rest on this file.
 -- Which bytes are refused, at which slot and why. The order of the causes is this project's own.
 -- Rows from LLVM guard which instructions are left out: `text` of crates/outside_rows. Rows worked by hand guard the
 -- order: crates/bpf_insn_tests/src/tests/prefixes.rt.

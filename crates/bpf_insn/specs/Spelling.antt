@@ -1,3 +1,4 @@
+-- Stated: claims rest on this file.
 -- The bytes of instructions (RFC 9669 sections 3 to 5, in this project's profile). It only writes, each form once.
 -- Rows from LLVM guard it: `text` of crates/outside_rows.
 use Rattle.std.specs.Prelude.{ℕ, ◌+◌, ◌/◌, ◌%◌, ◌^◌, ◌≡◌, ◌<◌, ◌≢◌, ℤ, pos, Bool, true, false, List, [], ◌∷◌, ◌++◌, flat_map, FitsSigned}

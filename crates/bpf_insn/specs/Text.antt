@@ -1,3 +1,4 @@
+-- Stated: claims rest on this file.
 -- The text of instructions, in the notation of the Linux kernel's disassembler.
 -- Rows from LLVM guard it: `text` of crates/outside_rows.
 use Rattle.std.specs.Prelude.{ℕ, suc, ℤ, pos, negsuc, Bool, true, false, List, [], ◌++◌, codes, if◌then◌else◌}

@@ -1,3 +1,4 @@
+-- Stated: claims rest on this file.
 -- Where the counters lie: those of a value follow one another, so do the values of a map, and the maps.
 use Rattle.std.specs.Prelude.{ℕ, zero, suc, ◌+◌, ◌*◌, List, [], ◌∷◌}
 use Rattle.bpf_note.specs.Shape.{Shape}

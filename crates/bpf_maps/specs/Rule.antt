@@ -1,3 +1,4 @@
+-- For proofs: no claim rests on this file.
 -- The rule of the counters' table. Word 0 is spare, and the counters of the maps follow in order.
 use Rattle.std.specs.Prelude.{◌≡◌, ℕ, ◌+◌, ◌<◌, ◌≤◌, ◌==◌, if◌then◌else◌, List, [], ◌∷◌, ◌++◌, All, map, sum_by, length}
 use Rattle.std.specs.Prelude.{slice_index, nat_lt}

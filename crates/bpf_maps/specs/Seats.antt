@@ -1,3 +1,4 @@
+-- Stated: claims rest on this file.
 -- What contracts see of counters and of a seat.
 use Rattle.std.specs.Prelude.{◌≡◌, ◌≢◌, ℕ, List, [], ◌∷◌, All, Contains, map, slice_index}
 use Rattle.std.specs.List.{range_with_len}

@@ -1,3 +1,4 @@
+-- For proofs: no claim rests on this file.
 -- What is done to lists of bounds.
 use Rattle.std.specs.Prelude.{ℕ, suc, ◌≡◌, List, [], ◌∷◌, ◌++◌, drop, Bool, false, Option, None, Some, max, if◌then◌else◌}
 use Rattle.std.specs.Prelude.{nat_lt, ◌==◌, ◌||◌, not, is_some}

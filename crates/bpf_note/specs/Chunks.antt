@@ -1,3 +1,4 @@
+-- For proofs: no claim rests on this file.
 -- Bounds in chunks: chunk k has those of the ids 32 k to 32 k + 31, and past the last chunk there are none. A list beside the
 -- chunks has the bounds of the ids from 4,096 on, which no slot's number is.
 use Rattle.std.specs.Prelude.{ℕ, ◌+◌, ◌*◌, ◌/◌, ◌≡◌, ◌≢◌, ◌<◌, ◌≤◌, List, [], ◌∷◌, ◌++◌, None, length, slice_index_or}

@@ -1,3 +1,4 @@
+-- Stated: claims rest on this file.
 -- When what is known is true of a state.
 use Rattle.std.specs.Prelude.{ℕ, ◌+◌, ◌*◌, ◌≡◌, ◌<◌, ◌≤◌, ◌⊎◌, ◌≤ℤ◌, ◌+ℤ◌, pos, negsuc, List, length, Option, None, Some, IsSome}
 use Rattle.std.specs.Prelude.{true, slice_get}

@@ -1,3 +1,4 @@
+-- Stated: claims rest on this file.
 -- What is known of a state, part by part. (The rules that make it are this verifier's own.)
 use Rattle.std.specs.Prelude.{ℕ, ◌/◌, Option, None, Some, Bool, true, false, ◌||◌, if◌then◌else◌, ◌==◌, pos, option_map}
 use Rattle.bpf_note.specs.declared.val.Val.{Val}

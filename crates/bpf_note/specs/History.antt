@@ -1,3 +1,4 @@
+-- Stated: claims rest on this file.
 -- Histories of operations on counters: which are legal, what they leave, and the share of each number in them (the atomic
 -- operations of RFC 9669, section 5.3, and loads of 64 bits, as many programs at once do them to the same counters).
 use Rattle.std.specs.Prelude.{◌≡◌, ℕ, ◌%◌, ◌^◌, ◌==◌, ◌&&◌, if◌then◌else◌, List, map, filter, sum_by, take, slice_get, Some}

@@ -1,3 +1,4 @@
+-- Stated: claims rest on this file.
 -- What is known where either of two notes may describe the state.
 use Rattle.std.specs.Prelude.{ℕ, min, max, Option, None, Some, Bool, true, false, ◌&&◌, if◌then◌else◌, ◌==◌, ℤ, pos, negsuc}
 use Rattle.bpf_note.specs.declared.val.Val.{Val}

@@ -1,3 +1,4 @@
+-- Stated: claims rest on this file.
 -- How a note is kept, and what it says.
 use Rattle.std.specs.Prelude.{ℕ, ◌+◌, ◌/◌, ◌%◌, ◌≡◌, ◌≢◌, ◌<◌, ◌≤◌, ◌⊎◌, List, [], ◌∷◌, Option, None, Some, Bool, true, false}
 use Rattle.std.specs.Prelude.{if◌then◌else◌, ◌==◌, slice_index_or}

@@ -1,3 +1,4 @@
+-- Stated: claims rest on this file.
 -- Array maps, as Linux's bpf.h has them (BPF_MAP_TYPE_ARRAY), whose values are rows of counters.
 use Rattle.std.specs.Prelude.{ℕ, ◌≡◌, ◌<◌, ◌≤◌, List, Option, None, Some, slice_get}
 

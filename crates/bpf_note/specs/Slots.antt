@@ -1,3 +1,4 @@
+-- For proofs: no claim rests on this file.
 -- What is done to slots of the stack.
 use Rattle.std.specs.Prelude.{ℕ, ◌≡◌, ◌<◌, List, [], ◌∷◌, Bool, true, false, ◌&&◌, map, slice_index_or}
 use Rattle.bpf_note.specs.declared.val.Val.{Val}

@@ -1,3 +1,2 @@
-mod joins;
 mod notes;
 mod shapes;

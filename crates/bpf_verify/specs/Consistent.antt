@@ -1,3 +1,4 @@
+-- Stated: claims rest on this file.
 -- When notes account for every run of a program, and when ranks bound it.
 use Rattle.std.specs.Prelude.{ℕ, ◌+◌, ◌^◌, ◌≡◌, ◌<◌, ◌≤◌, ◌⊎◌, List, [], ◌∷◌, length, Some, slice_get}
 use Rattle.bpf_insn.specs.declared.insn.Insn.{Insn}

@@ -1,3 +1,4 @@
+-- Stated: claims rest on this file.
 -- The flow graph of a program, reached or not, and the jumps that close a cycle in it.
 use Rattle.std.specs.Prelude.{ℕ, ℤ, ◌≡◌, ◌≤◌, List, Some, true, slice_get, Contains}
 use Rattle.bpf_insn.specs.declared.insn.Insn.{Insn}

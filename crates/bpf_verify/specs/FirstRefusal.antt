@@ -1,3 +1,4 @@
+-- Stated: claims rest on this file.
 -- Why a program is refused: the first cause of the first pass that has one.
 use Rattle.std.specs.Prelude.{ℕ, ◌≡◌, ◌<◌, ◌⊎◌, List, ◌∷◌, ◌++◌, length, Some, true, false, slice_get, Contains}
 use Rattle.bpf_insn.specs.declared.insn.Insn.{Insn}

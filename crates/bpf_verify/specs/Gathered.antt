@@ -1,3 +1,4 @@
+-- Stated: claims rest on this file.
 -- What the second pass knows at each slot: lists of at most eight notes, as they arrive along the edges into it.
 use Rattle.std.specs.Prelude.{ℕ, ◌≡◌, ◌<◌, List, [], ◌∷◌, ◌++◌, length, Option, None, Some, ◌==◌, ◌⊎◌, slice_get, if◌then◌else◌}
 use Rattle.std.specs.Prelude.{Contains, Ok, Err}

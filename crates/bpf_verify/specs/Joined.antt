@@ -1,3 +1,4 @@
+-- Stated: claims rest on this file.
 -- Where the ways that meet at a slot are too many for a register to stay an address.
 use Rattle.std.specs.Prelude.{ℕ, ◌≡◌, ◌<◌, List, [], ◌∷◌, ◌++◌, length, count_by, true}
 use Rattle.bpf_insn.specs.declared.insn.Insn.{Insn}

@@ -1,3 +1,4 @@
+-- Stated: claims rest on this file.
 -- Where a register was an address last.
 use Rattle.std.specs.Prelude.{ℕ, ◌≡◌, ◌<◌, ◌⊎◌, List, [], ◌∷◌, ◌++◌, Option, None, Some, Bool, true, false, slice_get, Contains, Ok}
 use Rattle.bpf_insn.specs.declared.insn.Insn.{Insn}

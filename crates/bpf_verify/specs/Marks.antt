@@ -1,3 +1,4 @@
+-- For proofs: no claim rests on this file.
 -- Marks on slots, and a search that is under way.
 use Rattle.std.specs.Prelude.{ℕ, ◌+◌, ◌≡◌, ◌≤◌, ◌⊎◌, List, length, Option, Some, Bool, true, false, not, slice_index_or, count_by, Contains}
 use Rattle.bpf_insn.specs.declared.insn.Insn.{Insn}

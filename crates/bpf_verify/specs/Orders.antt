@@ -1,3 +1,4 @@
+-- Stated: claims rest on this file.
 -- Orders of slots along a relation: each slot is the lowest whose predecessors are done.
 use Rattle.std.specs.Prelude.{ℕ, ◌≤◌, List, [], ◌∷◌, ◌++◌, Contains}
 

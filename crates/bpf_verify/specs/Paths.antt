@@ -1,3 +1,4 @@
+-- Stated: claims rest on this file.
 -- Paths of a relation between slots, and ranks.
 use Rattle.std.specs.Prelude.{ℕ, zero, suc, ◌<◌}
 

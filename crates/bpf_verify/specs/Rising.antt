@@ -1,3 +1,4 @@
+-- For proofs: no claim rests on this file.
 -- Programs in which no jump goes back.
 use Rattle.std.specs.Prelude.{ℕ, ℤ, pos, negsuc, ◌≡◌, List, Option, None, Some, Bool, true, false, slice_get}
 use Rattle.bpf_insn.specs.declared.insn.Insn.{Insn}

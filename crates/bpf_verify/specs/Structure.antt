@@ -1,3 +1,4 @@
+-- Stated: claims rest on this file.
 -- The structure of a program: where its jumps land, what follows its instructions, which maps it names.
 use Rattle.std.specs.Prelude.{ℕ, ℤ, List, length, Option, None, Some, Bool, true, false, not, is_none, if◌then◌else◌, nat_lt}
 use Rattle.std.specs.Prelude.{nat_le, slice_get}

@@ -1,3 +1,4 @@
+-- For proofs: no claim rests on this file.
 -- The second pass's table of notes, slot by slot, as what the notes say.
 use Rattle.std.specs.Prelude.{ℕ, ◌<◌, List, [], ◌∷◌, map, slice_index_or}
 use Rattle.bpf_insn.specs.declared.refusal.Cause.{Cause}

@@ -1,3 +1,4 @@
+-- Stated: claims rest on this file.
 -- Paths in the flow graph from the first slot.
 use Rattle.std.specs.Prelude.{ℕ, ◌≡◌, List, None, Some, true, false, slice_get}
 use Rattle.bpf_insn.specs.declared.insn.Insn.{Insn}

@@ -1,3 +1,4 @@
+-- For proofs: no claim rests on this file.
 -- How many edges lead to a slot from slots that aren't taken.
 use Rattle.std.specs.Prelude.{ℕ, zero, suc, ◌+◌, ◌≡◌, ◌<◌, ◌⊎◌, List, length, Option, None, Some, Bool, true, if◌then◌else◌, ◌==◌}
 use Rattle.std.specs.Prelude.{slice_index, Contains, count_by}

@@ -1,3 +1,4 @@
+-- For proofs: no claim rests on this file.
 -- The two edges that an instruction may have, as the search of the flow graph finds them.
 use Rattle.std.specs.Prelude.{ℕ, ℤ, List, Option, None, Some, if◌then◌else◌, slice_get}
 use Rattle.bpf_insn.specs.declared.insn.Insn.{Insn}

@@ -1,3 +1,4 @@
+-- Stated: claims rest on this file.
 -- What becomes of a packet: the actions of XDP (Linux's uapi/linux/bpf.h, enum xdp_action).
 use Rattle.std.specs.Prelude.{ℕ, List, codes, ◌==◌, if◌then◌else◌}
 use Rattle.bpf_vm.specs.declared.action.Action.{Action}

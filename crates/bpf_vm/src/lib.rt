@@ -30,7 +30,7 @@ pub use action::{Action, XDP_DROP, XDP_PASS, XDP_TX};
 pub use buffer::Buffer;
 pub use ended::Ended;
 pub use fill::Fill;
-pub use laws::accepted_programs_end;
+pub use laws::{accepted_programs_end, verified_programs_end};
 pub use packet::{PacketBuf, PacketFault, STACK_SIZE};
 pub use run::run_to_end;
 pub use vm::Vm;

@@ -51,7 +51,8 @@ use Rattle.honest_pair.specs.Held.{memory_in}
 use Rattle.honest_pair.specs.declared.calling.Calling.{Calling}
 use Rattle.honest_pair.specs.declared.calling.Calling.TheVariants as calling
 use Rattle.honest_pair.specs.declared.pair.Pair.{Pair as Held}
-use Rattle.honest_pair.specs.Shows.{AllKept, BackShows, Does, FrontShows, IsHalfGoing, bytes_in, deliveries_of, doing_at, is_idle, queue_in, waits_of}
+use Rattle.honest_pair.specs.Deeds.{AllKept, bytes_in, deliveries_of, waits_of}
+use Rattle.honest_pair.specs.Shows.{BackShows, Does, FrontShows, IsHalfGoing, doing_at, is_idle, queue_in}
 
 -- an event whose read was answered by the memory
 pub served : (v : Want) (a : ℕ) (e : Event) (m : Memory) → Occurs v a e → Serves e (answer v m 0) → (a ≡ answer v m a) × (event_by v (answer v m a) ≡ e ∷ []) × (a < 2 ^ 64)
@@ -352,6 +353,7 @@ goes_on old new a v aw dl dn f r vw mem an i sl sh = record {
               (Stepped e ∷ [], i.stands_for wirings start cs h, (refl, tt), append-nil (all_came (listed i.event)) ∙ ap all_came t.0);
         },
         back_follows bw p p.at g.0 refl g.3,
+        tt,
       );
 }
 

@@ -21,7 +21,7 @@ use Rattle.pair_machine.specs.Traces as traces
 use Rattle.pair_machine.proofs.CopyLemmas.{has_copy}
 use Rattle.honest_pair.specs.Copies.{AreCopied, Delivers, HasCopied, IsLast, sent_back}
 use Rattle.honest_pair.specs.Copies as copies
-use Rattle.honest_pair.specs.Shows.{AllKept, deliveries_of, waits_of}
+use Rattle.honest_pair.specs.Deeds.{AllKept, deliveries_of, waits_of}
 
 -- the deeds, with the turns as they are kept
 abbrev pub world_deeds : List Deed → List Kept → List WorldDeed

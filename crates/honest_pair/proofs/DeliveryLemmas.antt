@@ -46,7 +46,8 @@ use Rattle.honest_pair.specs.Held.{memory_in}
 use Rattle.honest_pair.specs.declared.calling.Calling.{Calling}
 use Rattle.honest_pair.specs.declared.calling.Calling.TheVariants as calling
 use Rattle.honest_pair.specs.declared.pair.Pair.{Pair as Held}
-use Rattle.honest_pair.specs.Shows.{AllKept, BackShows, Does, FrontShows, Shows, bytes_in, calls_while, deliveries_of, doing_at, is_none, queue_in, waits_of}
+use Rattle.honest_pair.specs.Deeds.{AllKept, bytes_in, deliveries_of, waits_of}
+use Rattle.honest_pair.specs.Shows.{BackShows, Does, FrontShows, Shows, calls_while, doing_at, is_none, queue_in}
 use Rattle.honest_pair.proofs.BackLemmas.{half_going, one_queue, ready_rest, served, world_doing}
 
 same_number : (a b : ℕ) → a ≡ b → (a == b) ≡ true
@@ -222,6 +223,7 @@ carries_on old new a v dl aw f r vw mem an i dn sh = record {
               (Stepped e ∷ [], i.stands_for wirings start cs h, (refl, tt), append-nil (all_came (listed i.event)) ∙ ap all_came g.2);
         },
         back_follows bw p p.at g.0 refl g.5,
+        tt,
       );
 }
   where
@@ -304,6 +306,7 @@ module _ (old new : Held) (packet : List ℕ) (all : All IsByte packet) (aw : ne
           subst (Shows bw fw new) (sym z.0) after_it,
           record { shapes = sh; stands = λ wirings start cs h. (Delivers 0 packet ∷ [], i.stands_for wirings start cs h, (refl, tt), sym z.1) },
           deliver_follows bw p packet p.at refl,
+          tt,
         );
   }
 
@@ -339,6 +342,7 @@ module _ (old new : Held) (packet : List ℕ) (all : All IsByte packet) (aw : ne
           subst (Shows bw fw new) (sym z.0) after_it,
           record { shapes = sh; stands = λ wirings start cs h. ([], subst (StandsFor new.world wirings start) (sym (append-nil cs)) (same_stands old.world new.world wirings start cs i h), tt, sym z.1) },
           deliver_follows bw p packet p.at refl,
+          tt,
         );
   }
 

@@ -4,6 +4,7 @@ use Rattle.std.proofs.lemmas.List.{append-nil}
 use Rattle.std.specs.Prelude.{nat_lt}
 use Rattle.xen_steps.specs.Drive.{Any, Bounded, IsPageWant}
 use Rattle.xen_steps.specs.Steps.{Steps, done, ask, never, next, want_of}
+use Rattle.xen_steps.specs.Event.{Event, Occurs}
 use Rattle.xen_steps.specs.declared.want.Want.{Want}
 use Rattle.xen_steps.specs.declared.want.Want.TheVariants as want
 use Rattle.xen_back.specs.declared.wiring.Wiring.{Wiring as BackWiring}
@@ -27,13 +28,16 @@ use Rattle.xen_front.specs.declared.turn.SendRefusal.{SendRefusal}
 use Rattle.xen_front.proofs.ShortLemmas.{short_opened}
 use Rattle.xen_steps.specs.Pages.{PageWrite, write_all}
 use Rattle.pair_machine.specs.Law.{IsByte}
-use Rattle.pair_machine.specs.Memory.{after, answer}
+use Rattle.pair_machine.specs.Acts.{FrontIsAnswered}
+use Rattle.pair_machine.specs.Log.{event_by}
+use Rattle.pair_machine.specs.Memory.{Memory, after, answer}
 use Rattle.pair_machine.specs.Pair.{Activity, Free, Sending, Posting, Polling, Pair, PairEvent, FrontStep, Post, Poll, Send, begin_poll, begin_post, begin_send, on_front, on_poll, on_post, on_send, packets_of, poll_result, polling, post_result, post_tree, posting, send_result, send_tree, sending, turns_of}
 use Rattle.pair_machine.proofs.TraceLemmas.{front_follows, poll_follows, post_follows, send_follows}
 use Rattle.xdp_world.specs.Stands.{StandsFor, delivered_in, kept_in, waited_in}
 use Rattle.xdp_world.specs.declared.world.World.{World}
 use Rattle.honest_pair.specs.Held.{memory_in}
-use Rattle.honest_pair.specs.Shows.{AllKept, BackShows, Does, FrontShows, GoesOn, IsGoing, Shows, bytes_in, deliveries_of, doing_at, queue_in, waits_of}
+use Rattle.honest_pair.specs.Deeds.{AllKept, bytes_in, deliveries_of, waits_of}
+use Rattle.honest_pair.specs.Shows.{BackShows, Does, FrontShows, GoesOn, IsGoing, Shows, doing_at, queue_in}
 use Rattle.honest_pair.specs.declared.pair.Pair.{Pair as Held}
 
 -- a front that isn't busy has nothing left, and one that has is busy
@@ -198,6 +202,21 @@ poll_busy : (h : Option Halt) {u : Unit {0}} → Ok u ≡ poll_tests h true → 
 poll_busy None e = absurd (cc)
 poll_busy (Some x) e = absurd (cc)
 
+-- The event of a want that is answered.
+occurs_event : (w : Want) (a : ℕ) (e : Event) → Occurs w a e → event_by w a ≡ e ∷ []
+occurs_event (want.Read at) a e h = ap (λ x. x ∷ []) (sym h.1)
+occurs_event (want.Write at v) a e h = ap (λ x. x ∷ []) (sym h.1)
+occurs_event want.Instr a e h = ap (λ x. x ∷ []) (sym h.1)
+occurs_event (want.Load m k j) a e h = ap (λ x. x ∷ []) (sym h.1)
+occurs_event (want.Add m k j delta) a e h = ap (λ x. x ∷ []) (sym h.1)
+occurs_event (want.Notify port) a e h = ap (λ x. x ∷ []) (sym h.1)
+occurs_event want.Done a e h = absurd h
+
+answered_by : (v u : Want) (m m' : Memory) → v ≡ u → m ≡ m' → (e : Event) × Occurs v (answer v m 0) e → (e : Event) × (event_by u (answer u m' 0) ≡ e ∷ []) × Occurs u (answer u m' 0) e
+answered_by v u m m' i j o =
+    let said : Occurs u (answer u m' 0) o.0 = subst (λ x. Occurs u (answer u x 0) o.0) j (subst (λ x. Occurs x (answer x m 0) o.0) i o.1) in
+    (o.0, occurs_event u (answer u m' 0) o.0 said, said)
+
 -- a front's step comes to this pair
 abbrev Comes_to : Held → Held → BackWiring → Wiring → Pair → Pair → Type 0
 Comes_to old new bw fw p p' = Shows bw fw new p' × GoesOn old.world new.world []
@@ -224,8 +243,21 @@ module _ (old new : Held) (world : new.world ≡ old.world) (asleep : new.asleep
   rested bw fw p (Polling (ask v c)) i s f m r d h = absurd (asks_on old.front v c h.0 (sym (ap want_of h.0) ∙ d))
   rested bw fw p (Polling never) i s f m r d h = same_pair bw fw p s f m r
 
+  -- so nothing is answered
+  nothing_asked : (a : Activity) (f : State) → want_of (rest old.front) ≡ want.Done → FrontShows old.front a f → (m : Memory) → FrontIsAnswered a m 0
+  nothing_asked Free f d h m = tt
+  nothing_asked (Sending (done e)) f d h m = tt
+  nothing_asked (Sending (ask v c)) f d h m = absurd (asks_on old.front v c h.0 (sym (ap want_of h.0) ∙ d))
+  nothing_asked (Sending never) f d h m = tt
+  nothing_asked (Posting (done e)) f d h m = tt
+  nothing_asked (Posting (ask v c)) f d h m = absurd (asks_on old.front v c h.0 (sym (ap want_of h.0) ∙ d))
+  nothing_asked (Posting never) f d h m = tt
+  nothing_asked (Polling (done e)) f d h m = tt
+  nothing_asked (Polling (ask v c)) f d h m = absurd (asks_on old.front v c h.0 (sym (ap want_of h.0) ∙ d))
+  nothing_asked (Polling never) f d h m = tt
+
   pub rests_front : new.front ≡ old.front → new.memory ≡ old.memory → new.received ≡ old.received → want_of (rest old.front) ≡ want.Done → Does old new FrontStep
-  rests_front f m r d = record { bytes = tt; does = λ bw fw p s. let z = rested bw fw p p.activity refl s f m r d s.front in (0, omega arith, z.0, z.1, front_follows bw p p.activity 0) }
+  rests_front f m r d = record { bytes = tt; does = λ bw fw p s. let z = rested bw fw p p.activity refl s f m r d s.front in (0, omega arith, z.0, z.1, front_follows bw p p.activity 0, nothing_asked p.activity p.front d s.front p.memory) }
 
   by_sending : (bw : BackWiring) (fw : Wiring) (p p1 : Pair) (t : Steps Ending) → Shows bw fw old p → memory_in new.memory ≡ p1.memory → wiring_of new.front ≡ fw → p1.received ≡ p.received → p1.at ≡ p.at → p1.back ≡ p.back → p1.deeds ≡ p.deeds →
       Ended_as old new t → Comes_to old new bw fw p (sending p1 t)
@@ -294,9 +326,27 @@ module _ (old new : Held) (world : new.world ≡ old.world) (asleep : new.asleep
   moved bw fw p (Polling never) v s h e n m w t = absurd (n (e ∙ ap want_of h.0))
   moved bw fw p (Polling (ask u c)) v s h e n m w t = goes_polling bw fw p u c v s h.0 e m w t
 
-  pub goes_front : (v : Want) → v ≡ want_of (rest old.front) → v ≢ want.Done → memory_in new.memory ≡ after v (memory_in old.memory) → wiring_of new.front ≡ wiring_of old.front →
+  -- what is asked is answered by a number of its width
+  is_answered : (v : Want) (a : Activity) (f : State) (m : Memory) → v ≡ want_of (rest old.front) → FrontShows old.front a f → memory_in old.memory ≡ m → (e : Event) × Occurs v (answer v (memory_in old.memory) 0) e → FrontIsAnswered a m 0
+  is_answered v Free f m e h q o = tt
+  is_answered v (Sending (done x)) f m e h q o = tt
+  is_answered v (Sending (ask u c)) f m e h q o = answered_by v u (memory_in old.memory) m (e ∙ ap want_of h.0) q o
+  is_answered v (Sending never) f m e h q o = tt
+  is_answered v (Posting (done x)) f m e h q o = tt
+  is_answered v (Posting (ask u c)) f m e h q o = answered_by v u (memory_in old.memory) m (e ∙ ap want_of h.0) q o
+  is_answered v (Posting never) f m e h q o = tt
+  is_answered v (Polling (done x)) f m e h q o = tt
+  is_answered v (Polling (ask u c)) f m e h q o = answered_by v u (memory_in old.memory) m (e ∙ ap want_of h.0) q o
+  is_answered v (Polling never) f m e h q o = tt
+
+  pub goes_front : (v : Want) → v ≡ want_of (rest old.front) → v ≢ want.Done → (e : Event) × Occurs v (answer v (memory_in old.memory) 0) e → memory_in new.memory ≡ after v (memory_in old.memory) → wiring_of new.front ≡ wiring_of old.front →
       Ended_as old new (next (rest old.front) (answer v (memory_in old.memory) 0)) → Does old new FrontStep
-  goes_front v e n m w t = record { bytes = tt; does = λ bw fw p s. let z = moved bw fw p p.activity v s s.front e n m w t in (0, omega arith, z.0, z.1, front_follows bw p p.activity 0) }
+  goes_front v e n o m w t = record {
+    bytes = tt;
+    does = λ bw fw p s.
+        let z = moved bw fw p p.activity v s s.front e n m w t in
+        (0, omega arith, z.0, z.1, front_follows bw p p.activity 0, is_answered v p.activity p.front p.memory e s.front s.memory o);
+  }
 
   -- the calls
   refused : (bw : BackWiring) (fw : Wiring) (p : Pair) (a : Activity) → Shows bw fw old p → p.activity ≡ a → IsSame old.front new.front → new.memory ≡ old.memory → new.received ≡ old.received → Comes_to old new bw fw p p
@@ -330,7 +380,7 @@ module _ (old new : Held) (world : new.world ≡ old.world) (asleep : new.asleep
 
   pub send_does : (bytes : List ℕ) → All IsByte bytes → (r : Result (Unit {0}) SendRefusal) → r ≡ send_answer old.front bytes → new.memory ≡ old.memory → new.received ≡ old.received →
       OnOk r (HasBegun old.front new.front (send (wiring_of old.front) (state_of old.front) bytes (chosen (pieces_of (length bytes)) (state_of old.front).tx.out))) → OnErr r (IsSame old.front new.front) → Does old new (Send bytes)
-  send_does bytes all r e m y k q = record { bytes = all; does = λ bw fw p s. let z = send_refused bw fw p bytes p.activity r refl s.front e s m y k q in (0, omega arith, z.0, z.1, send_follows bw fw p bytes p.activity) }
+  send_does bytes all r e m y k q = record { bytes = all; does = λ bw fw p s. let z = send_refused bw fw p bytes p.activity r refl s.front e s m y k q in (0, omega arith, z.0, z.1, send_follows bw fw p bytes p.activity, tt) }
 
   -- post
   post_refused : (bw : BackWiring) (fw : Wiring) (p : Pair) (a : Activity) (r : Result (Unit {0}) PostRefusal) → p.activity ≡ a → FrontShows old.front a p.front → r ≡ post_answer old.front → Shows bw fw old p → new.memory ≡ old.memory → new.received ≡ old.received →
@@ -350,7 +400,7 @@ module _ (old new : Held) (world : new.world ≡ old.world) (asleep : new.asleep
 
   pub post_does : (r : Result (Unit {0}) PostRefusal) → r ≡ post_answer old.front → new.memory ≡ old.memory → new.received ≡ old.received →
       OnOk r (HasBegun old.front new.front (post (wiring_of old.front) (state_of old.front) (get_or (all_free (state_of old.front).rx.out) 0 0))) → OnErr r (IsSame old.front new.front) → Does old new Post
-  post_does r e m y k q = record { bytes = tt; does = λ bw fw p s. let z = post_refused bw fw p p.activity r refl s.front e s m y k q in (0, omega arith, z.0, z.1, post_follows bw fw p p.activity) }
+  post_does r e m y k q = record { bytes = tt; does = λ bw fw p s. let z = post_refused bw fw p p.activity r refl s.front e s m y k q in (0, omega arith, z.0, z.1, post_follows bw fw p p.activity, tt) }
 
   -- poll
   poll_refused : (bw : BackWiring) (fw : Wiring) (p : Pair) (a : Activity) (r : Result (Unit {0}) PollRefusal) → p.activity ≡ a → FrontShows old.front a p.front → r ≡ poll_answer old.front → Shows bw fw old p → new.memory ≡ old.memory → new.received ≡ old.received →
@@ -370,7 +420,7 @@ module _ (old new : Held) (world : new.world ≡ old.world) (asleep : new.asleep
 
   pub poll_does : (r : Result (Unit {0}) PollRefusal) → r ≡ poll_answer old.front → new.memory ≡ old.memory → new.received ≡ old.received →
       OnOk r (HasBegun old.front new.front (poll (wiring_of old.front) (state_of old.front))) → OnErr r (IsSame old.front new.front) → Does old new Poll
-  poll_does r e m y k q = record { bytes = tt; does = λ bw fw p s. let z = poll_refused bw fw p p.activity r refl s.front e s m y k q in (0, omega arith, z.0, z.1, poll_follows bw fw p p.activity) }
+  poll_does r e m y k q = record { bytes = tt; does = λ bw fw p s. let z = poll_refused bw fw p p.activity r refl s.front e s m y k q in (0, omega arith, z.0, z.1, poll_follows bw fw p p.activity, tt) }
 
 pub on_ok_map : {A E : Type 0} {P Q : Type 0} (r : Result A E) → OnOk r P → (P → Q) → OnOk r Q
 on_ok_map (Ok x) h f = f h

@@ -1,5 +1,5 @@
 -- Events one after another.
-use Rattle.std.proofs.Common.{◌≡◌, ℕ, zero, suc, ◌<◌, ◌^◌, refl, sym, ◌∙◌, ap, subst, arith, List, [], ◌∷◌, ◌++◌, length, map, true, false, Option, Some, None}
+use Rattle.std.proofs.Common.{◌≡◌, ℕ, zero, suc, ◌<◌, ◌^◌, refl, sym, ◌∙◌, ap, subst, arith, List, [], ◌∷◌, ◌++◌, length, map, true, Option, Some, None}
 use Rattle.bpf_verify.specs.Consistent.{Accepted, IsConsistent}
 use Rattle.xen_back.specs.Queues.{rest, state_of}
 use Rattle.xen_back.specs.Tree.{unless_halted, whole_turn}
@@ -33,9 +33,11 @@ use Rattle.std.proofs.lemmas.List.{append-nil, append_assoc}
 use Rattle.xen_steps.specs.Event.{Event}
 use Rattle.xen_back.specs.declared.wiring.Wiring.{Wiring as BackWiring}
 use Rattle.xen_buffers.specs.declared.wiring.Wiring.{Wiring as FrontWiring}
-use Rattle.pair_machine.specs.Log.{LogLaw, back_asks, back_item, back_items}
+use Rattle.pair_machine.specs.Log.{LogLaw, back_asks, back_item, back_items, log, logged}
 use Rattle.pair_machine.specs.Pair.{Await, BackStep, Deliver, FrontStep, Pair, PairEvent, Poll, Post, Send, opening, run, step, turns_of}
 use Rattle.pair_machine.specs.Traces.{Follows, Traced}
+use Rattle.pair_machine.specs.Acts.{ActsOn, front_of}
+use Rattle.pair_machine.proofs.ActLemmas.{acts_none, acts_then, front_log-more, opened_acts, step_acts}
 use Rattle.pair_machine.proofs.TraceLemmas.{follows_more, follows_none, opened_traced}
 use Rattle.honest_pair.proofs.CopyLemmas.{delivers}
 use Rattle.xdp_world.specs.Entries.{Entry, listed, steps_of}
@@ -43,8 +45,9 @@ use Rattle.xdp_world.specs.Stands.{Stands, StandsFor, delivered_in, kept_in, wai
 use Rattle.xdp_world.specs.declared.world.World.{World}
 use Rattle.xdp_world.proofs.Worlds.{items_append}
 use Rattle.honest_pair.specs.Events.{event_in, events_in}
-use Rattle.honest_pair.specs.Runs.{AllBytes, GoWith, HasDone, IsPairRun, IsPlain, NoneDelivers}
-use Rattle.honest_pair.specs.Shows.{AllKept, AreOwn, Does, GoesOn, Shows, bytes_in, deliveries_of, doing_at, queue_in, waits_of}
+use Rattle.honest_pair.specs.Runs.{GoWith, IsPairRun, IsPlain, NoneDelivers}
+use Rattle.honest_pair.specs.Deeds.{AllKept, AreOwn, bytes_in, deliveries_of, waits_of}
+use Rattle.honest_pair.specs.Shows.{AllBytes, Does, GoesOn, HasDone, Shows, doing_at, queue_in}
 use Rattle.honest_pair.specs.declared.event.PairEvent.{PairEvent as Called}
 use Rattle.honest_pair.specs.declared.pair.Pair.{Pair as Held}
 
@@ -85,7 +88,7 @@ bytes_more [] e h b = (b, tt)
 bytes_more (x ∷ es) e h b = (h.0, bytes_more es e h.1 b)
 
 pub done_none : (h : Held) → HasDone h h []
-done_none h = record { bytes = tt; does = λ bw fw p s. ([], tt, s, record { shapes = refl; stands = λ wirings start cs x. ([], subst (StandsFor h.world wirings start) (sym (append-nil cs)) x, tt, refl) }, follows_none bw p) }
+done_none h = record { bytes = tt; does = λ bw fw p s. ([], tt, s, record { shapes = refl; stands = λ wirings start cs x. ([], subst (StandsFor h.world wirings start) (sym (append-nil cs)) x, tt, refl) }, follows_none bw p, acts_none fw p) }
 
 pub done_more : (old mid new : Held) (es : List PairEvent) (e : PairEvent) → HasDone old mid es → Does mid new e → HasDone old new (es ++ e ∷ [])
 done_more old mid new es e h d = record {
@@ -100,6 +103,10 @@ done_more old mid new es e h d = record {
         subst (λ q. Follows bw p q (back_items bw fw p (a.0 ++ (e, b.0) ∷ []))) (sym (run_more bw fw p a.0 (e, b.0)))
             (subst (Follows bw p (step bw fw (run bw fw p a.0) e b.0)) (sym (items_more bw fw p a.0 (e, b.0)))
             (follows_more bw p (run bw fw p a.0) (step bw fw (run bw fw p a.0) e b.0) (back_items bw fw p a.0) (back_item (run bw fw p a.0) e b.0) a.4 b.4)),
+        subst (λ q. ActsOn fw p q (front_of (log bw fw p (a.0 ++ (e, b.0) ∷ [])))) (sym (run_more bw fw p a.0 (e, b.0)))
+            (subst (ActsOn fw p (step bw fw (run bw fw p a.0) e b.0)) (sym (front_log-more bw fw p a.0 (e, b.0)))
+            (acts_then fw p (run bw fw p a.0) (step bw fw (run bw fw p a.0) e b.0) (front_of (log bw fw p a.0)) (front_of (logged (run bw fw p a.0) e b.0)) a.5
+            (step_acts bw fw (run bw fw p a.0) e b.0 b.5))),
       );
 }
 
@@ -189,10 +196,10 @@ fit_all (e ∷ es) (x ∷ g) h b = fit_more x g (subst IsBytes (sym h.0) b.0, h.
 
 pub is_run : (program : Accepted) (start : ℕ) (called : List PairEvent) (r : PairRun) (old new : Held) → Begins program 1 0 start old.world → IsConsistent program → start < 2 ^ 32 → IsFresh start old.front →
     memory_in old.memory ≡ opening_memory start → old.asleep ≡ true → old.calling ≡ calling.Nothing → old.received.items ≡ [] → old.world.counters.shapes ≡ program.shapes → HasDone old new called →
-    r.received ≡ new.received → length r.report.turns.items ≡ 1 → r.report.turns.items ≡ new.world.turns.items → r.report.deliveries.items ≡ new.world.deliveries.items → r.report.waits.items ≡ new.world.waits.items → r.report.totals.shapes ≡ new.world.counters.shapes →
+    r.received ≡ new.received → length r.report.turns.items ≡ 1 → length r.report.deliveries.items ≡ 1 → length r.report.waits.items ≡ 1 → r.report.turns.items ≡ new.world.turns.items → r.report.deliveries.items ≡ new.world.deliveries.items → r.report.waits.items ≡ new.world.waits.items → r.report.totals.shapes ≡ new.world.counters.shapes →
     ((wirings : ℕ → BackWiring) (s : ℕ) (es : List Entry) → Stands new.world wirings s es → Reports wirings s es r.report) →
     ((wirings : ℕ → BackWiring) (s : ℕ) (cs : List Call) → StandsFor new.world wirings s cs → Tells wirings s cs r.report) → LogLaw → PairLaw → IsPairRun program start called r
-is_run program start called r old new b cons small fresh mem aw dl none sh done rec count turns deliveries waits shapes reports tells logs law =
+is_run program start called r old new b cons small fresh mem aw dl none sh done rec count delivered waited turns deliveries waits shapes reports tells logs law =
     let bw : BackWiring = b.wirings 0 in
     let fw : FrontWiring = front_wiring old.front in
     let s : FrontState = front_state old.front in
@@ -246,7 +253,7 @@ is_run program start called r old new b cons small fresh mem aw dl none sh done 
       events = a.0;
       called_are = a.1;
       calls = x.0;
-      core = record { wirings = b.wirings; wired = b.wired; count = count; shapes = shapes ∙ a.3.shapes ∙ sh; tells = tells b.wirings start x.0 x.1 };
+      core = record { wirings = b.wirings; wired = b.wired; count = count; delivered = delivered; waited = waited; shapes = shapes ∙ a.3.shapes ∙ sh; tells = tells b.wirings start x.0 x.1 };
       alone = x.2;
       own = x.3;
       plain = λ h.
@@ -259,11 +266,14 @@ is_run program start called r old new b cons small fresh mem aw dl none sh done 
               entries = entries_of x.0;
               steps_are = refl;
               count = count;
+              delivered = delivered;
+              waited = waited;
               shapes = shapes ∙ a.3.shapes ∙ sh;
               reports = reports b.wirings start (entries_of x.0) (subst (StandsFor new.world b.wirings start) all x.1);
             },
             all,
           );
+      acts = a.5 s [] (opened_acts fw p refl refl refl);
       faithful = logs bw fw p a.0;
       honest = honest;
       turns = kept;

@@ -7,8 +7,7 @@ use Rattle.xen_steps.specs.Steps.{Steps, done, ask, never, next, want_of}
 use Rattle.xen_steps.specs.declared.want.Want.{Want}
 use Rattle.xen_steps.specs.declared.want.Want.TheVariants as want
 use Rattle.xen_back.proofs.RestLemmas.{ready_rest as back_rest}
-use Rattle.xen_back.specs.Queues.{rest, state_of, wiring_of}
-use Rattle.xen_back.specs.Tree.{whole_turn}
+use Rattle.xen_back.specs.Queues.{state_of, wiring_of}
 use Rattle.xen_back.specs.Waits.{Wait, check_unless, whole_wait}
 use Rattle.xen_back.specs.declared.delivery.awaiting.Awaited.{Awaited}
 use Rattle.xen_back.specs.declared.delivery.awaiting.Awaited.TheVariants as awaited
@@ -21,7 +20,7 @@ use Rattle.xen_back.specs.declared.wiring.Wiring.{Wiring}
 use Rattle.xen_front.specs.Fronts.{wiring_of as front_wiring}
 use Rattle.pair_machine.specs.Log.{back_asks, begun_at}
 use Rattle.pair_machine.specs.Memory.{Memory, after, answer}
-use Rattle.pair_machine.specs.Pair.{BackAt, Asleep, First, Second, Delivering, Waiting, Await, BackStep, Deed, OfTurn, OfDelivery, OfWait, Pair, Past, answered, asking, begin_wait, on_await, on_back, rested, turns_of, waited, waiting}
+use Rattle.pair_machine.specs.Pair.{BackAt, Asleep, First, Second, Delivering, Waiting, Await, BackStep, Deed, OfTurn, OfDelivery, OfWait, Pair, answered, asking, begin_wait, on_await, on_back, turns_of, waiting}
 use Rattle.pair_machine.specs.declared.awaits.Awaits.{Awaits}
 use Rattle.pair_machine.specs.declared.awaits.Awaits.TheVariants as awaits
 use Rattle.pair_machine.proofs.Deeds.{turns_wait}
@@ -33,7 +32,7 @@ use Rattle.xdp_world.specs.Carries.{Looks, Resumes, delivered_list, waited_list}
 use Rattle.xdp_world.specs.Doings.{is_between, want_at}
 use Rattle.xdp_world.specs.Entries.{Entry, Serves, listed}
 use Rattle.xdp_world.specs.Happens.{kept_list}
-use Rattle.xdp_world.specs.Stands.{HasBegunWait, IsAwait, IsSame, IsStep, StandsFor, delivered_in, doing_in, kept_in, waited_in}
+use Rattle.xdp_world.specs.Stands.{HasBegunWait, IsAwait, IsSame, IsStep, StandsFor, delivered_in, doing_in, kept_in}
 use Rattle.xdp_world.specs.declared.awaiting.WaitBegun.{WaitBegun}
 use Rattle.xdp_world.specs.declared.awaiting.WaitBegun.TheVariants as wait_begun
 use Rattle.xdp_world.specs.declared.doing.Doing.{Doing}
@@ -47,7 +46,8 @@ use Rattle.honest_pair.specs.Held.{memory_in}
 use Rattle.honest_pair.specs.declared.calling.Calling.{Calling}
 use Rattle.honest_pair.specs.declared.calling.Calling.TheVariants as calling
 use Rattle.honest_pair.specs.declared.pair.Pair.{Pair as Held}
-use Rattle.honest_pair.specs.Shows.{AllKept, BackShows, Does, FrontShows, Shows, answer_of, awaits_after, bytes_in, calls_while, deliveries_of, doing_at, is_none, queue_in, waits_of}
+use Rattle.honest_pair.specs.Deeds.{AllKept, bytes_in, deliveries_of, waits_of}
+use Rattle.honest_pair.specs.Shows.{BackShows, Does, FrontShows, Shows, answer_of, awaits_after, calls_while, doing_at, is_none, queue_in}
 use Rattle.honest_pair.proofs.BackLemmas.{one_queue, served, world_doing}
 use Rattle.honest_pair.proofs.DeliveryLemmas.{kept_count, rested_shows}
 
@@ -254,6 +254,7 @@ looks_on old new a index pages v dl aw f r ix vw an i mem dn sh = record {
               (Stepped e ∷ [], i.stands_for wirings start cs h, (refl, tt), append-nil (all_came (listed i.event)) ∙ ap all_came g.2);
         },
         back_follows bw p p.at g.0 refl g.4,
+        tt,
       );
 }
   where
@@ -346,6 +347,7 @@ module _ (old new : Held) (pages : ℕ) (aw : new.asleep ≡ old.asleep) (f : ne
           subst (Shows bw fw new) (sym z.0) after_it,
           record { shapes = sh; stands = λ wirings start cs h. (AwaitsCall 0 pages ∷ [], i.stands_for wirings start cs h, (refl, tt), sym z.1) },
           await_follows bw p pages p.at refl,
+          tt,
         );
   }
 
@@ -381,6 +383,7 @@ module _ (old new : Held) (pages : ℕ) (aw : new.asleep ≡ old.asleep) (f : ne
           subst (Shows bw fw new) (sym z.0) after_it,
           record { shapes = sh; stands = λ wirings start cs h. ([], subst (StandsFor new.world wirings start) (sym (append-nil cs)) (same_stands old.world new.world wirings start cs i h), tt, sym z.1) },
           await_follows bw p pages p.at refl,
+          tt,
         );
   }
 

@@ -20,7 +20,8 @@ use Rattle.honest_pair.specs.Words.{taken}
 use Rattle.honest_pair.specs.declared.calling.Calling.{Calling}
 use Rattle.honest_pair.specs.declared.calling.Calling.TheVariants as calling
 use Rattle.pair_machine.specs.declared.awaits.Awaits.TheVariants as awaits
-use Rattle.honest_pair.specs.Shows.{AllKept, BackShows, Does, FrontShows, bytes_in, deliveries_of, doing_at, queue_in, waits_of}
+use Rattle.honest_pair.specs.Deeds.{AllKept, bytes_in, deliveries_of, waits_of}
+use Rattle.honest_pair.specs.Shows.{BackShows, Does, FrontShows, doing_at, queue_in}
 use Rattle.honest_pair.specs.declared.pair.Pair.{Pair as Held}
 use Rattle.honest_pair.proofs.BackLemmas.{half_going, ready_rest, some_queue, world_doing}
 
@@ -84,5 +85,6 @@ wakes old new aw dl dn wo f r mem sl = record {
           stands = λ wirings start cs h. ([], subst (λ (z : World). StandsFor z wirings start (cs ++ [])) (sym wo) (subst (StandsFor old.world wirings start) (sym (append-nil cs)) h), tt, ap all_came (sym same.4));
         },
         back_follows bw p p.at 0 refl same.5,
+        tt,
       );
 }

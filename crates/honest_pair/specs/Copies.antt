@@ -1,3 +1,4 @@
+-- Stated: claims rest on this file.
 -- What was copied and given in a run, beside what was sent and received.
 use Rattle.std.specs.Prelude.{ℕ, ◌≡◌, List, [], ◌∷◌, ◌++◌, ◌==◌, if◌then◌else◌, None}
 use Rattle.xen_steps.specs.Event.{Event}

@@ -1,3 +1,4 @@
+-- Stated: claims rest on this file.
 -- The events of a pair, as calls have them.
 use Rattle.std.specs.Prelude.{List, [], ◌∷◌}
 use Rattle.pair_machine.specs.Pair.{PairEvent, Send, Post, Poll, FrontStep, BackStep, Deliver, Await}

@@ -1,3 +1,4 @@
+-- For proofs: no claim rests on this file.
 -- The front before its first activity.
 use Rattle.std.specs.Prelude.{ℕ, ◌≡◌, false}
 use Rattle.xen_front.specs.Fronts.{busy, state_of, wiring_of}

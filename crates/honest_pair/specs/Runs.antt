@@ -1,23 +1,23 @@
+-- Stated: claims rest on this file.
 -- The honest pair: what a run of it is.
 use Rattle.std.specs.Prelude.{ℕ, ◌≡◌, ◌<◌, ◌^◌, List, [], ◌∷◌, length, map}
 use Rattle.bpf_verify.specs.Consistent.{Accepted}
 use Rattle.xen_back.specs.declared.wiring.Wiring.{Wiring as BackWiring}
 use Rattle.xen_buffers.specs.declared.wiring.Wiring.{Wiring as FrontWiring}
 use Rattle.xen_front.specs.declared.state.State.{State as FrontState}
-use Rattle.pair_machine.specs.Law.{Honest, IsBytes, IsNewFront}
+use Rattle.pair_machine.specs.Acts.{HasActed, front_of}
+use Rattle.pair_machine.specs.Law.{Honest, IsNewFront}
 use Rattle.pair_machine.specs.Layout.{IsBack, IsFront}
 use Rattle.pair_machine.specs.Log.{IsFaithful, back_items, log}
 use Rattle.pair_machine.specs.Memory.{opening_word}
-use Rattle.pair_machine.specs.Pair.{Await, Deliver, Pair, PairEvent, opening, run, turns_of}
-use Rattle.pair_machine.specs.Traces.{Follows}
+use Rattle.pair_machine.specs.Pair.{Await, Deliver, PairEvent, opening, run, turns_of}
 use Rattle.xdp_world.specs.Begin.{IsFor}
 use Rattle.xdp_world.specs.Calls.{Call, all_stepped, items_of}
 use Rattle.xdp_world.specs.Report.{IsCoreRun, Tells}
 use Rattle.xdp_world.specs.Stands.{delivered_in, kept_in, waited_in}
 use Rattle.xdp_world.specs.declared.report.Report.{Report}
 use Rattle.honest_pair.specs.Copies.{Delivers}
-use Rattle.honest_pair.specs.Shows.{AllKept, AreOwn, GoesOn, Shows, bytes_in, deliveries_of, waits_of}
-use Rattle.honest_pair.specs.declared.pair.Pair.{Pair as Held}
+use Rattle.honest_pair.specs.Deeds.{AllKept, AreOwn, bytes_in, deliveries_of, waits_of}
 use Rattle.honest_pair.specs.declared.running.PairRun.{PairRun}
 
 -- the events, each with a number
@@ -26,10 +26,6 @@ GoWith [] [] = Unit {0}
 GoWith [] (x ∷ xs) = ⊥
 GoWith (e ∷ es) [] = ⊥
 GoWith (e ∷ es) (x ∷ xs) = (x.0 ≡ e) × (x.1 < 2 ^ 64) × GoWith es xs
-
-abbrev pub AllBytes : List PairEvent → Type 0
-AllBytes [] = Unit {0}
-AllBytes (e ∷ es) = IsBytes e × AllBytes es
 
 -- no event is a delivery or a wait
 abbrev pub IsPlain : PairEvent → Type 0
@@ -41,19 +37,13 @@ abbrev pub NoneDelivers : List PairEvent → Type 0
 NoneDelivers [] = Unit {0}
 NoneDelivers (e ∷ es) = IsPlain e × NoneDelivers es
 
--- The pair has done these events.
-pub record HasDone (old new : Held) (es : List PairEvent) : Type 0 where
-  pub bytes : AllBytes es
-  pub does : (bw : BackWiring) (fw : FrontWiring) (p : Pair) → Shows bw fw old p →
-      (given : List (PairEvent × ℕ)) × GoWith es given × Shows bw fw new (run bw fw p given) ×
-      GoesOn old.world new.world (back_items bw fw p given)
-      × Follows bw p (run bw fw p given) (back_items bw fw p given)
-
 -- The report is of these calls of one queue of a program.
 pub record IsCallRun (program : Accepted) (start : ℕ) (calls : List Call) (r : Report) : Type 0 where
   pub wirings : ℕ → BackWiring
   pub wired : (i : ℕ) → i < 1 → IsFor program 1 0 i (wirings i)
   pub count : length r.turns.items ≡ 1
+  pub delivered : length r.deliveries.items ≡ 1
+  pub waited : length r.waits.items ≡ 1
   pub shapes : r.totals.shapes ≡ program.shapes
   pub tells : Tells wirings start calls r
 
@@ -61,6 +51,8 @@ pub record IsCallRun (program : Accepted) (start : ℕ) (calls : List Call) (r :
 --   core, alone, own: the back's events, the packets of its deliveries and the numbers of its waits, and no others, are a run of its queue
 --     with the report's turns, deliveries, waits, history and totals.
 --   plain: where no event is a delivery or a wait, the calls are the entries of a core run.
+--   acts: the front's events are the traces of its sends, posts and polls, each a row of its table, and a beginning of one more; what was
+--     sent is what they took, and what was received what they gave.
 --   faithful: each read of either end answers what was last written to its place, else its opening word.
 --   honest: neither end is halted, and a back that sleeps with no notice pending, while the front is inside no send, has answered all;
 --     where a wait found too few slots, and no notice is pending, while the front is inside no post, there are still too few.
@@ -83,6 +75,7 @@ pub record IsPairRun (program : Accepted) (start : ℕ) (called : List PairEvent
   pub own : items_of 0 calls ≡ back_items back front (opening state start) events
   pub plain : NoneDelivers called → (steps : List (ℕ × ℕ)) × (plainly : IsCoreRun program 1 0 start steps r.report) ×
       (calls ≡ all_stepped plainly.entries)
+  pub acts : HasActed front state (front_of (log back front (opening state start) events)) (run back front (opening state start) events)
   pub faithful : IsFaithful (opening_word start) (log back front (opening state start) events)
   pub honest : Honest (run back front (opening state start) events)
   pub turns : AllKept (turns_of (run back front (opening state start) events).deeds) (kept_in r.report.turns.items 0)

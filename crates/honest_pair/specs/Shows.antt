@@ -1,7 +1,7 @@
+-- For proofs: no claim rests on this file.
 -- What a pair of the code stands for.
-use Rattle.std.specs.Prelude.{ℕ, ◌≡◌, ◌+◌, ◌<◌, ◌^◌, ◌++◌, Bool, true, false, List, [], ◌∷◌, map, slice_index_or}
+use Rattle.std.specs.Prelude.{ℕ, ◌≡◌, ◌<◌, ◌^◌, ◌++◌, Bool, true, false, List, [], ◌∷◌, map, slice_index_or}
 use Rattle.std.specs.Prelude.{Option, Some, None}
-use Rattle.std.specs.Global.{Vec}
 use Rattle.xen_steps.specs.Steps.{Steps, done, ask, never, bind}
 use Rattle.xen_back.specs.ByEvent.{left_of}
 use Rattle.xen_back.specs.WaitsByEvent.{left_of_wait}
@@ -21,24 +21,25 @@ use Rattle.xen_front.specs.declared.front.Front.{Front}
 use Rattle.xen_front.specs.declared.state.State.{State as FrontState}
 use Rattle.pair_machine.specs.Halves.{Half, Over, HasRun, second_half}
 use Rattle.pair_machine.specs.Law.{IsBytes}
-use Rattle.pair_machine.specs.Log.{back_item}
+use Rattle.pair_machine.specs.Log.{back_item, back_items, log}
 use Rattle.pair_machine.specs.Pair.{Activity, Free, Sending, Posting, Polling, BackAt, Asleep, First, Second, Delivering, Waiting, Pair}
-use Rattle.pair_machine.specs.Pair.{Deed, OfTurn, OfDelivery, OfWait, PairEvent, Past, packets_of, step, turns_of}
+use Rattle.pair_machine.specs.Pair.{PairEvent, packets_of, run, step, turns_of}
 use Rattle.pair_machine.specs.declared.awaits.Awaits.{Awaits}
 use Rattle.pair_machine.specs.declared.awaits.Awaits.TheVariants as awaits
+use Rattle.pair_machine.specs.Acts.{ActIsAnswered, ActsOn, front_of}
 use Rattle.pair_machine.specs.Traces.{Follows}
 use Rattle.xdp_world.specs.Activities.{Item}
-use Rattle.xdp_world.specs.Calls.{Awaits as AwaitsCall, Call, Delivers, Stepped, items_of}
-use Rattle.xdp_world.specs.Keeping.{Keeps}
+use Rattle.xdp_world.specs.Calls.{Call, items_of}
 use Rattle.xdp_world.specs.Stands.{StandsFor, delivered_in, kept_in, waited_in}
 use Rattle.xdp_world.specs.declared.doing.Doing.{Doing}
 use Rattle.xdp_world.specs.declared.doing.Doing.TheVariants as doing
 use Rattle.xdp_world.specs.declared.kept.Kept.{Kept}
 use Rattle.xdp_world.specs.declared.kept.Kept.TheVariants as kept
-use Rattle.xdp_world.specs.declared.report.Delivered.{Delivered}
 use Rattle.xdp_world.specs.declared.report.Waited.{Waited}
 use Rattle.xdp_world.specs.declared.world.World.{World}
+use Rattle.honest_pair.specs.Deeds.{AllKept, AreOwn, bytes_in, deliveries_of, waits_of}
 use Rattle.honest_pair.specs.Held.{memory_in}
+use Rattle.honest_pair.specs.Runs.{GoWith}
 use Rattle.honest_pair.specs.declared.calling.Calling.{Calling}
 use Rattle.honest_pair.specs.declared.calling.Calling.TheVariants as calling
 use Rattle.honest_pair.specs.declared.pair.Pair.{Pair as Held}
@@ -83,30 +84,6 @@ BackShows w q e asleep calls (Waiting sleeps pages t) s =
     (asleep ≡ sleeps) × (calls ≡ calling.Wait pages) × (a : Awaiting) × (e ≡ doing.Wait a) × (left_of_wait a ≡ t) × IsGoing t ×
     (state_of q ≡ s)
 
--- the turns are kept, in order
-abbrev pub AllKept : List Past → List Kept → Type 0
-AllKept [] [] = Unit {0}
-AllKept [] (k ∷ ks) = ⊥
-AllKept (p ∷ ps) [] = ⊥
-AllKept (p ∷ ps) (k ∷ ks) = Keeps p.turn k × AllKept ps ks
-
--- what became of the deliveries, each with how many turns were over before it, so many being over at first
-abbrev pub deliveries_of : ℕ → List Deed → List Delivered
-deliveries_of n [] = []
-deliveries_of n (OfTurn past ∷ ds) = deliveries_of (n + 1) ds
-deliveries_of n (OfDelivery packet what ∷ ds) = record { turns = n; delivery = what } ∷ deliveries_of n ds
-deliveries_of n (OfWait pages answer ∷ ds) = deliveries_of n ds
-
--- the answers of the waits, each with how many turns and deliveries were over before it, so many being over at first
-abbrev pub waits_of : (turns deliveries : ℕ) → List Deed → List Waited
-waits_of n m [] = []
-waits_of n m (OfTurn past ∷ ds) = waits_of (n + 1) m ds
-waits_of n m (OfDelivery packet what ∷ ds) = waits_of n (m + 1) ds
-waits_of n m (OfWait pages answer ∷ ds) = record { turns = n; deliveries = m; awaited = answer } ∷ waits_of n m ds
-
-abbrev pub bytes_in : Vec ℕ → List ℕ
-bytes_in v = v.items
-
 abbrev pub queue_in : World → Queue → Queue
 queue_in w d = slice_index_or w.queues.items 0 d
 
@@ -124,13 +101,6 @@ pub record Shows (bw : BackWiring) (fw : FrontWiring) (held : Held) (p : Pair) :
   pub deliveries : delivered_in held.world.deliveries.items 0 ≡ deliveries_of 0 p.deeds
   pub waits : waited_in held.world.waits.items 0 ≡ waits_of 0 0 p.deeds
 
--- each call is of the one queue
-abbrev pub AreOwn : List Call → Type 0
-AreOwn [] = Unit {0}
-AreOwn (Stepped e ∷ cs) = (e.queue ≡ 0) × AreOwn cs
-AreOwn (Delivers queue packet ∷ cs) = (queue ≡ 0) × AreOwn cs
-AreOwn (AwaitsCall queue pages ∷ cs) = (queue ≡ 0) × AreOwn cs
-
 -- the world has come on by calls of its one queue with these items
 pub record GoesOn (old new : World) (items : List Item) : Type 0 where
   pub shapes : new.counters.shapes ≡ old.counters.shapes
@@ -142,7 +112,7 @@ pub record Does (old new : Held) (e : PairEvent) : Type 0 where
   pub bytes : IsBytes e
   pub does : (bw : BackWiring) (fw : FrontWiring) (p : Pair) → Shows bw fw old p →
       (n : ℕ) × (n < 2 ^ 64) × Shows bw fw new (step bw fw p e n) × GoesOn old.world new.world (back_item p e n)
-      × Follows bw p (step bw fw p e n) (back_item p e n)
+      × Follows bw p (step bw fw p e n) (back_item p e n) × ActIsAnswered p e n
 
 -- The activity is over: its packet is kept, and the front is free.
 pub record Received (old new : Held) : Type 0 where
@@ -184,3 +154,15 @@ awaits_after index pages None = awaits.Asked index pages
 awaits_after index pages (Some awaited.Posted) = awaits.Nothing
 awaits_after index pages (Some awaited.Waiting) = awaits.Fewer index pages
 awaits_after index pages (Some (awaited.Halted cause)) = awaits.Asked index pages
+
+abbrev pub AllBytes : List PairEvent → Type 0
+AllBytes [] = Unit {0}
+AllBytes (e ∷ es) = IsBytes e × AllBytes es
+
+-- The pair has done these events.
+pub record HasDone (old new : Held) (es : List PairEvent) : Type 0 where
+  pub bytes : AllBytes es
+  pub does : (bw : BackWiring) (fw : FrontWiring) (p : Pair) → Shows bw fw old p →
+      (given : List (PairEvent × ℕ)) × GoWith es given × Shows bw fw new (run bw fw p given) ×
+      GoesOn old.world new.world (back_items bw fw p given)
+      × Follows bw p (run bw fw p given) (back_items bw fw p given) × ActsOn fw p (run bw fw p given) (front_of (log bw fw p given))

@@ -1,3 +1,4 @@
+-- For proofs: no claim rests on this file.
 -- The words of all frames, one frame after another.
 use Rattle.std.specs.Prelude.{ℕ, ◌<◌, ◌+◌, ◌*◌, false, List, get_or, nat_lt, if◌then◌else◌}
 use Rattle.pair_machine.specs.Memory.{Memory, put}

@@ -32,6 +32,7 @@ impl Memory {
     ghost use Rattle.honest_pair.specs.Words.{IsHeld, WantsHeld, empty_memory, opened, taken};
     ghost use Rattle.honest_pair.specs.Held.{memory_in};
     ghost use Rattle.xen_steps.specs.Answers.{Fits, number};
+    ghost use Rattle.xen_steps.specs.Event.{Event, Occurs};
     ghost use Rattle.xen_steps.specs.Drive.{IsPageWant};
 
     /// So many words, all 0.
@@ -116,6 +117,7 @@ impl Memory {
         ensures after { memory_in self.new ≡ after want (memory_in self.old) }
         ensures number { number result ≡ answer want (memory_in self.old) 0 }
         ensures fits { Fits want result }
+        ensures occurs { (e : Event) × Occurs want (number result) e }
     {
         match want {
             Want::Read(_) => Answer::Word(self.serve(want)),

@@ -1,7 +1,8 @@
 //! Runs of a pair.
 ghost use Rattle.std.specs.Prelude.{IfOk, OnOk};
 ghost use Rattle.honest_pair.specs.Events.{events_in};
-ghost use Rattle.honest_pair.specs.Runs.{HasDone, IsPairRun};
+ghost use Rattle.honest_pair.specs.Runs.{IsPairRun};
+ghost use Rattle.honest_pair.specs.Shows.{HasDone};
 
 use crate::calling::Calling;
 use crate::event::PairEvent;

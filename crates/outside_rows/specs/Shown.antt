@@ -1,3 +1,4 @@
+-- Stated: claims rest on this file.
 -- How many entries a producer shows, as an answer.
 use Rattle.std.specs.Prelude.{ℕ, List, Option, Some, None, codes, decimal}
 

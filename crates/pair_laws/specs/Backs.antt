@@ -1,3 +1,4 @@
+-- Stated: claims rest on this file.
 -- What holds of the back of an honest pair.
 use Rattle.std.specs.Prelude.{ℕ, ◌≡◌, ◌<◌, ◌^◌, Bool, true, false, List, ◌++◌, Some, None, get_or, nat_lt}
 use Rattle.xen_back.specs.Deliveries.{whole_delivery}

@@ -1,3 +1,4 @@
+-- Stated: claims rest on this file.
 -- How a turn or a delivery of a back that is paired with an honest front ends.
 use Rattle.std.specs.Prelude.{ℕ, ◌≡◌, ◌+◌, ◌<◌, ◌⊎◌, Bool, true, false, List, [], ◌∷◌, ◌++◌, length, get_or, None, ◌==◌, if◌then◌else◌}
 use Rattle.bpf_vm.specs.Course.{Course, Exiting, Stepping, Loading, Adding, Broken}

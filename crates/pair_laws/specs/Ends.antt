@@ -1,3 +1,4 @@
+-- Stated: claims rest on this file.
 -- A computation of either end that keeps the pair's invariant.
 use Rattle.std.specs.Prelude.{ℕ, ◌≡◌, List}
 use Rattle.xen_buffers.specs.declared.wiring.Wiring.{Wiring}

@@ -1,3 +1,4 @@
+-- Stated: claims rest on this file.
 -- What the memory of a pair holds between any two events, by what each end has done. Position n of a ring is the index `start + n`.
 use Rattle.std.specs.Prelude.{ℕ, ◌≡◌, ◌+◌, ◌*◌, ◌<◌, ◌≤◌, ◌⊎◌, Bool, true, List, ◌++◌, length, get_or, Some}
 use Rattle.xen_buffers.specs.Grants.{buffer, grant_place}

@@ -1,3 +1,4 @@
+-- For proofs: no claim rests on this file.
 -- A front between activities and inside one, by its state and by what it has done.
 use Rattle.pair_machine.specs.Pair.{packets_of}
 use Rattle.std.specs.Prelude.{ℕ, ◌≡◌, ◌+◌, ◌<◌, ◌≤◌, true, false, List, [], ◌++◌, length, None}

@@ -5,3 +5,4 @@ pub mod Deeds
 pub mod Pairs
 pub mod CopyLemmas
 pub mod TraceLemmas
+pub mod ActLemmas

@@ -1,3 +1,4 @@
+-- Stated: claims rest on this file.
 -- The copy of which a turn's first half speaks is the one of its trace.
 use Rattle.std.specs.Prelude.{ℕ, ◌≡◌, List}
 use Rattle.xen_netif.specs.Chain.{Slot}

@@ -1,3 +1,4 @@
+-- Stated: claims rest on this file.
 -- What holds of every list of events of the pair.
 use Rattle.std.specs.Prelude.{ℕ, ◌≡◌, ◌<◌, ◌^◌, ◌==◌, if◌then◌else◌, false, List, [], ◌∷◌, ◌++◌, flat_map}
 use Rattle.std.specs.Prelude.{length, Option, Some, None, All}

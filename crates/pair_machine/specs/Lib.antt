@@ -5,5 +5,6 @@ pub mod Copies
 pub mod Pair
 pub mod Log
 pub mod Traces
+pub mod Acts
 pub mod Safe
 pub mod Law

@@ -1,3 +1,4 @@
+-- Stated: claims rest on this file.
 -- The events of a pair, as its steps make them.
 use Rattle.std.specs.Prelude.{ℕ, ◌≡◌, Bool, true, false, List, [], ◌∷◌, ◌++◌}
 use Rattle.xen_page.specs.declared.place.Place.{Place}

@@ -1,3 +1,4 @@
+-- Stated: claims rest on this file.
 -- One front and one back over one memory, event by event. Each event goes with a number, which answers a load or an add of a counter.
 use Rattle.std.specs.Prelude.{ℕ, Bool, true, false, List, [], ◌∷◌, ◌++◌, length, get_or, Option, Some, None, Result}
 use Rattle.std.specs.Prelude.{Ok, Err, nat_lt}

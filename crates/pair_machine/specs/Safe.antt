@@ -1,3 +1,4 @@
+-- Stated: claims rest on this file.
 -- A computation of one end is safe where each of its events, on whatever the other end has done by then, keeps an invariant.
 use Rattle.std.specs.Prelude.{ℕ, ◌<◌, ◌^◌}
 use Rattle.xen_steps.specs.Steps.{Steps, done, ask, never}

@@ -1,3 +1,4 @@
+-- Stated: claims rest on this file.
 -- What the back's queue has: the traces of its turns, with the copies that these made, the packets and traces of its deliveries, the
 -- numbers of slots and the traces of its waits, and a beginning of one more.
 use Rattle.std.specs.Prelude.{ℕ, ◌≡◌, true, false, List, [], ◌∷◌, ◌++◌, Option, Some, None}

@@ -5,6 +5,7 @@
 
 mod awaits;
 
+ghost use Rattle.pair_machine.specs.Acts.{ActLaw};
 ghost use Rattle.pair_machine.specs.Copies.{RunsHaveCopies};
 ghost use Rattle.pair_machine.specs.Halves.{AreHalves};
 ghost use Rattle.pair_machine.specs.Log.{LogLaw};
@@ -30,4 +31,9 @@ pub fn reads_are_faithful()
 /// The back's events are the traces of its turns, with the copies that these made, and a beginning of one more.
 pub fn events_are_of_turns()
     ensures { TraceLaw }
+{}
+
+/// The front's events are the traces of its sends, posts and polls, and a beginning of one more.
+pub fn events_are_of_acts()
+    ensures { ActLaw }
 {}

@@ -1,3 +1,4 @@
+-- For proofs: no claim rests on this file.
 -- What the bench prints of a line.
 use Rattle.std.specs.Prelude.{ℕ, List, ◌++◌, codes, decimal, Option, Some, None}
 

@@ -1,3 +1,4 @@
+-- Stated: claims rest on this file.
 -- What a call prints, and its exit status.
 use Rattle.std.specs.Prelude.{ℕ, ◌≡◌, ◌≢◌, ◌<◌, ◌≤◌, ◌⊎◌, List, ◌++◌, length, take, codes, Option, Some, None, IfSome, Result, Ok, Err}
 use Rattle.std.specs.Result.{result_ok}

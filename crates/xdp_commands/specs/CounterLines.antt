@@ -1,3 +1,4 @@
+-- Stated: claims rest on this file.
 -- The lines of the counters that a run leaves.
 use Rattle.std.specs.Prelude.{ℕ, zero, suc, ◌+◌, List, [], ◌∷◌, ◌++◌, codes, decimal, ◌==◌, if◌then◌else◌}
 use Rattle.bpf_maps.specs.Seats.{TotalsView, total_at}

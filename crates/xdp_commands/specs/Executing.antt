@@ -1,3 +1,4 @@
+-- Stated: claims rest on this file.
 -- What a program's bytes come to: alone, and on a packet.
 use Rattle.std.specs.Prelude.{ℕ, ◌≡◌, ◌≤◌, ◌⊎◌, List, [], length, Result, Ok, Err}
 use Rattle.bpf_insn.specs.Code.{Spells}

@@ -1,3 +1,4 @@
+-- Stated: claims rest on this file.
 -- What becomes of a program's bytes, and what `explain` prints of it.
 use Rattle.std.specs.Prelude.{ℕ, ◌≡◌, ◌↔◌, List, [], ◌++◌, length, slice_get, Option, None, Some, IfSome, IsSome, option_map, Ok}
 use Rattle.bpf_explain.specs.Explained.{asked_register, explained_text, joined_text, undecoded_text, was_text}

@@ -1,3 +1,4 @@
+-- Stated: claims rest on this file.
 -- What a program makes of a setup's packets, one after another, and the lines of it.
 use Rattle.std.specs.Prelude.{ℕ, ◌≡◌, List, [], ◌∷◌, ◌++◌, codes, decimal, length, replicate, string_bytes, vec_len, Result, Ok, Err}
 use Rattle.hex.specs.Hex.{encode_lower}

@@ -1,3 +1,4 @@
+-- Stated: claims rest on this file.
 -- The lines that the program prints.
 use Rattle.std.specs.Prelude.{ℕ, List, ◌++◌, codes, decimal, Result, Ok, Err}
 use Rattle.hex.specs.Hex.{encode_lower}

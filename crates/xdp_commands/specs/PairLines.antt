@@ -1,3 +1,4 @@
+-- Stated: claims rest on this file.
 -- The lines of queues that ran on threads.
 use Rattle.std.specs.Prelude.{ℕ, ◌+◌, List, [], ◌∷◌, ◌++◌, codes, decimal, Option, None, Some}
 use Rattle.xen_back.specs.Causes.{halt_number}

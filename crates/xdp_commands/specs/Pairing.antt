@@ -1,3 +1,4 @@
+-- Stated: claims rest on this file.
 -- What becomes of a setup whose queues run on threads.
 use Rattle.std.specs.Prelude.{ℕ, ◌≡◌, List, vec_len, Result, Ok, Err, ⊤}
 use Rattle.bpf_note.specs.Shape.{Shape}

@@ -1,3 +1,4 @@
+-- Stated: claims rest on this file.
 -- What the code's values stand for.
 use Rattle.std.specs.Prelude.{string_bytes}
 use Rattle.xdp_commands.specs.declared.request.Request.{Request}

@@ -1,3 +1,4 @@
+-- Stated: claims rest on this file.
 -- The lines of the turns of a run.
 use Rattle.std.specs.Prelude.{ℕ, ◌+◌, List, [], ◌∷◌, ◌++◌, codes, decimal, length}
 use Rattle.std.specs.Global.{Vec}

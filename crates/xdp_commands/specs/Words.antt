@@ -1,3 +1,4 @@
+-- Stated: claims rest on this file.
 -- The program's command line, as data of `clap`, and what its words ask for.
 use Rattle.std.specs.Prelude.{ℕ, ◌&&◌, codes, length, nat_lt, pos, true, List, [], ◌∷◌, Option, Some, None, option_map}
 use Rattle.std.specs.Prelude.{option_and_then, Bool, false, if◌then◌else◌}

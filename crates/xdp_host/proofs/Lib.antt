@@ -3,5 +3,3 @@ mod FaultLemmas
 mod BatchLemmas
 pub mod AsQueueBox
 mod MadeLemmas
-mod StepsLemmas
-mod ShortLemmas

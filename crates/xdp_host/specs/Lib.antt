@@ -7,7 +7,6 @@ pub mod QueueHandle
 pub mod Ops
 pub mod Made
 pub mod Stepped
-pub mod Short
 pub mod Taken
 pub mod Maps
 pub mod Advice

@@ -43,7 +43,7 @@ fault_number (Make make.Memory) = 1
 fault_number (Make make.Frames) = 2
 fault_number (Make make.Table) = 3
 fault_number (Make make.Ring) = 4
-fault_number (Make make.Port) = 5
+fault_number (Make make.Domain) = 5
 fault_number Empty = 6
 
 -- A queue of the program was made in place of what was there, and the answer is 0.

@@ -15,11 +15,11 @@ taken_number taken.NoFrame = 3
 abbrev pub no_queue : ℕ
 no_queue = 1
 
--- The queue was given the packet, and its answer is what C is told.
-pub record HasTaken (old new : Queue) (packet : List ℕ) (told : ℕ) : Type 0 where
+-- The queue was given the rx producer and the packet, and its answer is what C is told.
+pub record HasTaken (old new : Queue) (producer : ℕ) (packet : List ℕ) (told : ℕ) : Type 0 where
   pub answer : Taken
   pub told_is : told ≡ taken_number answer
-  pub taken : IsTaken old new packet answer
+  pub taken : IsTaken old new producer packet answer
 
 -- The queue was to wait for so many slots, and its answer is what C is told.
 pub record HasWaited (old new : Queue) (pages : ℕ) (told : ℕ) : Type 0 where

@@ -6,10 +6,10 @@
 //!   instead
 //! - `batch`, `maps`: many packets in one call, and what C asks of maps
 //! - `queue_handle`, `queue_extents`, `queue_fault`: a queue that C holds, for a guest of one range of frames or of several
-//! - `queue_calls`, `queue_running`, `queue_waits`: a queue's calls: general steps, several at once, and waits
+//! - `queue_calls`, `queue_waits`: a queue's calls
 #![tactic(auto)]
 
-ghost use Rattle.std.specs.Prelude.{◌≡◌, ◌⊎◌, ◌++◌, List, IfNone, IfSome, IsSome, MatchOption, None, drop, length, min, take};
+ghost use Rattle.std.specs.Prelude.{◌≡◌, ◌⊎◌, ◌++◌, ◌≤◌, List, IfNone, IfSome, IsSome, MatchOption, None, drop, length, min, take};
 ghost use Rattle.bpf_insn.specs.Code.{Spells};
 ghost use Rattle.bpf_insn.specs.declared.insn.Insn.{Insn};
 ghost use Rattle.bpf_maps.specs.Layout.{place_of, total};
@@ -25,10 +25,10 @@ ghost use Rattle.xdp_host.specs.Ran.{IsNotRun, action_number};
 ghost use Rattle.xdp_host.specs.Verdict.{accepting, verdict_of, out_of_memory};
 ghost use Rattle.bpf_vm.specs.Actions.{action_of};
 ghost use Rattle.xen_host.specs.Frames.{list_limits};
-ghost use Rattle.xen_host.specs.Queues.{packet_of, resting};
+ghost use Rattle.xen_host.specs.Queues.{AreEnough, AreFew, HasBegun, HasStepped, IsNothing, packet_of, resting};
 ghost use Rattle.xdp_host.specs.Made.{MakesOr, fault_number, given};
 ghost use Rattle.xdp_host.specs.Ops.{no_state, state_or};
-ghost use Rattle.xdp_host.specs.Stepped.{AreEnough, AreFew, HasStepped, IsNotStepped, IsNothing};
+ghost use Rattle.xdp_host.specs.Stepped.{IsUnsaid};
 ghost use Rattle.xdp_host.specs.Taken.{HasTaken, no_queue};
 
 mod abi;
@@ -43,7 +43,6 @@ mod queue_calls;
 mod queue_extents;
 mod queue_fault;
 mod queue_handle;
-mod queue_running;
 mod queue_waits;
 mod raw_box;
 
@@ -56,17 +55,17 @@ pub use handle::{XdpProgram, programs_cross_threads};
 pub use loaded_program::LoadedProgram;
 pub use maps::{laxonje_map_count, laxonje_map_size};
 use queue_abi::NO_QUEUE;
-pub use queue_abi::{XdpOp, XdpQueueDesc, XdpQueueState};
-use queue_calls::{boxed, copied, given_packet, stepped};
+pub use queue_abi::{XdpQueueDesc, XdpQueueState};
+use queue_calls::{boxed, copied, given_packet};
 pub use queue_extents::{XdpExtent, laxonje_queue_make_extents};
 pub use queue_fault::QueueFault;
 pub use queue_handle::{XdpQueue, queues_cross_threads};
 pub use queue_waits::{laxonje_queue_await, laxonje_queue_flags};
 use std::alloc::Global;
-use xen_host::FrameOwners;
+use xen_host::{FrameOwners, Op};
 
 /// The version of `include/laxonje.h`.
-const VERSION: u32 = 2;
+const VERSION: u32 = 3;
 
 /// Whether a program is accepted with its maps.
 #[unsafe(no_mangle)]
@@ -272,24 +271,48 @@ pub extern "C" fn laxonje_queue_make(
     }
 }
 
+/// Begins a turn, with what was read of the tx producer, and says its first ops. How many: none where there is no queue, something is
+/// under way, or there is no room, and nothing changes then.
+#[unsafe(no_mangle)]
+pub extern "C" fn laxonje_queue_turn(
+    alloc: Global,
+    queue: &mut XdpQueue,
+    producer: u32,
+    ops: &mut [Op],
+) -> usize
+    ensures there { IfNone queue.old.slot.held (queue.new.slot.held ≡ None) }
+    ensures none { IfNone queue.old.slot.held ((result ≡ 0) × (ops.new ≡ ops.old)) }
+    ensures begun { IfSome queue.old.slot.held (λ q. IsSome (resting q) → 1 ≤ length ops.old →
+        IfSome queue.new.slot.held (λ r. HasBegun q r producer ops.old ops.new result)) }
+    ensures unbegun { IfSome queue.old.slot.held (λ q. (resting q ≡ None) ⊎ (length ops.old ≡ 0) →
+        IfSome queue.new.slot.held (λ r. (result ≡ 0) × (ops.new ≡ ops.old) × (r ≡ q))) }
+    ensures kept { IfSome queue.old.slot.held (λ _. IsSome queue.new.slot.held) }
+{
+    if !queue.is_live() {
+        return 0;
+    }
+    let mut held = queue.take_held(alloc);
+    let count = held.turn(producer, ops);
+    queue.put(held);
+    count
+}
+
 /// Goes on after the ops before, and says the next, as far as there is room: up to the first that has to be answered. How many. With
-/// no queue, fewer words than a page has, or fewer counters than the program has, nothing is asked and nothing changes.
+/// no queue, nothing under way, fewer words than a page has, or fewer counters than the program has, nothing is asked and nothing changes.
 #[unsafe(no_mangle)]
 pub extern "C" fn laxonje_queue_step(
     alloc: Global,
     queue: &mut XdpQueue,
     words: &mut [u32],
     counters: &mut [u64],
-    ops: &mut [XdpOp],
+    ops: &mut [Op],
 ) -> usize
     ensures there { IfNone queue.old.slot.held (queue.new.slot.held ≡ None) }
-    ensures none { IfNone queue.old.slot.held (IsNothing result words.old words.new counters.old counters.new) }
-    ensures few { IfSome queue.old.slot.held (λ q. AreFew q words.old counters.old (length ops.old) →
-        IfSome queue.new.slot.held (λ r. IsNotStepped q r result words.old words.new counters.old counters.new)) }
-    ensures stepped { IfSome queue.old.slot.held (λ q. AreEnough q words.old counters.old (length ops.old) →
-        IfSome queue.new.slot.held (λ r.
-        HasStepped q r (take result ops.new) (length ops.old) words.old words.new counters.old counters.new)) }
-    ensures rest { drop result ops.new ≡ drop result ops.old }
+    ensures none { IfNone queue.old.slot.held (IsUnsaid result words.old words.new counters.old counters.new ops.old ops.new) }
+    ensures few { IfSome queue.old.slot.held (λ q. AreFew q words.old counters.old ops.old → IfSome queue.new.slot.held (λ r.
+        IsNothing q r words.old words.new counters.old counters.new ops.old ops.new result)) }
+    ensures stepped { IfSome queue.old.slot.held (λ q. AreEnough q words.old counters.old ops.old → IfSome queue.new.slot.held (λ r.
+        HasStepped q r words.old words.new counters.old counters.new ops.old ops.new result)) }
     ensures kept { IfSome queue.old.slot.held (λ _. IsSome queue.new.slot.held) }
     ensures words { length words.new ≡ length words.old }
     ensures counters { length counters.new ≡ length counters.old }
@@ -298,23 +321,28 @@ pub extern "C" fn laxonje_queue_step(
         return 0;
     }
     let mut held = queue.take_held(alloc);
-    let count = stepped(&mut held, words, counters, ops);
+    let count = held.step(words, counters, ops);
     queue.put(held);
     count
 }
 
-/// Begins to deliver a packet of the host's own to the guest. It is copied; the steps that follow are of its delivery, until the op
+/// Begins to deliver a packet of the host's own to the guest, with what was read of the rx producer. It is copied; the steps that follow are of its delivery, until the op
 /// that says what became of it. The answer is 0; or, where nothing is begun, there is no queue, a turn or another delivery is under
 /// way, or the packet has fewer than 14 bytes or more than 65,535.
 #[unsafe(no_mangle)]
-pub extern "C" fn laxonje_queue_deliver(alloc: Global, queue: &mut XdpQueue, packet: &[u8]) -> u32
+pub extern "C" fn laxonje_queue_deliver(
+    alloc: Global,
+    queue: &mut XdpQueue,
+    producer: u32,
+    packet: &[u8],
+) -> u32
     ensures none { IfNone queue.old.slot.held ((result ≡ no_queue) × (queue.new.slot.held ≡ None)) }
     ensures kept { IfSome queue.old.slot.held (λ _. IsSome queue.new.slot.held) }
-    ensures taken { IfSome queue.old.slot.held (λ q. IfSome queue.new.slot.held (λ r. HasTaken q r packet.now result)) }
+    ensures taken { IfSome queue.old.slot.held (λ q. IfSome queue.new.slot.held (λ r. HasTaken q r producer packet.now result)) }
 {
     match queue.take(alloc) {
         Some(mut held) => {
-            let answer = given_packet(&mut held, packet);
+            let answer = given_packet(&mut held, producer, packet);
             queue.put(held);
             answer
         }
@@ -322,8 +350,8 @@ pub extern "C" fn laxonje_queue_deliver(alloc: Global, queue: &mut XdpQueue, pac
     }
 }
 
-/// Copies the packet of the turn that is over out, as far as there is room. How many bytes it has: none with no queue, inside a
-/// turn and before the first.
+/// Copies the packet of the turn that ran or of the delivery that is over, as far as there is room. How many bytes it has: none with no
+/// queue, inside a turn and before the first, and after one that was idle, was refused or halted.
 #[unsafe(no_mangle)]
 pub extern "C" fn laxonje_queue_packet(alloc: Global, queue: &mut XdpQueue, out: &mut [u8]) -> usize
     ensures kept { queue.new.slot.held ≡ queue.old.slot.held }
@@ -371,7 +399,7 @@ pub extern "C" fn laxonje_queue_free(alloc: Global, queue: &mut XdpQueue)
 /// The version of the header that fits this library.
 #[unsafe(no_mangle)]
 pub extern "C" fn laxonje_version() -> u32
-    ensures { result ≡ 2 }
+    ensures { result ≡ 3 }
 {
     VERSION
 }

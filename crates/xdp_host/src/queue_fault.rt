@@ -26,7 +26,7 @@ impl QueueFault {
             QueueFault::Make(MakeFault::Frames) => 2,
             QueueFault::Make(MakeFault::Table) => 3,
             QueueFault::Make(MakeFault::Ring) => 4,
-            QueueFault::Make(MakeFault::Port) => 5,
+            QueueFault::Make(MakeFault::Domain) => 5,
             QueueFault::Empty => 6,
         }
     }

@@ -1,3 +1,4 @@
+-- Stated: claims rest on this file.
 -- That a setup is one of some document: what its fields hold fits them.
 use Rattle.std.specs.Prelude.{◌<◌, ◌^◌, ◌≡◌, Ok}
 use Rattle.std.specs.List.{AllByRecursion}

@@ -1,3 +1,4 @@
+-- Stated: claims rest on this file.
 -- The rows of a document as they are written, before any limit is looked at.
 use Rattle.std.specs.Prelude.{pos, codes, ◌&&◌, ℕ, ℤ, Bool, true, List, [], ◌∷◌, Option, Some, None, option_and_then, option_map}
 use Rattle.std.specs.Prelude.{if◌then◌else◌}

@@ -1,3 +1,4 @@
+-- Stated: claims rest on this file.
 -- The number after the L.
 use Rattle.std.specs.Prelude.{ℕ}
 use Rattle.xdp_load.specs.declared.fault.Fault.TheVariants.{Text, Syntax, Key, Limit, Name, Hex, Relocation}

@@ -1,3 +1,4 @@
+-- Stated: claims rest on this file.
 -- What a call that may run out of memory answers.
 use Rattle.std.specs.Prelude.{◌≡◌, Option, Some, None, Result, Ok, Err}
 use Rattle.xdp_load.specs.declared.fault.Fault.{Fault}

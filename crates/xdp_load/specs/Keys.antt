@@ -1,3 +1,4 @@
+-- Stated: claims rest on this file.
 -- The keys of settings: where each stands, and what docs/SETTINGS.md allows there.
 use Rattle.std.specs.Prelude.{ℕ, List, Option, Some, None, codes}
 use Rattle.xdp_load.specs.declared.key.Key.{Key}
@@ -40,21 +41,21 @@ part_name Times = Some (codes "times")
 part_name _ = None
 
 abbrev pub allowed : Key → List ℕ
-allowed Program = codes "a list of hex texts, each with whole bytes; it has to be there"
+allowed Program = codes "a list of hex texts, each with whole bytes (required)"
 allowed Queues = codes "a whole number, 1 to 8"
 allowed IfIndex = codes "a whole number, 0 to 4294967295"
 allowed Start = codes "a whole number, 0 to 4294967295"
 allowed Answer = codes "a whole number, 0 to 4294967295"
 allowed Map = codes "at most four tables, each with name, entries and, optionally, counters"
-allowed Name = codes "a text of 1 to 32 bytes, no other map's; it has to be there"
-allowed Entries = codes "a whole number, 1 to 1024; it has to be there"
+allowed Name = codes "a text of 1 to 32 bytes, no other map's (required)"
+allowed Entries = codes "a whole number, 1 to 1024 (required)"
 allowed Counters = codes "a whole number, 1 to 8"
 allowed Reloc = codes "tables, each with slot and map"
-allowed Slot = codes "the number of a slot that holds a wide load, no other relocation's; it has to be there"
-allowed OfMap = codes "the name of a map; it has to be there"
+allowed Slot = codes "the number of a slot that holds a wide load, no other relocation's (required)"
+allowed OfMap = codes "the name of a map (required)"
 allowed Step = codes "steps, each of two whole numbers: a queue and an answer"
 allowed StepQueue = codes "a whole number below queues"
 allowed Packet = codes "tables, each with queue, bytes and, optionally, times"
-allowed PacketQueue = codes "a whole number below queues; it has to be there"
-allowed Bytes = codes "a hex text of 14 to 65535 bytes; it has to be there"
+allowed PacketQueue = codes "a whole number below queues (required)"
+allowed Bytes = codes "a hex text of 14 to 65535 bytes (required)"
 allowed Times = codes "a whole number, 1 to 100000"

@@ -1,3 +1,4 @@
+-- Stated: claims rest on this file.
 -- The limits of the numbers and the lengths.
 use Rattle.std.specs.Prelude.{Result, Ok, Err, ◌&&◌, ◌||◌, ◌/◌, ℕ, ℤ, pos, negsuc, Bool, true, false, not, List, [], ◌∷◌, length}
 use Rattle.std.specs.Prelude.{Option, Some, None, option_and_then, option_map, nat_le, nat_lt, if◌then◌else◌}

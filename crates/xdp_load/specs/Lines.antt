@@ -1,3 +1,4 @@
+-- Stated: claims rest on this file.
 -- The line of a settings text at which a key, a row of a list or a key of the row is found.
 use Rattle.std.specs.Prelude.{ℕ, suc, ◌+◌, ◌==◌, ◌||◌, List, [], ◌∷◌, length, take, drop, codes, slice_get}
 use Rattle.std.specs.Prelude.{Bool, false, not, Option, Some, None, option_map, position, if◌then◌else◌}

@@ -1,3 +1,4 @@
+-- For proofs: no claim rests on this file.
 -- What the rows of the code stand for.
 use Rattle.std.specs.Prelude.{map}
 use Rattle.xdp_load.specs.declared.kinds.MapRow.{MapRow}

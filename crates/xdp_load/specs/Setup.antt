@@ -1,3 +1,4 @@
+-- Stated: claims rest on this file.
 -- The setup that a settings text spells, or its first fault.
 use Rattle.std.specs.Prelude.{◌&&◌, ◌+◌, ◌*◌, ◌%◌, ◌==◌, ℕ, ℤ, pos, negsuc, Bool, true, false, not, List, [], ◌∷◌, ◌++◌, length}
 use Rattle.std.specs.Prelude.{slice_index, slice_set, Option, Some, None, option_and_then, option_map, nat_le, map, position}

@@ -1,3 +1,4 @@
+-- Stated: claims rest on this file.
 -- What a setup of the code stands for.
 use Rattle.std.specs.Prelude.{map, string_bytes}
 use Rattle.xdp_load.specs.declared.packets.Packet.{Packet as CodePacket}

@@ -1,3 +1,4 @@
+-- Stated: claims rest on this file.
 -- What holds of each setup.
 use Rattle.std.specs.Prelude.{ℕ, ◌≡◌, ◌<◌, ◌≤◌, length, true}
 use Rattle.std.specs.List.{AllByRecursion}

@@ -1,3 +1,4 @@
+-- Stated: claims rest on this file.
 -- Where settings are wrong: of the spots that have the fault the first, in the order of docs/SETTINGS.md.
 use Rattle.std.specs.Prelude.{ℕ, suc, ◌+◌, ◌≡◌, ◌≤◌, ◌==◌, ◌||◌, List, [], ◌∷◌, ◌++◌, length, take, count_by, codes, decimal}
 use Rattle.std.specs.Prelude.{pos, Bool, Option, None, Some, option_and_then, option_map, nat_lt, not, position, Result, Ok}
@@ -210,7 +211,7 @@ abbrev pub line_at : ℕ → List ℕ → ℕ
 line_at n bytes = count_by (λ b. b == 10) (take n bytes) + 1
 
 abbrev pub syntax_text : ℕ → List ℕ → List ℕ
-syntax_text n bytes = codes "line " ++ (decimal (line_at n bytes) ++ codes ": what TOML allows\n")
+syntax_text n bytes = codes "line " ++ (decimal (line_at n bytes) ++ codes ": no TOML begins or goes on here\n")
 
 -- some line of the text, where TOML's reader stopped
 abbrev pub IsSyntaxLine : List ℕ → List ℕ → Type 0

@@ -1,3 +1,4 @@
+-- For proofs: no claim rests on this file.
 -- What the spots of the code stand for.
 use Rattle.xdp_load.specs.Spots.{Spot, at, row, unknown}
 use Rattle.xdp_load.specs.declared.spot.Spot.{Spot as CodeSpot}

@@ -1,3 +1,4 @@
+-- Stated: claims rest on this file.
 -- A document as it is written, before any limit is looked at.
 use Rattle.std.specs.Prelude.{ℤ, List, [], ◌∷◌, codes, pos, Option, Some, option_and_then, Result, Ok, Err, if◌then◌else◌}
 use Rattle.toml.specs.Data.{Data, Members, as_str}

@@ -127,7 +127,7 @@ fn syntax_text(alloc: Global, bytes: &[u8], start: usize) -> Result<String, Allo
     ensures { IfOk result (λ s. string_bytes s ≡ syntax_text start bytes.now) }
 {
     let line = lines_ended(&bytes[..start]) + 1;
-    format!(in alloc; "line {line}: what TOML allows\n")
+    format!(in alloc; "line {line}: no TOML begins or goes on here\n")
 }
 
 /// The line of a text that is no TOML.

@@ -65,22 +65,22 @@ impl Key {
         ensures { result.now ≡ allowed self }
     {
         match self {
-            Key::Program => "a list of hex texts, each with whole bytes; it has to be there",
+            Key::Program => "a list of hex texts, each with whole bytes (required)",
             Key::Queues => "a whole number, 1 to 8",
             Key::IfIndex | Key::Start | Key::Answer => "a whole number, 0 to 4294967295",
             Key::Map => "at most four tables, each with name, entries and, optionally, counters",
-            Key::Name => "a text of 1 to 32 bytes, no other map's; it has to be there",
-            Key::Entries => "a whole number, 1 to 1024; it has to be there",
+            Key::Name => "a text of 1 to 32 bytes, no other map's (required)",
+            Key::Entries => "a whole number, 1 to 1024 (required)",
             Key::Counters => "a whole number, 1 to 8",
             Key::Reloc => "tables, each with slot and map",
             Key::Slot =>
-                "the number of a slot that holds a wide load, no other relocation's; it has to be there",
-            Key::OfMap => "the name of a map; it has to be there",
+                "the number of a slot that holds a wide load, no other relocation's (required)",
+            Key::OfMap => "the name of a map (required)",
             Key::Step => "steps, each of two whole numbers: a queue and an answer",
             Key::StepQueue => "a whole number below queues",
             Key::Packet => "tables, each with queue, bytes and, optionally, times",
-            Key::PacketQueue => "a whole number below queues; it has to be there",
-            Key::Bytes => "a hex text of 14 to 65535 bytes; it has to be there",
+            Key::PacketQueue => "a whole number below queues (required)",
+            Key::Bytes => "a hex text of 14 to 65535 bytes (required)",
             Key::Times => "a whole number, 1 to 100000",
         }
     }

@@ -9,9 +9,11 @@ use Rattle.xen_back.specs.declared.turn.Halt.{Halt}
 use Rattle.xen_back.specs.declared.turn.Turn.{Turn}
 use Rattle.xen_back.specs.declared.turn.Turn.TheVariants as shown
 use Rattle.xdp_pair.specs.Answering.{reply, shown_reply, answer_to}
-use Rattle.xdp_pair.specs.Rounds.{IsHalt, IsRest, Round, counted, delivered, halt_in, is_few, is_lost, is_refusal, is_run, is_sent, with_delivery, with_turn}
+use Rattle.xdp_pair.specs.Rounds.{IsRest, Round, counted, delivered, halt_in, is_few, is_lost, is_refusal, is_run, is_sent, next_after, next_of, slots_by, slots_in, with_delivery, with_turn}
 use Rattle.xdp_pair.specs.declared.host.Host.{Host}
 use Rattle.xdp_pair.specs.declared.host.Host.TheVariants as host
+use Rattle.xdp_pair.specs.declared.next.Next.{Next}
+use Rattle.xdp_pair.specs.declared.next.Next.TheVariants as next
 use Rattle.xdp_pair.specs.declared.report.BackRow.{BackRow}
 use Rattle.xdp_pair.specs.declared.report.Deliveries.{Deliveries}
 
@@ -166,20 +168,52 @@ reply_shown host.Answers (Halted cause) shown.Idle h = absurd h
 reply_shown host.Answers (Halted cause) (shown.Ran a n b o k) h = absurd h
 reply_shown host.Answers (Halted cause) (shown.Refused c o k) h = absurd h
 
-idle_rests : (u : Turned) → Shows u shown.Idle → IsRest u
-idle_rests Idle h = tt
-idle_rests (Ran number packet ops slots) h = absurd h
-idle_rests (Refused cause ops slots) h = absurd h
-idle_rests (Halted cause) h = absurd h
+-- what a host that sees a turn does next, and how many slots it has seen answered
+pub next_shown : (u : Turned) (s : Turn) → Shows u s → next_of s ≡ next_after u
+next_shown Idle shown.Idle h = refl
+next_shown (Ran number packet ops slots) (shown.Ran a n b o k) h = refl
+next_shown (Refused cause ops slots) (shown.Refused c o k) h = refl
+next_shown (Halted cause) (shown.Halted c) h = refl
+next_shown Idle (shown.Ran a n b o k) h = absurd h
+next_shown Idle (shown.Refused c o k) h = absurd h
+next_shown Idle (shown.Halted c) h = absurd h
+next_shown (Ran number packet ops slots) shown.Idle h = absurd h
+next_shown (Ran number packet ops slots) (shown.Refused c o k) h = absurd h
+next_shown (Ran number packet ops slots) (shown.Halted c) h = absurd h
+next_shown (Refused cause ops slots) shown.Idle h = absurd h
+next_shown (Refused cause ops slots) (shown.Ran a n b o k) h = absurd h
+next_shown (Refused cause ops slots) (shown.Halted c) h = absurd h
+next_shown (Halted cause) shown.Idle h = absurd h
+next_shown (Halted cause) (shown.Ran a n b o k) h = absurd h
+next_shown (Halted cause) (shown.Refused c o k) h = absurd h
 
-pub rests_idle : (u : Turned) (s : Turn) → s ≡ shown.Idle → Shows u s → IsRest u
-rests_idle u s is h = idle_rests u (subst (Shows u) is h)
+pub slots_shown : (u : Turned) (s : Turn) → Shows u s → slots_in s ≡ slots_by u
+slots_shown Idle shown.Idle h = refl
+slots_shown (Ran number packet ops slots) (shown.Ran a n b o k) h = h.4
+slots_shown (Refused cause ops slots) (shown.Refused c o k) h = h.2
+slots_shown (Halted cause) (shown.Halted c) h = refl
+slots_shown Idle (shown.Ran a n b o k) h = absurd h
+slots_shown Idle (shown.Refused c o k) h = absurd h
+slots_shown Idle (shown.Halted c) h = absurd h
+slots_shown (Ran number packet ops slots) shown.Idle h = absurd h
+slots_shown (Ran number packet ops slots) (shown.Refused c o k) h = absurd h
+slots_shown (Ran number packet ops slots) (shown.Halted c) h = absurd h
+slots_shown (Refused cause ops slots) shown.Idle h = absurd h
+slots_shown (Refused cause ops slots) (shown.Ran a n b o k) h = absurd h
+slots_shown (Refused cause ops slots) (shown.Halted c) h = absurd h
+slots_shown (Halted cause) shown.Idle h = absurd h
+slots_shown (Halted cause) (shown.Ran a n b o k) h = absurd h
+slots_shown (Halted cause) (shown.Refused c o k) h = absurd h
 
-pub rests_halted : (u : Turned) (s : Turn) → IsHalt s → Shows u s → IsRest u
-rests_halted u shown.Idle none h = absurd none
-rests_halted u (shown.Ran a n b o k) none h = absurd none
-rests_halted u (shown.Refused a o k) none h = absurd none
-rests_halted Idle (shown.Halted cause) is h = absurd h
-rests_halted (Ran number packet ops slots) (shown.Halted cause) is h = absurd h
-rests_halted (Refused c ops slots) (shown.Halted cause) is h = absurd h
-rests_halted (Halted c) (shown.Halted cause) is h = tt
+-- a turn after which the queue rests, or ends
+pub rest_after : (u : Turned) (n : Next) → n ≡ next_after u → n ≡ next.Rests → IsRest u
+rest_after Idle n after is = tt
+rest_after (Halted cause) n after is = tt
+rest_after (Ran number packet ops slots) n after is = let e : next.Goes ≡ next.Rests = sym after ∙ is in absurd (cc)
+rest_after (Refused cause ops slots) n after is = let e : next.Goes ≡ next.Rests = sym after ∙ is in absurd (cc)
+
+pub end_after : (u : Turned) (n : Next) → n ≡ next_after u → n ≡ next.Ends → IsRest u
+end_after Idle n after is = tt
+end_after (Halted cause) n after is = tt
+end_after (Ran number packet ops slots) n after is = let e : next.Goes ≡ next.Ends = sym after ∙ is in absurd (cc)
+end_after (Refused cause ops slots) n after is = let e : next.Goes ≡ next.Ends = sym after ∙ is in absurd (cc)

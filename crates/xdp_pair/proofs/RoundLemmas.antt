@@ -7,23 +7,21 @@ use Rattle.xen_back.specs.Queues.{state_of}
 use Rattle.xen_back.specs.declared.delivery.delivering.Delivery.{Delivery}
 use Rattle.xen_back.specs.declared.queue.Queue.{Queue}
 use Rattle.xen_back.specs.declared.turn.Turn.{Turn}
-use Rattle.xen_back.specs.declared.turn.Turn.TheVariants as shown
 use Rattle.xen_back.specs.declared.wiring.Wiring.{Wiring}
 use Rattle.xen_page.specs.declared.access.Access.{Access}
 use Rattle.xen_page.proofs.AccessLemmas.{performs_none, performs_then}
 use Rattle.xen_steps.specs.Drive.{accesses}
 use Rattle.xdp_pair.specs.Answering.{shown_reply}
-use Rattle.xdp_pair.specs.Rounds.{IsHalt, IsRoundOver, silent, answered, with_delivery, with_turn}
+use Rattle.xdp_pair.specs.Rounds.{IsRoundOver, silent, answered, next_of, slots_in, with_delivery, with_turn}
 use Rattle.xdp_pair.specs.declared.host.Host.{Host}
 use Rattle.xdp_pair.specs.declared.next.Next.{Next}
-use Rattle.xdp_pair.specs.declared.next.Next.TheVariants as next
 use Rattle.xdp_pair.specs.declared.report.BackRow.{BackRow}
-use Rattle.xdp_pair.proofs.CountLemmas.{counts_answer, counts_more, reply_shown, rests_halted, rests_idle}
+use Rattle.xdp_pair.proofs.CountLemmas.{counts_answer, counts_more, next_shown, reply_shown, slots_shown}
 
-pub silent_round : {S : Type 0} (log : S → Option (List Access)) (gives : S → Access → S → Type 0) (h : Host) (old new : Queue) (row row' : BackRow) (n : Next) (bus bus' : S) (ops ops' : List Op) (s : Turn) →
-    IsTurnOver log gives old new s bus bus' ops ops' → row' ≡ with_turn s row → (n ≡ next.Rests → s ≡ shown.Idle) → (n ≡ next.Ends → IsHalt s) → shown_reply h s ≡ None →
-    IsRoundOver log gives h old new row row' n bus bus' ops ops'
-silent_round log gives h old new row row' n bus bus' ops ops' s o counts rests ends none = record {
+pub silent_round : {S : Type 0} (log : S → Option (List Access)) (gives : S → Access → S → Type 0) (h : Host) (old new : Queue) (row row' : BackRow) (n : Next) (slots : ℕ) (bus bus' : S) (ops ops' : List Op) (s : Turn) →
+    IsTurnOver log gives old new s bus bus' ops ops' → row' ≡ with_turn s row → n ≡ next_of s → slots ≡ slots_in s → shown_reply h s ≡ None →
+    IsRoundOver log gives h old new row row' n slots bus bus' ops ops'
+silent_round log gives h old new row row' n slots bus bus' ops ops' s o counts goes done none = record {
   trace = o.trace;
   sending = [];
   turned = o.turned;
@@ -32,16 +30,16 @@ silent_round log gives h old new row row' n bus bus' ops ops' s o counts rests e
   performed = performs_then log gives bus bus' bus' (accesses o.trace) [] o.performed (performs_none log gives bus');
   grown = o.grown;
   counts = λ rs is. counts ∙ counts_more o.turned rs s row o.shows is;
-  rests = λ is. rests_idle o.turned s (rests is) o.shows;
-  ends = λ is. rests_halted o.turned s (ends is) o.shows;
+  goes = goes ∙ next_shown o.turned s o.shows;
+  settles = done ∙ slots_shown o.turned s o.shows;
   ready = o.ready;
   same = o.same;
 }
 
-pub answered_round : {S : Type 0} (log : S → Option (List Access)) (gives : S → Access → S → Type 0) (h : Host) (old mid new : Queue) (row told row' : BackRow) (n : Next) (bus between bus' : S) (ops ops' : List Op) (s : Turn)
-    (packet : List ℕ) (d : Delivery) → IsTurnOver log gives old mid s bus between ops ops' → told ≡ with_turn s row → (n ≡ next.Rests → s ≡ shown.Idle) → (n ≡ next.Ends → IsHalt s) → shown_reply h s ≡ Some packet →
-    IsDelivered log gives mid new packet d between bus' → row' ≡ with_delivery d told → IsRoundOver log gives h old new row row' n bus bus' ops ops'
-answered_round log gives h old mid new row told row' n bus between bus' ops ops' s packet d o counts rests ends some sent noted = record {
+pub answered_round : {S : Type 0} (log : S → Option (List Access)) (gives : S → Access → S → Type 0) (h : Host) (old mid new : Queue) (row told row' : BackRow) (n : Next) (slots : ℕ) (bus between bus' : S) (ops ops' : List Op) (s : Turn)
+    (packet : List ℕ) (d : Delivery) → IsTurnOver log gives old mid s bus between ops ops' → told ≡ with_turn s row → n ≡ next_of s → slots ≡ slots_in s → shown_reply h s ≡ Some packet →
+    IsDelivered log gives mid new packet d between bus' → row' ≡ with_delivery d told → IsRoundOver log gives h old new row row' n slots bus bus' ops ops'
+answered_round log gives h old mid new row told row' n slots bus between bus' ops ops' s packet d o counts goes done some sent noted = record {
   trace = o.trace;
   sending = sent.trace;
   turned = o.turned;
@@ -51,8 +49,8 @@ answered_round log gives h old mid new row told row' n bus between bus' ops ops'
   performed = performs_then log gives bus between bus' (accesses o.trace) (accesses sent.trace) o.performed sent.performed;
   grown = o.grown;
   counts = λ rs is. noted ∙ counts_answer o.turned d rs told (counts ∙ counts_more o.turned rs s row o.shows is);
-  rests = λ is. rests_idle o.turned s (rests is) o.shows;
-  ends = λ is. rests_halted o.turned s (ends is) o.shows;
+  goes = goes ∙ next_shown o.turned s o.shows;
+  settles = done ∙ slots_shown o.turned s o.shows;
   ready = sent.ready;
   same = record {
     wiring = sent.same.wiring ∙ o.same.wiring;

@@ -1,3 +1,4 @@
+-- Stated: claims rest on this file.
 -- What the host sends because of a turn.
 use Rattle.std.specs.Prelude.{ℕ, ◌++◌, List, drop, take, Option, None, Some, if◌then◌else◌}
 use Rattle.bpf_vm.specs.Actions.{action_of}

@@ -1,3 +1,4 @@
+-- Stated: claims rest on this file.
 -- What the queues leave in their rows and in the counters.
 use Rattle.std.specs.Prelude.{ℕ, ◌≡◌, ◌<◌, ◌%◌, ◌^◌, List, All, Contains, Some, map, option_map, slice_get, sum_by}
 use Rattle.bpf_note.specs.History.{added}

@@ -5,3 +5,4 @@ pub mod Working
 pub mod Promised
 pub mod Leaving
 pub mod Sending
+pub mod Rings

@@ -1,3 +1,4 @@
+-- For proofs: no claim rests on this file.
 -- What a back thread that was lent a seat has promised.
 use Rattle.std.specs.Prelude.{ℕ, ◌≡◌}
 use Rattle.std.specs.declared.thread.PromisedHandle.{PromisedHandle}

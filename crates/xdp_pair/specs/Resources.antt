@@ -1,3 +1,4 @@
+-- Stated: claims rest on this file.
 -- What the threads are given.
 use Rattle.std.specs.Prelude.{ℕ, suc, zero, ◌+◌, ◌*◌, ◌<◌, ◌≡◌, List, [], ◌∷◌, length, true}
 use Rattle.bpf_maps.specs.Seats.{CountersView, new_seat}

@@ -1,3 +1,4 @@
+-- Stated: claims rest on this file.
 -- Rounds of a back: a turn, and the host's answer to its packet. And what a row counts of them.
 use Rattle.std.specs.Prelude.{ℕ, ◌≡◌, ◌<◌, ◌+◌, Bool, true, false, List, [], ◌∷◌, ◌++◌, count_by, Option, Some, None}
 use Rattle.bpf_note.specs.declared.op.Op.{Op}
@@ -43,10 +44,32 @@ IsRest Idle = Unit {0}
 IsRest (Halted cause) = Unit {0}
 IsRest u = ⊥
 
--- a turn that a host sees halted
-abbrev pub IsHalt : Turn → Type 0
-IsHalt (shown.Halted cause) = Unit {0}
-IsHalt t = ⊥
+-- what comes after a turn that a host sees: it goes on but where the turn found nothing, and ends where the queue has halted
+abbrev pub next_of : Turn → Next
+next_of shown.Idle = next.Rests
+next_of (shown.Ran action number packet ops slots) = next.Goes
+next_of (shown.Refused cause ops slots) = next.Goes
+next_of (shown.Halted cause) = next.Ends
+
+-- the tx slots that it answered
+abbrev pub slots_in : Turn → ℕ
+slots_in shown.Idle = 0
+slots_in (shown.Ran action number packet ops slots) = slots
+slots_in (shown.Refused cause ops slots) = slots
+slots_in (shown.Halted cause) = 0
+
+-- what comes after a turn, and the tx slots that it answered
+abbrev pub next_after : Turned → Next
+next_after Idle = next.Rests
+next_after (Ran number packet ops slots) = next.Goes
+next_after (Refused cause ops slots) = next.Goes
+next_after (Halted cause) = next.Ends
+
+abbrev pub slots_by : Turned → ℕ
+slots_by Idle = 0
+slots_by (Ran number packet ops slots) = slots
+slots_by (Refused cause ops slots) = slots
+slots_by (Halted cause) = 0
 
 -- a turn that ran the program on a packet, and one that refused its packet
 abbrev pub is_run : Turned → Bool
@@ -124,10 +147,10 @@ abbrev pub HasRoom : Deliveries → Type 0
 HasRoom d = (d.sent < 4294967295) × (d.few < 4294967295) × (d.refused < 4294967295)
 
 -- A round is over: its traces are a round's, the bus went through its accesses, its labels are what the seat's operations grew by,
--- and the row counts it.
+-- the row counts it, and its turn says what comes next and how many slots are done with.
 pub record IsRoundOver {S : Type 0} (log : S → Option (List Access)) (gives : S → Access → S →
     Type 0) (h : Host) (old new : Queue) (row row' : BackRow)
-    (n : Next) (bus bus' : S) (ops ops' : List Op) : Type 0 where
+    (n : Next) (slots : ℕ) (bus bus' : S) (ops ops' : List Op) : Type 0 where
   pub trace : List Event
   pub sending : List Event
   pub turned : Turned
@@ -136,7 +159,7 @@ pub record IsRoundOver {S : Type 0} (log : S → Option (List Access)) (gives : 
   pub performed : Performs log gives bus (accesses trace ++ accesses sending) bus'
   pub grown : ops' ≡ ops ++ labels trace
   pub counts : (rs : List Round) → row ≡ counted rs → row' ≡ counted ((turned, sent) ∷ rs)
-  pub rests : n ≡ next.Rests → IsRest turned
-  pub ends : n ≡ next.Ends → IsRest turned
+  pub goes : n ≡ next_after turned
+  pub settles : slots ≡ slots_by turned
   pub ready : IsReady new
   pub same : IsSameWiring old new

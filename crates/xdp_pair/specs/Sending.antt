@@ -1,3 +1,4 @@
+-- For proofs: no claim rests on this file.
 -- What a front has still to send.
 use Rattle.std.specs.Prelude.{ℕ, ◌++◌, ◌-◌, ◌<◌, ◌≡◌, List, [], ◌∷◌, nat_eq, if◌then◌else◌, IfSome, replicate, slice_get}
 use Rattle.xdp_load.specs.declared.packets.Packet.{Packet}

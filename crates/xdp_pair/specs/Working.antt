@@ -1,3 +1,4 @@
+-- Stated: claims rest on this file.
 -- What a back thread does: rounds of its queue, one after another.
 use Rattle.std.specs.Prelude.{ℕ, ◌≡◌, ◌≤◌, ◌+◌, ◌*◌, ◌⊎◌, List, [], ◌∷◌, ◌++◌, length, Option}
 use Rattle.bpf_note.specs.declared.op.Op.{Op}

@@ -1,8 +1,6 @@
 //! What a back's row counts.
 ghost use Rattle.std.specs.Prelude.{◌≡◌, ◌<◌, ◌*◌, []};
-ghost use Rattle.xdp_pair.specs.Rounds.{HasRoom, IsHalt, counted, with_delivery, with_turn};
-ghost use Rattle.xdp_pair.specs.declared.next.Next.TheVariants.{Rests, Ends};
-ghost use Rattle.xen_back.specs.declared.turn.Turn.TheVariants.{Idle};
+ghost use Rattle.xdp_pair.specs.Rounds.{HasRoom, counted, next_of, with_delivery, with_turn};
 
 use crate::next::Next;
 use crate::report::{BackRow, Deliveries};
@@ -25,8 +23,7 @@ impl BackRow {
     pub fn count(&mut self, turn: &Turn<'_>) -> Next
         requires room { (self.old.copied < 4294967295) × (self.old.refused < 4294967295) }
         ensures counted { self.new ≡ with_turn turn.now self.old }
-        ensures rests { result ≡ Rests → turn.now ≡ Idle }
-        ensures ends { result ≡ Ends → IsHalt turn.now }
+        ensures next { result ≡ next_of turn.now }
     {
         match turn {
             Turn::Ran { .. } => {

@@ -1,8 +1,13 @@
 //! The rings' pages: their headers and grants, and their mappings.
-ghost use Rattle.std.specs.Prelude.{◌≡◌, ◌<◌, ◌*◌, IfErr, IfOk, true};
+ghost use Rattle.std.specs.Prelude.{◌≡◌, ◌<◌, ◌*◌, IfErr, IfOk, List, Result, length, true};
 ghost use Rattle.xdp_pair.specs.declared.fault.PairFault.TheVariants.{Map};
-ghost use Rattle.xen_page.specs.Mapping.{IsMappedBy};
-ghost use Rattle.xdp_world.specs.Frames.{frame_of, owners_of};
+ghost use Rattle.xdp_pair.specs.Rings.{ring_of};
+ghost use Rattle.xen_page.specs.Access.{Performs};
+ghost use Rattle.xen_page.specs.Mapping.{IsMap, IsMappedBy, Mapping};
+ghost use Rattle.xen_page.specs.declared.access.Access.{Access};
+ghost use Rattle.xen_page.specs.declared.fault.GrantFault.{GrantFault};
+ghost use Rattle.xen_page.specs.Shared.{frames_of};
+ghost use Rattle.xdp_world.specs.Frames.{frame_of, owners_of, table_frames};
 
 use crate::fault::PairFault;
 use crate::shared::Shared;
@@ -18,7 +23,7 @@ const PERMIT: u32 = 1;
 
 /// Writes a word of a page.
 fn put(bus: &mut PageBus<'_>, frame: u32, word: u32, value: u32)
-    requires frame { frame < bus.old }
+    requires frame { frame < frames_of bus.old }
     requires word { word < 1024 }
     ensures { bus.new ≡ bus.old }
 {
@@ -28,7 +33,7 @@ fn put(bus: &mut PageBus<'_>, frame: u32, word: u32, value: u32)
 /// Writes the header of a new ring, and the entry that grants its page.
 fn write_ring(shared: &Shared, bus: &mut PageBus<'_>, gref: u32)
     requires gref { gref < 514 * shared.now.layout.queues }
-    requires size { bus.old ≡ shared.now.frames }
+    requires size { frames_of bus.old ≡ shared.now.frames }
     ensures { bus.new ≡ bus.old }
 {
     let frame = FIRST_GRANTED + gref;
@@ -43,19 +48,18 @@ fn write_ring(shared: &Shared, bus: &mut PageBus<'_>, gref: u32)
     }
 }
 
-/// A new ring in the page of a reference, mapped for writing. A mapping that gave another page isn't taken: the entry was
-/// rewritten meanwhile.
-pub(crate) fn make_ring(shared: &Shared, gref: u32) -> Result<Mapped, PairFault>
-    requires { gref < 514 * shared.now.layout.queues }
+/// Maps the page of a reference for writing. A mapping that gave another page isn't taken: the entry was rewritten meanwhile.
+fn map_ring<B: Bus>(shared: &Shared, bus: &mut B, gref: u32) -> Result<Mapped, PairFault>
+    requires gref { gref < 514 * shared.now.layout.queues }
+    requires size { B.size bus.old ≡ length (owners_of shared.now.layout.queues) }
     ensures lent { IfOk result (IsMappedBy (owners_of shared.now.layout.queues) 1) }
     ensures write { IfOk result (λ m. m.write ≡ true) }
-    ensures frame { IfOk result (λ m. m.frame ≡ frame_of gref) }
-    ensures fault { IfErr result (λ e. e ≡ Map) }
+    ensures mapped { (t : List Access) × (answer : Result Mapping GrantFault) ×
+        IsMap table_frames (owners_of shared.now.layout.queues) 1 0 gref true t answer × Performs B.log B.access_gives bus.old t bus.new ×
+        (result ≡ ring_of gref answer) }
 {
-    let mut bus = PageBus::of(&shared.frames);
-    write_ring(shared, &mut bus, gref);
     let mapped = map(
-        &mut bus,
+        bus,
         shared.layout.table(),
         shared.layout.owners(),
         FRONT,
@@ -67,4 +71,17 @@ pub(crate) fn make_ring(shared: &Shared, gref: u32) -> Result<Mapped, PairFault>
         Ok(ring) if ring.frame() == FIRST_GRANTED + gref => Ok(ring),
         Ok(_) | Err(_) => Err(PairFault::Map),
     }
+}
+
+/// A new ring in the page of a reference, mapped for writing.
+pub(crate) fn make_ring(shared: &Shared, gref: u32) -> Result<Mapped, PairFault>
+    requires { gref < 514 * shared.now.layout.queues }
+    ensures lent { IfOk result (IsMappedBy (owners_of shared.now.layout.queues) 1) }
+    ensures write { IfOk result (λ m. m.write ≡ true) }
+    ensures frame { IfOk result (λ m. m.frame ≡ frame_of gref) }
+    ensures fault { IfErr result (λ e. e ≡ Map) }
+{
+    let mut bus = PageBus::of(&shared.frames);
+    write_ring(shared, &mut bus, gref);
+    map_ring(shared, &mut bus, gref)
 }

@@ -2,7 +2,7 @@
 ghost use Rattle.std.specs.Prelude.{◌≡◌, ◌<◌, ◌*◌, length};
 ghost use Rattle.bpf_maps.specs.Seats.{IsSeatOf};
 ghost use Rattle.xen_back.specs.Queues.{IsReady, wiring_of};
-ghost use Rattle.xdp_pair.specs.Rounds.{HasRoom, IsRoundOver};
+ghost use Rattle.xdp_pair.specs.Rounds.{HasRoom, IsRoundOver, slots_in};
 
 use crate::answer::Answer;
 use crate::next::Next;
@@ -19,7 +19,9 @@ pub(crate) struct Round {
 }
 
 /// The tx slots that a turn answered.
-fn slots_of(turn: &Turn<'_>) -> u32 {
+fn slots_of(turn: &Turn<'_>) -> u32
+    ensures { result ≡ slots_in turn.now }
+{
     match turn {
         Turn::Ran { slots, .. } | Turn::Refused { slots, .. } => *slots,
         Turn::Idle | Turn::Halted { .. } => 0,
@@ -44,8 +46,8 @@ pub(crate) fn drive_round<B: Bus>(
     requires deliveries { HasRoom row.old.deliveries }
     ensures size { B.size bus.new ≡ B.size bus.old }
     ensures seat { seat.new ≡ record seat.old { ops = seat.new.ops } }
-    ensures over { IsRoundOver B.log B.access_gives shared.now.host queue.old queue.new row.old row.new result.next bus.old bus.new
-        seat.old.ops seat.new.ops }
+    ensures over { IsRoundOver B.log B.access_gives shared.now.host queue.old queue.new row.old row.new result.next result.slots
+        bus.old bus.new seat.old.ops seat.new.ops }
 {
     let turn = queue.drive_turn(bus, counters, seat, &shared.ports);
     let slots = slots_of(&turn);

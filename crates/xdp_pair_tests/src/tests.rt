@@ -6,4 +6,5 @@ mod fixtures;
 mod growth;
 mod meeting;
 mod opening;
+mod resting;
 mod rows;

@@ -1,3 +1,4 @@
+-- Stated: claims rest on this file.
 -- Why a program isn't accepted, and when a run is made.
 use Rattle.std.specs.Prelude.{ℕ, ◌≡◌, ◌<◌, ◌≤◌, ◌⊎◌, List, length}
 use Rattle.bpf_insn.specs.Code.{Spells}

@@ -1,3 +1,4 @@
+-- Stated: claims rest on this file.
 -- What becomes of the program of a settings text.
 use Rattle.std.specs.Prelude.{ℕ, ◌≡◌, ◌≤◌, List, Ok, length}
 use Rattle.bpf_insn.specs.Code.{Spells}

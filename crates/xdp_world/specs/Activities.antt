@@ -1,3 +1,4 @@
+-- Stated: claims rest on this file.
 -- What a queue does: turns, and between them deliveries of packets of the host's own and waits for rx slots.
 use Rattle.std.specs.Prelude.{ℕ, ◌≡◌, ◌≢◌, ◌+◌, List, [], ◌∷◌, ◌++◌, Some, None}
 use Rattle.xen_steps.specs.Drive.{Gone}

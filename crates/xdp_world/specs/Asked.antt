@@ -1,3 +1,4 @@
+-- Stated: claims rest on this file.
 -- A run of a world's events, deliveries and waits among them.
 use Rattle.std.specs.Prelude.{ℕ, ◌≡◌, ◌≢◌, ◌<◌, List, [], ◌∷◌, ◌++◌, Option, length}
 use Rattle.std.specs.Global.{Vec}
@@ -62,5 +63,7 @@ pub record IsWorldRun (program : Accepted) (queues ifindex start : ℕ) (es : Li
   pub calls : List Call
   pub made : Makes wirings start [] es calls
   pub count : length r.turns.items ≡ queues
+  pub delivered : length r.deliveries.items ≡ queues
+  pub waited : length r.waits.items ≡ queues
   pub shapes : r.totals.shapes ≡ program.shapes
   pub tells : Tells wirings start calls r

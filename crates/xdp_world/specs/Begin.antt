@@ -1,3 +1,4 @@
+-- Stated: claims rest on this file.
 -- Where a world begins.
 use Rattle.std.specs.Prelude.{ℕ, ◌≡◌, ◌<◌, ◌+◌, ◌*◌, []}
 use Rattle.bpf_verify.specs.Consistent.{Accepted}

@@ -1,3 +1,4 @@
+-- Stated: claims rest on this file.
 -- The buffers of a front: each is the page that its reference grants.
 use Rattle.std.specs.Prelude.{ℕ, List, map}
 use Rattle.std.specs.List.{range_with_len}

@@ -1,3 +1,4 @@
+-- Stated: claims rest on this file.
 -- The list of the calls that did something to a world, and what each queue has of it.
 use Rattle.std.specs.Prelude.{ℕ, ◌≡◌, List, [], ◌∷◌, ◌++◌, Some, None, if◌then◌else◌, ◌==◌, slice_get, take}
 use Rattle.xen_back.specs.declared.wiring.Wiring.{Wiring}

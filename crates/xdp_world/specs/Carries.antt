@@ -1,3 +1,4 @@
+-- Stated: claims rest on this file.
 -- What one step does to a queue, with what it is doing, and to the counters.
 use Rattle.std.specs.Prelude.{ℕ, ◌≡◌, ◌≢◌, List, [], ◌∷◌, Option, Some, None, false}
 use Rattle.bpf_maps.specs.Seats.{TotalsView}

@@ -1,3 +1,4 @@
+-- Stated: claims rest on this file.
 -- What a queue is doing.
 use Rattle.std.specs.Prelude.{ℕ, ◌≡◌, ◌≢◌, ◌<◌, Bool, true, false, IsTrue, List, [], ◌∷◌, Option, Some, length, slice_index_or}
 use Rattle.std.specs.Coded.{Unit-prop}

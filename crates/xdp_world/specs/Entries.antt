@@ -1,3 +1,4 @@
+-- Stated: claims rest on this file.
 -- The list of entries, one a step, and what each queue has of it.
 use Rattle.std.specs.Prelude.{ℕ, ◌≡◌, List, [], ◌∷◌, ◌++◌, Option, Some, None, if◌then◌else◌, ◌==◌}
 use Rattle.bpf_note.specs.declared.op.Op.{Op}

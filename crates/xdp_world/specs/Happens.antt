@@ -1,3 +1,4 @@
+-- Stated: claims rest on this file.
 -- What one step does to one queue and the counters.
 use Rattle.std.specs.Prelude.{ℕ, ◌≡◌, ◌≢◌, ◌+◌, ◌%◌, ◌^◌, List, [], ◌∷◌, Option, Some, None}
 use Rattle.bpf_maps.specs.Seats.{TotalsView, total_at}

@@ -1,3 +1,4 @@
+-- Stated: claims rest on this file.
 -- A turn that is kept.
 use Rattle.std.specs.Prelude.{◌≡◌}
 use Rattle.bpf_vm.specs.Actions.{action_of}

@@ -1,3 +1,4 @@
+-- Stated: claims rest on this file.
 -- A replay: one queue's reads are answered from a list.
 use Rattle.std.specs.Prelude.{ℕ, ◌≡◌, List, [], ◌∷◌, ◌++◌, Option, Some, None}
 use Rattle.bpf_verify.specs.Consistent.{Accepted}

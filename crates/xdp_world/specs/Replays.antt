@@ -1,3 +1,4 @@
+-- For proofs: no claim rests on this file.
 -- A world in which one queue is stepped.
 use Rattle.std.specs.Prelude.{ℕ, ◌≡◌, ◌⊎◌, List, [], ◌++◌, slice_index_or}
 use Rattle.xen_back.specs.Queues.{rest, wiring_of}

@@ -1,3 +1,4 @@
+-- Stated: claims rest on this file.
 -- What a run reports.
 use Rattle.std.specs.Prelude.{ℕ, ◌≡◌, ◌<◌, List, [], length}
 use Rattle.bpf_maps.specs.Seats.{total_at}
@@ -57,5 +58,7 @@ pub record IsCoreRun (program : Accepted) (queues ifindex start : ℕ) (steps : 
   pub entries : List Entry
   pub steps_are : steps_of entries ≡ steps
   pub count : length r.turns.items ≡ queues
+  pub delivered : length r.deliveries.items ≡ queues
+  pub waited : length r.waits.items ≡ queues
   pub shapes : r.totals.shapes ≡ program.shapes
   pub reports : Reports wirings start entries r

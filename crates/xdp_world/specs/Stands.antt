@@ -1,3 +1,4 @@
+-- Stated: claims rest on this file.
 -- What a world stands for.
 use Rattle.std.specs.Prelude.{ℕ, ◌≡◌, ◌<◌, ◌++◌, ◌∷◌, List, [], Option, Some, None, true, false, length, slice_get, slice_index_or, vec_len}
 use Rattle.std.specs.Prelude.{vec_capacity}

@@ -145,6 +145,8 @@ impl<'p, 'b> World<'p, 'b> {
     /// What was done so far. It takes no memory.
     pub fn report(self) -> Report
         ensures count { vec_len result.turns ≡ vec_len self.entry.queues }
+        ensures delivered { vec_len result.deliveries ≡ vec_len self.entry.queues }
+        ensures waited { vec_len result.waits ≡ vec_len self.entry.queues }
         ensures turns { result.turns.items ≡ self.entry.turns.items }
         ensures deliveries { result.deliveries.items ≡ self.entry.deliveries.items }
         ensures waits { result.waits.items ≡ self.entry.waits.items }

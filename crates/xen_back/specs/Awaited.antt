@@ -1,3 +1,4 @@
+-- Stated: claims rest on this file.
 -- A host waits for rx slots: a row for each answer.
 -- It is the end of ring.h's RING_FINAL_CHECK_FOR_REQUESTS, for as many requests as a packet has pages: req_event is stored,
 -- and req_prod read behind it.

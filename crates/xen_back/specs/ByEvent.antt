@@ -1,3 +1,4 @@
+-- Stated: claims rest on this file.
 -- What contracts see of a delivery that is taken one event at a time.
 use Rattle.std.specs.Prelude.{ℕ, ◌≡◌, ◌≢◌, List, length}
 use Rattle.xen_steps.specs.Answers.{number}

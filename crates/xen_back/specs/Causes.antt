@@ -1,3 +1,4 @@
+-- Stated: claims rest on this file.
 -- The numbers of causes, which are this project's own.
 use Rattle.std.specs.Prelude.{ℕ}
 use Rattle.xen_netif.specs.Faults.{chain_fault_number, size_fault_number}

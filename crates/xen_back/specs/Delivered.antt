@@ -1,3 +1,4 @@
+-- Stated: claims rest on this file.
 -- A packet that the host delivers to the frontend: a row for each thing that may become of it.
 use Rattle.std.specs.Prelude.{ℕ, ◌≡◌, Bool, true, false, List, [], length, Option, Some, None, nat_lt, if◌then◌else◌}
 use Rattle.xen_page.specs.Access.{Performs}

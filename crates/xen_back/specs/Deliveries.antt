@@ -1,3 +1,4 @@
+-- Stated: claims rest on this file.
 -- A delivery as a computation that asks, for a host that serves each event itself.
 use Rattle.std.specs.Prelude.{ℕ, Bool, true, false, List, length, Option, Some, None}
 use Rattle.xen_steps.specs.Drive.{IsPageWant, IsPageWant-prop}

@@ -1,3 +1,4 @@
+-- Stated: claims rest on this file.
 -- A whole turn over a bus and a seat.
 use Rattle.std.specs.Prelude.{◌≡◌, List, [], ◌∷◌, ◌++◌, Option}
 use Rattle.bpf_note.specs.declared.op.Op.{Op}

@@ -1,3 +1,4 @@
+-- Stated: claims rest on this file.
 -- The packet of a copy.
 use Rattle.std.specs.Prelude.{ℕ, ◌≡◌, List, [], Option, None, Some}
 use Rattle.bpf_vm.specs.Packet.{Packet}

@@ -1,3 +1,4 @@
+-- For proofs: no claim rests on this file.
 -- A turn that is taken in one go over a bus, between its parts.
 use Rattle.std.specs.Prelude.{◌≡◌, ℕ, length, List, [], ◌∷◌, ◌++◌, Option, Some, None, Result, Ok, Err}
 use Rattle.bpf_maps.specs.Seats.{CountersView, IsSeatOf, SeatView}

@@ -1,3 +1,4 @@
+-- Stated: claims rest on this file.
 -- A queue that was made, new or from where another one ended.
 use Rattle.std.specs.Prelude.{◌≡◌, None}
 use Rattle.bpf_verify.specs.Consistent.{Accepted}

@@ -1,3 +1,4 @@
+-- Stated: claims rest on this file.
 -- The program's part of a turn's trace.
 use Rattle.std.specs.Prelude.{ℕ, zero, suc, ◌≡◌, ◌≤◌, ◌%◌, ◌^◌, List, [], ◌∷◌, length, map, Option, None, Some}
 use Rattle.bpf_note.specs.declared.op.Op.{Op}

@@ -1,3 +1,4 @@
+-- Stated: claims rest on this file.
 -- What contracts see of a queue.
 use Rattle.std.specs.Prelude.{ℕ, ◌≡◌, ◌≢◌, List, Some}
 use Rattle.xen_steps.specs.Answers.{number}

@@ -1,3 +1,4 @@
+-- For proofs: no claim rests on this file.
 -- A run of the wired program on a packet, and what it did at the counters.
 use Rattle.std.specs.Prelude.{ℕ, ◌≡◌, List, [], ◌++◌}
 use Rattle.bpf_note.specs.declared.op.Op.{Op}

@@ -1,3 +1,4 @@
+-- For proofs: no claim rests on this file.
 -- Words of a page that a driver reads.
 use Rattle.std.specs.Prelude.{ℕ, List, Option}
 use Rattle.xen_page.specs.Access.{Performs}

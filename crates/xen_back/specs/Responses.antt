@@ -1,3 +1,4 @@
+-- Stated: claims rest on this file.
 -- What a program leaves, the responses to a chain, and the state after them.
 use Rattle.std.specs.Prelude.{ℕ, ◌==◌, List, map, Option, None, Some, if◌then◌else◌}
 use Rattle.std.specs.Int.{w16, cast_unsigned}

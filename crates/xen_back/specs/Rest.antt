@@ -1,3 +1,4 @@
+-- Stated: claims rest on this file.
 -- What a queue has left of its turn (its continuation).
 use Rattle.std.specs.Prelude.{ℕ, suc, ◌+◌, true, false, List, [], ◌∷◌, ◌++◌, length, drop}
 use Rattle.std.specs.Prelude.{slice_index_or, Option, Some, None, Result, Ok, Err}

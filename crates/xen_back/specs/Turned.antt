@@ -1,3 +1,4 @@
+-- Stated: claims rest on this file.
 -- A turn with its packet's bytes.
 use Rattle.std.specs.Prelude.{ℕ, ◌≡◌, ◌≤◌, List, length}
 use Rattle.bpf_vm.specs.Actions.{action_of}

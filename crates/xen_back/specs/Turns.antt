@@ -1,3 +1,4 @@
+-- Stated: claims rest on this file.
 -- What a turn is: its trace is the joining of parts.
 use Rattle.std.specs.Prelude.{ℕ, ◌≡◌, ◌≢◌, List, [], ◌++◌, Some, None, Ok, Err, length}
 use Rattle.xen_netif.specs.Chain.{HasFault, IsChain, Slot}

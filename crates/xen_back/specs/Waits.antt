@@ -1,3 +1,4 @@
+-- Stated: claims rest on this file.
 -- A wait for rx slots as a computation that asks, for a host that serves each event itself.
 use Rattle.std.specs.Prelude.{ℕ, if◌then◌else◌, nat_lt, Option, Some, None}
 use Rattle.xen_steps.specs.Drive.{IsPageWant}

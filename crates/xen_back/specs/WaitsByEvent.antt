@@ -1,3 +1,4 @@
+-- Stated: claims rest on this file.
 -- What contracts see of a wait that is taken one event at a time.
 use Rattle.std.specs.Prelude.{ℕ, ◌≡◌}
 use Rattle.xen_steps.specs.Answers.{number}

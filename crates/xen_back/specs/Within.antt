@@ -1,3 +1,4 @@
+-- Stated: claims rest on this file.
 -- What a queue may want: words of the frames, and counters of the maps.
 use mathlib.Core.Path.{fun_ext}
 use Rattle.std.specs.Prelude.{ℕ, ◌<◌, List, length, Option, Some, None, slice_get}

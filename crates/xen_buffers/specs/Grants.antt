@@ -1,3 +1,4 @@
+-- Stated: claims rest on this file.
 -- The grants of a front's buffers.
 use Rattle.std.specs.Prelude.{ℕ, List, get_or, Option, Some, None}
 use Rattle.xen_page.specs.Table.{entry_place}

@@ -1,3 +1,4 @@
+-- Stated: claims rest on this file.
 -- The pages and references that a front is made with.
 use Rattle.std.specs.Prelude.{ℕ, ◌≡◌, ◌≢◌, ◌<◌, List, ◌∷◌, ◌++◌, length, map, All, None}
 use Rattle.std.specs.List.{AllPairs}

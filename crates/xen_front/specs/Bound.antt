@@ -1,3 +1,4 @@
+-- Stated: claims rest on this file.
 -- Where the events of an activity are, and how many there are at most.
 use Rattle.std.specs.Prelude.{ℕ, ◌≡◌, ◌<◌, ◌≤◌, List, [], ◌∷◌, length, All, Contains}
 use Rattle.xen_page.specs.declared.place.Place.{Place}

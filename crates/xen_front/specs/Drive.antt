@@ -1,3 +1,4 @@
+-- Stated: claims rest on this file.
 -- A whole activity over a bus.
 use Rattle.std.specs.Prelude.{◌≡◌, List, Option, false}
 use Rattle.xen_page.specs.Access.{Performs}

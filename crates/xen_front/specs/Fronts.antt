@@ -1,3 +1,4 @@
+-- Stated: claims rest on this file.
 -- What contracts see of a front.
 use Rattle.std.specs.Prelude.{ℕ, zero, suc, ◌≡◌, ◌≢◌, ◌+◌, Bool, true, false, List, [], ◌∷◌, length, take, get_or, Option, Some}
 use Rattle.std.specs.Prelude.{None, Result, Ok, Err, nat_lt, if◌then◌else◌}

@@ -1,3 +1,4 @@
+-- Stated: claims rest on this file.
 -- What a front may be made of, and what it is then.
 use Rattle.std.specs.Prelude.{ℕ, ◌≡◌, false, length, None}
 use Rattle.xen_front.specs.Fronts.{busy, state_of, wiring_of}

@@ -1,3 +1,4 @@
+-- Stated: claims rest on this file.
 -- What a front has left of its activity.
 use Rattle.std.specs.Prelude.{ℕ, suc, ◌≤◌, ◌+◌, ◌-◌, ◌*◌, Bool, true, false, List, [], ◌∷◌, ◌++◌, length, drop, get_or}
 use Rattle.xen_netif.specs.Slots.{tx_req_words}

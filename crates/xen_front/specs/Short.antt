@@ -1,3 +1,4 @@
+-- For proofs: no claim rests on this file.
 -- A front's activity comes to an end.
 use Rattle.std.specs.Prelude.{ℕ, List}
 use Rattle.std.specs.Coded.{Unit-prop}

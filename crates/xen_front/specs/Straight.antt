@@ -1,3 +1,4 @@
+-- For proofs: no claim rests on this file.
 -- Writes that are made in one go.
 use Rattle.std.specs.Prelude.{ℕ, ◌<◌, List, [], ◌∷◌}
 use Rattle.xen_page.specs.declared.access.Access.{Access}

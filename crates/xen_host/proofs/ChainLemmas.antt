@@ -1,252 +1,172 @@
--- Steps one behind another: what each is of, and their events.
-use Rattle.std.proofs.Common.{◌≡◌, ℕ, true, List, [], ◌∷◌, ◌++◌, refl, sym, ap, ◌∙◌, subst, append_assoc, append-nil}
-use Rattle.std.specs.Prelude.{Option, Some, None}
-use Rattle.std.specs.Global.{Box}
-use Rattle.xen_steps.specs.Event.{Event}
-use Rattle.xen_steps.specs.Steps.{done, never}
-use Rattle.xen_back.specs.Deliveries.{Arrival}
-use Rattle.xen_back.specs.declared.state.State.{State}
+-- Asks that follow one another: the responses of a chain and of rx slots, and a page's words.
+use Rattle.std.proofs.Common.{◌≡◌, ℕ, zero, suc, ◌+◌, ◌-◌, ◌*◌, ◌/◌, ◌%◌, ◌<◌, ◌≤◌, Bool, true, false, List, [], ◌∷◌, ◌++◌, length, drop, refl, sym, ap, ◌∙◌, subst, arith}
+use Rattle.std.specs.Prelude.{slice_index, min, nat_le}
+use Rattle.std.proofs.lemmas.Bool.Decides.{nat_tests}
+use Rattle.std.proofs.lemmas.List.{drop_more}
+use Rattle.xen_page.specs.Mapping.{frame_place}
+use Rattle.xen_page.specs.declared.place.Place.{Place}
+use Rattle.xen_steps.specs.Drive.{Gone}
+use Rattle.xen_steps.specs.Event.{Event, Write}
+use Rattle.xen_steps.specs.Places.{add32, page_word}
+use Rattle.xen_steps.specs.Steps.{Steps, ask as asking, bind}
+use Rattle.xen_steps.specs.declared.want.Want.TheVariants as want
+use Rattle.xen_transmit.specs.Packets.{buffer_word, frame_in, response_word, target_at, word_of, words}
+use Rattle.xen_transmit.specs.Places.{rx_slot, tx_slot}
+use Rattle.xen_transmit.specs.Transmit.{fill, fill_from, rx_answer, rx_respond}
+use Rattle.xen_transmit.specs.declared.by_event.phase.Outcome.{Outcome}
+use Rattle.xen_transmit.specs.declared.target.Target.{Target}
+use Rattle.xen_transmit.specs.declared.vif.Vif.{Vif}
+use Rattle.xen_transmit.proofs.SendLemmas.{rx_answer_at}
+use Rattle.xen_back.specs.Tree.{answer}
+use Rattle.xen_back.specs.Turned.{Ending}
 use Rattle.xen_back.specs.declared.wiring.Wiring.{Wiring}
-use Rattle.xen_host.specs.Carries.{IsAskedOfDelivery, rest_carrying}
-use Rattle.xen_host.specs.Chains.{AreStepped, HaveGoneOn, IsAwaitedOn, IsWaiting, did_all, did_step, did_steps, wait_in}
-use Rattle.xen_host.specs.Fed.{IsAskedFor, goes_on}
-use Rattle.xen_host.specs.Queues.{IsCarriedOn, IsDelivering, IsGoneOn, IsStepOf, IsStepped, IsUnderWay, settled_of, stage_of_wait, task_of}
-use Rattle.xen_host.specs.Rest.{rest_in}
-use Rattle.xen_host.specs.Waits.{IsOnItsWay, IsWaitRow, IsWaitedOn, did_waiting, halted, pushes, told}
-use Rattle.xen_host.specs.Wired.{vif_of, wiring_of}
-use Rattle.xen_host.specs.declared.carrying.Carrying.{Carrying}
-use Rattle.xen_host.specs.declared.carrying.Carrying.TheVariants as carrying
-use Rattle.xen_host.specs.declared.op.Op.{Op}
-use Rattle.xen_host.specs.declared.op.Op.TheVariants as op
-use Rattle.xen_host.specs.declared.queue.Queue.{Queue}
-use Rattle.xen_host.specs.declared.stage.Stage.{Stage}
-use Rattle.xen_host.specs.declared.stage.Stage.TheVariants as stage
-use Rattle.xen_host.specs.declared.task.Task.{Task}
-use Rattle.xen_host.specs.declared.task.Task.TheVariants as task
-use Rattle.xen_host.specs.declared.waiting.Waiting.{Waiting}
-use Rattle.xen_host.specs.declared.wires.Wires.{Wires}
-use Rattle.xen_host.specs.declared.work.Work.{Work}
+use Rattle.xen_host.specs.Asks.{Ask, did_all, writes_at}
+use Rattle.xen_host.specs.Asks as ask
+use Rattle.xen_host.specs.Chained.{replies, reply, stores}
+use Rattle.xen_host.specs.Filling.{packet_words}
+use Rattle.xen_host.proofs.AskLemmas.{next_rx_word}
+use Rattle.xen_host.proofs.LedLemmas.{AreChained}
 
-pub one_more : (old next new : Queue) (ops : List Op) (o : Op) (l m k b c a : List ℕ) → HaveGoneOn old next ops l m b c → IsStepped next new o m k c a → goes_on o ≡ true → HaveGoneOn old new (ops ++ o ∷ []) l k b a
-one_more old next new [] o l m k b c a h s g =
-    let from : IsStepped old new o m k c a = subst (λ (q : Queue). IsStepped q new o m k c a) h.0 s in
-    let lent : IsStepped old new o l k c a = subst (λ (x : List ℕ). IsStepped old new o x k c a) h.1 from in
-    let counted : IsStepped old new o l k b a = subst (λ (x : List ℕ). IsStepped old new o l k x a) h.2 lent in
-    (new, k, a, counted, g, (refl, refl, refl))
-one_more old next new (p ∷ ops) o l m k b c a h s g = (h.0, h.1, h.2, h.3, h.4, one_more h.0 next new ops o h.1 m k h.2 c a h.5 s g)
+-- ---- the responses of a chain, from the i-th on
 
--- ---- turns
+pub stores_length : (w : Vif) (t : ℕ) (words : List ℕ) (i n : ℕ) → length (stores w t words i n) ≡ n
+stores_length w t words i zero = refl
+stores_length w t words i (suc n) = ap suc (stores_length w t words (i + 1) n)
 
-asks_nothing : (o : Op) (lent : List ℕ) → goes_on o ≡ true → IsAskedFor o never lent → ⊥
-asks_nothing (op.Store at word) lent g a = cc a.0
-asks_nothing (op.StoreTwo at first second) lent g a = cc a.0
-asks_nothing (op.Push at v k) lent g a = cc g
-asks_nothing (op.Notify port) lent g a = cc a
-asks_nothing (op.Read at count) lent g a = cc g
-asks_nothing (op.Write at count) lent g a = cc g
-asks_nothing (op.Done kind) lent g a = cc g
-asks_nothing (op.Delivered what) lent g a = cc g
-asks_nothing (op.Awaited what) lent g a = cc g
+pub stores_chained : (w : Vif) (t : ℕ) (words : List ℕ) (i n : ℕ) → AreChained (stores w t words i n)
+stores_chained w t words i zero = tt
+stores_chained w t words i (suc n) = (refl, refl, tt, stores_chained w t words (i + 1) n)
 
-still_turning : (w : Wiring) (s : State) (left : Stage) (o : Op) (lent : List ℕ) → goes_on o ≡ true → IsAskedFor o (rest_in w s left) lent → task_of (settled_of s left).1 ≡ task.Turn
-still_turning w s (stage.Carry c) o lent g a = absurd (asks_nothing o lent g a)
-still_turning w s (stage.Wait b at) o lent g a = absurd (asks_nothing o lent g a)
-still_turning w s (stage.Ready b) o lent g a = refl
-still_turning w s (stage.Announce b) o lent g a = refl
-still_turning w s (stage.Slot r) o lent g a = refl
-still_turning w s (stage.Entry e) o lent g a = refl
-still_turning w s (stage.Page p) o lent g a = refl
-still_turning w s (stage.Send p) o lent g a = refl
-still_turning w s (stage.Answer x) o lent g a = refl
-still_turning w s (stage.Push x) o lent g a = refl
-still_turning w s (stage.Notice x) o lent g a = refl
-still_turning w s (stage.Over b after kind) o lent g a = refl
-still_turning w s stage.Gone o lent g a = refl
+stores_suc : (w : Vif) (t : ℕ) (words : List ℕ) (i n : ℕ) → stores w t words i (suc n) ≡ stores w t words i n ++ ask.Store (tx_slot w (add32 t (i + n)) 0) (slice_index words (i + n)) ∷ []
+stores_suc w t words i zero =
+    let e : i ≡ i + 0 = omega arith in
+    ap (λ k. ask.Store (tx_slot w (add32 t k) 0) (slice_index words k) ∷ []) e
+stores_suc w t words i (suc n) =
+    let e : i + 1 + n ≡ i + suc n = omega arith in
+    ap (λ (l : List Ask). ask.Store (tx_slot w (add32 t i) 0) (slice_index words i) ∷ l)
+    (stores_suc w t words (i + 1) n ∙ ap (λ k. stores w t words (i + 1) n ++ ask.Store (tx_slot w (add32 t k) 0) (slice_index words k) ∷ []) e)
 
-under_way : (old new : Queue) (o : Op) (first : State) (t : List Event) → goes_on o ≡ true → IsGoneOn old new o first t → IsUnderWay new first t
-under_way old new (op.Store at word) first t g h = h
-under_way old new (op.StoreTwo at x y) first t g h = h
-under_way old new (op.Push at v k) first t g h = cc g
-under_way old new (op.Notify port) first t g h = h
-under_way old new (op.Read at count) first t g h = cc g
-under_way old new (op.Write at count) first t g h = cc g
-under_way old new (op.Done kind) first t g h = cc g
-under_way old new (op.Delivered what) first t g h = cc g
-under_way old new (op.Awaited what) first t g h = cc g
+pub stores_more : (w : Vif) (t : ℕ) (words : List ℕ) (i n k : ℕ) → n + i ≡ k → stores w t words i (n + 1) ≡ stores w t words i n ++ ask.Store (tx_slot w (add32 t k) 0) (slice_index words k) ∷ []
+stores_more w t words i n k e =
+    let one : n + 1 ≡ suc n = omega arith in
+    let at : i + n ≡ k = omega (arith, e) in
+    ap (λ m. stores w t words i m) one ∙ stores_suc w t words i n ∙ ap (λ j. stores w t words i n ++ ask.Store (tx_slot w (add32 t j) 0) (slice_index words j) ∷ []) at
 
-turn_ends : (t : Task) (old new : Queue) (o : Op) (l k b a : List ℕ) (s : IsStepOf t old new o l k b a) → t ≡ task.Turn → (first : State) (trace : List Event) → IsUnderWay old first trace →
-    IsGoneOn old new o first (trace ++ did_step t old new o l k b a s)
-turn_ends task.Turn old new o l k b a s e first trace h = s.turn first trace h
-turn_ends task.Delivery old new o l k b a s e first trace h = cc e
-turn_ends task.Wait old new o l k b a s e first trace h = cc e
+answer_more : (w : Wiring) (t n i : ℕ) (words : List ℕ) (e : Ending) → i < length words →
+    answer w t n i (drop i words) e ≡ asking (want.Write (tx_slot w.vif (add32 t i) 0) (slice_index words i)) (λ _. answer w t n (i + 1) (drop (i + 1) words) e)
+answer_more w t n i words e h = ap (λ l. answer w t n i l e) (drop_more words i 0 h)
 
-turn_stays : (t : Task) (old new : Queue) (o : Op) (l k b a : List ℕ) (s : IsStepOf t old new o l k b a) → t ≡ task.Turn → goes_on o ≡ true → task_of new.stage ≡ task.Turn
-turn_stays task.Turn old new o l k b a s e g =
-    ap (λ (x : State × Stage). task_of x.1) s.settled ∙ still_turning (wiring_of old.wires) old.state s.left o k g s.asked
-turn_stays task.Delivery old new o l k b a s e g = cc e
-turn_stays task.Wait old new o l k b a s e g = cc e
+pub stores_gone : (w : Wiring) (t m : ℕ) (words : List ℕ) (e : Ending) (i n : ℕ) (lent : List ℕ) → i + n ≤ length words →
+    Gone (answer w t m i (drop i words) e) (did_all (stores w.vif t words i n) lent) (answer w t m (i + n) (drop (i + n) words) e)
+stores_gone w t m words e i zero lent h =
+    let z : i ≡ i + 0 = omega arith in
+    ap (λ k. answer w t m k (drop k words) e) z
+stores_gone w t m words e i (suc n) lent h =
+    let z : i + 1 + n ≡ i + suc n = omega arith in
+    let goal : Steps Ending → Type 0 = λ s. Gone s (did_all (stores w.vif t words i (suc n)) lent) (answer w t m (i + suc n) (drop (i + suc n) words) e) in
+    let later = subst (λ k. Gone (answer w t m (i + 1) (drop (i + 1) words) e) (did_all (stores w.vif t words (i + 1) n) lent) (answer w t m k (drop k words) e)) z (stores_gone w t m words e (i + 1) n lent (omega (arith, h))) in
+    subst goal (sym (answer_more w t m i words e (omega (arith, h)))) (answer w t m (i + 1) (drop (i + 1) words) e, (0, (refl, refl), refl), later)
 
-turn_goes : (old new : Queue) (ops : List Op) (l k b a : List ℕ) (s : HaveGoneOn old new ops l k b a) → task_of old.stage ≡ task.Turn → (first : State) (trace : List Event) → IsUnderWay old first trace →
-    (task_of new.stage ≡ task.Turn) × IsUnderWay new first (trace ++ did_steps old new ops l k b a s)
-turn_goes old new [] l k b a s e first trace h =
-    let at : Queue → Type 0 = λ q. (task_of q.stage ≡ task.Turn) × IsUnderWay q first (trace ++ []) in
-    let whole : IsUnderWay old first (trace ++ []) = subst (λ (t : List Event). IsUnderWay old first t) (sym (append-nil trace)) h in
-    subst at (sym s.0) (e, whole)
-turn_goes old new (o ∷ ops) l k b a s e first trace h =
-    let one = did_step (task_of old.stage) old s.0 o l s.1 b s.2 s.3 in
-    let more = did_steps s.0 new ops s.1 k s.2 a s.5 in
-    let gone = turn_ends (task_of old.stage) old s.0 o l s.1 b s.2 s.3 e first trace h in
-    let later = turn_goes s.0 new ops s.1 k s.2 a s.5 (turn_stays (task_of old.stage) old s.0 o l s.1 b s.2 s.3 e s.4) first (trace ++ one) (under_way old s.0 o first (trace ++ one) s.4 gone) in
-    (later.0, subst (λ (t : List Event). IsUnderWay new first t) (append_assoc trace one more) later.1)
+-- ---- the responses of rx slots, from the i-th on
 
-pub turn_of_steps : (old new : Queue) (ops : List Op) (l k b a : List ℕ) (s : AreStepped old new ops l k b a) → task_of old.stage ≡ task.Turn → (first : State) (trace : List Event) → IsUnderWay old first trace →
-    IsGoneOn s.between new s.last first (trace ++ did_all s)
-turn_of_steps old new ops l k b a s e first trace h =
-    let most = did_steps old s.between s.first l s.lent_between b s.counted s.gone in
-    let last = did_step (task_of s.between.stage) s.between new s.last s.lent_between k s.counted a s.stepped in
-    let gone = turn_goes old s.between s.first l s.lent_between b s.counted s.gone e first trace h in
-    subst (λ (t : List Event). IsGoneOn s.between new s.last first t) (append_assoc trace most last)
-    (turn_ends (task_of s.between.stage) s.between new s.last s.lent_between k s.counted a s.stepped gone.0 first (trace ++ most) gone.1)
+pub replies_length : (w : Vif) (x : ℕ) (packet : List ℕ) (passed : Bool) (ts : List Target) (i n : ℕ) → length (replies w x packet passed ts i n) ≡ n
+replies_length w x packet passed ts i zero = refl
+replies_length w x packet passed ts i (suc n) = ap suc (replies_length w x packet passed ts (i + 1) n)
 
--- ---- deliveries
+pub replies_chained : (w : Vif) (x : ℕ) (packet : List ℕ) (passed : Bool) (ts : List Target) (i n : ℕ) → AreChained (replies w x packet passed ts i n)
+replies_chained w x packet passed ts i zero = tt
+replies_chained w x packet passed ts i (suc n) = (refl, refl, tt, replies_chained w x packet passed ts (i + 1) n)
 
-asks_no_more : (o : Op) (x : Arrival) (lent : List ℕ) → goes_on o ≡ true → IsAskedOfDelivery o (done x) lent → ⊥
-asks_no_more (op.Store at word) x lent g a = cc a.0
-asks_no_more (op.StoreTwo at first second) x lent g a = cc a.0
-asks_no_more (op.Push at v k) x lent g a = cc g
-asks_no_more (op.Notify port) x lent g a = cc a
-asks_no_more (op.Read at count) x lent g a = cc g
-asks_no_more (op.Write at count) x lent g a = cc g
-asks_no_more (op.Done kind) x lent g a = cc g
-asks_no_more (op.Delivered what) x lent g a = cc g
-asks_no_more (op.Awaited what) x lent g a = cc g
+replies_suc : (w : Vif) (x : ℕ) (packet : List ℕ) (passed : Bool) (ts : List Target) (i n : ℕ) → replies w x packet passed ts i (suc n) ≡ replies w x packet passed ts i n ++ reply w x packet passed ts (i + n) ∷ []
+replies_suc w x packet passed ts i zero = let e : i ≡ i + 0 = omega arith in ap (λ k. reply w x packet passed ts k ∷ []) e
+replies_suc w x packet passed ts i (suc n) =
+    let e : i + 1 + n ≡ i + suc n = omega arith in
+    ap (λ (l : List Ask). reply w x packet passed ts i ∷ l) (replies_suc w x packet passed ts (i + 1) n ∙ ap (λ k. replies w x packet passed ts (i + 1) n ++ reply w x packet passed ts k ∷ []) e)
 
-still_delivering : (w : Wires) (s : State) (left : Carrying) (o : Op) (lent : List ℕ) → goes_on o ≡ true → IsAskedOfDelivery o (rest_carrying (vif_of w) s left) lent → task_of (settled_of s (stage.Carry left)).1 ≡ task.Delivery
-still_delivering w s (carrying.Over b after what) o lent g a = absurd (asks_no_more o (after, what) lent g a)
-still_delivering w s (carrying.Begun b) o lent g a = refl
-still_delivering w s (carrying.Moving m) o lent g a = refl
+pub replies_more : (w : Vif) (x : ℕ) (packet : List ℕ) (passed : Bool) (ts : List Target) (i n k : ℕ) → n + i ≡ k → replies w x packet passed ts i (n + 1) ≡ replies w x packet passed ts i n ++ reply w x packet passed ts k ∷ []
+replies_more w x packet passed ts i n k e =
+    let one : n + 1 ≡ suc n = omega arith in
+    let at : i + n ≡ k = omega (arith, e) in
+    ap (λ m. replies w x packet passed ts i m) one ∙ replies_suc w x packet passed ts i n ∙ ap (λ j. replies w x packet passed ts i n ++ reply w x packet passed ts j ∷ []) at
 
-on_delivery : (old new : Queue) (o : Op) (packet : List ℕ) (t : List Event) → goes_on o ≡ true → IsCarriedOn old new o packet t → IsDelivering new packet t
-on_delivery old new (op.Store at word) packet t g h = h
-on_delivery old new (op.StoreTwo at x y) packet t g h = h
-on_delivery old new (op.Push at v k) packet t g h = cc g
-on_delivery old new (op.Notify port) packet t g h = h
-on_delivery old new (op.Read at count) packet t g h = cc g
-on_delivery old new (op.Write at count) packet t g h = cc g
-on_delivery old new (op.Done kind) packet t g h = cc g
-on_delivery old new (op.Delivered what) packet t g h = cc g
-on_delivery old new (op.Awaited what) packet t g h = cc g
+pub replies_gone : (w : Vif) (x : ℕ) (packet : List ℕ) (passed : Bool) (ts : List Target) (i n : ℕ) (lent : List ℕ) → i + n ≤ length ts →
+    Gone (rx_answer w x packet passed (length ts) i (drop i ts)) (did_all (replies w x packet passed ts i n) lent) (rx_answer w x packet passed (length ts) (i + n) (drop (i + n) ts))
+replies_gone w x packet passed ts i zero lent h =
+    let z : i ≡ i + 0 = omega arith in
+    ap (λ k. rx_answer w x packet passed (length ts) k (drop k ts)) z
+replies_gone w x packet passed ts i (suc n) lent h =
+    let z : i + 1 + n ≡ i + suc n = omega arith in
+    let m = length ts in
+    let first = response_word passed packet m i (target_at ts i).id 0 in
+    let second = response_word passed packet m i (target_at ts i).id 1 in
+    let at = rx_slot w (add32 x i) 0 in
+    let more = did_all (replies w x packet passed ts (i + 1) n) lent in
+    let after = rx_answer w x packet passed m (i + 1) (drop (i + 1) ts) in
+    let goal : Steps Outcome → Type 0 = λ s. Gone s (did_all (replies w x packet passed ts i (suc n)) lent) (rx_answer w x packet passed m (i + suc n) (drop (i + suc n) ts)) in
+    let later = subst (λ k. Gone after more (rx_answer w x packet passed m k (drop k ts))) z (replies_gone w x packet passed ts (i + 1) n lent (omega (arith, h))) in
+    let wrote : ◌≡◌ {A = Event} (Write (frame_place at) second) (Write (rx_slot w (add32 x i) 1) second) = ap (λ (p : Place). Write p second) (sym (next_rx_word w (add32 x i))) in
+    subst goal (sym (rx_answer_at w x packet passed m i ts (omega (arith, h))))
+    (asking (want.Write (rx_slot w (add32 x i) 1) second) (λ _. after), (0, (refl, refl), refl), (after, (0, (refl, wrote), refl), later))
 
-delivery_ends : (t : Task) (old new : Queue) (o : Op) (l k b a : List ℕ) (s : IsStepOf t old new o l k b a) → t ≡ task.Delivery → (packet : List ℕ) (trace : List Event) → IsDelivering old packet trace →
-    IsCarriedOn old new o packet (trace ++ did_step t old new o l k b a s)
-delivery_ends task.Delivery old new o l k b a s e packet trace h = s.0.delivery packet trace h
-delivery_ends task.Turn old new o l k b a s e packet trace h = cc e
-delivery_ends task.Wait old new o l k b a s e packet trace h = cc e
+-- ---- words of a packet that go into a page
 
-delivery_stays : (t : Task) (old new : Queue) (o : Op) (l k b a : List ℕ) (s : IsStepOf t old new o l k b a) → t ≡ task.Delivery → goes_on o ≡ true → task_of new.stage ≡ task.Delivery
-delivery_stays task.Delivery old new o l k b a s e g =
-    ap (λ (x : State × Stage). task_of x.1) s.0.settled ∙ still_delivering old.wires old.state s.0.left o k g s.0.asked
-delivery_stays task.Turn old new o l k b a s e g = cc e
-delivery_stays task.Wait old new o l k b a s e g = cc e
+pub fill_gone : {A : Type 0} (ts : List Target) (packet : List ℕ) (i j k m n : ℕ) (r : Unit {0} → Steps A) → k ≡ 1024 * i + j → j + m ≤ 1024 → m ≤ n →
+    Gone (bind (fill ts packet n k) r) (writes_at (page_word (frame_in (target_at ts i).frame) j) (packet_words packet k m)) (bind (fill ts packet (n - m) (k + m)) r)
+fill_gone ts packet i j k zero n r e h l =
+    let a : n ≡ n - 0 = omega arith in
+    let b : k ≡ k + 0 = omega arith in
+    ap (λ x. bind (fill ts packet x k) r) a ∙ ap (λ x. bind (fill ts packet (n - 0) x) r) b
+fill_gone ts packet i j k (suc m) zero r e h l = absurd (omega arith)
+fill_gone {A = A} ts packet i j k (suc m) (suc n) r e h l =
+    let page : k / 1024 ≡ i = omega (arith, h, e) in
+    let word : k % 1024 ≡ j = omega (arith, h, e) in
+    let place : page_word (frame_in (target_at ts i).frame) j ≡ buffer_word ts k =
+    sym (ap (λ p. page_word (frame_in (target_at ts p).frame) (k % 1024)) page ∙ ap (λ x. page_word (frame_in (target_at ts i).frame) x) word) in
+    let a : n - m ≡ suc n - suc m = omega arith in
+    let b : k + 1 + m ≡ k + suc m = omega arith in
+    let next = page_word (frame_in (target_at ts i).frame) (j + 1) in
+    let later = fill_gone ts packet i (j + 1) (k + 1) m n r (omega (arith, e)) (omega (arith, h)) (omega (arith, l)) in
+    let left = subst (λ x. Gone (bind (fill ts packet n (k + 1)) r) (writes_at next (packet_words packet (k + 1) m)) (bind (fill ts packet x (k + suc m)) r)) a
+    (subst (λ x. Gone (bind (fill ts packet n (k + 1)) r) (writes_at next (packet_words packet (k + 1) m)) (bind (fill ts packet (n - m) x) r)) b later) in
+    (bind (fill ts packet n (k + 1)) r, (0, (refl, ap (λ (p : Place). Write p (word_of packet k)) place), refl), left)
 
-delivery_goes : (old new : Queue) (ops : List Op) (l k b a : List ℕ) (s : HaveGoneOn old new ops l k b a) → task_of old.stage ≡ task.Delivery → (packet : List ℕ) (trace : List Event) → IsDelivering old packet trace →
-    (task_of new.stage ≡ task.Delivery) × IsDelivering new packet (trace ++ did_steps old new ops l k b a s)
-delivery_goes old new [] l k b a s e packet trace h =
-    let at : Queue → Type 0 = λ q. (task_of q.stage ≡ task.Delivery) × IsDelivering q packet (trace ++ []) in
-    let whole : IsDelivering old packet (trace ++ []) = subst (λ (t : List Event). IsDelivering old packet t) (sym (append-nil trace)) h in
-    subst at (sym s.0) (e, whole)
-delivery_goes old new (o ∷ ops) l k b a s e packet trace h =
-    let one = did_step (task_of old.stage) old s.0 o l s.1 b s.2 s.3 in
-    let more = did_steps s.0 new ops s.1 k s.2 a s.5 in
-    let gone = delivery_ends (task_of old.stage) old s.0 o l s.1 b s.2 s.3 e packet trace h in
-    let later = delivery_goes s.0 new ops s.1 k s.2 a s.5 (delivery_stays (task_of old.stage) old s.0 o l s.1 b s.2 s.3 e s.4) packet (trace ++ one) (on_delivery old s.0 o packet (trace ++ one) s.4 gone) in
-    (later.0, subst (λ (t : List Event). IsDelivering new packet t) (append_assoc trace one more) later.1)
-
-pub delivery_of_steps : (old new : Queue) (ops : List Op) (l k b a : List ℕ) (s : AreStepped old new ops l k b a) → task_of old.stage ≡ task.Delivery → (packet : List ℕ) (trace : List Event) → IsDelivering old packet trace →
-    IsCarriedOn s.between new s.last packet (trace ++ did_all s)
-delivery_of_steps old new ops l k b a s e packet trace h =
-    let most = did_steps old s.between s.first l s.lent_between b s.counted s.gone in
-    let last = did_step (task_of s.between.stage) s.between new s.last s.lent_between k s.counted a s.stepped in
-    let gone = delivery_goes old s.between s.first l s.lent_between b s.counted s.gone e packet trace h in
-    subst (λ (t : List Event). IsCarriedOn s.between new s.last packet t) (append_assoc trace most last)
-    (delivery_ends (task_of s.between.stage) s.between new s.last s.lent_between k s.counted a s.stepped gone.0 packet (trace ++ most) gone.1)
-
--- ---- waits
-
-wait_of : (b : Box Work) (left : Option Waiting) → wait_in (stage_of_wait b left) ≡ left
-wait_of b None = refl
-wait_of b (Some at) = refl
-
--- what a wait has come to, in the words of the queue
-waited_in : (old new : Queue) (o : Op) (left : Option Waiting) (pages : ℕ) (t : List Event) → wait_in new.stage ≡ left → new.wires ≡ old.wires → IsWaitedOn (wiring_of old.wires) old.state new.state left o pages t → IsAwaitedOn old new o pages t
-waited_in old new o left pages t at w h = by o h
+-- A page of them, and what is left then: the next page, or the responses.
+pub page_gone : (w : Vif) (x : ℕ) (packet : List ℕ) (ts : List Target) (i to : ℕ) → 1024 * i < words packet → to ≡ min (words packet) (1024 * i + 1024) →
+    Gone (fill_from w x packet ts (1024 * i)) (writes_at (page_word (frame_in (target_at ts i).frame) 0) (packet_words packet (1024 * i) (to - 1024 * i))) (fill_from w x packet ts (1024 * (i + 1)))
+page_gone w x packet ts i to h e = by (nat_le (words packet) (1024 * i + 1024)) refl
   where
-    way : IsOnItsWay (wiring_of old.wires) new.state left pages t → IsWaiting new pages t
-    way h =
-        let here : IsOnItsWay (wiring_of old.wires) new.state (wait_in new.stage) pages t = subst (λ (x : Option Waiting). IsOnItsWay (wiring_of old.wires) new.state x pages t) (sym at) h in
-        subst (λ (x : Wires). IsOnItsWay (wiring_of x) new.state (wait_in new.stage) pages t) (sym w) here
+    r : Unit {0} → Steps Outcome
+    r = λ _. rx_respond w x packet true ts
 
-    by : (o : Op) → IsWaitedOn (wiring_of old.wires) old.state new.state left o pages t → IsAwaitedOn old new o pages t
-    by (op.Awaited what) h = h
-    by (op.Read at count) h = way h
-    by (op.Write at count) h = way h
-    by (op.Store at word) h = way h
-    by (op.StoreTwo at x y) h = way h
-    by (op.Push at v k) h = way h
-    by (op.Notify port) h = way h
-    by (op.Done kind) h = way h
-    by (op.Delivered what) h = way h
+    n : ℕ
+    n = words packet - 1024 * i
 
-wait_ends : (t : Task) (old new : Queue) (o : Op) (l k b a : List ℕ) (s : IsStepOf t old new o l k b a) → t ≡ task.Wait → (pages : ℕ) (trace : List Event) → IsWaiting old pages trace →
-    IsAwaitedOn old new o pages (trace ++ did_step t old new o l k b a s)
-wait_ends task.Wait old new o l k b a s e pages trace h =
-    let r = s.0 in
-    let way : IsOnItsWay (wiring_of old.wires) old.state (Some r.at) pages trace = subst (λ (x : Option Waiting). IsOnItsWay (wiring_of old.wires) old.state x pages trace) (ap wait_in r.was) h in
-    waited_in old new o r.left pages (trace ++ did_waiting (wiring_of old.wires) old.state r.at l) (ap wait_in r.settled ∙ wait_of r.work r.left) r.wires (r.wait pages trace way)
-wait_ends task.Turn old new o l k b a s e pages trace h = cc e
-wait_ends task.Delivery old new o l k b a s e pages trace h = cc e
+    gone : (m : ℕ) → m ≤ n → m ≤ 1024 → Gone (fill_from w x packet ts (1024 * i)) (writes_at (page_word (frame_in (target_at ts i).frame) 0) (packet_words packet (1024 * i) m)) (bind (fill ts packet (n - m) (1024 * i + m)) r)
+    gone m a b = fill_gone ts packet i 0 (1024 * i) m n r (omega arith) (omega (arith, b)) a
 
-still_waiting : (w : Wiring) (s new : State) (lent : List ℕ) (from : Waiting) (left : Option Waiting) (o : Op) (b : Box Work) → goes_on o ≡ true → IsWaitRow w s lent from new left o → task_of (stage_of_wait b left) ≡ task.Wait
-still_waiting w s new lent from left o b g (halted at cause h) = cc g
-still_waiting w s new lent from left o b g (pushes n live) = cc g
-still_waiting w s new lent from left o b g (told n after what live row) = cc g
+    by : (b : Bool) → nat_le (words packet) (1024 * i + 1024) ≡ b →
+        Gone (fill_from w x packet ts (1024 * i)) (writes_at (page_word (frame_in (target_at ts i).frame) 0) (packet_words packet (1024 * i) (to - 1024 * i))) (fill_from w x packet ts (1024 * (i + 1)))
+    by true t =
+        let le : words packet ≤ 1024 * i + 1024 = grind (arith, nat_tests) in
+        let m : to - 1024 * i ≡ n = omega (arith, le, e) in
+        let none : n - (to - 1024 * i) ≡ 0 = omega (arith, m) in
+        let later : words packet - 1024 * (i + 1) ≡ 0 = omega (arith, le) in
+        let left : bind (fill ts packet (n - (to - 1024 * i)) (1024 * i + (to - 1024 * i))) r ≡ fill_from w x packet ts (1024 * (i + 1)) =
+        ap (λ k. bind (fill ts packet k (1024 * i + (to - 1024 * i))) r) none ∙ sym (ap (λ k. bind (fill ts packet k (1024 * (i + 1))) r) later) in
+        subst (λ (s : Steps Outcome). Gone (fill_from w x packet ts (1024 * i)) (writes_at (page_word (frame_in (target_at ts i).frame) 0) (packet_words packet (1024 * i) (to - 1024 * i))) s) left
+        (gone (to - 1024 * i) (omega (arith, m)) (omega (arith, m, le)))
+    by false t =
+        let lt : 1024 * i + 1024 < words packet = grind (arith, nat_tests) in
+        let m : to - 1024 * i ≡ 1024 = omega (arith, lt, e) in
+        let next : 1024 * i + (to - 1024 * i) ≡ 1024 * (i + 1) = omega (arith, m) in
+        let rest : n - (to - 1024 * i) ≡ words packet - 1024 * (i + 1) = omega (arith, lt, m) in
+        let left : bind (fill ts packet (n - (to - 1024 * i)) (1024 * i + (to - 1024 * i))) r ≡ fill_from w x packet ts (1024 * (i + 1)) =
+        ap (λ k. bind (fill ts packet k (1024 * i + (to - 1024 * i))) r) rest ∙ ap (λ k. bind (fill ts packet (words packet - 1024 * (i + 1)) k) r) next in
+        subst (λ (s : Steps Outcome). Gone (fill_from w x packet ts (1024 * i)) (writes_at (page_word (frame_in (target_at ts i).frame) 0) (packet_words packet (1024 * i) (to - 1024 * i))) s) left
+        (gone (to - 1024 * i) (omega (arith, m, lt)) (omega (arith, m)))
 
-wait_stays : (t : Task) (old new : Queue) (o : Op) (l k b a : List ℕ) (s : IsStepOf t old new o l k b a) → t ≡ task.Wait → goes_on o ≡ true → task_of new.stage ≡ task.Wait
-wait_stays task.Wait old new o l k b a s e g =
-    let r = s.0 in
-    ap task_of r.settled ∙ still_waiting (wiring_of old.wires) old.state new.state l r.at r.left o r.work g r.row
-wait_stays task.Turn old new o l k b a s e g = cc e
-wait_stays task.Delivery old new o l k b a s e g = cc e
-
-on_wait : (old new : Queue) (o : Op) (pages : ℕ) (t : List Event) → goes_on o ≡ true → IsAwaitedOn old new o pages t → IsWaiting new pages t
-on_wait old new (op.Store at word) pages t g h = h
-on_wait old new (op.StoreTwo at x y) pages t g h = h
-on_wait old new (op.Push at v k) pages t g h = cc g
-on_wait old new (op.Notify port) pages t g h = h
-on_wait old new (op.Read at count) pages t g h = cc g
-on_wait old new (op.Write at count) pages t g h = cc g
-on_wait old new (op.Done kind) pages t g h = cc g
-on_wait old new (op.Delivered what) pages t g h = cc g
-on_wait old new (op.Awaited what) pages t g h = cc g
-
-wait_goes : (old new : Queue) (ops : List Op) (l k b a : List ℕ) (s : HaveGoneOn old new ops l k b a) → task_of old.stage ≡ task.Wait → (pages : ℕ) (trace : List Event) → IsWaiting old pages trace →
-    (task_of new.stage ≡ task.Wait) × IsWaiting new pages (trace ++ did_steps old new ops l k b a s)
-wait_goes old new [] l k b a s e pages trace h =
-    let at : Queue → Type 0 = λ q. (task_of q.stage ≡ task.Wait) × IsWaiting q pages (trace ++ []) in
-    let whole : IsWaiting old pages (trace ++ []) = subst (λ (t : List Event). IsWaiting old pages t) (sym (append-nil trace)) h in
-    subst at (sym s.0) (e, whole)
-wait_goes old new (o ∷ ops) l k b a s e pages trace h =
-    let one = did_step (task_of old.stage) old s.0 o l s.1 b s.2 s.3 in
-    let more = did_steps s.0 new ops s.1 k s.2 a s.5 in
-    let gone = wait_ends (task_of old.stage) old s.0 o l s.1 b s.2 s.3 e pages trace h in
-    let later = wait_goes s.0 new ops s.1 k s.2 a s.5 (wait_stays (task_of old.stage) old s.0 o l s.1 b s.2 s.3 e s.4) pages (trace ++ one) (on_wait old s.0 o pages (trace ++ one) s.4 gone) in
-    (later.0, subst (λ (t : List Event). IsWaiting new pages t) (append_assoc trace one more) later.1)
-
-pub wait_of_steps : (old new : Queue) (ops : List Op) (l k b a : List ℕ) (s : AreStepped old new ops l k b a) → task_of old.stage ≡ task.Wait → (pages : ℕ) (trace : List Event) → IsWaiting old pages trace →
-    IsAwaitedOn s.between new s.last pages (trace ++ did_all s)
-wait_of_steps old new ops l k b a s e pages trace h =
-    let most = did_steps old s.between s.first l s.lent_between b s.counted s.gone in
-    let last = did_step (task_of s.between.stage) s.between new s.last s.lent_between k s.counted a s.stepped in
-    let gone = wait_goes old s.between s.first l s.lent_between b s.counted s.gone e pages trace h in
-    subst (λ (t : List Event). IsAwaitedOn s.between new s.last pages t) (append_assoc trace most last)
-    (wait_ends (task_of s.between.stage) s.between new s.last s.lent_between k s.counted a s.stepped gone.0 pages (trace ++ most) gone.1)
+-- No word is left.
+pub fill_over : (w : Vif) (x : ℕ) (packet : List ℕ) (ts : List Target) (k : ℕ) → words packet ≤ k → fill_from w x packet ts k ≡ rx_respond w x packet true ts
+fill_over w x packet ts k h =
+    let none : words packet - k ≡ 0 = omega (arith, h) in
+    ap (λ n. bind (fill ts packet n k) (λ _. rx_respond w x packet true ts)) none

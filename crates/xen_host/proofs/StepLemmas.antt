@@ -1,165 +1,151 @@
--- A step of a queue: its turn goes on, or is a row of the table of turns.
-use Rattle.std.proofs.Common.{◌≡◌, ℕ, ◌≤◌, ◌⊎◌, inl, inr, List, ◌++◌, length, map, refl, sym, ap, ◌∙◌, subst}
-use Rattle.std.specs.Prelude.{IsTrue}
-use Rattle.xen_steps.specs.Drive.{Gone}
-use Rattle.xen_steps.specs.Event.{Event}
-use Rattle.xen_steps.specs.Steps.{Steps}
-use Rattle.xen_steps.proofs.DriveLemmas.{gone_append, runs_of_gone}
-use Rattle.xen_steps.proofs.FinishLemmas.{finishes_gone}
-use Rattle.xen_back.specs.Tree.{whole_turn}
-use Rattle.xen_back.specs.Program.{event_of}
-use Rattle.xen_back.specs.Turned.{Ending, turned}
-use Rattle.xen_back.specs.Turns.{IsTurn}
-use Rattle.xen_back.specs.Within.{Completes, may_want}
-use Rattle.xen_back.specs.declared.state.State.{State}
-use Rattle.xen_back.specs.declared.turn.Kind.{Kind}
-use Rattle.xen_back.specs.declared.wiring.Wiring.{Wiring}
-use Rattle.xen_back.proofs.TurnParts.{turn_parts}
-use Rattle.xen_host.specs.Fed.{IsAskedFor, answers, asked_by, asked_of, did, fed}
-use Rattle.xen_host.specs.Queues.{IsGoneOn, IsTurnStep, IsUnderWay, packet_of, rest, settled_of, task_of}
-use Rattle.xen_host.specs.Ran.{HasGone}
-use Rattle.xen_host.specs.Completing.{TaskCompletes}
-use Rattle.xen_host.specs.Rest.{flags_after, is_here, is_there, is_turning, packet_in, rest_in}
-use Rattle.xen_host.specs.Wired.{wiring_of}
-use Rattle.xen_host.specs.declared.op.Op.{Op}
-use Rattle.xen_host.specs.declared.op.Op.TheVariants as op
-use Rattle.xen_host.specs.declared.queue.Queue.{Queue}
-use Rattle.xen_host.specs.declared.stage.Stage.{Stage}
-use Rattle.xen_host.specs.declared.stage.Stage.TheVariants as stage
-use Rattle.xen_host.specs.declared.task.Task.TheVariants as task
-use Rattle.xen_host.specs.declared.wires.Wires.{Wires}
-use Rattle.xen_host.proofs.TurnLemmas.{AreSmall, IsEnd, IsOn, end_or_on, stage_gone}
+-- What was asked and answered as events, and where it lies.
+use Rattle.std.proofs.Common.{◌≡◌, ℕ, zero, suc, ◌+◌, ◌<◌, ◌≤◌, ◌^◌, true, append_assoc, List, [], ◌∷◌, ◌++◌, length, take, refl, sym, arith, subst}
+use Rattle.std.specs.Prelude.{slice_index}
+use Rattle.std.proofs.lemmas.List.{length-take}
+use Rattle.bpf_note.specs.Shape.{Shape}
+use Rattle.xen_page.specs.Mapping.{frame_place}
+use Rattle.xen_page.specs.declared.place.Place.{Place}
+use Rattle.xen_steps.specs.Drive.{Gone, Goes, IsPageWant}
+use Rattle.xen_steps.specs.Event.{Event, Occurs, Read, Write}
+use Rattle.xen_steps.specs.Finish.{Finishes}
+use Rattle.xen_steps.specs.Places.{page_word}
+use Rattle.xen_steps.specs.Steps.{Steps, next, want_of}
+use Rattle.xen_steps.specs.declared.want.Want.{Want}
+use Rattle.xen_steps.specs.declared.want.Want.TheVariants as want
+use Rattle.xen_steps.proofs.DriveLemmas.{occurs_read}
+use Rattle.xen_steps.proofs.FinishLemmas.{finishes_gone, finishes_next, finishes_want}
+use Rattle.xen_back.specs.Within.{IsWithin}
+use Rattle.xen_host.specs.Asks.{AllInPages, AllSized, Ask, IsInPages, IsSized, TakeNone, did_all, did_by, read_by, reads_at, takes_none, writes_at}
+use Rattle.xen_host.specs.Asks as ask
+use Rattle.xen_host.specs.Fed.{AsksReads, WaitsFor, fed}
 
-on_way : (old new : Queue) (left : Stage) (first : State) (t : List Event) → Gone (whole_turn (wiring_of old.wires) first) t (rest_in (wiring_of old.wires) old.state left) →
-    ◌≡◌ {A = State × Stage} (new.state, new.stage) (old.state, left) → new.wires ≡ old.wires → IsUnderWay new first t
-on_way old new left first t g s w =
-    let moved : (state : State) (stage : Stage) → ◌≡◌ {A = State × Stage} (state, stage) (old.state, left) → Gone (whole_turn (wiring_of old.wires) first) t (rest_in (wiring_of old.wires) state stage) =
-    λ state stage e. subst (λ (x : State × Stage). Gone (whole_turn (wiring_of old.wires) first) t (rest_in (wiring_of old.wires) x.0 x.1)) (sym e) g in
-    subst (λ (x : Wires). Gone (whole_turn (wiring_of x) first) t (rest_in (wiring_of x) new.state new.stage)) (sym w) (moved new.state new.stage s)
+abbrev pub AreSmall : List ℕ → Type 0
+AreSmall lent = (i : ℕ) → slice_index lent i < 2 ^ 32
 
-pub gone_on : (old new : Queue) (o : Op) (left : Stage) (first : State) (t : List Event) → Gone (whole_turn (wiring_of old.wires) first) t (rest_in (wiring_of old.wires) old.state left) →
-    IsTrue (is_here left) → asked_of left ≡ asked_by o → ◌≡◌ {A = State × Stage} (new.state, new.stage) (settled_of old.state left) → new.wires ≡ old.wires → IsGoneOn old new o first t
-gone_on old new o left first t g here a s w = by (end_or_on left here) o a
-  where
-    by : IsEnd left ⊎ IsOn left → (o : Op) → asked_of left ≡ asked_by o → IsGoneOn old new o first t
-    by (inl e) (op.Done kind) a =
-        let same : e.kind ≡ kind = cc (e.asks, a) in
-        let state : new.state ≡ e.after = ap (λ (x : State × Stage). x.0) s ∙ e.state old.state in
-        let bytes : packet_of new ≡ e.packet = ap (λ (x : State × Stage). packet_in x.1) s ∙ e.bytes old.state in
-        let turn : IsTurn (wiring_of old.wires) first t e.after (turned e.kind e.packet) =
-        turn_parts (wiring_of old.wires) first t e.after (turned e.kind e.packet)
-        (runs_of_gone (whole_turn (wiring_of old.wires) first) (rest_in (wiring_of old.wires) old.state left) t (e.after, turned e.kind e.packet) g (e.rest (wiring_of old.wires) old.state)) in
-        let kinded : IsTurn (wiring_of old.wires) first t e.after (turned kind e.packet) = subst (λ (k : Kind). IsTurn (wiring_of old.wires) first t e.after (turned k e.packet)) same turn in
-        let stated : IsTurn (wiring_of old.wires) first t new.state (turned kind e.packet) = subst (λ (x : State). IsTurn (wiring_of old.wires) first t x (turned kind e.packet)) (sym state) kinded in
-        subst (λ p. IsTurn (wiring_of old.wires) first t new.state (turned kind p)) (sym bytes) stated
-    by (inl e) (op.Read at count) a = cc (e.asks, a)
-    by (inl e) (op.Write at count) a = cc (e.asks, a)
-    by (inl e) (op.Store at word) a = cc (e.asks, a)
-    by (inl e) (op.StoreTwo at x y) a = cc (e.asks, a)
-    by (inl e) (op.Push at v k) a = cc (e.asks, a)
-    by (inl e) (op.Notify port) a = cc (e.asks, a)
-    by (inl e) (op.Delivered what) a = cc (e.asks, a)
-    by (inl e) (op.Awaited what) a = cc (e.asks, a)
-    by (inr n) (op.Done kind) a = absurd (n.asks kind a)
-    by (inr n) (op.Read at count) a = on_way old new left first t g (s ∙ n.stays old.state) w
-    by (inr n) (op.Write at count) a = on_way old new left first t g (s ∙ n.stays old.state) w
-    by (inr n) (op.Store at word) a = on_way old new left first t g (s ∙ n.stays old.state) w
-    by (inr n) (op.StoreTwo at x y) a = on_way old new left first t g (s ∙ n.stays old.state) w
-    by (inr n) (op.Push at v k) a = on_way old new left first t g (s ∙ n.stays old.state) w
-    by (inr n) (op.Notify port) a = on_way old new left first t g (s ∙ n.stays old.state) w
-    by (inr n) (op.Delivered what) a = on_way old new left first t g (s ∙ n.stays old.state) w
-    by (inr n) (op.Awaited what) a = on_way old new left first t g (s ∙ n.stays old.state) w
+small_tail : (v : ℕ) (vs : List ℕ) → AreSmall (v ∷ vs) → AreSmall vs
+small_tail v vs h i = h (suc i)
 
--- the events of a step: those of what was answered, and the program's
-pub step_gone : (w : Wiring) (s : State) (g t left : Stage) (lent : List ℕ) (events : List Event) → t ≡ g → 1024 ≤ length lent → AreSmall lent →
-    Gone (fed (rest_in w s t) (answers t lent)) events (rest_in w s left) → Gone (rest_in w s g) (did (rest_in w s g) (answers g lent) ++ events) (rest_in w s left)
-step_gone w s g t left lent events same l small h =
-    let answered = stage_gone w s g lent l small in
-    let ran = subst (λ (x : Stage). Gone (fed (rest_in w s x) (answers x lent)) events (rest_in w s left)) same h in
-    gone_append (rest_in w s g) (fed (rest_in w s g) (answers g lent)) (rest_in w s left) (did (rest_in w s g) (answers g lent)) events answered ran
+small_take : (n : ℕ) (lent : List ℕ) → AreSmall lent → AreSmall (take n lent)
+small_take zero lent h i = omega arith
+small_take (suc n) [] h i = h i
+small_take (suc n) (v ∷ vs) h zero = h zero
+small_take (suc n) (v ∷ vs) h (suc i) = small_take n vs (small_tail v vs h) i
 
--- what is left after a step completes
-pub step_completes : (w : Wiring) (s : State) (g t left : Stage) (lent : List ℕ) (events : List Event) → t ≡ g → 1024 ≤ length lent → AreSmall lent →
-    Gone (fed (rest_in w s t) (answers t lent)) events (rest_in w s left) → Completes w (rest_in w s g) → Completes w (rest_in w s left)
-step_completes w s g t left lent events same l small h c =
-    finishes_gone (may_want w) (rest_in w s g) (rest_in w s left) (did (rest_in w s g) (answers g lent) ++ events) c (step_gone w s g t left lent events same l small h)
+-- words that were read
+reads_led : {A : Type 0} (s : Steps A) (at : Place) (vs : List ℕ) → AreSmall vs → AsksReads at (length vs) s → Gone s (reads_at at vs) (fed s vs)
+reads_led s at [] b a = refl
+reads_led s at (v ∷ vs) b a = (next s v, (v, occurs_read (want_of s) at v a.0 (b zero), refl), reads_led (next s v) (frame_place at) vs (small_tail v vs b) (a.1 v))
 
--- and so does what is left between two steps
-pub settled_completes : (w : Wiring) (s : State) (left : Stage) (new : State × Stage) → ((x : State) → Completes w (whole_turn w x)) → IsTrue (is_here left) → Completes w (rest_in w s left) → new ≡ settled_of s left →
-    Completes w (rest_in w new.0 new.1)
-settled_completes w s left new turns here c e = subst (λ (x : State × Stage). Completes w (rest_in w x.0 x.1)) (sym e) (by (end_or_on left here))
-  where
-    by : IsEnd left ⊎ IsOn left → Completes w (rest_in w (settled_of s left).0 (settled_of s left).1)
-    by (inl n) = subst (λ (x : Steps Ending). Completes w x) (sym (n.starts w s)) (turns (settled_of s left).0)
-    by (inr n) = subst (λ (x : State × Stage). Completes w (rest_in w x.0 x.1)) (sym (n.stays s)) c
+pub read_led : {A : Type 0} (s : Steps A) (at : Place) (n : ℕ) (lent : List ℕ) → AreSmall lent → n ≤ length lent → AsksReads at n s → Gone s (reads_at at (take n lent)) (fed s (take n lent))
+read_led s at n lent b l a =
+    let e : length (take n lent) ≡ n = omega (arith, length-take n lent, l) in
+    reads_led s at (take n lent) (small_take n lent b) (subst (λ k. AsksReads at k s) (sym e) a)
 
-pub is_stepped : (q new : Queue) (o : Op) (t left : Stage) (lent lent_after before after : List ℕ) → t ≡ q.stage → 1024 ≤ length lent → AreSmall lent →
-    HasGone q.wires.program.shapes (fed (rest_in (wiring_of q.wires) q.state t) (answers t lent)) (rest_in (wiring_of q.wires) q.state left) before after →
-    IsTrue (is_here left) → IsAskedFor o (rest_in (wiring_of q.wires) q.state left) lent_after → asked_of left ≡ asked_by o → ◌≡◌ {A = State × Stage} (new.state, new.stage) (settled_of q.state left) → new.wires ≡ q.wires →
-    new.flags ≡ flags_after q.stage lent q.flags → IsTurnStep q new o lent lent_after before after
-is_stepped q new o t left lent lent_after before after same l small h here asked said settled wires flags =
-    let w = wiring_of q.wires in
-    let events = map event_of h.labels in
-    let all = step_gone w q.state q.stage t left lent events same l small h.gone in
-    record {
-      left = left;
-      gone = record {
-        labels = h.labels;
-        history = h.history;
-        gone = subst (λ (x : Stage). Gone (fed (rest_in w q.state x) (answers x lent)) events (rest_in w q.state left)) same h.gone;
-      };
-      asked = asked;
-      said = said;
-      settled = settled;
-      wires = wires;
-      flags = flags;
-      turn = λ first trace under. gone_on q new o left first (trace ++ (did (rest q) (answers q.stage lent) ++ events))
-          (gone_append (whole_turn w first) (rest q) (rest_in w q.state left) trace (did (rest q) (answers q.stage lent) ++ events) under all) here said settled wires;
-    }
+none_led : {A : Type 0} (s : Steps A) (n : ℕ) (lent : List ℕ) → n ≡ 0 → Gone s [] (fed s (take n lent))
+none_led {A = A} s n lent e = subst (λ k. Gone {A = A} s [] (fed s (take k lent))) (sym e) refl
 
--- ---- a queue that is about a turn
+-- What was asked last is answered.
+pub waits_led : {A : Type 0} (a : Ask) (n : ℕ) (s : Steps A) (lent : List ℕ) → AreSmall lent → n ≤ length lent → WaitsFor a n s → Gone s (read_by a lent) (fed s (take n lent))
+waits_led {A = A} (ask.Read at count) n s lent b l w = subst (λ k. Gone {A = A} s (reads_at at (take k lent)) (fed s (take n lent))) w.0 (read_led s at n lent b l (subst (λ k. AsksReads at k s) (sym w.0) w.1))
+waits_led {A = A} (ask.Entry at reference written) n s lent b l w = subst (λ k. Gone {A = A} s (reads_at at (take k lent)) (fed s (take n lent))) w.0 (read_led s at n lent b l (subst (λ k. AsksReads at k s) (sym w.0) w.1))
+waits_led {A = A} (ask.Push at word read) n s lent b l w =
+    let from = page_word at.frame read in
+    subst (λ k. Gone {A = A} s (reads_at from (take k lent)) (fed s (take n lent))) w.0 (read_led s from n lent b l (subst (λ k. AsksReads from k s) (sym w.0) w.1))
+waits_led (ask.Write at count) n s lent b l w = none_led s n lent w
+waits_led (ask.Store at word) n s lent b l w = none_led s n lent w
+waits_led (ask.StoreTwo at x y) n s lent b l w = none_led s n lent w
+waits_led (ask.Notify port) n s lent b l w = none_led s n lent w
+waits_led (ask.TurnOver kind) n s lent b l w = absurd w
+waits_led (ask.DeliveryOver what) n s lent b l w = absurd w
+waits_led (ask.WaitOver what) n s lent b l w = absurd w
 
-pub turns_on : (g : Stage) → IsTrue (is_there g) → task_of g ≡ task.Turn → IsTrue (is_turning g)
-turns_on (stage.Carry c) there e = absurd (cc e)
-turns_on (stage.Wait b at) there e = absurd (cc e)
-turns_on stage.Gone there e = there
-turns_on (stage.Ready b) there e = refl
-turns_on (stage.Announce b) there e = refl
-turns_on (stage.Slot r) there e = refl
-turns_on (stage.Entry x) there e = refl
-turns_on (stage.Page g) there e = refl
-turns_on (stage.Send g) there e = refl
-turns_on (stage.Answer r) there e = refl
-turns_on (stage.Push a) there e = refl
-turns_on (stage.Notice a) there e = refl
-turns_on (stage.Over b after kind) there e = refl
+-- ---- where what is asked lies
 
-pub completes_of : (w : Wires) (s : State) (g : Stage) → IsTrue (is_turning g) → TaskCompletes w s g → Completes (wiring_of w) (rest_in (wiring_of w) s g)
-completes_of w s (stage.Carry c) t h = absurd (cc t)
-completes_of w s (stage.Wait b at) t h = absurd (cc t)
-completes_of w s stage.Gone t h = absurd (cc t)
-completes_of w s (stage.Ready b) t h = h
-completes_of w s (stage.Announce b) t h = h
-completes_of w s (stage.Slot r) t h = h
-completes_of w s (stage.Entry x) t h = h
-completes_of w s (stage.Page g) t h = h
-completes_of w s (stage.Send g) t h = h
-completes_of w s (stage.Answer r) t h = h
-completes_of w s (stage.Push a) t h = h
-completes_of w s (stage.Notice a) t h = h
-completes_of w s (stage.Over b after kind) t h = h
+-- The wants of words are words of so many frames.
+pub record AreInPages (frames : ℕ) (within : Want → Type 0) : Type 0 where
+  pub reads : (at : Place) → within (want.Read at) → (at.frame < frames) × (at.word < 1024)
+  pub writes : (at : Place) (v : ℕ) → within (want.Write at v) → (at.frame < frames) × (at.word < 1024)
 
-pub task_completes : (w : Wires) (s : State) (g : Stage) → IsTrue (is_turning g) → Completes (wiring_of w) (rest_in (wiring_of w) s g) → TaskCompletes w s g
-task_completes w s (stage.Carry c) t h = absurd (cc t)
-task_completes w s (stage.Wait b at) t h = absurd (cc t)
-task_completes w s stage.Gone t h = absurd (cc t)
-task_completes w s (stage.Ready b) t h = h
-task_completes w s (stage.Announce b) t h = h
-task_completes w s (stage.Slot r) t h = h
-task_completes w s (stage.Entry x) t h = h
-task_completes w s (stage.Page g) t h = h
-task_completes w s (stage.Send g) t h = h
-task_completes w s (stage.Answer r) t h = h
-task_completes w s (stage.Push a) t h = h
-task_completes w s (stage.Notice a) t h = h
-task_completes w s (stage.Over b after kind) t h = h
+pub turn_pages : (frames : ℕ) (shapes : List Shape) → AreInPages frames (IsWithin frames shapes)
+turn_pages frames shapes = record { reads = λ at h. h; writes = λ at v h. h }
+
+pub page_pages : (frames : ℕ) → AreInPages frames (IsPageWant frames)
+page_pages frames = record { reads = λ at h. h; writes = λ at v h. h }
+
+wrote : (w : Want) (a : ℕ) (at : Place) (v : ℕ) → Occurs w a (Write at v) → w ≡ want.Write at v
+wrote (want.Read p) a at v h = cc h.1
+wrote (want.Write p x) a at v h = cc h.1
+wrote want.Instr a at v h = cc h.1
+wrote (want.Load m k j) a at v h = cc h.1
+wrote (want.Add m k j delta) a at v h = cc h.1
+wrote (want.Notify port) a at v h = cc h.1
+wrote want.Done a at v h = absurd h
+
+module _ {A : Type 0} (frames : ℕ) (within : Want → Type 0) (in_pages : AreInPages frames within) where
+  reads_within : (at : Place) (n : ℕ) (s : Steps A) → 1 ≤ n → AsksReads at n s → Finishes within s → (at.frame < frames) × (at.word + n ≤ 1024)
+  reads_within at zero s l a h = absurd (omega arith)
+  reads_within at (suc zero) s l a h =
+      let one : within (want.Read at) = subst within a.0 (finishes_want within s h (λ d. cc (a.0, d))) in
+      let p = in_pages.reads at one in
+      (p.0, omega (arith, p.1))
+  reads_within at (suc (suc n)) s l a h =
+      let later = finishes_next within s (next s 0) (Read at 0) h (0, occurs_read (want_of s) at 0 a.0 (omega arith), refl) in
+      let more = reads_within (frame_place at) (suc n) (next s 0) (omega arith) (a.1 0) later in
+      (more.0, omega (arith, more.1))
+
+  one_written : (at : Place) (v : ℕ) (s m : Steps A) → Goes s (Write at v) m → Finishes within s → (at.frame < frames) × (at.word < 1024)
+  one_written at v s m g h =
+      let e = wrote (want_of s) g.0 at v g.1 in
+      in_pages.writes at v (subst within e (finishes_want within s h (λ d. cc (e, d))))
+
+  writes_within : (at : Place) (vs : List ℕ) (s left : Steps A) → 1 ≤ length vs → Gone s (writes_at at vs) left → Finishes within s → (at.frame < frames) × (at.word + length vs ≤ 1024)
+  writes_within at [] s left l g h = absurd (omega arith)
+  writes_within at (v ∷ []) s left l g h = let p = one_written at v s g.0 g.1 h in (p.0, omega (arith, p.1))
+  writes_within at (v ∷ u ∷ vs) s left l g h =
+      let more = writes_within (frame_place at) (u ∷ vs) g.0 left (omega arith) g.2 (finishes_next within s g.0 (Write at v) h g.1) in
+      (more.0, omega (arith, more.1))
+
+  -- an ask that takes no answer
+  did_within : (a : Ask) (lent : List ℕ) (s left : Steps A) → 1024 ≤ length lent → IsSized a → takes_none a ≡ true → Gone s (did_by a lent) left → Finishes within s → IsInPages frames a
+  did_within (ask.Read at count) lent s left l z e g h = cc e
+  did_within (ask.Entry at reference written) lent s left l z e g h = cc e
+  did_within (ask.Write at count) lent s left l z e g h =
+      let n : length (take count lent) ≡ count = omega (arith, length-take count lent, z.1, l) in
+      let w = writes_within at (take count lent) s left (omega (arith, n, z.0)) g h in
+      (w.0, omega (arith, w.1, n))
+  did_within (ask.Store at word) lent s left l z e g h = writes_within at (word ∷ []) s left (omega arith) g h
+  did_within (ask.StoreTwo at x y) lent s left l z e g h = writes_within at (x ∷ y ∷ []) s left (omega arith) g h
+  did_within (ask.Push at word read) lent s left l z e g h = cc e
+  did_within (ask.Notify port) lent s left l z e g h = tt
+  did_within (ask.TurnOver kind) lent s left l z e g h = tt
+  did_within (ask.DeliveryOver what) lent s left l z e g h = tt
+  did_within (ask.WaitOver what) lent s left l z e g h = tt
+
+  -- what is asked last, and waited for
+  pub last_within : (a : Ask) (n : ℕ) (lent : List ℕ) (s left : Steps A) → 1024 ≤ length lent → IsSized a → Gone s (did_by a lent) left → WaitsFor a n left → Finishes within s → IsInPages frames a
+  last_within (ask.Read at count) n lent s left l z g w h = reads_within at count left z.0 w.1 (finishes_gone within s left [] h g)
+  last_within (ask.Entry at reference written) n lent s left l z g w h = reads_within at 2 left (omega arith) w.1 (finishes_gone within s left [] h g)
+  last_within (ask.Push at word read) n lent s left l z g w h =
+      let p = writes_within at (word ∷ []) s left (omega arith) g h in
+      let r = reads_within (page_word at.frame read) 1 left (omega arith) w.1 (finishes_gone within s left (Write at word ∷ []) h g) in
+      (p.0, p.1, omega (arith, r.1))
+  last_within (ask.Write at count) n lent s left l z g w h = did_within (ask.Write at count) lent s left l z refl g h
+  last_within (ask.Store at word) n lent s left l z g w h = did_within (ask.Store at word) lent s left l z refl g h
+  last_within (ask.StoreTwo at x y) n lent s left l z g w h = did_within (ask.StoreTwo at x y) lent s left l z refl g h
+  last_within (ask.Notify port) n lent s left l z g w h = tt
+  last_within (ask.TurnOver kind) n lent s left l z g w h = tt
+  last_within (ask.DeliveryOver what) n lent s left l z g w h = tt
+  last_within (ask.WaitOver what) n lent s left l z g w h = tt
+
+  -- Where a trace of two parts leads from: the first part leads to something between.
+  pub split_gone : (t u : List Event) (s left : Steps A) → Gone s (t ++ u) left → (m : Steps A) × Gone s t m × Gone m u left
+  split_gone [] u s left g = (s, refl, g)
+  split_gone (e ∷ t) u s left g = let r = split_gone t u g.0 left g.2 in (r.0, (g.0, g.1, r.1), r.2)
+
+  pub all_within : (first : List Ask) (last : Ask) (lent : List ℕ) (s left : Steps A) → 1024 ≤ length lent → AllSized (first ++ last ∷ []) → TakeNone first →
+      Gone s (did_all first lent ++ did_by last lent) left → ((m : Steps A) → Gone m (did_by last lent) left → Finishes within m → IsInPages frames last) → Finishes within s → AllInPages frames (first ++ last ∷ [])
+  all_within [] last lent s left l z t g by h = (by s g h, tt)
+  all_within (a ∷ more) last lent s left l z t g by h =
+      let parts = subst (λ (q : List Event). Gone s q left) (append_assoc (did_by a lent) (did_all more lent) (did_by last lent)) g in
+      let r = split_gone (did_by a lent) (did_all more lent ++ did_by last lent) s left parts in
+      (did_within a lent s r.0 l z.0 t.0 r.1 h, all_within more last lent r.0 left l z.1 t.1 r.2 by (finishes_gone within s r.0 (did_by a lent) h r.1))

@@ -1,34 +1,52 @@
 -- What a queue is about comes to its end.
-use Rattle.xen_back.specs.Deliveries.{Arrives, Arrives-prop}
+use Rattle.std.specs.Prelude.{length}
+use Rattle.xen_steps.specs.Drive.{IsPageWant, IsPageWant-prop}
+use Rattle.xen_steps.specs.Finish.{Finishes, Finishes-prop}
 use Rattle.xen_back.specs.Within.{Completes, Completes-prop}
 use Rattle.xen_back.specs.declared.state.State.{State}
-use Rattle.xen_host.specs.Carries.{rest_carrying}
-use Rattle.xen_host.specs.Rest.{rest_in}
+use Rattle.xen_host.specs.Rest.{rest_in, rest_of_delivery, rest_of_wait}
 use Rattle.xen_host.specs.Wired.{vif_of, wiring_of}
+use Rattle.xen_host.specs.declared.stage.Purpose.TheVariants as purpose
 use Rattle.xen_host.specs.declared.stage.Stage.{Stage}
 use Rattle.xen_host.specs.declared.stage.Stage.TheVariants as stage
 use Rattle.xen_host.specs.declared.wires.Wires.{Wires}
+use Rattle.xen_host.specs.declared.work.Work.{Work}
+
+abbrev pub Arriving : Wires → State → Stage → Work → Type 0
+Arriving w s g b = Finishes (IsPageWant (length w.owners)) (rest_of_delivery (vif_of w) s g b)
+
+abbrev pub Waiting : Wires → State → Stage → Type 0
+Waiting w s g = Finishes (IsPageWant (length w.owners)) (rest_of_wait w.rx s g)
 
 -- It ends, whatever it is answered, and until then wants nothing that it may not.
-abbrev pub TaskCompletes : Wires → State → Stage → Type 0
-TaskCompletes w s (stage.Carry c) = Arrives (vif_of w) (rest_carrying (vif_of w) s c)
-TaskCompletes w s (stage.Wait b at) = Unit {0}
-TaskCompletes w s g = Completes (wiring_of w) (rest_in (wiring_of w) s g)
+abbrev pub TaskCompletes : Wires → State → Stage → Work → Type 0
+TaskCompletes w s stage.Ready b = Unit {0}
+TaskCompletes w s (stage.Fill f purpose.Delivery) b = Arriving w s (stage.Fill f purpose.Delivery) b
+TaskCompletes w s (stage.Deliver producer) b = Arriving w s (stage.Deliver producer) b
+TaskCompletes w s (stage.Wait pages) b = Waiting w s (stage.Wait pages)
+TaskCompletes w s (stage.WaitLook pages) b = Waiting w s (stage.WaitLook pages)
+TaskCompletes w s g b = Completes (wiring_of w) (rest_in (wiring_of w) s g b)
 
-turn-prop : (w : Wires) (s : State) (g : Stage) → IsProp (Completes (wiring_of w) (rest_in (wiring_of w) s g))
-turn-prop w s g = Completes-prop (wiring_of w) (rest_in (wiring_of w) s g)
+turn-prop : (w : Wires) (s : State) (g : Stage) (b : Work) → IsProp (Completes (wiring_of w) (rest_in (wiring_of w) s g b))
+turn-prop w s g b = Completes-prop (wiring_of w) (rest_in (wiring_of w) s g b)
 
-pub TaskCompletes-prop : (w : Wires) (s : State) (g : Stage) → IsProp (TaskCompletes w s g)
-TaskCompletes-prop w s (stage.Carry c) = Arrives-prop (vif_of w) (rest_carrying (vif_of w) s c)
-TaskCompletes-prop w s (stage.Wait b at) = λ x y i. x
-TaskCompletes-prop w s (stage.Ready b) = turn-prop w s (stage.Ready b)
-TaskCompletes-prop w s (stage.Announce b) = turn-prop w s (stage.Announce b)
-TaskCompletes-prop w s (stage.Slot r) = turn-prop w s (stage.Slot r)
-TaskCompletes-prop w s (stage.Entry e) = turn-prop w s (stage.Entry e)
-TaskCompletes-prop w s (stage.Page g) = turn-prop w s (stage.Page g)
-TaskCompletes-prop w s (stage.Send g) = turn-prop w s (stage.Send g)
-TaskCompletes-prop w s (stage.Answer r) = turn-prop w s (stage.Answer r)
-TaskCompletes-prop w s (stage.Push a) = turn-prop w s (stage.Push a)
-TaskCompletes-prop w s (stage.Notice a) = turn-prop w s (stage.Notice a)
-TaskCompletes-prop w s (stage.Over b after kind) = turn-prop w s (stage.Over b after kind)
-TaskCompletes-prop w s stage.Gone = turn-prop w s stage.Gone
+delivery-prop : (w : Wires) (s : State) (g : Stage) (b : Work) → IsProp (Arriving w s g b)
+delivery-prop w s g b = Finishes-prop (IsPageWant (length w.owners)) (IsPageWant-prop (length w.owners)) (rest_of_delivery (vif_of w) s g b)
+
+wait-prop : (w : Wires) (s : State) (g : Stage) → IsProp (Waiting w s g)
+wait-prop w s g = Finishes-prop (IsPageWant (length w.owners)) (IsPageWant-prop (length w.owners)) (rest_of_wait w.rx s g)
+
+pub TaskCompletes-prop : (w : Wires) (s : State) (g : Stage) (b : Work) → IsProp (TaskCompletes w s g b)
+TaskCompletes-prop w s stage.Ready b = λ x y i. x
+TaskCompletes-prop w s (stage.Fill f purpose.Delivery) b = delivery-prop w s (stage.Fill f purpose.Delivery) b
+TaskCompletes-prop w s (stage.Deliver producer) b = delivery-prop w s (stage.Deliver producer) b
+TaskCompletes-prop w s (stage.Wait pages) b = wait-prop w s (stage.Wait pages)
+TaskCompletes-prop w s (stage.WaitLook pages) b = wait-prop w s (stage.WaitLook pages)
+TaskCompletes-prop w s stage.Announce b = turn-prop w s stage.Announce b
+TaskCompletes-prop w s (stage.Slot left) b = turn-prop w s (stage.Slot left) b
+TaskCompletes-prop w s (stage.Entry i at) b = turn-prop w s (stage.Entry i at) b
+TaskCompletes-prop w s (stage.Page i f frame) b = turn-prop w s (stage.Page i f frame) b
+TaskCompletes-prop w s (stage.Fill f (purpose.Back n)) b = turn-prop w s (stage.Fill f (purpose.Back n)) b
+TaskCompletes-prop w s (stage.Respond a i) b = turn-prop w s (stage.Respond a i) b
+TaskCompletes-prop w s (stage.Push at kind) b = turn-prop w s (stage.Push at kind) b
+TaskCompletes-prop w s (stage.Notice at kind) b = turn-prop w s (stage.Notice at kind) b

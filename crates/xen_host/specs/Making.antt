@@ -1,13 +1,12 @@
 -- Making a queue of numbers.
-use Rattle.std.specs.Prelude.{ℕ, ◌≡◌, ◌<◌, ◌≤◌, List, [], None, Some, length, slice_get}
+use Rattle.std.specs.Prelude.{ℕ, ◌≡◌, ◌≢◌, ◌<◌, ◌≤◌, List, [], None, Some, Contains, length, slice_get}
 use Rattle.bpf_verify.specs.Consistent.{Accepted}
 use Rattle.xen_page.specs.Table.{IsTable}
 use Rattle.xen_page.specs.declared.owners.OwnersFault.{OwnersFault}
 use Rattle.xen_page.specs.declared.owners.OwnersFault.TheVariants as owned
 use Rattle.xen_transmit.specs.Wired.{IsWired}
-use Rattle.xen_back.specs.Tree.{whole_turn}
 use Rattle.xen_host.specs.Frames.{Limits, limits_of, owners_in}
-use Rattle.xen_host.specs.Queues.{packet_of, rest}
+use Rattle.xen_host.specs.Queues.{packet_of, resting}
 use Rattle.xen_host.specs.Rest.{no_flags}
 use Rattle.xen_host.specs.Wired.{wiring_of}
 use Rattle.xen_host.specs.declared.make.MakeFault.{MakeFault}
@@ -55,9 +54,15 @@ AreFrames g = length g.owners ≤ g.limits.frames
 abbrev pub IsTableOf : Given → Type 0
 IsTableOf g = (length g.table ≤ g.limits.table) × IsTable g.owners g.granter g.table
 
--- the frames of both rings are the frontend's
-abbrev pub AreRings : Given → Type 0
-AreRings g = (slice_get g.owners g.tx ≡ Some g.granter) × (slice_get g.owners g.rx ≡ Some g.granter)
+-- a ring's frame is the frontend's, and none of its table's
+abbrev pub IsRing : Given → ℕ → Type 0
+IsRing g frame = (slice_get g.owners frame ≡ Some g.granter) × (Contains g.table frame → ⊥)
+
+-- the rings are two such frames
+pub record AreRings (g : Given) : Type 0 where
+  pub apart : g.tx ≢ g.rx
+  pub tx : IsRing g g.tx
+  pub rx : IsRing g g.rx
 
 -- each part is what was given, within its limits
 pub record IsWiredTo (program : Accepted) (g : Given) (w : Wires) : Type 0 where
@@ -74,14 +79,15 @@ pub record IsWiredTo (program : Accepted) (g : Given) (w : Wires) : Type 0 where
   pub wired : IsWired (wiring_of w).vif
   pub frames : AreFrames g
   pub table_of : IsTableOf g
+  pub rings : AreRings g
+  pub domains : g.granter ≢ g.user
 
 -- a queue between turns of these parts, with no packet
 pub record IsMadeOf (program : Accepted) (g : Given) (q : Queue) : Type 0 where
-  pub wires : IsWiredTo program g q.wires
-  pub state : q.state ≡ record { tx_index = g.tx_index; rx_index = g.rx_index; halt = None }
-  pub ready : rest q ≡ whole_turn (wiring_of q.wires) q.state
+  pub wires : IsWiredTo program g q.engine.wires
+  pub state : resting q ≡ Some (record { tx_index = g.tx_index; rx_index = g.rx_index; halt = None })
   pub packet : packet_of q ≡ []
-  pub flags : q.flags ≡ no_flags
+  pub flags : q.engine.flags ≡ no_flags
 
 -- what is told of the owners' fault
 abbrev pub made_fault : OwnersFault → MakeFault
@@ -94,4 +100,4 @@ IsFaultOf g fault.Memory = Unit {0}
 IsFaultOf g fault.Frames = g.limits.frames < length g.owners
 IsFaultOf g fault.Table = AreFrames g × (IsTableOf g → ⊥)
 IsFaultOf g fault.Ring = AreFrames g × IsTableOf g × (AreRings g → ⊥)
-IsFaultOf g fault.Port = AreFrames g × IsTableOf g × AreRings g × (64 ≤ g.port)
+IsFaultOf g fault.Domain = AreFrames g × IsTableOf g × AreRings g × (g.granter ≡ g.user)

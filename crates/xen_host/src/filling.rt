@@ -1,6 +1,6 @@
 //! A packet's words, as they go into a page.
 
-ghost use Rattle.std.specs.Prelude.{◌≡◌, ◌<◌, ◌≤◌, ◌+◌, ◌*◌, length, take};
+ghost use Rattle.std.specs.Prelude.{◌≡◌, ◌<◌, ◌≤◌, ◌+◌, ◌*◌, drop, length, take};
 ghost use Rattle.xen_transmit.specs.Packets.{word_of};
 ghost use Rattle.xen_host.specs.Filling.{packet_words};
 
@@ -24,6 +24,7 @@ fn put_whole(bytes: &[u8], from: u32, count: u32, words: &mut [u32])
     requires inside { 4 * (from + count) ≤ length bytes.now }
     requires enough { count ≤ length words.old }
     ensures width { length words.new ≡ length words.old }
+    ensures rest { drop count words.new ≡ drop count words.old }
     ensures wrote { take count words.new ≡ packet_words bytes.now from count }
 {
     for n in 0..count {
@@ -38,6 +39,7 @@ pub(crate) fn put_words(bytes: &[u8], from: u32, count: u32, words: &mut [u32])
     requires inside { 4 * (from + count) ≤ length bytes.now + 3 }
     requires enough { count ≤ length words.old }
     ensures width { length words.new ≡ length words.old }
+    ensures rest { drop count words.new ≡ drop count words.old }
     ensures wrote { take count words.new ≡ packet_words bytes.now from count }
 {
     let whole = count.min(bytes.len() as u32 / 4 - from);

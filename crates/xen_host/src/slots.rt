@@ -1,6 +1,7 @@
 //! The slots of a turn's chain.
 
-ghost use Rattle.std.specs.Prelude.{◌≡◌, ◌≤◌, ◌<◌, ◌∷◌, [], length, slice_index, sum_by, false, IfOk, IsTrue, MatchResult, Ok, Err, Some};
+ghost use Rattle.std.specs.Prelude.{◌≡◌, ◌≤◌, ◌<◌, ◌∷◌, [], length, slice_index, sum_by, false, IfOk, IsTrue, MatchResult, Ok};
+ghost use Rattle.std.specs.Prelude.{Err, Some};
 ghost use Rattle.std.specs.List.{list_all};
 ghost use Rattle.xen_netif.specs.Chain.{extra_info, more_data};
 ghost use Rattle.xen_netif.specs.Fragments.{fragment_size, fragments_of, is_in_page};
@@ -43,7 +44,7 @@ impl Model for Slots {
 }
 
 /// Whether a slot is a whole chain: it asks for no other.
-pub(crate) fn is_lone(slot: [u32; 3]) -> bool
+fn is_lone(slot: [u32; 3]) -> bool
     ensures { IsTrue result → (extra_info slot ≡ false) × (more_data slot ≡ false) }
 {
     let TxReq { flags, .. } = TxReq::of_words(slot);
@@ -51,11 +52,12 @@ pub(crate) fn is_lone(slot: [u32; 3]) -> bool
 }
 
 /// The fragment of a slot that is a whole chain.
-pub(crate) fn lone_fragment(slot: [u32; 3]) -> Result<Fragment, SizeFault>
+fn lone_fragment(slot: [u32; 3]) -> Result<Fragment, SizeFault>
     requires plain { extra_info slot ≡ false }
     ensures in_page { IfOk result (λ f. IsTrue (is_in_page f)) }
     ensures short { IfOk result (λ f. f.size ≤ 65535) }
-    ensures answer { MatchResult result (λ f. fragments_of (slot ∷ []) ≡ Ok (f ∷ [])) (λ fault. fragments_of (slot ∷ []) ≡ Err fault) }
+    ensures answer { MatchResult result (λ f. fragments_of (slot ∷ []) ≡ Ok (f ∷ [])) (λ fault. fragments_of (slot ∷ []) ≡ Err
+        fault) }
 {
     let TxReq {
         gref,
@@ -76,7 +78,7 @@ pub(crate) fn lone_fragment(slot: [u32; 3]) -> Result<Fragment, SizeFault>
 
 /// Puts a fragment that is all into the room for fragments. Where one was before it is replaced, without a call that clears the room.
 #[inline(always)]
-pub(crate) fn put_alone(room: &mut ArrayVec<Fragment, 18>, fragment: Fragment)
+fn put_alone(room: &mut ArrayVec<Fragment, 18>, fragment: Fragment)
     ensures { room.new.items ≡ fragment ∷ [] }
 {
     if room.len() == 1 {
@@ -158,16 +160,6 @@ impl Slots {
         ensures { self.new ≡ [] }
     {
         self.lie = Lie::Nowhere;
-    }
-
-    /// Takes a slot that is a whole chain, in place of what there was.
-    #[inline(always)]
-    pub fn take_lone(&mut self, words: [u32; 3])
-        requires { (extra_info words ≡ false) × (more_data words ≡ false) }
-        ensures { self.new ≡ words ∷ [] }
-    {
-        self.lone = words;
-        self.lie = Lie::Alone;
     }
 
     /// How many there are.

@@ -4,5 +4,6 @@ pub mod ExtentLemmas
 pub mod MappingLemmas
 pub mod RewriteLemmas
 pub mod RunLemmas
+pub mod WordLemmas
 pub mod PlainLemmas
 pub mod SetLemmas

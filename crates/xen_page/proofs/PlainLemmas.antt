@@ -5,7 +5,8 @@ use borrow.Rule.Slice.PartMut.{put_mid}
 use Rattle.xen_page.proofs.RunLemmas.{further}
 use Rattle.xen_page.proofs.SetLemmas.{set_behind}
 use Rattle.xen_page.specs.Access.{Passes}
-use Rattle.xen_page.specs.Plain.{Holds, index_of}
+use Rattle.xen_page.specs.Numbered.{index_of}
+use Rattle.xen_page.specs.Plain.{Holds}
 use Rattle.xen_page.specs.Run.{reads_of, writes_of}
 use Rattle.xen_page.specs.declared.place.Place.{Place}
 

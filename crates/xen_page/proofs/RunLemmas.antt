@@ -10,7 +10,7 @@ use Rattle.std.proofs.lemmas.Nat.{le_bytes_4}
 use Rattle.std.proofs.Math.Seq.{take-add, take-append_seam, drop-append-add}
 use Rattle.xen_page.proofs.AccessLemmas.{performs_one, performs_then}
 use Rattle.xen_page.specs.Access.{Passes, Performs, Tells}
-use Rattle.xen_page.specs.Run.{reads_of, writes_of}
+use Rattle.xen_page.specs.Run.{HasRead, reads_of, writes_of}
 use Rattle.xen_page.specs.declared.access.Access.{Access}
 use Rattle.xen_page.specs.declared.access.Access.TheVariants as access
 use Rattle.xen_page.specs.declared.place.Place.{Place}
@@ -171,3 +171,18 @@ bytes_all words start n h e =
 
 pub all_below : (words : List ℕ) → ((i : ℕ) → get_or words i 0 < 2 ^ 32) → All (λ word. word < 2 ^ 32) words
 all_below words h = λ i d lt. rw (get_or_default words i d 0 lt) (h i)
+
+-- one more word of a run, and its bytes
+pub read_more : {S : Type 0} (log : S → Option (List Access)) (gives : S → Access → S → Type 0) (at : Place) (n v : ℕ) (old mid new : S) (start room : List ℕ) →
+    HasRead log gives at n old start mid room → v < 2 ^ 32 →
+    Tells (log mid) (log new) (access.Read (further at n) v ∷ []) → gives mid (access.Read (further at n) v) new →
+    HasRead log gives at (n + 1) old start new (take (4 * n) room ++ to_le_bytes w32 v ++ drop (4 * n + 4) room)
+read_more log gives at n v old mid new start room h small told given =
+    let put : List ℕ → List ℕ = λ l. take (4 * n) l ++ to_le_bytes w32 v ++ drop (4 * n + 4) l in
+    record {
+      words = h.words ++ v ∷ [];
+      many = omega (arith, length-append h.words (v ∷ []), h.many);
+      below = below_more h.words v h.below small;
+      performed = performs_more log gives at h.words n v old mid new h.many h.performed told given;
+      filled = ap put h.filled ∙ bytes_more h.words start n v h.many;
+    }

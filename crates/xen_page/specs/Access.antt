@@ -1,3 +1,4 @@
+-- Stated: claims rest on this file.
 -- Accesses to page words, and what a bus reports of them.
 use Rattle.std.specs.Prelude.{◌≡◌, List, [], ◌∷◌, ◌++◌, Option, Some, None}
 use Rattle.xen_page.specs.declared.access.Access.{Access}

@@ -1,3 +1,4 @@
+-- Stated: claims rest on this file.
 -- What an access was answered.
 use Rattle.std.specs.Prelude.{ℕ, Option, Some, None}
 use Rattle.xen_page.specs.declared.access.Access.{Access}

@@ -1,3 +1,4 @@
+-- Stated: claims rest on this file.
 -- An entry of a grant table (grant_table.h, struct grant_entry_v1): the first word has the flags in its low half and
 -- the domid in its high half, the second is the frame.
 -- Rows from grant_table.h guard it: `entry` of crates/outside_rows.

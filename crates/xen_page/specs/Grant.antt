@@ -1,3 +1,4 @@
+-- Stated: claims rest on this file.
 -- What a grant has to be before it is used (grant_table.h: the grant table's flags and status codes).
 -- Rows from grant_table.h guard the numbers: `faults` of crates/outside_rows. Rows worked by hand guard the order:
 -- crates/xen_page_tests/src/tests/entries.rt.

@@ -2,6 +2,9 @@ pub mod Access
 pub mod Answered
 pub mod Log
 pub mod Run
+pub mod Shared
+pub mod Stepped
+pub mod Numbered
 pub mod Plain
 pub mod Script
 pub mod Recorded

@@ -1,3 +1,4 @@
+-- Stated: claims rest on this file.
 -- Mappings of granted frames (grant_table.h: a mapping marks its entry GTF_reading, and GTF_writing if it may write;
 -- the marks are set and taken away by a compare-exchange of the flags).
 -- Rows worked by hand guard it: crates/xen_page_tests/src/tests/mappings.rt.

@@ -1,3 +1,4 @@
+-- Stated: claims rest on this file.
 -- Who owns each frame of extents, as memory.h of Xen has them: so many frames, one after another.
 -- Rows worked by hand guard it: crates/xen_page_tests/src/tests/extents.rt.
 use Rattle.std.specs.Prelude.{ℕ, ◌^◌, ◌<◌, ◌≤◌, List, [], ◌∷◌, ◌++◌, length, replicate}

@@ -1,13 +1,10 @@
+-- Stated: claims rest on this file.
 -- A bus over plain words that one thread owns: a word holds what was written there last.
 -- Rows worked by hand guard it: crates/xen_page_tests/src/tests/plain.rt.
-use Rattle.std.specs.Prelude.{ℕ, ◌+◌, ◌*◌, ◌≡◌, ◌==◌, List, slice_index, slice_set, if◌then◌else◌}
+use Rattle.std.specs.Prelude.{ℕ, ◌≡◌, ◌==◌, List, slice_index, slice_set, if◌then◌else◌}
+use Rattle.xen_page.specs.Numbered.{index_of}
 use Rattle.xen_page.specs.declared.access.Access.{Access}
 use Rattle.xen_page.specs.declared.access.Access.TheVariants as access
-use Rattle.xen_page.specs.declared.place.Place.{Place}
-
--- which word of all frames lies at a place, where one frame follows another
-abbrev pub index_of : Place → ℕ
-index_of at = at.frame * 1024 + at.word
 
 -- A read answers the word that stands there, a write changes that word alone, and an exchange writes where it found what it compares with.
 abbrev pub Holds : List ℕ → Access → List ℕ → Type 0

@@ -1,3 +1,4 @@
+-- Stated: claims rest on this file.
 -- A bus that keeps the accesses of another.
 use Rattle.std.specs.Prelude.{◌≡◌, List, [], ◌∷◌, Option}
 use Rattle.xen_page.specs.Access.{Tells}

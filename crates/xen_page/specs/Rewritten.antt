@@ -1,3 +1,4 @@
+-- Stated: claims rest on this file.
 -- A bus whose words are rewritten between accesses.
 use Rattle.std.specs.Prelude.{ℕ, ◌+◌, ◌^◌, ◌≡◌, ◌==◌, List, [], ◌∷◌, ◌++◌, nat_lt, Option, Some, None, if◌then◌else◌}
 use Rattle.xen_page.specs.Access.{Performs}

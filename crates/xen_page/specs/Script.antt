@@ -1,3 +1,4 @@
+-- Stated: claims rest on this file.
 -- A bus that answers from a list.
 use Rattle.std.specs.Prelude.{ℕ, ◌≡◌, List, drop, slice_index}
 use Rattle.xen_page.specs.Log.{Logged, noted}

@@ -1,3 +1,4 @@
+-- Stated: claims rest on this file.
 -- A domain's grant table (grant_table.h): frames of 512 entries of two words each.
 -- Rows worked by hand guard it: crates/xen_page_tests/src/tests/tables.rt.
 use Rattle.std.specs.Prelude.{ℕ, ◌≤◌, ◌*◌, ◌/◌, ◌%◌, List, length, All, IsTrue, Option, Some, None, slice_get}

@@ -2,7 +2,8 @@
 //! reach them, and the grants by which a domain lends its frames.
 //!
 //! - `place`, `access`, `bus`: a word of a frame, one access to it, and what makes it; `run`: words in a row
-//! - `frames`, `page_bus`: shared words; `plain_bus`: words that one thread owns
+//! - `words`, `word_bus`, `word_recorder`: the three steps of words, the bus that is made of them, and what a step was
+//! - `frames`, `shared_words`, `sharing`, `page_bus`: shared words; `plain_bus`: words that one thread owns
 //! - `script_bus`, `recorder`, `rewriter`, `rewriting`, `log`: buses for tests, and what a bus reports
 //! - `owners`, `extents`: who owns each frame
 //! - `table`, `entry`, `fault`: a domain's grants, and why one may not be used
@@ -29,7 +30,12 @@ pub mod rewriter;
 mod rewriting;
 mod run;
 pub mod script_bus;
+pub mod shared_words;
+mod sharing;
 pub mod table;
+pub mod word_bus;
+pub mod word_recorder;
+pub mod words;
 
 pub use access::Access;
 pub use bus::Bus;
@@ -47,4 +53,8 @@ pub use plain_bus::PlainBus;
 pub use recorder::Recorder;
 pub use rewriter::Rewriter;
 pub use script_bus::ScriptBus;
+pub use shared_words::SharedWords;
 pub use table::{ENTRIES, MAX_LARGE_TABLE_FRAMES, MAX_TABLE_FRAMES, Table};
+pub use word_bus::WordBus;
+pub use word_recorder::{MAX_STEPS, WordRecorder};
+pub use words::Words;

@@ -2,6 +2,7 @@
 
 ghost use Rattle.std.specs.Prelude.{◌≡◌, ◌<◌, ◌+◌};
 ghost use Rattle.std.specs.Option.{SomeIff};
+ghost use Rattle.xen_page.specs.Numbered.{index_of};
 
 /// The number of words of four octets in a page.
 pub const WORDS: u32 = 1024;
@@ -36,4 +37,11 @@ impl Place {
             word: self.word + 1,
         }
     }
+}
+
+/// Which word of all frames lies at a place, the frames one after another.
+pub(crate) fn place_of(at: Place) -> usize
+    ensures { result ≡ index_of at }
+{
+    at.frame as usize * WORDS as usize + at.word as usize
 }

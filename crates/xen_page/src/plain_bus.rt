@@ -3,10 +3,11 @@
 ghost use Rattle.std.specs.Prelude.{◌≡◌, ◌<◌, ◌≤◌, ◌^◌, ◌/◌, ◌%◌, ◌+◌, ◌*◌, All, None, drop, length, take};
 ghost use Rattle.std.specs.Int.{w32, to_le_bytes};
 ghost use Rattle.std.specs.List.{flat_map};
-ghost use Rattle.xen_page.specs.Plain.{Holds, index_of};
+ghost use Rattle.xen_page.specs.Numbered.{index_of};
+ghost use Rattle.xen_page.specs.Plain.{Holds};
 
 use crate::bus::Bus;
-use crate::place::{Place, WORDS};
+use crate::place::{Place, WORDS, place_of};
 use crate::run::{put_word, word_at};
 use std::marker::Model;
 
@@ -49,6 +50,13 @@ impl<'w> PlainBus<'w> {
         self.words
     }
 
+    /// The words again, which the bus no longer reaches.
+    pub fn into_words(self) -> &'w mut [u32]
+        ensures { result.now ≡ self.entry }
+    {
+        self.words
+    }
+
     /// So many words from a place on.
     fn words_from(&self, at: Place, count: usize) -> &[u32]
         requires { index_of at + count ≤ length self.now }
@@ -57,12 +65,6 @@ impl<'w> PlainBus<'w> {
         let from = place_of(at);
         &self.words[from..from + count]
     }
-}
-
-fn place_of(at: Place) -> usize
-    ensures { result ≡ index_of at }
-{
-    at.frame as usize * WORDS as usize + at.word as usize
 }
 
 /// Writes the bytes of words.

@@ -5,5 +5,6 @@ mod growth;
 mod mappings;
 mod plain;
 mod runs;
+mod steps;
 mod tables;
 mod threads;

@@ -1,3 +1,4 @@
+-- Stated: claims rest on this file.
 -- Ring indices (ring.h: RING_IDX is an unsigned int of 32 bits, so all its arithmetic is modulo 2^32).
 -- Rows from ring.h guard it: `requests`, `notice` and `entries` of crates/outside_rows.
 use Rattle.std.specs.Prelude.{ℕ, ◌+◌, ◌-◌, ◌%◌, ◌^◌, Bool, nat_le, nat_lt, Result, Ok, Err, if◌then◌else◌}

@@ -1,3 +1,4 @@
+-- Stated: claims rest on this file.
 -- The words of a ring's page (ring.h, DEFINE_RING_TYPES: the two producers and the two event indices, padding up to
 -- octet 64, and then the ring's entries).
 -- Rows from ring.h and netif.h guard it: `header`, `sizes` and `entries` of crates/outside_rows.

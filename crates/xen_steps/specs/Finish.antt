@@ -1,3 +1,4 @@
+-- Stated: claims rest on this file.
 -- A computation that comes to an end, whatever it is answered.
 use Rattle.std.specs.Prelude.{ℕ}
 use Rattle.std.specs.Coded.{×_prop, Unit-prop}

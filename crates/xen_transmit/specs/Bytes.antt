@@ -1,3 +1,4 @@
+-- Stated: claims rest on this file.
 -- The bytes of a packet that is sent, as the words that are written hold them.
 use Rattle.std.specs.Prelude.{ℕ, ◌≡◌, ◌-◌, ◌*◌, ◌<◌, List, [], ◌∷◌, ◌++◌, length, replicate, slice_index}
 use Rattle.xen_netif.specs.Copy.{bytes_of}

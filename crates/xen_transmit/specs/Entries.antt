@@ -1,3 +1,4 @@
+-- Stated: claims rest on this file.
 -- Reading a grant's entry, as a computation that asks.
 use Rattle.std.specs.Prelude.{ℕ, Bool, Option, Some, None, Result, Err}
 use Rattle.xen_page.specs.Entry.{entry_of}

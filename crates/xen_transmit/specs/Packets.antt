@@ -1,3 +1,4 @@
+-- Stated: claims rest on this file.
 -- A packet's bytes as the words of posted buffers, and the responses to them.
 use Rattle.std.specs.Prelude.{ℕ, ℤ, pos, ◌+◌, ◌-◌, ◌*◌, ◌/◌, ◌%◌, ◌^◌, Bool, true, false, ◌&&◌, List, length, Option, Some, None}
 use Rattle.std.specs.Prelude.{nat_lt, slice_index, slice_index_or, if◌then◌else◌}

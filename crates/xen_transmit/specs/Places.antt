@@ -1,3 +1,4 @@
+-- Stated: claims rest on this file.
 -- Words of the two ring pages that a vif shares.
 use Rattle.std.specs.Prelude.{ℕ}
 use Rattle.xen_page.specs.declared.place.Place.{Place}

@@ -1,3 +1,4 @@
+-- Stated: claims rest on this file.
 -- What a transmit has left.
 use Rattle.std.specs.Prelude.{ℕ, ◌+◌, true, List, length, drop, Some}
 use Rattle.xen_transmit.specs.Entries.{entry_at, entry_checked}

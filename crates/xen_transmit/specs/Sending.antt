@@ -1,3 +1,4 @@
+-- Stated: claims rest on this file.
 -- The transmit's part of a turn's trace: the packet goes into the buffers of posted rx slots.
 use Rattle.std.specs.Prelude.{ℕ, zero, suc, ◌≡◌, ◌<◌, ◌≤◌, ◌+◌, ◌^◌, Bool, true, false, List, [], ◌∷◌, ◌++◌, length, Some, None}
 use Rattle.std.specs.Prelude.{Result, Ok, Err}

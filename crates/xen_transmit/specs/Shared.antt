@@ -1,3 +1,4 @@
+-- Stated: claims rest on this file.
 -- Parts of a trace that copying a packet in and sending it back have in common.
 use Rattle.std.specs.Prelude.{ℕ, ◌≡◌, ◌<◌, ◌^◌, Bool, List, [], ◌∷◌, Some, None, Result, Err, if◌then◌else◌}
 use Rattle.xen_page.specs.Entry.{entry_of}

@@ -1,3 +1,4 @@
+-- For proofs: no claim rests on this file.
 -- A transmit that goes straight through over a bus.
 use Rattle.std.specs.Prelude.{Bool, true, false, List, length, Ok, Err}
 use Rattle.xen_steps.specs.Drive.{IsPageWant}

@@ -1,3 +1,4 @@
+-- Stated: claims rest on this file.
 -- Which places a back queue touches.
 use Rattle.std.specs.Prelude.{ℕ, ◌≡◌, ◌<◌, ◌⊎◌, Bool, true, false, List, [], ◌∷◌, Some, Ok}
 use Rattle.xen_page.specs.Entry.{entry_of}

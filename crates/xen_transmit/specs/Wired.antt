@@ -1,3 +1,4 @@
+-- Stated: claims rest on this file.
 -- A vif whose rings and table are the frontend's.
 use Rattle.std.specs.Prelude.{◌≡◌, Some, slice_get}
 use Rattle.xen_page.specs.Table.{IsTable}

@@ -7,6 +7,7 @@ from straight.instructions import (
     ATOMIC_DOUBLE,
     CALL,
     EXIT,
+    IF_ABOVE_CONSTANT,
     IF_ABOVE_REGISTER,
     IF_EQUAL_CONSTANT,
     JMP,
@@ -17,14 +18,18 @@ from straight.instructions import (
     LSH,
     MOVE_CONSTANT,
     MOVE_REGISTER,
+    RSH,
     ST,
+    STX,
     STORE_DOUBLE,
     SUB,
     WIDE_LOAD,
     Instruction,
 )
 
-LOAD_BYTE, LOAD_HALF, STORE_WORD_CONSTANT = LDX | 0x70, LDX | 0x68, ST | 0x60
+LOAD_BYTE, LOAD_HALF, STORE_WORD, STORE_HALF = LDX | 0x70, LDX | 0x68, STX | 0x60, STX | 0x68
+STORE_WORD_CONSTANT = ST | 0x60
+RSH_CONSTANT = ALU64 | RSH
 IF_NOT_CONSTANT, AND_CONSTANT, LSH_CONSTANT, SUB_CONSTANT = JMP | JNE, ALU64 | AND, ALU64 | LSH, ALU64 | SUB
 R0, R1, R2, R3, R4, R5, R6, R7, R8, R9, R10 = range(11)
 DATA, DATA_END, QUEUE = 0, 4, 16
@@ -41,6 +46,23 @@ def settings(*instructions, entries=0, counters=1):
         slots += instruction.words()
     maps = [{"name": "hits", "entries": entries, "counters": counters}] if entries else []
     return {"program": slots, "map": maps, "reloc": relocations}
+
+
+def with_memory(*instructions, constants=b"", counters=0):
+    """The same, of a program whose wide loads are of the address of constants, or of a global's, if it has counters."""
+    made, places, slot = [], [], 0
+    for fields in instructions:
+        made.append(Instruction(*fields))
+        if made[-1].opcode == WIDE_LOAD:
+            made[-1].upper = 0
+            places.append({"slot": slot, "place": 0})
+        slot += made[-1].slots
+    found = {"program": [word for instruction in made for word in instruction.words()], "map": [], "reloc": []}
+    if counters:
+        maps = [{"name": "seen", "entries": 1, "counters": counters}]
+        return {**found, "map": maps, "globals": [{**row, "map": "seen"} for row in places]}
+    part = {"name": "table", "section": ".rodata", "first": 0, "end": len(constants)}
+    return {**found, "constants": {".rodata": constants}, "tables": [{**row, **part} for row in places]}
 
 
 START = [(LOAD_WORD, R2, R1, DATA), (LOAD_WORD, R3, R1, DATA_END)]
@@ -198,6 +220,141 @@ COUNT_READ = settings(
     ),
     *PASS,
     entries=1
+)
+# a counter is set to the packet's first byte
+COUNTER_SET = settings(
+    *START, *in_packet(1, 9), (LOAD_BYTE, R6, R2), *lookup((STORE_DOUBLE, R0, R6)), *PASS, entries=1
+)
+# it is set to 7 where the first byte is 7, and else it grows by 2, up to 5
+COUNTER_SET_ON_SOME_WAYS = settings(
+    *START,
+    *in_packet(1, 14),
+    (LOAD_BYTE, R6, R2),
+    *lookup(
+        (MOVE_CONSTANT, R1, 0, 0, 7),
+        (IF_EQUAL_CONSTANT, R6, 0, 3, 7),
+        (LOAD_DOUBLE, R1, R0),
+        (IF_ABOVE_CONSTANT, R1, 0, 2, 4),
+        (ADD_CONSTANT, R1, 0, 0, 2),
+        (STORE_DOUBLE, R0, R1),
+    ),
+    *PASS,
+    entries=1,
+)
+# loaded once, and stored three times, each time with the first byte more
+COUNTED_TWICE = settings(
+    *START,
+    *in_packet(1, 14),
+    (LOAD_BYTE, R6, R2),
+    *lookup(
+        (LOAD_DOUBLE, R1, R0),
+        (MOVE_CONSTANT, R3),
+        (ADD_REGISTER, R1, R6),
+        (STORE_DOUBLE, R0, R1),
+        (ADD_CONSTANT, R3, 0, 0, 1),
+        (IF_NOT_CONSTANT, R3, 0, -4, 3),
+    ),
+    *PASS,
+    entries=1,
+)
+# a table of eight, by three bits of the packet, and one of twelve, by a compared byte: in part its numbers rise by one
+TABLE = with_memory(
+    *START,
+    *in_packet(1, 7),
+    (LOAD_BYTE, R5, R2),
+    (AND_CONSTANT, R5, 0, 0, 7),
+    (WIDE_LOAD, R6),
+    (ADD_REGISTER, R6, R5),
+    (LOAD_BYTE, R0, R6),
+    (EXIT,),
+    *PASS,
+    constants=bytes((1, 2, 2, 3, 0, 0, 1, 2)),
+)
+RISING_TABLE = with_memory(
+    *START,
+    *in_packet(1, 7),
+    (LOAD_BYTE, R5, R2),
+    (IF_ABOVE_CONSTANT, R5, 0, 5, 11),
+    (WIDE_LOAD, R6),
+    (ADD_REGISTER, R6, R5),
+    (LOAD_BYTE, R0, R6),
+    (EXIT,),
+    *PASS,
+    constants=bytes((0, 1, 2, 3, 3, 3, 0, 9, 10, 11, 12, 1)),
+)
+# a global that counts to four
+GLOBAL = with_memory(
+    (WIDE_LOAD, R6),
+    (LOAD_DOUBLE, R3, R6),
+    (IF_ABOVE_CONSTANT, R3, 0, 4, 3),
+    (ADD_CONSTANT, R3, 0, 0, 1),
+    (STORE_DOUBLE, R6, R3),
+    *PASS,
+    (MOVE_CONSTANT, R0, 0, 0, 1),
+    (EXIT,),
+    counters=1,
+)
+# half of a counter is set, and a byte of it read
+HALF_COUNTER = settings(
+    *lookup(
+        (LOAD_BYTE, R6, R0, 1),
+        (ADD_CONSTANT, R6, 0, 0, 300),
+        (STORE_WORD, R0, R6),
+        (MOVE_REGISTER, R0, R6),
+        (EXIT,),
+    ),
+    *PASS,
+    entries=1,
+)
+# the upper half of one is added to
+UPPER_HALF = settings(
+    *lookup((LOAD_WORD, R6, R0, 4), (ADD_CONSTANT, R6, 0, 0, 3), (STORE_WORD, R0, R6, 4)), *PASS, entries=1
+)
+BETWEEN_COUNTERS = settings(
+    *lookup((MOVE_CONSTANT, R1, 0, 0, 1), (STORE_HALF, R0, R1, 7)), *PASS, entries=1, counters=2
+)
+# a global of two bytes that counts to four
+SMALL_GLOBAL = with_memory(
+    (WIDE_LOAD, R6),
+    (LOAD_HALF, R3, R6),
+    (IF_ABOVE_CONSTANT, R3, 0, 4, 3),
+    (ADD_CONSTANT, R3, 0, 0, 1),
+    (STORE_HALF, R6, R3),
+    *PASS,
+    (MOVE_CONSTANT, R0, 0, 0, 1),
+    (EXIT,),
+    counters=1,
+)
+# the byte in front of a cursor that was compared
+BELOW = settings(
+    *START,
+    *in_packet(14, 7),
+    (LOAD_BYTE, R5, R2),
+    (MOVE_REGISTER, R6, R2),
+    (ADD_CONSTANT, R6, 0, 0, 14),
+    (ADD_REGISTER, R6, R5),
+    (IF_ABOVE_REGISTER, R6, R3, 2),
+    (LOAD_BYTE, R0, R6, -1),
+    (EXIT,),
+    *PASS,
+)
+# an offset that is cut to 32 bits, which it has anyway, behind a comparison by the whole one
+CUT_TO_32_BITS = settings(
+    *START,
+    *in_packet(14, 12),
+    (LOAD_BYTE, R5, R2),
+    (MOVE_REGISTER, R6, R2),
+    (ADD_REGISTER, R6, R5),
+    (ADD_CONSTANT, R6, 0, 0, 2),
+    (IF_ABOVE_REGISTER, R6, R3, 7),
+    (ADD_CONSTANT, R5, 0, 0, 1),
+    (LSH_CONSTANT, R5, 0, 0, 32),
+    (RSH_CONSTANT, R5, 0, 0, 32),
+    (MOVE_REGISTER, R6, R2),
+    (ADD_REGISTER, R6, R5),
+    (LOAD_BYTE, R0, R6),
+    (EXIT,),
+    *PASS,
 )
 UNCHECKED = settings(*START, (LOAD_BYTE, R5, R2), *PASS)
 # nine numbers are added or not, and the end of all was compared with the packet's end before

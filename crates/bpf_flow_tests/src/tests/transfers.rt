@@ -1,6 +1,6 @@
 //! One instruction at slot 7, done to the note itself.
 
-use crate::steps::{exactly, range};
+use crate::known::{exactly, range};
 use bpf_flow::{Ways, transfer};
 use bpf_insn::{AluOp, Cause, Condition, Insn, Operand, Register};
 use bpf_note::{Note, Val};

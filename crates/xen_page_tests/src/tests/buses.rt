@@ -6,7 +6,7 @@ use crate::bench::{A, B, Log, log, visit};
 use std::alloc::Global;
 use xen_page::{Access, Bus, Frames, PageBus, Place, Recorder, Rewriter, ScriptBus};
 
-fn visited([first, second, third, fourth]: [u32; 4]) -> [Access; 5] {
+pub(super) fn visited([first, second, third, fourth]: [u32; 4]) -> [Access; 5] {
     [
         Access::Read {
             at: A,

@@ -1,6 +1,7 @@
 //! Mapping a frame, and ending the mapping.
 
 ghost use Rattle.std.specs.Prelude.{◌≡◌, ◌<◌, All};
+ghost use Rattle.xen_page.specs.Shared.{frames_of};
 ghost use Rattle.xen_page.specs.Table.{IsTable};
 
 use crate::bench::{BACK, FRAMES, FRONT, ended, log, mapped, owners};
@@ -121,8 +122,8 @@ fn marks(
 ) -> Option<([u32; 2], Option<GrantFault>)>
     requires table { IsTable owners.now 1 table.now }
     requires within { All (λ frame. frame < 20) table.now }
-    requires frames { bus.old ≡ 20 }
-    ensures { bus.new ≡ 20 }
+    requires frames { frames_of bus.old ≡ 20 }
+    ensures { frames_of bus.new ≡ 20 }
 {
     let mapped = map(bus, table, owners, FRONT, BACK, 5, true).ok()?;
     let marked = bus.read(FLAGS);
@@ -135,7 +136,7 @@ fn marks(
 fn readable(bus: &mut PageBus, table: &Table, owners: &Owners) -> Option<(bool, [u32; 2])>
     requires table { IsTable owners.now 1 table.now }
     requires within { All (λ frame. frame < 20) table.now }
-    requires frames { bus.old ≡ 20 }
+    requires frames { frames_of bus.old ≡ 20 }
 {
     let mapped = map(bus, table, owners, FRONT, BACK, 5, false).ok()?;
     Some((mapped.is_writable(), [bus.read(FLAGS), bus.read(FRAME)]))

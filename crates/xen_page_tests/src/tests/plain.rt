@@ -60,7 +60,7 @@ fn run_written() -> ([Option<(usize, u32)>; 3], [u8; 12], u32) {
     let mut read = [0; 12];
     bus.read_run(at, &mut read);
     let behind = bus.read(Place { frame: 1, word: 0 });
-    (changed(bus.words()), read, behind)
+    (changed(bus.into_words()), read, behind)
 }
 
 #[test]

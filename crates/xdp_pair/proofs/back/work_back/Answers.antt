@@ -8,7 +8,7 @@ use Rattle.xen_back.specs.declared.wiring.Wiring.{Wiring}
 use Rattle.xen_page.specs.declared.access.Access.{Access}
 use Rattle.xen_page.proofs.AccessLemmas.{performs_none, performs_then}
 use Rattle.xen_steps.specs.Drive.{accesses}
-use Rattle.xdp_pair.proofs.CountLemmas.{counts_few}
+use Rattle.xdp_pair.proofs.CountLemmas.{counts_few, end_after, rest_after}
 use Rattle.xdp_pair.proofs.WorkLemmas.{is_work, next_round}
 use Rattle.xdp_pair.specs.Working.{IsWiredFor, IsWorkOver, Task, Works, nothing, task_of}
 use Rattle.xdp_pair.specs.declared.report.BackRow.{BackRow}
@@ -114,7 +114,7 @@ returns-clause-work g c =
           let wired = subst (IsWiredFor task w.drive_round-next.new.seat.number) (sym o.same.wiring) (subst (λ (n : ℕ). IsWiredFor task n (wiring_of old)) (sym (ap (λ (x : SeatView). x.number) s)) i.wired) in
           let few : length ((o.turned, o.sent) ∷ i.work.0) ≤ turns = (let t = w.loop-done-test.true in let n = one.0 in omega arith) in
           let performed = performs_then log gives first c.loop-done.bus w.drive_round-next.new.bus i.work.1 (accesses o.trace ++ accesses o.sending) i.work.5 o.performed in
-          work_of log gives task turns first w.row-is w.seat-is w.bus-is (is_work log gives task turns w.drive_round-next.new.row w.drive_round-next.new.seat q ((o.turned, o.sent) ∷ i.work.0) (i.work.1 ++ (accesses o.trace ++ accesses o.sending)) first w.drive_round-next.new.bus wired one.1 few (inr (o.rests w.in-Rests.is)) (o.counts i.work.0 i.work.4) performed)
+          work_of log gives task turns first w.row-is w.seat-is w.bus-is (is_work log gives task turns w.drive_round-next.new.row w.drive_round-next.new.seat q ((o.turned, o.sent) ∷ i.work.0) (i.work.1 ++ (accesses o.trace ++ accesses o.sending)) first w.drive_round-next.new.bus wired one.1 few (inr (rest_after o.turned _ o.goes w.in-Rests.is)) (o.counts i.work.0 i.work.4) performed)
       | then-loop-done-test+in-Ends w ↦
           let o = w.drive_round-next.ensures.over in
           let s = w.drive_round-next.ensures.seat in
@@ -123,5 +123,5 @@ returns-clause-work g c =
           let wired = subst (IsWiredFor task w.drive_round-next.new.seat.number) (sym o.same.wiring) (subst (λ (n : ℕ). IsWiredFor task n (wiring_of old)) (sym (ap (λ (x : SeatView). x.number) s)) i.wired) in
           let few : length ((o.turned, o.sent) ∷ i.work.0) ≤ turns = (let t = w.loop-done-test.true in let n = one.0 in omega arith) in
           let performed = performs_then log gives first c.loop-done.bus w.drive_round-next.new.bus i.work.1 (accesses o.trace ++ accesses o.sending) i.work.5 o.performed in
-          work_of log gives task turns first w.row-is w.seat-is w.bus-is (is_work log gives task turns w.drive_round-next.new.row w.drive_round-next.new.seat q ((o.turned, o.sent) ∷ i.work.0) (i.work.1 ++ (accesses o.trace ++ accesses o.sending)) first w.drive_round-next.new.bus wired one.1 few (inr (o.ends w.in-Ends.is)) (o.counts i.work.0 i.work.4) performed)
+          work_of log gives task turns first w.row-is w.seat-is w.bus-is (is_work log gives task turns w.drive_round-next.new.row w.drive_round-next.new.seat q ((o.turned, o.sent) ∷ i.work.0) (i.work.1 ++ (accesses o.trace ++ accesses o.sending)) first w.drive_round-next.new.bus wired one.1 few (inr (end_after o.turned _ o.goes w.in-Ends.is)) (o.counts i.work.0 i.work.4) performed)
     ]

@@ -44,6 +44,8 @@ returns c =
         entries = g.0;
         steps_are = refl;
         count = omega (arith, c.report.ensures.count, c.give.ensures.size, c.in_ok-world.ensures.size, c.report.result.turns.ok.0);
+        delivered = omega (arith, c.report.ensures.delivered, c.give.ensures.size, c.in_ok-world.ensures.size, c.report.result.deliveries.ok.0);
+        waited = omega (arith, c.report.ensures.waited, c.give.ensures.size, c.in_ok-world.ensures.size, c.report.result.waits.ok.0);
         shapes = c.report.ensures.shapes ∙ c.give.ensures.shapes ∙ c.in_ok-world.ensures.shapes;
         reports = c.report.ensures.reports b.wirings start g.0 g.3;
       };

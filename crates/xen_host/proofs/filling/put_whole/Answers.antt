@@ -1,5 +1,5 @@
-use Rattle.std.proofs.Common.{◌≡◌, ◌<◌, ◌++◌, ◌∷◌, [], length, length-set, take, ap, sym, ◌∙◌, arith, subst}
-use Rattle.std.proofs.lemmas.List.{take_more_set}
+use Rattle.std.proofs.Common.{◌≡◌, ◌<◌, ◌+◌, drop, ◌++◌, ◌∷◌, [], length, length-set, take, ap, sym, ◌∙◌, arith, subst}
+use Rattle.std.proofs.lemmas.List.{drop-drop, drop-set-lt, take_more_set}
 use Rattle.xen_host.specs.Filling.{packet_words}
 use Rattle.xen_host.proofs.AskLemmas.{packet_words_more}
 use Rattle.xen_host.proofs.filling.put_whole.Goals as goal
@@ -15,6 +15,7 @@ loop-n-preserved c =
     let inside : n < length lent = omega (arith, i.width, c.requires.enough, c.loop-n-test.true) in
     record {
       width = length-set lent n v ∙ i.width;
+      rest = drop-set-lt (n + 1) lent n v (omega arith) ∙ sym (drop-drop 1 n lent) ∙ ap (λ l. drop 1 l) i.rest ∙ drop-drop 1 n c.args.words.now;
       wrote = take_more_set lent n v inside
           ∙ ap (λ l. l ++ v ∷ []) i.wrote
           ∙ ap (λ x. packet_words bytes from n ++ x ∷ []) c.whole_word.ensures
@@ -25,3 +26,8 @@ pub returns-clause-wrote : goal.returns-clause-wrote
 returns-clause-wrote c =
     let end : c.loop-n.n ≡ c.args.count = omega (arith, c.loop-n-test.false, c.loop-n.auto.n-end) in
     subst (λ m. take m c.loop-n.words ≡ packet_words c.args.bytes.now c.args.from m) end c.loop-n.invariant.wrote
+
+pub returns-clause-rest : goal.returns-clause-rest
+returns-clause-rest c =
+    let end : c.loop-n.n ≡ c.args.count = omega (arith, c.loop-n-test.false, c.loop-n.auto.n-end) in
+    subst (λ m. drop m c.loop-n.words ≡ drop m c.args.words.now) end c.loop-n.invariant.rest

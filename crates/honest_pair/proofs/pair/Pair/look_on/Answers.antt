@@ -1,5 +1,4 @@
 use Rattle.std.proofs.Common.{refl, sym, ◌∙◌, ap, ◌++◌, length}
-use Rattle.pair_machine.specs.Memory.{Memory}
 use Rattle.xdp_world.specs.Carries.{waited_list}
 use Rattle.xdp_world.specs.Stands.{delivered_in, kept_in}
 use Rattle.honest_pair.specs.Shows.{awaits_after, calls_while, is_none}

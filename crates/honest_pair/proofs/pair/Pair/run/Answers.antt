@@ -10,7 +10,8 @@ pub returns : goal.returns
 returns c =
     let new = c.steps.new.self in
     is_run c.args.program.now c.args.start (events_in c.args.events.now) _ _ new c.in_ok-world.ensures.begins c.instructions.ensures.consistent c.ranges.start.fits c.in_ok-front.ensures c.in_ok-memory.ensures refl refl c.new.ensures.items c.in_ok-world.ensures.shapes c.in_ok-steps.ensures
-    refl (omega (arith, c.report.ensures.count, new.one, c.report.result.turns.ok.0)) c.report.ensures.turns c.report.ensures.deliveries c.report.ensures.waits c.report.ensures.shapes c.report.ensures.reports c.report.ensures.tells c.reads_are_faithful.ensures c.pair_law.ensures
+    refl (omega (arith, c.report.ensures.count, new.one, c.report.result.turns.ok.0)) (omega (arith, c.report.ensures.delivered, new.one, c.report.result.deliveries.ok.0))
+    (omega (arith, c.report.ensures.waited, new.one, c.report.result.waits.ok.0)) c.report.ensures.turns c.report.ensures.deliveries c.report.ensures.waits c.report.ensures.shapes c.report.ensures.reports c.report.ensures.tells c.reads_are_faithful.ensures c.pair_law.ensures
 
 pub invariant_of-pair-clause-back_frames : goal.invariant_of-pair-clause-back_frames
 invariant_of-pair-clause-back_frames c = λ d.

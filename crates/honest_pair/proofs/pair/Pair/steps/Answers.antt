@@ -1,7 +1,7 @@
 use Rattle.std.proofs.Common.{◌≡◌, take, get_or, subst, sym}
 use Rattle.std.proofs.lemmas.List.{get_or_read, take_more, take_all}
 use Rattle.honest_pair.specs.Events.{event_in, events_in}
-use Rattle.honest_pair.specs.Runs.{HasDone}
+use Rattle.honest_pair.specs.Shows.{HasDone}
 use Rattle.honest_pair.proofs.RunLemmas.{done_more, done_none, events_in_more}
 use Rattle.honest_pair.proofs.pair.Pair.steps.Goals as goal
 

@@ -1,21 +1,7 @@
-use Rattle.std.proofs.Common.{subst, sym}
-use Rattle.std.specs.Prelude.{IsTrue}
-use Rattle.xen_host.specs.Completing.{TaskCompletes}
-use Rattle.xen_host.specs.Rest.{is_there}
-use Rattle.xen_host.specs.declared.stage.Stage.{Stage}
-use Rattle.xen_host.proofs.WaitLemmas.{wait_taken_task_completes, wait_taken_there}
+use Rattle.xen_host.proofs.QueueLemmas.{wait_stands}
 use Rattle.xen_host.proofs.queue.Queue.await_slots.Goals as goal
 
 pub invariant_of-self : goal.invariant_of-self
 invariant_of-self c =
-    let q = c.args.self.now in
-    let t = c.wait_taken-stage in
-    let old = c.replace-stage.result in
-    let there = subst (λ (g : Stage). IsTrue (is_there g)) (sym c.replace-stage.ensures.value) q.there in
-    let completes = subst (λ (g : Stage). TaskCompletes q.wires q.state g) (sym c.replace-stage.ensures.value) q.left in
-    record {
-      there = wait_taken_there old t.result.0 c.args.pages t.result.1 there t.ensures;
-      wired = q.wired;
-      turns = q.turns;
-      left = wait_taken_task_completes q.wires q.state old t.result.0 c.args.pages t.result.1 completes t.ensures;
-    }
+    let s = wait_stands c.args.self.now c.args.pages in
+    record { fits = s.fits; wired = s.wired; turns = s.turns; left = s.left }

@@ -1,16 +1,10 @@
-use Rattle.std.proofs.Common.{◌≡◌, ◌<◌, ◌*◌, ◌^◌, ◌++◌, List, ℕ, length, drop}
-use Rattle.std.specs.Prelude.{All}
-use Rattle.std.specs.Int.{w32, to_le_bytes}
-use Rattle.std.specs.List.{flat_map}
-use Rattle.xen_page.specs.Access.{Performs}
-use Rattle.xen_page.specs.Run.{reads_of}
+use Rattle.std.proofs.Common.{◌≡◌}
+use Rattle.xen_page.specs.Run.{HasRead}
 use Rattle.xen_page.proofs.bus.Bus.read_run.Given as goal
 
 abbrev pub invariant-loop-number : goal.invariant-loop-number
 invariant-loop-number g l =
     record {
       size : g.Self.Bus.size l.self ≡ g.Self.Bus.size l.fn.self;
-      read : (words : List ℕ) × (length words ≡ l.number) × All (λ word. word < 2 ^ 32) words
-          × Performs g.Self.Bus.log g.Self.Bus.access_gives l.fn.self (reads_of l.at words) l.self
-          × (l.room ≡ flat_map (to_le_bytes w32) words ++ drop (4 * l.number) l.fn.room);
+      read : HasRead g.Self.Bus.log g.Self.Bus.access_gives l.at l.number l.fn.self l.fn.room l.self l.room;
     }

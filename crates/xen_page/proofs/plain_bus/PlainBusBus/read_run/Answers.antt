@@ -1,7 +1,8 @@
 use Rattle.std.proofs.Common.{◌/◌, ◌+◌, ◌≤◌, List, ℕ, arith, length, refl, sym, subst}
 use Rattle.xen_page.proofs.PlainLemmas.{passes_taken}
 use Rattle.xen_page.specs.Access.{Passes}
-use Rattle.xen_page.specs.Plain.{Holds, index_of}
+use Rattle.xen_page.specs.Numbered.{index_of}
+use Rattle.xen_page.specs.Plain.{Holds}
 use Rattle.xen_page.specs.Run.{reads_of}
 use Rattle.xen_page.proofs.plain_bus.PlainBusBus.read_run.Goals as goal
 

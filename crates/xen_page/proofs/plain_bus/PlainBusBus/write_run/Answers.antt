@@ -3,7 +3,8 @@ use Rattle.xen_page.proofs.PlainLemmas.{passes_put}
 use Rattle.xen_page.proofs.RunLemmas.{length-bytes}
 use borrow.Rule.Slice.PartMut.{put_mid}
 use Rattle.xen_page.specs.Access.{Passes}
-use Rattle.xen_page.specs.Plain.{Holds, index_of}
+use Rattle.xen_page.specs.Numbered.{index_of}
+use Rattle.xen_page.specs.Plain.{Holds}
 use Rattle.xen_page.specs.Run.{writes_of}
 use Rattle.xen_page.proofs.plain_bus.PlainBusBus.write_run.Goals as goal
 

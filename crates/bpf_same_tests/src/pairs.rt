@@ -1,0 +1,47 @@
+//! What a comparison answers of a pair of programs.
+use bpf_insn::{Code, decode};
+use bpf_note::MapShape;
+use bpf_same::{Comparison, Place, compare};
+use bpf_verify::verify;
+use std::alloc::Global;
+
+/// Both programs in hex, a slot each; how many maps of four counters they have; and of each slot of the new one where the old
+/// program stands: `c12` for a copy of slot 12, `o12` for an instruction of the new program's own before it.
+#[derive(Clone, Copy, Debug, Drop)]
+pub struct Pair<'a> {
+    pub old: &'a [&'a str],
+    pub new: &'a [&'a str],
+    pub maps: u8,
+    pub places: &'a str,
+}
+
+fn code(alloc: Global, slots: &[&str]) -> Option<Code> {
+    let mut bytes = Vec::new(alloc);
+    for slot in slots {
+        let slot = hex::decode(alloc, *slot).ok()?;
+        bytes.extend_from_slice(slot.as_slice()).ok()?;
+    }
+    decode(alloc, bytes.as_slice()).ok()
+}
+
+fn place(word: &str) -> Option<Place> {
+    let own = word.starts_with('o');
+    let at = word.get(1..)?.parse().ok()?;
+    Some(Place { own, at })
+}
+
+/// What [`compare`] answers of a pair. None where the new program isn't accepted, or where memory runs out.
+pub fn compared(alloc: Global, pair: &Pair) -> Option<Comparison> {
+    let mut places = Vec::new(alloc);
+    for word in pair.places.split_ascii_whitespace() {
+        places.push(place(word)?).ok()?;
+    }
+    let shapes = [MapShape::of(4, 1)?];
+    let shapes = if pair.maps == 0 {
+        &shapes[..0]
+    } else {
+        &shapes[..]
+    };
+    let new = verify(alloc, code(alloc, pair.new)?, shapes).ok()?;
+    compare(alloc, &new, &code(alloc, pair.old)?, places.as_slice()).ok()
+}

@@ -1,0 +1,5 @@
+//! Pairs of programs.
+mod ends;
+mod jumps;
+mod same;
+mod stack;

@@ -1,0 +1,95 @@
+//! Pairs with the same runs.
+use crate::pairs::{Pair, compared};
+use bpf_same::Comparison;
+
+/// A loop of three turns, and its turns one after the other.
+const COUNTED_LOOP: Pair = Pair {
+    old: &[
+        "b700000000000000",
+        "0700000001000000",
+        "a500feff03000000",
+        "9500000000000000",
+    ],
+    new: &[
+        "b700000000000000",
+        "0700000001000000",
+        "0700000001000000",
+        "0700000001000000",
+        "9500000000000000",
+    ],
+    maps: 0,
+    places: "c0 c1 c1 c1 c3",
+};
+
+#[test]
+fn counted_loop(rt: HostRuntime) {
+    assert_eq!(rt; compared(rt.alloc(), &COUNTED_LOOP), Some(Comparison::Same));
+}
+
+/// A jump that constants decide.
+const DECIDED_JUMP: Pair = Pair {
+    old: &[
+        "b700000002000000",
+        "b702000007000000",
+        "5502010007000000",
+        "9500000000000000",
+        "b700000000000000",
+        "9500000000000000",
+    ],
+    new: &["b700000002000000", "b702000007000000", "9500000000000000"],
+    maps: 0,
+    places: "c0 c1 c3",
+};
+
+#[test]
+fn decided_jump(rt: HostRuntime) {
+    assert_eq!(rt; compared(rt.alloc(), &DECIDED_JUMP), Some(Comparison::Same));
+}
+
+/// A test of the new program's own, both of whose ways go on alike.
+const OWN_TEST: Pair = Pair {
+    old: &["61120c0000000000", "b700000002000000", "9500000000000000"],
+    new: &[
+        "61120c0000000000",
+        "1502020005000000",
+        "b700000002000000",
+        "9500000000000000",
+        "b700000002000000",
+        "9500000000000000",
+    ],
+    maps: 0,
+    places: "c0 o1 c1 c2 c1 c2",
+};
+
+#[test]
+fn own_test(rt: HostRuntime) {
+    assert_eq!(rt; compared(rt.alloc(), &OWN_TEST), Some(Comparison::Same));
+}
+
+/// The same with a place that is wrong, and with none.
+#[test]
+fn wrong_places_show_nothing(rt: HostRuntime) {
+    let wrong = Pair {
+        places: "c0 c1 c1 c2 c3",
+        ..COUNTED_LOOP
+    };
+    let none = Pair {
+        places: "",
+        ..COUNTED_LOOP
+    };
+    assert_eq!(rt; compared(rt.alloc(), &wrong), Some(Comparison::NotShown));
+    assert_eq!(rt; compared(rt.alloc(), &none), Some(Comparison::NotShown));
+}
+
+/// An old program that never ends has runs of no accepted one.
+const ENDLESS: Pair = Pair {
+    old: &["0500ffff00000000"],
+    new: &["b700000002000000", "9500000000000000"],
+    maps: 0,
+    places: "c0 c0",
+};
+
+#[test]
+fn an_endless_program_ends_in_an_answer(rt: HostRuntime) {
+    assert_eq!(rt; compared(rt.alloc(), &ENDLESS), Some(Comparison::NotShown));
+}

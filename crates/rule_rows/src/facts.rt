@@ -1,0 +1,97 @@
+//! What is known before and after an instruction, as a row has it: facts, a blank apart.
+
+use crate::values::{id, value};
+use bpf_note::{MapShape, Note, Val};
+use std::alloc::Global;
+
+/// A fact of a note.
+#[derive(Clone, Copy)]
+enum Fact {
+    /// `r2=..`
+    Register(u8, Val),
+    /// `s62=..`: what a slot of eight stack bytes keeps.
+    Kept(u8, Val),
+    /// `byte502=set`
+    Set(u16),
+    /// `top7=..`: the greatest base of an id.
+    Top(u16, u32),
+    /// `safe7=..`: how many bytes from the base of an id on lie in the packet.
+    Safe(u16, Option<u32>),
+}
+
+fn safe_bound(text: &str) -> Option<Option<u32>> {
+    if text == "none" {
+        return Some(None);
+    }
+    Some(Some(text.parse().ok()?))
+}
+
+fn read_fact(text: &str) -> Option<Fact> {
+    let (place, known) = text.split_once('=')?;
+    if let Some(number) = place.strip_prefix("byte") {
+        return if known == "set" {
+            Some(Fact::Set(number.parse().ok()?))
+        } else {
+            None
+        };
+    }
+    if let Some(of) = place.strip_prefix("top") {
+        return Some(Fact::Top(id(of)?, known.parse().ok()?));
+    }
+    if let Some(of) = place.strip_prefix("safe") {
+        return Some(Fact::Safe(id(of)?, safe_bound(known)?));
+    }
+    if let Some(number) = place.strip_prefix("r") {
+        return Some(Fact::Register(number.parse().ok()?, value(known)?));
+    }
+    let slot = place.strip_prefix("s")?;
+    Some(Fact::Kept(slot.parse().ok()?, value(known)?))
+}
+
+/// Makes a note say a fact; None of a register, a slot or a byte that isn't there, and where memory runs out.
+fn say(note: &mut Note, fact: Fact) -> Option<()> {
+    match fact {
+        Fact::Register(number, known) if number < 11 => note.set_register(number, known),
+        Fact::Kept(slot, known) if slot < 64 => note.keep(slot, known),
+        Fact::Set(byte) if byte < 512 => note.set_byte(byte),
+        Fact::Top(of, top) => note.set_top(of, top).ok()?,
+        Fact::Safe(of, safe) => note.set_safe(of, safe).ok()?,
+        _ => return None,
+    }
+    Some(())
+}
+
+/// Makes a note say what a row has it say; None where that is no list of facts.
+pub fn say_all(note: &mut Note, facts: &str) -> Option<()> {
+    for text in facts.split_whitespace() {
+        say(note, read_fact(text)?)?;
+    }
+    Some(())
+}
+
+/// What is known at a program's start, and those facts.
+pub fn known(alloc: Global, facts: &str) -> Option<Note> {
+    let mut note = Note::entry(alloc);
+    say_all(&mut note, facts)?;
+    Some(note)
+}
+
+fn shape(text: &str) -> Option<MapShape> {
+    let (entries, counters) = text.split_once('x')?;
+    MapShape::of(entries.parse().ok()?, counters.parse().ok()?)
+}
+
+/// The maps that a row begins with, as `2x1` for one of two entries of one counter, and what comes after them.
+pub fn maps(alloc: Global, text: &str) -> Option<(Vec<MapShape>, &str)> {
+    let mut shapes = Vec::new(alloc);
+    match text.strip_prefix("maps=") {
+        None => Some((shapes, text)),
+        Some(rest) => {
+            let (list, facts) = rest.split_once(' ').unwrap_or((rest, ""));
+            for text in list.split(',') {
+                shapes.push(shape(text)?).ok()?;
+            }
+            Some((shapes, facts))
+        }
+    }
+}

@@ -1,0 +1,20 @@
+use Rattle.std.proofs.Common.{Option, subst, sym}
+use Rattle.std.specs.Prelude.{IfSome}
+use Rattle.xen_host.specs.Queues.{AreFew, IsNothing}
+use Rattle.xen_host.specs.declared.queue.Queue.{Queue}
+use Rattle.xdp_host.proofs.laxonje_queue_step.Goals as goal
+
+pub returns-clause-few : goal.returns-clause-few
+returns-clause-few c =
+    let lent = c.args.words.now in
+    let before = c.args.counters.now in
+    let ops = c.args.ops.now in
+    let s = c.step-count in
+    let v = c.take_held-held.result.value in
+    let is_held = c.deref_mut.ensures.value in
+    let nothing : AreFew v lent before ops → IfSome c.put.new.self.slot.held (λ r. IsNothing v r lent s.new.words before s.new.counters ops s.new.ops s.result) = λ few.
+    subst (λ (o : Option Queue). IfSome o (λ r. IsNothing v r lent s.new.words before s.new.counters ops s.new.ops s.result)) (sym c.put.ensures)
+    (subst (λ (q : Queue). IsNothing q s.new.self lent s.new.words before s.new.counters ops s.new.ops s.result) is_held
+    (s.ensures.few (subst (λ (q : Queue). AreFew q lent before ops) (sym is_held) few))) in
+    subst (λ (o : Option Queue). IfSome o (λ q. AreFew q lent before ops →
+    IfSome c.put.new.self.slot.held (λ r. IsNothing q r lent s.new.words before s.new.counters ops s.new.ops s.result))) (sym c.take_held-held.ensures.gone) nothing

@@ -1,0 +1,48 @@
+use Rattle.std.proofs.Common.{refl, sym, ap, ◌∙◌, true}
+use Rattle.std.specs.Prelude.{Option, Some}
+use Rattle.xen_steps.specs.Steps.{bind}
+use Rattle.xen_host.specs.Asks as ask
+use Rattle.xen_host.specs.Led.{beside}
+use Rattle.xen_host.specs.Wired.{vif_of}
+use Rattle.xen_host.proofs.LedLemmas.{says_one}
+use Rattle.xen_page.specs.declared.place.Place.{Place}
+use Rattle.xen_transmit.specs.Entries.{entry_at}
+use Rattle.xen_transmit.specs.Transmit.{after_targets, read_targets, targeted}
+use Rattle.xen_host.specs.declared.stage.Fill.TheVariants as fill
+use Rattle.xen_host.proofs.FillLemmas.{IsFillOn, fill_same, lift_fill}
+use Rattle.xen_netif.specs.declared.rx.RxReq.{RxReq}
+use Rattle.xen_page.specs.Table.{entry_place}
+use Rattle.xen_host.proofs.engine.Engine.after_post.Goals as goal
+
+pub returns-in-None : goal.returns-in-None
+returns-in-None c =
+    let q = c.args.self.now in
+    let w = vif_of q.wires in
+    let x = q.state.rx_index in
+    let ts = q.work.targets in
+    let r = c.of_words-id.result in
+    let go = targeted ts (read_targets w x c.args.left) in
+    let after = after_targets w x q.work.packet in
+    let is = ap (λ (y : RxReq). bind (bind (entry_at w true (entry_place w.table.now y.gref)) (go y.id)) after) (sym c.of_words-id.ensures.fields) in
+    let there = ap (λ (o : Option Place). bind (bind (entry_at w true o) (go r.id)) after) (sym c.place.ensures.place ∙ c.in-None.is) in
+    record { led = λ lent. fill_same c.args.purpose (beside q) _ _ _ _ _ _ lent lent (sym (is ∙ there)) (c.refuse_post.ensures.led lent) }
+
+pub returns-in-Some : goal.returns-in-Some
+returns-in-Some c =
+    let q = c.args.self.now in
+    let w = vif_of q.wires in
+    let x = q.state.rx_index in
+    let ts = q.work.targets in
+    let r = c.of_words-id.result in
+    let at = c.in-Some.at in
+    let go = targeted ts (read_targets w x c.args.left) in
+    let after = after_targets w x q.work.packet in
+    let is = ap (λ (y : RxReq). bind (bind (entry_at w true (entry_place w.table.now y.gref)) (go y.id)) after) (sym c.of_words-id.ensures.fields) in
+    let there = ap (λ (o : Option Place). bind (bind (entry_at w true o) (go r.id)) after) (sym c.place.ensures.place ∙ c.in-Some.is) in
+    let left = bind (bind (entry_at w true (Some at)) (go r.id)) after in
+    let f = fill.Grant c.args.left r.id at in
+    record {
+      led = λ lent. lift_fill c.args.purpose q ts f _ _ _ _ lent lent
+          (says_one (IsFillOn q ts f) _ _ _ left _ (ask.Entry at r.gref true) _ _ _ _ lent c.requires.room c.say.ensures.one c.say.ensures.said
+          c.read_entry.ensures refl refl tt (is ∙ there) (refl, (refl, (refl, λ a. (refl, λ b. tt)))) refl refl c.requires.few);
+    }

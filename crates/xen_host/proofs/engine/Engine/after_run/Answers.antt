@@ -1,0 +1,52 @@
+use Rattle.std.proofs.Common.{◌≡◌, ℕ, List, length, refl, sym, ap, ◌∙◌, arith, true, false, Bool}
+use Rattle.xen_steps.specs.Steps.{Steps}
+use Rattle.xen_back.specs.declared.state.State.{State}
+use Rattle.xen_host.specs.Asks as ask
+use Rattle.xen_host.specs.Wired.{wiring_of}
+use Rattle.xen_host.proofs.LedLemmas.{led_from, says_one}
+use Rattle.std.specs.Prelude.{◌==◌, if◌then◌else◌}
+use Rattle.xen_netif.specs.Chain.{Slot}
+use Rattle.xen_netif.specs.declared.status.Status.{Status}
+use Rattle.xen_page.specs.declared.place.Place.{Place}
+use Rattle.xen_transmit.specs.Places.{rx_word}
+use Rattle.xen_back.specs.Tree.{after_run, respond, send, status_of}
+use Rattle.xen_back.specs.Turned.{Ending, Ran}
+use Rattle.xen_back.specs.declared.wiring.Wiring.{Wiring}
+use Rattle.std.proofs.lemmas.Bool.Decides.{nat_tests}
+use Rattle.xen_host.proofs.engine.Engine.after_run.Goals as goal
+
+tx_run : (w : Wiring) (s : State) (slots : List Slot) (n : ℕ) (packet : List ℕ) (ops : ℕ) → n ≡ 3 → after_run w s slots (record { number = n; packet = packet; ops = ops }) ≡ send w s slots packet ops
+tx_run w s slots n packet ops e = ap (λ k. after_run w s slots (record { number = k; packet = packet; ops = ops })) e
+
+other_run : (w : Wiring) (s : State) (slots : List Slot) (n : ℕ) (packet : List ℕ) (ops : ℕ) → (n ≡ 3 → ⊥) →
+    after_run w s slots (record { number = n; packet = packet; ops = ops }) ≡ respond w s slots (status_of n) (Ran n packet ops (length slots))
+other_run w s slots n packet ops h = by (n == 3) refl
+  where
+    other : Steps Ending
+    other = respond w s slots (status_of n) (Ran n packet ops (length slots))
+
+    by : (b : Bool) → (n == 3) ≡ b → (if b then send w s slots packet ops else other) ≡ other
+    by true e = let is : n ≡ 3 = grind (arith, nat_tests) in absurd (h is)
+    by false e = refl
+
+pub returns-then-number-eq-XDP_TX : goal.returns-then-number-eq-XDP_TX
+returns-then-number-eq-XDP_TX c =
+    let q = c.args.self.now in
+    let w = wiring_of q.wires in
+    let r = c.args.ran in
+    let left = send w q.state q.work.chain q.work.packet r.ops in
+    record {
+      led = λ lent. led_from _ _ _ _ _ _ _ _ _ lent lent (sym (tx_run w q.state q.work.chain r.number q.work.packet r.ops c.if-number-eq-XDP_TX.true))
+          (says_one _ _ _ left left _ (ask.Read (rx_word w.vif 0) 1) _ _ _ _ lent c.requires.room c.say.ensures.one c.say.ensures.said
+          (c.read.ensures ∙ ap (λ (p : Place). ask.op_of (ask.Read p 1)) c.header.ensures) refl refl (omega arith, omega arith) refl
+          (record { is_rest = refl; waits = (refl, (refl, λ a. tt)); is_here = refl }) refl refl tt);
+    }
+
+pub returns : goal.returns
+returns c =
+    let q = c.args.self.now in
+    let w = wiring_of q.wires in
+    let r = c.args.ran in
+    let same = ap (λ (x : Status). respond w q.state q.work.chain x (Ran r.number q.work.packet r.ops c.len-slots.result)) c.status.ensures
+    ∙ ap (λ k. respond w q.state q.work.chain (status_of r.number) (Ran r.number q.work.packet r.ops k)) c.len-slots.ensures.len in
+    record { led = λ lent. led_from _ _ _ _ _ _ _ _ _ lent lent (same ∙ sym (other_run w q.state q.work.chain r.number q.work.packet r.ops c.if-number-eq-XDP_TX.false)) (c.respond.ensures.led lent) }

@@ -1,0 +1,13 @@
+use Rattle.std.proofs.Common.{ap, ◌∙◌}
+use Rattle.xen_steps.specs.Steps.{done}
+use Rattle.xen_host.specs.Led.{beside}
+use Rattle.xen_transmit.specs.Transmit.{outcome_of}
+use Rattle.xen_transmit.specs.declared.by_event.phase.Outcome.{Outcome}
+use Rattle.xen_host.proofs.FillLemmas.{fill_same}
+use Rattle.xen_host.proofs.engine.Engine.replied.Goals as goal
+
+pub returns : goal.returns
+returns c =
+    let q = c.args.self.now in
+    let same = ap (λ (o : Outcome). done o) (c.outcome_of-outcome.ensures ∙ ap (λ k. outcome_of c.args.passed k) c.len.ensures.value) in
+    record { led = λ lent. fill_same c.args.purpose (beside q) _ _ _ _ _ _ lent lent same (c.filled.ensures.led lent) }

@@ -1,0 +1,158 @@
+-- What a function that says ops has done: the computation that was left, and where the ops lead from it.
+use Rattle.std.specs.Prelude.{ℕ, suc, ◌≡◌, ◌≤◌, ◌⊎◌, Bool, true, false, List, [], ◌∷◌, ◌++◌, length, drop, map, take}
+use Rattle.xen_netif.specs.Chain.{Slot}
+use Rattle.xen_netif.specs.declared.flags.TxFlags.{TxFlags}
+use Rattle.xen_steps.specs.Drive.{Gone}
+use Rattle.xen_steps.specs.Steps.{Steps, bind, done}
+use Rattle.xen_transmit.specs.declared.by_event.phase.Outcome.{Outcome}
+use Rattle.xen_back.specs.Deliveries.{Arrival, arrived}
+use Rattle.xen_back.specs.Tree.{after_transmit}
+use Rattle.xen_back.specs.Turned.{Ending, turned}
+use Rattle.xen_back.specs.Waits.{Wait}
+use Rattle.xen_back.specs.declared.state.State.{State}
+use Rattle.xen_back.specs.declared.turn.Kind.{Kind}
+use Rattle.xen_back.specs.declared.turn.Kind.TheVariants as kind
+use Rattle.xen_host.specs.Asks.{AllSized, Ask, DeliveryOver, TakeNone, TurnOver, WaitOver, WordsStay, did_all, did_by, goes_on, op_of}
+use Rattle.xen_host.specs.Fed.{WaitsFor, fed}
+use Rattle.xen_host.specs.Fits.{Fits}
+use Rattle.xen_host.specs.Ran.{HasGone}
+use Rattle.xen_host.specs.Rest.{flags_after, is_delivering, is_turning, is_waiting, reads_filling, reads_in, rest_in, rest_of_delivery, rest_of_wait}
+use Rattle.xen_host.specs.Wired.{vif_of, wiring_of}
+use Rattle.xen_host.specs.declared.engine.Engine.{Engine}
+use Rattle.xen_host.specs.declared.op.Op.{Op}
+use Rattle.xen_host.specs.declared.stage.Purpose.{Purpose}
+use Rattle.xen_host.specs.declared.stage.Purpose.TheVariants as purpose
+use Rattle.xen_host.specs.declared.stage.Stage.{Stage}
+use Rattle.xen_host.specs.declared.stage.Stage.TheVariants as stage
+use Rattle.xen_host.specs.declared.wires.Wires.{Wires}
+use Rattle.xen_host.specs.declared.work.Work.{Work}
+
+-- Asks stand in front of a host's ops, as C gets them: no more than there is room for, and as many up to one that the step can't go on
+-- after. All but the last take no answer. The lent words stay, but for those that a WRITE takes.
+pub record Said (first : List Ask) (last : Ask) (ops ops_after : List Op) (count : ℕ) (lent lent_after : List ℕ) : Type 0 where
+  pub take_none : TakeNone first
+  pub filled : ops_after ≡ map op_of first ++ op_of last ∷ drop count ops
+  pub counted : count ≡ suc (length first)
+  pub room : count ≤ length ops
+  pub stops : (count ≡ length ops) ⊎ (goes_on last ≡ false)
+  pub words : WordsStay (first ++ last ∷ []) lent lent_after
+  pub sized : AllSized (first ++ last ∷ [])
+
+-- What was asked leads from a computation to where it ends. The wiring stays; the flags are these.
+pub record Led {A : Type 0} (ends : Ask → Steps A → Type 0) (w : Wires) (flags : TxFlags) (from : Steps A) (new : Engine)
+    (ops ops_after : List Op) (count : ℕ) (lent lent_after : List ℕ) : Type 0 where
+  pub first : List Ask
+  pub last : Ask
+  pub said : Said first last ops ops_after count lent lent_after
+  pub left : Steps A
+  pub gone : Gone from (did_all first lent_after ++ did_by last lent_after) left
+  pub is_end : ends last left
+  pub wires : new.wires ≡ w
+  pub flags_are : new.flags ≡ flags
+  pub fits : Fits new.stage new.work
+
+-- What is left is an engine's rest, which waits for what was asked last.
+pub record IsOn {A : Type 0} (rest : Steps A) (reads : ℕ) (here : Bool) (last : Ask) (left : Steps A) : Type 0 where
+  pub is_rest : left ≡ rest
+  pub waits : WaitsFor last reads left
+  pub is_here : here ≡ true
+
+-- ---- turns
+
+-- the program ran in a turn of this kind, and the guest was told so
+abbrev pub has_run : Kind → Bool
+has_run (kind.Ran ops number slots) = true
+has_run k = false
+
+-- the packet that a turn of this kind leaves
+abbrev pub packet_after : Kind → List ℕ → List ℕ
+packet_after (kind.Ran ops number slots) packet = packet
+packet_after k packet = []
+
+abbrev pub with_packet : Work → List ℕ → Work
+with_packet b packet = record b { packet = packet }
+
+-- A turn is over, and leaves a packet only if the program ran.
+pub record IsTurnOver (e : Engine) (k : Kind) (left : Steps Ending) : Type 0 where
+  pub over : left ≡ done (e.state, turned k e.work.packet)
+  pub ready : e.stage ≡ stage.Ready
+  pub packet : has_run k ≡ false → e.work.packet ≡ []
+
+abbrev pub TurnEnds : Engine → Ask → Steps Ending → Type 0
+TurnEnds e (TurnOver k) left = IsTurnOver e k left
+TurnEnds e last left = IsOn (rest_in (wiring_of e.wires) e.state e.stage e.work) (reads_in e.stage) (is_turning e.stage) last left
+
+abbrev pub TurnLed : Wires → TxFlags → Steps Ending → Engine → (ops ops_after : List Op) → ℕ → (lent lent_after : List ℕ) → Type 0
+TurnLed w flags from new ops ops_after count lent lent_after = Led (TurnEnds new) w flags from new ops ops_after count lent lent_after
+
+-- the same, after the program's run
+pub record TurnRanLed (w : Wires) (flags : TxFlags) (from : Steps Ending) (new : Engine) (before after : List ℕ)
+    (ops ops_after : List Op) (count : ℕ) (lent lent_after : List ℕ) : Type 0 where
+  pub between : Steps Ending
+  pub ran : HasGone w.program.shapes from between before after
+  pub led : TurnLed w flags between new ops ops_after count lent lent_after
+
+-- ---- deliveries and waits, beside which the packet stays
+
+abbrev pub DeliveryEnds : List ℕ → Engine → Ask → Steps Arrival → Type 0
+DeliveryEnds packet e (DeliveryOver what) left = (left ≡ done (e.state, what)) × (e.stage ≡ stage.Ready) × (e.work.packet ≡ packet)
+DeliveryEnds packet e last left =
+    IsOn (rest_of_delivery (vif_of e.wires) e.state e.stage e.work) (reads_in e.stage) (is_delivering e.stage) last left ×
+    (e.work.packet ≡ packet)
+
+abbrev pub DeliveryLed : Wires → TxFlags → List ℕ → Steps Arrival → Engine → (ops ops_after : List Op) → ℕ →
+    (lent lent_after : List ℕ) → Type 0
+DeliveryLed w flags packet from new ops ops_after count lent lent_after =
+    Led (DeliveryEnds packet new) w flags from new ops ops_after count lent lent_after
+
+abbrev pub WaitEnds : List ℕ → Engine → Ask → Steps Wait → Type 0
+WaitEnds packet e (WaitOver what) left = (left ≡ done (e.state, what)) × (e.stage ≡ stage.Ready) × (e.work.packet ≡ packet)
+WaitEnds packet e last left =
+    IsOn (rest_of_wait e.wires.rx e.state e.stage) (reads_in e.stage) (is_waiting e.stage) last left × (e.work.packet ≡ packet)
+
+abbrev pub WaitLed : Wires → TxFlags → List ℕ → Steps Wait → Engine → (ops ops_after : List Op) → ℕ →
+    (lent lent_after : List ℕ) → Type 0
+WaitLed w flags packet from new ops ops_after count lent lent_after =
+    Led (WaitEnds packet new) w flags from new ops ops_after count lent lent_after
+
+-- ---- a transmit, by what it is for
+
+-- what a transmit leaves as it is
+pub record Beside : Type 0 where
+  pub wires : Wires
+  pub flags : TxFlags
+  pub state : State
+  pub chain : List Slot
+  pub packet : List ℕ
+
+abbrev pub beside : Engine → Beside
+beside e = record { wires = e.wires; flags = e.flags; state = e.state; chain = e.work.chain; packet = e.work.packet }
+
+abbrev pub FillLed : Purpose → Beside → Steps Outcome → Engine → (ops ops_after : List Op) → ℕ → (lent lent_after : List ℕ) → Type 0
+FillLed (purpose.Back n) e from new ops ops_after count lent lent_after =
+    TurnLed e.wires e.flags (bind from (after_transmit (wiring_of e.wires) e.state e.chain e.packet n)) new ops ops_after count lent
+    lent_after
+FillLed purpose.Delivery e from new ops ops_after count lent lent_after =
+    DeliveryLed e.wires e.flags e.packet (bind from (arrived e.state)) new ops ops_after count lent lent_after
+
+-- ---- a step
+
+-- A step from a stage, after the words that were waited for.
+abbrev pub StepAt : Stage → (old new : Engine) → (lent lent_after before after : List ℕ) → (ops ops_after : List Op) → ℕ → Type 0
+StepAt stage.Ready old new lent lent_after before after ops ops_after count =
+    (count ≡ 0) × (new ≡ old) × (lent_after ≡ lent) × (after ≡ before) × (ops_after ≡ ops)
+StepAt (stage.Fill f purpose.Delivery) old new lent lent_after before after ops ops_after count =
+    DeliveryLed old.wires old.flags old.work.packet (fed (rest_of_delivery (vif_of old.wires) old.state (stage.Fill f purpose.Delivery)
+    old.work) (take (reads_filling f) lent)) new ops ops_after count lent lent_after × (after ≡ before)
+StepAt (stage.Deliver producer) old new lent lent_after before after ops ops_after count =
+    DeliveryLed old.wires old.flags old.work.packet (rest_of_delivery (vif_of old.wires) old.state (stage.Deliver producer) old.work) new
+    ops ops_after count lent lent_after × (after ≡ before)
+StepAt (stage.Wait pages) old new lent lent_after before after ops ops_after count =
+    WaitLed old.wires old.flags old.work.packet (rest_of_wait old.wires.rx old.state (stage.Wait pages)) new ops ops_after count lent
+    lent_after × (after ≡ before)
+StepAt (stage.WaitLook pages) old new lent lent_after before after ops ops_after count =
+    WaitLed old.wires old.flags old.work.packet (fed (rest_of_wait old.wires.rx old.state (stage.WaitLook pages)) (take 1 lent)) new ops
+    ops_after count lent lent_after × (after ≡ before)
+StepAt g old new lent lent_after before after ops ops_after count =
+    TurnRanLed old.wires (flags_after g old.work lent old.flags) (fed (rest_in (wiring_of old.wires) old.state g old.work)
+    (take (reads_in g) lent)) new before after ops ops_after count lent lent_after

@@ -1,0 +1,34 @@
+-- The struct that C gets of an op: include/laxonje.h has its fields in this order.
+use Rattle.std.specs.Prelude.{ℕ, pos}
+use Rattle.xen_page.specs.declared.place.Place.{Place}
+use Rattle.xen_host.specs.declared.op.Op.{Op}
+
+-- nothing
+abbrev pub blank : Op
+blank =
+    record {
+      kind = 0;
+      frame = 0;
+      word = 0;
+      count = 0;
+      lent = 0;
+      first = 0;
+      second = 0;
+      entry = 0;
+      reference = 0;
+      outcome = 0;
+      number = 0;
+      cause = 0;
+      ops = 0;
+      slots = 0;
+      index = 0;
+      grant = pos 0;
+    }
+
+-- words of a page
+abbrev pub access : ℕ → Place → ℕ → Op
+access kind at count = record blank { kind = kind; frame = at.frame; word = at.word; count = count }
+
+-- a turn, a delivery or a wait is over
+abbrev pub over : ℕ → ℕ → ℕ → Op
+over outcome cause slots = record blank { kind = 4; outcome = outcome; cause = cause; slots = slots }

@@ -1,0 +1,143 @@
+/* A fuzz target of netback's queue: the input is what a guest answers, word by word, and each op is checked against docs/HOST.md.
+ *
+ *     clang -g -fsanitize=fuzzer,address,undefined -I out/host fuzz.c out/host/liblaxonje.a
+ *
+ * With -DWITHOUT_FUZZER it has a `main` of its own, for any compiler: fuzz RUNS makes inputs by a generator, and says how often a turn, a
+ * delivery or a wait came to each outcome. A host that links the target
+ * with its own filter sets `fuzz_program` and `fuzz_program_bytes`. */
+#include <laxonje.h>
+#include <stdbool.h>
+#include <stdio.h>
+#include <stdlib.h>
+
+enum { TX, RX, TABLE, FRAMES = 32, OWN = 24, GUEST = 1, OTHER = 0x7ff4, TASKS = 4, MOST_ACCESSES = 33026, FRAME = 60, PERMIT = 1, PORT = 3000, RSP_PROD = 2 };
+
+/* Sends each packet back. */
+static const uint8_t sends[] = { 0xb7, 0, 0, 0, LAXONJE_TX, 0, 0, 0, 0x95, 0, 0, 0, 0, 0, 0, 0 };
+const uint8_t *fuzz_program = sends;
+size_t fuzz_program_bytes = sizeof sends;
+
+int LLVMFuzzerTestOneInput(const uint8_t *bytes, size_t size);
+
+struct input { const uint8_t *bytes; size_t size, at; };
+
+/* The next word of the input, and then zeros. */
+static uint32_t next(struct input *input)
+{
+	uint32_t word = 0;
+	for (int i = 0; i < 4 && input->at < input->size; i++)
+		word |= (uint32_t)input->bytes[input->at++] << 8 * i;
+	return word;
+}
+
+/* An index on either side of the wrap. */
+static uint32_t near_zero(struct input *input) { return next(input) % 4 - 2; }
+
+static void is(bool right, const char *what)
+{
+	if (!right)
+		fprintf(stderr, "%s\n", what), abort();
+}
+
+/* Whether responses were pushed in what is under way: then the packet's pages are the guest's again. */
+static bool answered;
+
+static uint32_t words[LAXONJE_PAGE_WORDS];
+static unsigned long outcomes[LAXONJE_AWAITED_HALTED + 1];
+
+/* An op: the accesses that it makes, all in the guest's own frames. */
+static size_t make(struct input *input, const struct laxonje_op *op)
+{
+	if (op->kind == LAXONJE_OP_DONE || op->kind == LAXONJE_OP_NOTIFY)
+		return 0;
+	is(op->frame < OWN, "a frame that isn't the guest's");
+	is(!answered || op->frame == TX || op->frame == RX, "a granted page after the responses");
+	answered = answered || (op->kind == LAXONJE_OP_PUSH && op->word == RSP_PROD);
+	is(op->count <= LAXONJE_PAGE_WORDS && op->word <= LAXONJE_PAGE_WORDS - op->count, "words past a page");
+	is(op->count <= LAXONJE_PAGE_WORDS && op->lent <= LAXONJE_PAGE_WORDS - op->count, "words past the lent ones");
+	for (uint32_t i = 0; op->kind == LAXONJE_OP_READ && i < op->count; i++)
+		words[op->lent + i] = next(input);
+	if (op->kind == LAXONJE_OP_PUSH)
+		words[op->lent] = next(input);
+	return op->count + (op->kind == LAXONJE_OP_PUSH);
+}
+
+/* What is under way, or a turn, to its end. */
+static void finish(struct input *input, struct laxonje_queue *queue, bool turn)
+{
+	struct laxonje_op ops[LAXONJE_OPS];
+	size_t accesses = 1, count;
+	answered = false;
+	do {
+		size_t room = 1 + next(input) % LAXONJE_OPS;
+		count = turn ? laxonje_queue_turn(queue, next(input), ops, room)
+		             : laxonje_queue_step(queue, words, LAXONJE_PAGE_WORDS, NULL, 0, ops, room);
+		turn = false;
+		is(count > 0 && count <= room, "ops past their room, or none");
+		for (size_t i = 0; i < count; i++)
+			accesses += make(input, &ops[i]);
+		is(accesses <= MOST_ACCESSES, "a turn without end");
+	} while (ops[count - 1].kind != LAXONJE_OP_DONE);
+	is(ops[count - 1].outcome <= LAXONJE_AWAITED_HALTED, "no outcome");
+	outcomes[ops[count - 1].outcome]++;
+}
+
+/* A turn, a delivery or a wait. */
+static void take(struct input *input, struct laxonje_queue *queue)
+{
+	static const uint8_t packet[LAXONJE_PACKET];
+	uint32_t what = next(input);
+	if (what % 4 == 1)
+		is(laxonje_queue_deliver(queue, next(input), packet, FRAME + what % (LAXONJE_PACKET - FRAME)) == LAXONJE_TAKEN, "a delivery that isn't begun");
+	if (what % 4 == 2)
+		is(laxonje_queue_await(queue, what >> 2) == LAXONJE_TAKEN, "a wait that isn't begun");
+	finish(input, queue, what % 4 != 1 && what % 4 != 2);
+}
+
+int LLVMFuzzerTestOneInput(const uint8_t *bytes, size_t size)
+{
+	static const struct laxonje_extent extents[] = { { OWN, GUEST }, { FRAMES - OWN, OTHER } };
+	static const uint32_t table[] = { TABLE };
+	struct laxonje_program *program = laxonje_program_new();
+	struct laxonje_queue *queue = laxonje_queue_new();
+	struct input input = { bytes, size, 0 };
+	struct laxonje_queue_desc desc = { TX, RX, GUEST, 0, PORT, 0, 0, near_zero(&input), near_zero(&input) };
+	is(laxonje_load(fuzz_program, fuzz_program_bytes, NULL, 0, program).kind == LAXONJE_ACCEPTED, "no program");
+	is(laxonje_queue_make_extents(program, extents, 2, table, 1, &desc, queue) == LAXONJE_MADE, "no queue");
+	for (int task = 0; task < TASKS; task++)
+		take(&input, queue);
+	laxonje_queue_delete(&queue);
+	laxonje_program_delete(&program);
+	return 0;
+}
+
+#ifdef WITHOUT_FUZZER
+/* A word: mostly one that a guest that keeps the protocol could write, as an index, a slot, an entry or a size. */
+static uint32_t any(uint64_t *seed)
+{
+	static const uint32_t likely[] = { 0, 1, 2, 3, LAXONJE_FLAG_MORE_DATA << 16, FRAME << 16 | 7, 2 * FRAME << 16 | 8, PERMIT };
+	*seed = *seed * 6364136223846793005 + 1442695040888963407;
+	return *seed >> 59 ? likely[*seed >> 56 & 7] : (uint32_t)(*seed >> 24);
+}
+
+int main(int count, char **arguments)
+{
+	static uint8_t input[2 * LAXONJE_PAGE_WORDS];
+	unsigned runs = count > 1 ? strtoul(arguments[1], NULL, 10) : 5000, missing = 0;
+	uint64_t seed = 1;
+	for (unsigned run = 0; run < runs; run++) {
+		for (size_t i = 0; i < sizeof input; i += 4) {
+			uint32_t word = any(&seed);
+			for (size_t k = 0; k < 4; k++)
+				input[i + k] = (uint8_t)(word >> 8 * k);
+		}
+		LLVMFuzzerTestOneInput(input, sizeof input);
+	}
+	for (unsigned i = 0; i < sizeof outcomes / sizeof outcomes[0]; i++) {
+		fprintf(stderr, "outcome %u: %lu\n", i, outcomes[i]);
+		missing += !outcomes[i] && i != LAXONJE_DELIVERY_HALTED + 1;
+	}
+	printf("%u runs, %u outcomes that never came\n", runs, missing);
+	return missing != 0;
+}
+#endif

@@ -1,0 +1,197 @@
+/* The loop of a host of netback's queue: each access of a turn, a delivery or a wait, made once and in order in pages that the host has
+ * mapped; and names for its logs. C11 and C++17, for gcc and clang. It is glue over laxonje.h: tested, and not proved.
+ *
+ * A host fills in a struct laxonje_io and a struct laxonje_drive, and calls the three functions at the end. docs/HOST.md, "Netback's
+ * queue", has a whole host over it. A host with accesses of its own writes its own loop over laxonje.h. */
+#ifndef LAXONJE_DRIVE_H
+#define LAXONJE_DRIVE_H
+
+#include <laxonje.h>
+
+/* What the host does. `host` is what each call is given. */
+struct laxonje_io {
+	void *host;
+	/* The LAXONJE_PAGE_WORDS words of the frame `op->frame`, aligned to 4 bytes, and not null. It is asked before the op is made, so that a
+	 * host that maps a page for a while sees what for. */
+	uint32_t *(*page)(void *host, const struct laxonje_op *op);
+	/* Sends a notice to a port. */
+	void (*notify)(void *host, uint32_t port);
+	/* Each op once it is made, with the lent words: a trace. May be null. */
+	void (*told)(void *host, const struct laxonje_op *op, const uint32_t *words);
+};
+
+/* A queue, with the frames of its rings, as it was made, and the counters of its program. `words` is the loop's own. */
+struct laxonje_drive {
+	struct laxonje_queue *queue;
+	uint32_t tx;
+	uint32_t rx;
+	uint64_t *counters;
+	size_t counter_count;
+	uint32_t words[LAXONJE_PAGE_WORDS];
+};
+
+/* The outcome where no op was said: there is no queue, the host lends too few counters, or the queue is inside something else. */
+#define LAXONJE_NOTHING UINT32_MAX
+
+/* Words of a page, into the lent ones. */
+static inline void laxonje_drive_read_(const struct laxonje_io *io, const struct laxonje_op *op, uint32_t *words)
+{
+	const uint32_t *at = io->page(io->host, op) + op->word;
+	for (uint32_t i = 0; i < op->count; i++)
+		words[i] = __atomic_load_n(at + i, __ATOMIC_ACQUIRE);
+}
+
+/* Words into a page. */
+static inline void laxonje_drive_write_(const struct laxonje_io *io, const struct laxonje_op *op, const uint32_t *words)
+{
+	uint32_t *at = io->page(io->host, op) + op->word;
+	for (uint32_t i = 0; i < op->count; i++)
+		__atomic_store_n(at + i, words[i], __ATOMIC_RELEASE);
+}
+
+/* A producer or an event index, and then a word into the lent one: the load must not come first. */
+static inline void laxonje_drive_push_(const struct laxonje_io *io, const struct laxonje_op *op, uint32_t *word)
+{
+	uint32_t *page = io->page(io->host, op);
+	__atomic_store_n(page + op->word, op->value[0], __ATOMIC_RELEASE);
+	__atomic_thread_fence(__ATOMIC_SEQ_CST);
+	*word = __atomic_load_n(page + op->value[1], __ATOMIC_ACQUIRE);
+}
+
+/* An op. */
+static inline void laxonje_drive_make_(struct laxonje_drive *drive, const struct laxonje_io *io, const struct laxonje_op *op)
+{
+	switch (op->kind) {
+	case LAXONJE_OP_READ:
+		laxonje_drive_read_(io, op, drive->words + op->lent);
+		break;
+	case LAXONJE_OP_WRITE:
+		laxonje_drive_write_(io, op, drive->words + op->lent);
+		break;
+	case LAXONJE_OP_STORE:
+		laxonje_drive_write_(io, op, op->value);
+		break;
+	case LAXONJE_OP_PUSH:
+		laxonje_drive_push_(io, op, drive->words + op->lent);
+		break;
+	case LAXONJE_OP_NOTIFY:
+		io->notify(io->host, op->value[0]);
+		break;
+	default:
+		break;
+	}
+	if (io->told)
+		io->told(io->host, op, drive->words);
+}
+
+/* The producer of a ring, which is word 0 of its frame. */
+static inline uint32_t laxonje_drive_producer_(struct laxonje_drive *drive, const struct laxonje_io *io, uint32_t ring)
+{
+	struct laxonje_op read = { LAXONJE_OP_READ, ring, 0, 1, 0, { 0, 0 }, 0, 0, 0, 0, 0, 0, 0, 0, 0 };
+	laxonje_drive_make_(drive, io, &read);
+	return drive->words[0];
+}
+
+/* The ops of a call and those of the next ones, to the end of what is under way: the op that says what it came to. */
+static inline struct laxonje_op laxonje_drive_finish_(struct laxonje_drive *drive, const struct laxonje_io *io, struct laxonje_op *ops,
+                                                      size_t count)
+{
+	for (;;) {
+		struct laxonje_op last = { 0, 0, 0, 0, 0, { 0, 0 }, 0, 0, LAXONJE_NOTHING, 0, 0, 0, 0, 0, 0 };
+		for (size_t i = 0; i < count; i++)
+			laxonje_drive_make_(drive, io, &ops[i]);
+		if (count)
+			last = ops[count - 1];
+		if (!count || last.kind == LAXONJE_OP_DONE)
+			return last;
+		count = laxonje_queue_step(drive->queue, drive->words, LAXONJE_PAGE_WORDS, drive->counters, drive->counter_count, ops, LAXONJE_OPS);
+	}
+}
+
+/* The ops of what was begun, to its end. */
+static inline struct laxonje_op laxonje_drive_begun_(struct laxonje_drive *drive, const struct laxonje_io *io)
+{
+	struct laxonje_op ops[LAXONJE_OPS];
+	size_t count = laxonje_queue_step(drive->queue, drive->words, LAXONJE_PAGE_WORDS, drive->counters, drive->counter_count, ops, LAXONJE_OPS);
+	return laxonje_drive_finish_(drive, io, ops, count);
+}
+
+/* A turn: at most one packet. */
+static inline struct laxonje_op laxonje_drive_turn(struct laxonje_drive *drive, const struct laxonje_io *io)
+{
+	struct laxonje_op ops[LAXONJE_OPS];
+	size_t count = laxonje_queue_turn(drive->queue, laxonje_drive_producer_(drive, io, drive->tx), ops, LAXONJE_OPS);
+	return laxonje_drive_finish_(drive, io, ops, count);
+}
+
+/* A packet of the host's own to the guest. Where it is taken (enum laxonje_taken), `over` says what became of it. */
+static inline uint32_t laxonje_drive_deliver(struct laxonje_drive *drive, const struct laxonje_io *io, const uint8_t *packet, size_t packet_bytes,
+                                             struct laxonje_op *over)
+{
+	uint32_t producer = laxonje_drive_producer_(drive, io, drive->rx);
+	uint32_t taken = laxonje_queue_deliver(drive->queue, producer, packet, packet_bytes);
+	if (taken == LAXONJE_TAKEN)
+		*over = laxonje_drive_begun_(drive, io);
+	return taken;
+}
+
+/* A wait for the rx slots of a packet of so many bytes. Where it is taken, `over` says what it came to. */
+static inline uint32_t laxonje_drive_await(struct laxonje_drive *drive, const struct laxonje_io *io, size_t packet_bytes, struct laxonje_op *over)
+{
+	const size_t page = 4 * LAXONJE_PAGE_WORDS;
+	uint32_t taken = laxonje_queue_await(drive->queue, (uint32_t)((packet_bytes + page - 1) / page));
+	if (taken == LAXONJE_TAKEN)
+		*over = laxonje_drive_begun_(drive, io);
+	return taken;
+}
+
+/* Why a packet was refused, in words for a log (enum laxonje_refusal). */
+static inline const char *laxonje_refusal_name(uint32_t cause)
+{
+	switch (cause) {
+	case LAXONJE_REFUSAL_SHORT: return "less than an Ethernet header";
+	case LAXONJE_REFUSAL_SIZES: return "later slots have more bytes than the first";
+	case LAXONJE_REFUSAL_PAGE: return "a slot's bytes pass the end of its page";
+	case LAXONJE_REFUSAL_GRANT: return "a tx slot's grant failed its check";
+	case LAXONJE_REFUSAL_EXTRA: return "an extra info";
+	case LAXONJE_REFUSAL_FEW_SLOTS: return "too few rx slots to send it back";
+	case LAXONJE_REFUSAL_RX_GRANT: return "an rx slot's grant failed its check";
+	default: return "no cause";
+	}
+}
+
+/* Why a queue has halted, in words for a log (enum laxonje_halt). */
+static inline const char *laxonje_halt_name(uint32_t cause)
+{
+	switch (cause) {
+	case LAXONJE_HALT_TX_PRODUCER: return "the tx producer is more than a ring ahead";
+	case LAXONJE_HALT_SHORT_CHAIN: return "a chain wants a slot that the producer didn't show";
+	case LAXONJE_HALT_SLOTS: return "more than 18 slots";
+	case LAXONJE_HALT_UNKNOWN_EXTRA: return "an extra info of no known type";
+	case LAXONJE_HALT_EXTRAS: return "too many extra infos";
+	case LAXONJE_HALT_RX_PRODUCER: return "the rx producer is more than a ring ahead";
+	default: return "no cause";
+	}
+}
+
+/* What something came to, in words for a log, and why: the outcome and the cause of a LAXONJE_OP_DONE. */
+static inline const char *laxonje_name(uint32_t outcome, uint32_t cause)
+{
+	switch (outcome) {
+	case LAXONJE_NOTHING: return "nothing: no queue, too few counters, or inside something else";
+	case LAXONJE_TURN_IDLE: return "no request";
+	case LAXONJE_TURN_RAN: return "the program ran";
+	case LAXONJE_TURN_REFUSED: return laxonje_refusal_name(cause);
+	case LAXONJE_DELIVERY_SENT: return "sent";
+	case LAXONJE_DELIVERY_FEW_SLOTS: return "too few rx slots";
+	case LAXONJE_DELIVERY_REFUSED: return "an rx slot's grant failed its check";
+	case LAXONJE_AWAITED_POSTED: return "the rx slots are there";
+	case LAXONJE_AWAITED_WAITING: return "the rx slots aren't there yet";
+	case LAXONJE_TURN_HALTED:
+	case LAXONJE_DELIVERY_HALTED:
+	case LAXONJE_AWAITED_HALTED: return laxonje_halt_name(cause);
+	default: return "no outcome";
+	}
+}
+
+#endif

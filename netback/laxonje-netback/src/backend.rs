@@ -1,0 +1,264 @@
+//! The main thread: XenStore's changes, reports of queues, signals, and questions.
+use crate::control::Control;
+use crate::device::{Device, Id, Shared};
+use crate::ffi::SIGHUP;
+use crate::keys;
+use crate::log::{Limit, Log};
+use crate::options::Options;
+use crate::os::{give_up_capabilities, restrict_to_service, set_priority, wait, Signals, Wanted};
+use crate::serve::{Report, Reports};
+use crate::stats;
+use crate::xen::{Grants, Store};
+use std::collections::{BTreeMap, BTreeSet};
+use std::io::{self, Read};
+use std::os::unix::io::AsRawFd;
+use std::os::unix::net::UnixStream;
+use std::path::Path;
+use std::sync::mpsc::{channel, Receiver};
+use std::sync::Arc;
+use std::time::{Duration, Instant};
+
+const BACKENDS: &str = "backend/vif";
+const TOKEN: &str = "back";
+const LINUX_DRIVER: &str = "/sys/bus/xen-backend/drivers/vif";
+/// So many changes at once, before signals and questions have their turn.
+const MOST_CHANGES: usize = 1000;
+
+pub struct Backend {
+    shared: Shared,
+    control: Control,
+    signals: Signals,
+    reported: Receiver<Report>,
+    woken: UnixStream,
+    devices: BTreeMap<Id, Device>,
+    log: Log,
+    /// Devices that aren't served, and lines about them.
+    wrong: BTreeMap<Id, String>,
+    lines: Limit,
+    looked: Instant,
+}
+
+impl Backend {
+    /// Opens all that is needed, and gives up what isn't.
+    pub fn open(options: Options) -> io::Result<Backend> {
+        if Path::new(LINUX_DRIVER).exists() {
+            let why = "the kernel's xen-netback is loaded and takes each device: modprobe -r xen-netback, and keep it from being loaded";
+            return Err(io::Error::new(io::ErrorKind::AddrInUse, why));
+        }
+        let named = |what: &'static str| move |error: io::Error| io::Error::new(error.kind(), format!("{what}: {error}"));
+        let signals = Signals::block()?;
+        let store = Store::open().map_err(named("XenStore"))?;
+        let grants = Grants::open().map_err(named("/dev/xen/gntdev (the module xen-gntdev)"))?;
+        let control = Control::open(&options.socket).map_err(named("the socket"))?;
+        let log = Log::of("main");
+        if let Err(error) = set_priority(options.nice) {
+            log.line(&format!("the priority isn't {}: {error}", options.nice));
+        }
+        if options.restricted {
+            give_up_capabilities(true).map_err(named("capabilities"))?;
+            restrict_to_service().map_err(named("the list of system calls"))?;
+        }
+        let (to, reported) = channel();
+        let (wake, woken) = UnixStream::pair()?;
+        wake.set_nonblocking(true)?;
+        woken.set_nonblocking(true)?;
+        store.watch(BACKENDS, TOKEN)?;
+        let shared = Shared { store, grants, options, reports: Reports { to, wake: Arc::new(wake) } };
+        let (devices, wrong, lines, looked) = (BTreeMap::new(), BTreeMap::new(), Limit::default(), Instant::now());
+        Ok(Backend { shared, control, signals, reported, woken, devices, log, wrong, lines, looked })
+    }
+
+    /// Serves until a signal says to end. Guests stay connected: their packets wait for the next process.
+    pub fn run(&mut self) {
+        self.log.line("serving");
+        while self.round() {}
+        self.devices.values_mut().for_each(Device::stop);
+        let _ = std::fs::remove_file(&self.shared.options.socket);
+        self.log.line("ended; connected guests wait for the next start");
+    }
+
+    /// Whether to go on.
+    fn round(&mut self) -> bool {
+        let fds = [self.shared.store.fd(), self.woken.as_raw_fd(), self.control.fd(), self.signals.fd()];
+        let mut wanted = fds.map(Wanted::of);
+        wait(&mut wanted, self.time());
+        if wanted[0].ready {
+            let changed = self.changed();
+            self.follow(changed);
+        }
+        if wanted[1].ready {
+            self.take_reports();
+        }
+        self.look_again();
+        if wanted[2].ready {
+            self.answer();
+        }
+        !wanted[3].ready || self.take_signals()
+    }
+
+    /// Until when there is nothing to do without an event.
+    fn time(&self) -> Option<Duration> {
+        let now = Instant::now();
+        let device = self.devices.values().filter_map(|device| device.later).min();
+        let file = self.shared.options.watch.map(|each| self.looked + each);
+        device.into_iter().chain(file).min().map(|at| at.saturating_duration_since(now) + Duration::from_millis(1))
+    }
+
+    /// Which devices have changed. Many changes of one device count once.
+    fn changed(&mut self) -> BTreeSet<Id> {
+        let mut changed = BTreeSet::new();
+        for _ in 0..MOST_CHANGES {
+            match self.shared.store.change() {
+                None => break,
+                Some(change) if change.token == TOKEN => match device_of(&change.path) {
+                    Some(id) => drop(changed.insert(id)),
+                    None => changed.extend(self.all()),
+                },
+                Some(change) => changed.extend(device_of_token(&change.token)),
+            }
+        }
+        changed
+    }
+
+    /// Those in XenStore, and those that were.
+    fn all(&self) -> BTreeSet<Id> {
+        let mut all: BTreeSet<Id> = self.devices.keys().copied().collect();
+        for domain in self.shared.store.list(BACKENDS) {
+            let devices = self.shared.store.list(&format!("{BACKENDS}/{domain}"));
+            all.extend(devices.iter().filter_map(|device| id(&domain, device)));
+        }
+        all
+    }
+
+    fn follow(&mut self, changed: BTreeSet<Id>) {
+        let served = self.shared.options.domain;
+        for id in changed.into_iter().filter(|id| served.map_or(true, |domain| domain == id.domain)) {
+            if !self.devices.contains_key(&id) {
+                self.find(id);
+            }
+            let stays = self.devices.get_mut(&id).map_or(true, |device| device.follow(&self.shared));
+            let gone = if stays { None } else { self.devices.remove(&id) };
+            if let Some(device) = gone {
+                device.leave(&self.shared);
+            }
+        }
+    }
+
+    fn find(&mut self, id: Id) {
+        match Device::find(&self.shared, id) {
+            Ok(Some(device)) => {
+                self.wrong.remove(&id);
+                self.devices.insert(id, device);
+            }
+            Ok(None) => drop(self.wrong.remove(&id)),
+            Err(why) => {
+                let known = self.wrong.insert(id, why.clone()).map_or(false, |before| before == why);
+                let _ = self.shared.store.write(&format!("error/{}/error", id.back()), &why);
+                if let (false, Some(skipped)) = (known, self.lines.allows()) {
+                    self.log.line(&format!("domain {} device {} isn't served: {why}{skipped}", id.domain, id.number));
+                }
+            }
+        }
+    }
+
+    fn take_reports(&mut self) {
+        let _ = self.woken.read(&mut [0; 64]);
+        while let Ok(report) = self.reported.try_recv() {
+            let id = Id { domain: report.place.domain, number: report.place.device };
+            if let Some(device) = self.devices.get_mut(&id) {
+                device.ended(&self.shared, &report);
+                self.follow(BTreeSet::from([id]));
+            }
+        }
+    }
+
+    /// Devices whose time has come, and settings files that are looked at now and then.
+    fn look_again(&mut self) {
+        let now = Instant::now();
+        let due = |device: &Device| device.later.map_or(false, |at| at <= now);
+        let due: BTreeSet<Id> = self.devices.iter().filter(|(_, device)| due(device)).map(|(id, _)| *id).collect();
+        self.follow(due);
+        if self.shared.options.watch.map_or(false, |each| self.looked + each <= now) {
+            self.looked = now;
+            self.reload();
+        }
+    }
+
+    /// What was done: a line for each device whose filter is another now, or would be.
+    fn reload(&mut self) -> String {
+        let lines: Vec<_> = self.devices.values_mut().filter_map(|device| device.reload(&self.shared)).collect();
+        let wrong: BTreeSet<Id> = self.wrong.keys().copied().collect();
+        self.follow(wrong);
+        lines.iter().map(|line| format!("{line}\n")).collect()
+    }
+
+    fn answer(&mut self) {
+        let answered = self.control.question().and_then(|asked| {
+            let answer = self.answer_to(&asked.question);
+            asked.answer(&answer)
+        });
+        if let (Err(error), Some(skipped)) = (answered, self.lines.allows()) {
+            self.log.line(&format!("a question isn't answered: {error}{skipped}"));
+        }
+    }
+
+    fn answer_to(&mut self, question: &str) -> String {
+        let stats = |devices: &mut BTreeMap<Id, Device>| devices.values_mut().map(Device::stats).collect::<Vec<_>>();
+        match question {
+            "stats" => stats::text(&stats(&mut self.devices)),
+            "json" => stats::json(&stats(&mut self.devices)),
+            "reload" => match self.reload() {
+                nothing if nothing.is_empty() => "no filter has changed\n".to_owned(),
+                lines => lines,
+            },
+            _ => "the questions are stats, json and reload\n".to_owned(),
+        }
+    }
+
+    /// Whether to go on.
+    fn take_signals(&mut self) -> bool {
+        while let Some(signal) = self.signals.next() {
+            match signal {
+                SIGHUP => drop(self.reload()),
+                _ => return false,
+            }
+        }
+        true
+    }
+}
+
+fn id(domain: &str, device: &str) -> Option<Id> {
+    let domain = keys::number(domain).and_then(|domain| u16::try_from(domain).ok())?;
+    Some(Id { domain, number: keys::number(device)? })
+}
+
+/// Whose key a path is. `None`: no device's alone.
+fn device_of(path: &str) -> Option<Id> {
+    let (_, below) = path.split_once("backend/vif/")?;
+    let mut words = below.split('/');
+    id(words.next()?, words.next()?)
+}
+
+fn device_of_token(token: &str) -> Option<Id> {
+    let mut words = token.strip_prefix("front ")?.split(' ');
+    id(words.next()?, words.next()?)
+}
+
+#[cfg(test)]
+mod tests {
+    use super::*;
+
+    #[test]
+    fn paths_and_tokens_name_a_device() {
+        let device = Id { domain: 3, number: 1 };
+        assert_eq!(device_of("backend/vif/3/1/state"), Some(device));
+        assert_eq!(device_of("/local/domain/0/backend/vif/3/1"), Some(device));
+        assert_eq!(device_of_token(&device.token()), Some(device));
+        for path in ["backend/vif", "backend/vif/3", "backend/vif/x/1", "backend/vif/70000/1", "backend/vbd/3/1", ""] {
+            assert_eq!(device_of(path), None, "{path}");
+        }
+        for token in ["back", "front", "front 3", "front 3 x", "front -1 0"] {
+            assert_eq!(device_of_token(token), None);
+        }
+    }
+}

@@ -1,0 +1,223 @@
+//! Declarations by hand of what is called of libxenstore, libxengnttab, libxenevtchn and the C library: xenstore.h, xengnttab.h,
+//! xenevtchn.h and xentoollog.h of Xen 4.17, and the manual pages of section 2. For x86-64 Linux.
+#![allow(non_camel_case_types)]
+
+use std::os::raw::{c_char, c_int, c_long, c_short, c_uint, c_ulong, c_void};
+
+/// Opaque types of Xen's libraries.
+#[repr(C)]
+pub struct xs_handle {
+    _private: [u8; 0],
+}
+#[repr(C)]
+pub struct xengnttab_handle {
+    _private: [u8; 0],
+}
+#[repr(C)]
+pub struct xenevtchn_handle {
+    _private: [u8; 0],
+}
+
+/// A logger. The last argument of `vmessage` is a `va_list`, which x86-64 passes as a pointer.
+#[repr(C)]
+pub struct xentoollog_logger {
+    pub vmessage: extern "C" fn(*mut xentoollog_logger, c_int, c_int, *const c_char, *const c_char, *mut c_void),
+    pub progress: Option<extern "C" fn()>,
+    pub destroy: extern "C" fn(*mut xentoollog_logger),
+}
+
+/// One side of a copy: a page of another domain's, or memory of this process.
+#[repr(C)]
+#[derive(Clone, Copy)]
+pub union copy_side {
+    pub virt: *mut c_void,
+    pub foreign: foreign_side,
+}
+
+#[repr(C)]
+#[derive(Clone, Copy)]
+pub struct foreign_side {
+    pub reference: u32,
+    pub offset: u16,
+    pub domid: u16,
+}
+
+#[repr(C)]
+#[derive(Clone, Copy)]
+pub struct xengnttab_grant_copy_segment {
+    pub source: copy_side,
+    pub dest: copy_side,
+    pub len: u16,
+    pub flags: u16,
+    pub status: i16,
+}
+
+pub const GNTCOPY_SOURCE_GREF: u16 = 1;
+pub const GNTCOPY_DEST_GREF: u16 = 2;
+pub const GNTST_OKAY: i16 = 0;
+pub const XS_WATCH_PATH: usize = 0;
+pub const XS_WATCH_TOKEN: usize = 1;
+
+#[link(name = "xenstore")]
+extern "C" {
+    pub fn xs_open(flags: c_ulong) -> *mut xs_handle;
+    pub fn xs_close(handle: *mut xs_handle);
+    pub fn xs_fileno(handle: *mut xs_handle) -> c_int;
+    pub fn xs_read(handle: *mut xs_handle, transaction: u32, path: *const c_char, length: *mut c_uint) -> *mut c_void;
+    pub fn xs_directory(handle: *mut xs_handle, transaction: u32, path: *const c_char, count: *mut c_uint) -> *mut *mut c_char;
+    pub fn xs_write(handle: *mut xs_handle, transaction: u32, path: *const c_char, data: *const c_void, length: c_uint) -> bool;
+    pub fn xs_watch(handle: *mut xs_handle, path: *const c_char, token: *const c_char) -> bool;
+    pub fn xs_unwatch(handle: *mut xs_handle, path: *const c_char, token: *const c_char) -> bool;
+    pub fn xs_check_watch(handle: *mut xs_handle) -> *mut *mut c_char;
+}
+
+#[link(name = "xengnttab")]
+extern "C" {
+    pub fn xengnttab_open(logger: *mut xentoollog_logger, flags: c_uint) -> *mut xengnttab_handle;
+    pub fn xengnttab_close(handle: *mut xengnttab_handle) -> c_int;
+    pub fn xengnttab_map_grant_ref(handle: *mut xengnttab_handle, domid: u32, reference: u32, prot: c_int) -> *mut c_void;
+    pub fn xengnttab_unmap(handle: *mut xengnttab_handle, start: *mut c_void, count: u32) -> c_int;
+    pub fn xengnttab_grant_copy(handle: *mut xengnttab_handle, count: u32, segments: *mut xengnttab_grant_copy_segment) -> c_int;
+}
+
+#[link(name = "xenevtchn")]
+extern "C" {
+    pub fn xenevtchn_open(logger: *mut xentoollog_logger, flags: c_uint) -> *mut xenevtchn_handle;
+    pub fn xenevtchn_close(handle: *mut xenevtchn_handle) -> c_int;
+    pub fn xenevtchn_fd(handle: *mut xenevtchn_handle) -> c_int;
+    pub fn xenevtchn_notify(handle: *mut xenevtchn_handle, port: u32) -> c_int;
+    pub fn xenevtchn_bind_interdomain(handle: *mut xenevtchn_handle, domid: u32, remote_port: u32) -> c_int;
+    pub fn xenevtchn_unbind(handle: *mut xenevtchn_handle, port: u32) -> c_int;
+    pub fn xenevtchn_pending(handle: *mut xenevtchn_handle) -> c_int;
+    pub fn xenevtchn_unmask(handle: *mut xenevtchn_handle, port: u32) -> c_int;
+}
+
+#[repr(C)]
+pub struct pollfd {
+    pub fd: c_int,
+    pub events: c_short,
+    pub revents: c_short,
+}
+pub const POLLIN: c_short = 1;
+pub const POLLERR: c_short = 8;
+
+/// `sigset_t` of the C library.
+#[repr(C)]
+pub struct signal_set {
+    pub words: [c_ulong; 16],
+}
+pub const SIG_BLOCK: c_int = 0;
+pub const SIGHUP: c_int = 1;
+pub const SIGINT: c_int = 2;
+pub const SIGTERM: c_int = 15;
+/// `SFD_NONBLOCK | SFD_CLOEXEC`.
+pub const SIGNALFD_FLAGS: c_int = 0o4000 | 0o2000000;
+/// `sizeof (struct signalfd_siginfo)`, which begins with the signal's number.
+pub const SIGNALFD_BYTES: usize = 128;
+
+pub const PROT_READ: c_int = 1;
+pub const PROT_WRITE: c_int = 2;
+
+/// `struct ifreq`: a name, then a union of 24 bytes.
+#[repr(C)]
+pub struct ifreq {
+    pub name: [u8; 16],
+    pub value: [u8; 24],
+}
+pub const TUNSETIFF: c_ulong = 0x4004_54ca;
+pub const TUNSETPERSIST: c_ulong = 0x4004_54cb;
+pub const SIOCGIFFLAGS: c_ulong = 0x8913;
+pub const SIOCSIFFLAGS: c_ulong = 0x8914;
+pub const SIOCSIFMTU: c_ulong = 0x8922;
+pub const SIOCSIFHWADDR: c_ulong = 0x8924;
+pub const SIOCGIFINDEX: c_ulong = 0x8933;
+pub const SIOCBRADDIF: c_ulong = 0x89a2;
+pub const IFF_UP: u16 = 1;
+/// `IFF_TAP | IFF_MULTI_QUEUE | IFF_NO_PI | IFF_VNET_HDR`.
+pub const TAP_FLAGS: u16 = 0x0002 | 0x0100 | 0x1000 | 0x4000;
+pub const ARPHRD_ETHER: u16 = 1;
+pub const O_NONBLOCK: c_int = 0o4000;
+pub const EBUSY: c_int = 16;
+
+#[repr(C)]
+pub struct cap_header {
+    pub version: u32,
+    pub pid: c_int,
+}
+#[repr(C)]
+#[derive(Clone, Copy, Default)]
+pub struct cap_data {
+    pub effective: u32,
+    pub permitted: u32,
+    pub inheritable: u32,
+}
+pub const CAP_VERSION_3: u32 = 0x2008_0522;
+pub const CAP_NET_ADMIN: u32 = 12;
+pub const PRIO_PROCESS: c_int = 0;
+pub const SCHED_BATCH: c_int = 3;
+pub const PR_SET_SECCOMP: c_int = 22;
+pub const PR_CAPBSET_DROP: c_int = 24;
+pub const PR_SET_NO_NEW_PRIVS: c_int = 38;
+pub const SECCOMP_MODE_FILTER: c_ulong = 2;
+
+/// An instruction of a seccomp program, and the program.
+#[repr(C)]
+#[derive(Clone, Copy, Debug, PartialEq, Eq)]
+pub struct sock_filter {
+    pub code: u16,
+    pub jt: u8,
+    pub jf: u8,
+    pub k: u32,
+}
+#[repr(C)]
+pub struct sock_fprog {
+    pub len: u16,
+    pub filter: *const sock_filter,
+}
+
+/// `struct iocb` and `struct io_event` of `linux/aio_abi.h`, for a little-endian machine.
+#[repr(C)]
+#[derive(Clone, Copy, Debug, Default)]
+pub struct iocb {
+    pub data: u64,
+    pub key: u32,
+    pub rw_flags: u32,
+    pub opcode: u16,
+    pub priority: i16,
+    pub fd: u32,
+    pub buffer: u64,
+    pub bytes: u64,
+    pub offset: i64,
+    pub reserved: u64,
+    pub flags: u32,
+    pub event_fd: u32,
+}
+#[repr(C)]
+#[derive(Clone, Copy, Debug, Default)]
+pub struct io_event {
+    pub data: u64,
+    pub object: u64,
+    pub result: i64,
+    pub second: i64,
+}
+pub const IOCB_CMD_PREAD: u16 = 0;
+pub const IOCB_CMD_PWRITE: u16 = 1;
+pub const SYS_IO_SETUP: c_long = 206;
+pub const SYS_IO_DESTROY: c_long = 207;
+pub const SYS_IO_GETEVENTS: c_long = 208;
+pub const SYS_IO_SUBMIT: c_long = 209;
+
+extern "C" {
+    pub fn syscall(number: c_long, ...) -> c_long;
+    pub fn free(at: *mut c_void);
+    pub fn poll(on: *mut pollfd, count: c_ulong, milliseconds: c_int) -> c_int;
+    pub fn ioctl(fd: c_int, request: c_ulong, ...) -> c_int;
+    pub fn sigemptyset(set: *mut signal_set) -> c_int;
+    pub fn sigaddset(set: *mut signal_set, signal: c_int) -> c_int;
+    pub fn pthread_sigmask(how: c_int, set: *const signal_set, old: *mut signal_set) -> c_int;
+    pub fn signalfd(fd: c_int, set: *const signal_set, flags: c_int) -> c_int;
+    pub fn prctl(option: c_int, second: c_ulong, third: c_ulong, fourth: c_ulong, fifth: c_ulong) -> c_int;
+    pub fn sched_setscheduler(pid: c_int, policy: c_int, priority: *const c_int) -> c_int;
+    pub fn setpriority(which: c_int, who: c_uint, nice: c_int) -> c_int;
+    pub fn capset(header: *mut cap_header, data: *const cap_data) -> c_int;
+}

@@ -1,0 +1,87 @@
+//! Lines for the log, on standard error: one each, and of those that a guest can cause only a few a minute.
+use std::io::Write;
+use std::time::{Duration, Instant};
+
+/// So many lines at once; then one each so often.
+const BURST: u32 = 5;
+const EACH: Duration = Duration::from_secs(10);
+
+/// Writes lines of one device.
+#[derive(Clone, Debug)]
+pub struct Log {
+    about: String,
+}
+
+impl Log {
+    pub fn of(about: &str) -> Log {
+        Log { about: about.to_owned() }
+    }
+
+    /// Writes a line. What isn't plain text in it, which a guest may have written, is replaced.
+    pub fn line(&self, text: &str) {
+        let plain: String = text.chars().map(|one| if one.is_control() { '?' } else { one }).take(500).collect();
+        let _ = writeln!(std::io::stderr(), "laxonje-netback: {}: {plain}", self.about);
+    }
+}
+
+/// How often something may be: a burst, then now and then.
+#[derive(Debug)]
+pub struct Limit {
+    most: u32,
+    each: Duration,
+    left: u32,
+    since: Instant,
+    skipped: u64,
+}
+
+impl Default for Limit {
+    fn default() -> Limit {
+        Limit::new(BURST, EACH)
+    }
+}
+
+impl Limit {
+    /// So often at once, and then once in this time.
+    pub fn new(most: u32, each: Duration) -> Limit {
+        Limit { most, each, left: most, since: Instant::now(), skipped: 0 }
+    }
+
+    /// The text to put behind a line that may be written now: how many weren't.
+    pub fn allows(&mut self) -> Option<String> {
+        self.allows_at(Instant::now())
+    }
+
+    fn allows_at(&mut self, now: Instant) -> Option<String> {
+        let times = (now.duration_since(self.since).as_millis() / self.each.as_millis()).min(u128::from(self.most)) as u32;
+        if times > 0 {
+            self.left = (self.left + times).min(self.most);
+            self.since = now;
+        }
+        if self.left == 0 {
+            self.skipped += 1;
+            return None;
+        }
+        self.left -= 1;
+        match std::mem::take(&mut self.skipped) {
+            0 => Some(String::new()),
+            skipped => Some(format!(" ({skipped} lines like this weren't written)")),
+        }
+    }
+}
+
+#[cfg(test)]
+mod tests {
+    use super::*;
+
+    #[test]
+    fn after_a_burst_a_line_comes_now_and_then() {
+        let (mut limit, start) = (Limit::default(), Instant::now());
+        let allowed = (0..1000).filter(|_| limit.allows_at(start).is_some()).count();
+        assert_eq!(allowed, 5);
+        let later = start + Duration::from_secs(11);
+        assert_eq!(limit.allows_at(later).as_deref(), Some(" (995 lines like this weren't written)"));
+        assert_eq!(limit.allows_at(later), None);
+        let much_later = later + Duration::from_secs(3600);
+        assert_eq!((0..1000).filter(|_| limit.allows_at(much_later).is_some()).count(), 5);
+    }
+}

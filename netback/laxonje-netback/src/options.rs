@@ -1,0 +1,203 @@
+//! The words of the command line.
+use crate::serve::Way;
+use std::path::PathBuf;
+use std::time::Duration;
+
+pub const HELP: &str = "\
+usage: laxonje-netback [OPTION..]           serve the network devices of guests
+       laxonje-netback stats [--json] [--socket PATH]
+       laxonje-netback reload [--socket PATH]
+       laxonje-netback check FILE           say whether a settings file is accepted
+       laxonje-netback --help | --version
+
+  --filters FOLDER   where settings files are: GUEST.DEVICE.toml, GUEST.toml, default.toml (/etc/laxonje)
+  --domain ID        serve this guest alone
+  --queues N         offer so many queues to each device, 1 to 64 (1)
+  --bridge NAME      a bridge for devices that the toolstack gives neither a script nor a bridge
+  --grants copy|map  how pages are had of Xen (copy)
+  --watch SECONDS    look so often whether a settings file has changed (only on SIGHUP and reload)
+  --nice N           at what priority, -20 to 19 (-10)
+  --socket PATH      where stats and reload are answered (/run/laxonje-netback.sock)
+  --unrestricted     keep capabilities and system calls: to look for a fault
+";
+
+const MOST_QUEUES: u32 = 64;
+/// Whoever receives a packet mustn't take the processor after each of them.
+const USUAL_NICE: i32 = -10;
+
+/// What is to be done.
+#[derive(Debug, PartialEq, Eq)]
+pub enum Command {
+    Serve(Options),
+    Ask { question: &'static str, socket: PathBuf },
+    Check(PathBuf),
+    Help,
+    Version,
+}
+
+#[derive(Clone, Debug, PartialEq, Eq)]
+pub struct Options {
+    pub filters: PathBuf,
+    pub domain: Option<u16>,
+    pub queues: u32,
+    pub bridge: Option<String>,
+    pub way: Way,
+    pub watch: Option<Duration>,
+    pub nice: i32,
+    pub socket: PathBuf,
+    pub restricted: bool,
+}
+
+impl Default for Options {
+    fn default() -> Options {
+        Options {
+            filters: PathBuf::from("/etc/laxonje"),
+            domain: None,
+            queues: 1,
+            bridge: None,
+            way: Way::Copy,
+            watch: None,
+            nice: USUAL_NICE,
+            socket: PathBuf::from("/run/laxonje-netback.sock"),
+            restricted: true,
+        }
+    }
+}
+
+/// What the words say, or what is wrong with them.
+pub fn command(words: &[String]) -> Result<Command, String> {
+    let (first, rest) = match words.split_first() {
+        Some((first, rest)) => (first.as_str(), rest),
+        None => return Ok(Command::Serve(Options::default())),
+    };
+    match first {
+        "--help" | "-h" => Ok(Command::Help),
+        "--version" | "-V" => Ok(Command::Version),
+        "stats" => ask("stats", "json", rest),
+        "reload" => ask("reload", "", rest),
+        "check" => match rest {
+            [file] => Ok(Command::Check(PathBuf::from(file))),
+            _ => Err("check takes one file".to_owned()),
+        },
+        _ => serve(words).map(Command::Serve),
+    }
+}
+
+/// `json` is the question with --json, where there is one.
+fn ask(plain: &'static str, json: &'static str, words: &[String]) -> Result<Command, String> {
+    let (mut question, mut socket) = (plain, Options::default().socket);
+    let mut words = words.iter();
+    while let Some(word) = words.next() {
+        match word.as_str() {
+            "--json" if !json.is_empty() => question = json,
+            "--socket" => socket = PathBuf::from(value(word, words.next())?),
+            other => return Err(format!("{plain} doesn't take {other}")),
+        }
+    }
+    Ok(Command::Ask { question, socket })
+}
+
+fn value<'word>(option: &str, word: Option<&'word String>) -> Result<&'word str, String> {
+    word.map(String::as_str).ok_or_else(|| format!("{option} takes a value"))
+}
+
+fn number(option: &str, word: Option<&String>, least: u32, most: u32) -> Result<u32, String> {
+    let word = value(option, word)?;
+    let fits = word.parse().ok().filter(|number| (least..=most).contains(number));
+    fits.ok_or_else(|| format!("{option} takes a number from {least} to {most}, and not {word}"))
+}
+
+fn serve(words: &[String]) -> Result<Options, String> {
+    let mut options = Options::default();
+    let mut words = words.iter();
+    while let Some(word) = words.next() {
+        match word.as_str() {
+            "--filters" => options.filters = PathBuf::from(value(word, words.next())?),
+            "--domain" => options.domain = Some(number(word, words.next(), 0, 0x7fef)? as u16),
+            "--queues" => options.queues = number(word, words.next(), 1, MOST_QUEUES)?,
+            "--bridge" => options.bridge = Some(value(word, words.next())?.to_owned()),
+            "--watch" => options.watch = Some(Duration::from_secs(number(word, words.next(), 1, 86400)?.into())),
+            "--nice" => options.nice = nice(value(word, words.next())?)?,
+            "--socket" => options.socket = PathBuf::from(value(word, words.next())?),
+            "--grants" => options.way = way(value(word, words.next())?)?,
+            "--unrestricted" => options.restricted = false,
+            other => return Err(format!("there is no option {other}: --help says which there are")),
+        }
+    }
+    Ok(options)
+}
+
+fn nice(word: &str) -> Result<i32, String> {
+    let fits = word.parse().ok().filter(|number| (-20..20).contains(number));
+    fits.ok_or_else(|| format!("--nice takes a number from -20 to 19, and not {word}"))
+}
+
+fn way(word: &str) -> Result<Way, String> {
+    match word {
+        "copy" => Ok(Way::Copy),
+        "map" => Ok(Way::Map),
+        other => Err(format!("--grants takes copy or map, and not {other}")),
+    }
+}
+
+#[cfg(test)]
+mod tests {
+    use super::*;
+
+    fn of(words: &str) -> Result<Command, String> {
+        command(&words.split_whitespace().map(str::to_owned).collect::<Vec<_>>())
+    }
+
+    #[test]
+    fn words_are_options() {
+        assert_eq!(of(""), Ok(Command::Serve(Options::default())));
+        let all = "--filters /f --domain 7 --queues 4 --bridge br0 --grants map --watch 2 --nice 5 --socket /s --unrestricted";
+        let options = Options {
+            filters: "/f".into(),
+            domain: Some(7),
+            queues: 4,
+            bridge: Some("br0".to_owned()),
+            way: Way::Map,
+            watch: Some(Duration::from_secs(2)),
+            nice: 5,
+            socket: "/s".into(),
+            restricted: false,
+        };
+        assert_eq!(of(all), Ok(Command::Serve(options)));
+        assert_eq!(of("stats --json --socket /s"), Ok(Command::Ask { question: "json", socket: "/s".into() }));
+        assert_eq!(of("reload"), Ok(Command::Ask { question: "reload", socket: "/run/laxonje-netback.sock".into() }));
+        assert_eq!((of("--help"), of("--version")), (Ok(Command::Help), Ok(Command::Version)));
+        assert_eq!(of("check a.toml"), Ok(Command::Check("a.toml".into())));
+    }
+
+    #[test]
+    fn wrong_words_get_one_line() {
+        for words in [
+            "x",
+            "--filters",
+            "--domain x",
+            "--domain 32752",
+            "--queues 0",
+            "--queues 65",
+            "--grants x",
+            "--watch 0",
+            "--nice 20",
+            "--nice x",
+            "check",
+            "reload --json",
+            "stats x",
+        ] {
+            let line = of(words).unwrap_err();
+            assert!(!line.is_empty() && !line.contains('\n'), "{words}");
+        }
+    }
+
+    #[test]
+    fn the_help_has_each_option() {
+        for option in
+            ["--filters", "--domain", "--queues", "--bridge", "--grants", "--watch", "--nice", "--socket", "--unrestricted", "--json"]
+        {
+            assert!(HELP.contains(option));
+        }
+    }
+}

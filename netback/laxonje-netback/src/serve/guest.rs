@@ -1,0 +1,295 @@
+//! A guest's rings and pages under Xen.
+//!
+//! The queue asks for words of the guest's grant table, which no backend under Xen can read. So the table's frames are made up: a read
+//! of an entry asks Xen for the page of that reference, and the answer permits what Xen allowed, or nothing. The frame that an entry names
+//! is a number of this process's own, `GRANTED` plus the reference.
+//!
+//! To ask Xen for each page in a call of its own is dear. So the pages of all requests that the guest has shown are copied in one call
+//! before their turns, and the packets that wait are copied to the posted buffers in one call before their deliveries. What was
+//! copied is a guess at what the queue is going to ask for: an entry that isn't the one guessed is asked for then. All pages are
+//! given back before a response is shown.
+mod held;
+mod ring;
+
+use self::held::Held;
+use self::ring::{Guess, Ring, REQUESTS_IN_RING, RESPONSES, RX_SLOT, TX_SLOT};
+use super::arena::{pages, Arena, Bytes, Packet};
+use crate::keys::QueueKeys;
+use crate::stats::Totals;
+use crate::xen::{PageCopy, Pages, Side};
+use laxonje::{Entry, Extent, Guest, GuestMemory, Page, PAGE_BYTES};
+use std::io;
+use std::sync::atomic::{fence, Ordering};
+use std::sync::Arc;
+
+pub const TABLE_FRAMES: u32 = laxonje::TABLE_FRAMES as u32;
+const ENTRIES: u32 = 512;
+pub const TX_RING: u32 = TABLE_FRAMES;
+pub const RX_RING: u32 = TABLE_FRAMES + 1;
+const GRANTED: u32 = 2 * TABLE_FRAMES;
+
+/// The domain that the made-up entries are for: DOMID_SELF, which no guest has.
+pub const OWN_DOMAIN: u16 = 0x7ff0;
+const PERMIT_ACCESS: u32 = 1;
+const READONLY: u32 = 4;
+
+/// How pages of a guest are had.
+#[derive(Clone, Copy, Debug, PartialEq, Eq)]
+pub enum Way {
+    /// Copied by Xen.
+    Copy,
+    /// Mapped, each for its turn.
+    Map,
+}
+
+/// A guest's queue under Xen.
+pub struct XenGuest<Xen: Pages> {
+    domain: u16,
+    xen: Xen,
+    way: Way,
+    tx: Ring<Xen::Mapped>,
+    rx: Ring<Xen::Mapped>,
+    guessed: Vec<Bytes>,
+    asked: Vec<Bytes>,
+    asked_count: usize,
+    held: Vec<Held<Xen::Mapped>>,
+    owes_notice: bool,
+    totals: Arc<Totals>,
+}
+
+impl<Xen: Pages> XenGuest<Xen> {
+    /// Maps the rings of a queue, whose references are the guest's. `fresh`: the rings begin at 0; else they are gone on with where responses
+    /// are shown up to.
+    pub fn connect(domain: u16, keys: &QueueKeys, fresh: bool, way: Way, xen: Xen, totals: Arc<Totals>) -> io::Result<Self> {
+        let refused = |what: &str| io::Error::new(io::ErrorKind::PermissionDenied, format!("Xen doesn't grant its {what} ring's page"));
+        let tx = xen.map(domain, keys.tx, true).ok_or_else(|| refused("tx"))?;
+        let rx = xen.map(domain, keys.rx, true).ok_or_else(|| refused("rx"))?;
+        let (tx, rx) = (Ring::new(tx, TX_SLOT, fresh), Ring::new(rx, RX_SLOT, fresh));
+        let (guessed, asked, held) = (pages(REQUESTS_IN_RING as usize), Vec::new(), Vec::new());
+        Ok(XenGuest { domain, xen, way, tx, rx, guessed, asked, asked_count: 0, held, owes_notice: false, totals })
+    }
+
+    /// Frames of the host's own numbers, which are all the guest's.
+    pub fn extents(&self) -> [Extent; 1] {
+        [Extent { frames: GRANTED + TABLE_FRAMES * ENTRIES, domain: self.domain }]
+    }
+
+    pub fn indices(&self) -> laxonje::Indices {
+        laxonje::Indices { tx: self.tx.done, rx: self.rx.done }
+    }
+
+    /// Whether the guest shows a request of the tx ring.
+    pub fn shows_packets(&self) -> bool {
+        self.tx.shown() > 0
+    }
+
+    /// How many buffers the guest has posted.
+    pub fn posted(&self) -> usize {
+        self.rx.shown().min(REQUESTS_IN_RING) as usize
+    }
+
+    /// Whether the guest is owed a notice. After that it isn't.
+    pub fn take_notice(&mut self) -> bool {
+        std::mem::take(&mut self.owes_notice)
+    }
+
+    /// Copies the pages of the requests that are shown, and says up to which index.
+    pub fn fetch(&mut self) -> io::Result<u32> {
+        let shown = self.tx.shown();
+        let end = self.tx.done.wrapping_add(shown.min(REQUESTS_IN_RING));
+        if self.way == Way::Map || shown > REQUESTS_IN_RING {
+            return Ok(end);
+        }
+        let slots: Vec<_> = (0..shown).map(|number| (self.tx.done.wrapping_add(number) % REQUESTS_IN_RING) as usize).collect();
+        let mut wanted: Vec<_> =
+            slots.iter().map(|slot| (*slot, self.guess_request(*slot))).filter(|(_, guess)| !guess.bytes.is_empty()).collect();
+        let mut copies: Vec<_> = wanted
+            .iter()
+            .zip(&mut self.guessed)
+            .map(|((_, guess), page)| PageCopy {
+                reference: guess.reference,
+                offset: guess.bytes.start,
+                side: Side::FromGuest(&mut page.0[guess.bytes.clone()]),
+                allowed: false,
+            })
+            .collect();
+        self.xen.copy(self.domain, &mut copies)?;
+        Totals::add(&self.totals.copied_pages, copies.len() as u64);
+        for (number, ((slot, guess), copy)) in wanted.iter_mut().zip(&copies).enumerate() {
+            guess.page = number;
+            self.tx.guesses[*slot] = copy.allowed.then(|| guess.clone());
+        }
+        Ok(end)
+    }
+
+    /// What a tx slot asks to be read: whole words of one page.
+    fn guess_request(&self, slot: usize) -> Guess {
+        let (second, third) = (self.tx.word(slot, 1), self.tx.word(slot, 2));
+        let (offset, size) = ((second & 0xffff) as usize, (third >> 16) as usize);
+        let start = (offset / 4 * 4).min(PAGE_BYTES);
+        let end = ((offset + size + 3) / 4 * 4).min(PAGE_BYTES);
+        Guess { reference: self.tx.word(slot, 0), page: 0, bytes: start..end, allowed: false }
+    }
+
+    /// Whether all requests before an index are answered.
+    pub fn is_done(&self, end: u32) -> bool {
+        self.tx.done == end
+    }
+
+    /// Forgets what was copied for turns and deliveries that didn't come, or went another way.
+    pub fn forget(&mut self) {
+        let guesses = self.tx.guesses.iter_mut().chain(&mut self.rx.guesses);
+        guesses.for_each(|guess| *guess = None);
+    }
+
+    /// Copies packets that wait to the buffers that are posted for them, as many as there are buffers for. How many packets.
+    pub fn put(&mut self, arena: &Arena) -> io::Result<usize> {
+        let (mut slots, mut count) = (Vec::new(), 0);
+        let posted = self.posted();
+        if self.way == Way::Map {
+            return Ok(arena.packets().count());
+        }
+        for packet in arena.packets() {
+            if slots.len() + packet.pages() > posted {
+                break;
+            }
+            slots.extend((0..packet.pages()).map(|number| (packet, number)));
+            count += 1;
+        }
+        self.put_pages(arena, &slots)?;
+        Ok(count)
+    }
+
+    fn put_pages(&mut self, arena: &Arena, slots: &[(Packet, usize)]) -> io::Result<()> {
+        let first = self.rx.done;
+        let slot = |number: usize| (first.wrapping_add(number as u32) % REQUESTS_IN_RING) as usize;
+        let mut copies: Vec<_> = slots
+            .iter()
+            .enumerate()
+            .map(|(number, (packet, page))| {
+                let reference = self.rx.word(slot(number), 1);
+                PageCopy { reference, offset: 0, side: Side::ToGuest(arena.page(*packet, *page)), allowed: false }
+            })
+            .collect();
+        self.xen.copy(self.domain, &mut copies)?;
+        Totals::add(&self.totals.copied_pages, copies.len() as u64);
+        for (number, (copy, (packet, page))) in copies.iter().zip(slots).enumerate() {
+            let bytes = 0..arena.page(*packet, *page).len();
+            self.rx.guesses[slot(number)] = Some(Guess { reference: copy.reference, page: *page, bytes, allowed: copy.allowed });
+        }
+        Ok(())
+    }
+
+    fn ring(&self, frame: u32) -> Option<&Page> {
+        match frame {
+            TX_RING => Some(&self.tx.page),
+            RX_RING => Some(&self.rx.page),
+            _ => None,
+        }
+    }
+
+    fn write_ring_or(&mut self, frame: u32, word: usize, from: &[u32], delivered: Option<(&Arena, Packet)>) {
+        match self.ring(frame) {
+            Some(page) => Words(page).write(frame, word, from),
+            None => self.write_granted(frame.wrapping_sub(GRANTED), word, from, delivered),
+        }
+    }
+}
+
+/// A page that is mapped, whatever its frame's number is.
+struct Words<'page>(&'page Page);
+
+impl GuestMemory for Words<'_> {
+    fn page(&self, _frame: u32) -> &Page {
+        self.0
+    }
+    fn notify(&mut self, _port: u32) {}
+}
+
+impl<Xen: Pages> Guest for XenGuest<Xen> {
+    fn read(&mut self, frame: u32, word: usize, into: &mut [u32]) {
+        match frame {
+            TX_RING => self.tx.note_read(word),
+            RX_RING => self.rx.note_read(word),
+            _ => return self.read_granted(frame.wrapping_sub(GRANTED), 4 * word..4 * (word + into.len()), into),
+        }
+        if let Some(page) = self.ring(frame) {
+            Words(page).read(frame, word, into);
+        }
+    }
+
+    fn write(&mut self, frame: u32, word: usize, from: &[u32]) {
+        self.write_ring_or(frame, word, from, None);
+    }
+
+    fn push(&mut self, frame: u32, word: usize, value: u32, then: usize) -> u32 {
+        self.give_back();
+        let ring = if frame == TX_RING { &mut self.tx } else { &mut self.rx };
+        if word == RESPONSES {
+            ring.done = value;
+        }
+        let page: &Page = &ring.page;
+        page[word].store(value, Ordering::Release);
+        fence(Ordering::SeqCst);
+        page[then].load(Ordering::Acquire)
+    }
+
+    /// Notices of several turns are sent as one, before this process waits.
+    fn notify(&mut self, _port: u32) {
+        self.owes_notice = true;
+    }
+
+    fn entry(&mut self, entry: &Entry) -> [u32; 2] {
+        match self.hold(entry) {
+            Some(held) => {
+                self.held.push(held);
+                let access = if entry.writes { PERMIT_ACCESS } else { PERMIT_ACCESS | READONLY };
+                [access | u32::from(OWN_DOMAIN) << 16, GRANTED + entry.reference]
+            }
+            None => {
+                Totals::add(&self.totals.refused_grants, 1);
+                [0, 0]
+            }
+        }
+    }
+
+    fn over(&mut self) {
+        self.give_back();
+    }
+}
+
+/// The guest while a packet is delivered that was copied to its buffers before.
+pub struct Delivering<'queue, Xen: Pages> {
+    pub guest: &'queue mut XenGuest<Xen>,
+    pub arena: &'queue Arena,
+    pub packet: Packet,
+}
+
+impl<Xen: Pages> Guest for Delivering<'_, Xen> {
+    fn read(&mut self, frame: u32, word: usize, into: &mut [u32]) {
+        Guest::read(self.guest, frame, word, into);
+    }
+
+    fn write(&mut self, frame: u32, word: usize, from: &[u32]) {
+        self.guest.write_ring_or(frame, word, from, Some((self.arena, self.packet)));
+    }
+
+    fn push(&mut self, frame: u32, word: usize, value: u32, then: usize) -> u32 {
+        self.guest.push(frame, word, value, then)
+    }
+
+    fn notify(&mut self, port: u32) {
+        Guest::notify(self.guest, port);
+    }
+
+    fn entry(&mut self, entry: &Entry) -> [u32; 2] {
+        self.guest.entry(entry)
+    }
+
+    fn over(&mut self) {
+        self.guest.over();
+    }
+}
+
+#[cfg(test)]
+mod tests;

@@ -1,0 +1,158 @@
+//! The pages of the turn that is under way.
+use super::{Way, Words, XenGuest, TX_RING};
+use crate::serve::arena::{pages, Arena, Packet};
+use crate::stats::Totals;
+use crate::xen::{PageCopy, Pages, Side};
+use laxonje::{Entry, Guest, PAGE_BYTES};
+use std::ops::Range;
+
+/// A page of the turn that is under way.
+pub struct Held<Mapped> {
+    pub reference: u32,
+    pub writes: bool,
+    pub bytes: Range<usize>,
+    pub place: Place<Mapped>,
+    /// What was written and isn't in the guest's page yet.
+    pub changed: Range<usize>,
+}
+
+/// Where the bytes of a page are.
+pub enum Place<Mapped> {
+    /// In the page of this number, copied before the turn.
+    Guessed(usize),
+    /// In the further page of this number.
+    Asked(usize),
+    /// Already in the guest: the page of this number of the packet that is delivered.
+    Delivered(usize),
+    Mapped(Mapped),
+}
+
+impl<Xen: Pages> XenGuest<Xen> {
+    /// The page of an entry. `None`: Xen doesn't allow it.
+    pub fn hold(&mut self, entry: &Entry) -> Option<Held<Xen::Mapped>> {
+        if self.way == Way::Map {
+            let page = self.xen.map(self.domain, entry.reference, entry.writes)?;
+            return Some(Held::new(entry, 0..PAGE_BYTES, Place::Mapped(page)));
+        }
+        let guess = if entry.writes { self.rx.guess(entry.reference) } else { self.tx.guess(entry.reference) };
+        match guess {
+            Some(guess) if entry.writes => guess.allowed.then(|| Held::new(entry, guess.bytes.clone(), Place::Delivered(guess.page))),
+            Some(guess) => Some(Held::new(entry, guess.bytes, Place::Guessed(guess.page))),
+            None => self.ask(entry.reference, entry.writes).map(|page| Held::new(entry, 0..PAGE_BYTES, Place::Asked(page))),
+        }
+    }
+
+    /// Copies a whole page, or writes 0 into its first word, which shows whether Xen allows it: that word is written later.
+    fn ask(&mut self, reference: u32, writes: bool) -> Option<usize> {
+        let number = self.further_page();
+        let page = &mut self.asked[number].0;
+        let side = if writes { Side::ToGuest(&[0; 4]) } else { Side::FromGuest(&mut page[..]) };
+        let mut copies = [PageCopy { reference, offset: 0, side, allowed: false }];
+        self.xen.copy(self.domain, &mut copies).ok()?;
+        Totals::add(&self.totals.asked_pages, 1);
+        copies[0].allowed.then_some(number)
+    }
+
+    /// A page of this process for the turn under way.
+    fn further_page(&mut self) -> usize {
+        self.asked_count += 1;
+        if self.asked.len() < self.asked_count {
+            self.asked.extend(pages(1));
+        }
+        self.asked_count - 1
+    }
+
+    /// Reads a granted page. One that was copied for fewer bytes is copied again.
+    pub fn read_granted(&mut self, reference: u32, bytes: Range<usize>, into: &mut [u32]) {
+        let covers = |held: &&Held<_>| held.reference == reference && held.bytes.start <= bytes.start && bytes.end <= held.bytes.end;
+        let found = self.held.iter().find(covers).map(|held| &held.place);
+        let page = match found {
+            Some(Place::Mapped(page)) => return Words(page).read(TX_RING, bytes.start / 4, into),
+            Some(Place::Guessed(page)) => &self.guessed[*page],
+            Some(Place::Asked(page)) => &self.asked[*page],
+            _ => match self.ask(reference, false) {
+                Some(page) => &self.asked[page],
+                None => {
+                    Totals::add(&self.totals.ended_grants, 1);
+                    return into.fill(0);
+                }
+            },
+        };
+        for (to, four) in into.iter_mut().zip(page.0[bytes].chunks_exact(4)) {
+            *to = u32::from_le_bytes([four[0], four[1], four[2], four[3]]);
+        }
+    }
+
+    /// Writes a granted page: in what is copied to the guest before the next push, where it isn't there already.
+    pub fn write_granted(&mut self, reference: u32, word: usize, from: &[u32], delivered: Option<(&Arena, Packet)>) {
+        let bytes = 4 * word..4 * (word + from.len());
+        let position = self.held.iter().position(|held| held.writes && held.reference == reference && !held.is_written(&bytes));
+        let position = match position {
+            Some(position) => position,
+            None => return Totals::add(&self.totals.strange, 1), // the queue writes what it was granted, once
+        };
+        match (&self.held[position].place, delivered) {
+            (Place::Mapped(page), _) => return Words(page).write(TX_RING, word, from),
+            (Place::Delivered(number), Some((arena, packet))) if is(arena.page(packet, *number), word, from) => {}
+            _ => self.change(position, &bytes, from),
+        }
+        self.held[position].bytes = bytes;
+    }
+
+    /// Keeps words that are to be copied to the guest.
+    fn change(&mut self, position: usize, bytes: &Range<usize>, from: &[u32]) {
+        let number = match self.held[position].place {
+            Place::Asked(number) => number,
+            _ => self.further_page(),
+        };
+        let held = &mut self.held[position];
+        held.place = Place::Asked(number);
+        held.changed = bytes.clone();
+        for (four, word) in self.asked[number].0[bytes.clone()].chunks_exact_mut(4).zip(from) {
+            four.copy_from_slice(&word.to_le_bytes());
+        }
+    }
+
+    /// Gives all pages back: what was written is copied to the guest, and what is mapped is unmapped.
+    pub fn give_back(&mut self) {
+        let asked = &self.asked;
+        let changed = self.held.iter().filter(|held| !held.changed.is_empty());
+        let mut copies: Vec<_> = changed
+            .filter_map(|held| match held.place {
+                Place::Asked(page) => Some(PageCopy {
+                    reference: held.reference,
+                    offset: held.changed.start,
+                    side: Side::ToGuest(&asked[page].0[held.changed.clone()]),
+                    allowed: false,
+                }),
+                _ => None,
+            })
+            .collect();
+        let made = self.xen.copy(self.domain, &mut copies);
+        // a grant that ended after it was checked: the guest can't be told any more
+        let late = copies.iter().filter(|copy| made.is_err() || !copy.allowed).count();
+        Totals::add(&self.totals.ended_grants, late as u64);
+        self.held.clear();
+        self.asked_count = 0;
+        self.tx.read.clear();
+        self.rx.read.clear();
+    }
+}
+
+impl<Mapped> Held<Mapped> {
+    fn new(entry: &Entry, bytes: Range<usize>, place: Place<Mapped>) -> Self {
+        let bytes = if entry.writes { 0..0 } else { bytes };
+        Held { reference: entry.reference, writes: entry.writes, bytes, place, changed: 0..0 }
+    }
+
+    /// Of a page that is written, `bytes` is what was written.
+    fn is_written(&self, bytes: &Range<usize>) -> bool {
+        !self.bytes.is_empty() && bytes.start <= self.bytes.start
+    }
+}
+
+/// Whether the words are those at their place of these bytes.
+fn is(bytes: &[u8], word: usize, words: &[u32]) -> bool {
+    let there = bytes.get(4 * word..4 * (word + words.len()));
+    there.map_or(false, |there| there.chunks_exact(4).zip(words).all(|(four, word)| four == word.to_le_bytes()))
+}

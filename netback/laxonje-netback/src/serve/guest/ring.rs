@@ -1,0 +1,61 @@
+//! A ring's page, and guesses at its requests.
+use laxonje::Page;
+use std::ops::{Deref, Range};
+use std::sync::atomic::Ordering;
+
+/// Words of a ring: the producer of requests and that of responses, the first slot, and how many words a slot has (`ring.h`, `netif.h`).
+pub const REQUESTS: usize = 0;
+pub const RESPONSES: usize = 2;
+pub const SLOTS: usize = 16;
+pub const TX_SLOT: usize = 3;
+pub const RX_SLOT: usize = 2;
+pub const REQUESTS_IN_RING: u32 = 256;
+
+/// A guess at a request: the page of a tx slot that was copied, or a packet's page that was copied to the buffer of an rx slot.
+#[derive(Clone, Debug, PartialEq, Eq)]
+pub struct Guess {
+    pub reference: u32,
+    pub page: usize,
+    pub bytes: Range<usize>,
+    pub allowed: bool,
+}
+
+/// One of a queue's two rings.
+pub struct Ring<Mapped> {
+    pub page: Mapped,
+    /// The index up to which responses are shown: that of the queue's next request.
+    pub done: u32,
+    /// For each slot a guess, and which slots were read in the turn under way.
+    pub guesses: Vec<Option<Guess>>,
+    pub read: Vec<usize>,
+    pub slot_words: usize,
+}
+
+impl<Mapped: Deref<Target = Page>> Ring<Mapped> {
+    pub fn new(page: Mapped, slot_words: usize, fresh: bool) -> Self {
+        let done = if fresh { 0 } else { page[RESPONSES].load(Ordering::Acquire) };
+        Ring { page, done, guesses: vec![None; REQUESTS_IN_RING as usize], read: Vec::new(), slot_words }
+    }
+
+    /// How many requests the guest shows. More than a ring has: it lies.
+    pub fn shown(&self) -> u32 {
+        self.page[REQUESTS].load(Ordering::Acquire).wrapping_sub(self.done)
+    }
+
+    pub fn word(&self, slot: usize, number: usize) -> u32 {
+        self.page[SLOTS + self.slot_words * slot + number].load(Ordering::Acquire)
+    }
+
+    pub fn note_read(&mut self, word: usize) {
+        if let Some(at) = word.checked_sub(SLOTS) {
+            self.read.push(at / self.slot_words);
+        }
+    }
+
+    /// The guess for a reference, of the first slot that was read and has it.
+    pub fn guess(&mut self, reference: u32) -> Option<Guess> {
+        let matches = |slot: &&usize| matches!(&self.guesses[**slot], Some(guess) if guess.reference == reference);
+        let slot = *self.read.iter().find(matches)?;
+        self.guesses[slot].take()
+    }
+}

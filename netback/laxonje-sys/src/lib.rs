@@ -1,0 +1,207 @@
+//! `laxonje.h`, version 3, in Rust: the names, the fields and the calls of the header, which says what each does.
+//!
+//! The crate `laxonje` is the safe layer over it.
+#![no_std]
+#![allow(non_camel_case_types)]
+
+/// The version of the header that these declarations are of.
+pub const LAXONJE_VERSION: u32 = 3;
+pub const LAXONJE_PACKET: usize = 65535;
+pub const LAXONJE_NOWHERE: usize = usize::MAX;
+
+pub const LAXONJE_ACCEPTED: u32 = 0;
+pub const LAXONJE_REFUSED: u32 = 1;
+pub const LAXONJE_MAP: u32 = 2;
+pub const LAXONJE_SETTINGS: u32 = 3;
+pub const LAXONJE_EMPTY: u32 = 4;
+
+pub const LAXONJE_ABORTED: u32 = 0;
+pub const LAXONJE_DROP: u32 = 1;
+pub const LAXONJE_PASS: u32 = 2;
+pub const LAXONJE_TX: u32 = 3;
+
+pub const LAXONJE_PAGE_WORDS: usize = 1024;
+pub const LAXONJE_OPS: usize = 8;
+pub const LAXONJE_EXTENT_TABLE_FRAMES: usize = 64;
+
+pub const LAXONJE_MADE: u32 = 0;
+pub const LAXONJE_MADE_MEMORY: u32 = 1;
+pub const LAXONJE_MADE_FRAMES: u32 = 2;
+pub const LAXONJE_MADE_TABLE: u32 = 3;
+pub const LAXONJE_MADE_RING: u32 = 4;
+pub const LAXONJE_MADE_DOMAIN: u32 = 5;
+pub const LAXONJE_MADE_PROGRAM: u32 = 6;
+
+pub const LAXONJE_OP_READ: u32 = 1;
+pub const LAXONJE_OP_WRITE: u32 = 2;
+pub const LAXONJE_OP_NOTIFY: u32 = 3;
+pub const LAXONJE_OP_DONE: u32 = 4;
+pub const LAXONJE_OP_STORE: u32 = 5;
+pub const LAXONJE_OP_PUSH: u32 = 6;
+
+pub const LAXONJE_ENTRY_NONE: u32 = 0;
+pub const LAXONJE_ENTRY_READ: u32 = 1;
+pub const LAXONJE_ENTRY_WRITE: u32 = 2;
+
+pub const LAXONJE_TURN_IDLE: u32 = 0;
+pub const LAXONJE_TURN_RAN: u32 = 1;
+pub const LAXONJE_TURN_REFUSED: u32 = 2;
+pub const LAXONJE_TURN_HALTED: u32 = 3;
+
+pub const LAXONJE_TAKEN: u32 = 0;
+pub const LAXONJE_TAKEN_NOT: u32 = 1;
+pub const LAXONJE_TAKEN_BUSY: u32 = 2;
+pub const LAXONJE_TAKEN_NO_FRAME: u32 = 3;
+
+pub const LAXONJE_DELIVERY_SENT: u32 = 4;
+pub const LAXONJE_DELIVERY_FEW_SLOTS: u32 = 5;
+pub const LAXONJE_DELIVERY_REFUSED: u32 = 6;
+pub const LAXONJE_DELIVERY_HALTED: u32 = 7;
+
+pub const LAXONJE_AWAITED_POSTED: u32 = 9;
+pub const LAXONJE_AWAITED_WAITING: u32 = 10;
+pub const LAXONJE_AWAITED_HALTED: u32 = 11;
+
+pub const LAXONJE_FLAG_CSUM_BLANK: u32 = 1;
+pub const LAXONJE_FLAG_DATA_VALIDATED: u32 = 2;
+pub const LAXONJE_FLAG_MORE_DATA: u32 = 4;
+
+pub const LAXONJE_STANDS_NOT: u32 = 0;
+pub const LAXONJE_STANDS: u32 = 1;
+pub const LAXONJE_STANDS_HALTED: u32 = 2;
+
+#[repr(C)]
+#[derive(Clone, Copy, Debug, Default, PartialEq, Eq)]
+pub struct laxonje_map {
+    pub entries: u32,
+    pub counters: u32,
+}
+
+#[repr(C)]
+#[derive(Clone, Copy, Debug, Default, PartialEq, Eq)]
+pub struct laxonje_verdict {
+    pub kind: u32,
+    pub cause: u32,
+    pub at: u32,
+}
+
+#[repr(C)]
+#[derive(Clone, Copy, Debug, Default, PartialEq, Eq)]
+pub struct laxonje_result {
+    pub number: u32,
+    pub action: u32,
+    pub instructions: u32,
+}
+
+/// How many bytes a handle has: zeros where it holds nothing, at an address that doesn't change.
+pub const LAXONJE_HANDLE: usize = 16;
+
+/// What a handle of a program points to.
+#[repr(C, align(8))]
+#[derive(Debug, Default)]
+pub struct laxonje_program {
+    _own: [u8; LAXONJE_HANDLE],
+}
+
+/// What a handle of a queue points to.
+#[repr(C, align(8))]
+#[derive(Debug, Default)]
+pub struct laxonje_queue {
+    _own: [u8; LAXONJE_HANDLE],
+}
+
+#[repr(C)]
+#[derive(Clone, Copy, Debug, Default, PartialEq, Eq)]
+pub struct laxonje_extent {
+    pub frames: u32,
+    pub domain: u16,
+}
+
+#[repr(C)]
+#[derive(Clone, Copy, Debug, Default, PartialEq, Eq)]
+pub struct laxonje_queue_desc {
+    pub tx: u32,
+    pub rx: u32,
+    pub granter: u16,
+    pub user: u16,
+    pub port: u32,
+    pub ifindex: u32,
+    pub queue: u32,
+    pub tx_index: u32,
+    pub rx_index: u32,
+}
+
+#[repr(C)]
+#[derive(Clone, Copy, Debug, Default, PartialEq, Eq)]
+pub struct laxonje_queue_standing {
+    pub kind: u32,
+    pub tx_index: u32,
+    pub rx_index: u32,
+    pub halt: u32,
+}
+
+#[repr(C)]
+#[derive(Clone, Copy, Debug, Default, PartialEq, Eq)]
+pub struct laxonje_op {
+    pub kind: u32,
+    pub frame: u32,
+    pub word: u32,
+    pub count: u32,
+    pub lent: u32,
+    pub value: [u32; 2],
+    pub entry: u32,
+    pub reference: u32,
+    pub outcome: u32,
+    pub number: u32,
+    pub cause: u32,
+    pub ops: u32,
+    pub slots: u32,
+    pub index: u32,
+    pub grant: i32,
+}
+
+extern "C" {
+    pub fn laxonje_version() -> u32;
+    pub fn laxonje_load(
+        program: *const u8, program_bytes: usize, maps: *const laxonje_map, map_count: usize, out: *mut laxonje_program,
+    ) -> laxonje_verdict;
+    pub fn laxonje_load_settings(text: *const u8, text_bytes: usize, out: *mut laxonje_program) -> laxonje_verdict;
+    pub fn laxonje_again(program: *mut laxonje_program, out: *mut laxonje_program) -> laxonje_verdict;
+    pub fn laxonje_run(
+        program: *mut laxonje_program, counters: *mut u64, counter_count: usize, packet: *mut u8, packet_bytes: usize, ifindex: u32,
+        queue: u32,
+    ) -> laxonje_result;
+    pub fn laxonje_advice(cause: u32, out: *mut u8, out_bytes: usize) -> usize;
+    pub fn laxonje_counters(program: *mut laxonje_program) -> usize;
+    pub fn laxonje_place(program: *mut laxonje_program, map: u32, entry: u32, counter: u32) -> usize;
+    pub fn laxonje_map_count(program: *mut laxonje_program) -> usize;
+    pub fn laxonje_map_size(program: *mut laxonje_program, number: u32) -> laxonje_map;
+    pub fn laxonje_free(program: *mut laxonje_program);
+
+    pub fn laxonje_queue_make_extents(
+        program: *mut laxonje_program, extents: *const laxonje_extent, extent_count: usize, table: *const u32, table_count: usize,
+        desc: *const laxonje_queue_desc, out: *mut laxonje_queue,
+    ) -> u32;
+    pub fn laxonje_queue_turn(queue: *mut laxonje_queue, producer: u32, ops: *mut laxonje_op, op_count: usize) -> usize;
+    pub fn laxonje_queue_step(
+        queue: *mut laxonje_queue, words: *mut u32, word_count: usize, counters: *mut u64, counter_count: usize, ops: *mut laxonje_op,
+        op_count: usize,
+    ) -> usize;
+    pub fn laxonje_queue_deliver(queue: *mut laxonje_queue, producer: u32, packet: *const u8, packet_bytes: usize) -> u32;
+    pub fn laxonje_queue_await(queue: *mut laxonje_queue, pages: u32) -> u32;
+    pub fn laxonje_queue_flags(queue: *mut laxonje_queue) -> u32;
+    pub fn laxonje_queue_packet(queue: *mut laxonje_queue, out: *mut u8, out_bytes: usize) -> usize;
+    pub fn laxonje_queue_state(queue: *mut laxonje_queue) -> laxonje_queue_standing;
+    pub fn laxonje_queue_free(queue: *mut laxonje_queue);
+}
+
+// The sizes that the header asserts.
+const _: () = assert!(core::mem::size_of::<laxonje_map>() == 8);
+const _: () = assert!(core::mem::size_of::<laxonje_verdict>() == 12);
+const _: () = assert!(core::mem::size_of::<laxonje_result>() == 12);
+const _: () = assert!(core::mem::size_of::<laxonje_program>() == 16);
+const _: () = assert!(core::mem::size_of::<laxonje_queue>() == 16);
+const _: () = assert!(core::mem::size_of::<laxonje_extent>() == 8);
+const _: () = assert!(core::mem::size_of::<laxonje_queue_desc>() == 32);
+const _: () = assert!(core::mem::size_of::<laxonje_queue_standing>() == 16);
+const _: () = assert!(core::mem::size_of::<laxonje_op>() == 64);

@@ -1,0 +1,140 @@
+//! The host's loop over version 3 of the C interface: the first read, and each op in its order.
+use crate::guest::{Entry, Guest, PAGE_WORDS};
+use crate::handle::{ProgramHandle, QueueHandle};
+use crate::queue::{Extent, Halt, Indices, MakeError, ReplaceError, Setup};
+use laxonje_sys as sys;
+
+/// The word of a ring's producer of requests.
+const PRODUCER: usize = 0;
+
+type Ops = [sys::laxonje_op; sys::LAXONJE_OPS];
+
+/// A queue with what it was made of and the words that it is lent.
+pub(crate) struct Driver {
+    handle: QueueHandle,
+    desc: sys::laxonje_queue_desc,
+    frames: Vec<sys::laxonje_extent>,
+    table: Vec<u32>,
+    words: Box<[u32; PAGE_WORDS]>,
+}
+
+impl Driver {
+    pub fn new(program: &ProgramHandle, setup: &Setup) -> Result<Driver, MakeError> {
+        let frames = setup.frames.iter().map(|extent: &Extent| sys::laxonje_extent { frames: extent.frames, domain: extent.domain });
+        let desc = sys::laxonje_queue_desc {
+            tx: setup.tx,
+            rx: setup.rx,
+            granter: setup.frontend,
+            user: setup.backend,
+            port: setup.port,
+            ifindex: setup.ifindex,
+            queue: setup.queue,
+            tx_index: setup.at.tx,
+            rx_index: setup.at.rx,
+        };
+        let mut driver = Driver {
+            handle: QueueHandle::none(),
+            desc,
+            frames: frames.collect(),
+            table: setup.table.to_vec(),
+            words: Box::new([0; PAGE_WORDS]),
+        };
+        driver.make(program, setup.at).map(|()| driver)
+    }
+
+    fn make(&mut self, program: &ProgramHandle, at: Indices) -> Result<(), MakeError> {
+        let desc = sys::laxonje_queue_desc { tx_index: at.tx, rx_index: at.rx, ..self.desc };
+        match MakeError::of(self.handle.make(program, &self.frames, &self.table, &desc)) {
+            None => Ok(()),
+            Some(cause) => Err(cause),
+        }
+    }
+
+    pub fn replace(&mut self, program: &ProgramHandle) -> Result<(), ReplaceError> {
+        let at = self.indices().map_err(ReplaceError::Halted)?;
+        self.make(program, at).map_err(ReplaceError::Make)
+    }
+
+    pub fn turn(&mut self, counters: &mut [u64], guest: &mut impl Guest) -> sys::laxonje_op {
+        let producer = producer(self.desc.tx, guest);
+        let mut ops = Ops::default();
+        let count = self.handle.turn(producer, &mut ops);
+        match self.make_ops(&ops[..count], guest) {
+            Some(over) => over,
+            None => self.finish(counters, guest),
+        }
+    }
+
+    /// `None`: the packet is too short or too long.
+    pub fn deliver(&mut self, packet: &[u8], counters: &mut [u64], guest: &mut impl Guest) -> Option<sys::laxonje_op> {
+        let producer = producer(self.desc.rx, guest);
+        match self.handle.deliver(producer, packet) {
+            sys::LAXONJE_TAKEN => Some(self.finish(counters, guest)),
+            _ => None,
+        }
+    }
+
+    pub fn wait_for(&mut self, pages: u32, counters: &mut [u64], guest: &mut impl Guest) -> sys::laxonje_op {
+        let taken = self.handle.wait_for(pages);
+        assert_eq!(taken, sys::LAXONJE_TAKEN, "between two turns a queue waits");
+        self.finish(counters, guest)
+    }
+
+    /// What is under way, to its end.
+    fn finish(&mut self, counters: &mut [u64], guest: &mut impl Guest) -> sys::laxonje_op {
+        let mut ops = Ops::default();
+        loop {
+            let count = self.handle.step(&mut self.words[..], counters, &mut ops);
+            assert_ne!(count, 0, "what is under way has a next op");
+            if let Some(over) = self.make_ops(&ops[..count], guest) {
+                return over;
+            }
+        }
+    }
+
+    /// Makes ops in their order; the last one, where it says that all is over.
+    fn make_ops(&mut self, ops: &[sys::laxonje_op], guest: &mut impl Guest) -> Option<sys::laxonje_op> {
+        ops.iter().for_each(|op| self.make_op(op, guest));
+        ops.last().filter(|op| op.kind == sys::LAXONJE_OP_DONE).copied()
+    }
+
+    fn make_op(&mut self, op: &sys::laxonje_op, guest: &mut impl Guest) {
+        let (word, lent) = (op.word as usize, op.lent as usize);
+        let words = &mut self.words[lent..lent + op.count as usize];
+        match op.kind {
+            sys::LAXONJE_OP_READ if op.entry != sys::LAXONJE_ENTRY_NONE => {
+                let writes = op.entry == sys::LAXONJE_ENTRY_WRITE;
+                words.copy_from_slice(&guest.entry(&Entry { reference: op.reference, frame: op.frame, word, writes }));
+            }
+            sys::LAXONJE_OP_READ => guest.read(op.frame, word, words),
+            sys::LAXONJE_OP_WRITE => guest.write(op.frame, word, words),
+            sys::LAXONJE_OP_STORE => guest.write(op.frame, word, &op.value[..op.count as usize]),
+            sys::LAXONJE_OP_PUSH => self.words[lent] = guest.push(op.frame, word, op.value[0], op.value[1] as usize),
+            sys::LAXONJE_OP_NOTIFY => guest.notify(op.value[0]),
+            _ => guest.over(),
+        }
+    }
+
+    pub fn packet(&self, out: &mut [u8]) -> usize {
+        self.handle.packet(out)
+    }
+
+    pub fn flags(&self) -> u32 {
+        self.handle.flags()
+    }
+
+    pub fn indices(&self) -> Result<Indices, Halt> {
+        let at = self.handle.state();
+        match at.kind {
+            sys::LAXONJE_STANDS => Ok(Indices { tx: at.tx_index, rx: at.rx_index }),
+            _ => Err(Halt(at.halt)),
+        }
+    }
+}
+
+/// The producer of requests of a ring.
+fn producer(ring: u32, guest: &mut impl Guest) -> u32 {
+    let mut word = [0];
+    guest.read(ring, PRODUCER, &mut word);
+    word[0]
+}

@@ -1,0 +1,148 @@
+//! The library's handles. All calls of the library that take one stand here and in `drive`.
+//!
+//! What makes each `unsafe` block sound is said once, by the header's rules: a handle is all zeros or what the library left in it
+//! (made in `none` alone), its address doesn't change (it is boxed), and one call is made at a time (the types aren't `Sync`, and no call of
+//! the library calls back). A slice's pointer and length are memory that nobody else changes during the call.
+use laxonje_sys as sys;
+use std::cell::UnsafeCell;
+
+/// An accepted program, or none.
+pub(crate) struct ProgramHandle(Box<UnsafeCell<sys::laxonje_program>>);
+
+/// A queue, or none.
+pub(crate) struct QueueHandle(Box<UnsafeCell<sys::laxonje_queue>>);
+
+// SAFETY: the library's rule 3 lets a handle go to another thread by a lock, a start, a join or a channel, which are the ways that
+// Rust's threads have.
+unsafe impl Send for ProgramHandle {}
+// SAFETY: as for a program.
+unsafe impl Send for QueueHandle {}
+
+impl ProgramHandle {
+    pub fn none() -> Self {
+        ProgramHandle(Box::default())
+    }
+
+    pub fn get(&self) -> *mut sys::laxonje_program {
+        self.0.get()
+    }
+
+    pub fn load(&mut self, program: &[u8], maps: &[sys::laxonje_map]) -> sys::laxonje_verdict {
+        // SAFETY: the module's reason.
+        unsafe { sys::laxonje_load(program.as_ptr(), program.len(), maps.as_ptr(), maps.len(), self.get()) }
+    }
+
+    pub fn load_settings(&mut self, text: &[u8]) -> sys::laxonje_verdict {
+        // SAFETY: the module's reason.
+        unsafe { sys::laxonje_load_settings(text.as_ptr(), text.len(), self.get()) }
+    }
+
+    /// Makes this handle the same program as another.
+    pub fn again(&mut self, of: &ProgramHandle) -> sys::laxonje_verdict {
+        // SAFETY: the module's reason; the two handles are different values, since this one is borrowed for writing.
+        unsafe { sys::laxonje_again(of.get(), self.get()) }
+    }
+
+    pub fn run(&self, counters: &mut [u64], packet: &mut [u8], ifindex: u32, queue: u32) -> sys::laxonje_result {
+        let (words, bytes) = (counters.len(), packet.len());
+        // SAFETY: the module's reason.
+        unsafe { sys::laxonje_run(self.get(), counters.as_mut_ptr(), words, packet.as_mut_ptr(), bytes, ifindex, queue) }
+    }
+
+    pub fn counters(&self) -> usize {
+        // SAFETY: the module's reason.
+        unsafe { sys::laxonje_counters(self.get()) }
+    }
+
+    pub fn place(&self, map: u32, entry: u32, counter: u32) -> usize {
+        // SAFETY: the module's reason.
+        unsafe { sys::laxonje_place(self.get(), map, entry, counter) }
+    }
+
+    pub fn maps(&self) -> Vec<sys::laxonje_map> {
+        // SAFETY: the module's reason.
+        let count = unsafe { sys::laxonje_map_count(self.get()) };
+        // SAFETY: the module's reason. A number that is out of range is answered too.
+        (0..count as u32).map(|number| unsafe { sys::laxonje_map_size(self.get(), number) }).collect()
+    }
+}
+
+impl Drop for ProgramHandle {
+    fn drop(&mut self) {
+        // SAFETY: the module's reason. Nothing uses the handle after it is dropped.
+        unsafe { sys::laxonje_free(self.get()) }
+    }
+}
+
+impl QueueHandle {
+    pub fn none() -> Self {
+        QueueHandle(Box::default())
+    }
+
+    pub fn get(&self) -> *mut sys::laxonje_queue {
+        self.0.get()
+    }
+
+    pub fn make(&mut self, program: &ProgramHandle, frames: &[sys::laxonje_extent], table: &[u32], desc: &sys::laxonje_queue_desc) -> u32 {
+        let (extents, frames) = (frames.as_ptr(), frames.len());
+        // SAFETY: the module's reason.
+        unsafe { sys::laxonje_queue_make_extents(program.get(), extents, frames, table.as_ptr(), table.len(), desc, self.get()) }
+    }
+
+    /// The first op of a turn.
+    pub fn turn(&mut self, producer: u32, ops: &mut [sys::laxonje_op]) -> usize {
+        // SAFETY: the module's reason.
+        unsafe { sys::laxonje_queue_turn(self.get(), producer, ops.as_mut_ptr(), ops.len()) }
+    }
+
+    pub fn deliver(&mut self, producer: u32, packet: &[u8]) -> u32 {
+        // SAFETY: the module's reason.
+        unsafe { sys::laxonje_queue_deliver(self.get(), producer, packet.as_ptr(), packet.len()) }
+    }
+
+    pub fn wait_for(&mut self, pages: u32) -> u32 {
+        // SAFETY: the module's reason.
+        unsafe { sys::laxonje_queue_await(self.get(), pages) }
+    }
+
+    pub fn step(&mut self, words: &mut [u32], counters: &mut [u64], ops: &mut [sys::laxonje_op]) -> usize {
+        let (lent, counted, room) = (words.len(), counters.len(), ops.len());
+        // SAFETY: the module's reason.
+        unsafe { sys::laxonje_queue_step(self.get(), words.as_mut_ptr(), lent, counters.as_mut_ptr(), counted, ops.as_mut_ptr(), room) }
+    }
+
+    pub fn flags(&self) -> u32 {
+        // SAFETY: the module's reason.
+        unsafe { sys::laxonje_queue_flags(self.get()) }
+    }
+
+    pub fn packet(&self, out: &mut [u8]) -> usize {
+        // SAFETY: the module's reason.
+        unsafe { sys::laxonje_queue_packet(self.get(), out.as_mut_ptr(), out.len()) }
+    }
+
+    pub fn state(&self) -> sys::laxonje_queue_standing {
+        // SAFETY: the module's reason.
+        unsafe { sys::laxonje_queue_state(self.get()) }
+    }
+}
+
+impl Drop for QueueHandle {
+    fn drop(&mut self) {
+        // SAFETY: the module's reason. Nothing uses the handle after it is dropped.
+        unsafe { sys::laxonje_queue_free(self.get()) }
+    }
+}
+
+/// The text of what to write instead of what the verifier's cause refuses; empty where there is none.
+pub(crate) fn advice(cause: u32) -> String {
+    let mut text = [0; 512];
+    // SAFETY: the module's reason. The answer is how long the text is, which may be more than there is room for.
+    let length = unsafe { sys::laxonje_advice(cause, text.as_mut_ptr(), text.len()) };
+    String::from_utf8_lossy(&text[..length.min(text.len())]).into_owned()
+}
+
+pub(crate) fn version() -> u32 {
+    // SAFETY: it takes nothing and answers a number.
+    unsafe { sys::laxonje_version() }
+}

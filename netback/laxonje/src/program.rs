@@ -1,0 +1,193 @@
+//! Programs: accepted once, run on packets in place.
+use crate::handle::{advice, version, ProgramHandle};
+use crate::text;
+use laxonje_sys as sys;
+use std::error::Error;
+use std::fmt;
+
+/// The most bytes of a packet.
+pub const MOST_BYTES: usize = sys::LAXONJE_PACKET;
+
+/// The size of an array map: entries, and counters of 64 bits of each.
+#[derive(Clone, Copy, Debug, PartialEq, Eq)]
+pub struct MapSize {
+    /// 1 to 1,024.
+    pub entries: u32,
+    /// 1 to 8.
+    pub counters: u32,
+}
+
+/// Why there is no program.
+#[derive(Clone, Copy, Debug, PartialEq, Eq)]
+pub enum LoadError {
+    /// The verifier refuses it: V`cause` at the 8-byte slot `slot`.
+    Refused {
+        /// The number after the V.
+        cause: u32,
+        /// The slot of the refused instruction.
+        slot: u32,
+    },
+    /// The map of this number is the first out of its limits, or the fifth.
+    Map(u32),
+    /// The settings text has the fault L`0`.
+    Settings(u32),
+    /// Memory ran out.
+    Memory,
+}
+
+impl LoadError {
+    /// What to write instead of what is refused; empty where there is nothing to say.
+    pub fn advice(&self) -> String {
+        match self {
+            LoadError::Refused { cause, .. } => advice(*cause),
+            _ => String::new(),
+        }
+    }
+}
+
+impl fmt::Display for LoadError {
+    fn fmt(&self, to: &mut fmt::Formatter<'_>) -> fmt::Result {
+        match self {
+            LoadError::Refused { cause, slot } => write!(to, "V{cause} at slot {slot}: {}", text::refused(*cause)),
+            LoadError::Map(number) => write!(to, "map {number} is out of its limits"),
+            LoadError::Settings(fault) => write!(to, "L{fault}: {}", text::settings(*fault)),
+            LoadError::Memory => to.write_str("memory ran out"),
+        }
+    }
+}
+
+impl Error for LoadError {}
+
+/// The library is of another version than this crate.
+#[derive(Clone, Copy, Debug, PartialEq, Eq)]
+pub struct VersionError {
+    /// The version of the linked library.
+    pub library: u32,
+}
+
+impl fmt::Display for VersionError {
+    fn fmt(&self, to: &mut fmt::Formatter<'_>) -> fmt::Result {
+        write!(to, "liblaxonje has version {}, and this program was made for version {}", self.library, sys::LAXONJE_VERSION)
+    }
+}
+
+impl Error for VersionError {}
+
+/// Whether the linked library is of the version that this crate is made for. Call it once, before anything else, where the library is
+/// a shared object.
+pub fn check_version() -> Result<(), VersionError> {
+    match version() {
+        sys::LAXONJE_VERSION => Ok(()),
+        library => Err(VersionError { library }),
+    }
+}
+
+/// What a program wants done with a packet.
+#[derive(Clone, Copy, Debug, PartialEq, Eq)]
+pub enum Action {
+    /// The program failed; the packet is dropped.
+    Aborted,
+    /// The packet is dropped.
+    Drop,
+    /// The packet is forwarded.
+    Pass,
+    /// The packet goes back to where it came from.
+    Tx,
+}
+
+impl Action {
+    /// What the number that a program returns stands for.
+    pub fn of(number: u32) -> Action {
+        match number {
+            sys::LAXONJE_DROP => Action::Drop,
+            sys::LAXONJE_PASS => Action::Pass,
+            sys::LAXONJE_TX => Action::Tx,
+            _ => Action::Aborted,
+        }
+    }
+}
+
+/// How a run ended.
+#[derive(Clone, Copy, Debug, PartialEq, Eq)]
+pub struct Run {
+    /// What the program returned.
+    pub number: u32,
+    /// What that stands for.
+    pub action: Action,
+    /// How many instructions it did.
+    pub instructions: u32,
+}
+
+/// An accepted program with its maps.
+pub struct Program {
+    pub(crate) handle: ProgramHandle,
+    maps: Vec<MapSize>,
+    instructions: u32,
+}
+
+impl Program {
+    /// Accepts a program with its maps.
+    pub fn load(program: &[u8], maps: &[MapSize]) -> Result<Program, LoadError> {
+        let maps: Vec<_> = maps.iter().map(|map| sys::laxonje_map { entries: map.entries, counters: map.counters }).collect();
+        Program::made(|handle| handle.load(program, &maps))
+    }
+
+    /// Accepts the program of a settings text.
+    pub fn from_settings(text: &[u8]) -> Result<Program, LoadError> {
+        Program::made(|handle| handle.load_settings(text))
+    }
+
+    /// The same program once more, verified again: for another thread.
+    pub fn try_clone(&self) -> Result<Program, LoadError> {
+        Program::made(|handle| handle.again(&self.handle))
+    }
+
+    fn made(make: impl FnOnce(&mut ProgramHandle) -> sys::laxonje_verdict) -> Result<Program, LoadError> {
+        let mut handle = ProgramHandle::none();
+        let verdict = make(&mut handle);
+        match (verdict.kind, verdict.cause) {
+            (sys::LAXONJE_ACCEPTED, _) => {
+                let maps = handle.maps().iter().map(|map| MapSize { entries: map.entries, counters: map.counters }).collect();
+                Ok(Program { handle, maps, instructions: verdict.at })
+            }
+            (sys::LAXONJE_REFUSED | sys::LAXONJE_SETTINGS, 0) => Err(LoadError::Memory),
+            (sys::LAXONJE_REFUSED, cause) => Err(LoadError::Refused { cause, slot: verdict.at }),
+            (sys::LAXONJE_MAP, _) => Err(LoadError::Map(verdict.at)),
+            (_, cause) => Err(LoadError::Settings(cause)),
+        }
+    }
+
+    /// How many instructions it has.
+    pub fn instructions(&self) -> u32 {
+        self.instructions
+    }
+
+    /// The sizes of its maps, by their numbers. A program may go on with the counters of another that has the same.
+    pub fn maps(&self) -> &[MapSize] {
+        &self.maps
+    }
+
+    /// As many zeros as its counters are.
+    pub fn new_counters(&self) -> Vec<u64> {
+        vec![0; self.handle.counters()]
+    }
+
+    /// Which of these words a counter is, each number from 0.
+    pub fn place(&self, map: u32, entry: u32, counter: u32) -> Option<usize> {
+        Some(self.handle.place(map, entry, counter)).filter(|place| *place != sys::LAXONJE_NOWHERE)
+    }
+
+    /// Runs it on a packet where it lies. `None`, and nothing has changed, where there are fewer counters than it has, or more than
+    /// [`MOST_BYTES`].
+    pub fn run(&mut self, counters: &mut [u64], packet: &mut [u8], ifindex: u32, queue: u32) -> Option<Run> {
+        let result = self.handle.run(counters, packet, ifindex, queue);
+        let run = Run { number: result.number, action: Action::of(result.number), instructions: result.instructions };
+        (run.instructions > 0).then_some(run)
+    }
+}
+
+impl fmt::Debug for Program {
+    fn fmt(&self, to: &mut fmt::Formatter<'_>) -> fmt::Result {
+        to.debug_struct("Program").field("instructions", &self.instructions).field("maps", &self.maps).finish()
+    }
+}

@@ -1,0 +1,325 @@
+//! Netback's queue of a guest.
+use crate::drive::Driver;
+use crate::guest::{Guest, PAGE_BYTES};
+use crate::program::{Action, MapSize, Program};
+use crate::text;
+use laxonje_sys as sys;
+use std::error::Error;
+use std::fmt;
+
+/// The most frames of a grant table.
+pub const TABLE_FRAMES: usize = sys::LAXONJE_EXTENT_TABLE_FRAMES;
+
+/// So many frames, one after another, which one domain owns.
+#[derive(Clone, Copy, Debug, PartialEq, Eq)]
+pub struct Extent {
+    /// How many frames.
+    pub frames: u32,
+    /// Whose they are.
+    pub domain: u16,
+}
+
+/// The next index of each ring.
+#[derive(Clone, Copy, Debug, Default, PartialEq, Eq)]
+pub struct Indices {
+    /// That of the tx ring.
+    pub tx: u32,
+    /// That of the rx ring.
+    pub rx: u32,
+}
+
+/// What a queue is made of.
+#[derive(Clone, Copy, Debug)]
+pub struct Setup<'a> {
+    /// The owners of all frames, from frame 0 on.
+    pub frames: &'a [Extent],
+    /// The frames of the guest's grant table: 1 to [`TABLE_FRAMES`].
+    pub table: &'a [u32],
+    /// The frame of the tx ring's page.
+    pub tx: u32,
+    /// The frame of the rx ring's page.
+    pub rx: u32,
+    /// The guest's domain.
+    pub frontend: u16,
+    /// The host's own domain.
+    pub backend: u16,
+    /// What a notice has as its port.
+    pub port: u32,
+    /// What the program is told of the interface.
+    pub ifindex: u32,
+    /// What the program is told of the queue.
+    pub queue: u32,
+    /// Zeros for new rings; else where a queue of these rings stood.
+    pub at: Indices,
+}
+
+/// Why no queue was made.
+#[derive(Clone, Copy, Debug, PartialEq, Eq)]
+pub enum MakeError {
+    /// Memory ran out.
+    Memory,
+    /// Too many frames.
+    Frames,
+    /// The table isn't 1 to [`TABLE_FRAMES`] of the guest's frames.
+    Table,
+    /// A ring's frame isn't the guest's, is the other ring's, or is one of the table's.
+    Ring,
+    /// The guest's domain is the host's own.
+    Domain,
+    /// A cause that this version doesn't know.
+    Unknown(u32),
+}
+
+impl MakeError {
+    pub(crate) fn of(made: u32) -> Option<MakeError> {
+        Some(match made {
+            sys::LAXONJE_MADE => return None,
+            sys::LAXONJE_MADE_MEMORY => MakeError::Memory,
+            sys::LAXONJE_MADE_FRAMES => MakeError::Frames,
+            sys::LAXONJE_MADE_TABLE => MakeError::Table,
+            sys::LAXONJE_MADE_RING => MakeError::Ring,
+            sys::LAXONJE_MADE_DOMAIN => MakeError::Domain,
+            cause => MakeError::Unknown(cause),
+        })
+    }
+}
+
+impl fmt::Display for MakeError {
+    fn fmt(&self, to: &mut fmt::Formatter<'_>) -> fmt::Result {
+        match self {
+            MakeError::Memory => to.write_str("memory ran out"),
+            MakeError::Frames => to.write_str("too many frames"),
+            MakeError::Table => write!(to, "the grant table isn't 1 to {TABLE_FRAMES} of the guest's frames"),
+            MakeError::Ring => to.write_str("a ring's frame isn't the guest's, is the other ring's, or is one of the table's"),
+            MakeError::Domain => to.write_str("the guest's domain is the host's own"),
+            MakeError::Unknown(cause) => write!(to, "cause {cause}"),
+        }
+    }
+}
+
+impl Error for MakeError {}
+
+/// Why a queue goes on with the program that it had.
+#[derive(Clone, Copy, Debug, PartialEq, Eq)]
+pub enum ReplaceError {
+    /// The queue has halted: its guest has to connect anew.
+    Halted(Halt),
+    /// No queue was made with the new program.
+    Make(MakeError),
+}
+
+impl fmt::Display for ReplaceError {
+    fn fmt(&self, to: &mut fmt::Formatter<'_>) -> fmt::Result {
+        match self {
+            ReplaceError::Halted(halt) => write!(to, "the queue has halted: {halt}"),
+            ReplaceError::Make(cause) => cause.fmt(to),
+        }
+    }
+}
+
+impl Error for ReplaceError {}
+
+/// Why a packet of a guest was refused: a number of `enum laxonje_refusal`.
+#[derive(Clone, Copy, Debug, PartialEq, Eq)]
+pub struct Refusal(pub u32);
+
+/// Why a queue has halted: a number of `enum laxonje_halt`.
+#[derive(Clone, Copy, Debug, PartialEq, Eq)]
+pub struct Halt(pub u32);
+
+impl fmt::Display for Refusal {
+    fn fmt(&self, to: &mut fmt::Formatter<'_>) -> fmt::Result {
+        to.write_str(text::refusal(self.0))
+    }
+}
+
+impl fmt::Display for Halt {
+    fn fmt(&self, to: &mut fmt::Formatter<'_>) -> fmt::Result {
+        to.write_str(text::halt(self.0))
+    }
+}
+
+/// The flags of a packet's first slot.
+#[derive(Clone, Copy, Debug, Default, PartialEq, Eq)]
+pub struct Flags(u32);
+
+impl Flags {
+    /// The TCP or UDP checksum is blank: whoever forwards the packet fills it in.
+    pub fn checksum_blank(self) -> bool {
+        self.0 & sys::LAXONJE_FLAG_CSUM_BLANK != 0
+    }
+
+    /// The packet's data was validated against its checksum.
+    pub fn data_validated(self) -> bool {
+        self.0 & sys::LAXONJE_FLAG_DATA_VALIDATED != 0
+    }
+
+    /// The packet goes on in a further slot.
+    pub fn more_data(self) -> bool {
+        self.0 & sys::LAXONJE_FLAG_MORE_DATA != 0
+    }
+}
+
+/// The program's run of a turn.
+#[derive(Clone, Copy, Debug, PartialEq, Eq)]
+pub struct TurnRun {
+    /// What the program returned.
+    pub number: u32,
+    /// What that stands for. [`Action::Tx`]: the packet went back to the guest.
+    pub action: Action,
+    /// How many slots the packet took.
+    pub slots: u32,
+    /// The flags of its first slot.
+    pub flags: Flags,
+}
+
+/// What a turn came to.
+#[derive(Clone, Copy, Debug, PartialEq, Eq)]
+pub enum Turn {
+    /// The ring had no request: wait for the guest's event.
+    Idle,
+    /// The program ran on a packet.
+    Ran(TurnRun),
+    /// A packet was refused, and the guest was told.
+    Refused(Refusal),
+    /// The guest broke the protocol. The queue makes no more accesses.
+    Halted(Halt),
+}
+
+/// What became of a packet that was delivered.
+#[derive(Clone, Copy, Debug, PartialEq, Eq)]
+pub enum Delivery {
+    /// It lies in the buffers of so many rx slots.
+    Sent {
+        /// How many slots: one per page.
+        slots: u32,
+    },
+    /// The guest posted fewer rx slots than the packet has pages: [`Queue::wait_for`].
+    FewSlots,
+    /// An rx slot's grant failed its check, and the guest was told.
+    Refused {
+        /// How many slots were answered.
+        slots: u32,
+    },
+    /// As of a turn.
+    Halted(Halt),
+}
+
+/// What a wait for rx slots came to.
+#[derive(Clone, Copy, Debug, PartialEq, Eq)]
+pub enum Awaited {
+    /// They are there by now: deliver at once.
+    Posted,
+    /// The guest's push that makes them so many owes a notice.
+    Waiting,
+    /// As of a turn.
+    Halted(Halt),
+}
+
+/// A packet has fewer than 14 bytes, or more than [`MOST_BYTES`](crate::MOST_BYTES).
+#[derive(Clone, Copy, Debug, PartialEq, Eq)]
+pub struct DeliverError;
+
+impl fmt::Display for DeliverError {
+    fn fmt(&self, to: &mut fmt::Formatter<'_>) -> fmt::Result {
+        to.write_str("no frame of 14 to 65,535 bytes")
+    }
+}
+
+impl Error for DeliverError {}
+
+/// Netback's queue: it takes packets of a guest's tx ring, runs a program on each, and delivers packets on the rx ring.
+pub struct Queue {
+    driver: Driver,
+    maps: Vec<MapSize>,
+    counters: Vec<u64>,
+}
+
+impl Queue {
+    /// Makes a queue that stands between two turns. It has the program once more, verified again, with counters that are 0.
+    pub fn new(program: &Program, setup: &Setup) -> Result<Queue, MakeError> {
+        let driver = Driver::new(&program.handle, setup)?;
+        Ok(Queue { driver, maps: program.maps().to_vec(), counters: program.new_counters() })
+    }
+
+    /// Takes a turn: one packet at most.
+    pub fn turn(&mut self, guest: &mut impl Guest) -> Turn {
+        let op = self.driver.turn(&mut self.counters, guest);
+        match op.outcome {
+            sys::LAXONJE_TURN_IDLE => Turn::Idle,
+            sys::LAXONJE_TURN_RAN => {
+                Turn::Ran(TurnRun { number: op.number, action: Action::of(op.number), slots: op.slots, flags: self.flags() })
+            }
+            sys::LAXONJE_TURN_REFUSED => Turn::Refused(Refusal(op.cause)),
+            _ => Turn::Halted(Halt(op.cause)),
+        }
+    }
+
+    /// Delivers a packet of the host's own. The program doesn't run on it.
+    pub fn deliver(&mut self, packet: &[u8], guest: &mut impl Guest) -> Result<Delivery, DeliverError> {
+        let op = self.driver.deliver(packet, &mut self.counters, guest).ok_or(DeliverError)?;
+        Ok(match op.outcome {
+            sys::LAXONJE_DELIVERY_SENT => Delivery::Sent { slots: op.slots },
+            sys::LAXONJE_DELIVERY_FEW_SLOTS => Delivery::FewSlots,
+            sys::LAXONJE_DELIVERY_REFUSED => Delivery::Refused { slots: op.slots },
+            _ => Delivery::Halted(Halt(op.cause)),
+        })
+    }
+
+    /// Asks for a notice once there are rx slots for a packet of so many bytes.
+    pub fn wait_for(&mut self, bytes: usize, guest: &mut impl Guest) -> Awaited {
+        let op = self.driver.wait_for(pages_of(bytes), &mut self.counters, guest);
+        match op.outcome {
+            sys::LAXONJE_AWAITED_POSTED => Awaited::Posted,
+            sys::LAXONJE_AWAITED_WAITING => Awaited::Waiting,
+            _ => Awaited::Halted(Halt(op.cause)),
+        }
+    }
+
+    /// Copies out the packet of the last turn, if its program ran, or of the last delivery, as far as there is room. How long it is.
+    pub fn packet(&self, out: &mut [u8]) -> usize {
+        self.driver.packet(out)
+    }
+
+    /// The flags of the first slot of the last turn's packet.
+    pub fn flags(&self) -> Flags {
+        Flags(self.driver.flags())
+    }
+
+    /// Where the queue stands: what another queue of the same rings is made with, to go on in its place. The cause, where it has
+    /// halted.
+    pub fn indices(&self) -> Result<Indices, Halt> {
+        self.driver.indices()
+    }
+
+    /// Goes on with another program. Counters are kept where its maps have the same sizes in the same order, and else are 0.
+    pub fn replace(&mut self, program: &Program) -> Result<(), ReplaceError> {
+        self.driver.replace(&program.handle)?;
+        if program.maps() != self.maps {
+            self.maps = program.maps().to_vec();
+            self.counters = program.new_counters();
+        }
+        Ok(())
+    }
+
+    /// The program's counters: [`Program::place`] says which is where.
+    pub fn counters(&self) -> &[u64] {
+        &self.counters
+    }
+
+    /// The same, to preset them.
+    pub fn counters_mut(&mut self) -> &mut [u64] {
+        &mut self.counters
+    }
+}
+
+/// How many pages a packet takes.
+fn pages_of(bytes: usize) -> u32 {
+    ((bytes + PAGE_BYTES - 1) / PAGE_BYTES) as u32
+}
+
+impl fmt::Debug for Queue {
+    fn fmt(&self, to: &mut fmt::Formatter<'_>) -> fmt::Result {
+        to.debug_struct("Queue").field("indices", &self.indices()).field("maps", &self.maps).finish()
+    }
+}

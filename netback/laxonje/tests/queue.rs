@@ -1,0 +1,294 @@
+//! The queue under a guest in memory.
+mod memory;
+
+use laxonje::{
+    Action, Awaited, Delivery, Entry, Extent, Guest, GuestMemory, Halt, Indices, MakeError, Program, Queue, Refusal, ReplaceError, Setup,
+    Turn, TurnRun,
+};
+use memory::{setup, Memory, DATA, RX, TX};
+
+const OKAY: i16 = 0;
+const ERROR: i16 = -1;
+const BLANK: u32 = 1;
+const VALIDATED: u32 = 2;
+const MORE: u32 = 4;
+const COUNT: &str = include_str!("../../../examples/count-protocols/settings.toml");
+
+fn counts() -> Program {
+    Program::from_settings(COUNT.as_bytes()).unwrap()
+}
+
+/// r0 = `number`; exit.
+fn answers(number: u8) -> Program {
+    Program::load(&[0xb7, 0, 0, 0, number, 0, 0, 0, 0x95, 0, 0, 0, 0, 0, 0, 0], &[]).unwrap()
+}
+
+/// A frame of IPv4 with UDP.
+fn udp(length: usize) -> Vec<u8> {
+    let mut packet: Vec<u8> = (0..length).map(|byte| byte as u8).collect();
+    packet[12..15].copy_from_slice(&[8, 0, 0x45]);
+    packet[23] = 17;
+    packet
+}
+
+fn ran(turn: Turn) -> TurnRun {
+    match turn {
+        Turn::Ran(run) => run,
+        other => panic!("{other:?}"),
+    }
+}
+
+fn action(turn: Turn) -> Action {
+    ran(turn).action
+}
+
+#[test]
+fn a_packet_passes_and_is_counted() {
+    let (program, mut guest) = (counts(), Memory::new());
+    let mut queue = guest.queue(&program, Indices::default());
+    assert_eq!(queue.turn(&mut guest), Turn::Idle);
+    let reference = guest.grant(0, false);
+    guest.fill(0, &udp(61));
+    guest.send(0, reference, BLANK | VALIDATED, 61);
+    let run = ran(queue.turn(&mut guest));
+    assert_eq!((run.number, run.action, run.slots), (2, Action::Pass, 1));
+    assert!(run.flags.checksum_blank() && run.flags.data_validated() && !run.flags.more_data());
+    let mut packet = [0; 100];
+    assert_eq!(queue.packet(&mut packet), 61);
+    assert_eq!(packet[..61], udp(61)[..]);
+    assert_eq!(queue.packet(&mut packet[..7]), 61);
+    assert_eq!((guest.sent(0), guest.get(TX, 2), &guest.notices[..]), ((100, OKAY), 1, &[9][..]));
+    assert_eq!(queue.counters()[program.place(0, 17, 0).unwrap()], 1);
+    assert_eq!(queue.turn(&mut guest), Turn::Idle);
+    assert_eq!(queue.indices(), Ok(Indices { tx: 1, rx: 0 }));
+}
+
+#[test]
+fn a_packet_of_two_slots_is_joined() {
+    let (program, mut guest) = (answers(2), Memory::new());
+    let mut queue = guest.queue(&program, Indices::default());
+    let (first, second) = (guest.grant(0, false), guest.grant(1, false));
+    guest.fill(0, &udp(60)[..20]);
+    guest.fill(1, &udp(60)[20..]);
+    guest.send(0, first, MORE, 60);
+    guest.send(1, second, 0, 40);
+    let run = ran(queue.turn(&mut guest));
+    assert_eq!((run.slots, run.flags.more_data()), (2, true));
+    let mut packet = [0; 60];
+    assert_eq!(queue.packet(&mut packet), 60);
+    assert_eq!(packet[..], udp(60)[..]);
+    assert_eq!((guest.sent(0), guest.sent(1)), ((100, OKAY), (101, OKAY)));
+}
+
+#[test]
+fn a_refused_packet_says_why_and_the_next_is_taken() {
+    let (program, mut guest) = (answers(1), Memory::new());
+    let mut queue = guest.queue(&program, Indices::default());
+    guest.send(0, 77, 0, 60);
+    let refused = Turn::Refused(Refusal(4));
+    assert_eq!(queue.turn(&mut guest), refused);
+    assert_eq!(queue.packet(&mut [0; 100]), 0);
+    assert_eq!(Refusal(4).to_string(), "a slot's grant failed its check");
+    assert_eq!(guest.sent(0), (100, ERROR));
+    let reference = guest.grant(0, false);
+    guest.send(1, reference, 0, 13);
+    assert_eq!(queue.turn(&mut guest), Turn::Refused(Refusal(1)));
+    guest.send(2, reference, 0, 60);
+    assert_eq!(action(queue.turn(&mut guest)), Action::Drop);
+}
+
+#[test]
+fn a_packet_goes_back() {
+    let (program, mut guest) = (answers(3), Memory::new());
+    let mut queue = guest.queue(&program, Indices::default());
+    let (from, to) = (guest.grant(0, false), guest.grant(1, true));
+    guest.fill(0, &udp(60));
+    guest.send(0, from, 0, 60);
+    guest.post(0, to);
+    assert_eq!(action(queue.turn(&mut guest)), Action::Tx);
+    assert_eq!((guest.sent(0), guest.received(0)), ((100, OKAY), (200, 0, 0, 60)));
+    assert_eq!(guest.get(DATA + 1, 3), guest.get(DATA, 3));
+    guest.send(1, from, 0, 60);
+    assert_eq!(queue.turn(&mut guest), Turn::Refused(Refusal(6)));
+}
+
+#[test]
+fn a_broken_ring_halts_the_queue() {
+    let (program, mut guest) = (answers(2), Memory::new());
+    let mut queue = guest.queue(&program, Indices::default());
+    guest.set(TX, 0, 257);
+    let halt = Halt(1);
+    assert_eq!(queue.turn(&mut guest), Turn::Halted(halt));
+    assert_eq!(halt.to_string(), "the tx producer is more than a ring ahead");
+    assert_eq!(queue.indices(), Err(halt));
+    assert_eq!(queue.replace(&answers(1)), Err(ReplaceError::Halted(halt)));
+    assert_eq!(queue.turn(&mut guest), Turn::Halted(halt));
+}
+
+#[test]
+fn a_packet_is_delivered_once_there_are_buffers() {
+    let (program, mut guest) = (answers(2), Memory::new());
+    let mut queue = guest.queue(&program, Indices::default());
+    let packet = udp(5000);
+    assert_eq!(queue.deliver(&packet, &mut guest), Ok(Delivery::FewSlots));
+    assert_eq!(queue.wait_for(packet.len(), &mut guest), Awaited::Waiting);
+    assert_eq!(guest.get(RX, 1), 2);
+    guest.post(0, guest.grant(0, true));
+    assert_eq!(queue.wait_for(packet.len(), &mut guest), Awaited::Waiting);
+    guest.post(1, guest.grant(1, true));
+    assert_eq!(queue.wait_for(packet.len(), &mut guest), Awaited::Posted);
+    assert_eq!(queue.deliver(&packet, &mut guest), Ok(Delivery::Sent { slots: 2 }));
+    assert_eq!((guest.received(0), guest.received(1)), ((200, 0, MORE, 4096), (201, 0, 0, 904)));
+    assert_eq!(guest.get(DATA, 3).to_le_bytes(), packet[12..16]);
+    assert_eq!(guest.get(DATA + 1, 0).to_le_bytes(), packet[4096..4100]);
+}
+
+#[test]
+fn a_delivery_is_refused_or_halts() {
+    let (program, mut guest) = (answers(2), Memory::new());
+    let mut queue = guest.queue(&program, Indices::default());
+    guest.post(0, guest.grant(0, false));
+    assert_eq!(queue.deliver(&udp(60), &mut guest), Ok(Delivery::Refused { slots: 1 }));
+    assert_eq!(guest.received(0).3, ERROR);
+    assert!(queue.deliver(&[0; 13], &mut guest).is_err());
+    assert!(queue.deliver(&vec![0; laxonje::MOST_BYTES + 1], &mut guest).is_err());
+    guest.set(RX, 0, 500);
+    assert_eq!(queue.deliver(&udp(60), &mut guest), Ok(Delivery::Halted(Halt(6))));
+    assert_eq!(queue.wait_for(60, &mut guest), Awaited::Halted(Halt(6)));
+}
+
+#[test]
+fn another_program_goes_on_with_the_rings_and_equal_maps() {
+    let (program, mut guest) = (counts(), Memory::new());
+    let mut queue = guest.queue(&program, Indices { tx: 0xffff_ffff, rx: 0 });
+    let reference = guest.grant(0, false);
+    guest.fill(0, &udp(60));
+    guest.set(TX, 1, 0);
+    guest.send(0xffff_ffff, reference, 0, 60);
+    assert_eq!(action(queue.turn(&mut guest)), Action::Pass);
+    queue.replace(&counts()).unwrap();
+    assert_eq!((queue.indices(), queue.counters()[17]), (Ok(Indices::default()), 1));
+    queue.replace(&answers(1)).unwrap();
+    assert!(queue.counters().is_empty());
+    guest.send(0, reference, 0, 60);
+    assert_eq!(action(queue.turn(&mut guest)), Action::Drop);
+    queue.replace(&counts()).unwrap();
+    assert_eq!(queue.counters()[17], 0);
+    queue.counters_mut()[17] = 41;
+    guest.send(1, reference, 0, 60);
+    assert_eq!((action(queue.turn(&mut guest)), queue.counters()[17]), (Action::Pass, 42));
+}
+
+#[test]
+fn a_wrong_setup_says_what_is_wrong() {
+    let program = answers(2);
+    let right = setup(Indices::default());
+    let why = |setup: Setup| Queue::new(&program, &setup).err().unwrap();
+    assert_eq!(why(Setup { table: &[], ..right }), MakeError::Table);
+    assert_eq!(why(Setup { table: &[99], ..right }), MakeError::Table);
+    assert_eq!(why(Setup { tx: 99, ..right }), MakeError::Ring);
+    assert_eq!(why(Setup { tx: RX as u32, ..right }), MakeError::Ring);
+    assert_eq!(why(Setup { rx: memory::TABLE as u32, ..right }), MakeError::Ring);
+    assert_eq!(why(Setup { frontend: 6, ..right }), MakeError::Table);
+    assert_eq!(why(Setup { backend: memory::GUEST, ..right }), MakeError::Domain);
+    let most = Extent { frames: u32::MAX, domain: memory::GUEST };
+    assert_eq!(why(Setup { frames: &[most, most], ..right }), MakeError::Frames);
+    assert_eq!(MakeError::Domain.to_string(), "the guest's domain is the host's own");
+}
+
+#[test]
+fn a_queue_goes_to_another_thread() {
+    let (program, mut guest) = (answers(1), Memory::new());
+    let mut queue = guest.queue(&program, Indices::default());
+    drop(program);
+    let reference = guest.grant(0, false);
+    guest.send(0, reference, 0, 60);
+    let turn = std::thread::spawn(move || queue.turn(&mut guest)).join().unwrap();
+    assert_eq!(action(turn), Action::Drop);
+}
+
+#[test]
+fn a_table_lies_in_any_frames() {
+    let (program, mut guest) = (answers(2), Memory::new());
+    // references of the second frame, and of the third, are 512 and 1,024 on
+    for (table, reference) in [(&[9, 12, 11][..], 512 + 3), (&[12, 13], 3), (&[11, 12], 512 + 3), (&[13, 11, 12], 1024 + 3), (&[12, 9], 3)]
+    {
+        let setup = Setup { table, ..setup(Indices::default()) };
+        let mut queue = Queue::new(&program, &setup).unwrap();
+        for word in 0..4 {
+            guest.set(TX, word, [0, 1, 0, 1][word]);
+        }
+        guest.set(12, 6, 5);
+        guest.set(12, 7, 4);
+        guest.set(4, 0, table.len() as u32);
+        guest.send(0, reference, 0, 60);
+        assert_eq!(action(queue.turn(&mut guest)), Action::Pass, "{table:?}");
+        let mut packet = [0; 60];
+        queue.packet(&mut packet);
+        assert_eq!(packet[0], table.len() as u8);
+    }
+}
+
+/// A host that asks for pages: it notes what it is asked.
+struct Asks {
+    memory: Memory,
+    said: Vec<String>,
+}
+
+impl Guest for Asks {
+    fn read(&mut self, frame: u32, word: usize, into: &mut [u32]) {
+        self.said.push(format!("read {frame} {word} {}", into.len()));
+        Guest::read(&mut self.memory, frame, word, into)
+    }
+    fn write(&mut self, frame: u32, word: usize, from: &[u32]) {
+        self.said.push(format!("write {frame} {word} {}", from.len()));
+        Guest::write(&mut self.memory, frame, word, from)
+    }
+    fn push(&mut self, frame: u32, word: usize, value: u32, then: usize) -> u32 {
+        self.said.push(format!("push {frame} {word} {value} {then}"));
+        Guest::push(&mut self.memory, frame, word, value, then)
+    }
+    fn notify(&mut self, port: u32) {
+        self.said.push(format!("notify {port}"));
+        GuestMemory::notify(&mut self.memory, port)
+    }
+    fn entry(&mut self, entry: &Entry) -> [u32; 2] {
+        self.said.push(format!("entry {} {}", entry.reference, if entry.writes { "writes" } else { "reads" }));
+        self.memory.entry(entry)
+    }
+    fn over(&mut self) {
+        self.said.push("over".to_owned());
+    }
+}
+
+#[test]
+fn an_entry_says_whether_its_page_is_to_be_written() {
+    let program = answers(3);
+    let mut guest = Asks { memory: Memory::new(), said: Vec::new() };
+    let mut queue = guest.memory.queue(&program, Indices::default());
+    guest.memory.send(0, guest.memory.grant(0, false), 0, 14);
+    guest.memory.post(0, guest.memory.grant(1, true));
+    assert_eq!(action(queue.turn(&mut guest)), Action::Tx);
+    // pushes come when all granted pages have been read and written
+    let said: Vec<&str> = guest.said.iter().map(String::as_str).collect();
+    assert_eq!(
+        said,
+        [
+            "read 0 0 1",
+            "read 0 16 3",
+            "entry 8 reads",
+            "read 3 0 4",
+            "read 1 0 1",
+            "read 1 16 2",
+            "entry 9 writes",
+            "write 4 0 4",
+            "write 1 16 2",
+            "push 1 2 1 3",
+            "notify 9",
+            "write 0 16 1",
+            "push 0 2 1 3",
+            "notify 9",
+            "over"
+        ]
+    );
+}

@@ -1,0 +1,25 @@
+/* What laxonje-pcap reads of a settings text itself, once the library has accepted the text: the names of its maps, and its interface. */
+#ifndef SETTINGS_H
+#define SETTINGS_H
+
+#include <stddef.h>
+#include <stdint.h>
+
+enum { MOST_MAPS = 4, MOST_NAME = 32, MOST_SETTINGS = 1 << 20 };
+
+/* A name in UTF-8. It may have any characters, and isn't ended by a zero. */
+struct name {
+	char bytes[MOST_NAME];
+	size_t length;
+};
+
+struct settings {
+	struct name maps[MOST_MAPS];
+	size_t map_count;
+	uint32_t ifindex;
+};
+
+/* The settings of a text. Of a text that the library refuses, anything. */
+struct settings settings_of(const uint8_t *text, size_t length);
+
+#endif

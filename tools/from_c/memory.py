@@ -1,0 +1,74 @@
+"""What a program has in memory: constants, which the tools write into its code, and globals that count, each a map.
+
+A global of 1, 2, 4 or whole eight bytes that begins with zeros is a map of one entry, named for it. Any other global
+keeps what it begins with: nobody writes to it here, and a program that stores to it is refused."""
+from typing import NamedTuple
+
+from .elf import CONSTANTS, MAP_ADDRESS, MEMORY, symbols_of, variable_at
+
+COUNTER_BYTES, MOST_COUNTERS = 8, 8
+PARTS = 1, 2, 4  # sizes of numbers that are kept in the lowest bytes of a counter
+
+
+class Memory(NamedTuple):
+    """`constants`: bytes by section. `tables`: of slots, where in a section their address leads, and from where to
+    where the variable there lies. `globals`: of slots, the map that a global became, and the place in its value.
+    `maps`: those maps, as (name, entries, counters)."""
+
+    constants: dict
+    tables: list
+    globals: list
+    maps: list
+
+    def settings(self):
+        """What it adds to settings, for the tools alone."""
+        return {"constants": self.constants, "tables": self.tables, "globals": self.globals}
+
+
+def is_counter(section, variable):
+    """Whether a variable becomes a map."""
+    if variable is None or not section.startswith(".bss"):
+        return False
+    whole = variable.size % COUNTER_BYTES == 0 and 0 < variable.size <= COUNTER_BYTES * MOST_COUNTERS
+    return whole or variable.size in PARTS
+
+
+def memory_of(sections, relocations):
+    """The memory that a program's relocations name."""
+    symbols, found = symbols_of(sections), Memory({}, [], [], [])
+    for row in relocations:
+        if row.kind != MAP_ADDRESS or not row.section.startswith(MEMORY):
+            continue
+        part = sections[row.section]
+        variable = variable_at(symbols, part.number, row.place)
+        if is_counter(row.section, variable):
+            found.globals.append({"slot": row.slot, "map": variable.name, "place": row.place - variable.place})
+            size = 1, max(1, variable.size // COUNTER_BYTES)
+            if (variable.name, *size) not in found.maps:
+                found.maps.append((variable.name, *size))
+            continue
+        first, end = extent_of(symbols, part, variable, row.place)
+        found.constants[row.section] = part.data
+        place = {"section": row.section, "place": row.place, "first": first, "end": end}
+        found.tables.append({"slot": row.slot, "name": row.name or row.section, **place})
+    return found
+
+
+def extent_of(symbols, part, variable, place):
+    """From where to where the constant lies in which a place is. One without a name lies between its neighbours."""
+    if variable is not None and place < variable.place + variable.size:
+        return variable.place, variable.place + variable.size
+    behind = [row.place for row in symbols if row.section == part.number and row.size and row.place > place]
+    first = variable.place + variable.size if variable is not None else 0
+    return min(first, place), min(behind, default=len(part.data))
+
+
+def faults_of_memory(sections, relocations):
+    """What there isn't: addresses in constants, as (slot, words)."""
+    for row in relocations:
+        if row.kind != MAP_ADDRESS or not row.section.startswith(MEMORY):
+            continue
+        if ".rel" + row.section in sections or row.section.startswith(CONSTANTS[1]):
+            what = "functions or strings" if row.section.startswith(CONSTANTS) else "addresses"
+            name = row.name or "a table"
+            yield row.slot, f"reads {name}, which holds addresses, as a table of {what}: use a `switch`"

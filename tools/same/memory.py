@@ -1,0 +1,78 @@
+"""What both programs have in memory: where an address lies, constants, and what is known of counters."""
+from .facts import APART
+from .forms import MASK_32, MASK_64, ZERO, number
+from .program import MEMSX
+from .result import STACK
+from .state import Differs
+
+
+class Memory:
+    """`constants`: bytes by section. `entries`: of maps by their names. `result`: the program that the tool made."""
+
+    def __init__(self, forms, result, constants, entries):
+        self.forms, self.result, self.constants, self.entries = forms, result, constants, entries
+
+    def address(self, slot, registers):
+        base = slot.source if slot.kind == 1 else slot.destination
+        return self.forms.add(registers[base], number(slot.offset))
+
+    def is_near_packet(self, address, state):
+        """Whether an address lies so near to the packet's start that it is none of the stack."""
+        low, high = self.forms.span(self.forms.subtract(address, self.forms.start), state.facts.ranges)
+        return -APART < low and high <= APART
+
+    def on_stack(self, address, size, state):
+        """Which bytes of the stack an access may reach, by their distance from the frame's end: from and to. The two
+        are equal where it reaches none. A program that is accepted reaches nothing around the stack."""
+        low, high = self.forms.span(self.forms.subtract(address, self.forms.frame), state.facts.ranges)
+        if low >= -STACK and high + size <= 0:
+            return low, high + size
+        if self.forms.is_in_value(address) or self.is_near_packet(self.forms.add(address, number(size)), state):
+            return 0, 0
+        return -STACK, 0
+
+    def beside_own_stack(self, pc, address, size, state):
+        """The same, of an access that is the original's too: none of it may lie in the tool's stack slots."""
+        low, high = self.on_stack(address, size, state)
+        if low < high and low < self.result.lowest:
+            raise Differs(f"slot {pc}: the access may lie in the tool's stack slots, below {self.result.lowest}")
+        return low, high
+
+    def wide(self, slot):
+        """What a wide load gives."""
+        if slot.memory is not None:
+            return self.forms.in_memory(*slot.memory)
+        if slot.source or slot.map is not None:
+            return self.forms.atom(("map", slot.map, slot.source, slot.immediate))
+        return number(slot.immediate & MASK_32 | slot.upper << 32)
+
+    def constant_loaded(self, slot, state, pc, count):
+        """Does the original's load from constants, where each place that it may reach lies in their section."""
+        section, place = self.forms.section_of(self.address(slot, state.old))
+        places, data = self.forms.numbers_of(place, state.facts.ranges), self.constants[section]
+        if not places or places[0] < 0 or places[-1] + slot.size > len(data):
+            raise Differs(f"slot {pc}: nothing bounds the index of this load to the constants that there are", state.at)
+        with_sign = slot.opcode >> 5 == MEMSX
+        rows = [int.from_bytes(data[at : at + slot.size], "little", signed=with_sign) & MASK_64 for at in places]
+        true = [number(rows[0])] if len(set(rows)) == 1 else []
+        if len({row - at for row, at in zip(rows, places)}) == 1:
+            true.append(self.forms.add(place, number(rows[0] - places[0])))
+        true.append(self.forms.atom(("constant", pc, count), max(rows), min(rows)))
+        # all of these forms are the loaded number: that of the result is taken, where it is one of them
+        there = state.new.get(slot.destination)
+        state.old[slot.destination] = there if there in true else true[0]
+
+    def own_lookup(self, pc, state):
+        """The value of a global: the first one of its map, by a key on the tool's stack. It is never null."""
+        named = [name for name in self.entries if self.forms.atom(("map", name, 0, 0)) == state.new[1]]
+        at = self.forms.stack_offset(state.new[2])
+        if not named or self.entries[named[0]] < 1 or state.new_stack.get(at) != ZERO:
+            raise Differs(f"slot {pc}: a lookup of the tool's that isn't of a global")
+        for register in range(1, 6):
+            state.new.pop(register, None)
+        state.new[0] = self.forms.in_memory(("value", named[0], 0), 0)
+
+    def forget_counter(self, state, address):
+        """Forgets what stands in a counter, and in all that may be the same one: two places of one value aren't."""
+        for other in [other for other in state.loads if self.forms.subtract(other, address).terms or other == address]:
+            del state.loads[other]

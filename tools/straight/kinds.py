@@ -1,0 +1,125 @@
+"""Which stores surely don't go to the stack: those through an address of the packet or of a map's value, on all ways.
+
+All other stores whose place isn't known may change what is known of the stack."""
+from .graph import successors
+from .instructions import (
+    ADD,
+    ALU64,
+    CALL,
+    CONTEXT_ARGUMENT,
+    FRAME_POINTER,
+    LOAD_DOUBLE,
+    LOAD_WORD,
+    MOV,
+    STORE_DOUBLE,
+    SUB,
+    writes,
+)
+
+CONTEXT, FRAME, PACKET, VALUE = "context", "frame", "packet", "value"
+START_FIELDS = (0, 8)  # of the context: data and data_meta
+
+
+class Kinds(dict):
+    """Of registers, and of the stack's slots by ("stack", offset), what address they hold: its kind; and for one of the
+    stack the distance from the frame's end, for a map's value who gave it and the distance, or None. Who gave it is the
+    slot of a lookup, or of an addition of an index, or the name of a global."""
+
+    def stack_offset(self, access):
+        kind, offset = self.get(access.base, ("", None))
+        return offset + access.offset if kind == FRAME and offset is not None else None
+
+    def put(self, place, kind):
+        self.pop(place, None)
+        if kind is not None:
+            self[place] = kind
+
+    def forget_stack(self, low=None, high=None):
+        for place in [place for place in self if isinstance(place, tuple)]:
+            if low is None or place[1] < high and low < place[1] + 8:
+                del self[place]
+
+    def after(self, slot, instruction):
+        behind = Kinds(self)
+        if instruction.is_arithmetic:
+            behind.put(instruction.destination, self.result(slot, instruction))
+        elif instruction.is_load:
+            behind.put(instruction.destination, self.loaded(instruction))
+        elif instruction.is_store:
+            behind.store(instruction)
+        else:
+            for register in writes(instruction):
+                behind.put(register, None)
+            if instruction.opcode == CALL:
+                behind.put(0, (VALUE, (slot, 0)))
+            elif instruction.counter is not None:
+                behind.put(instruction.destination, (VALUE, (instruction.counter, instruction.immediate)))
+        return behind
+
+    def result(self, slot, instruction):
+        a, b = self.get(instruction.destination), self.get(instruction.source) if instruction.by_register else None
+        if instruction.kind != ALU64 or instruction.offset or instruction.operation not in (MOV, ADD, SUB):
+            return None
+        if instruction.operation == MOV:
+            return b
+        if a and b or b and instruction.operation == SUB:
+            return None
+        kind, place = a or b or ("", None)
+        constant = instruction.immediate * (1 if instruction.operation == ADD else -1)
+        if place is None or instruction.by_register:
+            # a place in a map's value that this slot makes
+            place = (slot, 0) if kind == VALUE else None
+        else:
+            place = place + constant if kind == FRAME else (place[0], place[1] + constant)
+        return (kind, place) if kind in (FRAME, PACKET, VALUE) else None
+
+    def loaded(self, load):
+        if self.get(load.source, ("",))[0] == CONTEXT and load.opcode == LOAD_WORD and load.offset in START_FIELDS:
+            return PACKET, None
+        return self.get(("stack", self.stack_offset(load))) if load.opcode == LOAD_DOUBLE else None
+
+    def store(self, store):
+        at = self.stack_offset(store)
+        if at is not None:
+            kind = self.get(store.source) if store.opcode == STORE_DOUBLE else None
+            self.forget_stack(at, at + store.size)
+            self.put(("stack", at), kind)
+        elif not self.is_elsewhere(store):
+            self.forget_stack()
+        if store.fetches:
+            self.put(store.source, None)
+
+    def is_elsewhere(self, store):
+        return self.get(store.destination, ("",))[0] in (PACKET, VALUE)
+
+    def counter(self, access):
+        """The counter that an access reaches: who gave its value, and how far in it it lies; or None."""
+        kind, place = self.get(access.base, ("", None))
+        return (place[0], place[1] + access.offset) if kind == VALUE and place is not None else None
+
+    def met(self, other):
+        """What holds on both of two ways."""
+        both = {place: (kind, other[place]) for place, kind in self.items() if place in other}
+        return Kinds(
+            (place, one if one == two else (one[0], None)) for place, (one, two) in both.items() if one[0] == two[0]
+        )
+
+
+def kinds_before(code):
+    """The kinds before each slot that can be reached."""
+    before, todo = {0: Kinds({CONTEXT_ARGUMENT: (CONTEXT, None), FRAME_POINTER: (FRAME, 0)})}, [0]
+    while todo:
+        slot = todo.pop()
+        behind = before[slot].after(slot, code[slot])
+        for after in successors(code, slot):
+            met = before[after].met(behind) if after in before else behind
+            if met != before.get(after):
+                before[after] = met
+                todo.append(after)
+    return before
+
+
+def stores_elsewhere(code):
+    """The slots of the stores that surely don't go to the stack."""
+    before = kinds_before(code)
+    return {slot for slot, kinds in before.items() if code[slot].is_store and kinds.is_elsewhere(code[slot])}

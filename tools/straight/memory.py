@@ -1,0 +1,143 @@
+"""What the result has in place of memory: constants as numbers in the code, and globals as values of maps.
+
+In the result a register that had an address of constants has the place in their section, a number. A load from a known
+place is that number; one from another place becomes tests of the place, and in each of their ends the number that is
+loaded there. A global's value is looked up once, in front of all."""
+from typing import NamedTuple
+
+from .addresses import TableAddress
+from .constants import in_table
+from .graph import Fail
+from .instructions import (
+    ADD_CONSTANT,
+    CALL,
+    CONTEXT_ARGUMENT,
+    FRAME_POINTER,
+    IF_ABOVE_CONSTANT,
+    IF_EQUAL_CONSTANT,
+    MASK_32,
+    MOVE_CONSTANT,
+    MOVE_REGISTER,
+    WIDE_LOAD,
+    signed,
+)
+
+LOOKUP, ANSWER, MAP_ARGUMENT, KEY_ARGUMENT = 1, 0, 1, 2  # the helper, and its registers
+KEY_SLOT = "key"
+MOST_PLACES = 1 << 16
+SLOPES = 0, 1  # of runs of numbers, by place
+
+
+def put_number(emitter, slot, register, number):
+    """A constant in a register."""
+    if -(1 << 31) <= signed(number) < 1 << 31:
+        emitter.put_own(slot, MOVE_CONSTANT, register, 0, 0, signed(number))
+    else:
+        emitter.put_own(slot, WIDE_LOAD, register, 0, 0, signed(number & MASK_32, 32), signed(number >> 32, 32))
+
+
+def loads_constant(emitter, here, load):
+    """Whether a load is from constants; it is written then."""
+    known, place = here.constants.registers.get(load.base), emitter.addresses.before[here].get(load.base)
+    if in_table(known):
+        number = known.base.number(known.offset + load.offset, load)
+        if number is None:
+            raise Fail("this reads outside of the constants", here.slot)
+        put_number(emitter, here.slot, load.destination, number)
+        return True
+    if isinstance(place, TableAddress):
+        choose(emitter, here, load, runs(place, load))
+        emitter.places[here, "loaded"] = len(emitter.out)
+        return True
+    return False
+
+
+class Run(NamedTuple):
+    """Numbers of a table: up to the place `last` of the address, each is `slope` times the place, and the constant."""
+
+    last: int
+    slope: int
+    constant: int
+
+
+def put_run(emitter, slot, load, run):
+    """A run's number in the register that is loaded."""
+    if not run.slope:
+        put_number(emitter, slot, load.destination, run.constant)
+        return
+    if load.destination != load.base:
+        emitter.put_own(slot, MOVE_REGISTER, load.destination, load.base)
+    if run.constant:
+        emitter.put_own(slot, ADD_CONSTANT, load.destination, 0, 0, run.constant)
+
+
+def check_store(emitter, here, store):
+    """Ends where something is stored to a global that isn't a counter."""
+    place = emitter.addresses.before[here].get(store.base) if store.is_store else None
+    if isinstance(place, TableAddress):
+        raise Fail(
+            f"stores to {place.table.name}: a global that changes is a map's counters here: it has 1, 2, 4 or"
+            " whole eight bytes, at most 64, and begins with 0",
+            here.slot,
+        )
+
+
+def runs(address, load):
+    """The runs of a table's numbers, in order of the places."""
+    table, stride = address.table, load.size if address.stride in (0, 1) else address.stride
+    first = table.first + (address.place + load.offset - table.first) % stride
+    places = range(first, min(table.end - load.size + 1, first + MOST_PLACES * stride), stride)
+    numbers, at, rows = [table.number(place, load) for place in places], 0, []
+    while at < len(numbers):
+        ends = {
+            slope: next(
+                (end for end in range(at, len(numbers)) if numbers[end] - numbers[at] != slope * (end - at) * stride),
+                len(numbers),
+            )
+            for slope in SLOPES
+        }
+        slope = max(ends, key=lambda slope: ends[slope])
+        constant = numbers[at] - slope * (places[at] - load.offset)
+        at = ends[slope]
+        rows.append(Run(places[at - 1] - load.offset, slope, constant))
+    return rows
+
+
+def choose(emitter, here, load, rows, is_last=True):
+    """Tests of the place, down to each run's number. `is_last`: nothing is written behind it."""
+    if not rows:
+        raise Fail("this reads outside of the constants", here.slot)
+    if len(rows) == 1:
+        put_run(emitter, here.slot, load, rows[0])
+        if not is_last:
+            emitter.put_jump(here.slot, (here, "loaded"))
+        return
+    half = len(rows) // 2
+    above = here, "above", rows[half - 1].last
+    emitter.put_jump(here.slot, above, IF_ABOVE_CONSTANT, load.base, 0, 0, rows[half - 1].last)
+    choose(emitter, here, load, rows[:half], False)
+    emitter.places[above] = len(emitter.out)
+    choose(emitter, here, load, rows[half:], is_last)
+
+
+def look_up_globals(emitter, names):
+    """In front of the program: the value of each global's map, kept on the stack."""
+    for name in names:
+        emitter.put_own(0, MOVE_CONSTANT, KEY_ARGUMENT)
+        emitter.save(KEY_SLOT, KEY_ARGUMENT, 0)
+        emitter.put_own(0, MOVE_REGISTER, KEY_ARGUMENT, FRAME_POINTER)
+        emitter.put_own(0, ADD_CONSTANT, KEY_ARGUMENT, 0, 0, emitter.own[KEY_SLOT])
+        emitter.put_own(0, WIDE_LOAD, MAP_ARGUMENT, 0, 0, 0, 0, name)
+        emitter.put_own(0, CALL, 0, 0, 0, LOOKUP)
+        emitter.put_jump(0, emitter.end, IF_EQUAL_CONSTANT, ANSWER)
+        emitter.save(("global", name), ANSWER, 0)
+    emitter.load(CONTEXT_ARGUMENT, emitter.context, 0)
+
+
+def takes_address(emitter, here, wide):
+    """Whether a wide load is of the address of constants or of a global; it is written then."""
+    if wide.table is not None:
+        emitter.put_own(here.slot, MOVE_CONSTANT, wide.destination, 0, 0, wide.immediate)
+    elif wide.counter is not None:
+        emitter.load(wide.destination, ("global", wide.counter), here.slot)
+    return wide.table is not None or wide.counter is not None

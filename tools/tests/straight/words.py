@@ -1,0 +1,214 @@
+"""What the tools for filters say of wrong input: one line each, and nothing else is printed."""
+import os
+import pathlib
+import subprocess
+import tempfile
+
+TOOLS = pathlib.Path(__file__).resolve().parents[2]
+MAP = """struct {{
+	__uint(type, BPF_MAP_TYPE_{}); __uint(max_entries, {}); __type(key, {}); __type(value, {});
+}} {} SEC(".maps");
+"""
+LOOKUP = "__u32 k = 0; __u64 *v = bpf_map_lookup_elem(&m, &k); if (v) __sync_fetch_and_add(v, 1); return XDP_PASS;"
+DATA = "__u8 *p = (void *)(long)ctx->data, *end = (void *)(long)ctx->data_end; if (p + 20 > end) return XDP_DROP; "
+PAIR = "struct pair { __u32 packets, bytes; };\n"
+# what C may have that isn't here: in front of the function, in it, and what the tool has to say
+NOT_HERE = {
+    "a device map": (
+        MAP.format("DEVMAP", 8, "__u32", "__u32", "m"),
+        LOOKUP,
+        "BPF_MAP_TYPE_DEVMAP, and there are arrays",
+    ),
+    "a prefix map": (MAP.format("LPM_TRIE", 8, "__u64", "__u64", "m"), LOOKUP, "under each prefix's mask"),
+    "a large map": (MAP.format("ARRAY", 65536, "__u32", "__u64", "m"), LOOKUP, "65536 entries: 1 to 1024"),
+    "five maps": (
+        "".join(MAP.format("ARRAY", 1, "__u32", "__u64", name) for name in "mnopq"),
+        LOOKUP,
+        "5 maps: at most 4",
+    ),
+    "a counter of 4 bytes": (MAP.format("ARRAY", 1, "__u32", "__u32", "m"), LOOKUP, "values of the map m have 4 bytes"),
+    "two counters of 4 bytes": (
+        PAIR + MAP.format("ARRAY", 1, "__u32", "struct pair", "m"),
+        LOOKUP,
+        "in the values of the map m, packets has 4 bytes: a counter has 8; make each a __u64",
+    ),
+    "a counter and flags": (
+        MAP.format("ARRAY", 1, "__u32", "struct { __u64 n; __u16 flags; }", "m"),
+        LOOKUP,
+        "flags has 2 bytes: a counter has 8; make each a __u64",
+    ),
+    "nine counters": (MAP.format("ARRAY", 1, "__u32", "struct { __u64 n[9]; }", "m"), LOOKUP, "9 counters: at most 8"),
+    "a map that is none": ('int m SEC(".maps");', "return m;", 'm stands in section ".maps", and is no struct'),
+    "a clock": ("", "return bpf_ktime_get_ns() & 1 ? XDP_DROP : XDP_PASS;", "calls bpf_ktime_get_ns, which isn't here"),
+    "a redirect": ("", "return bpf_redirect(1, 0);", "there is no redirect"),
+    "a global of 12 bytes": (
+        "struct { int a, b, c; } seen;",
+        "return seen.b++ ? XDP_PASS : XDP_DROP;",
+        "stores to seen: a global that changes is a map's counters here: it has 1, 2, 4 or whole eight bytes",
+    ),
+    "a global that begins with a number": ("__u64 seen = 5;", "return seen++ ? XDP_PASS : XDP_DROP;", "stores to seen"),
+    "a table of functions": (
+        "static int a(void) { return 1; } static int b(void) { return 2; } int (*const table[2])(void) = {a, b};",
+        "return table[ctx->rx_queue_index & 1]();",
+        "reads table, which holds addresses, as a table of functions or strings: use a `switch`",
+    ),
+    "an index that nothing bounds": (
+        "static const __u8 table[9] = {1, 0, 2, 3, 0, 1, 1, 0, 2};",
+        DATA + "return table[p[0]];",
+        "nothing bounds the index of this load to the constants that there are",
+    ),
+    "a function": (
+        "__attribute__((noinline)) int g(int a) { return a * 3 & 2; }",
+        "return g(ctx->ingress_ifindex);",
+        "__always_inline",
+    ),
+    "a call of memcmp of any size": (
+        "#include <string.h>",
+        "void *d = (void *)(long)ctx->data; return memcmp(d, d + 9, ctx->rx_queue_index) ? XDP_DROP : XDP_PASS;",
+        "a loop has no bound, or a large one",
+    ),
+    "a field that isn't here": (
+        "",
+        "return ctx->egress_ifindex ? XDP_DROP : XDP_PASS;",
+        "data, data_end, data_meta, ingress_ifindex and rx_queue_index",
+    ),
+    "packet access by a helper's opcode": (
+        "",
+        'register long a asm("r0"); asm volatile("r6 = r1; r0 = *(u16 *)skb[12]" : "=r"(a) : : "r6"); return a;',
+        "other instructions: this profile leaves this one out",
+    ),
+    "an atomic OR": (
+        MAP.format("ARRAY", 1, "__u32", "__u64", "m"),
+        "__u32 k = 0; __u64 *v = bpf_map_lookup_elem(&m, &k); if (v) __sync_fetch_and_or(v, 1); return XDP_PASS;",
+        "the addition of eight bytes alone, __sync_fetch_and_add",
+    ),
+    "a loop with a bound, and a read that isn't compared": (
+        "",
+        DATA + "__u32 sum = 0; for (int i = 0; i < 30; i++) { sum += p[i] * i; if (sum == 99) break; } return sum & 1;",
+        "write instead: compare the end of what is read with data_end on each way to this line",
+    ),
+    "a read in front of the packet": (
+        "",
+        DATA + "p += *p * 4; if (p > end) return XDP_DROP; return p[-1] ? XDP_PASS : XDP_DROP;",
+        "no comparison shows that this lies in the packet",
+    ),
+}
+HEADERS = "#include <linux/bpf.h>\n#include <bpf/bpf_helpers.h>\n"
+FUNCTION = 'SEC("{}") int {}(struct xdp_md *ctx) {{ {} }}\n'
+ACCEPTED = {
+    "a memcmp of its own": HEADERS
+    + "static __always_inline int memcmp(const void *a, const void *b, unsigned long n)\n"
+    + "{ const char *x = a, *y = b; for (int i = 0; i < n; i++) if (x[i] != y[i]) return 1; return 0; }\n"
+    + FUNCTION.format("xdp", "f", DATA + "return memcmp(p, p + 6, 6) ? XDP_PASS : XDP_DROP;"),
+}
+# a file's name, what is in it, further words, and what is said
+FILES = {
+    "another section": (
+        "a.c",
+        HEADERS + FUNCTION.format("tc", "f", "return 0;"),
+        [],
+        'in a section "xdp"; there is tc',
+    ),
+    "no function": ("a.c", "int a;", [], 'no function in a section "xdp": write SEC("xdp")'),
+    "two sections": (
+        "a.c",
+        HEADERS + FUNCTION.format("xdp/a", "f", "return 0;") + FUNCTION.format("xdp/b", "g", "return 0;"),
+        [],
+        "2 functions in sections xdp.., and settings have one: f in xdp/a, g in xdp/b",
+    ),
+    "a map that isn't in the file": (
+        "a.c",
+        HEADERS + FUNCTION.format("xdp", "f", "return 0;"),
+        ["lost=4"],
+        "there is no map lost in it",
+    ),
+    "a name without .c": ("a", "int a;", [], "this isn't called .c: give a file of C"),
+    "a header": ("a.h", "int a;", [], "this isn't called .c: give a file of C"),
+    "an object file": ("a.o", "\x7fELF", [], "this is an object file"),
+    "a number of other digits": ("a.c", "int a;", ["m=\u00b2"], "isn't NAME=ENTRIES"),
+    "another number of other digits": ("a.c", "int a;", ["m=\u0664"], "isn't NAME=ENTRIES"),
+    "an unknown option": ("a.c", "int a;", ["--fast"], "there is no option --fast"),
+    "no file": ("a.c", None, [], "a.c: No such file or directory"),
+}
+
+
+def is_one_line(made, said, status, wanted, lines=1):
+    """What is wrong with an answer to wrong input; nothing where it is one line with these words."""
+    right = status and not made and wanted in said and "Traceback" not in said and said.count("\n") <= lines
+    return "" if right else f"{status} {made[:100]} {said}"
+
+
+def ran(clang, xdpbox, *words, **more):
+    env = {**os.environ, "CLANG": clang, "XDPBOX": str(xdpbox), **more.pop("env", {})}
+    run = subprocess.run(words, env=env, stderr=subprocess.PIPE, check=False, **{"stdout": subprocess.PIPE, **more})
+    return (run.stdout or b"").decode(), run.stderr.decode(errors="replace"), run.returncode
+
+
+def c_tests(clang, xdpbox):
+    """C that settings can't have, or that was once refused."""
+    command = TOOLS / "settings-from-c"
+    with tempfile.TemporaryDirectory() as folder:
+        path = pathlib.Path(folder, "filter.c")
+        for name, (before, body, wanted) in NOT_HERE.items():
+            path.write_text(HEADERS + before + "\n" + FUNCTION.format("xdp", "f", body))
+            made, said, status = ran(clang, xdpbox, command, path)
+            yield f"{name} is named", is_one_line(made, said, status, wanted, 5)
+        for name, text in ACCEPTED.items():
+            path.write_text(text)
+            made, said, status = ran(clang, xdpbox, command, path)
+            yield f"{name} is accepted", "" if made and not status else said
+        for name, (file, text, words, wanted) in FILES.items():
+            part = pathlib.Path(folder, file)
+            part.unlink(missing_ok=True)
+            if text is not None:
+                part.write_text(text)
+            made, said, status = ran(clang, xdpbox, command, file, *words, cwd=folder)
+            yield f"{name} is named", is_one_line(made, said, status, wanted)
+        yield "a folder is named", is_one_line(*ran(clang, xdpbox, command, folder), "Is a directory")
+        yield from name_tests(clang, xdpbox, path, pathlib.Path(folder))
+
+
+def name_tests(clang, xdpbox, path, folder):
+    """Names of files that would end the line of the comment that has them, and what the environment may have."""
+    command = TOOLS / "settings-from-c"
+    path.write_text(HEADERS + FUNCTION.format("xdp", "f", "return XDP_PASS;"))
+    for name in (b"x\nqueues = 8 #.c", b"a\xff\r.c"):
+        (folder / os.fsdecode(name)).write_text(path.read_text())
+        made, said, status = ran(clang, xdpbox, command, name, cwd=folder)
+        lines = [line for line in made.splitlines() if not line.startswith(("#", "program", '  "', "]"))]
+        yield f"the name {name!r} stays in its comment", f"{lines} {said}" if lines or status or not made else ""
+    for what, env, wanted in (
+        ("a missing clang", {"CLANG": "clang-of-nowhere"}, "isn't on the PATH"),
+        ("flags that can't be read", {"CFLAGS": '"'}, "CFLAGS can't be read"),
+        ("an xdpbox that isn't there", {"XDPBOX": "/nowhere"}, "which isn't a program that can be run"),
+        ("an xdpbox that is a folder", {"XDPBOX": "/"}, "which isn't a program that can be run"),
+    ):
+        yield f"{what} is named", is_one_line(*ran(clang, xdpbox, command, path, env=env), wanted)
+    yield from output_tests(clang, xdpbox, command, path)
+
+
+def output_tests(clang, xdpbox, *words):
+    """Output that goes nowhere."""
+    name = pathlib.Path(words[0]).name
+    with open("/dev/full", "wb") as full:
+        made = ran(clang, xdpbox, *words, stdout=full)
+    yield f"{name} on a full output", is_one_line(*made, "doesn't take the settings: No space left")
+    closed = ran(clang, xdpbox, "sh", "-c", 'exec "$@" >&-', "sh", *words)
+    yield f"{name} on a closed output", is_one_line(*closed, "standard output is closed")
+
+
+def capture_tests(xdpbox):
+    """Captures and packets, without clang."""
+    capture = TOOLS.parent / "examples/five-packets.pcap"
+    command, script = TOOLS / "packets-of-pcap", TOOLS / "script-of-packet"
+    for digits in ("\u00b2", "\u0664", "x", "-1"):
+        said = ran("", xdpbox, command, capture, digits)
+        yield f"the queue {digits} is named", is_one_line(*said, "is no queue")
+    data = capture.read_bytes()
+    with tempfile.TemporaryDirectory() as folder:
+        path = pathlib.Path(folder, "checksums.pcap")
+        path.write_bytes(data[:20] + bytes([1, 0, 0, 0x14]) + data[24:])
+        yield "checksums are named", is_one_line(*ran("", xdpbox, command, path), "a checksum stands behind each")
+    yield "no capture is named", is_one_line(*ran("", xdpbox, command, "/nowhere"), "No such file")
+    yield from output_tests("", xdpbox, command, capture)
+    yield from output_tests("", xdpbox, script, "00" * 14)
