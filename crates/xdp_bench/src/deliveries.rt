@@ -3,10 +3,11 @@ ghost use Rattle.std.specs.Prelude.{◌≡◌};
 
 use crate::fault::Fault;
 use crate::line::Memory;
+use crate::packet::Packets;
 use crate::pages::{FRONT, TABLE, domains, fill, owners, plain_words, publish};
 use crate::program::accepted;
 use crate::timing::{Timed, since};
-use crate::turns::{BATCH, batches, queue};
+use crate::turns::{batches, queue};
 use bpf_vm::Buffer;
 use std::alloc::Alloc;
 use std::time::Instant;
@@ -38,17 +39,18 @@ fn time_over<B: Bus>(rt: &HostRuntime, bus: &mut B, size: usize, times: u32) -> 
     let ports = Ports::new();
     let bytes = [0x5a; 65_535];
     let packet = bytes.get(..size).ok_or(Fault::Line)?;
+    let packets = Packets::of(size, None);
     let mut nanoseconds = 0u64;
     let mut producer = 0u32;
     for _batch in 0..times {
-        producer = publish(bus, producer, size, BATCH);
+        producer = publish(bus, producer, packets, packets.batch());
         let start = Instant::now(rt).map_err(|_| Fault::Clock)?;
-        for _delivery in 0..BATCH {
+        for _delivery in 0..packets.batch() {
             timed(queue.deliver(packet, bus, &ports))?;
         }
         nanoseconds = nanoseconds.saturating_add(since(rt, &start)?);
     }
-    Ok(batches(times, nanoseconds))
+    Ok(batches(times, packets.batch(), nanoseconds))
 }
 
 /// Times so many deliveries of a packet of so many bytes. Posting the buffers isn't timed.

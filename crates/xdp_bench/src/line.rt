@@ -1,6 +1,7 @@
 //! What a line asks for.
 
 use crate::fault::Fault;
+use crate::packet::Packets;
 use std::alloc::Global;
 
 /// What the pages are made of.
@@ -15,10 +16,10 @@ pub enum Memory {
 /// What a line asks for, so many times.
 #[derive(Drop)]
 pub enum Work {
-    /// `turn SIZE TIMES PROGRAM`, or `plain-turn`: turns of a packet of so many bytes, or idle ones.
+    /// `turn SIZE TIMES PROGRAM [SLOTS]`, or `plain-turn`: turns of packets of so many bytes in so many slots, or idle ones.
     Turns {
         memory: Memory,
-        size: usize,
+        packets: Packets,
         times: u32,
         program: Vec<u8>,
     },
@@ -51,11 +52,15 @@ fn bytes(alloc: Global, word: Option<&str>) -> Result<Vec<u8>, Fault> {
 }
 
 /// What a line of turns asks for, by its words behind the first.
-fn turns(alloc: Global, memory: Memory, words: [Option<&str>; 3]) -> Result<Work, Fault> {
-    let [size, times, program] = words;
+fn turns(alloc: Global, memory: Memory, words: [Option<&str>; 4]) -> Result<Work, Fault> {
+    let [size, times, program, slots] = words;
+    let slots = match slots {
+        Some(_) => Some(number(slots)?),
+        None => None,
+    };
     Ok(Work::Turns {
         memory,
-        size: number(size)? as usize,
+        packets: Packets::of(number(size)? as usize, slots),
         times: number(times)?,
         program: bytes(alloc, program)?,
     })
@@ -75,11 +80,11 @@ pub fn read_line(alloc: Global, line: &str) -> Result<Work, Fault> {
     let mut words = line.split(' ');
     match words.next() {
         Some("turn") => {
-            let behind = [words.next(), words.next(), words.next()];
+            let behind = [words.next(), words.next(), words.next(), words.next()];
             turns(alloc, Memory::Shared, behind)
         }
         Some("plain-turn") => {
-            let behind = [words.next(), words.next(), words.next()];
+            let behind = [words.next(), words.next(), words.next(), words.next()];
             turns(alloc, Memory::Plain, behind)
         }
         Some("deliver") => deliveries(Memory::Shared, [words.next(), words.next()]),

@@ -2,13 +2,14 @@
 //!
 //! - `line`, `fault`: what a line asks for, and why it has no time
 //! - `program`: verifications and runs
-//! - `pages`, `turns`, `deliveries`: turns and deliveries over pages
+//! - `packet`, `pages`, `turns`, `deliveries`: turns and deliveries over pages
 //! - `timing`: times, and their text
 #![tactic(auto)]
 
 mod deliveries;
 mod fault;
 mod line;
+mod packet;
 mod pages;
 mod program;
 mod timing;
@@ -24,10 +25,10 @@ fn timed(rt: &HostRuntime, line: &str) -> Result<Timed, Fault> {
     match read_line(rt.alloc(), line)? {
         Work::Turns {
             memory,
-            size,
+            packets,
             times,
             program,
-        } => turns::time(rt, memory, size, times, program.as_slice()),
+        } => turns::time(rt, memory, packets, times, program.as_slice()),
         Work::Deliveries {
             memory,
             size,

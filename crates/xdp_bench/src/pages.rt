@@ -1,6 +1,7 @@
 //! The pages of one interface, as a frontend fills them.
 ghost use Rattle.std.specs.Prelude.{◌≡◌, ◌≤◌, IfOk, length};
 
+use crate::packet::{Packets, pages_of};
 use std::alloc::{AllocError, Global};
 use xen_page::{Bus, Owners, Place, WORDS};
 
@@ -18,10 +19,12 @@ pub const TX: u32 = 2;
 pub const RX: u32 = 3;
 
 const FIRST_PAGE: u32 = 4;
+/// How many pages packets lie in.
+const PAGES: u32 = FRAMES as u32 - FIRST_PAGE;
+/// The most slots that a packet takes, which netback allows (`XEN_NETBK_LEGACY_SLOTS_MAX` of Linux).
+const MOST_SLOTS: u32 = 18;
 /// The words of a ring's page before its entries.
 const HEADER: u32 = 16;
-
-const PAGE: usize = 4096;
 
 const MORE_DATA: u32 = 4;
 
@@ -75,35 +78,17 @@ pub fn fill<B: Bus>(bus: &mut B)
     }
 }
 
-/// How many slots a packet takes, 1 to 16.
-pub fn slots_of(size: usize) -> u32
-    ensures { result ≤ 16 }
-{
-    let pages = (size.min(65_535) + PAGE - 1) / PAGE;
-    pages.max(1) as u32
-}
-
 /// Writes the slots of one packet from an index on.
-fn put_packet<B: Bus>(bus: &mut B, index: u32, size: usize)
+fn put_packet<B: Bus>(bus: &mut B, index: u32, packets: Packets)
     ensures { B.size bus.new ≡ B.size bus.old }
 {
-    let slots = slots_of(size);
-    for slot in 0..slots {
+    for slot in 0..packets.slots.min(MOST_SLOTS) {
         let at = HEADER + 3 * (index.wrapping_add(slot) % 256);
-        let more = if slot + 1 < slots { MORE_DATA } else { 0 };
-        let length = if slot == 0 {
-            size
-        } else {
-            PAGE.min(size.saturating_sub(PAGE * slot as usize))
-        };
-        put(bus, TX, at, FIRST_PAGE + slot);
+        let more = if slot + 1 < packets.slots { MORE_DATA } else { 0 };
+        let size = (packets.size_in(slot) % 0x1_0000) as u32;
+        put(bus, TX, at, FIRST_PAGE + slot % PAGES);
         put(bus, TX, at + 1, more * 0x1_0000);
-        put(
-            bus,
-            TX,
-            at + 2,
-            (length % 0x1_0000) as u32 * 0x1_0000 + slot,
-        );
+        put(bus, TX, at + 2, size * 0x1_0000 + slot);
     }
 }
 
@@ -111,22 +96,22 @@ fn put_packet<B: Bus>(bus: &mut B, index: u32, size: usize)
 fn post_slots<B: Bus>(bus: &mut B, index: u32, size: usize)
     ensures { B.size bus.new ≡ B.size bus.old }
 {
-    for slot in 0..slots_of(size) {
+    for slot in 0..pages_of(size) {
         let at = HEADER + 2 * (index.wrapping_add(slot) % 256);
         put(bus, RX, at, slot);
         put(bus, RX, at + 1, FIRST_PAGE + slot);
     }
 }
 
-/// Publishes so many packets from an index on, posts the rx slots that they take, and returns the producer of both rings.
-pub fn publish<B: Bus>(bus: &mut B, index: u32, size: usize, packets: u32) -> u32
+/// Publishes so many packets from an index on, posts rx slots for their pages, and returns the producer of both rings.
+pub fn publish<B: Bus>(bus: &mut B, index: u32, packets: Packets, count: u32) -> u32
     ensures { B.size bus.new ≡ B.size bus.old }
 {
     let mut producer = index;
-    for _packet in 0..packets {
-        put_packet(bus, producer, size);
-        post_slots(bus, producer, size);
-        producer = producer.wrapping_add(slots_of(size));
+    for _packet in 0..count {
+        put_packet(bus, producer, packets);
+        post_slots(bus, producer, packets.size);
+        producer = producer.wrapping_add(packets.slots);
     }
     put(bus, TX, 0, producer);
     put(bus, RX, 0, producer);

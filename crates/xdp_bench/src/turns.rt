@@ -6,6 +6,7 @@ ghost use Rattle.xen_page.specs.Table.{IsTable};
 
 use crate::fault::Fault;
 use crate::line::Memory;
+use crate::packet::Packets;
 use crate::pages::{FRONT, RX, TABLE, TX, domains, fill, owners, plain_words, publish};
 use crate::program::accepted;
 use crate::timing::{Timed, since};
@@ -18,9 +19,6 @@ use xen_back::{Queue, QueueDesc, Turn};
 use xen_page::{Bus, Frames, Mapped, Owners, PageBus, PlainBus, Table, map};
 use xen_ring::{Port, Ports};
 
-/// How many packets are published at once.
-pub const BATCH: u32 = 16;
-
 /// Only turns that ran the program are timed, or idle ones where no packet is there.
 fn timed(turn: Turn<'_>, packets: u32) -> Result<(), Fault> {
     match turn {
@@ -31,9 +29,9 @@ fn timed(turn: Turn<'_>, packets: u32) -> Result<(), Fault> {
 }
 
 /// So many batches of turns or deliveries, with the time that they took. One batch alone is too short to be timed.
-pub fn batches(times: u32, nanoseconds: u64) -> Timed {
+pub fn batches(times: u32, batch: u32, nanoseconds: u64) -> Timed {
     Timed {
-        done: times.saturating_mul(BATCH),
+        done: times.saturating_mul(batch),
         nanoseconds: (times > 1).then_some(nanoseconds),
     }
 }
@@ -83,7 +81,7 @@ pub fn queue<'p, 'b, B: Bus>(
 fn time_over<B: Bus>(
     rt: &HostRuntime,
     bus: &mut B,
-    size: usize,
+    packets: Packets,
     times: u32,
     program: &[u8],
 ) -> Result<Timed, Fault>
@@ -100,38 +98,38 @@ fn time_over<B: Bus>(
     let ports = Ports::new();
     let mut nanoseconds = 0u64;
     let mut producer = 0u32;
-    let packets = if size == 0 { 0 } else { BATCH };
+    let published = if packets.size == 0 { 0 } else { packets.batch() };
     for _batch in 0..times {
-        producer = publish(bus, producer, size, packets);
+        producer = publish(bus, producer, packets, published);
         let start = Instant::now(rt).map_err(|_| Fault::Clock)?;
-        for _turn in 0..BATCH {
+        for _turn in 0..packets.batch() {
             let turn = queue.drive_turn(bus, &counters, &mut seat, &ports);
-            timed(turn, packets)?;
+            timed(turn, published)?;
         }
         nanoseconds = nanoseconds.saturating_add(since(rt, &start)?);
     }
-    Ok(batches(times, nanoseconds))
+    Ok(batches(times, packets.batch(), nanoseconds))
 }
 
-/// Times so many turns, of a packet of so many bytes each; of 0 bytes no packet is published. Filling the pages isn't timed.
+/// Times so many batches of turns, a packet each; of 0 bytes no packet is published. Filling the pages isn't timed.
 pub fn time(
     rt: &HostRuntime,
     memory: Memory,
-    size: usize,
+    packets: Packets,
     times: u32,
     program: &[u8],
 ) -> Result<Timed, Fault> {
     match memory {
         Memory::Shared => {
             let frames = Frames::make(rt.alloc(), &domains())?;
-            time_over(rt, &mut PageBus::of(&frames), size, times, program)
+            time_over(rt, &mut PageBus::of(&frames), packets, times, program)
         }
         Memory::Plain => {
             let mut words = plain_words(rt.alloc())?;
             time_over(
                 rt,
                 &mut PlainBus::of(words.as_mut_slice()),
-                size,
+                packets,
                 times,
                 program,
             )
