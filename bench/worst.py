@@ -4,7 +4,7 @@
     bench/worst.py [--memory] [--seconds N] [--seed N] [--keep FILE] COMMAND..
     bench/worst.py --settings 'PART COUNT PICK, ..'
 
-COMMAND is one that reads settings, as `crates/xdpbox/out/xdpbox check`. A program is 4,096 slots: a few parts, each of
+COMMAND is one that reads settings, as `out/xdpbox check`. A program is 4,096 slots: a few parts, each of
 which makes ids, keeps values on the stack, makes notes differ, or compares and jumps; the last part goes on to the end.
 A line is printed for each program that takes more than those before it, with its parts, and the worst one's settings are
 kept in FILE. N is 600 seconds and seed 1 if they aren't given. --settings prints those of a program of these parts."""

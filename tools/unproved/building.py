@@ -70,6 +70,7 @@ class Building:
     def program(self, to):
         """Builds a program."""
         module = self.compile(self.lines(self.crate.folder), "-fPIE")
+        run("objcopy", "--set-section-alignment", ".text.*=64", module)
         self.say("links it")
         libraries = [f"{self.rtlib.KIT}/c/libos_c.a", f"{self.rtlib.KIT}/c/liblibc_c.a"]
         words = ["--target", TARGET, "--toolchain", f"{self.rtlib.KIT}/toolchain", "-o", to]

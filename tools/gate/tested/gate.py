@@ -32,6 +32,7 @@ class Gate:
             shutil.copy(ROOT / name, self.folder / name)
         for name in PARTS:
             self.part(name, f"echo '{name}: a line'\necho '3 passed, 0 failed'")
+        self.part("link-aligned", 'echo program > "$2"')
         self.part("build-host", 'mkdir "$1" && echo archive > "$1/liblaxonje.a"')
         (self.folder / "crates.txt").write_text("low:\nhigh: low\ntop: high low\n")
         (self.folder / ".gitignore").write_text("out/\n")
@@ -84,7 +85,7 @@ def gate_tests():
         gate.kit("2 passed, 0 failed\n", 0)
         gate.part("gate/inlined", "echo 'inlined: it is not'; exit 1")
         status, text, _ = gate.run()
-        yield "a part that fails as a whole", status == 1 and "inlined: it is not\nthe interpreter is inlined: FAILED" in text
+        yield "a part that fails as a whole", status == 1 and "inlined: it is not\nthe interpreter is inlined, and its loop aligned: FAILED" in text
         yield "another kit", gate.run(KIT="rattle-kit-12") == (2, "", "a kit rattle-kit-13 has to be installed, and not rattle-kit-12\n")
         closed = pathlib.Path(folder, "closed/in")
         closed.mkdir(parents=True)

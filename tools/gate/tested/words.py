@@ -18,6 +18,7 @@ WORDS = {
     "tools/commit": ["2"],
     "tools/install": ["--fast"],
     "tools/install-host": ["--fast"],
+    "tools/link-aligned": ["out"],
     "tools/man-of-header": [],
     "tools/release": ["--fast"],
     "tools/test-built": ["--fast"],
