@@ -71,6 +71,14 @@ same_places (x ∷ xs) (y ∷ ys) d l h =
     let heads : x ≡ y = h 0 in
     cc
 
+-- the same at each place of theirs
+pub all_copied : {A : Type 0} (xs ys : List A) (d : A) (n : ℕ) → length xs ≡ n → length ys ≡ n → ((k : ℕ) → k < n → get_or xs k d ≡ get_or ys k d) → xs ≡ ys
+all_copied {A = A} xs ys d n lx ly h = same_places xs ys d (lx ∙ sym ly) (λ k. by k (le_cases n k))
+  where
+    by : (k : ℕ) → (n ≤ k) ⊎ (k < n) → get_or xs k d ≡ get_or ys k d
+    by k (inl past) = past_end xs k d (omega arith) ∙ sym (past_end ys k d (omega arith))
+    by k (inr inside) = h k inside
+
 -- a slice from a place on is the rest
 take_enough : {A : Type 0} (n : ℕ) (xs : List A) → length xs ≤ n → take n xs ≡ xs
 take_enough zero [] h = refl

@@ -4,7 +4,7 @@ ghost use Rattle.bpf_note.specs.Facts.{entry};
 ghost use Rattle.bpf_note.specs.Parts.{facts};
 ghost use Rattle.bpf_verify.specs.Gathered.{Arrives};
 
-use bpf_note::{Note, join_in_place, notes_that_say_the_same_are_equal};
+use bpf_note::{Note, Spares, join_in_place, notes_that_say_the_same_are_equal};
 use std::alloc::{AllocError, Global};
 use std::marker::Model;
 use std::mem;
@@ -95,17 +95,20 @@ impl NoteList {
         false
     }
 
-    /// A note comes to the list.
-    pub(crate) fn arrive(&mut self, note: Box<Note>) -> Result<(), AllocError>
+    /// A note comes to the list. One that isn't appended becomes a spare note.
+    pub(crate) fn arrive(&mut self, note: Box<Note>, spares: &mut Spares) -> Result<(), AllocError>
         ensures { OnOk result (Arrives (map facts self.old) (facts note.value) (map facts self.new)) }
     {
         if self.holds(&note) {
+            spares.take(note);
             return Ok(());
         }
         if self.notes.len() < MOST_NOTES {
             self.notes.push(note)?;
             return Ok(());
         }
-        join_in_place(&mut self.notes[MOST_NOTES - 1], &note)
+        join_in_place(&mut self.notes[MOST_NOTES - 1], &note)?;
+        spares.take(note);
+        Ok(())
     }
 }

@@ -6,7 +6,7 @@ use Rattle.bpf_note.proofs.joins.join_registers.Goals as goal
 
 pub loop-i-preserved : goal.loop-i-preserved
 loop-i-preserved c =
-    changed_from c.loop-i.a c.args.a.now c.args.b.now joined_value Unset _ c.join_value.result c.loop-i.i 11 c.loop-i.invariant.0 c.told-a c.told-b (omega arith) c.loop-i.invariant.1 c.loop-i.invariant.2 c.join_value.ensures
+    changed_from c.loop-i.a c.args.a.now c.args.b.now joined_value Unset _ c.join_register.result c.loop-i.i 11 c.loop-i.invariant.0 c.told-a c.told-b (omega arith) c.loop-i.invariant.1 c.loop-i.invariant.2 c.join_register.ensures
 
 pub returns : goal.returns
 returns c = all_joined c.loop-i.a c.args.a.now c.args.b.now joined_value Unset 11 c.loop-i.invariant.0 c.told-a c.told-b refl (λ k lt. c.loop-i.invariant.1 k (omega arith))
