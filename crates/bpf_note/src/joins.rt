@@ -124,23 +124,14 @@ fn and(a: bool, b: bool) -> bool
     a && b
 }
 
-/// [`join_value`], of values that are mostly equal.
-fn join_register(a: Val, b: Val) -> Val
-    ensures { result ≡ joined_value a b }
-{
-    if is_same_value(&a, &b) {
-        a
-    } else {
-        join_value(a, b)
-    }
-}
-
 fn join_registers(a: &mut [Val; 11], b: &[Val; 11])
     ensures { (k : ℕ) → slice_index_or a.new k Val.Unset
         ≡ joined_value (slice_index_or a.old k Val.Unset) (slice_index_or b.now k Val.Unset) }
 {
     for i in 0..11 {
-        a[i] = join_register(a[i], b[i]);
+        if !is_same_value(&a[i], &b[i]) {
+            a[i] = join_value(a[i], b[i]);
+        }
     }
 }
 
