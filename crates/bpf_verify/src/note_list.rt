@@ -1,5 +1,5 @@
 //! The notes at a slot.
-ghost use Rattle.std.specs.Prelude.{◌≡◌, ◌↔◌, map, Contains, IsTrue, OnOk, IfOk, IfSome, IfNone, [], ◌∷◌};
+ghost use Rattle.std.specs.Prelude.{◌≡◌, ◌↔◌, map, Contains, IsTrue, OnOk, IfOk, IfSome, IfNone, [], ◌∷◌, ◌++◌, reverse};
 ghost use Rattle.bpf_note.specs.Facts.{entry};
 ghost use Rattle.bpf_note.specs.Parts.{facts};
 ghost use Rattle.bpf_verify.specs.Gathered.{Arrives};
@@ -63,15 +63,19 @@ impl NoteList {
         self.notes
     }
 
-    /// The first note goes.
-    pub(crate) fn take_first(&mut self) -> Option<Box<Note>>
-        ensures some { IfSome result (λ b. self.old ≡ b.value ∷ self.new) }
+    /// The last note stands first, and so on.
+    pub(crate) fn reverse(&mut self)
+        ensures { self.new ≡ reverse self.old }
+    {
+        self.notes.reverse();
+    }
+
+    /// The last note goes.
+    pub(crate) fn take_last(&mut self) -> Option<Box<Note>>
+        ensures some { IfSome result (λ b. self.old ≡ self.new ++ b.value ∷ []) }
         ensures none { IfNone result (self.old ≡ []) }
     {
-        if self.notes.is_empty() {
-            return None;
-        }
-        Some(self.notes.remove(0))
+        self.notes.pop()
     }
 
     /// Takes over the memory of a list without notes, if it has no notes either.

@@ -120,7 +120,8 @@ fn follow(
         (λ n. IsFirstRefused code.now shapes.now pc (facts_at table.old.lists.items pc) s.refusal.cause (facts n.value))) }
 {
     let mut list = mem::replace(&mut table.lists[pc as usize], NoteList::empty(alloc));
-    while let Some(note) = list.take_first() {
+    list.reverse();
+    while let Some(note) = list.take_last() {
         follow_note(code, shapes, table, pc, note)?;
     }
     table.spare = list;
