@@ -18,8 +18,8 @@ use crate::graph::jump_target;
 use crate::point::{Point, is_unset};
 use crate::successors::{Successor, Ways};
 use bpf_insn::{Cause, Condition, Operand, Register};
-use bpf_note::{Note, Val};
-use std::alloc::{AllocError, Global};
+use bpf_note::{Note, Spares, Val};
+use std::alloc::AllocError;
 
 /// The test of a conditional jump.
 #[derive(Clone, Copy, Drop)]
@@ -195,7 +195,7 @@ impl Test {
 
 /// Takes a note to the next slot, and a copy to a jump's target.
 pub(crate) fn branch(
-    alloc: Global,
+    spares: &mut Spares,
     pc: u32,
     to: u32,
     note: &mut Note,
@@ -204,7 +204,7 @@ pub(crate) fn branch(
     requires { pc < 4096 }
     ensures { IfOk result (λ w. edges_along w (facts note.new) ≡ edges_by (Branches to test) pc (facts note.old)) }
 {
-    let mut there = note.boxed(alloc)?;
+    let mut there = spares.copy(note)?;
     test.meet(&mut there)?;
     test.miss(note)?;
     Ok(Ways::Two(

@@ -13,7 +13,7 @@ use crate::call::call;
 use crate::memory::store;
 use crate::successors::{Successor, Successors, Ways};
 use bpf_insn::{Register, Size};
-use bpf_note::{Note, Val};
+use bpf_note::{Note, Spares, Val};
 use std::alloc::{AllocError, Global};
 
 /// What an instruction does that the rule allows. The next slot follows where no other is named.
@@ -55,7 +55,7 @@ fn look_up(note: &mut Note, m: u32, id: u16) -> Result<(), AllocError>
 
 impl Effect {
     /// Changes what is known at slot `pc` to what is known where the first way leads. An `Err` leaves the note as it came out.
-    pub fn apply(self, alloc: Global, pc: u32, note: &mut Note) -> Result<Ways, AllocError>
+    pub fn apply(self, spares: &mut Spares, pc: u32, note: &mut Note) -> Result<Ways, AllocError>
         requires small { pc < 4096 }
         requires fits { Fits self }
         ensures ok { IfOk result (λ w. edges_along w (facts note.new) ≡ edges_by self pc (facts note.old)) }
@@ -71,7 +71,7 @@ impl Effect {
             Effect::SetsFresh { dst, top } => set_fresh(note, pc as u16, dst, top)?,
             Effect::Stores { place, size, value } => store(note, place, size, value),
             Effect::LooksUp { m } => look_up(note, m, pc as u16)?,
-            Effect::Branches { to, test } => return branch(alloc, pc, to, note, test),
+            Effect::Branches { to, test } => return branch(spares, pc, to, note, test),
             Effect::Ends => return Ok(Ways::None),
         }
         Ok(Ways::One(pc + 1))
@@ -88,7 +88,7 @@ impl Effect {
             return Ok(Successors::None);
         }
         let mut next = note.boxed(alloc)?;
-        match self.apply(alloc, pc, &mut next)? {
+        match self.apply(&mut Spares::none(alloc), pc, &mut next)? {
             Ways::None => Ok(Successors::None),
             Ways::One(pc) => Ok(Successors::One(Successor { pc, note: next })),
             Ways::Two(pc, target) => Ok(Successors::Two(Successor { pc, note: next }, target)),

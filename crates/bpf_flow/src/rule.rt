@@ -17,7 +17,7 @@ use crate::effect::Effect;
 use crate::point::Point;
 use crate::successors::{Successors, Ways};
 use bpf_insn::{Cause, Insn};
-use bpf_note::{MapShape, Note, Val};
+use bpf_note::{MapShape, Note, Spares, Val};
 use std::alloc::Global;
 
 impl Point<'_> {
@@ -134,9 +134,9 @@ pub fn after(
 
 /// [`after`] in place: the note becomes what is known where the first way leads. A refused note stays as it is; when memory
 /// runs out, as it can at arithmetic that makes an address with a base of its own, a conditional jump or a call alone, it may
-/// be changed.
+/// be changed. A jump's target takes over the memory of a spare note.
 pub fn transfer(
-    alloc: Global,
+    spares: &mut Spares,
     insn: &Insn,
     pc: u32,
     note: &mut Note,
@@ -153,5 +153,5 @@ pub fn transfer(
 {
     has_words(*insn);
     let effect = decide(insn, pc, note, shapes)?;
-    Ok(effect.apply(alloc, pc, note)?)
+    Ok(effect.apply(spares, pc, note)?)
 }

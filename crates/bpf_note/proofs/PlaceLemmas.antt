@@ -42,6 +42,13 @@ changed_from {A = A} xs ys zs f d e x i n len ly lz lt done left is =
       λ k after. let ne : k ≢ i = omega arith in get_or-set_other xs i k x d ne ∙ left k (omega arith),
     )
 
+-- one more place stays, and those after it aren't changed yet
+pub kept_from : {A : Type 0} (xs ys zs : List A) (f : A → A → A) (d : A) (i n : ℕ) → length xs ≡ n →
+    ((k : ℕ) → k < i → get_or xs k d ≡ f (get_or ys k d) (get_or zs k d)) → ((k : ℕ) → i ≤ k → get_or xs k d ≡ get_or ys k d) → f (get_or xs i d) (get_or zs i d) ≡ get_or xs i d →
+    (length xs ≡ n) × ((k : ℕ) → k < i + 1 → get_or xs k d ≡ f (get_or ys k d) (get_or zs k d)) × ((k : ℕ) → i + 1 ≤ k → get_or xs k d ≡ get_or ys k d)
+kept_from {A = A} xs ys zs f d i n len done left same =
+    (len, below_more _ _ done (sym same ∙ ap (λ (y : A). f y (get_or zs i d)) (left i (omega arith))), λ k after. left k (omega arith))
+
 pub le_cases : (n k : ℕ) → (n ≤ k) ⊎ (k < n)
 le_cases zero k = inl (omega arith)
 le_cases (suc n) zero = inr (omega arith)
@@ -70,6 +77,14 @@ same_places (x ∷ xs) (y ∷ ys) d l h =
     let tails : xs ≡ ys = same_places xs ys d (omega arith) (λ k. h (suc k)) in
     let heads : x ≡ y = h 0 in
     cc
+
+-- the same at each place of theirs
+pub all_copied : {A : Type 0} (xs ys : List A) (d : A) (n : ℕ) → length xs ≡ n → length ys ≡ n → ((k : ℕ) → k < n → get_or xs k d ≡ get_or ys k d) → xs ≡ ys
+all_copied {A = A} xs ys d n lx ly h = same_places xs ys d (lx ∙ sym ly) (λ k. by k (le_cases n k))
+  where
+    by : (k : ℕ) → (n ≤ k) ⊎ (k < n) → get_or xs k d ≡ get_or ys k d
+    by k (inl past) = past_end xs k d (omega arith) ∙ sym (past_end ys k d (omega arith))
+    by k (inr inside) = h k inside
 
 -- a slice from a place on is the rest
 take_enough : {A : Type 0} (n : ℕ) (xs : List A) → length xs ≤ n → take n xs ≡ xs

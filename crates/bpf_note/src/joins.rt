@@ -8,7 +8,7 @@ ghost use Rattle.bpf_note.specs.Slots.{both, joined_slot, IsCovered};
 
 use crate::note::Note;
 use crate::slot::Slot;
-use crate::slots::set_bytes;
+use crate::slots::{is_same_value, set_bytes};
 use crate::val::Val;
 use std::alloc::{AllocError, Global};
 
@@ -129,7 +129,9 @@ fn join_registers(a: &mut [Val; 11], b: &[Val; 11])
         ≡ joined_value (slice_index_or a.old k Val.Unset) (slice_index_or b.now k Val.Unset) }
 {
     for i in 0..11 {
-        a[i] = join_value(a[i], b[i]);
+        if !is_same_value(&a[i], &b[i]) {
+            a[i] = join_value(a[i], b[i]);
+        }
     }
 }
 

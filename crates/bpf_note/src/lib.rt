@@ -4,7 +4,7 @@
 //! - `val`, `slot`, `slots`: what is known of a register and of eight bytes of the stack, and what is done to these
 //! - `bound`, `bounds`: what is known of ids, and lists of it; `chunk`, `chunks`, `shared`, `fingerprint`: how notes share
 //!   these lists
-//! - `note`: all that is known before an instruction
+//! - `note`: all that is known before an instruction; `spares`: notes that are done with, whose memory copies take over
 //! - `joins`, `replacement`: what is known where two notes meet, and what becomes of values that carry an id
 //! - `laws`: what holds of notes
 #![tactic(auto)]
@@ -24,6 +24,7 @@ mod shape;
 mod shared;
 mod slot;
 mod slots;
+mod spares;
 mod val;
 
 pub use joins::{covers, join, join_in_place};
@@ -36,4 +37,5 @@ pub use layout::{counters_are_found, found_counters_lie_there, packets_end};
 pub use note::Note;
 pub use op::Op;
 pub use shape::MapShape;
+pub use spares::Spares;
 pub use val::{PACKET_ID, Val};

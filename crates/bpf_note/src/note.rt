@@ -8,7 +8,9 @@ use crate::bound::Bound;
 use crate::replacement::Replacement;
 use crate::shared::SharedBounds;
 use crate::slot::Slot;
-use crate::slots::{are_equal, replaced_registers, replaced_slots, slot_with_byte};
+use crate::slots::{
+    are_equal, copy_slots, is_same_value, replaced_registers, replaced_slots, slot_with_byte,
+};
 use crate::val::Val;
 use std::alloc::{AllocError, Global};
 use std::marker::Model;
@@ -192,6 +194,18 @@ impl Note {
         Ok(Box::new(alloc, note)?)
     }
 
+    /// Makes this note the same as another.
+    pub(crate) fn become_copy(&mut self, other: &Note) -> Result<(), AllocError>
+        ensures { OnOk result (self.new ≡ other.now) }
+    {
+        let bounds = other.bounds.share()?;
+        self.regs = other.regs;
+        copy_slots(&mut self.slots, &other.slots, self.floor.min(other.floor));
+        self.floor = other.floor;
+        self.bounds = bounds;
+        Ok(())
+    }
+
     /// Whether the two notes are equal: they say the same.
     pub fn same_as(&self, other: &Note) -> bool
         ensures { IsTrue result ↔ (self.now ≡ other.now) }
@@ -207,7 +221,12 @@ impl Note {
 fn are_same_registers(a: &[Val; 11], b: &[Val; 11]) -> bool
     ensures { IsTrue result ↔ (a.now ≡ b.now) }
 {
-    *a == *b
+    for i in 0..11 {
+        if !is_same_value(&a[i], &b[i]) {
+            return false;
+        }
+    }
+    true
 }
 
 fn entry_registers() -> [Val; 11]

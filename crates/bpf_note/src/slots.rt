@@ -53,6 +53,34 @@ pub(crate) fn replaced_slots(slots: &[Slot; 64], floor: usize, change: Replaceme
     changed
 }
 
+/// Makes a stack the same as another. No byte of the slots below `floor` is set.
+pub(crate) fn copy_slots(to: &mut [Slot; 64], from: &[Slot; 64], floor: usize)
+    requires to { IsBlankBelow floor to.old }
+    requires from { IsBlankBelow floor from.now }
+    ensures { to.new ≡ from.now }
+{
+    for i in floor..64 {
+        to[i] = from[i];
+    }
+}
+
+/// Whether two values are equal. Most are numbers, which are compared first.
+#[tactic(auto, using(crate::proofs::EqualLemmas::vals_equal))]
+pub(crate) fn is_same_value(a: &Val, b: &Val) -> bool
+    ensures { IsTrue result ↔ (a.now ≡ b.now) }
+{
+    match (a, b) {
+        (
+            Val::Num { lo, hi },
+            Val::Num {
+                lo: other_lo,
+                hi: other_hi,
+            },
+        ) => lo == other_lo && hi == other_hi,
+        _ => *a == *b,
+    }
+}
+
 #[tactic(auto, using(crate::proofs::EqualLemmas::slots_equal))]
 fn is_same(a: &Slot, b: &Slot) -> bool
     ensures { IsTrue result ↔ (a.now ≡ b.now) }

@@ -1,6 +1,7 @@
 -- While the notes of one slot are taken along its edges.
-use Rattle.std.proofs.Common.{◌≡◌, inl, inr, ◌<◌, ◌≤◌, ◌+◌, ℕ, zero, suc, List, [], ◌∷◌, ◌++◌, Option, Some, None, length, drop, map, set, ◌≢◌, refl, sym, ap, ◌∙◌, arith, subst, true, false}
+use Rattle.std.proofs.Common.{◌≡◌, inl, inr, ◌<◌, ◌≤◌, ◌+◌, ℕ, zero, suc, List, [], ◌∷◌, ◌++◌, Option, Some, None, length, drop, map, reverse, set, ◌≢◌, refl, sym, ap, ◌∙◌, arith, subst, true, false}
 use Rattle.std.proofs.lemmas.Option.{slice_get_within}
+use Rattle.std.proofs.lemmas.List.{reverse-append, reverse-reverse, map-append}
 use Rattle.std.specs.Prelude.{slice_get, slice_index_or, Ok, Err, IsSome, IfSome, ◌↔◌}
 use Rattle.std.proofs.lemmas.Bool.Decides.{nat_tests}
 use Rattle.bpf_insn.specs.Code.{IsCode}
@@ -41,6 +42,10 @@ drop_all (x ∷ xs) zero h = absurd (omega arith)
 drop_all (x ∷ xs) (suc i) h = drop_all xs i (omega arith)
 
 -- the first of those behind i is item i, and the others are behind i + 1
+-- the last of a list is the first of its reverse
+pub last_first : {A : Type 0} {xs : List A} (ys : List A) (x : A) → xs ≡ ys ++ x ∷ [] → reverse xs ≡ x ∷ reverse ys
+last_first ys x e = ap reverse e ∙ reverse-append ys (x ∷ [])
+
 pub drop_head : {A : Type 0} (xs : List A) (i : ℕ) (x : A) (ys : List A) → drop i xs ≡ x ∷ ys → (slice_get xs i ≡ Some x) × (drop (i + 1) xs ≡ ys)
 drop_head [] zero x ys e = absurd (cc)
 drop_head [] (suc i) x ys e = absurd (cc)
@@ -250,3 +255,25 @@ elsewhere (x ∷ xs) zero zero ns h = absurd (h refl)
 elsewhere (x ∷ xs) zero (suc q) ns h = refl
 elsewhere (x ∷ xs) (suc pc) zero ns h = refl
 elsewhere (x ∷ xs) (suc pc) (suc q) ns h = elsewhere xs pc q ns (λ e. h (ap suc e))
+
+-- none has gone yet
+pub following_none : (code : List Insn) (shapes : List Shape) (pc : ℕ) (items : List (List Noted)) (ns : List Noted) →
+    IsFollowing code shapes pc 0 (facts_at items) (facts_at (set items pc ns))
+following_none code shapes pc items ns = record {
+  rest = λ q other r h. subst (λ (ms : List Facts). Hears ms q (told code shapes pc (facts_at items pc)) r) (elsewhere items pc q ns other) h;
+  allowed = λ h. h;
+  takes = λ h. h;
+  first = λ c n h. h;
+}
+
+-- a list that was turned twice
+pub turned_back : (xs ys zs : List Noted) → ys ≡ reverse xs → xs ≡ zs → reverse ys ≡ zs
+turned_back xs ys zs turned is = ap reverse turned ∙ (reverse-reverse xs ∙ is)
+
+-- what boxes hold, turned
+pub turned_boxes : {B : Type 0} (v : B → Noted) (bs cs : List B) (ns : List Noted) → cs ≡ reverse bs → map v bs ≡ ns → map v cs ≡ reverse ns
+turned_boxes v bs cs ns turned is = ap (map v) turned ∙ (map_reverse v bs ∙ ap reverse is)
+  where
+    map_reverse : {B : Type 0} (v : B → Noted) (bs : List B) → map v (reverse bs) ≡ reverse (map v bs)
+    map_reverse v [] = refl
+    map_reverse v (b ∷ bs) = ap (map v) (reverse-append (b ∷ []) bs) ∙ (map-append v (reverse bs) (b ∷ []) ∙ (ap (λ (ns : List Noted). ns ++ v b ∷ []) (map_reverse v bs) ∙ sym (reverse-append (v b ∷ []) (map v bs))))

@@ -1,10 +1,10 @@
 //! The notes at a slot.
-ghost use Rattle.std.specs.Prelude.{◌≡◌, ◌↔◌, map, Contains, IsTrue, OnOk, IfOk, IfSome, IfNone, [], ◌∷◌};
+ghost use Rattle.std.specs.Prelude.{◌≡◌, ◌↔◌, map, Contains, IsTrue, OnOk, IfOk, IfSome, IfNone, [], ◌∷◌, ◌++◌, reverse};
 ghost use Rattle.bpf_note.specs.Facts.{entry};
 ghost use Rattle.bpf_note.specs.Parts.{facts};
 ghost use Rattle.bpf_verify.specs.Gathered.{Arrives};
 
-use bpf_note::{Note, join_in_place, notes_that_say_the_same_are_equal};
+use bpf_note::{Note, Spares, join_in_place, notes_that_say_the_same_are_equal};
 use std::alloc::{AllocError, Global};
 use std::marker::Model;
 use std::mem;
@@ -63,15 +63,19 @@ impl NoteList {
         self.notes
     }
 
-    /// The first note goes.
-    pub(crate) fn take_first(&mut self) -> Option<Box<Note>>
-        ensures some { IfSome result (λ b. self.old ≡ b.value ∷ self.new) }
+    /// The last note stands first, and so on.
+    pub(crate) fn reverse(&mut self)
+        ensures { self.new ≡ reverse self.old }
+    {
+        self.notes.reverse();
+    }
+
+    /// The last note goes.
+    pub(crate) fn take_last(&mut self) -> Option<Box<Note>>
+        ensures some { IfSome result (λ b. self.old ≡ self.new ++ b.value ∷ []) }
         ensures none { IfNone result (self.old ≡ []) }
     {
-        if self.notes.is_empty() {
-            return None;
-        }
-        Some(self.notes.remove(0))
+        self.notes.pop()
     }
 
     /// Takes over the memory of a list without notes, if it has no notes either.
@@ -95,17 +99,20 @@ impl NoteList {
         false
     }
 
-    /// A note comes to the list.
-    pub(crate) fn arrive(&mut self, note: Box<Note>) -> Result<(), AllocError>
+    /// A note comes to the list. One that isn't appended becomes a spare note.
+    pub(crate) fn arrive(&mut self, note: Box<Note>, spares: &mut Spares) -> Result<(), AllocError>
         ensures { OnOk result (Arrives (map facts self.old) (facts note.value) (map facts self.new)) }
     {
         if self.holds(&note) {
+            spares.take(note);
             return Ok(());
         }
         if self.notes.len() < MOST_NOTES {
             self.notes.push(note)?;
             return Ok(());
         }
-        join_in_place(&mut self.notes[MOST_NOTES - 1], &note)
+        join_in_place(&mut self.notes[MOST_NOTES - 1], &note)?;
+        spares.take(note);
+        Ok(())
     }
 }

@@ -21,15 +21,17 @@ use crate::out_of_memory::memory_refusal;
 use crate::stopped::{Stopped, is_rule_cause};
 use bpf_flow::{Ways, transfer};
 use bpf_insn::{Cause, Insn};
-use bpf_note::{MapShape, Note};
+use bpf_note::{MapShape, Note, Spares};
 use std::alloc::{AllocError, Global};
 use std::mem;
 
-/// The notes at each slot, and the memory of the list that was followed last, which the next list without notes takes over.
+/// The notes at each slot, and memory that is used again: of the list that was followed last, which the next list without notes
+/// takes over, and of notes.
 #[derive(Drop)]
 struct Table {
     lists: Vec<NoteList>,
     spare: NoteList,
+    spares: Spares,
 }
 
 /// Brings a note to a slot.
@@ -41,7 +43,7 @@ fn tell(table: &mut Table, pc: u32, note: Box<Note>) -> Result<(), AllocError>
 {
     let list = &mut table.lists[pc as usize];
     list.take_over(&mut table.spare);
-    list.arrive(note)
+    list.arrive(note, &mut table.spares)
 }
 
 /// Brings notes to the slots that an instruction leads to: this one to the first of them.
@@ -64,7 +66,6 @@ fn spread(table: &mut Table, note: Box<Note>, ways: Ways) -> Result<(), AllocErr
 
 /// Takes one note of a slot along its edges. A refused note comes back as it was.
 fn follow_note(
-    alloc: Global,
     code: &[Insn],
     shapes: &[MapShape],
     table: &mut Table,
@@ -84,7 +85,7 @@ fn follow_note(
     ensures there { IfErr result (λ s. IsSome s.note ↔ IsRuleCause s.refusal.cause) }
     ensures kept { IfErr result (λ s. IfSome s.note (λ n. n.value ≡ note.value)) }
 {
-    match transfer(alloc, &code[pc as usize], pc, &mut note, shapes) {
+    match transfer(&mut table.spares, &code[pc as usize], pc, &mut note, shapes) {
         Ok(ways) => match spread(table, note, ways) {
             Ok(()) => Ok(()),
             Err(error) => Err(Stopped::from(memory_refusal(error, pc))),
@@ -119,8 +120,9 @@ fn follow(
         (λ n. IsFirstRefused code.now shapes.now pc (facts_at table.old.lists.items pc) s.refusal.cause (facts n.value))) }
 {
     let mut list = mem::replace(&mut table.lists[pc as usize], NoteList::empty(alloc));
-    while let Some(note) = list.take_first() {
-        follow_note(alloc, code, shapes, table, pc, note)?;
+    list.reverse();
+    while let Some(note) = list.take_last() {
+        follow_note(code, shapes, table, pc, note)?;
     }
     table.spare = list;
     Ok(())
@@ -140,6 +142,7 @@ fn blank(alloc: Global, slots: usize) -> Result<Table, AllocError>
     Ok(Table {
         lists,
         spare: NoteList::empty(alloc),
+        spares: Spares::none(alloc),
     })
 }
 

@@ -3,7 +3,7 @@
 use crate::known::{exactly, range};
 use bpf_flow::{Ways, transfer};
 use bpf_insn::{AluOp, Cause, Condition, Insn, Operand, Register};
-use bpf_note::{Note, Val};
+use bpf_note::{Note, Spares, Val};
 use std::alloc::Global;
 
 /// `r2 op= src`.
@@ -14,7 +14,7 @@ fn r2_gets(alloc: Global, note: &mut Note, op: AluOp, src: Operand) -> Result<Wa
         dst: Register::R2,
         src,
     };
-    transfer(alloc, &insn, 7, note, &[])
+    transfer(&mut Spares::none(alloc), &insn, 7, note, &[])
 }
 
 /// A note of which nothing but `r2` is known, beside what is known at first.
@@ -59,7 +59,7 @@ fn ways_of_a_jump(alloc: Global) -> Option<[(u32, Val); 2]> {
         src: Operand::Immediate(4),
         off: 2,
     };
-    match transfer(alloc, &insn, 7, &mut note, &[]) {
+    match transfer(&mut Spares::none(alloc), &insn, 7, &mut note, &[]) {
         Ok(Ways::Two(next, target)) => Some([
             (next, note.register(2)),
             (target.pc, target.note.register(2)),

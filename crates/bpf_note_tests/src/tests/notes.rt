@@ -1,7 +1,7 @@
 //! The parts of a note, each set and read.
 
 use crate::known::{bounds, set_bounds, set_bytes, values};
-use bpf_note::{Note, PACKET_ID, Val};
+use bpf_note::{Note, PACKET_ID, Spares, Val};
 use std::alloc::{AllocError, Global};
 use std::test::Fail;
 
@@ -143,5 +143,23 @@ fn copies_are_equal(rt: HostRuntime) -> Result<(), Fail> {
     let (note, mut copy) = copied(rt.alloc())?;
     let equal = are_equal(&note, &mut copy)?;
     assert_eq!(rt; equal, [true, false, true, false]);
+    Ok(())
+}
+
+/// A copy in the memory of a note that knows more of the stack.
+fn copied_over(alloc: Global) -> Result<Box<Note>, AllocError> {
+    let mut deep = Note::entry(alloc);
+    deep.keep(0, Val::FULL);
+    let mut spares = Spares::none(alloc);
+    spares.take(Box::new(alloc, deep)?);
+    let mut note = Note::entry(alloc);
+    note.set_byte(511);
+    spares.copy(&note)
+}
+
+#[test]
+fn a_copy_takes_over_a_spare_note(rt: HostRuntime) -> Result<(), Fail> {
+    let copy = copied_over(rt.alloc())?;
+    assert_eq!(rt; (copy.kept(0), copy.is_set(511)), (None, true));
     Ok(())
 }

@@ -1,5 +1,4 @@
 use Rattle.std.proofs.Common.{rules, ◌≡◌, ◌∙◌, length, map, ap, subst, sym}
-use Rattle.std.proofs.lemmas.Result.{on_ok_weaker}
 use Rattle.std.specs.Box.{with_value}
 use Rattle.std.specs.Prelude.{Contains}
 use Rattle.bpf_note.specs.Join.{joined}
@@ -25,4 +24,4 @@ returns c =
     let eighth = c.index_mut.result.now in
     let same : joined (facts c.deref_mut.result.now) (facts c.deref-2.result.now) ≡ joined (facts eighth.value) (facts c.args.note.value) =
     ap (λ (n : Noted). joined (facts n) (facts c.deref-2.result.now)) c.deref_mut.ensures.value ∙ ap (λ (n : Noted). joined (facts eighth.value) (facts n)) c.deref-2.ensures in
-    on_ok_weaker c.join_in_place.result (λ e. merges_in_box c.args.self.now c.self.inside.notes.items eighth (with_value eighth c.join_in_place.new.a) c.args.note.value c.self.view_is full c.index_mut.ensures.value new (e ∙ same)) c.join_in_place.ensures.ok
+    merges_in_box c.args.self.now c.self.inside.notes.items eighth (with_value eighth c.join_in_place.new.a) c.args.note.value c.self.view_is full c.index_mut.ensures.value new (c.in_ok-join_in_place.ensures.ok ∙ same)
