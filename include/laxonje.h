@@ -14,7 +14,7 @@
  *    laxonje_again makes a program to be handed over.
  * 4. malloc, realloc and free are those of one allocator, and align blocks to 16 bytes. No call from a signal handler, or
  *    from the forked child of a process with threads.
- * 5. This header is written by hand. No proof compares it with the library, but tools/header-fits, the assertions below and the examples
+ * 5. This header is written by hand. No proof compares it with the library, but tools/gate/header-fits, the assertions below and the examples
  *    do: take both from one release.
  *
  * laxonje_drive.h has the loop of a queue's host over this header, and names for its logs.

@@ -3,6 +3,13 @@ import os
 import sys
 
 
+def help_if_asked(text):
+    """Prints the help of a tool and ends, if that alone is asked for."""
+    if sys.argv[1:] == ["--help"]:
+        put(f"{text}\n")
+        sys.exit()
+
+
 def put(text):
     """Prints settings. Ends with status 1 where standard output doesn't take all of them."""
     if sys.stdout is None:

@@ -1,4 +1,4 @@
-//! Decoding again after it was refused memory. `tools/refuse-growths` refuses each allocation of this test in turn, and
+//! Decoding again after it was refused memory. `tools/gate/refuse-growths` refuses each allocation of this test in turn, and
 //! counts the runs that print `refused`.
 
 use bpf_insn::{Cause, decode};

@@ -1,4 +1,4 @@
-//! What takes memory, called again once it was refused. `tools/refuse-growths` refuses each allocation of these tests in
+//! What takes memory, called again once it was refused. `tools/gate/refuse-growths` refuses each allocation of these tests in
 //! turn, and counts the runs that print `refused`.
 
 use crate::{Counters, MapShape, Totals};

@@ -1,4 +1,4 @@
-//! Checking again after it was refused memory, and a buffer made again. `tools/refuse-growths` refuses each allocation of
+//! Checking again after it was refused memory, and a buffer made again. `tools/gate/refuse-growths` refuses each allocation of
 //! these tests in turn, and counts the runs that print `refused`.
 ghost use Rattle.std.specs.Prelude.{◌≤◌, length};
 

@@ -1,4 +1,4 @@
-//! Runs of pairs, asked for again after they were refused memory. `tools/refuse-growths` refuses each allocation of this test in
+//! Runs of pairs, asked for again after they were refused memory. `tools/gate/refuse-growths` refuses each allocation of this test in
 //! turn, and counts the runs that print `refused`.
 
 use crate::plan::Plan;

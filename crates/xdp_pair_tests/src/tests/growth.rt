@@ -1,4 +1,4 @@
-//! A run of pairs, asked for again after it was refused memory. `tools/refuse-growths` refuses each allocation of this
+//! A run of pairs, asked for again after it was refused memory. `tools/gate/refuse-growths` refuses each allocation of this
 //! test in turn, and counts the runs that print `refused`.
 
 ghost use Rattle.std.specs.Prelude.{IfSome};

@@ -1,4 +1,4 @@
-//! Loading again after it was refused memory. `tools/refuse-growths` refuses each allocation of these tests in turn, and
+//! Loading again after it was refused memory. `tools/gate/refuse-growths` refuses each allocation of these tests in turn, and
 //! counts the runs that print `refused`.
 use crate::loading::{is_for_memory, refusal_of, run};
 use std::alloc::Global;

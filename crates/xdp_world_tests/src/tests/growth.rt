@@ -1,4 +1,4 @@
-//! Worlds, steps and replays, asked for again after they were refused memory. `tools/refuse-growths` refuses each
+//! Worlds, steps and replays, asked for again after they were refused memory. `tools/gate/refuse-growths` refuses each
 //! allocation of these tests in turn, and counts the runs that print `refused`.
 ghost use Rattle.std.specs.Prelude.{◌≡◌, ◌<◌, ◌≤◌, IfOk, length, vec_len};
 

@@ -1,1 +1,0 @@
-"""The tests that tools/test-tools runs: each group gives rows of a name and whether it passed."""
