@@ -257,9 +257,7 @@ struct laxonje_queue_standing {
  * `entry` says what for, and `reference` which grant.
  *
  * Of what is over, `number` is what the program returned, `cause` why it was refused or halted, `ops` how many operations on counters the
- * program's run did, and `slots` how many slots the packet took. Where a grant failed its check, `grant` is why, by the GNTST_ numbers of
- * grant_table.h (-3: no such grant, -8: another domain's or read-only, -9: not a frame of the frontend's), `index` is its slot's in the
- * ring, and `reference` the grant. Of a halt `index` is that of the slot that was wrong, or the producer. */
+ * program's run did, and `slots` how many slots the packet took. `index` and `grant` are 0: they are for later versions. */
 struct laxonje_op {
 	uint32_t kind;
 	uint32_t frame;

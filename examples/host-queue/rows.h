@@ -10,8 +10,7 @@
 enum { GUEST = 5, PORT = 7000, MOST = 4, PERMIT = 1, FLAGS = 3, HEADER = 14, UNTOUCHED = 0xa5 };
 
 /* An op, with the words that it reads or writes. BEGINS: a turn, and the producer. PUSH: the word that is written, and which one is read
- * after it, with what it holds. Of one that ends: the outcome, the number or the cause, the slots, and `ops`; and where a grant failed, why,
- * the slot's index and the reference. */
+ * after it, with what it holds. Of one that ends: the outcome, the number or the cause, the slots, and `ops`; all else is 0. */
 struct row {
 	uint32_t kind, frame, word, count;
 	uint32_t words[MOST];

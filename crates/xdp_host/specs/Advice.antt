@@ -1,3 +1,4 @@
+-- Stated: claims rest on this file.
 -- What C is told of a cause.
 use Rattle.std.specs.Prelude.{ℕ, List, [], ◌∷◌, Option, None, Some, get_or}
 use Rattle.bpf_insn.specs.declared.refusal.Cause.{Cause}

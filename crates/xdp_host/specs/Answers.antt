@@ -1,3 +1,4 @@
+-- Stated: claims rest on this file.
 -- What C is answered where it asks for a program.
 use Rattle.std.specs.Prelude.{ℕ, ◌≡◌, ◌<◌, ◌≤◌, ◌⊎◌, List, All, length, map, take}
 use Rattle.std.specs.List.{HoldsAt}

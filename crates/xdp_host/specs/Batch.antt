@@ -1,3 +1,4 @@
+-- Stated: claims rest on this file.
 -- Runs on the packets of a batch, one after another.
 use Rattle.std.specs.Prelude.{ℕ, ◌≡◌, ◌<◌, ◌≤◌, ◌+◌, ◌⊎◌, List, [], ◌∷◌, ◌++◌, length, take, drop, slice_range}
 use Rattle.bpf_maps.specs.Layout.{total}

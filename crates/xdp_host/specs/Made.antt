@@ -1,3 +1,4 @@
+-- Stated: claims rest on this file.
 -- What C is answered where it makes a queue.
 use Rattle.std.specs.Prelude.{ℕ, ◌≡◌, ◌⊎◌, List, Option, Some, map}
 use Rattle.bpf_verify.specs.Consistent.{Accepted}

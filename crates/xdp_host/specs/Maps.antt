@@ -1,3 +1,4 @@
+-- Stated: claims rest on this file.
 -- What C is told of a program's maps.
 use Rattle.std.specs.Prelude.{ℕ, List, Option, None, Some, slice_get}
 use Rattle.bpf_note.specs.Shape.{Shape}

@@ -1,3 +1,4 @@
+-- Stated: claims rest on this file.
 -- Where a queue stands, in the numbers of include/laxonje.h.
 use Rattle.std.specs.Prelude.{Option, None, Some}
 use Rattle.xen_back.specs.Causes.{halt_number}

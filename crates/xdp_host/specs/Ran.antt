@@ -1,3 +1,4 @@
+-- Stated: claims rest on this file.
 -- The result of a run, as C gets it.
 use Rattle.std.specs.Prelude.{ℕ, ◌≡◌, List}
 use Rattle.bpf_vm.specs.Actions.{action_of}

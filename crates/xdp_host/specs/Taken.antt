@@ -1,3 +1,4 @@
+-- Stated: claims rest on this file.
 -- What C is answered where it has a packet delivered, or waits for rx slots.
 use Rattle.std.specs.Prelude.{ℕ, ◌≡◌, List}
 use Rattle.xen_host.specs.Queues.{IsTaken, IsWaitTaken}

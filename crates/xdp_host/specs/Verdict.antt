@@ -1,3 +1,4 @@
+-- Stated: claims rest on this file.
 -- The verdict on a program: the three numbers that C gets.
 use Rattle.std.specs.Prelude.{ℕ}
 use Rattle.bpf_insn.specs.Cause.{cause_number}

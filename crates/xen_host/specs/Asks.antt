@@ -1,3 +1,4 @@
+-- Stated: claims rest on this file.
 -- What a host is asked to do: the ops, as what they mean, and what C gets of each.
 use Rattle.std.specs.Prelude.{ℕ, ◌≡◌, ◌<◌, ◌≤◌, ◌+◌, Bool, true, false, List, [], ◌∷◌, ◌++◌, take, drop, if◌then◌else◌}
 use Rattle.xen_page.specs.Mapping.{frame_place}

@@ -1,3 +1,4 @@
+-- For proofs: no claim rests on this file.
 -- Asks that follow one another: the responses of a chain, and of rx slots.
 use Rattle.std.specs.Prelude.{ℕ, zero, suc, ◌+◌, Bool, List, [], ◌∷◌, length, slice_index}
 use Rattle.xen_steps.specs.Places.{add32}

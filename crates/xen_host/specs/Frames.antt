@@ -1,3 +1,4 @@
+-- Stated: claims rest on this file.
 -- Who owns each frame, and how many frames there may be, in each form that a host gives the owners in.
 -- Rows worked by hand guard it: examples/host-queue/extents.c.
 use Rattle.std.specs.Prelude.{ℕ, List}

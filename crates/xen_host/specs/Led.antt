@@ -1,5 +1,6 @@
+-- For proofs: no claim rests on this file.
 -- What a function that says ops has done: the computation that was left, and where the ops lead from it.
-use Rattle.std.specs.Prelude.{ℕ, suc, ◌≡◌, ◌≤◌, ◌⊎◌, Bool, true, false, List, [], ◌∷◌, ◌++◌, length, drop, map, take}
+use Rattle.std.specs.Prelude.{ℕ, ◌≡◌, Bool, true, false, List, [], ◌++◌, take}
 use Rattle.xen_netif.specs.Chain.{Slot}
 use Rattle.xen_netif.specs.declared.flags.TxFlags.{TxFlags}
 use Rattle.xen_steps.specs.Drive.{Gone}
@@ -12,11 +13,12 @@ use Rattle.xen_back.specs.Waits.{Wait}
 use Rattle.xen_back.specs.declared.state.State.{State}
 use Rattle.xen_back.specs.declared.turn.Kind.{Kind}
 use Rattle.xen_back.specs.declared.turn.Kind.TheVariants as kind
-use Rattle.xen_host.specs.Asks.{AllSized, Ask, DeliveryOver, TakeNone, TurnOver, WaitOver, WordsStay, did_all, did_by, goes_on, op_of}
+use Rattle.xen_host.specs.Asks.{Ask, DeliveryOver, TurnOver, WaitOver, did_all, did_by}
 use Rattle.xen_host.specs.Fed.{WaitsFor, fed}
 use Rattle.xen_host.specs.Fits.{Fits}
 use Rattle.xen_host.specs.Ran.{HasGone}
 use Rattle.xen_host.specs.Rest.{flags_after, is_delivering, is_turning, is_waiting, reads_filling, reads_in, rest_in, rest_of_delivery, rest_of_wait}
+use Rattle.xen_host.specs.Said.{Said, has_run}
 use Rattle.xen_host.specs.Wired.{vif_of, wiring_of}
 use Rattle.xen_host.specs.declared.engine.Engine.{Engine}
 use Rattle.xen_host.specs.declared.op.Op.{Op}
@@ -26,17 +28,6 @@ use Rattle.xen_host.specs.declared.stage.Stage.{Stage}
 use Rattle.xen_host.specs.declared.stage.Stage.TheVariants as stage
 use Rattle.xen_host.specs.declared.wires.Wires.{Wires}
 use Rattle.xen_host.specs.declared.work.Work.{Work}
-
--- Asks stand in front of a host's ops, as C gets them: no more than there is room for, and as many up to one that the step can't go on
--- after. All but the last take no answer. The lent words stay, but for those that a WRITE takes.
-pub record Said (first : List Ask) (last : Ask) (ops ops_after : List Op) (count : ℕ) (lent lent_after : List ℕ) : Type 0 where
-  pub take_none : TakeNone first
-  pub filled : ops_after ≡ map op_of first ++ op_of last ∷ drop count ops
-  pub counted : count ≡ suc (length first)
-  pub room : count ≤ length ops
-  pub stops : (count ≡ length ops) ⊎ (goes_on last ≡ false)
-  pub words : WordsStay (first ++ last ∷ []) lent lent_after
-  pub sized : AllSized (first ++ last ∷ [])
 
 -- What was asked leads from a computation to where it ends. The wiring stays; the flags are these.
 pub record Led {A : Type 0} (ends : Ask → Steps A → Type 0) (w : Wires) (flags : TxFlags) (from : Steps A) (new : Engine)
@@ -58,11 +49,6 @@ pub record IsOn {A : Type 0} (rest : Steps A) (reads : ℕ) (here : Bool) (last 
   pub is_here : here ≡ true
 
 -- ---- turns
-
--- the program ran in a turn of this kind, and the guest was told so
-abbrev pub has_run : Kind → Bool
-has_run (kind.Ran ops number slots) = true
-has_run k = false
 
 -- the packet that a turn of this kind leaves
 abbrev pub packet_after : Kind → List ℕ → List ℕ

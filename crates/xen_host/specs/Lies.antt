@@ -1,3 +1,4 @@
+-- Stated: claims rest on this file.
 -- Where the slots of a chain lie.
 use Rattle.std.specs.Prelude.{◌≡◌, false, List, [], ◌∷◌}
 use Rattle.xen_netif.specs.Chain.{Slot, extra_info, more_data}

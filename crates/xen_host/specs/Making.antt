@@ -1,3 +1,4 @@
+-- Stated: claims rest on this file.
 -- Making a queue of numbers.
 use Rattle.std.specs.Prelude.{ℕ, ◌≡◌, ◌≢◌, ◌<◌, ◌≤◌, List, [], None, Some, Contains, length, slice_get}
 use Rattle.bpf_verify.specs.Consistent.{Accepted}

@@ -1,3 +1,4 @@
+-- Stated: claims rest on this file.
 -- The struct that C gets of an op: include/laxonje.h has its fields in this order.
 use Rattle.std.specs.Prelude.{ℕ, pos}
 use Rattle.xen_page.specs.declared.place.Place.{Place}

@@ -5,7 +5,8 @@ use Rattle.xen_back.specs.Turned.{Turned, turned}
 use Rattle.xen_back.specs.declared.turn.Kind.{Kind}
 use Rattle.xen_back.specs.declared.turn.Kind.TheVariants as kind
 use Rattle.xen_host.specs.Asks as ask
-use Rattle.xen_host.specs.Led.{has_run, packet_after}
+use Rattle.xen_host.specs.Led.{packet_after}
+use Rattle.xen_host.specs.Said.{has_run}
 use Rattle.xen_host.specs.declared.engine.Engine.{Engine}
 use Rattle.xen_host.proofs.LedLemmas.{says_one}
 use Rattle.xen_host.proofs.engine.Engine.end.Goals as goal
