@@ -16,6 +16,7 @@ pub(crate) struct Driver {
     frames: Vec<sys::laxonje_extent>,
     table: Vec<u32>,
     words: Box<[u32; PAGE_WORDS]>,
+    ops: Ops,
 }
 
 impl Driver {
@@ -38,6 +39,7 @@ impl Driver {
             frames: frames.collect(),
             table: setup.table.to_vec(),
             words: Box::new([0; PAGE_WORDS]),
+            ops: Ops::default(),
         };
         driver.make(program, setup.at).map(|()| driver)
     }
@@ -57,9 +59,8 @@ impl Driver {
 
     pub fn turn(&mut self, counters: &mut [u64], guest: &mut impl Guest) -> sys::laxonje_op {
         let producer = producer(self.desc.tx, guest);
-        let mut ops = Ops::default();
-        let count = self.handle.turn(producer, &mut ops);
-        match self.make_ops(&ops[..count], guest) {
+        let count = self.handle.turn(producer, &mut self.ops);
+        match self.make_ops(count, guest) {
             Some(over) => over,
             None => self.finish(counters, guest),
         }
@@ -82,37 +83,20 @@ impl Driver {
 
     /// What is under way, to its end.
     fn finish(&mut self, counters: &mut [u64], guest: &mut impl Guest) -> sys::laxonje_op {
-        let mut ops = Ops::default();
         loop {
-            let count = self.handle.step(&mut self.words[..], counters, &mut ops);
+            let count = self.handle.step(&mut self.words[..], counters, &mut self.ops);
             assert_ne!(count, 0, "what is under way has a next op");
-            if let Some(over) = self.make_ops(&ops[..count], guest) {
+            if let Some(over) = self.make_ops(count, guest) {
                 return over;
             }
         }
     }
 
-    /// Makes ops in their order; the last one, where it says that all is over.
-    fn make_ops(&mut self, ops: &[sys::laxonje_op], guest: &mut impl Guest) -> Option<sys::laxonje_op> {
-        ops.iter().for_each(|op| self.make_op(op, guest));
+    /// Makes the first ops in their order; the last one, where it says that all is over.
+    fn make_ops(&mut self, count: usize, guest: &mut impl Guest) -> Option<sys::laxonje_op> {
+        let ops = &self.ops[..count];
+        ops.iter().for_each(|op| make_op(op, &mut self.words, guest));
         ops.last().filter(|op| op.kind == sys::LAXONJE_OP_DONE).copied()
-    }
-
-    fn make_op(&mut self, op: &sys::laxonje_op, guest: &mut impl Guest) {
-        let (word, lent) = (op.word as usize, op.lent as usize);
-        let words = &mut self.words[lent..lent + op.count as usize];
-        match op.kind {
-            sys::LAXONJE_OP_READ if op.entry != sys::LAXONJE_ENTRY_NONE => {
-                let writes = op.entry == sys::LAXONJE_ENTRY_WRITE;
-                words.copy_from_slice(&guest.entry(&Entry { reference: op.reference, frame: op.frame, word, writes }));
-            }
-            sys::LAXONJE_OP_READ => guest.read(op.frame, word, words),
-            sys::LAXONJE_OP_WRITE => guest.write(op.frame, word, words),
-            sys::LAXONJE_OP_STORE => guest.write(op.frame, word, &op.value[..op.count as usize]),
-            sys::LAXONJE_OP_PUSH => self.words[lent] = guest.push(op.frame, word, op.value[0], op.value[1] as usize),
-            sys::LAXONJE_OP_NOTIFY => guest.notify(op.value[0]),
-            _ => guest.over(),
-        }
     }
 
     pub fn packet(&self, out: &mut [u8]) -> usize {
@@ -129,6 +113,23 @@ impl Driver {
             sys::LAXONJE_STANDS => Ok(Indices { tx: at.tx_index, rx: at.rx_index }),
             _ => Err(Halt(at.halt)),
         }
+    }
+}
+
+fn make_op(op: &sys::laxonje_op, words: &mut [u32; PAGE_WORDS], guest: &mut impl Guest) {
+    let (word, count) = (op.word as usize, op.count as usize);
+    let lent = op.lent as usize..op.lent as usize + count;
+    match op.kind {
+        sys::LAXONJE_OP_READ if op.entry != sys::LAXONJE_ENTRY_NONE => {
+            let writes = op.entry == sys::LAXONJE_ENTRY_WRITE;
+            words[lent].copy_from_slice(&guest.entry(&Entry { reference: op.reference, frame: op.frame, word, writes }));
+        }
+        sys::LAXONJE_OP_READ => guest.read(op.frame, word, &mut words[lent]),
+        sys::LAXONJE_OP_WRITE => guest.write(op.frame, word, &words[lent]),
+        sys::LAXONJE_OP_STORE => guest.write(op.frame, word, &op.value[..count]),
+        sys::LAXONJE_OP_PUSH => words[lent.start] = guest.push(op.frame, word, op.value[0], op.value[1] as usize),
+        sys::LAXONJE_OP_NOTIFY => guest.notify(op.value[0]),
+        _ => guest.over(),
     }
 }
 

@@ -13,10 +13,10 @@ mod ring;
 
 use self::held::Held;
 use self::ring::{Guess, Ring, REQUESTS_IN_RING, RESPONSES, RX_SLOT, TX_SLOT};
-use super::arena::{pages, Arena, Bytes, Packet};
+use super::arena::{Arena, Packet};
 use crate::keys::QueueKeys;
 use crate::stats::Totals;
-use crate::xen::{PageCopy, Pages, Side};
+use crate::xen::{Memory, PageCopy, Pages, Places};
 use laxonje::{Entry, Extent, Guest, GuestMemory, Page, PAGE_BYTES};
 use std::io;
 use std::sync::atomic::{fence, Ordering};
@@ -30,6 +30,12 @@ const GRANTED: u32 = 2 * TABLE_FRAMES;
 
 /// The domain that the made-up entries are for: DOMID_SELF, which no guest has.
 pub const OWN_DOMAIN: u16 = 0x7ff0;
+/// So many requests are copied ahead, up to the end of a packet, if there is room for all of them; and the pages of that room.
+const AHEAD: u32 = 128;
+const PAGES_AHEAD: usize = 32;
+/// The pages that a turn can ask for one by one, and more.
+const PAGES_ASKED: usize = 64;
+const MORE_DATA: u32 = 4 << 16;
 const PERMIT_ACCESS: u32 = 1;
 const READONLY: u32 = 4;
 
@@ -49,9 +55,14 @@ pub struct XenGuest<Xen: Pages> {
     way: Way,
     tx: Ring<Xen::Mapped>,
     rx: Ring<Xen::Mapped>,
-    guessed: Vec<Bytes>,
-    asked: Vec<Bytes>,
+    /// Room for what is copied from the guest ahead of its turns, to the guest ahead of its deliveries, and in a turn.
+    taken: Memory,
+    given: Memory,
+    asked: Memory,
     asked_count: usize,
+    copies: Vec<PageCopy>,
+    /// The tx slots of the copies.
+    slots: Vec<usize>,
     held: Vec<Held<Xen::Mapped>>,
     owes_notice: bool,
     totals: Arc<Totals>,
@@ -65,8 +76,9 @@ impl<Xen: Pages> XenGuest<Xen> {
         let tx = xen.map(domain, keys.tx, true).ok_or_else(|| refused("tx"))?;
         let rx = xen.map(domain, keys.rx, true).ok_or_else(|| refused("rx"))?;
         let (tx, rx) = (Ring::new(tx, TX_SLOT, fresh), Ring::new(rx, RX_SLOT, fresh));
-        let (guessed, asked, held) = (pages(REQUESTS_IN_RING as usize), Vec::new(), Vec::new());
-        Ok(XenGuest { domain, xen, way, tx, rx, guessed, asked, asked_count: 0, held, owes_notice: false, totals })
+        let (taken, given, asked) = (xen.memory(PAGES_AHEAD), xen.memory(PAGES_AHEAD), Memory::plain(PAGES_ASKED));
+        let (copies, slots, held) = (Vec::new(), Vec::new(), Vec::new());
+        Ok(XenGuest { domain, xen, way, tx, rx, taken, given, asked, asked_count: 0, copies, slots, held, owes_notice: false, totals })
     }
 
     /// Frames of the host's own numbers, which are all the guest's.
@@ -93,42 +105,60 @@ impl<Xen: Pages> XenGuest<Xen> {
         std::mem::take(&mut self.owes_notice)
     }
 
-    /// Copies the pages of the requests that are shown, and says up to which index.
+    /// Copies the pages of requests that are shown, and says up to which index.
     pub fn fetch(&mut self) -> io::Result<u32> {
         let shown = self.tx.shown();
-        let end = self.tx.done.wrapping_add(shown.min(REQUESTS_IN_RING));
         if self.way == Way::Map || shown > REQUESTS_IN_RING {
-            return Ok(end);
+            return Ok(self.tx.done.wrapping_add(shown.min(REQUESTS_IN_RING)));
         }
-        let slots: Vec<_> = (0..shown).map(|number| (self.tx.done.wrapping_add(number) % REQUESTS_IN_RING) as usize).collect();
-        let mut wanted: Vec<_> =
-            slots.iter().map(|slot| (*slot, self.guess_request(*slot))).filter(|(_, guess)| !guess.bytes.is_empty()).collect();
-        let mut copies: Vec<_> = wanted
-            .iter()
-            .zip(&mut self.guessed)
-            .map(|((_, guess), page)| PageCopy {
-                reference: guess.reference,
-                offset: guess.bytes.start,
-                side: Side::FromGuest(&mut page.0[guess.bytes.clone()]),
-                allowed: false,
-            })
-            .collect();
-        self.xen.copy(self.domain, &mut copies)?;
-        Totals::add(&self.totals.copied_pages, copies.len() as u64);
-        for (number, ((slot, guess), copy)) in wanted.iter_mut().zip(&copies).enumerate() {
-            guess.page = number;
-            self.tx.guesses[*slot] = copy.allowed.then(|| guess.clone());
+        let count = self.guess_requests(shown);
+        self.xen.fetch(self.domain, &mut self.copies, &mut self.taken)?;
+        Totals::add(&self.totals.copied_pages, self.copies.len() as u64);
+        for (slot, copy) in self.slots.iter().zip(&self.copies) {
+            self.tx.guesses[*slot] = Some(Guess::of(copy, copy.at));
         }
-        Ok(end)
+        Ok(self.tx.done.wrapping_add(count))
     }
 
-    /// What a tx slot asks to be read: whole words of one page.
-    fn guess_request(&self, slot: usize) -> Guess {
+    /// Guesses at the next requests, of whole packets as far as there is room. How many.
+    fn guess_requests(&mut self, shown: u32) -> u32 {
+        let mut places = Places::of(&self.taken);
+        let (mut requests, mut copies) = (0, 0);
+        self.copies.clear();
+        self.slots.clear();
+        for number in 0..shown {
+            let slot = self.tx.slot(number);
+            let (guess, more) = self.guess_request(slot);
+            let at = match places.take(guess.bytes) {
+                Some(at) => at,
+                None => break,
+            };
+            if guess.bytes > 0 {
+                self.copies.push(PageCopy { at, ..guess });
+                self.slots.push(slot);
+            }
+            if !more {
+                (requests, copies) = (number + 1, self.copies.len());
+            }
+            if !more && requests >= AHEAD {
+                break;
+            }
+        }
+        self.copies.truncate(copies);
+        match requests {
+            0 => shown, // no packet that ends here: its pages are asked for
+            _ => requests,
+        }
+    }
+
+    /// What a tx slot asks to be read: whole words of one page. Whether its packet has more.
+    fn guess_request(&self, slot: usize) -> (PageCopy, bool) {
         let (second, third) = (self.tx.word(slot, 1), self.tx.word(slot, 2));
         let (offset, size) = ((second & 0xffff) as usize, (third >> 16) as usize);
         let start = (offset / 4 * 4).min(PAGE_BYTES);
         let end = ((offset + size + 3) / 4 * 4).min(PAGE_BYTES);
-        Guess { reference: self.tx.word(slot, 0), page: 0, bytes: start..end, allowed: false }
+        let copy = PageCopy { reference: self.tx.word(slot, 0), offset: start, at: 0, bytes: end - start, allowed: false };
+        (copy, second & MORE_DATA != 0)
     }
 
     /// Whether all requests before an index are answered.
@@ -142,42 +172,46 @@ impl<Xen: Pages> XenGuest<Xen> {
         guesses.for_each(|guess| *guess = None);
     }
 
-    /// Copies packets that wait to the buffers that are posted for them, as many as there are buffers for. How many packets.
+    /// Copies packets that wait to the buffers that are posted for them, as many as there are buffers and room for. How many packets.
     pub fn put(&mut self, arena: &Arena) -> io::Result<usize> {
-        let (mut slots, mut count) = (Vec::new(), 0);
-        let posted = self.posted();
         if self.way == Way::Map {
             return Ok(arena.packets().count());
         }
+        let (posted, mut places, mut count) = (self.posted(), Places::of(&self.given), 0);
+        self.copies.clear();
         for packet in arena.packets() {
-            if slots.len() + packet.pages() > posted {
+            if self.copies.len() + packet.pages() > posted || !self.give(arena, packet, &mut places) {
                 break;
             }
-            slots.extend((0..packet.pages()).map(|number| (packet, number)));
             count += 1;
         }
-        self.put_pages(arena, &slots)?;
+        self.xen.put(self.domain, &mut self.copies, &self.given)?;
+        Totals::add(&self.totals.copied_pages, self.copies.len() as u64);
+        let pages = arena.packets().take(count).flat_map(|packet| 0..packet.pages());
+        for ((number, copy), page) in (0..).zip(&self.copies).zip(pages) {
+            let slot = self.rx.slot(number);
+            self.rx.guesses[slot] = Some(Guess::of(copy, page));
+        }
         Ok(count)
     }
 
-    fn put_pages(&mut self, arena: &Arena, slots: &[(Packet, usize)]) -> io::Result<()> {
-        let first = self.rx.done;
-        let slot = |number: usize| (first.wrapping_add(number as u32) % REQUESTS_IN_RING) as usize;
-        let mut copies: Vec<_> = slots
-            .iter()
-            .enumerate()
-            .map(|(number, (packet, page))| {
-                let reference = self.rx.word(slot(number), 1);
-                PageCopy { reference, offset: 0, side: Side::ToGuest(arena.page(*packet, *page)), allowed: false }
-            })
-            .collect();
-        self.xen.copy(self.domain, &mut copies)?;
-        Totals::add(&self.totals.copied_pages, copies.len() as u64);
-        for (number, (copy, (packet, page))) in copies.iter().zip(slots).enumerate() {
-            let bytes = 0..arena.page(*packet, *page).len();
-            self.rx.guesses[slot(number)] = Some(Guess { reference: copy.reference, page: *page, bytes, allowed: copy.allowed });
+    /// Guesses at the buffers of a packet. Whether there was room for all of it.
+    fn give(&mut self, arena: &Arena, packet: Packet, places: &mut Places) -> bool {
+        let before = self.copies.len();
+        for page in 0..packet.pages() {
+            let bytes = arena.page(packet, page);
+            let at = match places.take(bytes.len()) {
+                Some(at) => at,
+                None => {
+                    self.copies.truncate(before);
+                    return false;
+                }
+            };
+            self.given.bytes_mut()[at..at + bytes.len()].copy_from_slice(bytes);
+            let reference = self.rx.word(self.rx.slot(self.copies.len() as u32), 1);
+            self.copies.push(PageCopy { reference, offset: 0, at, bytes: bytes.len(), allowed: false });
         }
-        Ok(())
+        true
     }
 
     fn ring(&self, frame: u32) -> Option<&Page> {
