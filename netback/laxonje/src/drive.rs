@@ -60,10 +60,10 @@ impl Driver {
     pub fn turn(&mut self, counters: &mut [u64], guest: &mut impl Guest) -> sys::laxonje_op {
         let producer = producer(self.desc.tx, guest);
         let count = self.handle.turn(producer, &mut self.ops);
-        match self.make_ops(count, guest) {
-            Some(over) => over,
-            None => self.finish(counters, guest),
+        if self.make_ops(count, guest) {
+            return self.ops[count - 1];
         }
+        self.finish(counters, guest)
     }
 
     /// `None`: the packet is too short or too long.
@@ -86,17 +86,18 @@ impl Driver {
         loop {
             let count = self.handle.step(&mut self.words[..], counters, &mut self.ops);
             assert_ne!(count, 0, "what is under way has a next op");
-            if let Some(over) = self.make_ops(count, guest) {
-                return over;
+            if self.make_ops(count, guest) {
+                return self.ops[count - 1];
             }
         }
     }
 
-    /// Makes the first ops in their order; the last one, where it says that all is over.
-    fn make_ops(&mut self, count: usize, guest: &mut impl Guest) -> Option<sys::laxonje_op> {
+    /// Makes the first ops in their order. Whether the last of them says that all is over.
+    #[inline(always)]
+    fn make_ops(&mut self, count: usize, guest: &mut impl Guest) -> bool {
         let ops = &self.ops[..count];
         ops.iter().for_each(|op| make_op(op, &mut self.words, guest));
-        ops.last().filter(|op| op.kind == sys::LAXONJE_OP_DONE).copied()
+        ops.last().map_or(false, |op| op.kind == sys::LAXONJE_OP_DONE)
     }
 
     pub fn packet(&self, out: &mut [u8]) -> usize {
@@ -111,11 +112,12 @@ impl Driver {
         let at = self.handle.state();
         match at.kind {
             sys::LAXONJE_STANDS => Ok(Indices { tx: at.tx_index, rx: at.rx_index }),
-            _ => Err(Halt(at.halt)),
+            _ => Err(Halt { cause: at.halt, index: 0 }),
         }
     }
 }
 
+#[inline(always)]
 fn make_op(op: &sys::laxonje_op, words: &mut [u32; PAGE_WORDS], guest: &mut impl Guest) {
     let (word, count) = (op.word as usize, op.count as usize);
     let lent = op.lent as usize..op.lent as usize + count;

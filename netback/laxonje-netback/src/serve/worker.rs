@@ -7,6 +7,7 @@ use crate::os::{restrict_to_packets, wait, Tap, Wanted};
 use crate::stats::Totals;
 use crate::xen::{Events, Grants};
 use laxonje::{Action, Awaited, Delivery, Flags, Halt, MakeError, Program, Queue, Setup, Turn};
+use std::fmt;
 use std::io::{self, Read, Write};
 use std::os::unix::io::AsRawFd;
 use std::os::unix::net::UnixStream;
@@ -281,11 +282,9 @@ impl Running {
         match turn {
             Turn::Idle => {}
             Turn::Halted(cause) => return Err(Ended::Halted(cause)),
-            Turn::Refused(cause) => {
-                totals.refuse(cause);
-                if let Some(skipped) = self.refusals.allows() {
-                    self.worker.log.line(&format!("refused a packet: {cause}{skipped}"));
-                }
+            Turn::Refused(refusal) => {
+                totals.refuse(refusal);
+                self.say(&format_args!("refused a packet: {refusal}"));
             }
             Turn::Ran(run) => match run.action {
                 Action::Pass => self.forward(run.flags),
@@ -295,6 +294,13 @@ impl Running {
             },
         }
         Ok(())
+    }
+
+    /// A line that the guest has caused.
+    fn say(&mut self, what: &dyn fmt::Display) {
+        if let Some(skipped) = self.refusals.allows() {
+            self.worker.log.line(&format!("{what}{skipped}"));
+        }
     }
 
     /// A packet that passed is to be given to the TAP device.
@@ -360,7 +366,12 @@ impl Running {
             }
             Ok(Delivery::FewSlots) => return self.await_buffers(packet.length).map(|()| false),
             Ok(Delivery::Halted(cause)) => return Err(Ended::Halted(cause)),
-            Ok(Delivery::Refused { .. }) | Err(_) => Totals::add(&totals.undelivered, 1),
+            Ok(Delivery::Refused { grant, .. }) => {
+                Totals::add(&totals.undelivered, 1);
+                let which = grant.map(|grant| format!(": {grant}")).unwrap_or_default();
+                self.say(&format_args!("a packet isn't delivered: an rx slot's grant failed its check{which}"));
+            }
+            Err(_) => Totals::add(&totals.undelivered, 1),
         }
         self.arena.leave();
         Ok(true)

@@ -124,7 +124,9 @@ impl<Xen: Pages> XenGuest<Xen> {
 
     /// Gives all pages back: what was written is copied to the guest, and what is mapped is unmapped.
     pub fn give_back(&mut self) {
-        self.put_changed();
+        if self.held.iter().any(|held| !held.changed.is_empty()) {
+            self.put_changed();
+        }
         self.held.clear();
         self.asked_count = 0;
         self.tx.read.clear();
@@ -140,9 +142,6 @@ impl<Xen: Pages> XenGuest<Xen> {
             _ => None,
         };
         let mut copies: Vec<_> = self.held.iter().filter_map(copy).collect();
-        if copies.is_empty() {
-            return;
-        }
         let made = self.xen.put(self.domain, &mut copies, &self.asked);
         // a grant that ended after it was checked: the guest can't be told any more
         let late = copies.iter().filter(|copy| made.is_err() || !copy.allowed).count();
