@@ -84,7 +84,9 @@ extern "C" {
     pub fn xengnttab_unmap(handle: *mut xengnttab_handle, start: *mut c_void, count: u32) -> c_int;
     pub fn xengntshr_open(logger: *mut xentoollog_logger, flags: c_uint) -> *mut xengntdev_handle;
     pub fn xengntshr_close(handle: *mut xengntdev_handle) -> c_int;
-    pub fn xengntshr_share_pages(handle: *mut xengntdev_handle, domid: u32, count: c_int, references: *mut u32, writable: c_int) -> *mut c_void;
+    pub fn xengntshr_share_pages(
+        handle: *mut xengntdev_handle, domid: u32, count: c_int, references: *mut u32, writable: c_int,
+    ) -> *mut c_void;
     pub fn xengntshr_unshare(handle: *mut xengntdev_handle, start: *mut c_void, count: u32) -> c_int;
     pub fn xengnttab_grant_copy(handle: *mut xengnttab_handle, count: u32, segments: *mut xengnttab_grant_copy_segment) -> c_int;
 }

@@ -93,10 +93,11 @@ impl Driver {
     }
 
     /// Makes the first ops in their order. Whether the last of them says that all is over.
-    #[inline(always)]
     fn make_ops(&mut self, count: usize, guest: &mut impl Guest) -> bool {
         let ops = &self.ops[..count];
-        ops.iter().for_each(|op| make_op(op, &mut self.words, guest));
+        for op in ops {
+            make_op(op, &mut self.words, guest);
+        }
         ops.last().map_or(false, |op| op.kind == sys::LAXONJE_OP_DONE)
     }
 
@@ -117,7 +118,6 @@ impl Driver {
     }
 }
 
-#[inline(always)]
 fn make_op(op: &sys::laxonje_op, words: &mut [u32; PAGE_WORDS], guest: &mut impl Guest) {
     let (word, count) = (op.word as usize, op.count as usize);
     let lent = op.lent as usize..op.lent as usize + count;

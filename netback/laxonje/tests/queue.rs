@@ -2,8 +2,8 @@
 mod memory;
 
 use laxonje::{
-    Action, Awaited, Delivery, Entry, Extent, FailedGrant, Guest, GuestMemory, Halt, Indices, MakeError, Program, Queue, Refusal, ReplaceError, Setup,
-    Turn, TurnRun,
+    Action, Awaited, Delivery, Entry, Extent, FailedGrant, Guest, GuestMemory, Halt, Indices, MakeError, Program, Queue, Refusal,
+    ReplaceError, Setup, Turn, TurnRun,
 };
 use memory::{setup, Memory, DATA, RX, TX};
 

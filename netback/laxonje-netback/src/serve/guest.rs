@@ -30,8 +30,7 @@ const GRANTED: u32 = 2 * TABLE_FRAMES;
 
 /// The domain that the made-up entries are for: DOMID_SELF, which no guest has.
 pub const OWN_DOMAIN: u16 = 0x7ff0;
-/// So many requests are copied ahead, up to the end of a packet, if there is room for all of them; and the pages of that room.
-const AHEAD: u32 = 128;
+/// The room for what is copied ahead: all packets of a ring that are short, or two of the longest.
 const PAGES_AHEAD: usize = 32;
 /// The pages that a turn can ask for one by one, and more.
 const PAGES_ASKED: usize = 64;
@@ -139,9 +138,6 @@ impl<Xen: Pages> XenGuest<Xen> {
             }
             if !more {
                 (requests, copies) = (number + 1, self.copies.len());
-            }
-            if !more && requests >= AHEAD {
-                break;
             }
         }
         self.copies.truncate(copies);

@@ -19,7 +19,7 @@ use std::time::Duration;
 /// A guest that sends no notice for buffers is looked at again after this time.
 const LOOK_AGAIN: Duration = Duration::from_millis(10);
 /// So many packets of the guest's at once, before those to the guest have their turn.
-const BUDGET: usize = 128;
+const BUDGET: usize = 256;
 
 /// What the main thread wants of a queue's.
 pub enum Order {

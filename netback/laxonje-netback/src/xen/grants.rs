@@ -120,16 +120,18 @@ impl Pages for Grants {
         let first = into.bytes_mut().as_mut_ptr();
         let into = &*into;
         self.copy(copies, |copy| {
-            let (side, own) = own_side(into, first, copy);
-            segment(copy, foreign(domain, copy.reference, copy.offset), side, ffi::GNTCOPY_SOURCE_GREF | own * ffi::GNTCOPY_DEST_GREF)
+            let (side, shared) = own_side(into, first, copy);
+            let flags = ffi::GNTCOPY_SOURCE_GREF | if shared { ffi::GNTCOPY_DEST_GREF } else { 0 };
+            segment(copy, foreign(domain, copy.reference, copy.offset), side, flags)
         })
     }
 
     fn put(&self, domain: u16, copies: &mut [PageCopy], from: &Memory) -> io::Result<()> {
         let first = from.bytes().as_ptr() as *mut u8;
         self.copy(copies, |copy| {
-            let (side, own) = own_side(from, first, copy);
-            segment(copy, side, foreign(domain, copy.reference, copy.offset), ffi::GNTCOPY_DEST_GREF | own * ffi::GNTCOPY_SOURCE_GREF)
+            let (side, shared) = own_side(from, first, copy);
+            let flags = ffi::GNTCOPY_DEST_GREF | if shared { ffi::GNTCOPY_SOURCE_GREF } else { 0 };
+            segment(copy, side, foreign(domain, copy.reference, copy.offset), flags)
         })
     }
 }
@@ -138,13 +140,13 @@ fn foreign(domid: u16, reference: u32, offset: usize) -> ffi::copy_side {
     ffi::copy_side { foreign: ffi::foreign_side { reference, offset: offset as u16, domid } }
 }
 
-/// This process's side of a copy, and 1 where it is one of references.
-fn own_side(memory: &Memory, first: *mut u8, copy: &PageCopy) -> (ffi::copy_side, u16) {
+/// This process's side of a copy, and whether it is a reference.
+fn own_side(memory: &Memory, first: *mut u8, copy: &PageCopy) -> (ffi::copy_side, bool) {
     let (page, offset) = (copy.at / PAGE_BYTES, copy.at % PAGE_BYTES);
     assert!(page < memory.pages() && offset + copy.bytes <= PAGE_BYTES, "a copy lies in a page");
     match memory.references() {
-        Some(references) => (foreign(ffi::DOMID_SELF, references[page], offset), 1),
-        None => (ffi::copy_side { virt: first.wrapping_add(copy.at).cast() }, 0),
+        Some(references) => (foreign(ffi::DOMID_SELF, references[page], offset), true),
+        None => (ffi::copy_side { virt: first.wrapping_add(copy.at).cast() }, false),
     }
 }
 

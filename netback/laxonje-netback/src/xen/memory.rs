@@ -18,8 +18,15 @@ pub struct Memory(Kind);
 
 enum Kind {
     /// More bytes than there are pages for, and where the first page begins.
-    Plain { bytes: Vec<u8>, start: usize },
-    Shared { at: NonNull<u8>, references: Vec<u32>, sharing: Sharing },
+    Plain {
+        bytes: Vec<u8>,
+        start: usize,
+    },
+    Shared {
+        at: NonNull<u8>,
+        references: Vec<u32>,
+        sharing: Sharing,
+    },
 }
 
 // SAFETY: shared pages are memory of the process.

@@ -225,6 +225,28 @@ fn shown_packets_are_copied_in_one_call() {
 }
 
 #[test]
+fn whole_packets_are_copied_as_far_as_there_is_room() {
+    let mut bench = Bench::new(Way::Copy, 2);
+    bench.memory.grant_bytes(20, 0);
+    let slots: u32 = 12; // three packets of so many pages, and room for 32 pages
+    for index in 0..3 * slots {
+        let (first, last) = (index % slots == 0, index % slots == slots - 1);
+        bench.memory.send(index, 20, 0, if last { 0 } else { MORE }, if first { slots * 4096 } else { 4096 });
+    }
+    assert_eq!(bench.guest.fetch().unwrap(), 2 * slots);
+    assert_eq!((bench.action(), bench.action()), (Action::Pass, Action::Pass));
+    assert!(bench.guest.is_done(2 * slots));
+    bench.guest.forget();
+    assert_eq!(bench.guest.fetch().unwrap(), 3 * slots);
+    assert_eq!((bench.action(), bench.packet().len()), (Action::Pass, 4096 * slots as usize));
+    assert_eq!((bench.count(|totals| &totals.copied_pages), bench.count(|totals| &totals.asked_pages)), (36, 0));
+    // a packet that doesn't end
+    bench.guest.forget();
+    bench.memory.send(3 * slots, 20, 0, MORE, 60);
+    assert_eq!((bench.guest.fetch().unwrap(), bench.count(|totals| &totals.copied_pages)), (3 * slots + 1, 36));
+}
+
+#[test]
 fn a_slot_that_the_guest_changes_is_asked_for_anew() {
     let mut bench = Bench::new(Way::Copy, 2);
     bench.memory.grant_bytes(20, 0);
