@@ -47,6 +47,8 @@ totals! {
     /// Pages that were copied in batches, and those that were asked for one by one.
     copied_pages,
     asked_pages,
+    /// Pages of this process that Xen copies to and from by references. 0: by addresses, which costs more.
+    shared_pages,
     /// Grants that Xen refused, and those that ended while they were used.
     refused_grants,
     ended_grants,
@@ -60,6 +62,10 @@ totals! {
 impl Totals {
     pub fn add(to: &AtomicU64, number: u64) {
         to.store(to.load(Relaxed).wrapping_add(number), Relaxed);
+    }
+
+    pub fn set(to: &AtomicU64, number: usize) {
+        to.store(number as u64, Relaxed);
     }
 
     pub fn refuse(&self, refusal: Refusal) {

@@ -76,6 +76,8 @@ impl<Xen: Pages> XenGuest<Xen> {
         let rx = xen.map(domain, keys.rx, true).ok_or_else(|| refused("rx"))?;
         let (tx, rx) = (Ring::new(tx, TX_SLOT, fresh), Ring::new(rx, RX_SLOT, fresh));
         let (taken, given, asked) = (xen.memory(PAGES_AHEAD), xen.memory(PAGES_AHEAD), Memory::plain(PAGES_ASKED));
+        let shared = [&taken, &given].iter().filter_map(|memory| memory.references()).map(<[u32]>::len).sum();
+        Totals::set(&totals.shared_pages, shared);
         let (copies, slots, held) = (Vec::new(), Vec::new(), Vec::new());
         Ok(XenGuest { domain, xen, way, tx, rx, taken, given, asked, asked_count: 0, copies, slots, held, owes_notice: false, totals })
     }
