@@ -60,17 +60,14 @@ impl Driver {
     pub fn turn(&mut self, counters: &mut [u64], guest: &mut impl Guest) -> sys::laxonje_op {
         let producer = producer(self.desc.tx, guest);
         let count = self.handle.turn(producer, &mut self.ops);
-        if self.make_ops(count, guest) {
-            return self.ops[count - 1];
-        }
-        self.finish(counters, guest)
+        self.finish(count, counters, guest)
     }
 
     /// `None`: the packet is too short or too long.
     pub fn deliver(&mut self, packet: &[u8], counters: &mut [u64], guest: &mut impl Guest) -> Option<sys::laxonje_op> {
         let producer = producer(self.desc.rx, guest);
         match self.handle.deliver(producer, packet) {
-            sys::LAXONJE_TAKEN => Some(self.finish(counters, guest)),
+            sys::LAXONJE_TAKEN => Some(self.finish(0, counters, guest)),
             _ => None,
         }
     }
@@ -78,18 +75,16 @@ impl Driver {
     pub fn wait_for(&mut self, pages: u32, counters: &mut [u64], guest: &mut impl Guest) -> sys::laxonje_op {
         let taken = self.handle.wait_for(pages);
         assert_eq!(taken, sys::LAXONJE_TAKEN, "between two turns a queue waits");
-        self.finish(counters, guest)
+        self.finish(0, counters, guest)
     }
 
-    /// What is under way, to its end.
-    fn finish(&mut self, counters: &mut [u64], guest: &mut impl Guest) -> sys::laxonje_op {
-        loop {
-            let count = self.handle.step(&mut self.words[..], counters, &mut self.ops);
+    /// What is under way, to its end: the ops that are there, and those of each further step.
+    fn finish(&mut self, mut count: usize, counters: &mut [u64], guest: &mut impl Guest) -> sys::laxonje_op {
+        while !self.make_ops(count, guest) {
+            count = self.handle.step(&mut self.words[..], counters, &mut self.ops);
             assert_ne!(count, 0, "what is under way has a next op");
-            if self.make_ops(count, guest) {
-                return self.ops[count - 1];
-            }
         }
+        self.ops[count - 1]
     }
 
     /// Makes the first ops in their order. Whether the last of them says that all is over.

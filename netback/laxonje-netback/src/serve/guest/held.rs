@@ -67,6 +67,7 @@ impl<Xen: Pages> XenGuest<Xen> {
     }
 
     /// Reads a granted page. One that was copied for fewer bytes is copied again.
+    #[inline(never)]
     pub fn read_granted(&mut self, reference: u32, bytes: Range<usize>, into: &mut [u32]) {
         let covers = |held: &&Held<_>| held.reference == reference && held.bytes.start <= bytes.start && bytes.end <= held.bytes.end;
         let found = self.held.iter().find(covers).map(|held| (&held.place, held.bytes.start));
@@ -133,6 +134,7 @@ impl<Xen: Pages> XenGuest<Xen> {
         self.rx.read.clear();
     }
 
+    #[cold]
     fn put_changed(&mut self) {
         let copy = |held: &Held<_>| match held.place {
             Place::Asked(at) if !held.changed.is_empty() => {
