@@ -75,7 +75,11 @@ impl<Xen: Pages> XenGuest<Xen> {
         let tx = xen.map(domain, keys.tx, true).ok_or_else(|| refused("tx"))?;
         let rx = xen.map(domain, keys.rx, true).ok_or_else(|| refused("rx"))?;
         let (tx, rx) = (Ring::new(tx, TX_SLOT, fresh), Ring::new(rx, RX_SLOT, fresh));
-        let (taken, given, asked) = (xen.memory(PAGES_AHEAD), xen.memory(PAGES_AHEAD), Memory::plain(PAGES_ASKED));
+        let room = || match way {
+            Way::Copy => xen.memory(PAGES_AHEAD),
+            Way::Map => Memory::plain(0),
+        };
+        let (taken, given, asked) = (room(), room(), Memory::plain(PAGES_ASKED));
         let shared = [&taken, &given].iter().filter_map(|memory| memory.references()).map(<[u32]>::len).sum();
         Totals::set(&totals.shared_pages, shared);
         let (copies, slots, held) = (Vec::new(), Vec::new(), Vec::new());

@@ -5,7 +5,8 @@
 //! after the other is looked up once. Where that can't be had, it is memory like any other.
 //!
 //! What makes each `unsafe` block sound: the handle is one that `xengntshr_open` answered, until the last of those that hold it is
-//! dropped; shared pages lie where `xengntshr_share_pages` put them until they are dropped, and only their owner has slices of them.
+//! dropped; shared pages lie where `xengntshr_share_pages` put them until they are dropped, only their owner has slices of them, and Xen
+//! writes them in a call alone that has them borrowed for writing.
 use super::grants::silent_logger;
 use crate::ffi;
 use laxonje::PAGE_BYTES;
