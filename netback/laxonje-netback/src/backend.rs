@@ -53,7 +53,7 @@ impl Backend {
         let control = Control::open(&options.socket).map_err(named("the socket"))?;
         let log = Log::of("main");
         if !grants.shares() {
-            log.line("there is no /dev/xen/gntalloc (the module xen-gntalloc): packets cost more");
+            log.line("Xen knows no pages of this process by references (the module xen-gntalloc): packets cost more");
         }
         if let Err(error) = set_priority(options.nice) {
             log.line(&format!("the priority isn't {}: {error}", options.nice));

@@ -76,7 +76,23 @@ impl Grants {
     pub fn open(own: u16) -> io::Result<Grants> {
         // SAFETY: the logger is there as long as the process.
         let handle = NonNull::new(unsafe { ffi::xengnttab_open(silent_logger(), 0) }).ok_or_else(io::Error::last_os_error)?;
-        Ok(Grants { handle: Arc::new(Handle(handle)), sharing: Sharing::open(own) })
+        let mut grants = Grants { handle: Arc::new(Handle(handle)), sharing: Sharing::open(own) };
+        if !grants.copies_to_shared(own) {
+            grants.sharing = None;
+        }
+        Ok(grants)
+    }
+
+    /// Tries it: a copy from one shared page to another.
+    fn copies_to_shared(&self, own: u16) -> bool {
+        let mut memory = self.memory(2);
+        let reference = match memory.references() {
+            Some(references) => references[0],
+            None => return false,
+        };
+        memory.bytes_mut()[..4].fill(1);
+        let mut copies = [PageCopy { reference, offset: 0, at: PAGE_BYTES, bytes: 4, allowed: false }];
+        self.fetch(own, &mut copies, &mut memory).is_ok() && copies[0].allowed && memory.bytes()[PAGE_BYTES..][..4] == [1; 4]
     }
 
     /// Whether copies go to pages that are shared.
