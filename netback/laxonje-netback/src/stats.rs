@@ -69,11 +69,11 @@ impl Totals {
     }
 
     pub fn refuse(&self, refusal: Refusal) {
-        Totals::add(&self.refused[refusal.cause as usize % CAUSES], 1);
+        Totals::add(&self.refused[refusal.0 as usize % CAUSES], 1);
     }
 
     pub fn halt(&self, halt: Halt) {
-        Totals::add(&self.halted[halt.cause as usize % CAUSES], 1);
+        Totals::add(&self.halted[halt.0 as usize % CAUSES], 1);
     }
 }
 
@@ -130,10 +130,10 @@ pub fn text(devices: &[DeviceStats]) -> String {
             let _ = writeln!(out, "  {} {value}", name.replace('_', "-"));
         }
         for (cause, count) in &device.refused {
-            let _ = writeln!(out, "  refused {cause} {count} ({})", Refusal { cause: *cause, grant: None });
+            let _ = writeln!(out, "  refused {cause} {count} ({})", Refusal(*cause));
         }
         for (cause, count) in &device.halted {
-            let _ = writeln!(out, "  halted {cause} {count} ({})", Halt { cause: *cause, index: 0 });
+            let _ = writeln!(out, "  halted {cause} {count} ({})", Halt(*cause));
         }
         for map in &device.maps {
             for (entry, counter, value) in &map.values {
@@ -206,9 +206,9 @@ mod tests {
         let (first, second) = (Totals::default(), Totals::default());
         Totals::add(&first.passed, 3);
         Totals::add(&second.passed, 4);
-        first.refuse(Refusal { cause: 4, grant: None });
-        second.refuse(Refusal { cause: 4, grant: None });
-        second.halt(Halt { cause: 1, index: 0 });
+        first.refuse(Refusal(4));
+        second.refuse(Refusal(4));
+        second.halt(Halt(1));
         let map = MapCounts { name: "a \"b\"\n".to_owned(), entries: 256, counters: 1, values: vec![(17, 0, 9)] };
         let mut device =
             DeviceStats { domain: 3, device: 1, guest: "web".to_owned(), interface: "vif3.1".to_owned(), ..DeviceStats::default() };

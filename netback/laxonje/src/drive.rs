@@ -108,7 +108,7 @@ impl Driver {
         let at = self.handle.state();
         match at.kind {
             sys::LAXONJE_STANDS => Ok(Indices { tx: at.tx_index, rx: at.rx_index }),
-            _ => Err(Halt { cause: at.halt, index: 0 }),
+            _ => Err(Halt(at.halt)),
         }
     }
 }

@@ -48,6 +48,6 @@ mod text;
 pub use guest::{Entry, Guest, GuestMemory, Page, PAGE_BYTES, PAGE_WORDS};
 pub use program::{check_version, Action, LoadError, MapSize, Program, Run, VersionError, MOST_BYTES};
 pub use queue::{
-    Awaited, DeliverError, Delivery, Extent, FailedGrant, Flags, Halt, Indices, MakeError, Queue, Refusal, ReplaceError, Setup, Turn,
-    TurnRun, TABLE_FRAMES,
+    Awaited, DeliverError, Delivery, Extent, Flags, Halt, Indices, MakeError, Queue, Refusal, ReplaceError, Setup, Turn, TurnRun,
+    TABLE_FRAMES,
 };

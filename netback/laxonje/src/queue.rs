@@ -119,73 +119,23 @@ impl fmt::Display for ReplaceError {
 
 impl Error for ReplaceError {}
 
-/// Why a packet of a guest was refused.
+/// Why a packet of a guest was refused: a number of `enum laxonje_refusal`.
 #[derive(Clone, Copy, Debug, PartialEq, Eq)]
-pub struct Refusal {
-    /// A number of `enum laxonje_refusal`.
-    pub cause: u32,
-    /// The grant that failed its check.
-    pub grant: Option<FailedGrant>,
-}
+pub struct Refusal(pub u32);
 
-/// A grant that failed its check.
+/// Why a queue has halted: a number of `enum laxonje_halt`.
 #[derive(Clone, Copy, Debug, PartialEq, Eq)]
-pub struct FailedGrant {
-    /// Its slot's index in the ring.
-    pub slot: u32,
-    /// The reference.
-    pub reference: u32,
-    /// Why: a GNTST_ number of grant_table.h.
-    pub status: i32,
-}
-
-/// Why a queue has halted.
-#[derive(Clone, Copy, Debug, PartialEq, Eq)]
-pub struct Halt {
-    /// A number of `enum laxonje_halt`.
-    pub cause: u32,
-    /// The index of the slot that was wrong, or the producer; 0 where that isn't said.
-    pub index: u32,
-}
-
-impl Refusal {
-    fn of(op: &sys::laxonje_op) -> Refusal {
-        Refusal { cause: op.cause, grant: FailedGrant::of(op) }
-    }
-}
-
-impl FailedGrant {
-    fn of(op: &sys::laxonje_op) -> Option<FailedGrant> {
-        (op.grant != 0).then_some(FailedGrant { slot: op.index, reference: op.reference, status: op.grant })
-    }
-}
-
-impl Halt {
-    fn of(op: &sys::laxonje_op) -> Halt {
-        Halt { cause: op.cause, index: op.index }
-    }
-}
+pub struct Halt(pub u32);
 
 impl fmt::Display for Refusal {
     fn fmt(&self, to: &mut fmt::Formatter<'_>) -> fmt::Result {
-        to.write_str(text::refusal(self.cause))?;
-        self.grant.map_or(Ok(()), |grant| write!(to, ": {grant}"))
-    }
-}
-
-impl fmt::Display for FailedGrant {
-    fn fmt(&self, to: &mut fmt::Formatter<'_>) -> fmt::Result {
-        write!(to, "slot {}, reference {}: {}", self.slot, self.reference, text::grant(self.status))
+        to.write_str(text::refusal(self.0))
     }
 }
 
 impl fmt::Display for Halt {
     fn fmt(&self, to: &mut fmt::Formatter<'_>) -> fmt::Result {
-        to.write_str(text::halt(self.cause))?;
-        match self.index {
-            0 => Ok(()),
-            index => write!(to, ", at {index}"),
-        }
+        to.write_str(text::halt(self.0))
     }
 }
 
@@ -250,8 +200,6 @@ pub enum Delivery {
     Refused {
         /// How many slots were answered.
         slots: u32,
-        /// The grant.
-        grant: Option<FailedGrant>,
     },
     /// As of a turn.
     Halted(Halt),
@@ -302,8 +250,8 @@ impl Queue {
             sys::LAXONJE_TURN_RAN => {
                 Turn::Ran(TurnRun { number: op.number, action: Action::of(op.number), slots: op.slots, flags: self.flags() })
             }
-            sys::LAXONJE_TURN_REFUSED => Turn::Refused(Refusal::of(&op)),
-            _ => Turn::Halted(Halt::of(&op)),
+            sys::LAXONJE_TURN_REFUSED => Turn::Refused(Refusal(op.cause)),
+            _ => Turn::Halted(Halt(op.cause)),
         }
     }
 
@@ -313,8 +261,8 @@ impl Queue {
         Ok(match op.outcome {
             sys::LAXONJE_DELIVERY_SENT => Delivery::Sent { slots: op.slots },
             sys::LAXONJE_DELIVERY_FEW_SLOTS => Delivery::FewSlots,
-            sys::LAXONJE_DELIVERY_REFUSED => Delivery::Refused { slots: op.slots, grant: FailedGrant::of(&op) },
-            _ => Delivery::Halted(Halt::of(&op)),
+            sys::LAXONJE_DELIVERY_REFUSED => Delivery::Refused { slots: op.slots },
+            _ => Delivery::Halted(Halt(op.cause)),
         })
     }
 
@@ -324,7 +272,7 @@ impl Queue {
         match op.outcome {
             sys::LAXONJE_AWAITED_POSTED => Awaited::Posted,
             sys::LAXONJE_AWAITED_WAITING => Awaited::Waiting,
-            _ => Awaited::Halted(Halt::of(&op)),
+            _ => Awaited::Halted(Halt(op.cause)),
         }
     }
 

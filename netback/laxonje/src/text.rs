@@ -53,16 +53,6 @@ pub(crate) fn refusal(cause: u32) -> &'static str {
     }
 }
 
-/// Why a grant failed its check: a GNTST_ number.
-pub(crate) fn grant(status: i32) -> &'static str {
-    match status {
-        -3 => "no such grant",
-        -8 => "another domain's, or read-only",
-        -9 => "not a frame of the guest's",
-        _ => "an unknown cause",
-    }
-}
-
 /// Why a queue has halted.
 pub(crate) fn halt(cause: u32) -> &'static str {
     match cause {

@@ -18,6 +18,7 @@ use crate::keys::QueueKeys;
 use crate::stats::Totals;
 use crate::xen::{Memory, PageCopy, Pages, Places};
 use laxonje::{Entry, Extent, Guest, GuestMemory, Page, PAGE_BYTES};
+use std::fmt;
 use std::io;
 use std::sync::atomic::{fence, Ordering};
 use std::sync::Arc;
@@ -47,6 +48,19 @@ pub enum Way {
     Map,
 }
 
+/// The grant that Xen refused, if it did: its reference, and the index of its packet's first slot. As the end of a log line.
+#[derive(Clone, Copy, Debug, Default, PartialEq, Eq)]
+pub struct RefusedGrant(Option<(u32, u32)>);
+
+impl fmt::Display for RefusedGrant {
+    fn fmt(&self, to: &mut fmt::Formatter<'_>) -> fmt::Result {
+        match self.0 {
+            Some((reference, index)) => write!(to, ": Xen refuses reference {reference}, of the packet at index {index}"),
+            None => Ok(()),
+        }
+    }
+}
+
 /// A guest's queue under Xen.
 pub struct XenGuest<Xen: Pages> {
     domain: u16,
@@ -63,6 +77,7 @@ pub struct XenGuest<Xen: Pages> {
     /// The tx slots of the copies.
     slots: Vec<usize>,
     held: Vec<Held<Xen::Mapped>>,
+    refused: RefusedGrant,
     owes_notice: bool,
     totals: Arc<Totals>,
 }
@@ -83,7 +98,23 @@ impl<Xen: Pages> XenGuest<Xen> {
         let shared = [&taken, &given].iter().filter_map(|memory| memory.references()).map(<[u32]>::len).sum();
         Totals::set(&totals.shared_pages, shared);
         let (copies, slots, held) = (Vec::new(), Vec::new(), Vec::new());
-        Ok(XenGuest { domain, xen, way, tx, rx, taken, given, asked, asked_count: 0, copies, slots, held, owes_notice: false, totals })
+        Ok(XenGuest {
+            domain,
+            xen,
+            way,
+            tx,
+            rx,
+            taken,
+            given,
+            asked,
+            asked_count: 0,
+            copies,
+            slots,
+            held,
+            refused: RefusedGrant::default(),
+            owes_notice: false,
+            totals,
+        })
     }
 
     /// Frames of the host's own numbers, which are all the guest's.
@@ -108,6 +139,11 @@ impl<Xen: Pages> XenGuest<Xen> {
     /// Whether the guest is owed a notice. After that it isn't.
     pub fn take_notice(&mut self) -> bool {
         std::mem::take(&mut self.owes_notice)
+    }
+
+    /// Which grant Xen refused. After that none.
+    pub fn take_refused(&mut self) -> RefusedGrant {
+        std::mem::take(&mut self.refused)
     }
 
     /// Copies the pages of requests that are shown, and says up to which index.
@@ -284,6 +320,8 @@ impl<Xen: Pages> Guest for XenGuest<Xen> {
             }
             None => {
                 Totals::add(&self.totals.refused_grants, 1);
+                let ring = if entry.writes { &self.rx } else { &self.tx };
+                self.refused = RefusedGrant(Some((entry.reference, ring.done)));
                 [0, 0]
             }
         }

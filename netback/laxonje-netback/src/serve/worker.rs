@@ -284,7 +284,8 @@ impl Running {
             Turn::Halted(cause) => return Err(Ended::Halted(cause)),
             Turn::Refused(refusal) => {
                 totals.refuse(refusal);
-                self.say(&format_args!("refused a packet: {refusal}"));
+                let grant = self.worker.guest.take_refused();
+                self.say(&format_args!("refused a packet: {refusal}{grant}"));
             }
             Turn::Ran(run) => match run.action {
                 Action::Pass => self.forward(run.flags),
@@ -366,10 +367,10 @@ impl Running {
             }
             Ok(Delivery::FewSlots) => return self.await_buffers(packet.length).map(|()| false),
             Ok(Delivery::Halted(cause)) => return Err(Ended::Halted(cause)),
-            Ok(Delivery::Refused { grant, .. }) => {
+            Ok(Delivery::Refused { .. }) => {
                 Totals::add(&totals.undelivered, 1);
-                let which = grant.map(|grant| format!(": {grant}")).unwrap_or_default();
-                self.say(&format_args!("a packet isn't delivered: an rx slot's grant failed its check{which}"));
+                let grant = guest.take_refused();
+                self.say(&format_args!("a packet isn't delivered: an rx slot's grant failed its check{grant}"));
             }
             Err(_) => Totals::add(&totals.undelivered, 1),
         }

@@ -275,13 +275,14 @@ fn what_xen_refuses_the_queue_refuses() {
     let mut bench = Bench::new(Way::Copy, 2);
     bench.memory.send(0, 77, 0, 0, 60);
     bench.guest.fetch().unwrap();
-    assert!(matches!(bench.turn(), Turn::Refused(Refusal { cause: 4, .. })));
+    assert_eq!(bench.turn(), Turn::Refused(Refusal(4)));
     assert_eq!((bench.memory.status(TX, 0), bench.count(|totals| &totals.refused_grants)), (-1, 1));
+    assert_eq!(bench.guest.take_refused().to_string(), ": Xen refuses reference 77, of the packet at index 0");
     // a reference past the made-up table isn't asked for
     bench.memory.grant_bytes(40_000, 0);
     bench.memory.send(1, 40_000, 0, 0, 60);
-    assert!(matches!(bench.turn(), Turn::Refused(Refusal { cause: 4, .. })));
-    assert_eq!(bench.count(|totals| &totals.strange), 0);
+    assert_eq!(bench.turn(), Turn::Refused(Refusal(4)));
+    assert_eq!((bench.count(|totals| &totals.strange), bench.guest.take_refused().to_string().as_str()), (0, ""));
 }
 
 #[test]
@@ -384,7 +385,7 @@ fn a_buffer_that_is_for_reading_alone_is_refused() {
     bench.memory.post(0, 30);
     let arena = arena(&[60]);
     bench.guest.put(&arena).unwrap();
-    assert!(matches!(bench.deliver(&arena), Delivery::Refused { slots: 1, .. }));
+    assert_eq!(bench.deliver(&arena), Delivery::Refused { slots: 1 });
     assert_eq!((bench.memory.status(RX, 0), bench.count(|totals| &totals.refused_grants)), (-1, 1));
 }
 
