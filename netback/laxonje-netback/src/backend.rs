@@ -48,9 +48,13 @@ impl Backend {
         let named = |what: &'static str| move |error: io::Error| io::Error::new(error.kind(), format!("{what}: {error}"));
         let signals = Signals::block()?;
         let store = Store::open().map_err(named("XenStore"))?;
-        let grants = Grants::open().map_err(named("/dev/xen/gntdev (the module xen-gntdev)"))?;
+        let own = store.read("domid").and_then(|number| keys::number(&number)).and_then(|number| u16::try_from(number).ok());
+        let grants = Grants::open(own.unwrap_or(0)).map_err(named("/dev/xen/gntdev (the module xen-gntdev)"))?;
         let control = Control::open(&options.socket).map_err(named("the socket"))?;
         let log = Log::of("main");
+        if !grants.shares() {
+            log.line("Xen knows no pages of this process by references (the module xen-gntalloc): packets cost more");
+        }
         if let Err(error) = set_priority(options.nice) {
             log.line(&format!("the priority isn't {}: {error}", options.nice));
         }

@@ -14,6 +14,10 @@ pub struct xengnttab_handle {
     _private: [u8; 0],
 }
 #[repr(C)]
+pub struct xengntdev_handle {
+    _private: [u8; 0],
+}
+#[repr(C)]
 pub struct xenevtchn_handle {
     _private: [u8; 0],
 }
@@ -54,6 +58,7 @@ pub struct xengnttab_grant_copy_segment {
 
 pub const GNTCOPY_SOURCE_GREF: u16 = 1;
 pub const GNTCOPY_DEST_GREF: u16 = 2;
+pub const DOMID_SELF: u16 = 0x7ff0;
 pub const GNTST_OKAY: i16 = 0;
 pub const XS_WATCH_PATH: usize = 0;
 pub const XS_WATCH_TOKEN: usize = 1;
@@ -77,6 +82,12 @@ extern "C" {
     pub fn xengnttab_close(handle: *mut xengnttab_handle) -> c_int;
     pub fn xengnttab_map_grant_ref(handle: *mut xengnttab_handle, domid: u32, reference: u32, prot: c_int) -> *mut c_void;
     pub fn xengnttab_unmap(handle: *mut xengnttab_handle, start: *mut c_void, count: u32) -> c_int;
+    pub fn xengntshr_open(logger: *mut xentoollog_logger, flags: c_uint) -> *mut xengntdev_handle;
+    pub fn xengntshr_close(handle: *mut xengntdev_handle) -> c_int;
+    pub fn xengntshr_share_pages(
+        handle: *mut xengntdev_handle, domid: u32, count: c_int, references: *mut u32, writable: c_int,
+    ) -> *mut c_void;
+    pub fn xengntshr_unshare(handle: *mut xengntdev_handle, start: *mut c_void, count: u32) -> c_int;
     pub fn xengnttab_grant_copy(handle: *mut xengnttab_handle, count: u32, segments: *mut xengnttab_grant_copy_segment) -> c_int;
 }
 

@@ -1,4 +1,5 @@
 //! A network backend of Xen that runs a verified BPF program on each packet of a guest. `--help` says how it is used.
+#![deny(unsafe_code)]
 mod backend;
 mod control;
 mod device;
@@ -8,9 +9,11 @@ mod frame;
 mod keys;
 mod log;
 mod options;
+#[allow(unsafe_code)]
 mod os;
 mod serve;
 mod stats;
+#[allow(unsafe_code)]
 mod xen;
 
 use backend::Backend;

@@ -47,6 +47,8 @@ totals! {
     /// Pages that were copied in batches, and those that were asked for one by one.
     copied_pages,
     asked_pages,
+    /// Pages of this process that Xen copies to and from by references. 0: by addresses, which costs more.
+    shared_pages,
     /// Grants that Xen refused, and those that ended while they were used.
     refused_grants,
     ended_grants,
@@ -62,12 +64,16 @@ impl Totals {
         to.store(to.load(Relaxed).wrapping_add(number), Relaxed);
     }
 
-    pub fn refuse(&self, cause: Refusal) {
-        Totals::add(&self.refused[cause.0 as usize % CAUSES], 1);
+    pub fn set(to: &AtomicU64, number: usize) {
+        to.store(number as u64, Relaxed);
     }
 
-    pub fn halt(&self, cause: Halt) {
-        Totals::add(&self.halted[cause.0 as usize % CAUSES], 1);
+    pub fn refuse(&self, refusal: Refusal) {
+        Totals::add(&self.refused[refusal.0 as usize % CAUSES], 1);
+    }
+
+    pub fn halt(&self, halt: Halt) {
+        Totals::add(&self.halted[halt.0 as usize % CAUSES], 1);
     }
 }
 

@@ -16,6 +16,7 @@ pub(crate) struct Driver {
     frames: Vec<sys::laxonje_extent>,
     table: Vec<u32>,
     words: Box<[u32; PAGE_WORDS]>,
+    ops: Ops,
 }
 
 impl Driver {
@@ -38,6 +39,7 @@ impl Driver {
             frames: frames.collect(),
             table: setup.table.to_vec(),
             words: Box::new([0; PAGE_WORDS]),
+            ops: Ops::default(),
         };
         driver.make(program, setup.at).map(|()| driver)
     }
@@ -57,19 +59,15 @@ impl Driver {
 
     pub fn turn(&mut self, counters: &mut [u64], guest: &mut impl Guest) -> sys::laxonje_op {
         let producer = producer(self.desc.tx, guest);
-        let mut ops = Ops::default();
-        let count = self.handle.turn(producer, &mut ops);
-        match self.make_ops(&ops[..count], guest) {
-            Some(over) => over,
-            None => self.finish(counters, guest),
-        }
+        let count = self.handle.turn(producer, &mut self.ops);
+        self.finish(count, counters, guest)
     }
 
     /// `None`: the packet is too short or too long.
     pub fn deliver(&mut self, packet: &[u8], counters: &mut [u64], guest: &mut impl Guest) -> Option<sys::laxonje_op> {
         let producer = producer(self.desc.rx, guest);
         match self.handle.deliver(producer, packet) {
-            sys::LAXONJE_TAKEN => Some(self.finish(counters, guest)),
+            sys::LAXONJE_TAKEN => Some(self.finish(0, counters, guest)),
             _ => None,
         }
     }
@@ -77,42 +75,25 @@ impl Driver {
     pub fn wait_for(&mut self, pages: u32, counters: &mut [u64], guest: &mut impl Guest) -> sys::laxonje_op {
         let taken = self.handle.wait_for(pages);
         assert_eq!(taken, sys::LAXONJE_TAKEN, "between two turns a queue waits");
-        self.finish(counters, guest)
+        self.finish(0, counters, guest)
     }
 
-    /// What is under way, to its end.
-    fn finish(&mut self, counters: &mut [u64], guest: &mut impl Guest) -> sys::laxonje_op {
-        let mut ops = Ops::default();
-        loop {
-            let count = self.handle.step(&mut self.words[..], counters, &mut ops);
+    /// What is under way, to its end: the ops that are there, and those of each further step.
+    fn finish(&mut self, mut count: usize, counters: &mut [u64], guest: &mut impl Guest) -> sys::laxonje_op {
+        while !self.make_ops(count, guest) {
+            count = self.handle.step(&mut self.words[..], counters, &mut self.ops);
             assert_ne!(count, 0, "what is under way has a next op");
-            if let Some(over) = self.make_ops(&ops[..count], guest) {
-                return over;
-            }
         }
+        self.ops[count - 1]
     }
 
-    /// Makes ops in their order; the last one, where it says that all is over.
-    fn make_ops(&mut self, ops: &[sys::laxonje_op], guest: &mut impl Guest) -> Option<sys::laxonje_op> {
-        ops.iter().for_each(|op| self.make_op(op, guest));
-        ops.last().filter(|op| op.kind == sys::LAXONJE_OP_DONE).copied()
-    }
-
-    fn make_op(&mut self, op: &sys::laxonje_op, guest: &mut impl Guest) {
-        let (word, lent) = (op.word as usize, op.lent as usize);
-        let words = &mut self.words[lent..lent + op.count as usize];
-        match op.kind {
-            sys::LAXONJE_OP_READ if op.entry != sys::LAXONJE_ENTRY_NONE => {
-                let writes = op.entry == sys::LAXONJE_ENTRY_WRITE;
-                words.copy_from_slice(&guest.entry(&Entry { reference: op.reference, frame: op.frame, word, writes }));
-            }
-            sys::LAXONJE_OP_READ => guest.read(op.frame, word, words),
-            sys::LAXONJE_OP_WRITE => guest.write(op.frame, word, words),
-            sys::LAXONJE_OP_STORE => guest.write(op.frame, word, &op.value[..op.count as usize]),
-            sys::LAXONJE_OP_PUSH => self.words[lent] = guest.push(op.frame, word, op.value[0], op.value[1] as usize),
-            sys::LAXONJE_OP_NOTIFY => guest.notify(op.value[0]),
-            _ => guest.over(),
+    /// Makes the first ops in their order. Whether the last of them says that all is over.
+    fn make_ops(&mut self, count: usize, guest: &mut impl Guest) -> bool {
+        let ops = &self.ops[..count];
+        for op in ops {
+            make_op(op, &mut self.words, guest);
         }
+        ops.last().map_or(false, |op| op.kind == sys::LAXONJE_OP_DONE)
     }
 
     pub fn packet(&self, out: &mut [u8]) -> usize {
@@ -129,6 +110,23 @@ impl Driver {
             sys::LAXONJE_STANDS => Ok(Indices { tx: at.tx_index, rx: at.rx_index }),
             _ => Err(Halt(at.halt)),
         }
+    }
+}
+
+fn make_op(op: &sys::laxonje_op, words: &mut [u32; PAGE_WORDS], guest: &mut impl Guest) {
+    let (word, count) = (op.word as usize, op.count as usize);
+    let lent = op.lent as usize..op.lent as usize + count;
+    match op.kind {
+        sys::LAXONJE_OP_READ if op.entry != sys::LAXONJE_ENTRY_NONE => {
+            let writes = op.entry == sys::LAXONJE_ENTRY_WRITE;
+            words[lent].copy_from_slice(&guest.entry(&Entry { reference: op.reference, frame: op.frame, word, writes }));
+        }
+        sys::LAXONJE_OP_READ => guest.read(op.frame, word, &mut words[lent]),
+        sys::LAXONJE_OP_WRITE => guest.write(op.frame, word, &words[lent]),
+        sys::LAXONJE_OP_STORE => guest.write(op.frame, word, &op.value[..count]),
+        sys::LAXONJE_OP_PUSH => words[lent.start] = guest.push(op.frame, word, op.value[0], op.value[1] as usize),
+        sys::LAXONJE_OP_NOTIFY => guest.notify(op.value[0]),
+        _ => guest.over(),
     }
 }
 

@@ -35,9 +35,11 @@
 //! shared::<laxonje::Queue>();
 //! ```
 #![warn(missing_docs)]
+#![deny(unsafe_code)]
 
 mod drive;
 mod guest;
+#[allow(unsafe_code)]
 mod handle;
 mod program;
 mod queue;

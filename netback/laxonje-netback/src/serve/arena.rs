@@ -12,16 +12,6 @@ const LEAST_READS: usize = 2;
 const SHORTEST: usize = 14;
 const OUT_BYTES: usize = 4 * (HEADER_BYTES + MOST_BYTES);
 
-/// A page of this process, aligned as Xen's copies want it.
-#[derive(Clone)]
-#[repr(align(4096))]
-pub struct Bytes(pub [u8; PAGE_BYTES]);
-
-/// So many pages of zeros.
-pub fn pages(count: usize) -> Vec<Bytes> {
-    vec![Bytes([0; PAGE_BYTES]); count]
-}
-
 /// A packet that is to be delivered.
 #[derive(Clone, Copy, Debug, PartialEq, Eq)]
 pub struct Packet {
@@ -38,8 +28,6 @@ impl Packet {
 /// The packets that wait to be delivered, in their order.
 pub struct Arena {
     bytes: Vec<u8>,
-    /// Where the first page begins: a copy of Xen's is quickest where a page of this process has all of it.
-    start: usize,
     packets: VecDeque<Packet>,
     /// How many to read at once: as many as came last, and one more.
     reads: usize,
@@ -47,9 +35,7 @@ pub struct Arena {
 
 impl Arena {
     pub fn new() -> Arena {
-        let bytes = vec![0; (ROOMS * ROOM_PAGES + 1) * PAGE_BYTES];
-        let start = bytes.as_ptr() as usize;
-        Arena { bytes, start: (PAGE_BYTES - start % PAGE_BYTES) % PAGE_BYTES, packets: VecDeque::new(), reads: LEAST_READS }
+        Arena { bytes: vec![0; ROOMS * ROOM_PAGES * PAGE_BYTES], packets: VecDeque::new(), reads: LEAST_READS }
     }
 
     pub fn packets(&self) -> impl Iterator<Item = Packet> + '_ {
@@ -67,7 +53,7 @@ impl Arena {
 
     /// The first byte of the packet of a room.
     fn at(&self, room: usize) -> usize {
-        self.start + (room * ROOM_PAGES + 1) * PAGE_BYTES
+        (room * ROOM_PAGES + 1) * PAGE_BYTES
     }
 
     /// The bytes of a packet.
@@ -87,7 +73,7 @@ impl Arena {
     pub fn exchange(&mut self, tap: &mut Tap, out: &Out, wants: bool) -> (u64, bool) {
         let reads = if wants && self.packets.is_empty() { self.reads } else { 0 };
         let (written, read) = {
-            let rooms = self.bytes[self.start..].chunks_exact_mut(ROOM_PAGES * PAGE_BYTES);
+            let rooms = self.bytes.chunks_exact_mut(ROOM_PAGES * PAGE_BYTES);
             let mut rooms: Vec<_> =
                 rooms.take(reads).map(|room| &mut room[PAGE_BYTES - HEADER_BYTES..PAGE_BYTES + MOST_BYTES + 1]).collect();
             tap.exchange(&out.packets().collect::<Vec<_>>(), &mut rooms)
@@ -187,7 +173,6 @@ mod tests {
         assert_eq!(arena.page(packets[0], 0)[59..], [7, 7, 0, 0, 0]);
         assert_eq!((arena.page(packets[1], 0).len(), arena.page(packets[1], 1).len()), (4096, 904));
         assert_eq!((arena.bytes(packets[1]).len(), arena.page(packets[3], 15).len()), (5000, 4096));
-        assert!(packets.iter().all(|packet| arena.bytes(*packet).as_ptr() as usize % PAGE_BYTES == 0));
         (0..4).for_each(|_| arena.leave());
         assert_eq!(arena.first(), None);
     }

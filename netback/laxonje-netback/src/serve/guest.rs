@@ -13,11 +13,12 @@ mod ring;
 
 use self::held::Held;
 use self::ring::{Guess, Ring, REQUESTS_IN_RING, RESPONSES, RX_SLOT, TX_SLOT};
-use super::arena::{pages, Arena, Bytes, Packet};
+use super::arena::{Arena, Packet};
 use crate::keys::QueueKeys;
 use crate::stats::Totals;
-use crate::xen::{PageCopy, Pages, Side};
+use crate::xen::{Memory, PageCopy, Pages, Places};
 use laxonje::{Entry, Extent, Guest, GuestMemory, Page, PAGE_BYTES};
+use std::fmt;
 use std::io;
 use std::sync::atomic::{fence, Ordering};
 use std::sync::Arc;
@@ -30,6 +31,11 @@ const GRANTED: u32 = 2 * TABLE_FRAMES;
 
 /// The domain that the made-up entries are for: DOMID_SELF, which no guest has.
 pub const OWN_DOMAIN: u16 = 0x7ff0;
+/// The room for what is copied ahead: all packets of a ring that are short, or two of the longest.
+const PAGES_AHEAD: usize = 32;
+/// The pages that a turn can ask for one by one, and more.
+const PAGES_ASKED: usize = 64;
+const MORE_DATA: u32 = 4 << 16;
 const PERMIT_ACCESS: u32 = 1;
 const READONLY: u32 = 4;
 
@@ -42,6 +48,19 @@ pub enum Way {
     Map,
 }
 
+/// The grant that Xen refused, if it did: its reference, and the index of its packet's first slot. As the end of a log line.
+#[derive(Clone, Copy, Debug, Default, PartialEq, Eq)]
+pub struct RefusedGrant(Option<(u32, u32)>);
+
+impl fmt::Display for RefusedGrant {
+    fn fmt(&self, to: &mut fmt::Formatter<'_>) -> fmt::Result {
+        match self.0 {
+            Some((reference, index)) => write!(to, ": Xen refuses reference {reference}, of the packet at index {index}"),
+            None => Ok(()),
+        }
+    }
+}
+
 /// A guest's queue under Xen.
 pub struct XenGuest<Xen: Pages> {
     domain: u16,
@@ -49,10 +68,16 @@ pub struct XenGuest<Xen: Pages> {
     way: Way,
     tx: Ring<Xen::Mapped>,
     rx: Ring<Xen::Mapped>,
-    guessed: Vec<Bytes>,
-    asked: Vec<Bytes>,
+    /// Room for what is copied from the guest ahead of its turns, to the guest ahead of its deliveries, and in a turn.
+    taken: Memory,
+    given: Memory,
+    asked: Memory,
     asked_count: usize,
+    copies: Vec<PageCopy>,
+    /// The tx slots of the copies.
+    slots: Vec<usize>,
     held: Vec<Held<Xen::Mapped>>,
+    refused: RefusedGrant,
     owes_notice: bool,
     totals: Arc<Totals>,
 }
@@ -65,8 +90,31 @@ impl<Xen: Pages> XenGuest<Xen> {
         let tx = xen.map(domain, keys.tx, true).ok_or_else(|| refused("tx"))?;
         let rx = xen.map(domain, keys.rx, true).ok_or_else(|| refused("rx"))?;
         let (tx, rx) = (Ring::new(tx, TX_SLOT, fresh), Ring::new(rx, RX_SLOT, fresh));
-        let (guessed, asked, held) = (pages(REQUESTS_IN_RING as usize), Vec::new(), Vec::new());
-        Ok(XenGuest { domain, xen, way, tx, rx, guessed, asked, asked_count: 0, held, owes_notice: false, totals })
+        let room = || match way {
+            Way::Copy => xen.memory(PAGES_AHEAD),
+            Way::Map => Memory::plain(0),
+        };
+        let (taken, given, asked) = (room(), room(), Memory::plain(PAGES_ASKED));
+        let shared = [&taken, &given].iter().filter_map(|memory| memory.references()).map(<[u32]>::len).sum();
+        Totals::set(&totals.shared_pages, shared);
+        let (copies, slots, held) = (Vec::new(), Vec::new(), Vec::new());
+        Ok(XenGuest {
+            domain,
+            xen,
+            way,
+            tx,
+            rx,
+            taken,
+            given,
+            asked,
+            asked_count: 0,
+            copies,
+            slots,
+            held,
+            refused: RefusedGrant::default(),
+            owes_notice: false,
+            totals,
+        })
     }
 
     /// Frames of the host's own numbers, which are all the guest's.
@@ -93,42 +141,62 @@ impl<Xen: Pages> XenGuest<Xen> {
         std::mem::take(&mut self.owes_notice)
     }
 
-    /// Copies the pages of the requests that are shown, and says up to which index.
-    pub fn fetch(&mut self) -> io::Result<u32> {
-        let shown = self.tx.shown();
-        let end = self.tx.done.wrapping_add(shown.min(REQUESTS_IN_RING));
-        if self.way == Way::Map || shown > REQUESTS_IN_RING {
-            return Ok(end);
-        }
-        let slots: Vec<_> = (0..shown).map(|number| (self.tx.done.wrapping_add(number) % REQUESTS_IN_RING) as usize).collect();
-        let mut wanted: Vec<_> =
-            slots.iter().map(|slot| (*slot, self.guess_request(*slot))).filter(|(_, guess)| !guess.bytes.is_empty()).collect();
-        let mut copies: Vec<_> = wanted
-            .iter()
-            .zip(&mut self.guessed)
-            .map(|((_, guess), page)| PageCopy {
-                reference: guess.reference,
-                offset: guess.bytes.start,
-                side: Side::FromGuest(&mut page.0[guess.bytes.clone()]),
-                allowed: false,
-            })
-            .collect();
-        self.xen.copy(self.domain, &mut copies)?;
-        Totals::add(&self.totals.copied_pages, copies.len() as u64);
-        for (number, ((slot, guess), copy)) in wanted.iter_mut().zip(&copies).enumerate() {
-            guess.page = number;
-            self.tx.guesses[*slot] = copy.allowed.then(|| guess.clone());
-        }
-        Ok(end)
+    /// Which grant Xen refused. After that none.
+    pub fn take_refused(&mut self) -> RefusedGrant {
+        std::mem::take(&mut self.refused)
     }
 
-    /// What a tx slot asks to be read: whole words of one page.
-    fn guess_request(&self, slot: usize) -> Guess {
+    /// Copies the pages of requests that are shown, and says up to which index.
+    pub fn fetch(&mut self) -> io::Result<u32> {
+        let shown = self.tx.shown();
+        if self.way == Way::Map || shown > REQUESTS_IN_RING {
+            return Ok(self.tx.done.wrapping_add(shown.min(REQUESTS_IN_RING)));
+        }
+        let count = self.guess_requests(shown);
+        self.xen.fetch(self.domain, &mut self.copies, &mut self.taken)?;
+        Totals::add(&self.totals.copied_pages, self.copies.len() as u64);
+        for (slot, copy) in self.slots.iter().zip(&self.copies) {
+            self.tx.guesses[*slot] = Some(Guess::of(copy, copy.at));
+        }
+        Ok(self.tx.done.wrapping_add(count))
+    }
+
+    /// Guesses at the next requests, of whole packets as far as there is room. How many.
+    fn guess_requests(&mut self, shown: u32) -> u32 {
+        let mut places = Places::of(&self.taken);
+        let (mut requests, mut copies) = (0, 0);
+        self.copies.clear();
+        self.slots.clear();
+        for number in 0..shown {
+            let slot = self.tx.slot(number);
+            let (guess, more) = self.guess_request(slot);
+            let at = match places.take(guess.bytes) {
+                Some(at) => at,
+                None => break,
+            };
+            if guess.bytes > 0 {
+                self.copies.push(PageCopy { at, ..guess });
+                self.slots.push(slot);
+            }
+            if !more {
+                (requests, copies) = (number + 1, self.copies.len());
+            }
+        }
+        self.copies.truncate(copies);
+        match requests {
+            0 => shown, // no packet that ends here: its pages are asked for
+            _ => requests,
+        }
+    }
+
+    /// What a tx slot asks to be read: whole words of one page. Whether its packet has more.
+    fn guess_request(&self, slot: usize) -> (PageCopy, bool) {
         let (second, third) = (self.tx.word(slot, 1), self.tx.word(slot, 2));
         let (offset, size) = ((second & 0xffff) as usize, (third >> 16) as usize);
         let start = (offset / 4 * 4).min(PAGE_BYTES);
         let end = ((offset + size + 3) / 4 * 4).min(PAGE_BYTES);
-        Guess { reference: self.tx.word(slot, 0), page: 0, bytes: start..end, allowed: false }
+        let copy = PageCopy { reference: self.tx.word(slot, 0), offset: start, at: 0, bytes: end - start, allowed: false };
+        (copy, second & MORE_DATA != 0)
     }
 
     /// Whether all requests before an index are answered.
@@ -142,42 +210,46 @@ impl<Xen: Pages> XenGuest<Xen> {
         guesses.for_each(|guess| *guess = None);
     }
 
-    /// Copies packets that wait to the buffers that are posted for them, as many as there are buffers for. How many packets.
+    /// Copies packets that wait to the buffers that are posted for them, as many as there are buffers and room for. How many packets.
     pub fn put(&mut self, arena: &Arena) -> io::Result<usize> {
-        let (mut slots, mut count) = (Vec::new(), 0);
-        let posted = self.posted();
         if self.way == Way::Map {
             return Ok(arena.packets().count());
         }
+        let (posted, mut places, mut count) = (self.posted(), Places::of(&self.given), 0);
+        self.copies.clear();
         for packet in arena.packets() {
-            if slots.len() + packet.pages() > posted {
+            if self.copies.len() + packet.pages() > posted || !self.give(arena, packet, &mut places) {
                 break;
             }
-            slots.extend((0..packet.pages()).map(|number| (packet, number)));
             count += 1;
         }
-        self.put_pages(arena, &slots)?;
+        self.xen.put(self.domain, &mut self.copies, &self.given)?;
+        Totals::add(&self.totals.copied_pages, self.copies.len() as u64);
+        let pages = arena.packets().take(count).flat_map(|packet| 0..packet.pages());
+        for ((number, copy), page) in (0..).zip(&self.copies).zip(pages) {
+            let slot = self.rx.slot(number);
+            self.rx.guesses[slot] = Some(Guess::of(copy, page));
+        }
         Ok(count)
     }
 
-    fn put_pages(&mut self, arena: &Arena, slots: &[(Packet, usize)]) -> io::Result<()> {
-        let first = self.rx.done;
-        let slot = |number: usize| (first.wrapping_add(number as u32) % REQUESTS_IN_RING) as usize;
-        let mut copies: Vec<_> = slots
-            .iter()
-            .enumerate()
-            .map(|(number, (packet, page))| {
-                let reference = self.rx.word(slot(number), 1);
-                PageCopy { reference, offset: 0, side: Side::ToGuest(arena.page(*packet, *page)), allowed: false }
-            })
-            .collect();
-        self.xen.copy(self.domain, &mut copies)?;
-        Totals::add(&self.totals.copied_pages, copies.len() as u64);
-        for (number, (copy, (packet, page))) in copies.iter().zip(slots).enumerate() {
-            let bytes = 0..arena.page(*packet, *page).len();
-            self.rx.guesses[slot(number)] = Some(Guess { reference: copy.reference, page: *page, bytes, allowed: copy.allowed });
+    /// Guesses at the buffers of a packet. Whether there was room for all of it.
+    fn give(&mut self, arena: &Arena, packet: Packet, places: &mut Places) -> bool {
+        let before = self.copies.len();
+        for page in 0..packet.pages() {
+            let bytes = arena.page(packet, page);
+            let at = match places.take(bytes.len()) {
+                Some(at) => at,
+                None => {
+                    self.copies.truncate(before);
+                    return false;
+                }
+            };
+            self.given.bytes_mut()[at..at + bytes.len()].copy_from_slice(bytes);
+            let reference = self.rx.word(self.rx.slot(self.copies.len() as u32), 1);
+            self.copies.push(PageCopy { reference, offset: 0, at, bytes: bytes.len(), allowed: false });
         }
-        Ok(())
+        true
     }
 
     fn ring(&self, frame: u32) -> Option<&Page> {
@@ -248,6 +320,8 @@ impl<Xen: Pages> Guest for XenGuest<Xen> {
             }
             None => {
                 Totals::add(&self.totals.refused_grants, 1);
+                let ring = if entry.writes { &self.rx } else { &self.tx };
+                self.refused = RefusedGrant(Some((entry.reference, ring.done)));
                 [0, 0]
             }
         }

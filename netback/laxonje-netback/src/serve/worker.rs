@@ -7,6 +7,7 @@ use crate::os::{restrict_to_packets, wait, Tap, Wanted};
 use crate::stats::Totals;
 use crate::xen::{Events, Grants};
 use laxonje::{Action, Awaited, Delivery, Flags, Halt, MakeError, Program, Queue, Setup, Turn};
+use std::fmt;
 use std::io::{self, Read, Write};
 use std::os::unix::io::AsRawFd;
 use std::os::unix::net::UnixStream;
@@ -18,7 +19,7 @@ use std::time::Duration;
 /// A guest that sends no notice for buffers is looked at again after this time.
 const LOOK_AGAIN: Duration = Duration::from_millis(10);
 /// So many packets of the guest's at once, before those to the guest have their turn.
-const BUDGET: usize = 128;
+const BUDGET: usize = 256;
 
 /// What the main thread wants of a queue's.
 pub enum Order {
@@ -281,11 +282,10 @@ impl Running {
         match turn {
             Turn::Idle => {}
             Turn::Halted(cause) => return Err(Ended::Halted(cause)),
-            Turn::Refused(cause) => {
-                totals.refuse(cause);
-                if let Some(skipped) = self.refusals.allows() {
-                    self.worker.log.line(&format!("refused a packet: {cause}{skipped}"));
-                }
+            Turn::Refused(refusal) => {
+                totals.refuse(refusal);
+                let grant = self.worker.guest.take_refused();
+                self.say(&format_args!("refused a packet: {refusal}{grant}"));
             }
             Turn::Ran(run) => match run.action {
                 Action::Pass => self.forward(run.flags),
@@ -295,6 +295,13 @@ impl Running {
             },
         }
         Ok(())
+    }
+
+    /// A line that the guest has caused.
+    fn say(&mut self, what: &dyn fmt::Display) {
+        if let Some(skipped) = self.refusals.allows() {
+            self.worker.log.line(&format!("{what}{skipped}"));
+        }
     }
 
     /// A packet that passed is to be given to the TAP device.
@@ -360,7 +367,12 @@ impl Running {
             }
             Ok(Delivery::FewSlots) => return self.await_buffers(packet.length).map(|()| false),
             Ok(Delivery::Halted(cause)) => return Err(Ended::Halted(cause)),
-            Ok(Delivery::Refused { .. }) | Err(_) => Totals::add(&totals.undelivered, 1),
+            Ok(Delivery::Refused { .. }) => {
+                Totals::add(&totals.undelivered, 1);
+                let grant = guest.take_refused();
+                self.say(&format_args!("a packet isn't delivered: an rx slot's grant failed its check{grant}"));
+            }
+            Err(_) => Totals::add(&totals.undelivered, 1),
         }
         self.arena.leave();
         Ok(true)

@@ -1,8 +1,9 @@
 //! The pages of the turn that is under way.
+use super::ring::Guess;
 use super::{Way, Words, XenGuest, TX_RING};
-use crate::serve::arena::{pages, Arena, Packet};
+use crate::serve::arena::{Arena, Packet};
 use crate::stats::Totals;
-use crate::xen::{PageCopy, Pages, Side};
+use crate::xen::{PageCopy, Pages};
 use laxonje::{Entry, Guest, PAGE_BYTES};
 use std::ops::Range;
 
@@ -18,9 +19,9 @@ pub struct Held<Mapped> {
 
 /// Where the bytes of a page are.
 pub enum Place<Mapped> {
-    /// In the page of this number, copied before the turn.
+    /// Copied before the turn, to this place.
     Guessed(usize),
-    /// In the further page of this number.
+    /// In the further page that begins at this place.
     Asked(usize),
     /// Already in the guest: the page of this number of the packet that is delivered.
     Delivered(usize),
@@ -36,49 +37,53 @@ impl<Xen: Pages> XenGuest<Xen> {
         }
         let guess = if entry.writes { self.rx.guess(entry.reference) } else { self.tx.guess(entry.reference) };
         match guess {
-            Some(guess) if entry.writes => guess.allowed.then(|| Held::new(entry, guess.bytes.clone(), Place::Delivered(guess.page))),
-            Some(guess) => Some(Held::new(entry, guess.bytes, Place::Guessed(guess.page))),
-            None => self.ask(entry.reference, entry.writes).map(|page| Held::new(entry, 0..PAGE_BYTES, Place::Asked(page))),
+            Some(Guess { allowed: false, .. }) => None,
+            Some(guess) if entry.writes => Some(Held::new(entry, guess.bytes, Place::Delivered(guess.place))),
+            Some(guess) => Some(Held::new(entry, guess.bytes, Place::Guessed(guess.place))),
+            None => self.ask(entry.reference, entry.writes).map(|at| Held::new(entry, 0..PAGE_BYTES, Place::Asked(at))),
         }
     }
 
-    /// Copies a whole page, or writes 0 into its first word, which shows whether Xen allows it: that word is written later.
+    /// Copies a whole page, or writes 0 into its first word, which shows whether Xen allows it: that word is written later. Where the
+    /// page lies here.
     fn ask(&mut self, reference: u32, writes: bool) -> Option<usize> {
-        let number = self.further_page();
-        let page = &mut self.asked[number].0;
-        let side = if writes { Side::ToGuest(&[0; 4]) } else { Side::FromGuest(&mut page[..]) };
-        let mut copies = [PageCopy { reference, offset: 0, side, allowed: false }];
-        self.xen.copy(self.domain, &mut copies).ok()?;
+        let at = self.further_page()?;
+        let mut copies = [PageCopy { reference, offset: 0, at, bytes: if writes { 4 } else { PAGE_BYTES }, allowed: false }];
+        let made = if writes {
+            self.asked.bytes_mut()[at..at + 4].fill(0);
+            self.xen.put(self.domain, &mut copies, &self.asked)
+        } else {
+            self.xen.fetch(self.domain, &mut copies, &mut self.asked)
+        };
         Totals::add(&self.totals.asked_pages, 1);
-        copies[0].allowed.then_some(number)
+        (made.is_ok() && copies[0].allowed).then_some(at)
     }
 
-    /// A page of this process for the turn under way.
-    fn further_page(&mut self) -> usize {
+    /// A page of this process for the turn under way. `None`: it has had more than a turn can ask for.
+    fn further_page(&mut self) -> Option<usize> {
+        let at = self.asked_count * PAGE_BYTES;
         self.asked_count += 1;
-        if self.asked.len() < self.asked_count {
-            self.asked.extend(pages(1));
-        }
-        self.asked_count - 1
+        (self.asked_count <= self.asked.pages()).then_some(at)
     }
 
     /// Reads a granted page. One that was copied for fewer bytes is copied again.
+    #[inline(never)]
     pub fn read_granted(&mut self, reference: u32, bytes: Range<usize>, into: &mut [u32]) {
         let covers = |held: &&Held<_>| held.reference == reference && held.bytes.start <= bytes.start && bytes.end <= held.bytes.end;
-        let found = self.held.iter().find(covers).map(|held| &held.place);
-        let page = match found {
-            Some(Place::Mapped(page)) => return Words(page).read(TX_RING, bytes.start / 4, into),
-            Some(Place::Guessed(page)) => &self.guessed[*page],
-            Some(Place::Asked(page)) => &self.asked[*page],
+        let found = self.held.iter().find(covers).map(|held| (&held.place, held.bytes.start));
+        let from = match found {
+            Some((Place::Mapped(page), _)) => return Words(page).read(TX_RING, bytes.start / 4, into),
+            Some((Place::Guessed(at), first)) => &self.taken.bytes()[at + bytes.start - first..],
+            Some((Place::Asked(at), _)) => &self.asked.bytes()[at + bytes.start..],
             _ => match self.ask(reference, false) {
-                Some(page) => &self.asked[page],
+                Some(at) => &self.asked.bytes()[at + bytes.start..],
                 None => {
                     Totals::add(&self.totals.ended_grants, 1);
                     return into.fill(0);
                 }
             },
         };
-        for (to, four) in into.iter_mut().zip(page.0[bytes].chunks_exact(4)) {
+        for (to, four) in into.iter_mut().zip(from.chunks_exact(4)) {
             *to = u32::from_le_bytes([four[0], four[1], four[2], four[3]]);
         }
     }
@@ -101,41 +106,48 @@ impl<Xen: Pages> XenGuest<Xen> {
 
     /// Keeps words that are to be copied to the guest.
     fn change(&mut self, position: usize, bytes: &Range<usize>, from: &[u32]) {
-        let number = match self.held[position].place {
-            Place::Asked(number) => number,
+        let at = match self.held[position].place {
+            Place::Asked(at) => Some(at),
             _ => self.further_page(),
         };
+        let at = match at {
+            Some(at) => at,
+            None => return Totals::add(&self.totals.strange, 1),
+        };
         let held = &mut self.held[position];
-        held.place = Place::Asked(number);
+        held.place = Place::Asked(at);
         held.changed = bytes.clone();
-        for (four, word) in self.asked[number].0[bytes.clone()].chunks_exact_mut(4).zip(from) {
+        let to = &mut self.asked.bytes_mut()[at..at + PAGE_BYTES][bytes.clone()];
+        for (four, word) in to.chunks_exact_mut(4).zip(from) {
             four.copy_from_slice(&word.to_le_bytes());
         }
     }
 
     /// Gives all pages back: what was written is copied to the guest, and what is mapped is unmapped.
     pub fn give_back(&mut self) {
-        let asked = &self.asked;
-        let changed = self.held.iter().filter(|held| !held.changed.is_empty());
-        let mut copies: Vec<_> = changed
-            .filter_map(|held| match held.place {
-                Place::Asked(page) => Some(PageCopy {
-                    reference: held.reference,
-                    offset: held.changed.start,
-                    side: Side::ToGuest(&asked[page].0[held.changed.clone()]),
-                    allowed: false,
-                }),
-                _ => None,
-            })
-            .collect();
-        let made = self.xen.copy(self.domain, &mut copies);
-        // a grant that ended after it was checked: the guest can't be told any more
-        let late = copies.iter().filter(|copy| made.is_err() || !copy.allowed).count();
-        Totals::add(&self.totals.ended_grants, late as u64);
+        if self.held.iter().any(|held| !held.changed.is_empty()) {
+            self.put_changed();
+        }
         self.held.clear();
         self.asked_count = 0;
         self.tx.read.clear();
         self.rx.read.clear();
+    }
+
+    #[cold]
+    fn put_changed(&mut self) {
+        let copy = |held: &Held<_>| match held.place {
+            Place::Asked(at) if !held.changed.is_empty() => {
+                let (offset, bytes) = (held.changed.start, held.changed.len());
+                Some(PageCopy { reference: held.reference, offset, at: at + offset, bytes, allowed: false })
+            }
+            _ => None,
+        };
+        let mut copies: Vec<_> = self.held.iter().filter_map(copy).collect();
+        let made = self.xen.put(self.domain, &mut copies, &self.asked);
+        // a grant that ended after it was checked: the guest can't be told any more
+        let late = copies.iter().filter(|copy| made.is_err() || !copy.allowed).count();
+        Totals::add(&self.totals.ended_grants, late as u64);
     }
 }
 

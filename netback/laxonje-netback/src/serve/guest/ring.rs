@@ -1,4 +1,5 @@
 //! A ring's page, and guesses at its requests.
+use crate::xen::PageCopy;
 use laxonje::Page;
 use std::ops::{Deref, Range};
 use std::sync::atomic::Ordering;
@@ -11,13 +12,22 @@ pub const TX_SLOT: usize = 3;
 pub const RX_SLOT: usize = 2;
 pub const REQUESTS_IN_RING: u32 = 256;
 
-/// A guess at a request: the page of a tx slot that was copied, or a packet's page that was copied to the buffer of an rx slot.
+/// A guess at a request: the bytes of a tx slot that were copied, or a packet's page that was copied to the buffer of an rx slot.
 #[derive(Clone, Debug, PartialEq, Eq)]
 pub struct Guess {
     pub reference: u32,
-    pub page: usize,
+    /// Where the copy of a tx slot lies, or the number of the packet's page.
+    pub place: usize,
+    /// Which bytes of the guest's page.
     pub bytes: Range<usize>,
     pub allowed: bool,
+}
+
+impl Guess {
+    pub fn of(copy: &PageCopy, place: usize) -> Guess {
+        let bytes = copy.offset..copy.offset + copy.bytes;
+        Guess { reference: copy.reference, place, bytes, allowed: copy.allowed }
+    }
 }
 
 /// One of a queue's two rings.
@@ -40,6 +50,11 @@ impl<Mapped: Deref<Target = Page>> Ring<Mapped> {
     /// How many requests the guest shows. More than a ring has: it lies.
     pub fn shown(&self) -> u32 {
         self.page[REQUESTS].load(Ordering::Acquire).wrapping_sub(self.done)
+    }
+
+    /// The slot of the request that comes so many after the next.
+    pub fn slot(&self, number: u32) -> usize {
+        (self.done.wrapping_add(number) % REQUESTS_IN_RING) as usize
     }
 
     pub fn word(&self, slot: usize, number: usize) -> u32 {

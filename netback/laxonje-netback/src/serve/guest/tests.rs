@@ -17,14 +17,14 @@ type Granted = (Rc<Page>, bool);
 
 /// Pages by their references, and what was asked of Xen.
 #[derive(Clone, Default)]
-struct Memory {
+struct Pretended {
     pages: Rc<RefCell<BTreeMap<u32, Granted>>>,
     said: Rc<RefCell<Vec<String>>>,
     /// How many rx responses were shown when a copy to the guest was made.
     shown: Rc<RefCell<Vec<u32>>>,
 }
 
-impl Pages for Memory {
+impl Pages for Pretended {
     type Mapped = Rc<Page>;
 
     fn map(&self, domain: u16, reference: u32, writes: bool) -> Option<Rc<Page>> {
@@ -34,37 +34,40 @@ impl Pages for Memory {
         (*writable || !writes).then(|| Rc::clone(page))
     }
 
-    fn copy(&self, domain: u16, copies: &mut [PageCopy]) -> io::Result<()> {
-        let what = |copy: &PageCopy| match &copy.side {
-            Side::FromGuest(bytes) => format!("{}<{}+{}", copy.reference, copy.offset, bytes.len()),
-            Side::ToGuest(bytes) => format!("{}>{}+{}", copy.reference, copy.offset, bytes.len()),
-        };
-        if !copies.is_empty() {
-            self.said.borrow_mut().push(copies.iter().map(what).collect::<Vec<_>>().join(" "));
-        }
+    fn memory(&self, pages: usize) -> Memory {
+        Memory::plain(pages)
+    }
+
+    fn fetch(&self, domain: u16, copies: &mut [PageCopy], into: &mut Memory) -> io::Result<()> {
+        self.note(copies, '<');
         for copy in copies {
-            if matches!(copy.side, Side::ToGuest(_)) {
-                self.shown.borrow_mut().push(self.page(RX)[RESPONSES].load(SeqCst));
-            }
-            let page = self.map(domain, copy.reference, matches!(copy.side, Side::ToGuest(_)));
+            let page = self.map(domain, copy.reference, false);
             copy.allowed = page.is_some();
             if let Some(page) = page {
-                copy_bytes(&page, copy);
+                into.bytes_mut()[copy.at..][..copy.bytes].copy_from_slice(&bytes_of(&page)[copy.offset..][..copy.bytes]);
+            }
+        }
+        Ok(())
+    }
+
+    fn put(&self, domain: u16, copies: &mut [PageCopy], from: &Memory) -> io::Result<()> {
+        self.note(copies, '>');
+        for copy in copies {
+            self.shown.borrow_mut().push(self.page(RX)[RESPONSES].load(SeqCst));
+            let page = self.map(domain, copy.reference, true);
+            copy.allowed = page.is_some();
+            if let Some(page) = page {
+                let mut bytes = bytes_of(&page);
+                bytes[copy.offset..][..copy.bytes].copy_from_slice(&from.bytes()[copy.at..][..copy.bytes]);
+                fill(&page, &bytes);
             }
         }
         Ok(())
     }
 }
 
-fn copy_bytes(page: &Page, copy: &mut PageCopy) {
-    let mut bytes: Vec<u8> = page.iter().flat_map(|word| word.load(SeqCst).to_le_bytes()).collect();
-    match &mut copy.side {
-        Side::FromGuest(to) => to.copy_from_slice(&bytes[copy.offset..][..to.len()]),
-        Side::ToGuest(from) => {
-            bytes[copy.offset..][..from.len()].copy_from_slice(from);
-            fill(page, &bytes);
-        }
-    }
+fn bytes_of(page: &Page) -> Vec<u8> {
+    page.iter().flat_map(|word| word.load(SeqCst).to_le_bytes()).collect()
 }
 
 fn fill(page: &Page, bytes: &[u8]) {
@@ -74,15 +77,15 @@ fn fill(page: &Page, bytes: &[u8]) {
 }
 
 struct Bench {
-    memory: Memory,
-    guest: XenGuest<Memory>,
+    memory: Pretended,
+    guest: XenGuest<Pretended>,
     queue: Queue,
 }
 
 impl Bench {
     /// A program that answers this number to each packet.
     fn new(way: Way, answer: u8) -> Bench {
-        let memory = Memory::default();
+        let memory = Pretended::default();
         memory.grant(TX, true);
         memory.grant(RX, true);
         for ring in [TX, RX] {
@@ -138,7 +141,14 @@ impl Bench {
     }
 }
 
-impl Memory {
+impl Pretended {
+    fn note(&self, copies: &[PageCopy], way: char) {
+        let what = |copy: &PageCopy| format!("{}{way}{}+{}", copy.reference, copy.offset, copy.bytes);
+        if !copies.is_empty() {
+            self.said.borrow_mut().push(copies.iter().map(what).collect::<Vec<_>>().join(" "));
+        }
+    }
+
     fn page(&self, reference: u32) -> Rc<Page> {
         Rc::clone(&self.pages.borrow()[&reference].0)
     }
@@ -215,6 +225,28 @@ fn shown_packets_are_copied_in_one_call() {
 }
 
 #[test]
+fn whole_packets_are_copied_as_far_as_there_is_room() {
+    let mut bench = Bench::new(Way::Copy, 2);
+    bench.memory.grant_bytes(20, 0);
+    let slots: u32 = 12; // three packets of so many pages, and room for 32 pages
+    for index in 0..3 * slots {
+        let (first, last) = (index % slots == 0, index % slots == slots - 1);
+        bench.memory.send(index, 20, 0, if last { 0 } else { MORE }, if first { slots * 4096 } else { 4096 });
+    }
+    assert_eq!(bench.guest.fetch().unwrap(), 2 * slots);
+    assert_eq!((bench.action(), bench.action()), (Action::Pass, Action::Pass));
+    assert!(bench.guest.is_done(2 * slots));
+    bench.guest.forget();
+    assert_eq!(bench.guest.fetch().unwrap(), 3 * slots);
+    assert_eq!((bench.action(), bench.packet().len()), (Action::Pass, 4096 * slots as usize));
+    assert_eq!((bench.count(|totals| &totals.copied_pages), bench.count(|totals| &totals.asked_pages)), (36, 0));
+    // a packet that doesn't end
+    bench.guest.forget();
+    bench.memory.send(3 * slots, 20, 0, MORE, 60);
+    assert_eq!((bench.guest.fetch().unwrap(), bench.count(|totals| &totals.copied_pages)), (3 * slots + 1, 36));
+}
+
+#[test]
 fn a_slot_that_the_guest_changes_is_asked_for_anew() {
     let mut bench = Bench::new(Way::Copy, 2);
     bench.memory.grant_bytes(20, 0);
@@ -245,11 +277,12 @@ fn what_xen_refuses_the_queue_refuses() {
     bench.guest.fetch().unwrap();
     assert_eq!(bench.turn(), Turn::Refused(Refusal(4)));
     assert_eq!((bench.memory.status(TX, 0), bench.count(|totals| &totals.refused_grants)), (-1, 1));
+    assert_eq!(bench.guest.take_refused().to_string(), ": Xen refuses reference 77, of the packet at index 0");
     // a reference past the made-up table isn't asked for
     bench.memory.grant_bytes(40_000, 0);
     bench.memory.send(1, 40_000, 0, 0, 60);
     assert_eq!(bench.turn(), Turn::Refused(Refusal(4)));
-    assert_eq!(bench.count(|totals| &totals.strange), 0);
+    assert_eq!((bench.count(|totals| &totals.strange), bench.guest.take_refused().to_string().as_str()), (0, ""));
 }
 
 #[test]
@@ -411,7 +444,7 @@ fn pages_can_be_mapped() {
 
 #[test]
 fn rings_are_gone_on_with_where_responses_are_shown_up_to() {
-    let memory = Memory::default();
+    let memory = Pretended::default();
     memory.grant(TX, true);
     memory.grant(RX, true);
     memory.page(TX)[RESPONSES].store(70_000, SeqCst);
@@ -501,7 +534,7 @@ impl Any {
     }
 
     /// Slots that are near to what is looked at, a producer, and now and then a grant that ends or comes.
-    fn scribble(&mut self, memory: &Memory) {
+    fn scribble(&mut self, memory: &Pretended) {
         let (tx, rx) = (memory.page(TX), memory.page(RX));
         let (sent, posted) = (tx[2].load(SeqCst), rx[2].load(SeqCst));
         let count = self.below(4);
