@@ -122,6 +122,11 @@ class Forms:
         names = [self.names[atom][0] for atom, factor in address.terms if factor == 1]
         return len(address.terms) == 1 and names[:1] in (["called"], ["value"]) and address.constant < VALUE_BYTES
 
+    def global_of(self, address):
+        """The global in whose value a counter lies; None where that isn't known."""
+        names = [self.names[atom] for atom, factor in address.terms if factor == 1] if self.is_in_value(address) else []
+        return names[0][1] if names and names[0][0] == "value" else None
+
     def in_memory(self, name, place):
         """An address in constants or in a global: never 0, and below 2^62."""
         return self.add(self.atom(name, MEMORY_END, MEMORY_START), number(place))
@@ -155,7 +160,7 @@ class Forms:
         operation, wide = slot.opcode & 0xF0, slot.kind == ALU64
         if slot.offset or not a.terms and not b.terms:
             return None
-        if not wide and (operation in (ADD, SUB, MOV) or operation == LSH and not b.terms and b.constant < 32):
+        if not wide and (operation in (ADD, SUB, MOV) or not b.terms and self.is_factor(operation, b.constant)):
             whole = b if operation == MOV else self.linear(operation, a, b)
             return self.within(whole, 0, MASK_32, ranges)
         if wide and operation in (OR, XOR):
@@ -169,6 +174,10 @@ class Forms:
             return self.within(self.divided(a, shift), least, most, ranges)
         mask = b.constant & (MASK_64 if wide else MASK_32)
         return self.within(a, 0, mask, ranges) if operation == AND and mask & (mask + 1) == 0 else None
+
+    def is_factor(self, operation, constant):
+        """Whether an operation of 32 bits with this constant is a multiplication of the whole numbers too."""
+        return operation == LSH and constant < 32 or operation == MUL and 0 < constant <= MASK_32
 
     def beside(self, high, low, ranges):
         """The sum of two forms that have no bit in common: the lowest bits of one are 0, and the other has no more."""
@@ -228,6 +237,8 @@ class Forms:
             return self.subtract(a, b)
         if operation == LSH and not b.terms:
             return self.add(ZERO, a, 1 << (b.constant & 63))
+        if operation == MUL and not b.terms:
+            return self.add(ZERO, a, b.constant)
         if operation == AND and not b.terms and len(a.terms) == 1 and not a.constant:
             ((atom, factor),) = a.terms
             shift = lowest_bits(factor)

@@ -101,8 +101,15 @@ def difference(code, store):
             loads = instruction.is_load or instruction.opcode == STORE_DOUBLE == code[store].opcode
             if loads and kinds.counter(instruction) == counter:
                 known.add(slot)
-            elif slot in (0, counter[0]) or instruction.is_store and kinds.get(instruction.base, ("",))[0] == VALUE:
+            elif slot in (0, counter[0]) or instruction.is_store and may_be_stored(kinds, instruction, counter):
                 unknown = True
             else:
                 todo.append(slot)
     return Difference(counter, frozenset(known), bool(known) and unknown)
+
+
+def may_be_stored(kinds, store, counter):
+    """Whether a store may be to this counter. Two globals are two counters."""
+    kind, place = kinds.get(store.base, ("", None))
+    names = [row[0] for row in (place, counter) if row is not None and isinstance(row[0], str)]
+    return kind == VALUE and len(set(names)) < 2
