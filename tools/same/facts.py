@@ -192,21 +192,25 @@ def compared(forms, holds, form, value, facts):
     ranges, alone, constant = dict(facts.ranges), form.without_constant, signed(form.constant)
     if low <= high:
         ranges[alone] = narrower((low - constant, high - constant), forms.span(alone, facts.ranges))
-        of_atom(forms, alone, *ranges[alone], ranges)
+        of_atoms(forms, alone, *ranges[alone], ranges)
     return Facts(ranges, {**facts.signed, form: with_sign}, facts.within)
 
 
-def of_atom(forms, form, low, high, ranges):
-    """What a range of an atom's multiple says of the atom."""
-    if len(form.terms) != 1 or form.terms[0][1] == 1:
+def of_atoms(forms, form, low, high, ranges):
+    """What the range of a sum of multiples says of each of its atoms, where the whole numbers don't wrap."""
+    spans = {atom: forms.range_of(atom, ranges) for atom, _ in form.terms}
+    if any(least < 0 for least, _ in spans.values()) or low < 0 or high > MASK_64:
         return
-    ((atom, factor),) = form.terms
-    alone = Form(0, ((atom, 1),))
-    least, most = forms.range_of(atom, ranges)
-    if least >= 0 and most * factor <= MASK_64 and low >= 0 and high <= MASK_64:
-        least, most = max(least, -(-low // factor)), min(most, high // factor)
-        if least <= most:
-            ranges[alone] = least, most
+    if sum(factor * spans[atom][1] for atom, factor in form.terms) > MASK_64:
+        return
+    least_sum = sum(factor * spans[atom][0] for atom, factor in form.terms)
+    most_sum = sum(factor * spans[atom][1] for atom, factor in form.terms)
+    for atom, factor in form.terms:
+        least, most = spans[atom]
+        others = least_sum - factor * least, most_sum - factor * most
+        least, most = max(least, -((others[1] - low) // factor)), min(most, (high - others[0]) // factor)
+        if (len(form.terms), factor) != (1, 1) and least <= most:
+            ranges[Form(0, ((atom, 1),))] = least, most
 
 
 def narrowed(holds, low, high, value):

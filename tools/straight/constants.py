@@ -121,6 +121,8 @@ class Constants:
         a, b = self.operands(jump)
         if is_number(a) and is_number(b):
             return holds(jump, a, b)
+        if in_table(a) and b == 0 and jump.kind == JMP and jump.operation in (JEQ, JNE):
+            return jump.operation == JNE
         if in_table(a) and in_table(b) and a.base == b.base and jump.kind == JMP and jump.operation in ORDERED:
             return holds(jump, a.offset - b.offset + FAR_ENOUGH, FAR_ENOUGH)
         if jump.kind == JMP and jump.operation in ORDERED:
