@@ -24,7 +24,7 @@ rebased."""
 from dataclasses import dataclass, field
 
 from .addresses import ADDED, KEPT, MET, Addresses, PacketAddress, StackSlot
-from .copies import EVERYWHERE, IN_LOOPS, STEERING, Cases, Copies, Trips, Wide
+from .copies import COUNTERS, EVERYWHERE, IN_LOOPS, STEERING, Cases, Copies, Trips, Wide
 from .counts import difference, fused
 from .emit import Emitter, Kind, Needs
 from .graph import SIZE, Fail, NoBound, TooMany, loop_of, steering
@@ -46,10 +46,10 @@ BY_COPY, BY_SLOT, BY_ACCESS = "by copy", "by slot", "by access"
 WAYS = [
     (STEERING, (BY_COPY, BY_SLOT)),
     (STEERING, (BY_ACCESS,)),
+    (COUNTERS, (BY_COPY, BY_SLOT)),
     (IN_LOOPS, (BY_COPY, BY_SLOT)),
     (EVERYWHERE, (BY_COPY, BY_SLOT)),
 ]
-
 
 class StillRefused(Fail):
     """The verifier's answer to a program that nothing more was changed in."""
@@ -92,6 +92,7 @@ class Search:
         self.code = instructions_of(settings)
         self.marks = Marks(values=any(insn.counter is not None for insn in self.code.values()))
         self.copies = self.addresses = self.labels = None
+        self.began = False  # whether there was a program to ask the verifier of
 
     def mark(self, here, place):
         """How a meeting is marked. All its registers are: one of them is often made from another."""
@@ -131,6 +132,7 @@ class Search:
             if program is None:
                 continue
             words, relocations, self.labels = program
+            self.began = True
             judged += len(words)
             if judged > MOST_JUDGED:
                 break
@@ -341,15 +343,20 @@ def after_shifts(number, shifts):
 
 def searches(settings, xdpbox, faults, unguarded):
     """What the searches find, the smaller of two programs first. The next two begin only where nobody took one of
-    these. Why a search found none is added to the faults. Where some results of the first ones want a guard that nobody
+    these, and none that would have too many copies again. Why a search found none is added to the faults. Where some results of the first ones want a guard that nobody
     asked for (`unguarded`), others do too, but for those that tell all numbers apart."""
+    hopeless = set()
     for numbers, ways in WAYS:
         found = []
-        if unguarded and numbers == IN_LOOPS:
+        if numbers in hopeless or unguarded and numbers == IN_LOOPS:
             continue
         for way in ways:
+            search = Search(settings, xdpbox, numbers, way)
             try:
-                found.append(Search(settings, xdpbox, numbers, way).run())
+                found.append(search.run())
             except Fail as fail:
                 faults.append(fail)
+                if isinstance(fail, TooMany) and not search.began:
+                    hopeless.add(numbers)
+                    break
         yield from sorted(found, key=lambda result: len(result.words))
