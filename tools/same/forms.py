@@ -292,3 +292,21 @@ class Forms:
                 found = narrower(found, (rest[0] + least, rest[1] + most))
         low, high = narrower(found, ranges.get(form.without_constant, found))
         return low + signed(form.constant), high + signed(form.constant)
+
+    def sharper_span(self, form, ranges):
+        """The same, also by what is known of sums that are a part of the form."""
+        left, low, high = dict(form.terms), 0, 0
+        spans = {atom: self.span(Form(0, ((atom, factor),)), ranges) for atom, factor in form.terms}
+
+        def saved(row):
+            widths = (spans[atom][1] - spans[atom][0] for atom, _ in row[0].terms)
+            return sum(widths) - (row[1][1] - row[1][0])
+
+        parts = [row for row in ranges.items() if len(row[0].terms) > 1 and set(row[0].terms) <= set(form.terms)]
+        for part, (least, most) in sorted(parts, key=saved, reverse=True):
+            if all(atom in left for atom, _ in part.terms):
+                low, high = low + least, high + most
+                left = {atom: factor for atom, factor in left.items() if (atom, factor) not in part.terms}
+        low, high = low + sum(spans[atom][0] for atom in left), high + sum(spans[atom][1] for atom in left)
+        constant = signed(form.constant)
+        return narrower(self.span(form, ranges), (low + constant, high + constant))

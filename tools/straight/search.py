@@ -23,7 +23,7 @@ need, all in loops, or all; a meeting marked as one copy or at all copies of its
 rebased."""
 from dataclasses import dataclass, field
 
-from .addresses import ADDED, KEPT, MET, Addresses, PacketAddress, StackSlot
+from .addresses import ADDED, KEPT, MET, Addresses, PacketAddress, StackSlot, Thing
 from .copies import COUNTERS, EVERYWHERE, IN_LOOPS, STEERING, Cases, Copies, Trips, Wide
 from .counts import difference, fused
 from .emit import Emitter, Kind, Needs
@@ -184,6 +184,9 @@ class Search:
         if answer.cause != "V9":
             return False
         address = self.addresses.before[label.copy].get(instruction.base)
+        if address == Thing.VALUE and not self.marks.values:
+            self.marks.values = True
+            return True
         if not isinstance(address, PacketAddress):
             return self.tell_apart(answer)
         if self.way == BY_ACCESS:
@@ -274,9 +277,6 @@ class Search:
         label = self.labels.get(lost.slot) if lost else None
         if label is None or label.copy is None or lost.was not in ("fp", "map_value"):
             return False
-        if lost.was == "map_value" and not self.marks.values:
-            self.marks.values = True
-            return True
         if lost.register is None or label.slot in self.marks.cases:
             return False
         numbers = masked(self.code, label.slot, lost.register)
