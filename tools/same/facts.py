@@ -99,8 +99,9 @@ def apart(forms, operation, a, b, ranges, span):
     if low < 0 or least < 0 or high > MASK_64 or most > MASK_64:
         return None
     low, high = low - most, high - least
-    if not difference.terms and -(1 << 63) <= low and high < 1 << 63:
-        low = high = signed(difference.constant)
+    least, most = span(difference, ranges)
+    if all(-(1 << 63) <= edge < 1 << 63 for edge in (low, high, least, most)):
+        low, high = max(low, least), min(high, most)  # two whole numbers that are equal modulo 2^64, and are one
     return in_range(operation, low, high, 0)
 
 

@@ -81,6 +81,11 @@ def lowest_bits(value):
     return (value & -value).bit_length() - 1 if value else 64
 
 
+def lowest_zeros(form):
+    """How many of the lowest bits of a form are 0 whatever its atoms are."""
+    return min(lowest_bits(part) for part in (form.constant, *(factor for _, factor in form.terms)))
+
+
 class Forms:
     """The atoms, each with the range in which one whole number equals it modulo 2^64."""
 
@@ -172,7 +177,7 @@ class Forms:
             top = MASK_64 >> shift
             least, most = (0, top) if operation == RSH else (-(top + 1 >> 1), top >> 1)
             return self.within(self.divided(a, shift), least, most, ranges)
-        mask = b.constant & (MASK_64 if wide else MASK_32)
+        mask = b.constant & (MASK_64 if wide else MASK_32) | (1 << lowest_zeros(a)) - 1  # of bits that aren't 0 in it
         return self.within(a, 0, mask, ranges) if operation == AND and mask & (mask + 1) == 0 else None
 
     def is_factor(self, operation, constant):
@@ -181,8 +186,8 @@ class Forms:
 
     def beside(self, high, low, ranges):
         """The sum of two forms that have no bit in common: the lowest bits of one are 0, and the other has no more."""
-        zeros = min(lowest_bits(part) for part in (high.constant, *(factor for _, factor in high.terms)))
-        return self.add(high, low) if self.within(low, 0, (1 << zeros) - 1, ranges) is not None else None
+        most = (1 << lowest_zeros(high)) - 1
+        return self.add(high, low) if self.within(low, 0, most, ranges) is not None else None
 
     def divided(self, form, shift):
         """A form that this one is, shifted by so many bits to the left; None where its numbers aren't multiples."""

@@ -292,17 +292,32 @@ class Search:
         Where its cursor grows by what is loaded, as over options: as many copies as the cursor has steps of one.
         `by_number`: whether the former may help."""
         loop = loop_of(self.code, slot)
-        for row in steering(self.code, loop):
-            for mask in row.masks:
-                numbers = parts_of(self.code[mask].immediate)
-                steps = row.most(self.code, loop, mask) - row.first(self.code, loop)
-                if row.is_by_data(self.code, loop):
-                    if 0 < steps <= MOST_STEPS and row.inside not in self.marks.trips:
-                        self.marks.trips[row.inside] = Trips(steps, row.cursors(self.code, loop))
-                        return True
-                elif by_number and numbers and mask + 1 not in self.marks.cases:
-                    self.marks.cases[mask + 1] = Cases(self.code[mask].destination, tuple(numbers))
+        rows = list(steering(self.code, loop))
+        return any(self.tell_masked_apart(row, loop, by_number) for row in rows) or any(
+            self.tell_bounded_apart(row, loop) for row in rows
+        )
+
+    def tell_bounded_apart(self, row, loop):
+        """The same, of a number that was compared with a constant in front of the loop."""
+        steps = [-(-bound // row.step(self.code, loop)) for bound in row.bounds]
+        steps = [number for number in steps if 1 < number <= MOST_STEPS]
+        if not steps or row.inside in self.marks.trips:
+            return False
+        self.marks.trips[row.inside] = Trips(max(steps), row.cursors(self.code, loop))
+        return True
+
+    def tell_masked_apart(self, row, loop, by_number):
+        """The same, of a number behind a mask."""
+        for mask in row.masks:
+            numbers = parts_of(self.code[mask].immediate)
+            steps = row.most(self.code, loop, mask) - row.first(self.code, loop)
+            if row.is_by_data(self.code, loop):
+                if 0 < steps <= MOST_STEPS and row.inside not in self.marks.trips:
+                    self.marks.trips[row.inside] = Trips(steps, row.cursors(self.code, loop))
                     return True
+            elif by_number and numbers and mask + 1 not in self.marks.cases:
+                self.marks.cases[mask + 1] = Cases(self.code[mask].destination, tuple(numbers))
+                return True
         return False
 
 
@@ -343,8 +358,9 @@ def after_shifts(number, shifts):
 
 def searches(settings, xdpbox, faults, unguarded):
     """What the searches find, the smaller of two programs first. The next two begin only where nobody took one of
-    these, and none that would have too many copies again. Why a search found none is added to the faults. Where some results of the first ones want a guard that nobody
-    asked for (`unguarded`), others do too, but for those that tell all numbers apart."""
+    these, and none that would have too many copies again. Why a search found none is added to the faults. Where some
+    results of the first ones want a guard that nobody asked for (`unguarded`), others do too, but for those that tell
+    all numbers apart."""
     hopeless = set()
     for numbers, ways in WAYS:
         found = []
