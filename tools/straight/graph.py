@@ -15,12 +15,13 @@ from .instructions import (
     JUMP,
     LSH,
     MOVE_CONSTANT,
+    RSH,
     STX,
     reads,
     writes,
 )
 
-SIZE, MOST_SHIFT, LSH_CONSTANT = "size", 16, ALU64 | LSH
+SIZE, MOST_SHIFT, LSH_CONSTANT, RSH_CONSTANT = "size", 16, ALU64 | LSH, ALU64 | RSH
 
 
 class Fail(Exception):
@@ -178,12 +179,15 @@ class Steering(NamedTuple):
         moved = [code[slot] for slot in self.sources - loop]
         return max([0, *(insn.immediate for insn in moved if insn.opcode == MOVE_CONSTANT)])
 
-
     def most(self, code, loop, mask):
         """The greatest number that a mask leaves, behind the shifts that follow."""
-        behind = [code[slot] for slot in self.sources - loop if slot > mask]
-        shift = sum(insn.immediate for insn in behind if insn.opcode == LSH_CONSTANT)
-        return code[mask].immediate << min(shift, MOST_SHIFT)
+        number = code[mask].immediate
+        for slot in sorted(slot for slot in self.sources - loop if slot > mask):
+            if code[slot].opcode == LSH_CONSTANT:
+                number <<= min(code[slot].immediate, MOST_SHIFT)
+            elif code[slot].opcode == RSH_CONSTANT:
+                number >>= code[slot].immediate
+        return number
 
 
 def steering(code, loop):

@@ -311,7 +311,7 @@ class Search:
         for mask in row.masks:
             numbers = parts_of(self.code[mask].immediate)
             steps = row.most(self.code, loop, mask) - row.first(self.code, loop)
-            if row.is_by_data(self.code, loop):
+            if row.is_by_data(self.code, loop) or not by_number:
                 if 0 < steps <= MOST_STEPS and row.inside not in self.marks.trips:
                     self.marks.trips[row.inside] = Trips(steps, row.cursors(self.code, loop))
                     return True
