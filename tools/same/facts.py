@@ -139,25 +139,9 @@ def learnt(forms, opcode, taken, a, b, facts):
         return within_packet(forms, address, facts) if holds in (JLT, JLE, JEQ) else facts
     if not a.terms and holds in TURNED:
         a, b, holds = b, a, TURNED[holds]
-    facts = with_room(forms, holds, a, b, facts)
     if b.terms:
         return below_an_address(forms, holds, a, b, facts)
     return compared(forms, holds, a, b.constant, facts) if a.terms else facts
-
-
-def with_room(forms, holds, a, b, facts):
-    """What `end - p > n` says: where the address p is known to be at most the packet's end, the difference is the room
-    behind it, and p + n lies in front of the end."""
-    if holds in (JLT, JLE):
-        a, b, holds = b, a, TURNED[holds]
-    address, end = forms.subtract(forms.end, a), forms.end.terms[0][0]
-    if holds not in (JGT, JGE) or dict(a.terms).get(end) != 1 or end in dict(b.terms):
-        return facts
-    low, high = forms.span(forms.subtract(address, forms.start), facts.ranges)
-    least, most = forms.span(b, facts.ranges)
-    if low < 0 or high >= NEAR or room_behind(forms, address, facts) < 0 or least < 0 or most >= NEAR:
-        return facts
-    return within_packet(forms, forms.add(forms.add(address, b), number(holds == JGT)), facts)
 
 
 def below_an_address(forms, holds, a, b, facts):

@@ -113,5 +113,5 @@ def difference(code, store):
 def may_be_stored(kinds, store, counter):
     """Whether a store may be to this counter. Two globals are two counters."""
     kind, place = kinds.get(store.base, ("", None))
-    names = [row[0] for row in (place, counter) if row is not None and isinstance(row[0], str)]
-    return kind == VALUE and len(set(names)) < 2
+    names = {row[0] for row in (place, counter) if isinstance(row, tuple) and isinstance(row[0], str)}
+    return kind == VALUE and len(names) < 2
