@@ -5,6 +5,7 @@ import re
 import shlex
 import shutil
 import subprocess
+import sys
 import tempfile
 
 from output import fail
@@ -23,6 +24,10 @@ static inline __attribute__((always_inline)) int inlined_memcmp(const void *a, c
 #define __builtin_memcmp inlined_memcmp
 """
 MEMCMP = "#define memcmp inlined_memcmp\n"
+# what clang isn't to do: compare distances where C compares addresses, and store once through one of two addresses
+# where C stores twice. Other versions may not know these words
+KEPT_AS_IN_C = ["-mllvm", "-indvars-predicate-loops=false", "-mllvm", "-sink-common-insts=false"]
+UNKNOWN_WORD = b"Unknown command line argument"
 
 
 def system_headers():
@@ -60,8 +65,18 @@ def check_source(source):
         fail(f"{source}: this isn't called .c: give a file of C")
 
 
+def compile_with(words):
+    """clang's status. What it says goes to standard error, but for words of ours that it doesn't know."""
+    run = subprocess.run([*words, *KEPT_AS_IN_C], stderr=subprocess.PIPE, check=False)
+    if run.returncode and UNKNOWN_WORD in run.stderr:
+        return subprocess.run(words, check=False).returncode
+    sys.stderr.buffer.write(run.stderr)
+    sys.stderr.flush()
+    return run.returncode
+
+
 def compiled(source):
-    """The bytes of the object file that clang makes. What clang says goes to standard error, as it says it."""
+    """The bytes of the object file that clang makes. What clang says goes to standard error."""
     clang = os.environ.get("CLANG", "clang")
     if shutil.which(clang) is None:
         fail(f"{clang} isn't on the PATH: install it (Debian: apt install clang), or name one, as CLANG=clang-19")
@@ -85,7 +100,7 @@ def compiled(source):
             "-o",
             target,
         ]
-        if subprocess.run(words, check=False).returncode or not os.path.exists(target):
+        if compile_with(words) or not os.path.exists(target):
             fail(f"{source}: {clang} made no program of it")
         with open(target, "rb") as file:
             return file.read()

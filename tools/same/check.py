@@ -150,7 +150,7 @@ class Check(Memory):
             state.new[slot.destination] = state.new_stack.get(at, self.forms.atom(("unknown", pc)))
         elif slot.opcode == LOAD_WORD and state.new[slot.source] == self.forms.context:
             state.new[slot.destination] = self.forms.field(slot.offset)
-        elif slot.opcode == LOAD_8 and self.forms.is_in_value(self.address(slot, state.new)) and state.owed is None:
+        elif slot.opcode == LOAD_8 and state.owed is None:  # a counter: the addition that is owed reaches nothing else
             state.owed = self.address(slot, state.new)
             state.new[slot.destination] = state.loads[state.owed] = self.forms.atom(("read", pc))
         elif slot.opcode == WIDE:

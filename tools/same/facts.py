@@ -66,6 +66,12 @@ def in_range(operation, low, high, value):
 
 def decided(forms, opcode, a, b, facts):
     """Whether a jump is taken, where forms and facts say so."""
+    found = decided_by(forms, opcode, a, b, facts, forms.span)
+    return decided_by(forms, opcode, a, b, facts, forms.sharper_span) if found is None else found
+
+
+def decided_by(forms, opcode, a, b, facts, span):
+    """The same. `span`: gives the range of a form."""
     operation, bits = opcode & 0xF0, 64 if opcode & 7 == JMP else 32
     if not a.terms and not b.terms:
         return on_numbers(operation, a.constant, b.constant, bits)
@@ -73,48 +79,49 @@ def decided(forms, opcode, a, b, facts):
         return None
     if forms.end in (a, b) and operation in TURNED:
         address, operation = (a, operation) if b == forms.end else (b, TURNED[operation])
-        return beside_end(forms, operation, address, facts)
+        return beside_end(forms, operation, address, facts, span)
     if not b.terms:
-        low, high = forms.span(a, facts.ranges)
+        low, high = span(a, facts.ranges)
         return in_range(operation, low, high, b.constant) if 0 <= low and high <= MASK_64 else None
-    return apart(forms, operation, a, b, facts)
+    return apart(forms, operation, a, b, facts.ranges, span)
 
 
-def apart(forms, operation, a, b, facts):
+def apart(forms, operation, a, b, ranges, span):
     """Of two forms without sign that don't wrap: by their difference, where that is one number, or by their ranges."""
     difference = forms.subtract(a, b)
     if all(dict(form.terms).get(forms.start.terms[0][0]) == 1 for form in (a, b)):
         a, b = forms.subtract(a, forms.start), forms.subtract(b, forms.start)
-        if any(not 0 <= edge < NEAR for form in (a, b) for edge in forms.span(form, facts.ranges)):
+        if any(not 0 <= edge < NEAR for form in (a, b) for edge in span(form, ranges)):
             return None
     if not difference.terms and operation in (JEQ, JNE):
         return (operation == JEQ) == (difference.constant == 0)
-    (low, high), (least, most) = (forms.span(form, facts.ranges) for form in (a, b))
+    (low, high), (least, most) = (span(form, ranges) for form in (a, b))
     if low < 0 or least < 0 or high > MASK_64 or most > MASK_64:
         return None
     low, high = low - most, high - least
-    if not difference.terms and -(1 << 63) <= low and high < 1 << 63:
-        low = high = signed(difference.constant)
+    least, most = span(difference, ranges)
+    if all(-(1 << 63) <= edge < 1 << 63 for edge in (low, high, least, most)):
+        low, high = max(low, least), min(high, most)  # two whole numbers that are equal modulo 2^64, and are one
     return in_range(operation, low, high, 0)
 
 
-def beside_end(forms, operation, address, facts):
+def beside_end(forms, operation, address, facts, span):
     """Of an address and the packet's end, which is at most 65,535 behind its start."""
-    low, high = forms.span(forms.subtract(address, forms.start), facts.ranges)
+    low, high = span(forms.subtract(address, forms.start), facts.ranges)
     if low > MOST_LENGTH and high < NEAR:
         return {JEQ: False, JNE: True, JGT: True, JGE: True, JLT: False, JLE: False}[operation]
-    if 0 <= low and high < NEAR and room_behind(forms, address, facts) >= 0:
+    if 0 <= low and high < NEAR and room_behind(forms, address, facts, span) >= 0:
         return {JGT: False, JLE: True}.get(operation)
     return None
 
 
-def room_behind(forms, address, facts):
+def room_behind(forms, address, facts, span=None):
     """At least so many bytes behind an address lie in the packet; negative where none are known to."""
-    rooms = []
+    rooms, span = [], span or forms.span
     for end in facts.within:
         apart_by = forms.subtract(end, address)
         if len(apart_by.terms) <= MOST_APART:  # of more numbers nothing is known that would help
-            low, high = forms.span(apart_by, facts.ranges)
+            low, high = span(apart_by, facts.ranges)
             rooms += [low] if high < NEAR else []
     return max(rooms, default=-1)
 
@@ -130,6 +137,8 @@ def learnt(forms, opcode, taken, a, b, facts):
             return facts
         address, holds = (a, holds) if b == forms.end else (b, TURNED[holds])
         return within_packet(forms, address, facts) if holds in (JLT, JLE, JEQ) else facts
+    if not a.terms and holds in TURNED:
+        a, b, holds = b, a, TURNED[holds]
     if b.terms:
         return below_an_address(forms, holds, a, b, facts)
     return compared(forms, holds, a, b.constant, facts) if a.terms else facts
@@ -173,22 +182,27 @@ def compared(forms, holds, form, value, facts):
         low, high = max(low, with_sign[0]), min(high, with_sign[1])
     ranges, alone, constant = dict(facts.ranges), form.without_constant, signed(form.constant)
     if low <= high:
-        ranges[alone] = narrower((low - constant, high - constant), forms.span(alone, facts.ranges))
-        of_atom(forms, alone, *ranges[alone], ranges)
+        wraps = MASK_64 + 1 if low - constant > MASK_64 else 0  # as of `x - 256 > -255`, which is below 256
+        ranges[alone] = narrower((low - constant - wraps, high - constant - wraps), forms.span(alone, facts.ranges))
+        of_atoms(forms, alone, *ranges[alone], ranges)
     return Facts(ranges, {**facts.signed, form: with_sign}, facts.within)
 
 
-def of_atom(forms, form, low, high, ranges):
-    """What a range of an atom's multiple says of the atom."""
-    if len(form.terms) != 1 or form.terms[0][1] == 1:
+def of_atoms(forms, form, low, high, ranges):
+    """What the range of a sum of multiples says of each of its atoms, where the whole numbers don't wrap."""
+    spans = {atom: forms.range_of(atom, ranges) for atom, _ in form.terms}
+    if any(least < 0 for least, _ in spans.values()) or low < 0 or high > MASK_64:
         return
-    ((atom, factor),) = form.terms
-    alone = Form(0, ((atom, 1),))
-    least, most = forms.range_of(atom, ranges)
-    if least >= 0 and most * factor <= MASK_64 and low >= 0 and high <= MASK_64:
-        least, most = max(least, -(-low // factor)), min(most, high // factor)
-        if least <= most:
-            ranges[alone] = least, most
+    if sum(factor * spans[atom][1] for atom, factor in form.terms) > MASK_64:
+        return
+    least_sum = sum(factor * spans[atom][0] for atom, factor in form.terms)
+    most_sum = sum(factor * spans[atom][1] for atom, factor in form.terms)
+    for atom, factor in form.terms:
+        least, most = spans[atom]
+        others = least_sum - factor * least, most_sum - factor * most
+        least, most = max(least, -((others[1] - low) // factor)), min(most, (high - others[0]) // factor)
+        if (len(form.terms), factor) != (1, 1) and least <= most:
+            ranges[Form(0, ((atom, 1),))] = least, most
 
 
 def narrowed(holds, low, high, value):

@@ -81,6 +81,11 @@ def lowest_bits(value):
     return (value & -value).bit_length() - 1 if value else 64
 
 
+def lowest_zeros(form):
+    """How many of the lowest bits of a form are 0 whatever its atoms are."""
+    return min(lowest_bits(part) for part in (form.constant, *(factor for _, factor in form.terms)))
+
+
 class Forms:
     """The atoms, each with the range in which one whole number equals it modulo 2^64."""
 
@@ -122,6 +127,11 @@ class Forms:
         names = [self.names[atom][0] for atom, factor in address.terms if factor == 1]
         return len(address.terms) == 1 and names[:1] in (["called"], ["value"]) and address.constant < VALUE_BYTES
 
+    def global_of(self, address):
+        """The global in whose value a counter lies; None where that isn't known."""
+        names = [self.names[atom] for atom, factor in address.terms if factor == 1] if self.is_in_value(address) else []
+        return names[0][1] if names and names[0][0] == "value" else None
+
     def in_memory(self, name, place):
         """An address in constants or in a global: never 0, and below 2^62."""
         return self.add(self.atom(name, MEMORY_END, MEMORY_START), number(place))
@@ -155,7 +165,7 @@ class Forms:
         operation, wide = slot.opcode & 0xF0, slot.kind == ALU64
         if slot.offset or not a.terms and not b.terms:
             return None
-        if not wide and (operation in (ADD, SUB, MOV) or operation == LSH and not b.terms and b.constant < 32):
+        if not wide and (operation in (ADD, SUB, MOV) or not b.terms and self.is_factor(operation, b.constant)):
             whole = b if operation == MOV else self.linear(operation, a, b)
             return self.within(whole, 0, MASK_32, ranges)
         if wide and operation in (OR, XOR):
@@ -167,13 +177,17 @@ class Forms:
             top = MASK_64 >> shift
             least, most = (0, top) if operation == RSH else (-(top + 1 >> 1), top >> 1)
             return self.within(self.divided(a, shift), least, most, ranges)
-        mask = b.constant & (MASK_64 if wide else MASK_32)
+        mask = b.constant & (MASK_64 if wide else MASK_32) | (1 << lowest_zeros(a)) - 1  # of bits that aren't 0 in it
         return self.within(a, 0, mask, ranges) if operation == AND and mask & (mask + 1) == 0 else None
+
+    def is_factor(self, operation, constant):
+        """Whether an operation of 32 bits with this constant is a multiplication of the whole numbers too."""
+        return operation == LSH and constant < 32 or operation == MUL and 0 < constant <= MASK_32
 
     def beside(self, high, low, ranges):
         """The sum of two forms that have no bit in common: the lowest bits of one are 0, and the other has no more."""
-        zeros = min(lowest_bits(part) for part in (high.constant, *(factor for _, factor in high.terms)))
-        return self.add(high, low) if self.within(low, 0, (1 << zeros) - 1, ranges) is not None else None
+        most = (1 << lowest_zeros(high)) - 1
+        return self.add(high, low) if self.within(low, 0, most, ranges) is not None else None
 
     def divided(self, form, shift):
         """A form that this one is, shifted by so many bits to the left; None where its numbers aren't multiples."""
@@ -228,6 +242,8 @@ class Forms:
             return self.subtract(a, b)
         if operation == LSH and not b.terms:
             return self.add(ZERO, a, 1 << (b.constant & 63))
+        if operation == MUL and not b.terms:
+            return self.add(ZERO, a, b.constant)
         if operation == AND and not b.terms and len(a.terms) == 1 and not a.constant:
             ((atom, factor),) = a.terms
             shift = lowest_bits(factor)
@@ -281,3 +297,21 @@ class Forms:
                 found = narrower(found, (rest[0] + least, rest[1] + most))
         low, high = narrower(found, ranges.get(form.without_constant, found))
         return low + signed(form.constant), high + signed(form.constant)
+
+    def sharper_span(self, form, ranges):
+        """The same, also by what is known of sums that are a part of the form."""
+        left, low, high = dict(form.terms), 0, 0
+        spans = {atom: self.span(Form(0, ((atom, factor),)), ranges) for atom, factor in form.terms}
+
+        def saved(row):
+            widths = (spans[atom][1] - spans[atom][0] for atom, _ in row[0].terms)
+            return sum(widths) - (row[1][1] - row[1][0])
+
+        parts = [row for row in ranges.items() if len(row[0].terms) > 1 and set(row[0].terms) <= set(form.terms)]
+        for part, (least, most) in sorted(parts, key=saved, reverse=True):
+            if all(atom in left for atom, _ in part.terms):
+                low, high = low + least, high + most
+                left = {atom: factor for atom, factor in left.items() if (atom, factor) not in part.terms}
+        low, high = low + sum(spans[atom][0] for atom in left), high + sum(spans[atom][1] for atom in left)
+        constant = signed(form.constant)
+        return narrower(self.span(form, ranges), (low + constant, high + constant))

@@ -73,6 +73,13 @@ class Memory:
         state.new[0] = self.forms.in_memory(("value", named[0], 0), 0)
 
     def forget_counter(self, state, address):
-        """Forgets what stands in a counter, and in all that may be the same one: two places of one value aren't."""
-        for other in [other for other in state.loads if self.forms.subtract(other, address).terms or other == address]:
+        """Forgets what stands in a counter, and in all that may be the same one: two places of one value aren't, nor
+        are those of two globals, which are values of two maps."""
+        for other in [other for other in state.loads if self.may_be_one(other, address)]:
             del state.loads[other]
+
+    def may_be_one(self, one, other):
+        """Whether two counters may be the same one."""
+        globals_of = {name for name in (self.forms.global_of(address) for address in (one, other)) if name is not None}
+        apart = self.forms.subtract(one, other)
+        return one == other or bool(apart.terms) and len(globals_of) < 2

@@ -95,13 +95,12 @@ class Constants:
         passed = tuple(row for row in self.passed if row[0] in names)
         return Constants(self.registers, self.stack, self.values, passed)
 
-    def kept(self, wanted, numbers):
-        """Those of the wanted registers, numbers only of the registers `numbers`, and those of the stack: all where
-        `numbers` isn't None, else addresses alone."""
-        telling = numbers if numbers is not None else ()
-        registers = {r: v for r, v in self.registers.items() if r in wanted and (r in telling or not is_number(v))}
-        stack = {at: v for at, v in self.stack.items() if numbers is not None or not is_number(v)}
-        return Constants(registers, stack, self.values, self.passed)
+    def kept(self, wanted, registers, places):
+        """Those of the wanted registers, of which numbers only of these, and those of the stack, numbers only in these
+        places, in all where they are None."""
+        kept = {r: v for r, v in self.registers.items() if r in wanted and (r in registers or not is_number(v))}
+        stack = {at: v for at, v in self.stack.items() if places is None or at in places or not is_number(v)}
+        return Constants(kept, stack, self.values, self.passed)
 
     def key(self):
         return tuple(sorted(self.registers.items())), tuple(sorted(self.stack.items())), self.passed
@@ -121,6 +120,8 @@ class Constants:
         a, b = self.operands(jump)
         if is_number(a) and is_number(b):
             return holds(jump, a, b)
+        if in_table(a) and b == 0 and jump.kind == JMP and jump.operation in (JEQ, JNE):
+            return jump.operation == JNE
         if in_table(a) and in_table(b) and a.base == b.base and jump.kind == JMP and jump.operation in ORDERED:
             return holds(jump, a.offset - b.offset + FAR_ENOUGH, FAR_ENOUGH)
         if jump.kind == JMP and jump.operation in ORDERED:

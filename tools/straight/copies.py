@@ -11,14 +11,15 @@ from dataclasses import dataclass, field
 from typing import NamedTuple
 
 from .constants import FAR, Address, Constants, is_number
+from .counters import counters
 from .graph import Fail, NoBound, TooMany, live_registers, loops, slots_that_reach, steering_registers, successors
 from .instructions import FRAME_POINTER, REGISTERS
 from .kinds import stores_elsewhere
 
 MOST_COPIES = 8000
 # which numbers are told apart: those that steer a loop or make an address, in slots from which a loop can be reached;
-# all in such slots; all
-STEERING, IN_LOOPS, EVERYWHERE = "those that steer loops", "those in loops", "all"
+# those that count a loop's steps; all in slots from which a loop can be reached; all
+STEERING, COUNTERS, IN_LOOPS, EVERYWHERE = "those that steer loops", "those that count", "those in loops", "all"
 
 
 class Phase(NamedTuple):
@@ -69,14 +70,23 @@ class Copy:
         return self.phase in (PLAIN, FAR_SUM)
 
 
-def telling_registers(code, numbers):
-    """Of each slot the registers whose numbers are told apart there; None where no number is, nor one of the stack."""
+class Telling(NamedTuple):
+    """The registers, and the places of the stack, whose numbers are told apart before a slot; all places for None."""
+
+    registers: object = ()
+    stack: object = ()
+
+
+def telling_numbers(code, numbers):
+    """What is told apart before each slot."""
     if numbers == EVERYWHERE:
-        return {slot: range(REGISTERS) for slot in code}
+        return {slot: Telling(range(REGISTERS), None) for slot in code}
+    if numbers == COUNTERS:
+        needed = counters(code)
+        return {slot: Telling(needed[slot], {place[1] for place in needed[slot] if place not in range(REGISTERS)}) for slot in code}
     near, steering = slots_that_reach(code, loops(code)), steering_registers(code)
-    return {
-        slot: None if slot not in near else steering[slot] if numbers == STEERING else range(REGISTERS) for slot in code
-    }
+    chosen = steering if numbers == STEERING else {slot: range(REGISTERS) for slot in code}
+    return {slot: Telling(chosen[slot], None) if slot in near else Telling() for slot in code}
 
 
 class Copies:
@@ -93,7 +103,7 @@ class Copies:
         for store, row in marks.differences.items():
             if row.told:
                 self.mattering[row.counter] = self.mattering.get(row.counter, set()) | slots_that_reach(code, {store})
-        self.telling = telling_registers(code, numbers)
+        self.telling = telling_numbers(code, numbers)
         self.found, self.todo = {}, []
         self.first = self.copy(0, TESTS, Constants.at_start(marks.values))
         while self.todo:
@@ -105,10 +115,10 @@ class Copies:
 
     def copy(self, slot, phase, constants):
         """The copy with these constants, of which those that can't matter are forgotten."""
-        numbers = self.telling[slot] if phase == TESTS else range(REGISTERS)
+        told = self.telling[slot] if phase == TESTS else Telling(range(REGISTERS), None)
         if slot in self.trips:
-            numbers = set(numbers or ()) - self.trips[slot].registers
-        constants = constants.kept(self.live[slot] | {FRAME_POINTER}, numbers)
+            told = Telling(set(told.registers) - self.trips[slot].registers, None)
+        constants = constants.kept(self.live[slot] | {FRAME_POINTER}, *told)
         constants = constants.forgetting({name for name, slots in self.mattering.items() if slot in slots})
         if phase == TESTS and slot not in self.wide and slot not in self.cases:
             phase = PLAIN

@@ -3,7 +3,7 @@
 In the place of the load stands `r = 0`: what is then computed is n, and the store adds it. No slot moves. It is right
 where nothing between the two could see or change the counter, and where what was read is not used for anything else.
 On a counter of a per-CPU map it is the same count; on a shared one Linux's program could lose counts and this can't."""
-from typing import NamedTuple
+from typing import NamedTuple, Optional
 
 from .graph import live_registers, predecessors, successors
 from .instructions import (
@@ -76,21 +76,23 @@ def registers_that_count(code, load, store):
 
 
 class Difference(NamedTuple):
-    """Of a store to a counter that is no count: the counter, and the slots that load or store it before, of which one
+    """Of a store to a counter that is no count: the counter, None where it is one of several, and the slots that load or store it before, of which one
     is the last on a way. `told`: whether there are ways without one too."""
 
-    counter: tuple
+    counter: Optional[tuple]
     known: frozenset
     told: bool
 
 
 def difference(code, store):
     """How a store to a counter may become an addition of the difference from what is known to stand
-    there, or from what is read there where nothing is known. None where the counter isn't known."""
+    there, or from what is read there where nothing is known: there are ways on which nothing was loaded, or the value
+    is that of one lookup or another. None where it isn't a counter."""
     before = kinds_before(code)
-    counter = before[store].counter(code[store]) if store in before else None
+    kinds = before.get(store, {})
+    counter = kinds.counter(code[store]) if kinds else None
     if counter is None:
-        return None
+        return Difference(None, frozenset(), False) if kinds and kinds.get(code[store].base, ("",))[0] == VALUE else None
     known, unknown, seen, todo, ways = set(), False, set(), [store], predecessors(code)
     while todo:
         for slot in ways[todo.pop()]:
@@ -101,8 +103,15 @@ def difference(code, store):
             loads = instruction.is_load or instruction.opcode == STORE_DOUBLE == code[store].opcode
             if loads and kinds.counter(instruction) == counter:
                 known.add(slot)
-            elif slot in (0, counter[0]) or instruction.is_store and kinds.get(instruction.base, ("",))[0] == VALUE:
+            elif slot in (0, counter[0]) or instruction.is_store and may_be_stored(kinds, instruction, counter):
                 unknown = True
             else:
                 todo.append(slot)
     return Difference(counter, frozenset(known), bool(known) and unknown)
+
+
+def may_be_stored(kinds, store, counter):
+    """Whether a store may be to this counter. Two globals are two counters."""
+    kind, place = kinds.get(store.base, ("", None))
+    names = {row[0] for row in (place, counter) if isinstance(row, tuple) and isinstance(row[0], str)}
+    return kind == VALUE and len(names) < 2

@@ -2,20 +2,26 @@
 from typing import NamedTuple
 
 from .instructions import (
+    ADD_CONSTANT,
     ALU64,
     AND,
     CALL,
     EXIT,
     FRAME_POINTER,
+    JGE,
+    JGT,
+    JLE,
+    JLT,
     JUMP,
     LSH,
     MOVE_CONSTANT,
+    RSH,
     STX,
     reads,
     writes,
 )
 
-SIZE, MOST_SHIFT, LSH_CONSTANT = "size", 16, ALU64 | LSH
+SIZE, MOST_SHIFT, LSH_CONSTANT, RSH_CONSTANT = "size", 16, ALU64 | LSH, ALU64 | RSH
 
 
 class Fail(Exception):
@@ -146,16 +152,23 @@ def steering_registers(code):
 
 class Steering(NamedTuple):
     """What decides how often a loop runs: a jump that leaves it, where it leads inside, and the instructions of which
-    the compared numbers are made, from the last mask by a constant outside of the loop on."""
+    the compared numbers are made, from the last mask by a constant outside of the loop on. `bounds`: the constants
+    above which what is made of the same numbers doesn't come to the loop."""
 
     jump: int
     inside: int
     masks: list
     sources: set
+    bounds: list
 
     def is_by_data(self, code, loop):
         """Whether something is loaded in the loop that steers it."""
         return any(code[slot].is_load for slot in self.sources & loop)
+
+    def step(self, code, loop):
+        """The least number that is added to what is compared in one step of the loop."""
+        added = [code[slot] for slot in self.sources & loop if code[slot].opcode == ADD_CONSTANT]
+        return min([insn.immediate for insn in added if insn.immediate > 0], default=1)
 
     def cursors(self, code, loop):
         """The registers that are counted in the loop."""
@@ -166,37 +179,60 @@ class Steering(NamedTuple):
         moved = [code[slot] for slot in self.sources - loop]
         return max([0, *(insn.immediate for insn in moved if insn.opcode == MOVE_CONSTANT)])
 
-
     def most(self, code, loop, mask):
         """The greatest number that a mask leaves, behind the shifts that follow."""
-        behind = [code[slot] for slot in self.sources - loop if slot > mask]
-        shift = sum(insn.immediate for insn in behind if insn.opcode == LSH_CONSTANT)
-        return code[mask].immediate << min(shift, MOST_SHIFT)
+        number = code[mask].immediate
+        for slot in sorted(slot for slot in self.sources - loop if slot > mask):
+            if code[slot].opcode == LSH_CONSTANT:
+                number <<= min(code[slot].immediate, MOST_SHIFT)
+            elif code[slot].opcode == RSH_CONSTANT:
+                number >>= code[slot].immediate
+        return number
 
 
 def steering(code, loop):
     """What steers a loop, for each jump that leaves it."""
-    before = predecessors(code)
+    before, ahead = predecessors(code), slots_that_reach(code, loop)
+    compared = [slot for slot in sorted(ahead - loop) if is_upper_bound(code, slot, ahead)]
     for jump in sorted(loop):
         staying = [after for after in successors(code, jump) if after in loop]
         if len(staying) != 1 or not code[jump].is_branch:
             continue
-        seen, masks, sources = set(), [], set()
-        todo = [(at, register) for register in reads(code[jump]) for at in before[jump]]
-        while todo:
-            at, register = todo.pop()
-            if (at, register) in seen:
+        masks, sources = made_of(code, before, jump, loop)
+        read = {slot for slot in sources - loop if code[slot].is_load or is_mask(code[slot])}
+        bounds = {code[slot].immediate for slot in compared if made_of(code, before, slot, loop)[1] & read}
+        yield Steering(jump, staying[0], sorted(masks, reverse=True), sources, sorted(bounds))
+
+
+def is_upper_bound(code, slot, ahead):
+    """Whether a jump leads to these slots only where a number is at most about a constant."""
+    instruction = code[slot]
+    if not instruction.is_branch or instruction.by_register:
+        return False
+    ways = [after in ahead for after in successors(code, slot)]
+    below = [False, True] if instruction.operation in (JLT, JLE) else [True, False]
+    return instruction.operation in (JGT, JGE, JLT, JLE) and ways == below
+
+
+def made_of(code, before, jump, loop):
+    """The masks by a constant in front of the loop of which the numbers that a jump compares are made, and all the
+    instructions from there on."""
+    seen, masks, sources = set(), [], set()
+    todo = [(at, register) for register in reads(code[jump]) for at in before[jump]]
+    while todo:
+        at, register = todo.pop()
+        if (at, register) in seen:
+            continue
+        seen.add((at, register))
+        instruction, wanted = code[at], {register}
+        if register in writes(instruction):
+            sources.add(at)
+            if at not in loop and is_mask(instruction):
+                masks.append(at)
                 continue
-            seen.add((at, register))
-            instruction, wanted = code[at], {register}
-            if register in writes(instruction):
-                sources.add(at)
-                if at not in loop and is_mask(instruction):
-                    masks.append(at)
-                    continue
-                wanted = reads(instruction) if instruction.is_arithmetic else set()
-            todo += [(further, more) for more in wanted for further in before[at]]
-        yield Steering(jump, staying[0], sorted(masks, reverse=True), sources)
+            wanted = reads(instruction) if instruction.is_arithmetic else set()
+        todo += [(further, more) for more in wanted for further in before[at]]
+    return masks, sources
 
 
 def is_mask(instruction):

@@ -23,8 +23,8 @@ need, all in loops, or all; a meeting marked as one copy or at all copies of its
 rebased."""
 from dataclasses import dataclass, field
 
-from .addresses import ADDED, KEPT, MET, Addresses, PacketAddress, StackSlot
-from .copies import EVERYWHERE, IN_LOOPS, STEERING, Cases, Copies, Trips, Wide
+from .addresses import ADDED, KEPT, MET, Addresses, PacketAddress, StackSlot, Thing
+from .copies import COUNTERS, EVERYWHERE, IN_LOOPS, STEERING, Cases, Copies, Trips, Wide
 from .counts import difference, fused
 from .emit import Emitter, Kind, Needs
 from .graph import SIZE, Fail, NoBound, TooMany, loop_of, steering
@@ -46,10 +46,10 @@ BY_COPY, BY_SLOT, BY_ACCESS = "by copy", "by slot", "by access"
 WAYS = [
     (STEERING, (BY_COPY, BY_SLOT)),
     (STEERING, (BY_ACCESS,)),
+    (COUNTERS, (BY_COPY, BY_SLOT)),
     (IN_LOOPS, (BY_COPY, BY_SLOT)),
     (EVERYWHERE, (BY_COPY, BY_SLOT)),
 ]
-
 
 class StillRefused(Fail):
     """The verifier's answer to a program that nothing more was changed in."""
@@ -92,6 +92,7 @@ class Search:
         self.code = instructions_of(settings)
         self.marks = Marks(values=any(insn.counter is not None for insn in self.code.values()))
         self.copies = self.addresses = self.labels = None
+        self.began = False  # whether there was a program to ask the verifier of
 
     def mark(self, here, place):
         """How a meeting is marked. All its registers are: one of them is often made from another."""
@@ -131,6 +132,7 @@ class Search:
             if program is None:
                 continue
             words, relocations, self.labels = program
+            self.began = True
             judged += len(words)
             if judged > MOST_JUDGED:
                 break
@@ -182,6 +184,9 @@ class Search:
         if answer.cause != "V9":
             return False
         address = self.addresses.before[label.copy].get(instruction.base)
+        if address == Thing.VALUE and not self.marks.values:
+            self.marks.values = True
+            return True
         if not isinstance(address, PacketAddress):
             return self.tell_apart(answer)
         if self.way == BY_ACCESS:
@@ -272,9 +277,6 @@ class Search:
         label = self.labels.get(lost.slot) if lost else None
         if label is None or label.copy is None or lost.was not in ("fp", "map_value"):
             return False
-        if lost.was == "map_value" and not self.marks.values:
-            self.marks.values = True
-            return True
         if lost.register is None or label.slot in self.marks.cases:
             return False
         numbers = masked(self.code, label.slot, lost.register)
@@ -290,17 +292,32 @@ class Search:
         Where its cursor grows by what is loaded, as over options: as many copies as the cursor has steps of one.
         `by_number`: whether the former may help."""
         loop = loop_of(self.code, slot)
-        for row in steering(self.code, loop):
-            for mask in row.masks:
-                numbers = parts_of(self.code[mask].immediate)
-                steps = row.most(self.code, loop, mask) - row.first(self.code, loop)
-                if row.is_by_data(self.code, loop):
-                    if 0 < steps <= MOST_STEPS and row.inside not in self.marks.trips:
-                        self.marks.trips[row.inside] = Trips(steps, row.cursors(self.code, loop))
-                        return True
-                elif by_number and numbers and mask + 1 not in self.marks.cases:
-                    self.marks.cases[mask + 1] = Cases(self.code[mask].destination, tuple(numbers))
+        rows = list(steering(self.code, loop))
+        return any(self.tell_masked_apart(row, loop, by_number) for row in rows) or any(
+            self.tell_bounded_apart(row, loop) for row in rows
+        )
+
+    def tell_bounded_apart(self, row, loop):
+        """The same, of a number that was compared with a constant in front of the loop."""
+        steps = [-(-bound // row.step(self.code, loop)) for bound in row.bounds]
+        steps = [number for number in steps if 1 < number <= MOST_STEPS]
+        if not steps or row.inside in self.marks.trips:
+            return False
+        self.marks.trips[row.inside] = Trips(max(steps), row.cursors(self.code, loop))
+        return True
+
+    def tell_masked_apart(self, row, loop, by_number):
+        """The same, of a number behind a mask."""
+        for mask in row.masks:
+            numbers = parts_of(self.code[mask].immediate)
+            steps = row.most(self.code, loop, mask) - row.first(self.code, loop)
+            if row.is_by_data(self.code, loop) or not by_number:
+                if 0 < steps <= MOST_STEPS and row.inside not in self.marks.trips:
+                    self.marks.trips[row.inside] = Trips(steps, row.cursors(self.code, loop))
                     return True
+            elif by_number and numbers and mask + 1 not in self.marks.cases:
+                self.marks.cases[mask + 1] = Cases(self.code[mask].destination, tuple(numbers))
+                return True
         return False
 
 
@@ -341,15 +358,21 @@ def after_shifts(number, shifts):
 
 def searches(settings, xdpbox, faults, unguarded):
     """What the searches find, the smaller of two programs first. The next two begin only where nobody took one of
-    these. Why a search found none is added to the faults. Where some results of the first ones want a guard that nobody
-    asked for (`unguarded`), others do too, but for those that tell all numbers apart."""
+    these, and none that would have too many copies again. Why a search found none is added to the faults. Where some
+    results of the first ones want a guard that nobody asked for (`unguarded`), others do too, but for those that tell
+    all numbers apart."""
+    hopeless = set()
     for numbers, ways in WAYS:
         found = []
-        if unguarded and numbers == IN_LOOPS:
+        if numbers in hopeless or unguarded and numbers == IN_LOOPS:
             continue
         for way in ways:
+            search = Search(settings, xdpbox, numbers, way)
             try:
-                found.append(Search(settings, xdpbox, numbers, way).run())
+                found.append(search.run())
             except Fail as fail:
                 faults.append(fail)
+                if isinstance(fail, TooMany) and not search.began:
+                    hopeless.add(numbers)
+                    break
         yield from sorted(found, key=lambda result: len(result.words))
