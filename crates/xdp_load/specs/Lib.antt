@@ -8,6 +8,7 @@ pub mod LimitsSeen
 pub mod Lines
 pub mod Seen
 pub mod Original
+pub mod OriginalRows
 pub mod OriginalSeen
 pub mod Setup
 pub mod SetupSeen
