@@ -24,8 +24,8 @@ pub record IsSamePair (r : RewrittenView) (slots originals : ℕ) : Type 0 where
   pub pair : IsPair r program original
   pub same : IsSame r.setup.shapes original program.code
   pub whole : IsSame r.setup.shapes program.code original
-  pub slots : slots ≡ length program.code
-  pub originals : originals ≡ length original
+  pub counted : slots ≡ length program.code
+  pub originals_counted : originals ≡ length original
 
 -- the program is accepted and the same, or accepted; or it is refused, or the original's bytes are
 abbrev pub Compares : RewrittenView → Compared → Type 0

@@ -1,12 +1,15 @@
 //! Settings that say of which program theirs was made.
-ghost use Rattle.std.specs.Prelude.{◌≡◌, IfOk};
+ghost use Rattle.std.specs.Prelude.{◌≡◌, IfOk, IsErrAnd, None};
 ghost use Rattle.toml.specs.View.{table_view};
 ghost use Rattle.xdp_load.specs.Gives.{Gives};
 ghost use Rattle.xdp_load.specs.Original.{rewritten_of, rewritten_of_table, written_beside};
 ghost use Rattle.xdp_load.specs.OriginalSeen.{rewritten_view};
 ghost use Rattle.xdp_load.specs.Seen.{written_seen};
+ghost use Rattle.xdp_load.specs.Setup.{text_of};
 ghost use Rattle.xdp_load.specs.SetupSeen.{setup_view};
 ghost use Rattle.xdp_load.specs.Sound.{IsSound};
+ghost use Rattle.xdp_load.specs.declared.fault.Fault.TheVariants.{Text};
+ghost use Rattle.xdp_load.specs.declared.fault.LoadFault.TheVariants.{Refused};
 
 use crate::document::{TOP_KEYS, Written, rows_of_table};
 use crate::fault::{Fault, LoadFault};
@@ -57,7 +60,8 @@ fn rewritten_of_table(alloc: Global, table: &Table) -> Result<Rewritten, LoadFau
 /// The same of a text, read phase by phase.
 #[tactic(auto, unfolding(crate::specs::Original::rewritten_of))]
 fn rewritten_of(alloc: Global, bytes: &[u8]) -> Result<Rewritten, LoadFault>
-    ensures { Gives rewritten_view result (rewritten_of bytes.now) }
+    ensures gives { Gives rewritten_view result (rewritten_of bytes.now) }
+    ensures text { text_of bytes.now ≡ None → IsErrAnd result (λ e. e ≡ Refused Text) }
 {
     let text = text_of(bytes).ok_or(Fault::Text)?;
     let table = document_of(alloc, text)?;
@@ -68,6 +72,9 @@ fn rewritten_of(alloc: Global, bytes: &[u8]) -> Result<Rewritten, LoadFault>
 /// relocations after the settings' own. docs/SETTINGS.md has the keys.
 pub fn load_rewritten(alloc: Global, bytes: &[u8]) -> Result<Rewritten, LoadFault>
     ensures value { Gives rewritten_view result (rewritten_of bytes.now) }
+
+    // What is no text is refused before memory is taken.
+    ensures text { text_of bytes.now ≡ None → IsErrAnd result (λ e. e ≡ Refused Text) }
     ensures sound { IfOk result (λ r. IsSound (setup_view r.setup)) }
 {
     rewritten_of(alloc, bytes)
