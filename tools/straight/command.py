@@ -4,14 +4,14 @@ import os
 import pathlib
 import shutil
 from dataclasses import dataclass
-from typing import Callable, NamedTuple
+from typing import Callable, NamedTuple, Optional
 
 from output import fail
 
 from .graph import SIZE, Fail
 from .search import OF_THE_BYTES, StillRefused, searches
 from .settings import as_text
-from .shown import NoComparison, shown
+from .shown import NoComparison, question, shown
 from .verifier import Verdict, verdict
 
 NOTHING_HELPS = "nothing is rewritten that helps"
@@ -45,13 +45,14 @@ ATOMIC = "c3", "db"  # opcodes
 @dataclass
 class Straight:
     """A program that is accepted and the same. `lines`: its map. `notes`: what its author should know. `how`: it was
-    shown to be the same."""
+    shown to be the same. `asked`: what `xdpbox same` was asked of it, or None."""
 
     words: list
     relocations: list
     lines: list
     notes: list
     how: str
+    asked: Optional[str] = None
 
     def comment(self, settings):
         """The line that settings with this program have."""
@@ -109,13 +110,13 @@ def straightened(settings, xdpbox, wanted=Wanted()):
         answer = Verdict("")
     missing, faults, unguarded, slots = None, [], [], 0
     for result in searches(settings, xdpbox, faults, unguarded):
-        found, missing = taken(settings, result, wanted)
+        found, missing = taken(xdpbox, settings, result, wanted)
         if missing is None:
             return found
         if isinstance(missing, NoComparison):
             unguarded.append(result)
         slots += len(result.words)
-        if slots > MOST_COMPARED or wanted.proved:
+        if slots > MOST_COMPARED:
             break
     fault = missing or best_of(faults)
     if isinstance(fault, StillRefused) and (fault.slot, fault.cause) == (answer.slot, answer.cause):
@@ -123,17 +124,18 @@ def straightened(settings, xdpbox, wanted=Wanted()):
     raise Refused(answer, fault)
 
 
-def taken(settings, result, wanted):
+def taken(xdpbox, settings, result, wanted):
     """A result that is shown to be the same, and what is missing to that; one of the two is None."""
     labels = {slot: (label.kind.value, label.slot) for slot, label in result.labels.items()}
     relocations = [{"slot": slot, "map": name} for slot, name in result.relocations]
     rebuilt = {**settings, "program": result.words, "reloc": relocations}
-    found = shown(settings, rebuilt, labels, wanted.guard, wanted.proved)
+    found = shown(xdpbox, settings, rebuilt, labels, wanted.guard, wanted.proved)
     if found.missing is not None:
         return None, found.missing
     lines = [f"{slot} {kind} {original}" for slot, (kind, original) in sorted(labels.items())]
     notes = list(notes_of(result, found.guards, wanted.per_cpu))
-    return Straight(result.words, result.relocations, lines, notes, found.how), None
+    asked = question(settings, rebuilt, labels)
+    return Straight(result.words, result.relocations, lines, notes, found.how, asked), None
 
 
 def best_of(faults):

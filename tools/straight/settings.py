@@ -52,6 +52,18 @@ def text_of(settings, words, relocations):
     return "\n".join(lines) + "\n"
 
 
+def text_beside(result, original, labels):
+    """Settings with the original of their program, as `xdpbox same` reads them. `labels`: of each slot of the result its
+    kind and a slot of the original."""
+    rows = (labels.get(slot, ("copy", 0)) for slot in range(len(result["program"])))
+    places = ", ".join(f"[{at}, {'false' if kind == 'copy' else 'true'}]" for kind, at in rows)
+    lines = ["", "[original]", "program = [", *(f'  "{word}",' for word in original["program"]), "]"]
+    lines.append(f"places = [{places}]")
+    for slot, name in relocations_of(original):
+        lines += ["", "[[original.reloc]]", f"slot = {slot}", f'map = "{name}"']
+    return as_text(result) + "\n".join(lines) + "\n"
+
+
 def as_text(settings):
     """The program, the maps and the relocations of settings: what a verdict depends on."""
     return text_of(settings, settings["program"], relocations_of(settings))

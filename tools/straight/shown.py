@@ -1,15 +1,19 @@
 """Whether a result has the runs of the program that it was made of, and how that was shown.
 
-This is the one place that decides it: what isn't shown here isn't printed. There is one comparison, `same`, which is
-tested. A proved one, where there is one, is to be asked here first; where it says yes the answer is PROVED."""
+This is the one place that decides it: what isn't shown here isn't printed. `xdpbox same` is asked first, whose yes is
+proved; else the comparison of the package `same` decides, which is tested."""
 from typing import NamedTuple, Optional
 
 from same.check import Check
+from same.program import maps_and_rest
 from same.state import Differs
 
 from .graph import Fail
+from .settings import text_beside
+from .verifier import is_same
 
 PROVED, COMPARED = "proved", "compared"
+UNPROVED = "a program was found of which it isn't proved that it is the same: without --proved it is compared"
 ACCESSES = 1, 2, 3  # kinds of instructions
 
 
@@ -26,11 +30,14 @@ class Shown(NamedTuple):
     missing: Optional[Fail] = None
 
 
-def shown(original, result, labels, guard, proved):
+def shown(xdpbox, original, result, labels, guard, proved):
     """What is shown of a result. `labels`: of each of its slots the kind and a slot of the original. `guard`: whether
     it may end in front of an access outside of the packet. `proved`: whether a tested comparison isn't enough."""
+    asked = question(original, result, labels)
+    if asked is not None and is_same(xdpbox, asked):
+        return Shown(PROVED)
     if proved:
-        return Shown(missing=Fail("it isn't proved of a program that was found: without --proved it is compared"))
+        return Shown(missing=Fail(UNPROVED))
     try:
         check = Check(original, result, labels)
         check.run()
@@ -39,6 +46,14 @@ def shown(original, result, labels, guard, proved):
         return Shown(missing=Fail(words, differs.at))
     guards = tuple(sorted(set(check.guards.values())))
     return Shown(COMPARED, guards, what_is_missing(check, guards, guard))
+
+
+def question(original, result, labels):
+    """What `xdpbox same` is asked of a result, or None: an original with addresses of constants or globals is no program
+    for xdpbox, and both have to have the same maps."""
+    if original.get("tables") or original.get("globals") or maps_and_rest(original) != maps_and_rest(result):
+        return None
+    return text_beside(result, original, labels)
 
 
 def what_is_missing(check, guards, guard):

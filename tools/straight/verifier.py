@@ -1,4 +1,4 @@
-"""What the verifier says of a program: `xdpbox explain`, and what its words mean."""
+"""What xdpbox says of a program: `explain`, and what its words mean; and `same`."""
 import re
 import subprocess
 from dataclasses import dataclass
@@ -37,6 +37,12 @@ class Verdict:
         span = re.search(r"umin=(\d+),umax=(\d+)", found[4] or "")
         register = int(found[3]) if found[3] else None
         return Lost(found[1], int(found[2]), register, (int(span[1]), int(span[2])) if span else None)
+
+
+def is_same(xdpbox, settings):
+    """Whether `xdpbox same` shows that the program of settings, as text, has the runs of the one beside it."""
+    run = subprocess.run([xdpbox, "same"], input=settings, capture_output=True, text=True, check=False)
+    return run.returncode == 0 and run.stdout.startswith("same, ")
 
 
 def verdict(xdpbox, settings):

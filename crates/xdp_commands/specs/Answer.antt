@@ -7,6 +7,7 @@ use Rattle.hex.specs.Hex.{decode_of}
 use Rattle.bpf_insn.specs.declared.refusal.Refusal.{Refusal}
 use Rattle.bpf_vm.specs.declared.ended.Ended.{Ended}
 use Rattle.xdp_load.specs.Spots.{IsFaultText}
+use Rattle.xdp_load.specs.Original.{RewrittenView, rewritten_of}
 use Rattle.xdp_load.specs.Setup.{SetupView, setup_of, text_of}
 use Rattle.xdp_load.specs.declared.fault.Fault.{Fault}
 use Rattle.xdp_load.specs.declared.fault.LoadFault.{LoadFault}
@@ -14,6 +15,8 @@ use Rattle.xdp_load.specs.declared.fault.LoadFault.TheVariants.{Memory, Refused}
 use Rattle.xdp_world.specs.declared.report.Report.{Report}
 use Rattle.xdp_commands.specs.declared.answer.Question.{Question}
 use Rattle.xdp_commands.specs.declared.answer.Question.TheVariants as question
+use Rattle.xdp_commands.specs.Comparing.{Compares, compared_status, compared_text}
+use Rattle.xdp_commands.specs.declared.comparing.Compared.{Compared}
 use Rattle.xdp_commands.specs.declared.executing.Accepted.{Accepted}
 use Rattle.xdp_commands.specs.Executing.{Checks, Executes, Runs}
 use Rattle.xdp_commands.specs.Explaining.{IsOutcome, outcome_status, outcome_text}
@@ -25,7 +28,7 @@ use Rattle.xdp_commands.specs.PairLines.{paired_status, paired_text}
 use Rattle.xdp_commands.specs.Pairing.{IsPaired}
 use Rattle.xdp_commands.specs.declared.pairing.Paired.{Paired}
 use Rattle.xdp_pair.specs.declared.host.Host.{Host}
-use Rattle.xdp_commands.specs.Words.{Wanted, exec, check, explain, run, filter, pair}
+use Rattle.xdp_commands.specs.Words.{Wanted, exec, check, explain, same, run, filter, pair}
 
 -- a text, and an exit status
 abbrev pub Said : Type 0
@@ -82,6 +85,13 @@ outcome_answer s o = (outcome_text s.program s.names s.shapes o, outcome_status 
 abbrev pub ExplainAnswer : SetupView → Said → Type 0
 ExplainAnswer s said = (o : Outcome) × IsOutcome s.program s.shapes o × (said ≡ outcome_answer s o)
 
+abbrev pub compared_answer : Compared → Said
+compared_answer c = (compared_text c, compared_status c)
+
+-- the answer to a setup and the program that its own was made of: by a comparison of the two
+abbrev pub SameAnswer : RewrittenView → Said → Type 0
+SameAnswer r said = (c : Compared) × Compares r c × (said ≡ compared_answer c)
+
 abbrev pub ran_answer : List (List ℕ) → Result Report Refusal → Said
 ran_answer names c = (ran_text names c, program_status c)
 
@@ -124,14 +134,21 @@ RefusedTo question.Explain = PlacedAnswer
 RefusedTo _ = RefusedAnswer
 
 -- the answer to what settings spell: to a setup, or to their first fault
-abbrev pub SpelledAnswer : (SetupView → Said → Type 0) → (Fault → Said → Type 0) → Result SetupView Fault → Said → Type 0
+abbrev pub SpelledAnswer : {A : Type 0} → (A → Said → Type 0) → (Fault → Said → Type 0) → Result A Fault → Said → Type 0
 SpelledAnswer answer refused (Ok s) said = answer s said
 SpelledAnswer answer refused (Err f) said = refused f said
 
--- the answer to settings; L0 where memory ran out while the settings, which are a text, were loaded
+-- L0 where memory ran out while the settings, which are a text, were loaded
+abbrev pub MemoryAnswer : List ℕ → Said → Type 0
+MemoryAnswer settings said = (text_of settings ≢ None) × (said ≡ settings_refused Memory)
+
+-- the answer to settings
 abbrev pub SettingsAnswer : (SetupView → Said → Type 0) → (List ℕ → Fault → Said → Type 0) → List ℕ → Said → Type 0
-SettingsAnswer answer refused settings said = SpelledAnswer answer (refused settings) (setup_of settings) said ⊎
-    ((text_of settings ≢ None) × (said ≡ settings_refused Memory))
+SettingsAnswer answer refused settings said = SpelledAnswer answer (refused settings) (setup_of settings) said ⊎ MemoryAnswer settings said
+
+-- the answer to settings with an original
+abbrev pub RewrittenAnswer : List ℕ → Said → Type 0
+RewrittenAnswer settings said = SpelledAnswer SameAnswer (RefusedAnswer settings) (rewritten_of settings) said ⊎ MemoryAnswer settings said
 
 -- the settings are what the reader gave, up to its end or 1,048,577 bytes
 pub record IsSettings (old new : Option (List ℕ)) (settings : List ℕ) : Type 0 where
@@ -139,6 +156,10 @@ pub record IsSettings (old new : Option (List ℕ)) (settings : List ℕ) : Type
   pub few : length settings ≤ 1048577
   pub all : length settings < 1048577 → IsAtEnd new
   pub known : IfSome old (λ xs. settings ≡ take 1048577 xs)
+
+-- the answer to the settings with an original that a reader gives
+abbrev pub InputSame : Option (List ℕ) → Option (List ℕ) → Said → Type 0
+InputSame old new said = (settings : List ℕ) × IsSettings old new settings × RewrittenAnswer settings said
 
 -- the answer to the settings that a reader gives
 abbrev pub InputAnswer : (SetupView → Said → Type 0) → (List ℕ → Fault → Said → Type 0) → Option (List ℕ) → Option (List ℕ) → Said →
@@ -152,6 +173,7 @@ IsAnswer None old new said = said ≡ words_refused
 IsAnswer (Some (exec program packet)) old new said = ExecAnswer program packet said
 IsAnswer (Some check) old new said = InputAnswer SetupAnswer RefusedAnswer old new said
 IsAnswer (Some explain) old new said = InputAnswer ExplainAnswer PlacedAnswer old new said
+IsAnswer (Some same) old new said = InputSame old new said
 IsAnswer (Some run) old new said = InputAnswer RunAnswer RefusedAnswer old new said
 IsAnswer (Some filter) old new said = InputAnswer FilterAnswer RefusedAnswer old new said
 IsAnswer (Some (pair turns h)) old new said = InputAnswer (PairAnswer turns h) RefusedAnswer old new said
@@ -166,6 +188,7 @@ Takes None old new = Keeps old new
 Takes (Some (exec program packet)) old new = Keeps old new
 Takes (Some check) old new = TakesAtMost 1048577 old new
 Takes (Some explain) old new = TakesAtMost 1048577 old new
+Takes (Some same) old new = TakesAtMost 1048577 old new
 Takes (Some run) old new = TakesAtMost 1048577 old new
 Takes (Some filter) old new = TakesAtMost 1048577 old new
 Takes (Some (pair turns h)) old new = TakesAtMost 1048577 old new
@@ -176,6 +199,7 @@ Reads None = ⊥
 Reads (Some (exec program packet)) = ⊥
 Reads (Some check) = Unit {0}
 Reads (Some explain) = Unit {0}
+Reads (Some same) = Unit {0}
 Reads (Some run) = Unit {0}
 Reads (Some filter) = Unit {0}
 Reads (Some (pair turns h)) = Unit {0}

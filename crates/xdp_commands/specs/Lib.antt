@@ -3,6 +3,7 @@ pub mod TurnLines
 pub mod Lines
 pub mod Filtering
 pub mod Executing
+pub mod Comparing
 pub mod Explaining
 pub mod Answer
 pub mod CounterLines

@@ -29,6 +29,10 @@ check_app = new_app (codes "check")
 abbrev pub explain_app : App
 explain_app = new_app (codes "explain")
 
+-- `same`
+abbrev pub same_app : App
+same_app = new_app (codes "same")
+
 -- `run`
 abbrev pub run_app : App
 run_app = new_app (codes "run")
@@ -56,7 +60,9 @@ filter_app = new_app (codes "filter")
 
 -- the commands that pass no packets of settings to a program
 unfoldable pub single_app : App
-single_app = with_subcommand (with_subcommand (with_subcommand (new_app (codes "xdpbox")) exec_app.top) check_app.top) explain_app.top
+single_app =
+    with_subcommand (with_subcommand (with_subcommand (with_subcommand (new_app (codes "xdpbox")) exec_app.top) check_app.top)
+    explain_app.top) same_app.top
 
 unfoldable pub program_app : App
 program_app = with_subcommand (with_subcommand (with_subcommand single_app run_app.top) filter_app.top) pair_app.top
@@ -66,6 +72,7 @@ pub data Wanted : Type 0 where
   exec : Text → Text → Wanted
   check : Wanted
   explain : Wanted
+  same : Wanted
   run : Wanted
   filter : Wanted
   -- at most so many turns of each queue, and what the host does
@@ -104,6 +111,7 @@ wanted_by p =
     if bytes_eq p.0 (codes "exec") then exec_of p.1
     else if bytes_eq p.0 (codes "check") then Some check
     else if bytes_eq p.0 (codes "explain") then Some explain
+    else if bytes_eq p.0 (codes "same") then Some same
     else if bytes_eq p.0 (codes "run") then Some run
     else if bytes_eq p.0 (codes "filter") then Some filter
     else if bytes_eq p.0 (codes "pair") then pair_of p.1

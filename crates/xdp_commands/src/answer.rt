@@ -1,15 +1,17 @@
 //! What the program answers.
 ghost use Rattle.std.specs.Prelude.{◌≡◌, ◌≤◌, IfOk, IfErr, Some, length, option_map};
+ghost use Rattle.xdp_load.specs.OriginalSeen.{rewritten_view};
 ghost use Rattle.xdp_load.specs.SetupSeen.{setup_view};
 ghost use Rattle.xdp_load.specs.Sound.{IsSound};
 ghost use Rattle.xdp_commands.specs.Answer.{AnswerTo, ExecAnswer, ExplainAnswer, FilterAnswer, InputAnswer, IsAnswer, PacketAnswer};
-ghost use Rattle.xdp_commands.specs.Answer.{PairAnswer, PlacedAnswer, Reads, RefusedAnswer, RefusedTo, RunAnswer};
-ghost use Rattle.xdp_commands.specs.Answer.{SettingsAnswer, SetupAnswer};
+ghost use Rattle.xdp_commands.specs.Answer.{PairAnswer, PlacedAnswer, Reads, RefusedAnswer, RefusedTo, RewrittenAnswer};
+ghost use Rattle.xdp_commands.specs.Answer.{RunAnswer, SameAnswer, SettingsAnswer, SetupAnswer};
 ghost use Rattle.xdp_commands.specs.Answer.{checked_answer, executed_answer, hex_bytes, program_status, settings_refused};
 ghost use Rattle.xdp_commands.specs.Answer.{Takes, TakesAtMost, words_refused};
 ghost use Rattle.xdp_commands.specs.Words as wanted;
 ghost use Rattle.xdp_commands.specs.Seen.{said_of, wanted_of};
 
+use crate::comparing::{compare, compared_status, compared_text};
 use crate::executing::{Accepted, check, execute, run};
 use crate::explaining::{outcome_of, outcome_status, outcome_text};
 use crate::filtering::filter;
@@ -26,7 +28,7 @@ use std::alloc::{AllocError, Global};
 use std::io::Read;
 use std::sync::Wait;
 use std::thread::Threads;
-use xdp_load::{Fault, LoadFault, Setup, fault_text, load};
+use xdp_load::{Fault, LoadFault, Rewritten, Setup, fault_text, load, load_rewritten};
 use xdp_pair::Host;
 
 /// A text that is printed, and the exit status.
@@ -203,6 +205,19 @@ fn filter_answer(alloc: Global, setup: &Setup) -> Result<Answer, AllocError>
     Ok(Answer { text, status })
 }
 
+/// The answer to a setup whose program is compared with the one that it was made of.
+fn same_answer(alloc: Global, rewritten: &Rewritten) -> Result<Answer, AllocError>
+    requires { IsSound (setup_view rewritten.now.setup) }
+    ensures { IfOk result (λ a. SameAnswer (rewritten_view rewritten.now) (said_of a)) }
+{
+    let compared = compare(alloc, rewritten)?;
+    let text = compared_text(alloc, &compared)?;
+    Ok(Answer {
+        text,
+        status: compared_status(&compared),
+    })
+}
+
 /// The answer to a setup whose queues are run on threads.
 fn pair_answer<T: Threads + Wait + Sync>(
     rt: &T,
@@ -267,6 +282,16 @@ fn settings_answer(alloc: Global, question: Question, settings: &[u8]) -> Result
     }
 }
 
+/// The answer of `same`.
+fn rewritten_answer(alloc: Global, settings: &[u8]) -> Result<Answer, AllocError>
+    ensures { IfOk result (λ a. RewrittenAnswer settings.now (said_of a)) }
+{
+    match load_rewritten(alloc, settings) {
+        Ok(rewritten) => same_answer(alloc, &rewritten),
+        Err(fault) => settings_refused(alloc, fault),
+    }
+}
+
 /// The answer of `pair`.
 fn threads_answer<T: Threads + Wait + Sync>(
     rt: &T,
@@ -291,6 +316,15 @@ fn input_answer<R: Read>(alloc: Global, question: Question, input: &mut R) -> Re
 {
     let settings = read_settings(alloc, input)?;
     Ok(settings_answer(alloc, question, settings.as_slice())?)
+}
+
+/// The answer of `same` to the settings that the input gives.
+fn input_same<R: Read>(alloc: Global, input: &mut R) -> Result<Answer, Stop>
+    ensures answer { IfOk result (λ a. IsAnswer (Some wanted.same) (R.remaining input.old) (R.remaining input.new) (said_of a)) }
+    ensures takes { TakesAtMost 1048577 (R.remaining input.old) (R.remaining input.new) }
+{
+    let settings = read_settings(alloc, input)?;
+    Ok(rewritten_answer(alloc, settings.as_slice())?)
 }
 
 /// The answer of `pair` to the settings that the input gives.
@@ -326,6 +360,7 @@ pub fn answer_to<T: Threads + Wait + Sync, R: Read>(
         Some(Request::Exec { program, packet }) => Ok(exec_answer(alloc, program, packet)?),
         Some(Request::Check) => input_answer(alloc, Question::Check, input),
         Some(Request::Explain) => input_answer(alloc, Question::Explain, input),
+        Some(Request::Same) => input_same(alloc, input),
         Some(Request::Run) => input_answer(alloc, Question::Run, input),
         Some(Request::Filter) => input_answer(alloc, Question::Filter, input),
         Some(Request::Pair { turns, host }) => input_pair(rt, alloc, host, turns, input),

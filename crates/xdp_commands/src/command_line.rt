@@ -44,10 +44,12 @@ fn single_commands<'a>(alloc: Global) -> Result<Command<'a>, AllocError>
     let exec = exec_command(alloc)?;
     let check = Command::new(alloc, "check");
     let explain = Command::new(alloc, "explain");
+    let same = Command::new(alloc, "same");
     Command::new(alloc, "xdpbox")
         .subcommand(exec)?
         .subcommand(check)?
-        .subcommand(explain)
+        .subcommand(explain)?
+        .subcommand(same)
 }
 
 /// The program's command.

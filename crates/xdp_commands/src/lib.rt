@@ -3,12 +3,13 @@
 //! - `program`: a call of the program: what its words ask for (`request`, `command_line`), and the `answer`, or why there is
 //!   none (`stop`)
 //! - `input`, `output`: reading settings, and writing
-//! - `executing`, `explaining`, `filtering`, `pairing`: what each command does
+//! - `executing`, `explaining`, `comparing`, `filtering`, `pairing`: what each command does
 //! - `lines`, `turn_lines`, `pair_lines`, `counter_lines`, `numbers`: what is printed
 #![tactic(auto)]
 
 mod answer;
 mod command_line;
+mod comparing;
 mod counter_lines;
 mod executing;
 mod explaining;

@@ -20,6 +20,8 @@ pub enum Request<'a> {
     Check,
     /// Why the program of the settings is refused.
     Explain,
+    /// Whether the program of the settings has the runs of the one that it was made of.
+    Same,
     /// What the queues of the settings do in the steps of their script.
     Run,
     /// What the program of the settings makes of their packets.
@@ -83,6 +85,9 @@ fn request_in<'a>(matches: &ArgMatches<'a>) -> Option<Request<'a>>
     }
     if name == "explain" {
         return Some(Request::Explain);
+    }
+    if name == "same" {
+        return Some(Request::Same);
     }
     if name == "run" {
         return Some(Request::Run);

@@ -15,6 +15,9 @@ use Rattle.xdp_load.specs.Setup.{Packet, SetupView, bytes_of, decoded_of, docume
 use Rattle.xdp_load.specs.Written.{NumberTexts, WrittenText, written_of}
 use Rattle.bpf_note.specs.Shape.{IsShape, Shape}
 use Rattle.hex.proofs.HexLemmas.{decode_of-ok}
+use Rattle.xdp_load.specs.Original.{RewrittenView, limited_place, original_of, original_program, rewritten_of, rewritten_of_table, written_beside}
+use Rattle.xdp_load.specs.OriginalSeen.{rewritten_view}
+use Rattle.xdp_load.specs.declared.rewritten.Rewritten.{Rewritten}
 use Rattle.xdp_load.specs.Sound.{IsPacket, IsSound}
 use Rattle.xdp_load.specs.SetupSeen.{setup_view}
 use Rattle.xdp_load.specs.declared.setup.Setup.{Setup}
@@ -233,3 +236,20 @@ setup_sound bytes s e =
 pub given_sound : (bytes : List ℕ) (r : Result Setup LoadFault) → Gives setup_view r (setup_of bytes) → IfOk r (λ s. IsSound (setup_view s))
 given_sound bytes (Ok s) h = setup_sound bytes (setup_view s) h
 given_sound bytes (Err e) h = tt
+
+rewritten_setup_sound : (bytes : List ℕ) (r : RewrittenView) → rewritten_of bytes ≡ Ok r → IsSound r.setup
+unfolding rewritten_of rewritten_of_table
+rewritten_setup_sound bytes r e =
+    bind_ok (or_fault fault.Text (text_of bytes)) _ r e (λ text e1 rest.
+    bind_ok (document_of text) rewritten_of_table r rest (λ document e2 more.
+    bind_ok (original_of document) _ r more (λ o e3 next.
+    bind_ok (written_beside document) _ r next (λ w e4 then.
+    bind_ok (or_fault fault.Limit (each limited_place o.places)) _ r then (λ places e5 after.
+    bind_ok (limited_of w) _ r after (λ l e6 last.
+    bind_ok (setup_of_limited w l) _ r last (λ setup e7 end.
+    bind_ok (original_program (names_of w.maps) o) _ r end (λ original e8 whole.
+    subst (λ (v : RewrittenView). IsSound v.setup) (same_Ok _ _ whole) (of_setup w l setup (of_limited w l e6) e7)))))))))
+
+pub rewritten_is_sound : (bytes : List ℕ) (r : Result Rewritten LoadFault) → Gives rewritten_view r (rewritten_of bytes) → IfOk r (λ x. IsSound (setup_view x.setup))
+rewritten_is_sound bytes (Ok x) h = rewritten_setup_sound bytes (rewritten_view x) h
+rewritten_is_sound bytes (Err e) h = tt

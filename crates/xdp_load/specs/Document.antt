@@ -5,7 +5,7 @@ use Rattle.std.specs.Prelude.{if◌then◌else◌}
 use Rattle.std.specs.List.{list_any}
 use Rattle.std.specs.Str.{bytes_eq}
 use Rattle.std.specs.Option.{option_map_or}
-use Rattle.toml.specs.Data.{Data, Items, no_items, item, Members, no_members, member, as_str, as_integer, as_array, as_table, get_member}
+use Rattle.toml.specs.Data.{Data, Items, no_items, item, Members, no_members, member, as_bool, as_str, as_integer, as_array, as_table, get_member}
 
 abbrev pub Text : Type 0
 Text = List ℕ
@@ -116,6 +116,18 @@ step_of _ = None
 
 abbrev pub step_row : Data → Option StepText
 step_row d = option_map items_list (as_array d) >>= step_of
+
+-- a place as it is written
+pub record PlaceText : Type 0 where
+  pub at : ℤ
+  pub own : Bool
+
+abbrev pub place_of : List Data → Option PlaceText
+place_of (a ∷ b ∷ []) = as_integer a >>= (λ at. as_bool b >>= (λ own. Some (record { at = at; own = own })))
+place_of _ = None
+
+abbrev pub place_row : Data → Option PlaceText
+place_row d = option_map items_list (as_array d) >>= place_of
 
 -- the list at a key
 abbrev pub list_at : Text → Members → Option (List Data)

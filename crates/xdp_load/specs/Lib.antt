@@ -7,6 +7,9 @@ pub mod Limits
 pub mod LimitsSeen
 pub mod Lines
 pub mod Seen
+pub mod Original
+pub mod OriginalRows
+pub mod OriginalSeen
 pub mod Setup
 pub mod SetupSeen
 pub mod Sound

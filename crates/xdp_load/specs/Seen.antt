@@ -5,10 +5,11 @@ use Rattle.xdp_load.specs.declared.kinds.MapRow.{MapRow}
 use Rattle.xdp_load.specs.declared.kinds.RelocRow.{RelocRow}
 use Rattle.xdp_load.specs.declared.kinds.PacketRow.{PacketRow}
 use Rattle.xdp_load.specs.declared.kinds.StepRow.{StepRow}
+use Rattle.xdp_load.specs.declared.kinds.PlaceRow.{PlaceRow}
 use Rattle.xdp_load.specs.declared.kinds.HexRow.{HexRow}
 use Rattle.xdp_load.specs.declared.document.Numbers.{Numbers}
 use Rattle.xdp_load.specs.declared.document.Written.{Written}
-use Rattle.xdp_load.specs.Document.{MapText, RelocText, PacketText, StepText, Text}
+use Rattle.xdp_load.specs.Document.{MapText, RelocText, PacketText, PlaceText, StepText, Text}
 use Rattle.xdp_load.specs.Written.{NumberTexts, WrittenText}
 
 abbrev pub map_seen : MapRow → MapText
@@ -22,6 +23,9 @@ packet_seen p = record { queue = p.queue; bytes = p.bytes.now; times = p.times }
 
 abbrev pub step_seen : StepRow → StepText
 step_seen s = record { queue = s.queue; answer = s.answer }
+
+abbrev pub place_seen : PlaceRow → PlaceText
+place_seen p = record { at = p.at; own = p.own }
 
 abbrev pub hex_seen : HexRow → Text
 hex_seen h = h.text.now

@@ -19,7 +19,7 @@ pub const TOP_KEYS: [&str; 8] = [
 
 /// The texts of the program.
 #[tactic(auto, unfolding(crate::specs::Written::program_of))]
-fn program_of(alloc: Global, table: &Table) -> Result<Vec<HexRow<'_>>, LoadFault>
+pub fn program_of(alloc: Global, table: &Table) -> Result<Vec<HexRow<'_>>, LoadFault>
     ensures { Gives (λ v. map hex_seen v.items) result (program_of (table_view table.now)) }
 {
     let texts = found(table, "program").ok_or(Fault::Key)?;
@@ -64,7 +64,7 @@ pub struct Written<'a> {
 
 /// What a document with known keys says.
 #[tactic(auto, unfolding(crate::specs::Written::rows_of_table))]
-fn rows_of_table<'a>(alloc: Global, table: &'a Table) -> Result<Written<'a>, LoadFault>
+pub fn rows_of_table<'a>(alloc: Global, table: &'a Table) -> Result<Written<'a>, LoadFault>
     ensures { Gives written_seen result (rows_of_table (table_view table.now)) }
 {
     let numbers = numbers_of(table).ok_or(Fault::Key)?;

@@ -127,6 +127,34 @@ impl<'a> Row<'a> for StepRow {
     }
 }
 
+/// A place of a slot as it is written.
+#[derive(Clone, Copy)]
+pub struct PlaceRow {
+    pub at: i64,
+    pub own: bool,
+}
+
+impl<'a> Row<'a> for PlaceRow {
+    ghost use Rattle.xdp_load.specs.Document.{PlaceText, place_row};
+    ghost use Rattle.xdp_load.specs.Seen.{place_seen};
+
+    ghost Text = { PlaceText };
+
+    ghost seen = { place_seen };
+
+    ghost meaning = { place_row };
+
+    fn of(value: &'a Value) -> Option<PlaceRow> {
+        match rows_in(value)? {
+            [at, own] => Some(PlaceRow {
+                at: at.as_integer()?,
+                own: own.as_bool()?,
+            }),
+            _ => None,
+        }
+    }
+}
+
 /// A hex text of the program.
 #[derive(Clone, Copy)]
 pub struct HexRow<'a> {

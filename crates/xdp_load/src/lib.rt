@@ -4,6 +4,7 @@
 //! - `document`, `limits`, `names`, `packets`, `relocations`: the phases, each of which refuses the first fault of its own kind
 //!   (`fault`)
 //! - `setup`: all phases in their order, and the setup that they give
+//! - `original`, `rewritten`: settings that have the program too of which theirs was made
 //! - `explaining`: at which line settings are refused; `spot`, `kind_spots`, `limit_spots`, `byte_spots`, `lines`,
 //!   `line_words`: how it is found
 //! - `laws`: what holds of settings
@@ -22,8 +23,10 @@ mod limits;
 mod line_words;
 mod lines;
 mod names;
+mod original;
 mod packets;
 mod relocations;
+mod rewritten;
 mod rows;
 mod setup;
 mod spot;
@@ -32,5 +35,7 @@ mod table;
 pub use explaining::fault_text;
 pub use fault::{Fault, LoadFault};
 pub use laws::{relocated_loads_are_of_maps, sound_setups_are_written};
+pub use original::Place;
 pub use packets::Packet;
+pub use rewritten::{Rewritten, load_rewritten};
 pub use setup::{Setup, load};

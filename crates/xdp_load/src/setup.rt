@@ -1,10 +1,10 @@
 //! The setup of a settings text.
-ghost use Rattle.std.specs.Prelude.{◌≡◌, ◌≤◌, if◌then◌else◌, IfOk, IsErrAnd, None, Some, false, map, option_map, string_bytes, vec_len};
+ghost use Rattle.std.specs.Prelude.{◌≡◌, ◌≤◌, if◌then◌else◌, IfOk, IsErrAnd, None, Some, false, length, map, option_map, string_bytes, vec_len};
 ghost use Rattle.std.specs.Bool.{OnFalse, OnTrue};
 ghost use Rattle.std.specs.Str.{is_utf8};
 ghost use Rattle.xdp_load.specs.Gives.{Gives};
 ghost use Rattle.xdp_load.specs.Limits.{are_names, limited_of};
-ghost use Rattle.xdp_load.specs.Seen.{written_seen};
+ghost use Rattle.xdp_load.specs.Seen.{map_seen, reloc_seen, written_seen};
 ghost use Rattle.xdp_load.specs.LimitsSeen.{limited_seen};
 ghost use Rattle.xdp_load.specs.Setup.{decoded_of, document_of, loaded_program, names_of, relocated_setup, setup_of};
 ghost use Rattle.xdp_load.specs.Setup.{setup_of_limited, setup_of_table, text_of};
@@ -16,7 +16,7 @@ ghost use Rattle.toml.specs.View.{table_view};
 
 use crate::document::{Written, read_document};
 use crate::fault::{Fault, LoadFault};
-use crate::kinds::MapRow;
+use crate::kinds::{MapRow, RelocRow};
 use crate::limits::{WithinLimits, limited_of};
 use crate::names::are_names;
 use crate::packets::{Packet, joined, packets_of};
@@ -68,16 +68,13 @@ fn names_of(alloc: Global, maps: &[MapRow<'_>]) -> Result<Vec<String>, AllocErro
 
 /// Applies the relocations, and says whether it could.
 #[tactic(auto, using(crate::proofs::RowLemmas::names_seen))]
-fn load_program(program: &mut Vec<u8>, written: &Written<'_>) -> bool
-    requires { vec_len written.now.maps ≤ 4 }
-    ensures done { OnTrue result (loaded_program (names_of (written_seen written.now).maps) (written_seen written.now).relocs
-        program.old.items ≡ Some program.new.items) }
-    ensures refused { OnFalse result (loaded_program (names_of (written_seen written.now).maps) (written_seen written.now).relocs
-        program.old.items ≡ None) }
+pub fn load_program(program: &mut Vec<u8>, maps: &[MapRow<'_>], relocs: &[RelocRow<'_>]) -> bool
+    requires { length maps.now ≤ 4 }
+    ensures done { OnTrue result (loaded_program (names_of (map map_seen maps.now)) (map reloc_seen relocs.now) program.old.items
+        ≡ Some program.new.items) }
+    ensures refused { OnFalse result (loaded_program (names_of (map map_seen maps.now)) (map reloc_seen relocs.now) program.old.items
+        ≡ None) }
 {
-    let maps = written.maps.as_slice();
-    let relocs = written.relocs.as_slice();
-
     // Of more relocations than slots, two have one slot or one lies outside: refused with no pair compared.
     if relocs.len() > program.len() / 8 {
         return false;
@@ -105,7 +102,11 @@ fn relocated_setup(
         ≡ None → IsErrAnd result (λ e. e ≡ Refused Relocation) }
 {
     let (mut program, packets) = decoded;
-    if !load_program(&mut program, written) {
+    if !load_program(
+        &mut program,
+        written.maps.as_slice(),
+        written.relocs.as_slice(),
+    ) {
         return Err(LoadFault::Refused(Fault::Relocation));
     }
     let names = names_of(alloc, written.maps.as_slice())?;
@@ -123,7 +124,7 @@ fn relocated_setup(
 
 /// The setup of a document within its limits.
 #[tactic(auto, using(crate::proofs::RowLemmas::names_seen), unfolding(crate::specs::Setup::setup_of_limited))]
-fn setup_of_limited(
+pub fn setup_of_limited(
     alloc: Global,
     written: &Written<'_>,
     limited: WithinLimits<'_>,
@@ -172,7 +173,7 @@ pub fn text_of(bytes: &[u8]) -> Option<&str>
 }
 
 /// The document of a text.
-fn document_of(alloc: Global, text: &str) -> Result<Table, LoadFault>
+pub fn document_of(alloc: Global, text: &str) -> Result<Table, LoadFault>
     ensures { Gives table_view result (document_of text.now) }
 {
     match toml::table_from_str(alloc, text) {

@@ -1,5 +1,5 @@
 //! What a table of a document holds at a key.
-ghost use Rattle.std.specs.Prelude.{◌≡◌, map, option_map};
+ghost use Rattle.std.specs.Prelude.{◌≡◌, ◌∷◌, ◌||◌, map, option_map};
 ghost use Rattle.std.specs.List.{list_any};
 ghost use Rattle.std.specs.Str.{bytes_eq};
 ghost use Rattle.toml.specs.Data.{get_member};
@@ -20,6 +20,22 @@ pub fn has_only(table: &Table, known: &[&str]) -> bool
     ensures { result ≡ has_only (map (λ k. k.now) known.now) (table_view table.now) }
 {
     table.keys().all(|key| is_known(key.as_str(), known))
+}
+
+/// Whether the key is this one or one of those.
+fn is_known_with(key: &str, one: &str, known: &[&str]) -> bool
+    ensures { result ≡ (bytes_eq key.now one.now || list_any (λ k. bytes_eq key.now k.now) known.now) }
+{
+    key == one || is_known(key, known)
+}
+
+/// Whether the table has no key but this one and those.
+pub fn has_only_with(table: &Table, one: &str, known: &[&str]) -> bool
+    ensures { result ≡ has_only (one.now ∷ map (λ k. k.now) known.now) (table_view table.now) }
+{
+    table
+        .keys()
+        .all(|key| is_known_with(key.as_str(), one, known))
 }
 
 /// What the table has at a key.

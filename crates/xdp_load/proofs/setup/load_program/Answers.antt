@@ -9,11 +9,11 @@ use Rattle.xdp_load.proofs.setup.load_program.Goals as goal
 
 pub returns-then-relocs-len-clause-refused : goal.returns-then-relocs-len-clause-refused
 returns-then-relocs-len-clause-refused c =
-    let more : length c.args.program.now.items / 8 < length (map reloc_seen c.args.written.now.relocs.items) = rw length-map (search rules) in
+    let more : length c.args.program.now.items / 8 < length (map reloc_seen c.args.relocs.now) = rw length-map (search rules) in
     more_than_slots _ _ _ more
 
 pub returns-clause-done : goal.returns-clause-done
 returns-clause-done c =
     let whole : c.args.program.now.len ≡ length c.relocate.new.program = search rules in
-    let own : have_own_slots (map reloc_seen c.args.written.now.relocs.items) ≡ true = search rules in
+    let own : have_own_slots (map reloc_seen c.args.relocs.now) ≡ true = search rules in
     rw (whole, take-append_seam, names_seen, own) (search rules)

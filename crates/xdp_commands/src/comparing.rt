@@ -1,0 +1,104 @@
+//! A setup's program beside the one that it was made of.
+ghost use Rattle.std.specs.Prelude.{◌≡◌, ◌≤◌, IfOk, length, map, string_bytes};
+ghost use Rattle.bpf_insn.specs.Code.{Spells};
+ghost use Rattle.xdp_load.specs.OriginalSeen.{place_view, rewritten_view};
+ghost use Rattle.xdp_load.specs.SetupSeen.{setup_view};
+ghost use Rattle.xdp_load.specs.Sound.{IsSound};
+ghost use Rattle.xdp_commands.specs.Comparing.{Compares, IsSamePair, compared_status, compared_text};
+ghost use Rattle.xdp_commands.specs.Executing.{IsProgramOf};
+
+use crate::executing::accept;
+use crate::lines::refused_text;
+use bpf_insn::{Code, Refusal, decode};
+use bpf_same::{Comparison, Place};
+use bpf_verify::Verified;
+use std::alloc::{AllocError, Global};
+use xdp_load::Rewritten;
+
+/// What becomes of a setup's program beside the one that it was made of.
+#[derive(Drop)]
+pub enum Compared {
+    /// Each run of one is a run of the other; they have so many slots.
+    Same { slots: u32, originals: usize },
+    /// Nothing is shown of their runs.
+    NotShown,
+    /// The program is refused.
+    Refused(Refusal),
+    /// The bytes of the original spell no program.
+    Undecoded(Refusal),
+}
+
+/// The places of the original's that are to be tried.
+fn places_of(alloc: Global, places: &[xdp_load::Place]) -> Result<Vec<Place>, AllocError> {
+    let mut tried = Vec::new(alloc);
+    for place in places {
+        tried.push(Place {
+            own: place.own,
+            at: place.at,
+        })?;
+    }
+    Ok(tried)
+}
+
+/// Compares the program of a setup, which was accepted, with the one that it was made of.
+fn compare_with(
+    alloc: Global,
+    rewritten: &Rewritten,
+    program: &Verified,
+    original: &Code,
+) -> Result<Compared, AllocError>
+    requires program { IsProgramOf rewritten.now.setup.program.items rewritten.now.setup.shapes.items program.now }
+    requires original { Spells original.now rewritten.now.original.items }
+    ensures { IfOk result (Compares (rewritten_view rewritten.now)) }
+{
+    let places = places_of(alloc, rewritten.places.as_slice())?;
+    match bpf_same::compare(alloc, program, original, places.as_slice())? {
+        Comparison::Same => Ok(Compared::Same {
+            slots: program.slots(),
+            originals: original.insns().len(),
+        }),
+        Comparison::NotShown => Ok(Compared::NotShown),
+    }
+}
+
+/// Accepts the program of a setup and compares it with the one that it was made of, or refuses one of them.
+pub fn compare(alloc: Global, rewritten: &Rewritten) -> Result<Compared, AllocError>
+    requires { IsSound (setup_view rewritten.now.setup) }
+    ensures { IfOk result (Compares (rewritten_view rewritten.now)) }
+{
+    let setup = &rewritten.setup;
+    match accept(alloc, setup.program.as_slice(), setup.shapes.as_slice()) {
+        Ok(program) => match decode(alloc, rewritten.original.as_slice()) {
+            Ok(original) => compare_with(alloc, rewritten, &program, &original),
+            Err(refusal) => Ok(Compared::Undecoded(refusal)),
+        },
+        Err(refusal) => Ok(Compared::Refused(refusal)),
+    }
+}
+
+/// The line of `same`.
+pub fn compared_text(alloc: Global, compared: &Compared) -> Result<String, AllocError>
+    ensures { IfOk result (λ s. string_bytes s ≡ compared_text compared.now) }
+{
+    match compared {
+        Compared::Same { slots, originals } => {
+            format!(in alloc; "same, {slots} slots for {originals}\n")
+        }
+        Compared::NotShown => String::from_str(alloc, "not shown\n"),
+        Compared::Refused(refusal) => refused_text(alloc, refusal),
+        Compared::Undecoded(refusal) => {
+            let refused = refused_text(alloc, refusal)?;
+            format!(in alloc; "original {refused}")
+        }
+    }
+}
+
+/// The status of what became of the two.
+pub fn compared_status(compared: &Compared) -> u8
+    ensures { result ≡ compared_status compared.now }
+{
+    match compared {
+        Compared::Same { .. } => 0,
+        Compared::NotShown | Compared::Refused(_) | Compared::Undecoded(_) => 1,
+    }
+}

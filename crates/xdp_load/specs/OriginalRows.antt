@@ -1,0 +1,13 @@
+-- For proofs: no claim rests on this file.
+-- What an original as it is written stands for.
+use Rattle.std.specs.Prelude.{map}
+use Rattle.xdp_load.specs.declared.original.Original.{Original}
+use Rattle.xdp_load.specs.Original.{OriginalText}
+use Rattle.xdp_load.specs.Seen.{hex_seen, place_seen, reloc_seen}
+
+abbrev pub original_seen : Original → OriginalText
+original_seen o = record {
+  program = map hex_seen o.program.items;
+  relocs = map reloc_seen o.relocs.items;
+  places = map place_seen o.places.items;
+}
