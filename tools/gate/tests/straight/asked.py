@@ -12,7 +12,7 @@ from straight.settings import text_beside
 from straight.shown import question
 from straight.verifier import is_same
 
-TOOLS = pathlib.Path(__file__).resolve().parents[2]
+TOOLS = pathlib.Path(__file__).resolve().parents[3]
 EXAMPLES = TOOLS.parent / "examples/straightened"
 # examples whose result is proved to be the same
 PROVED = "loop", "loop-with-break"
