@@ -8,7 +8,7 @@ ghost use Rattle.bpf_same.specs.Known.{known, left_by};
 ghost use Rattle.bpf_same.specs.Marked.{mark_at, passed_by, passed_at, way_of, is_jump, Passes, Meets, MeetsAt, FollowsPlain, FollowsOwn, FollowsJump, Follows, AreMarks};
 
 use crate::constants::{NOTHING, are_among, constant, constant_operand, constants_behind};
-use crate::equal::{are_operands, is_same_insn};
+use crate::equal::{are_operands, is_same_code, is_same_insn};
 use crate::mark::{Constants, Mark};
 use bpf_flow::{jump_target, next_slot};
 use bpf_insn::{Condition, Insn, Operand, Register, holds};
@@ -318,11 +318,15 @@ pub(crate) fn are_marks(old: &[Insn], new: &[Insn], marks: &[Option<Mark>]) -> b
     true
 }
 
-/// Whether the marks fit, and so the new program has the old one's runs.
+/// Whether the programs are one or the marks fit, and so the new program has the old one's runs.
 pub(crate) fn show(old: &[Insn], new: &[Insn], marks: &[Option<Mark>]) -> bool
     requires short { length old.now ≤ 4096 }
     requires few { length new.now ≤ 4096 }
-    ensures { IsTrue result → (shapes : List Shape) → IsSame shapes old.now new.now }
+    ensures shown { IsTrue result → (shapes : List Shape) → IsSame shapes old.now new.now }
+    ensures itself { new.now ≡ old.now → IsTrue result }
 {
+    if is_same_code(new, old) {
+        return true;
+    }
     are_marks(old, new, marks)
 }

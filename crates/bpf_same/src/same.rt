@@ -32,6 +32,8 @@ pub fn compare(
     ensures same { IfOk result (λ c. c ≡ Comparison.Same → IsSame new.now.shapes old.now new.now.code) }
     // Each run of the old program is one of the new.
     ensures whole { IfOk result (λ c. c ≡ Comparison.Same → IsSame new.now.shapes new.now.code old.now) }
+    // A program is the same as itself, whatever the places.
+    ensures itself { IfOk result (λ c. new.now.code ≡ old.now → c ≡ Comparison.Same) }
     ensures accepted { IsConsistent new.now }
 {
     let marks = marks_of(alloc, new.insns(), places)?;

@@ -93,3 +93,14 @@ const ENDLESS: Pair = Pair {
 fn an_endless_program_ends_in_an_answer(rt: HostRuntime) {
     assert_eq!(rt; compared(rt.alloc(), &ENDLESS), Some(Comparison::NotShown));
 }
+
+/// A program beside itself needs no places.
+#[test]
+fn a_program_is_the_same_as_itself(rt: HostRuntime) {
+    let itself = Pair {
+        old: OWN_TEST.new,
+        places: "",
+        ..OWN_TEST
+    };
+    assert_eq!(rt; compared(rt.alloc(), &itself), Some(Comparison::Same));
+}
