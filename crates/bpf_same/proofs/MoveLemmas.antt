@@ -18,7 +18,7 @@ use Rattle.bpf_note.specs.declared.op.Op.{Op}
 use Rattle.bpf_note.specs.declared.op.Op.TheVariants.{Load, Add}
 use Rattle.bpf_flow.specs.Step.{Outcome, Next, Loads, Adds, Exited, Fault, need, at_slot, with_number, is_frame, written, operand, first_operand, reached, loaded, load_from, store_to, add_to, map_at, key_in, value_or_null, called, looked_up, helped, exec, LeadsTo, taken}
 use Rattle.bpf_flow.specs.Graph.{next_slot}
-use Rattle.bpf_same.specs.Marked.{is_jump}
+use Rattle.bpf_same.specs.Followed.{is_jump}
 
 -- the outcome with another next slot
 abbrev pub shifted : ℕ → Outcome → Outcome

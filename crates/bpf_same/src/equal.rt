@@ -1,5 +1,5 @@
 //! Whether two instructions are one.
-ghost use Rattle.std.specs.Prelude.{◌≡◌, ◌<◌, ◌↔◌, length, slice_get, IsTrue};
+ghost use Rattle.std.specs.Prelude.{ℤ, ◌≡◌, ◌<◌, ◌↔◌, length, slice_get, IsTrue};
 ghost use Rattle.bpf_insn.specs.declared.insn.Insn.TheVariants.{Alu, Neg, End, MovSx, Const, MapRef, Ldx, St, Stx, AddCounter, Ja, Jump, Call};
 
 use bpf_insn::{AluOp, Condition, Insn, Operand, Register, Size, SwapKind, Width};
@@ -199,6 +199,28 @@ fn is_jump(
             src: s,
             off: o,
         } => { are_tests(c, cond, w, wide) && o == off && are_operands(d, dst, s, src) }
+        _ => false,
+    }
+}
+
+/// Whether an instruction is this conditional jump but for its offset.
+pub(crate) fn is_but_for_offset(
+    insn: Insn,
+    cond: Condition,
+    wide: bool,
+    dst: Register,
+    src: Operand,
+) -> bool
+    ensures { IsTrue result → (o : ℤ) × (insn ≡ Jump cond wide dst src o) }
+{
+    match insn {
+        Insn::Jump {
+            cond: c,
+            wide: w,
+            dst: d,
+            src: s,
+            ..
+        } => { are_tests(c, cond, w, wide) && are_operands(d, dst, s, src) }
         _ => false,
     }
 }
