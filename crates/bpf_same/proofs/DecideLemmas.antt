@@ -1,10 +1,10 @@
 -- What decides a conditional jump does so.
-use Rattle.std.proofs.Common.{ℕ, ◌≡◌, ◌≤◌, ◌<◌, ◌^◌, refl, sym, ap, ◌∙◌, subst, arith, Option, None, Some, Bool, true, false, ℤ}
+use Rattle.std.proofs.Common.{ℕ, ◌≡◌, ◌≤◌, ◌<◌, ◌^◌, refl, ap, ◌∙◌, subst, arith, Option, None, Some, Bool, true, false, ℤ}
 use Rattle.std.specs.Prelude.{pos, negsuc, IfSome}
 use Rattle.bpf_insn.specs.declared.insn.Insn.TheVariants.{Jump}
 use Rattle.bpf_insn.specs.Register.{number}
 use Rattle.bpf_insn.specs.Signed.{sign_extended}
-use Rattle.bpf_insn.specs.Conditions.{relation, is_met}
+use Rattle.bpf_insn.specs.Conditions.{is_met}
 use Rattle.bpf_insn.specs.declared.condition.Condition.{Condition}
 use Rattle.bpf_insn.specs.declared.register.Register.{Register}
 use Rattle.bpf_insn.specs.declared.operand.Operand.{Operand}
@@ -13,7 +13,7 @@ use Rattle.bpf_note.specs.declared.val.Val.{Val}
 use Rattle.bpf_note.specs.declared.val.Val.TheVariants.{Num}
 use Rattle.bpf_note.specs.State.{State}
 use Rattle.bpf_note.specs.Facts.{Facts}
-use Rattle.bpf_note.specs.Describes.{Describes, Meaning, meaning, IsReading, Reads}
+use Rattle.bpf_note.specs.Describes.{Describes, Meaning, meaning, Reads}
 use Rattle.bpf_flow.specs.Alu.{operand_value}
 use Rattle.bpf_flow.specs.Step.{operand}
 use Rattle.bpf_flow.proofs.JumpLemmas.{met_is}

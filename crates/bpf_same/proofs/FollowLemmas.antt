@@ -1,5 +1,5 @@
 -- Where the old program follows each instruction, each walk of the new program is one of the old.
-use Rattle.std.proofs.Common.{ℕ, ◌+◌, ◌≡◌, ◌≢◌, ◌⊎◌, inl, inr, refl, sym, ap, ◌∙◌, subst, ℤ, List, [], ◌∷◌, Option, None, Some, Bool, true, false, not}
+use Rattle.std.proofs.Common.{ℕ, ◌+◌, ◌≡◌, inl, inr, refl, sym, ap, ◌∙◌, subst, ℤ, List, [], ◌∷◌, Option, None, Some, Bool, true, false}
 use Rattle.std.specs.Prelude.{if◌then◌else◌, slice_get}
 use Rattle.std.specs.Global.{Box, Vec}
 use Rattle.bpf_insn.specs.Register.{number}
@@ -18,7 +18,6 @@ use Rattle.bpf_note.specs.declared.op.Op.{Op}
 use Rattle.bpf_note.specs.declared.op.Op.TheVariants as ops
 use Rattle.bpf_flow.specs.Step.{Outcome, Next, Loads, Adds, Exited, Fault, need, at_slot, operand, target, jumped, exec, step, LeadsTo}
 use Rattle.bpf_flow.specs.Graph.{next_slot}
-use Rattle.bpf_flow.specs.Kept.{Kept}
 use Rattle.bpf_flow.specs.Edges.{Edges}
 use Rattle.bpf_flow.specs.Sound.{Accounts, Covers}
 use Rattle.bpf_flow.proofs.StepLemmas.{no_fault, needed, exited}
@@ -27,7 +26,7 @@ use Rattle.bpf_vm.specs.Run.{Walk, ends, goes}
 use Rattle.bpf_same.specs.declared.mark.Place.{Place}
 use Rattle.bpf_same.specs.Same.{operations, Runs, IsSame}
 use Rattle.bpf_same.specs.Decided.{Compared, IsDecided}
-use Rattle.bpf_same.specs.Followed.{Notes, IsKnown, IsFollowed, Passes, Meets, MeetsAt, FollowsOne, Goes, GoesBoth, Targets, FollowsTwo, IsSplit, IsAccounted, in_front, Follows, IsPassed, IsClaimed, is_jump, AreClaims}
+use Rattle.bpf_same.specs.Followed.{Notes, IsKnown, IsFollowed, Passes, Meets, FollowsOne, Goes, GoesBoth, Targets, FollowsTwo, IsSplit, IsAccounted, in_front, Follows, IsPassed, IsClaimed, is_jump, AreClaims}
 use Rattle.bpf_same.proofs.MoveLemmas.{shifted, moved, leads_shifted, operand_moved}
 
 pub needed_is : {A P : Type 0} (o : Option A) (go : A → Outcome) (l : Option Op) (u : State) → ((x : A) → o ≡ Some x → LeadsTo (go x) l u → P) → LeadsTo (need o go) l u → P
@@ -297,7 +296,6 @@ needed_exit : (o : Option Insn) (s : State) (r0 : ℕ) (P : Type 0) → ((i : In
 needed_exit None s r0 P f e = cc
 needed_exit (Some i) s r0 P f e = f i refl e
 
-
 -- what is claimed of a slot, of its instruction, place and notes
 pub claimed : (old new : List Insn) (places : List Place) (notes : Notes) (shapes : List Shape) (pc : ℕ) (i : Insn) (place : Place) (list : Vec (Box Noted)) → slice_get new pc ≡ Some i → slice_get places pc ≡ Some place → slice_get notes pc ≡ Some list →
     ((k : ℕ) (b : Box Noted) → slice_get list.items k ≡ Some b → Follows old places notes shapes place.at i (facts b.value) pc) → IsClaimed old new places notes shapes pc
@@ -313,7 +311,7 @@ pub walks : (old new : List Insn) (places : List Place) (notes : Notes) (shapes 
     Walk new r0 bytes s labels → s.shapes ≡ shapes → IsFollowed old places notes r0 bytes (operations labels) s
 walks old new places notes shapes r0 bytes _ _ k (ends s e b) sh = λ place here known.
     let there = needed_exit (slice_get new s.pc) s r0 (step old (at_slot s place.at) ≡ Exited r0)
-        (λ i f e. (k.each s.pc i place known.list known.k known.note f here known.here known.at).ends s known.describes r0 e) e in
+    (λ i f e. (k.each s.pc i place known.list known.k known.note f here known.here known.at).ends s known.describes r0 e) e in
     record { labels = None ∷ []; walk = ends (at_slot s place.at) there b; did = refl }
 walks old new places notes shapes r0 bytes _ _ k (goes s u label labels h w) sh = λ place here known.
     let go = walks old new places notes shapes r0 bytes u labels k w ((kept new s label u h).shapes ∙ sh) in

@@ -1,5 +1,5 @@
 -- What an instruction does at another slot: the same, and the slot after it differs.
-use Rattle.std.proofs.Common.{ℕ, ◌+◌, ◌≡◌, refl, sym, ap, ◌∙◌, subst, ℤ, pos, negsuc, Option, None, Some, Bool, true, false, length}
+use Rattle.std.proofs.Common.{ℕ, ◌+◌, ◌≡◌, refl, ap, ◌∙◌, ℤ, pos, negsuc, Option, None, Some, Bool, true, false, length}
 use Rattle.std.specs.Prelude.{if◌then◌else◌, ◌==◌, slice_get}
 use Rattle.bpf_insn.specs.Register.{number}
 use Rattle.bpf_insn.specs.Size.{size_bytes}
@@ -129,25 +129,3 @@ leads_shifted q (Exited x) (Some (Add m k j d v)) u h = h
 leads_shifted q Fault None u h = h
 leads_shifted q Fault (Some (Load m k j v)) u h = h
 leads_shifted q Fault (Some (Add m k j d v)) u h = h
-
--- where a shifted step leads
-pub shifted_slot : (q : ℕ) (o : Outcome) (label : Option Op) (u : State) → LeadsTo (shifted q o) label u → u.pc ≡ q
-shifted_slot q (Next t) None u h = ap (λ (t : State). t.pc) (sym h)
-shifted_slot q (Next t) (Some (Load m k j v)) u h = absurd h
-shifted_slot q (Next t) (Some (Add m k j d v)) u h = absurd h
-shifted_slot q (Loads m k j go) None u h = absurd h
-shifted_slot q (Loads m k j go) (Some (Load m' k' j' v)) u h = ap (λ (t : State). t.pc) (sym h.4)
-shifted_slot q (Loads m k j go) (Some (Add m' k' j' d v)) u h = absurd h
-shifted_slot q (Adds m k j d go) None u h = absurd h
-shifted_slot q (Adds m k j d go) (Some (Load m' k' j' v)) u h = absurd h
-shifted_slot q (Adds m k j d go) (Some (Add m' k' j' d' v)) u h = ap (λ (t : State). t.pc) (sym h.5)
-shifted_slot q (Exited x) None u h = absurd h
-shifted_slot q (Exited x) (Some (Load m k j v)) u h = absurd h
-shifted_slot q (Exited x) (Some (Add m k j d v)) u h = absurd h
-shifted_slot q Fault None u h = absurd h
-shifted_slot q Fault (Some (Load m k j v)) u h = absurd h
-shifted_slot q Fault (Some (Add m k j d v)) u h = absurd h
-
--- an instruction that is no jump leads to the slot behind it
-pub leads_behind : (i : Insn) (s u : State) (label : Option Op) → is_jump i ≡ false → LeadsTo (exec i s) label u → u.pc ≡ next_slot i s.pc
-leads_behind i s u label e h = shifted_slot (next_slot i s.pc) (exec i s) label u (subst (λ (o : Outcome). LeadsTo o label u) (moved i s s.pc e) h)

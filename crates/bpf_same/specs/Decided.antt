@@ -6,10 +6,9 @@ use Rattle.bpf_insn.specs.Conditions.{relation, is_met}
 use Rattle.bpf_insn.specs.declared.condition.Condition.{Condition}
 use Rattle.bpf_insn.specs.declared.insn.Insn.{Insn}
 use Rattle.bpf_insn.specs.declared.insn.Insn.TheVariants.{Jump}
-use Rattle.bpf_note.specs.declared.val.Val.{Val}
 use Rattle.bpf_note.specs.State.{State}
 use Rattle.bpf_note.specs.Facts.{Facts}
-use Rattle.bpf_note.specs.Describes.{Describes, IsReading, meaning}
+use Rattle.bpf_note.specs.Describes.{Describes}
 use Rattle.bpf_flow.specs.Step.{operand}
 
 -- between each number of one range and each of another one the condition is the same

@@ -18,8 +18,8 @@ use bpf_insn::Insn;
 use bpf_note::{MapShape, Note, covers};
 use std::alloc::{AllocError, Global};
 
-/// How many jumps the old program is followed over.
-const MOST_JUMPS: u32 = 5000;
+/// How many jumps the old program is followed over, one after the other.
+const MOST_JUMPS: u32 = 256;
 
 /// What is claimed: of each slot of the new program where the old one stands, and notes of which one describes the state.
 #[derive(Clone, Copy, Drop)]
@@ -120,8 +120,10 @@ fn targets(there: Insn, at: u32, insn: Insn) -> Option<Option<u32>>
             dst,
             src,
             off,
-        } => is_but_for_offset(insn, cond, wide, dst, src)
-            .then_some(jump_target(at, i32::from(off))),
+        } => is_but_for_offset(insn, cond, wide, dst, src).then_some(jump_target(
+            at,
+            i32::from(off),
+        )),
         _ => None,
     }
 }
@@ -139,9 +141,7 @@ fn is_split(insn: Insn, pc: u32, next: u32, taken: u32) -> bool
 {
     match insn {
         Insn::Jump { off, .. } => {
-            next == pc + 1
-                && next != taken
-                && jump_target(pc, i32::from(off)) == Some(taken)
+            next == pc + 1 && next != taken && jump_target(pc, i32::from(off)) == Some(taken)
         }
         _ => false,
     }
@@ -182,8 +182,7 @@ impl Claims<'_> {
     fn is_known(&self, slot: u32, note: &Note) -> bool
         ensures { IsTrue result → (s : State) → Describes (facts note.now) s → IsKnown self.now.notes.now slot s }
     {
-        (slot as usize) < self.notes.len()
-            && is_covered(self.notes[slot as usize].as_slice(), note)
+        (slot as usize) < self.notes.len() && is_covered(self.notes[slot as usize].as_slice(), note)
     }
 
     /// Whether the old program, from a slot on, meets what is claimed of a slot of the new one.

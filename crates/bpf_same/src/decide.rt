@@ -76,10 +76,7 @@ pub(crate) fn decided(insn: Insn, note: &Note) -> Option<bool>
             ..
         } => match note.register(dst.number()) {
             Val::Num { lo, hi } => match value_of(note, src) {
-                Val::Num {
-                    lo: low,
-                    hi: high,
-                } => between_numbers(cond, wide, lo, hi, low, high),
+                Val::Num { lo: low, hi: high } => between_numbers(cond, wide, lo, hi, low, high),
                 _ => None,
             },
             _ => None,

@@ -1,5 +1,6 @@
 //! Whether two instructions are one.
 ghost use Rattle.std.specs.Prelude.{ℤ, ◌≡◌, ◌<◌, ◌↔◌, length, slice_get, IsTrue};
+ghost use Rattle.bpf_insn.specs.Form.{IsAccess};
 ghost use Rattle.bpf_insn.specs.declared.insn.Insn.TheVariants.{Alu, Neg, End, MovSx, Const, MapRef, Ldx, St, Stx, AddCounter, Ja, Jump, Call};
 
 use bpf_insn::{AluOp, Condition, Insn, Operand, Register, Size, SwapKind, Width};
@@ -181,14 +182,7 @@ fn is_call(there: Insn, helper: i32) -> bool
     }
 }
 
-fn is_jump(
-    there: Insn,
-    cond: Condition,
-    wide: bool,
-    dst: Register,
-    src: Operand,
-    off: i16,
-) -> bool
+fn is_jump(there: Insn, cond: Condition, wide: bool, dst: Register, src: Operand, off: i16) -> bool
     ensures { IsTrue result ↔ there ≡ Jump cond wide dst src off }
 {
     match there {
@@ -225,22 +219,12 @@ pub(crate) fn is_but_for_offset(
     }
 }
 
-/// Whether the instructions are one.
-pub(crate) fn is_same_insn(there: Insn, insn: Insn) -> bool
+/// Whether an instruction is this load, store or addition.
+fn is_same_access(there: Insn, insn: Insn) -> bool
+    requires { IsAccess insn }
     ensures { IsTrue result ↔ there ≡ insn }
 {
     match insn {
-        Insn::Alu { op, wide, dst, src } => is_alu(there, op, wide, dst, src),
-        Insn::Neg { wide, dst } => is_neg(there, wide, dst),
-        Insn::End { kind, width, dst } => is_end(there, kind, width, dst),
-        Insn::MovSx {
-            wide,
-            bits,
-            dst,
-            src,
-        } => is_mov_sx(there, wide, bits, dst, src),
-        Insn::Const { dst, value } => is_const(there, dst, value),
-        Insn::MapRef { dst, m } => is_map_ref(there, dst, m),
         Insn::Ldx {
             size,
             signed,
@@ -266,6 +250,29 @@ pub(crate) fn is_same_insn(there: Insn, insn: Insn) -> bool
             src,
             off,
         } => is_addition(there, fetch, dst, src, off),
+        _ => unreachable!(),
+    }
+}
+
+/// Whether the instructions are one.
+pub(crate) fn is_same_insn(there: Insn, insn: Insn) -> bool
+    ensures { IsTrue result ↔ there ≡ insn }
+{
+    match insn {
+        Insn::Alu { op, wide, dst, src } => is_alu(there, op, wide, dst, src),
+        Insn::Neg { wide, dst } => is_neg(there, wide, dst),
+        Insn::End { kind, width, dst } => is_end(there, kind, width, dst),
+        Insn::MovSx {
+            wide,
+            bits,
+            dst,
+            src,
+        } => is_mov_sx(there, wide, bits, dst, src),
+        Insn::Const { dst, value } => is_const(there, dst, value),
+        Insn::MapRef { dst, m } => is_map_ref(there, dst, m),
+        Insn::Ldx { .. } | Insn::St { .. } | Insn::Stx { .. } | Insn::AddCounter { .. } => {
+            is_same_access(there, insn)
+        }
         Insn::Ja { wide_offset, to } => is_ja(there, wide_offset, to),
         Insn::Jump {
             cond,

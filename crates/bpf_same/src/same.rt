@@ -3,9 +3,9 @@ ghost use Rattle.std.specs.Prelude.{◌≡◌, ◌≤◌, length, IfOk, IsTrue};
 ghost use Rattle.bpf_verify.specs.Consistent.{IsConsistent};
 ghost use Rattle.bpf_same.specs.Same.{IsSame};
 
+use crate::check::Claims;
 use crate::equal::is_same_code;
 use crate::find::notes_of;
-use crate::check::Claims;
 use crate::laws::same_both_ways;
 use crate::mark::Place;
 use bpf_insn::{Code, Insn};

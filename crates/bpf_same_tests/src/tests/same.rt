@@ -133,7 +133,10 @@ fn a_range_decides_a_jump(rt: HostRuntime) {
         ],
         ..RANGE_DECIDES
     };
-    assert_eq!(rt; compared(rt.alloc(), &RANGE_DECIDES), Some(Comparison::Same));
+    assert_eq!(rt;
+        compared(rt.alloc(), &RANGE_DECIDES),
+        Some(Comparison::Same)
+    );
     assert_eq!(rt; compared(rt.alloc(), &wider), Some(Comparison::NotShown));
 }
 

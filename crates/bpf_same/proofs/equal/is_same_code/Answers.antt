@@ -1,7 +1,6 @@
-use Rattle.std.proofs.Common.{rules, ◌≡◌, ◌<◌, ℕ, List, length, inl, inr, refl, subst, arith}
+use Rattle.std.proofs.Common.{rules, ◌≡◌, ℕ, length, inl, inr, refl, subst, arith}
 use Rattle.std.specs.Prelude.{slice_get}
 use Rattle.std.proofs.lemmas.Bool.{cases_lt}
-use Rattle.bpf_insn.specs.declared.insn.Insn.{Insn}
 use Rattle.bpf_same.proofs.EqualLemmas.{same_items}
 use Rattle.bpf_same.proofs.equal.is_same_code.Goals as goal
 

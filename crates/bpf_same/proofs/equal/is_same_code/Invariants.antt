@@ -1,5 +1,4 @@
-use Rattle.std.proofs.Common.{◌≡◌, ◌<◌, ℕ, Some, slice_get}
-use Rattle.bpf_insn.specs.declared.insn.Insn.{Insn}
+use Rattle.std.proofs.Common.{◌≡◌, ◌<◌, ℕ, slice_get}
 use Rattle.bpf_same.proofs.equal.is_same_code.Given as goal
 
 abbrev pub invariant-loop-at : goal.invariant-loop-at

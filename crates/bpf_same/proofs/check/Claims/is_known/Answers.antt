@@ -1,8 +1,6 @@
 use Rattle.std.proofs.Common.{rules, ◌≡◌, Some, length, refl}
 use Rattle.std.specs.Prelude.{slice_get}
-use Rattle.std.specs.Global.{Box}
 use Rattle.std.proofs.lemmas.Option.{slice_get_read}
-use Rattle.bpf_note.specs.Parts.{Noted}
 use Rattle.bpf_same.proofs.check.Claims.is_known.Goals as goal
 
 pub returns-then-slot-self : goal.returns-then-slot-self
