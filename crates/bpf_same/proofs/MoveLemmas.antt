@@ -1,5 +1,5 @@
 -- What an instruction does at another slot: the same, and the slot after it differs.
-use Rattle.std.proofs.Common.{ℕ, ◌+◌, ◌≡◌, refl, sym, ap, ◌∙◌, subst, ℤ, pos, negsuc, Option, None, Some, Bool, true, false, length}
+use Rattle.std.proofs.Common.{ℕ, ◌+◌, ◌≡◌, refl, ap, ◌∙◌, ℤ, pos, negsuc, Option, None, Some, Bool, true, false, length}
 use Rattle.std.specs.Prelude.{if◌then◌else◌, ◌==◌, slice_get}
 use Rattle.bpf_insn.specs.Register.{number}
 use Rattle.bpf_insn.specs.Size.{size_bytes}
@@ -18,7 +18,7 @@ use Rattle.bpf_note.specs.declared.op.Op.{Op}
 use Rattle.bpf_note.specs.declared.op.Op.TheVariants.{Load, Add}
 use Rattle.bpf_flow.specs.Step.{Outcome, Next, Loads, Adds, Exited, Fault, need, at_slot, with_number, is_frame, written, operand, first_operand, reached, loaded, load_from, store_to, add_to, map_at, key_in, value_or_null, called, looked_up, helped, exec, LeadsTo, taken}
 use Rattle.bpf_flow.specs.Graph.{next_slot}
-use Rattle.bpf_same.specs.Marked.{is_jump}
+use Rattle.bpf_same.specs.Followed.{is_jump}
 
 -- the outcome with another next slot
 abbrev pub shifted : ℕ → Outcome → Outcome
@@ -129,25 +129,3 @@ leads_shifted q (Exited x) (Some (Add m k j d v)) u h = h
 leads_shifted q Fault None u h = h
 leads_shifted q Fault (Some (Load m k j v)) u h = h
 leads_shifted q Fault (Some (Add m k j d v)) u h = h
-
--- where a shifted step leads
-pub shifted_slot : (q : ℕ) (o : Outcome) (label : Option Op) (u : State) → LeadsTo (shifted q o) label u → u.pc ≡ q
-shifted_slot q (Next t) None u h = ap (λ (t : State). t.pc) (sym h)
-shifted_slot q (Next t) (Some (Load m k j v)) u h = absurd h
-shifted_slot q (Next t) (Some (Add m k j d v)) u h = absurd h
-shifted_slot q (Loads m k j go) None u h = absurd h
-shifted_slot q (Loads m k j go) (Some (Load m' k' j' v)) u h = ap (λ (t : State). t.pc) (sym h.4)
-shifted_slot q (Loads m k j go) (Some (Add m' k' j' d v)) u h = absurd h
-shifted_slot q (Adds m k j d go) None u h = absurd h
-shifted_slot q (Adds m k j d go) (Some (Load m' k' j' v)) u h = absurd h
-shifted_slot q (Adds m k j d go) (Some (Add m' k' j' d' v)) u h = ap (λ (t : State). t.pc) (sym h.5)
-shifted_slot q (Exited x) None u h = absurd h
-shifted_slot q (Exited x) (Some (Load m k j v)) u h = absurd h
-shifted_slot q (Exited x) (Some (Add m k j d v)) u h = absurd h
-shifted_slot q Fault None u h = absurd h
-shifted_slot q Fault (Some (Load m k j v)) u h = absurd h
-shifted_slot q Fault (Some (Add m k j d v)) u h = absurd h
-
--- an instruction that is no jump leads to the slot behind it
-pub leads_behind : (i : Insn) (s u : State) (label : Option Op) → is_jump i ≡ false → LeadsTo (exec i s) label u → u.pc ≡ next_slot i s.pc
-leads_behind i s u label e h = shifted_slot (next_slot i s.pc) (exec i s) label u (subst (λ (o : Outcome). LeadsTo o label u) (moved i s s.pc e) h)

@@ -1,80 +1,83 @@
-//! Whether marks fit both programs, each slot by itself.
-ghost use Rattle.std.specs.Prelude.{◌≡◌, ◌<◌, ◌≤◌, ℕ, List, Some, length, slice_get, IsTrue, IfSome};
-ghost use Rattle.bpf_insn.specs.declared.insn.Insn.TheVariants.{Jump};
-ghost use Rattle.bpf_note.specs.Shape.{Shape};
-ghost use Rattle.bpf_vm.specs.Running.{Above};
-ghost use Rattle.bpf_same.specs.Same.{IsSame};
-ghost use Rattle.bpf_same.specs.Known.{known, left_by};
-ghost use Rattle.bpf_same.specs.Marked.{mark_at, passed_by, passed_at, way_of, is_jump, Passes, Meets, MeetsAt, FollowsPlain, FollowsOwn, FollowsJump, Follows, AreMarks};
+//! Whether what is claimed of each slot holds, each by itself.
+ghost use Rattle.std.specs.Prelude.{◌≡◌, ◌<◌, ◌≤◌, ◌⊎◌, ℕ, List, Some, length, slice_get, IsTrue, IfOk, IfSome, not};
+ghost use Rattle.std.specs.Global.{Box};
+ghost use Rattle.bpf_note.specs.Describes.{Describes};
+ghost use Rattle.bpf_note.specs.Facts.{entry};
+ghost use Rattle.bpf_note.specs.Parts.{Noted, facts};
+ghost use Rattle.bpf_note.specs.State.{State};
+ghost use Rattle.bpf_flow.specs.Gives.{edges_of};
+ghost use Rattle.bpf_flow.specs.Rule.{IsRuled};
+ghost use Rattle.bpf_same.specs.Decided.{IsDecided};
+ghost use Rattle.bpf_same.specs.Followed.{IsKnown, Passes, Meets, MeetsAt, FollowsOne, Goes, GoesBoth, Targets, FollowsTwo, IsSplit, Follows, IsPassed, IsClaimed, AreClaims};
 
-use crate::constants::{NOTHING, are_among, constant, constant_operand, constants_behind};
-use crate::equal::{are_operands, is_same_insn};
-use crate::mark::{Constants, Mark};
-use bpf_flow::{jump_target, next_slot};
-use bpf_insn::{Condition, Insn, Operand, Register, holds};
+use crate::decide::decided;
+use crate::equal::{is_but_for_offset, is_same_insn};
+use crate::mark::Place;
+use bpf_flow::{Successor, Successors, after, jump_target, next_slot};
+use bpf_insn::Insn;
+use bpf_note::{MapShape, Note, covers};
+use std::alloc::{AllocError, Global};
 
-/// How many jumps the old program is followed over.
-const MOST_JUMPS: u32 = 5000;
+/// How many jumps the old program is followed over, one after the other.
+const MOST_JUMPS: u32 = 256;
 
-/// The mark of a slot.
-fn mark_of(marks: &[Option<Mark>], slot: u32) -> Option<Mark>
-    ensures { result ≡ mark_at marks.now slot }
-{
-    if (slot as usize) < marks.len() {
-        marks[slot as usize]
-    } else {
-        None
-    }
-}
-
-fn way(
-    cond: Condition,
-    wide: bool,
-    a: Option<u64>,
-    b: Option<u64>,
-    at: u32,
-    off: i16,
-) -> Option<u32>
-    requires { at < 4096 }
-    ensures { result ≡ way_of cond wide a b at off }
-{
-    match a {
-        Some(a) => match b {
-            Some(b) => {
-                if holds(cond, wide, a, b) {
-                    jump_target(at, i32::from(off))
-                } else {
-                    Some(at + 1)
-                }
-            }
-            None => None,
-        },
-        None => None,
-    }
+/// What is claimed: of each slot of the new program where the old one stands, and notes of which one describes the state.
+#[derive(Clone, Copy, Drop)]
+pub(crate) struct Claims<'a> {
+    pub(crate) old: &'a [Insn],
+    pub(crate) places: &'a [Place],
+    pub(crate) notes: &'a [Vec<Box<Note>>],
 }
 
 /// Where a jump leads, if that is known.
-fn passed(insn: Insn, constants: &Constants, at: u32) -> Option<u32>
+fn passed(insn: Insn, note: &Note, at: u32) -> Option<u32>
     requires { at < 4096 }
-    ensures { result ≡ passed_by insn constants.now at }
+    ensures { IfSome result (IsPassed insn (facts note.now) at) }
 {
     match insn {
         Insn::Ja { to, .. } => jump_target(at, to),
-        Insn::Jump {
-            cond,
-            wide,
-            dst,
-            src,
-            off,
-        } => way(
-            cond,
-            wide,
-            constant(constants, dst),
-            constant_operand(constants, src),
-            at,
-            off,
-        ),
+        Insn::Jump { off, .. } => match decided(insn, note) {
+            Some(true) => jump_target(at, i32::from(off)),
+            Some(false) => Some(at + 1),
+            None => None,
+        },
         _ => None,
+    }
+}
+
+/// Whether the rule of the verifier may be asked about an instruction.
+pub(crate) fn is_ruled(insn: Insn, pc: u32, maps: usize) -> bool
+    requires { pc < 4096 }
+    ensures { IsTrue result → IsRuled insn pc maps }
+{
+    match insn {
+        Insn::Ja { to, .. } => jump_target(pc, to).is_some(),
+        Insn::Jump { off, .. } => jump_target(pc, i32::from(off)).is_some(),
+        Insn::MapRef { m, .. } => (m as usize) < maps,
+        Insn::Second => false,
+        _ => true,
+    }
+}
+
+/// Whether one of the notes covers another one.
+fn is_covered(notes: &[Box<Note>], note: &Note) -> bool
+    ensures { IsTrue result → (s : State) → Describes (facts note.now) s → (k : ℕ) × (b : Box Noted) × (slice_get notes.now k ≡ Some b) × Describes (facts b.value) s }
+{
+    for k in 0..notes.len() {
+        if covers(&notes[k], note) {
+            return true;
+        }
+    }
+    false
+}
+
+fn place_at(places: &[Place], at: u32) -> Option<Place>
+    ensures { result ≡ slice_get places.now at }
+{
+    if (at as usize) < places.len() {
+        Some(places[at as usize])
+    } else {
+        None
     }
 }
 
@@ -88,241 +91,290 @@ fn insn_at(code: &[Insn], at: u32) -> Option<Insn>
     }
 }
 
-/// Where the old program goes on from a slot without any effect.
-fn passed_from(old: &[Insn], constants: &Constants, at: u32) -> Option<u32>
-    requires { length old.now ≤ 4096 }
-    ensures { result ≡ passed_at (slice_get old.now at) constants.now at }
-{
-    if (at as usize) < old.len() {
-        passed(old[at as usize], constants, at)
-    } else {
-        None
-    }
-}
-
-/// Whether jumps whose ways are known lead from a slot to another one.
-fn passes(old: &[Insn], constants: &Constants, from: u32, to: u32) -> bool
-    requires { length old.now ≤ 4096 }
-    ensures { IsTrue result → Passes old.now constants.now from to }
-{
-    let mut at = from;
-    for _turn in 0..MOST_JUMPS {
-        if at == to {
-            return true;
-        }
-        match passed_from(old, constants, at) {
-            Some(next) => at = next,
-            None => return false,
-        }
-    }
-    false
-}
-
-/// Whether the old program, from a slot on, meets what is marked at a slot of the new one.
-fn meets(old: &[Insn], marks: &[Option<Mark>], constants: &Constants, from: u32, slot: u32) -> bool
-    requires { length old.now ≤ 4096 }
-    ensures { IsTrue result → Meets old.now marks.now constants.now from slot }
-{
-    match mark_of(marks, slot) {
-        Some(mark) => {
-            passes(old, constants, from, mark.at) && are_among(&mark.constants, constants)
-        }
-        None => false,
-    }
-}
-
-fn meets_at(
-    old: &[Insn],
-    marks: &[Option<Mark>],
-    constants: &Constants,
-    from: Option<u32>,
-    slot: Option<u32>,
-) -> bool
-    requires { length old.now ≤ 4096 }
-    ensures { IsTrue result → MeetsAt old.now marks.now constants.now from slot }
-{
-    match slot {
-        Some(slot) => match from {
-            Some(from) => meets(old, marks, constants, from, slot),
-            None => false,
-        },
-        None => true,
-    }
-}
-
 /// Whether this instruction stands at a slot.
 fn is_at(code: &[Insn], at: u32, insn: Insn) -> bool
     ensures { IsTrue result → slice_get code.now at ≡ Some insn }
 {
-    match insn_at(code, at) {
-        Some(there) => is_same_insn(there, insn),
+    (at as usize) < code.len() && is_same_insn(code[at as usize], insn)
+}
+
+/// Whether a conditional jump is known to go the other way.
+fn is_other(insn: Insn, note: &Note, way: bool) -> bool
+    ensures { IsTrue result → IsDecided insn (facts note.now) (not way) }
+{
+    match decided(insn, note) {
+        Some(is_taken) => is_taken != way,
         None => false,
     }
 }
 
-/// Whether the old program has an instruction that is no jump, and meets what follows it.
-fn follows_plain(old: &[Insn], marks: &[Option<Mark>], mark: &Mark, insn: Insn, pc: u32) -> bool
-    requires short { length old.now ≤ 4096 }
-    requires inside { pc < 4096 }
-    ensures { IsTrue result → FollowsPlain old.now marks.now mark.now insn pc }
+/// Where a jump of the old program leads, if it is this one but for its offset.
+fn targets(there: Insn, at: u32, insn: Insn) -> Option<Option<u32>>
+    requires { at < 4096 }
+    ensures { IfSome result (Targets (Some there) at insn) }
 {
-    if mark.at >= 4096 || !is_at(old, mark.at, insn) {
-        return false;
-    }
-    let constants = constants_behind(insn, &mark.constants);
-    if matches!(insn, Insn::Exit) {
-        return true;
-    }
-    meets(
-        old,
-        marks,
-        &constants,
-        next_slot(insn, mark.at),
-        next_slot(insn, pc),
-    )
-}
-
-/// Whether the old program stays where it is on both ways of a conditional jump.
-fn follows_own(old: &[Insn], marks: &[Option<Mark>], mark: &Mark, pc: u32, off: i16) -> bool
-    requires short { length old.now ≤ 4096 }
-    requires inside { pc < 4096 }
-    ensures { IsTrue result → FollowsOwn old.now marks.now mark.now pc off }
-{
-    meets(old, marks, &mark.constants, mark.at, pc + 1)
-        && meets_at(
-            old,
-            marks,
-            &mark.constants,
-            Some(mark.at),
-            jump_target(pc, i32::from(off)),
-        )
-}
-
-/// The offset of the old program's jump at a slot, if it is this one but for the offset.
-fn other_offset(
-    old: &[Insn],
-    at: u32,
-    cond: Condition,
-    wide: bool,
-    dst: Register,
-    src: Operand,
-) -> Option<i16>
-    ensures { IfSome result (λ off. slice_get old.now at ≡ Some (Jump cond wide dst src off)) }
-{
-    match insn_at(old, at) {
-        Some(
-            Insn::Jump {
-                cond: c,
-                wide: w,
-                dst: d,
-                src: s,
-                off,
-            },
-        ) => {
-            if c != cond || w != wide {
-                return None;
-            }
-            if are_operands(d, dst, s, src) {
-                Some(off)
-            } else {
-                None
-            }
-        }
-        _ => None,
-    }
-}
-
-/// Whether both programs have a conditional jump, and on both ways the old one meets what follows.
-fn follows_jump(
-    old: &[Insn],
-    marks: &[Option<Mark>],
-    mark: &Mark,
-    cond: Condition,
-    wide: bool,
-    dst: Register,
-    src: Operand,
-    pc: u32,
-    off: i16,
-) -> bool
-    requires short { length old.now ≤ 4096 }
-    requires inside { pc < 4096 }
-    ensures { IsTrue result → FollowsJump old.now marks.now mark.now cond wide dst src pc off }
-{
-    if mark.at >= 4096 {
-        return false;
-    }
-    match other_offset(old, mark.at, cond, wide, dst, src) {
-        Some(other) => {
-            meets(old, marks, &mark.constants, mark.at + 1, pc + 1)
-                && meets_at(
-                    old,
-                    marks,
-                    &mark.constants,
-                    jump_target(mark.at, i32::from(other)),
-                    jump_target(pc, i32::from(off)),
-                )
-        }
-        None => false,
-    }
-}
-
-/// Whether the old program follows the new one's instruction at a slot.
-fn follows(old: &[Insn], marks: &[Option<Mark>], mark: &Mark, insn: Insn, pc: u32) -> bool
-    requires short { length old.now ≤ 4096 }
-    requires inside { pc < 4096 }
-    ensures { IsTrue result → Follows old.now marks.now mark.now insn pc }
-{
-    match insn {
-        Insn::Ja { to, .. } => {
-            meets_at(
-                old,
-                marks,
-                &mark.constants,
-                Some(mark.at),
-                jump_target(pc, to),
-            )
-        }
+    match there {
         Insn::Jump {
             cond,
             wide,
             dst,
             src,
             off,
-        } => {
-            if mark.own {
-                follows_own(old, marks, mark, pc, off)
-            } else {
-                follows_jump(old, marks, mark, cond, wide, dst, src, pc, off)
-            }
-        }
-        _ => follows_plain(old, marks, mark, insn, pc),
+        } => is_but_for_offset(insn, cond, wide, dst, src).then_some(jump_target(
+            at,
+            i32::from(off),
+        )),
+        _ => None,
     }
 }
 
-/// Whether the marks fit both programs.
-pub(crate) fn are_marks(old: &[Insn], new: &[Insn], marks: &[Option<Mark>]) -> bool
-    requires short { length old.now ≤ 4096 }
-    requires few { length new.now ≤ 4096 }
-    ensures { IsTrue result → AreMarks old.now new.now marks.now }
+fn is_exit(insn: Insn) -> bool
+    ensures { IsTrue result → insn ≡ Insn.Exit }
 {
-    if !meets(old, marks, &NOTHING, 0, 0) {
-        return false;
+    matches!(insn, Insn::Exit)
+}
+
+/// Whether an instruction is a conditional jump that leads to these two slots.
+fn is_split(insn: Insn, pc: u32, next: u32, taken: u32) -> bool
+    requires { pc < 4096 }
+    ensures { IsTrue result → IsSplit insn pc next taken }
+{
+    match insn {
+        Insn::Jump { off, .. } => {
+            next == pc + 1 && next != taken && jump_target(pc, i32::from(off)) == Some(taken)
+        }
+        _ => false,
     }
-    for pc in 0..new.len() as u32 {
-        if let Some(mark) = mark_of(marks, pc) {
-            if !follows(old, marks, &mark, new[pc as usize], pc) {
+}
+
+impl Claims<'_> {
+    /// Where the old program goes on from a slot without any effect.
+    fn passed_from(&self, note: &Note, at: u32) -> Option<u32>
+        requires { length self.now.old.now ≤ 4096 }
+        ensures { IfSome result (λ q. (i : Insn) × (slice_get self.now.old.now at ≡ Some i) × IsPassed i (facts note.now) at q) }
+    {
+        if (at as usize) < self.old.len() {
+            passed(self.old[at as usize], note, at)
+        } else {
+            None
+        }
+    }
+
+    /// Whether jumps whose ways are known lead the old program from a slot to another one.
+    fn passes(&self, note: &Note, from: u32, to: u32) -> bool
+        requires { length self.now.old.now ≤ 4096 }
+        ensures { IsTrue result → Passes self.now.old.now (facts note.now) from to }
+    {
+        let mut at = from;
+        for _turn in 0..MOST_JUMPS {
+            if at == to {
+                return true;
+            }
+            match self.passed_from(note, at) {
+                Some(next) => at = next,
+                None => return false,
+            }
+        }
+        false
+    }
+
+    /// Whether one of the notes at a slot describes what this note describes.
+    fn is_known(&self, slot: u32, note: &Note) -> bool
+        ensures { IsTrue result → (s : State) → Describes (facts note.now) s → IsKnown self.now.notes.now slot s }
+    {
+        (slot as usize) < self.notes.len() && is_covered(self.notes[slot as usize].as_slice(), note)
+    }
+
+    /// Whether the old program, from a slot on, meets what is claimed of a slot of the new one.
+    fn meets_from(&self, from: u32, slot: u32, note: &Note) -> bool
+        requires { length self.now.old.now ≤ 4096 }
+        ensures { IsTrue result → Meets self.now.old.now self.now.places.now self.now.notes.now (facts note.now) from slot }
+    {
+        (slot as usize) < self.places.len()
+            && self.passes(note, from, self.places[slot as usize].at)
+            && self.is_known(slot, note)
+    }
+
+    fn meets(&self, from: Option<u32>, there: &Successor) -> bool
+        requires { length self.now.old.now ≤ 4096 }
+        ensures { IsTrue result → MeetsAt self.now.old.now self.now.places.now self.now.notes.now (facts there.now.note.value) from there.now.pc }
+    {
+        match from {
+            Some(from) => self.meets_from(from, there.pc, &there.note),
+            None => false,
+        }
+    }
+
+    /// Whether a way isn't taken, or leads to what the old program meets.
+    fn goes(&self, insn: Insn, note: &Note, way: bool, from: Option<u32>, there: &Successor) -> bool
+        requires { length self.now.old.now ≤ 4096 }
+        ensures { IsTrue result → Goes self.now.old.now self.now.places.now self.now.notes.now insn (facts note.now) (not way) from
+            (facts there.now.note.value) there.now.pc }
+    {
+        is_other(insn, note, way) || self.meets(from, there)
+    }
+
+    /// Whether the old program follows a conditional jump, whose ways it goes from these slots.
+    fn goes_both(
+        &self,
+        insn: Insn,
+        note: &Note,
+        from: Option<u32>,
+        target: Option<u32>,
+        next: &Successor,
+        taken: &Successor,
+    ) -> bool
+        requires { length self.now.old.now ≤ 4096 }
+        ensures { IsTrue result → GoesBoth self.now.old.now self.now.places.now self.now.notes.now insn (facts note.now) from target
+            (facts next.now.note.value) next.now.pc (facts taken.now.note.value) taken.now.pc }
+    {
+        self.goes(insn, note, false, from, next) && self.goes(insn, note, true, target, taken)
+    }
+
+    fn follows_two(
+        &self,
+        place: Place,
+        insn: Insn,
+        note: &Note,
+        next: &Successor,
+        taken: &Successor,
+    ) -> bool
+        requires { length self.now.old.now ≤ 4096 }
+        ensures { IsTrue result → FollowsTwo self.now.old.now self.now.places.now self.now.notes.now place.own place.at insn (facts note.now)
+            (facts next.now.note.value) next.now.pc (facts taken.now.note.value) taken.now.pc }
+    {
+        let at = place.at;
+        if place.own {
+            return self.goes_both(insn, note, Some(at), Some(at), next, taken);
+        }
+        if at as usize >= self.old.len() {
+            return false;
+        }
+        match targets(self.old[at as usize], at, insn) {
+            Some(target) => self.goes_both(insn, note, Some(at + 1), target, next, taken),
+            None => false,
+        }
+    }
+
+    /// Whether the old program follows an instruction that leads to one slot.
+    fn follows_one(&self, at: u32, insn: Insn, there: &Successor) -> bool
+        requires { length self.now.old.now ≤ 4096 }
+        ensures { IsTrue result → FollowsOne self.now.old.now self.now.places.now self.now.notes.now at insn (facts there.now.note.value) there.now.pc }
+    {
+        match insn {
+            Insn::Ja { .. } => self.meets_from(at, there.pc, &there.note),
+            Insn::Jump { .. } => false,
+            _ => {
+                is_at(self.old, at, insn)
+                    && at < 4096
+                    && self.meets_from(next_slot(insn, at), there.pc, &there.note)
+            }
+        }
+    }
+
+    /// Whether the old program follows an instruction.
+    fn follows(
+        &self,
+        alloc: Global,
+        place: Place,
+        insn: Insn,
+        note: &Note,
+        pc: u32,
+        shapes: &[MapShape],
+    ) -> bool
+        requires short { length self.now.old.now ≤ 4096 }
+        requires inside { pc < 4096 }
+        ensures { IsTrue result → Follows self.now.old.now self.now.places.now self.now.notes.now shapes.now place.at insn (facts note.now) pc }
+    {
+        if !is_ruled(insn, pc, shapes.len()) {
+            return false;
+        }
+        match after(alloc, &insn, pc, note, shapes) {
+            Ok(Successors::None) => is_exit(insn) && is_at(self.old, place.at, insn),
+            Ok(Successors::One(there)) => self.follows_one(place.at, insn, &there),
+            Ok(Successors::Two(next, taken)) => {
+                if is_split(insn, pc, next.pc, taken.pc) {
+                    self.follows_two(place, insn, note, &next, &taken)
+                } else {
+                    false
+                }
+            }
+            Err(_) => false,
+        }
+    }
+
+    /// Whether the old program follows an instruction, whichever of the notes at its slot describes the state.
+    fn follows_each(
+        &self,
+        alloc: Global,
+        place: Place,
+        insn: Insn,
+        notes: &[Box<Note>],
+        pc: u32,
+        shapes: &[MapShape],
+    ) -> bool
+        requires short { length self.now.old.now ≤ 4096 }
+        requires inside { pc < 4096 }
+        ensures { IsTrue result → (k : ℕ) (b : Box Noted) → slice_get notes.now k ≡ Some b →
+            Follows self.now.old.now self.now.places.now self.now.notes.now shapes.now place.at insn (facts b.value) pc }
+    {
+        for k in 0..notes.len() {
+            if !self.follows(alloc, place, insn, &notes[k], pc, shapes) {
                 return false;
             }
         }
+        true
     }
-    true
-}
 
-/// Whether the marks fit, and so the new program has the old one's runs.
-pub(crate) fn show(old: &[Insn], new: &[Insn], marks: &[Option<Mark>]) -> bool
-    requires short { length old.now ≤ 4096 }
-    requires few { length new.now ≤ 4096 }
-    ensures { IsTrue result → (shapes : List Shape) → IsSame shapes old.now new.now }
-{
-    are_marks(old, new, marks)
+    /// Whether what is claimed of a slot holds.
+    fn is_claimed(&self, alloc: Global, new: &[Insn], pc: u32, shapes: &[MapShape]) -> bool
+        requires short { length self.now.old.now ≤ 4096 }
+        requires inside { pc < length new.now }
+        requires few { length new.now ≤ 4096 }
+        ensures { IsTrue result → IsClaimed self.now.old.now new.now self.now.places.now self.now.notes.now shapes.now pc }
+    {
+        match place_at(self.places, pc) {
+            Some(place) => match insn_at(new, pc) {
+                Some(insn) => {
+                    (pc as usize) < self.notes.len()
+                        && self.follows_each(
+                            alloc,
+                            place,
+                            insn,
+                            self.notes[pc as usize].as_slice(),
+                            pc,
+                            shapes,
+                        )
+                }
+                None => false,
+            },
+            None => false,
+        }
+    }
+
+    /// Whether the old program, from its first slot on, meets what is claimed of the new one's first slot.
+    fn begins(&self, alloc: Global) -> bool
+        requires { length self.now.old.now ≤ 4096 }
+        ensures { IsTrue result → Meets self.now.old.now self.now.places.now self.now.notes.now entry 0 0 }
+    {
+        let note = Note::entry(alloc);
+        self.meets_from(0, 0, &note)
+    }
+
+    /// Whether what is claimed holds.
+    pub(crate) fn hold(&self, alloc: Global, new: &[Insn], shapes: &[MapShape]) -> bool
+        requires short { length self.now.old.now ≤ 4096 }
+        requires few { length new.now ≤ 4096 }
+        ensures { IsTrue result → AreClaims self.now.old.now new.now self.now.places.now self.now.notes.now shapes.now }
+    {
+        if !self.begins(alloc) {
+            return false;
+        }
+        for pc in 0..new.len() as u32 {
+            if !self.is_claimed(alloc, new, pc, shapes) {
+                return false;
+            }
+        }
+        true
+    }
 }

@@ -1,13 +1,14 @@
 //! Whether an accepted program has the runs of another one, which need not be accepted.
 //!
 //! - `same`: the comparison
-//! - `mark`: what is claimed of a slot; `constants`: constants in registers
-//! - `find`: claims; `check`: whether they hold; `equal`: whether two instructions are one
+//! - `mark`: where the old program stands before a slot of the new one
+//! - `find`: what is known at each slot; `check`: whether that and the places show the runs to be the same
+//! - `decide`: what decides a conditional jump; `equal`: whether two instructions are one
 //! - `laws`: what holds of programs with the same runs
 #![tactic(auto)]
 
 mod check;
-mod constants;
+mod decide;
 mod equal;
 mod find;
 mod laws;

@@ -1,13 +1,15 @@
 //! Whether an accepted program has the runs of another one.
-ghost use Rattle.std.specs.Prelude.{◌≡◌, IfOk};
+ghost use Rattle.std.specs.Prelude.{◌≡◌, ◌≤◌, length, IfOk, IsTrue};
 ghost use Rattle.bpf_verify.specs.Consistent.{IsConsistent};
 ghost use Rattle.bpf_same.specs.Same.{IsSame};
 
-use crate::check::show;
-use crate::find::marks_of;
+use crate::check::Claims;
+use crate::equal::is_same_code;
+use crate::find::notes_of;
 use crate::laws::same_both_ways;
 use crate::mark::Place;
-use bpf_insn::Code;
+use bpf_insn::{Code, Insn};
+use bpf_note::{MapShape, the_entry_describes_every_start};
 use bpf_verify::Verified;
 use std::alloc::{AllocError, Global};
 
@@ -18,6 +20,32 @@ pub enum Comparison {
     Same,
     /// Nothing: they may have the same runs or not.
     NotShown,
+}
+
+/// Whether the programs are one, or what is known of the new one and the places show that it has the old one's runs.
+fn is_shown(
+    alloc: Global,
+    new: &[Insn],
+    shapes: &[MapShape],
+    old: &[Insn],
+    places: &[Place],
+) -> Result<bool, AllocError>
+    requires short { length old.now ≤ 4096 }
+    requires few { length new.now ≤ 4096 }
+    ensures shown { IfOk result (λ yes. IsTrue yes → IsSame shapes.now old.now new.now) }
+    ensures itself { IfOk result (λ yes. new.now ≡ old.now → IsTrue yes) }
+{
+    if is_same_code(new, old) {
+        return Ok(true);
+    }
+    the_entry_describes_every_start();
+    let notes = notes_of(alloc, new, shapes)?;
+    let claims = Claims {
+        old,
+        places,
+        notes: notes.as_slice(),
+    };
+    Ok(claims.hold(alloc, new, shapes))
 }
 
 /// Compares an accepted program with one that it was made of. The old program need not be accepted, and may loop. A place says
@@ -32,11 +60,12 @@ pub fn compare(
     ensures same { IfOk result (λ c. c ≡ Comparison.Same → IsSame new.now.shapes old.now new.now.code) }
     // Each run of the old program is one of the new.
     ensures whole { IfOk result (λ c. c ≡ Comparison.Same → IsSame new.now.shapes new.now.code old.now) }
+    // A program is the same as itself, whatever the places.
+    ensures itself { IfOk result (λ c. new.now.code ≡ old.now → c ≡ Comparison.Same) }
     ensures accepted { IsConsistent new.now }
 {
-    let marks = marks_of(alloc, new.insns(), places)?;
     same_both_ways();
-    if show(old.insns(), new.insns(), marks.as_slice()) {
+    if is_shown(alloc, new.insns(), new.shapes(), old.insns(), places)? {
         Ok(Comparison::Same)
     } else {
         Ok(Comparison::NotShown)

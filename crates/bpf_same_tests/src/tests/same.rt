@@ -93,3 +93,81 @@ const ENDLESS: Pair = Pair {
 fn an_endless_program_ends_in_an_answer(rt: HostRuntime) {
     assert_eq!(rt; compared(rt.alloc(), &ENDLESS), Some(Comparison::NotShown));
 }
+
+/// A program beside itself needs no places.
+#[test]
+fn a_program_is_the_same_as_itself(rt: HostRuntime) {
+    let itself = Pair {
+        old: OWN_TEST.new,
+        places: "",
+        ..OWN_TEST
+    };
+    assert_eq!(rt; compared(rt.alloc(), &itself), Some(Comparison::Same));
+}
+
+/// A jump that the range of a number decides.
+const RANGE_DECIDES: Pair = Pair {
+    old: &[
+        "61100c0000000000",
+        "5700000007000000",
+        "2500010007000000",
+        "9500000000000000",
+        "b700000000000000",
+        "9500000000000000",
+    ],
+    new: &["61100c0000000000", "5700000007000000", "9500000000000000"],
+    maps: 0,
+    places: "c0 c1 c3",
+};
+
+#[test]
+fn a_range_decides_a_jump(rt: HostRuntime) {
+    let wider = Pair {
+        old: &[
+            "61100c0000000000",
+            "5700000007000000",
+            "2500010006000000",
+            "9500000000000000",
+            "b700000000000000",
+            "9500000000000000",
+        ],
+        ..RANGE_DECIDES
+    };
+    assert_eq!(rt;
+        compared(rt.alloc(), &RANGE_DECIDES),
+        Some(Comparison::Same)
+    );
+    assert_eq!(rt; compared(rt.alloc(), &wider), Some(Comparison::NotShown));
+}
+
+/// A test of the new program's own, of which one way is never taken: what stands there stands nowhere in the old program.
+const RULED_OUT: Pair = Pair {
+    old: &["61100c0000000000", "5700000007000000", "9500000000000000"],
+    new: &[
+        "61100c0000000000",
+        "5700000007000000",
+        "2500010007000000",
+        "9500000000000000",
+        "b700000000000000",
+        "9500000000000000",
+    ],
+    maps: 0,
+    places: "c0 c1 o2 c2 o0 o0",
+};
+
+#[test]
+fn a_way_is_ruled_out(rt: HostRuntime) {
+    let taken = Pair {
+        new: &[
+            "61100c0000000000",
+            "5700000007000000",
+            "2500010006000000",
+            "9500000000000000",
+            "b700000000000000",
+            "9500000000000000",
+        ],
+        ..RULED_OUT
+    };
+    assert_eq!(rt; compared(rt.alloc(), &RULED_OUT), Some(Comparison::Same));
+    assert_eq!(rt; compared(rt.alloc(), &taken), Some(Comparison::NotShown));
+}

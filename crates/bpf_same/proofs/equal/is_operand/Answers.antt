@@ -4,6 +4,6 @@ use Rattle.bpf_same.proofs.EqualLemmas.{operands_equal}
 use Rattle.bpf_same.proofs.equal.is_operand.Goals as goal
 
 pub returns : goal.returns
-returns c = λ t.
+returns c =
     let h : c.eq.result ≡ operand_eq.eq-value.it c.args.a c.args.b = c.eq.ensures in
-    (operands_equal c.args.a c.args.b).0 (sym h ∙ t)
+    (λ t. (operands_equal c.args.a c.args.b).0 (sym h ∙ t), λ e. h ∙ (operands_equal c.args.a c.args.b).1 e)

@@ -1,0 +1,86 @@
+//! What decides a conditional jump.
+ghost use Rattle.std.specs.Prelude.{◌≡◌, ◌≤◌, ◌<◌, ◌^◌, ℕ, IfSome};
+ghost use Rattle.bpf_note.specs.Parts.{facts};
+ghost use Rattle.bpf_flow.specs.Alu.{operand_value};
+ghost use Rattle.bpf_insn.specs.Conditions.{is_met};
+ghost use Rattle.bpf_same.specs.Decided.{IsBetween, IsDecided};
+
+use bpf_insn::{Condition, Insn, Operand, holds};
+use bpf_note::{Note, Val};
+
+/// The value of an operand.
+fn value_of(note: &Note, operand: Operand) -> Val
+    ensures { result ≡ operand_value (facts note.now) operand }
+{
+    match operand {
+        Operand::Register(register) => note.register(register.number()),
+        Operand::Immediate(value) => {
+            let value = i64::from(value).cast_unsigned();
+            Val::Num {
+                lo: value,
+                hi: value,
+            }
+        }
+    }
+}
+
+/// Whether a condition holds between each number of one range and each of another one, where that is the same for all.
+fn between_ranges(cond: Condition, lo: u64, hi: u64, low: u64, high: u64) -> Option<bool>
+    ensures { IfSome result (IsBetween cond lo hi low high) }
+{
+    match cond {
+        Condition::Equal if hi < low || high < lo => Some(false),
+        Condition::NotEqual if hi < low || high < lo => Some(true),
+        Condition::Greater if high < lo => Some(true),
+        Condition::Greater if hi <= low => Some(false),
+        Condition::GreaterOrEqual if high <= lo => Some(true),
+        Condition::GreaterOrEqual if hi < low => Some(false),
+        Condition::Less if hi < low => Some(true),
+        Condition::Less if high <= lo => Some(false),
+        Condition::LessOrEqual if hi <= low => Some(true),
+        Condition::LessOrEqual if high < lo => Some(false),
+        _ => None,
+    }
+}
+
+/// The same between two numbers that are known, or two ranges.
+fn between_numbers(
+    cond: Condition,
+    wide: bool,
+    lo: u64,
+    hi: u64,
+    low: u64,
+    high: u64,
+) -> Option<bool>
+    ensures { IfSome result (λ b. (x y : ℕ) → lo ≤ x → x ≤ hi → low ≤ y → y ≤ high → x < 2 ^ 64 → y < 2 ^ 64 → is_met cond wide x y ≡ b) }
+{
+    if lo == hi && low == high {
+        Some(holds(cond, wide, lo, low))
+    } else if wide {
+        between_ranges(cond, lo, hi, low, high)
+    } else {
+        None
+    }
+}
+
+/// Whether a conditional jump is taken, where what is known decides it.
+pub(crate) fn decided(insn: Insn, note: &Note) -> Option<bool>
+    ensures { IfSome result (IsDecided insn (facts note.now)) }
+{
+    match insn {
+        Insn::Jump {
+            cond,
+            wide,
+            dst,
+            src,
+            ..
+        } => match note.register(dst.number()) {
+            Val::Num { lo, hi } => match value_of(note, src) {
+                Val::Num { lo: low, hi: high } => between_numbers(cond, wide, lo, hi, low, high),
+                _ => None,
+            },
+            _ => None,
+        },
+        _ => None,
+    }
+}
