@@ -42,14 +42,22 @@ impl Packets {
 
     /// The bytes in the first slot's page: the headers alone where a packet has more slots than pages.
     fn head(self) -> usize {
-        if self.slots > pages_of(self.size) { HEADERS } else { PAGE }
+        if self.slots > pages_of(self.size) {
+            HEADERS
+        } else {
+            PAGE
+        }
     }
 
     /// The size that a slot names: the first one the packet's, and each other one its own, equal shares of what is left.
     pub fn size_in(self, slot: u32) -> usize {
         let rest = self.size.saturating_sub(self.head());
         let later = self.slots.saturating_sub(1);
-        let share = if self.head() == PAGE { PAGE } else { rest / later.max(1) as usize };
+        let share = if self.head() == PAGE {
+            PAGE
+        } else {
+            rest / later.max(1) as usize
+        };
         match slot {
             0 => self.size,
             _ if slot < later => share,

@@ -84,7 +84,11 @@ fn put_packet<B: Bus>(bus: &mut B, index: u32, packets: Packets)
 {
     for slot in 0..packets.slots.min(MOST_SLOTS) {
         let at = HEADER + 3 * (index.wrapping_add(slot) % 256);
-        let more = if slot + 1 < packets.slots { MORE_DATA } else { 0 };
+        let more = if slot + 1 < packets.slots {
+            MORE_DATA
+        } else {
+            0
+        };
         let size = (packets.size_in(slot) % 0x1_0000) as u32;
         put(bus, TX, at, FIRST_PAGE + slot % PAGES);
         put(bus, TX, at + 1, more * 0x1_0000);

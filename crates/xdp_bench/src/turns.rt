@@ -98,7 +98,11 @@ fn time_over<B: Bus>(
     let ports = Ports::new();
     let mut nanoseconds = 0u64;
     let mut producer = 0u32;
-    let published = if packets.size == 0 { 0 } else { packets.batch() };
+    let published = if packets.size == 0 {
+        0
+    } else {
+        packets.batch()
+    };
     for _batch in 0..times {
         producer = publish(bus, producer, packets, published);
         let start = Instant::now(rt).map_err(|_| Fault::Clock)?;
