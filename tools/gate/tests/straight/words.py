@@ -4,7 +4,7 @@ import pathlib
 import subprocess
 import tempfile
 
-TOOLS = pathlib.Path(__file__).resolve().parents[2]
+TOOLS = pathlib.Path(__file__).resolve().parents[3]
 MAP = """struct {{
 	__uint(type, BPF_MAP_TYPE_{}); __uint(max_entries, {}); __type(key, {}); __type(value, {});
 }} {} SEC(".maps");
