@@ -10,6 +10,7 @@ judges the result, and `tools/same-program`, which shares no text with this pack
     graph         what follows what, what is live, what lies in a loop
     kinds         which stores surely don't go to the stack
     constants     which constants registers and stack slots have behind an instruction
+    counters      which numbers have to be told apart so that each loop ends
     copies        a slot together with its constants: loops become chains of copies
     addresses     what registers stand for, and where ways with different addresses meet
     memory        constants and globals, which there aren't in the result

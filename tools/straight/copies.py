@@ -82,8 +82,8 @@ def telling_numbers(code, numbers):
     if numbers == EVERYWHERE:
         return {slot: Telling(range(REGISTERS), None) for slot in code}
     if numbers == COUNTERS:
-        needed = counters(code)
-        return {slot: Telling(needed[slot], {place[1] for place in needed[slot] if place not in range(REGISTERS)}) for slot in code}
+        rows = counters(code).items()
+        return {slot: Telling(told, {row[1] for row in told if row not in range(REGISTERS)}) for slot, told in rows}
     near, steering = slots_that_reach(code, loops(code)), steering_registers(code)
     chosen = steering if numbers == STEERING else {slot: range(REGISTERS) for slot in code}
     return {slot: Telling(chosen[slot], None) if slot in near else Telling() for slot in code}

@@ -90,7 +90,7 @@ def stored(instruction, place):
 
 
 def strong_parts(code, slots):
-    """The parts of these slots in which each can be reached from each, of more than one slot or with a jump to itself."""
+    """The parts of these slots in which each can be reached from each, but for one slot without a jump to itself."""
     left, found = set(slots), []
     backwards = {slot: [] for slot in slots}
     for slot in slots:

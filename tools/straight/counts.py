@@ -76,8 +76,8 @@ def registers_that_count(code, load, store):
 
 
 class Difference(NamedTuple):
-    """Of a store to a counter that is no count: the counter, None where it is one of several, and the slots that load or store it before, of which one
-    is the last on a way. `told`: whether there are ways without one too."""
+    """Of a store to a counter that is no count: the counter, None where it is one of several, and the slots that load
+    or store it before, of which one is the last on a way. `told`: whether there are ways without one too."""
 
     counter: Optional[tuple]
     known: frozenset
@@ -92,7 +92,8 @@ def difference(code, store):
     kinds = before.get(store, {})
     counter = kinds.counter(code[store]) if kinds else None
     if counter is None:
-        return Difference(None, frozenset(), False) if kinds and kinds.get(code[store].base, ("",))[0] == VALUE else None
+        in_value = kinds and kinds.get(code[store].base, ("",))[0] == VALUE
+        return Difference(None, frozenset(), False) if in_value else None
     known, unknown, seen, todo, ways = set(), False, set(), [store], predecessors(code)
     while todo:
         for slot in ways[todo.pop()]:

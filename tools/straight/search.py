@@ -11,15 +11,14 @@ first program is that of the copies alone. Then, one mark per refusal:
                      is hidden that it is (`blurred`)
   V10                what the access reaches is compared with the packet's end anew (`guards`); where it still lies in
                      front of what was compared, its address is made anew first (`rebased`)
-  a loop             that nothing bounds but a masked number: a copy for each number (`cases`), or for each step up to
-  it
-                     (`trips`)
+  a loop             that nothing bounds but a masked number, or one that was compared with a constant: a copy for each
+                     number (`cases`), or for each step up to it (`trips`)
   V14 at a load      the whole counter is loaded, and the part cut out (`narrow`)
   V14 at a store     a load, an addition and a store become one atomic addition (`counts`); else the difference from
                      what was loaded is added, where the load stays (`differences`)
 
 No mark is taken back, so the search ends. It is made in several ways (`WAYS`): as few numbers told apart as loops
-need, all in loops, or all; a meeting marked as one copy or at all copies of its slot, or none, and each access
+need, their counters alone, all in loops, or all; a meeting marked as one copy or at all copies of its slot, or none, and each access
 rebased."""
 from dataclasses import dataclass, field
 
