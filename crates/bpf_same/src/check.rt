@@ -60,7 +60,7 @@ pub(crate) fn is_ruled(insn: Insn, pc: u32, maps: usize) -> bool
 }
 
 /// Whether one of the notes covers another one.
-fn is_covered(notes: &[Box<Note>], note: &Note) -> bool
+pub(crate) fn is_covered(notes: &[Box<Note>], note: &Note) -> bool
     ensures { IsTrue result → (s : State) → Describes (facts note.now) s → (k : ℕ) × (b : Box Noted) × (slice_get notes.now k ≡ Some b) × Describes (facts b.value) s }
 {
     for k in 0..notes.len() {
