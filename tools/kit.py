@@ -1,7 +1,7 @@
-"""What the tools take of the kit's own command: its words for a check, and a static library built over what is proved.
+"""What the tools take of the kit's own command: its words for a check, and what is built over what is proved.
 
-`tools/kit.py ROOT NAME` proves the static library NAME of the checkout ROOT over its libraries as `rt ci` left them there, which
-`rt lib` would prove again, and makes crates/NAME/out/libNAME.a."""
+`tools/kit.py ROOT NAME` proves the static library or the program NAME of the checkout ROOT over its libraries as `rt ci` left them there,
+which `rt lib` would prove again, and makes crates/NAME/out/libNAME.a, or the program's object, crates/NAME/out/NAME.o."""
 import importlib.machinery
 import importlib.util
 import os
@@ -47,17 +47,17 @@ def crates_over_kept(root, names):
     return {it.name: it for it in crates}
 
 
-def build_static(root, name):
-    """Proves and builds a static library; the status of that."""
+def build(root, name):
+    """Proves a static library or a program, and builds that or the object of this; the status of that."""
     rtlib = kit()
     rtlib.guarded()
     os.chdir(root)
     crate = {it.name: it for it in rtlib.crates_below(os.getcwd())}[name]
     os.makedirs(os.path.join(crate.folder, "out"), exist_ok=True)
     words = [rtlib.RATTLE, "build", *crate.words(["--jobs", "1"], keeps=False)]
-    words += ["--toolchain", f"{rtlib.KIT}/toolchain", "--backend", "llvm", "-o", f"out/lib{name}.a"]
+    words += ["--toolchain", f"{rtlib.KIT}/toolchain", "--backend", "llvm", "-o", f"out/lib{name}.a" if crate.is_static else f"out/{name}.o"]
     return subprocess.run([*rtlib.guarded(), *words], cwd=crate.folder, stdin=subprocess.DEVNULL, check=False).returncode
 
 
 if __name__ == "__main__":
-    sys.exit(build_static(sys.argv[1], sys.argv[2]))
+    sys.exit(build(sys.argv[1], sys.argv[2]))
