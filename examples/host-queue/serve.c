@@ -20,7 +20,7 @@ static void notify(void *host, uint32_t port) { send_event(host, port); }
 
 static void serve(void *host, struct laxonje_program *program, uint64_t *counters, size_t counter_count)
 {
-	const struct laxonje_io io = { host, page, notify, NULL }; /* NULL: or a function that is told each op, a trace */
+	const struct laxonje_io io = { host, page, notify, NULL }; /* NULL: or a function that gets each op, a trace */
 	struct laxonje_drive drive = { laxonje_queue_new(), TX, RX, counters, counter_count, { 0 } };
 	struct laxonje_op over;
 
