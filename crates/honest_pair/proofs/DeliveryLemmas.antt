@@ -17,13 +17,13 @@ use Rattle.xen_back.specs.declared.queue.Queue.{Queue}
 use Rattle.xen_back.specs.declared.state.State.{State}
 use Rattle.xen_back.specs.declared.wiring.Wiring.{Wiring}
 use Rattle.xen_front.specs.Fronts.{wiring_of as front_wiring}
-use Rattle.pair_machine.specs.Law.{IsByte}
-use Rattle.pair_machine.specs.Log.{back_asks, begun_at}
-use Rattle.pair_machine.specs.Memory.{Memory, after, answer}
-use Rattle.pair_machine.specs.Pair.{BackAt, Asleep, First, Second, Delivering, Waiting, BackStep, Deed, Deliver, OfTurn, OfDelivery, OfWait, Pair, Past, begin_delivery, delivering, on_back, on_deliver, rested, turns_of}
-use Rattle.pair_machine.proofs.Deeds.{turns_delivery}
-use Rattle.pair_machine.proofs.TraceLemmas.{back_follows, deliver_follows}
-use Rattle.pair_machine.specs.Traces.{BackIsAnswered}
+use Rattle.honest_machine.specs.Law.{IsByte}
+use Rattle.honest_machine.specs.Log.{back_asks, begun_at}
+use Rattle.honest_machine.specs.Memory.{Memory, after, answer}
+use Rattle.honest_machine.specs.Pair.{BackAt, Asleep, First, Second, Delivering, Waiting, BackStep, Deed, Deliver, OfTurn, OfDelivery, OfWait, Pair, Past, begin_delivery, delivering, on_back, on_deliver, rested, turns_of}
+use Rattle.honest_machine.proofs.Deeds.{turns_delivery}
+use Rattle.honest_machine.proofs.TraceLemmas.{back_follows, deliver_follows}
+use Rattle.honest_machine.specs.Traces.{BackIsAnswered}
 use Rattle.xdp_world.specs.Activities.{Given, all_came}
 use Rattle.xdp_world.specs.Calls.{Delivers, Stepped}
 use Rattle.xdp_world.specs.Carries.{Carries, Lands, delivered_list, waited_list}
@@ -38,8 +38,8 @@ use Rattle.xdp_world.specs.declared.doing.Doing.TheVariants as doing
 use Rattle.xdp_world.specs.declared.kept.Kept.{Kept}
 use Rattle.xdp_world.specs.declared.report.Delivered.{Delivered}
 use Rattle.xdp_world.specs.declared.report.Waited.{Waited}
-use Rattle.xen_back.specs.declared.delivery.awaiting.Awaited.{Awaited}
-use Rattle.xen_back.specs.declared.delivery.looking.Awaiting.{Awaiting}
+use Rattle.xen_back.specs.declared.delivery.wait.Awaited.{Awaited}
+use Rattle.xen_back.specs.declared.delivery.wait_stage.Awaiting.{Awaiting}
 use Rattle.xdp_world.proofs.Events.{same_stands}
 use Rattle.xdp_world.proofs.Fitting.{between_is}
 use Rattle.honest_pair.specs.Held.{memory_in}

@@ -11,11 +11,11 @@ use Rattle.xen_back.specs.declared.turn.Halt.{Halt}
 use Rattle.xen_back.proofs.TurnRuns.{runs_turn}
 use Rattle.xen_front.specs.Fronts.{state_of as front_state, wiring_of as front_wiring}
 use Rattle.xen_front.specs.declared.state.State.{State as FrontState}
-use Rattle.xen_steps.specs.Drive.{Gone}
+use Rattle.xen_steps.specs.Drive.{LedBy}
 use Rattle.xen_steps.specs.Steps.{Runs}
-use Rattle.pair_machine.specs.Law.{AreFit, Honest, IsBytes, PairLaw}
-use Rattle.pair_machine.specs.Layout.{IsBack}
-use Rattle.pair_machine.specs.Memory.{opening_memory}
+use Rattle.honest_machine.specs.Law.{AreFit, Honest, IsBytes, PairLaw}
+use Rattle.honest_machine.specs.Layout.{IsBack}
+use Rattle.honest_machine.specs.Memory.{opening_memory}
 use Rattle.xdp_world.specs.Begin.{Begins, IsFor}
 use Rattle.xdp_world.specs.Activities.{Activities, Came, Deed, Given, Item, SlotsAwaited, all_came, deliveries_in, delivery_over, none_over, turn_over, turns_in, wait_over, waits_in}
 use Rattle.xdp_world.specs.Calls.{Awaits, Call, Delivers, Stepped, all_stepped, entries_of, items_of}
@@ -33,12 +33,12 @@ use Rattle.std.proofs.lemmas.List.{append-nil, append_assoc}
 use Rattle.xen_steps.specs.Event.{Event}
 use Rattle.xen_back.specs.declared.wiring.Wiring.{Wiring as BackWiring}
 use Rattle.xen_buffers.specs.declared.wiring.Wiring.{Wiring as FrontWiring}
-use Rattle.pair_machine.specs.Log.{LogLaw, back_asks, back_item, back_items, log, logged}
-use Rattle.pair_machine.specs.Pair.{Await, BackStep, Deliver, FrontStep, Pair, PairEvent, Poll, Post, Send, opening, run, step, turns_of}
-use Rattle.pair_machine.specs.Traces.{Follows, Traced}
-use Rattle.pair_machine.specs.Acts.{ActsOn, front_of}
-use Rattle.pair_machine.proofs.ActLemmas.{acts_none, acts_then, front_log-more, opened_acts, step_acts}
-use Rattle.pair_machine.proofs.TraceLemmas.{follows_more, follows_none, opened_traced}
+use Rattle.honest_machine.specs.Log.{LogLaw, back_asks, back_item, back_items, log, logged}
+use Rattle.honest_machine.specs.Pair.{Await, BackStep, Deliver, FrontStep, Pair, PairEvent, Poll, Post, Send, opening, run, step, turns_of}
+use Rattle.honest_machine.specs.Traces.{Follows, Traced}
+use Rattle.honest_machine.specs.Acts.{ActsOn, front_of}
+use Rattle.honest_machine.proofs.ActLemmas.{acts_none, acts_then, front_log-more, opened_acts, step_acts}
+use Rattle.honest_machine.proofs.TraceLemmas.{follows_more, follows_none, opened_traced}
 use Rattle.honest_pair.proofs.CopyLemmas.{delivers}
 use Rattle.xdp_world.specs.Entries.{Entry, listed, steps_of}
 use Rattle.xdp_world.specs.Stands.{Stands, StandsFor, delivered_in, kept_in, waited_in}
@@ -130,7 +130,7 @@ none_came : (f : List Event) → (f ≡ [] → ⊥) → [] ≡ all_came f → �
 none_came [] n e = n refl
 none_came (x ∷ f) n e = cc
 
-is_between : (w : BackWiring) (q : Queue) (at : Doing) (front : List Item) → front ≡ [] → IsAt w q at front → (at ≡ doing.Between) × Gone (whole_turn w (state_of q)) [] (rest q)
+is_between : (w : BackWiring) (q : Queue) (at : Doing) (front : List Item) → front ≡ [] → IsAt w q at front → (at ≡ doing.Between) × LedBy (whole_turn w (state_of q)) [] (rest q)
 is_between w q doing.Between front e h = (refl, h.1.gone)
 is_between w q doing.Turn front e h = absurd (none_came h.0 h.2 (sym e ∙ h.1))
 is_between w q (doing.Delivery d) front e h = let z : Given h.0 ∷ all_came h.1 ≡ [] = sym h.2 ∙ e in absurd (cc)

@@ -9,23 +9,23 @@ use Rattle.xen_steps.specs.declared.want.Want.TheVariants as want
 use Rattle.xen_back.proofs.RestLemmas.{ready_rest as back_rest}
 use Rattle.xen_back.specs.Queues.{state_of, wiring_of}
 use Rattle.xen_back.specs.Waits.{Wait, check_unless, whole_wait}
-use Rattle.xen_back.specs.declared.delivery.awaiting.Awaited.{Awaited}
-use Rattle.xen_back.specs.declared.delivery.awaiting.Awaited.TheVariants as awaited
+use Rattle.xen_back.specs.declared.delivery.wait.Awaited.{Awaited}
+use Rattle.xen_back.specs.declared.delivery.wait.Awaited.TheVariants as awaited
 use Rattle.xen_back.specs.declared.delivery.delivering.Delivery.{Delivery}
-use Rattle.xen_back.specs.declared.delivery.looking.Awaiting.{Awaiting}
+use Rattle.xen_back.specs.declared.delivery.wait_stage.Awaiting.{Awaiting}
 use Rattle.xen_back.specs.declared.queue.Queue.{Queue}
 use Rattle.xen_back.specs.declared.state.State.{State}
 use Rattle.xen_back.specs.declared.turn.Halt.{Halt}
 use Rattle.xen_back.specs.declared.wiring.Wiring.{Wiring}
 use Rattle.xen_front.specs.Fronts.{wiring_of as front_wiring}
-use Rattle.pair_machine.specs.Log.{back_asks, begun_at}
-use Rattle.pair_machine.specs.Memory.{Memory, after, answer}
-use Rattle.pair_machine.specs.Pair.{BackAt, Asleep, First, Second, Delivering, Waiting, Await, BackStep, Deed, OfTurn, OfDelivery, OfWait, Pair, answered, asking, begin_wait, on_await, on_back, turns_of, waiting}
-use Rattle.pair_machine.specs.declared.awaits.Awaits.{Awaits}
-use Rattle.pair_machine.specs.declared.awaits.Awaits.TheVariants as awaits
-use Rattle.pair_machine.proofs.Deeds.{turns_wait}
-use Rattle.pair_machine.proofs.TraceLemmas.{await_follows, back_follows}
-use Rattle.pair_machine.specs.Traces.{BackIsAnswered}
+use Rattle.honest_machine.specs.Log.{back_asks, begun_at}
+use Rattle.honest_machine.specs.Memory.{Memory, after, answer}
+use Rattle.honest_machine.specs.Pair.{BackAt, Asleep, First, Second, Delivering, Waiting, Await, BackStep, Deed, OfTurn, OfDelivery, OfWait, Pair, answered, asking, begin_wait, on_await, on_back, turns_of, waiting}
+use Rattle.honest_machine.specs.declared.awaits.Awaits.{Awaits}
+use Rattle.honest_machine.specs.declared.awaits.Awaits.TheVariants as awaits
+use Rattle.honest_machine.proofs.Deeds.{turns_wait}
+use Rattle.honest_machine.proofs.TraceLemmas.{await_follows, back_follows}
+use Rattle.honest_machine.specs.Traces.{BackIsAnswered}
 use Rattle.xdp_world.specs.Activities.{SlotsAwaited, all_came}
 use Rattle.xdp_world.specs.Calls.{Awaits as AwaitsCall, Stepped}
 use Rattle.xdp_world.specs.Carries.{Looks, Resumes, delivered_list, waited_list}

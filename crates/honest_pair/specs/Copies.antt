@@ -7,7 +7,7 @@ use Rattle.xen_back.specs.Delivered.{IsDelivery}
 use Rattle.xen_back.specs.Tree.{Left}
 use Rattle.xen_back.specs.Turned.{Turned, Idle, Ran, Refused, Halted}
 use Rattle.xen_back.specs.Turns.{IsTurn}
-use Rattle.xen_back.specs.declared.delivery.awaiting.Awaited.{Awaited}
+use Rattle.xen_back.specs.declared.delivery.wait.Awaited.{Awaited}
 use Rattle.xen_back.specs.declared.delivery.delivering.Delivery.{Delivery}
 use Rattle.xen_back.specs.declared.state.State.{State}
 use Rattle.xen_back.specs.declared.turn.Refusal.TheVariants as refusal
@@ -20,8 +20,8 @@ use Rattle.xdp_world.specs.declared.kept.Kept.{Kept}
 use Rattle.xdp_world.specs.declared.kept.Kept.TheVariants as kept
 use Rattle.xdp_world.specs.declared.report.Delivered.{Delivered}
 use Rattle.xdp_world.specs.declared.report.Waited.{Waited}
-use Rattle.pair_machine.specs.Law.{HasArrived, HasLooked, delivered}
-use Rattle.pair_machine.specs.Traces.{HasCopy}
+use Rattle.honest_machine.specs.Law.{HasArrived, HasLooked, delivered}
+use Rattle.honest_machine.specs.Traces.{HasCopy}
 
 -- it ran, or was refused for want of rx slots
 abbrev pub HasCopied : Turned → Type 0

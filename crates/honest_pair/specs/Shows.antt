@@ -5,9 +5,9 @@ use Rattle.std.specs.Prelude.{Option, Some, None}
 use Rattle.xen_steps.specs.Steps.{Steps, done, ask, never, bind}
 use Rattle.xen_back.specs.ByEvent.{left_of}
 use Rattle.xen_back.specs.WaitsByEvent.{left_of_wait}
-use Rattle.xen_back.specs.declared.delivery.awaiting.Awaited.{Awaited}
-use Rattle.xen_back.specs.declared.delivery.awaiting.Awaited.TheVariants as awaited
-use Rattle.xen_back.specs.declared.delivery.looking.Awaiting.{Awaiting}
+use Rattle.xen_back.specs.declared.delivery.wait.Awaited.{Awaited}
+use Rattle.xen_back.specs.declared.delivery.wait.Awaited.TheVariants as awaited
+use Rattle.xen_back.specs.declared.delivery.wait_stage.Awaiting.{Awaiting}
 use Rattle.xen_back.specs.Queues.{rest, state_of, wiring_of}
 use Rattle.xen_back.specs.Tree.{whole_turn}
 use Rattle.xen_back.specs.declared.delivery.underway.Delivering.{Delivering as Carried}
@@ -19,15 +19,15 @@ use Rattle.xen_front.specs.Fronts.{busy, rest as front_rest, state_of as front_s
 use Rattle.xen_front.specs.Given.{Given}
 use Rattle.xen_front.specs.declared.front.Front.{Front}
 use Rattle.xen_front.specs.declared.state.State.{State as FrontState}
-use Rattle.pair_machine.specs.Halves.{Half, Over, HasRun, second_half}
-use Rattle.pair_machine.specs.Law.{IsBytes}
-use Rattle.pair_machine.specs.Log.{back_item, back_items, log}
-use Rattle.pair_machine.specs.Pair.{Activity, Free, Sending, Posting, Polling, BackAt, Asleep, First, Second, Delivering, Waiting, Pair}
-use Rattle.pair_machine.specs.Pair.{PairEvent, packets_of, run, step, turns_of}
-use Rattle.pair_machine.specs.declared.awaits.Awaits.{Awaits}
-use Rattle.pair_machine.specs.declared.awaits.Awaits.TheVariants as awaits
-use Rattle.pair_machine.specs.Acts.{ActIsAnswered, ActsOn, front_of}
-use Rattle.pair_machine.specs.Traces.{Follows}
+use Rattle.honest_machine.specs.Halves.{Half, Over, HasRun, second_half}
+use Rattle.honest_machine.specs.Law.{IsBytes}
+use Rattle.honest_machine.specs.Log.{back_item, back_items, log}
+use Rattle.honest_machine.specs.Pair.{Activity, Free, Sending, Posting, Polling, BackAt, Asleep, First, Second, Delivering, Waiting, Pair}
+use Rattle.honest_machine.specs.Pair.{PairEvent, packets_of, run, step, turns_of}
+use Rattle.honest_machine.specs.declared.awaits.Awaits.{Awaits}
+use Rattle.honest_machine.specs.declared.awaits.Awaits.TheVariants as awaits
+use Rattle.honest_machine.specs.Acts.{ActIsAnswered, ActsOn, front_of}
+use Rattle.honest_machine.specs.Traces.{Follows}
 use Rattle.xdp_world.specs.Activities.{Item}
 use Rattle.xdp_world.specs.Calls.{Call, items_of}
 use Rattle.xdp_world.specs.Stands.{StandsFor, delivered_in, kept_in, waited_in}

@@ -11,8 +11,8 @@ use crate::memory::Memory;
 use crate::pair::Pair;
 use bpf_verify::Verified;
 use bpf_vm::Buffer;
-use pair_laws::pair_law;
-use pair_machine::reads_are_faithful;
+use honest_laws::pair_law;
+use honest_machine::reads_are_faithful;
 use std::alloc::{AllocError, Global};
 use xdp_world::{Layout, Report, World, buffers_from};
 

@@ -17,7 +17,7 @@ mod turns;
 
 use crate::fault::Fault;
 use crate::line::{Work, read_line};
-use crate::timing::{Timed, told};
+use crate::timing::{Timed, report};
 use std::io;
 
 /// Does what a line asks for.
@@ -48,7 +48,7 @@ fn main(rt: HostRuntime) -> io::Result<()> {
         let line = line?;
         match timed(&rt, line.as_str()) {
             Ok(Timed { done, nanoseconds }) => {
-                let text = told(rt.alloc(), done, nanoseconds)?;
+                let text = report(rt.alloc(), done, nanoseconds)?;
                 println!(rt; "{text}")?;
             }
             Err(fault) => println!(rt; "{fault}")?,

@@ -1,6 +1,6 @@
 //! Times, and their text.
 ghost use Rattle.std.specs.Prelude.{◌≡◌, IfOk, string_bytes};
-ghost use Rattle.xdp_bench.specs.Told.{told};
+ghost use Rattle.xdp_bench.specs.Report.{report};
 
 use crate::fault::Fault;
 use std::alloc::{AllocError, Global};
@@ -20,8 +20,8 @@ pub fn since<R: Clock>(rt: &R, start: &Instant) -> Result<u64, Fault> {
 }
 
 /// `done 1000 in 251000 ns`, or `done 1`: one that was done once isn't timed, so that it prints the same each time.
-pub fn told(alloc: Global, done: u32, nanoseconds: Option<u64>) -> Result<String, AllocError>
-    ensures { IfOk result (λ s. string_bytes s ≡ told done nanoseconds) }
+pub fn report(alloc: Global, done: u32, nanoseconds: Option<u64>) -> Result<String, AllocError>
+    ensures { IfOk result (λ s. string_bytes s ≡ report done nanoseconds) }
 {
     match nanoseconds {
         Some(nanoseconds) => format!(in alloc; "done {done} in {nanoseconds} ns"),

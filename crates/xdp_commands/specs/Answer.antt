@@ -27,7 +27,7 @@ use Rattle.xdp_commands.specs.Lines.{checked_text, executed_text, ran_text, sett
 use Rattle.xdp_commands.specs.PairLines.{paired_status, paired_text}
 use Rattle.xdp_commands.specs.Pairing.{IsPaired}
 use Rattle.xdp_commands.specs.declared.pairing.Paired.{Paired}
-use Rattle.xdp_pair.specs.declared.host.Host.{Host}
+use Rattle.thread_pair.specs.declared.host.Host.{Host}
 use Rattle.xdp_commands.specs.Words.{Wanted, exec, check, explain, same, run, filter, pair}
 
 -- a text, and an exit status

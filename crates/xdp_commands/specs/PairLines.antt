@@ -3,11 +3,11 @@
 use Rattle.std.specs.Prelude.{ℕ, ◌+◌, List, [], ◌∷◌, ◌++◌, codes, decimal, Option, None, Some}
 use Rattle.xen_back.specs.Causes.{halt_number}
 use Rattle.xen_back.specs.declared.turn.Halt.{Halt}
-use Rattle.xdp_pair.specs.declared.host.Host.{Host}
-use Rattle.xdp_pair.specs.declared.host.Host.TheVariants as host
-use Rattle.xdp_pair.specs.declared.report.Deliveries.{Deliveries}
-use Rattle.xdp_pair.specs.declared.report.PairReport.{PairReport}
-use Rattle.xdp_pair.specs.declared.report.PairRow.{PairRow}
+use Rattle.thread_pair.specs.declared.host.Host.{Host}
+use Rattle.thread_pair.specs.declared.host.Host.TheVariants as host
+use Rattle.thread_pair.specs.declared.report.Deliveries.{Deliveries}
+use Rattle.thread_pair.specs.declared.report.PairReport.{PairReport}
+use Rattle.thread_pair.specs.declared.report.PairRow.{PairRow}
 use Rattle.xdp_commands.specs.CounterLines.{totals_text}
 use Rattle.xdp_commands.specs.Lines.{refused_text}
 use Rattle.xdp_commands.specs.declared.pairing.Paired.{Paired}

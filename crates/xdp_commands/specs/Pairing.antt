@@ -4,12 +4,12 @@ use Rattle.std.specs.Prelude.{ℕ, ◌≡◌, List, vec_len, Result, Ok, Err, �
 use Rattle.bpf_note.specs.Shape.{Shape}
 use Rattle.bpf_verify.specs.Consistent.{Accepted as Program}
 use Rattle.xdp_load.specs.Setup.{SetupView}
-use Rattle.xdp_pair.specs.Leaving.{AreLeft}
-use Rattle.xdp_pair.specs.Working.{Task}
-use Rattle.xdp_pair.specs.declared.fault.PairFault.{PairFault}
-use Rattle.xdp_pair.specs.declared.fault.PairFault.TheVariants as fault
-use Rattle.xdp_pair.specs.declared.host.Host.{Host}
-use Rattle.xdp_pair.specs.declared.report.PairReport.{PairReport}
+use Rattle.thread_pair.specs.Leaving.{AreLeft}
+use Rattle.thread_pair.specs.Working.{Task}
+use Rattle.thread_pair.specs.declared.fault.PairFault.{PairFault}
+use Rattle.thread_pair.specs.declared.fault.PairFault.TheVariants as fault
+use Rattle.thread_pair.specs.declared.host.Host.{Host}
+use Rattle.thread_pair.specs.declared.report.PairReport.{PairReport}
 use Rattle.xdp_commands.specs.Executing.{IsProgramOf, IsRefusalOfBytes}
 use Rattle.xdp_commands.specs.declared.pairing.Paired.{Paired}
 use Rattle.xdp_commands.specs.declared.pairing.Paired.TheVariants as paired

@@ -10,8 +10,8 @@ use Rattle.clap.specs.Words.{App, Kinds, Row, Rule, Text, fault_of, first_of, on
 use Rattle.clap.specs.Words.{with_subcommand}
 use Rattle.clap.specs.declared.builder.action.ArgAction.TheVariants.{SetTrue}
 use Rattle.clap.specs.declared.builder.value_parser.ValueParser.TheVariants.{Signed}
-use Rattle.xdp_pair.specs.declared.host.Host.{Host}
-use Rattle.xdp_pair.specs.declared.host.Host.TheVariants as host
+use Rattle.thread_pair.specs.declared.host.Host.{Host}
+use Rattle.thread_pair.specs.declared.host.Host.TheVariants as host
 
 -- a word that has to be there
 abbrev pub wanted : List ℕ → Rule

@@ -28,8 +28,8 @@ use std::alloc::{AllocError, Global};
 use std::io::Read;
 use std::sync::Wait;
 use std::thread::Threads;
+use thread_pair::Host;
 use xdp_load::{Fault, LoadFault, Rewritten, Setup, fault_text, load, load_rewritten};
-use xdp_pair::Host;
 
 /// A text that is printed, and the exit status.
 #[derive(Drop)]

@@ -10,7 +10,7 @@ use crate::output::FAILED;
 use crate::pairing::Paired;
 use bpf_note::MapShape;
 use std::alloc::{AllocError, Global};
-use xdp_pair::{Deliveries, Host, PairReport, PairRow};
+use thread_pair::{Deliveries, Host, PairReport, PairRow};
 use xen_back::Halt;
 
 /// The number of a queue's halt, 0 where it wasn't halted.

@@ -11,8 +11,8 @@ use bpf_verify::Verified;
 use std::alloc::{AllocError, Global};
 use std::sync::Wait;
 use std::thread::Threads;
+use thread_pair::{Host, Open, PairFault, PairReport, pair_with};
 use xdp_load::Setup;
-use xdp_pair::{Host, Open, PairFault, PairReport, pair_with};
 
 /// What became of a setup whose queues were to run on threads.
 #[derive(Drop)]

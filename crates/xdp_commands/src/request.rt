@@ -9,7 +9,7 @@ use clap::error::ErrorKind;
 use clap::{ArgMatches, Error};
 use std::alloc::{AllocError, Global};
 use std::convert::AsStr;
-use xdp_pair::Host;
+use thread_pair::Host;
 
 /// What a call asks for.
 #[derive(Clone, Copy)]

@@ -7,6 +7,6 @@ pub mod QueueHandle
 pub mod Ops
 pub mod Made
 pub mod Stepped
-pub mod Taken
+pub mod Begins
 pub mod Maps
 pub mod Advice

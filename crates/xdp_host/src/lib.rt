@@ -22,7 +22,7 @@ ghost use Rattle.xen_host.specs.Queues.{AreEnough, AreFew, HasBegun, HasStepped,
 ghost use Rattle.xdp_host.specs.Made.{MakesOr, fault_number, given};
 ghost use Rattle.xdp_host.specs.Ops.{no_state, state_or};
 ghost use Rattle.xdp_host.specs.Stepped.{IsUnsaid};
-ghost use Rattle.xdp_host.specs.Taken.{HasTaken, no_queue};
+ghost use Rattle.xdp_host.specs.Begins.{DeliverAnswers, no_queue};
 
 mod abi;
 mod advice;
@@ -230,7 +230,7 @@ pub extern "C" fn laxonje_queue_deliver(
 ) -> u32
     ensures none { IfNone queue.old.slot.held ((result ≡ no_queue) × (queue.new.slot.held ≡ None)) }
     ensures kept { IfSome queue.old.slot.held (λ _. IsSome queue.new.slot.held) }
-    ensures taken { IfSome queue.old.slot.held (λ q. IfSome queue.new.slot.held (λ r. HasTaken q r producer packet.now result)) }
+    ensures taken { IfSome queue.old.slot.held (λ q. IfSome queue.new.slot.held (λ r. DeliverAnswers q r producer packet.now result)) }
 {
     match queue.take(alloc) {
         Some(mut held) => {

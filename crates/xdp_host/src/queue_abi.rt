@@ -1,9 +1,9 @@
 //! What crosses to C of a queue. `include/laxonje.h` has these structs in the same order, and these numbers.
 ghost use Rattle.std.specs.Prelude.{◌≡◌};
-ghost use Rattle.xdp_host.specs.Taken.{taken_number};
+ghost use Rattle.xdp_host.specs.Begins.{begin_number};
 ghost use Rattle.xdp_host.specs.Ops.{no_state, state_of};
 
-use xen_host::{State, Taken};
+use xen_host::{Begin, State};
 
 /// What a queue is made of beside its lists: the frames of its rings, two domains, a port, what the program is told, and the
 /// indices at which the rings are gone on with.
@@ -65,12 +65,12 @@ impl XdpQueueState {
 pub const NO_QUEUE: u32 = 1;
 
 /// What C is told of what is to be begun.
-pub fn taken_number(answer: Taken) -> u32
-    ensures { result ≡ taken_number answer }
+pub fn begin_number(answer: Begin) -> u32
+    ensures { result ≡ begin_number answer }
 {
     match answer {
-        Taken::Begun => 0,
-        Taken::Busy => 2,
-        Taken::NoFrame => 3,
+        Begin::Begun => 0,
+        Begin::Busy => 2,
+        Begin::NoFrame => 3,
     }
 }

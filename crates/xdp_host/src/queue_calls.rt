@@ -3,9 +3,9 @@ ghost use Rattle.std.specs.Prelude.{◌≡◌, ◌++◌, drop, length, take, IfE
 ghost use Rattle.xen_host.specs.Frames.{limits_of, owners_in};
 ghost use Rattle.xen_host.specs.Making.{IsFaultOf, IsMadeOf};
 ghost use Rattle.xdp_host.specs.Made.{given};
-ghost use Rattle.xdp_host.specs.Taken.{HasTaken};
+ghost use Rattle.xdp_host.specs.Begins.{DeliverAnswers};
 
-use crate::queue_abi::{XdpQueueDesc, taken_number};
+use crate::queue_abi::{XdpQueueDesc, begin_number};
 use std::alloc::Global;
 use xen_host::{FrameOwners, MakeFault, Program, Queue, QueueParts};
 
@@ -40,9 +40,9 @@ pub fn boxed(
 
 /// Gives a queue a packet to deliver.
 pub fn given_packet(queue: &mut Queue, producer: u32, packet: &[u8]) -> u32
-    ensures { HasTaken queue.old queue.new producer packet.now result }
+    ensures { DeliverAnswers queue.old queue.new producer packet.now result }
 {
-    taken_number(queue.deliver(producer, packet))
+    begin_number(queue.deliver(producer, packet))
 }
 
 /// Copies bytes as far as there is room. How many there are.

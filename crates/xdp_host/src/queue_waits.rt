@@ -1,18 +1,18 @@
 //! What C asks of a queue's rx slots, and of the slots of a turn.
 ghost use Rattle.std.specs.Prelude.{◌≡◌, None, IfNone, IfSome, IsSome, MatchOption};
 ghost use Rattle.xen_netif.specs.Slots.{tx_flag_bits};
-ghost use Rattle.xdp_host.specs.Taken.{HasWaited, no_queue};
+ghost use Rattle.xdp_host.specs.Begins.{WaitAnswers, no_queue};
 
-use crate::queue_abi::{NO_QUEUE, taken_number};
+use crate::queue_abi::{NO_QUEUE, begin_number};
 use crate::queue_handle::XdpQueue;
 use std::alloc::Global;
 use xen_host::Queue;
 
 /// Begins a wait of a queue.
 fn begun_wait(queue: &mut Queue, pages: u32) -> u32
-    ensures { HasWaited queue.old queue.new pages result }
+    ensures { WaitAnswers queue.old queue.new pages result }
 {
-    taken_number(queue.await_slots(pages))
+    begin_number(queue.await_slots(pages))
 }
 
 /// Begins to wait for so many rx slots: the steps that follow are of the wait, until the op that says whether they are there. The
@@ -21,7 +21,7 @@ fn begun_wait(queue: &mut Queue, pages: u32) -> u32
 pub extern "C" fn laxonje_queue_await(alloc: Global, queue: &mut XdpQueue, pages: u32) -> u32
     ensures none { IfNone queue.old.slot.held ((result ≡ no_queue) × (queue.new.slot.held ≡ None)) }
     ensures kept { IfSome queue.old.slot.held (λ _. IsSome queue.new.slot.held) }
-    ensures begun { IfSome queue.old.slot.held (λ q. IfSome queue.new.slot.held (λ r. HasWaited q r pages result)) }
+    ensures begun { IfSome queue.old.slot.held (λ q. IfSome queue.new.slot.held (λ r. WaitAnswers q r pages result)) }
 {
     match queue.take(alloc) {
         Some(mut held) => {

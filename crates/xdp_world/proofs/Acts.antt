@@ -6,7 +6,7 @@ use Rattle.xen_back.specs.Awaited.{IsAwaiting}
 use Rattle.xen_back.specs.Delivered.{IsDelivery}
 use Rattle.xen_back.specs.Turned.{Turned}
 use Rattle.xen_back.specs.Turns.{IsTurn}
-use Rattle.xen_back.specs.declared.delivery.awaiting.Awaited.{Awaited}
+use Rattle.xen_back.specs.declared.delivery.wait.Awaited.{Awaited}
 use Rattle.xen_back.specs.declared.delivery.delivering.Delivery.{Delivery}
 use Rattle.xen_back.specs.declared.state.State.{State}
 use Rattle.xen_back.specs.declared.wiring.Wiring.{Wiring}

@@ -1,7 +1,7 @@
 -- One queue comes on by an event, by a packet that is given, or by a wait that is begun.
 use Rattle.std.proofs.Common.{◌≡◌, ℕ, ◌+◌, false, List, [], ◌∷◌, ◌++◌, Option, Some, None, length, refl, sym, ◌∙◌, ap, subst, arith}
 use Rattle.std.proofs.lemmas.List.{append-nil}
-use Rattle.xen_steps.specs.Drive.{Goes, Gone, IsPageWant}
+use Rattle.xen_steps.specs.Drive.{Goes, LedBy, IsPageWant}
 use Rattle.xen_steps.specs.Event.{Event, Read, Write}
 use Rattle.xen_steps.specs.Places.{add32, available, page_word}
 use Rattle.xen_steps.specs.Steps.{Runs, Steps, done, want_of}
@@ -16,11 +16,11 @@ use Rattle.xen_back.specs.Turned.{Ending, Turned}
 use Rattle.xen_back.specs.Waits.{Wait, rest_looking, wait_end, whole_wait}
 use Rattle.xen_back.specs.WaitsByEvent.{left_of_wait}
 use Rattle.xen_back.specs.Within.{may_want}
-use Rattle.xen_back.specs.declared.delivery.awaiting.Awaited.{Awaited}
+use Rattle.xen_back.specs.declared.delivery.wait.Awaited.{Awaited}
 use Rattle.xen_back.specs.declared.delivery.delivering.Delivery.{Delivery}
-use Rattle.xen_back.specs.declared.delivery.looking.Awaiting.{Awaiting}
-use Rattle.xen_back.specs.declared.delivery.looking.Looking.{Looking}
-use Rattle.xen_back.specs.declared.delivery.looking.Looking.TheVariants as looking
+use Rattle.xen_back.specs.declared.delivery.wait_stage.Awaiting.{Awaiting}
+use Rattle.xen_back.specs.declared.delivery.wait_stage.Looking.{Looking}
+use Rattle.xen_back.specs.declared.delivery.wait_stage.Looking.TheVariants as looking
 use Rattle.xen_back.specs.declared.delivery.underway.Delivering.{Delivering}
 use Rattle.xen_back.specs.declared.queue.Queue.{Queue}
 use Rattle.xen_back.specs.declared.state.State.{State}
@@ -64,13 +64,13 @@ has_last a = last_by a.rx a.state a.pages a.looking
 pub none_some : {A : Type 0} (o : Option A) (x : A) → o ≡ None → o ≡ Some x → ⊥
 none_some o x a b = cc
 
-running_by : (w : Wiring) (s : State) (o : Option Halt) (front : List Event) (left m : Steps Ending) (e : Event) → Gone (unless_halted w s o) front left → Goes left e m → o ≡ None
+running_by : (w : Wiring) (s : State) (o : Option Halt) (front : List Event) (left m : Steps Ending) (e : Event) → LedBy (unless_halted w s o) front left → Goes left e m → o ≡ None
 running_by w s None front left m e h g = refl
 running_by w s (Some cause) [] left m e h g = let g' = subst (λ (x : Steps Ending). Goes x e m) (sym h) g in absurd g'.1
 running_by w s (Some cause) (x ∷ t) left m e h g = absurd h.1.1
 
 -- a queue that goes on hasn't halted
-running : (w : Wiring) (s : State) (front : List Event) (left m : Steps Ending) (e : Event) → Gone (whole_turn w s) front left → Goes left e m → s.halt ≡ None
+running : (w : Wiring) (s : State) (front : List Event) (left m : Steps Ending) (e : Event) → LedBy (whole_turn w s) front left → Goes left e m → s.halt ≡ None
 running w s front left m e h g = running_by w s s.halt front left m e h g
 
 pub open_by : (w : Wiring) (s : State) (o : Option Halt) → o ≡ None → want_of (unless_halted w s o) ≡ want.Done → ⊥
@@ -208,7 +208,7 @@ halted w start items ks dl wl q at n h d =
 -- a delivery has come to this by these events
 landed : (w : Wiring) (start : ℕ) (items : List Item) (ks : List Kept) (dl : List Delivered) (wl : List Waited) (ds : List Deed) (q q' : Queue) (at : Doing) (packet : List ℕ) (f : List Event) (m : Steps Arrival) (o : Option Delivery) →
     Activities w (started_at start) items ds (state_of q) (Given packet ∷ all_came f) → ks ≡ turns_in ds → dl ≡ deliveries_in 0 ds → wl ≡ waits_in 0 0 ds → wiring_of q' ≡ w →
-    Gone (whole_delivery w.vif (state_of q) packet) f m → Lands q m q' at o → HasCome w start items ks (dl ++ delivered_list (length ks) o) wl q' at
+    LedBy (whole_delivery w.vif (state_of q) packet) f m → Lands q m q' at o → HasCome w start items ks (dl ++ delivered_list (length ks) o) wl q' at
 landed w start items ks dl wl ds q q' at packet f m None j t e y wi g (d, is, left, over, s) =
     let u : IsUndelivered w (state_of q') packet f (left_of d) = record {
       gone = rw (left, s) g;
@@ -268,7 +268,7 @@ come_carried w start items ks dl wl q d q' at a o h wi v =
 -- a wait has come to this by these events
 resumed : (w : Wiring) (start : ℕ) (items : List Item) (ks : List Kept) (dl : List Delivered) (wl : List Waited) (ds : List Deed) (q q' : Queue) (at : Doing) (n : ℕ) (f : List Event) (m : Steps Wait) (o : Option Awaited) →
     Activities w (started_at start) items ds (state_of q) (SlotsAwaited n ∷ all_came f) → ks ≡ turns_in ds → dl ≡ deliveries_in 0 ds → wl ≡ waits_in 0 0 ds → wiring_of q' ≡ w →
-    Gone (whole_wait w.vif.rx (state_of q) n) f m → Resumes q m q' at o → HasCome w start items ks dl (wl ++ waited_list (length ks) (length dl) o) q' at
+    LedBy (whole_wait w.vif.rx (state_of q) n) f m → Resumes q m q' at o → HasCome w start items ks dl (wl ++ waited_list (length ks) (length dl) o) q' at
 resumed w start items ks dl wl ds q q' at n f m None j t e y wi g (a, is, left, over, s) =
     let u : IsUnwaited w (state_of q') n f (left_of_wait a) = record {
       gone = rw (left, s) g;

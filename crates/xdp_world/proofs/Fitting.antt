@@ -12,7 +12,7 @@ use Rattle.xen_back.specs.Within.{IsWithin}
 use Rattle.xen_back.specs.declared.by_event.phase.Phase.TheVariants as phase
 use Rattle.xen_back.specs.declared.by_event.stage.Stage.{Stage}
 use Rattle.xen_back.specs.declared.by_event.stage.Stage.TheVariants as stage
-use Rattle.xen_back.specs.declared.delivery.looking.Awaiting.{Awaiting}
+use Rattle.xen_back.specs.declared.delivery.wait_stage.Awaiting.{Awaiting}
 use Rattle.xen_back.specs.declared.delivery.underway.Delivering.{Delivering}
 use Rattle.xen_back.specs.declared.queue.Queue.{Queue}
 use Rattle.xdp_world.specs.Doings.{AllFit, Fits, is_between, is_call, is_ready, want_at}

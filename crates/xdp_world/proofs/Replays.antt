@@ -3,7 +3,7 @@ use Rattle.std.proofs.Common.{◌≡◌, ℕ, ◌+◌, ◌-◌, List, [], ◌∷
 use Rattle.std.proofs.lemmas.List.{append-nil}
 use Rattle.bpf_verify.specs.Consistent.{Accepted, IsConsistent, instructions}
 use Rattle.xen_page.specs.declared.place.Place.{Place}
-use Rattle.xen_steps.specs.Drive.{Any, Bounded, Gone}
+use Rattle.xen_steps.specs.Drive.{Any, Bounded, LedBy}
 use Rattle.xen_steps.specs.Event.{Event, Occurs, Read, Write, Instr, Load, Add, Notify}
 use Rattle.xen_steps.specs.Steps.{Steps, want_of}
 use Rattle.xen_steps.specs.declared.want.Want.{Want}
@@ -30,7 +30,7 @@ use Rattle.xdp_world.specs.declared.world.World.{World}
 
 -- so many events are enough for a queue of this program
 pub enough : (q : Queue) (n : ℕ) → IsConsistent (wiring_of q).program.now → instructions (wiring_of q).program.now.code ≡ n → (front : List Event) →
-    Gone (whole_turn (wiring_of q) (state_of q)) front (rest q) → IsEnough (287383 + n) q
+    LedBy (whole_turn (wiring_of q) (state_of q)) front (rest q) → IsEnough (287383 + n) q
 enough q n ok is front gone =
     let w = wiring_of q in
     let whole : (s : State) → Bounded Anything Any (whole_turn w s) (287383 + n) = λ s.
@@ -193,4 +193,4 @@ pub enough_begun : (accepted : Accepted) (w : Wiring) (start : ℕ) (ev : List E
 enough_begun accepted w start ev ks q ok is h =
     let program : (wiring_of q).program.now ≡ accepted = ap (λ (x : Wiring). x.program.now) h.wired ∙ is in
     enough q (instructions accepted.code) (subst IsConsistent (sym program) ok) (ap (λ (x : Accepted). instructions x.code) program) h.front
-    (subst (λ (x : Wiring). Gone (whole_turn x (state_of q)) h.front (rest q)) (sym h.wired) h.unfinished.gone)
+    (subst (λ (x : Wiring). LedBy (whole_turn x (state_of q)) h.front (rest q)) (sym h.wired) h.unfinished.gone)

@@ -7,9 +7,9 @@ use Rattle.xen_steps.specs.Event.{Event}
 use Rattle.xen_back.specs.ByEvent.{left_of}
 use Rattle.xen_back.specs.Queues.{wiring_of}
 use Rattle.xen_back.specs.WaitsByEvent.{left_of_wait}
-use Rattle.xen_back.specs.declared.delivery.awaiting.Awaited.{Awaited}
+use Rattle.xen_back.specs.declared.delivery.wait.Awaited.{Awaited}
 use Rattle.xen_back.specs.declared.delivery.delivering.Delivery.{Delivery}
-use Rattle.xen_back.specs.declared.delivery.looking.Awaiting.{Awaiting}
+use Rattle.xen_back.specs.declared.delivery.wait_stage.Awaiting.{Awaiting}
 use Rattle.xen_back.specs.declared.delivery.underway.Delivering.{Delivering}
 use Rattle.xen_back.specs.declared.queue.Queue.{Queue}
 use Rattle.xdp_world.specs.Carries.{Carries, Looks, Moves, after_turn, carries, doing_after, looks, rests, turns}

@@ -1,7 +1,7 @@
 -- Stated: claims rest on this file.
 -- What a queue does: turns, and between them deliveries of packets of the host's own and waits for rx slots.
 use Rattle.std.specs.Prelude.{ℕ, ◌≡◌, ◌≢◌, ◌+◌, List, [], ◌∷◌, ◌++◌, Some, None}
-use Rattle.xen_steps.specs.Drive.{Gone}
+use Rattle.xen_steps.specs.Drive.{LedBy}
 use Rattle.xen_steps.specs.Event.{Event}
 use Rattle.xen_steps.specs.Steps.{Runs, Steps, want_of}
 use Rattle.xen_steps.specs.declared.want.Want.TheVariants as want
@@ -11,7 +11,7 @@ use Rattle.xen_back.specs.Deliveries.{Arrival, whole_delivery}
 use Rattle.xen_back.specs.Turned.{Ending, Turned}
 use Rattle.xen_back.specs.Turns.{IsTurn}
 use Rattle.xen_back.specs.Waits.{Wait, whole_wait}
-use Rattle.xen_back.specs.declared.delivery.awaiting.Awaited.{Awaited}
+use Rattle.xen_back.specs.declared.delivery.wait.Awaited.{Awaited}
 use Rattle.xen_back.specs.declared.delivery.delivering.Delivery.{Delivery}
 use Rattle.xen_back.specs.declared.state.State.{State}
 use Rattle.xen_back.specs.declared.turn.Halt.{Halt}
@@ -76,13 +76,13 @@ waits_in n m (WaitOf answer ∷ ds) = record { turns = n; deliveries = m; awaite
 
 -- A delivery that began with these events, and isn't over by them.
 pub record IsUndelivered (w : Wiring) (s : State) (packet : List ℕ) (front : List Event) (left : Steps Arrival) : Type 0 where
-  pub gone : Gone (whole_delivery w.vif s packet) front left
+  pub gone : LedBy (whole_delivery w.vif s packet) front left
   pub isnt_over : want_of left ≢ want.Done
   pub completed : (t : List Event) × (end : Arrival) × Runs left t end
 
 -- A wait for so many slots that began with these events, and isn't over by them.
 pub record IsUnwaited (w : Wiring) (s : State) (pages : ℕ) (front : List Event) (left : Steps Wait) : Type 0 where
-  pub gone : Gone (whole_wait w.vif.rx s pages) front left
+  pub gone : LedBy (whole_wait w.vif.rx s pages) front left
   pub isnt_over : want_of left ≢ want.Done
   pub completed : (t : List Event) × (end : Wait) × Runs left t end
 

@@ -1,7 +1,7 @@
 -- Stated: claims rest on this file.
 -- A run of several queues: each queue's events join into turns, and a beginning of one more.
 use Rattle.std.specs.Prelude.{ℕ, ◌≡◌, ◌≢◌, List, [], ◌∷◌, ◌++◌, Some, None, slice_get, take}
-use Rattle.xen_steps.specs.Drive.{Gone}
+use Rattle.xen_steps.specs.Drive.{LedBy}
 use Rattle.xen_steps.specs.Event.{Event}
 use Rattle.xen_steps.specs.Steps.{Runs, Steps, want_of}
 use Rattle.xen_back.specs.Tree.{whole_turn}
@@ -28,7 +28,7 @@ pub data Turns (w : Wiring) : State → List Event → List Kept → State → L
 
 -- The events after the last turn: events with which one more turn begins, and which isn't over by them; none where the queue has halted.
 pub record IsUnfinished (w : Wiring) (s : State) (front : List Event) (left : Steps Ending) : Type 0 where
-  pub gone : Gone (whole_turn w s) front left
+  pub gone : LedBy (whole_turn w s) front left
   pub isnt_over : s.halt ≡ None → want_of left ≢ want.Done
   pub stopped : (cause : Halt) → s.halt ≡ Some cause → front ≡ []
   pub completed : (t : List Event) × (end : Ending) × Runs left t end

@@ -10,9 +10,9 @@ use Rattle.xen_steps.specs.Event.{Event}
 use Rattle.xen_back.specs.Deliveries.{whole_delivery}
 use Rattle.xen_back.specs.Queues.{rest, state_of, wiring_of}
 use Rattle.xen_back.specs.Waits.{whole_wait}
-use Rattle.xen_back.specs.declared.delivery.awaiting.Awaited.{Awaited}
+use Rattle.xen_back.specs.declared.delivery.wait.Awaited.{Awaited}
 use Rattle.xen_back.specs.declared.delivery.delivering.Delivery.{Delivery}
-use Rattle.xen_back.specs.declared.delivery.looking.Awaiting.{Awaiting}
+use Rattle.xen_back.specs.declared.delivery.wait_stage.Awaiting.{Awaiting}
 use Rattle.xen_back.specs.declared.delivery.underway.Delivering.{Delivering}
 use Rattle.xen_back.specs.declared.queue.Queue.{Queue}
 use Rattle.xen_back.specs.declared.wiring.Wiring.{Wiring}

@@ -21,7 +21,7 @@ pub enum WaitBegun {
 }
 
 /// The answer where a wait was begun, and is over or isn't.
-fn told(over: Option<Awaited>) -> WaitBegun
+fn begun_by(over: Option<Awaited>) -> WaitBegun
     ensures under_way { over ≡ None → result ≡ WaitBegun.Underway }
     ensures over { (answer : Awaited) → over ≡ Some answer → result ≡ WaitBegun.Over answer }
 {
@@ -50,6 +50,6 @@ impl World<'_, '_> {
         let (after, over) = wait_begun(&mut self.queues[queue], pages);
         self.doing[queue] = after;
         note_wait(&mut self.waits[queue], turns, deliveries, over);
-        Ok(told(over))
+        Ok(begun_by(over))
     }
 }

@@ -29,7 +29,7 @@ pub(crate) fn is_between(doing: &Doing) -> bool
 }
 
 /// The answer where a delivery was begun, and is over or isn't.
-fn told(over: Option<Delivery>) -> Begun
+fn begun_by(over: Option<Delivery>) -> Begun
     ensures under_way { over ≡ None → result ≡ Begun.Underway }
     ensures over { (what : Delivery) → over ≡ Some what → result ≡ Begun.Over what }
 {
@@ -56,6 +56,6 @@ impl<'p, 'b> World<'p, 'b> {
         let (after, over) = begun(&mut self.queues[queue], packet);
         self.doing[queue] = after;
         note_delivery(&mut self.deliveries[queue], turns, over);
-        Ok(told(over))
+        Ok(begun_by(over))
     }
 }

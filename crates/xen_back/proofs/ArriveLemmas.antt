@@ -11,15 +11,15 @@ use Rattle.xen_steps.specs.Steps.{Runs, bind}
 use Rattle.xen_steps.proofs.DriveLemmas.{bounded_bind}
 use Rattle.xen_steps.proofs.FinishLemmas.{ends_bind, finishes}
 use Rattle.xen_steps.proofs.StepsLemmas.{join, split}
-use Rattle.xen_transmit.specs.Sending.{IsTransmit}
-use Rattle.xen_transmit.specs.Transmit.{transmit}
-use Rattle.xen_transmit.specs.Wired.{IsWired}
-use Rattle.xen_transmit.specs.declared.by_event.phase.Outcome.{Outcome}
-use Rattle.xen_transmit.specs.declared.vif.Vif.{Vif}
-use Rattle.xen_transmit.specs.declared.by_event.phase.Outcome.TheVariants as outcome
-use Rattle.xen_transmit.proofs.Bounds.{bounded_transmit}
-use Rattle.xen_transmit.proofs.EndLemmas.{ends_transmit}
-use Rattle.xen_transmit.proofs.SendParts.{runs_transmit, transmit_parts}
+use Rattle.xen_rx_fill.specs.Sending.{IsTransmit}
+use Rattle.xen_rx_fill.specs.Transmit.{transmit}
+use Rattle.xen_rx_fill.specs.Wired.{IsWired}
+use Rattle.xen_rx_fill.specs.declared.by_event.phase.Outcome.{Outcome}
+use Rattle.xen_rx_fill.specs.declared.vif.Vif.{Vif}
+use Rattle.xen_rx_fill.specs.declared.by_event.phase.Outcome.TheVariants as outcome
+use Rattle.xen_rx_fill.proofs.Bounds.{bounded_transmit}
+use Rattle.xen_rx_fill.proofs.EndLemmas.{ends_transmit}
+use Rattle.xen_rx_fill.proofs.SendParts.{runs_transmit, transmit_parts}
 use Rattle.xen_back.specs.Delivered.{IsDelivery, few, is_frame, no_frame, overflown, refused, sent, still_halted}
 use Rattle.xen_back.specs.Deliveries.{Arrival, Arrives, arrival, arrived, if_frame, unless_halted, whole_delivery}
 use Rattle.xen_back.specs.declared.delivery.delivering.Delivery.{Delivery}

@@ -3,7 +3,7 @@ use Rattle.xen_steps.specs.Drive.{Any, IsPageWant}
 use Rattle.xen_steps.specs.declared.want.Want.{Want}
 use Rattle.xen_steps.specs.declared.want.Want.TheVariants as wants
 use Rattle.xen_steps.proofs.DriveLemmas.{bounded_wider}
-use Rattle.xen_transmit.proofs.Bounds.{IsThere, bounded_entry_at, bounded_transmit, frame_inside}
+use Rattle.xen_rx_fill.proofs.Bounds.{IsThere, bounded_entry_at, bounded_transmit, frame_inside}
 use Rattle.xen_back.specs.Within.{IsWithin}
 use Rattle.std.proofs.Common.{◌≡◌, ℕ, zero, suc, ◌+◌, ◌-◌, ◌*◌, ◌/◌, ◌%◌, ◌<◌, ◌≤◌, ◌^◌, Bool, true, false, ◌&&◌, List, [], ◌∷◌, ◌++◌, Option, Some, None, Result, Ok, Err, refl, sym, ◌∙◌, ap, length, arith, length-append, subst, nat_lt}
 use Rattle.std.specs.Prelude.{if◌then◌else◌, ◌==◌}
@@ -34,15 +34,15 @@ use Rattle.xen_page.specs.Table.{entry_place}
 use Rattle.xen_page.specs.declared.fault.GrantFault.{GrantFault}
 use Rattle.xen_ring.specs.Index.{is_due}
 use Rattle.xen_steps.specs.Drive.{Bounded}
-use Rattle.xen_transmit.specs.Wired.{IsWired}
+use Rattle.xen_rx_fill.specs.Wired.{IsWired}
 use Rattle.xen_steps.specs.Places.{add32, available}
 use Rattle.xen_steps.specs.Steps.{Steps}
-use Rattle.xen_transmit.specs.Entries.{entry}
-use Rattle.xen_back.specs.Tree.{Left, Scan, look, seen, after_look, read_slot, read_slots, judged, after_scan, after_chain, after_copy, after_run, after_transmit, moved, send, answer, notice, respond, responses, answered, copy, entered, program, run_of, status_of, unless_halted, whole_turn}
+use Rattle.xen_rx_fill.specs.Entries.{entry}
+use Rattle.xen_back.specs.Tree.{Left, Scan, look, seen, after_look, read_slot, read_slots, judged, after_scan, after_chain, after_copy, after_run, after_transmit, after_slots, send, answer, notice, respond, responses, answered, copy, entered, program, run_of, status_of, unless_halted, whole_turn}
 use Rattle.xen_steps.specs.Pages.{copy_words, covered}
-use Rattle.xen_transmit.specs.Transmit.{transmit}
-use Rattle.xen_transmit.specs.declared.by_event.phase.Outcome.{Outcome}
-use Rattle.xen_transmit.specs.declared.by_event.phase.Outcome.TheVariants as outcome
+use Rattle.xen_rx_fill.specs.Transmit.{transmit}
+use Rattle.xen_rx_fill.specs.declared.by_event.phase.Outcome.{Outcome}
+use Rattle.xen_rx_fill.specs.declared.by_event.phase.Outcome.TheVariants as outcome
 use Rattle.xen_back.specs.Turned.{Ending, Turned, Refused, Ran}
 use Rattle.xen_back.specs.declared.turn.Refusal.TheVariants as refusal
 use Rattle.xen_back.specs.declared.state.State.{State}
@@ -204,8 +204,8 @@ module _ (w : Wiring) (shapes : List Shape) (h : IsWired w.vif) where
   bounded_after_transmit : (s : State) (slots : List Slot) (packet : List ℕ) (ops : ℕ) (o : Outcome) → length slots ≤ 23 → Bounded within Any (after_transmit w s slots packet ops o) 26
   bounded_after_transmit s slots packet ops outcome.Overflow few = tt
   bounded_after_transmit s slots packet ops outcome.TooFew few = bounded_respond s slots status.Error (Refused refusal.FewSlots ops (length slots)) few
-  bounded_after_transmit s slots packet ops (outcome.Refused used) few = bounded_respond (moved s used) slots status.Error (Refused refusal.RxGrant ops (length slots)) few
-  bounded_after_transmit s slots packet ops (outcome.Sent used) few = bounded_respond (moved s used) slots status.Okay (Ran 3 packet ops (length slots)) few
+  bounded_after_transmit s slots packet ops (outcome.Refused used) few = bounded_respond (after_slots s used) slots status.Error (Refused refusal.RxGrant ops (length slots)) few
+  bounded_after_transmit s slots packet ops (outcome.Sent used) few = bounded_respond (after_slots s used) slots status.Okay (Ran 3 packet ops (length slots)) few
 
   bounded_ran : (s : State) (slots : List Slot) (r : Left) (tx : Bool) → length slots ≤ 23 →
       Bounded within Any (if tx then send w s slots r.packet r.ops else respond w s slots (status_of r.number) (Ran r.number r.packet r.ops (length slots))) 263710

@@ -11,17 +11,17 @@ use Rattle.xen_page.specs.Access.{Performs}
 use Rattle.xen_page.specs.declared.access.Access.{Access}
 use Rattle.xen_page.specs.declared.access.Access.TheVariants as access
 use Rattle.xen_page.specs.declared.fault.GrantFault.{GrantFault}
-use Rattle.xen_steps.specs.Drive.{Gone, accesses}
+use Rattle.xen_steps.specs.Drive.{LedBy, accesses}
 use Rattle.xen_steps.specs.Event.{Event, Read, Write}
 use Rattle.xen_steps.specs.Pages.{AreWords, copy_words, page_reads}
 use Rattle.xen_steps.specs.Places.{add32, tx_entry}
 use Rattle.xen_steps.specs.Steps.{Steps, ask, bind}
 use Rattle.xen_steps.specs.declared.want.Want.TheVariants as want
-use Rattle.xen_transmit.specs.Shared.{IsEntry, inside, outside}
-use Rattle.xen_transmit.proofs.StraightLemmas.{gone_bind, gone_entry}
-use Rattle.xen_transmit.specs.Places.{tx_slot, tx_word}
-use Rattle.xen_transmit.specs.Wired.{IsWired}
-use Rattle.xen_transmit.specs.declared.vif.Vif.{Vif}
+use Rattle.xen_rx_fill.specs.Shared.{IsEntry, inside, outside}
+use Rattle.xen_rx_fill.proofs.StraightLemmas.{gone_bind, gone_entry}
+use Rattle.xen_rx_fill.specs.Places.{tx_slot, tx_word}
+use Rattle.xen_rx_fill.specs.Wired.{IsWired}
+use Rattle.xen_rx_fill.specs.declared.vif.Vif.{Vif}
 use Rattle.std.proofs.lemmas.Option.{slice_get_within}
 use Rattle.xen_ring.specs.Index.{is_due}
 use Rattle.xen_back.specs.Drive.{Driven, labels}
@@ -37,12 +37,12 @@ use Rattle.xen_back.specs.declared.turn.Halt.TheVariants as halt
 use Rattle.xen_back.specs.declared.wiring.Wiring.{Wiring}
 
 gone_words : {A B : Type 0} (f : Fragment) (frame place : ℕ) (ws bytes : List ℕ) (k : List ℕ → Steps A) (g : A → Steps B) → AreWords ws →
-    Gone (bind (bind (copy_words f frame place (length ws) bytes) k) g) (page_reads frame place ws) (bind (k (bytes ++ bytes_from f place ws)) g)
+    LedBy (bind (bind (copy_words f frame place (length ws) bytes) k) g) (page_reads frame place ws) (bind (k (bytes ++ bytes_from f place ws)) g)
 gone_words f frame place [] bytes k g b = ap (λ l. bind (k l) g) (sym (append-nil bytes))
 gone_words f frame place (v ∷ vs) bytes k g b = (
   bind (bind (copy_words f frame (place + 1) (length vs) (bytes ++ bytes_in f place v)) k) g,
   (v, (b.0, refl), refl),
-  subst (λ l. Gone (bind (bind (copy_words f frame (place + 1) (length vs) (bytes ++ bytes_in f place v)) k) g) (page_reads frame (place + 1) vs) (bind (k l) g))
+  subst (λ l. LedBy (bind (bind (copy_words f frame (place + 1) (length vs) (bytes ++ bytes_in f place v)) k) g) (page_reads frame (place + 1) vs) (bind (k l) g))
       (append_assoc bytes (bytes_in f place v) (bytes_from f (place + 1) vs))
       (gone_words f frame (place + 1) vs (bytes ++ bytes_in f place v) k g b.1),
 )
@@ -103,7 +103,7 @@ copied_driven log gives w f later k bytes out p r frame bus mid new e q h read =
     let end = bind (copy w later (bytes ++ bytes_from f place ws)) k in
     let entry : Driven log gives start (before (covered f)) bus mid [] [] p =
     subst (λ x. Driven log gives start (after_entry w f later k bytes x) bus mid [] [] p) h (entry_driven log gives w f later k bytes p r bus mid e q) in
-    let words : Gone (before (covered f)) u end = subst (λ n. Gone (before n) u end) read.1 (gone_words f frame place ws bytes (copy w later) k read.2.below) in
+    let words : LedBy (before (covered f)) u end = subst (λ n. LedBy (before n) u end) read.1 (gone_words f frame place ws bytes (copy w later) k read.2.below) in
     let page : Driven log gives (before (covered f)) end mid new [] [] u = record { gone = words; performed = read.2.performed; grown = sym (labels_reads frame place ws) } in
     let all = driven_append log gives start (before (covered f)) end bus mid new [] [] [] p u entry page in
     (p ++ u, subst (λ l. Driven log gives start (bind (copy w later l) k) bus new [] [] (p ++ u)) (sym read.3) all)

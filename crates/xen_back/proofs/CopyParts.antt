@@ -1,6 +1,6 @@
 -- The runs of a copy are its part of a trace.
 use Rattle.xen_steps.proofs.PageLemmas.{runs_words, words_parts}
-use Rattle.xen_transmit.proofs.EntryParts.{entry_parts, runs_entry}
+use Rattle.xen_rx_fill.proofs.EntryParts.{entry_parts, runs_entry}
 use Rattle.std.proofs.Common.{◌≡◌, ℕ, ◌/◌, false, List, [], ◌∷◌, ◌++◌, Option, Some, None, Result, Ok, Err, length, refl, sym, ◌∙◌, ap, append_assoc, subst}
 use Rattle.std.proofs.lemmas.List.{append-nil}
 use Rattle.xen_netif.specs.Copy.{copy_of}
@@ -9,10 +9,10 @@ use Rattle.xen_netif.proofs.CopyLemmas.{bytes_from-covered}
 use Rattle.xen_page.specs.declared.fault.GrantFault.{GrantFault}
 use Rattle.xen_steps.specs.Event.{Event}
 use Rattle.xen_steps.specs.Steps.{Runs}
-use Rattle.xen_transmit.specs.Entries.{entry}
+use Rattle.xen_rx_fill.specs.Entries.{entry}
 use Rattle.xen_back.specs.Tree.{copy, entered}
 use Rattle.xen_steps.specs.Pages.{copy_words, covered}
-use Rattle.xen_transmit.specs.Shared.{IsEntry}
+use Rattle.xen_rx_fill.specs.Shared.{IsEntry}
 use Rattle.xen_steps.specs.Pages.{page_reads}
 use Rattle.xen_back.specs.Parts.{behind, IsCopy, copied, denied, part}
 use Rattle.xen_back.specs.declared.wiring.Wiring.{Wiring}

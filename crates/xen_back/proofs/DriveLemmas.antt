@@ -14,7 +14,7 @@ use Rattle.xen_page.specs.declared.place.Place.{Place}
 use Rattle.xen_page.proofs.AccessLemmas.{performs_none, performs_then}
 use Rattle.xen_steps.specs.Event.{Event, Occurs, Read, Write, Instr, Load, Add, Notify}
 use Rattle.xen_steps.specs.Steps.{Steps, bind}
-use Rattle.xen_steps.specs.Drive.{Gone, accesses}
+use Rattle.xen_steps.specs.Drive.{LedBy, accesses}
 use Rattle.xen_back.specs.Drive.{Driven, labels, label_of}
 use Rattle.xen_steps.specs.declared.want.Want.{Want}
 use Rattle.xen_steps.specs.declared.want.Want.TheVariants as want
@@ -55,7 +55,7 @@ plain_labels zero = refl
 plain_labels (suc n) = plain_labels n
 
 -- an interpreter that advances does so many instructions
-pub gone_plain : (c : Course) (n ops : ℕ) (f : Left → Steps Ending) → Gone (bind (program (after_steps n c) ops) f) (plain_instructions n) (bind (program c ops) f)
+pub gone_plain : (c : Course) (n ops : ℕ) (f : Left → Steps Ending) → LedBy (bind (program (after_steps n c) ops) f) (plain_instructions n) (bind (program c ops) f)
 gone_plain c zero ops f = refl
 gone_plain c (suc n) ops f = (bind (program (after_steps n c) ops) f, (0, (refl, refl), refl), gone_plain c n ops f)
 

@@ -1,7 +1,7 @@
 -- A turn ends, whatever it is answered, and so a queue between turns has a rest.
 use Rattle.xen_back.proofs.ChainLemmas.{is_open}
 use Rattle.xen_steps.proofs.FinishLemmas.{ends_bind, ends_by, ends_gone, finishes_any, some_run}
-use Rattle.xen_transmit.proofs.EndLemmas.{ends_entry, ends_transmit}
+use Rattle.xen_rx_fill.proofs.EndLemmas.{ends_entry, ends_transmit}
 use Rattle.std.proofs.Common.{◌≡◌, ℕ, zero, suc, ◌+◌, ◌%◌, ◌<◌, ◌^◌, Bool, true, false, IsTrue, List, [], ◌∷◌, ◌++◌, Option, Some, None, Result, Ok, Err, refl, length, arith, subst, take, drop, ◌≤◌, sum_by}
 use Rattle.std.specs.Prelude.{if◌then◌else◌, ◌==◌, slice_index}
 use Rattle.std.proofs.lemmas.Bool.Decides.{nat_tests}
@@ -9,7 +9,7 @@ use Rattle.std.specs.Int.{w32, to_le_bytes}
 use Rattle.bpf_note.specs.State.{context_start, stack_end, start_register}
 use Rattle.bpf_verify.specs.Consistent.{IsConsistent}
 use Rattle.bpf_vm.proofs.CourseLemmas.{accepted_ends}
-use Rattle.xen_steps.specs.Drive.{Gone}
+use Rattle.xen_steps.specs.Drive.{LedBy}
 use Rattle.bpf_vm.specs.Course.{start_state, Course, Exiting, Stepping, Loading, Adding, Broken, IsWhole}
 use Rattle.xen_netif.specs.Chain.{Slot, more_data, extra_info, is_known_extra}
 use Rattle.xen_netif.specs.Copy.{bytes_of, copy_of}
@@ -31,14 +31,14 @@ use Rattle.xen_steps.specs.Finish.{Ends}
 use Rattle.xen_steps.specs.Event.{Event}
 use Rattle.xen_steps.specs.Places.{add32, available}
 use Rattle.xen_steps.specs.Steps.{Steps, Runs}
-use Rattle.xen_transmit.specs.Entries.{entry}
-use Rattle.xen_back.specs.Tree.{Left, Scan, look, seen, after_look, read_slot, read_slots, judged, after_scan, after_chain, after_copy, after_run, after_transmit, moved, send, answer, notice, respond, responses, answered, copy, entered, program, run_of, status_of, unless_halted, whole_turn}
+use Rattle.xen_rx_fill.specs.Entries.{entry}
+use Rattle.xen_back.specs.Tree.{Left, Scan, look, seen, after_look, read_slot, read_slots, judged, after_scan, after_chain, after_copy, after_run, after_transmit, after_slots, send, answer, notice, respond, responses, answered, copy, entered, program, run_of, status_of, unless_halted, whole_turn}
 use Rattle.xen_steps.specs.Pages.{copy_words, covered}
 use Rattle.xen_back.specs.Turned.{Ending, Turned, Ran, Refused}
 use Rattle.xen_back.specs.Parts.{AllWords, IsCopy, behind, copied, denied, part}
-use Rattle.xen_transmit.specs.Transmit.{transmit}
-use Rattle.xen_transmit.specs.declared.by_event.phase.Outcome.{Outcome}
-use Rattle.xen_transmit.specs.declared.by_event.phase.Outcome.TheVariants as outcome
+use Rattle.xen_rx_fill.specs.Transmit.{transmit}
+use Rattle.xen_rx_fill.specs.declared.by_event.phase.Outcome.{Outcome}
+use Rattle.xen_rx_fill.specs.declared.by_event.phase.Outcome.TheVariants as outcome
 use Rattle.xen_back.specs.declared.state.State.{State}
 use Rattle.xen_back.specs.declared.turn.Halt.{Halt}
 use Rattle.xen_back.specs.declared.turn.Refusal.TheVariants as refusal
@@ -191,8 +191,8 @@ module _ (w : Wiring) where
   ends_after_transmit : (s : State) (slots : List Slot) (packet : List ℕ) (ops : ℕ) (o : Outcome) → Ends Any (after_transmit w s slots packet ops o)
   ends_after_transmit s slots packet ops outcome.Overflow = tt
   ends_after_transmit s slots packet ops outcome.TooFew = ends_respond s slots status.Error (Refused refusal.FewSlots ops (length slots))
-  ends_after_transmit s slots packet ops (outcome.Refused used) = ends_respond (moved s used) slots status.Error (Refused refusal.RxGrant ops (length slots))
-  ends_after_transmit s slots packet ops (outcome.Sent used) = ends_respond (moved s used) slots status.Okay (Ran 3 packet ops (length slots))
+  ends_after_transmit s slots packet ops (outcome.Refused used) = ends_respond (after_slots s used) slots status.Error (Refused refusal.RxGrant ops (length slots))
+  ends_after_transmit s slots packet ops (outcome.Sent used) = ends_respond (after_slots s used) slots status.Okay (Ran 3 packet ops (length slots))
 
   ends_after_run : (s : State) (slots : List Slot) (r : Left) → Ends Any (after_run w s slots r)
   ends_after_run s slots r = by (r.number == 3)
@@ -290,5 +290,5 @@ run_whole w c i q packet l b =
 ends_run : {A : Type 0} (P : A → Type 0) (s : Steps A) → Ends P s → (t : List Event) × (r : A) × Runs s t r
 ends_run P s h = some_run (λ w. Unit {0}) s (finishes_any P s h)
 
-pub rest_of_gone : {A : Type 0} (s s' : Steps A) (t : List Event) → Ends Any s → Gone s t s' → (p : List Event) × (r : A) × Runs s' p r
+pub rest_of_gone : {A : Type 0} (s s' : Steps A) (t : List Event) → Ends Any s → LedBy s t s' → (p : List Event) × (r : A) × Runs s' p r
 rest_of_gone s s' t h g = ends_run Any s' (ends_gone Any s s' t h g)

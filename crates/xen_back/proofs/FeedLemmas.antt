@@ -6,8 +6,8 @@ use Rattle.bpf_vm.specs.declared.want.VmWant.TheVariants as vm_want
 use Rattle.xen_back.specs.Rest.{rest_at, rest_in}
 use Rattle.xen_steps.proofs.BindLemmas.{asks_on}
 use Rattle.xen_steps.specs.Steps.{Steps, bind, want_of}
-use Rattle.xen_transmit.proofs.SendLemmas.{going_asks}
-use Rattle.xen_transmit.specs.Rest.{rest_of}
+use Rattle.xen_rx_fill.proofs.SendLemmas.{going_asks}
+use Rattle.xen_rx_fill.specs.Rest.{rest_of}
 use Rattle.xen_back.specs.Tree.{Left, after_transmit, answer, program}
 use Rattle.xen_back.specs.Turned.{Ending}
 use Rattle.xen_back.specs.declared.by_event.phase.Phase.{Phase}

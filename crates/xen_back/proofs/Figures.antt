@@ -1,12 +1,12 @@
 -- How many accesses a turn makes at most.
-use Rattle.xen_transmit.specs.declared.by_event.phase.Outcome.{Outcome}
+use Rattle.xen_rx_fill.specs.declared.by_event.phase.Outcome.{Outcome}
 use Rattle.bpf_verify.specs.Consistent.{instructions}
 use Rattle.xen_steps.proofs.FigureLemmas.{HasAtMost, most_append, most_more}
-use Rattle.xen_transmit.proofs.Figures.{most_entry, most_notices, most_transmit}
-use Rattle.xen_transmit.specs.Sending.{IsTransmit}
+use Rattle.xen_rx_fill.proofs.Figures.{most_entry, most_notices, most_transmit}
+use Rattle.xen_rx_fill.specs.Sending.{IsTransmit}
 use Rattle.std.proofs.Common.{append_assoc}
 use Rattle.xen_back.proofs.ChainLemmas.{is_open, open_beginning, standing_chain}
-use Rattle.xen_transmit.proofs.Figures.{n, n_append, n_notices, n_entry, n_transmit}
+use Rattle.xen_rx_fill.proofs.Figures.{n, n_append, n_notices, n_entry, n_transmit}
 use Rattle.std.proofs.Common.{◌≡◌, ℕ, suc, ◌+◌, ◌-◌, ◌*◌, ◌/◌, ◌%◌, ◌<◌, ◌≤◌, ◌^◌, Bool, true, false, IsTrue, List, [], ◌∷◌, ◌++◌, Option, Some, None, Result, Ok, Err, refl, sym, ◌∙◌, ap, length, map, take, drop, sum_by, arith, length-append, subst, nat_lt}
 use Rattle.std.specs.Prelude.{if◌then◌else◌, ◌==◌}
 use Rattle.std.specs.List.{list_all}
@@ -29,10 +29,10 @@ use Rattle.bpf_vm.specs.Course.{start_state}
 use Rattle.xen_steps.specs.Drive.{accesses}
 use Rattle.xen_steps.specs.Event.{Event, Read, Write}
 use Rattle.xen_back.specs.Parts.{IsLook, once, twice, slot_reads, slots_reads, IsSlotRead, AllWords, behind, IsCopy, copied, denied, part, response_writes, IsRespond, HasRead}
-use Rattle.xen_transmit.specs.Shared.{notices}
+use Rattle.xen_rx_fill.specs.Shared.{notices}
 use Rattle.xen_steps.specs.Pages.{page_reads}
 use Rattle.xen_steps.specs.Places.{add32}
-use Rattle.xen_transmit.specs.Places.{tx_word}
+use Rattle.xen_rx_fill.specs.Places.{tx_word}
 use Rattle.xen_back.specs.Program.{event_of}
 use Rattle.xen_back.specs.Tree.{Left, responses, status_of}
 use Rattle.xen_steps.specs.Pages.{covered}

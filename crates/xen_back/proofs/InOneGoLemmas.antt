@@ -16,18 +16,18 @@ use Rattle.xen_page.specs.declared.access.Access.{Access}
 use Rattle.xen_page.specs.declared.access.Access.TheVariants as access
 use Rattle.xen_page.proofs.AccessLemmas.{performs_none}
 use Rattle.xen_steps.proofs.DriveLemmas.{accesses-append, bounded_next, gone_append}
-use Rattle.xen_steps.specs.Drive.{Any, Bounded, Driven as DrivenPages, Goes, Gone, IsPageWant, accesses, accesses_of}
+use Rattle.xen_steps.specs.Drive.{Any, Bounded, Driven as DrivenPages, Goes, LedBy, IsPageWant, accesses, accesses_of}
 use Rattle.xen_steps.specs.Event.{Event, Occurs, Instr, Load, Add, Read, Write, Notify}
 use Rattle.xen_steps.specs.Places.{add32, available}
 use Rattle.xen_steps.specs.Steps.{Steps, ask, bind, done, never}
 use Rattle.xen_steps.specs.declared.want.Want.{Want}
 use Rattle.xen_steps.specs.declared.want.Want.TheVariants as wants
-use Rattle.xen_transmit.specs.Places.{tx_word}
-use Rattle.xen_transmit.specs.Transmit.{transmit}
-use Rattle.xen_transmit.specs.Wired.{IsWired}
-use Rattle.xen_transmit.specs.declared.by_event.phase.Outcome.{Outcome}
-use Rattle.xen_transmit.proofs.Bounds.{bounded_transmit}
-use Rattle.xen_transmit.proofs.StraightLemmas.{driven_bind}
+use Rattle.xen_rx_fill.specs.Places.{tx_word}
+use Rattle.xen_rx_fill.specs.Transmit.{transmit}
+use Rattle.xen_rx_fill.specs.Wired.{IsWired}
+use Rattle.xen_rx_fill.specs.declared.by_event.phase.Outcome.{Outcome}
+use Rattle.xen_rx_fill.proofs.Bounds.{bounded_transmit}
+use Rattle.xen_rx_fill.proofs.StraightLemmas.{driven_bind}
 use Rattle.xen_back.specs.Drive.{Driven, label_of, labels}
 use Rattle.xen_back.specs.Program.{plain_instructions}
 use Rattle.xen_back.specs.Ran.{HasRunTo}
@@ -52,7 +52,7 @@ run_plain start x y ops n a b r e =
       no_access = accesses-append r.trace (plain_instructions n) ∙ ap (λ l. l ++ accesses (plain_instructions n)) r.no_access ∙ plain_accesses n;
       grown = r.grown ∙ ap (λ l. a ++ l) (sym (labels-append r.trace (plain_instructions n) ∙ ap (λ l. labels r.trace ++ l) (plain_labels n) ∙ append-nil (labels r.trace)));
       gone = λ f. gone_append (bind start f) (bind (program x ops) f) (bind (program y ops) f) r.trace (plain_instructions n) (r.gone f)
-          (subst (λ (c : Course). Gone (bind (program c ops) f) (plain_instructions n) (bind (program y ops) f)) (sym e) (gone_plain y n ops f));
+          (subst (λ (c : Course). LedBy (bind (program c ops) f) (plain_instructions n) (bind (program y ops) f)) (sym e) (gone_plain y n ops f));
     }
 
 -- and by one event that is no access
@@ -135,7 +135,7 @@ label_none frames (wants.Add m k j d) a e h o = absurd h
 label_none frames (wants.Notify port) a e h o = ap label_of o.1
 label_none frames wants.Done a e h o = absurd o
 
-labels_none : {A : Type 0} (frames n : ℕ) (P : A → Type 0) (s s' : Steps A) (t : List Event) → Bounded (IsPageWant frames) P s n → Gone s t s' → labels t ≡ []
+labels_none : {A : Type 0} (frames n : ℕ) (P : A → Type 0) (s s' : Steps A) (t : List Event) → Bounded (IsPageWant frames) P s n → LedBy s t s' → labels t ≡ []
 labels_none frames n P s s' [] b g = refl
 labels_none frames n P (done x) s' (e ∷ t) b g = absurd g.1.1
 labels_none frames n P never s' (e ∷ t) b g = absurd g.1.1

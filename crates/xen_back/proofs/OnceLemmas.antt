@@ -21,14 +21,14 @@ use Rattle.xen_ring.specs.Index.{distance, is_due}
 use Rattle.xen_steps.specs.Event.{Event, Read, Write, Instr, Load, Add, Notify}
 use Rattle.xen_steps.specs.Pages.{page_reads}
 use Rattle.xen_steps.specs.Places.{add32, available, page_word}
-use Rattle.xen_transmit.specs.Places.{rx_slot, rx_word, tx_slot, tx_word}
-use Rattle.xen_transmit.specs.Packets.{pages, words}
-use Rattle.xen_transmit.specs.Sending.{AreTargets, IsPosted, IsRxRespond, IsTransmit, all, buffer_writes, is_posted, passing, refused, refusing, rx_overflow, rx_writes, sent, too_few}
-use Rattle.xen_transmit.specs.declared.by_event.phase.Outcome.{Outcome}
-use Rattle.xen_transmit.specs.declared.by_event.phase.Outcome.TheVariants as outcome
-use Rattle.xen_transmit.specs.declared.target.Target.{Target}
-use Rattle.xen_transmit.specs.Shared.{IsEntry, inside, outside, notices}
-use Rattle.xen_back.specs.Once.{AllOther, AreDistinct, AreGranted, AreLooks, ArePosted, CoveredDistinct, FragmentsOnce, GrantReads, HaltReads, PostedDistinct, SendReads, SizeReads, SlotsOnce, SlotsRead, TargetsOnce, TurnReads, TurnsOnce, copy_places, entry_places, page_places, places_read, posted_places, sent_places, slot_places, target_places, told}
+use Rattle.xen_rx_fill.specs.Places.{rx_slot, rx_word, tx_slot, tx_word}
+use Rattle.xen_rx_fill.specs.Packets.{pages, words}
+use Rattle.xen_rx_fill.specs.Sending.{AreTargets, IsPosted, IsRxRespond, IsTransmit, all, buffer_writes, is_posted, passing, refused, refusing, rx_overflow, rx_writes, sent, too_few}
+use Rattle.xen_rx_fill.specs.declared.by_event.phase.Outcome.{Outcome}
+use Rattle.xen_rx_fill.specs.declared.by_event.phase.Outcome.TheVariants as outcome
+use Rattle.xen_rx_fill.specs.declared.target.Target.{Target}
+use Rattle.xen_rx_fill.specs.Shared.{IsEntry, inside, outside, notices}
+use Rattle.xen_back.specs.Once.{AllOther, AreDistinct, AreGranted, AreLooks, ArePosted, CoveredDistinct, FragmentsOnce, GrantReads, HaltReads, PostedDistinct, SendReads, SizeReads, SlotsOnce, SlotsRead, TargetsOnce, TurnReads, TurnsOnce, copy_places, entry_places, page_places, places_read, posted_places, sent_places, slot_places, target_places, notice_reads}
 use Rattle.xen_back.specs.Parts.{behind, AllWords, HasRead, IsCopy, IsLook, IsRespond, copied, denied, once, part, response_writes, slots_reads, twice}
 use Rattle.xen_back.specs.Program.{event_of}
 use Rattle.xen_back.specs.Tree.{Left, responses, status_of}
@@ -228,12 +228,12 @@ chain_reads w s n p1 p2 q slots rest h e =
     }
 
 -- a packet of wrong sizes
-size_reads : (w : Wiring) (s : State) (n : ℕ) (p1 p2 p6 : List Event) (slots : List Slot) (fault : SizeFault) → HasRead w s n p1 p2 slots → fragments_of slots ≡ Err fault → IsRespond w s.tx_index slots status.Error p6 → SizeReads w s (p1 ++ (p2 ++ p6)) fault (length slots) (told w)
+size_reads : (w : Wiring) (s : State) (n : ℕ) (p1 p2 p6 : List Event) (slots : List Slot) (fault : SizeFault) → HasRead w s n p1 p2 slots → fragments_of slots ≡ Err fault → IsRespond w s.tx_index slots status.Error p6 → SizeReads w s (p1 ++ (p2 ++ p6)) fault (length slots) (notice_reads w)
 size_reads w s n p1 p2 p6 slots fault h e g = record {
   slots = slots;
   counted = refl;
   sizes = e;
-  read = chain_reads w s n p1 p2 p6 slots (told w) h (respond_read w s.tx_index slots status.Error p6 g);
+  read = chain_reads w s n p1 p2 p6 slots (notice_reads w) h (respond_read w s.tx_index slots status.Error p6 g);
 }
 
 -- the places of a part are those of all of it behind what comes first
@@ -241,10 +241,10 @@ within_joined : (p1 p2 p3 p6 : List Event) → Within p3 (p1 ++ (p2 ++ (p3 ++ p6
 within_joined p1 p2 p3 p6 e h = Contains-append_right p1 (p2 ++ (p3 ++ p6)) e (Contains-append_right p2 (p3 ++ p6) e (Contains-append_left p3 p6 e h))
 
 -- a packet of which a grant fails
-grant_reads : (w : Wiring) (s : State) (n : ℕ) (p1 p2 p3 p6 : List Event) (slots : List Slot) (fs : List Fragment) → HasRead w s n p1 p2 slots → fragments_of slots ≡ Ok fs → IsCopy w fs p3 None → IsRespond w s.tx_index slots status.Error p6 → GrantReads w s (p1 ++ (p2 ++ (p3 ++ p6))) (length slots) (told w)
+grant_reads : (w : Wiring) (s : State) (n : ℕ) (p1 p2 p3 p6 : List Event) (slots : List Slot) (fs : List Fragment) → HasRead w s n p1 p2 slots → fragments_of slots ≡ Ok fs → IsCopy w fs p3 None → IsRespond w s.tx_index slots status.Error p6 → GrantReads w s (p1 ++ (p2 ++ (p3 ++ p6))) (length slots) (notice_reads w)
 grant_reads w s n p1 p2 p3 p6 slots fs h e k g =
     let copies = fragments_once w fs p3 None k in
-    let later : places_read (p3 ++ p6) ≡ copy_places w fs copies.0 ++ told w =
+    let later : places_read (p3 ++ p6) ≡ copy_places w fs copies.0 ++ notice_reads w =
     places_read-append p3 p6 ∙ ap (λ l. l ++ places_read p6) copies.1 ∙ ap (λ l. copy_places w fs copies.0 ++ l) (respond_read w s.tx_index slots status.Error p6 g) in
     record {
       slots = slots;
@@ -254,7 +254,7 @@ grant_reads w s n p1 p2 p3 p6 slots fs h e k g =
       frames = copies.0;
       granted = granted_within w fs copies.0 p3 (p1 ++ (p2 ++ (p3 ++ p6))) (within_joined p1 p2 p3 p6) copies.2;
       denied = copies.4 refl;
-      read = chain_reads w s n p1 p2 (p3 ++ p6) slots (copy_places w fs copies.0 ++ told w) h later;
+      read = chain_reads w s n p1 p2 (p3 ++ p6) slots (copy_places w fs copies.0 ++ notice_reads w) h later;
     }
 
 -- the reads of a packet that was run on, and of what comes after it
@@ -334,7 +334,7 @@ sent_reads w x packet _ _ (sent p m p1 p2 ts l e f a r) =
     )
 
 -- a transmit, and the responses behind it
-then_told : (w : Wiring) (t : ℕ) (slots : List Slot) (st : Status) (p5 p6 : List Event) (l : List Place) → places_read p5 ≡ l → IsRespond w t slots st p6 → places_read (p5 ++ p6) ≡ l ++ told w
+then_told : (w : Wiring) (t : ℕ) (slots : List Slot) (st : Status) (p5 p6 : List Event) (l : List Place) → places_read p5 ≡ l → IsRespond w t slots st p6 → places_read (p5 ++ p6) ≡ l ++ notice_reads w
 then_told w t slots st p5 p6 l e r = places_read-append p5 p6 ∙ ap (λ k. k ++ places_read p6) e ∙ ap (λ k. l ++ k) (respond_read w t slots st p6 r)
 
 -- words of two rx slots differ
@@ -368,7 +368,7 @@ sent_within p p5 p6 e h = Contains-append_right p (p5 ++ p6) e (Contains-append_
 send_reads : (w : Wiring) (s : State) (p p5 p6 : List Event) (slots : List Slot) (out : Left) (st : Status) (grefs : List ℕ) → HasRun w s p slots out → places_read p5 ≡ sent_places w s.rx_index grefs → ArePosted w s.rx_index 0 grefs p5 → IsRespond w s.tx_index slots st p6 → SendReads w s (p ++ (p5 ++ p6)) (length slots) grefs
 send_reads w s p p5 p6 slots out st grefs a e posted g =
     let places = sent_places w s.rx_index grefs in
-    (posted_within w s.rx_index 0 grefs p5 (p ++ (p5 ++ p6)) (sent_within p p5 p6) posted, ran_reads w s p (p5 ++ p6) slots out (places ++ told w) a (then_told w s.tx_index slots st p5 p6 places e g))
+    (posted_within w s.rx_index 0 grefs p5 (p ++ (p5 ++ p6)) (sent_within p p5 p6) posted, ran_reads w s p (p5 ++ p6) slots out (places ++ notice_reads w) a (then_told w s.tx_index slots st p5 p6 places e g))
 
 -- a queue that halts in its turn hadn't halted before
 halts : (w : Wiring) (s : State) (p : List Event) (cause : Halt) → s.halt ≡ None → HaltReads w s p cause → (s.halt ≡ None → HaltReads w s p cause) × (s.halt ≢ None → p ≡ [])
@@ -392,12 +392,12 @@ turns_once w s _ _ _ (short p1 p2 n slots r e b) = halts w s (p1 ++ p2) halt.Sho
 turns_once w s _ _ _ (broken p1 p2 n slots fault r f) = halts w s (p1 ++ p2) (halt.Chain fault) r.running (slots, only_slots w s n p1 p2 slots r)
 turns_once w s _ _ _ (refused_sizes p1 p2 p6 n slots fault r c e g) = size_reads w s n p1 p2 p6 slots fault r e g
 turns_once w s _ _ _ (refused_grant p1 p2 p3 p6 n slots fragments r c e k g) = grant_reads w s n p1 p2 p3 p6 slots fragments r e k g
-turns_once w s _ _ _ (ran p p6 slots out a e g) = (λ h. ran_reads w s p p6 slots out (told w) a (respond_read w s.tx_index slots (status_of out.number) p6 g), λ h. absurd (e h))
+turns_once w s _ _ _ (ran p p6 slots out a e g) = (λ h. ran_reads w s p p6 slots out (notice_reads w) a (respond_read w s.tx_index slots (status_of out.number) p6 g), λ h. absurd (e h))
 turns_once w s _ _ _ (halted_rx p p5 slots out a e t) =
     halts w s (p ++ p5) halt.RxProducer (running w s p slots out a) (length slots, ran_reads w s p p5 slots out (rx_word w.vif 0 ∷ []) a (sent_reads w s.rx_index out.packet p5 outcome.Overflow t))
 turns_once w s _ _ _ (refused_few p p5 p6 slots out a e t g) =
     let sent = sent_reads w s.rx_index out.packet p5 outcome.TooFew t in
-    ran_reads w s p (p5 ++ p6) slots out (rx_word w.vif 0 ∷ told w) a (then_told w s.tx_index slots status.Error p5 p6 (rx_word w.vif 0 ∷ []) sent g)
+    ran_reads w s p (p5 ++ p6) slots out (rx_word w.vif 0 ∷ notice_reads w) a (then_told w s.tx_index slots status.Error p5 p6 (rx_word w.vif 0 ∷ []) sent g)
 turns_once w s _ _ _ (refused_rx p p5 p6 used slots out a e t g) =
     let sent = sent_reads w s.rx_index out.packet p5 (outcome.Refused used) t in
     (sent.0, send_reads w s p p5 p6 slots out status.Error sent.0 a sent.1 sent.2 g)

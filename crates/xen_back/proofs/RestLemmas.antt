@@ -3,11 +3,11 @@ use Rattle.std.proofs.Common.{◌≡◌, ℕ, zero, suc, ◌+◌, ◌-◌, ◌<�
 use Rattle.std.proofs.lemmas.List.{drop_more}
 use Rattle.xen_netif.specs.Chain.{Slot}
 use Rattle.xen_steps.specs.Places.{add32}
-use Rattle.xen_transmit.specs.Places.{tx_slot}
+use Rattle.xen_rx_fill.specs.Places.{tx_slot}
 use Rattle.xen_steps.specs.Steps.{done, ask, bind}
 use Rattle.xen_back.specs.Queues.{IsReady, rest, state_of, wiring_of}
 use Rattle.xen_back.specs.Rest.{fragment_at, rest_of_stage}
-use Rattle.xen_transmit.specs.Entries.{entry}
+use Rattle.xen_rx_fill.specs.Entries.{entry}
 use Rattle.xen_back.specs.Tree.{after_look, after_scan, answer, copy, entered, read_slots, seen, whole_turn}
 use Rattle.xen_netif.specs.declared.fragment.Fragment.{Fragment}
 use Rattle.xen_back.specs.Turned.{Ending}

@@ -1,6 +1,6 @@
 -- The places that a turn touches.
 use Rattle.bpf_note.specs.declared.op.Op.TheVariants as op
-use Rattle.xen_transmit.proofs.TouchedLemmas.{front, back, granted_on, all_on, append, both, of_notices, of_entry, grants_by, of_transmit}
+use Rattle.xen_rx_fill.proofs.TouchedLemmas.{front, back, granted_on, all_on, append, both, of_notices, of_entry, grants_by, of_transmit}
 use Rattle.std.proofs.Common.{ℕ, ◌+◌, ◌*◌, ◌/◌, ◌%◌, ◌≤◌, false, List, [], ◌∷◌, ◌++◌, Option, Some, None, Ok, Err, refl, sym, length, map, arith, subst, inl}
 use Rattle.bpf_note.specs.declared.op.Op.{Op}
 use Rattle.xen_netif.specs.Chain.{Slot}
@@ -10,12 +10,12 @@ use Rattle.xen_netif.specs.declared.status.Status.TheVariants.{Okay, Error}
 use Rattle.xen_ring.specs.Index.{is_due}
 use Rattle.xen_steps.specs.Event.{Event, Read, Write}
 use Rattle.xen_back.specs.Parts.{IsLook, once, twice, slot_reads, slots_reads, IsCopy, copied, denied, part, response_writes, IsRespond, HasRead}
-use Rattle.xen_transmit.specs.Shared.{notices}
+use Rattle.xen_rx_fill.specs.Shared.{notices}
 use Rattle.xen_steps.specs.Pages.{page_reads}
 use Rattle.xen_steps.specs.Places.{add32}
-use Rattle.xen_transmit.specs.Places.{tx_word}
+use Rattle.xen_rx_fill.specs.Places.{tx_word}
 use Rattle.xen_back.specs.Program.{event_of}
-use Rattle.xen_transmit.specs.Touched.{IsGranted, ring, source, tx_response, pushed, announced, instruction, loaded, added, AllAllowed}
+use Rattle.xen_rx_fill.specs.Touched.{IsGranted, ring, source, tx_response, pushed, announced, instruction, loaded, added, AllAllowed}
 use Rattle.xen_back.specs.Tree.{Left, responses, status_of}
 use Rattle.xen_back.specs.Turned.{Turned}
 use Rattle.xen_back.specs.Turns.{HasRun, IsTurn, still_halted, idle, overflown, short, broken, refused_sizes, refused_grant, ran, halted_rx, refused_few, refused_rx, ran_tx}

@@ -17,17 +17,17 @@ use Rattle.xen_netif.specs.declared.status.Status.TheVariants.{Okay, Error}
 use Rattle.xen_ring.specs.Index.{is_due}
 use Rattle.xen_steps.specs.Event.{Event, Read, Write}
 use Rattle.xen_steps.specs.Places.{add32, available}
-use Rattle.xen_transmit.specs.Places.{tx_slot, tx_word}
+use Rattle.xen_rx_fill.specs.Places.{tx_slot, tx_word}
 use Rattle.xen_steps.specs.Steps.{Runs}
-use Rattle.xen_back.specs.Tree.{Left, Scan, look, seen, after_look, read_slot, read_slots, judged, after_scan, after_chain, after_copy, after_run, after_transmit, moved, send, answer, notice, respond, responses, answered, copy, program, run_of, status_of, unless_halted, whole_turn}
+use Rattle.xen_back.specs.Tree.{Left, Scan, look, seen, after_look, read_slot, read_slots, judged, after_scan, after_chain, after_copy, after_run, after_transmit, after_slots, send, answer, notice, respond, responses, answered, copy, program, run_of, status_of, unless_halted, whole_turn}
 use Rattle.xen_back.specs.Turned.{Ending, Turned, Ran, Refused}
 use Rattle.xen_back.specs.Parts.{IsLook, once, twice, slot_reads, slots_reads, IsSlotRead, AllWords, IsCopy, response_writes, IsRespond, HasRead}
-use Rattle.xen_transmit.specs.Shared.{notices}
-use Rattle.xen_transmit.specs.Transmit.{transmit}
+use Rattle.xen_rx_fill.specs.Shared.{notices}
+use Rattle.xen_rx_fill.specs.Transmit.{transmit}
 use Rattle.xen_back.specs.Turns.{HasRun, IsTurn, still_halted, idle, overflown, short, broken, refused_sizes, refused_grant, ran, halted_rx, refused_few, refused_rx, ran_tx}
-use Rattle.xen_transmit.specs.Sending.{IsTransmit}
-use Rattle.xen_transmit.specs.declared.by_event.phase.Outcome.{Outcome}
-use Rattle.xen_transmit.specs.declared.by_event.phase.Outcome.TheVariants as outcome
+use Rattle.xen_rx_fill.specs.Sending.{IsTransmit}
+use Rattle.xen_rx_fill.specs.declared.by_event.phase.Outcome.{Outcome}
+use Rattle.xen_rx_fill.specs.declared.by_event.phase.Outcome.TheVariants as outcome
 use Rattle.xen_back.specs.declared.state.State.{State}
 use Rattle.xen_back.specs.declared.turn.Halt.{Halt}
 use Rattle.xen_back.specs.declared.turn.Halt.TheVariants as halt
@@ -35,7 +35,7 @@ use Rattle.xen_back.specs.declared.turn.Refusal.TheVariants as refusal
 use Rattle.xen_back.specs.declared.wiring.Wiring.{Wiring}
 use Rattle.xen_back.proofs.CopyParts.{copy_parts}
 use Rattle.xen_back.proofs.ProgramLemmas.{program_parts}
-use Rattle.xen_transmit.proofs.SendParts.{transmit_parts}
+use Rattle.xen_rx_fill.proofs.SendParts.{transmit_parts}
 use Rattle.xen_steps.proofs.StepsLemmas.{split}
 
 -- a program's run on a packet that was read and copied, from its parts
@@ -200,10 +200,10 @@ module _ (w : Wiring) (s : State) where
       let q = respond_parts w s slots Error (Refused refusal.FewSlots out.ops (length slots)) p6 r h in
       ended w s (p ++ (p5 ++ p6)) r _ _ q.1 (refused_few p p5 p6 slots out a n t q.0)
   transmit_rows p p5 p6 slots out (outcome.Refused used) r a n t h =
-      let q = respond_parts w (moved s used) slots Error (Refused refusal.RxGrant out.ops (length slots)) p6 r h in
+      let q = respond_parts w (after_slots s used) slots Error (Refused refusal.RxGrant out.ops (length slots)) p6 r h in
       ended w s (p ++ (p5 ++ p6)) r _ _ q.1 (refused_rx p p5 p6 used slots out a n t q.0)
   transmit_rows p p5 p6 slots out (outcome.Sent used) r a n t h =
-      let q = respond_parts w (moved s used) slots Okay (Ran 3 out.packet out.ops (length slots)) p6 r h in
+      let q = respond_parts w (after_slots s used) slots Okay (Ran 3 out.packet out.ops (length slots)) p6 r h in
       ended w s (p ++ (p5 ++ p6)) r _ _ q.1 (ran_tx p p5 p6 used slots out a n t q.0)
 
   run_rows : (p q : List Event) (slots : List Slot) (out : Left) (r : Ending) → HasRun w s p slots out → (tx : Bool) → (out.number == 3) ≡ tx →

@@ -17,17 +17,17 @@ use Rattle.xen_netif.specs.declared.status.Status.TheVariants.{Okay, Error}
 use Rattle.xen_ring.specs.Index.{is_due}
 use Rattle.xen_steps.specs.Event.{Event, Read, Write}
 use Rattle.xen_steps.specs.Places.{add32, available}
-use Rattle.xen_transmit.specs.Places.{tx_word}
+use Rattle.xen_rx_fill.specs.Places.{tx_word}
 use Rattle.xen_steps.specs.Steps.{done, Runs}
-use Rattle.xen_back.specs.Tree.{Left, Scan, look, seen, after_look, read_slot, read_slots, judged, after_scan, after_chain, after_copy, after_run, after_transmit, moved, send, answer, notice, respond, responses, answered, copy, program, run_of, status_of, unless_halted, whole_turn}
+use Rattle.xen_back.specs.Tree.{Left, Scan, look, seen, after_look, read_slot, read_slots, judged, after_scan, after_chain, after_copy, after_run, after_transmit, after_slots, send, answer, notice, respond, responses, answered, copy, program, run_of, status_of, unless_halted, whole_turn}
 use Rattle.xen_back.specs.Turned.{Ending, Turned, Idle, Ran, Refused, Halted}
 use Rattle.xen_back.specs.Parts.{IsLook, once, twice, slot_reads, slots_reads, IsSlotRead, AllWords, AreRead, response_writes, IsRespond, HasRead}
-use Rattle.xen_transmit.specs.Shared.{notices}
-use Rattle.xen_transmit.specs.Transmit.{transmit}
+use Rattle.xen_rx_fill.specs.Shared.{notices}
+use Rattle.xen_rx_fill.specs.Transmit.{transmit}
 use Rattle.xen_back.specs.Turns.{HasRun, IsTurn, still_halted, idle, overflown, short, broken, refused_sizes, refused_grant, ran, halted_rx, refused_few, refused_rx, ran_tx}
-use Rattle.xen_transmit.specs.Sending.{IsTransmit}
-use Rattle.xen_transmit.specs.declared.by_event.phase.Outcome.{Outcome}
-use Rattle.xen_transmit.specs.declared.by_event.phase.Outcome.TheVariants as outcome
+use Rattle.xen_rx_fill.specs.Sending.{IsTransmit}
+use Rattle.xen_rx_fill.specs.declared.by_event.phase.Outcome.{Outcome}
+use Rattle.xen_rx_fill.specs.declared.by_event.phase.Outcome.TheVariants as outcome
 use Rattle.xen_back.specs.declared.state.State.{State}
 use Rattle.xen_back.specs.declared.turn.Halt.{Halt}
 use Rattle.xen_back.specs.declared.turn.Halt.TheVariants as halt
@@ -35,7 +35,7 @@ use Rattle.xen_back.specs.declared.turn.Refusal.TheVariants as refusal
 use Rattle.xen_back.specs.declared.wiring.Wiring.{Wiring}
 use Rattle.xen_back.proofs.CopyParts.{runs_copy}
 use Rattle.xen_back.proofs.ProgramLemmas.{runs_program}
-use Rattle.xen_transmit.proofs.SendParts.{runs_transmit}
+use Rattle.xen_rx_fill.proofs.SendParts.{runs_transmit}
 use Rattle.xen_steps.proofs.StepsLemmas.{join}
 use Rattle.xen_back.proofs.TurnParts.{ScanEnds, is_whole, is_faulty, none_left, regroup, shift}
 
@@ -202,6 +202,6 @@ runs_turn w s _ _ _ (halted_rx p p5 slots out a n t) =
 runs_turn w s _ _ _ (refused_few p p5 p6 slots out a n t r) =
     transmit_runs w s p p5 p6 slots out outcome.TooFew _ a n t (respond_runs w s slots Error (Refused refusal.FewSlots out.ops (length slots)) p6 r)
 runs_turn w s _ _ _ (refused_rx p p5 p6 used slots out a n t r) =
-    transmit_runs w s p p5 p6 slots out (outcome.Refused used) _ a n t (respond_runs w (moved s used) slots Error (Refused refusal.RxGrant out.ops (length slots)) p6 r)
+    transmit_runs w s p p5 p6 slots out (outcome.Refused used) _ a n t (respond_runs w (after_slots s used) slots Error (Refused refusal.RxGrant out.ops (length slots)) p6 r)
 runs_turn w s _ _ _ (ran_tx p p5 p6 used slots out a n t r) =
-    transmit_runs w s p p5 p6 slots out (outcome.Sent used) _ a n t (respond_runs w (moved s used) slots Okay (Ran 3 out.packet out.ops (length slots)) p6 r)
+    transmit_runs w s p p5 p6 slots out (outcome.Sent used) _ a n t (respond_runs w (after_slots s used) slots Okay (Ran 3 out.packet out.ops (length slots)) p6 r)

@@ -5,11 +5,11 @@ use Rattle.std.proofs.lemmas.Bool.{le-ltb, lt-ltb, ltb-false, ltb-true}
 use Rattle.xen_steps.specs.Event.{Event, Read}
 use Rattle.xen_steps.specs.Places.{available}
 use Rattle.xen_steps.specs.Steps.{Runs}
-use Rattle.xen_transmit.specs.Places.{rx_word}
+use Rattle.xen_rx_fill.specs.Places.{rx_word}
 use Rattle.xen_back.specs.Awaited.{IsAwaiting, last_look, overflown, posted, still_halted, waiting}
 use Rattle.xen_back.specs.Waits.{Wait, WaitEnds, check_unless, wait_end, whole_wait}
-use Rattle.xen_back.specs.declared.delivery.awaiting.Awaited.{Awaited}
-use Rattle.xen_back.specs.declared.delivery.awaiting.Awaited.TheVariants as awaited
+use Rattle.xen_back.specs.declared.delivery.wait.Awaited.{Awaited}
+use Rattle.xen_back.specs.declared.delivery.wait.Awaited.TheVariants as awaited
 use Rattle.xen_back.specs.declared.state.State.{State}
 use Rattle.xen_back.specs.declared.turn.Halt.{Halt}
 use Rattle.xen_back.specs.declared.wiring.Wiring.{Wiring}

@@ -8,11 +8,11 @@ use Rattle.xen_page.specs.declared.access.Access.{Access}
 use Rattle.xen_steps.specs.Drive.{accesses}
 use Rattle.xen_steps.specs.Event.{Event, Read, Write}
 use Rattle.xen_steps.specs.Places.{add32, available}
-use Rattle.xen_transmit.specs.Places.{rx_word}
-use Rattle.xen_transmit.specs.declared.vif.Vif.{Vif}
+use Rattle.xen_rx_fill.specs.Places.{rx_word}
+use Rattle.xen_rx_fill.specs.declared.vif.Vif.{Vif}
 use Rattle.xen_back.specs.Queues.{IsReady, IsSameWiring, state_of, wiring_of}
-use Rattle.xen_back.specs.declared.delivery.awaiting.Awaited.{Awaited}
-use Rattle.xen_back.specs.declared.delivery.awaiting.Awaited.TheVariants as awaited
+use Rattle.xen_back.specs.declared.delivery.wait.Awaited.{Awaited}
+use Rattle.xen_back.specs.declared.delivery.wait.Awaited.TheVariants as awaited
 use Rattle.xen_back.specs.declared.queue.Queue.{Queue}
 use Rattle.xen_back.specs.declared.state.State.{State}
 use Rattle.xen_back.specs.declared.turn.Halt.{Halt}

@@ -5,10 +5,10 @@ use Rattle.xen_page.specs.Access.{Performs}
 use Rattle.xen_page.specs.declared.access.Access.{Access}
 use Rattle.xen_steps.specs.Drive.{accesses}
 use Rattle.xen_steps.specs.Event.{Event}
-use Rattle.xen_transmit.specs.Sending.{IsTransmit}
-use Rattle.xen_transmit.specs.declared.by_event.phase.Outcome.TheVariants as outcome
+use Rattle.xen_rx_fill.specs.Sending.{IsTransmit}
+use Rattle.xen_rx_fill.specs.declared.by_event.phase.Outcome.TheVariants as outcome
 use Rattle.xen_back.specs.Queues.{IsReady, IsSameWiring, state_of, wiring_of}
-use Rattle.xen_back.specs.Responses.{moved}
+use Rattle.xen_back.specs.Responses.{after_slots}
 use Rattle.xen_back.specs.declared.delivery.delivering.Delivery.{Delivery}
 use Rattle.xen_back.specs.declared.delivery.delivering.Delivery.TheVariants as delivery
 use Rattle.xen_back.specs.declared.queue.Queue.{Queue}
@@ -31,9 +31,9 @@ pub data IsDelivery (w : Wiring) (s : State) (packet : List ℕ) : List Event �
       IsDelivery w s packet p s delivery.FewSlots
   refused : (p : List Event) (used : ℕ) → is_frame packet ≡ true → s.halt ≡ None →
       IsTransmit w.vif s.rx_index packet p (outcome.Refused used) →
-      IsDelivery w s packet p (moved s used) (delivery.Refused used)
+      IsDelivery w s packet p (after_slots s used) (delivery.Refused used)
   sent : (p : List Event) (used : ℕ) → is_frame packet ≡ true → s.halt ≡ None → IsTransmit w.vif s.rx_index packet p (outcome.Sent used) →
-      IsDelivery w s packet p (moved s used) (delivery.Sent used)
+      IsDelivery w s packet p (after_slots s used) (delivery.Sent used)
 
 -- A packet was delivered, or why not: its trace is a delivery's, and its accesses are the bus's.
 pub record IsDelivered {S : Type 0} (log : S → Option (List Access)) (gives : S → Access → S → Type 0)

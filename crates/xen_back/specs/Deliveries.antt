@@ -4,13 +4,13 @@ use Rattle.std.specs.Prelude.{ℕ, Bool, true, false, List, length, Option, Some
 use Rattle.xen_steps.specs.Drive.{IsPageWant, IsPageWant-prop}
 use Rattle.xen_steps.specs.Finish.{Finishes, Finishes-prop}
 use Rattle.xen_steps.specs.Steps.{Steps, bind, done}
-use Rattle.xen_transmit.specs.Rest.{rest_of}
-use Rattle.xen_transmit.specs.Transmit.{transmit}
-use Rattle.xen_transmit.specs.declared.by_event.phase.Outcome.{Outcome}
-use Rattle.xen_transmit.specs.declared.by_event.phase.Outcome.TheVariants as outcome
-use Rattle.xen_transmit.specs.declared.vif.Vif.{Vif}
+use Rattle.xen_rx_fill.specs.Rest.{rest_of}
+use Rattle.xen_rx_fill.specs.Transmit.{transmit}
+use Rattle.xen_rx_fill.specs.declared.by_event.phase.Outcome.{Outcome}
+use Rattle.xen_rx_fill.specs.declared.by_event.phase.Outcome.TheVariants as outcome
+use Rattle.xen_rx_fill.specs.declared.vif.Vif.{Vif}
 use Rattle.xen_back.specs.Delivered.{is_frame}
-use Rattle.xen_back.specs.Responses.{moved}
+use Rattle.xen_back.specs.Responses.{after_slots}
 use Rattle.xen_back.specs.declared.delivery.moving.Moving.{Moving}
 use Rattle.xen_back.specs.declared.delivery.moving.Moving.TheVariants as moving
 use Rattle.xen_back.specs.declared.delivery.delivering.Delivery.{Delivery}
@@ -27,8 +27,8 @@ Arrival = State × Delivery
 abbrev pub arrival : State → Outcome → Arrival
 arrival s outcome.Overflow = (record s { halt = Some halt.RxProducer }, delivery.Halted halt.RxProducer)
 arrival s outcome.TooFew = (s, delivery.FewSlots)
-arrival s (outcome.Refused used) = (moved s used, delivery.Refused used)
-arrival s (outcome.Sent used) = (moved s used, delivery.Sent used)
+arrival s (outcome.Refused used) = (after_slots s used, delivery.Refused used)
+arrival s (outcome.Sent used) = (after_slots s used, delivery.Sent used)
 
 abbrev pub arrived : State → Outcome → Steps Arrival
 arrived s o = done (arrival s o)

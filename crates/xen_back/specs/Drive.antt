@@ -5,7 +5,7 @@ use Rattle.bpf_note.specs.declared.op.Op.{Op}
 use Rattle.bpf_note.specs.declared.op.Op.TheVariants as op
 use Rattle.xen_page.specs.Access.{Performs}
 use Rattle.xen_page.specs.declared.access.Access.{Access}
-use Rattle.xen_steps.specs.Drive.{Gone, accesses}
+use Rattle.xen_steps.specs.Drive.{LedBy, accesses}
 use Rattle.xen_steps.specs.Event.{Event, Load, Add}
 use Rattle.xen_steps.specs.Steps.{Steps}
 use Rattle.xen_back.specs.Queues.{state_of, wiring_of, IsReady, IsSameWiring}
@@ -27,7 +27,7 @@ labels (e ∷ t) = label_of e ++ labels t
 -- what was done over a bus and a seat in going from one computation to another
 pub record Driven {A S : Type 0} (log : S → Option (List Access)) (gives : S → Access → S →
     Type 0) (s s' : Steps A) (bus bus' : S) (ops ops' : List Op) (t : List Event) : Type 0 where
-  pub gone : Gone s t s'
+  pub gone : LedBy s t s'
   pub performed : Performs log gives bus (accesses t) bus'
   pub grown : ops' ≡ ops ++ labels t
 

@@ -7,7 +7,7 @@ use Rattle.xen_netif.specs.Standing.{standing}
 use Rattle.xen_netif.specs.declared.fragment.Fragment.{Fragment}
 use Rattle.xen_page.specs.declared.fault.GrantFault.{GrantFault}
 use Rattle.xen_steps.specs.Steps.{Steps, bind, done}
-use Rattle.xen_transmit.specs.Wired.{IsWired}
+use Rattle.xen_rx_fill.specs.Wired.{IsWired}
 use Rattle.xen_back.specs.Queues.{state_of}
 use Rattle.xen_back.specs.Rest.{packet_of_stage}
 use Rattle.xen_back.specs.Tree.{after_scan, copy, judged, read_slots}

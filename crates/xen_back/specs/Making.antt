@@ -6,7 +6,7 @@ use Rattle.xen_back.specs.Queues.{IsReady, rx_ring_of, state_of, tx_ring_of, wir
 use Rattle.xen_back.specs.declared.desc.QueueDesc.{QueueDesc}
 use Rattle.xen_back.specs.declared.queue.Queue.{Queue}
 use Rattle.xen_back.specs.declared.state.State.{State}
-use Rattle.xen_transmit.specs.Wired.{IsWired}
+use Rattle.xen_rx_fill.specs.Wired.{IsWired}
 
 -- It is of the description, but for the index at which that has both rings begin, and is between turns in this state.
 pub record IsResumed (program : Accepted) (desc : QueueDesc) (s : State) (q : Queue) : Type 0 where

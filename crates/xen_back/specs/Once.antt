@@ -13,10 +13,10 @@ use Rattle.xen_page.specs.Table.{entry_place}
 use Rattle.xen_page.specs.declared.place.Place.{Place}
 use Rattle.xen_steps.specs.Event.{Event, Read}
 use Rattle.xen_steps.specs.Places.{add32, page_word}
-use Rattle.xen_transmit.specs.Packets.{pages}
-use Rattle.xen_transmit.specs.Places.{rx_slot, rx_word, tx_slot, tx_word}
-use Rattle.xen_transmit.specs.Sending.{AreTargets}
-use Rattle.xen_transmit.specs.declared.target.Target.{Target}
+use Rattle.xen_rx_fill.specs.Packets.{pages}
+use Rattle.xen_rx_fill.specs.Places.{rx_slot, rx_word, tx_slot, tx_word}
+use Rattle.xen_rx_fill.specs.Sending.{AreTargets}
+use Rattle.xen_rx_fill.specs.declared.target.Target.{Target}
 use Rattle.xen_back.specs.Parts.{HasRead, IsCopy, slots_reads}
 use Rattle.xen_back.specs.Turned.{Turned, Idle, Ran, Refused, Halted}
 use Rattle.xen_back.specs.Turns.{IsTurn}
@@ -160,12 +160,12 @@ pub record TurnReads (w : Wiring) (s : State) (p : List Event) (count : ℕ) (la
   pub read : SlotsRead w s p slots (copy_places w fragments frames ++ last)
 
 -- the event index of the responses
-abbrev pub told : Wiring → List Place
-told w = tx_word w.vif 3 ∷ []
+abbrev pub notice_reads : Wiring → List Place
+notice_reads w = tx_word w.vif 3 ∷ []
 
 -- a packet that is sent into rx slots of these references, or up to one whose grant fails
 abbrev pub SendReads : Wiring → State → List Event → ℕ → List ℕ → Type 0
-SendReads w s p count grefs = ArePosted w s.rx_index 0 grefs p × TurnReads w s p count (sent_places w s.rx_index grefs ++ told w)
+SendReads w s p count grefs = ArePosted w s.rx_index 0 grefs p × TurnReads w s p count (sent_places w s.rx_index grefs ++ notice_reads w)
 
 -- A queue that halts: at the producer, at a slot, or at the rx producer.
 abbrev pub HaltReads : Wiring → State → List Event → Halt → Type 0
@@ -177,11 +177,11 @@ HaltReads w s p cause = (slots : List Slot) × SlotsRead w s p slots []
 abbrev pub ReadsOf : Wiring → State → List Event → Turned → Type 0
 ReadsOf w s p Idle = places_read p ≡ tx_word w.vif 0 ∷ tx_word w.vif 0 ∷ []
 ReadsOf w s p (Ran number packet ops count) =
-    (number ≢ 3 → TurnReads w s p count (told w))
+    (number ≢ 3 → TurnReads w s p count (notice_reads w))
     × (number ≡ 3 → (grefs : List ℕ) × (length grefs ≡ pages packet) × SendReads w s p count grefs)
-ReadsOf w s p (Refused (refusal.Size fault) ops count) = SizeReads w s p fault count (told w)
-ReadsOf w s p (Refused refusal.Grant ops count) = GrantReads w s p count (told w)
-ReadsOf w s p (Refused refusal.FewSlots ops count) = TurnReads w s p count (rx_word w.vif 0 ∷ told w)
+ReadsOf w s p (Refused (refusal.Size fault) ops count) = SizeReads w s p fault count (notice_reads w)
+ReadsOf w s p (Refused refusal.Grant ops count) = GrantReads w s p count (notice_reads w)
+ReadsOf w s p (Refused refusal.FewSlots ops count) = TurnReads w s p count (rx_word w.vif 0 ∷ notice_reads w)
 ReadsOf w s p (Refused refusal.RxGrant ops count) = (grefs : List ℕ) × SendReads w s p count grefs
 ReadsOf w s p (Halted cause) = (s.halt ≡ None → HaltReads w s p cause) × (s.halt ≢ None → p ≡ [])
 

@@ -10,9 +10,9 @@ use Rattle.xen_page.specs.declared.fault.GrantFault.{GrantFault}
 use Rattle.xen_ring.specs.Index.{is_due}
 use Rattle.xen_steps.specs.Event.{Event, Read, Write}
 use Rattle.xen_steps.specs.Places.{add32, available}
-use Rattle.xen_transmit.specs.Places.{tx_slot, tx_word}
+use Rattle.xen_rx_fill.specs.Places.{tx_slot, tx_word}
 use Rattle.xen_steps.specs.Pages.{AreWords, covered, page_reads}
-use Rattle.xen_transmit.specs.Shared.{IsEntry, notices}
+use Rattle.xen_rx_fill.specs.Shared.{IsEntry, notices}
 use Rattle.xen_back.specs.Responses.{responses}
 use Rattle.xen_back.specs.declared.state.State.{State}
 use Rattle.xen_back.specs.declared.wiring.Wiring.{Wiring}

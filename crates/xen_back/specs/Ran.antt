@@ -2,7 +2,7 @@
 -- A run of the wired program on a packet, and what it did at the counters.
 use Rattle.std.specs.Prelude.{ℕ, ◌≡◌, List, [], ◌++◌}
 use Rattle.bpf_note.specs.declared.op.Op.{Op}
-use Rattle.xen_steps.specs.Drive.{Gone, accesses}
+use Rattle.xen_steps.specs.Drive.{LedBy, accesses}
 use Rattle.xen_steps.specs.Event.{Event}
 use Rattle.xen_steps.specs.Steps.{Steps, bind, done}
 use Rattle.xen_back.specs.Drive.{labels}
@@ -15,7 +15,7 @@ pub record HasRunTo (start now : Steps Left) (ops ops' : List Op) : Type 0 where
   pub trace : List Event
   pub no_access : accesses trace ≡ []
   pub grown : ops' ≡ ops ++ labels trace
-  pub gone : (f : Left → Steps Ending) → Gone (bind start f) trace (bind now f)
+  pub gone : (f : Left → Steps Ending) → LedBy (bind start f) trace (bind now f)
 
 -- The wired program ran on a packet, and left this.
 abbrev pub HasRunOn : Wiring → List ℕ → List ℕ → ℕ → ℕ → List Op → List Op → Type 0

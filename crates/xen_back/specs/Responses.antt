@@ -34,5 +34,5 @@ abbrev pub answered : State → ℕ → State
 answered s n = record s { tx_index = add32 s.tx_index n }
 
 -- so many rx slots are answered
-abbrev pub moved : State → ℕ → State
-moved s n = record s { rx_index = add32 s.rx_index n }
+abbrev pub after_slots : State → ℕ → State
+after_slots s n = record s { rx_index = add32 s.rx_index n }

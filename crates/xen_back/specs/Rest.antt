@@ -7,10 +7,10 @@ use Rattle.xen_netif.specs.Standing.{standing}
 use Rattle.xen_netif.specs.declared.fragment.Fragment.{Fragment}
 use Rattle.bpf_vm.specs.Course.{left}
 use Rattle.xen_steps.specs.Places.{add32}
-use Rattle.xen_transmit.specs.Rest.{rest_of}
+use Rattle.xen_rx_fill.specs.Rest.{rest_of}
 use Rattle.xen_steps.specs.Steps.{Steps, done, never, bind}
 use Rattle.xen_back.specs.Turned.{Ending, turned}
-use Rattle.xen_transmit.specs.Entries.{entry_at, entry_checked}
+use Rattle.xen_rx_fill.specs.Entries.{entry_at, entry_checked}
 use Rattle.xen_back.specs.Tree.{whole_turn, announce, check_again, after_look, after_scan, after_copy, after_run, after_transmit}
 use Rattle.xen_back.specs.Tree.{read_slot, second, third, judged, read_slots, answer, answered, halted, respond, read_event, notice}
 use Rattle.xen_back.specs.Tree.{entered, copy, program}

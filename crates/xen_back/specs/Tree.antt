@@ -17,15 +17,15 @@ use Rattle.xen_netif.specs.declared.status.Status.{Status}
 use Rattle.xen_netif.specs.declared.status.Status.TheVariants as status
 use Rattle.xen_page.specs.declared.fault.GrantFault.{GrantFault}
 use Rattle.xen_ring.specs.Index.{is_due}
-use Rattle.xen_transmit.specs.Entries.{entry}
+use Rattle.xen_rx_fill.specs.Entries.{entry}
 use Rattle.xen_steps.specs.Places.{add32, available}
-use Rattle.xen_transmit.specs.Places.{tx_slot, tx_word}
+use Rattle.xen_rx_fill.specs.Places.{tx_slot, tx_word}
 use Rattle.xen_steps.specs.Steps.{Steps, done, ask, never, bind}
-use Rattle.xen_transmit.specs.Transmit.{transmit}
-pub use Rattle.xen_back.specs.Responses.{Left, answered, moved, response, responses, status_of}
+use Rattle.xen_rx_fill.specs.Transmit.{transmit}
+pub use Rattle.xen_back.specs.Responses.{Left, answered, after_slots, response, responses, status_of}
 use Rattle.xen_back.specs.Turned.{Ending, Turned, Idle, Ran, Refused, Halted}
-use Rattle.xen_transmit.specs.declared.by_event.phase.Outcome.{Outcome}
-use Rattle.xen_transmit.specs.declared.by_event.phase.Outcome.TheVariants as outcome
+use Rattle.xen_rx_fill.specs.declared.by_event.phase.Outcome.{Outcome}
+use Rattle.xen_rx_fill.specs.declared.by_event.phase.Outcome.TheVariants as outcome
 use Rattle.xen_back.specs.declared.state.State.{State}
 use Rattle.xen_back.specs.declared.turn.Halt.{Halt}
 use Rattle.xen_back.specs.declared.turn.Halt.TheVariants as halt
@@ -117,9 +117,9 @@ program Broken ops = never
 abbrev pub after_transmit : Wiring → State → List Slot → List ℕ → ℕ → Outcome → Steps Ending
 after_transmit w s slots packet ops outcome.Overflow = halted s halt.RxProducer
 after_transmit w s slots packet ops outcome.TooFew = respond w s slots status.Error (Refused refusal.FewSlots ops (length slots))
-after_transmit w s slots packet ops (outcome.Refused used) = respond w (moved s used) slots status.Error
+after_transmit w s slots packet ops (outcome.Refused used) = respond w (after_slots s used) slots status.Error
     (Refused refusal.RxGrant ops (length slots))
-after_transmit w s slots packet ops (outcome.Sent used) = respond w (moved s used) slots status.Okay (Ran 3 packet ops (length slots))
+after_transmit w s slots packet ops (outcome.Sent used) = respond w (after_slots s used) slots status.Okay (Ran 3 packet ops (length slots))
 
 abbrev pub send : Wiring → State → List Slot → List ℕ → ℕ → Steps Ending
 send w s slots packet ops = bind (transmit w.vif s.rx_index packet) (after_transmit w s slots packet ops)

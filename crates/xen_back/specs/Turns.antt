@@ -10,10 +10,10 @@ use Rattle.xen_netif.specs.declared.status.Status.TheVariants.{Okay, Error}
 use Rattle.xen_steps.specs.Event.{Event}
 use Rattle.xen_back.specs.Parts.{IsLook, IsBeginning, HasRead, IsCopy, IsRespond}
 use Rattle.xen_back.specs.Program.{IsProgram}
-use Rattle.xen_transmit.specs.Sending.{IsTransmit}
-use Rattle.xen_back.specs.Responses.{Left, answered, moved, status_of}
+use Rattle.xen_rx_fill.specs.Sending.{IsTransmit}
+use Rattle.xen_back.specs.Responses.{Left, answered, after_slots, status_of}
 use Rattle.xen_back.specs.Turned.{Turned, Idle, Ran, Refused, Halted}
-use Rattle.xen_transmit.specs.declared.by_event.phase.Outcome.TheVariants as outcome
+use Rattle.xen_rx_fill.specs.declared.by_event.phase.Outcome.TheVariants as outcome
 use Rattle.xen_back.specs.declared.state.State.{State}
 use Rattle.xen_back.specs.declared.turn.Halt.{Halt}
 use Rattle.xen_back.specs.declared.turn.Halt.TheVariants as halt
@@ -64,9 +64,9 @@ pub data IsTurn (w : Wiring) (s : State) : List Event → State → Turned → T
       IsTurn w s (p ++ (p5 ++ p6)) (answered s (length slots)) (Refused refusal.FewSlots out.ops (length slots))
   refused_rx : (p p5 p6 : List Event) (used : ℕ) (slots : List Slot) (out : Left) → HasRun w s p slots out → out.number ≡ 3 →
       IsTransmit w.vif s.rx_index out.packet p5 (outcome.Refused used) →
-      IsRespond w s.tx_index slots Error p6 → IsTurn w s (p ++ (p5 ++ p6)) (answered (moved s used) (length slots))
+      IsRespond w s.tx_index slots Error p6 → IsTurn w s (p ++ (p5 ++ p6)) (answered (after_slots s used) (length slots))
       (Refused refusal.RxGrant out.ops (length slots))
   ran_tx : (p p5 p6 : List Event) (used : ℕ) (slots : List Slot) (out : Left) → HasRun w s p slots out → out.number ≡ 3 →
       IsTransmit w.vif s.rx_index out.packet p5 (outcome.Sent used) →
-      IsRespond w s.tx_index slots Okay p6 → IsTurn w s (p ++ (p5 ++ p6)) (answered (moved s used) (length slots))
+      IsRespond w s.tx_index slots Okay p6 → IsTurn w s (p ++ (p5 ++ p6)) (answered (after_slots s used) (length slots))
       (Ran 3 out.packet out.ops (length slots))

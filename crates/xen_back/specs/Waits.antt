@@ -6,10 +6,10 @@ use Rattle.xen_steps.specs.Finish.{Finishes}
 use Rattle.xen_steps.specs.Places.{add32, available, page_word}
 use Rattle.xen_steps.specs.Steps.{Steps, ask, done}
 use Rattle.xen_steps.specs.declared.want.Want.TheVariants as wants
-use Rattle.xen_back.specs.declared.delivery.awaiting.Awaited.{Awaited}
-use Rattle.xen_back.specs.declared.delivery.awaiting.Awaited.TheVariants as awaited
-use Rattle.xen_back.specs.declared.delivery.looking.Looking.{Looking}
-use Rattle.xen_back.specs.declared.delivery.looking.Looking.TheVariants as looking
+use Rattle.xen_back.specs.declared.delivery.wait.Awaited.{Awaited}
+use Rattle.xen_back.specs.declared.delivery.wait.Awaited.TheVariants as awaited
+use Rattle.xen_back.specs.declared.delivery.wait_stage.Looking.{Looking}
+use Rattle.xen_back.specs.declared.delivery.wait_stage.Looking.TheVariants as looking
 use Rattle.xen_back.specs.declared.state.State.{State}
 use Rattle.xen_back.specs.declared.turn.Halt.{Halt}
 use Rattle.xen_back.specs.declared.turn.Halt.TheVariants as halt

@@ -5,8 +5,8 @@ use Rattle.xen_steps.specs.Answers.{number}
 use Rattle.xen_steps.specs.Steps.{Steps, done, next}
 use Rattle.xen_steps.specs.declared.want.Answer.{Answer}
 use Rattle.xen_back.specs.Queues.{IsReady, IsSameWiring, state_of, wiring_of}
-use Rattle.xen_back.specs.declared.delivery.awaiting.Awaited.{Awaited}
-use Rattle.xen_back.specs.declared.delivery.looking.Awaiting.{Awaiting}
+use Rattle.xen_back.specs.declared.delivery.wait.Awaited.{Awaited}
+use Rattle.xen_back.specs.declared.delivery.wait_stage.Awaiting.{Awaiting}
 use Rattle.xen_back.specs.declared.queue.Queue.{Queue}
 use Rattle.xen_back.specs.Waits.{Wait, rest_looking, whole_wait}
 

@@ -3,7 +3,7 @@
 
 ghost use Rattle.std.specs.Prelude.{◌≡◌, ◌≤◌, [], List, Option, Some, length, ℕ};
 ghost use Rattle.xen_back.specs.Rest.{after_reply, packet_at};
-ghost use Rattle.xen_back.specs.Tree.{after_transmit, answered, moved, response as response_spec, status_of};
+ghost use Rattle.xen_back.specs.Tree.{after_slots as after_slots_spec, after_transmit, answered, response as response_spec, status_of};
 ghost use Rattle.xen_back.specs.Turned.{IsShort, Shows, turned};
 ghost use Rattle.xen_back.specs.declared.wiring.Wiring.{Wiring as WiringView};
 ghost use Rattle.xen_netif.specs.Chain.{Slot};
@@ -11,13 +11,13 @@ ghost use Rattle.xen_netif.specs.declared.tx.TxReq.{TxReq};
 ghost use Rattle.xen_steps.specs.Places.{add32};
 
 use crate::by_event::stage::Stage;
-pub use crate::delivery::awaiting::told;
 pub use crate::delivery::delivering::{can_be_delivered, delivered};
+pub use crate::delivery::wait::wait_answer;
 use crate::state::State;
 use crate::turn::{Halt, Kind, Refusal, Turn};
 use bpf_vm::{Action, XDP_DROP, XDP_PASS, XDP_TX};
 use xen_netif::{Chain, Status, TxReq, TxRsp};
-use xen_transmit::Outcome;
+use xen_rx_fill::Outcome;
 
 /// The status of the responses to a packet that isn't sent back, by the number that the program ended with.
 pub fn status(number: u32) -> Status
@@ -67,7 +67,7 @@ pub fn after_answers(state: &State, n: u32) -> State
 
 /// The state after so many rx slots are answered.
 pub fn after_slots(state: &State, n: u32) -> State
-    ensures { result ≡ moved state.now n }
+    ensures { result ≡ after_slots_spec state.now n }
 {
     State {
         tx_index: state.tx_index,

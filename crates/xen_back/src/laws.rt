@@ -4,14 +4,14 @@ ghost use Rattle.std.specs.Prelude.{ℕ, ◌≡◌, ◌<◌, ◌≤◌, ◌^◌,
 ghost use Rattle.xen_netif.specs.declared.fragment.Fragment.{Fragment};
 ghost use Rattle.bpf_verify.specs.Consistent.{IsConsistent, instructions};
 ghost use Rattle.xen_steps.specs.Answers.{Fits, counter_in, number, word_in};
-ghost use Rattle.xen_steps.specs.Drive.{Goes, Gone, accesses, notices_in, program_events};
+ghost use Rattle.xen_steps.specs.Drive.{Goes, LedBy, accesses, notices_in, program_events};
 ghost use Rattle.xen_ring.specs.Index.{is_due};
 ghost use Rattle.xen_steps.specs.Event.{Event};
 ghost use Rattle.xen_steps.specs.Places.{add32};
 ghost use Rattle.xen_back.specs.Program.{IsProgram};
 ghost use Rattle.xen_steps.specs.Steps.{Runs, Steps, next, want_of};
 ghost use Rattle.xen_steps.specs.declared.want.Answer.{Answer};
-ghost use Rattle.xen_transmit.specs.Touched.{AllAllowed};
+ghost use Rattle.xen_rx_fill.specs.Touched.{AllAllowed};
 ghost use Rattle.xen_back.specs.Awaited.{IsAwaiting};
 ghost use Rattle.xen_back.specs.Delivered.{IsDelivery};
 ghost use Rattle.xen_back.specs.Deliveries.{whole_delivery};
@@ -21,7 +21,7 @@ ghost use Rattle.xen_back.specs.Once.{CoveredDistinct, FragmentsOnce, PostedDist
 ghost use Rattle.xen_back.specs.Parts.{IsCopy};
 ghost use Rattle.xen_back.specs.Turns.{IsTurn};
 ghost use Rattle.xen_back.specs.Waits.{WaitEnds, whole_wait};
-ghost use Rattle.xen_back.specs.declared.delivery.awaiting.Awaited.{Awaited};
+ghost use Rattle.xen_back.specs.declared.delivery.wait.Awaited.{Awaited};
 ghost use Rattle.xen_back.specs.declared.delivery.delivering.Delivery.{Delivery};
 ghost use Rattle.xen_back.specs.declared.state.State.{State};
 ghost use Rattle.xen_back.specs.declared.wiring.Wiring.{Wiring};
@@ -82,7 +82,7 @@ pub fn feeding_takes_the_rests()
 /// A queue inside a turn has a way to the turn's end, at least one, whatever it was answered so far.
 pub fn queues_have_rests()
     ensures { (w : Wiring) (s : State) → IsConsistent w.program.now → w.ifindex < 2 ^ 32 → w.queue < 2 ^ 32 →
-        (t : List Event) (rest : Steps Ending) → Gone (whole_turn w s) t rest →
+        (t : List Event) (rest : Steps Ending) → LedBy (whole_turn w s) t rest →
         (p : List Event) × (new : State) × (u : Turned) × Runs rest p (new, u) × IsTurn w s (t ++ p) new u }
 {}
 

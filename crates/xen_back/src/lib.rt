@@ -27,14 +27,14 @@ mod turn;
 mod wiring;
 
 pub use bpf_vm::Action;
-pub use delivery::awaiting::Awaited;
 pub use delivery::delivering::Delivery;
-pub use delivery::looking::Awaiting;
 pub use delivery::underway::Delivering;
+pub use delivery::wait::Awaited;
+pub use delivery::wait_stage::Awaiting;
 pub use desc::QueueDesc;
 pub use queue::Queue;
 pub use state::State;
 pub use turn::{Halt, Kind, Refusal, Turn};
 pub use wiring::Wiring;
+pub use xen_rx_fill::Vif;
 pub use xen_steps::{Answer, Want};
-pub use xen_transmit::Vif;

@@ -8,7 +8,7 @@ mod waits;
 ghost use Rattle.std.specs.Prelude.{IsTrue, is_some};
 ghost use Rattle.xen_back.specs.Rest.{rest_of_stage};
 ghost use Rattle.xen_back.specs.Within.{Completes, Completes-prop, TurnsComplete, TurnsComplete-prop};
-ghost use Rattle.xen_transmit.specs.Wired.{IsWired};
+ghost use Rattle.xen_rx_fill.specs.Wired.{IsWired};
 
 use crate::by_event::stage::Stage;
 use crate::state::State;

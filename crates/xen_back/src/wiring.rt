@@ -1,7 +1,7 @@
 //! What a queue is wired to.
 
 use bpf_verify::Verified;
-use xen_transmit::Vif;
+use xen_rx_fill::Vif;
 
 /// What a queue shares with its frontend, and its program with the numbers that the program sees.
 #[derive(Clone, Copy)]

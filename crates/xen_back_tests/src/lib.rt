@@ -1,4 +1,4 @@
-//! Tests of [`xen_back`] and [`xen_transmit`] by what they make public. They are a crate of their own so that the gate proves
+//! Tests of [`xen_back`] and [`xen_rx_fill`] by what they make public. They are a crate of their own so that the gate proves
 //! these once.
 //!
 //! - `bench`: what a queue of the tests stands on

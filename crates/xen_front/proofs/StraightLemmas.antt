@@ -3,7 +3,7 @@ use Rattle.std.proofs.Common.{◌≡◌, ℕ, zero, suc, ◌+◌, ◌-◌, ◌*�
 use Rattle.xen_page.specs.Access.{Performs}
 use Rattle.xen_page.specs.declared.access.Access.{Access}
 use Rattle.xen_page.specs.declared.access.Access.TheVariants as access
-use Rattle.xen_steps.specs.Drive.{Any, Bounded, Driven, Gone, IsPageWant}
+use Rattle.xen_steps.specs.Drive.{Any, Bounded, Driven, LedBy, IsPageWant}
 use Rattle.xen_steps.specs.Event.{Event}
 use Rattle.xen_steps.specs.Pages.{PageWrite, write_all, writes}
 use Rattle.xen_steps.specs.Places.{page_word}
@@ -53,7 +53,7 @@ pub bounded_writes : {A : Type 0} (frames : ℕ) (ns : List PageWrite) (rest : S
 bounded_writes frames [] rest n b = tt
 bounded_writes frames (x ∷ ns) rest n b = (b.1.0, b.1.1, bounded_writes frames ns rest (n - 1) (b.2 0))
 
-gone_writes : {A : Type 0} (ns : List PageWrite) (rest : Steps A) → Gone (write_all ns rest) (writes ns) rest
+gone_writes : {A : Type 0} (ns : List PageWrite) (rest : Steps A) → LedBy (write_all ns rest) (writes ns) rest
 gone_writes [] rest = refl
 gone_writes (n ∷ ns) rest = (write_all ns rest, (0, occurs_write (want.Write n.at n.value) n.at n.value refl, refl), gone_writes ns rest)
 
@@ -67,7 +67,7 @@ write_all-append [] ms rest = refl
 write_all-append (n ∷ ns) ms rest = ap (λ s. Steps.ask (want.Write n.at n.value) (λ _. s)) (write_all-append ns ms rest)
 
 -- what is left stays short
-pub short_gone : (w : Wiring) (s : State) (p q : List ℕ) (x y : Phase) (t : List Event) → IsShort w s p q x → Gone (rest_at w s p q x) t (rest_at w s p q y) → IsShort w s p q y
+pub short_gone : (w : Wiring) (s : State) (p q : List ℕ) (x y : Phase) (t : List Event) → IsShort w s p q x → LedBy (rest_at w s p q x) t (rest_at w s p q y) → IsShort w s p q y
 unfolding IsShort
 short_gone w s p q x y t h g =
     bounded_le (IsPageWant w.frames) Any (rest_at w s p q y) (17000 - length t) 17000

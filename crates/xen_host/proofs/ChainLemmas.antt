@@ -5,18 +5,18 @@ use Rattle.std.proofs.lemmas.Bool.Decides.{nat_tests}
 use Rattle.std.proofs.lemmas.List.{drop_more}
 use Rattle.xen_page.specs.Mapping.{frame_place}
 use Rattle.xen_page.specs.declared.place.Place.{Place}
-use Rattle.xen_steps.specs.Drive.{Gone}
+use Rattle.xen_steps.specs.Drive.{LedBy}
 use Rattle.xen_steps.specs.Event.{Event, Write}
 use Rattle.xen_steps.specs.Places.{add32, page_word}
 use Rattle.xen_steps.specs.Steps.{Steps, ask as asking, bind}
 use Rattle.xen_steps.specs.declared.want.Want.TheVariants as want
-use Rattle.xen_transmit.specs.Packets.{buffer_word, frame_in, response_word, target_at, word_of, words}
-use Rattle.xen_transmit.specs.Places.{rx_slot, tx_slot}
-use Rattle.xen_transmit.specs.Transmit.{fill, fill_from, rx_answer, rx_respond}
-use Rattle.xen_transmit.specs.declared.by_event.phase.Outcome.{Outcome}
-use Rattle.xen_transmit.specs.declared.target.Target.{Target}
-use Rattle.xen_transmit.specs.declared.vif.Vif.{Vif}
-use Rattle.xen_transmit.proofs.SendLemmas.{rx_answer_at}
+use Rattle.xen_rx_fill.specs.Packets.{buffer_word, frame_in, response_word, target_at, word_of, words}
+use Rattle.xen_rx_fill.specs.Places.{rx_slot, tx_slot}
+use Rattle.xen_rx_fill.specs.Transmit.{fill, fill_from, rx_answer, rx_respond}
+use Rattle.xen_rx_fill.specs.declared.by_event.phase.Outcome.{Outcome}
+use Rattle.xen_rx_fill.specs.declared.target.Target.{Target}
+use Rattle.xen_rx_fill.specs.declared.vif.Vif.{Vif}
+use Rattle.xen_rx_fill.proofs.SendLemmas.{rx_answer_at}
 use Rattle.xen_back.specs.Tree.{answer}
 use Rattle.xen_back.specs.Turned.{Ending}
 use Rattle.xen_back.specs.declared.wiring.Wiring.{Wiring}
@@ -57,14 +57,14 @@ answer_more : (w : Wiring) (t n i : ℕ) (words : List ℕ) (e : Ending) → i <
 answer_more w t n i words e h = ap (λ l. answer w t n i l e) (drop_more words i 0 h)
 
 pub stores_gone : (w : Wiring) (t m : ℕ) (words : List ℕ) (e : Ending) (i n : ℕ) (lent : List ℕ) → i + n ≤ length words →
-    Gone (answer w t m i (drop i words) e) (did_all (stores w.vif t words i n) lent) (answer w t m (i + n) (drop (i + n) words) e)
+    LedBy (answer w t m i (drop i words) e) (did_all (stores w.vif t words i n) lent) (answer w t m (i + n) (drop (i + n) words) e)
 stores_gone w t m words e i zero lent h =
     let z : i ≡ i + 0 = omega arith in
     ap (λ k. answer w t m k (drop k words) e) z
 stores_gone w t m words e i (suc n) lent h =
     let z : i + 1 + n ≡ i + suc n = omega arith in
-    let goal : Steps Ending → Type 0 = λ s. Gone s (did_all (stores w.vif t words i (suc n)) lent) (answer w t m (i + suc n) (drop (i + suc n) words) e) in
-    let later = subst (λ k. Gone (answer w t m (i + 1) (drop (i + 1) words) e) (did_all (stores w.vif t words (i + 1) n) lent) (answer w t m k (drop k words) e)) z (stores_gone w t m words e (i + 1) n lent (omega (arith, h))) in
+    let goal : Steps Ending → Type 0 = λ s. LedBy s (did_all (stores w.vif t words i (suc n)) lent) (answer w t m (i + suc n) (drop (i + suc n) words) e) in
+    let later = subst (λ k. LedBy (answer w t m (i + 1) (drop (i + 1) words) e) (did_all (stores w.vif t words (i + 1) n) lent) (answer w t m k (drop k words) e)) z (stores_gone w t m words e (i + 1) n lent (omega (arith, h))) in
     subst goal (sym (answer_more w t m i words e (omega (arith, h)))) (answer w t m (i + 1) (drop (i + 1) words) e, (0, (refl, refl), refl), later)
 
 -- ---- the responses of rx slots, from the i-th on
@@ -90,7 +90,7 @@ replies_more w x packet passed ts i n k e =
     ap (λ m. replies w x packet passed ts i m) one ∙ replies_suc w x packet passed ts i n ∙ ap (λ j. replies w x packet passed ts i n ++ reply w x packet passed ts j ∷ []) at
 
 pub replies_gone : (w : Vif) (x : ℕ) (packet : List ℕ) (passed : Bool) (ts : List Target) (i n : ℕ) (lent : List ℕ) → i + n ≤ length ts →
-    Gone (rx_answer w x packet passed (length ts) i (drop i ts)) (did_all (replies w x packet passed ts i n) lent) (rx_answer w x packet passed (length ts) (i + n) (drop (i + n) ts))
+    LedBy (rx_answer w x packet passed (length ts) i (drop i ts)) (did_all (replies w x packet passed ts i n) lent) (rx_answer w x packet passed (length ts) (i + n) (drop (i + n) ts))
 replies_gone w x packet passed ts i zero lent h =
     let z : i ≡ i + 0 = omega arith in
     ap (λ k. rx_answer w x packet passed (length ts) k (drop k ts)) z
@@ -102,8 +102,8 @@ replies_gone w x packet passed ts i (suc n) lent h =
     let at = rx_slot w (add32 x i) 0 in
     let more = did_all (replies w x packet passed ts (i + 1) n) lent in
     let after = rx_answer w x packet passed m (i + 1) (drop (i + 1) ts) in
-    let goal : Steps Outcome → Type 0 = λ s. Gone s (did_all (replies w x packet passed ts i (suc n)) lent) (rx_answer w x packet passed m (i + suc n) (drop (i + suc n) ts)) in
-    let later = subst (λ k. Gone after more (rx_answer w x packet passed m k (drop k ts))) z (replies_gone w x packet passed ts (i + 1) n lent (omega (arith, h))) in
+    let goal : Steps Outcome → Type 0 = λ s. LedBy s (did_all (replies w x packet passed ts i (suc n)) lent) (rx_answer w x packet passed m (i + suc n) (drop (i + suc n) ts)) in
+    let later = subst (λ k. LedBy after more (rx_answer w x packet passed m k (drop k ts))) z (replies_gone w x packet passed ts (i + 1) n lent (omega (arith, h))) in
     let wrote : ◌≡◌ {A = Event} (Write (frame_place at) second) (Write (rx_slot w (add32 x i) 1) second) = ap (λ (p : Place). Write p second) (sym (next_rx_word w (add32 x i))) in
     subst goal (sym (rx_answer_at w x packet passed m i ts (omega (arith, h))))
     (asking (want.Write (rx_slot w (add32 x i) 1) second) (λ _. after), (0, (refl, refl), refl), (after, (0, (refl, wrote), refl), later))
@@ -111,7 +111,7 @@ replies_gone w x packet passed ts i (suc n) lent h =
 -- ---- words of a packet that go into a page
 
 pub fill_gone : {A : Type 0} (ts : List Target) (packet : List ℕ) (i j k m n : ℕ) (r : Unit {0} → Steps A) → k ≡ 1024 * i + j → j + m ≤ 1024 → m ≤ n →
-    Gone (bind (fill ts packet n k) r) (writes_at (page_word (frame_in (target_at ts i).frame) j) (packet_words packet k m)) (bind (fill ts packet (n - m) (k + m)) r)
+    LedBy (bind (fill ts packet n k) r) (writes_at (page_word (frame_in (target_at ts i).frame) j) (packet_words packet k m)) (bind (fill ts packet (n - m) (k + m)) r)
 fill_gone ts packet i j k zero n r e h l =
     let a : n ≡ n - 0 = omega arith in
     let b : k ≡ k + 0 = omega arith in
@@ -126,13 +126,13 @@ fill_gone {A = A} ts packet i j k (suc m) (suc n) r e h l =
     let b : k + 1 + m ≡ k + suc m = omega arith in
     let next = page_word (frame_in (target_at ts i).frame) (j + 1) in
     let later = fill_gone ts packet i (j + 1) (k + 1) m n r (omega (arith, e)) (omega (arith, h)) (omega (arith, l)) in
-    let left = subst (λ x. Gone (bind (fill ts packet n (k + 1)) r) (writes_at next (packet_words packet (k + 1) m)) (bind (fill ts packet x (k + suc m)) r)) a
-    (subst (λ x. Gone (bind (fill ts packet n (k + 1)) r) (writes_at next (packet_words packet (k + 1) m)) (bind (fill ts packet (n - m) x) r)) b later) in
+    let left = subst (λ x. LedBy (bind (fill ts packet n (k + 1)) r) (writes_at next (packet_words packet (k + 1) m)) (bind (fill ts packet x (k + suc m)) r)) a
+    (subst (λ x. LedBy (bind (fill ts packet n (k + 1)) r) (writes_at next (packet_words packet (k + 1) m)) (bind (fill ts packet (n - m) x) r)) b later) in
     (bind (fill ts packet n (k + 1)) r, (0, (refl, ap (λ (p : Place). Write p (word_of packet k)) place), refl), left)
 
 -- A page of them, and what is left then: the next page, or the responses.
 pub page_gone : (w : Vif) (x : ℕ) (packet : List ℕ) (ts : List Target) (i to : ℕ) → 1024 * i < words packet → to ≡ min (words packet) (1024 * i + 1024) →
-    Gone (fill_from w x packet ts (1024 * i)) (writes_at (page_word (frame_in (target_at ts i).frame) 0) (packet_words packet (1024 * i) (to - 1024 * i))) (fill_from w x packet ts (1024 * (i + 1)))
+    LedBy (fill_from w x packet ts (1024 * i)) (writes_at (page_word (frame_in (target_at ts i).frame) 0) (packet_words packet (1024 * i) (to - 1024 * i))) (fill_from w x packet ts (1024 * (i + 1)))
 page_gone w x packet ts i to h e = by (nat_le (words packet) (1024 * i + 1024)) refl
   where
     r : Unit {0} → Steps Outcome
@@ -141,11 +141,11 @@ page_gone w x packet ts i to h e = by (nat_le (words packet) (1024 * i + 1024)) 
     n : ℕ
     n = words packet - 1024 * i
 
-    gone : (m : ℕ) → m ≤ n → m ≤ 1024 → Gone (fill_from w x packet ts (1024 * i)) (writes_at (page_word (frame_in (target_at ts i).frame) 0) (packet_words packet (1024 * i) m)) (bind (fill ts packet (n - m) (1024 * i + m)) r)
+    gone : (m : ℕ) → m ≤ n → m ≤ 1024 → LedBy (fill_from w x packet ts (1024 * i)) (writes_at (page_word (frame_in (target_at ts i).frame) 0) (packet_words packet (1024 * i) m)) (bind (fill ts packet (n - m) (1024 * i + m)) r)
     gone m a b = fill_gone ts packet i 0 (1024 * i) m n r (omega arith) (omega (arith, b)) a
 
     by : (b : Bool) → nat_le (words packet) (1024 * i + 1024) ≡ b →
-        Gone (fill_from w x packet ts (1024 * i)) (writes_at (page_word (frame_in (target_at ts i).frame) 0) (packet_words packet (1024 * i) (to - 1024 * i))) (fill_from w x packet ts (1024 * (i + 1)))
+        LedBy (fill_from w x packet ts (1024 * i)) (writes_at (page_word (frame_in (target_at ts i).frame) 0) (packet_words packet (1024 * i) (to - 1024 * i))) (fill_from w x packet ts (1024 * (i + 1)))
     by true t =
         let le : words packet ≤ 1024 * i + 1024 = grind (arith, nat_tests) in
         let m : to - 1024 * i ≡ n = omega (arith, le, e) in
@@ -153,7 +153,7 @@ page_gone w x packet ts i to h e = by (nat_le (words packet) (1024 * i + 1024)) 
         let later : words packet - 1024 * (i + 1) ≡ 0 = omega (arith, le) in
         let left : bind (fill ts packet (n - (to - 1024 * i)) (1024 * i + (to - 1024 * i))) r ≡ fill_from w x packet ts (1024 * (i + 1)) =
         ap (λ k. bind (fill ts packet k (1024 * i + (to - 1024 * i))) r) none ∙ sym (ap (λ k. bind (fill ts packet k (1024 * (i + 1))) r) later) in
-        subst (λ (s : Steps Outcome). Gone (fill_from w x packet ts (1024 * i)) (writes_at (page_word (frame_in (target_at ts i).frame) 0) (packet_words packet (1024 * i) (to - 1024 * i))) s) left
+        subst (λ (s : Steps Outcome). LedBy (fill_from w x packet ts (1024 * i)) (writes_at (page_word (frame_in (target_at ts i).frame) 0) (packet_words packet (1024 * i) (to - 1024 * i))) s) left
         (gone (to - 1024 * i) (omega (arith, m)) (omega (arith, m, le)))
     by false t =
         let lt : 1024 * i + 1024 < words packet = grind (arith, nat_tests) in
@@ -162,7 +162,7 @@ page_gone w x packet ts i to h e = by (nat_le (words packet) (1024 * i + 1024)) 
         let rest : n - (to - 1024 * i) ≡ words packet - 1024 * (i + 1) = omega (arith, lt, m) in
         let left : bind (fill ts packet (n - (to - 1024 * i)) (1024 * i + (to - 1024 * i))) r ≡ fill_from w x packet ts (1024 * (i + 1)) =
         ap (λ k. bind (fill ts packet k (1024 * i + (to - 1024 * i))) r) rest ∙ ap (λ k. bind (fill ts packet (words packet - 1024 * (i + 1)) k) r) next in
-        subst (λ (s : Steps Outcome). Gone (fill_from w x packet ts (1024 * i)) (writes_at (page_word (frame_in (target_at ts i).frame) 0) (packet_words packet (1024 * i) (to - 1024 * i))) s) left
+        subst (λ (s : Steps Outcome). LedBy (fill_from w x packet ts (1024 * i)) (writes_at (page_word (frame_in (target_at ts i).frame) 0) (packet_words packet (1024 * i) (to - 1024 * i))) s) left
         (gone (to - 1024 * i) (omega (arith, m, lt)) (omega (arith, m)))
 
 -- No word is left.

@@ -3,16 +3,16 @@ use Rattle.std.proofs.Common.{◌≡◌, ℕ, ◌≤◌, ◌⊎◌, inl, inr, Li
 use Rattle.std.specs.Prelude.{◌/◌}
 use Rattle.xen_netif.specs.declared.flags.TxFlags.{TxFlags}
 use Rattle.xen_page.specs.declared.place.Place.{Place}
-use Rattle.xen_steps.specs.Drive.{Gone, IsPageWant}
+use Rattle.xen_steps.specs.Drive.{LedBy, IsPageWant}
 use Rattle.xen_steps.specs.Finish.{Finishes}
 use Rattle.xen_steps.specs.Pages.{covered}
 use Rattle.xen_steps.specs.Places.{add32, page_word}
 use Rattle.xen_steps.specs.Steps.{Steps}
 use Rattle.xen_steps.specs.declared.want.Want.{Want}
 use Rattle.xen_steps.proofs.FinishLemmas.{finishes_gone}
-use Rattle.xen_transmit.specs.Places.{rx_slot, rx_word, tx_slot, tx_word}
-use Rattle.xen_transmit.specs.Transmit.{after_targets, read_targets, targeted}
-use Rattle.xen_transmit.specs.declared.vif.Vif.{Vif}
+use Rattle.xen_rx_fill.specs.Places.{rx_slot, rx_word, tx_slot, tx_word}
+use Rattle.xen_rx_fill.specs.Transmit.{after_targets, read_targets, targeted}
+use Rattle.xen_rx_fill.specs.declared.vif.Vif.{Vif}
 use Rattle.xen_back.specs.Deliveries.{Arrival, arrived}
 use Rattle.xen_netif.specs.Chain.{Slot}
 use Rattle.xen_netif.specs.Standing.{standing}
@@ -22,7 +22,7 @@ use Rattle.xen_back.specs.Waits.{Wait}
 use Rattle.xen_back.specs.Within.{Completes, may_want}
 use Rattle.xen_back.specs.declared.state.State.{State}
 use Rattle.xen_back.specs.declared.wiring.Wiring.{Wiring}
-use Rattle.xen_back.specs.declared.delivery.awaiting.Awaited.{Awaited}
+use Rattle.xen_back.specs.declared.delivery.wait.Awaited.{Awaited}
 use Rattle.xen_back.specs.declared.delivery.delivering.Delivery.{Delivery}
 use Rattle.xen_back.specs.declared.turn.Kind.{Kind}
 use Rattle.xen_host.specs.Asks.{AllInPages, AllSized, Ask, IsInPages, IsSized, did_all, did_by, reads_at}
@@ -250,7 +250,7 @@ module _ {A : Type 0} (frames : ℕ) (within : Want → Type 0) (in_pages : AreI
     finishes = finishes_gone within from h.left (did_all h.first lent_after ++ did_by h.last lent_after) f h.gone;
   }
     where
-      by : ((n : ℕ) × WaitsFor h.last n h.left) ⊎ IsInPages frames h.last → (m : Steps A) → Gone m (did_by h.last lent_after) h.left → Finishes within m → IsInPages frames h.last
+      by : ((n : ℕ) × WaitsFor h.last n h.left) ⊎ IsInPages frames h.last → (m : Steps A) → LedBy m (did_by h.last lent_after) h.left → Finishes within m → IsInPages frames h.last
       by (inl x) m g k = last_within frames within in_pages h.last x.0 lent_after m h.left long (sized_last h.first h.last h.said.sized) g x.1 k
       by (inr p) m g k = p
 

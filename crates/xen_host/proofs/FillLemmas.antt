@@ -1,10 +1,10 @@
 -- A transmit that goes on, whatever it is for.
 use Rattle.std.proofs.Common.{◌≡◌, ℕ, suc, ◌≤◌, true, List, ◌∷◌, ◌++◌, length, drop, refl, ap, subst}
-use Rattle.xen_steps.specs.Drive.{Gone}
+use Rattle.xen_steps.specs.Drive.{LedBy}
 use Rattle.xen_steps.specs.Steps.{Steps, bind}
-use Rattle.xen_transmit.specs.declared.by_event.phase.Outcome.{Outcome}
-use Rattle.xen_transmit.specs.declared.target.Target.{Target}
-use Rattle.xen_transmit.proofs.StraightLemmas.{gone_bind}
+use Rattle.xen_rx_fill.specs.declared.by_event.phase.Outcome.{Outcome}
+use Rattle.xen_rx_fill.specs.declared.target.Target.{Target}
+use Rattle.xen_rx_fill.proofs.StraightLemmas.{gone_bind}
 use Rattle.xen_back.specs.Deliveries.{Arrival, arrived}
 use Rattle.xen_back.specs.Tree.{after_transmit}
 use Rattle.xen_back.specs.Turned.{Ending}
@@ -124,7 +124,7 @@ fill_same p e x same new ops ops_after count lent lent_after s h = subst (λ (z 
 
 -- An ask that takes no answer, before others.
 pub fill_before : (p : Purpose) (e : Beside) (from between : Steps Outcome) (new : Engine) (a : Ask) (o : Op) (ops tail ops_after : List Op) (count : ℕ) (lent lent_after : List ℕ) →
-    tail ≡ drop 1 ops → takes_none a ≡ true → o ≡ op_of a → ((more : List Ask) → WordsStay more lent_after lent_after → WordsStay (a ∷ more) lent lent_after) → IsSized a → Gone from (did_by a lent_after) between →
+    tail ≡ drop 1 ops → takes_none a ≡ true → o ≡ op_of a → ((more : List Ask) → WordsStay more lent_after lent_after → WordsStay (a ∷ more) lent lent_after) → IsSized a → LedBy from (did_by a lent_after) between →
     FillLed p e between new tail ops_after count lent_after lent_after → 1 ≤ length ops → FillLed p e from new ops (o ∷ ops_after) (suc count) lent lent_after
 fill_before (purpose.Back n) e from between new a o ops tail ops_after count lent lent_after t none is words sized g h some =
     let then = after_transmit (wiring_of e.wires) e.state e.chain e.packet n in

@@ -12,13 +12,13 @@ use Rattle.xen_ring.specs.Index.{is_due}
 use Rattle.xen_steps.specs.Event.{Event, Read, Write, Instr, Load, Add, Notify}
 use Rattle.xen_steps.specs.Pages.{page_reads}
 use Rattle.xen_steps.specs.Places.{add32}
-use Rattle.xen_transmit.specs.Packets.{buffer_word, word_of, words}
-use Rattle.xen_transmit.specs.Places.{rx_word, tx_word}
-use Rattle.xen_transmit.specs.Sending.{AreTargets, IsPosted, IsRxRespond, IsTransmit, all, buffer_writes, is_posted, passing, refused, refusing, rx_overflow, rx_writes, sent, too_few}
-use Rattle.xen_transmit.specs.Shared.{IsEntry, inside, notices, outside}
-use Rattle.xen_transmit.specs.declared.by_event.phase.Outcome.{Outcome}
-use Rattle.xen_transmit.specs.declared.target.Target.{Target}
-use Rattle.xen_transmit.specs.declared.vif.Vif.{Vif}
+use Rattle.xen_rx_fill.specs.Packets.{buffer_word, word_of, words}
+use Rattle.xen_rx_fill.specs.Places.{rx_word, tx_word}
+use Rattle.xen_rx_fill.specs.Sending.{AreTargets, IsPosted, IsRxRespond, IsTransmit, all, buffer_writes, is_posted, passing, refused, refusing, rx_overflow, rx_writes, sent, too_few}
+use Rattle.xen_rx_fill.specs.Shared.{IsEntry, inside, notices, outside}
+use Rattle.xen_rx_fill.specs.declared.by_event.phase.Outcome.{Outcome}
+use Rattle.xen_rx_fill.specs.declared.target.Target.{Target}
+use Rattle.xen_rx_fill.specs.declared.vif.Vif.{Vif}
 use Rattle.xen_back.specs.Parts.{HasRead, IsCopy, IsLook, IsRespond, copied, denied, once, part, response_writes, slot_reads, slots_reads, twice}
 use Rattle.xen_back.specs.Program.{event_of}
 use Rattle.xen_back.specs.Responses.{Left, responses}

@@ -5,11 +5,11 @@ use Rattle.std.proofs.lemmas.List.{drop-drop, drop_all, take_all}
 use borrow.Rule.Slice.PartMut.{post_of}
 use Rattle.xen_netif.specs.declared.flags.TxFlags.{TxFlags}
 use Rattle.xen_page.specs.declared.place.Place.{Place}
-use Rattle.xen_steps.specs.Drive.{Gone}
+use Rattle.xen_steps.specs.Drive.{LedBy}
 use Rattle.xen_steps.specs.Event.{Event}
 use Rattle.xen_steps.specs.Steps.{Steps}
 use Rattle.xen_steps.proofs.DriveLemmas.{gone_append}
-use Rattle.xen_host.specs.Asks.{AllSized, Ask, IsSized, TakeNone, WordsStay, did_all, did_by, goes_on, op_of, takes_none}
+use Rattle.xen_host.specs.Asks.{AllSized, Ask, IsSized, TakeNone, WordsStay, did_all, did_by, needs_no_answer, op_of, takes_none}
 use Rattle.xen_host.specs.Asks as ask
 use Rattle.xen_host.specs.Fits.{Fits}
 use Rattle.xen_host.specs.Led.{Led}
@@ -36,8 +36,8 @@ words_stay (ask.WaitOver what) lent k = refl
 
 -- One ask is said.
 pub says_one : {A : Type 0} (ends : Ask → Steps A → Type 0) (w : Wires) (flags : TxFlags) (from left : Steps A) (new : Engine) (a : Ask) (o : Op) (ops ops_after : List Op) (count : ℕ) (lent : List ℕ) →
-    1 ≤ length ops → count ≡ 1 → ops_after ≡ o ∷ drop 1 ops → o ≡ op_of a → goes_on a ≡ false → keeps a ≡ true → IsSized a →
-    Gone from (did_by a lent) left → ends a left → new.wires ≡ w → new.flags ≡ flags → Fits new.stage new.work → Led ends w flags from new ops ops_after count lent lent
+    1 ≤ length ops → count ≡ 1 → ops_after ≡ o ∷ drop 1 ops → o ≡ op_of a → needs_no_answer a ≡ false → keeps a ≡ true → IsSized a →
+    LedBy from (did_by a lent) left → ends a left → new.wires ≡ w → new.flags ≡ flags → Fits new.stage new.work → Led ends w flags from new ops ops_after count lent lent
 says_one ends w flags from left new a o ops ops_after count lent room one said is stops keep sized gone is_end wires flags_are fits = record {
   first = [];
   last = a;
@@ -61,7 +61,7 @@ says_one ends w flags from left new a o ops ops_after count lent room one said i
 -- It is said last, where there is no more room.
 pub says_last : {A : Type 0} (ends : Ask → Steps A → Type 0) (w : Wires) (flags : TxFlags) (from left : Steps A) (new : Engine) (a : Ask) (o : Op) (ops ops_after : List Op) (lent lent_after : List ℕ) →
     length ops ≡ 1 → ops_after ≡ o ∷ drop 1 ops → o ≡ op_of a → WordsStay (a ∷ []) lent lent_after → IsSized a →
-    Gone from (did_by a lent_after) left → ends a left → new.wires ≡ w → new.flags ≡ flags → Fits new.stage new.work → Led ends w flags from new ops ops_after 1 lent lent_after
+    LedBy from (did_by a lent_after) left → ends a left → new.wires ≡ w → new.flags ≡ flags → Fits new.stage new.work → Led ends w flags from new ops ops_after 1 lent lent_after
 says_last ends w flags from left new a o ops ops_after lent lent_after room said is words sized gone is_end wires flags_are fits = record {
   first = [];
   last = a;
@@ -96,7 +96,7 @@ stay_kept (ask.WaitOver what) more lent lent_after k h = h
 
 -- An ask that takes no answer, before others. `tail` are the ops behind the first.
 pub says_before : {A : Type 0} (ends : Ask → Steps A → Type 0) (w : Wires) (flags : TxFlags) (from between : Steps A) (new : Engine) (a : Ask) (o : Op) (ops tail ops_after : List Op) (count : ℕ) (lent lent_after : List ℕ) →
-    tail ≡ drop 1 ops → takes_none a ≡ true → o ≡ op_of a → ((more : List Ask) → WordsStay more lent_after lent_after → WordsStay (a ∷ more) lent lent_after) → IsSized a → Gone from (did_by a lent_after) between →
+    tail ≡ drop 1 ops → takes_none a ≡ true → o ≡ op_of a → ((more : List Ask) → WordsStay more lent_after lent_after → WordsStay (a ∷ more) lent lent_after) → IsSized a → LedBy from (did_by a lent_after) between →
     (h : Led ends w flags between new tail ops_after count lent_after lent_after) → 1 ≤ length ops → Led ends w flags from new ops (o ∷ ops_after) (suc count) lent lent_after
 says_before ends w flags from between new a o ops tail ops_after count lent lent_after rest none is words sized gone h some =
     let s = h.said in
@@ -114,7 +114,7 @@ says_before ends w flags from between new a o ops tail ops_after count lent lent
         sized = (sized, s.sized);
       };
       left = h.left;
-      gone = subst (λ (t : List Event). Gone from t h.left) (sym (append_assoc (did_by a lent_after) (did_all h.first lent_after) (did_by h.last lent_after)))
+      gone = subst (λ (t : List Event). LedBy from t h.left) (sym (append_assoc (did_by a lent_after) (did_all h.first lent_after) (did_by h.last lent_after)))
           (gone_append from between h.left (did_by a lent_after) (did_all h.first lent_after ++ did_by h.last lent_after) gone h.gone);
       is_end = h.is_end;
       wires = h.wires;
@@ -134,7 +134,7 @@ says_before ends w flags from between new a o ops tail ops_after count lent lent
         none_left (suc k) = refl
     dropped (x ∷ xs) tail e k = ap (λ (t : List Op). drop k t) e
 
-    stops : (count ≡ length tail) ⊎ (goes_on h.last ≡ false) → length ops ≡ suc (length tail) → (suc count ≡ length ops) ⊎ (goes_on h.last ≡ false)
+    stops : (count ≡ length tail) ⊎ (needs_no_answer h.last ≡ false) → length ops ≡ suc (length tail) → (suc count ≡ length ops) ⊎ (needs_no_answer h.last ≡ false)
     stops (inl e) n = inl (ap suc e ∙ sym n)
     stops (inr e) n = inr e
 
@@ -204,8 +204,8 @@ put_ask all a ops first count o e n is =
 
 -- Several are said, and then one that is answered.
 pub says_then : {A : Type 0} (ends : Ask → Steps A → Type 0) (w : Wires) (flags : TxFlags) (from between left : Steps A) (new : Engine) (all : List Ask) (a : Ask) (o : Op) (ops ops_before : List Op) (count : ℕ) (lent : List ℕ) →
-    AreChained all → ops_before ≡ map op_of all ++ drop count ops → count ≡ length all → count < length ops → o ≡ op_of a → goes_on a ≡ false → keeps a ≡ true → IsSized a →
-    Gone from (did_all all lent) between → Gone between (did_by a lent) left → ends a left → new.wires ≡ w → new.flags ≡ flags → Fits new.stage new.work →
+    AreChained all → ops_before ≡ map op_of all ++ drop count ops → count ≡ length all → count < length ops → o ≡ op_of a → needs_no_answer a ≡ false → keeps a ≡ true → IsSized a →
+    LedBy from (did_all all lent) between → LedBy between (did_by a lent) left → ends a left → new.wires ≡ w → new.flags ≡ flags → Fits new.stage new.work →
     Led ends w flags from new ops (take count ops_before ++ o ∷ drop (count + 1) ops_before) (count + 1) lent lent
 says_then ends w flags from between left new all a o ops ops_before count lent chained before n room is stops keep sized gone then is_end wires flags_are fits =
     let one : count + 1 ≡ suc count = omega arith in
@@ -241,7 +241,7 @@ chained_last (x ∷ first) last h = let r = chained_last first last h.3 in ((h.0
 -- Several are said, as far as there was room.
 pub says_all : {A : Type 0} (ends : Ask → Steps A → Type 0) (w : Wires) (flags : TxFlags) (from left : Steps A) (new : Engine) (all : List Ask) (ops ops_after : List Op) (count : ℕ) (lent : List ℕ) →
     AreChained all → ops_after ≡ map op_of all ++ drop count ops → count ≡ length all → count ≡ length ops → 1 ≤ length ops →
-    Gone from (did_all all lent) left → ((a : Ask) → takes_none a ≡ true → ends a left) → new.wires ≡ w → new.flags ≡ flags → Fits new.stage new.work →
+    LedBy from (did_all all lent) left → ((a : Ask) → takes_none a ≡ true → ends a left) → new.wires ≡ w → new.flags ≡ flags → Fits new.stage new.work →
     Led ends w flags from new ops ops_after count lent lent
 says_all ends w flags from left new [] ops ops_after count lent chained after n full some gone is_end wires flags_are fits = absurd (omega arith)
 says_all ends w flags from left new (x ∷ all) ops ops_after count lent chained after n full some gone is_end wires flags_are fits =
@@ -261,7 +261,7 @@ says_all ends w flags from left new (x ∷ all) ops ops_after count lent chained
         sized = subst AllSized (append-nil (r.0 ++ r.1 ∷ [])) (chained_sized (r.0 ++ r.1 ∷ []) [] c tt);
       };
       left = left;
-      gone = subst (λ (t : List Event). Gone from t left) (ap (λ (l : List Ask). did_all l lent) r.2 ∙ did_more r.0 r.1 lent) gone;
+      gone = subst (λ (t : List Event). LedBy from t left) (ap (λ (l : List Ask). did_all l lent) r.2 ∙ did_more r.0 r.1 lent) gone;
       is_end = is_end r.1 parts.1;
       wires = wires;
       flags_are = flags_are;
@@ -291,7 +291,7 @@ tail_is o ops said e = take_all (length said - 1) (drop 1 said) (omega (arith, l
 -- A WRITE is said last.
 pub says_write : {A : Type 0} (ends : Ask → Steps A → Type 0) (w : Wires) (flags : TxFlags) (from left : Steps A) (new : Engine) (at : Place) (count : ℕ) (o : Op) (ops ops_after : List Op) (lent lent_after : List ℕ) →
     1 ≤ length ops → ops_after ≡ o ∷ drop 1 ops → o ≡ op_of (ask.Write at count) → drop count lent_after ≡ drop count lent → 1 ≤ count → count ≤ 1024 →
-    Gone from (did_by (ask.Write at count) lent_after) left → ends (ask.Write at count) left → new.wires ≡ w → new.flags ≡ flags → Fits new.stage new.work → Led ends w flags from new ops ops_after 1 lent lent_after
+    LedBy from (did_by (ask.Write at count) lent_after) left → ends (ask.Write at count) left → new.wires ≡ w → new.flags ≡ flags → Fits new.stage new.work → Led ends w flags from new ops ops_after 1 lent lent_after
 says_write ends w flags from left new at count o ops ops_after lent lent_after room said is words some few gone is_end wires flags_are fits = record {
   first = [];
   last = ask.Write at count;

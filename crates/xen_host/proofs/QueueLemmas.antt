@@ -4,13 +4,13 @@ use Rattle.std.specs.Prelude.{None, Option, Some, IsSome}
 use Rattle.bpf_maps.specs.Layout.{total}
 use Rattle.std.specs.Prelude.{◌^◌, Bool, replicate}
 use Rattle.std.proofs.lemmas.List.{length-replicate}
-use Rattle.xen_steps.specs.Drive.{Gone, IsPageWant}
+use Rattle.xen_steps.specs.Drive.{LedBy, IsPageWant}
 use Rattle.xen_steps.specs.Event.{Read}
 use Rattle.xen_steps.specs.Steps.{next}
 use Rattle.xen_steps.proofs.DriveLemmas.{gone_append}
-use Rattle.xen_transmit.specs.Places.{rx_word, tx_word}
-use Rattle.xen_transmit.specs.declared.vif.Vif.{Vif}
-use Rattle.xen_transmit.proofs.Bounds.{frame_inside}
+use Rattle.xen_rx_fill.specs.Places.{rx_word, tx_word}
+use Rattle.xen_rx_fill.specs.declared.vif.Vif.{Vif}
+use Rattle.xen_rx_fill.proofs.Bounds.{frame_inside}
 use Rattle.xen_back.specs.Delivered.{is_frame}
 use Rattle.xen_back.specs.Deliveries.{if_frame, unless_halted as delivery_by, whole_delivery}
 use Rattle.xen_back.specs.Tree.{unless_halted as turn_by, whole_turn}
@@ -21,7 +21,7 @@ use Rattle.xen_back.proofs.ArriveLemmas.{arrives}
 use Rattle.xen_back.proofs.WaitLemmas.{wait_ends}
 use Rattle.xen_host.specs.Asks.{did_all, did_by}
 use Rattle.xen_steps.proofs.FinishLemmas.{finishes_gone}
-use Rattle.xen_transmit.specs.Wired.{IsWired}
+use Rattle.xen_rx_fill.specs.Wired.{IsWired}
 use Rattle.xen_back.specs.Program.{event_of}
 use Rattle.xen_back.specs.Within.{Completes, TurnsComplete, may_want}
 use Rattle.xen_back.specs.declared.state.State.{State}
@@ -209,11 +209,11 @@ not_few q words counters ops a b c d (inr (inr (inr h))) = d (rests_ready q.engi
 
 -- ---- what begins
 
-first_led : (w : Wiring) (s : State) (producer : ℕ) → producer < 2 ^ 32 → (o : Option Halt) → s.halt ≡ o → Gone (whole_turn w s) (first_read s.halt (Read (tx_word w.vif 0) producer)) (next (whole_turn w s) producer)
+first_led : (w : Wiring) (s : State) (producer : ℕ) → producer < 2 ^ 32 → (o : Option Halt) → s.halt ≡ o → LedBy (whole_turn w s) (first_read s.halt (Read (tx_word w.vif 0) producer)) (next (whole_turn w s) producer)
 first_led w s producer small o e =
-    subst (λ (x : Option Halt). Gone (turn_by w s x) (first_read x (Read (tx_word w.vif 0) producer)) (next (turn_by w s x) producer)) (sym e) (by o)
+    subst (λ (x : Option Halt). LedBy (turn_by w s x) (first_read x (Read (tx_word w.vif 0) producer)) (next (turn_by w s x) producer)) (sym e) (by o)
   where
-    by : (x : Option Halt) → Gone (turn_by w s x) (first_read x (Read (tx_word w.vif 0) producer)) (next (turn_by w s x) producer)
+    by : (x : Option Halt) → LedBy (turn_by w s x) (first_read x (Read (tx_word w.vif 0) producer)) (next (turn_by w s x) producer)
     by None = (next (turn_by w s None) producer, (producer, (small, refl), refl), refl)
     by (Some cause) = refl
 
@@ -237,7 +237,7 @@ begun old new producer ops ops_after count small led lent long =
       within = r.inside;
       wires = l.wires;
       flags = l.flags_are;
-      turn = turn_goes new s (reads ++ did) l.last l.left (subst (λ (x : Wires). Gone (whole_turn (wiring_of x) s) (reads ++ did) l.left) (sym l.wires) g) l.is_end;
+      turn = turn_goes new s (reads ++ did) l.last l.left (subst (λ (x : Wires). LedBy (whole_turn (wiring_of x) s) (reads ++ did) l.left) (sym l.wires) g) l.is_end;
     }
 
 blank : List ℕ
@@ -260,11 +260,11 @@ begun_stands old engine producer ops ops_after count small led =
     let x = wires_stand old engine.wires l.wires in
     record { fits = l.fits; wired = x.0; turns = x.1; left = r.task }
 
-delivery_led : (w : Vif) (s : State) (packet : List ℕ) (producer : ℕ) → producer < 2 ^ 32 → is_frame packet ≡ true → Gone (whole_delivery w s packet) (first_read s.halt (Read (rx_word w 0) producer)) (next (delivery_by w s packet s.halt) producer)
+delivery_led : (w : Vif) (s : State) (packet : List ℕ) (producer : ℕ) → producer < 2 ^ 32 → is_frame packet ≡ true → LedBy (whole_delivery w s packet) (first_read s.halt (Read (rx_word w 0) producer)) (next (delivery_by w s packet s.halt) producer)
 delivery_led w s packet producer small frame =
-    subst (λ (b : Bool). Gone (if_frame w s packet b) (first_read s.halt (Read (rx_word w 0) producer)) (next (delivery_by w s packet s.halt) producer)) (sym frame) (by s.halt)
+    subst (λ (b : Bool). LedBy (if_frame w s packet b) (first_read s.halt (Read (rx_word w 0) producer)) (next (delivery_by w s packet s.halt) producer)) (sym frame) (by s.halt)
   where
-    by : (x : Option Halt) → Gone (delivery_by w s packet x) (first_read x (Read (rx_word w 0) producer)) (next (delivery_by w s packet x) producer)
+    by : (x : Option Halt) → LedBy (delivery_by w s packet x) (first_read x (Read (rx_word w 0) producer)) (next (delivery_by w s packet x) producer)
     by None = (next (delivery_by w s packet None) producer, (producer, (small, refl), refl), refl)
     by (Some cause) = refl
 
@@ -291,7 +291,7 @@ delivery_begun old new producer packet b small frame is ready e =
     let reads = first_read s.halt (Read (rx_word w 0) producer) in
     let led = delivery_led w s packet producer small frame in
     let here : IsUnderWay (whole_delivery w s packet) (rest_of_delivery w s (stage.Deliver producer) b) 0 true reads None × (b.packet ≡ packet) =
-    (record { gone = subst (λ p. Gone (whole_delivery w s packet) reads (next (delivery_by w s p s.halt) producer)) (sym is) led; waits = refl; is_here = refl }, is) in
+    (record { gone = subst (λ p. LedBy (whole_delivery w s packet) reads (next (delivery_by w s p s.halt) producer)) (sym is) led; waits = refl; is_here = refl }, is) in
     record {
       rested = ap (λ (g : Stage). between s g) ready;
       frame = frame;

@@ -4,7 +4,7 @@ use Rattle.std.proofs.lemmas.List.{length-take}
 use Rattle.xen_page.specs.Mapping.{frame_place}
 use Rattle.xen_page.specs.declared.place.Place.{Place}
 use Rattle.xen_steps.specs.Steps.{Steps, ask, bind, done, never}
-use Rattle.xen_transmit.specs.declared.by_event.phase.Outcome.{Outcome}
+use Rattle.xen_rx_fill.specs.declared.by_event.phase.Outcome.{Outcome}
 use Rattle.xen_back.specs.Deliveries.{arrived}
 use Rattle.xen_back.specs.Tree.{after_transmit}
 use Rattle.xen_host.specs.Fed.{AsksReads, fed}

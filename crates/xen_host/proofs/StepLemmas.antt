@@ -5,7 +5,7 @@ use Rattle.std.proofs.lemmas.List.{length-take}
 use Rattle.bpf_note.specs.Shape.{Shape}
 use Rattle.xen_page.specs.Mapping.{frame_place}
 use Rattle.xen_page.specs.declared.place.Place.{Place}
-use Rattle.xen_steps.specs.Drive.{Gone, Goes, IsPageWant}
+use Rattle.xen_steps.specs.Drive.{LedBy, Goes, IsPageWant}
 use Rattle.xen_steps.specs.Event.{Event, Occurs, Read, Write}
 use Rattle.xen_steps.specs.Finish.{Finishes}
 use Rattle.xen_steps.specs.Places.{page_word}
@@ -32,25 +32,25 @@ small_take (suc n) (v ∷ vs) h zero = h zero
 small_take (suc n) (v ∷ vs) h (suc i) = small_take n vs (small_tail v vs h) i
 
 -- words that were read
-reads_led : {A : Type 0} (s : Steps A) (at : Place) (vs : List ℕ) → AreSmall vs → AsksReads at (length vs) s → Gone s (reads_at at vs) (fed s vs)
+reads_led : {A : Type 0} (s : Steps A) (at : Place) (vs : List ℕ) → AreSmall vs → AsksReads at (length vs) s → LedBy s (reads_at at vs) (fed s vs)
 reads_led s at [] b a = refl
 reads_led s at (v ∷ vs) b a = (next s v, (v, occurs_read (want_of s) at v a.0 (b zero), refl), reads_led (next s v) (frame_place at) vs (small_tail v vs b) (a.1 v))
 
-pub read_led : {A : Type 0} (s : Steps A) (at : Place) (n : ℕ) (lent : List ℕ) → AreSmall lent → n ≤ length lent → AsksReads at n s → Gone s (reads_at at (take n lent)) (fed s (take n lent))
+pub read_led : {A : Type 0} (s : Steps A) (at : Place) (n : ℕ) (lent : List ℕ) → AreSmall lent → n ≤ length lent → AsksReads at n s → LedBy s (reads_at at (take n lent)) (fed s (take n lent))
 read_led s at n lent b l a =
     let e : length (take n lent) ≡ n = omega (arith, length-take n lent, l) in
     reads_led s at (take n lent) (small_take n lent b) (subst (λ k. AsksReads at k s) (sym e) a)
 
-none_led : {A : Type 0} (s : Steps A) (n : ℕ) (lent : List ℕ) → n ≡ 0 → Gone s [] (fed s (take n lent))
-none_led {A = A} s n lent e = subst (λ k. Gone {A = A} s [] (fed s (take k lent))) (sym e) refl
+none_led : {A : Type 0} (s : Steps A) (n : ℕ) (lent : List ℕ) → n ≡ 0 → LedBy s [] (fed s (take n lent))
+none_led {A = A} s n lent e = subst (λ k. LedBy {A = A} s [] (fed s (take k lent))) (sym e) refl
 
 -- What was asked last is answered.
-pub waits_led : {A : Type 0} (a : Ask) (n : ℕ) (s : Steps A) (lent : List ℕ) → AreSmall lent → n ≤ length lent → WaitsFor a n s → Gone s (read_by a lent) (fed s (take n lent))
-waits_led {A = A} (ask.Read at count) n s lent b l w = subst (λ k. Gone {A = A} s (reads_at at (take k lent)) (fed s (take n lent))) w.0 (read_led s at n lent b l (subst (λ k. AsksReads at k s) (sym w.0) w.1))
-waits_led {A = A} (ask.Entry at reference written) n s lent b l w = subst (λ k. Gone {A = A} s (reads_at at (take k lent)) (fed s (take n lent))) w.0 (read_led s at n lent b l (subst (λ k. AsksReads at k s) (sym w.0) w.1))
+pub waits_led : {A : Type 0} (a : Ask) (n : ℕ) (s : Steps A) (lent : List ℕ) → AreSmall lent → n ≤ length lent → WaitsFor a n s → LedBy s (read_by a lent) (fed s (take n lent))
+waits_led {A = A} (ask.Read at count) n s lent b l w = subst (λ k. LedBy {A = A} s (reads_at at (take k lent)) (fed s (take n lent))) w.0 (read_led s at n lent b l (subst (λ k. AsksReads at k s) (sym w.0) w.1))
+waits_led {A = A} (ask.Entry at reference written) n s lent b l w = subst (λ k. LedBy {A = A} s (reads_at at (take k lent)) (fed s (take n lent))) w.0 (read_led s at n lent b l (subst (λ k. AsksReads at k s) (sym w.0) w.1))
 waits_led {A = A} (ask.Push at word read) n s lent b l w =
     let from = page_word at.frame read in
-    subst (λ k. Gone {A = A} s (reads_at from (take k lent)) (fed s (take n lent))) w.0 (read_led s from n lent b l (subst (λ k. AsksReads from k s) (sym w.0) w.1))
+    subst (λ k. LedBy {A = A} s (reads_at from (take k lent)) (fed s (take n lent))) w.0 (read_led s from n lent b l (subst (λ k. AsksReads from k s) (sym w.0) w.1))
 waits_led (ask.Write at count) n s lent b l w = none_led s n lent w
 waits_led (ask.Store at word) n s lent b l w = none_led s n lent w
 waits_led (ask.StoreTwo at x y) n s lent b l w = none_led s n lent w
@@ -98,7 +98,7 @@ module _ {A : Type 0} (frames : ℕ) (within : Want → Type 0) (in_pages : AreI
       let e = wrote (want_of s) g.0 at v g.1 in
       in_pages.writes at v (subst within e (finishes_want within s h (λ d. cc (e, d))))
 
-  writes_within : (at : Place) (vs : List ℕ) (s left : Steps A) → 1 ≤ length vs → Gone s (writes_at at vs) left → Finishes within s → (at.frame < frames) × (at.word + length vs ≤ 1024)
+  writes_within : (at : Place) (vs : List ℕ) (s left : Steps A) → 1 ≤ length vs → LedBy s (writes_at at vs) left → Finishes within s → (at.frame < frames) × (at.word + length vs ≤ 1024)
   writes_within at [] s left l g h = absurd (omega arith)
   writes_within at (v ∷ []) s left l g h = let p = one_written at v s g.0 g.1 h in (p.0, omega (arith, p.1))
   writes_within at (v ∷ u ∷ vs) s left l g h =
@@ -106,7 +106,7 @@ module _ {A : Type 0} (frames : ℕ) (within : Want → Type 0) (in_pages : AreI
       (more.0, omega (arith, more.1))
 
   -- an ask that takes no answer
-  did_within : (a : Ask) (lent : List ℕ) (s left : Steps A) → 1024 ≤ length lent → IsSized a → takes_none a ≡ true → Gone s (did_by a lent) left → Finishes within s → IsInPages frames a
+  did_within : (a : Ask) (lent : List ℕ) (s left : Steps A) → 1024 ≤ length lent → IsSized a → takes_none a ≡ true → LedBy s (did_by a lent) left → Finishes within s → IsInPages frames a
   did_within (ask.Read at count) lent s left l z e g h = cc e
   did_within (ask.Entry at reference written) lent s left l z e g h = cc e
   did_within (ask.Write at count) lent s left l z e g h =
@@ -122,7 +122,7 @@ module _ {A : Type 0} (frames : ℕ) (within : Want → Type 0) (in_pages : AreI
   did_within (ask.WaitOver what) lent s left l z e g h = tt
 
   -- what is asked last, and waited for
-  pub last_within : (a : Ask) (n : ℕ) (lent : List ℕ) (s left : Steps A) → 1024 ≤ length lent → IsSized a → Gone s (did_by a lent) left → WaitsFor a n left → Finishes within s → IsInPages frames a
+  pub last_within : (a : Ask) (n : ℕ) (lent : List ℕ) (s left : Steps A) → 1024 ≤ length lent → IsSized a → LedBy s (did_by a lent) left → WaitsFor a n left → Finishes within s → IsInPages frames a
   last_within (ask.Read at count) n lent s left l z g w h = reads_within at count left z.0 w.1 (finishes_gone within s left [] h g)
   last_within (ask.Entry at reference written) n lent s left l z g w h = reads_within at 2 left (omega arith) w.1 (finishes_gone within s left [] h g)
   last_within (ask.Push at word read) n lent s left l z g w h =
@@ -138,14 +138,14 @@ module _ {A : Type 0} (frames : ℕ) (within : Want → Type 0) (in_pages : AreI
   last_within (ask.WaitOver what) n lent s left l z g w h = tt
 
   -- Where a trace of two parts leads from: the first part leads to something between.
-  pub split_gone : (t u : List Event) (s left : Steps A) → Gone s (t ++ u) left → (m : Steps A) × Gone s t m × Gone m u left
+  pub split_gone : (t u : List Event) (s left : Steps A) → LedBy s (t ++ u) left → (m : Steps A) × LedBy s t m × LedBy m u left
   split_gone [] u s left g = (s, refl, g)
   split_gone (e ∷ t) u s left g = let r = split_gone t u g.0 left g.2 in (r.0, (g.0, g.1, r.1), r.2)
 
   pub all_within : (first : List Ask) (last : Ask) (lent : List ℕ) (s left : Steps A) → 1024 ≤ length lent → AllSized (first ++ last ∷ []) → TakeNone first →
-      Gone s (did_all first lent ++ did_by last lent) left → ((m : Steps A) → Gone m (did_by last lent) left → Finishes within m → IsInPages frames last) → Finishes within s → AllInPages frames (first ++ last ∷ [])
+      LedBy s (did_all first lent ++ did_by last lent) left → ((m : Steps A) → LedBy m (did_by last lent) left → Finishes within m → IsInPages frames last) → Finishes within s → AllInPages frames (first ++ last ∷ [])
   all_within [] last lent s left l z t g by h = (by s g h, tt)
   all_within (a ∷ more) last lent s left l z t g by h =
-      let parts = subst (λ (q : List Event). Gone s q left) (append_assoc (did_by a lent) (did_all more lent) (did_by last lent)) g in
+      let parts = subst (λ (q : List Event). LedBy s q left) (append_assoc (did_by a lent) (did_all more lent) (did_by last lent)) g in
       let r = split_gone (did_by a lent) (did_all more lent ++ did_by last lent) s left parts in
       (did_within a lent s r.0 l z.0 t.0 r.1 h, all_within more last lent r.0 left l z.1 t.1 r.2 by (finishes_gone within s r.0 (did_by a lent) h r.1))

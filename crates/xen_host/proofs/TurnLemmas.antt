@@ -2,7 +2,7 @@
 use Rattle.std.proofs.Common.{◌≡◌, ℕ, ◌≤◌, List, [], ◌++◌, length, take, map, refl, sym, ap, ◌∙◌, subst, Bool}
 use Rattle.std.specs.Prelude.{Option, Some, None}
 use Rattle.xen_netif.specs.declared.flags.TxFlags.{TxFlags}
-use Rattle.xen_steps.specs.Drive.{Gone}
+use Rattle.xen_steps.specs.Drive.{LedBy}
 use Rattle.xen_steps.specs.Event.{Event}
 use Rattle.xen_steps.specs.Steps.{Steps}
 use Rattle.xen_steps.proofs.DriveLemmas.{gone_append, runs_of_gone}
@@ -31,9 +31,9 @@ use Rattle.xen_host.specs.declared.wires.Wires.{Wires}
 use Rattle.xen_host.proofs.StepLemmas.{AreSmall, waits_led}
 
 -- It goes on.
-under_way : {A : Type 0} (whole rest left : Steps A) (reads : ℕ) (here : Bool) (t : List Event) (last : Ask) → Gone whole t left → IsOn rest reads here last left → IsUnderWay whole rest reads here t (Some last)
+under_way : {A : Type 0} (whole rest left : Steps A) (reads : ℕ) (here : Bool) (t : List Event) (last : Ask) → LedBy whole t left → IsOn rest reads here last left → IsUnderWay whole rest reads here t (Some last)
 under_way {A} whole rest left reads here t last g on = record {
-  gone = subst (λ (x : Steps A). Gone whole t x) on.is_rest g;
+  gone = subst (λ (x : Steps A). LedBy whole t x) on.is_rest g;
   waits = subst (λ (x : Steps A). WaitsFor last reads x) on.is_rest on.waits;
   is_here = on.is_here;
 }
@@ -44,7 +44,7 @@ packet_there q e = ap (λ (x : Stage). packet_in x q.engine.work.packet) e
 rests : (q : Queue) → q.engine.stage ≡ stage.Ready → resting q ≡ Some q.engine.state
 rests q e = ap (λ (x : Stage). between q.engine.state x) e
 
-pub turn_goes : (q : Queue) (s : State) (t : List Event) (last : Ask) (left : Steps Ending) → Gone (whole_turn (wiring q) s) t left → TurnEnds q.engine last left → TurnGoesOn q last s t
+pub turn_goes : (q : Queue) (s : State) (t : List Event) (last : Ask) (left : Steps Ending) → LedBy (whole_turn (wiring q) s) t left → TurnEnds q.engine last left → TurnGoesOn q last s t
 turn_goes q s t (ask.TurnOver k) left g e =
     let after : Ending = (q.engine.state, turned k q.engine.work.packet) in
     let row : IsTurn (wiring q) s t q.engine.state (turned k q.engine.work.packet) =
@@ -61,7 +61,7 @@ turn_goes q s t (ask.Notify port) left g e = under_way _ _ left _ _ t (ask.Notif
 turn_goes q s t (ask.DeliveryOver what) left g e = under_way _ _ left _ _ t (ask.DeliveryOver what) g e
 turn_goes q s t (ask.WaitOver what) left g e = under_way _ _ left _ _ t (ask.WaitOver what) g e
 
-pub delivery_goes : (q : Queue) (s : State) (packet : List ℕ) (t : List Event) (last : Ask) (left : Steps Arrival) → Gone (whole_delivery (wiring q).vif s packet) t left → DeliveryEnds packet q.engine last left → DeliveryGoesOn q last s packet t
+pub delivery_goes : (q : Queue) (s : State) (packet : List ℕ) (t : List Event) (last : Ask) (left : Steps Arrival) → LedBy (whole_delivery (wiring q).vif s packet) t left → DeliveryEnds packet q.engine last left → DeliveryGoesOn q last s packet t
 delivery_goes q s packet t (ask.DeliveryOver what) left g e =
     let row = delivery_rows (wiring q) s packet t q.engine.state what (runs_of_gone (whole_delivery (wiring q).vif s packet) left t (q.engine.state, what) g e.0) in
     (row, rests q e.1, packet_there q e.1 ∙ e.2)
@@ -75,7 +75,7 @@ delivery_goes q s packet t (ask.Notify port) left g e = (under_way _ _ left _ _ 
 delivery_goes q s packet t (ask.TurnOver k) left g e = (under_way _ _ left _ _ t (ask.TurnOver k) g e.0, e.1)
 delivery_goes q s packet t (ask.WaitOver what) left g e = (under_way _ _ left _ _ t (ask.WaitOver what) g e.0, e.1)
 
-pub wait_goes : (q : Queue) (s : State) (pages : ℕ) (packet : List ℕ) (t : List Event) (last : Ask) (left : Steps Wait) → Gone (whole_wait q.engine.wires.rx s pages) t left → WaitEnds packet q.engine last left → WaitGoesOn q last s pages packet t
+pub wait_goes : (q : Queue) (s : State) (pages : ℕ) (packet : List ℕ) (t : List Event) (last : Ask) (left : Steps Wait) → LedBy (whole_wait q.engine.wires.rx s pages) t left → WaitEnds packet q.engine last left → WaitGoesOn q last s pages packet t
 wait_goes q s pages packet t (ask.WaitOver what) left g e =
     let row = wait_rows (wiring q) s pages t q.engine.state what (runs_of_gone (whole_wait q.engine.wires.rx s pages) left t (q.engine.state, what) g e.0) in
     (row, rests q e.1, packet_there q e.1 ∙ e.2)
@@ -90,8 +90,8 @@ wait_goes q s pages packet t (ask.TurnOver k) left g e = (under_way _ _ left _ _
 wait_goes q s pages packet t (ask.DeliveryOver what) left g e = (under_way _ _ left _ _ t (ask.DeliveryOver what) g e.0, e.1)
 
 -- What was asked last is answered, if anything was.
-some_led : {A : Type 0} (asked : Option Ask) (n : ℕ) (s : Steps A) (lent : List ℕ) → AreSmall lent → n ≤ length lent → WaitsForSome asked n s → Gone s (read_by_some asked lent) (fed s (take n lent))
-some_led {A = A} None n s lent b l w = subst (λ k. Gone {A = A} s [] (fed s (take k lent))) (sym w) refl
+some_led : {A : Type 0} (asked : Option Ask) (n : ℕ) (s : Steps A) (lent : List ℕ) → AreSmall lent → n ≤ length lent → WaitsForSome asked n s → LedBy s (read_by_some asked lent) (fed s (take n lent))
+some_led {A = A} None n s lent b l w = subst (λ k. LedBy {A = A} s [] (fed s (take k lent))) (sym w) refl
 some_led (Some a) n s lent b l w = waits_led a n s lent b l w
 
 -- A step of a turn.
@@ -109,7 +109,7 @@ turn_steps old new flags lent lent_after before after ops ops_after count small 
     let g = gone_append (whole_turn (wiring old) s) rest h.led.left trace (read_by asked lent ++ (ran ++ did)) token.gone
     (gone_append rest (fed rest (take n lent)) h.led.left (read_by asked lent) (ran ++ did) (waits_led asked n rest lent small long token.waits)
     (gone_append (fed rest (take n lent)) h.between h.led.left ran did h.ran.gone h.led.gone)) in
-    turn_goes new s t h.led.last h.led.left (subst (λ (x : Wires). Gone (whole_turn (wiring_of x) s) t h.led.left) (sym h.led.wires) g) h.led.is_end
+    turn_goes new s t h.led.last h.led.left (subst (λ (x : Wires). LedBy (whole_turn (wiring_of x) s) t h.led.left) (sym h.led.wires) g) h.led.is_end
 
 -- A step of a delivery.
 pub delivery_steps : (old new : Queue) (flags : TxFlags) (lent lent_after : List ℕ) (ops ops_after : List Op) (count : ℕ) → AreSmall lent → reads_in old.engine.stage ≤ length lent →
@@ -124,7 +124,7 @@ delivery_steps old new flags lent lent_after ops ops_after count small long h s 
     let t = trace ++ (read_by_some asked lent ++ did) in
     let g = gone_append (whole_delivery (wiring old).vif s packet) rest h.left trace (read_by_some asked lent ++ did) token.0.gone
     (gone_append rest (fed rest (take n lent)) h.left (read_by_some asked lent) did (some_led asked n rest lent small long token.0.waits) h.gone) in
-    delivery_goes new s packet t h.last h.left (subst (λ (x : Wires). Gone (whole_delivery (wiring_of x).vif s packet) t h.left) (sym h.wires) g)
+    delivery_goes new s packet t h.last h.left (subst (λ (x : Wires). LedBy (whole_delivery (wiring_of x).vif s packet) t h.left) (sym h.wires) g)
     (subst (λ p. DeliveryEnds p new.engine h.last h.left) token.1 h.is_end)
 
 -- A step of a wait.
@@ -140,5 +140,5 @@ wait_steps old new flags lent lent_after ops ops_after count small long h s page
     let t = trace ++ (read_by_some asked lent ++ did) in
     let g = gone_append (whole_wait e.wires.rx s pages) rest h.left trace (read_by_some asked lent ++ did) token.0.gone
     (gone_append rest (fed rest (take n lent)) h.left (read_by_some asked lent) did (some_led asked n rest lent small long token.0.waits) h.gone) in
-    wait_goes new s pages packet t h.last h.left (subst (λ (x : Wires). Gone (whole_wait x.rx s pages) t h.left) (sym h.wires) g)
+    wait_goes new s pages packet t h.last h.left (subst (λ (x : Wires). LedBy (whole_wait x.rx s pages) t h.left) (sym h.wires) g)
     (subst (λ p. WaitEnds p new.engine h.last h.left) token.1 h.is_end)

@@ -7,8 +7,8 @@ use Rattle.xen_steps.specs.Event.{Event}
 use Rattle.xen_steps.specs.Event as event
 use Rattle.xen_steps.specs.Places.{page_word}
 use Rattle.xen_back.specs.Causes.{halt_number, refusal_number}
-use Rattle.xen_back.specs.declared.delivery.awaiting.Awaited.{Awaited}
-use Rattle.xen_back.specs.declared.delivery.awaiting.Awaited.TheVariants as awaited
+use Rattle.xen_back.specs.declared.delivery.wait.Awaited.{Awaited}
+use Rattle.xen_back.specs.declared.delivery.wait.Awaited.TheVariants as awaited
 use Rattle.xen_back.specs.declared.delivery.delivering.Delivery.{Delivery}
 use Rattle.xen_back.specs.declared.delivery.delivering.Delivery.TheVariants as delivery
 use Rattle.xen_back.specs.declared.turn.Kind.{Kind}
@@ -104,11 +104,11 @@ takes_none (Notify port) = true
 takes_none a = false
 
 -- And its words stand in itself: a step goes on after it as far as there is room.
-abbrev pub goes_on : Ask → Bool
-goes_on (Store at word) = true
-goes_on (StoreTwo at first second) = true
-goes_on (Notify port) = true
-goes_on a = false
+abbrev pub needs_no_answer : Ask → Bool
+needs_no_answer (Store at word) = true
+needs_no_answer (StoreTwo at first second) = true
+needs_no_answer (Notify port) = true
+needs_no_answer a = false
 
 abbrev pub TakeNone : List Ask → Type 0
 TakeNone [] = Unit {0}

@@ -2,10 +2,10 @@
 -- Asks that follow one another: the responses of a chain, and of rx slots.
 use Rattle.std.specs.Prelude.{ℕ, zero, suc, ◌+◌, Bool, List, [], ◌∷◌, length, slice_index}
 use Rattle.xen_steps.specs.Places.{add32}
-use Rattle.xen_transmit.specs.Packets.{response_word, target_at}
-use Rattle.xen_transmit.specs.Places.{rx_slot, tx_slot}
-use Rattle.xen_transmit.specs.declared.target.Target.{Target}
-use Rattle.xen_transmit.specs.declared.vif.Vif.{Vif}
+use Rattle.xen_rx_fill.specs.Packets.{response_word, target_at}
+use Rattle.xen_rx_fill.specs.Places.{rx_slot, tx_slot}
+use Rattle.xen_rx_fill.specs.declared.target.Target.{Target}
+use Rattle.xen_rx_fill.specs.declared.vif.Vif.{Vif}
 use Rattle.xen_host.specs.Asks.{Ask}
 use Rattle.xen_host.specs.Asks as ask
 

@@ -1,7 +1,7 @@
 -- For proofs: no claim rests on this file.
 -- The words of a packet that go into a page.
 use Rattle.std.specs.Prelude.{ℕ, zero, suc, ◌+◌, List, [], ◌∷◌}
-use Rattle.xen_transmit.specs.Packets.{word_of}
+use Rattle.xen_rx_fill.specs.Packets.{word_of}
 
 -- so many words of a packet from the k-th on
 abbrev pub packet_words : List ℕ → ℕ → ℕ → List ℕ

@@ -3,9 +3,9 @@
 use Rattle.std.specs.Prelude.{ℕ, ◌≡◌, Bool, true, false, List, [], ◌++◌, take}
 use Rattle.xen_netif.specs.Chain.{Slot}
 use Rattle.xen_netif.specs.declared.flags.TxFlags.{TxFlags}
-use Rattle.xen_steps.specs.Drive.{Gone}
+use Rattle.xen_steps.specs.Drive.{LedBy}
 use Rattle.xen_steps.specs.Steps.{Steps, bind, done}
-use Rattle.xen_transmit.specs.declared.by_event.phase.Outcome.{Outcome}
+use Rattle.xen_rx_fill.specs.declared.by_event.phase.Outcome.{Outcome}
 use Rattle.xen_back.specs.Deliveries.{Arrival, arrived}
 use Rattle.xen_back.specs.Tree.{after_transmit}
 use Rattle.xen_back.specs.Turned.{Ending, turned}
@@ -16,7 +16,7 @@ use Rattle.xen_back.specs.declared.turn.Kind.TheVariants as kind
 use Rattle.xen_host.specs.Asks.{Ask, DeliveryOver, TurnOver, WaitOver, did_all, did_by}
 use Rattle.xen_host.specs.Fed.{WaitsFor, fed}
 use Rattle.xen_host.specs.Fits.{Fits}
-use Rattle.xen_host.specs.Ran.{HasGone}
+use Rattle.xen_host.specs.Ran.{HasRunThrough}
 use Rattle.xen_host.specs.Rest.{flags_after, is_delivering, is_turning, is_waiting, reads_filling, reads_in, rest_in, rest_of_delivery, rest_of_wait}
 use Rattle.xen_host.specs.Said.{Said, has_run}
 use Rattle.xen_host.specs.Wired.{vif_of, wiring_of}
@@ -36,7 +36,7 @@ pub record Led {A : Type 0} (ends : Ask → Steps A → Type 0) (w : Wires) (fla
   pub last : Ask
   pub said : Said first last ops ops_after count lent lent_after
   pub left : Steps A
-  pub gone : Gone from (did_all first lent_after ++ did_by last lent_after) left
+  pub gone : LedBy from (did_all first lent_after ++ did_by last lent_after) left
   pub is_end : ends last left
   pub wires : new.wires ≡ w
   pub flags_are : new.flags ≡ flags
@@ -75,7 +75,7 @@ TurnLed w flags from new ops ops_after count lent lent_after = Led (TurnEnds new
 pub record TurnRanLed (w : Wires) (flags : TxFlags) (from : Steps Ending) (new : Engine) (before after : List ℕ)
     (ops ops_after : List Op) (count : ℕ) (lent lent_after : List ℕ) : Type 0 where
   pub between : Steps Ending
-  pub ran : HasGone w.program.shapes from between before after
+  pub ran : HasRunThrough w.program.shapes from between before after
   pub led : TurnLed w flags between new ops ops_after count lent lent_after
 
 -- ---- deliveries and waits, beside which the packet stays

@@ -5,7 +5,7 @@ use Rattle.bpf_verify.specs.Consistent.{Accepted}
 use Rattle.xen_page.specs.Table.{IsTable}
 use Rattle.xen_page.specs.declared.owners.OwnersFault.{OwnersFault}
 use Rattle.xen_page.specs.declared.owners.OwnersFault.TheVariants as owned
-use Rattle.xen_transmit.specs.Wired.{IsWired}
+use Rattle.xen_rx_fill.specs.Wired.{IsWired}
 use Rattle.xen_host.specs.Frames.{Limits, limits_of, owners_in}
 use Rattle.xen_host.specs.Queues.{packet_of, resting}
 use Rattle.xen_host.specs.Rest.{no_flags}

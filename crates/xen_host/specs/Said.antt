@@ -3,7 +3,7 @@
 use Rattle.std.specs.Prelude.{ℕ, suc, ◌≡◌, ◌≤◌, ◌⊎◌, Bool, true, false, List, [], ◌∷◌, ◌++◌, length, drop, map}
 use Rattle.xen_back.specs.declared.turn.Kind.{Kind}
 use Rattle.xen_back.specs.declared.turn.Kind.TheVariants as kind
-use Rattle.xen_host.specs.Asks.{AllSized, Ask, TakeNone, WordsStay, goes_on, op_of}
+use Rattle.xen_host.specs.Asks.{AllSized, Ask, TakeNone, WordsStay, needs_no_answer, op_of}
 use Rattle.xen_host.specs.declared.op.Op.{Op}
 
 -- Asks stand in front of a host's ops, as C gets them: no more than there is room for, and as many up to one that the step can't go on
@@ -13,7 +13,7 @@ pub record Said (first : List Ask) (last : Ask) (ops ops_after : List Op) (count
   pub filled : ops_after ≡ map op_of first ++ op_of last ∷ drop count ops
   pub counted : count ≡ suc (length first)
   pub room : count ≤ length ops
-  pub stops : (count ≡ length ops) ⊎ (goes_on last ≡ false)
+  pub stops : (count ≡ length ops) ⊎ (needs_no_answer last ≡ false)
   pub words : WordsStay (first ++ last ∷ []) lent lent_after
   pub sized : AllSized (first ++ last ∷ [])
 

@@ -1,10 +1,10 @@
 //! A packet's words, as they go into a page.
 
 ghost use Rattle.std.specs.Prelude.{◌≡◌, ◌<◌, ◌≤◌, ◌+◌, ◌*◌, drop, length, take};
-ghost use Rattle.xen_transmit.specs.Packets.{word_of};
+ghost use Rattle.xen_rx_fill.specs.Packets.{word_of};
 ghost use Rattle.xen_host.specs.Filling.{packet_words};
 
-use xen_transmit::packet_word;
+use xen_rx_fill::packet_word;
 
 /// A word of a packet that has all four bytes of it.
 #[inline(always)]

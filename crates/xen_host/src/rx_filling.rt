@@ -9,11 +9,11 @@ ghost use Rattle.xen_page.specs.Grant.{checked};
 ghost use Rattle.xen_ring.specs.Index.{is_due};
 ghost use Rattle.xen_steps.specs.Places.{add32, available, page_word};
 ghost use Rattle.xen_steps.specs.Steps.{bind, done};
-ghost use Rattle.xen_transmit.specs.Entries.{entry};
-ghost use Rattle.xen_transmit.specs.Packets.{frame_in, response_word, target_at, words as packet_size};
-ghost use Rattle.xen_transmit.specs.Places.{rx_slot, rx_word};
-ghost use Rattle.xen_transmit.specs.Transmit.{after_targets, fill_from, found, outcome_of, read_targets, requested, rx_answer};
-ghost use Rattle.xen_transmit.specs.Transmit.{rx_notice, rx_respond, targeted};
+ghost use Rattle.xen_rx_fill.specs.Entries.{entry};
+ghost use Rattle.xen_rx_fill.specs.Packets.{frame_in, response_word, target_at, words as packet_size};
+ghost use Rattle.xen_rx_fill.specs.Places.{rx_slot, rx_word};
+ghost use Rattle.xen_rx_fill.specs.Transmit.{after_targets, fill_from, found, outcome_of, read_targets, requested, rx_answer};
+ghost use Rattle.xen_rx_fill.specs.Transmit.{rx_notice, rx_respond, targeted};
 ghost use Rattle.xen_host.specs.Asks.{op_of};
 ghost use Rattle.xen_host.specs.Asks as ask;
 ghost use Rattle.xen_host.specs.Chained.{replies};
@@ -34,8 +34,8 @@ use crate::work::Work;
 use xen_netif::RxReq;
 use xen_page::{Entry, Place, check};
 use xen_ring::{REQ_PROD, RSP_EVENT, RSP_PROD, due};
+use xen_rx_fill::{Outcome, Target, Targets, buffer_frame, pages_of, response, words_of};
 use xen_steps::{header, requests_shown, rx_entry};
-use xen_transmit::{Outcome, Target, Targets, buffer_frame, pages_of, response, words_of};
 
 /// What a transmit comes to that used so many slots.
 #[inline(always)]

@@ -11,69 +11,38 @@ ghost use Rattle.xen_back.specs.Tree.{responses};
 use arrayvec::ArrayVec;
 use std::marker::Model;
 use xen_back::decisions::response;
-use xen_netif::{Chain, ChainFault, ChainState, Fragment, SizeFault, Status, TxReq};
+use xen_netif::{
+    Chain, ChainFault, ChainState, Fragment, SizeFault, Status, TxReq, is_alone, only_fragment,
+};
 
-/// Where the slots lie.
+/// In which form the slots are held.
 #[derive(Clone, Copy, Debug, PartialEq, Eq)]
-pub enum Lie {
+pub enum SlotForm {
     /// There are none.
-    Nowhere,
+    Empty,
     /// The one that is the whole chain.
-    Alone,
+    Single,
     /// In the chain.
-    InChain,
+    Chained,
 }
 
 /// The slots of a chain. One that is a whole chain lies by itself, so that the room for more isn't touched. Contracts see the slots.
 #[derive(Drop)]
 pub struct Slots {
-    pub(crate) lie: Lie,
-    pub(crate) lone: [u32; 3],
+    pub(crate) form: SlotForm,
+    pub(crate) single: [u32; 3],
     pub(crate) chain: Chain,
 }
 
 impl Model for Slots {
     ghost use Rattle.std.specs.Prelude.{List, ℕ};
-    ghost use Rattle.xen_host.specs.Lies.{IsWhole, lying};
+    ghost use Rattle.xen_host.specs.SlotForms.{IsWhole, slots_held};
 
     ghost Value = { List (List ℕ) };
 
-    ghost view = { λ s. lying s.lie s.lone s.chain };
+    ghost view = { λ s. slots_held s.form s.single s.chain };
 
-    ghost invariant = { λ s. IsWhole s.lie s.lone };
-}
-
-/// Whether a slot is a whole chain: it asks for no other.
-fn is_lone(slot: [u32; 3]) -> bool
-    ensures { IsTrue result → (extra_info slot ≡ false) × (more_data slot ≡ false) }
-{
-    let TxReq { flags, .. } = TxReq::of_words(slot);
-    !flags.extra_info && !flags.more_data
-}
-
-/// The fragment of a slot that is a whole chain.
-fn lone_fragment(slot: [u32; 3]) -> Result<Fragment, SizeFault>
-    requires plain { extra_info slot ≡ false }
-    ensures in_page { IfOk result (λ f. IsTrue (is_in_page f)) }
-    ensures short { IfOk result (λ f. f.size ≤ 65535) }
-    ensures answer { MatchResult result (λ f. fragments_of (slot ∷ []) ≡ Ok (f ∷ [])) (λ fault. fragments_of (slot ∷ []) ≡ Err
-        fault) }
-{
-    let TxReq {
-        gref,
-        offset,
-        size,
-        ..
-    } = TxReq::of_words(slot);
-    if size < 14 {
-        return Err(SizeFault::ShortPacket);
-    }
-    let fragment = Fragment { gref, offset, size };
-    if fragment.is_in_page() {
-        Ok(fragment)
-    } else {
-        Err(SizeFault::PastPage)
-    }
+    ghost invariant = { λ s. IsWhole s.form s.single };
 }
 
 /// Puts a fragment that is all into the room for fragments. Where one was before it is replaced, without a call that clears the room.
@@ -90,14 +59,14 @@ fn put_alone(room: &mut ArrayVec<Fragment, 18>, fragment: Fragment)
 }
 
 /// Puts the fragment of a slot that is a whole chain into the room for fragments.
-fn place_lone(slot: [u32; 3], room: &mut ArrayVec<Fragment, 18>) -> Result<(), SizeFault>
+fn place_single(slot: [u32; 3], room: &mut ArrayVec<Fragment, 18>) -> Result<(), SizeFault>
     requires plain { extra_info slot ≡ false }
     ensures answer { MatchResult result (λ _. fragments_of (slot ∷ []) ≡ Ok room.new.items)
         (λ fault. fragments_of (slot ∷ []) ≡ Err fault) }
     ensures short { IfOk result (λ _. sum_by fragment_size room.new.items ≤ 65535) }
     ensures in_page { IfOk result (λ _. IsTrue (list_all is_in_page room.new.items)) }
 {
-    match lone_fragment(slot) {
+    match only_fragment(slot) {
         Err(fault) => Err(fault),
         Ok(fragment) => {
             put_alone(room, fragment);
@@ -149,8 +118,8 @@ impl Slots {
         ensures { result ≡ [] }
     {
         Slots {
-            lie: Lie::Nowhere,
-            lone: [0; 3],
+            form: SlotForm::Empty,
+            single: [0; 3],
             chain: Chain::new(),
         }
     }
@@ -159,7 +128,7 @@ impl Slots {
     pub fn clear(&mut self)
         ensures { self.new ≡ [] }
     {
-        self.lie = Lie::Nowhere;
+        self.form = SlotForm::Empty;
     }
 
     /// How many there are.
@@ -167,10 +136,10 @@ impl Slots {
         ensures len { result ≡ length self.now }
         ensures few { result ≤ 23 }
     {
-        match self.lie {
-            Lie::Nowhere => 0,
-            Lie::Alone => 1,
-            Lie::InChain => self.chain.len(),
+        match self.form {
+            SlotForm::Empty => 0,
+            SlotForm::Single => 1,
+            SlotForm::Chained => self.chain.len(),
         }
     }
 
@@ -178,10 +147,10 @@ impl Slots {
     pub fn is_empty(&self) -> bool
         ensures { IsTrue result ↔ (self.now ≡ []) }
     {
-        match self.lie {
-            Lie::Nowhere => true,
-            Lie::Alone => false,
-            Lie::InChain => self.chain.is_empty(),
+        match self.form {
+            SlotForm::Empty => true,
+            SlotForm::Single => false,
+            SlotForm::Chained => self.chain.is_empty(),
         }
     }
 
@@ -194,7 +163,7 @@ impl Slots {
         ensures err { OnErr result (self.new ≡ []) }
     {
         self.chain = Chain::new();
-        self.lie = Lie::InChain;
+        self.form = SlotForm::Chained;
         self.chain.push(words)
     }
 
@@ -205,18 +174,18 @@ impl Slots {
         ensures ok { OnOk result (self.new ≡ self.old ++ words ∷ []) }
         ensures err { OnErr result (self.new ≡ self.old) }
     {
-        match self.lie {
-            Lie::Nowhere => {
-                if is_lone(words) {
-                    self.lone = words;
-                    self.lie = Lie::Alone;
+        match self.form {
+            SlotForm::Empty => {
+                if is_alone(words) {
+                    self.single = words;
+                    self.form = SlotForm::Single;
                     Ok(ChainState::Complete)
                 } else {
                     self.push_first(words)
                 }
             }
-            Lie::Alone => unreachable!(),
-            Lie::InChain => self.chain.push(words),
+            SlotForm::Single => unreachable!(),
+            SlotForm::Chained => self.chain.push(words),
         }
     }
 
@@ -228,10 +197,10 @@ impl Slots {
         ensures short { IfOk result (λ _. sum_by fragment_size room.new.items ≤ 65535) }
         ensures in_page { IfOk result (λ _. IsTrue (list_all is_in_page room.new.items)) }
     {
-        match self.lie {
-            Lie::Nowhere => unreachable!(),
-            Lie::Alone => place_lone(self.lone, room),
-            Lie::InChain => place_all(&self.chain, room),
+        match self.form {
+            SlotForm::Empty => unreachable!(),
+            SlotForm::Single => place_single(self.single, room),
+            SlotForm::Chained => place_all(&self.chain, room),
         }
     }
 
@@ -240,10 +209,10 @@ impl Slots {
         requires { i < length self.now }
         ensures { result ≡ slice_index (responses status self.now) i }
     {
-        match self.lie {
-            Lie::Nowhere => unreachable!(),
-            Lie::Alone => response(status, &Some(TxReq::of_words(self.lone))),
-            Lie::InChain => response_in(&self.chain, status, i),
+        match self.form {
+            SlotForm::Empty => unreachable!(),
+            SlotForm::Single => response(status, &Some(TxReq::of_words(self.single))),
+            SlotForm::Chained => response_in(&self.chain, status, i),
         }
     }
 }

@@ -13,7 +13,7 @@ pub enum Task {
 
 /// The answer to a packet that is to be delivered, or to a wait that is to be begun.
 #[derive(Clone, Copy, Debug, PartialEq, Eq)]
-pub enum Taken {
+pub enum Begin {
     /// The next steps do it.
     Begun,
     /// A turn, a delivery or a wait is under way.

@@ -9,7 +9,7 @@ ghost use Rattle.xen_host.specs.Led.{WaitLed};
 use crate::engine::{Engine, say};
 use crate::op::Op;
 use crate::stage::Stage;
-use xen_back::decisions::told;
+use xen_back::decisions::wait_answer;
 use xen_back::{Awaited, State};
 use xen_ring::{REQ_EVENT, REQ_PROD};
 use xen_steps::{header, requests_shown};
@@ -41,7 +41,7 @@ impl Engine {
         ensures led { (lent : List ℕ) → WaitLed self.old.wires self.old.flags self.old.work.packet (done (wait_end self.old.state
             pages (available self.old.state.rx_index producer))) self.new ops.old ops.new result lent lent }
     {
-        let (after, awaited) = told(
+        let (after, awaited) = wait_answer(
             &self.state,
             pages,
             requests_shown(self.state.rx_index, producer),

@@ -1,6 +1,6 @@
 -- Computations that come to an end.
 use Rattle.std.proofs.Common.{◌≡◌, ℕ, ◌-◌, List, [], ◌∷◌, ◌++◌, refl, sym, arith, subst}
-use Rattle.xen_steps.specs.Drive.{Bounded, Goes, Gone}
+use Rattle.xen_steps.specs.Drive.{Bounded, Goes, LedBy}
 use Rattle.xen_steps.specs.Event.{Event, Occurs, Read, Write, Instr, Load, Add, Notify}
 use Rattle.xen_steps.specs.Finish.{Ends, Finishes, IsAsked}
 use Rattle.xen_steps.specs.Steps.{Steps, done, ask, never, bind, want_of, Runs}
@@ -34,7 +34,7 @@ ends_next P (done x) s' e h g = absurd g.1
 ends_next P (ask w k) s' e h g = subst (λ q. Ends P q) (sym g.2) (h.1 g.0 e g.1)
 ends_next P never s' e h g = absurd h
 
-pub ends_gone : {A : Type 0} (P : A → Type 0) (s s' : Steps A) (t : List Event) → Ends P s → Gone s t s' → Ends P s'
+pub ends_gone : {A : Type 0} (P : A → Type 0) (s s' : Steps A) (t : List Event) → Ends P s → LedBy s t s' → Ends P s'
 ends_gone P s s' [] h g = subst (λ q. Ends P q) g h
 ends_gone P s s' (e ∷ t) h g = ends_gone P g.0 s' t (ends_next P s g.0 e h g.1) g.2
 
@@ -55,7 +55,7 @@ finishes_next within (done x) s' e h g = absurd g.1
 finishes_next within (ask w k) s' e h g = subst (λ q. Finishes within q) (sym g.2) (h.1.1 g.0 e g.1)
 finishes_next within never s' e h g = absurd h
 
-pub finishes_gone : {A : Type 0} (within : Want → Type 0) (s s' : Steps A) (t : List Event) → Finishes within s → Gone s t s' → Finishes within s'
+pub finishes_gone : {A : Type 0} (within : Want → Type 0) (s s' : Steps A) (t : List Event) → Finishes within s → LedBy s t s' → Finishes within s'
 finishes_gone within s s' [] h g = subst (λ q. Finishes within q) g h
 finishes_gone within s s' (e ∷ t) h g = finishes_gone within g.0 s' t (finishes_next within s g.0 e h g.1) g.2
 
@@ -73,6 +73,6 @@ some_run within (ask w k) h =
     (e.0 ∷ i.0, i.1, (0, e.1, i.2))
 some_run within never h = absurd h
 
-pub runs_gone : {A : Type 0} (s s' : Steps A) (t q : List Event) (r : A) → Gone s t s' → Runs s' q r → Runs s (t ++ q) r
+pub runs_gone : {A : Type 0} (s s' : Steps A) (t q : List Event) (r : A) → LedBy s t s' → Runs s' q r → Runs s (t ++ q) r
 runs_gone s s' [] q r g h = subst (λ m. Runs m q r) (sym g) h
 runs_gone s s' (e ∷ t) q r g h = runs_more s g.0 e g.1 (t ++ q) r (runs_gone g.0 s' t q r g.2 h)

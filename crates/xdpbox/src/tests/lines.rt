@@ -2,10 +2,10 @@
 
 use bpf_maps::{MapShape, Totals};
 use std::test::Fail;
+use thread_pair::{Deliveries, Host, PairFault, PairReport, PairRow};
 use xdp_commands::{
     Paired, Request, add_counters, outcome, paired_status, paired_text, read_words, run_words,
 };
-use xdp_pair::{Deliveries, Host, PairFault, PairReport, PairRow};
 use xen_back::Halt;
 
 #[test]

@@ -11,7 +11,7 @@ ghost use Rattle.xen_page.specs.Grant.{checked};
 ghost use Rattle.xen_back.specs.Rest.{fragment_at, rest_at, rest_in};
 ghost use Rattle.xen_steps.specs.Pages.{HasRoom};
 ghost use Rattle.xen_steps.specs.Steps.{bind};
-ghost use Rattle.xen_transmit.specs.Entries.{entry_at};
+ghost use Rattle.xen_rx_fill.specs.Entries.{entry_at};
 ghost use Rattle.xen_back.specs.Tree.{after_chain, after_copy, copy, entered, respond};
 ghost use Rattle.xen_steps.specs.Pages.{copy_words, covered};
 ghost use Rattle.xen_back.specs.Turned.{Refused};

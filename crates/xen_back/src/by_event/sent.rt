@@ -2,7 +2,7 @@
 
 ghost use Rattle.std.specs.Prelude.{◌≡◌, List, ℕ};
 ghost use Rattle.xen_back.specs.Rest.{rest_at, rest_in};
-ghost use Rattle.xen_transmit.specs.Rest.{rest_after, rest_of};
+ghost use Rattle.xen_rx_fill.specs.Rest.{rest_after, rest_of};
 ghost use Rattle.xen_steps.specs.Steps.{bind, next_by, want_of};
 ghost use Rattle.xen_back.specs.Tree.{after_transmit, send};
 ghost use Rattle.xen_back.specs.declared.by_event.stage.Stage.TheVariants as stages;
@@ -18,8 +18,8 @@ use crate::decisions::{Reply, after_sending};
 use crate::state::State;
 use crate::wiring::Wiring;
 use xen_netif::Chain;
+use xen_rx_fill::{Outcome, Progress, Transmit};
 use xen_steps::Want;
-use xen_transmit::{Outcome, Progress, Transmit};
 
 /// After a run that ended in TX.
 pub(crate) fn begin_send(chain: Chain, ops: u32) -> Transmitting

@@ -7,7 +7,7 @@ use crate::by_event::phase::Phase;
 use crate::copy_buf::CopyBuf;
 use bpf_vm::Vm;
 use xen_netif::Chain;
-use xen_transmit::Transmit;
+use xen_rx_fill::Transmit;
 
 /// A program that runs on the chain's packet, with how many counter operations it did.
 #[derive(Drop)]

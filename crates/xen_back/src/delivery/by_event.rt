@@ -4,8 +4,8 @@ ghost use Rattle.std.specs.Prelude.{◌≡◌, ◌≢◌, ℕ, true};
 ghost use Rattle.xen_steps.specs.Answers.{Fits};
 ghost use Rattle.xen_steps.specs.Drive.{IsPageWant};
 ghost use Rattle.xen_steps.specs.Steps.{done, next_by, want_of};
-ghost use Rattle.xen_transmit.specs.Wired.{IsWired};
-ghost use Rattle.xen_transmit.specs.declared.vif.Vif.{Vif as VifView};
+ghost use Rattle.xen_rx_fill.specs.Wired.{IsWired};
+ghost use Rattle.xen_rx_fill.specs.declared.vif.Vif.{Vif as VifView};
 ghost use Rattle.xen_back.specs.Delivered.{is_frame};
 ghost use Rattle.xen_back.specs.ByEvent.{IsDeliveryAsked, IsDeliveryFed, frames_of, left_of};
 ghost use Rattle.xen_back.specs.Deliveries.{Arrival, rest_moving, unless_halted, whole_delivery};
@@ -15,8 +15,8 @@ use crate::delivery::moving::{Moving, Sending};
 use crate::delivery::underway::Delivering;
 use crate::state::State;
 use std::mem;
+use xen_rx_fill::{Progress, Transmit, Vif};
 use xen_steps::{Answer, Want};
-use xen_transmit::{Progress, Transmit, Vif};
 
 /// A delivery of which nothing is done.
 fn begun<'d>(state: &State, packet: &'d [u8]) -> Moving<'d>
@@ -123,7 +123,7 @@ fn sending_fed<'d>(vif: &Vif, state: &State, sending: Sending<'d>, word: u32) ->
 }
 
 /// What a delivery that wants nothing more came to.
-pub(crate) fn moved(vif: &Vif, state: &State, moving: &Moving) -> (State, Delivery)
+pub(crate) fn outcome_of(vif: &Vif, state: &State, moving: &Moving) -> (State, Delivery)
     requires { want_of (rest_moving vif.now state.now moving.now) ≡ Want.Done }
     ensures { rest_moving vif.now state.now moving.now ≡ done (result.0, result.1) }
 {

@@ -4,8 +4,8 @@ ghost use Rattle.std.specs.Prelude.{◌≡◌, List, ℕ, None, length, true};
 ghost use Rattle.xen_page.specs.Access.{Performs};
 ghost use Rattle.xen_steps.specs.Drive.{accesses};
 ghost use Rattle.xen_steps.specs.Event.{Event};
-ghost use Rattle.xen_transmit.specs.Sending.{IsTransmit};
-ghost use Rattle.xen_transmit.specs.Wired.{IsWired};
+ghost use Rattle.xen_rx_fill.specs.Sending.{IsTransmit};
+ghost use Rattle.xen_rx_fill.specs.Wired.{IsWired};
 ghost use Rattle.xen_back.specs.Delivered.{IsDelivery, is_frame};
 ghost use Rattle.xen_back.specs.Deliveries.{arrival};
 ghost use Rattle.xen_back.specs.declared.wiring.Wiring.{Wiring as WiringView};
@@ -16,8 +16,8 @@ use crate::turn::Halt;
 use crate::wiring::Wiring;
 use xen_page::Bus;
 use xen_ring::Ports;
-use xen_transmit::laws::transmits_are_runs;
-use xen_transmit::{Outcome, send_packet};
+use xen_rx_fill::laws::transmits_are_runs;
+use xen_rx_fill::{Outcome, send_packet};
 
 /// What became of a packet that the host delivers.
 #[derive(Clone, Copy, Debug, PartialEq, Eq)]

@@ -4,7 +4,7 @@ ghost use Rattle.std.specs.Prelude.{◌≤◌, length};
 
 use crate::delivery::delivering::Delivery;
 use crate::state::State;
-use xen_transmit::Transmit;
+use xen_rx_fill::Transmit;
 
 /// A packet that is being sent.
 #[derive(Drop)]

@@ -4,7 +4,7 @@ ghost use Rattle.xen_back.specs.Deliveries.{Arrives, Arrives-prop, rest_moving};
 
 use crate::delivery::moving::Moving;
 use crate::state::State;
-use xen_transmit::Vif;
+use xen_rx_fill::Vif;
 
 /// A delivery of a packet that is taken one event at a time: [`Queue::begin_delivery`](crate::Queue::begin_delivery) makes
 /// it, and [`Queue::end_delivery`](crate::Queue::end_delivery) ends it. It lends the packet.

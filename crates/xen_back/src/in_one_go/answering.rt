@@ -7,7 +7,7 @@ ghost use Rattle.xen_page.specs.declared.access.Access.TheVariants as accesses;
 ghost use Rattle.xen_steps.specs.Event.{Event};
 ghost use Rattle.xen_steps.specs.Places.{add32, page_word, tx_entry as tx_entry_place};
 ghost use Rattle.xen_steps.specs.Steps.{done};
-ghost use Rattle.xen_transmit.specs.Wired.{IsWired};
+ghost use Rattle.xen_rx_fill.specs.Wired.{IsWired};
 ghost use Rattle.xen_back.specs.Drive.{Driven};
 ghost use Rattle.xen_back.specs.Tree.{answered, respond};
 ghost use Rattle.xen_back.specs.Turned.{Turned};

@@ -8,7 +8,7 @@ ghost use Rattle.xen_netif.specs.Copy.{Covers, bytes_from, bytes_in, covered};
 ghost use Rattle.xen_steps.specs.Event.{Event};
 ghost use Rattle.xen_steps.specs.Steps.{Steps, bind};
 ghost use Rattle.xen_steps.specs.Pages.{HasRoom};
-ghost use Rattle.xen_transmit.specs.Wired.{IsWired};
+ghost use Rattle.xen_rx_fill.specs.Wired.{IsWired};
 ghost use Rattle.xen_back.specs.Drive.{Driven};
 ghost use Rattle.xen_back.specs.InOneGo.{after_fragment, copied};
 ghost use Rattle.xen_back.specs.Tree.{copy};
@@ -19,7 +19,7 @@ use crate::copy_buf::CopyBuf;
 use crate::wiring::Wiring;
 use xen_netif::Fragment;
 use xen_page::{Bus, GrantFault, Place};
-use xen_transmit::read_grant;
+use xen_rx_fill::read_grant;
 
 /// Puts a fragment's bytes in a word of its page behind a packet's bytes.
 fn push_part(fragment: &Fragment, place: u32, word: u32, packet: &mut CopyBuf<'_>)

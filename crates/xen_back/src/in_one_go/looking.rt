@@ -9,7 +9,7 @@ ghost use Rattle.xen_page.specs.declared.access.Access.TheVariants as accesses;
 ghost use Rattle.xen_steps.specs.Event.{Event};
 ghost use Rattle.xen_steps.specs.Places.{page_word, tx_entry as tx_entry_place};
 ghost use Rattle.xen_steps.specs.Steps.{bind};
-ghost use Rattle.xen_transmit.specs.Wired.{IsWired};
+ghost use Rattle.xen_rx_fill.specs.Wired.{IsWired};
 ghost use Rattle.xen_back.specs.Drive.{Driven};
 ghost use Rattle.xen_back.specs.InOneGo.{after_slot};
 ghost use Rattle.xen_back.specs.Tree.{after_look, after_scan, announce, look as look_spec};
@@ -80,7 +80,7 @@ pub(crate) fn look<B: Bus>(wiring: &Wiring, state: &State, bus: &mut B) -> Optio
 
 /// A slot that is a whole chain: it asks for no other.
 #[derive(Drop)]
-pub struct LoneSlot {
+pub struct SingleSlot {
     pub words: [u32; 3],
     ghost plain: { extra_info words ≡ false },
     ghost last: { more_data words ≡ false },
@@ -98,14 +98,6 @@ pub(crate) fn read_slot<B: Bus>(bus: &mut B, frame: u32, index: u32) -> [u32; 3]
     let b = bus.read(tx_entry(frame, index, 1));
     let c = bus.read(tx_entry(frame, index, 2));
     [a, b, c]
-}
-
-/// Whether a slot is a whole chain.
-pub(crate) fn is_lone(slot: [u32; 3]) -> bool
-    ensures { IsTrue result → (extra_info slot ≡ false) × (more_data slot ≡ false) }
-{
-    let TxReq { flags, .. } = TxReq::of_words(slot);
-    !flags.extra_info && !flags.more_data
 }
 
 /// Whether a chain that wants this is whole.

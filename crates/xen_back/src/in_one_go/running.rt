@@ -7,7 +7,7 @@ ghost use Rattle.xen_netif.specs.Fragments.{fragment_size, is_in_page};
 ghost use Rattle.xen_netif.specs.declared.status.Status.TheVariants.{Error};
 ghost use Rattle.xen_steps.specs.Event.{Event};
 ghost use Rattle.xen_steps.specs.Steps.{bind};
-ghost use Rattle.xen_transmit.specs.Wired.{IsWired};
+ghost use Rattle.xen_rx_fill.specs.Wired.{IsWired};
 ghost use Rattle.xen_back.specs.Drive.{Driven};
 ghost use Rattle.xen_back.specs.InOneGo.{Serve, ServeOn, ended};
 ghost use Rattle.xen_back.specs.Tree.{after_copy, copy, respond, send};
@@ -25,7 +25,7 @@ use bpf_vm::XDP_TX;
 use xen_netif::{Fragment, Status, TxReq};
 use xen_page::Bus;
 use xen_ring::Ports;
-use xen_transmit::send_packet;
+use xen_rx_fill::send_packet;
 
 /// Sends a packet back, and answers its slots. It isn't inlined, so that its frame isn't cleared where nothing is sent.
 #[inline(never)]

@@ -14,38 +14,15 @@ ghost use Rattle.xen_back.specs.declared.by_event.stage.Stage.TheVariants as sta
 use crate::by_event::stage::Stage;
 use crate::copy_buf::CopyBuf;
 use crate::decisions::halted;
-use crate::in_one_go::looking::{LoneSlot, is_lone, look, read_chain, read_slot};
+use crate::in_one_go::looking::{SingleSlot, look, read_chain, read_slot};
 use crate::in_one_go::running::{copy_and_run, refuse};
 use crate::state::State;
 use crate::turn::{Halt, Kind, Refusal};
 use crate::wiring::Wiring;
 use bpf_maps::{CounterSeat, Counters};
-use xen_netif::{Fragment, SizeFault, TxReq};
+use xen_netif::{TxReq, is_alone, only_fragment};
 use xen_page::Bus;
 use xen_ring::Ports;
-
-/// The packet in a slot that is a whole chain.
-fn lone_fragment(slot: &LoneSlot) -> Result<Fragment, SizeFault>
-    ensures in_page { IfOk result (λ f. IsTrue (is_in_page f)) }
-    ensures answer { MatchResult result (λ f. fragments_of (slot.now.words ∷ []) ≡ Ok (f ∷ []))
-        (λ fault. fragments_of (slot.now.words ∷ []) ≡ Err fault) }
-{
-    let TxReq {
-        gref,
-        offset,
-        size,
-        ..
-    } = TxReq::of_words(slot.words);
-    if size < 14 {
-        return Err(SizeFault::ShortPacket);
-    }
-    let fragment = Fragment { gref, offset, size };
-    if fragment.is_in_page() {
-        Ok(fragment)
-    } else {
-        Err(SizeFault::PastPage)
-    }
-}
 
 /// A turn whose packet is in one slot.
 fn one_slot<B: Bus>(
@@ -56,7 +33,7 @@ fn one_slot<B: Bus>(
     seat: &mut CounterSeat,
     ports: &Ports,
     packet: &mut CopyBuf<'_>,
-    slot: &LoneSlot,
+    slot: &SingleSlot,
 ) -> Kind
     requires served { Serve wiring.now (B.size bus.old) counters.now seat.old }
     ensures on { ServeOn (B.size bus.old) (B.size bus.new) seat.old seat.new }
@@ -65,7 +42,7 @@ fn one_slot<B: Bus>(
         (ended (state.new, result) packet.new) bus.old bus.new seat.old.ops seat.new.ops t }
 {
     let requests = [Some(TxReq::of_words(slot.words))];
-    match lone_fragment(slot) {
+    match only_fragment(slot.words) {
         Ok(fragment) => copy_and_run(
             wiring,
             state,
@@ -156,8 +133,8 @@ fn from_slot<B: Bus>(
         (ended (state.new, result) packet.new) bus.old bus.new seat.old.ops seat.new.ops t }
 {
     let words = read_slot(bus, wiring.vif.tx, next_index(state));
-    if is_lone(words) {
-        let slot = LoneSlot { words };
+    if is_alone(words) {
+        let slot = SingleSlot { words };
         one_slot(wiring, state, bus, counters, seat, ports, packet, &slot)
     } else {
         more_slots(

@@ -6,7 +6,7 @@ ghost use Rattle.xen_back.specs.ByEvent.{IsBegun, IsDeliveryOf, IsDeliveryOver, 
 ghost use Rattle.xen_back.specs.Delivered.{IsDelivered};
 ghost use Rattle.xen_back.specs.Queues.{IsReady, wiring_of};
 
-use crate::delivery::by_event::{moved, underway};
+use crate::delivery::by_event::{outcome_of, underway};
 use crate::delivery::delivering::{Delivery, sent_out};
 use crate::delivery::underway::Delivering;
 use crate::queue::Queue;
@@ -49,7 +49,7 @@ impl<'p, 'b> Queue<'p, 'b> {
     {
         // The borrow checker has to see this type in the body.
         let _vif = &self.wiring.vif;
-        let (after, delivery) = moved(&delivering.vif, &delivering.state, &delivering.moving);
+        let (after, delivery) = outcome_of(&delivering.vif, &delivering.state, &delivering.moving);
         self.state = after;
         delivery
     }

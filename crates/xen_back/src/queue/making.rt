@@ -14,7 +14,7 @@ use crate::state::State;
 use crate::wiring::Wiring;
 use bpf_verify::Verified;
 use bpf_vm::Buffer;
-use xen_transmit::Vif;
+use xen_rx_fill::Vif;
 
 impl<'p, 'b> Queue<'p, 'b> {
     /// A queue between turns, which keeps its packets in the buffer.

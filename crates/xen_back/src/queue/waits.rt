@@ -6,9 +6,9 @@ ghost use Rattle.xen_back.specs.Awaited.{HasAwaited};
 ghost use Rattle.xen_back.specs.Queues.{IsReady, wiring_of};
 ghost use Rattle.xen_back.specs.WaitsByEvent.{IsWaitBegun, IsWaitOf, IsWaitOver, left_of_wait};
 
-use crate::delivery::awaiting::{Awaited, looked_for};
-use crate::delivery::looking::{Awaiting, Looking};
-use crate::delivery::waiting::begun;
+use crate::delivery::wait::{Awaited, looked_for};
+use crate::delivery::wait_by_event::begun;
+use crate::delivery::wait_stage::{Awaiting, Looking};
 use crate::queue::Queue;
 use xen_page::Bus;
 use xen_steps::Want;

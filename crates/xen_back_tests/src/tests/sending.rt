@@ -7,8 +7,8 @@ use super::fixtures::{access_to, read, write};
 use std::alloc::Global;
 use xen_page::{Access, Owners, Table};
 use xen_ring::Port;
+use xen_rx_fill::{Outcome, Progress, Transmit, Vif};
 use xen_steps::Want;
-use xen_transmit::{Outcome, Progress, Transmit, Vif};
 
 /// What a transmit comes to whose first rx slot is at `start`, and adds its accesses. None if it has no end.
 fn sent(

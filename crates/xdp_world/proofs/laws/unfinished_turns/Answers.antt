@@ -1,7 +1,7 @@
 use Rattle.std.proofs.Common.{◌≡◌, List, [], ◌∷◌, ◌++◌, refl, sym, subst}
 use Rattle.std.proofs.lemmas.List.{append-nil}
 use Rattle.xen_steps.specs.declared.want.Want.TheVariants as want
-use Rattle.xen_steps.specs.Drive.{Gone}
+use Rattle.xen_steps.specs.Drive.{LedBy}
 use Rattle.xen_steps.specs.Event.{Event}
 use Rattle.xen_steps.specs.Steps.{Steps, Runs, done, ask, never, want_of}
 use Rattle.xen_back.specs.Tree.{whole_turn}
@@ -10,11 +10,11 @@ use Rattle.xen_back.proofs.TurnParts.{turn_parts}
 use Rattle.xen_back.proofs.TurnRuns.{runs_turn}
 use Rattle.xdp_world.proofs.laws.unfinished_turns.Goals as goal
 
-runs_behind : {A : Type 0} (s m : Steps A) (t u : List Event) (r : A) → Gone s t m → Runs m u r → Runs s (t ++ u) r
+runs_behind : {A : Type 0} (s m : Steps A) (t u : List Event) (r : A) → LedBy s t m → Runs m u r → Runs s (t ++ u) r
 runs_behind s m [] u r g h = subst (λ x. Runs x u r) (sym g) h
 runs_behind s m (e ∷ t) u r g h = runs_more s g.0 e g.1 (t ++ u) r (runs_behind g.0 m t u r g.2 h)
 
-runs_left : {A : Type 0} (s m : Steps A) (t u : List Event) (r : A) → Gone s t m → Runs s (t ++ u) r → Runs m u r
+runs_left : {A : Type 0} (s m : Steps A) (t u : List Event) (r : A) → LedBy s t m → Runs s (t ++ u) r → Runs m u r
 runs_left s m [] u r g h = subst (λ x. Runs x u r) g h
 runs_left s m (e ∷ t) u r g h = runs_left g.0 m t u r g.2 (runs_alone s g.0 e g.1 (t ++ u) r h)
 

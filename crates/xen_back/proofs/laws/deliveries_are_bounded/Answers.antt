@@ -2,10 +2,10 @@ use Rattle.std.proofs.Common.{◌≡◌, ◌≤◌, ℕ, List, true, length, ari
 use Rattle.std.proofs.lemmas.Bool.Decides.{nat_tests}
 use Rattle.xen_steps.specs.Drive.{accesses, notices_in}
 use Rattle.xen_steps.specs.Event.{Event}
-use Rattle.xen_transmit.specs.Touched.{AllAllowed}
-use Rattle.xen_transmit.specs.declared.by_event.phase.Outcome.TheVariants as outcome
-use Rattle.xen_transmit.proofs.Figures.{most_transmit, n_transmit}
-use Rattle.xen_transmit.proofs.TouchedLemmas.{of_transmit}
+use Rattle.xen_rx_fill.specs.Touched.{AllAllowed}
+use Rattle.xen_rx_fill.specs.declared.by_event.phase.Outcome.TheVariants as outcome
+use Rattle.xen_rx_fill.proofs.Figures.{most_transmit, n_transmit}
+use Rattle.xen_rx_fill.proofs.TouchedLemmas.{of_transmit}
 use Rattle.xen_back.specs.Delivered.{IsDelivery, few, is_frame, no_frame, overflown, refused, sent, still_halted}
 use Rattle.xen_back.specs.declared.delivery.delivering.Delivery.{Delivery}
 use Rattle.xen_back.specs.declared.state.State.{State}

@@ -1,12 +1,12 @@
 use Rattle.std.proofs.Common.{ℕ, List, [], ◌∷◌, ◌++◌, append-nil, false, subst, true}
 use Rattle.xen_steps.specs.Event.{Event, Read}
 use Rattle.xen_steps.specs.Places.{add32}
-use Rattle.xen_transmit.specs.Places.{rx_word}
-use Rattle.xen_transmit.specs.Packets.{words}
-use Rattle.xen_transmit.specs.Sending.{IsTransmit, buffer_writes}
-use Rattle.xen_transmit.specs.Sending as sending
-use Rattle.xen_transmit.specs.declared.by_event.phase.Outcome.TheVariants as outcome
-use Rattle.xen_transmit.specs.declared.vif.Vif.{Vif}
+use Rattle.xen_rx_fill.specs.Places.{rx_word}
+use Rattle.xen_rx_fill.specs.Packets.{words}
+use Rattle.xen_rx_fill.specs.Sending.{IsTransmit, buffer_writes}
+use Rattle.xen_rx_fill.specs.Sending as sending
+use Rattle.xen_rx_fill.specs.declared.by_event.phase.Outcome.TheVariants as outcome
+use Rattle.xen_rx_fill.specs.declared.vif.Vif.{Vif}
 use Rattle.xen_back.specs.Delivered.{IsDelivery}
 use Rattle.xen_back.specs.Delivered as delivered
 use Rattle.xen_back.specs.Parts.{HasRead}

@@ -99,7 +99,7 @@ returns-clause-ok c =
     ap waited_of (get_set ws' i n lw') ∙ c.note_wait.ensures ∙ (λ j. items j ++ waited_list (turns j) (deliveries j) o) in
     let others : (j : ℕ) → (j ≡ i → ⊥) → waits' j ≡ waits j = λ j x. ap waited_of (get_set_other ws' i j n x) ∙ ap waited_of (get_set_other ws i j r x) in
     let between : is_between (Some at) ≡ true = sym c.is_between.ensures ∙ c.if-not-is_between.false in
-    await_of w _ i p o c.told.result c.told.ensures.under_way c.told.ensures.over (record {
+    await_of w _ i p o c.begun_by.result c.begun_by.ensures.under_way c.begun_by.ensures.over (record {
       between = ap is_between now ∙ between;
       resumes = λ d e.
           rw (is d, get_or-set_same qs i q' d l, get_or-set_same ats i at' e la) s.ensures.resumes;

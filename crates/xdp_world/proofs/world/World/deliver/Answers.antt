@@ -94,7 +94,7 @@ returns-clause-ok c =
     ap delivered_of (get_set ls' i n ll') ∙ c.note_delivery.ensures ∙ (λ j. items j ++ delivered_list (count j) o) in
     let others : (j : ℕ) → (j ≡ i → ⊥) → dels' j ≡ dels j = λ j x. ap delivered_of (get_set_other ls' i j n x) ∙ ap delivered_of (get_set_other ls i j r x) in
     let between : is_between (Some at) ≡ true = sym c.is_between.ensures ∙ c.if-not-is_between.false in
-    deliver_of w _ i p o c.told.result c.told.ensures.under_way c.told.ensures.over (record {
+    deliver_of w _ i p o c.begun_by.result c.begun_by.ensures.under_way c.begun_by.ensures.over (record {
       between = ap is_between now ∙ between;
       lands = λ d e.
           rw (is d, get_or-set_same qs i q' d l, get_or-set_same ats i at' e la) s.ensures.lands;

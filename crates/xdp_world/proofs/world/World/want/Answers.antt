@@ -2,7 +2,7 @@ use Rattle.std.proofs.Common.{◌≡◌, ◌<◌, ℕ, Some, false, length, get_
 use Rattle.std.proofs.lemmas.List.{get_or_read}
 use Rattle.std.proofs.lemmas.Option.{slice_get_within}
 use Rattle.xen_steps.specs.Drive.{IsPageWant}
-use Rattle.xen_transmit.specs.declared.vif.Vif.{Vif}
+use Rattle.xen_rx_fill.specs.declared.vif.Vif.{Vif}
 use Rattle.xen_steps.specs.Steps.{want_of}
 use Rattle.xen_back.specs.Queues.{rest, wiring_of}
 use Rattle.xen_back.specs.Within.{may_want}

@@ -1,7 +1,7 @@
 use Rattle.std.proofs.Common.{◌<◌, ap, sym, ◌∙◌, length, arith, drop, ◌+◌, false}
 use Rattle.xen_back.specs.Rest.{fragment_at}
 use Rattle.xen_steps.specs.Steps.{bind}
-use Rattle.xen_transmit.specs.Entries.{entry_at}
+use Rattle.xen_rx_fill.specs.Entries.{entry_at}
 use Rattle.xen_back.specs.Tree.{after_copy, copy, entered}
 use Rattle.xen_back.proofs.RestLemmas.{copy_at}
 use Rattle.xen_back.proofs.by_event.copying.next_fragment.Goals as goal

@@ -5,7 +5,7 @@ use Rattle.xen_page.specs.declared.access.Access.TheVariants as access
 use Rattle.xen_ring.specs.Index.{is_due}
 use Rattle.xen_steps.specs.Places.{add32}
 use Rattle.xen_steps.specs.Steps.{Steps, done}
-use Rattle.xen_transmit.specs.Places.{tx_slot, tx_word}
+use Rattle.xen_rx_fill.specs.Places.{tx_slot, tx_word}
 use Rattle.xen_back.specs.Drive.{Driven}
 use Rattle.xen_back.specs.Responses.{response}
 use Rattle.xen_back.specs.Tree.{answer, answered, notice, respond}

@@ -1,7 +1,7 @@
 use Rattle.std.proofs.Common.{◌≡◌, ◌++◌, ℕ, List, [], ◌∷◌, Option, Some, None, sym, ◌∙◌, ap, subst}
 use Rattle.xen_steps.specs.Event.{Event, Read}
 use Rattle.xen_steps.specs.Steps.{bind}
-use Rattle.xen_transmit.specs.Places.{tx_word}
+use Rattle.xen_rx_fill.specs.Places.{tx_word}
 use Rattle.xen_back.specs.Drive.{Driven}
 use Rattle.xen_back.specs.Tree.{after_look, announce, look, seen}
 use Rattle.xen_back.proofs.InOneGoLemmas.{look_read, looked_at}

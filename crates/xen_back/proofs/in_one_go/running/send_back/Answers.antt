@@ -1,7 +1,7 @@
 use Rattle.std.proofs.Common.{[], ◌++◌, List, ℕ, length, sym, ◌∙◌, ap, subst}
 use Rattle.xen_steps.specs.Drive.{Driven as DrivenPages}
 use Rattle.xen_steps.specs.Steps.{Steps, done}
-use Rattle.xen_transmit.specs.Transmit.{transmit}
+use Rattle.xen_rx_fill.specs.Transmit.{transmit}
 use Rattle.xen_back.specs.Drive.{Driven}
 use Rattle.xen_back.specs.Rest.{after_reply}
 use Rattle.xen_back.specs.Tree.{answered, respond, send}

@@ -13,8 +13,8 @@ use Rattle.xen_back.proofs.in_one_go.turning.from_slot.Goals as goal
 pub read_slot-words-requires : goal.read_slot-words-requires
 read_slot-words-requires g c = omega (arith, tx_within c.args.wiring.now.vif c.requires.served.wired, c.requires.served.size)
 
-pub returns-then-is_lone-clause-driven : goal.returns-then-is_lone-clause-driven
-returns-then-is_lone-clause-driven g c =
+pub returns-then-is_alone-clause-driven : goal.returns-then-is_alone-clause-driven
+returns-then-is_alone-clause-driven g c =
     let log = g.B.Bus.log in
     let gives = g.B.Bus.access_gives in
     let w = c.args.wiring.now in
@@ -26,7 +26,7 @@ returns-then-is_lone-clause-driven g c =
     let ops = c.args.seat.now.ops in
     let read : IsSlotRead log gives w.vif.tx _ slot bus r.new.bus = subst (λ (i : ℕ). IsSlotRead log gives w.vif.tx i slot bus r.new.bus) c.next_index.ensures r.ensures.read in
     let d = first_read log gives w s c.args.left slot bus r.new.bus read in
-    let is = c.is_lone.ensures c.if-is_lone.true in
+    let is = c.is_alone.ensures.alone c.if-is_alone.true in
     let start = after_look w s (Some (suc c.args.left)) in
     let mid = after_chain w s (slot ∷ []) (fragments_of (slot ∷ [])) in
     let end = ended (p.new.state, p.result) p.new.packet in
@@ -34,8 +34,8 @@ returns-then-is_lone-clause-driven g c =
     let u = p.ensures.driven in
     (d.0 ++ u.0, driven_append log gives start mid end bus r.new.bus p.new.bus ops ops p.new.seat.ops d.0 u.0 (driven_silent log gives start mid bus r.new.bus ops d.0 first) u.1)
 
-pub returns-else-is_lone-clause-driven : goal.returns-else-is_lone-clause-driven
-returns-else-is_lone-clause-driven g c =
+pub returns-else-is_alone-clause-driven : goal.returns-else-is_alone-clause-driven
+returns-else-is_alone-clause-driven g c =
     let log = g.B.Bus.log in
     let gives = g.B.Bus.access_gives in
     let w = c.args.wiring.now in
@@ -55,5 +55,5 @@ returns-else-is_lone-clause-driven g c =
 
 pub invariant_of-slot : goal.invariant_of-slot
 invariant_of-slot g c =
-    let is = c.is_lone.ensures c.if-is_lone.true in
+    let is = c.is_alone.ensures.alone c.if-is_alone.true in
     record { plain = is.0; last = is.1 }

@@ -7,7 +7,7 @@ use Rattle.xen_back.proofs.queue.Queue.end_delivery.Goals as goal
 pub invariant_of-self : goal.invariant_of-self
 invariant_of-self c =
     let q = c.args.self.now in
-    let after = c.moved-delivery.result.0 in
+    let after = c.outcome_of-delivery.result.0 in
     record {
       here = q.here;
       wired = q.wired;

@@ -2,8 +2,8 @@ use Rattle.std.proofs.Common.{None, refl, ◌+◌, arith}
 use Rattle.bpf_verify.specs.Consistent.{instructions}
 use Rattle.xen_steps.specs.Drive.{Any}
 use Rattle.xen_steps.proofs.FinishLemmas.{finishes}
-use Rattle.xen_transmit.specs.Wired.{IsWired}
-use Rattle.xen_transmit.specs.declared.vif.Vif.{Vif}
+use Rattle.xen_rx_fill.specs.Wired.{IsWired}
+use Rattle.xen_rx_fill.specs.declared.vif.Vif.{Vif}
 use Rattle.xen_back.specs.Tree.{whole_turn}
 use Rattle.xen_back.specs.Within.{Completes, may_want}
 use Rattle.xen_back.specs.declared.state.State.{State}

@@ -1,5 +1,5 @@
 use Rattle.std.proofs.Common.{List, ℕ, sym, subst}
-use Rattle.xen_steps.specs.Drive.{Any, Bounded, Driven, Gone, IsPageWant}
+use Rattle.xen_steps.specs.Drive.{Any, Bounded, Driven, LedBy, IsPageWant}
 use Rattle.xen_steps.proofs.DriveLemmas.{bounded_wider}
 use Rattle.xen_front.specs.Fronts.{rest}
 use Rattle.xen_front.specs.Rest.{rest_at}
@@ -25,9 +25,9 @@ invariant_of-front-clause-short g c =
     let f = c.args.front.now in
     let x = c.past_piece-front.result in
     let d = c.past_piece-front.ensures.driven f.state f.received in
-    let phased = subst (λ (y : Phase). Gone (rest_at f.wiring f.state c.bytes.result.now f.received y) d.0 (rest_at f.wiring f.state c.bytes.result.now f.received x)) c.replace-phase.ensures.value d.1.gone in
+    let phased = subst (λ (y : Phase). LedBy (rest_at f.wiring f.state c.bytes.result.now f.received y) d.0 (rest_at f.wiring f.state c.bytes.result.now f.received x)) c.replace-phase.ensures.value d.1.gone in
     short_gone f.wiring f.state f.sent f.received f.phase x d.0 f.short
-    (subst (λ (p : List ℕ). Gone (rest_at f.wiring f.state p f.received f.phase) d.0 (rest_at f.wiring f.state p f.received x)) c.bytes.ensures.same phased)
+    (subst (λ (p : List ℕ). LedBy (rest_at f.wiring f.state p f.received f.phase) d.0 (rest_at f.wiring f.state p f.received x)) c.bytes.ensures.same phased)
 
 pub returns-clause-driven : goal.returns-clause-driven
 returns-clause-driven g c =

@@ -3,8 +3,8 @@ use Rattle.std.specs.Prelude.{Some, Result}
 use Rattle.xen_steps.specs.Steps.{bind}
 use Rattle.xen_host.specs.Led.{beside}
 use Rattle.xen_host.specs.Wired.{vif_of}
-use Rattle.xen_transmit.specs.Transmit.{after_targets, read_targets, targeted}
-use Rattle.xen_transmit.specs.declared.target.Target.{Target}
+use Rattle.xen_rx_fill.specs.Transmit.{after_targets, read_targets, targeted}
+use Rattle.xen_rx_fill.specs.declared.target.Target.{Target}
 use Rattle.xen_host.proofs.FillLemmas.{fill_same}
 use Rattle.xen_page.specs.Grant.{checked}
 use Rattle.xen_page.specs.declared.entry.Entry.{Entry}

@@ -6,8 +6,8 @@ use Rattle.xen_host.specs.Led.{beside}
 use Rattle.xen_host.specs.Wired.{vif_of}
 use Rattle.xen_host.proofs.LedLemmas.{says_one}
 use Rattle.xen_page.specs.declared.place.Place.{Place}
-use Rattle.xen_transmit.specs.Entries.{entry_at}
-use Rattle.xen_transmit.specs.Transmit.{after_targets, read_targets, targeted}
+use Rattle.xen_rx_fill.specs.Entries.{entry_at}
+use Rattle.xen_rx_fill.specs.Transmit.{after_targets, read_targets, targeted}
 use Rattle.xen_host.specs.declared.stage.Fill.TheVariants as fill
 use Rattle.xen_host.proofs.FillLemmas.{IsFillOn, fill_same, lift_fill}
 use Rattle.xen_netif.specs.declared.rx.RxReq.{RxReq}

@@ -2,7 +2,7 @@ use Rattle.std.proofs.Common.{◌≡◌, length, sym, ap, ◌∙◌, true, false
 use Rattle.xen_host.specs.Led.{beside}
 use Rattle.xen_host.specs.Wired.{vif_of}
 use Rattle.xen_steps.specs.Places.{add32}
-use Rattle.xen_transmit.specs.Transmit.{outcome_of, rx_notice}
+use Rattle.xen_rx_fill.specs.Transmit.{outcome_of, rx_notice}
 use Rattle.xen_host.proofs.FillLemmas.{fill_same}
 use Rattle.xen_ring.specs.Index.{is_due}
 use Rattle.xen_host.proofs.engine.Engine.after_reply_event.Goals as goal

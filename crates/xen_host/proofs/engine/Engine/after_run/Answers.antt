@@ -8,7 +8,7 @@ use Rattle.std.specs.Prelude.{◌==◌, if◌then◌else◌}
 use Rattle.xen_netif.specs.Chain.{Slot}
 use Rattle.xen_netif.specs.declared.status.Status.{Status}
 use Rattle.xen_page.specs.declared.place.Place.{Place}
-use Rattle.xen_transmit.specs.Places.{rx_word}
+use Rattle.xen_rx_fill.specs.Places.{rx_word}
 use Rattle.xen_back.specs.Tree.{after_run, respond, send, status_of}
 use Rattle.xen_back.specs.Turned.{Ending, Ran}
 use Rattle.xen_back.specs.declared.wiring.Wiring.{Wiring}

@@ -5,7 +5,7 @@ use Rattle.xen_host.specs.Wired.{wiring_of}
 use Rattle.xen_host.proofs.LedLemmas.{says_one}
 use Rattle.xen_page.specs.declared.place.Place.{Place}
 use Rattle.xen_steps.specs.Places.{add32}
-use Rattle.xen_transmit.specs.Places.{tx_word}
+use Rattle.xen_rx_fill.specs.Places.{tx_word}
 use Rattle.xen_back.specs.Tree.{after_look, check_again}
 use Rattle.xen_host.proofs.engine.Engine.announce.Goals as goal
 

@@ -3,12 +3,12 @@ use Rattle.std.specs.Prelude.{Option}
 use Rattle.xen_steps.specs.Steps.{bind}
 use Rattle.xen_host.specs.Led.{beside}
 use Rattle.xen_host.specs.Wired.{vif_of}
-use Rattle.xen_transmit.specs.Transmit.{after_targets, read_targets}
-use Rattle.xen_transmit.specs.declared.target.Target.{Target}
+use Rattle.xen_rx_fill.specs.Transmit.{after_targets, read_targets}
+use Rattle.xen_rx_fill.specs.declared.target.Target.{Target}
 use Rattle.xen_host.proofs.FillLemmas.{fill_same}
-use Rattle.xen_transmit.specs.Packets.{pages}
-use Rattle.xen_transmit.specs.Transmit.{found}
-use Rattle.xen_transmit.proofs.StraightLemmas.{found_enough}
+use Rattle.xen_rx_fill.specs.Packets.{pages}
+use Rattle.xen_rx_fill.specs.Transmit.{found}
+use Rattle.xen_rx_fill.proofs.StraightLemmas.{found_enough}
 use Rattle.xen_host.proofs.engine.Engine.found.Goals as goal
 
 pub returns-else-pages-eq0 : goal.returns-else-pages-eq0

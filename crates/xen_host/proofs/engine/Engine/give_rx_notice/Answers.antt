@@ -3,7 +3,7 @@ use Rattle.xen_steps.specs.Steps.{done}
 use Rattle.xen_host.specs.Asks as ask
 use Rattle.xen_host.specs.Led.{beside}
 use Rattle.xen_host.proofs.LedLemmas.{kept_words, said_behind, says_last, tail_is}
-use Rattle.xen_transmit.specs.Transmit.{outcome_of}
+use Rattle.xen_rx_fill.specs.Transmit.{outcome_of}
 use Rattle.xen_host.specs.declared.stage.Fill.TheVariants as fill
 use Rattle.xen_host.proofs.FillLemmas.{IsFillOn, fill_as, fill_room, fill_before, lift_fill}
 use Rattle.xen_host.proofs.engine.Engine.give_rx_notice.Goals as goal

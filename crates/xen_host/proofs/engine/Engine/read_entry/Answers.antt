@@ -7,7 +7,7 @@ use Rattle.xen_host.proofs.LedLemmas.{led_from, says_one}
 use Rattle.xen_netif.specs.declared.fragment.Fragment.{Fragment}
 use Rattle.xen_page.specs.Table.{entry_place}
 use Rattle.xen_page.specs.declared.place.Place.{Place}
-use Rattle.xen_transmit.specs.Entries.{entry_at}
+use Rattle.xen_rx_fill.specs.Entries.{entry_at}
 use Rattle.xen_back.specs.Rest.{fragment_at}
 use Rattle.xen_back.specs.Tree.{after_copy, copy, entered}
 use Rattle.xen_host.proofs.engine.Engine.read_entry.Goals as goal

@@ -5,8 +5,8 @@ use Rattle.xen_host.specs.Wired.{vif_of}
 use Rattle.xen_host.proofs.LedLemmas.{says_one}
 use Rattle.xen_page.specs.declared.place.Place.{Place}
 use Rattle.xen_steps.specs.Places.{add32}
-use Rattle.xen_transmit.specs.Places.{rx_slot}
-use Rattle.xen_transmit.specs.Transmit.{after_targets, posted, read_targets, targeted}
+use Rattle.xen_rx_fill.specs.Places.{rx_slot}
+use Rattle.xen_rx_fill.specs.Transmit.{after_targets, posted, read_targets, targeted}
 use Rattle.xen_host.specs.declared.stage.Fill.TheVariants as fill
 use Rattle.xen_host.proofs.AskLemmas.{asks_post}
 use Rattle.xen_host.proofs.FillLemmas.{IsFillOn, lift_fill}

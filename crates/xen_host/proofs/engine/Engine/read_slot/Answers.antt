@@ -4,7 +4,7 @@ use Rattle.xen_host.specs.Wired.{wiring_of}
 use Rattle.xen_host.proofs.LedLemmas.{says_one}
 use Rattle.xen_page.specs.declared.place.Place.{Place}
 use Rattle.xen_steps.specs.Places.{add32}
-use Rattle.xen_transmit.specs.Places.{tx_slot}
+use Rattle.xen_rx_fill.specs.Places.{tx_slot}
 use Rattle.xen_back.specs.Rest.{rest_of_slot}
 use Rattle.xen_back.specs.Tree.{after_scan, judged, read_slot, read_slots}
 use Rattle.xen_netif.specs.Chain.{Slot}

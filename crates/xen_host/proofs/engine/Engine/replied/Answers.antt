@@ -1,8 +1,8 @@
 use Rattle.std.proofs.Common.{ap, ◌∙◌}
 use Rattle.xen_steps.specs.Steps.{done}
 use Rattle.xen_host.specs.Led.{beside}
-use Rattle.xen_transmit.specs.Transmit.{outcome_of}
-use Rattle.xen_transmit.specs.declared.by_event.phase.Outcome.{Outcome}
+use Rattle.xen_rx_fill.specs.Transmit.{outcome_of}
+use Rattle.xen_rx_fill.specs.declared.by_event.phase.Outcome.{Outcome}
 use Rattle.xen_host.proofs.FillLemmas.{fill_same}
 use Rattle.xen_host.proofs.engine.Engine.replied.Goals as goal
 

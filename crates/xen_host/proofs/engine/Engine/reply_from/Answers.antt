@@ -4,13 +4,13 @@ use Rattle.xen_host.specs.Asks as ask
 use Rattle.xen_host.specs.Wired.{vif_of}
 use Rattle.xen_host.proofs.LedLemmas.{led_as, says_all, says_then}
 use Rattle.xen_steps.specs.Places.{add32}
-use Rattle.xen_transmit.specs.Places.{rx_word}
-use Rattle.xen_transmit.specs.Transmit.{rx_answer, rx_event, rx_publish}
-use Rattle.xen_transmit.specs.declared.by_event.phase.Outcome.{Outcome}
+use Rattle.xen_rx_fill.specs.Places.{rx_word}
+use Rattle.xen_rx_fill.specs.Transmit.{rx_answer, rx_event, rx_publish}
+use Rattle.xen_rx_fill.specs.declared.by_event.phase.Outcome.{Outcome}
 use Rattle.xen_host.specs.declared.stage.Fill.TheVariants as fill
 use Rattle.xen_host.proofs.FillLemmas.{IsFillOn, lift_fill, waits_none}
 use Rattle.std.proofs.lemmas.List.{drop_all}
-use Rattle.xen_steps.specs.Drive.{Gone}
+use Rattle.xen_steps.specs.Drive.{LedBy}
 use Rattle.xen_steps.specs.Event.{Write}
 use Rattle.xen_host.specs.Chained.{replies}
 use Rattle.xen_host.proofs.ChainLemmas.{replies_chained, replies_gone, replies_length}
@@ -55,8 +55,8 @@ returns c =
     let some : n < length c.args.ops.now = omega (arith, c.if-count-ops.false, s.ensures.room, s.auto.ops) in
     let whole : from + n ≡ m = s.ensures.all some in
     let end : drop (from + n) ts ≡ [] = drop_all (from + n) ts (omega (arith, whole)) in
-    let pushes : Gone (rx_publish w x passed m) (Write (rx_word w 2) v ∷ []) left = (left, (0, (refl, refl), refl), refl) in
-    let then = subst (λ (y : Steps Outcome). Gone y (Write (rx_word w 2) v ∷ []) left) (sym (ap (λ l. rx_answer w x p passed m (from + n) l) end)) pushes in
+    let pushes : LedBy (rx_publish w x passed m) (Write (rx_word w 2) v ∷ []) left = (left, (0, (refl, refl), refl), refl) in
+    let then = subst (λ (y : Steps Outcome). LedBy y (Write (rx_word w 2) v ∷ []) left) (sym (ap (λ l. rx_answer w x p passed m (from + n) l) end)) pushes in
     record {
       led = λ lent. lift_fill c.args.purpose q ts f _ _ _ _ lent lent
           (led_as _ _ _ _ _ _ _ _ _ _ lent lent (sym c.put.ensures) refl

@@ -6,10 +6,10 @@ use Rattle.xen_host.specs.declared.engine.Engine.{Engine}
 use Rattle.xen_host.specs.declared.stage.Stage.TheVariants as stage
 use Rattle.xen_host.proofs.LedLemmas.{led_as, says_all, says_then}
 use Rattle.std.proofs.lemmas.List.{drop_all}
-use Rattle.xen_steps.specs.Drive.{Gone}
+use Rattle.xen_steps.specs.Drive.{LedBy}
 use Rattle.xen_steps.specs.Event.{Write}
 use Rattle.xen_steps.specs.Places.{add32}
-use Rattle.xen_transmit.specs.Places.{tx_word}
+use Rattle.xen_rx_fill.specs.Places.{tx_word}
 use Rattle.xen_back.specs.Tree.{answer, publish, read_event, responses}
 use Rattle.xen_back.specs.Turned.{Ending}
 use Rattle.xen_back.proofs.Bounds.{responses_length}
@@ -60,8 +60,8 @@ returns c =
     let whole : from + n ≡ m = s.ensures.all some in
     let inside : from + n ≤ length words = omega (arith, s.ensures.within, responses_length a.status q.work.chain) in
     let end : drop (from + n) words ≡ [] = drop_all (from + n) words (omega (arith, whole, responses_length a.status q.work.chain)) in
-    let pushes : Gone (publish w t v e) (Write (tx_word w.vif 2) v ∷ []) left = (left, (0, (refl, refl), refl), refl) in
-    let then = subst (λ (x : Steps Ending). Gone x (Write (tx_word w.vif 2) v ∷ []) left) (sym (ap (λ l. answer w t m (from + n) l e) end)) pushes in
+    let pushes : LedBy (publish w t v e) (Write (tx_word w.vif 2) v ∷ []) left = (left, (0, (refl, refl), refl), refl) in
+    let then = subst (λ (x : Steps Ending). LedBy x (Write (tx_word w.vif 2) v ∷ []) left) (sym (ap (λ l. answer w t m (from + n) l e) end)) pushes in
     record {
       led = λ lent. led_as _ _ _ _ _ _ _ _ _ _ lent lent (sym c.put.ensures) refl
           (says_then _ _ _ _ between left _ all (ask.Push (tx_word w.vif 2) v 3) _ _ _ _ lent (stores_chained w.vif t words from n) s.ensures.said (sym (stores_length w.vif t words from n)) some c.response_push.ensures refl refl tt

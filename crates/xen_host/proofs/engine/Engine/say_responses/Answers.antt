@@ -5,7 +5,7 @@ use Rattle.xen_host.specs.Wired.{vif_of}
 use Rattle.xen_host.proofs.LedLemmas.{put_ask}
 use Rattle.xen_back.specs.Tree.{responses}
 use Rattle.xen_steps.specs.Places.{add32}
-use Rattle.xen_transmit.specs.Places.{tx_slot}
+use Rattle.xen_rx_fill.specs.Places.{tx_slot}
 use Rattle.xen_host.specs.Asks.{Ask, op_of}
 use Rattle.xen_host.specs.Chained.{stores}
 use Rattle.xen_host.proofs.ChainLemmas.{stores_length, stores_more}

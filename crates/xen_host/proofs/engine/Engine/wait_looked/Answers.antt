@@ -8,5 +8,5 @@ use Rattle.xen_host.proofs.engine.Engine.wait_looked.Goals as goal
 pub returns : goal.returns
 returns c =
     let q = c.args.self.now in
-    let same = c.told-awaited.ensures ∙ ap (λ (o : Option ℕ). wait_end q.state c.args.pages o) c.requests_shown.ensures in
+    let same = c.wait_answer-awaited.ensures ∙ ap (λ (o : Option ℕ). wait_end q.state c.args.pages o) c.requests_shown.ensures in
     record { led = λ lent. led_from _ _ _ _ _ _ _ _ _ lent lent (ap (λ (x : Wait). done x) same) (c.end_wait.ensures.led lent) }

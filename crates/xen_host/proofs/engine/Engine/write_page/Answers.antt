@@ -6,12 +6,12 @@ use Rattle.xen_host.specs.Led.{beside}
 use Rattle.xen_host.specs.Wired.{vif_of}
 use Rattle.xen_host.proofs.LedLemmas.{said_behind, says_write, tail_is}
 use Rattle.xen_steps.specs.Places.{page_word}
-use Rattle.xen_transmit.specs.Transmit.{fill_from, rx_respond}
-use Rattle.xen_transmit.specs.declared.by_event.phase.Outcome.{Outcome}
+use Rattle.xen_rx_fill.specs.Transmit.{fill_from, rx_respond}
+use Rattle.xen_rx_fill.specs.declared.by_event.phase.Outcome.{Outcome}
 use Rattle.xen_host.specs.declared.stage.Fill.TheVariants as fill
 use Rattle.xen_host.proofs.FillLemmas.{IsFillOn, fill_as, fill_before, fill_room, lift_fill}
-use Rattle.xen_steps.specs.Drive.{Gone}
-use Rattle.xen_transmit.specs.Packets.{frame_in, target_at, words}
+use Rattle.xen_steps.specs.Drive.{LedBy}
+use Rattle.xen_rx_fill.specs.Packets.{frame_in, target_at, words}
 use Rattle.xen_host.specs.Asks.{writes_at}
 use Rattle.xen_host.specs.Filling.{packet_words}
 use Rattle.xen_host.proofs.ChainLemmas.{fill_over, page_gone}
@@ -34,7 +34,7 @@ returns-then-to-all-clause-led c =
     let at = page_word (frame_in (target_at ts i).frame) 0 in
     let from = fill_from w x p ts (1024 * i) in
     let left = fill_from w x p ts (1024 * (i + 1)) in
-    let gone = subst (λ (l : List ℕ). Gone from (writes_at at l) left) (sym c.page_op.ensures.wrote) (page_gone w x p ts i to some most) in
+    let gone = subst (λ (l : List ℕ). LedBy from (writes_at at l) left) (sym c.page_op.ensures.wrote) (page_gone w x p ts i to some most) in
     let f = fill.Words (i + 1) in
     lift_fill c.args.purpose q ts f from _ _ _ lent after
     (says_write (IsFillOn q ts f) _ _ from left _ at (to - 1024 * i) c.page_op.result _ _ lent after c.requires.room c.say.ensures.said c.page_op.ensures.op c.page_op.ensures.rest
@@ -61,8 +61,8 @@ returns-clause-led c =
     let at = page_word (frame_in (target_at ts i).frame) 0 in
     let from = fill_from w x p ts (1024 * i) in
     let left = rx_respond w x p true ts in
-    let gone = subst (λ (l : List ℕ). Gone from (writes_at at l) left) (sym c.page_op.ensures.wrote)
-    (subst (λ (s : Steps Outcome). Gone from (writes_at at (packet_words p (1024 * i) (to - 1024 * i))) s) (fill_over w x p ts (1024 * (i + 1)) last) (page_gone w x p ts i to some most)) in
+    let gone = subst (λ (l : List ℕ). LedBy from (writes_at at l) left) (sym c.page_op.ensures.wrote)
+    (subst (λ (s : Steps Outcome). LedBy from (writes_at at (packet_words p (1024 * i) (to - 1024 * i))) s) (fill_over w x p ts (1024 * (i + 1)) last) (page_gone w x p ts i to some most)) in
     let one : suc c.reply_from-2.result ≡ 1 + c.reply_from-2.result = omega arith in
     let ops = said_behind c.page_op.result c.args.ops.now c.say.new.ops c.reply_from-2.new.ops c.say.ensures.said in
     fill_as c.args.purpose (beside q) _ _ _ _ _ _ _ lent after (sym ops) one

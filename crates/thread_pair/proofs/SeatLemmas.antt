@@ -1,0 +1,15 @@
+-- New seats, taken from the end.
+use Rattle.std.proofs.Common.{◌≡◌, ℕ, ◌+◌, List, [], ◌∷◌, ◌++◌, length, length-append, sym, ap, ◌∙◌, arith}
+use Rattle.std.proofs.lemmas.List.FromFn.{length-map-range_with_len, map-range_with_len_more}
+use Rattle.bpf_maps.specs.Seats.{SeatView, CountersView, new_seat, new_seats}
+use Rattle.thread_pair.proofs.ReturnLemmas.{snoc_same}
+
+pub length_new : (c : CountersView) (n : ℕ) → length (new_seats c n) ≡ n
+length_new c n = length-map-range_with_len (new_seat c) 0 n
+
+-- the last of so many new seats has the number of those before it
+pub last_new : (c : CountersView) (seats left : List SeatView) (seat : SeatView) → seats ≡ left ++ seat ∷ [] → seats ≡ new_seats c (length seats) → (left ≡ new_seats c (length left)) × (seat ≡ new_seat c (length left))
+last_new c seats left seat is new =
+    let n : length seats ≡ length left + 1 = omega (arith, ap length is, length-append left (seat ∷ [])) in
+    snoc_same left (new_seats c (length left)) seat (new_seat c (length left))
+    (sym is ∙ new ∙ ap (new_seats c) n ∙ map-range_with_len_more (new_seat c) 0 (length left) (length left) (omega arith))

@@ -1,0 +1,34 @@
+-- Stated: claims rest on this file.
+-- What the threads are given.
+use Rattle.std.specs.Prelude.{ℕ, suc, zero, ◌+◌, ◌*◌, ◌<◌, ◌≡◌, List, [], ◌∷◌, length, true}
+use Rattle.bpf_maps.specs.Seats.{CountersView, new_seat}
+use Rattle.xdp_world.specs.Frames.{frame_of, owners_of}
+use Rattle.xen_front.specs.Fronts.{wiring_of}
+use Rattle.xen_page.specs.Mapping.{IsMappedBy}
+use Rattle.thread_pair.specs.declared.resources.BackResources.{BackResources}
+use Rattle.thread_pair.specs.declared.resources.FrontResources.{FrontResources}
+
+-- the number of a back's seat
+abbrev pub number_of : BackResources → ℕ
+number_of k = k.seat.number
+
+-- so many numbers, from the last down to 0
+abbrev pub falling : ℕ → List ℕ
+falling zero = []
+falling (suc n) = n ∷ falling n
+
+-- What a back is given among so many queues: its queue's rings, which the front lent for writing, and its queue's new seat at the counters.
+pub record IsBackOf (c : CountersView) (queues : ℕ) (k : BackResources) : Type 0 where
+  pub queue : k.queue < queues
+  pub tx : IsMappedBy (owners_of queues) 1 k.tx
+  pub rx : IsMappedBy (owners_of queues) 1 k.rx
+  pub tx_frame : k.tx.frame ≡ frame_of (514 * k.queue)
+  pub rx_frame : k.rx.frame ≡ frame_of (514 * k.queue + 1)
+  pub tx_writable : k.tx.write ≡ true
+  pub rx_writable : k.rx.write ≡ true
+  pub seat : k.seat ≡ new_seat c k.queue
+
+-- a front's own among so many queues: a front whose pages are among their frames
+pub record IsFrontOf (queues : ℕ) (k : FrontResources) : Type 0 where
+  pub queue : k.queue < queues
+  pub frames : (wiring_of k.front).frames ≡ length (owners_of queues)

@@ -1,0 +1,29 @@
+-- Stated: claims rest on this file.
+-- What C is answered where it has a packet delivered, or waits for rx slots.
+use Rattle.std.specs.Prelude.{ℕ, ◌≡◌, List}
+use Rattle.xen_host.specs.Queues.{IsBegin, IsWaitBegin}
+use Rattle.xen_host.specs.declared.queue.Queue.{Queue}
+use Rattle.xen_host.specs.declared.task.Begin.{Begin}
+use Rattle.xen_host.specs.declared.task.Begin.TheVariants as begin
+
+-- the numbers of include/laxonje.h
+abbrev pub begin_number : Begin → ℕ
+begin_number begin.Begun = 0
+begin_number begin.Busy = 2
+begin_number begin.NoFrame = 3
+
+-- there is no queue
+abbrev pub no_queue : ℕ
+no_queue = 1
+
+-- The queue was given the rx producer and the packet, and its answer is what C is told.
+pub record DeliverAnswers (old new : Queue) (producer : ℕ) (packet : List ℕ) (told : ℕ) : Type 0 where
+  pub answer : Begin
+  pub told_is : told ≡ begin_number answer
+  pub taken : IsBegin old new producer packet answer
+
+-- The queue was to wait for so many slots, and its answer is what C is told.
+pub record WaitAnswers (old new : Queue) (pages : ℕ) (told : ℕ) : Type 0 where
+  pub answer : Begin
+  pub told_is : told ≡ begin_number answer
+  pub taken : IsWaitBegin old new pages answer

@@ -1,0 +1,72 @@
+-- A transmit comes to an end, whatever it is answered.
+use Rattle.std.proofs.Common.{ℕ, zero, suc, ◌+◌, ◌-◌, Bool, true, false, List, [], ◌∷◌, Option, Some, None, Result, Ok, Err, length, nat_lt}
+use Rattle.std.specs.Prelude.{if◌then◌else◌}
+use Rattle.xen_netif.specs.Slots.{rx_req_of}
+use Rattle.xen_page.specs.Table.{entry_place}
+use Rattle.xen_page.specs.declared.fault.GrantFault.{GrantFault}
+use Rattle.xen_page.specs.declared.place.Place.{Place}
+use Rattle.xen_ring.specs.Index.{is_due}
+use Rattle.xen_steps.specs.Drive.{Any}
+use Rattle.xen_steps.specs.Finish.{Ends}
+use Rattle.xen_steps.specs.Places.{add32, available}
+use Rattle.xen_steps.specs.Steps.{Steps, done, bind}
+use Rattle.xen_steps.proofs.FinishLemmas.{ends_bind}
+use Rattle.xen_rx_fill.specs.Entries.{entry, entry_at}
+use Rattle.xen_rx_fill.specs.Packets.{pages, words}
+use Rattle.xen_rx_fill.specs.Transmit.{Posted, after_targets, fill, found, outcome_of, posted, read_targets, rx_answer, rx_notice, rx_respond, targeted, transmit}
+use Rattle.xen_rx_fill.specs.declared.by_event.phase.Outcome.{Outcome}
+use Rattle.xen_rx_fill.specs.declared.by_event.phase.Outcome.TheVariants as outcome
+use Rattle.xen_rx_fill.specs.declared.target.Target.{Target}
+use Rattle.xen_rx_fill.specs.declared.vif.Vif.{Vif}
+
+module _ (w : Vif) where
+  pub ends_entry : (write : Bool) (o : Option Place) → Ends Any (entry_at w write o)
+  ends_entry write None = tt
+  ends_entry write (Some at) = (tt, λ a e o. (tt, λ b x p. tt))
+
+  ends_posted : (i : ℕ) (rest : ℕ → Result ℕ GrantFault → Steps Posted) → ((id : ℕ) (r : Result ℕ GrantFault) → Ends Any (rest id r)) → Ends Any (posted w i rest)
+  ends_posted i rest g = (
+    tt,
+    λ a x o. (
+      tt,
+      λ b y p. let k = rx_req_of (a ∷ b ∷ []) in
+          ends_bind Any Any (entry w true k.gref) (rest k.id) (ends_entry true (entry_place w.table.now k.gref)) (λ r u. g k.id r),
+    ),
+  )
+
+  ends_targeted : (before : List Target) (go : List Target → Steps Posted) (id : ℕ) (r : Result ℕ GrantFault) → ((ts : List Target) → Ends Any (go ts)) → Ends Any (targeted before go id r)
+  ends_targeted before go id (Ok frame) g = g _
+  ends_targeted before go id (Err fault) g = tt
+
+  ends_targets : (x left : ℕ) (before : List Target) → Ends Any (read_targets w x left before)
+  ends_targets x zero before = tt
+  ends_targets x (suc left) before =
+      ends_posted (add32 x (length before)) (targeted before (read_targets w x left)) (λ id r. ends_targeted before (read_targets w x left) id r (λ ts. ends_targets x left ts))
+
+  ends_fill : (ts : List Target) (packet : List ℕ) (n k : ℕ) → Ends Any (fill ts packet n k)
+  ends_fill ts packet zero k = tt
+  ends_fill ts packet (suc n) k = (tt, λ a e o. ends_fill ts packet n (k + 1))
+
+  ends_rx_notice : (b : Bool) (o : Outcome) → Ends Any (rx_notice w b o)
+  ends_rx_notice false o = tt
+  ends_rx_notice true o = (tt, λ a e p. tt)
+
+  ends_rx_answer : (x : ℕ) (packet : List ℕ) (passed : Bool) (n i : ℕ) (ts : List Target) → Ends Any (rx_answer w x packet passed n i ts)
+  ends_rx_answer x packet passed n i [] = (tt, λ a e o. (tt, λ v y p. ends_rx_notice (is_due x (add32 x n) v) (outcome_of passed n)))
+  ends_rx_answer x packet passed n i (t ∷ ts) = (tt, λ a e o. (tt, λ b y p. ends_rx_answer x packet passed n (i + 1) ts))
+
+  ends_after_targets : (x : ℕ) (packet : List ℕ) (p : Posted) → Ends Any (after_targets w x packet p)
+  ends_after_targets x packet (Ok ts) =
+      ends_bind Any Any (fill ts packet (words packet - 0) 0) (λ v. rx_respond w x packet true ts) (ends_fill ts packet (words packet - 0) 0) (λ v u. ends_rx_answer x packet true (length ts) 0 ts)
+  ends_after_targets x packet (Err ts) = ends_rx_answer x packet false (length ts) 0 ts
+
+  ends_found : (x : ℕ) (packet : List ℕ) (o : Option ℕ) → Ends Any (found w x packet o)
+  ends_found x packet None = tt
+  ends_found x packet (Some m) = by (nat_lt m (pages packet))
+    where
+      by : (b : Bool) → Ends Any (if b then done outcome.TooFew else bind (read_targets w x (pages packet) []) (after_targets w x packet))
+      by true = tt
+      by false = ends_bind Any Any (read_targets w x (pages packet) []) (after_targets w x packet) (ends_targets x (pages packet) []) (λ p u. ends_after_targets x packet p)
+
+  pub ends_transmit : (x : ℕ) (packet : List ℕ) → Ends Any (transmit w x packet)
+  ends_transmit x packet = (tt, λ p e o. ends_found x packet (available x p))

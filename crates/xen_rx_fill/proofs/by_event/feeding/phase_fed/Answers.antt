@@ -1,0 +1,28 @@
+use Rattle.std.proofs.Common.{ap, sym, ◌∙◌, length, drop}
+use Rattle.xen_netif.specs.declared.rx.RxReq.{RxReq}
+use Rattle.xen_steps.specs.Steps.{bind, next_by}
+use Rattle.xen_rx_fill.specs.Rest.{rest_of}
+use Rattle.xen_rx_fill.specs.Transmit.{after_targets, read_targets, requested, targeted}
+use Rattle.xen_rx_fill.specs.declared.by_event.phase.Phase.{Phase}
+use Rattle.xen_rx_fill.proofs.SendLemmas.{rx_answer_by}
+use Rattle.xen_rx_fill.proofs.by_event.feeding.phase_fed.Goals as goal
+
+pub returns-in-Second : goal.returns-in-Second
+returns-in-Second c =
+    let w = c.args.vif.now in
+    let x = c.args.rx_index in
+    let packet = c.args.bytes.now in
+    let r = c.in-Second.posting in
+    c.requested.ensures x packet
+    ∙ ap (λ (q : RxReq). bind (requested w q (targeted r.targets (read_targets w x r.left))) (after_targets w x packet)) c.of_words.ensures.fields
+    ∙ sym (ap (λ (s : Phase). next_by (rest_of w x packet s) c.args.word 0) c.in-Second.is)
+
+pub returns-in-Response : goal.returns-in-Response
+returns-in-Response c =
+    let w = c.args.vif.now in
+    let x = c.args.rx_index in
+    let packet = c.args.bytes.now in
+    let r = c.in-Response in
+    c.responded.ensures w x packet
+    ∙ rx_answer_by w x packet r.passed (length r.targets) r.i (drop r.i r.targets) c.args.word 0
+    ∙ sym (ap (λ (s : Phase). next_by (rest_of w x packet s) c.args.word 0) r.is)

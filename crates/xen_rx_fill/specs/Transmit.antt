@@ -1,0 +1,88 @@
+-- Stated: claims rest on this file.
+-- The transmit of a packet, as a computation that asks.
+use Rattle.std.specs.Prelude.{ℕ, zero, suc, ◌+◌, ◌-◌, Bool, true, false, List, [], ◌∷◌, ◌++◌, length, Option, Some, None, Result}
+use Rattle.std.specs.Prelude.{Ok, Err, nat_lt, if◌then◌else◌}
+use Rattle.xen_netif.specs.Slots.{rx_req_of}
+use Rattle.xen_netif.specs.declared.rx.RxReq.{RxReq}
+use Rattle.xen_page.specs.declared.fault.GrantFault.{GrantFault}
+use Rattle.xen_ring.specs.Index.{is_due}
+use Rattle.xen_rx_fill.specs.Entries.{entry}
+use Rattle.xen_rx_fill.specs.Packets.{pages, words, word_of, buffer_word, response_word}
+use Rattle.xen_steps.specs.Places.{add32, available}
+use Rattle.xen_rx_fill.specs.Places.{rx_slot, rx_word}
+use Rattle.xen_steps.specs.Steps.{Steps, done, ask, bind}
+use Rattle.xen_rx_fill.specs.declared.by_event.phase.Outcome.{Outcome}
+use Rattle.xen_rx_fill.specs.declared.by_event.phase.Outcome.TheVariants as outcome
+use Rattle.xen_rx_fill.specs.declared.target.Target.{Target}
+use Rattle.xen_steps.specs.declared.want.Want.TheVariants as want
+use Rattle.xen_rx_fill.specs.declared.vif.Vif.{Vif}
+
+-- the slots that were read: all passed, or the last was refused
+abbrev pub Posted : Type 0
+Posted = Result (List Target) (List Target)
+
+-- after a slot: one that passed is followed by more, one that is refused is the last
+abbrev pub targeted : List Target → (List Target → Steps Posted) → ℕ → Result ℕ GrantFault → Steps Posted
+targeted targets go id (Ok frame) = go (targets ++ record { id = id; frame = Some frame } ∷ [])
+targeted targets go id (Err fault) = done (Err (targets ++ record { id = id; frame = None } ∷ []))
+
+-- the entry of a request's page
+abbrev pub requested : Vif → RxReq → (ℕ → Result ℕ GrantFault → Steps Posted) → Steps Posted
+requested w request rest = bind (entry w true request.gref) (rest request.id)
+
+-- a slot's two words
+abbrev pub posted_second : Vif → ℕ → (ℕ → Result ℕ GrantFault → Steps Posted) → ℕ → Steps Posted
+posted_second w i rest a = ask (want.Read (rx_slot w i 1)) (λ g. requested w (rx_req_of (a ∷ g ∷ [])) rest)
+
+abbrev pub posted : Vif → ℕ → (ℕ → Result ℕ GrantFault → Steps Posted) → Steps Posted
+posted w i rest = ask (want.Read (rx_slot w i 0)) (λ a. posted_second w i rest a)
+
+-- so many more slots, after those before
+abbrev pub read_targets : Vif → ℕ → ℕ → List Target → Steps Posted
+read_targets w x zero targets = done (Ok targets)
+read_targets w x (suc left) targets = posted w (add32 x (length targets)) (targeted targets (read_targets w x left))
+
+abbrev pub outcome_of : Bool → ℕ → Outcome
+outcome_of false used = outcome.Refused used
+outcome_of true used = outcome.Sent used
+
+abbrev pub rx_notice : Vif → Bool → Outcome → Steps Outcome
+rx_notice w false o = done o
+rx_notice w true o = ask (want.Notify w.port) (λ _. done o)
+
+abbrev pub rx_event : Vif → ℕ → Bool → ℕ → Steps Outcome
+rx_event w x passed n = ask (want.Read (rx_word w 3)) (λ event. rx_notice w (is_due x (add32 x n) event) (outcome_of passed n))
+
+abbrev pub rx_publish : Vif → ℕ → Bool → ℕ → Steps Outcome
+rx_publish w x passed n = ask (want.Write (rx_word w 2) (add32 x n)) (λ _. rx_event w x passed n)
+
+-- the responses from the i-th of n on, two words each, and the push
+abbrev pub rx_answer : Vif → ℕ → List ℕ → Bool → ℕ → ℕ → List Target → Steps Outcome
+rx_answer w x packet passed n i [] = rx_publish w x passed n
+rx_answer w x packet passed n i (t ∷ ts) =
+    ask (want.Write (rx_slot w (add32 x i) 0) (response_word passed packet n i t.id 0))
+    (λ _. ask (want.Write (rx_slot w (add32 x i) 1) (response_word passed packet n i t.id 1))
+    (λ _. rx_answer w x packet passed n (i + 1) ts))
+
+abbrev pub rx_respond : Vif → ℕ → List ℕ → Bool → List Target → Steps Outcome
+rx_respond w x packet passed targets = rx_answer w x packet passed (length targets) 0 targets
+
+-- so many words of the packet from the k-th on, into the buffers
+abbrev pub fill : List Target → List ℕ → ℕ → ℕ → Steps (Unit {0})
+fill targets packet zero k = done tt
+fill targets packet (suc n) k = ask (want.Write (buffer_word targets k) (word_of packet k)) (λ _. fill targets packet n (k + 1))
+
+abbrev pub fill_from : Vif → ℕ → List ℕ → List Target → ℕ → Steps Outcome
+fill_from w x packet targets k = bind (fill targets packet (words packet - k) k) (λ _. rx_respond w x packet true targets)
+
+abbrev pub after_targets : Vif → ℕ → List ℕ → Posted → Steps Outcome
+after_targets w x packet (Ok targets) = fill_from w x packet targets 0
+after_targets w x packet (Err targets) = rx_respond w x packet false targets
+
+abbrev pub found : Vif → ℕ → List ℕ → Option ℕ → Steps Outcome
+found w x packet None = done outcome.Overflow
+found w x packet (Some m) = if nat_lt m (pages packet) then done outcome.TooFew
+    else bind (read_targets w x (pages packet) []) (after_targets w x packet)
+
+abbrev pub transmit : Vif → ℕ → List ℕ → Steps Outcome
+transmit w x packet = ask (want.Read (rx_word w 0)) (λ p. found w x packet (available x p))

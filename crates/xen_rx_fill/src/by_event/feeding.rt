@@ -1,0 +1,36 @@
+//! A transmit after an answer.
+
+ghost use Rattle.std.specs.Prelude.{◌≡◌, ◌≤◌, length};
+ghost use Rattle.xen_netif.specs.declared.rx.RxReq.{RxReq};
+ghost use Rattle.xen_rx_fill.specs.Rest.{rest_of};
+ghost use Rattle.xen_steps.specs.Steps.{next_by};
+
+use crate::by_event::phase::Phase;
+use crate::by_event::reading::{after_entry, after_first, after_flags, found, requested};
+use crate::by_event::writing::{after_event, after_response, filled, outcome, responded};
+use crate::vif::Vif;
+use xen_netif::RxReq;
+use xen_steps::requests_shown;
+
+/// The transmit after an answer.
+pub(crate) fn phase_fed(vif: &Vif, rx_index: u32, bytes: &[u8], phase: Phase, word: u32) -> Phase
+    requires { length bytes.now ≤ 65535 }
+    ensures { rest_of vif.now rx_index bytes.now result ≡ next_by (rest_of vif.now rx_index bytes.now phase) word 0 }
+{
+    match phase {
+        Phase::Look => found(bytes, requests_shown(rx_index, word)),
+        Phase::First(posting) => after_first(posting, word),
+        Phase::Second(posting, a) => requested(vif, posting, RxReq::of_words([a, word])),
+        Phase::EntryFlags(granting) => after_flags(granting, word),
+        Phase::EntryFrame {
+            granting,
+            flags_word,
+        } => after_entry(vif, granting, flags_word, word),
+        Phase::Filling { targets, k } => filled(bytes, targets, k),
+        Phase::Response { passed, targets, i } => responded(passed, targets, i),
+        Phase::HalfResponse(responding) => after_response(responding),
+        Phase::ReadEvent { passed, n } => after_event(rx_index, passed, n, word),
+        Phase::Notice { passed, n } => Phase::Over(outcome(passed, n)),
+        Phase::Over(o) => Phase::Over(o),
+    }
+}

@@ -1,0 +1,158 @@
+//! Reading the posted slots and their grants.
+
+ghost use Rattle.std.specs.Prelude.{◌≡◌, ◌+◌, ◌<◌, ◌≤◌, ◌++◌, [], ◌∷◌, List, ℕ, length, true, false, None, Some};
+ghost use Rattle.xen_netif.specs.declared.rx.RxReq.{RxReq};
+ghost use Rattle.xen_page.specs.Entry.{entry_of};
+ghost use Rattle.xen_page.specs.Grant.{checked};
+ghost use Rattle.xen_rx_fill.specs.Entries.{entry_at, entry_checked};
+ghost use Rattle.xen_rx_fill.specs.Packets.{pages};
+ghost use Rattle.xen_steps.specs.Places.{add32};
+ghost use Rattle.xen_rx_fill.specs.Rest.{rest_of};
+ghost use Rattle.xen_steps.specs.Steps.{bind};
+ghost use Rattle.xen_rx_fill.specs.Transmit.{after_targets, found as found_spec, posted_second, read_targets};
+ghost use Rattle.xen_rx_fill.specs.Transmit.{requested as requested_spec, rx_respond, targeted};
+ghost use Rattle.xen_rx_fill.specs.declared.vif.Vif.{Vif as VifView};
+
+use crate::by_event::phase::{Granting, Outcome, Phase, Posting};
+use crate::target::{Target, Targets};
+use crate::vif::Vif;
+use crate::words::pages_of;
+use xen_netif::RxReq;
+use xen_page::{Entry, Place, check};
+
+/// After the read of the producer, which shows this many slots.
+pub(crate) fn found(bytes: &[u8], shown: Option<u32>) -> Phase
+    requires { length bytes.now ≤ 65535 }
+    ensures { (v : VifView) (x : ℕ) → rest_of v x bytes.now result ≡ found_spec v x bytes.now shown }
+{
+    match shown {
+        None => Phase::Over(Outcome::Overflow),
+        Some(m) => {
+            let pages = pages_of(bytes);
+            if m < pages {
+                Phase::Over(Outcome::TooFew)
+            } else {
+                slot_or_fill(pages, Targets::new())
+            }
+        }
+    }
+}
+
+/// Before a slot, or before the buffers if none is left to read.
+fn slot_or_fill(left: u32, targets: Targets) -> Phase
+    requires { length targets + left ≤ 16 }
+    ensures { (v : VifView) (x : ℕ) (packet : List ℕ) → rest_of v x packet result
+        ≡ bind (read_targets v x left targets) (after_targets v x packet) }
+{
+    if left == 0 {
+        Phase::Filling { targets, k: 0 }
+    } else {
+        Phase::First(Posting {
+            left: left - 1,
+            targets,
+        })
+    }
+}
+
+/// After a slot's first word.
+pub(crate) fn after_first(posting: Posting, a: u32) -> Phase
+    ensures { (v : VifView) (x : ℕ) (packet : List ℕ) → rest_of v x packet result
+        ≡ bind (posted_second v (add32 x (length posting.targets))
+        (targeted posting.targets (read_targets v x posting.left)) a) (after_targets v x packet) }
+{
+    Phase::Second(posting, a)
+}
+
+/// After a slot.
+pub(crate) fn requested(vif: &Vif, posting: Posting, request: RxReq) -> Phase
+    ensures { (x : ℕ) (packet : List ℕ) → rest_of vif.now x packet result
+        ≡ bind (requested_spec vif.now request (targeted posting.targets (read_targets vif.now x posting.left)))
+        (after_targets vif.now x packet) }
+{
+    let Posting { left, targets } = posting;
+    match vif.table.place(request.gref) {
+        None => refused(targets, request.id),
+        Some(at) => granting(left, targets, request.id, at),
+    }
+}
+
+/// Before a slot's entry.
+fn granting(left: u32, targets: Targets, id: u16, at: Place) -> Phase
+    requires room { length targets + left < 16 }
+    requires word { at.word < 1023 }
+    ensures { (v : VifView) (x : ℕ) (packet : List ℕ) → rest_of v x packet result
+        ≡ bind (bind (entry_at v true (Some at)) (targeted targets (read_targets v x left) id)) (after_targets v x packet) }
+{
+    Phase::EntryFlags(Granting {
+        left,
+        targets,
+        id,
+        at,
+    })
+}
+
+/// After an entry's flags word.
+pub(crate) fn after_flags(granting: Granting, flags_word: u32) -> Phase
+    ensures { (v : VifView) (x : ℕ) (packet : List ℕ) → rest_of v x packet result
+        ≡ bind (bind (entry_checked v true granting.at flags_word)
+        (targeted granting.targets (read_targets v x granting.left) granting.id)) (after_targets v x packet) }
+{
+    Phase::EntryFrame {
+        granting,
+        flags_word,
+    }
+}
+
+/// After an entry.
+pub(crate) fn after_entry(vif: &Vif, granting: Granting, flags_word: u32, frame_word: u32) -> Phase
+    ensures { (x : ℕ) (packet : List ℕ) → rest_of vif.now x packet result
+        ≡ bind (targeted granting.targets (read_targets vif.now x granting.left) granting.id
+        (checked vif.now.owners.now vif.now.granter vif.now.user (entry_of flags_word frame_word) true))
+        (after_targets vif.now x packet) }
+{
+    let Granting {
+        left,
+        targets,
+        id,
+        at: _,
+    } = granting;
+    match check(
+        vif.owners,
+        vif.granter,
+        vif.user,
+        Entry::of_words(flags_word, frame_word),
+        true,
+    ) {
+        Err(_) => refused(targets, id),
+        Ok(frame) => passed(left, targets, id, frame),
+    }
+}
+
+/// After a slot whose grant was refused.
+fn refused(targets: Targets, id: u16) -> Phase
+    requires { length targets < 16 }
+    ensures { (v : VifView) (x : ℕ) (packet : List ℕ) → rest_of v x packet result
+        ≡ rx_respond v x packet false (targets ++ record { id = id; frame = None } ∷ []) }
+{
+    let mut targets = targets;
+    targets.push(Target { id, frame: None });
+    Phase::Response {
+        passed: false,
+        targets,
+        i: 0,
+    }
+}
+
+/// After a slot whose grant passed its check.
+fn passed(left: u32, targets: Targets, id: u16, frame: u32) -> Phase
+    requires { length targets + left < 16 }
+    ensures { (v : VifView) (x : ℕ) (packet : List ℕ) → rest_of v x packet result
+        ≡ bind (read_targets v x left (targets ++ record { id = id; frame = Some frame } ∷ [])) (after_targets v x packet) }
+{
+    let mut targets = targets;
+    targets.push(Target {
+        id,
+        frame: Some(frame),
+    });
+    slot_or_fill(left, targets)
+}

@@ -1,0 +1,60 @@
+//! The posted rx slots that a transmit has read.
+
+use arrayvec::ArrayVec;
+use std::marker::Model;
+
+/// A posted slot: its id, and the frame that its grant lends for writing, unless it was refused.
+#[derive(Clone, Copy, Debug, Default, PartialEq, Eq)]
+pub struct Target {
+    pub id: u16,
+    pub frame: Option<u32>,
+}
+
+/// At most 16 slots, one for each page of a packet. Contracts see the list of them.
+#[derive(Drop)]
+pub struct Targets {
+    slots: ArrayVec<Target, 16>,
+}
+
+impl Model for Targets {
+    ghost use Rattle.std.specs.Prelude.{List, length, ◌≤◌};
+    ghost use Rattle.xen_rx_fill.specs.declared.target.Target.{Target};
+
+    ghost Value = { List Target };
+
+    ghost view = { λ c. c.slots.items };
+
+    ghost invariant = { λ c. length c.slots.items ≤ 16 };
+}
+
+impl Targets {
+    ghost use Rattle.std.specs.Prelude.{◌≡◌, ◌<◌, ◌≤◌, ◌++◌, length, [], ◌∷◌};
+
+    pub fn new() -> Targets
+        ensures { result ≡ [] }
+    {
+        Targets {
+            slots: ArrayVec::new(),
+        }
+    }
+
+    pub fn push(&mut self, target: Target)
+        requires { length self.old < 16 }
+        ensures { self.new ≡ self.old ++ target ∷ [] }
+    {
+        self.slots.push(target);
+    }
+
+    pub fn len(&self) -> u32
+        ensures value { result ≡ length self.now }
+        ensures few { result ≤ 16 }
+    {
+        self.slots.len() as u32
+    }
+
+    pub fn slots(&self) -> &[Target]
+        ensures { result.now ≡ self.now }
+    {
+        self.slots.as_slice()
+    }
+}

@@ -1,0 +1,22 @@
+//! A transmit that is under way, and its `calls`.
+
+mod calls;
+
+ghost use Rattle.std.specs.Prelude.{IsTrue};
+ghost use Rattle.xen_rx_fill.specs.Going.{is_going};
+
+use crate::by_event::phase::{Outcome, Phase};
+
+/// A transmit that isn't over.
+#[derive(Drop)]
+pub struct Transmit {
+    pub(crate) phase: Phase,
+    ghost going: { IsTrue (is_going phase) },
+}
+
+/// A transmit after an event.
+#[derive(Drop)]
+pub enum Progress {
+    On(Transmit),
+    Over(Outcome),
+}

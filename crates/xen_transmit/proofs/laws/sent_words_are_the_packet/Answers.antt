@@ -1,5 +1,0 @@
-use Rattle.xen_transmit.proofs.ByteLemmas.{sent_bytes}
-use Rattle.xen_transmit.proofs.laws.sent_words_are_the_packet.Goals as goal
-
-pub returns : goal.returns
-returns c = sent_bytes

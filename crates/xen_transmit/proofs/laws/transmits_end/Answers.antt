@@ -1,6 +1,0 @@
-use Rattle.xen_transmit.proofs.Bounds.{bounded_transmit}
-use Rattle.xen_transmit.proofs.EndLemmas.{ends_transmit}
-use Rattle.xen_transmit.proofs.laws.transmits_end.Goals as goal
-
-pub returns : goal.returns
-returns c = record { ends = ends_transmit; within = λ w x packet h. bounded_transmit w h x packet }
