@@ -58,7 +58,7 @@ def scale_of(ticks, left):
 
 
 def axis(panel, left, bottom, ticks, at):
-    """Title, grid and numbers; where they are too dense, powers of ten alone have numbers."""
+    """Title, grid and numbers; if they are too dense, powers of ten alone have numbers."""
     dense = WIDTH / len(ticks) < 36
     yield text(left, TOP - 52, panel.title, kind="panel")
     yield text(left, TOP - 34, panel.subtitle, kind="quiet")

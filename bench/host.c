@@ -1,6 +1,6 @@
 /* A call of laxonje_run, a packet of a laxonje_run_batch of 32, and DPDK's rte_bpf_exec, on the lines of line.h: each on
  * the packet where it lies. Rounds of the three in turn, of which the least is printed: NAME, the instructions of the
- * last run, and the nanoseconds of a packet for each of the three. `differ` follows where the answers do.
+ * last run, and the nanoseconds of a packet for each of the three. `differ` follows if the answers do.
  *
  * dpdk.c says how DPDK's interpreter is given a program. */
 #define _GNU_SOURCE

@@ -24,7 +24,7 @@ static unsigned bytes_of(const char *hex, void *bytes)
 	return length;
 }
 
-/* Reads the next line of standard input; 0 at the end, or where one isn't as above. */
+/* Reads the next line of standard input; 0 at the end, or if one isn't as above. */
 static int read_line(struct line *line)
 {
 	static char text[2][16 * MOST_SLOTS + 1];

@@ -31,7 +31,7 @@ static int load(const struct line *line, unsigned level)
 	return syscall(__NR_bpf, BPF_PROG_LOAD, &attr, sizeof attr);
 }
 
-/* The least of so many loads, in microseconds; -1 if the program is refused. */
+/* The least time of that many loads, in microseconds; -1 if the program is refused. */
 static long least_time(const struct line *line)
 {
 	long least = -1;

@@ -127,7 +127,7 @@ def far_jumps_of_eight(slots):
 
 
 def far_checks_of(slots, ids):
-    """Eight notes, so many ids, and for the rest comparisons of the last address with the packet's end, each with a jump to
+    """Eight notes, this many ids, and for the rest comparisons of the last address with the packet's end, each with a jump to
     a slot of its own: each of these waits for eight notes, and each of the notes has learned a bound."""
     begin = [*BEGIN, "r5 = r2", *EIGHT] + ["r5 += r3"] * ids
     far = (slots - len(begin) - 1) // 2
@@ -198,7 +198,7 @@ FALLING = constants(["r7 = 6", "r7 -= r6"])  # 7 to 1, then 8
 
 
 def joined_far(lines, slots):
-    """A jump that teaches nothing to each slot of a far part, where eight notes wait; each slot of that part splits a range at
+    """A jump from which nothing is learned, to each slot of a far part, where eight notes wait; each slot of that part splits a range at
     another place, so what falls through equals none of the eight, and is joined into the last, a note after another."""
     far = (slots - len(lines) - len(END)) // 2
     lines = lines + [f"if w3 > 7 goto +{far - 1}"] * far
@@ -208,7 +208,7 @@ def joined_far(lines, slots):
 
 def joined_checks(slots):
     """The first id of each chunk of bounds is compared with the packet's end at each note's own constant, so each of eight notes has a
-    safe bound of its own in each chunk. Where the packet is shorter the program ends."""
+    safe bound of its own in each chunk. If the packet is shorter, the program ends."""
     lines = [*BEGIN, "r5 = r2", *FALLING]
     lines += ["r5 += r3"] * (-len(lines) % 32)
     for _chunk in range(slots * 31 // 64 // 32):

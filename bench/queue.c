@@ -1,7 +1,7 @@
 /* Whole turns of the queue for hosts in C: each access is made here, as the queue asks for it, in pages of 1,024 words of 32 bits.
- * Loads acquire and stores release, with a full fence inside a push, as docs/HOST.md has it.
+ * Loads acquire and stores release, with a full fence inside a push, as docs/HOST.md says.
  *
- * usage: queue SIZE BATCHES PROGRAM [SLOTS], as turn.c has it; with `deliver` for PROGRAM a turn is the delivery of a packet of the host's own.
+ * usage: queue SIZE BATCHES PROGRAM [SLOTS], as in turn.c; with `deliver` for PROGRAM a turn is the delivery of a packet of the host's own.
  * Prints the nanoseconds per turn, the least of five rounds, and the calls of the library per turn. */
 #define _GNU_SOURCE
 #include <laxonje.h>

@@ -106,7 +106,7 @@ static uint32_t word_of(struct netback *b, uint32_t frame, uint32_t word)
 	return load(b->words[frame * WORDS + word].value, memory_order_relaxed);
 }
 
-/* The frame of a granted reference; -1 where the entry doesn't allow it. */
+/* The frame of a granted reference; -1 if the entry doesn't allow it. */
 static int64_t granted(struct netback *b, uint32_t gref, bool write)
 {
 	if (gref / 512 >= b->table_count)
@@ -184,7 +184,7 @@ static uint64_t run(struct netback *b)
 }
 #endif
 
-/* Tells a ring's responses where they are awaited. */
+/* Tells of a ring's responses if they are awaited. */
 static void push(struct netback *b, uint32_t ring, uint32_t old, uint32_t new)
 {
 	put(b, ring, 2, new);

@@ -26,7 +26,7 @@ struct ethhdr {
 	__u16 h_proto;
 };
 
-/* behind the source address of a tagged frame comes ETH_P_8021Q or ETH_P_8021AD, then this */
+/* after the source address of a tagged frame: ETH_P_8021Q or ETH_P_8021AD, then this */
 struct vlan_hdr {
 	__u16 h_vlan_TCI;	/* the low 12 bits are the VLAN */
 	__u16 h_vlan_encapsulated_proto;
@@ -90,7 +90,7 @@ struct ipv6hdr {
 	struct in6_addr saddr, daddr;
 };
 
-/* hop-by-hop options, routing and destination options: hdrlen counts units of eight bytes behind the first */
+/* hop-by-hop options, routing and destination options: hdrlen counts units of eight bytes after the first */
 struct ipv6_opt_hdr {
 	__u8 nexthdr, hdrlen;
 };

@@ -7,7 +7,7 @@
  * 1. A pointer with its length is memory that nobody else changes during the call: no thread, no device, and no guest.
  *    Never pass a page that a guest can write: copy the packet out of it first. A pointer is aligned for what it points
  *    to, and isn't null, but for 0 elements. What is passed as not const overlaps nothing else that is passed.
- * 2. A struct laxonje_program or laxonje_queue is made by laxonje_program_new or laxonje_queue_new, which answer null where there is none,
+ * 2. A struct laxonje_program or laxonje_queue is made by laxonje_program_new or laxonje_queue_new, which answer null if there is none,
  *    and isn't used once it is deleted.
  * 3. One call at a time for one program and for one queue. Different ones may be used by any threads at once. A program or a
  *    queue is handed to another thread by a lock, by that thread's start or join, or by a sequentially consistent atomic:
@@ -43,7 +43,7 @@ extern "C" {
 #define LAXONJE_PACKET 65535
 #define LAXONJE_PROGRAM_BYTES 32768
 
-/* What laxonje_place answers where there is no such counter. */
+/* What laxonje_place answers if there is no such counter. */
 #define LAXONJE_NOWHERE SIZE_MAX
 
 /* An array map: 1 to 1,024 entries of 1 to 8 counters of 64 bits. */
@@ -105,7 +105,7 @@ struct laxonje_verdict {
 enum laxonje_action { LAXONJE_ABORTED, LAXONJE_DROP, LAXONJE_PASS, LAXONJE_TX };
 
 /* How a run ended. `number` is what the program returned, `action` what it stands for: each number from 4 on stands for
- * LAXONJE_ABORTED. A run that was made has done at least one instruction; `instructions` is 0 where none was made. */
+ * LAXONJE_ABORTED. A run that was made has done at least one instruction; `instructions` is 0 if none was made. */
 struct laxonje_result {
 	uint32_t number;
 	uint32_t action;
@@ -124,7 +124,7 @@ struct laxonje_program;
 /* ---- Netback's queue, whose accesses of the guest's pages the host makes: docs/HOST.md, "Netback's queue" */
 
 /* How many words are lent to a step: those of a page. Room for a step's ops: a packet of n slots has n + 2 at once at most, and more
- * steps where there is less room. The most frames and frames of a grant table, of laxonje_queue_make and then of
+* steps if there is less room. The most frames and frames of a grant table, of laxonje_queue_make and then of
  * laxonje_queue_make_extents. */
 #define LAXONJE_PAGE_WORDS 1024
 #define LAXONJE_OPS 8
@@ -253,10 +253,10 @@ struct laxonje_queue_standing {
 
 /* What a host does next. A field that isn't of its kind is 0.
  *
- * Of an access `frame` has an owner, and `word + count` and `lent + count` are at most LAXONJE_PAGE_WORDS. Of the READ of a grant entry
+* For an access, `frame` has an owner, and `word + count` and `lent + count` are at most LAXONJE_PAGE_WORDS. For the READ of a grant entry,
  * `entry` says what for, and `reference` which grant.
  *
- * Of what is over, `number` is what the program returned, `cause` why it was refused or halted, `ops` how many operations on counters the
+* For what is over, `number` is what the program returned, `cause` why it was refused or halted, `ops` how many operations on counters the
  * program's run did, and `slots` how many slots the packet took. `index` and `grant` are 0: they are for later versions. */
 struct laxonje_op {
 	uint32_t kind;
@@ -309,8 +309,8 @@ uint32_t laxonje_proved(void);
 /* The same as a text for logs, with the release, the commit and the kit. */
 const char *laxonje_build(void);
 
-/* A handle of a program, which holds none so far: laxonje_load, laxonje_load_settings and laxonje_again put one into it. Null where memory
- * ran out, or where the library is of another version. */
+/* A handle of a program, which holds none so far: laxonje_load, laxonje_load_settings and laxonje_again put one into it. Null if memory
+* ran out, or if the library is of another version. */
 static inline struct laxonje_program *laxonje_program_new(void);
 
 /* Frees a program and its handle, and sets the pointer to null. It does nothing with null. */
@@ -344,19 +344,19 @@ size_t laxonje_run_batch(struct laxonje_program *program, uint64_t *counters, si
                          struct laxonje_result *results, size_t result_count, uint32_t ifindex, uint32_t queue);
 
 /* Copies out what to write instead of what V`cause` refuses, as far as there is room, and answers how many bytes the text has: ASCII,
- * without a zero at its end. 0 where there is no such cause. `xdpbox explain` says more of a program. */
+ * without a zero at its end. 0 if there is no such cause. `xdpbox explain` says more of a program. */
 size_t laxonje_advice(uint32_t cause, uint8_t *out, size_t out_bytes);
 
 /* How many words a program's counters are. With no program, 0. */
 size_t laxonje_counters(struct laxonje_program *program);
 
-/* Which of these words a counter of an entry of a map is, each from 0. LAXONJE_NOWHERE where there is no such counter. */
+/* Which of these words a counter of an entry of a map is, each from 0. LAXONJE_NOWHERE if there is no such counter. */
 size_t laxonje_place(struct laxonje_program *program, uint32_t map, uint32_t entry, uint32_t counter);
 
 /* How many maps a program has. With no program, 0. */
 size_t laxonje_map_count(struct laxonje_program *program);
 
-/* How many entries the map of this number has, from 0, and how many counters each. 0 and 0 where there is no such map, or no
+/* How many entries the map of this number has, from 0, and how many counters each. 0 and 0 if there is no such map, or no
  * program. A program whose maps have the same sizes in the same order may go on with another's counters. */
 struct laxonje_map laxonje_map_size(struct laxonje_program *program, uint32_t number);
 
@@ -376,7 +376,7 @@ uint32_t laxonje_queue_make(struct laxonje_program *program, const uint16_t *own
                             const uint32_t *table, size_t table_count, const struct laxonje_queue_desc *desc,
                             struct laxonje_queue *out);
 
-/* Makes a queue as laxonje_queue_make does, with the owners as extents: so many frames, one after another, from frame 0 on. They have at
+/* Makes a queue as laxonje_queue_make does, with the owners as extents: each a number of frames, one after another, from frame 0 on. They have at
  * most LAXONJE_EXTENT_FRAMES frames in all, and the table 1 to LAXONJE_EXTENT_TABLE_FRAMES. The extents are copied. Each check of a
  * grant searches them from the first on, so few long ones are best. */
 uint32_t laxonje_queue_make_extents(struct laxonje_program *program, const struct laxonje_extent *extents, size_t extent_count,
@@ -384,7 +384,7 @@ uint32_t laxonje_queue_make_extents(struct laxonje_program *program, const struc
                                     struct laxonje_queue *out);
 
 /* Begins a turn, between two turns: `producer` is that of the tx ring, word 0 of the frame `tx`, as the host has just read it. It says the
- * first ops, as a step does, and answers how many: 0, and nothing has changed, where there is no queue, no room, or something is under way. */
+ * first ops, as a step does, and answers how many: 0, and nothing has changed, if there is no queue, no room, or something is under way. */
 size_t laxonje_queue_turn(struct laxonje_queue *queue, uint32_t producer, struct laxonje_op *ops, size_t op_count);
 
 /* Goes on after the ops before, and says the next ones, which the host makes in their order: up to the first that is a LAXONJE_OP_READ,
@@ -423,7 +423,7 @@ void laxonje_queue_free(struct laxonje_queue *queue);
 
 /* ---- What is defined here */
 
-/* How many bytes a handle has: zeros where it holds nothing. */
+/* How many bytes a handle has: zeros if it holds nothing. */
 #define LAXONJE_HANDLE 16
 
 static inline void *laxonje_handle_(void)

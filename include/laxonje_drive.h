@@ -30,7 +30,7 @@ struct laxonje_drive {
 	uint32_t words[LAXONJE_PAGE_WORDS];
 };
 
-/* The outcome where no op was said: there is no queue, the host lends too few counters, or the queue is inside something else. */
+/* The outcome if no op was said: there is no queue, the host lends too few counters, or the queue is inside something else. */
 #define LAXONJE_NOTHING UINT32_MAX
 
 /* Words of a page, into the lent ones. */
@@ -124,7 +124,7 @@ static inline struct laxonje_op laxonje_drive_turn(struct laxonje_drive *drive, 
 	return laxonje_drive_finish_(drive, io, ops, count);
 }
 
-/* A packet of the host's own to the guest. Where it is taken (enum laxonje_taken), `over` says what became of it. */
+/* A packet of the host's own to the guest. If it is taken (enum laxonje_taken), `over` says what became of it. */
 static inline uint32_t laxonje_drive_deliver(struct laxonje_drive *drive, const struct laxonje_io *io, const uint8_t *packet, size_t packet_bytes,
                                              struct laxonje_op *over)
 {
@@ -135,7 +135,7 @@ static inline uint32_t laxonje_drive_deliver(struct laxonje_drive *drive, const 
 	return taken;
 }
 
-/* A wait for the rx slots of a packet of so many bytes. Where it is taken, `over` says what it came to. */
+/* A wait for the rx slots of a packet of that many bytes. If it is taken, `over` says what it came to. */
 static inline uint32_t laxonje_drive_await(struct laxonje_drive *drive, const struct laxonje_io *io, size_t packet_bytes, struct laxonje_op *over)
 {
 	const size_t page = 4 * LAXONJE_PAGE_WORDS;

@@ -270,7 +270,7 @@ static void run(struct batch *batch, struct report *report)
 	}
 }
 
-/* Writes what is passed or sent back, and a line for each packet where these are wanted. */
+/* Writes what is passed or sent back, and a line for each packet if these are wanted. */
 static void put(const struct batch *batch, const struct captures *captures)
 {
 	for (size_t i = 0; i < batch->count; i++) {

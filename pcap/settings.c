@@ -170,7 +170,7 @@ static bool is_part(const struct path *path, size_t number, const char *text)
 	return path->parts[number].length == strlen(text) && !memcmp(path->parts[number].bytes, text, strlen(text));
 }
 
-/* A whole number as TOML has it: decimal, or with a prefix, with underlines between digits. */
+/* A whole number in TOML's forms: decimal, or with a prefix, with underlines between digits. */
 static uint32_t read_number(struct reader *reader)
 {
 	uint32_t base = 10, number = 0;

@@ -19,7 +19,7 @@ struct settings {
 	uint32_t ifindex;
 };
 
-/* The settings of a text. Of a text that the library refuses, anything. */
+/* The settings of a text that the library accepts; anything for one that it refuses. */
 struct settings settings_of(const uint8_t *text, size_t length);
 
 #endif

@@ -11,7 +11,7 @@ def help_if_asked(text):
 
 
 def put(text):
-    """Prints settings. Ends with status 1 where standard output doesn't take all of them."""
+    """Prints settings. Ends with status 1 if standard output doesn't take all of them."""
     if sys.stdout is None:
         fail("standard output is closed: nothing was printed")
     try:
@@ -44,5 +44,5 @@ def in_one_line(text, *kept):
 
 
 def number_of(word):
-    """The number that a word is, of decimal digits; None where it isn't one."""
+    """The number that a word is, of decimal digits; None if it isn't one."""
     return int(word) if word.isascii() and word.isdecimal() and len(word) < 20 else None

@@ -4,7 +4,7 @@ import shutil
 import subprocess
 
 ROOT = os.path.dirname(os.path.dirname(os.path.abspath(__file__)))
-# The command rt, another one where the environment names it.
+# The command rt, another one if the environment names it.
 RT = os.environ.get("RT", "rt")
 
 

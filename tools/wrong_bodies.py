@@ -1,7 +1,7 @@
 """Wrong bodies: the edits of crates/NAME/must-fail and more-edits, made in a copy of a crate, and what the prover says of them.
 
 An edit is a text of lines `file: PATH`, `old: TEXT`, `new: TEXT`, each text on one line and standing once in the file, as
-`rt must-fail` reads it. A line `fn: PATH` names the function that has to be refused, where that isn't the one whose body
+`rt must-fail` reads it. A line `fn: PATH` names the function that has to be refused, if that isn't the one whose body
 changes."""
 import dataclasses
 import enum
@@ -86,7 +86,7 @@ def text_of(folder, file):
 
 
 def changed(texts, changes):
-    """These texts with the changes made, or Unreadable where an old text doesn't stand once."""
+    """These texts with the changes made, or Unreadable if an old text doesn't stand once."""
     texts = dict(texts)
     for it in changes:
         found = texts[it.file].count(it.old)
@@ -98,7 +98,7 @@ def changed(texts, changes):
 
 FN = re.compile(r'^( *)(?:pub(?:\([a-z]+\))? )?(?:const |unsafe |extern "C" )*fn (\w+)', re.M)
 TYPE = re.compile(r"^(?:pub(?:\([a-z]+\))? )?(?:struct|enum) (\w+)", re.M)
-# Of an impl its trait, the first type that the trait is given, and its type.
+# An impl's trait, the first type that the trait is given, and its type.
 IMPL = re.compile(
     r"^(?:unsafe )?impl\b(?:<[^{]*?>)? (?:(?:\w+::)*(\w+)(?:<(?:\w+::)*(\w+))?[^{]*? for )?&?(?:'\w+ )?(?:\w+::)*(\w+)", re.M
 )
@@ -156,7 +156,7 @@ def is_of_all(text, old):
 
 
 def changed_functions(edit, folder, types):
-    """The functions whose bodies change; none where no change is in a function. An import that comes with a change has none."""
+    """The functions whose bodies change; none if no change is in a function. An import that comes with a change has none."""
     found = []
     for it in edit.changes:
         if not it.file.startswith("src/"):
@@ -173,7 +173,7 @@ LINE = re.compile(r"^fn (\S+): (.*)", re.M)
 TOLD = re.compile(r"^(?:note: )?(?:\./)?(\S+?):\d+:\d+: (?:(error): )?(.*)", re.M)
 WAITS = re.compile(r"it calls|wait for a callee|depends on")
 OWN = re.compile(r"`search` did not prove")
-# What it says where it came to no answer, which is no refusal.
+# What it says if it came to no answer, which is no refusal.
 STOPPED = re.compile(r"could not tell|has no verdict")
 # What it says of a text that it can't read, rather than of one that it refuses.
 MISREAD = re.compile(r"is not in scope|has no field|is no name|operand is missing|expected the end|cannot continue")
@@ -231,7 +231,7 @@ def errors_of(said, function):
 
 def verdict_of(said, crate, function):
     """What a check shows of a function whose body, or a callee's, was changed. A callee counts by its contract, which no edit
-    changes: so a clause that is refused is the function's own matter, also where its line names callees that aren't proved."""
+    changes: so a clause that is refused is the function's own matter, also if its line names callees that aren't proved."""
     line = of_function(lines_of(said, crate), function)
     if line is None:
         return Verdict.UNKNOWN
@@ -248,7 +248,7 @@ def verdict_of(said, crate, function):
 
 
 def unproved_beside(said, crate, edited):
-    """The functions that aren't edited, and that aren't proved for a reason of their own: none, where what the prover kept is sound."""
+    """The functions that aren't edited, and that aren't proved for a reason of their own: none, if what the prover kept is sound."""
     lines = lines_of(said, crate).items()
     return [name for name, line in lines if not re.match(r"proved\b|assumed", line) and not WAITS.search(line) and not is_of(name, edited)]
 
@@ -267,7 +267,7 @@ class Checked:
 
 def check(crate, rtlib, texts, only=(), kept=None):
     """Checks a copy of a crate with these texts in place of its own: these functions alone, or all of it; over what the prover kept
-    of earlier checks in the folder `kept`, where that is given, or else from nothing."""
+    of earlier checks in the folder `kept`, if that is given, or else from nothing."""
     with tempfile.TemporaryDirectory(prefix="wrong-bodies-") as room:
         for part in rtlib.PARTS:
             if os.path.isdir(os.path.join(crate.folder, part)):

@@ -66,7 +66,7 @@ static const struct row behind_all[] = { SLOT(FAR, 0), GRANT(FAR + 2, 0, FAR + 5
 static const struct row last_entry[] = { SLOT(0, 64 * ENTRIES - 1), GRANT(65, 64 * ENTRIES - 1, 79), BYTES(79), ANSWER(0, 0), PASSED };
 static const struct row no_entry[] = { SLOT(0, 64 * ENTRIES), ANSWER(0, ERROR), REFUSED };
 
-/* Makes a queue, whose tx ring is gone on with at an index. Where none is made, the handle has what it had. */
+/* Makes a queue, whose tx ring is gone on with at an index. If none is made, the handle keeps what it had. */
 static void makes(struct laxonje_program *program, struct laxonje_queue *queue, const struct making *row, uint32_t tx_index)
 {
 	struct laxonje_queue_desc desc = { row->tx, row->rx, GUEST, row->user, PORT, 0, 0, tx_index, 0 };

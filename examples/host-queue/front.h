@@ -14,7 +14,7 @@ struct channel {
 	int interrupt; /* an eventfd: to the guest */
 };
 
-/* A guest that sends so many packets; how many of them were answered wrongly. */
+/* A guest that sends that many packets; returns how many of them were answered wrongly. */
 unsigned run_front(uint8_t *memory, struct channel channel, enum guest_behaviour behaviour, unsigned packets, unsigned seed);
 
 #endif

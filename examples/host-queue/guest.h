@@ -212,7 +212,7 @@ static void guest_attack(struct guest_front *front, unsigned n)
 		guest_scribble(front);
 }
 
-/* Sends so many packets; how many of them were answered wrongly. */
+/* Sends that many packets; returns how many of them were answered wrongly. */
 static inline unsigned guest_run(const struct guest *guest, enum guest_behaviour behaviour, unsigned packets, unsigned seed)
 {
 	struct guest_front front = { .guest = guest, .behaviour = behaviour, .seed = seed };

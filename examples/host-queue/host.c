@@ -180,7 +180,7 @@ static enum guest_behaviour behaviour_of(const char *word)
 	return !strcmp(word, "few") ? GUEST_FEW : !strcmp(word, "hostile") ? GUEST_HOSTILE : GUEST_HONEST;
 }
 
-/* Guests one after another, each with a seed of its own, until so many packets were sent, or so many seconds have passed. */
+/* Guests one after another, each with a seed of its own, until that many packets were sent, or that many seconds have passed. */
 static unsigned sessions(struct host *host, const char *word, unsigned long most, bool seconds)
 {
 	bool restarts = !strcmp(word, "restart");

@@ -55,7 +55,7 @@ static const struct row sent_back[] = { TURN(1),
 	                                NOTICE,
 	                                ENDS(LAXONJE_TURN_RAN, LAXONJE_TX, 1) };
 
-/* The same where the frontend wants no notice of either response. */
+/* The same if the frontend wants no notice of either response. */
 static const struct row sent_quietly[] = { TURN(2),
 				   READ(TX, 19, 3, 0, 0, 10 | HALF(HEADER)),
 				   ENTRY(LAXONJE_ENTRY_READ, TABLE, 0, PERMIT, DATA),
@@ -90,7 +90,7 @@ static const struct row counted[] = { TURN(1),
 	                              PUSH(TX, 2, 1, 3, 0),
 	                              COUNTED(LAXONJE_TURN_RAN, LAXONJE_DROP, 1, 3) };
 
-/* A packet behind the one that passed, of a queue that was made anew with a program that drops. */
+/* A packet after the one that passed, of a queue that was made anew with a program that drops. */
 static const struct row renewed[] = { TURN(2),
 	                              READ(TX, 19, 3, 0, 0, 10 | HALF(HEADER)),
 	                              ENTRY(LAXONJE_ENTRY_READ, TABLE, 0, PERMIT, DATA),
@@ -219,7 +219,7 @@ static void makes(struct laxonje_queue *queue, const uint8_t *code, size_t size,
 	laxonje_program_delete(&program);
 }
 
-/* Of a program of two instructions that returns this number, and has no counters. */
+/* Makes a queue of a program of two instructions that returns this number, and has no counters. */
 static void makes_at(struct laxonje_queue *queue, uint8_t number, uint32_t tx_index)
 {
 	const uint8_t code[] = { 0xb7, 0, 0, 0, number, 0, 0, 0, 0x95, 0, 0, 0, 0, 0, 0, 0 };
@@ -244,7 +244,7 @@ static void renews(struct laxonje_queue *queue, size_t room)
 	is("an index after the wrap", laxonje_queue_state(queue).tx_index, 0);
 }
 
-/* Of a program that adds 5 twice to the first of two counters, and once to the second. */
+/* Makes one of a program that adds 5 twice to the first of two counters, and once to the second. */
 static void makes_counting(struct laxonje_queue *queue, uint8_t number)
 {
 	static const struct laxonje_map map = { 1, 2 };

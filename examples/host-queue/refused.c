@@ -20,7 +20,7 @@ void *__wrap_malloc(size_t size)
 	return ++count >= refused ? NULL : __real_malloc(size);
 }
 
-/* A block that gets smaller isn't counted: where that is refused, the library goes on with the block as it is. */
+/* A block that gets smaller isn't counted: if that is refused, the library goes on with the block as it is. */
 void *__wrap_realloc(void *old, size_t size)
 {
 	if (old && size <= malloc_usable_size(old))

@@ -1,4 +1,4 @@
-/* Xen's own headers, where Debian's libxen-dev is; else the same layouts written down here: grant_table.h's entries of version 1,
+/* Xen's own headers, if Debian's libxen-dev is there; else the same layouts written down here: grant_table.h's entries of version 1,
  * ring.h's shared page, and netif.h's requests and responses, with the macros of ring.h that a front needs. */
 #ifndef RING_H
 #define RING_H

@@ -10,7 +10,7 @@
 enum { GUEST = 5, PORT = 7000, MOST = 4, PERMIT = 1, FLAGS = 3, HEADER = 14, UNTOUCHED = 0xa5 };
 
 /* An op, with the words that it reads or writes. BEGINS: a turn, and the producer. PUSH: the word that is written, and which one is read
- * after it, with what it holds. Of one that ends: the outcome, the number or the cause, the slots, and `ops`; all else is 0. */
+ * after it, with what it holds. For one that ends: the outcome, the number or the cause, the slots, and `ops`; all else is 0. */
 struct row {
 	uint32_t kind, frame, word, count;
 	uint32_t words[MOST];
@@ -97,7 +97,7 @@ static inline bool is_last(const struct row *row)
 	return row->kind != LAXONJE_OP_STORE && row->kind != LAXONJE_OP_NOTIFY && (row->kind != LAXONJE_OP_WRITE || row[1].kind == LAXONJE_OP_WRITE);
 }
 
-/* How many of the next rows are said at once, where there is room for so many. */
+/* How many of the next rows are said at once, if there is room for them. */
 static inline size_t at_once(const struct row *rows, size_t room)
 {
 	size_t count = 1;
@@ -156,7 +156,7 @@ static inline void is_over(struct laxonje_queue *queue, const char *what, uint32
 	is("a step of nothing", laxonje_queue_step(queue, words, LAXONJE_PAGE_WORDS, counters, counter_count, &op, 1), 0);
 }
 
-/* The rows of a table, with room for so many ops at a step. */
+/* The rows of a table, with room for that many ops at a step. */
 static inline void goes(struct laxonje_queue *queue, size_t room, const char *what, const struct row *rows, size_t count)
 {
 	struct said said;

@@ -1,4 +1,4 @@
-/* The shape of a receive callback: each packet of a burst is run where its mbuf has it. What is passed stays in the
+/* The shape of a receive callback: each packet of a burst is run in its mbuf. What is passed stays in the
  * burst, what is to be sent back goes into one of its own, and all else is freed. An application installs `filtered` by
  * rte_eth_add_rx_callback; here a burst is made by hand, so that it runs with no device.
  *

@@ -1,4 +1,4 @@
-/* Each field of the header's structs with a value of its own: where two fields changed places, a line says which. It is C and C++. */
+/* Each field of the header's structs with a value of its own: if two fields changed places, a line says which. It is C and C++. */
 #include <laxonje.h>
 #include <stdio.h>
 #include <string.h>

@@ -89,7 +89,7 @@ impl Program {
         Program::of(|out| unsafe { laxonje_again(handle, out) })
     }
 
-    /// Runs the program on a packet in place. `None` where the packet is too long.
+    /// Runs the program on a packet in place. `None` if the packet is too long.
     pub fn run(&mut self, packet: &mut [u8]) -> Option<Run> {
         let run = unsafe {
             laxonje_run(

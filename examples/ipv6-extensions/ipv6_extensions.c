@@ -1,4 +1,4 @@
-/* Drops UDP to port 53 over IPv6, behind at most four extension headers, and drops what has more of them. A fragment
+/* Drops UDP to port 53 over IPv6, after at most four extension headers, and drops what has more of them. A fragment
    header is no extension header here: fragments pass. */
 #include "../headers.h"
 #include "../xdp.h"

@@ -1,4 +1,4 @@
-/* Passes IPv4 behind at most two VLAN tags, and drops all else. */
+/* Passes IPv4 after at most two VLAN tags, and drops all else. */
 #include "../headers.h"
 #include "../xdp.h"
 

@@ -186,7 +186,7 @@ static void flags(void)
 	printf("statuses = %d %d %d %d\n", NETIF_RSP_DROPPED, NETIF_RSP_ERROR, NETIF_RSP_OKAY, NETIF_RSP_NULL);
 }
 
-/* An extra of a type, alone and with another behind it, in an entry of a tx ring. */
+/* An extra of a type, alone and with another after it, in an entry of a tx ring. */
 static void extra(const char *name, uint8_t type)
 {
 	for (int more = 0; more < 2; more++) {

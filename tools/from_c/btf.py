@@ -34,7 +34,7 @@ class Type(NamedTuple):
 
 class MapOfC(NamedTuple):
     """A map as C declares it: its type's number and its sizes, of which 0 isn't said. `parts`: the name and the size of
-    each number in a value that doesn't have eight bytes. The type is None where the declaration is none of a map."""
+    each number in a value that doesn't have eight bytes. The type is None if the declaration is none of a map."""
 
     name: str
     type: Optional[int]
@@ -59,7 +59,7 @@ class Types:
             at = end
 
     def plain(self, number):
-        """The type behind names and qualifiers."""
+        """The type without names and qualifiers."""
         while number and self.rows[number].kind in ALIASES:
             number = self.rows[number].size
         return number
@@ -77,13 +77,13 @@ class Types:
         return 8 if row.kind == POINTER else row.size if row.kind in WITH_SIZE else 0
 
     def members(self, number):
-        """Of a map's struct, each member's name with the type that it points to."""
+        """Each member's name of a map's struct, with the type that it points to."""
         rows = struct.iter_unpack("<III", self.rows[self.plain(number)].more)
         pairs = [(text_at(self.names, name), self.plain(kind)) for name, kind, _ in rows]
         return {name: self.rows[kind].size for name, kind in pairs if kind and self.rows[kind].kind == POINTER}
 
     def numbers_in(self, number, name="the value"):
-        """The numbers of which a type consists, each by its name with its size. Of an array the first one."""
+        """The numbers of which a type consists, each by its name with its size; the first of an array."""
         row = self.rows[self.plain(number)] if number else None
         if row is None:
             return
@@ -130,7 +130,7 @@ def named(file, source):
 
 
 def lines_of(sections, program, source):
-    """The line of C of each slot at which one begins, as `file.c:12`: what .BTF.ext has, where it is there."""
+    """The line of C of each slot at which one begins, as `file.c:12`: what .BTF.ext has, if it is there."""
     if ".BTF.ext" not in sections or ".BTF" not in sections:
         return {}
     names, more = Types(sections[".BTF"].data).names, sections[".BTF.ext"].data

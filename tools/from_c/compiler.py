@@ -53,7 +53,7 @@ def flags():
 
 
 def check_source(source):
-    """Ends where a file can't be C, before clang says so in many lines."""
+    """Ends if a file can't be C, before clang says so in many lines."""
     try:
         with open(source, "rb") as file:
             begin = file.read(4)
@@ -86,7 +86,7 @@ def compiled(source):
         with open(header, "w", encoding="utf-8") as file:
             file.write(INLINED if defines_memcmp(source) else INLINED + MEMCMP)
         words = [clang, "-O2", "-g", "-target", "bpf", "-mcpu=" + os.environ.get("MCPU", "v2"), *system_headers()]
-        # a loop that clang keeps is unwound behind it, and which ones it keeps is nobody's concern
+        # a loop that clang keeps is unwound later, and which ones it keeps is nobody's concern
         words += [
             "-Wno-pass-failed",
             "-Wno-macro-redefined",

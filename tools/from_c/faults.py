@@ -93,8 +93,8 @@ HELPERS = {
     177: ("bpf_trace_vprintk", "nothing is printed: count it in a map instead"),
     181: ("bpf_loop", "write the loop in C, with a constant bound"),
     188: ("bpf_xdp_get_buff_len", "data_end - data is the packet's length: a packet is one buffer"),
-    189: ("bpf_xdp_load_bytes", "read through data, behind a comparison with data_end"),
-    190: ("bpf_xdp_store_bytes", "write through data, behind a comparison with data_end"),
+    189: ("bpf_xdp_load_bytes", "read through data, after a comparison with data_end"),
+    190: ("bpf_xdp_store_bytes", "write through data, after a comparison with data_end"),
     195: ("bpf_map_lookup_percpu_elem", "bpf_map_lookup_elem: the counters are shared by all queues"),
     208: ("bpf_ktime_get_tai_ns", NO_CLOCK),
 }

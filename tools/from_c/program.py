@@ -11,7 +11,7 @@ SECTION_NAME = "xdp"
 
 
 class Filter(NamedTuple):
-    """`settings`: of the program as clang made it. Where it has constants or globals in memory, keys of the tools'
+    """`settings`: of the program as clang made it. If it has constants or globals in memory, keys of the tools'
     own say so, which `xdpbox` doesn't know. `place`: of a slot its line of C, or None. `per_cpu`: the maps that are
     per CPU in Linux."""
 
@@ -25,7 +25,7 @@ class Filter(NamedTuple):
 
 
 def read(source, worded):
-    """The filter in a file. Ends where settings can't have it. `worded`: maps of the command line."""
+    """The filter in a file. Ends if settings can't have it. `worded`: maps of the command line."""
     sections = elf.sections_of(compiled(source))
     program = name_of_program(source, sections)
     relocations = list(elf.relocations_of(sections, program))
@@ -97,7 +97,7 @@ def cleared(program, relocations):
 
 
 def place_in_c(lines):
-    """Of a slot its line of C: the last one that began before."""
+    """The line of C of a slot: the last one that began before it."""
 
     def place(slot):
         at = max((start for start in lines if start <= slot), default=None)

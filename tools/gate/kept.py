@@ -1,6 +1,6 @@
 """What the prover keeps of a crate's trials, so that the next one proves only what its own edits changed, and what stands on that.
 
-The prover takes what an earlier check left in a folder only where all that it was proved from is the same (`rattle check
+The prover takes what an earlier check left in a folder only if all that it was proved from is the same (`rattle check
 --incremental`), as `rt check` and `rt must-fail` have it."""
 import contextlib
 import os
@@ -22,7 +22,7 @@ class Kept:
 
     @contextlib.contextmanager
     def lent(self):
-        """A folder for one trial; None where the crate has too few trials for what it costs to keep them."""
+        """A folder for one trial; None if the crate has too few trials for what it costs to keep them."""
         self.is_begun = True
         if not self.is_used:
             yield None
@@ -51,7 +51,7 @@ class Kept:
 
 
 def copy(folder, to):
-    """Copies what the prover kept, its modules by links where these can be made: a check replaces such a file, and changes none."""
+    """Copies what the prover kept, its modules by links if these can be made: a check replaces such a file, and changes none."""
     if folder is None:
         os.mkdir(to)
     else:

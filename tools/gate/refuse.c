@@ -1,4 +1,4 @@
-/* Refuses one allocation of a process: the one whose number, from 1, is in REFUSE; with a '-' behind the number, all from there on.
+/* Refuses one allocation of a process: the one whose number, from 1, is in REFUSE; with a '-' after the number, all from there on.
    At the end it writes to standard error how many there were. To be preloaded. */
 #define _GNU_SOURCE
 #include <errno.h>

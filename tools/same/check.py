@@ -1,4 +1,4 @@
-"""Both programs side by side, the result in an order in which each slot comes behind what leads to it.
+"""Both programs side by side, the result in an order in which each slot comes after what leads to it.
 
 The labels that the tool wrote aren't trusted: they say where the original is to stand, and it is driven there by steps
 without effect (arithmetic, jumps that forms decide). What is asked:
@@ -7,7 +7,7 @@ without effect (arithmetic, jumps that forms decide). What is asked:
 - an own instruction stores only below the stack that the original touches, or what stands there anyway, and loads only
   from there or from the context;
 - a jump of our own leaves the original where it is, and both ways are followed;
-- the end that the tool adds, ABORTED, is reached only where the original's next access lies behind the packet's end."""
+- the end that the tool adds, ABORTED, is reached only if the original's next access lies past the packet's end."""
 from .facts import NOTHING, decided, learnt, put_number
 from .forms import MASK_64, SWAP, ZERO, Forms, number
 from .memory import Memory
@@ -47,7 +47,7 @@ class Check(Memory):
         self.guards, self.unproven = {}, {}
 
     def run(self):
-        """Follows both; Differs where they aren't the same."""
+        """Follows both; Differs if they aren't the same."""
         old, new = (Registers({1: self.forms.context, FRAME: self.forms.frame}) for _ in range(2))
         waiting = {0: [State(0, old, new, {}, {}, {}, NOTHING)]}
         for pc in self.result.order():
@@ -126,7 +126,7 @@ class Check(Memory):
         raise Differs(f"slot {pc}: the original doesn't reach {goal}")
 
     def step(self, pc, state):
-        """The states behind a slot of the result, as (slot, state)."""
+        """The states after a slot of the result, as (slot, state)."""
         slot = self.result.code[pc]
         if self.result.kind(pc) == OUTSIDE:
             raise Differs(f"slot {pc}: the program begins with the end that the tool added")
@@ -185,7 +185,7 @@ class Check(Memory):
         return out
 
     def put(self, state, term, value):
-        """On a way on which an atom with a factor is a number, that number in its place, where it is the only one."""
+        """On a way on which an atom with a factor is a number, that number in its place, if it is the only one."""
         atom, factor = term
         if factor != 1 and (
             value % factor
@@ -202,7 +202,7 @@ class Check(Memory):
         state.facts = state.facts._replace(within=state.facts.within | within)
 
     def is_end(self, pc, after, above, state):
-        """Whether the result ends with ABORTED behind this slot. `above`: an address that was found to lie behind the
+        """Whether the result ends with ABORTED after this slot. `above`: an address that was found to lie past the
         packet's end."""
         if self.result.kind(after) != OUTSIDE:
             return False

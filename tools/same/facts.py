@@ -65,7 +65,7 @@ def in_range(operation, low, high, value):
 
 
 def decided(forms, opcode, a, b, facts):
-    """Whether a jump is taken, where forms and facts say so."""
+    """Whether a jump is taken, if forms and facts say so."""
     found = decided_by(forms, opcode, a, b, facts, forms.span)
     return decided_by(forms, opcode, a, b, facts, forms.sharper_span) if found is None else found
 
@@ -87,7 +87,7 @@ def decided_by(forms, opcode, a, b, facts, span):
 
 
 def apart(forms, operation, a, b, ranges, span):
-    """Of two forms without sign that don't wrap: by their difference, where that is one number, or by their ranges."""
+    """Compares two forms without sign that don't wrap: by their difference, if that is one number, or by their ranges."""
     difference = forms.subtract(a, b)
     if all(dict(form.terms).get(forms.start.terms[0][0]) == 1 for form in (a, b)):
         a, b = forms.subtract(a, forms.start), forms.subtract(b, forms.start)
@@ -106,7 +106,7 @@ def apart(forms, operation, a, b, ranges, span):
 
 
 def beside_end(forms, operation, address, facts, span):
-    """Of an address and the packet's end, which is at most 65,535 behind its start."""
+    """Compares an address with the packet's end, which is at most 65,535 after its start."""
     low, high = span(forms.subtract(address, forms.start), facts.ranges)
     if low > MOST_LENGTH and high < NEAR:
         return {JEQ: False, JNE: True, JGT: True, JGE: True, JLT: False, JLE: False}[operation]
@@ -116,7 +116,7 @@ def beside_end(forms, operation, address, facts, span):
 
 
 def room_behind(forms, address, facts, span=None):
-    """At least so many bytes behind an address lie in the packet; negative where none are known to."""
+    """How many bytes from an address on lie in the packet at least; negative if none are known to."""
     rooms, span = [], span or forms.span
     for end in facts.within:
         apart_by = forms.subtract(end, address)
@@ -127,7 +127,7 @@ def room_behind(forms, address, facts, span=None):
 
 
 def learnt(forms, opcode, taken, a, b, facts):
-    """The facts behind a jump that was taken or not."""
+    """The facts after a jump that was taken or not."""
     operation = opcode & 0xF0
     if opcode & 7 != JMP or operation not in OTHERWISE:
         return facts
@@ -157,7 +157,7 @@ def below_an_address(forms, holds, a, b, facts):
 
 
 def within_packet(forms, address, facts):
-    """An address that is at most the packet's end is at most 65,535 behind its start."""
+    """An address that is at most the packet's end is at most 65,535 after its start."""
     distance = forms.subtract(address, forms.start)
     low, high = forms.span(distance, facts.ranges)
     ranges = facts.ranges
@@ -189,7 +189,7 @@ def compared(forms, holds, form, value, facts):
 
 
 def of_atoms(forms, form, low, high, ranges):
-    """What the range of a sum of multiples says of each of its atoms, where the whole numbers don't wrap."""
+    """What the range of a sum of multiples says of each of its atoms, if the whole numbers don't wrap."""
     spans = {atom: forms.range_of(atom, ranges) for atom, _ in form.terms}
     if any(least < 0 for least, _ in spans.values()) or low < 0 or high > MASK_64:
         return

@@ -14,7 +14,7 @@ ADD, SUB, MUL, DIV, OR, AND, LSH, RSH, NEG, MOD, XOR, MOV, ARSH, SWAP = range(0,
 
 
 class Shift(NamedTuple):
-    """A shift by a constant, as an instruction has it."""
+    """A shift by a constant, with the number of an instruction."""
 
     opcode: int
     immediate: int
@@ -68,7 +68,7 @@ def swap(opcode, value, width):
 
 
 def narrower(one, other):
-    """Of two ranges, each with a whole number that equals the same form modulo 2^64. Within 2^64 numbers there is one
+    """The better of two ranges, each with a whole number that equals the same form modulo 2^64. Within 2^64 numbers there is one
     such number alone, so that it lies in both; else the two may be different ones, and the shorter range is kept."""
     (low, high), (least, most) = one, other
     if max(high, most) - min(low, least) <= MASK_64:
@@ -128,7 +128,7 @@ class Forms:
         return len(address.terms) == 1 and names[:1] in (["called"], ["value"]) and address.constant < VALUE_BYTES
 
     def global_of(self, address):
-        """The global in whose value a counter lies; None where that isn't known."""
+        """The global in whose value a counter lies; None if that isn't known."""
         names = [self.names[atom] for atom, factor in address.terms if factor == 1] if self.is_in_value(address) else []
         return names[0][1] if names and names[0][0] == "value" else None
 
@@ -144,7 +144,7 @@ class Forms:
         return None
 
     def numbers_of(self, form, ranges):
-        """All whole numbers that a form may be, as a range with steps; None where there is no end of them."""
+        """All whole numbers that a form may be, as a range with steps; None if there is no end of them."""
         low, high = self.span(form, ranges)
         spans = [(signed(factor), self.range_of(atom, ranges)) for atom, factor in form.terms]
         if any(abs(factor) * max(abs(least), abs(most)) > FAR for factor, (least, most) in spans) or high - low > FAR:
@@ -161,7 +161,7 @@ class Forms:
         return self.operated(slot.opcode, a, b, slot.immediate, slot.offset) if found is None else found
 
     def exact(self, slot, a, b, ranges):
-        """The result as a linear form, where the ranges say that nothing is cut off; else None."""
+        """The result as a linear form, if the ranges say that nothing is cut off; else None."""
         operation, wide = slot.opcode & 0xF0, slot.kind == ALU64
         if slot.offset or not a.terms and not b.terms:
             return None
@@ -190,7 +190,7 @@ class Forms:
         return self.add(high, low) if self.within(low, 0, most, ranges) is not None else None
 
     def divided(self, form, shift):
-        """A form that this one is, shifted by so many bits to the left; None where its numbers aren't multiples."""
+        """The form that shifted left by that many bits is this one; None if its numbers aren't multiples."""
         parts = {atom: signed(factor) for atom, factor in form.terms}
         if any(part % (1 << shift) for part in (signed(form.constant), *parts.values())):
             return None
@@ -205,7 +205,7 @@ class Forms:
         return self.operate(shift, raised, number(above), ranges)
 
     def within(self, form, least, most, ranges):
-        """The form, where it is known to lie there; else None."""
+        """The form, if it is known to lie there; else None."""
         low, high = self.span(form, ranges) if form is not None else (least, most + 1)
         return form if least <= low and high <= most else None
 

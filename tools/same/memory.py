@@ -23,7 +23,7 @@ class Memory:
 
     def on_stack(self, address, size, state):
         """Which bytes of the stack an access may reach, by their distance from the frame's end: from and to. The two
-        are equal where it reaches none. A program that is accepted reaches nothing around the stack."""
+        are equal if it reaches none. A program that is accepted reaches nothing around the stack."""
         low, high = self.forms.span(self.forms.subtract(address, self.forms.frame), state.facts.ranges)
         if low >= -STACK and high + size <= 0:
             return low, high + size
@@ -47,7 +47,7 @@ class Memory:
         return number(slot.immediate & MASK_32 | slot.upper << 32)
 
     def constant_loaded(self, slot, state, pc, count):
-        """Does the original's load from constants, where each place that it may reach lies in their section."""
+        """Does the original's load from constants, if each place that it may reach lies in their section."""
         section, place = self.forms.section_of(self.address(slot, state.old))
         places, data = self.forms.numbers_of(place, state.facts.ranges), self.constants[section]
         if not places or places[0] < 0 or places[-1] + slot.size > len(data):
@@ -58,7 +58,7 @@ class Memory:
         if len({row - at for row, at in zip(rows, places)}) == 1:
             true.append(self.forms.add(place, number(rows[0] - places[0])))
         true.append(self.forms.atom(("constant", pc, count), max(rows), min(rows)))
-        # all of these forms are the loaded number: that of the result is taken, where it is one of them
+        # all of these forms are the loaded number: that of the result is taken, if it is one of them
         there = state.new.get(slot.destination)
         state.old[slot.destination] = there if there in true else true[0]
 

@@ -27,7 +27,7 @@ class Result:
         return self.labels[pc][1]
 
     def successors(self, pc):
-        """What follows a slot: behind it, then the jump's target."""
+        """What follows a slot: the next one, then the jump's target."""
         slot = self.code[pc]
         if slot.opcode == EXIT:
             return []
@@ -41,7 +41,7 @@ class Result:
         return following
 
     def order(self):
-        """The slots, each behind what leads to it."""
+        """The slots, each after what leads to it."""
         seen, out, todo = {0}, [], [(0, iter(self.successors(0)))]
         while todo:
             pc, rest = todo[-1]

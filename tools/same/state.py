@@ -1,7 +1,7 @@
 """Both programs at one slot of the result, and where ways meet: one state for all of them.
 
 Where ways disagree, values get the same new atom exactly if they differ in the same way on all ways. So an address
-and its kept distance still differ by the packet's start behind a meeting, and the tool's stack slots need no
+and its kept distance still differ by the packet's start after a meeting, and the tool's stack slots need no
 explanation."""
 from dataclasses import dataclass, replace
 from typing import Optional
@@ -13,7 +13,7 @@ PARTS = ("old", "new", "old_stack", "new_stack", "loads")
 
 
 class Differs(Exception):
-    """What isn't the same, and at which slot of the result. `at`: where the original stood, where that is known.
+    """What isn't the same, and at which slot of the result. `at`: where the original stood, if that is known.
     `alone`: the words without the result's slot."""
 
     def __init__(self, words, at=None):
@@ -91,7 +91,7 @@ def keep_range(forms, ranges, form, low, high):
 
 
 def keep_ranges(forms, states, found):
-    """What is known of each number, and of each address its distance from the packet's start and the room behind it, on
+    """What is known of each number, and for each address its distance from the packet's start and the room after it, on
     all ways. The atoms one by one don't tell it."""
     ranges, within = dict(found.facts.ranges), set(found.facts.within)
     for register, form in found.old.items():
@@ -106,7 +106,7 @@ def keep_ranges(forms, states, found):
         if len(distance.terms) > 1 and low >= 0 and high < NEAR:
             keep_range(forms, ranges, distance, low, high)
         if -APART < low and high < NEAR if is_address else low >= 0 and high <= MOST_LENGTH:
-            # of a number, behind the packet's start: a cursor is often kept as one
+            # of a number, after the packet's start: a cursor is often kept as one
             ahead = ZERO if is_address else forms.start
             room = MOST_LENGTH
             for there, facts in rows:
@@ -116,8 +116,7 @@ def keep_ranges(forms, states, found):
 
 
 def worth_keeping(forms, found, within):
-    """Of addresses in the packet those of atoms that stand somewhere, and of those that differ by a constant the
-    last."""
+    """The addresses in the packet whose atoms stand somewhere; the last of those that differ by a constant."""
     alive = {atom for name in PARTS for form in getattr(found, name).values() for atom, _ in form.terms}
     alive |= {atom for form in (forms.start, forms.end) for atom, _ in form.terms}
     kept = {}

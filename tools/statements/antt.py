@@ -15,7 +15,7 @@ CASE = re.compile(r"^  (?:pub )?([^\s:({]+(?: [^\s:({]+)*) :")
 
 @dataclasses.dataclass(frozen=True)
 class Import:
-    """A name that a file knows: `name` of the module `path`, or the module itself where `name` is empty."""
+    """A name that a file knows: `name` of the module `path`, or the module itself if `name` is empty."""
 
     path: tuple[str, ...]
     name: str

@@ -13,7 +13,7 @@ LIST = pathlib.PurePath("docs/statements/claims.toml")
 @dataclasses.dataclass(frozen=True)
 class Claim:
     """A claim: its number and sentence in README, how its contracts say that, the contracts as claims.toml writes them, the wrong bodies
-    that are refused, the claims whose pages are read before its own, and the files that its page gives in full: all where none is named."""
+    that are refused, the claims whose pages are read before its own, and the files that its page gives in full: all if none is named."""
 
     number: int
     sentence: str
@@ -32,7 +32,7 @@ class Claim:
 
 @dataclasses.dataclass(frozen=True)
 class Chapter:
-    """A chapter of the headline's page: its title, its text and the files whose definitions it has; types where it names none."""
+    """A chapter of the headline's page: its title, its text and the files whose definitions it has; types if it names none."""
 
     title: str
     text: str

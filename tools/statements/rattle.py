@@ -87,7 +87,7 @@ def masked(text: str) -> str:
 
 
 def end_of(code: str, start: int) -> int:
-    """The place behind the brace that closes the one at `start`."""
+    """The place after the brace that closes the one at `start`."""
     depth = 0
     for it in re.compile(r"[{}]").finditer(code, start):
         depth += 1 if it.group() == "{" else -1
@@ -206,7 +206,7 @@ class Scanner:
         return end
 
     def clauses(self, at: int) -> tuple[list[tuple[int, Clause]], int]:
-        """The clauses behind a function's name, each with its place, and the place behind the last."""
+        """The clauses after a function's name, each with its place, and the place after the last."""
         found = []
         while True:
             stop = stop_at(self.code, at)

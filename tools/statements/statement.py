@@ -18,7 +18,7 @@ class Unknown(Exception):
 
 @dataclasses.dataclass(frozen=True)
 class Part:
-    """A contract of a statement, and the clauses of it that count: all of them where none is named."""
+    """A contract of a statement, and the clauses of it that count: all of them if none is named."""
 
     contract: Contract
     clauses: tuple[rattle.Clause, ...]
@@ -63,7 +63,7 @@ class Statement:
 
 
 def function(tree: Tree, path: str) -> Contract:
-    """The contract of a function by its path: its crate, then its module or type, and its name. A part of that does, where it
+    """The contract of a function by its path: its crate, then its module or type, and its name. A part of that does, if it
     leaves one."""
     crate, *inside = path.split("::")
     if crate not in tree.crates or not inside:
@@ -156,7 +156,7 @@ def group_of(tree: Tree, node: Node) -> str:
 
 
 def groups(tree: Tree, order: list[Node], below: Callable[[Node], list[Node]]) -> list[Group]:
-    """The nodes by file, a file behind those that it depends on as far as files don't depend on one another."""
+    """The nodes by file, a file after those that it depends on as far as files don't depend on one another."""
     by_file: dict[str, list[Node]] = {}
     for node in order:
         by_file.setdefault(group_of(tree, node), []).append(node)

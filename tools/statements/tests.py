@@ -273,7 +273,7 @@ def contract_tests(tree: Tree) -> Iterator[tuple[str, bool]]:
     public = {it.path for it in tree.contracts("low")}
     yield "public contracts", public == {"low::inner::make", "low::inner::thing::Thing::count"}
     make = function(tree, "low::make").item
-    yield "clauses behind a semicolon in a type", [it.name for it in make.clauses] == ["some", "small", "apart"]
+    yield "clauses after a semicolon in a type", [it.name for it in make.clauses] == ["some", "small", "apart"]
     yield "a clause on lines of its own", (make.clauses[2].text, make.clauses[2].last - make.clauses[2].line) == ("other result", 2)
     yield "documentation", make.docs == ["Makes some.", "", "By hand."]
     small = statement(tree, [part(tree, "low::make (small)")])

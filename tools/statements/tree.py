@@ -119,7 +119,7 @@ def absolute(path: tuple[str, ...], module: tuple[str, ...], crate: Crate) -> tu
 
 
 def public_fields(code: str) -> str:
-    """The public fields of a struct, each on a line of its own where they have names."""
+    """The public fields of a struct, each on a line of its own if they have names."""
     head, brace, inside = code.partition("{")
     fields = inside.split("\n") if brace else head.partition("(")[2].split(",")
     return "\n".join(it for it in fields if it.strip().startswith("pub "))

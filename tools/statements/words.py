@@ -12,7 +12,7 @@ LANGUAGE = set("λ → : = in let if then else where with case record data abbre
 
 
 class Word(NamedTuple):
-    """A word of a text: `member` if it stands directly behind a dot."""
+    """A word of a text: `member` if it stands directly after a dot."""
 
     text: str
     member: bool
@@ -39,7 +39,7 @@ def is_name(word: str) -> bool:
 
 
 def binder_end(found: list[Word], at: int) -> int:
-    """The place of the colon of a group `(a b : T)` that opens at `at`, or 0 where it is another group."""
+    """The place of the colon of a group `(a b : T)` that opens at `at`, or 0 if it is another group."""
     at += 1
     start = at
     while at < len(found) and is_name(found[at].text) and not found[at].member:
@@ -57,7 +57,7 @@ class Reader:
         return any(name in frame for frame in self.frames)
 
     def free(self) -> Iterator[tuple[str, str | None]]:
-        """Each word that isn't bound, with its member where one is taken of it."""
+        """Each word that isn't bound, with its member if one is taken of it."""
         while self.at < len(self.found):
             yield from self.step()
 
@@ -77,7 +77,7 @@ class Reader:
             yield word.text, self.member()
 
     def enter(self) -> None:
-        """Goes into a bracket; the names of a group `(a b : T)` are bound behind it."""
+        """Goes into a bracket; the names of a group `(a b : T)` are bound after it."""
         colon = binder_end(self.found, self.at - 1)
         names = {it.text for it in self.found[self.at : colon]} if colon else set()
         self.brackets.append((self.found[self.at - 1].text, names))
@@ -105,7 +105,7 @@ class Reader:
         self.at += 1
 
     def let_name(self) -> Iterator[tuple[str, str | None]]:
-        """What a `let` binds is known behind its `in`; it names nothing of its own here."""
+        """What a `let` binds is known after its `in`; it names nothing of its own here."""
         end = self.at
         while end < len(self.found) and self.found[end].text not in "=:":
             end += 1

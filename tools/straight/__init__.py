@@ -1,4 +1,4 @@
-"""Straightens a BPF program: changes it, behind clang and before the verifier, so that the verifier accepts it.
+"""Straightens a BPF program: changes it, after clang and before the verifier, so that the verifier accepts it.
 
 The verifier follows each slot with few notes: it takes no loop, and loses an address on which more than eight ways
 disagree. What clang makes of C as it is written for Linux has both. Here such a program is given other instructions
@@ -9,7 +9,7 @@ judges the result, and `tools/same-program`, which shares no text with this pack
     settings      settings as text, and the program in them
     graph         what follows what, what is live, what lies in a loop
     kinds         which stores surely don't go to the stack
-    constants     which constants registers and stack slots have behind an instruction
+    constants     which constants registers and stack slots have after an instruction
     counters      which numbers have to be told apart so that each loop ends
     copies        a slot together with its constants: loops become chains of copies
     addresses     what registers stand for, and where ways with different addresses meet

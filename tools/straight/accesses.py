@@ -24,7 +24,7 @@ START_FIELD, END_FIELD, MOST_DISTANCE = 0, 4, 65535  # of the context; of an add
 
 
 def write_rebased(emitter, here, access):
-    """An access at the packet's start plus its own distance, behind a comparison of what it reaches."""
+    """An access at the packet's start plus its own distance, after a comparison of what it reaches."""
     slot, taken = here.slot, {access.base} | ({access.source} if access.is_store else set())
     (distance, base, end), give_back = emitter.borrow(3, slot, emitter.copies.live[slot], taken)
     emitter.load(base, emitter.context, slot)

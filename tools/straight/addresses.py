@@ -1,8 +1,8 @@
 """What registers and stack slots stand for: a packet's address as the packet's start, a constant, and atoms.
 
 An atom is a number that one copy made. ADDED: a number that was added to an address there. MET: the distance of an
-address on which the ways into that copy disagree. Where such a meeting is marked, the address is made anew behind it
-from the distance, which each way in has stored; the atom is then KEPT. Where it isn't marked nothing is done, and a
+address on which the ways into that copy disagree. If such a meeting is marked, the address is made anew after it
+from the distance, which each way in has stored; the atom is then KEPT. If it isn't marked nothing is done, and a
 refusal that comes of it names the meeting."""
 from enum import Enum
 from functools import reduce
@@ -86,7 +86,7 @@ class Atom(NamedTuple):
 
 
 class PacketAddress(NamedTuple):
-    """The packet's start, a constant and atoms behind it."""
+    """The packet's start, plus a constant and atoms."""
 
     constant: int = 0
     atoms: tuple = ()
@@ -96,7 +96,7 @@ class PacketAddress(NamedTuple):
 
 
 class Remade(NamedTuple):
-    """An address that is made anew behind a meeting: from its stored distance, or at a distance from another one."""
+    """An address that is made anew after a meeting: from its stored distance, or at a distance from another one."""
 
     place: object
     leader: object = None

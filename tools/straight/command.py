@@ -78,7 +78,7 @@ class Refused(Exception):
 
 
 def xdpbox_program():
-    """The path of xdpbox: $XDPBOX, the repository's own, or one on the PATH. None where there is none."""
+    """The path of xdpbox: $XDPBOX, the repository's own, or one on the PATH. None if there is none."""
     built, named = TOP / "crates/xdpbox/out/xdpbox", os.environ.get("XDPBOX")
     if named and shutil.which(named) is None:
         fail(f"XDPBOX names {named}, which isn't a program that can be run")
@@ -97,7 +97,7 @@ class Wanted(NamedTuple):
 
 
 def straightened(settings, xdpbox, wanted=Wanted()):
-    """None where the program of the settings is accepted as it is."""
+    """None if the program of the settings is accepted as it is."""
     answer, in_memory = verdict(xdpbox, as_text(settings)), settings.get("tables") or settings.get("globals")
     if answer.accepted and not in_memory:
         return None
@@ -139,7 +139,7 @@ def taken(xdpbox, settings, result, wanted):
 
 
 def best_of(faults):
-    """Of the reasons of several searches one that names a place."""
+    """The first reason of several searches that names a place, or else the first."""
     placed = [fault for fault in faults if fault.slot is not None]
     return (placed or faults)[0]
 

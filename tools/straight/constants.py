@@ -34,7 +34,7 @@ from .instructions import (
     signed,
 )
 
-# FAR: so far behind the packet's start that it lies behind every packet's end. VALUE: of a map, with the distance that
+# FAR: so far after the packet's start that it lies past every packet's end. VALUE: of a map, with the distance that
 # the original added and the result adds to the offset of each access instead
 FRAME, CONTEXT, PACKET_END, FAR, VALUE = "frame", "context", "packet's end", "far", "value"
 END_FIELD = 4  # of the context
@@ -82,7 +82,7 @@ class Constants:
         return Constants({**self.registers, register: value}, self.stack, self.values, self.passed)
 
     def passing(self, name):
-        """The same behind a named slot."""
+        """The same after a named slot."""
         times = dict(self.passed)
         times[name] = times.get(name, 0) + 1
         return Constants(self.registers, self.stack, self.values, tuple(sorted(times.items(), key=repr)))
@@ -97,7 +97,7 @@ class Constants:
 
     def kept(self, wanted, registers, places):
         """Those of the wanted registers, of which numbers only of these, and those of the stack, numbers only in these
-        places, in all where they are None."""
+        places, in all if they are None."""
         kept = {r: v for r, v in self.registers.items() if r in wanted and (r in registers or not is_number(v))}
         stack = {at: v for at, v in self.stack.items() if places is None or at in places or not is_number(v)}
         return Constants(kept, stack, self.values, self.passed)
@@ -106,7 +106,7 @@ class Constants:
         return tuple(sorted(self.registers.items())), tuple(sorted(self.stack.items())), self.passed
 
     def operands(self, instruction):
-        """The two operands of arithmetic or of a jump, None where they aren't constant."""
+        """The two operands of arithmetic or of a jump, None if they aren't constant."""
         second = self.registers.get(instruction.source) if instruction.by_register else instruction.immediate & MASK_64
         return self.registers.get(instruction.destination), second
 
@@ -116,7 +116,7 @@ class Constants:
         return base.offset + instruction.offset if is_address(base, FRAME) else None
 
     def decided(self, jump):
-        """Whether a jump with a condition is taken, where constants say so."""
+        """Whether a jump with a condition is taken, if constants say so."""
         a, b = self.operands(jump)
         if is_number(a) and is_number(b):
             return holds(jump, a, b)
@@ -131,7 +131,7 @@ class Constants:
                 return holds(jump, 1, 2)
         return None
 
-    # --- behind an instruction
+    # --- after an instruction
 
     def after(self, instruction, elsewhere=False):
         """`elsewhere`: of a store, whether it surely doesn't go to the stack."""

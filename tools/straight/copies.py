@@ -3,9 +3,9 @@
 A conditional jump between two constants has one way, so that a loop with constant trips unwinds into a chain of copies,
 however it is left.
 
-Two marks put tests of our own in front of an addition, where the verifier would lose the address:
-  Wide   the number may be above 65,535: `if n > 65535` leads to copies in which the sum is far behind the packet's end
-         (or to the end of the program, where the number may be negative)
+Two marks put tests of our own in front of an addition, if the verifier would lose the address:
+  Wide   the number may be above 65,535: `if n > 65535` leads to copies in which the sum is far past the packet's end
+         (or to the end of the program, if the number may be negative)
   Cases  the number is one of a few: `if n == c` for each, to copies in which it is a constant"""
 from dataclasses import dataclass, field
 from typing import NamedTuple
@@ -24,7 +24,7 @@ STEERING, COUNTERS, IN_LOOPS, EVERYWHERE = "those that steer loops", "those that
 
 class Phase(NamedTuple):
     """What stands at a copy: TESTS of ours, the instruction (PLAIN), test `number` of the CASE tests, an addition whose
-    sum is FAR, or the end of the program behind an access OUTSIDE the packet."""
+    sum is FAR, or the end of the program after an access OUTSIDE the packet."""
 
     name: str
     number: int = 0
@@ -35,21 +35,21 @@ CASE = "case"
 
 
 class Wide(NamedTuple):
-    """Of an addition: the register of the number, and whether one above 65,535 is known not to be negative."""
+    """A mark of an addition: the register of the number, and whether one above 65,535 is known not to be negative."""
 
     register: int
     positive: bool
 
 
 class Cases(NamedTuple):
-    """Of an addition: the register of the number, and what it can be."""
+    """A mark of an addition: the register of the number, and what it can be."""
 
     register: int
     numbers: tuple
 
 
 class Trips(NamedTuple):
-    """Of a slot in a loop: how often a way comes by, and the registers whose numbers aren't told apart there."""
+    """A mark of a slot in a loop: how often a way comes by, and the registers whose numbers aren't told apart there."""
 
     most: int
     registers: set
@@ -92,7 +92,7 @@ def telling_numbers(code, numbers):
 class Copies:
     """The graph of copies.
 
-    `numbers`: which numbers are told apart. `marks`: those of `search`. Where results of lookups are followed, a
+    `numbers`: which numbers are told apart. `marks`: those of `search`. If results of lookups are followed, a
     constant added to one can go to the accesses."""
 
     def __init__(self, code, numbers, marks):
@@ -177,14 +177,14 @@ class Copies:
         return [(way, self.copy(after, TESTS, constants)) for way, after in short]
 
     def constants_after(self, here):
-        """The constants behind a copy's instruction."""
+        """The constants after a copy's instruction."""
         constants = here.constants.after(self.code[here.slot], here.slot in self.elsewhere)
         for name in (here.slot if here.slot in self.trips else None, self.named.get(here.slot)):
             constants = constants.passing(name) if name is not None else constants
         return constants
 
     def sorted(self):
-        """The copies, each behind all that lead to it."""
+        """The copies, each after all that lead to it."""
         finished, order = {self.first: False}, []
         todo = [(self.first, iter(self.first.ways))]
         while todo:

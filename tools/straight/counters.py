@@ -1,6 +1,6 @@
 """Which numbers have to be told apart so that each loop ends: its counters alone.
 
-A counter is what a jump in a loop compares, where all that it is made of are constants: those in front of the loop, and
+A counter is what a jump in a loop compares, if all that it is made of are constants: those in front of the loop, and
 additions of constants in it. It bounds the loop if each way around passes one of these additions."""
 from typing import NamedTuple
 
@@ -41,7 +41,7 @@ def best(code, before, part):
 
 
 def counter_of(code, before, jump):
-    """What decides a jump; None where it isn't made of constants alone."""
+    """What decides a jump; None if it isn't made of constants alone."""
     needed, steps, todo = {}, set(), [(jump, register) for register in reads(code[jump])]
     while todo:
         slot, place = todo.pop()
@@ -65,7 +65,7 @@ def is_step(instruction):
 
 
 def sources(instruction, place):
-    """Of what an instruction makes a place: the places themselves where it leaves them; None where of memory."""
+    """What an instruction makes a place from: the places themselves if it leaves them; None if from memory."""
     if isinstance(place, tuple):
         return stored(instruction, place)
     if place not in writes(instruction):

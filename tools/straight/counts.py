@@ -1,7 +1,7 @@
 """`*counter += n`: a load, additions and a store of one counter, made one atomic addition.
 
 In the place of the load stands `r = 0`: what is then computed is n, and the store adds it. No slot moves. It is right
-where nothing between the two could see or change the counter, and where what was read is not used for anything else.
+if nothing between the two could see or change the counter, and where what was read is not used for anything else.
 On a counter of a per-CPU map it is the same count; on a shared one Linux's program could lose counts and this can't."""
 from typing import NamedTuple, Optional
 
@@ -22,7 +22,7 @@ from .kinds import VALUE, kinds_before
 
 
 def fused(code, store):
-    """The program with the store at this slot as an atomic addition, or None where that isn't the same."""
+    """The program with the store at this slot as an atomic addition, or None if that isn't the same."""
     put = code[store]
     load = load_before(code, store) if put.opcode == STORE_DOUBLE else None
     counted = None if load is None else registers_that_count(code, load, store)
@@ -37,7 +37,7 @@ def fused(code, store):
 
 
 def load_before(code, store):
-    """The slot of the load of the same counter, on the one way to the store, behind which nothing has an effect."""
+    """The slot of the load of the same counter, on the one way to the store, after which nothing has an effect."""
     put, slot = code[store], store
     targets = {
         after
@@ -57,7 +57,7 @@ def load_before(code, store):
 
 
 def registers_that_count(code, load, store):
-    """The registers that hold the counter and a number, at the store; None where the counter is used otherwise."""
+    """The registers that hold the counter and a number, at the store; None if the counter is used otherwise."""
     counted = {code[load].destination}
     for slot in range(load + 1, store):
         instruction = code[slot]
@@ -76,7 +76,7 @@ def registers_that_count(code, load, store):
 
 
 class Difference(NamedTuple):
-    """Of a store to a counter that is no count: the counter, None where it is one of several, and the slots that load
+    """A store to a counter that is no count: the counter, None if it is one of several, and the slots that load
     or store it before, of which one is the last on a way. `told`: whether there are ways without one too."""
 
     counter: Optional[tuple]
@@ -86,8 +86,8 @@ class Difference(NamedTuple):
 
 def difference(code, store):
     """How a store to a counter may become an addition of the difference from what is known to stand
-    there, or from what is read there where nothing is known: there are ways on which nothing was loaded, or the value
-    is that of one lookup or another. None where it isn't a counter."""
+    there, or from what is read there if nothing is known: there are ways on which nothing was loaded, or the value
+    is that of one lookup or another. None if it isn't a counter."""
     before = kinds_before(code)
     kinds = before.get(store, {})
     counter = kinds.counter(code[store]) if kinds else None

@@ -1,4 +1,4 @@
-"""The graph of copies as a program: one copy behind the other, and between them instructions of our own.
+"""The graph of copies as a program: one copy after the other, and between them instructions of our own.
 
 Our own instructions use registers that aren't live, or that they put back, and stack slots below the program's own."""
 from enum import Enum
@@ -41,7 +41,7 @@ THE_END = "outside"  # where `r0 = 0; exit` stands
 
 
 class Kind(Enum):
-    """Whose instruction a slot has: a COPY of the original's, our OWN, or the end where an access lies OUTSIDE."""
+    """Whose instruction a slot has: a COPY of the original's, our OWN, or the end if an access lies OUTSIDE."""
 
     COPY = "copy"
     OWN = "own"
@@ -57,7 +57,7 @@ class Label(NamedTuple):
 
 
 class Needs(Fail):
-    """Meetings that have to be marked too, since an address behind them is made of theirs."""
+    """Meetings that have to be marked too, since an address after them is made of theirs."""
 
     def __init__(self, meetings):
         super().__init__("a meeting isn't marked")
@@ -358,7 +358,7 @@ class Emitter:
             self.put_jump(after.slot, after)
 
     def write_ways(self, here, branch, following):
-        """Behind a branch: where it isn't taken, and where its distances are stored if it is."""
+        """After a branch: where it isn't taken, and where its distances are stored if it is."""
         (way, fallen), (other, jumped) = here.ways
         self.store_distances(here, way, fallen)
         stub = self.addresses.stored.get((here, other))

@@ -60,7 +60,7 @@ def successors(code, slot):
 
 
 def predecessors(code):
-    """Of each slot, the slots from which control may come."""
+    """For each slot, the slots from which control may come."""
     before = {slot: [] for slot in code}
     for slot in code:
         for after in successors(code, slot):
@@ -71,7 +71,7 @@ def predecessors(code):
 
 
 def backwards(code, step):
-    """The least sets, one per slot, with `step(slot, what is there behind it)` as the set before it."""
+    """The least sets, one per slot, with `step(slot, the set after it)` as the set before it."""
     found, before, todo = {slot: frozenset() for slot in code}, predecessors(code), list(code)
     while todo:
         slot = todo.pop()
@@ -180,7 +180,7 @@ class Steering(NamedTuple):
         return max([0, *(insn.immediate for insn in moved if insn.opcode == MOVE_CONSTANT)])
 
     def most(self, code, loop, mask):
-        """The greatest number that a mask leaves, behind the shifts that follow."""
+        """The greatest number that a mask leaves, after the shifts that follow."""
         number = code[mask].immediate
         for slot in sorted(slot for slot in self.sources - loop if slot > mask):
             if code[slot].opcode == LSH_CONSTANT:
@@ -205,7 +205,7 @@ def steering(code, loop):
 
 
 def is_upper_bound(code, slot, ahead):
-    """Whether a jump leads to these slots only where a number is at most about a constant."""
+    """Whether a jump leads to these slots only if a number is at most about a constant."""
     instruction = code[slot]
     if not instruction.is_branch or instruction.by_register:
         return False

@@ -117,7 +117,7 @@ class Instruction:
         return self.source if self.is_load else self.destination
 
     def words(self, offset=None):
-        """Its slots in hex, with another offset where one is given."""
+        """Its slots in hex, with another offset if one is given."""
         registers, offset = self.destination | self.source << 4, self.offset if offset is None else offset
         slots = [struct.pack("<BBhi", self.opcode, registers, offset, self.immediate)]
         if self.upper is not None:
@@ -185,7 +185,7 @@ def swapped(instruction, value):
 
 
 def compute(instruction, a, b):
-    """What arithmetic leaves of two constants, or None where this text doesn't know it: signed division."""
+    """What arithmetic leaves of two constants, or None if this text doesn't know it: signed division."""
     bits = 64 if instruction.kind == ALU64 else 32
     mask = (1 << bits) - 1
     if instruction.operation == END:

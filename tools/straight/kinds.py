@@ -21,7 +21,7 @@ START_FIELDS = (0, 8)  # of the context: data and data_meta
 
 
 class Kinds(dict):
-    """Of registers, and of the stack's slots by ("stack", offset), what address they hold: its kind; and for one of the
+    """What address registers hold, and the stack's slots by ("stack", offset): its kind; and for one of the
     stack the distance from the frame's end, for a map's value who gave it and the distance, or None. Who gave it is the
     slot of a lookup, or of an addition of an index, or the name of a global."""
 

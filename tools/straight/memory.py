@@ -72,7 +72,7 @@ def put_run(emitter, slot, load, run):
 
 
 def check_store(emitter, here, store):
-    """Ends where something is stored to a global that isn't a counter."""
+    """Ends if something is stored to a global that isn't a counter."""
     place = emitter.addresses.before[here].get(store.base) if store.is_store else None
     if isinstance(place, TableAddress):
         raise Fail(
@@ -104,7 +104,7 @@ def runs(address, load):
 
 
 def choose(emitter, here, load, rows, is_last=True):
-    """Tests of the place, down to each run's number. `is_last`: nothing is written behind it."""
+    """Tests of the place, down to each run's number. `is_last`: nothing is written after it."""
     if not rows:
         raise Fail("this reads outside of the constants", here.slot)
     if len(rows) == 1:

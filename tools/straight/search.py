@@ -7,7 +7,7 @@ first program is that of the copies alone. Then, one mark per refusal:
                      the number's range is narrowed by a test (`wide`), or its few values are told apart (`cases`). A
                      distance of several such numbers is bounded by a test where it is stored (`limited`), or made anew
                      from the distance where it was compared with the packet's end (`restarts`)
-                     Where more ways meet than the verifier keeps apart, since an added number is a constant on some: it
+                     If more ways meet than the verifier keeps apart, since an added number is a constant on some: it
                      is hidden that it is (`blurred`)
   V10                what the access reaches is compared with the packet's end anew (`guards`); where it still lies in
                      front of what was compared, its address is made anew first (`rebased`)
@@ -15,7 +15,7 @@ first program is that of the copies alone. Then, one mark per refusal:
                      number (`cases`), or for each step up to it (`trips`)
   V14 at a load      the whole counter is loaded, and the part cut out (`narrow`)
   V14 at a store     a load, an addition and a store become one atomic addition (`counts`); else the difference from
-                     what was loaded is added, where the load stays (`differences`)
+                     what was loaded is added, if the load stays (`differences`)
 
 No mark is taken back, so the search ends. It is made in several ways (`WAYS`): as few numbers told apart as loops
 need, their counters alone, all in loops, or all; a meeting marked as one copy or at all copies of its slot, or none, and each access
@@ -83,7 +83,7 @@ class Result:
 
 
 class Search:
-    """One search. `numbers`: which are told apart; `way`: what is marked first where an address was lost: a meeting
+    """One search. `numbers`: which are told apart; `way`: what is marked first if an address was lost: a meeting
     as one copy (BY_COPY) or at all copies of its slot (BY_SLOT), or the access, to be rebased (BY_ACCESS)."""
 
     def __init__(self, settings, xdpbox, numbers, way):
@@ -105,7 +105,7 @@ class Search:
         return (here.key, place) in self.marks.restarts
 
     def mark_meetings(self, rows):
-        """Marks meetings, (copy, place) each: whether one is new. Where several copies of a slot are marked all are."""
+        """Marks meetings, (copy, place) each: whether one is new. If several copies of a slot are marked, all are."""
         fresh = {self.mark(*row) for row in rows if not self.is_marked(*row)}
         self.marks.meetings |= fresh
         for key, kept in fresh:
@@ -116,7 +116,7 @@ class Search:
         return bool(fresh)
 
     def mark_guard(self, here):
-        """Marks an access to be guarded, in all copies of its slot where several need it."""
+        """Marks an access to be guarded, in all copies of its slot if several need it."""
         if here.key in self.marks.guards or here.slot in self.marks.guards:
             return False
         self.marks.guards.add(here.key)
@@ -147,7 +147,7 @@ class Search:
         raise Fail("it isn't accepted after many changes", None, SIZE)
 
     def emitted(self):
-        """The program with the marks as they are; None where a further meeting had to be marked."""
+        """The program with the marks as they are; None if a further meeting had to be marked."""
         marks = self.marks
         try:
             self.copies = Copies(self.code, self.numbers, marks)
@@ -262,7 +262,7 @@ class Search:
         return fresh
 
     def restart(self, here, register):
-        """An address behind so many numbers that their sum may lie far behind any packet: it was compared with the
+        """An address plus so many numbers that their sum may lie far past any packet: it was compared with the
         packet's end, and is made anew from its distance there."""
         if (here.key, register) in self.marks.restarts:
             return False
@@ -288,7 +288,7 @@ class Search:
 
     def tell_trips_apart(self, slot, by_number):
         """A loop that runs as often as a masked number says, as over the words of a header: a copy for each number.
-        Where its cursor grows by what is loaded, as over options: as many copies as the cursor has steps of one.
+        If its cursor grows by what is loaded, as over options: as many copies as the cursor has steps of one.
         `by_number`: whether the former may help."""
         loop = loop_of(self.code, slot)
         rows = list(steering(self.code, loop))
@@ -306,7 +306,7 @@ class Search:
         return True
 
     def tell_masked_apart(self, row, loop, by_number):
-        """The same, of a number behind a mask."""
+        """The same, for a number after a mask."""
         for mask in row.masks:
             numbers = parts_of(self.code[mask].immediate)
             steps = row.most(self.code, loop, mask) - row.first(self.code, loop)
@@ -349,15 +349,15 @@ def parts_of(mask):
 
 
 def after_shifts(number, shifts):
-    """A number behind these instructions, of which the last comes first."""
+    """A number after these instructions, of which the last comes first."""
     for instruction in reversed(shifts):
         number = compute(instruction, number, instruction.immediate)
     return number
 
 
 def searches(settings, xdpbox, faults, unguarded):
-    """What the searches find, the smaller of two programs first. The next two begin only where nobody took one of
-    these, and none that would have too many copies again. Why a search found none is added to the faults. Where some
+    """What the searches find, the smaller of two programs first. The next two begin only if nobody took one of
+    these, and none that would have too many copies again. Why a search found none is added to the faults. If some
     results of the first ones want a guard that nobody asked for (`unguarded`), others do too, but for those that tell
     all numbers apart."""
     hopeless = set()

@@ -57,7 +57,7 @@ def question(original, result, labels):
 
 
 def what_is_missing(check, guards, guard):
-    """Why a result can't be taken that was followed to its end: it may end where the original doesn't."""
+    """Why a result can't be taken that was followed to its end: it may end when the original doesn't."""
     if check.unproven:
         at = min(check.unproven.values())
         if check.original[at].kind in ACCESSES:

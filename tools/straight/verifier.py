@@ -6,7 +6,7 @@ from typing import NamedTuple, Optional
 
 
 class Lost(NamedTuple):
-    """Of a refused access: where its register was an address last, and what was known of the number added there."""
+    """A refused access: where its register was an address last, and what was known of the number added there."""
 
     was: str  # pkt, fp or map_value
     slot: int

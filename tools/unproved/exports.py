@@ -88,7 +88,7 @@ def main_of(modules):
 
 
 def answered(header):
-    """Of a header's calls those that answer a struct: the struct and the parameters, by name."""
+    """The calls of a header that answer a struct: the struct and the parameters, by name."""
     return {name: (kind, parts_of(taken)) for kind, name, taken in ANSWERS_STRUCT.findall(COMMENT.sub("", header))}
 
 

@@ -11,7 +11,7 @@ IMPL = re.compile(r"impl\b(?:<[^{]*?>)?\s+(?:.*\bfor\s+)?&?(?:'\w+ )?(?:mut )?([
 
 @dataclasses.dataclass(frozen=True)
 class Hint:
-    """Of a function: its type, or the module that it stands in, and what its attributes ask for."""
+    """A function's type, or the module that it stands in, and what its attributes ask for."""
 
     owner: str
     inline: str = ""
@@ -59,7 +59,7 @@ def hints_of(folders):
 
 
 def fitting(hints, within):
-    """Of the hints of one name those that are of a function in this module or type."""
+    """The hints of one name that are for a function in this module or type."""
     path = "::".join(within)
     for fits in (
         lambda owner: within and owner == within[-1],

@@ -1,7 +1,7 @@
 /* Packets for tools/xen-guest: traffic send ADDRESS PORT BYTES SECONDS, or traffic count PORT SECONDS
  *
- * `send` sends UDP packets of so many bytes as fast as it can, and prints how many. `count` counts what comes to the port, from the first
- * packet on, until nothing has come for so many seconds, and prints how many and in how many milliseconds from the first to the last. */
+ * `send` sends UDP packets of that many bytes as fast as it can, and prints how many. `count` counts what comes to the port, from the first
+ * packet on, until nothing has come for that many seconds, and prints how many and in how many milliseconds from the first to the last. */
 #include <arpa/inet.h>
 #include <netinet/in.h>
 #include <stdint.h>

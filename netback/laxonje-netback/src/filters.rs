@@ -6,7 +6,7 @@ use std::fs::File;
 use std::io::{self, Read};
 use std::path::{Path, PathBuf};
 
-/// A settings text has at most so many bytes.
+/// The most bytes that a settings text has.
 const MOST_TEXT: u64 = 1 << 20;
 
 /// A program with its file.
@@ -72,7 +72,7 @@ fn read(path: &Path) -> io::Result<Vec<u8>> {
     Ok(text)
 }
 
-/// The names of the maps of a settings text that is accepted, in its order; their numbers where that many aren't found.
+/// The names of the maps of a settings text that is accepted, in its order; their numbers if that many names aren't found.
 fn names(text: &str, count: usize) -> Vec<String> {
     let mut found = Vec::new();
     let mut table = "";

@@ -54,7 +54,7 @@ fn folded(mut sum: u32) -> u16 {
     sum as u16
 }
 
-/// The type and the start of what Ethernet carries, behind up to two VLAN tags.
+/// The type and the start of what Ethernet carries, after up to two VLAN tags.
 fn network(frame: &[u8]) -> Option<(u16, usize)> {
     let mut at = ETHERNET;
     for _ in 0..=MOST_TAGS {

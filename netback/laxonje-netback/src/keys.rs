@@ -111,7 +111,7 @@ fn queue(read: &impl Fn(&str) -> Option<String>, folder: &str) -> Result<QueueKe
     }
 }
 
-/// The keys of a frontend that is offered so many queues.
+/// The keys of a frontend that is offered that many queues.
 pub fn front(read: impl Fn(&str) -> Option<String>, offered: u32) -> Result<FrontKeys, KeyError> {
     if !flag(&read, "request-rx-copy") {
         return Err(KeyError::NoCopy);
@@ -148,7 +148,7 @@ pub enum Step {
 }
 
 /// What comes next for a device. `ours` is the state that was written last by this process, `stored` the key's, `front` the frontend's,
-/// which has none where the guest is gone.
+/// which has none if the guest is gone.
 pub fn next(ours: Option<State>, stored: Option<State>, front: Option<State>, online: bool) -> Step {
     use State::*;
     match (ours, front) {

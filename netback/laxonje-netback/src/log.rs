@@ -46,7 +46,7 @@ impl Limit {
         Limit { most, each, left: most, since: Instant::now(), skipped: 0 }
     }
 
-    /// The text to put behind a line that may be written now: how many weren't.
+    /// The text to append to a line that may be written now: how many weren't.
     pub fn allows(&mut self) -> Option<String> {
         self.allows_at(Instant::now())
     }

@@ -12,7 +12,7 @@ usage: laxonje-netback [OPTION..]           serve the network devices of guests
 
   --filters FOLDER   where settings files are: GUEST.DEVICE.toml, GUEST.toml, default.toml (/etc/laxonje)
   --domain ID        serve this guest alone
-  --queues N         offer so many queues to each device, 1 to 64 (1)
+  --queues N         offer N queues to each device, 1 to 64 (1)
   --bridge NAME      a bridge for devices that the toolstack gives neither a script nor a bridge
   --grants copy|map  how pages are had of Xen (copy)
   --watch SECONDS    look so often whether a settings file has changed (only on SIGHUP and reload)
@@ -83,7 +83,7 @@ pub fn command(words: &[String]) -> Result<Command, String> {
     }
 }
 
-/// `json` is the question with --json, where there is one.
+/// `json` is the question with --json, if there is one.
 fn ask(plain: &'static str, json: &'static str, words: &[String]) -> Result<Command, String> {
     let (mut question, mut socket) = (plain, Options::default().socket);
     let mut words = words.iter();

@@ -93,7 +93,7 @@ pub struct laxonje_result {
     pub instructions: u32,
 }
 
-/// How many bytes a handle has: zeros where it holds nothing, at an address that doesn't change.
+/// How many bytes a handle has: zeros if it holds nothing, at an address that doesn't change.
 pub const LAXONJE_HANDLE: usize = 16;
 
 /// What a handle of a program points to.

@@ -30,7 +30,7 @@ pub struct Entry {
     pub writes: bool,
 }
 
-/// A host that makes each access itself. Each [`GuestMemory`] is one; implement it where pages have to be asked for, as under Xen.
+/// A host that makes each access itself. Each [`GuestMemory`] is one; implement it if pages have to be asked for, as under Xen.
 ///
 /// Between the entry of a grant and the next `push` of a turn or a delivery, or its end, the page may be read and written. After
 /// that push no access of it comes: there a page may be given back.
@@ -39,7 +39,7 @@ pub trait Guest {
     fn read(&mut self, frame: u32, word: usize, into: &mut [u32]);
     /// Writes words of a ring's page, or of a granted page, in rising order, each once.
     fn write(&mut self, frame: u32, word: usize, from: &[u32]);
-    /// Writes a word of a ring's page, and behind it, with a full fence between them, reads the word `then` of the same page.
+    /// Writes a word of a ring's page and then, after a full fence, reads the word `then` of the same page.
     fn push(&mut self, frame: u32, word: usize, value: u32, then: usize) -> u32;
     /// Sends a notice to the guest by its event channel.
     fn notify(&mut self, port: u32);

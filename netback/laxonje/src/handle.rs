@@ -134,7 +134,7 @@ impl Drop for QueueHandle {
     }
 }
 
-/// The text of what to write instead of what the verifier's cause refuses; empty where there is none.
+/// The text of what to write instead of what the verifier's cause refuses; empty if there is none.
 pub(crate) fn advice(cause: u32) -> String {
     let mut text = [0; 512];
     // SAFETY: the module's reason. The answer is how long the text is, which may be more than there is room for.

@@ -36,7 +36,7 @@ pub enum LoadError {
 }
 
 impl LoadError {
-    /// What to write instead of what is refused; empty where there is nothing to say.
+    /// What to write instead of what is refused; empty if there is nothing to say.
     pub fn advice(&self) -> String {
         match self {
             LoadError::Refused { cause, .. } => advice(*cause),
@@ -73,7 +73,7 @@ impl fmt::Display for VersionError {
 
 impl Error for VersionError {}
 
-/// Whether the linked library is of the version that this crate is made for. Call it once, before anything else, where the library is
+/// Whether the linked library is of the version that this crate is made for. Call it once, before anything else, if the library is
 /// a shared object.
 pub fn check_version() -> Result<(), VersionError> {
     match version() {
@@ -177,7 +177,7 @@ impl Program {
         Some(self.handle.place(map, entry, counter)).filter(|place| *place != sys::LAXONJE_NOWHERE)
     }
 
-    /// Runs it on a packet where it lies. `None`, and nothing has changed, where there are fewer counters than it has, or more than
+    /// Runs it on a packet where it lies. `None`, and nothing has changed, if there are fewer counters than it has, or more than
     /// [`MOST_BYTES`].
     pub fn run(&mut self, counters: &mut [u64], packet: &mut [u8], ifindex: u32, queue: u32) -> Option<Run> {
         let result = self.handle.run(counters, packet, ifindex, queue);

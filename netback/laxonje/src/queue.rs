@@ -49,7 +49,7 @@ pub struct Setup<'a> {
     pub ifindex: u32,
     /// What the program is told of the queue.
     pub queue: u32,
-    /// Zeros for new rings; else where a queue of these rings stood.
+    /// Zeros for new rings; else the indices where a queue of these rings stood.
     pub at: Indices,
 }
 
@@ -189,7 +189,7 @@ pub enum Turn {
 /// What became of a packet that was delivered.
 #[derive(Clone, Copy, Debug, PartialEq, Eq)]
 pub enum Delivery {
-    /// It lies in the buffers of so many rx slots.
+    /// It lies in the buffers of these rx slots.
     Sent {
         /// How many slots: one per page.
         slots: u32,
@@ -210,7 +210,7 @@ pub enum Delivery {
 pub enum Awaited {
     /// They are there by now: deliver at once.
     Posted,
-    /// The guest's push that makes them so many owes a notice.
+    /// The guest's push that makes up the number owes a notice.
     Waiting,
     /// As of a turn.
     Halted(Halt),
@@ -266,7 +266,7 @@ impl Queue {
         })
     }
 
-    /// Asks for a notice once there are rx slots for a packet of so many bytes.
+    /// Asks for a notice once there are rx slots for a packet of that many bytes.
     pub fn wait_for(&mut self, bytes: usize, guest: &mut impl Guest) -> Awaited {
         let op = self.driver.wait_for(pages_of(bytes), &mut self.counters, guest);
         match op.outcome {
@@ -286,13 +286,13 @@ impl Queue {
         Flags(self.driver.flags())
     }
 
-    /// Where the queue stands: what another queue of the same rings is made with, to go on in its place. The cause, where it has
+    /// Where the queue stands: what another queue of the same rings is made with, to go on in its place. The cause, if it has
     /// halted.
     pub fn indices(&self) -> Result<Indices, Halt> {
         self.driver.indices()
     }
 
-    /// Goes on with another program. Counters are kept where its maps have the same sizes in the same order, and else are 0.
+    /// Goes on with another program. Counters are kept if its maps have the same sizes in the same order, and else are 0.
     pub fn replace(&mut self, program: &Program) -> Result<(), ReplaceError> {
         self.driver.replace(&program.handle)?;
         if program.maps() != self.maps {

@@ -68,7 +68,7 @@ def gate_tests():
         yield "the last line counts all", text.splitlines()[-1] == f"{counted} passed, 0 failed" and status == 0
         yield "each part is announced", re.findall(r"^== part (\d+) of", text, re.MULTILINE) == [str(it + 1) for it in range(parts)]
         yield "each crate is counted", [f"[{it}/3" in text for it in (1, 2, 3)] == [True] * 3 and "[2/3, 0 s] high, kept" in text
-        yield "each line is printed where there is no terminal", "fn low::first: proved" in text and "more-edits: a line" in text
+        yield "each line is printed if there is no terminal", "fn low::first: proved" in text and "more-edits: a line" in text
         kept = (gate.folder / "out/gate.log").read_text()
         yield "each line is kept", all(line in kept for line in ("fn low::first: proved", "test-pcap: a line", text.splitlines()[-1]))
         proved = gate.folder / "out/proved"

@@ -11,7 +11,7 @@ use std::os::raw::{c_long, c_ulong};
 use std::os::unix::io::RawFd;
 use std::ptr;
 
-/// A context of the kernel's for so many reads and writes at once.
+/// A context of the kernel's for a number of reads and writes at once.
 #[derive(Debug)]
 pub struct Batch {
     context: c_ulong,
@@ -34,7 +34,7 @@ impl Batch {
         }
     }
 
-    /// Writes and then reads, each whole or not at all, and says of each how many bytes: of a read `None` where there was nothing to read.
+    /// Writes and then reads, each whole or not at all, and says how many bytes each moved: `None` for a read that found nothing.
     pub fn run(&mut self, fd: RawFd, writes: &[&[u8]], reads: &mut [&mut [u8]]) -> (Vec<Option<usize>>, Vec<Option<usize>>) {
         self.blocks.clear();
         let block =
@@ -58,7 +58,7 @@ impl Batch {
     /// Submits blocks and waits until they are through. How many were dealt with: one that the kernel doesn't take isn't made.
     fn submit(&mut self, start: usize, count: usize) -> usize {
         let mut pointers: Vec<*mut ffi::iocb> = self.blocks[start..start + count].iter_mut().map(|block| block as *mut _).collect();
-        // SAFETY: so many pointers to blocks, whose buffers the module's reason speaks of.
+        // SAFETY: `count` pointers to blocks, whose buffers the module's reason speaks of.
         let taken = unsafe { ffi::syscall(ffi::SYS_IO_SUBMIT, self.context, count as c_long, pointers.as_mut_ptr()) };
         match usize::try_from(taken) {
             Ok(taken) if taken > 0 => {
@@ -75,7 +75,7 @@ impl Batch {
         while left > 0 {
             let (least, room) = (left as c_long, left as c_long);
             let no_time: *const u8 = ptr::null();
-            // SAFETY: there is room for so many events.
+            // SAFETY: there is room for that many events.
             let came = unsafe { ffi::syscall(ffi::SYS_IO_GETEVENTS, self.context, least, room, events.as_mut_ptr(), no_time) };
             let came = usize::try_from(came).unwrap_or(0);
             for event in &events[..came] {

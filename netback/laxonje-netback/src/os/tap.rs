@@ -21,7 +21,7 @@ const MOST_AT_ONCE: usize = 256;
 /// A queue of a TAP device.
 pub struct Tap {
     file: File,
-    /// Where the kernel has none, each packet takes a system call.
+    /// If the kernel has none, each packet takes a system call.
     batch: Option<Batch>,
 }
 
@@ -108,7 +108,7 @@ fn first_number(request: &ffi::ifreq) -> u32 {
 }
 
 impl Tap {
-    /// Whether the device stays when nobody has it open.
+    /// Whether the device stays when nobody holds it open.
     pub fn keep(&self, stays: bool) -> io::Result<()> {
         // SAFETY: the module's reason.
         done(unsafe { ffi::ioctl(self.file.as_raw_fd(), ffi::TUNSETPERSIST, c_ulong::from(stays)) })

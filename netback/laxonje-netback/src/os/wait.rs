@@ -29,7 +29,7 @@ impl Wanted {
 pub fn wait(wanted: &mut [Wanted], time: Option<Duration>) {
     let mut on: Vec<_> = wanted.iter().map(|one| ffi::pollfd { fd: one.fd, events: ffi::POLLIN, revents: 0 }).collect();
     let milliseconds = time.map_or(-1, |time| time.as_millis().min(i32::MAX as u128) as i32);
-    // SAFETY: the array has so many elements.
+    // SAFETY: the array has that many elements.
     let count = unsafe { ffi::poll(on.as_mut_ptr(), on.len() as u64, milliseconds) };
     for (one, polled) in wanted.iter_mut().zip(&on) {
         one.ready = count > 0 && polled.revents != 0;
@@ -55,7 +55,7 @@ impl Signals {
         if fd < 0 {
             return Err(io::Error::last_os_error());
         }
-        // SAFETY: the descriptor is new, and nobody else has it.
+        // SAFETY: the descriptor is new, and nobody else owns it.
         Ok(Signals(unsafe { File::from_raw_fd(fd) }))
     }
 

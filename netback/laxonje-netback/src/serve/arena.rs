@@ -124,7 +124,7 @@ impl Out {
         self.ranges.last().map_or(0, |range| range.end)
     }
 
-    /// The room for the next packet, behind its header.
+    /// The room for the next packet, after its header.
     pub fn room(&mut self) -> &mut [u8] {
         let start = self.end() + HEADER_BYTES;
         &mut self.bytes[start..start + MOST_BYTES]

@@ -188,7 +188,7 @@ impl Running {
         }
     }
 
-    /// Takes what there is to do, and waits where there is nothing. Whether to go on.
+    /// Takes what there is to do, and waits if there is nothing. Returns whether to go on.
     fn round(&mut self) -> Result<bool, Ended> {
         let moved = self.take_packets()? | self.deliver_packets()?;
         self.send_notice()?;
@@ -324,7 +324,7 @@ impl Running {
         }
     }
 
-    /// Gives the packets that passed to the TAP device, and takes those that it has where they are wanted.
+    /// Gives the packets that passed to the TAP device, and takes those that it has if they are wanted.
     fn exchange(&mut self, wants: bool) {
         let (lost, more) = self.arena.exchange(&mut self.worker.tap, &self.out, wants);
         Totals::add(&self.worker.totals.lost, lost);

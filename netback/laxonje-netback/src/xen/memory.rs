@@ -1,8 +1,8 @@
 //! Memory of this process that Xen copies to and from.
 //!
-//! Where Xen is to copy to an address, the kernel looks the page up and holds it for each copy, which takes longer than the copy. So these
+//! If Xen is to copy to an address, the kernel looks the page up and holds it for each copy, which takes longer than the copy. So these
 //! pages are granted by this domain to itself (`xen-gntalloc`), and Xen is given their references: what comes into one page one
-//! after the other is looked up once. Where that can't be had, it is memory like any other.
+//! after the other is looked up once. If that isn't to be had, it is memory like any other.
 //!
 //! What makes each `unsafe` block sound: the handle is one that `xengntshr_open` answered, until the last of those that hold it is
 //! dropped; shared pages lie where `xengntshr_share_pages` put them until they are dropped, only their owner has slices of them, and Xen
@@ -57,7 +57,7 @@ impl Sharing {
 }
 
 impl Memory {
-    /// So many pages of zeros, shared where that can be had.
+    /// That many pages of zeros, shared if possible.
     pub fn new(pages: usize, sharing: Option<&Sharing>) -> Memory {
         sharing.and_then(|sharing| Memory::shared(pages, sharing)).unwrap_or_else(|| Memory::plain(pages))
     }
@@ -71,7 +71,7 @@ impl Memory {
     fn shared(pages: usize, sharing: &Sharing) -> Option<Memory> {
         let mut references = vec![0; pages];
         let (handle, own) = (sharing.handle.0.as_ptr(), sharing.own.into());
-        // SAFETY: there is room for so many references.
+        // SAFETY: there is room for that many references.
         let at = unsafe { ffi::xengntshr_share_pages(handle, own, pages as i32, references.as_mut_ptr(), 1) };
         Some(Memory(Kind::Shared { at: NonNull::new(at.cast())?, references, sharing: sharing.clone() }))
     }
@@ -101,7 +101,7 @@ impl Memory {
         }
     }
 
-    /// The references of its pages, where it is shared.
+    /// The references of its pages, if it is shared.
     pub fn references(&self) -> Option<&[u32]> {
         match &self.0 {
             Kind::Plain { .. } => None,
@@ -126,7 +126,7 @@ impl Drop for Handle {
     }
 }
 
-/// Places in whole pages, one behind the other. None of them lies in two pages.
+/// Places in whole pages, one after another, none of them across two pages.
 pub struct Places {
     next: usize,
     end: usize,
@@ -137,7 +137,7 @@ impl Places {
         Places { next: 0, end: memory.pages() * PAGE_BYTES }
     }
 
-    /// The next place of so many bytes, a page at most. `None`: all pages are taken.
+    /// The next place of that many bytes, a page at most. `None`: all pages are taken.
     pub fn take(&mut self, bytes: usize) -> Option<usize> {
         let left = PAGE_BYTES - self.next % PAGE_BYTES;
         let at = if bytes <= left { self.next } else { self.next + left };

@@ -1,4 +1,4 @@
-//! XenStore. Of the store's answers nothing is trusted but their form: what a guest wrote is text, or it isn't there.
+//! XenStore. Nothing of the store's answers is trusted but their form: what a guest wrote is text, or it isn't there.
 //!
 //! What makes each `unsafe` block sound: the handle is one that `xs_open` answered, until `xs_close`; a path is a C string; what the
 //! library answers was allocated by `malloc`, and is freed here once.
@@ -67,7 +67,7 @@ impl Store {
         String::from_utf8(bytes.to_vec()).ok()
     }
 
-    /// The names of the keys below one; none where it isn't there.
+    /// The names of the keys below one; none if it isn't there.
     pub fn list(&self, path: &str) -> Vec<String> {
         let (path, mut count) = (text(path).unwrap_or_default(), 0);
         // SAFETY: the module's reason.
@@ -76,13 +76,13 @@ impl Store {
             return Vec::new();
         }
         let owned = Allocated(at.cast());
-        // SAFETY: the library answers so many pointers to C strings in one block.
+        // SAFETY: the library answers `count` pointers to C strings in one block.
         unsafe { slice::from_raw_parts(owned.0 as *const *const c_char, count as usize).iter().map(|name| string(*name)).collect() }
     }
 
     pub fn write(&self, path: &str, value: &str) -> io::Result<()> {
         let path = text(path)?;
-        // SAFETY: the module's reason; the value has so many bytes.
+        // SAFETY: the module's reason; the value has that many bytes.
         done(unsafe { ffi::xs_write(self.0.as_ptr(), NO_TRANSACTION, path.as_ptr(), value.as_ptr().cast(), value.len() as u32) })
     }
 

@@ -36,7 +36,7 @@ DATA, DATA_END, QUEUE = 0, 4, 16
 
 
 def settings(*instructions, entries=0, counters=1):
-    """Settings of a program, with one map where it has entries. Wide loads name it."""
+    """Settings of a program, with one map if it has entries. Wide loads name it."""
     slots, relocations = [], []
     for fields in instructions:
         instruction = Instruction(*fields)
@@ -70,7 +70,7 @@ PASS = [(MOVE_CONSTANT, R0, 0, 0, 2), (EXIT,)]
 
 
 def in_packet(count, beyond):
-    """r2 is the packet's start; where it has fewer bytes than that, control goes on `beyond` slots further."""
+    """r2 is the packet's start; if it has fewer bytes than that, control goes on `beyond` slots further."""
     return [(MOVE_REGISTER, R4, R2), (ADD_CONSTANT, R4, 0, 0, count), (IF_ABOVE_REGISTER, R4, R3, beyond)]
 
 
@@ -160,7 +160,7 @@ FAR_WALK = settings(
     (IF_NOT_CONSTANT, R6, 0, -7, 20),
     *PASS,
 )
-# twelve steps, each as long as a byte says, or 1 where that is 0: the number is a constant on one of two ways
+# twelve steps, each as long as a byte says, or 1 if that is 0: the number is a constant on one of two ways
 CONSTANT_ON_SOME_WAYS = settings(
     *START,
     (MOVE_CONSTANT, R6),
@@ -225,7 +225,7 @@ COUNT_READ = settings(
 COUNTER_SET = settings(
     *START, *in_packet(1, 9), (LOAD_BYTE, R6, R2), *lookup((STORE_DOUBLE, R0, R6)), *PASS, entries=1
 )
-# it is set to 7 where the first byte is 7, and else it grows by 2, up to 5
+# it is set to 7 if the first byte is 7, and else it grows by 2, up to 5
 COUNTER_SET_ON_SOME_WAYS = settings(
     *START,
     *in_packet(1, 14),
@@ -338,7 +338,7 @@ BELOW = settings(
     (EXIT,),
     *PASS,
 )
-# an offset that is cut to 32 bits, which it has anyway, behind a comparison by the whole one
+# an offset that is cut to 32 bits, which it has anyway, after a comparison by the whole one
 CUT_TO_32_BITS = settings(
     *START,
     *in_packet(14, 12),

@@ -133,7 +133,7 @@ FILES = {
 
 
 def is_one_line(made, said, status, wanted, lines=1):
-    """What is wrong with an answer to wrong input; nothing where it is one line with these words."""
+    """What is wrong with an answer to wrong input; nothing if it is one line with these words."""
     right = status and not made and wanted in said and "Traceback" not in said and said.count("\n") <= lines
     return "" if right else f"{status} {made[:100]} {said}"
 
@@ -208,7 +208,7 @@ def capture_tests(xdpbox):
     with tempfile.TemporaryDirectory() as folder:
         path = pathlib.Path(folder, "checksums.pcap")
         path.write_bytes(data[:20] + bytes([1, 0, 0, 0x14]) + data[24:])
-        yield "checksums are named", is_one_line(*ran("", xdpbox, command, path), "a checksum stands behind each")
+        yield "checksums are named", is_one_line(*ran("", xdpbox, command, path), "a checksum follows each")
     yield "no capture is named", is_one_line(*ran("", xdpbox, command, "/nowhere"), "No such file")
     yield from output_tests("", xdpbox, command, capture)
     yield from output_tests("", xdpbox, script, "00" * 14)

@@ -88,7 +88,7 @@ impl<Xen: Pages> XenGuest<Xen> {
         }
     }
 
-    /// Writes a granted page: in what is copied to the guest before the next push, where it isn't there already.
+    /// Writes a granted page: in what is copied to the guest before the next push, if it isn't there already.
     pub fn write_granted(&mut self, reference: u32, word: usize, from: &[u32], delivered: Option<(&Arena, Packet)>) {
         let bytes = 4 * word..4 * (word + from.len());
         let position = self.held.iter().position(|held| held.writes && held.reference == reference && !held.is_written(&bytes));
@@ -157,7 +157,7 @@ impl<Mapped> Held<Mapped> {
         Held { reference: entry.reference, writes: entry.writes, bytes, place, changed: 0..0 }
     }
 
-    /// Of a page that is written, `bytes` is what was written.
+    /// Whether the page was written: `bytes` is then what was written.
     fn is_written(&self, bytes: &Range<usize>) -> bool {
         !self.bytes.is_empty() && bytes.start <= self.bytes.start
     }

@@ -52,7 +52,7 @@ impl<Mapped: Deref<Target = Page>> Ring<Mapped> {
         self.page[REQUESTS].load(Ordering::Acquire).wrapping_sub(self.done)
     }
 
-    /// The slot of the request that comes so many after the next.
+    /// The slot of the request that comes `number` after the next.
     pub fn slot(&self, number: u32) -> usize {
         (self.done.wrapping_add(number) % REQUESTS_IN_RING) as usize
     }
@@ -67,7 +67,7 @@ impl<Mapped: Deref<Target = Page>> Ring<Mapped> {
         }
     }
 
-    /// The guess for a reference, of the first slot that was read and has it.
+    /// The guess of the first slot that was read and names this reference.
     pub fn guess(&mut self, reference: u32) -> Option<Guess> {
         let matches = |slot: &&usize| matches!(&self.guesses[**slot], Some(guess) if guess.reference == reference);
         let slot = *self.read.iter().find(matches)?;

@@ -228,7 +228,7 @@ fn shown_packets_are_copied_in_one_call() {
 fn whole_packets_are_copied_as_far_as_there_is_room() {
     let mut bench = Bench::new(Way::Copy, 2);
     bench.memory.grant_bytes(20, 0);
-    let slots: u32 = 12; // three packets of so many pages, and room for 32 pages
+    let slots: u32 = 12; // three packets of that many pages, and room for 32 pages
     for index in 0..3 * slots {
         let (first, last) = (index % slots == 0, index % slots == slots - 1);
         bench.memory.send(index, 20, 0, if last { 0 } else { MORE }, if first { slots * 4096 } else { 4096 });

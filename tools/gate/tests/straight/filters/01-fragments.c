@@ -1,4 +1,4 @@
-/* Drops IP fragments: IPv4 by its flags, IPv6 by a fragment header behind at most six extension headers. */
+/* Drops IP fragments: IPv4 by its flags, IPv6 by a fragment header after at most six extension headers. */
 #include <linux/bpf.h>
 #include <linux/if_ether.h>
 #include <linux/in.h>

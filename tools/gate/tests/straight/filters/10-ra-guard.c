@@ -1,4 +1,4 @@
-/* Drops router advertisements and redirects of ICMPv6, behind any extension headers. */
+/* Drops router advertisements and redirects of ICMPv6, after any extension headers. */
 #include <linux/bpf.h>
 #include <linux/icmpv6.h>
 #include <linux/if_ether.h>

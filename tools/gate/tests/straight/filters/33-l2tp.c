@@ -1,4 +1,4 @@
-/* L2TP: the session's number behind optional fields; drops session 0 in data messages. */
+/* L2TP: the session's number after optional fields; drops session 0 in data messages. */
 #include <linux/bpf.h>
 #include <bpf/bpf_helpers.h>
 

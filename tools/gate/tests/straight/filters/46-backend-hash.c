@@ -1,4 +1,4 @@
-/* A load balancer as katran has it: a hash of five numbers picks one of eight backends, whose MAC is written. */
+/* A load balancer like katran: a hash of five numbers picks one of eight backends, whose MAC is written. */
 #include <linux/bpf.h>
 #include <linux/if_ether.h>
 #include <linux/in.h>

@@ -1,4 +1,4 @@
-/* UDP over IPv6 has to have a checksum, and a right one where the datagram has at most 48 bytes. */
+/* UDP over IPv6 has to have a checksum, and a right one if the datagram has at most 48 bytes. */
 #include <linux/bpf.h>
 #include <linux/if_ether.h>
 #include <linux/in.h>

@@ -1,4 +1,4 @@
-/* TLS: finds the server name in a client hello behind its lists, and drops names that end in ".test". */
+/* TLS: finds the server name in a client hello after its lists, and drops names that end in ".test". */
 #include <linux/bpf.h>
 #include <linux/if_ether.h>
 #include <linux/in.h>

@@ -1,4 +1,4 @@
-/* ESP: a window of 64 sequence numbers for each of 128 buckets of SPIs, as RFC 4303's appendix has it. */
+/* ESP: a window of 64 sequence numbers for each of 128 buckets of SPIs, as in RFC 4303's appendix. */
 #include <linux/bpf.h>
 #include <linux/if_ether.h>
 #include <linux/in.h>
