@@ -1,11 +1,16 @@
 """BTF, the debug information of BPF programs: the sizes of maps, and the line of C of each slot.
 
 Linux's Documentation/bpf/btf.rst has the format."""
+from __future__ import annotations
+
 import os
 import struct
-from typing import NamedTuple, Optional
+from typing import TYPE_CHECKING, Iterator, NamedTuple, Optional
 
 from .elf import text_at
+
+if TYPE_CHECKING:
+    from .elf import Part
 
 COUNTER_BYTES = 8
 INT, POINTER, ARRAY, STRUCT, UNION, VARIABLE, SECTION = 1, 2, 3, 4, 5, 14, 15
@@ -47,7 +52,7 @@ class MapOfC(NamedTuple):
 class Types:
     """The types by their numbers, from 1."""
 
-    def __init__(self, btf):
+    def __init__(self, btf: bytes) -> None:
         header, types, length, names, _ = struct.unpack_from("<IIIII", btf, 4)
         self.names, self.rows, at = btf[header + names :], [None], header + types
         while at < header + types + length:
@@ -58,13 +63,13 @@ class Types:
             self.rows.append(Type(kind, text_at(self.names, name), size, btf[at + 12 : end]))
             at = end
 
-    def plain(self, number):
+    def plain(self, number: int) -> int:
         """The type without names and qualifiers."""
         while number and self.rows[number].kind in ALIASES:
             number = self.rows[number].size
         return number
 
-    def size(self, number):
+    def size(self, number: int) -> int:
         """How many bytes a type has."""
         if not number:
             return 0
@@ -76,13 +81,13 @@ class Types:
             return count * self.size(element)
         return 8 if row.kind == POINTER else row.size if row.kind in WITH_SIZE else 0
 
-    def members(self, number):
+    def members(self, number: int) -> dict[str, int]:
         """Each member's name of a map's struct, with the type that it points to."""
         rows = struct.iter_unpack("<III", self.rows[self.plain(number)].more)
         pairs = [(text_at(self.names, name), self.plain(kind)) for name, kind, _ in rows]
         return {name: self.rows[kind].size for name, kind in pairs if kind and self.rows[kind].kind == POINTER}
 
-    def numbers_in(self, number, name="the value"):
+    def numbers_in(self, number: int, name: str = "the value") -> Iterator[tuple[str, int]]:
         """The numbers of which a type consists, each by its name with its size; the first of an array."""
         row = self.rows[self.plain(number)] if number else None
         if row is None:
@@ -95,12 +100,12 @@ class Types:
         else:
             yield name, self.size(number)
 
-    def number_of(self, pointed):
+    def number_of(self, pointed: int) -> int:
         """The number that `__uint` hides in the length of an array."""
         row = self.rows[self.plain(pointed)] if pointed else None
         return struct.unpack("<III", row.more)[2] if row and row.kind == ARRAY else 0
 
-    def maps(self):
+    def maps(self) -> Iterator[MapOfC]:
         """The maps of section ".maps", in their order."""
         sections = [row.more for row in self.rows[1:] if (row.kind, row.name) == (SECTION, ".maps")]
         variables = sorted(
@@ -121,7 +126,7 @@ class Types:
             yield MapOfC(self.rows[number].name, kind, *sizes, entries, parts)
 
 
-def named(file, source):
+def named(file: str, source: str) -> str:
     """A file as its author names it: the source as it was given, another one from here."""
     if os.path.realpath(file) == os.path.realpath(source):
         return source
@@ -129,7 +134,7 @@ def named(file, source):
     return file if near.startswith("..") else near
 
 
-def lines_of(sections, program, source):
+def lines_of(sections: dict[str, Part], program: str, source: str) -> dict[int, str]:
     """The line of C of each slot at which one begins, as `file.c:12`: what .BTF.ext has, if it is there."""
     if ".BTF.ext" not in sections or ".BTF" not in sections:
         return {}

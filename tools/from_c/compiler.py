@@ -1,4 +1,6 @@
 """clang, as it compiles a filter."""
+from __future__ import annotations
+
 import os
 import platform
 import re
@@ -30,20 +32,20 @@ KEPT_AS_IN_C = ["-mllvm", "-indvars-predicate-loops=false", "-mllvm", "-sink-com
 UNKNOWN_WORD = b"Unknown command line argument"
 
 
-def system_headers():
+def system_headers() -> list[str]:
     """The folder of the headers that Debian and Ubuntu keep by machine, and the machine's name, which they look at."""
     machine = platform.machine()
     folder = f"/usr/include/{machine}-linux-gnu"
     return ["-idirafter", folder, f"-D__{machine}__"] if os.path.isdir(folder) else []
 
 
-def defines_memcmp(source):
+def defines_memcmp(source: str) -> bool:
     """Whether a file has a function `memcmp` of its own, as there is no library."""
     with open(source, encoding="utf-8", errors="replace") as file:
         return re.search(r"^[^;{}#/*]*\bmemcmp\s*\([^;{}]*\)\s*\{", file.read(), re.M) is not None
 
 
-def flags():
+def flags() -> list[str]:
     """The words in CFLAGS."""
     try:
         return shlex.split(os.environ.get("CFLAGS", ""))
@@ -52,7 +54,7 @@ def flags():
         return []
 
 
-def check_source(source):
+def check_source(source: str) -> None:
     """Ends if a file can't be C, before clang says so in many lines."""
     try:
         with open(source, "rb") as file:
@@ -65,7 +67,7 @@ def check_source(source):
         fail(f"{source}: this isn't called .c: give a file of C")
 
 
-def compile_with(words):
+def compile_with(words: list[str]) -> int:
     """clang's status. What it says goes to standard error, but for words of ours that it doesn't know."""
     run = subprocess.run([*words, *KEPT_AS_IN_C], stderr=subprocess.PIPE, check=False)
     if run.returncode and UNKNOWN_WORD in run.stderr:
@@ -75,7 +77,7 @@ def compile_with(words):
     return run.returncode
 
 
-def compiled(source):
+def compiled(source: str) -> bytes:
     """The bytes of the object file that clang makes. What clang says goes to standard error."""
     clang = os.environ.get("CLANG", "clang")
     if shutil.which(clang) is None:

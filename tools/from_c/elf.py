@@ -1,6 +1,8 @@
 """An object file: its sections, symbols and relocations. The numbers are those of ELF and of BPF's relocations."""
+from __future__ import annotations
+
 import struct
-from typing import NamedTuple
+from typing import Iterator, NamedTuple, Optional
 
 MAP_ADDRESS, FUNCTION_CALL = 1, 10  # R_BPF_64_64, R_BPF_64_32
 OBJECT, FUNCTION, SECTION = 1, 2, 3  # STT_OBJECT, STT_FUNC, STT_SECTION
@@ -36,11 +38,11 @@ class Relocation(NamedTuple):
     place: int = 0
 
 
-def text_at(data, at):
+def text_at(data: bytes, at: int) -> str:
     return data[at : data.index(0, at)].decode(errors="backslashreplace")
 
 
-def sections_of(elf):
+def sections_of(elf: bytes) -> dict[str, Part]:
     """Each section by its name."""
     table, size, count, names = struct.unpack_from("<Q", elf, 40)[0], *struct.unpack_from("<HHH", elf, 58)
     rows = [struct.unpack_from("<IIQQQQII", elf, table + size * number) for number in range(count)]
@@ -51,19 +53,19 @@ def sections_of(elf):
     return {text_at(parts[names].data, row[0]): part for row, part in zip(rows, parts)}
 
 
-def symbols_of(sections):
+def symbols_of(sections: dict[str, Part]) -> list[Symbol]:
     names, table = sections[".strtab"].data, sections[".symtab"].data
     rows = struct.iter_unpack("<IBBHQQ", table)
     return [Symbol(text_at(names, name), info & 15, section, *place) for name, info, _, section, *place in rows]
 
 
-def variable_at(symbols, section, place):
+def variable_at(symbols: list[Symbol], section: int, place: int) -> Optional[Symbol]:
     """The variable in which a place of a section lies, or the one that begins nearest in front of it; or None."""
     before = [row for row in symbols if (row.section, row.kind) == (section, OBJECT) and row.place <= place]
     return max(before, key=lambda row: row.place, default=None)
 
 
-def relocations_of(sections, program):
+def relocations_of(sections: dict[str, Part], program: str) -> Iterator[Relocation]:
     """Each relocation of the program. A static map is named by its place, and so is a variable."""
     symbols, names = symbols_of(sections), {part.number: name for name, part in sections.items()}
     objects = {(symbol.section, symbol.place): symbol.name for symbol in symbols if symbol.kind == OBJECT}

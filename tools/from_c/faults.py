@@ -1,7 +1,14 @@
 """What settings can't say, with what to write instead: calls, globals, maps and helpers that there aren't here."""
+from __future__ import annotations
+
 import struct
+from typing import TYPE_CHECKING, Iterator, Optional
 
 from .elf import FUNCTION_CALL, MAP_ADDRESS
+
+if TYPE_CHECKING:
+    from .btf import MapOfC
+    from .elf import Relocation
 
 CALL, LOCAL_CALL, LOOKUP = 0x85, 1, 1
 MOST_MAPS, MOST_ENTRIES, MOST_COUNTERS, MOST_NAME = 4, 1024, 8, 32
@@ -100,7 +107,7 @@ HELPERS = {
 }
 
 
-def faults_of_map(found):
+def faults_of_map(found: MapOfC) -> Iterator[str]:
     """What is wrong with a map as C declares it."""
     if found.type is None:
         yield f'{found.name} stands in section ".maps", and is no struct with a type and sizes, as maps are declared'
@@ -126,7 +133,7 @@ def faults_of_map(found):
         yield f"the map {found.name} has no number of entries: say __uint(max_entries, N)"
 
 
-def faults_of_sizes(maps):
+def faults_of_sizes(maps: list[tuple[str, int, int]]) -> Iterator[str]:
     """What `check` would only call L4 or L5: more than settings can have. `maps`: (name, entries, counters)."""
     if len(maps) > MOST_MAPS:
         yield f"there are {len(maps)} maps: at most {MOST_MAPS}; a value may have {MOST_COUNTERS} counters"
@@ -139,7 +146,7 @@ def faults_of_sizes(maps):
             yield f"the map's name {name} has {len(name.encode())} bytes: at most {MOST_NAME}"
 
 
-def faults_of_program(program, relocations, maps):
+def faults_of_program(program: bytes, relocations: list[Relocation], maps: list[str]) -> Iterator[tuple[int, str]]:
     """What the program has that settings can't say, as (slot, words). `maps`: their names."""
     relocated = {row.slot: row for row in relocations}
     following = {
@@ -162,7 +169,7 @@ def faults_of_program(program, relocations, maps):
             yield slot, fault
 
 
-def fault_of_call(name):
+def fault_of_call(name: str) -> str:
     if name in INLINED_LATER:
         return (
             f"calls {name}, since its size isn't constant or is large: use a constant size, or a loop with a constant"
@@ -171,7 +178,7 @@ def fault_of_call(name):
     return f"calls {name}, which wasn't inlined: make it static __always_inline"
 
 
-def fault_of_relocation(row, called, maps):
+def fault_of_relocation(row: Relocation, called: Optional[str], maps: list[str]) -> Optional[str]:
     if row.kind == FUNCTION_CALL:
         return fault_of_call(row.name or "a function of the file")
     if row.kind != MAP_ADDRESS:

@@ -2,9 +2,14 @@
 
 A global of 1, 2, 4 or whole eight bytes that begins with zeros is a map of one entry, named for it. Any other global
 keeps what it begins with: nobody writes to it here, and a program that stores to it is refused."""
-from typing import NamedTuple
+from __future__ import annotations
+
+from typing import TYPE_CHECKING, Iterator, NamedTuple, Optional
 
 from .elf import CONSTANTS, MAP_ADDRESS, MEMORY, symbols_of, variable_at
+
+if TYPE_CHECKING:
+    from .elf import Part, Relocation, Symbol
 
 COUNTER_BYTES, MOST_COUNTERS = 8, 8
 PARTS = 1, 2, 4  # sizes of numbers that are kept in the lowest bytes of a counter
@@ -20,12 +25,12 @@ class Memory(NamedTuple):
     globals: list
     maps: list
 
-    def settings(self):
+    def settings(self) -> dict:
         """What it adds to settings, for the tools alone."""
         return {"constants": self.constants, "tables": self.tables, "globals": self.globals}
 
 
-def is_counter(section, variable):
+def is_counter(section: str, variable: Optional[Symbol]) -> bool:
     """Whether a variable becomes a map."""
     if variable is None or not section.startswith(".bss"):
         return False
@@ -33,7 +38,7 @@ def is_counter(section, variable):
     return whole or variable.size in PARTS
 
 
-def memory_of(sections, relocations):
+def memory_of(sections: dict[str, Part], relocations: list[Relocation]) -> Memory:
     """The memory that a program's relocations name."""
     symbols, found = symbols_of(sections), Memory({}, [], [], [])
     for row in relocations:
@@ -54,7 +59,7 @@ def memory_of(sections, relocations):
     return found
 
 
-def extent_of(symbols, part, variable, place):
+def extent_of(symbols: list[Symbol], part: Part, variable: Optional[Symbol], place: int) -> tuple[int, int]:
     """From where to where the constant lies in which a place is. One without a name lies between its neighbours."""
     if variable is not None and place < variable.place + variable.size:
         return variable.place, variable.place + variable.size
@@ -63,7 +68,7 @@ def extent_of(symbols, part, variable, place):
     return min(first, place), min(behind, default=len(part.data))
 
 
-def faults_of_memory(sections, relocations):
+def faults_of_memory(sections: dict[str, Part], relocations: list[Relocation]) -> Iterator[tuple[int, str]]:
     """What there isn't: addresses in constants, as (slot, words)."""
     for row in relocations:
         if row.kind != MAP_ADDRESS or not row.section.startswith(MEMORY):

@@ -1,11 +1,16 @@
 """A filter in C as settings, with what the tools know of it beside them."""
-from typing import Callable, NamedTuple
+from __future__ import annotations
+
+from typing import TYPE_CHECKING, Callable, Iterable, NamedTuple, Optional
 
 from output import fail, say
 
 from . import btf, elf, faults
 from .compiler import compiled
 from .memory import faults_of_memory, memory_of
+
+if TYPE_CHECKING:
+    from .elf import Part, Relocation
 
 SECTION_NAME = "xdp"
 
@@ -20,11 +25,11 @@ class Filter(NamedTuple):
     per_cpu: set
 
     @property
-    def has_memory(self):
+    def has_memory(self) -> bool:
         return bool(self.settings["tables"] or self.settings["globals"])
 
 
-def read(source, worded):
+def read(source: str, worded: list[tuple[str, int, int]]) -> Filter:
     """The filter in a file. Ends if settings can't have it. `worded`: maps of the command line."""
     sections = elf.sections_of(compiled(source))
     program = name_of_program(source, sections)
@@ -49,7 +54,7 @@ def read(source, worded):
     return Filter(settings, place, per_cpu)
 
 
-def name_of_program(source, sections):
+def name_of_program(source: str, sections: dict[str, Part]) -> str:
     """The section that has the program."""
     symbols = [row for row in elf.symbols_of(sections) if row.kind == elf.FUNCTION]
     names = {part.number: name for name, part in sections.items()}
@@ -66,7 +71,7 @@ def name_of_program(source, sections):
     return ""
 
 
-def stop_on(found):
+def stop_on(found: Iterable[str]) -> None:
     """Names the faults and ends, if there are any."""
     lines = list(found)
     if lines:
@@ -74,7 +79,9 @@ def stop_on(found):
         fail(lines[-1])
 
 
-def maps_of(source, sections, worded, of_globals):
+def maps_of(
+    source: str, sections: dict[str, Part], worded: list[tuple[str, int, int]], of_globals: list[tuple[str, int, int]]
+) -> tuple[list[tuple[str, int, int]], set[str]]:
     """The maps as (name, entries, counters), and the names of those that are per CPU in Linux."""
     said = {name for name, _, _ in worded}
     found = list(btf.Types(sections[".BTF"].data).maps()) if ".maps" in sections and ".BTF" in sections else []
@@ -87,7 +94,7 @@ def maps_of(source, sections, worded, of_globals):
     return maps, {row.name for row in found if row.type == faults.PER_CPU_ARRAY}
 
 
-def cleared(program, relocations):
+def cleared(program: bytes, relocations: list[Relocation]) -> bytes:
     """The program with 0 as the constant of each map's address: the place of a static map stands there."""
     code = bytearray(program)
     for row in relocations:
@@ -96,10 +103,10 @@ def cleared(program, relocations):
     return bytes(code)
 
 
-def place_in_c(lines):
+def place_in_c(lines: dict[int, str]) -> Callable[[int], Optional[str]]:
     """The line of C of a slot: the last one that began before it."""
 
-    def place(slot):
+    def place(slot: int) -> Optional[str]:
         at = max((start for start in lines if start <= slot), default=None)
         return None if at is None else f"{lines[at]} (slot {slot})"
 

@@ -8,12 +8,20 @@ without effect (arithmetic, jumps that forms decide). What is asked:
   from there or from the context;
 - a jump of our own leaves the original where it is, and both ways are followed;
 - the end that the tool adds, ABORTED, is reached only if the original's next access lies past the packet's end."""
+from __future__ import annotations
+
+from typing import TYPE_CHECKING, Any, Optional
+
 from .facts import NOTHING, decided, learnt, put_number
 from .forms import MASK_64, SWAP, ZERO, Forms, number
 from .memory import Memory
 from .program import ADD_8, BY_REGISTER, CALL, EXIT, JUMP, WIDE, NoProgram, maps_and_rest, program_of
 from .result import COPY, MOVE_CONSTANT, OUTSIDE, STACK, STORE_8, Result
 from .state import Differs, Registers, State, met
+
+if TYPE_CHECKING:
+    from .forms import Form
+    from .program import Slot
 
 LOAD_WORD, LOAD_8 = 0x61, 0x79
 PLAIN = 3  # the mode of an access that is none of the others
@@ -23,7 +31,7 @@ NEG, MOV = 0x80, 0xB0
 FRAME, MOST_STEPS = 10, 5000
 
 
-def forget(stack, low, high):
+def forget(stack: dict[int, Form], low: int, high: int) -> None:
     for key in [key for key in stack if key < high and low < key + 8]:
         del stack[key]
 
@@ -34,7 +42,7 @@ class Check(Memory):
     labels            of each slot of the result its kind and a slot of the original
     guards, unproven  slots of the original before which the result may end, by the slot of the result"""
 
-    def __init__(self, original, result, labels):
+    def __init__(self, original: dict, result: dict, labels: dict) -> None:
         if maps_and_rest(original) != maps_and_rest(result):
             raise Differs("the settings differ in more than their programs")
         try:
@@ -46,7 +54,7 @@ class Check(Memory):
         super().__init__(Forms(), made, original.get("constants", {}), entries)
         self.guards, self.unproven = {}, {}
 
-    def run(self):
+    def run(self) -> None:
         """Follows both; Differs if they aren't the same."""
         old, new = (Registers({1: self.forms.context, FRAME: self.forms.frame}) for _ in range(2))
         waiting = {0: [State(0, old, new, {}, {}, {}, NOTHING)]}
@@ -63,7 +71,7 @@ class Check(Memory):
                     raise Differs(f"slot {pc}: a copy leads to the end that the tool added")
                 waiting.setdefault(after, []).append(state)
 
-    def reached(self, pc, states):
+    def reached(self, pc: int, states: list[State]) -> State:
         """The one state at a slot, with the original driven to where the map says."""
         for state in states:
             self.drive(state, self.result.goal(pc), pc)
@@ -71,7 +79,7 @@ class Check(Memory):
 
     # --- one step
 
-    def arithmetic(self, slot, registers, ranges):
+    def arithmetic(self, slot: Slot, registers: Registers, ranges: dict) -> None:
         """What it leaves in its destination."""
         operation = slot.opcode & 0xF0
         second = number(slot.immediate)
@@ -84,21 +92,21 @@ class Check(Memory):
             raise Differs("r10 is written")
         registers[slot.destination] = self.forms.operate(slot, first, second, ranges)
 
-    def operands(self, slot, registers):
+    def operands(self, slot: Slot, registers: Registers) -> tuple[Form, Form]:
         second = registers[slot.source] if slot.opcode & BY_REGISTER else number(slot.immediate)
         return registers[slot.destination], second
 
-    def same(self, a, b, what, pc):
+    def same(self, a: Any, b: Any, what: str, pc: int) -> Any:
         if a != b:
             raise Differs(f"slot {pc}: {what} differs")
         return a
 
-    def slot_of_original(self, at):
+    def slot_of_original(self, at: int) -> Slot:
         if at not in self.original:
             raise Differs(f"the original has no slot {at}")
         return self.original[at]
 
-    def drive(self, state, goal, pc):
+    def drive(self, state: State, goal: int, pc: int) -> None:
         """Drives the original to a slot by steps without effect. A load has one, since the original ends where it
         can't; but for one from within constants."""
         for count in range(MOST_STEPS):
@@ -125,7 +133,7 @@ class Check(Memory):
                 raise Differs(f"slot {pc}: the original stands at {state.at}, which has an effect, and not at {goal}")
         raise Differs(f"slot {pc}: the original doesn't reach {goal}")
 
-    def step(self, pc, state):
+    def step(self, pc: int, state: State) -> list[tuple[int, State]]:
         """The states after a slot of the result, as (slot, state)."""
         slot = self.result.code[pc]
         if self.result.kind(pc) == OUTSIDE:
@@ -140,7 +148,7 @@ class Check(Memory):
 
     # --- instructions of the tool's own
 
-    def own(self, pc, slot, state):
+    def own(self, pc: int, slot: Slot, state: State) -> None:
         at = self.forms.stack_offset(self.address(slot, state.new)) if slot.opcode in (STORE_8, LOAD_8) else None
         if slot.kind in (4, 7):
             self.arithmetic(slot, state.new, state.facts.ranges)
@@ -160,7 +168,7 @@ class Check(Memory):
         elif slot.opcode != JUMP:
             raise Differs(f"slot {pc}: not one of the tool's instructions")
 
-    def own_store(self, pc, at, stored, state):
+    def own_store(self, pc: int, at: int, stored: Form, state: State) -> None:
         """Below the original's stack, or what stands there anyway."""
         if at < -STACK or at > -8:
             raise Differs(f"slot {pc}: a store outside the stack")
@@ -169,7 +177,7 @@ class Check(Memory):
         if at + 8 > self.result.lowest:
             self.same(state.old_stack.get(at), stored, f"the stack at {at}", pc)
 
-    def own_branch(self, pc, slot, state):
+    def own_branch(self, pc: int, slot: Slot, state: State) -> list[tuple[int, State]]:
         a, b = self.operands(slot, state.new)
         taken, out = decided(self.forms, slot.opcode, a, b, state.facts), []
         for way, after in enumerate(self.result.successors(pc)):
@@ -184,7 +192,7 @@ class Check(Memory):
             out.append((after, more))
         return out
 
-    def put(self, state, term, value):
+    def put(self, state: State, term: tuple[int, int], value: int) -> None:
         """On a way on which an atom with a factor is a number, that number in its place, if it is the only one."""
         atom, factor = term
         if factor != 1 and (
@@ -201,7 +209,7 @@ class Check(Memory):
         within = frozenset(put_number(self.forms, form, atom, value) for form in state.facts.within)
         state.facts = state.facts._replace(within=state.facts.within | within)
 
-    def is_end(self, pc, after, above, state):
+    def is_end(self, pc: int, after: int, above: Optional[Form], state: State) -> bool:
         """Whether the result ends with ABORTED after this slot. `above`: an address that was found to lie past the
         packet's end."""
         if self.result.kind(after) != OUTSIDE:
@@ -221,7 +229,7 @@ class Check(Memory):
 
     # --- copies
 
-    def copied(self, pc, slot, old_slot, state):
+    def copied(self, pc: int, slot: Slot, old_slot: Slot, state: State) -> list[tuple[int, State]]:
         fused = slot.opcode == ADD_8 and old_slot.kind in (2, 3) and old_slot.opcode >> 5 == PLAIN
         read = slot.opcode == MOVE_CONSTANT and old_slot.opcode == LOAD_8
         narrow = slot.opcode == LOAD_8 and old_slot.kind == 1 and old_slot.size < 8
@@ -257,7 +265,7 @@ class Check(Memory):
         state.at += old_slot.length
         return [(self.result.successors(pc)[0], state)]
 
-    def copied_branch(self, pc, slot, old_slot, state):
+    def copied_branch(self, pc: int, slot: Slot, old_slot: Slot, state: State) -> list[tuple[int, State]]:
         a = self.same(state.new[slot.destination], state.old[old_slot.destination], "the first operand", pc)
         b = number(slot.immediate)
         if slot.opcode & BY_REGISTER:
@@ -268,7 +276,7 @@ class Check(Memory):
             out.append((after, state.copy(at=at, facts=learnt(self.forms, slot.opcode, way, a, b, state.facts))))
         return out
 
-    def counter_load(self, pc, slot, old_slot, state):
+    def counter_load(self, pc: int, slot: Slot, old_slot: Slot, state: State) -> None:
         """A counter's load, of which the addition alone is left. It is owed: it has to be the next effect."""
         if slot.immediate or state.owed is not None:
             raise Differs(f"slot {pc}: a count doesn't begin with 0")
@@ -278,7 +286,7 @@ class Check(Memory):
         state.owed = address
         self.arithmetic(slot, state.new, state.facts.ranges)
 
-    def narrow_load(self, pc, slot, old_slot, state):
+    def narrow_load(self, pc: int, slot: Slot, old_slot: Slot, state: State) -> None:
         """A load of a part of a counter, which the result loads whole."""
         whole, part = self.address(slot, state.new), self.address(old_slot, state.old)
         place = self.forms.subtract(part, whole)
@@ -288,16 +296,16 @@ class Check(Memory):
         state.new[slot.destination] = state.loads[whole] = loaded
         state.old[old_slot.destination] = self.forms.cut(old_slot, loaded, place.constant, state.facts.ranges)
 
-    def copied_constant(self, pc, slot, old_slot, state):
+    def copied_constant(self, pc: int, slot: Slot, old_slot: Slot, state: State) -> None:
         what = slot.upper, slot.map, slot.source, slot.memory
         self.same(what, (old_slot.upper, old_slot.map, old_slot.source, old_slot.memory), "the constant", pc)
         state.new[slot.destination] = state.old[old_slot.destination] = self.wide(slot)
 
-    def both_addresses(self, pc, slot, old_slot, state):
+    def both_addresses(self, pc: int, slot: Slot, old_slot: Slot, state: State) -> Form:
         self.same(slot.size, old_slot.size, "the size", pc)
         return self.same(self.address(slot, state.new), self.address(old_slot, state.old), "the address", pc)
 
-    def copied_load(self, pc, slot, old_slot, state):
+    def copied_load(self, pc: int, slot: Slot, old_slot: Slot, state: State) -> None:
         address = self.both_addresses(pc, slot, old_slot, state)
         at, field = self.forms.stack_offset(address), self.forms.subtract(address, self.forms.context)
         if not field.terms:
@@ -312,7 +320,7 @@ class Check(Memory):
                 state.loads[address] = old
         state.new[slot.destination], state.old[old_slot.destination] = new, old
 
-    def copied_store(self, pc, slot, old_slot, state):
+    def copied_store(self, pc: int, slot: Slot, old_slot: Slot, state: State) -> None:
         address = self.both_addresses(pc, slot, old_slot, state)
         if slot.kind == 3:
             self.same(state.new[slot.source], state.old[old_slot.source], "the stored number", pc)
@@ -323,14 +331,14 @@ class Check(Memory):
         if slot.immediate & 1:
             state.new[slot.source] = state.old[old_slot.source] = self.forms.atom(("fetched", pc))
 
-    def store_on_stack(self, pc, slot, old_slot, state, address):
+    def store_on_stack(self, pc: int, slot: Slot, old_slot: Slot, state: State, address: Form) -> None:
         low, high = self.beside_own_stack(pc, address, slot.size, state)
         for stack in (state.new_stack, state.old_stack):
             forget(stack, low, high)
         if slot.opcode == STORE_8 and high - low == slot.size:
             state.new_stack[low], state.old_stack[low] = state.new[slot.source], state.old[old_slot.source]
 
-    def fused_count(self, pc, slot, old_slot, state):
+    def fused_count(self, pc: int, slot: Slot, old_slot: Slot, state: State) -> None:
         """What is added has to be what the original adds to the counter that it loaded, or to a part of it."""
         address, added, ranges = self.address(slot, state.new), state.new[slot.source], state.facts.ranges
         place = self.forms.subtract(self.address(old_slot, state.old), address)
@@ -352,7 +360,7 @@ class Check(Memory):
         self.forget_counter(state, address)
         state.loads[address] = stored
 
-    def copied_call(self, pc, state):
+    def copied_call(self, pc: int, state: State) -> None:
         for register in (1, 2):
             self.same(state.new[register], state.old[register], f"r{register} of the call", pc)
         self.beside_own_stack(pc, state.new[2], KEY_BYTES, state)

@@ -1,7 +1,9 @@
 """What jumps say of forms: between which numbers they lie, and which addresses lie within the packet."""
-from typing import NamedTuple
+from __future__ import annotations
 
-from .forms import MASK_64, Form, narrower, number, signed
+from typing import Callable, NamedTuple, Optional
+
+from .forms import MASK_64, Form, Forms, Range, narrower, number, signed
 
 JMP = 5
 JEQ, JGT, JGE, JSET, JNE, JSGT, JSGE = range(0x10, 0x80, 0x10)
@@ -21,10 +23,11 @@ class Facts(NamedTuple):
     within: frozenset
 
 
+Span = Callable[[Form, dict], Range]  # gives the range of a form
 NOTHING = Facts({}, {}, frozenset())
 
 
-def on_numbers(operation, a, b, bits):
+def on_numbers(operation: int, a: int, b: int, bits: int) -> bool:
     """Whether a jump is taken, of two numbers."""
     a, b = a & ((1 << bits) - 1), b & ((1 << bits) - 1)
     x, y = signed(a, bits), signed(b, bits)
@@ -43,7 +46,7 @@ def on_numbers(operation, a, b, bits):
     }[operation]
 
 
-def in_range(operation, low, high, value):
+def in_range(operation: int, low: int, high: int, value: int) -> Optional[bool]:
     """Whether a jump is taken, of a number from `low` to `high` and another one. None: either may be."""
     always = {
         JGT: low > value,
@@ -64,13 +67,13 @@ def in_range(operation, low, high, value):
     return True if always.get(operation) else False if never.get(operation) else None
 
 
-def decided(forms, opcode, a, b, facts):
+def decided(forms: Forms, opcode: int, a: Form, b: Form, facts: Facts) -> Optional[bool]:
     """Whether a jump is taken, if forms and facts say so."""
     found = decided_by(forms, opcode, a, b, facts, forms.span)
     return decided_by(forms, opcode, a, b, facts, forms.sharper_span) if found is None else found
 
 
-def decided_by(forms, opcode, a, b, facts, span):
+def decided_by(forms: Forms, opcode: int, a: Form, b: Form, facts: Facts, span: Span) -> Optional[bool]:
     """The same. `span`: gives the range of a form."""
     operation, bits = opcode & 0xF0, 64 if opcode & 7 == JMP else 32
     if not a.terms and not b.terms:
@@ -86,8 +89,8 @@ def decided_by(forms, opcode, a, b, facts, span):
     return apart(forms, operation, a, b, facts.ranges, span)
 
 
-def apart(forms, operation, a, b, ranges, span):
-    """Compares two forms without sign that don't wrap: by their difference, if that is one number, or by their ranges."""
+def apart(forms: Forms, operation: int, a: Form, b: Form, ranges: dict, span: Span) -> Optional[bool]:
+    """Compares two forms without sign that don't wrap: by their difference, if it is one number, or by their ranges."""
     difference = forms.subtract(a, b)
     if all(dict(form.terms).get(forms.start.terms[0][0]) == 1 for form in (a, b)):
         a, b = forms.subtract(a, forms.start), forms.subtract(b, forms.start)
@@ -105,7 +108,7 @@ def apart(forms, operation, a, b, ranges, span):
     return in_range(operation, low, high, 0)
 
 
-def beside_end(forms, operation, address, facts, span):
+def beside_end(forms: Forms, operation: int, address: Form, facts: Facts, span: Span) -> Optional[bool]:
     """Compares an address with the packet's end, which is at most 65,535 after its start."""
     low, high = span(forms.subtract(address, forms.start), facts.ranges)
     if low > MOST_LENGTH and high < NEAR:
@@ -115,7 +118,7 @@ def beside_end(forms, operation, address, facts, span):
     return None
 
 
-def room_behind(forms, address, facts, span=None):
+def room_behind(forms: Forms, address: Form, facts: Facts, span: Optional[Span] = None) -> int:
     """How many bytes from an address on lie in the packet at least; negative if none are known to."""
     rooms, span = [], span or forms.span
     for end in facts.within:
@@ -126,7 +129,7 @@ def room_behind(forms, address, facts, span=None):
     return max(rooms, default=-1)
 
 
-def learnt(forms, opcode, taken, a, b, facts):
+def learnt(forms: Forms, opcode: int, taken: int, a: Form, b: Form, facts: Facts) -> Facts:
     """The facts after a jump that was taken or not."""
     operation = opcode & 0xF0
     if opcode & 7 != JMP or operation not in OTHERWISE:
@@ -144,7 +147,7 @@ def learnt(forms, opcode, taken, a, b, facts):
     return compared(forms, holds, a, b.constant, facts) if a.terms else facts
 
 
-def below_an_address(forms, holds, a, b, facts):
+def below_an_address(forms: Forms, holds: int, a: Form, b: Form, facts: Facts) -> Facts:
     """What lies below an address in the packet, as a cursor below the header's end, lies in the packet too."""
     if holds in (JGT, JGE):
         a, b, holds = b, a, TURNED[holds]
@@ -156,7 +159,7 @@ def below_an_address(forms, holds, a, b, facts):
     return within_packet(forms, forms.add(a, number(holds == JLT)), facts)
 
 
-def within_packet(forms, address, facts):
+def within_packet(forms: Forms, address: Form, facts: Facts) -> Facts:
     """An address that is at most the packet's end is at most 65,535 after its start."""
     distance = forms.subtract(address, forms.start)
     low, high = forms.span(distance, facts.ranges)
@@ -167,7 +170,7 @@ def within_packet(forms, address, facts):
     return Facts(ranges, facts.signed, facts.within | {address})
 
 
-def compared(forms, holds, form, value, facts):
+def compared(forms: Forms, holds: int, form: Form, value: int, facts: Facts) -> Facts:
     """A form of which a comparison with a number holds. What is learnt is kept of the form without its constant."""
     low, high = narrower((0, MASK_64), forms.span(form, facts.ranges))
     if low < 0 or high > MASK_64:  # it holds of the number without sign, which this range may not have
@@ -188,7 +191,7 @@ def compared(forms, holds, form, value, facts):
     return Facts(ranges, {**facts.signed, form: with_sign}, facts.within)
 
 
-def of_atoms(forms, form, low, high, ranges):
+def of_atoms(forms: Forms, form: Form, low: int, high: int, ranges: dict) -> None:
     """What the range of a sum of multiples says of each of its atoms, if the whole numbers don't wrap."""
     spans = {atom: forms.range_of(atom, ranges) for atom, _ in form.terms}
     if any(least < 0 for least, _ in spans.values()) or low < 0 or high > MASK_64:
@@ -205,7 +208,7 @@ def of_atoms(forms, form, low, high, ranges):
             ranges[Form(0, ((atom, 1),))] = least, most
 
 
-def narrowed(holds, low, high, value):
+def narrowed(holds: int, low: int, high: int, value: int) -> Range:
     """A range without sign, of which a comparison with a number holds."""
     if holds in (JGT, JGE):
         return max(low, value + (holds == JGT)), high
@@ -218,20 +221,20 @@ def narrowed(holds, low, high, value):
     return low, high
 
 
-def common(rows):
+def common(rows: list[Facts]) -> Facts:
     """The facts that hold on all ways, of those of each."""
     ranges, numbers = (joined_ranges([getattr(facts, name) for facts in rows]) for name in ("ranges", "signed"))
     return Facts(ranges, numbers, frozenset.intersection(*(facts.within for facts in rows)))
 
 
-def joined_ranges(rows):
+def joined_ranges(rows: list[dict]) -> dict:
     out = {}
     for form in set.intersection(*(set(row) for row in rows)):
         out[form] = min(row[form][0] for row in rows), max(row[form][1] for row in rows)
     return out
 
 
-def put_number(forms, form, atom, value):
+def put_number(forms: Forms, form: Form, atom: int, value: int) -> Form:
     """A form with a number in an atom's place."""
     factor = dict(form.terms).get(atom)
     if factor is None:

@@ -2,8 +2,13 @@
 
 An atom is a number that both programs have alike: what a load gave from one address, what an operation makes of the
 same forms, what the ways to a slot disagree on. Two equal forms are one number; two different ones may be or not."""
+from __future__ import annotations
+
 from math import gcd
-from typing import NamedTuple
+from typing import TYPE_CHECKING, NamedTuple, Optional, Union
+
+if TYPE_CHECKING:
+    from .program import Slot
 
 MASK_64, MASK_32 = (1 << 64) - 1, (1 << 32) - 1
 MOST_TERMS, MOST_PARTED, VALUE_BYTES = 256, 12, 64
@@ -27,23 +32,26 @@ class Form(NamedTuple):
     terms: tuple = ()  # (atom, factor), in order of the atoms
 
     @property
-    def without_constant(self):
+    def without_constant(self) -> Form:
         return Form(0, self.terms)
 
 
-def number(value):
+Range = tuple[int, int]  # from the first number to the last
+
+
+def number(value: int) -> Form:
     return Form(value & MASK_64)
 
 
 ZERO = number(0)
 
 
-def signed(value, bits=64):
+def signed(value: int, bits: int = 64) -> int:
     value &= (1 << bits) - 1
     return value - (1 << bits) if value >> (bits - 1) else value
 
 
-def on_numbers(operation, a, b, bits):
+def on_numbers(operation: int, a: int, b: int, bits: int) -> Optional[Form]:
     """What arithmetic makes of two numbers."""
     rows = {
         ADD: lambda: a + b,
@@ -62,26 +70,27 @@ def on_numbers(operation, a, b, bits):
     return number(rows[operation]() & ((1 << bits) - 1)) if operation in rows else None
 
 
-def swap(opcode, value, width):
+def swap(opcode: int, value: int, width: int) -> Form:
     raw = (value & ((1 << width) - 1)).to_bytes(width // 8, "little")
     return number(int.from_bytes(raw, "little" if opcode == SWAP | 4 else "big"))
 
 
-def narrower(one, other):
-    """The better of two ranges, each with a whole number that equals the same form modulo 2^64. Within 2^64 numbers there is one
-    such number alone, so that it lies in both; else the two may be different ones, and the shorter range is kept."""
+def narrower(one: Range, other: Range) -> Range:
+    """The better of two ranges, each with a whole number that equals the same form modulo 2^64. Within 2^64 numbers
+    there is one such number alone, so that it lies in both; else the two may be different ones, and the shorter range
+    is kept."""
     (low, high), (least, most) = one, other
     if max(high, most) - min(low, least) <= MASK_64:
         return max(low, least), min(high, most)
     return one if high - low <= most - least else other
 
 
-def lowest_bits(value):
+def lowest_bits(value: int) -> int:
     """How many of the lowest bits of a number are 0."""
     return (value & -value).bit_length() - 1 if value else 64
 
 
-def lowest_zeros(form):
+def lowest_zeros(form: Form) -> int:
     """How many of the lowest bits of a form are 0 whatever its atoms are."""
     return min(lowest_bits(part) for part in (form.constant, *(factor for _, factor in form.terms)))
 
@@ -89,12 +98,12 @@ def lowest_zeros(form):
 class Forms:
     """The atoms, each with the range in which one whole number equals it modulo 2^64."""
 
-    def __init__(self):
+    def __init__(self) -> None:
         self.numbers, self.names, self.ranges = {}, [], []
         self.context, self.frame = self.atom("context"), self.atom("frame")
         self.start, self.end = self.field(0), self.field(4)
 
-    def atom(self, name, top=MASK_64, low=0):
+    def atom(self, name: object, top: int = MASK_64, low: int = 0) -> Form:
         """The atom of this name as a form."""
         if name not in self.numbers:
             self.numbers[name] = len(self.names)
@@ -102,11 +111,11 @@ class Forms:
             self.ranges.append((low, top))
         return Form(0, ((self.numbers[name], 1),))
 
-    def field(self, offset):
+    def field(self, offset: int) -> Form:
         """What the context has there: three addresses, then numbers."""
         return self.atom(("field", offset), MASK_64 if offset in (0, 4, 8) else MASK_32)
 
-    def add(self, a, b, factor=1):
+    def add(self, a: Form, b: Form, factor: int = 1) -> Form:
         terms = dict(a.terms)
         for atom, times in b.terms:
             terms[atom] = (terms.get(atom, 0) + factor * times) & MASK_64
@@ -114,36 +123,36 @@ class Forms:
         form = Form((a.constant + factor * b.constant) & MASK_64, kept)
         return form if len(kept) <= MOST_TERMS else self.atom(("sum", form))
 
-    def subtract(self, a, b):
+    def subtract(self, a: Form, b: Form) -> Form:
         return self.add(a, b, -1)
 
-    def stack_offset(self, form):
+    def stack_offset(self, form: Form) -> Optional[int]:
         """How far from the frame's end an address lies, or None."""
         rest = self.subtract(form, self.frame)
         return None if rest.terms else signed(rest.constant)
 
-    def is_in_value(self, address):
+    def is_in_value(self, address: Form) -> bool:
         """Whether an address is what a lookup gave, 0 or the address of a map's value, and a counter's place in it."""
         names = [self.names[atom][0] for atom, factor in address.terms if factor == 1]
         return len(address.terms) == 1 and names[:1] in (["called"], ["value"]) and address.constant < VALUE_BYTES
 
-    def global_of(self, address):
+    def global_of(self, address: Form) -> Optional[str]:
         """The global in whose value a counter lies; None if that isn't known."""
         names = [self.names[atom] for atom, factor in address.terms if factor == 1] if self.is_in_value(address) else []
         return names[0][1] if names and names[0][0] == "value" else None
 
-    def in_memory(self, name, place):
+    def in_memory(self, name: object, place: int) -> Form:
         """An address in constants or in a global: never 0, and below 2^62."""
         return self.add(self.atom(name, MEMORY_END, MEMORY_START), number(place))
 
-    def section_of(self, address):
+    def section_of(self, address: Form) -> Optional[tuple[str, Form]]:
         """The section of constants in which an address lies, and how far in it; or None."""
         for atom, factor in address.terms:
             if factor == 1 and self.names[atom][0] == "constants":
                 return self.names[atom][1], self.subtract(address, Form(0, ((atom, 1),)))
         return None
 
-    def numbers_of(self, form, ranges):
+    def numbers_of(self, form: Form, ranges: dict) -> Optional[range]:
         """All whole numbers that a form may be, as a range with steps; None if there is no end of them."""
         low, high = self.span(form, ranges)
         spans = [(signed(factor), self.range_of(atom, ranges)) for atom, factor in form.terms]
@@ -155,12 +164,12 @@ class Forms:
 
     # --- arithmetic
 
-    def operate(self, slot, a, b, ranges):
+    def operate(self, slot: Union[Slot, Shift], a: Form, b: Form, ranges: dict) -> Form:
         """What an arithmetic instruction makes of two forms. `ranges`: of forms without constant."""
         found = self.exact(slot, a, b, ranges)
         return self.operated(slot.opcode, a, b, slot.immediate, slot.offset) if found is None else found
 
-    def exact(self, slot, a, b, ranges):
+    def exact(self, slot: Union[Slot, Shift], a: Form, b: Form, ranges: dict) -> Optional[Form]:
         """The result as a linear form, if the ranges say that nothing is cut off; else None."""
         operation, wide = slot.opcode & 0xF0, slot.kind == ALU64
         if slot.offset or not a.terms and not b.terms:
@@ -180,16 +189,16 @@ class Forms:
         mask = b.constant & (MASK_64 if wide else MASK_32) | (1 << lowest_zeros(a)) - 1  # of bits that aren't 0 in it
         return self.within(a, 0, mask, ranges) if operation == AND and mask & (mask + 1) == 0 else None
 
-    def is_factor(self, operation, constant):
+    def is_factor(self, operation: int, constant: int) -> bool:
         """Whether an operation of 32 bits with this constant is a multiplication of the whole numbers too."""
         return operation == LSH and constant < 32 or operation == MUL and 0 < constant <= MASK_32
 
-    def beside(self, high, low, ranges):
+    def beside(self, high: Form, low: Form, ranges: dict) -> Optional[Form]:
         """The sum of two forms that have no bit in common: the lowest bits of one are 0, and the other has no more."""
         most = (1 << lowest_zeros(high)) - 1
         return self.add(high, low) if self.within(low, 0, most, ranges) is not None else None
 
-    def divided(self, form, shift):
+    def divided(self, form: Form, shift: int) -> Optional[Form]:
         """The form that shifted left by that many bits is this one; None if its numbers aren't multiples."""
         parts = {atom: signed(factor) for atom, factor in form.terms}
         if any(part % (1 << shift) for part in (signed(form.constant), *parts.values())):
@@ -197,19 +206,19 @@ class Forms:
         terms = tuple((atom, (part >> shift) & MASK_64) for atom, part in parts.items())
         return Form((signed(form.constant) >> shift) & MASK_64, terms)
 
-    def cut(self, access, form, place, ranges):
+    def cut(self, access: Slot, form: Form, place: int, ranges: dict) -> Form:
         """The bytes of an access out of eight, from a place on, with zeros or their sign above them."""
         above = 8 * (8 - access.size)
         raised = self.add(ZERO, form, 1 << (above - 8 * place))
         shift = Shift((ALU64 | ARSH) if access.opcode >> 5 == MEMSX else (ALU64 | RSH), above)
         return self.operate(shift, raised, number(above), ranges)
 
-    def within(self, form, least, most, ranges):
+    def within(self, form: Optional[Form], least: int, most: int, ranges: dict) -> Optional[Form]:
         """The form, if it is known to lie there; else None."""
         low, high = self.span(form, ranges) if form is not None else (least, most + 1)
         return form if least <= low and high <= most else None
 
-    def operated(self, opcode, a, b, immediate, offset):
+    def operated(self, opcode: int, a: Form, b: Form, immediate: int, offset: int) -> Form:
         """The same without ranges."""
         operation, wide = opcode & 0xF0, opcode & 7 == ALU64
         bits = 64 if wide else 32
@@ -234,7 +243,7 @@ class Forms:
             return self.add(ZERO, part, factor)
         return self.atom((opcode, a, b, offset), mask if offset else self.top(operation, a, b, bits))
 
-    def linear(self, operation, a, b):
+    def linear(self, operation: int, a: Form, b: Form) -> Optional[Form]:
         """Operations of 64 bits whose result is a linear form."""
         if operation == ADD:
             return self.add(a, b)
@@ -254,7 +263,7 @@ class Forms:
                 return self.add(ZERO, masked, factor)
         return None
 
-    def top(self, operation, a, b, bits):
+    def top(self, operation: int, a: Form, b: Form, bits: int) -> int:
         """A bound of what an operation without sign gives."""
         mask = (1 << bits) - 1
         (low, high), (least, most) = self.span(a, {}), self.span(b, {})
@@ -276,12 +285,12 @@ class Forms:
 
     # --- ranges
 
-    def range_of(self, atom, ranges):
+    def range_of(self, atom: int, ranges: dict) -> Range:
         """The range of an atom, with what is known of it here."""
         known = ranges.get(Form(0, ((atom, 1),)))
         return narrower(self.ranges[atom], known) if known else self.ranges[atom]
 
-    def span(self, form, ranges):
+    def span(self, form: Form, ranges: dict) -> Range:
         """A range with a whole number that equals the form modulo 2^64. `ranges`: of forms without constant."""
         low = high = 0
         for atom, factor in form.terms:
@@ -298,12 +307,12 @@ class Forms:
         low, high = narrower(found, ranges.get(form.without_constant, found))
         return low + signed(form.constant), high + signed(form.constant)
 
-    def sharper_span(self, form, ranges):
+    def sharper_span(self, form: Form, ranges: dict) -> Range:
         """The same, also by what is known of sums that are a part of the form."""
         left, low, high = dict(form.terms), 0, 0
         spans = {atom: self.span(Form(0, ((atom, factor),)), ranges) for atom, factor in form.terms}
 
-        def saved(row):
+        def saved(row: tuple) -> int:
             widths = (spans[atom][1] - spans[atom][0] for atom, _ in row[0].terms)
             return sum(widths) - (row[1][1] - row[1][0])
 

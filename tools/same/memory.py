@@ -1,27 +1,37 @@
 """What both programs have in memory: where an address lies, constants, and what is known of counters."""
+from __future__ import annotations
+
+from typing import TYPE_CHECKING
+
 from .facts import APART
 from .forms import MASK_32, MASK_64, ZERO, number
 from .program import MEMSX
 from .result import STACK
 from .state import Differs
 
+if TYPE_CHECKING:
+    from .forms import Form, Forms
+    from .program import Slot
+    from .result import Result
+    from .state import Registers, State
+
 
 class Memory:
     """`constants`: bytes by section. `entries`: of maps by their names. `result`: the program that the tool made."""
 
-    def __init__(self, forms, result, constants, entries):
+    def __init__(self, forms: Forms, result: Result, constants: dict[str, bytes], entries: dict[str, int]) -> None:
         self.forms, self.result, self.constants, self.entries = forms, result, constants, entries
 
-    def address(self, slot, registers):
+    def address(self, slot: Slot, registers: Registers) -> Form:
         base = slot.source if slot.kind == 1 else slot.destination
         return self.forms.add(registers[base], number(slot.offset))
 
-    def is_near_packet(self, address, state):
+    def is_near_packet(self, address: Form, state: State) -> bool:
         """Whether an address lies so near to the packet's start that it is none of the stack."""
         low, high = self.forms.span(self.forms.subtract(address, self.forms.start), state.facts.ranges)
         return -APART < low and high <= APART
 
-    def on_stack(self, address, size, state):
+    def on_stack(self, address: Form, size: int, state: State) -> tuple[int, int]:
         """Which bytes of the stack an access may reach, by their distance from the frame's end: from and to. The two
         are equal if it reaches none. A program that is accepted reaches nothing around the stack."""
         low, high = self.forms.span(self.forms.subtract(address, self.forms.frame), state.facts.ranges)
@@ -31,14 +41,14 @@ class Memory:
             return 0, 0
         return -STACK, 0
 
-    def beside_own_stack(self, pc, address, size, state):
+    def beside_own_stack(self, pc: int, address: Form, size: int, state: State) -> tuple[int, int]:
         """The same, of an access that is the original's too: none of it may lie in the tool's stack slots."""
         low, high = self.on_stack(address, size, state)
         if low < high and low < self.result.lowest:
             raise Differs(f"slot {pc}: the access may lie in the tool's stack slots, below {self.result.lowest}")
         return low, high
 
-    def wide(self, slot):
+    def wide(self, slot: Slot) -> Form:
         """What a wide load gives."""
         if slot.memory is not None:
             return self.forms.in_memory(*slot.memory)
@@ -46,7 +56,7 @@ class Memory:
             return self.forms.atom(("map", slot.map, slot.source, slot.immediate))
         return number(slot.immediate & MASK_32 | slot.upper << 32)
 
-    def constant_loaded(self, slot, state, pc, count):
+    def constant_loaded(self, slot: Slot, state: State, pc: int, count: int) -> None:
         """Does the original's load from constants, if each place that it may reach lies in their section."""
         section, place = self.forms.section_of(self.address(slot, state.old))
         places, data = self.forms.numbers_of(place, state.facts.ranges), self.constants[section]
@@ -62,7 +72,7 @@ class Memory:
         there = state.new.get(slot.destination)
         state.old[slot.destination] = there if there in true else true[0]
 
-    def own_lookup(self, pc, state):
+    def own_lookup(self, pc: int, state: State) -> None:
         """The value of a global: the first one of its map, by a key on the tool's stack. It is never null."""
         named = [name for name in self.entries if self.forms.atom(("map", name, 0, 0)) == state.new[1]]
         at = self.forms.stack_offset(state.new[2])
@@ -72,13 +82,13 @@ class Memory:
             state.new.pop(register, None)
         state.new[0] = self.forms.in_memory(("value", named[0], 0), 0)
 
-    def forget_counter(self, state, address):
+    def forget_counter(self, state: State, address: Form) -> None:
         """Forgets what stands in a counter, and in all that may be the same one: two places of one value aren't, nor
         are those of two globals, which are values of two maps."""
         for other in [other for other in state.loads if self.may_be_one(other, address)]:
             del state.loads[other]
 
-    def may_be_one(self, one, other):
+    def may_be_one(self, one: Form, other: Form) -> bool:
         """Whether two counters may be the same one."""
         globals_of = {name for name in (self.forms.global_of(address) for address in (one, other)) if name is not None}
         apart = self.forms.subtract(one, other)

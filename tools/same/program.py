@@ -1,4 +1,6 @@
 """A program as the checker reads it: its instructions by their slots, in the forms that docs/INSTRUCTIONS.md lists."""
+from __future__ import annotations
+
 import struct
 from typing import NamedTuple, Optional
 
@@ -19,19 +21,19 @@ class Slot(NamedTuple):
     memory: Optional[tuple] = None  # of a wide load: (a section's or a global's name, a place there)
 
     @property
-    def kind(self):
+    def kind(self) -> int:
         return self.opcode & 7
 
     @property
-    def size(self):
+    def size(self) -> int:
         return SIZES[self.opcode & 0x18]
 
     @property
-    def is_branch(self):
+    def is_branch(self) -> bool:
         return self.kind in (5, 6) and self.opcode not in (EXIT, CALL, JUMP)
 
     @property
-    def length(self):
+    def length(self) -> int:
         return 1 if self.upper is None else 2
 
 
@@ -43,7 +45,7 @@ class NoProgram(Exception):
     """What isn't a program in settings."""
 
 
-def is_arithmetic(slot):
+def is_arithmetic(slot: Slot) -> bool:
     """Whether the fields of an ALU instruction are those of one."""
     operation, by_register = slot.opcode & 0xF0, slot.opcode & BY_REGISTER
     wide = slot.kind == 7
@@ -57,7 +59,7 @@ def is_arithmetic(slot):
     return (slot.immediate if by_register else slot.source) == 0
 
 
-def is_jump(slot):
+def is_jump(slot: Slot) -> bool:
     """Whether the fields of a jump, a call or an exit are those of one."""
     if slot.opcode == JUMP:
         return (slot.destination, slot.source, slot.immediate) == (0, 0, 0)
@@ -69,7 +71,7 @@ def is_jump(slot):
     return conditional and (slot.immediate if slot.opcode & BY_REGISTER else slot.source) == 0
 
 
-def is_access(slot):
+def is_access(slot: Slot) -> bool:
     """Whether the fields of a load or a store are those of one."""
     mode = slot.opcode >> 5
     if slot.kind == LDX:
@@ -79,7 +81,7 @@ def is_access(slot):
     return mode == 3 and slot.immediate == 0 or slot.opcode == ADD_8 and slot.immediate in (0, FETCH)
 
 
-def is_spelled(slot):
+def is_spelled(slot: Slot) -> bool:
     """Whether all its fields are those of an instruction."""
     if slot.destination > 10 or slot.source > 10:
         return False
@@ -92,7 +94,7 @@ def is_spelled(slot):
     return slot.kind in (LDX, ST, STX) and is_access(slot)
 
 
-def program_of(settings):
+def program_of(settings: dict) -> dict[int, Slot]:
     """The instructions of settings by their slots."""
     data = bytes.fromhex("".join(settings["program"]))
     maps, slots, at = {row["slot"]: row["map"] for row in settings.get("reloc", [])}, {}, 0
@@ -118,7 +120,7 @@ def program_of(settings):
     return slots
 
 
-def maps_and_rest(settings):
+def maps_and_rest(settings: dict) -> dict:
     """All else in settings: the maps, in their order, and what is run."""
     maps = [{**row, "counters": row.get("counters", 1)} for row in settings.get("map", [])]
     return {**{key: value for key, value in settings.items() if key not in OF_THE_PROGRAM}, "map": maps}

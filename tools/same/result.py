@@ -1,6 +1,13 @@
 """The result as a graph, with the labels of its map: what the tool says that each slot is."""
+from __future__ import annotations
+
+from typing import TYPE_CHECKING, Optional
+
 from .program import EXIT, JUMP
 from .state import Differs
+
+if TYPE_CHECKING:
+    from .program import Slot
 
 STACK, STORE_8, MOVE_CONSTANT = 512, 0x7B, 0xB7
 COPY, OWN, OUTSIDE = "copy", "own", "outside"
@@ -12,21 +19,21 @@ class Result:
     lowest  where the tool's stack slots end
     end     the slot of `r0 = 0`, which with the `exit` after it is the end that the tool added; or None"""
 
-    def __init__(self, code, labels):
+    def __init__(self, code: dict[int, Slot], labels: dict) -> None:
         self.code, self.labels = code, labels
         for pc in code:
             if labels.get(pc, ("",))[0] not in (COPY, OWN, OUTSIDE):
                 raise Differs(f"slot {pc} has no line in the map that says what it is")
         self.lowest, self.end = self.end_of_own_stack(), self.added_end()
 
-    def kind(self, pc):
+    def kind(self, pc: int) -> str:
         return self.labels[pc][0]
 
-    def goal(self, pc):
+    def goal(self, pc: int) -> int:
         """Where the original is to stand."""
         return self.labels[pc][1]
 
-    def successors(self, pc):
+    def successors(self, pc: int) -> list[int]:
         """What follows a slot: the next one, then the jump's target."""
         slot = self.code[pc]
         if slot.opcode == EXIT:
@@ -40,7 +47,7 @@ class Result:
                 raise Differs(f"slot {pc} leads to {after}, which isn't there")
         return following
 
-    def order(self):
+    def order(self) -> list[int]:
         """The slots, each after what leads to it."""
         seen, out, todo = {0}, [], [(0, iter(self.successors(0)))]
         while todo:
@@ -59,7 +66,7 @@ class Result:
                 raise Differs(f"slot {pc}: a loop")
         return out[::-1]
 
-    def end_of_own_stack(self):
+    def end_of_own_stack(self) -> int:
         """Where the tool's stack slots end: they are a run without a gap from the lowest one."""
         own = [slot for pc, slot in self.code.items() if self.kind(pc) == OWN]
         stores = sorted({slot.offset for slot in own if slot.opcode == STORE_8 and slot.destination == 10})
@@ -68,7 +75,7 @@ class Result:
             highest = offset if offset - highest <= 8 else highest
         return highest + 8
 
-    def added_end(self):
+    def added_end(self) -> Optional[int]:
         """Its first slot. It is `r0 = 0; exit`, and nothing lies between the two."""
         places = [pc for pc in sorted(self.code) if self.kind(pc) == OUTSIDE]
         if not places:

@@ -3,11 +3,16 @@
 Where ways disagree, values get the same new atom exactly if they differ in the same way on all ways. So an address
 and its kept distance still differ by the packet's start after a meeting, and the tool's stack slots need no
 explanation."""
+from __future__ import annotations
+
 from dataclasses import dataclass, replace
-from typing import Optional
+from typing import TYPE_CHECKING, AbstractSet, NoReturn, Optional
 
 from .facts import APART, MOST_LENGTH, NEAR, Facts, common, room_behind
 from .forms import ZERO, Form, narrower, number, signed
+
+if TYPE_CHECKING:
+    from .forms import Forms
 
 PARTS = ("old", "new", "old_stack", "new_stack", "loads")
 
@@ -16,7 +21,7 @@ class Differs(Exception):
     """What isn't the same, and at which slot of the result. `at`: where the original stood, if that is known.
     `alone`: the words without the result's slot."""
 
-    def __init__(self, words, at=None):
+    def __init__(self, words: str, at: Optional[int] = None) -> None:
         super().__init__(words)
         head, _, rest = words.partition(": ")
         self.at, self.alone = at, rest if head.startswith("slot ") and rest else words
@@ -25,10 +30,10 @@ class Differs(Exception):
 class Registers(dict):
     """The registers that have a value."""
 
-    def copy(self):
+    def copy(self) -> Registers:
         return Registers(self)
 
-    def __missing__(self, register):
+    def __missing__(self, register: int) -> NoReturn:
         raise Differs(f"r{register} is read, and has no value")
 
 
@@ -49,12 +54,12 @@ class State:
     facts: Facts
     owed: Optional[Form] = None
 
-    def copy(self, **changes):
+    def copy(self, **changes: object) -> State:
         parts = {name: getattr(self, name).copy() for name in PARTS}
         return replace(self, **{**parts, **changes})
 
 
-def met(forms, pc, states):
+def met(forms: Forms, pc: int, states: list[State]) -> State:
     """One state for all ways to a slot."""
     if len(states) == 1:
         return states[0]
@@ -68,7 +73,7 @@ def met(forms, pc, states):
     return found
 
 
-def joined(forms, pc, rows, states, known):
+def joined(forms: Forms, pc: int, rows: list[dict], states: list[State], known: dict) -> dict:
     """The forms of the places that all ways have. `known`: the atoms by how the ways differ."""
     out = type(rows[0])()
     for place in set.intersection(*(set(row) for row in rows)):
@@ -84,13 +89,13 @@ def joined(forms, pc, rows, states, known):
     return out
 
 
-def keep_range(forms, ranges, form, low, high):
+def keep_range(forms: Forms, ranges: dict, form: Form, low: int, high: int) -> None:
     """Keeps between which numbers a form lies."""
     constant, alone = signed(form.constant), form.without_constant
     ranges[alone] = narrower(ranges.get(alone, (low - constant, high - constant)), (low - constant, high - constant))
 
 
-def keep_ranges(forms, states, found):
+def keep_ranges(forms: Forms, states: list[State], found: State) -> None:
     """What is known of each number, and for each address its distance from the packet's start and the room after it, on
     all ways. The atoms one by one don't tell it."""
     ranges, within = dict(found.facts.ranges), set(found.facts.within)
@@ -115,7 +120,7 @@ def keep_ranges(forms, states, found):
     found.facts = found.facts._replace(ranges=ranges, within=worth_keeping(forms, found, within))
 
 
-def worth_keeping(forms, found, within):
+def worth_keeping(forms: Forms, found: State, within: AbstractSet[Form]) -> frozenset[Form]:
     """The addresses in the packet whose atoms stand somewhere; the last of those that differ by a constant."""
     alive = {atom for name in PARTS for form in getattr(found, name).values() for atom, _ in form.terms}
     alive |= {atom for form in (forms.start, forms.end) for atom, _ in form.terms}

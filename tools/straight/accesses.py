@@ -1,4 +1,8 @@
 """Accesses in another form: in front of what was compared, and stores to counters as additions of the difference."""
+from __future__ import annotations
+
+from typing import TYPE_CHECKING
+
 from .instructions import (
     ADD_CONSTANT,
     ADD_REGISTER,
@@ -18,12 +22,16 @@ from .instructions import (
     Instruction,
 )
 
+if TYPE_CHECKING:
+    from .copies import Copy
+    from .emit import Emitter
+
 COUNTER_BYTES = 8
 LSH_CONSTANT, RSH_CONSTANT, ARSH_CONSTANT = ALU64 | LSH, ALU64 | RSH, ALU64 | ARSH
 START_FIELD, END_FIELD, MOST_DISTANCE = 0, 4, 65535  # of the context; of an address in a packet
 
 
-def write_rebased(emitter, here, access):
+def write_rebased(emitter: Emitter, here: Copy, access: Instruction) -> None:
     """An access at the packet's start plus its own distance, after a comparison of what it reaches."""
     slot, taken = here.slot, {access.base} | ({access.source} if access.is_store else set())
     (distance, base, end), give_back = emitter.borrow(3, slot, emitter.copies.live[slot], taken)
@@ -43,7 +51,7 @@ def write_rebased(emitter, here, access):
     give_back()
 
 
-def write_narrow_load(emitter, here, load):
+def write_narrow_load(emitter: Emitter, here: Copy, load: Instruction) -> None:
     """A load of a part of a counter: of the whole counter, and the part is cut out."""
     slot, offset = here.slot, emitter.offset(here, load)
     emitter.put_copy(Instruction(LOAD_DOUBLE, load.destination, load.source, offset - offset % COUNTER_BYTES), here)
@@ -52,14 +60,14 @@ def write_narrow_load(emitter, here, load):
     cut(emitter, slot + 1, load.destination, load, offset % COUNTER_BYTES)
 
 
-def cut(emitter, slot, register, access, place=0):
+def cut(emitter: Emitter, slot: int, register: int, access: Instruction, place: int = 0) -> None:
     """The bytes of an access out of eight, with zeros or their sign above them."""
     above = 8 * (COUNTER_BYTES - access.size)
     emitter.put_own(slot, LSH_CONSTANT, register, 0, 0, above - 8 * place)
     emitter.put_own(slot, ARSH_CONSTANT if access.with_sign else RSH_CONSTANT, register, 0, 0, above)
 
 
-def write_difference(emitter, here, store):
+def write_difference(emitter: Emitter, here: Copy, store: Instruction) -> None:
     """A store to a counter as an addition: what it stores, less what was loaded before, or else what stands there."""
     slot, base = here.slot, store.destination
     taken = {base, store.source} if store.kind != ST else {base}

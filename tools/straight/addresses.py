@@ -4,10 +4,12 @@ An atom is a number that one copy made. ADDED: a number that was added to an add
 address on which the ways into that copy disagree. If such a meeting is marked, the address is made anew after it
 from the distance, which each way in has stored; the atom is then KEPT. If it isn't marked nothing is done, and a
 refusal that comes of it names the meeting."""
+from __future__ import annotations
+
 from enum import Enum
 from functools import reduce
 from math import gcd
-from typing import NamedTuple
+from typing import TYPE_CHECKING, AbstractSet, Callable, NamedTuple, Optional, Union
 
 from .constants import FRAME as FRAME_ADDRESS
 from .constants import is_address, is_number
@@ -31,6 +33,11 @@ from .instructions import (
     Table,
     signed,
 )
+
+if TYPE_CHECKING:
+    from .constants import Constant
+    from .copies import Copies
+    from .instructions import Instruction
 
 ADDED, MET, KEPT = "added", "met", "kept"
 START_FIELD, END_FIELD, META_FIELD = 0, 4, 8  # of the context
@@ -61,14 +68,14 @@ class TableAddress(NamedTuple):
     place: int
     stride: int = 0
 
-    def moved(self, constant, stride=0):
+    def moved(self, constant: int, stride: int = 0) -> TableAddress:
         return TableAddress(self.table, self.place + constant, gcd(self.stride, stride))
 
-    def met(self, other):
+    def met(self, other: TableAddress) -> TableAddress:
         return self.moved(0, gcd(other.stride, self.place - other.place))
 
 
-def multiple_of(value):
+def multiple_of(value: object) -> Optional[int]:
     """What a number is a multiple of; None of what is no number."""
     return 1 if value == Thing.NUMBER else value.of if isinstance(value, Multiple) else None
 
@@ -77,6 +84,9 @@ class StackSlot(NamedTuple):
     """A place beside the registers: eight bytes of the stack."""
 
     offset: int
+
+
+Place = Union[int, StackSlot]  # a register, or a place of the stack
 
 
 class Atom(NamedTuple):
@@ -91,7 +101,7 @@ class PacketAddress(NamedTuple):
     constant: int = 0
     atoms: tuple = ()
 
-    def moved(self, constant=0, atom=None):
+    def moved(self, constant: int = 0, atom: Optional[Atom] = None) -> PacketAddress:
         return PacketAddress(self.constant + constant, self.atoms + ((atom,) if atom else ()))
 
 
@@ -103,12 +113,12 @@ class Remade(NamedTuple):
     distance: int = 0
 
 
-def in_order(place):
+def in_order(place: Place) -> tuple[int, int]:
     """Registers come first: an address on the stack may be made from one in a register."""
     return (1, place.offset) if isinstance(place, StackSlot) else (0, place)
 
 
-def met_without_packet(there):
+def met_without_packet(there: list) -> Union[Multiple, TableAddress, Thing]:
     """What stands in a place where ways meet that have different things there."""
     if all(multiple_of(known) is not None for known in there):
         return Multiple(gcd(*map(multiple_of, there)))
@@ -117,7 +127,7 @@ def met_without_packet(there):
     return Thing.MIXED
 
 
-def number_of(operation, a, b, constant):
+def number_of(operation: int, a: int, b: int, constant: Optional[Constant]) -> Union[Multiple, Thing]:
     """What arithmetic makes of multiples of two numbers."""
     if operation in (ADD, SUB):
         return Multiple(gcd(a, b))
@@ -136,7 +146,12 @@ class Addresses:
     remade  of each copy, the places that are made anew
     stored  of each way (copy, way), the distances that are stored on it: (atom, address)"""
 
-    def __init__(self, copies, marked, restarted=lambda copy, place: False):
+    def __init__(
+        self,
+        copies: Copies,
+        marked: Callable[[Copy, Place], bool],
+        restarted: Callable[[Copy, Place], bool] = lambda copy, place: False,
+    ) -> None:
         self.elsewhere, self.marked, self.restarted = copies.elsewhere, marked, restarted
         self.before, self.remade, self.stored, behind = {}, {}, {}, {}
         for here in copies.order:
@@ -149,7 +164,7 @@ class Addresses:
             if here.is_instruction:
                 self.step(here, copies.code[here.slot], behind[here])
 
-    def meet(self, here, ways, live):
+    def meet(self, here: Copy, ways: list, live: AbstractSet[int]) -> dict:
         """What the places stand for where ways meet."""
         wanted = set(live) | {FRAME_POINTER} | {place for place in ways[0][2] if isinstance(place, StackSlot)}
         places, leaders = {}, []
@@ -166,7 +181,7 @@ class Addresses:
                 places[place] = PacketAddress().moved(atom=Atom(MET, here, place))
         return places
 
-    def remake(self, here, place, there, ways, places, leaders):
+    def remake(self, here: Copy, place: Place, there: list, ways: list, places: dict, leaders: list) -> None:
         """One that has the same distance from another on all ways follows that one."""
         for leader, led in leaders:
             apart = {own.constant - other.constant for own, other in zip(there, led)}
@@ -183,7 +198,7 @@ class Addresses:
         for (before, way, _), address in zip(ways, there):
             self.stored.setdefault((before, way), []).append((atom, address))
 
-    def step(self, here, instruction, places):
+    def step(self, here: Copy, instruction: Instruction, places: dict) -> None:
         """What an instruction makes of the places."""
         if instruction.is_arithmetic:
             places[instruction.destination] = self.result(here, instruction, places)
@@ -198,7 +213,7 @@ class Addresses:
                 places.pop(register, None)
             places[0] = Thing.VALUE
 
-    def named(self, wide):
+    def named(self, wide: Instruction) -> Union[TableAddress, Thing]:
         """What a wide load gives."""
         if wide.table is not None:
             return TableAddress(wide.table, wide.immediate)
@@ -206,7 +221,7 @@ class Addresses:
             return Thing.VALUE
         return Thing.MAP if wide.source or wide.map is not None else Thing.NUMBER
 
-    def result(self, here, instruction, places):
+    def result(self, here: Copy, instruction: Instruction, places: dict) -> object:
         operation, by_register = instruction.operation, instruction.by_register
         if instruction.kind != ALU64 or instruction.offset:
             return Thing.NUMBER
@@ -231,7 +246,7 @@ class Addresses:
             return b.moved(atom=Atom(ADDED, here, instruction.destination))
         return a if a in (Thing.FRAME, Thing.VALUE) else Thing.NUMBER
 
-    def loaded(self, here, load, places):
+    def loaded(self, here: Copy, load: Instruction, places: dict) -> object:
         if places.get(load.source) == Thing.CONTEXT and load.opcode == LOAD_WORD:
             start = PacketAddress()
             fields = {START_FIELD: start, END_FIELD: Thing.PACKET_END, META_FIELD: start}
@@ -241,7 +256,7 @@ class Addresses:
             return places.get(StackSlot(base.offset + load.offset), Thing.NUMBER)
         return Thing.NUMBER
 
-    def store(self, here, store, places):
+    def store(self, here: Copy, store: Instruction, places: dict) -> None:
         at = here.constants.stack_offset(store)
         if at is not None:
             for place in [place for place in places if isinstance(place, StackSlot)]:

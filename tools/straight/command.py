@@ -1,10 +1,12 @@
 """What `tools/straighten` and `tools/settings-from-c` have in common: a program that the verifier accepts and that was
 shown to be the same, or why there is none."""
+from __future__ import annotations
+
 import os
 import pathlib
 import shutil
 from dataclasses import dataclass
-from typing import Callable, NamedTuple, Optional
+from typing import TYPE_CHECKING, Callable, Iterable, Iterator, NamedTuple, Optional
 
 from output import fail
 
@@ -13,6 +15,9 @@ from .search import OF_THE_BYTES, StillRefused, searches
 from .settings import as_text
 from .shown import NoComparison, question, shown
 from .verifier import Verdict, verdict
+
+if TYPE_CHECKING:
+    from .search import Result
 
 NOTHING_HELPS = "nothing is rewritten that helps"
 FUSED = (
@@ -54,7 +59,7 @@ class Straight:
     how: str
     asked: Optional[str] = None
 
-    def comment(self, settings):
+    def comment(self, settings: dict) -> str:
         """The line that settings with this program have."""
         return f"# straightened: {len(settings['program'])} slots -> {len(self.words)}, {self.how}\n"
 
@@ -63,11 +68,11 @@ class Refused(Exception):
     """`answer`: the verifier's, of the program as it was. `why`: why no other one was found. `atomic`: whether an
     atomic operation was refused."""
 
-    def __init__(self, answer: Verdict, why: Fail, atomic: bool = False):
+    def __init__(self, answer: Verdict, why: Fail, atomic: bool = False) -> None:
         super().__init__(f"{why}")
         self.answer, self.why, self.atomic = answer, why, atomic
 
-    def advice(self):
+    def advice(self) -> Optional[str]:
         """What to write instead, or None."""
         cause = self.why.cause or self.answer.cause
         if cause in IN_C and (cause != "V19" or self.atomic):
@@ -77,7 +82,7 @@ class Refused(Exception):
         return next(said, IN_C[SIZE] if cause == "V9" else None)
 
 
-def xdpbox_program():
+def xdpbox_program() -> Optional[str]:
     """The path of xdpbox: $XDPBOX, the repository's own, or one on the PATH. None if there is none."""
     built, named = TOP / "crates/xdpbox/out/xdpbox", os.environ.get("XDPBOX")
     if named and shutil.which(named) is None:
@@ -96,7 +101,7 @@ class Wanted(NamedTuple):
     per_cpu: Callable = lambda slot: False
 
 
-def straightened(settings, xdpbox, wanted=Wanted()):
+def straightened(settings: dict, xdpbox: str, wanted: Wanted = Wanted()) -> Optional[Straight]:
     """None if the program of the settings is accepted as it is."""
     answer, in_memory = verdict(xdpbox, as_text(settings)), settings.get("tables") or settings.get("globals")
     if answer.accepted and not in_memory:
@@ -124,7 +129,7 @@ def straightened(settings, xdpbox, wanted=Wanted()):
     raise Refused(answer, fault)
 
 
-def taken(xdpbox, settings, result, wanted):
+def taken(xdpbox: str, settings: dict, result: Result, wanted: Wanted) -> tuple[Optional[Straight], Optional[Fail]]:
     """A result that is shown to be the same, and what is missing to that; one of the two is None."""
     labels = {slot: (label.kind.value, label.slot) for slot, label in result.labels.items()}
     relocations = [{"slot": slot, "map": name} for slot, name in result.relocations]
@@ -138,13 +143,13 @@ def taken(xdpbox, settings, result, wanted):
     return Straight(result.words, result.relocations, lines, notes, found.how, asked), None
 
 
-def best_of(faults):
+def best_of(faults: list[Fail]) -> Fail:
     """The first reason of several searches that names a place, or else the first."""
     placed = [fault for fault in faults if fault.slot is not None]
     return (placed or faults)[0]
 
 
-def notes_of(result, guards, per_cpu):
+def notes_of(result: Result, guards: Iterable[int], per_cpu: Callable[[int], bool]) -> Iterator[tuple[int, str]]:
     for slot in result.counts:
         if not per_cpu(slot):
             yield slot, FUSED
@@ -154,10 +159,12 @@ def notes_of(result, guards, per_cpu):
         yield slot, "guarded: where this would reach outside the packet, the program ends with ABORTED"
 
 
-def describe(refused, place_of=None, name="the program"):
+def describe(
+    refused: Refused, place_of: Optional[Callable[[int], Optional[str]]] = None, name: str = "the program"
+) -> Iterator[str]:
     """The lines that explain a refusal, of the program as it was. `place_of(slot)`: its line of C, or None."""
 
-    def place(slot):
+    def place(slot: Optional[int]) -> str:
         found = place_of(slot) if place_of and slot is not None else None
         return found or (f"slot {slot}" if slot is not None else name)
 
@@ -170,7 +177,7 @@ def describe(refused, place_of=None, name="the program"):
         yield f"write instead: {refused.advice()}"
 
 
-def marked_lines(lines):
+def marked_lines(lines: list[str]) -> Iterator[str]:
     """The line of an explanation that names the instruction, and what was known of its registers."""
     for line, behind in zip(lines, [*lines[1:], ""]):
         if line.lstrip().startswith(">"):

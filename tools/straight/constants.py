@@ -1,7 +1,9 @@
 """Which constants registers and stack slots have at a slot, and what an instruction makes of them.
 
 A constant is a number, or an `Address` that is known as far as copies need it."""
-from typing import NamedTuple
+from __future__ import annotations
+
+from typing import TYPE_CHECKING, AbstractSet, Container, NamedTuple, Optional, Union
 
 from .instructions import (
     ADD,
@@ -34,6 +36,9 @@ from .instructions import (
     signed,
 )
 
+if TYPE_CHECKING:
+    from .instructions import Instruction
+
 # FAR: so far after the packet's start that it lies past every packet's end. VALUE: of a map, with the distance that
 # the original added and the result adds to the offset of each access instead
 FRAME, CONTEXT, PACKET_END, FAR, VALUE = "frame", "context", "packet's end", "far", "value"
@@ -47,15 +52,18 @@ class Address(NamedTuple):
     offset: int = 0
 
 
-def is_number(value):
+Constant = Union[int, Address]
+
+
+def is_number(value: object) -> bool:
     return isinstance(value, int)
 
 
-def is_address(value, *bases):
+def is_address(value: object, *bases: str) -> bool:
     return isinstance(value, Address) and value.base in bases
 
 
-def in_table(value):
+def in_table(value: object) -> bool:
     """Whether it is an address of constants, whose base is the table."""
     return isinstance(value, Address) and isinstance(value.base, Table)
 
@@ -66,56 +74,58 @@ class Constants:
     values  whether the results of lookups are followed too
     passed  how often the way to here came by named slots, as (name, times) in order"""
 
-    def __init__(self, registers, stack, values=False, passed=()):
+    def __init__(
+        self, registers: dict[int, Constant], stack: dict[int, Constant], values: bool = False, passed: tuple = ()
+    ) -> None:
         self.registers, self.stack, self.values, self.passed = registers, stack, values, passed
 
     @classmethod
-    def at_start(cls, values=False):
+    def at_start(cls, values: bool = False) -> Constants:
         return cls({CONTEXT_ARGUMENT: Address(CONTEXT), FRAME_POINTER: Address(FRAME)}, {}, values)
 
     @classmethod
-    def at_end(cls, values):
+    def at_end(cls, values: bool) -> Constants:
         """Where the program ends whatever there was."""
         return cls({FRAME_POINTER: Address(FRAME)}, {}, values)
 
-    def with_register(self, register, value):
+    def with_register(self, register: int, value: Constant) -> Constants:
         return Constants({**self.registers, register: value}, self.stack, self.values, self.passed)
 
-    def passing(self, name):
+    def passing(self, name: object) -> Constants:
         """The same after a named slot."""
         times = dict(self.passed)
         times[name] = times.get(name, 0) + 1
         return Constants(self.registers, self.stack, self.values, tuple(sorted(times.items(), key=repr)))
 
-    def times(self, name):
+    def times(self, name: object) -> int:
         return dict(self.passed).get(name, 0)
 
-    def forgetting(self, names):
+    def forgetting(self, names: AbstractSet) -> Constants:
         """The same without the names that no longer matter."""
         passed = tuple(row for row in self.passed if row[0] in names)
         return Constants(self.registers, self.stack, self.values, passed)
 
-    def kept(self, wanted, registers, places):
+    def kept(self, wanted: AbstractSet[int], registers: Container[int], places: Optional[Container[int]]) -> Constants:
         """Those of the wanted registers, of which numbers only of these, and those of the stack, numbers only in these
         places, in all if they are None."""
         kept = {r: v for r, v in self.registers.items() if r in wanted and (r in registers or not is_number(v))}
         stack = {at: v for at, v in self.stack.items() if places is None or at in places or not is_number(v)}
         return Constants(kept, stack, self.values, self.passed)
 
-    def key(self):
+    def key(self) -> tuple:
         return tuple(sorted(self.registers.items())), tuple(sorted(self.stack.items())), self.passed
 
-    def operands(self, instruction):
+    def operands(self, instruction: Instruction) -> tuple[Optional[Constant], Optional[Constant]]:
         """The two operands of arithmetic or of a jump, None if they aren't constant."""
         second = self.registers.get(instruction.source) if instruction.by_register else instruction.immediate & MASK_64
         return self.registers.get(instruction.destination), second
 
-    def stack_offset(self, instruction):
+    def stack_offset(self, instruction: Instruction) -> Optional[int]:
         """Where on the stack a load or a store begins, or None."""
         base = self.registers.get(instruction.base)
         return base.offset + instruction.offset if is_address(base, FRAME) else None
 
-    def decided(self, jump):
+    def decided(self, jump: Instruction) -> Optional[bool]:
         """Whether a jump with a condition is taken, if constants say so."""
         a, b = self.operands(jump)
         if is_number(a) and is_number(b):
@@ -133,7 +143,7 @@ class Constants:
 
     # --- after an instruction
 
-    def after(self, instruction, elsewhere=False):
+    def after(self, instruction: Instruction, elsewhere: bool = False) -> Constants:
         """`elsewhere`: of a store, whether it surely doesn't go to the stack."""
         behind = Constants(dict(self.registers), dict(self.stack), self.values, self.passed)
         if instruction.is_arithmetic:
@@ -150,13 +160,13 @@ class Constants:
             behind._put(0, Address(VALUE) if self.values else None)
         return behind
 
-    def _put(self, register, value):
+    def _put(self, register: int, value: Optional[Constant]) -> None:
         if value is None:
             self.registers.pop(register, None)
         else:
             self.registers[register] = value
 
-    def _result(self, instruction):
+    def _result(self, instruction: Instruction) -> Optional[Constant]:
         """What arithmetic leaves, or None."""
         a, b = self.operands(instruction)
         wide = instruction.kind == ALU64
@@ -175,7 +185,7 @@ class Constants:
             return Address(b.base, b.offset + signed(a))
         return None
 
-    def _wide(self, instruction):
+    def _wide(self, instruction: Instruction) -> Optional[Constant]:
         """What a wide load gives: an address in a table or in a global's value, a number, or None."""
         if instruction.table is not None:
             return Address(instruction.table, instruction.immediate)
@@ -185,7 +195,7 @@ class Constants:
             return None
         return instruction.immediate & MASK_32 | (instruction.upper & MASK_32) << 32
 
-    def _loaded(self, load):
+    def _loaded(self, load: Instruction) -> Optional[Constant]:
         base = self.registers.get(load.source)
         if is_address(base, CONTEXT) and load.opcode == LOAD_WORD and load.offset == END_FIELD:
             return Address(PACKET_END)
@@ -195,7 +205,7 @@ class Constants:
             return self.stack.get(base.offset + load.offset)
         return None
 
-    def _store(self, store, elsewhere):
+    def _store(self, store: Instruction, elsewhere: bool) -> None:
         at = self.stack_offset(store)
         if at is not None:
             for slot in [slot for slot in self.stack if slot < at + store.size and at < slot + 8]:

@@ -7,14 +7,20 @@ Two marks put tests of our own in front of an addition, if the verifier would lo
   Wide   the number may be above 65,535: `if n > 65535` leads to copies in which the sum is far past the packet's end
          (or to the end of the program, if the number may be negative)
   Cases  the number is one of a few: `if n == c` for each, to copies in which it is a constant"""
+from __future__ import annotations
+
 from dataclasses import dataclass, field
-from typing import NamedTuple
+from typing import TYPE_CHECKING, NamedTuple
 
 from .constants import FAR, Address, Constants, is_number
 from .counters import counters
 from .graph import Fail, NoBound, TooMany, live_registers, loops, slots_that_reach, steering_registers, successors
 from .instructions import FRAME_POINTER, REGISTERS
 from .kinds import stores_elsewhere
+
+if TYPE_CHECKING:
+    from .instructions import Code
+    from .search import Marks
 
 MOST_COPIES = 8000
 # which numbers are told apart: those that steer a loop or make an address, in slots from which a loop can be reached;
@@ -65,7 +71,7 @@ class Copy:
     before: list = field(default_factory=list)  # (Copy, way)
 
     @property
-    def is_instruction(self):
+    def is_instruction(self) -> bool:
         """Whether the slot's own instruction stands here."""
         return self.phase in (PLAIN, FAR_SUM)
 
@@ -77,7 +83,7 @@ class Telling(NamedTuple):
     stack: object = ()
 
 
-def telling_numbers(code, numbers):
+def telling_numbers(code: Code, numbers: str) -> dict[int, Telling]:
     """What is told apart before each slot."""
     if numbers == EVERYWHERE:
         return {slot: Telling(range(REGISTERS), None) for slot in code}
@@ -95,7 +101,7 @@ class Copies:
     `numbers`: which numbers are told apart. `marks`: those of `search`. If results of lookups are followed, a
     constant added to one can go to the accesses."""
 
-    def __init__(self, code, numbers, marks):
+    def __init__(self, code: Code, numbers: str, marks: Marks) -> None:
         self.code, self.wide, self.cases, self.trips = code, marks.wide, marks.cases, marks.trips
         self.live, self.elsewhere = live_registers(code), stores_elsewhere(code)
         self.named = {slot: row.counter for row in marks.differences.values() if row.told for slot in row.known}
@@ -113,7 +119,7 @@ class Copies:
                 after.before.append((here, way))
         self.order = self.sorted()
 
-    def copy(self, slot, phase, constants):
+    def copy(self, slot: int, phase: Phase, constants: Constants) -> Copy:
         """The copy with these constants, of which those that can't matter are forgotten."""
         told = self.telling[slot] if phase == TESTS else Telling(range(REGISTERS), None)
         if slot in self.trips:
@@ -132,7 +138,7 @@ class Copies:
             self.todo.append(self.found[key])
         return self.found[key]
 
-    def ways(self, here):
+    def ways(self, here: Copy) -> list[tuple[int, Copy]]:
         """The copies to which control may go from a copy."""
         if here.phase == OUTSIDE:
             return []
@@ -142,7 +148,7 @@ class Copies:
             return self.ways_of_case(here)
         return self.ways_of_instruction(here)
 
-    def ways_of_tests(self, here):
+    def ways_of_tests(self, here: Copy) -> list[tuple[int, Copy]]:
         slot, constants = here.slot, here.constants
         if slot in self.cases and not is_number(constants.registers.get(self.cases[slot].register)):
             return [(0, self.copy(slot, Phase(CASE, 0), constants))]
@@ -151,14 +157,14 @@ class Copies:
             ways.append((1, self.copy(slot, FAR_SUM if self.wide[slot].positive else OUTSIDE, constants)))
         return ways
 
-    def ways_of_case(self, here):
+    def ways_of_case(self, here: Copy) -> list[tuple[int, Copy]]:
         register, numbers = self.cases[here.slot]
         chosen = here.constants.with_register(register, numbers[here.phase.number])
         following = here.phase.number + 1
         other = Phase(CASE, following) if following < len(numbers) else OUTSIDE
         return [(0, self.copy(here.slot, other, here.constants)), (1, self.copy(here.slot, PLAIN, chosen))]
 
-    def ways_of_instruction(self, here):
+    def ways_of_instruction(self, here: Copy) -> list[tuple[int, Copy]]:
         slot, instruction = here.slot, self.code[here.slot]
         constants = self.constants_after(here)
         if here.phase == FAR_SUM:
@@ -176,14 +182,14 @@ class Copies:
             raise Fail("this loop would run too often", slot)
         return [(way, self.copy(after, TESTS, constants)) for way, after in short]
 
-    def constants_after(self, here):
+    def constants_after(self, here: Copy) -> Constants:
         """The constants after a copy's instruction."""
         constants = here.constants.after(self.code[here.slot], here.slot in self.elsewhere)
         for name in (here.slot if here.slot in self.trips else None, self.named.get(here.slot)):
             constants = constants.passing(name) if name is not None else constants
         return constants
 
-    def sorted(self):
+    def sorted(self) -> list[Copy]:
         """The copies, each after all that lead to it."""
         finished, order = {self.first: False}, []
         todo = [(self.first, iter(self.first.ways))]

@@ -2,10 +2,15 @@
 
 A counter is what a jump in a loop compares, if all that it is made of are constants: those in front of the loop, and
 additions of constants in it. It bounds the loop if each way around passes one of these additions."""
-from typing import NamedTuple
+from __future__ import annotations
+
+from typing import TYPE_CHECKING, AbstractSet, Callable, Iterable, NamedTuple, Optional
 
 from .graph import Fail, predecessors, successors
 from .instructions import ADD, FRAME_POINTER, LOAD_DOUBLE, STORE_DOUBLE, STORE_DOUBLE_CONSTANT, SUB, reads, writes
+
+if TYPE_CHECKING:
+    from .instructions import Code, Instruction
 
 STACK = "stack"
 
@@ -18,7 +23,7 @@ class Counter(NamedTuple):
     steps: set
 
 
-def counters(code):
+def counters(code: Code) -> dict[int, set]:
     """Before each slot the registers and the places of the stack whose numbers have to be told apart."""
     before, needed = predecessors(code), {slot: set() for slot in code}
     todo = strong_parts(code, set(code))
@@ -31,7 +36,7 @@ def counters(code):
     return needed
 
 
-def best(code, before, part):
+def best(code: Code, before: dict[int, list[int]], part: set[int]) -> tuple[Counter, list[set[int]]]:
     """The counter that leaves the least of a strong part of the graph, and what it leaves."""
     rows = [counter_of(code, before, jump) for jump in sorted(part) if code[jump].is_branch]
     rows = [(row, strong_parts(code, part - row.steps)) for row in rows if row is not None and row.steps & part]
@@ -40,7 +45,7 @@ def best(code, before, part):
     return min(rows, key=lambda row: (sum(map(len, row[1])), sum(map(len, row[0].needed.values()))))
 
 
-def counter_of(code, before, jump):
+def counter_of(code: Code, before: dict[int, list[int]], jump: int) -> Optional[Counter]:
     """What decides a jump; None if it isn't made of constants alone."""
     needed, steps, todo = {}, set(), [(jump, register) for register in reads(code[jump])]
     while todo:
@@ -60,11 +65,11 @@ def counter_of(code, before, jump):
     return Counter(needed, steps)
 
 
-def is_step(instruction):
+def is_step(instruction: Instruction) -> bool:
     return instruction.operation in (ADD, SUB) and not instruction.by_register and instruction.immediate != 0
 
 
-def sources(instruction, place):
+def sources(instruction: Instruction, place: object) -> Optional[set]:
     """What an instruction makes a place from: the places themselves if it leaves them; None if from memory."""
     if isinstance(place, tuple):
         return stored(instruction, place)
@@ -77,7 +82,7 @@ def sources(instruction, place):
     return None
 
 
-def stored(instruction, place):
+def stored(instruction: Instruction, place: tuple[str, int]) -> Optional[set]:
     """The same, of a place of the stack."""
     at = instruction.offset
     if not instruction.is_store or instruction.destination != FRAME_POINTER:
@@ -89,7 +94,7 @@ def stored(instruction, place):
     return {instruction.source} if instruction.opcode == STORE_DOUBLE else set()
 
 
-def strong_parts(code, slots):
+def strong_parts(code: Code, slots: AbstractSet[int]) -> list[set[int]]:
     """The parts of these slots in which each can be reached from each, but for one slot without a jump to itself."""
     left, found = set(slots), []
     backwards = {slot: [] for slot in slots}
@@ -107,7 +112,7 @@ def strong_parts(code, slots):
     return found
 
 
-def reached(first, slots, following):
+def reached(first: int, slots: AbstractSet[int], following: Callable[[int], Iterable[int]]) -> set[int]:
     seen, todo = {first}, [first]
     while todo:
         fresh = [after for after in following(todo.pop()) if after in slots and after not in seen]

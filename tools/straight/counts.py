@@ -3,7 +3,9 @@
 In the place of the load stands `r = 0`: what is then computed is n, and the store adds it. No slot moves. It is right
 if nothing between the two could see or change the counter, and where what was read is not used for anything else.
 On a counter of a per-CPU map it is the same count; on a shared one Linux's program could lose counts and this can't."""
-from typing import NamedTuple, Optional
+from __future__ import annotations
+
+from typing import TYPE_CHECKING, NamedTuple, Optional
 
 from .graph import live_registers, predecessors, successors
 from .instructions import (
@@ -20,8 +22,12 @@ from .instructions import (
 )
 from .kinds import VALUE, kinds_before
 
+if TYPE_CHECKING:
+    from .instructions import Code
+    from .kinds import Kinds
 
-def fused(code, store):
+
+def fused(code: Code, store: int) -> Optional[Code]:
     """The program with the store at this slot as an atomic addition, or None if that isn't the same."""
     put = code[store]
     load = load_before(code, store) if put.opcode == STORE_DOUBLE else None
@@ -36,7 +42,7 @@ def fused(code, store):
     return mended
 
 
-def load_before(code, store):
+def load_before(code: Code, store: int) -> Optional[int]:
     """The slot of the load of the same counter, on the one way to the store, after which nothing has an effect."""
     put, slot = code[store], store
     targets = {
@@ -56,7 +62,7 @@ def load_before(code, store):
     return None
 
 
-def registers_that_count(code, load, store):
+def registers_that_count(code: Code, load: int, store: int) -> Optional[set[int]]:
     """The registers that hold the counter and a number, at the store; None if the counter is used otherwise."""
     counted = {code[load].destination}
     for slot in range(load + 1, store):
@@ -84,7 +90,7 @@ class Difference(NamedTuple):
     told: bool
 
 
-def difference(code, store):
+def difference(code: Code, store: int) -> Optional[Difference]:
     """How a store to a counter may become an addition of the difference from what is known to stand
     there, or from what is read there if nothing is known: there are ways on which nothing was loaded, or the value
     is that of one lookup or another. None if it isn't a counter."""
@@ -111,7 +117,7 @@ def difference(code, store):
     return Difference(counter, frozenset(known), bool(known) and unknown)
 
 
-def may_be_stored(kinds, store, counter):
+def may_be_stored(kinds: Kinds, store: Instruction, counter: tuple) -> bool:
     """Whether a store may be to this counter. Two globals are two counters."""
     kind, place = kinds.get(store.base, ("", None))
     names = {row[0] for row in (place, counter) if isinstance(row, tuple) and isinstance(row[0], str)}

@@ -1,8 +1,10 @@
 """The graph of copies as a program: one copy after the other, and between them instructions of our own.
 
 Our own instructions use registers that aren't live, or that they put back, and stack slots below the program's own."""
+from __future__ import annotations
+
 from enum import Enum
-from typing import NamedTuple, Optional
+from typing import TYPE_CHECKING, AbstractSet, Callable, Container, NamedTuple, Optional
 
 from .addresses import ADDED, KEPT, MET, Atom, StackSlot, Thing, in_order
 from .constants import FRAME, VALUE, is_address
@@ -33,6 +35,11 @@ from .instructions import (
     Instruction,
 )
 
+if TYPE_CHECKING:
+    from .addresses import Addresses
+    from .copies import Copies
+    from .search import Marks
+
 MOST_SLOTS, STACK_BYTES, MOST_DISTANCE = 4096, 512, 65535
 END_FIELD, INTERFACE_FIELD = 4, 12  # of the context
 ABORTED = 0
@@ -59,7 +66,7 @@ class Label(NamedTuple):
 class Needs(Fail):
     """Meetings that have to be marked too, since an address after them is made of theirs."""
 
-    def __init__(self, meetings):
+    def __init__(self, meetings: set) -> None:
         super().__init__("a meeting isn't marked")
         self.meetings = meetings
 
@@ -68,7 +75,7 @@ class OwnStack:
     """Our own stack slots, by name, below the lowest byte that the program touches. `shared`: for names of numbers that
     are needed for a while, which of them may use one slot."""
 
-    def __init__(self, copies, shared):
+    def __init__(self, copies: Copies, shared: dict) -> None:
         lowest = 0
         for here in copies.order:
             instruction, registers = copies.code[here.slot], here.constants.registers
@@ -78,7 +85,7 @@ class OwnStack:
             lowest = min(lowest, at or 0)
         self.top, self.shared, self.offsets = -((7 - lowest) // 8 * 8), shared, {}
 
-    def __getitem__(self, name):
+    def __getitem__(self, name: object) -> int:
         name = self.shared.get(name, name)
         if name not in self.offsets:
             self.offsets[name] = self.top - 8 * (len(self.offsets) + 1)
@@ -87,14 +94,14 @@ class OwnStack:
         return self.offsets[name]
 
 
-def shared_slots(copies, addresses):
+def shared_slots(copies: Copies, addresses: Addresses) -> dict:
     """For each atom that is kept on the stack a number: two that are needed at once have different ones."""
     saved, needed, beside = {}, {}, {}
     for atom in {atom for row in addresses.stored.values() for _, address in row for atom in address.atoms}:
         if atom.name == ADDED:
             saved.setdefault(atom.copy, set()).add(atom)
 
-    def together(atoms):
+    def together(atoms: AbstractSet[Atom]) -> None:
         for atom in atoms:
             beside.setdefault(atom, set()).update(atoms)
 
@@ -129,7 +136,7 @@ class Emitter:
              is a constant on some ways: with a constant the sum would be another kind of address
     differences  by the slots of stores to a counter of which the difference is added"""
 
-    def __init__(self, copies, addresses, marks):
+    def __init__(self, copies: Copies, addresses: Addresses, marks: Marks) -> None:
         self.copies, self.addresses, self.end, self.context = copies, addresses, THE_END, CONTEXT_SLOT
         self.marks = marks
         self.known = {slot: row.counter for row in marks.differences.values() for slot in row.known}
@@ -146,28 +153,30 @@ class Emitter:
 
     # --- one instruction
 
-    def put(self, instruction, kind, slot, copy=None):
+    def put(self, instruction: Instruction, kind: Kind, slot: int, copy: Optional[Copy] = None) -> Instruction:
         self.out.append(instruction)
         self.labels.append(Label(kind, slot, copy))
         return instruction
 
-    def put_own(self, slot, *fields, copy=None):
+    def put_own(self, slot: int, *fields: object, copy: Optional[Copy] = None) -> Instruction:
         return self.put(Instruction(*fields), Kind.OWN, slot, copy)
 
-    def put_copy(self, instruction, here):
+    def put_copy(self, instruction: Instruction, here: Copy) -> Instruction:
         return self.put(instruction, Kind.COPY, here.slot, here)
 
-    def put_jump(self, slot, target, *fields, copy=None):
+    def put_jump(self, slot: int, target: object, *fields: object, copy: Optional[Copy] = None) -> None:
         """A jump of our own: by default one without a condition."""
         self.jumps.append((self.put_own(slot, *(fields or (JUMP,)), copy=copy), target))
 
-    def save(self, name, register, slot):
+    def save(self, name: object, register: int, slot: int) -> None:
         self.put_own(slot, STORE_DOUBLE, FRAME_POINTER, register, self.own[name])
 
-    def load(self, register, name, slot):
+    def load(self, register: int, name: object, slot: int) -> None:
         self.put_own(slot, LOAD_DOUBLE, register, FRAME_POINTER, self.own[name])
 
-    def borrow(self, count, slot, live, taken=()):
+    def borrow(
+        self, count: int, slot: int, live: AbstractSet[int], taken: Container[int] = ()
+    ) -> tuple[list[int], Callable[[], None]]:
         """Registers for our use: those that aren't live, then live ones, which are saved; and how to put these back."""
         usable = [register for register in range(FRAME_POINTER - 1, -1, -1) if register not in taken]
         free = [register for register in usable if register not in live]
@@ -175,7 +184,7 @@ class Emitter:
         for number, register in enumerate(lent):
             self.save(("lent", number), register, slot)
 
-        def give_back():
+        def give_back() -> None:
             for number, register in enumerate(lent):
                 self.load(register, ("lent", number), slot)
 
@@ -183,7 +192,7 @@ class Emitter:
 
     # --- what stands before and between copies
 
-    def store_distances(self, before, way, after):
+    def store_distances(self, before: Copy, way: int, after: Copy) -> None:
         """On a way to a meeting: the distance from the packet's start of each address that is made anew there."""
         slot, live = after.slot, self.copies.live[after.slot]
         for atom, (constant, atoms) in self.addresses.stored.get((before, way), []):
@@ -201,7 +210,7 @@ class Emitter:
             self.save(atom, total, slot)
             give_back()
 
-    def remake(self, here):
+    def remake(self, here: Copy) -> None:
         """Behind a meeting: each address as the packet's start plus its distance."""
         slot, live, rows = here.slot, self.copies.live[here.slot], self.addresses.remade.get(here, [])
         settled = {row.place for row in rows if not isinstance(row.place, StackSlot)}
@@ -224,7 +233,7 @@ class Emitter:
                 self.put_own(slot, STORE_DOUBLE, FRAME_POINTER, target, row.place.offset)
             give_back()
 
-    def guard(self, here):
+    def guard(self, here: Copy) -> None:
         """Before an access: the end of what it reaches is compared with the packet's end."""
         slot, access, live = here.slot, self.copies.code[here.slot], self.copies.live[here.slot]
         places = self.addresses.before[here]
@@ -241,7 +250,7 @@ class Emitter:
 
     # --- all
 
-    def write(self):
+    def write(self) -> None:
         self.write_start()
         for here, following in zip(self.copies.order, [*self.copies.order[1:], None]):
             self.places[here] = len(self.out)
@@ -257,7 +266,7 @@ class Emitter:
             self.put(Instruction(MOVE_CONSTANT, 0, immediate=ABORTED), Kind.OUTSIDE, 0)
             self.put(Instruction(EXIT), Kind.OUTSIDE, 0)
 
-    def write_start(self):
+    def write_start(self) -> None:
         """Keeps the context, and a 0 of which the verifier knows only that it is 0 or 1. So a distance is a number on
         every way and a constant on none; else the verifier would keep it apart."""
         globals_used = sorted({insn.counter for insn in self.copies.code.values() if insn.counter is not None})
@@ -271,7 +280,7 @@ class Emitter:
             self.put_own(0, AND_CONSTANT, 0, 0, 0, 1)
             self.save(ZERO_SLOT, 0, 0)
 
-    def write_copy(self, here):
+    def write_copy(self, here: Copy) -> Optional[Instruction]:
         """What stands at a copy. A branch is given back: its target comes later."""
         slot = here.slot
         if here.phase == OUTSIDE:
@@ -287,7 +296,7 @@ class Emitter:
             return self.put_own(slot, IF_EQUAL_CONSTANT, register, 0, 0, numbers[here.phase.number], copy=here)
         return self.write_instruction(here, self.copies.code[slot])
 
-    def write_instruction(self, here, insn):
+    def write_instruction(self, here: Copy, insn: Instruction) -> Optional[Instruction]:
         slot = here.slot
         if slot in self.marks.blurred:
             (zero,), give_back = self.borrow(1, slot, self.copies.live[slot])
@@ -319,7 +328,7 @@ class Emitter:
                 self.save(("counted", self.known[slot]), insn.destination, slot + 1)
         return None
 
-    def write_otherwise(self, here, insn):
+    def write_otherwise(self, here: Copy, insn: Instruction) -> bool:
         """Whether the result has something else in the place of this instruction; it is written then."""
         slot, marks = here.slot, self.marks
         check_store(self, here, insn)
@@ -336,7 +345,7 @@ class Emitter:
             return insn.is_load and loads_constant(self, here, insn) or takes_address(self, here, insn)
         return True
 
-    def goes_to_accesses(self, here, insn):
+    def goes_to_accesses(self, here: Copy, insn: Instruction) -> bool:
         """Whether it adds a constant to a map's value: the accesses have it in their offsets instead."""
         if not insn.is_arithmetic or insn.operation not in (ADD, SUB):
             return False
@@ -346,18 +355,18 @@ class Emitter:
             raise Fail("the address of a map's value is added to a number: add the number to the address", here.slot)
         return True
 
-    def offset(self, here, insn):
+    def offset(self, here: Copy, insn: Instruction) -> int:
         """The offset of an access, with what was added to its map's value."""
         base = here.constants.registers.get(insn.base) if insn.is_load or insn.is_store else None
         return insn.offset + (base.offset if is_address(base, VALUE) else 0)
 
-    def lead(self, here, way, after, following):
+    def lead(self, here: Copy, way: int, after: Copy, following: Optional[Copy]) -> None:
         """From a copy to the next one."""
         self.store_distances(here, way, after)
         if after is not following:
             self.put_jump(after.slot, after)
 
-    def write_ways(self, here, branch, following):
+    def write_ways(self, here: Copy, branch: Instruction, following: Optional[Copy]) -> None:
         """After a branch: where it isn't taken, and where its distances are stored if it is."""
         (way, fallen), (other, jumped) = here.ways
         self.store_distances(here, way, fallen)
@@ -369,7 +378,7 @@ class Emitter:
             self.places[here, other] = len(self.out)
             self.lead(here, other, jumped, following)
 
-    def program(self):
+    def program(self) -> tuple[list[str], list[tuple[int, str]], dict[int, Label]]:
         """The program's words, its relocations, and the label of each of its slots."""
         starts, total = [], 0
         for instruction in self.out:

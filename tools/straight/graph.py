@@ -1,5 +1,7 @@
 """A program as a graph of slots: what follows what, what is live, and what lies in loops."""
-from typing import NamedTuple
+from __future__ import annotations
+
+from typing import TYPE_CHECKING, AbstractSet, Callable, Iterable, Iterator, NamedTuple, Optional
 
 from .instructions import (
     ADD_CONSTANT,
@@ -21,6 +23,9 @@ from .instructions import (
     writes,
 )
 
+if TYPE_CHECKING:
+    from .instructions import Code, Instruction
+
 SIZE, MOST_SHIFT, LSH_CONSTANT, RSH_CONSTANT = "size", 16, ALU64 | LSH, ALU64 | RSH
 
 
@@ -28,7 +33,7 @@ class Fail(Exception):
     """Why a program can't be straightened, in words for its author. `slot`: where, in the program as it was. `cause`:
     of the verifier's, or SIZE, which says what to write instead."""
 
-    def __init__(self, words, slot=None, cause=None):
+    def __init__(self, words: str, slot: Optional[int] = None, cause: Optional[str] = None) -> None:
         super().__init__(words)
         self.slot, self.cause = slot, cause
 
@@ -36,18 +41,18 @@ class Fail(Exception):
 class NoBound(Fail):
     """A loop of which no constant says how often it runs."""
 
-    def __init__(self, words, slot):
+    def __init__(self, words: str, slot: int) -> None:
         super().__init__(words, slot, "V5")
 
 
 class TooMany(Fail):
     """More copies than anybody wants."""
 
-    def __init__(self, words, slot):
+    def __init__(self, words: str, slot: int) -> None:
         super().__init__(words, slot, "V5")
 
 
-def successors(code, slot):
+def successors(code: Code, slot: int) -> list[int]:
     """The slots to which control may go from a slot."""
     instruction = code[slot]
     if instruction.opcode == EXIT:
@@ -59,7 +64,7 @@ def successors(code, slot):
     return [slot + instruction.slots]
 
 
-def predecessors(code):
+def predecessors(code: Code) -> dict[int, list[int]]:
     """For each slot, the slots from which control may come."""
     before = {slot: [] for slot in code}
     for slot in code:
@@ -70,7 +75,7 @@ def predecessors(code):
     return before
 
 
-def backwards(code, step):
+def backwards(code: Code, step: Callable[[int, frozenset[int]], AbstractSet[int]]) -> dict[int, AbstractSet[int]]:
     """The least sets, one per slot, with `step(slot, the set after it)` as the set before it."""
     found, before, todo = {slot: frozenset() for slot in code}, predecessors(code), list(code)
     while todo:
@@ -82,17 +87,17 @@ def backwards(code, step):
     return found
 
 
-def live_registers(code):
+def live_registers(code: Code) -> dict[int, AbstractSet[int]]:
     """The registers that may still be read, before each slot."""
     return backwards(code, lambda slot, behind: reads(code[slot]) | (behind - writes(code[slot])))
 
 
-def loops(code):
+def loops(code: Code) -> set[int]:
     """The slots from which control can come back to them: Tarjan's strong components, without recursion."""
     number, lowest, path, open_slots, inside = {}, {}, [], set(), set()
     todo = []
 
-    def enter(slot):
+    def enter(slot: int) -> None:
         number[slot] = lowest[slot] = len(number)
         path.append(slot)
         open_slots.add(slot)
@@ -120,7 +125,7 @@ def loops(code):
     return inside
 
 
-def slots_that_reach(code, goals):
+def slots_that_reach(code: Code, goals: Iterable[int]) -> set[int]:
     """The slots from which one of the goals can be reached, and the goals."""
     before, reached, todo = predecessors(code), set(goals), list(goals)
     while todo:
@@ -130,12 +135,12 @@ def slots_that_reach(code, goals):
     return reached
 
 
-def steering_registers(code):
+def steering_registers(code: Code) -> dict[int, AbstractSet[int]]:
     """The registers, before each slot, whose numbers may decide a jump in a loop or before one, or become part of an
     address. Numbers in others needn't be told apart: they are sums, flags and the answer."""
     near = slots_that_reach(code, loops(code))
 
-    def step(slot, behind):
+    def step(slot: int, behind: AbstractSet[int]) -> AbstractSet[int]:
         instruction = code[slot]
         if instruction.is_branch:
             return behind | (reads(instruction) if slot in near else set())
@@ -161,25 +166,25 @@ class Steering(NamedTuple):
     sources: set
     bounds: list
 
-    def is_by_data(self, code, loop):
+    def is_by_data(self, code: Code, loop: set[int]) -> bool:
         """Whether something is loaded in the loop that steers it."""
         return any(code[slot].is_load for slot in self.sources & loop)
 
-    def step(self, code, loop):
+    def step(self, code: Code, loop: set[int]) -> int:
         """The least number that is added to what is compared in one step of the loop."""
         added = [code[slot] for slot in self.sources & loop if code[slot].opcode == ADD_CONSTANT]
         return min([insn.immediate for insn in added if insn.immediate > 0], default=1)
 
-    def cursors(self, code, loop):
+    def cursors(self, code: Code, loop: set[int]) -> set[int]:
         """The registers that are counted in the loop."""
         return {code[slot].destination for slot in self.sources & loop if code[slot].is_arithmetic}
 
-    def first(self, code, loop):
+    def first(self, code: Code, loop: set[int]) -> int:
         """The greatest constant with which the compared numbers begin."""
         moved = [code[slot] for slot in self.sources - loop]
         return max([0, *(insn.immediate for insn in moved if insn.opcode == MOVE_CONSTANT)])
 
-    def most(self, code, loop, mask):
+    def most(self, code: Code, loop: set[int], mask: int) -> int:
         """The greatest number that a mask leaves, after the shifts that follow."""
         number = code[mask].immediate
         for slot in sorted(slot for slot in self.sources - loop if slot > mask):
@@ -190,7 +195,7 @@ class Steering(NamedTuple):
         return number
 
 
-def steering(code, loop):
+def steering(code: Code, loop: set[int]) -> Iterator[Steering]:
     """What steers a loop, for each jump that leaves it."""
     before, ahead = predecessors(code), slots_that_reach(code, loop)
     compared = [slot for slot in sorted(ahead - loop) if is_upper_bound(code, slot, ahead)]
@@ -204,7 +209,7 @@ def steering(code, loop):
         yield Steering(jump, staying[0], sorted(masks, reverse=True), sources, sorted(bounds))
 
 
-def is_upper_bound(code, slot, ahead):
+def is_upper_bound(code: Code, slot: int, ahead: set[int]) -> bool:
     """Whether a jump leads to these slots only if a number is at most about a constant."""
     instruction = code[slot]
     if not instruction.is_branch or instruction.by_register:
@@ -214,7 +219,7 @@ def is_upper_bound(code, slot, ahead):
     return instruction.operation in (JGT, JGE, JLT, JLE) and ways == below
 
 
-def made_of(code, before, jump, loop):
+def made_of(code: Code, before: dict[int, list[int]], jump: int, loop: set[int]) -> tuple[list[int], set[int]]:
     """The masks by a constant in front of the loop of which the numbers that a jump compares are made, and all the
     instructions from there on."""
     seen, masks, sources = set(), [], set()
@@ -235,11 +240,11 @@ def made_of(code, before, jump, loop):
     return masks, sources
 
 
-def is_mask(instruction):
+def is_mask(instruction: Instruction) -> bool:
     return instruction.kind == ALU64 and instruction.operation == AND and not instruction.by_register
 
 
-def loop_of(code, slot):
+def loop_of(code: Code, slot: int) -> set[int]:
     """The slots of the loop around a slot: those that it reaches and that reach it."""
     reached, todo = {slot}, [slot]
     while todo:

@@ -1,6 +1,8 @@
 """Instructions: from bytes to fields and back, what each reads and writes, and what it computes of constants.
 
 Names and numbers are those of RFC 9669, sections 3 to 5."""
+from __future__ import annotations
+
 import struct
 from dataclasses import dataclass
 from typing import NamedTuple, Optional
@@ -38,7 +40,7 @@ class Table(NamedTuple):
     first: int
     end: int
 
-    def number(self, place, load):
+    def number(self, place: int, load: Instruction) -> Optional[int]:
         """What a load gives from a place of the section; None outside of it."""
         raw = self.data[place : place + load.size] if place >= 0 else b""
         number = int.from_bytes(raw, "little")
@@ -62,61 +64,61 @@ class Instruction:
     counter: Optional[str] = None  # of one of a global's address: the map that the global is here
 
     @property
-    def kind(self):
+    def kind(self) -> int:
         """The instruction's class."""
         return self.opcode & 7
 
     @property
-    def operation(self):
+    def operation(self) -> int:
         return self.opcode & 0xF0
 
     @property
-    def by_register(self):
+    def by_register(self) -> bool:
         return bool(self.opcode & BY_REGISTER)
 
     @property
-    def slots(self):
+    def slots(self) -> int:
         return 1 if self.upper is None else 2
 
     @property
-    def is_arithmetic(self):
+    def is_arithmetic(self) -> bool:
         return self.kind in (ALU, ALU64)
 
     @property
-    def is_load(self):
+    def is_load(self) -> bool:
         return self.kind == LDX
 
     @property
-    def is_store(self):
+    def is_store(self) -> bool:
         """Whether it stores, by itself or as an atomic operation."""
         return self.kind in (ST, STX)
 
     @property
-    def is_branch(self):
+    def is_branch(self) -> bool:
         """Whether it is a jump with a condition."""
         return self.kind in (JMP, JMP32) and self.opcode not in (EXIT, CALL, JUMP)
 
     @property
-    def fetches(self):
+    def fetches(self) -> bool:
         """Whether it is an atomic operation that loads what was there."""
         return self.opcode == ATOMIC_DOUBLE and bool(self.immediate & FETCH)
 
     @property
-    def with_sign(self):
+    def with_sign(self) -> bool:
         """Whether it is a load that extends a sign."""
         return self.opcode >> 5 == MEMSX
 
     @property
-    def size(self):
+    def size(self) -> int:
         """How many bytes a load or a store reaches."""
         return ACCESS_SIZES[self.opcode & 0x18]
 
     @property
-    def base(self):
+    def base(self) -> int:
         """The register that has the address of a load or a store."""
         return self.source if self.is_load else self.destination
 
-    def words(self, offset=None):
+    def words(self, offset: Optional[int] = None) -> list[str]:
         """Its slots in hex, with another offset if one is given."""
         registers, offset = self.destination | self.source << 4, self.offset if offset is None else offset
         slots = [struct.pack("<BBhi", self.opcode, registers, offset, self.immediate)]
@@ -125,7 +127,10 @@ class Instruction:
         return [slot.hex() for slot in slots]
 
 
-def reads(instruction):
+Code = dict[int, Instruction]  # a program, by slots
+
+
+def reads(instruction: Instruction) -> set[int]:
     """The registers that an instruction reads. A call is the map lookup: it has two arguments."""
     source = {instruction.source} if instruction.by_register else set()
     if instruction.opcode == EXIT:
@@ -147,7 +152,7 @@ def reads(instruction):
     return {instruction.destination} | source
 
 
-def writes(instruction):
+def writes(instruction: Instruction) -> set[int]:
     """The registers that an instruction writes, or leaves without a value."""
     if instruction.opcode == CALL:
         return set(range(6))
@@ -156,7 +161,7 @@ def writes(instruction):
     return {instruction.source} if instruction.fetches else set()
 
 
-def signed(value, bits=64):
+def signed(value: int, bits: int = 64) -> int:
     """The number of two's complement that has these bits."""
     return (value & ((1 << (bits - 1)) - 1)) - (value & (1 << (bits - 1)))
 
@@ -178,13 +183,13 @@ ARITHMETIC = {
 }
 
 
-def swapped(instruction, value):
+def swapped(instruction: Instruction, value: int) -> int:
     """What a byte swap makes of a constant: to big end, to little end, or without condition."""
     raw = (value & ((1 << instruction.immediate) - 1)).to_bytes(instruction.immediate // 8, "little")
     return int.from_bytes(raw, "big" if instruction.by_register or instruction.kind == ALU64 else "little")
 
 
-def compute(instruction, a, b):
+def compute(instruction: Instruction, a: int, b: int) -> Optional[int]:
     """What arithmetic leaves of two constants, or None if this text doesn't know it: signed division."""
     bits = 64 if instruction.kind == ALU64 else 32
     mask = (1 << bits) - 1
@@ -210,7 +215,7 @@ CONDITIONS = {
 }
 
 
-def holds(instruction, a, b):
+def holds(instruction: Instruction, a: int, b: int) -> bool:
     """Whether a jump's condition holds of two constants."""
     bits = 64 if instruction.kind == JMP else 32
     mask = (1 << bits) - 1

@@ -1,6 +1,10 @@
 """Which stores surely don't go to the stack: those through an address of the packet or of a map's value, on all ways.
 
 All other stores whose place isn't known may change what is known of the stack."""
+from __future__ import annotations
+
+from typing import TYPE_CHECKING, Optional
+
 from .graph import successors
 from .instructions import (
     ADD,
@@ -16,6 +20,9 @@ from .instructions import (
     writes,
 )
 
+if TYPE_CHECKING:
+    from .instructions import Code, Instruction
+
 CONTEXT, FRAME, PACKET, VALUE = "context", "frame", "packet", "value"
 START_FIELDS = (0, 8)  # of the context: data and data_meta
 
@@ -25,21 +32,21 @@ class Kinds(dict):
     stack the distance from the frame's end, for a map's value who gave it and the distance, or None. Who gave it is the
     slot of a lookup, or of an addition of an index, or the name of a global."""
 
-    def stack_offset(self, access):
+    def stack_offset(self, access: Instruction) -> Optional[int]:
         kind, offset = self.get(access.base, ("", None))
         return offset + access.offset if kind == FRAME and offset is not None else None
 
-    def put(self, place, kind):
+    def put(self, place: object, kind: Optional[tuple]) -> None:
         self.pop(place, None)
         if kind is not None:
             self[place] = kind
 
-    def forget_stack(self, low=None, high=None):
+    def forget_stack(self, low: Optional[int] = None, high: Optional[int] = None) -> None:
         for place in [place for place in self if isinstance(place, tuple)]:
             if low is None or place[1] < high and low < place[1] + 8:
                 del self[place]
 
-    def after(self, slot, instruction):
+    def after(self, slot: int, instruction: Instruction) -> Kinds:
         behind = Kinds(self)
         if instruction.is_arithmetic:
             behind.put(instruction.destination, self.result(slot, instruction))
@@ -56,7 +63,7 @@ class Kinds(dict):
                 behind.put(instruction.destination, (VALUE, (instruction.counter, instruction.immediate)))
         return behind
 
-    def result(self, slot, instruction):
+    def result(self, slot: int, instruction: Instruction) -> Optional[tuple]:
         a, b = self.get(instruction.destination), self.get(instruction.source) if instruction.by_register else None
         if instruction.kind != ALU64 or instruction.offset or instruction.operation not in (MOV, ADD, SUB):
             return None
@@ -73,12 +80,12 @@ class Kinds(dict):
             place = place + constant if kind == FRAME else (place[0], place[1] + constant)
         return (kind, place) if kind in (FRAME, PACKET, VALUE) else None
 
-    def loaded(self, load):
+    def loaded(self, load: Instruction) -> Optional[tuple]:
         if self.get(load.source, ("",))[0] == CONTEXT and load.opcode == LOAD_WORD and load.offset in START_FIELDS:
             return PACKET, None
         return self.get(("stack", self.stack_offset(load))) if load.opcode == LOAD_DOUBLE else None
 
-    def store(self, store):
+    def store(self, store: Instruction) -> None:
         at = self.stack_offset(store)
         if at is not None:
             kind = self.get(store.source) if store.opcode == STORE_DOUBLE else None
@@ -89,15 +96,15 @@ class Kinds(dict):
         if store.fetches:
             self.put(store.source, None)
 
-    def is_elsewhere(self, store):
+    def is_elsewhere(self, store: Instruction) -> bool:
         return self.get(store.destination, ("",))[0] in (PACKET, VALUE)
 
-    def counter(self, access):
+    def counter(self, access: Instruction) -> Optional[tuple]:
         """The counter that an access reaches: who gave its value, and how far in it it lies; or None."""
         kind, place = self.get(access.base, ("", None))
         return (place[0], place[1] + access.offset) if kind == VALUE and place is not None else None
 
-    def met(self, other):
+    def met(self, other: Kinds) -> Kinds:
         """What holds on both of two ways."""
         both = {place: (kind, other[place]) for place, kind in self.items() if place in other}
         return Kinds(
@@ -105,7 +112,7 @@ class Kinds(dict):
         )
 
 
-def kinds_before(code):
+def kinds_before(code: Code) -> dict[int, Kinds]:
     """The kinds before each slot that can be reached."""
     before, todo = {0: Kinds({CONTEXT_ARGUMENT: (CONTEXT, None), FRAME_POINTER: (FRAME, 0)})}, [0]
     while todo:
@@ -119,7 +126,7 @@ def kinds_before(code):
     return before
 
 
-def stores_elsewhere(code):
+def stores_elsewhere(code: Code) -> set[int]:
     """The slots of the stores that surely don't go to the stack."""
     before = kinds_before(code)
     return {slot for slot, kinds in before.items() if code[slot].is_store and kinds.is_elsewhere(code[slot])}

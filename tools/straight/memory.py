@@ -3,7 +3,9 @@
 In the result a register that had an address of constants has the place in their section, a number. A load from a known
 place is that number; one from another place becomes tests of the place, and in each of their ends the number that is
 loaded there. A global's value is looked up once, in front of all."""
-from typing import NamedTuple
+from __future__ import annotations
+
+from typing import TYPE_CHECKING, Iterable, NamedTuple
 
 from .addresses import TableAddress
 from .constants import in_table
@@ -22,13 +24,18 @@ from .instructions import (
     signed,
 )
 
+if TYPE_CHECKING:
+    from .copies import Copy
+    from .emit import Emitter
+    from .instructions import Instruction
+
 LOOKUP, ANSWER, MAP_ARGUMENT, KEY_ARGUMENT = 1, 0, 1, 2  # the helper, and its registers
 KEY_SLOT = "key"
 MOST_PLACES = 1 << 16
 SLOPES = 0, 1  # of runs of numbers, by place
 
 
-def put_number(emitter, slot, register, number):
+def put_number(emitter: Emitter, slot: int, register: int, number: int) -> None:
     """A constant in a register."""
     if -(1 << 31) <= signed(number) < 1 << 31:
         emitter.put_own(slot, MOVE_CONSTANT, register, 0, 0, signed(number))
@@ -36,7 +43,7 @@ def put_number(emitter, slot, register, number):
         emitter.put_own(slot, WIDE_LOAD, register, 0, 0, signed(number & MASK_32, 32), signed(number >> 32, 32))
 
 
-def loads_constant(emitter, here, load):
+def loads_constant(emitter: Emitter, here: Copy, load: Instruction) -> bool:
     """Whether a load is from constants; it is written then."""
     known, place = here.constants.registers.get(load.base), emitter.addresses.before[here].get(load.base)
     if in_table(known):
@@ -60,7 +67,7 @@ class Run(NamedTuple):
     constant: int
 
 
-def put_run(emitter, slot, load, run):
+def put_run(emitter: Emitter, slot: int, load: Instruction, run: Run) -> None:
     """A run's number in the register that is loaded."""
     if not run.slope:
         put_number(emitter, slot, load.destination, run.constant)
@@ -71,7 +78,7 @@ def put_run(emitter, slot, load, run):
         emitter.put_own(slot, ADD_CONSTANT, load.destination, 0, 0, run.constant)
 
 
-def check_store(emitter, here, store):
+def check_store(emitter: Emitter, here: Copy, store: Instruction) -> None:
     """Ends if something is stored to a global that isn't a counter."""
     place = emitter.addresses.before[here].get(store.base) if store.is_store else None
     if isinstance(place, TableAddress):
@@ -82,7 +89,7 @@ def check_store(emitter, here, store):
         )
 
 
-def runs(address, load):
+def runs(address: TableAddress, load: Instruction) -> list[Run]:
     """The runs of a table's numbers, in order of the places."""
     table, stride = address.table, load.size if address.stride in (0, 1) else address.stride
     first = table.first + (address.place + load.offset - table.first) % stride
@@ -103,7 +110,7 @@ def runs(address, load):
     return rows
 
 
-def choose(emitter, here, load, rows, is_last=True):
+def choose(emitter: Emitter, here: Copy, load: Instruction, rows: list[Run], is_last: bool = True) -> None:
     """Tests of the place, down to each run's number. `is_last`: nothing is written after it."""
     if not rows:
         raise Fail("this reads outside of the constants", here.slot)
@@ -120,7 +127,7 @@ def choose(emitter, here, load, rows, is_last=True):
     choose(emitter, here, load, rows[half:], is_last)
 
 
-def look_up_globals(emitter, names):
+def look_up_globals(emitter: Emitter, names: Iterable[str]) -> None:
     """In front of the program: the value of each global's map, kept on the stack."""
     for name in names:
         emitter.put_own(0, MOVE_CONSTANT, KEY_ARGUMENT)
@@ -134,7 +141,7 @@ def look_up_globals(emitter, names):
     emitter.load(CONTEXT_ARGUMENT, emitter.context, 0)
 
 
-def takes_address(emitter, here, wide):
+def takes_address(emitter: Emitter, here: Copy, wide: Instruction) -> bool:
     """Whether a wide load is of the address of constants or of a global; it is written then."""
     if wide.table is not None:
         emitter.put_own(here.slot, MOVE_CONSTANT, wide.destination, 0, 0, wide.immediate)

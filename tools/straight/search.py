@@ -18,9 +18,12 @@ first program is that of the copies alone. Then, one mark per refusal:
                      what was loaded is added, if the load stays (`differences`)
 
 No mark is taken back, so the search ends. It is made in several ways (`WAYS`): as few numbers told apart as loops
-need, their counters alone, all in loops, or all; a meeting marked as one copy or at all copies of its slot, or none, and each access
-rebased."""
+need, their counters alone, all in loops, or all; a meeting marked as one copy or at all copies of its slot, or none, and
+each access rebased."""
+from __future__ import annotations
+
 from dataclasses import dataclass, field
+from typing import TYPE_CHECKING, Iterable, Iterator, Optional, Sequence
 
 from .addresses import ADDED, KEPT, MET, Addresses, PacketAddress, StackSlot, Thing
 from .copies import COUNTERS, EVERYWHERE, IN_LOOPS, STEERING, Cases, Copies, Trips, Wide
@@ -30,6 +33,13 @@ from .graph import SIZE, Fail, NoBound, TooMany, loop_of, steering
 from .instructions import ALU64, AND, JMP, JMP32, LSH, MASK_32, RSH, compute, writes
 from .settings import instructions_of, text_of
 from .verifier import verdict
+
+if TYPE_CHECKING:
+    from .addresses import Place
+    from .copies import Copy
+    from .graph import Steering
+    from .instructions import Code, Instruction
+    from .verifier import Verdict
 
 MOST_STEPS = 64  # of a cursor, from its first number to the most that a mask allows
 MOST_TURNS, MOST_CASES, MOST_CASE_BITS = 200, 64, 6
@@ -86,25 +96,25 @@ class Search:
     """One search. `numbers`: which are told apart; `way`: what is marked first if an address was lost: a meeting
     as one copy (BY_COPY) or at all copies of its slot (BY_SLOT), or the access, to be rebased (BY_ACCESS)."""
 
-    def __init__(self, settings, xdpbox, numbers, way):
+    def __init__(self, settings: dict, xdpbox: str, numbers: str, way: str) -> None:
         self.settings, self.xdpbox, self.numbers, self.way = settings, xdpbox, numbers, way
         self.code = instructions_of(settings)
         self.marks = Marks(values=any(insn.counter is not None for insn in self.code.values()))
         self.copies = self.addresses = self.labels = None
         self.began = False  # whether there was a program to ask the verifier of
 
-    def mark(self, here, place):
+    def mark(self, here: Copy, place: Place) -> tuple:
         """How a meeting is marked. All its registers are: one of them is often made from another."""
         return (here.slot if self.way == BY_SLOT else here.key, place if isinstance(place, StackSlot) else None)
 
-    def is_marked(self, here, place):
+    def is_marked(self, here: Copy, place: Place) -> bool:
         kept = place if isinstance(place, StackSlot) else None
         return (here.key, kept) in self.marks.meetings or (here.slot, kept) in self.marks.meetings
 
-    def is_restarted(self, here, place):
+    def is_restarted(self, here: Copy, place: Place) -> bool:
         return (here.key, place) in self.marks.restarts
 
-    def mark_meetings(self, rows):
+    def mark_meetings(self, rows: Iterable[tuple[Copy, Place]]) -> bool:
         """Marks meetings, (copy, place) each: whether one is new. If several copies of a slot are marked, all are."""
         fresh = {self.mark(*row) for row in rows if not self.is_marked(*row)}
         self.marks.meetings |= fresh
@@ -115,7 +125,7 @@ class Search:
                 self.marks.meetings.add((slot, kept))
         return bool(fresh)
 
-    def mark_guard(self, here):
+    def mark_guard(self, here: Copy) -> bool:
         """Marks an access to be guarded, in all copies of its slot if several need it."""
         if here.key in self.marks.guards or here.slot in self.marks.guards:
             return False
@@ -124,7 +134,7 @@ class Search:
             self.marks.guards.add(here.slot)
         return True
 
-    def run(self):
+    def run(self) -> Result:
         judged = 0
         for _ in range(MOST_TURNS):
             program = self.emitted()
@@ -146,7 +156,7 @@ class Search:
                 raise StillRefused(words, label.slot if label else None, answer.cause)
         raise Fail("it isn't accepted after many changes", None, SIZE)
 
-    def emitted(self):
+    def emitted(self) -> Optional[tuple]:
         """The program with the marks as they are; None if a further meeting had to be marked."""
         marks = self.marks
         try:
@@ -162,12 +172,12 @@ class Search:
             self.mark_meetings(needs.meetings)
             return None
 
-    def result(self, words, relocations):
+    def result(self, words: list[str], relocations: list[tuple[int, str]]) -> Result:
         return Result(words, relocations, self.labels, sorted(self.marks.counts), self.marks.differences)
 
     # --- what a refusal asks for; each answers whether there is a new mark
 
-    def learn(self, answer):
+    def learn(self, answer: Verdict) -> bool:
         label = self.labels.get(answer.slot)
         if label is None or label.kind != Kind.COPY:
             return False
@@ -197,13 +207,13 @@ class Search:
             return True
         return self.rebase(label.copy, instruction.base)
 
-    def narrow(self, slot):
+    def narrow(self, slot: int) -> bool:
         """A load of a part of a counter."""
         fresh = slot not in self.marks.narrow and self.code[slot].size < 8
         self.marks.narrow |= {slot} if fresh else set()
         return fresh
 
-    def fuse(self, slot):
+    def fuse(self, slot: int) -> bool:
         mended = fused(self.code, slot)
         if mended is None:
             found = difference(self.code, slot)
@@ -214,21 +224,21 @@ class Search:
         self.marks.counts.append(slot)
         return True
 
-    def rebase(self, here, register):
+    def rebase(self, here: Copy, register: int) -> bool:
         """An access in front of what was compared: its address is made anew from its own distance, and compared."""
         if not isinstance(self.addresses.before[here].get(register), PacketAddress) or here.key in self.marks.rebased:
             return False
         self.marks.rebased.add(here.key)
         return True
 
-    def blur(self, address):
+    def blur(self, address: PacketAddress) -> bool:
         """Numbers that were added, and are constants on some ways alone: the verifier would keep the sums apart."""
         fresh = {atom.copy.slot: atom.place for atom in address.atoms if atom.name == ADDED}
         fresh = {slot: place for slot, place in fresh.items() if slot not in self.marks.blurred}
         self.marks.blurred.update(fresh)
         return bool(fresh)
 
-    def widen(self, answer, address):
+    def widen(self, answer: Verdict, address: PacketAddress) -> bool:
         """A number that is too wide for an address: a test in front of its addition, the named one or the last."""
         lost = answer.lost()
         named = self.labels.get(lost.slot) if lost else None
@@ -245,7 +255,7 @@ class Search:
         self.marks.wide[here.slot] = Wide(register, positive)
         return True
 
-    def limit(self, address):
+    def limit(self, address: PacketAddress) -> bool:
         """A distance that is the sum of several numbers, and all that it is made of: tests where they are stored."""
         stored = {}
         for row in self.addresses.stored.values():
@@ -261,7 +271,7 @@ class Search:
         self.marks.limited |= found
         return fresh
 
-    def restart(self, here, register):
+    def restart(self, here: Copy, register: int) -> bool:
         """An address plus so many numbers that their sum may lie far past any packet: it was compared with the
         packet's end, and is made anew from its distance there."""
         if (here.key, register) in self.marks.restarts:
@@ -270,7 +280,7 @@ class Search:
         self.marks.limited.add(here.key)
         return True
 
-    def tell_apart(self, answer):
+    def tell_apart(self, answer: Verdict) -> bool:
         """A number of few values that is added to an address of the stack or of a map's value: a copy for each."""
         lost = answer.lost()
         label = self.labels.get(lost.slot) if lost else None
@@ -286,7 +296,7 @@ class Search:
         self.marks.cases[label.slot] = Cases(lost.register, tuple(numbers))
         return True
 
-    def tell_trips_apart(self, slot, by_number):
+    def tell_trips_apart(self, slot: int, by_number: bool) -> bool:
         """A loop that runs as often as a masked number says, as over the words of a header: a copy for each number.
         If its cursor grows by what is loaded, as over options: as many copies as the cursor has steps of one.
         `by_number`: whether the former may help."""
@@ -296,7 +306,7 @@ class Search:
             self.tell_bounded_apart(row, loop) for row in rows
         )
 
-    def tell_bounded_apart(self, row, loop):
+    def tell_bounded_apart(self, row: Steering, loop: set[int]) -> bool:
         """The same, of a number that was compared with a constant in front of the loop."""
         steps = [-(-bound // row.step(self.code, loop)) for bound in row.bounds]
         steps = [number for number in steps if 1 < number <= MOST_STEPS]
@@ -305,7 +315,7 @@ class Search:
         self.marks.trips[row.inside] = Trips(max(steps), row.cursors(self.code, loop))
         return True
 
-    def tell_masked_apart(self, row, loop, by_number):
+    def tell_masked_apart(self, row: Steering, loop: set[int], by_number: bool) -> bool:
         """The same, for a number after a mask."""
         for mask in row.masks:
             numbers = parts_of(self.code[mask].immediate)
@@ -320,7 +330,7 @@ class Search:
         return False
 
 
-def masked(code, slot, register):
+def masked(code: Code, slot: int, register: int) -> Sequence[int]:
     """What a number can be that was masked by a constant, and maybe shifted, just before a slot; else nothing."""
     behind = []
     while slot - 1 in code or slot - 2 in code:  # the latter in front of a wide load's second half
@@ -338,7 +348,7 @@ def masked(code, slot, register):
     return ()
 
 
-def parts_of(mask):
+def parts_of(mask: int) -> Sequence[int]:
     """The numbers that have no bit but those of a mask, of masks with few bits."""
     if mask <= 0 or bin(mask).count("1") > MOST_CASE_BITS:
         return ()
@@ -348,14 +358,14 @@ def parts_of(mask):
     return numbers
 
 
-def after_shifts(number, shifts):
+def after_shifts(number: int, shifts: list[Instruction]) -> int:
     """A number after these instructions, of which the last comes first."""
     for instruction in reversed(shifts):
         number = compute(instruction, number, instruction.immediate)
     return number
 
 
-def searches(settings, xdpbox, faults, unguarded):
+def searches(settings: dict, xdpbox: str, faults: list[Fail], unguarded: list[Result]) -> Iterator[Result]:
     """What the searches find, the smaller of two programs first. The next two begin only if nobody took one of
     these, and none that would have too many copies again. Why a search found none is added to the faults. If some
     results of the first ones want a guard that nobody asked for (`unguarded`), others do too, but for those that tell

@@ -1,10 +1,16 @@
 """Settings: the program that they hold, and settings with another program. docs/SETTINGS.md has the format."""
+from __future__ import annotations
+
 import struct
+from typing import TYPE_CHECKING
 
 from .instructions import FAR_JUMP, JUMP, WIDE_LOAD, Instruction, Table
 
+if TYPE_CHECKING:
+    from .instructions import Code
 
-def instructions_of(settings):
+
+def instructions_of(settings: dict) -> Code:
     """The instructions of a program by their slots."""
     data = bytes.fromhex("".join(settings["program"]))
     maps = {row["slot"]: row["map"] for row in settings.get("reloc", [])}
@@ -25,7 +31,7 @@ def instructions_of(settings):
     return code
 
 
-def name_memory(instruction, row, settings):
+def name_memory(instruction: Instruction, row: dict, settings: dict) -> None:
     """Names the constants or the global of which an instruction has the address."""
     instruction.immediate = row["place"]
     if "section" in row:
@@ -35,12 +41,12 @@ def name_memory(instruction, row, settings):
         instruction.counter = row["map"]
 
 
-def relocations_of(settings):
+def relocations_of(settings: dict) -> list[tuple[int, str]]:
     """The relocations of settings, as (slot, map)."""
     return [(row["slot"], row["map"]) for row in settings.get("reloc", [])]
 
 
-def text_of(settings, words, relocations):
+def text_of(settings: dict, words: list[str], relocations: list[tuple[int, str]]) -> str:
     """Settings with this program, its relocations, and the maps of these settings."""
     lines = ["program = [", *(f'  "{word}",' for word in words), "]"]
     for row in settings.get("map", []):
@@ -52,7 +58,7 @@ def text_of(settings, words, relocations):
     return "\n".join(lines) + "\n"
 
 
-def text_beside(result, original, labels):
+def text_beside(result: dict, original: dict, labels: dict) -> str:
     """Settings with the original of their program, as `xdpbox same` reads them. `labels`: of each slot of the result its
     kind and a slot of the original."""
     rows = (labels.get(slot, ("copy", 0)) for slot in range(len(result["program"])))
@@ -64,12 +70,12 @@ def text_beside(result, original, labels):
     return as_text(result) + "\n".join(lines) + "\n"
 
 
-def as_text(settings):
+def as_text(settings: dict) -> str:
     """The program, the maps and the relocations of settings: what a verdict depends on."""
     return text_of(settings, settings["program"], relocations_of(settings))
 
 
-def whole_text_of(settings, words, relocations):
+def whole_text_of(settings: dict, words: list[str], relocations: list[tuple[int, str]]) -> str:
     """Settings with this program and all else that these settings have."""
     lines = [f"{key} = {settings[key]}" for key in ("queues", "ifindex", "start", "script") if key in settings]
     packets = []

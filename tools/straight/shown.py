@@ -2,6 +2,8 @@
 
 This is the one place that decides it: what isn't shown here isn't printed. `xdpbox same` is asked first, whose yes is
 proved; else the comparison of the package `same` decides, which is tested."""
+from __future__ import annotations
+
 from typing import NamedTuple, Optional
 
 from same.check import Check
@@ -30,7 +32,7 @@ class Shown(NamedTuple):
     missing: Optional[Fail] = None
 
 
-def shown(xdpbox, original, result, labels, guard, proved):
+def shown(xdpbox: str, original: dict, result: dict, labels: dict, guard: bool, proved: bool) -> Shown:
     """What is shown of a result. `labels`: of each of its slots the kind and a slot of the original. `guard`: whether
     it may end in front of an access outside of the packet. `proved`: whether a tested comparison isn't enough."""
     asked = question(original, result, labels)
@@ -48,7 +50,7 @@ def shown(xdpbox, original, result, labels, guard, proved):
     return Shown(COMPARED, guards, what_is_missing(check, guards, guard))
 
 
-def question(original, result, labels):
+def question(original: dict, result: dict, labels: dict) -> Optional[str]:
     """What `xdpbox same` is asked of a result, or None: an original with addresses of constants or globals is no program
     for xdpbox, and both have to have the same maps."""
     if original.get("tables") or original.get("globals") or maps_and_rest(original) != maps_and_rest(result):
@@ -56,7 +58,7 @@ def question(original, result, labels):
     return text_beside(result, original, labels)
 
 
-def what_is_missing(check, guards, guard):
+def what_is_missing(check: Check, guards: tuple, guard: bool) -> Optional[Fail]:
     """Why a result can't be taken that was followed to its end: it may end when the original doesn't."""
     if check.unproven:
         at = min(check.unproven.values())

@@ -1,4 +1,6 @@
 """What xdpbox says of a program: `explain`, and what its words mean; and `same`."""
+from __future__ import annotations
+
 import re
 import subprocess
 from dataclasses import dataclass
@@ -21,15 +23,15 @@ class Verdict:
     slot: Optional[int] = None
 
     @property
-    def accepted(self):
+    def accepted(self) -> bool:
         return self.cause is None and re.search(r"^accepted, ", self.words, re.M) is not None
 
     @property
-    def too_many_notes(self):
+    def too_many_notes(self) -> bool:
         """Whether it says that more ways meet there than it keeps apart."""
         return re.search(r"is an address on \d+ of the eight notes", self.words) is not None
 
-    def lost(self):
+    def lost(self) -> Optional[Lost]:
         """What is said of an address that became a number."""
         found = re.search(r"^ *R\d+ was ([a-z_]+)\S* before (\d+)(?: with R(\d+)=([^\s:]+))?", self.words, re.M)
         if not found:
@@ -39,13 +41,13 @@ class Verdict:
         return Lost(found[1], int(found[2]), register, (int(span[1]), int(span[2])) if span else None)
 
 
-def is_same(xdpbox, settings):
+def is_same(xdpbox: str, settings: str) -> bool:
     """Whether `xdpbox same` shows that the program of settings, as text, has the runs of the one beside it."""
     run = subprocess.run([xdpbox, "same"], input=settings, capture_output=True, text=True, check=False)
     return run.returncode == 0 and run.stdout.startswith("same, ")
 
 
-def verdict(xdpbox, settings):
+def verdict(xdpbox: str, settings: str) -> Verdict:
     """What `xdpbox explain` answers to settings as text."""
     run = subprocess.run([xdpbox, "explain"], input=settings, capture_output=True, text=True, check=False)
     refused = re.search(r"^refused (V\d+) at (\d+)", run.stdout, re.M)
