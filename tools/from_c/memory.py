@@ -63,9 +63,9 @@ def extent_of(symbols: list[Symbol], part: Part, variable: Optional[Symbol], pla
     """From where to where the constant lies in which a place is. One without a name lies between its neighbours."""
     if variable is not None and place < variable.place + variable.size:
         return variable.place, variable.place + variable.size
-    behind = [row.place for row in symbols if row.section == part.number and row.size and row.place > place]
+    later = [row.place for row in symbols if row.section == part.number and row.size and row.place > place]
     first = variable.place + variable.size if variable is not None else 0
-    return min(first, place), min(behind, default=len(part.data))
+    return min(first, place), min(later, default=len(part.data))
 
 
 def faults_of_memory(sections: dict[str, Part], relocations: list[Relocation]) -> Iterator[tuple[int, str]]:

@@ -113,12 +113,12 @@ def beside_end(forms: Forms, operation: int, address: Form, facts: Facts, span: 
     low, high = span(forms.subtract(address, forms.start), facts.ranges)
     if low > MOST_LENGTH and high < NEAR:
         return {JEQ: False, JNE: True, JGT: True, JGE: True, JLT: False, JLE: False}[operation]
-    if 0 <= low and high < NEAR and room_behind(forms, address, facts, span) >= 0:
+    if 0 <= low and high < NEAR and room_after(forms, address, facts, span) >= 0:
         return {JGT: False, JLE: True}.get(operation)
     return None
 
 
-def room_behind(forms: Forms, address: Form, facts: Facts, span: Optional[Span] = None) -> int:
+def room_after(forms: Forms, address: Form, facts: Facts, span: Optional[Span] = None) -> int:
     """How many bytes from an address on lie in the packet at least; negative if none are known to."""
     rooms, span = [], span or forms.span
     for end in facts.within:
@@ -154,7 +154,7 @@ def below_an_address(forms: Forms, holds: int, a: Form, b: Form, facts: Facts) -
     if holds not in (JLT, JLE):
         return facts
     low, high = forms.span(forms.subtract(b, forms.start), facts.ranges)
-    if low < 0 or high >= NEAR or room_behind(forms, b, facts) < 0:
+    if low < 0 or high >= NEAR or room_after(forms, b, facts) < 0:
         return facts
     return within_packet(forms, forms.add(a, number(holds == JLT)), facts)
 

@@ -8,7 +8,7 @@ from __future__ import annotations
 from dataclasses import dataclass, replace
 from typing import TYPE_CHECKING, AbstractSet, NoReturn, Optional
 
-from .facts import APART, MOST_LENGTH, NEAR, Facts, common, room_behind
+from .facts import APART, MOST_LENGTH, NEAR, Facts, common, room_after
 from .forms import ZERO, Form, narrower, number, signed
 
 if TYPE_CHECKING:
@@ -115,7 +115,7 @@ def keep_ranges(forms: Forms, states: list[State], found: State) -> None:
             ahead = ZERO if is_address else forms.start
             room = MOST_LENGTH
             for there, facts in rows:
-                room = min(room, room_behind(forms, forms.add(there, ahead), facts)) if room >= 0 else room
+                room = min(room, room_after(forms, forms.add(there, ahead), facts)) if room >= 0 else room
             within |= {forms.add(forms.add(form, ahead), number(room))} if room >= 0 else set()
     found.facts = found.facts._replace(ranges=ranges, within=worth_keeping(forms, found, within))
 

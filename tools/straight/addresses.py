@@ -153,16 +153,16 @@ class Addresses:
         restarted: Callable[[Copy, Place], bool] = lambda copy, place: False,
     ) -> None:
         self.elsewhere, self.marked, self.restarted = copies.elsewhere, marked, restarted
-        self.before, self.remade, self.stored, behind = {}, {}, {}, {}
+        self.before, self.remade, self.stored, after = {}, {}, {}, {}
         for here in copies.order:
             if here is copies.first:
                 places = {CONTEXT_ARGUMENT: Thing.CONTEXT, FRAME_POINTER: Thing.FRAME}
             else:
-                ways = [(before, way, behind[before]) for before, way in here.before]
+                ways = [(before, way, after[before]) for before, way in here.before]
                 places = self.meet(here, ways, copies.live[here.slot])
-            self.before[here], behind[here] = places, dict(places)
+            self.before[here], after[here] = places, dict(places)
             if here.is_instruction:
-                self.step(here, copies.code[here.slot], behind[here])
+                self.step(here, copies.code[here.slot], after[here])
 
     def meet(self, here: Copy, ways: list, live: AbstractSet[int]) -> dict:
         """What the places stand for where ways meet."""

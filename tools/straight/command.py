@@ -32,7 +32,7 @@ TOP = pathlib.Path(__file__).resolve().parents[2]
 # a refusal's words are those of instructions; these are those of C
 IN_C = {
     "V5": "bound the loop by a constant too, as `for (int i = 0; i < 16 && more; i++)`; `break` may leave it early",
-    "V10": "compare the end of what is read with data_end on each way to this line; or say --guard: where the packet is"
+    "V10": "compare the end of what is read with data_end on each way to this line; or say --guard: if the packet is"
     " too short, the program then ends with ABORTED",
     "V11": "initialize the variable on each way to this line",
     "V12": "the fields of the context are data, data_end, data_meta, ingress_ifindex and rx_queue_index, each a __u32",
@@ -156,7 +156,7 @@ def notes_of(result: Result, guards: Iterable[int], per_cpu: Callable[[int], boo
     for slot, row in sorted(result.differences.items()):
         yield slot, SET if row.told or not row.known else ADDED_LATER
     for slot in guards:
-        yield slot, "guarded: where this would reach outside the packet, the program ends with ABORTED"
+        yield slot, "guarded: if this would reach outside the packet, the program ends with ABORTED"
 
 
 def describe(
@@ -179,8 +179,8 @@ def describe(
 
 def marked_lines(lines: list[str]) -> Iterator[str]:
     """The line of an explanation that names the instruction, and what was known of its registers."""
-    for line, behind in zip(lines, [*lines[1:], ""]):
+    for line, below in zip(lines, [*lines[1:], ""]):
         if line.lstrip().startswith(">"):
             yield f"  {line}"
-            if behind.startswith("     ") and "=" in behind:
-                yield f"  {behind}"
+            if below.startswith("     ") and "=" in below:
+                yield f"  {below}"

@@ -145,20 +145,20 @@ class Constants:
 
     def after(self, instruction: Instruction, elsewhere: bool = False) -> Constants:
         """`elsewhere`: of a store, whether it surely doesn't go to the stack."""
-        behind = Constants(dict(self.registers), dict(self.stack), self.values, self.passed)
+        following = Constants(dict(self.registers), dict(self.stack), self.values, self.passed)
         if instruction.is_arithmetic:
-            behind._put(instruction.destination, self._result(instruction))
+            following._put(instruction.destination, self._result(instruction))
         elif instruction.is_load:
-            behind._put(instruction.destination, self._loaded(instruction))
+            following._put(instruction.destination, self._loaded(instruction))
         elif instruction.opcode == WIDE_LOAD:
-            behind._put(instruction.destination, self._wide(instruction))
+            following._put(instruction.destination, self._wide(instruction))
         elif instruction.is_store:
-            behind._store(instruction, elsewhere)
+            following._store(instruction, elsewhere)
         elif instruction.opcode == CALL:
             for register in range(6):
-                behind._put(register, None)
-            behind._put(0, Address(VALUE) if self.values else None)
-        return behind
+                following._put(register, None)
+            following._put(0, Address(VALUE) if self.values else None)
+        return following
 
     def _put(self, register: int, value: Optional[Constant]) -> None:
         if value is None:

@@ -106,16 +106,16 @@ def shared_slots(copies: Copies, addresses: Addresses) -> dict:
             beside.setdefault(atom, set()).update(atoms)
 
     for here in reversed(copies.order):
-        behind = set()
+        later = set()
         for way, after in here.ways:
             rows = addresses.stored.get((here, way), [])
             written = {atom for atom, _ in rows}
             read = {part for _, address in rows for part in address.atoms}
             together(written | read | needed[after])
-            behind |= read | needed[after] - written
+            later |= read | needed[after] - written
         kept = {Atom(KEPT, here, row.place) for row in addresses.remade.get(here, []) if row.leader is None}
-        together(behind | saved.get(here, set()))
-        needed[here] = behind - saved.get(here, set()) | kept
+        together(later | saved.get(here, set()))
+        needed[here] = later - saved.get(here, set()) | kept
         together(needed[here])
     order = {here: number for number, here in enumerate(copies.order)}
     numbers = {}

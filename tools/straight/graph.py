@@ -89,7 +89,7 @@ def backwards(code: Code, step: Callable[[int, frozenset[int]], AbstractSet[int]
 
 def live_registers(code: Code) -> dict[int, AbstractSet[int]]:
     """The registers that may still be read, before each slot."""
-    return backwards(code, lambda slot, behind: reads(code[slot]) | (behind - writes(code[slot])))
+    return backwards(code, lambda slot, needed: reads(code[slot]) | (needed - writes(code[slot])))
 
 
 def loops(code: Code) -> set[int]:
@@ -140,17 +140,17 @@ def steering_registers(code: Code) -> dict[int, AbstractSet[int]]:
     address. Numbers in others needn't be told apart: they are sums, flags and the answer."""
     near = slots_that_reach(code, loops(code))
 
-    def step(slot: int, behind: AbstractSet[int]) -> AbstractSet[int]:
+    def step(slot: int, needed: AbstractSet[int]) -> AbstractSet[int]:
         instruction = code[slot]
         if instruction.is_branch:
-            return behind | (reads(instruction) if slot in near else set())
+            return needed | (reads(instruction) if slot in near else set())
         if instruction.opcode == EXIT:
             return frozenset()
         if instruction.is_store:
             kept = instruction.kind == STX and instruction.destination == FRAME_POINTER
-            return behind | {instruction.base} | ({instruction.source} if kept else set())
-        used = instruction.is_load or instruction.opcode == CALL or writes(instruction) & behind
-        return behind - writes(instruction) | (reads(instruction) if used else set())
+            return needed | {instruction.base} | ({instruction.source} if kept else set())
+        used = instruction.is_load or instruction.opcode == CALL or writes(instruction) & needed
+        return needed - writes(instruction) | (reads(instruction) if used else set())
 
     return backwards(code, step)
 

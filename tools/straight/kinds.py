@@ -47,21 +47,21 @@ class Kinds(dict):
                 del self[place]
 
     def after(self, slot: int, instruction: Instruction) -> Kinds:
-        behind = Kinds(self)
+        following = Kinds(self)
         if instruction.is_arithmetic:
-            behind.put(instruction.destination, self.result(slot, instruction))
+            following.put(instruction.destination, self.result(slot, instruction))
         elif instruction.is_load:
-            behind.put(instruction.destination, self.loaded(instruction))
+            following.put(instruction.destination, self.loaded(instruction))
         elif instruction.is_store:
-            behind.store(instruction)
+            following.store(instruction)
         else:
             for register in writes(instruction):
-                behind.put(register, None)
+                following.put(register, None)
             if instruction.opcode == CALL:
-                behind.put(0, (VALUE, (slot, 0)))
+                following.put(0, (VALUE, (slot, 0)))
             elif instruction.counter is not None:
-                behind.put(instruction.destination, (VALUE, (instruction.counter, instruction.immediate)))
-        return behind
+                following.put(instruction.destination, (VALUE, (instruction.counter, instruction.immediate)))
+        return following
 
     def result(self, slot: int, instruction: Instruction) -> Optional[tuple]:
         a, b = self.get(instruction.destination), self.get(instruction.source) if instruction.by_register else None
@@ -117,9 +117,9 @@ def kinds_before(code: Code) -> dict[int, Kinds]:
     before, todo = {0: Kinds({CONTEXT_ARGUMENT: (CONTEXT, None), FRAME_POINTER: (FRAME, 0)})}, [0]
     while todo:
         slot = todo.pop()
-        behind = before[slot].after(slot, code[slot])
+        following = before[slot].after(slot, code[slot])
         for after in successors(code, slot):
-            met = before[after].met(behind) if after in before else behind
+            met = before[after].met(following) if after in before else following
             if met != before.get(after):
                 before[after] = met
                 todo.append(after)

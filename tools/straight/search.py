@@ -332,7 +332,7 @@ class Search:
 
 def masked(code: Code, slot: int, register: int) -> Sequence[int]:
     """What a number can be that was masked by a constant, and maybe shifted, just before a slot; else nothing."""
-    behind = []
+    later = []
     while slot - 1 in code or slot - 2 in code:  # the latter in front of a wide load's second half
         slot -= 1 if slot - 1 in code else 2
         instruction = code[slot]
@@ -342,9 +342,9 @@ def masked(code: Code, slot: int, register: int) -> Sequence[int]:
         elif instruction.kind != ALU64 or instruction.by_register or instruction.operation not in (AND, LSH, RSH):
             return ()
         elif instruction.operation == AND and instruction.immediate > 0:
-            return [after_shifts(number, behind) for number in parts_of(instruction.immediate)]
+            return [after_shifts(number, later) for number in parts_of(instruction.immediate)]
         else:
-            behind.append(instruction)
+            later.append(instruction)
     return ()
 
 
