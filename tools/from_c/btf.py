@@ -144,13 +144,13 @@ def lines_of(sections: dict[str, Part], program: str, source: str) -> dict[int, 
     at, end = header + start, header + start + length
     if length < 4:
         return {}
-    (size,), at, found = struct.unpack_from("<I", more, at), at + 4, {}
+    (size,), at, lines = struct.unpack_from("<I", more, at), at + 4, {}
     while at < end:
         section, count = struct.unpack_from("<II", more, at)
         at += 8
         for _ in range(count):
             place, file, _, line = struct.unpack_from("<IIII", more, at)
             if text_at(names, section) == program and line >> 10:
-                found[place // 8] = f"{named(text_at(names, file), source)}:{line >> 10}"
+                lines[place // 8] = f"{named(text_at(names, file), source)}:{line >> 10}"
             at += size
-    return found
+    return lines

@@ -107,30 +107,30 @@ HELPERS = {
 }
 
 
-def faults_of_map(found: MapOfC) -> Iterator[str]:
+def faults_of_map(declared: MapOfC) -> Iterator[str]:
     """What is wrong with a map as C declares it."""
-    if found.type is None:
-        yield f'{found.name} stands in section ".maps", and is no struct with a type and sizes, as maps are declared'
+    if declared.type is None:
+        yield f'{declared.name} stands in section ".maps", and is no struct with a type and sizes, as maps are declared'
         return
-    if found.type not in ARRAYS:
-        name, instead = MAP_TYPES.get(found.type, (str(found.type), NO_STATE))
-        known = f"the map {found.name} is a BPF_MAP_TYPE_{name}, and there are arrays alone (ARRAY, PERCPU_ARRAY)"
+    if declared.type not in ARRAYS:
+        name, instead = MAP_TYPES.get(declared.type, (str(declared.type), NO_STATE))
+        known = f"the map {declared.name} is a BPF_MAP_TYPE_{name}, and there are arrays alone (ARRAY, PERCPU_ARRAY)"
         yield f"{known}: {instead}"
         return
-    if found.key_bytes != 4:
-        yield f"the keys of the map {found.name} have {found.key_bytes} bytes: a key has 4, as a __u32"
-    if found.value_bytes == 0 or found.value_bytes % 8:
+    if declared.key_bytes != 4:
+        yield f"the keys of the map {declared.name} have {declared.key_bytes} bytes: a key has 4, as a __u32"
+    if declared.value_bytes == 0 or declared.value_bytes % 8:
         yield (
-            f"the values of the map {found.name} have {found.value_bytes} bytes: a value is 1 to {MOST_COUNTERS}"
+            f"the values of the map {declared.name} have {declared.value_bytes} bytes: a value is 1 to {MOST_COUNTERS}"
             " counters of 8 bytes; make each a __u64"
         )
-    elif found.parts:
-        name, size = found.parts[0]
-        yield f"in the values of the map {found.name}, {name} has {size} bytes: a counter has 8; make each a __u64"
-    elif found.value_bytes // 8 > MOST_COUNTERS:
-        yield f"the values of the map {found.name} have {found.value_bytes // 8} counters: at most {MOST_COUNTERS}"
-    if not found.entries:
-        yield f"the map {found.name} has no number of entries: say __uint(max_entries, N)"
+    elif declared.parts:
+        name, size = declared.parts[0]
+        yield f"in the values of the map {declared.name}, {name} has {size} bytes: a counter has 8; make each a __u64"
+    elif declared.value_bytes // 8 > MOST_COUNTERS:
+        yield f"the values of the map {declared.name} have {declared.value_bytes // 8} counters: at most {MOST_COUNTERS}"
+    if not declared.entries:
+        yield f"the map {declared.name} has no number of entries: say __uint(max_entries, N)"
 
 
 def faults_of_sizes(maps: list[tuple[str, int, int]]) -> Iterator[str]:

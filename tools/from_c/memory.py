@@ -40,23 +40,23 @@ def is_counter(section: str, variable: Optional[Symbol]) -> bool:
 
 def memory_of(sections: dict[str, Part], relocations: list[Relocation]) -> Memory:
     """The memory that a program's relocations name."""
-    symbols, found = symbols_of(sections), Memory({}, [], [], [])
+    symbols, memory = symbols_of(sections), Memory({}, [], [], [])
     for row in relocations:
         if row.kind != MAP_ADDRESS or not row.section.startswith(MEMORY):
             continue
         part = sections[row.section]
         variable = variable_at(symbols, part.number, row.place)
         if is_counter(row.section, variable):
-            found.globals.append({"slot": row.slot, "map": variable.name, "place": row.place - variable.place})
+            memory.globals.append({"slot": row.slot, "map": variable.name, "place": row.place - variable.place})
             size = 1, max(1, variable.size // COUNTER_BYTES)
-            if (variable.name, *size) not in found.maps:
-                found.maps.append((variable.name, *size))
+            if (variable.name, *size) not in memory.maps:
+                memory.maps.append((variable.name, *size))
             continue
         first, end = extent_of(symbols, part, variable, row.place)
-        found.constants[row.section] = part.data
+        memory.constants[row.section] = part.data
         place = {"section": row.section, "place": row.place, "first": first, "end": end}
-        found.tables.append({"slot": row.slot, "name": row.name or row.section, **place})
-    return found
+        memory.tables.append({"slot": row.slot, "name": row.name or row.section, **place})
+    return memory
 
 
 def extent_of(symbols: list[Symbol], part: Part, variable: Optional[Symbol], place: int) -> tuple[int, int]:

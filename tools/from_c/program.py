@@ -38,11 +38,11 @@ def read(source: str, worded: list[tuple[str, int, int]]) -> Filter:
     place = place_in_c(btf.lines_of(sections, program, source))
     maps, per_cpu = maps_of(source, sections, worded, memory.maps)
     code = sections[program].data
-    found = [
+    rows = [
         *faults.faults_of_program(code, relocations, [name for name, _, _ in maps]),
         *faults_of_memory(sections, relocations),
     ]
-    stop_on(f"{place(slot) or f'{source}: slot {slot}'} {fault}" for slot, fault in sorted(found))
+    stop_on(f"{place(slot) or f'{source}: slot {slot}'} {fault}" for slot, fault in sorted(rows))
     relocations = [row for row in relocations if not row.section]
     code = cleared(code, relocations)
     settings = {
@@ -71,9 +71,9 @@ def name_of_program(source: str, sections: dict[str, Part]) -> str:
     return ""
 
 
-def stop_on(found: Iterable[str]) -> None:
+def stop_on(words: Iterable[str]) -> None:
     """Names the faults and ends, if there are any."""
-    lines = list(found)
+    lines = list(words)
     if lines:
         say(lines[:-1])
         fail(lines[-1])
@@ -84,14 +84,14 @@ def maps_of(
 ) -> tuple[list[tuple[str, int, int]], set[str]]:
     """The maps as (name, entries, counters), and the names of those that are per CPU in Linux."""
     said = {name for name, _, _ in worded}
-    found = list(btf.Types(sections[".BTF"].data).maps()) if ".maps" in sections and ".BTF" in sections else []
-    found = [row for row in found if row.name not in said]
-    stop_on(f"{source}: {fault}" for row in found for fault in faults.faults_of_map(row))
-    maps = worded + [(row.name, row.entries, row.value_bytes // 8) for row in found] + of_globals
+    declared = list(btf.Types(sections[".BTF"].data).maps()) if ".maps" in sections and ".BTF" in sections else []
+    declared = [row for row in declared if row.name not in said]
+    stop_on(f"{source}: {fault}" for row in declared for fault in faults.faults_of_map(row))
+    maps = worded + [(row.name, row.entries, row.value_bytes // 8) for row in declared] + of_globals
     stop_on(f"{source}: {fault}" for fault in faults.faults_of_sizes(maps))
     named = {row.name for row in elf.symbols_of(sections)}
     stop_on(f"{source}: there is no map {name} in it" for name in sorted(said - named))
-    return maps, {row.name for row in found if row.type == faults.PER_CPU_ARRAY}
+    return maps, {row.name for row in declared if row.type == faults.PER_CPU_ARRAY}
 
 
 def cleared(program: bytes, relocations: list[Relocation]) -> bytes:

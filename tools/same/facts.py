@@ -69,8 +69,8 @@ def in_range(operation: int, low: int, high: int, value: int) -> Optional[bool]:
 
 def decided(forms: Forms, opcode: int, a: Form, b: Form, facts: Facts) -> Optional[bool]:
     """Whether a jump is taken, if forms and facts say so."""
-    found = decided_by(forms, opcode, a, b, facts, forms.span)
-    return decided_by(forms, opcode, a, b, facts, forms.sharper_span) if found is None else found
+    taken = decided_by(forms, opcode, a, b, facts, forms.span)
+    return decided_by(forms, opcode, a, b, facts, forms.sharper_span) if taken is None else taken
 
 
 def decided_by(forms: Forms, opcode: int, a: Form, b: Form, facts: Facts, span: Span) -> Optional[bool]:

@@ -166,8 +166,8 @@ class Forms:
 
     def operate(self, slot: Union[Slot, Shift], a: Form, b: Form, ranges: dict) -> Form:
         """What an arithmetic instruction makes of two forms. `ranges`: of forms without constant."""
-        found = self.exact(slot, a, b, ranges)
-        return self.operated(slot.opcode, a, b, slot.immediate, slot.offset) if found is None else found
+        exact = self.exact(slot, a, b, ranges)
+        return self.operated(slot.opcode, a, b, slot.immediate, slot.offset) if exact is None else exact
 
     def exact(self, slot: Union[Slot, Shift], a: Form, b: Form, ranges: dict) -> Optional[Form]:
         """The result as a linear form, if the ranges say that nothing is cut off; else None."""
@@ -297,14 +297,14 @@ class Forms:
             least, most = self.range_of(atom, ranges)
             ends = signed(factor) * least, signed(factor) * most
             low, high = low + min(ends), high + max(ends)
-        found = low, high
+        bounds = low, high
         for atom, factor in form.terms[-MOST_PARTED:] if len(form.terms) > 2 else ():
             # what is known of all the form but one atom, of those that were made last
             rest = ranges.get(Form(0, tuple(term for term in form.terms if term[0] != atom)))
             if rest and factor == 1:
                 least, most = self.range_of(atom, ranges)
-                found = narrower(found, (rest[0] + least, rest[1] + most))
-        low, high = narrower(found, ranges.get(form.without_constant, found))
+                bounds = narrower(bounds, (rest[0] + least, rest[1] + most))
+        low, high = narrower(bounds, ranges.get(form.without_constant, bounds))
         return low + signed(form.constant), high + signed(form.constant)
 
     def sharper_span(self, form: Form, ranges: dict) -> Range:

@@ -68,9 +68,9 @@ def met(forms: Forms, pc: int, states: list[State]) -> State:
     known = {}
     parts = {name: joined(forms, pc, [getattr(state, name) for state in states], states, known) for name in PARTS}
     facts = common([state.facts for state in states])
-    found = State(states[0].at, **parts, facts=facts, owed=states[0].owed)
-    keep_ranges(forms, states, found)
-    return found
+    merged = State(states[0].at, **parts, facts=facts, owed=states[0].owed)
+    keep_ranges(forms, states, merged)
+    return merged
 
 
 def joined(forms: Forms, pc: int, rows: list[dict], states: list[State], known: dict) -> dict:
@@ -95,11 +95,11 @@ def keep_range(forms: Forms, ranges: dict, form: Form, low: int, high: int) -> N
     ranges[alone] = narrower(ranges.get(alone, (low - constant, high - constant)), (low - constant, high - constant))
 
 
-def keep_ranges(forms: Forms, states: list[State], found: State) -> None:
+def keep_ranges(forms: Forms, states: list[State], merged: State) -> None:
     """What is known of each number, and for each address its distance from the packet's start and the room after it, on
     all ways. The atoms one by one don't tell it."""
-    ranges, within = dict(found.facts.ranges), set(found.facts.within)
-    for register, form in found.old.items():
+    ranges, within = dict(merged.facts.ranges), set(merged.facts.within)
+    for register, form in merged.old.items():
         is_address = dict(form.terms).get(forms.start.terms[0][0]) == 1
         rows = [(state.old[register], state.facts) for state in states]
         if not is_address and all(there == form for there, _ in rows):
@@ -117,12 +117,12 @@ def keep_ranges(forms: Forms, states: list[State], found: State) -> None:
             for there, facts in rows:
                 room = min(room, room_after(forms, forms.add(there, ahead), facts)) if room >= 0 else room
             within |= {forms.add(forms.add(form, ahead), number(room))} if room >= 0 else set()
-    found.facts = found.facts._replace(ranges=ranges, within=worth_keeping(forms, found, within))
+    merged.facts = merged.facts._replace(ranges=ranges, within=worth_keeping(forms, merged, within))
 
 
-def worth_keeping(forms: Forms, found: State, within: AbstractSet[Form]) -> frozenset[Form]:
+def worth_keeping(forms: Forms, merged: State, within: AbstractSet[Form]) -> frozenset[Form]:
     """The addresses in the packet whose atoms stand somewhere; the last of those that differ by a constant."""
-    alive = {atom for name in PARTS for form in getattr(found, name).values() for atom, _ in form.terms}
+    alive = {atom for name in PARTS for form in getattr(merged, name).values() for atom, _ in form.terms}
     alive |= {atom for form in (forms.start, forms.end) for atom, _ in form.terms}
     kept = {}
     for form in within:

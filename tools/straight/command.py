@@ -115,9 +115,9 @@ def straightened(settings: dict, xdpbox: str, wanted: Wanted = Wanted()) -> Opti
         answer = Verdict("")
     missing, faults, unguarded, slots = None, [], [], 0
     for result in searches(settings, xdpbox, faults, unguarded):
-        found, missing = taken(xdpbox, settings, result, wanted)
+        program, missing = taken(xdpbox, settings, result, wanted)
         if missing is None:
-            return found
+            return program
         if isinstance(missing, NoComparison):
             unguarded.append(result)
         slots += len(result.words)
@@ -134,13 +134,13 @@ def taken(xdpbox: str, settings: dict, result: Result, wanted: Wanted) -> tuple[
     labels = {slot: (label.kind.value, label.slot) for slot, label in result.labels.items()}
     relocations = [{"slot": slot, "map": name} for slot, name in result.relocations]
     rebuilt = {**settings, "program": result.words, "reloc": relocations}
-    found = shown(xdpbox, settings, rebuilt, labels, wanted.guard, wanted.proved)
-    if found.missing is not None:
-        return None, found.missing
+    judged = shown(xdpbox, settings, rebuilt, labels, wanted.guard, wanted.proved)
+    if judged.missing is not None:
+        return None, judged.missing
     lines = [f"{slot} {kind} {original}" for slot, (kind, original) in sorted(labels.items())]
-    notes = list(notes_of(result, found.guards, wanted.per_cpu))
+    notes = list(notes_of(result, judged.guards, wanted.per_cpu))
     asked = question(settings, rebuilt, labels)
-    return Straight(result.words, result.relocations, lines, notes, found.how, asked), None
+    return Straight(result.words, result.relocations, lines, notes, judged.how, asked), None
 
 
 def best_of(faults: list[Fail]) -> Fail:
@@ -165,8 +165,8 @@ def describe(
     """The lines that explain a refusal, of the program as it was. `place_of(slot)`: its line of C, or None."""
 
     def place(slot: Optional[int]) -> str:
-        found = place_of(slot) if place_of and slot is not None else None
-        return found or (f"slot {slot}" if slot is not None else name)
+        line = place_of(slot) if place_of and slot is not None else None
+        return line or (f"slot {slot}" if slot is not None else name)
 
     answer, why = refused.answer, refused.why
     if answer.cause is not None:

@@ -110,7 +110,7 @@ class Copies:
             if row.told:
                 self.mattering[row.counter] = self.mattering.get(row.counter, set()) | slots_that_reach(code, {store})
         self.telling = telling_numbers(code, numbers)
-        self.found, self.todo = {}, []
+        self.by_key, self.todo = {}, []
         self.first = self.copy(0, TESTS, Constants.at_start(marks.values))
         while self.todo:
             here = self.todo.pop()
@@ -131,12 +131,12 @@ class Copies:
         if phase == OUTSIDE:
             constants = Constants.at_end(constants.values)
         key = (slot, phase, *constants.key())
-        if key not in self.found:
-            if len(self.found) >= MOST_COPIES:
+        if key not in self.by_key:
+            if len(self.by_key) >= MOST_COPIES:
                 raise TooMany(f"a loop has no bound, or a large one: more than {MOST_COPIES} copies of its slots", slot)
-            self.found[key] = Copy(slot, phase, constants, key)
-            self.todo.append(self.found[key])
-        return self.found[key]
+            self.by_key[key] = Copy(slot, phase, constants, key)
+            self.todo.append(self.by_key[key])
+        return self.by_key[key]
 
     def ways(self, here: Copy) -> list[tuple[int, Copy]]:
         """The copies to which control may go from a copy."""

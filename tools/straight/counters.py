@@ -96,7 +96,7 @@ def stored(instruction: Instruction, place: tuple[str, int]) -> Optional[set]:
 
 def strong_parts(code: Code, slots: AbstractSet[int]) -> list[set[int]]:
     """The parts of these slots in which each can be reached from each, but for one slot without a jump to itself."""
-    left, found = set(slots), []
+    left, parts = set(slots), []
     backwards = {slot: [] for slot in slots}
     for slot in slots:
         for after in successors(code, slot):
@@ -108,8 +108,8 @@ def strong_parts(code: Code, slots: AbstractSet[int]) -> list[set[int]]:
         part = ahead & reached(first, left, lambda slot: backwards[slot])
         left -= part
         if len(part) > 1 or first in successors(code, first):
-            found.append(part)
-    return found
+            parts.append(part)
+    return parts
 
 
 def reached(first: int, slots: AbstractSet[int], following: Callable[[int], Iterable[int]]) -> set[int]:

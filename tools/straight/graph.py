@@ -77,14 +77,14 @@ def predecessors(code: Code) -> dict[int, list[int]]:
 
 def backwards(code: Code, step: Callable[[int, frozenset[int]], AbstractSet[int]]) -> dict[int, AbstractSet[int]]:
     """The least sets, one per slot, with `step(slot, the set after it)` as the set before it."""
-    found, before, todo = {slot: frozenset() for slot in code}, predecessors(code), list(code)
+    sets, before, todo = {slot: frozenset() for slot in code}, predecessors(code), list(code)
     while todo:
         slot = todo.pop()
-        now = step(slot, frozenset().union(*(found[after] for after in successors(code, slot))))
-        if now != found[slot]:
-            found[slot] = now
+        now = step(slot, frozenset().union(*(sets[after] for after in successors(code, slot))))
+        if now != sets[slot]:
+            sets[slot] = now
             todo += before[slot]
-    return found
+    return sets
 
 
 def live_registers(code: Code) -> dict[int, AbstractSet[int]]:

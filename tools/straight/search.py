@@ -216,9 +216,9 @@ class Search:
     def fuse(self, slot: int) -> bool:
         mended = fused(self.code, slot)
         if mended is None:
-            found = difference(self.code, slot)
-            fresh = found is not None and slot not in self.marks.differences
-            self.marks.differences.update({slot: found} if fresh else {})
+            row = difference(self.code, slot)
+            fresh = row is not None and slot not in self.marks.differences
+            self.marks.differences.update({slot: row} if fresh else {})
             return fresh
         self.code = mended
         self.marks.counts.append(slot)
@@ -261,14 +261,14 @@ class Search:
         for row in self.addresses.stored.values():
             for atom, made_of in row:
                 stored.setdefault(atom, []).extend(more for more in made_of.atoms if more.name == KEPT)
-        found, todo = set(), [atom for atom in address.atoms if atom.name == KEPT]
+        keys, todo = set(), [atom for atom in address.atoms if atom.name == KEPT]
         while todo:
             atom = todo.pop()
-            if atom.copy.key not in found:
-                found.add(atom.copy.key)
+            if atom.copy.key not in keys:
+                keys.add(atom.copy.key)
                 todo += stored.get(atom, [])
-        fresh = not found <= self.marks.limited
-        self.marks.limited |= found
+        fresh = not keys <= self.marks.limited
+        self.marks.limited |= keys
         return fresh
 
     def restart(self, here: Copy, register: int) -> bool:
@@ -372,16 +372,16 @@ def searches(settings: dict, xdpbox: str, faults: list[Fail], unguarded: list[Re
     all numbers apart."""
     hopeless = set()
     for numbers, ways in WAYS:
-        found = []
+        results = []
         if numbers in hopeless or unguarded and numbers == IN_LOOPS:
             continue
         for way in ways:
             search = Search(settings, xdpbox, numbers, way)
             try:
-                found.append(search.run())
+                results.append(search.run())
             except Fail as fail:
                 faults.append(fail)
                 if isinstance(fail, TooMany) and not search.began:
                     hopeless.add(numbers)
                     break
-        yield from sorted(found, key=lambda result: len(result.words))
+        yield from sorted(results, key=lambda result: len(result.words))

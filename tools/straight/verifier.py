@@ -33,12 +33,12 @@ class Verdict:
 
     def lost(self) -> Optional[Lost]:
         """What is said of an address that became a number."""
-        found = re.search(r"^ *R\d+ was ([a-z_]+)\S* before (\d+)(?: with R(\d+)=([^\s:]+))?", self.words, re.M)
-        if not found:
+        said = re.search(r"^ *R\d+ was ([a-z_]+)\S* before (\d+)(?: with R(\d+)=([^\s:]+))?", self.words, re.M)
+        if not said:
             return None
-        span = re.search(r"umin=(\d+),umax=(\d+)", found[4] or "")
-        register = int(found[3]) if found[3] else None
-        return Lost(found[1], int(found[2]), register, (int(span[1]), int(span[2])) if span else None)
+        span = re.search(r"umin=(\d+),umax=(\d+)", said[4] or "")
+        register = int(said[3]) if said[3] else None
+        return Lost(said[1], int(said[2]), register, (int(span[1]), int(span[2])) if span else None)
 
 
 def is_same(xdpbox: str, settings: str) -> bool:
