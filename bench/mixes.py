@@ -92,7 +92,7 @@ MIXES = {block.__name__: block for block in
 
 
 def mix(name, slots):
-    """So many slots: the beginning, as many whole blocks as there is room for, `r0 += 1` for the rest, the end."""
+    """A program of that many slots: the beginning, as many whole blocks as fit, `r0 += 1` for the rest, the end."""
     lines = list(BEGIN)
     while len(lines) < slots - len(END):
         block = MIXES[name](len(lines))

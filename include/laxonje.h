@@ -136,7 +136,7 @@ struct laxonje_program;
 /* A queue, or none. */
 struct laxonje_queue;
 
-/* So many frames, one after another, which one domain owns. */
+/* A run of frames, one after another, which one domain owns. */
 struct laxonje_extent {
 	uint32_t frames;
 	uint16_t domain;
@@ -376,7 +376,7 @@ uint32_t laxonje_queue_make(struct laxonje_program *program, const uint16_t *own
                             const uint32_t *table, size_t table_count, const struct laxonje_queue_desc *desc,
                             struct laxonje_queue *out);
 
-/* Makes a queue as laxonje_queue_make does, with the owners as extents: each a number of frames, one after another, from frame 0 on. They have at
+/* Makes a queue as laxonje_queue_make does, with the owners as extents: each a run of frames, one after another, from frame 0 on. They have at
  * most LAXONJE_EXTENT_FRAMES frames in all, and the table 1 to LAXONJE_EXTENT_TABLE_FRAMES. The extents are copied. Each check of a
  * grant searches them from the first on, so few long ones are best. */
 uint32_t laxonje_queue_make_extents(struct laxonje_program *program, const struct laxonje_extent *extents, size_t extent_count,

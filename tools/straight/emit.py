@@ -211,7 +211,7 @@ class Emitter:
             give_back()
 
     def remake(self, here: Copy) -> None:
-        """Behind a meeting: each address as the packet's start plus its distance."""
+        """After a meeting: each address as the packet's start plus its distance."""
         slot, live, rows = here.slot, self.copies.live[here.slot], self.addresses.remade.get(here, [])
         settled = {row.place for row in rows if not isinstance(row.place, StackSlot)}
         for row in rows:

@@ -21,7 +21,7 @@ use std::time::{Duration, Instant};
 const BACKENDS: &str = "backend/vif";
 const TOKEN: &str = "back";
 const LINUX_DRIVER: &str = "/sys/bus/xen-backend/drivers/vif";
-/// So many changes at once, before signals and questions have their turn.
+/// The most changes at once, before signals and questions have their turn.
 const MOST_CHANGES: usize = 1000;
 
 pub struct Backend {

@@ -18,7 +18,7 @@ const LEAST_MTU: u32 = 68;
 const MOST_MTU: u32 = 65_521;
 /// A queue's thread answers between two turns.
 const PATIENCE: Duration = Duration::from_secs(2);
-/// A guest may connect so often at once, and then once in this time.
+/// How often a guest may connect at once, and then once in this time.
 const CONNECTIONS: u32 = 10;
 const CONNECTS_EACH: Duration = Duration::from_millis(500);
 const MOST_STEPS: usize = 4;
@@ -118,7 +118,7 @@ impl Device {
         shared.store.read(&format!("{}/{name}", self.id.back()))
     }
 
-    /// Makes the TAP device, which stays until the device goes: also where this process ends before it.
+    /// Makes the TAP device, which stays until the device goes: even if this process ends before it.
     fn make_tap(&self, shared: &Shared) -> io::Result<()> {
         let tap = self.interface.open_tap()?;
         tap.keep(true)?;
@@ -135,7 +135,7 @@ impl Device {
         self.interface.set_up()
     }
 
-    /// Does what comes next. Whether the device is still there.
+    /// Does what comes next. Returns whether the device is still there.
     pub fn follow(&mut self, shared: &Shared) -> bool {
         self.later = None;
         for _ in 0..MOST_STEPS {

@@ -89,7 +89,7 @@ fn in_ipv6(frame: &[u8], at: usize) -> Option<Carried> {
     None
 }
 
-/// Where the checksum of a frame is that is blank, its field being set to the sum of the pseudo header. `None`: it is no whole TCP or UDP
+/// Where a frame's blank checksum is; its field is set to the sum of the pseudo header. `None`: it is no whole TCP or UDP
 /// packet of IP, and nothing can be filled in.
 pub fn prepare(frame: &mut [u8]) -> Option<Blank> {
     let carried = match network(frame)? {

@@ -67,7 +67,7 @@ pub enum KeyError {
     NoNumber(String),
     /// `request-rx-copy` isn't 1.
     NoCopy,
-    /// So many queues, and how many are offered.
+    /// How many queues it wants, and how many are offered.
     Queues(u32, u32),
     /// Both rings of a queue are one page.
     OneRing,
@@ -84,7 +84,7 @@ impl fmt::Display for KeyError {
     }
 }
 
-/// A number as XenStore's keys have them: digits alone.
+/// A number in a key of XenStore: digits alone.
 pub fn number(text: &str) -> Option<u32> {
     let digits = !text.is_empty() && text.bytes().all(|byte| byte.is_ascii_digit());
     if digits {

@@ -2,7 +2,7 @@
 use std::io::Write;
 use std::time::{Duration, Instant};
 
-/// So many lines at once; then one each so often.
+/// How many lines at once; then one in this time.
 const BURST: u32 = 5;
 const EACH: Duration = Duration::from_secs(10);
 
@@ -41,7 +41,7 @@ impl Default for Limit {
 }
 
 impl Limit {
-    /// So often at once, and then once in this time.
+    /// That many at once, and then one in this time.
     pub fn new(most: u32, each: Duration) -> Limit {
         Limit { most, each, left: most, since: Instant::now(), skipped: 0 }
     }

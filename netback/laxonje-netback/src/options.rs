@@ -15,7 +15,7 @@ usage: laxonje-netback [OPTION..]           serve the network devices of guests
   --queues N         offer N queues to each device, 1 to 64 (1)
   --bridge NAME      a bridge for devices that the toolstack gives neither a script nor a bridge
   --grants copy|map  how pages are had of Xen (copy)
-  --watch SECONDS    look so often whether a settings file has changed (only on SIGHUP and reload)
+  --watch SECONDS    look every SECONDS whether a settings file has changed (only on SIGHUP and reload)
   --nice N           at what priority, -20 to 19 (-10)
   --socket PATH      where stats and reload are answered (/run/laxonje-netback.sock)
   --unrestricted     keep capabilities and system calls: to look for a fault

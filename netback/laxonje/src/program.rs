@@ -167,7 +167,7 @@ impl Program {
         &self.maps
     }
 
-    /// As many zeros as its counters are.
+    /// As many zeros as it has counters.
     pub fn new_counters(&self) -> Vec<u64> {
         vec![0; self.handle.counters()]
     }

@@ -10,7 +10,7 @@ use std::fmt;
 /// The most frames of a grant table.
 pub const TABLE_FRAMES: usize = sys::LAXONJE_EXTENT_TABLE_FRAMES;
 
-/// So many frames, one after another, which one domain owns.
+/// A run of frames, one after another, which one domain owns.
 #[derive(Clone, Copy, Debug, PartialEq, Eq)]
 pub struct Extent {
     /// How many frames.
@@ -43,7 +43,7 @@ pub struct Setup<'a> {
     pub frontend: u16,
     /// The host's own domain.
     pub backend: u16,
-    /// What a notice has as its port.
+    /// The port that a notice names.
     pub port: u32,
     /// What the program is told of the interface.
     pub ifindex: u32,

@@ -15,7 +15,7 @@ use std::os::unix::net::UnixDatagram;
 /// `struct virtio_net_hdr`, which stands before each packet of a TAP device.
 pub const HEADER_BYTES: usize = 10;
 
-/// So many packets at once.
+/// The most packets at once.
 const MOST_AT_ONCE: usize = 256;
 
 /// A queue of a TAP device.

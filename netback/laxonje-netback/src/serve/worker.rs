@@ -18,7 +18,7 @@ use std::time::Duration;
 
 /// A guest that sends no notice for buffers is looked at again after this time.
 const LOOK_AGAIN: Duration = Duration::from_millis(10);
-/// So many packets of the guest's at once, before those to the guest have their turn.
+/// The most packets of the guest's at once, before those to the guest have their turn.
 const BUDGET: usize = 256;
 
 /// What the main thread wants of a queue's.
@@ -50,7 +50,7 @@ pub struct Place {
     pub domain: u16,
     pub device: u32,
     pub queue: u32,
-    /// How many times the device had been connected: a thread of an earlier connection reports nothing any more.
+    /// How many times the device had been connected: a thread of an earlier connection no longer reports.
     pub connection: u64,
 }
 
@@ -84,7 +84,7 @@ impl Reports {
 }
 
 impl Handle {
-    /// Whether the thread takes orders still.
+    /// Whether the thread still takes orders.
     pub fn order(&mut self, order: Order) -> bool {
         self.orders.send(order).is_ok() && self.wake.write(&[0]).is_ok()
     }
@@ -192,12 +192,12 @@ impl Running {
     fn round(&mut self) -> Result<bool, Ended> {
         let moved = self.take_packets()? | self.deliver_packets()?;
         self.send_notice()?;
-        // where more is to do, this looks for a TAP packet and an order and doesn't wait
+        // if more is to do, this looks for a TAP packet and an order and doesn't wait
         let more = (moved && self.worker.guest.shows_packets()) || self.arm()?;
         self.sleep(more)
     }
 
-    /// Asks the guest for a notice of its next packet. Whether there is one by now.
+    /// Asks the guest for a notice of its next packet. Returns whether there is one by now.
     fn arm(&mut self) -> Result<bool, Ended> {
         let turn = self.worker.queue.turn(&mut self.worker.guest);
         let more = turn != Turn::Idle;
@@ -258,7 +258,7 @@ impl Running {
         true
     }
 
-    /// Takes the packets that the guest shows. Whether there was one.
+    /// Takes the packets that the guest shows. Returns whether there was one.
     fn take_packets(&mut self) -> Result<bool, Ended> {
         if !self.worker.guest.shows_packets() {
             return Ok(false);
@@ -334,7 +334,7 @@ impl Running {
         }
     }
 
-    /// Delivers the packets that the TAP device has. Whether one was delivered, or was refused.
+    /// Delivers the packets that the TAP device has. Returns whether one was delivered, or was refused.
     fn deliver_packets(&mut self) -> Result<bool, Ended> {
         // what was just given to the TAP device may be answered at once
         let wants = !self.waiting && self.arena.first().is_none() && (self.tap_ready || !self.out.is_empty());

@@ -44,8 +44,8 @@ impl<Xen: Pages> XenGuest<Xen> {
         }
     }
 
-    /// Copies a whole page, or writes 0 into its first word, which shows whether Xen allows it: that word is written later. Where the
-    /// page lies here.
+    /// Copies a whole page, or writes 0 into its first word, which shows whether Xen allows it: that word is written later. Returns where
+    /// the page lies here.
     fn ask(&mut self, reference: u32, writes: bool) -> Option<usize> {
         let at = self.further_page()?;
         let mut copies = [PageCopy { reference, offset: 0, at, bytes: if writes { 4 } else { PAGE_BYTES }, allowed: false }];
