@@ -124,7 +124,7 @@ struct laxonje_program;
 /* ---- Netback's queue, whose accesses of the guest's pages the host makes: docs/HOST.md, "Netback's queue" */
 
 /* How many words are lent to a step: those of a page. Room for a step's ops: a packet of n slots has n + 2 at once at most, and more
-* steps if there is less room. The most frames and frames of a grant table, of laxonje_queue_make and then of
+ * steps if there is less room. The most frames and frames of a grant table, of laxonje_queue_make and then of
  * laxonje_queue_make_extents. */
 #define LAXONJE_PAGE_WORDS 1024
 #define LAXONJE_OPS 8
@@ -253,10 +253,10 @@ struct laxonje_queue_standing {
 
 /* What a host does next. A field that isn't of its kind is 0.
  *
-* For an access, `frame` has an owner, and `word + count` and `lent + count` are at most LAXONJE_PAGE_WORDS. For the READ of a grant entry,
+ * For an access, `frame` has an owner, and `word + count` and `lent + count` are at most LAXONJE_PAGE_WORDS. For the READ of a grant entry,
  * `entry` says what for, and `reference` which grant.
  *
-* For what is over, `number` is what the program returned, `cause` why it was refused or halted, `ops` how many operations on counters the
+ * For what is over, `number` is what the program returned, `cause` why it was refused or halted, `ops` how many operations on counters the
  * program's run did, and `slots` how many slots the packet took. `index` and `grant` are 0: they are for later versions. */
 struct laxonje_op {
 	uint32_t kind;
@@ -310,7 +310,7 @@ uint32_t laxonje_proved(void);
 const char *laxonje_build(void);
 
 /* A handle of a program, which holds none so far: laxonje_load, laxonje_load_settings and laxonje_again put one into it. Null if memory
-* ran out, or if the library is of another version. */
+ * ran out, or if the library is of another version. */
 static inline struct laxonje_program *laxonje_program_new(void);
 
 /* Frees a program and its handle, and sets the pointer to null. It does nothing with null. */
