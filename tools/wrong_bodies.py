@@ -56,8 +56,8 @@ class Unreadable(Exception):
 
 def read(path):
     """The edit in a file."""
-    with open(path, encoding="utf-8") as it:
-        return Edit(path, *parsed(it.read()))
+    with open(path, encoding="utf-8") as opened:
+        return Edit(path, *parsed(opened.read()))
 
 
 def parsed(text):
@@ -81,8 +81,8 @@ def parsed(text):
 
 
 def text_of(folder, file):
-    with open(os.path.join(folder, file), encoding="utf-8") as it:
-        return it.read()
+    with open(os.path.join(folder, file), encoding="utf-8") as opened:
+        return opened.read()
 
 
 def changed(texts, changes):
@@ -273,8 +273,8 @@ def check(crate, rtlib, texts, only=(), kept=None):
             if os.path.isdir(os.path.join(crate.folder, part)):
                 shutil.copytree(os.path.join(crate.folder, part), os.path.join(room, part))
         for file, text in texts.items():
-            with open(os.path.join(room, file), "w", encoding="utf-8") as it:
-                it.write(text)
+            with open(os.path.join(room, file), "w", encoding="utf-8") as opened:
+                opened.write(text)
         words = [rtlib.RATTLE, "check", *crate.words(["--jobs", "1"], keeps=False)]
         words += [word for name in only for word in ("--only", name)]
         words += ["--incremental", kept] if kept else []
