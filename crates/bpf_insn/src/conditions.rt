@@ -27,7 +27,7 @@ pub fn holds(cond: Condition, wide: bool, a: u64, b: u64) -> bool
     }
 }
 
-/// The same of a condition that is known where this is inlined.
+/// As [`holds`], for a condition that is known where this is inlined.
 #[inline(always)]
 fn at_width(cond: Condition, wide: bool, a: u64, b: u64) -> bool
     ensures { result ≡ is_met cond wide a b }

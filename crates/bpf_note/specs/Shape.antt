@@ -18,7 +18,7 @@ pub record IsShape (s : Shape) : Type 0 where
 abbrev pub AreShapes : List Shape → Type 0
 AreShapes shapes = (m : ℕ) (shape : Shape) → slice_get shapes m ≡ Some shape → IsShape shape
 
--- a value and a counter of it lie within the map, where there is one
+-- a value and a counter of it lie within the map, if there is one
 abbrev pub IsWithin : Option Shape → ℕ → ℕ → Type 0
 IsWithin None k j = ⊥
 IsWithin (Some s) k j = (k < s.entries) × (j < s.counters)

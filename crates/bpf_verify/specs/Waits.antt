@@ -8,7 +8,7 @@ use Rattle.bpf_verify.specs.Ways.{fall_to, jump_to}
 use Rattle.bpf_verify.specs.Marks.{marked}
 use Rattle.bpf_verify.specs.Orders.{Takes}
 
--- 1 where it is q
+-- 1 if it is q
 abbrev pub one : Option ℕ → ℕ → ℕ
 one None q = 0
 one (Some t) q = if t == q then 1 else 0
