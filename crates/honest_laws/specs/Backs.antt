@@ -42,8 +42,8 @@ WakeLaw = (w : Wiring) (start : ℕ) (s : State) (copies given : List (List ℕ)
     Slept start s copies given b → Inv w start m f b →
     Inv w start (record m { pending = false; awaits = awaits.Nothing }) f (woken b) × Ready start s copies given (woken b)
 
--- A wait that a back begins between turns, asleep or awake: the store of the event index keeps the invariant, and behind it the producer
--- shows some number of slots; where that is too few, it stays so or the front tells.
+-- A wait that a back begins between turns, asleep or awake: the store of the event index keeps the invariant, and then the producer
+-- shows some number of slots; if that is too few, it stays so or the front tells.
 abbrev pub AskLaw : Type 0
 AskLaw = (w : Wiring) (start : ℕ) → Laid w → (asleep : Bool) (s : State) (copies given : List (List ℕ)) (b : Back) →
     Resting asleep start s copies given b → (pages : ℕ) (m : Memory) (f : Front) → Inv w start m f b →
@@ -61,7 +61,7 @@ abbrev pub ForgetLaw : Type 0
 ForgetLaw = (w : Wiring) (start : ℕ) (m : Memory) (f : Front) (b : Back) → Inv w start m f b →
     Inv w start (record m { awaits = awaits.Nothing }) f b
 
--- what was too few still is, where the back's port isn't pending and no push of posts is open
+-- what was too few still is, if the back's port isn't pending and no push of posts is open
 abbrev pub ToldLaw : Type 0
 ToldLaw = (w : Wiring) (start : ℕ) (m : Memory) (f : Front) (b : Back) (index pages : ℕ) → Inv w start m f b → f.posting ≡ false →
     m.awaits ≡ awaits.Fewer index pages → m.pending ≡ false → distance index (m.word (page_word w.rx_frame 0)) < pages
@@ -75,7 +75,7 @@ abbrev pub GivenLaw : Type 0
 GivenLaw = (w : Wiring) (start : ℕ) (m : Memory) (f : Front) (b : Back) → Inv w start m f b → (more : List (List ℕ)) ×
     (bytes_in b.given ≡ bytes_in f.rx_told ++ more)
 
--- a back that sleeps and isn't woken has seen all, where no push of the front is open
+-- a back that sleeps and isn't woken has seen all, if no push of the front is open
 abbrev pub HeardLaw : Type 0
 HeardLaw = (w : Wiring) (start : ℕ) (m : Memory) (f : Front) (b : Back) (s : State) (copies given : List (List ℕ)) →
     Slept start s copies given b → Inv w start m f b →

@@ -15,7 +15,7 @@ use Rattle.honest_machine.specs.Halves.{Half, Over, HasRun}
 use Rattle.xen_buffers.specs.declared.wiring.Wiring.{Wiring}
 use Rattle.honest_laws.specs.Ghosts.{IsSent, Sent, Back, slots, bytes_in}
 
--- a back that is awake: so many slots of the packets ahead are read, and so many of them are answered
+-- a back that is awake: `used` slots of the packets ahead are read, and `wrote` of them are answered
 abbrev pub working : (d a : List Sent) → (used wrote : ℕ) → List Sent → List ℕ → ℕ → Back
 working d a used wrote g rs e =
     record {

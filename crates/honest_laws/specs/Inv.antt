@@ -137,7 +137,7 @@ module _ (w : Wiring) (start : ℕ) where
   abbrev pub Heard : Memory → Front → Back → Type 0
   Heard m f b = (b.event ≡ tx_answered b + 1) × ((m.pending ≡ true) ⊎ ((tx_sent f ≡ tx_answered b) ⊎ (f.window ≡ Some (tx_answered b))))
 
-  -- nor one about posts: where fewer than `pages` were posted past a position, the back is woken, that is still so, or it will be told
+  -- nor one about posts: if fewer than `pages` were posted past a position, the back is woken, that is still so, or it will be told
   pub record IsShort (pending : Bool) (posted : ℕ) (posting : Bool) (index pages : ℕ) : Type 0 where
     pub at : ℕ
     pub is : index ≡ add32 start at

@@ -47,7 +47,7 @@ back_asks (Second packet left t) m n = asked_of t m n
 back_asks (Delivering asleep packet t) m n = asked_of t m n
 back_asks (Waiting asleep pages t) m n = asked_of t m n
 
--- what begins, a delivery or a wait, where the back is between turns
+-- what begins, a delivery or a wait, if the back is between turns
 abbrev pub begun_at : BackAt → Item → List Item
 begun_at Asleep item = item ∷ []
 begun_at (First false t) item = item ∷ []

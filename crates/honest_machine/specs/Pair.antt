@@ -53,7 +53,7 @@ pub data BackAt : Type 0 where
   Delivering : (asleep : Bool) (packet : List ℕ) → Steps Arrival → BackAt
   Waiting : (asleep : Bool) (pages : ℕ) → Steps Wait → BackAt
 
--- a turn that is over, with the packet's copy where the program ran on one
+-- a turn that is over, with the packet's copy if the program ran on one
 pub record Past : Type 0 where
   pub turn : Turned
   pub copy : Option (List ℕ)
@@ -136,7 +136,7 @@ abbrev pub begin_poll : FrontWiring → Result (Unit {0}) PollRefusal → Pair �
 begin_poll w (Ok u) p = polling p (poll w p.front)
 begin_poll w (Err refusal) p = p
 
--- The calls find the front busy where it is inside an activity.
+-- The calls find the front busy if it is inside an activity.
 abbrev pub on_send : FrontWiring → Activity → Pair → List ℕ → Pair
 on_send w Free p bytes = begin_send w (send_result p.front bytes) p bytes
 on_send w (Sending t) p bytes = p
@@ -192,7 +192,7 @@ first w p (done h) = halved w p h
 first w p (ask v k) = record p { at = First true (ask v k) }
 first w p never = record p { at = First true never }
 
--- A sleeping back wakes where its port is pending, and clears it. That tells its host to look for posts anew.
+-- A sleeping back wakes if its port is pending, and clears it. That tells its host to look for posts anew.
 abbrev pub wake : BackWiring → Bool → Pair → Pair
 wake w true p = record p { memory = record p.memory { pending = false; awaits = awaits.Nothing }; at = First false (half_turn w p.back) }
 wake w false p = p
@@ -222,7 +222,7 @@ on_deliver w (Second copy left t) p packet = p
 on_deliver w (Delivering asleep other t) p packet = p
 on_deliver w (Waiting asleep pages t) p packet = p
 
--- The back has asked for so many slots, from the index on that its queue is at.
+-- The back has asked for `pages` slots, from the index on that its queue is at.
 abbrev pub asking : Pair → ℕ → Memory → Memory
 asking p pages m = record m { awaits = awaits.Asked p.back.rx_index pages }
 

@@ -5,8 +5,8 @@
 pub enum Awaits {
     /// None, or a notice was taken since.
     Nothing,
-    /// The event index is stored, and the back hasn't looked behind it.
+    /// The event index is stored, and the producer isn't read again yet.
     Asked { index: u32, pages: u32 },
-    /// The back has looked behind it, and fewer were posted.
+    /// The producer was read after that, and fewer were posted.
     Fewer { index: u32, pages: u32 },
 }

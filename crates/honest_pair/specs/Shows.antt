@@ -50,7 +50,7 @@ IsGoing (done x) = ⊥
 IsGoing (ask w k) = Unit {0}
 IsGoing never = Unit {0}
 
--- a first half isn't over, but where the whole turn is
+-- a first half isn't over, unless the whole turn is
 abbrev pub IsHalfGoing : Steps Half → Type 0
 IsHalfGoing (done (Over e)) = Unit {0}
 IsHalfGoing (done (HasRun slots packet left)) = ⊥
@@ -148,7 +148,7 @@ abbrev pub calls_while : Calling → (going : Bool) → Calling
 calls_while call true = call
 calls_while call false = calling.Nothing
 
--- what it awaits after an event of a wait: it has asked, and where the wait is over it knows whether there are fewer
+-- what it awaits after an event of a wait: it has asked, and if the wait is over it knows whether there are fewer
 abbrev pub awaits_after : (index pages : ℕ) → Option Awaited → Awaits
 awaits_after index pages None = awaits.Asked index pages
 awaits_after index pages (Some awaited.Posted) = awaits.Nothing

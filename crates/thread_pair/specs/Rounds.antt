@@ -44,7 +44,7 @@ IsRest Idle = Unit {0}
 IsRest (Halted cause) = Unit {0}
 IsRest u = ⊥
 
--- what comes after a turn that a host sees: it goes on but where the turn found nothing, and ends where the queue has halted
+-- what comes after a turn that a host sees: it goes on unless the turn found nothing, and ends if the queue has halted
 abbrev pub next_of : Turn → Next
 next_of shown.Idle = next.Rests
 next_of (shown.Ran action number packet ops slots) = next.Goes

@@ -68,7 +68,7 @@ abbrev pub IsAtRest : List Round → Type 0
 IsAtRest [] = ⊥
 IsAtRest (r ∷ rs) = IsRest r.0
 
--- What was done at a seat was done by rounds of the queue with its number: so many rounds, or fewer if the latest left the queue at rest.
+-- What was done at a seat was done by rounds of the queue with its number: `turns` rounds, or fewer if the latest left the queue at rest.
 -- The row counts them.
 pub record IsWork (task : Task) (turns : ℕ) (row : BackRow) (s : SeatView) : Type 0 where
   pub wiring : Wiring

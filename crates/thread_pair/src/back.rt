@@ -112,7 +112,8 @@ fn make_queue<'p, 'b>(
     Queue::make(program, desc, room)
 }
 
-/// Drives turns until the front has ended and a later turn is idle, or so many are done, or the queue has halted, and delivers
+/// Drives turns until the front has ended and a later turn is idle, or `turns` turns are done, or the queue has halted, and
+/// delivers
 /// what the host answers. The front is woken after each turn that took a packet.
 pub(crate) fn work_back<R: Wait, G: Gate, B: Bus>(
     rt: &R,
