@@ -1,5 +1,5 @@
 -- Stated: claims rest on this file.
--- What C is answered where it has a packet delivered, or waits for rx slots.
+-- What C is answered when it has a packet delivered, or waits for rx slots.
 use Rattle.std.specs.Prelude.{ℕ, ◌≡◌, List}
 use Rattle.xen_host.specs.Queues.{IsBegin, IsWaitBegin}
 use Rattle.xen_host.specs.declared.queue.Queue.{Queue}
@@ -22,7 +22,7 @@ pub record DeliverAnswers (old new : Queue) (producer : ℕ) (packet : List ℕ)
   pub told_is : told ≡ begin_number answer
   pub taken : IsBegin old new producer packet answer
 
--- The queue was to wait for so many slots, and its answer is what C is told.
+-- The queue was to wait for `pages` slots, and its answer is what C is told.
 pub record WaitAnswers (old new : Queue) (pages : ℕ) (told : ℕ) : Type 0 where
   pub answer : Begin
   pub told_is : told ≡ begin_number answer

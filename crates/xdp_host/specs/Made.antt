@@ -1,5 +1,5 @@
 -- Stated: claims rest on this file.
--- What C is answered where it makes a queue.
+-- What C is answered when it makes a queue.
 use Rattle.std.specs.Prelude.{ℕ, ◌≡◌, ◌⊎◌, List, Option, Some, map}
 use Rattle.bpf_verify.specs.Consistent.{Accepted}
 use Rattle.xen_page.specs.declared.extents.Extent.{Extent}

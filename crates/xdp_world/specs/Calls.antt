@@ -5,7 +5,7 @@ use Rattle.xen_back.specs.declared.wiring.Wiring.{Wiring}
 use Rattle.xdp_world.specs.Activities.{Given, HasHalted, Item, SlotsAwaited, all_came}
 use Rattle.xdp_world.specs.Entries.{Entry, listed}
 
--- a step, with what came of it; or a delivery or a wait for so many rx slots that was begun on a queue
+-- a step, with what came of it; or a delivery or a wait for `pages` rx slots that was begun on a queue
 pub data Call : Type 0 where
   Stepped : (entry : Entry) → Call
   Delivers : (queue : ℕ) → (packet : List ℕ) → Call

@@ -56,7 +56,7 @@ abbrev pub is_between : Option Doing → Bool
 is_between (Some doing.Between) = true
 is_between o = false
 
--- what a queue wants next: its delivery or its wait, where one is under way, else its turn
+-- what a queue wants next: its delivery or its wait, if one is under way, else its turn
 abbrev pub want_at : Queue → Option Doing → Want
 want_at q (Some (doing.Delivery d)) = want_of (left_of d)
 want_at q (Some (doing.Wait a)) = want_of (left_of_wait a)

@@ -58,7 +58,7 @@ pub record Rests (old new : Queue) (c d : TotalsView) : Type 0 where
   pub state : state_of new ≡ state_of old
   pub counters : d ≡ c
 
--- What a step with this event, or with none where it has halted, does to a queue.
+-- What a step with this event, or with none if it has halted, does to a queue.
 abbrev pub Moved : ℕ → Queue → Option Event → Queue → Type 0
 Moved answer old None new = (want_of (rest old) ≡ want.Done) × (rest new ≡ rest old) × (wiring_of new ≡ wiring_of old)
 Moved answer old (Some e) new =

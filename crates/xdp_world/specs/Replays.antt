@@ -18,7 +18,7 @@ use Rattle.xdp_world.specs.declared.world.World.{World}
 abbrev pub Anything : Want → Type 0
 Anything w = Unit {0}
 
--- So many events are enough for what is left of the queue's turn, and for each later turn.
+-- `most` events are enough for what is left of the queue's turn, and for each later turn.
 pub record IsEnough (most : ℕ) (q : Queue) : Type 0 where
   pub now : Bounded Anything Any (rest q) most
   pub later : (s : State) → Bounded Anything Any (whole_turn (wiring_of q) s) most
@@ -29,7 +29,7 @@ Pauses (want.Read at) = Unit {0}
 Pauses want.Done = Unit {0}
 Pauses w = ⊥
 
--- So many events are enough for what is left of the queue's turn, or it wants a read or nothing.
+-- n events are enough for what is left of the queue's turn, or it wants a read or nothing.
 abbrev pub IsNear : ℕ → Queue → Type 0
 IsNear n q = Pauses (want_of (rest q)) ⊎ Bounded Anything Any (rest q) n
 

@@ -110,7 +110,7 @@ pub record IsSame (old new : World) : Type 0 where
   pub history : new.history.items ≡ old.history.items
   pub counters : new.counters ≡ old.counters
 
--- The world made one step of a queue, and goes on by its event, where it has one. A turn that is over by it is kept, what became of
+-- The world made one step of a queue, and goes on by its event, if it has one. A turn that is over by it is kept, what became of
 -- a packet whose delivery is over by it, and the answer of a wait that is over by it. The queue stays wired, and is inside a turn by its
 -- events until that is over.
 pub record IsStep (old new : World) (queue answer : ℕ) : Type 0 where
@@ -143,7 +143,7 @@ pub record IsStep (old new : World) (queue answer : ℕ) : Type 0 where
   pub stands_for : (wirings : ℕ → Wiring) (start : ℕ) (cs : List Call) → StandsFor old wirings start cs →
       StandsFor new wirings start (cs ++ Stepped (record { queue = queue; answer = answer; event = event }) ∷ [])
 
--- The world began to deliver a packet on a queue that was between turns. Where the delivery is over by that, what became of it is kept.
+-- The world began to deliver a packet on a queue that was between turns. If the delivery is over by that, what became of it is kept.
 pub record HasBegun (old new : World) (queue : ℕ) (packet : List ℕ) (over : Option Delivery) : Type 0 where
   pub between : is_between (doing_in old queue) ≡ true
   pub lands : (d : Queue) (e : Doing) → let q = slice_index_or old.queues.items queue d in
@@ -163,7 +163,7 @@ IsDeliver old new queue packet begun.Busy = (is_between (doing_in old queue) ≡
 IsDeliver old new queue packet begun.Underway = HasBegun old new queue packet None
 IsDeliver old new queue packet (begun.Over what) = HasBegun old new queue packet (Some what)
 
--- The world began a wait for so many rx slots on a queue that was between turns. Where the wait is over by that, its answer is kept.
+-- The world began a wait for `pages` rx slots on a queue that was between turns. If the wait is over by that, its answer is kept.
 pub record HasBegunWait (old new : World) (queue pages : ℕ) (over : Option Awaited) : Type 0 where
   pub between : is_between (doing_in old queue) ≡ true
   pub resumes : (d : Queue) (e : Doing) → let q = slice_index_or old.queues.items queue d in
