@@ -45,7 +45,7 @@ pub record IsDeliveryAsked (wanted : Want) (old new : Delivering) : Type 0 where
   pub vif : new.vif ≡ old.vif
   pub state : new.state ≡ old.state
 
--- A delivery is over, and the queue goes on behind it.
+-- A delivery is over, and then the queue goes on.
 pub record IsDeliveryOver (old new : Queue) (d : Delivering) (result : Delivery) : Type 0 where
   pub over : left_of d ≡ done (state_of new, result)
   pub ready : IsReady new

@@ -41,13 +41,13 @@ abbrev pub AreDistinct : List Place → Type 0
 AreDistinct [] = Unit {0}
 AreDistinct (p ∷ ps) = AllOther p ps × AreDistinct ps
 
--- the three words of each of so many slots, the first of them the i-th from t
+-- the three words of each of n slots, the first of them the i-th from t
 abbrev pub slot_places : Wiring → ℕ → ℕ → ℕ → List Place
 slot_places w t i zero = []
 slot_places w t i (suc n) = tx_slot w.vif (add32 t i) 0 ∷ tx_slot w.vif (add32 t i) 1 ∷ tx_slot w.vif (add32 t i) 2
     ∷ slot_places w t (i + 1) n
 
--- so many words of a frame, in rising order
+-- n words of a frame, in rising order
 abbrev pub page_places : ℕ → ℕ → ℕ → List Place
 page_places frame place zero = []
 page_places frame place (suc n) = page_word frame place ∷ page_places frame (place + 1) n
@@ -57,14 +57,14 @@ abbrev pub entry_places : Option Place → List Place
 entry_places None = []
 entry_places (Some at) = at ∷ frame_place at ∷ []
 
--- Of each fragment its entry's words and, if that granted a frame, the words that it covers; up to the first for which no frame is given.
+-- For each fragment, its entry's words and, if that granted a frame, the words that it covers; up to the first for which no frame is given.
 abbrev pub copy_places : Wiring → List Fragment → List ℕ → List Place
 copy_places w [] frames = []
 copy_places w (f ∷ fs) [] = entry_places (entry_place w.vif.table.now f.gref)
 copy_places w (f ∷ fs) (frame ∷ frames) =
     entry_places (entry_place w.vif.table.now f.gref) ++ (page_places frame (f.offset / 4) (covered f) ++ copy_places w fs frames)
 
--- Of a chain's slots each word is read, in rising order, and no word twice.
+-- Each word of a chain's slots is read, in rising order, and no word twice.
 abbrev pub SlotsOnce : Type 0
 SlotsOnce = (w : Wiring) (s : State) (n : ℕ) (look p : List Event) (slots : List Slot) → HasRead w s n look p slots →
     (places_read p ≡ slot_places w s.tx_index 0 (length slots)) × AreDistinct (places_read p)
@@ -76,14 +76,14 @@ AreGranted w [] (frame ∷ frames) p = ⊥
 AreGranted w (f ∷ fs) (frame ∷ frames) p =
     ((at : Place) × (entry_place w.vif.table.now f.gref ≡ Some at) × Contains p (Read (frame_place at) frame)) × AreGranted w fs frames p
 
--- Of the fragments that are copied each entry's words and each covered word are read, one after another: of all of them, or up to one
+-- Each entry's words and each covered word of the fragments that are copied are read, one after another: for all of them, or up to one
 -- whose entry grants nothing.
 abbrev pub FragmentsOnce : Type 0
 FragmentsOnce = (w : Wiring) (fs : List Fragment) (p : List Event) (out : Option (List ℕ)) → IsCopy w fs p out →
     (frames : List ℕ) × (places_read p ≡ copy_places w fs frames) × AreGranted w fs frames p
     × (out ≢ None → length frames ≡ length fs) × (out ≡ None → length frames < length fs)
 
--- the two words of each of so many rx slots, the first of them the i-th from x, and of each its entry's words
+-- the two words of each rx slot, as many as there are references, the first of them the i-th from x, and the words of its entry
 abbrev pub target_places : Wiring → ℕ → ℕ → List ℕ → List Place
 target_places w x i [] = []
 target_places w x i (gref ∷ grefs) =
@@ -95,7 +95,7 @@ abbrev pub ArePosted : Wiring → ℕ → ℕ → List ℕ → List Event → Ty
 ArePosted w x i [] p = Unit {0}
 ArePosted w x i (gref ∷ grefs) p = Contains p (Read (rx_slot w.vif (add32 x i) 1) gref) × ArePosted w x (i + 1) grefs p
 
--- Of the rx slots that a transmit takes both words are read, and its entry's words, one after another and nothing else.
+-- Both words of each rx slot that a transmit takes are read, and its entry's words, one after another and nothing else.
 abbrev pub TargetsOnce : Type 0
 TargetsOnce = (w : Wiring) (x i left : ℕ) (p : List Event) (ok : Bool) (ts : List Target) → AreTargets w.vif x i left p ok ts →
     (grefs : List ℕ) × (length grefs ≡ length ts) × (places_read p ≡ target_places w x i grefs) × ArePosted w x i grefs p
@@ -104,7 +104,7 @@ TargetsOnce = (w : Wiring) (x i left : ℕ) (p : List Event) (ok : Bool) (ts : L
 abbrev pub CoveredDistinct : Type 0
 CoveredDistinct = (frame place n : ℕ) → AreDistinct (page_places frame place n)
 
--- the two words of each of so many rx slots, the first of them the i-th from x, without their entries
+-- the two words of each of n rx slots, the first of them the i-th from x, without their entries
 abbrev pub posted_places : Wiring → ℕ → ℕ → ℕ → List Place
 posted_places w x i zero = []
 posted_places w x i (suc n) = rx_slot w.vif (add32 x i) 0 ∷ rx_slot w.vif (add32 x i) 1 ∷ posted_places w x (i + 1) n

@@ -32,7 +32,7 @@ pub record IsProgram (w : Wiring) (packet : List ℕ) (p : List Event) (out : Le
   pub number : out.number ≡ r0 % 2 ^ 32
   pub ops : out.ops ≡ ops_in labels
 
--- so many instructions that read no counter
+-- n instructions that read no counter
 abbrev pub plain_instructions : ℕ → List Event
 plain_instructions zero = []
 plain_instructions (suc n) = Instr ∷ plain_instructions n

@@ -24,7 +24,7 @@ use Rattle.xen_back.specs.declared.state.State.{State}
 use Rattle.xen_back.specs.declared.turn.Halt.{Halt}
 use Rattle.xen_back.specs.declared.wiring.Wiring.{Wiring}
 
--- so many slots are left after the one that is being read
+-- `left` slots are left after the one that is being read
 abbrev pub rest_of_slot : Wiring → State → ℕ → List Slot → Steps Slot → Steps Ending
 rest_of_slot w s left slots reading =
     bind (bind reading (λ slot. judged (slots ++ slot ∷ []) (standing (slots ++ slot ∷ []))
@@ -84,7 +84,7 @@ abbrev pub packet_of_stage : Option Stage → List ℕ
 packet_of_stage (Some g) = packet_at g
 packet_of_stage None = []
 
--- a stage with another phase, where it has one
+-- a stage with another phase, if it has one
 abbrev pub at_phase : Stage → Phase → Stage
 at_phase (stage.At packet old) phase = stage.At packet phase
 at_phase g phase = g

@@ -18,7 +18,7 @@ use Rattle.xen_back.specs.declared.turn.Halt.TheVariants as halt
 abbrev pub Wait : Type 0
 Wait = State × Awaited
 
--- what a producer that shows so many slots answers
+-- the end of a wait for `pages` slots, by the number of slots that the producer shows
 abbrev pub wait_end : State → ℕ → Option ℕ → Wait
 wait_end s pages None = (record s { halt = Some halt.RxProducer }, awaited.Halted halt.RxProducer)
 wait_end s pages (Some m) = (s, if nat_lt m pages then awaited.Waiting else awaited.Posted)
@@ -45,6 +45,6 @@ rest_looking rx s pages looking.Index = final_check rx s pages
 rest_looking rx s pages looking.Producer = last_read rx s pages
 rest_looking rx s pages (looking.Over after what) = done (after, what)
 
--- It ends, whatever it is answered, and until then wants nothing outside so many frames.
+-- It ends, whatever it is answered, and until then wants nothing outside the first `frames` frames.
 abbrev pub WaitEnds : ℕ → Steps Wait → Type 0
 WaitEnds frames s = Finishes (IsPageWant frames) s

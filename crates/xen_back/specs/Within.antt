@@ -13,7 +13,7 @@ use Rattle.xen_back.specs.Turned.{Ending}
 use Rattle.xen_back.specs.declared.state.State.{State}
 use Rattle.xen_back.specs.declared.wiring.Wiring.{Wiring}
 
--- The want's place is within so many frames, and its counter is one of the maps'.
+-- The want's place is within the first `frames` frames, and its counter is one of the maps'.
 abbrev pub IsWithin : ℕ → List Shape → Want → Type 0
 IsWithin frames shapes (want.Read at) = (at.frame < frames) × (at.word < 1024)
 IsWithin frames shapes (want.Write at v) = (at.frame < frames) × (at.word < 1024)

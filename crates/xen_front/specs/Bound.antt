@@ -37,7 +37,7 @@ pub record HasFlags (s : State) : Type 0 where
   pub tx : length s.tx.out ≡ 256
   pub rx : length s.rx.out ≡ 256
 
--- Each activity of a wired front keeps to the front's frames, and has at most so many events: a send 16 pieces of 2 + 1,024 + 3
+-- Each activity of a wired front keeps to the front's frames, and has at most this many events: a send 16 pieces of 2 + 1,024 + 3
 -- words and the push, a poll two looks of 3, 2 for each of 256 tx responses and a last one, and 16 slots of 3 + 1,024 words.
 pub record AreShort : Type 0 where
   pub sends : (w : Wiring) (s : State) (p ids : List ℕ) (t : List Event) (s' : State) (g : Given) → IsWired w → length ids ≤ 16 →

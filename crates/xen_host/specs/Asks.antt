@@ -130,7 +130,7 @@ abbrev pub AllSized : List Ask → Type 0
 AllSized [] = Unit {0}
 AllSized (a ∷ more) = IsSized a × AllSized more
 
--- Its words are words of one page, which is one of so many frames.
+-- Its words are words of one page, which is one of `frames` frames.
 abbrev pub IsInPages : ℕ → Ask → Type 0
 IsInPages frames (Read at count) = (at.frame < frames) × (at.word + count ≤ 1024)
 IsInPages frames (Entry at reference written) = (at.frame < frames) × (at.word + 2 ≤ 1024)

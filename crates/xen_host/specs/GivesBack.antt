@@ -25,7 +25,7 @@ abbrev pub AllOfRings : Vif → List Event → Type 0
 AllOfRings w [] = Unit {0}
 AllOfRings w (e ∷ t) = IsOfRings w e × AllOfRings w t
 
--- Behind each push there is no event but of the rings' pages: no granted page is touched.
+-- After each push there is no event but of the rings' pages: no granted page is touched.
 abbrev pub GivesBack : Vif → List Event → Type 0
 GivesBack w [] = Unit {0}
 GivesBack w (e ∷ []) = Unit {0}
