@@ -50,11 +50,12 @@ below_text names shapes pc c i n = []
 abbrev pub verdict_text : Refusal → List ℕ → List ℕ
 verdict_text r advice = codes "refused " ++ (refusal_text r ++ (codes "\nwrite instead: " ++ (advice ++ codes "\n")))
 
--- of bytes that spell no program
+-- the explanation of bytes that spell no program
 abbrev pub undecoded_text : List ℕ → Refusal → List ℕ
 undecoded_text program r = refused_slot_text program r.pc r.cause ++ verdict_text r (cause_advice r.cause)
 
--- of a program whose maps have these names and shapes: the listing with what is known at the refused slot, and the verdict
+-- the explanation of a program whose maps have these names and shapes: the listing with what is known at the refused slot, and the
+-- verdict
 abbrev pub explained_text : List Insn → List (List ℕ) → List Shape → Refusal → Option Facts → List ℕ
 explained_text code names shapes r note =
     listing_text (Some r.pc) (below_text names shapes r.pc r.cause (slice_get code r.pc) note) 0 code

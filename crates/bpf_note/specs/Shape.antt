@@ -1,5 +1,5 @@
 -- Stated: claims rest on this file.
--- Array maps, as Linux's bpf.h has them (BPF_MAP_TYPE_ARRAY), whose values are rows of counters.
+-- Array maps, as in Linux's bpf.h (BPF_MAP_TYPE_ARRAY). Their values are rows of counters.
 use Rattle.std.specs.Prelude.{ℕ, ◌≡◌, ◌<◌, ◌≤◌, List, Option, None, Some, slice_get}
 
 -- how many values a map has, and how many counters of 64 bits a value has

@@ -36,7 +36,7 @@ abbrev pub allowed : Answer → Edges
 allowed (Ok es) = es
 allowed (Err c) = []
 
--- the edges out of a slot, note by note in their order, of each the next slot before a jump's target
+-- the edges out of a slot, note by note in their order, for each note the next slot before a jump's target
 abbrev pub told : List Insn → List Shape → ℕ → List Facts → Edges
 told code shapes p [] = []
 told code shapes p (n ∷ ns) = allowed (rule_at code shapes p n) ++ told code shapes p ns

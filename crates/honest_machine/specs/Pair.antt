@@ -36,7 +36,7 @@ pub data PairEvent : Type 0 where
   Deliver : (packet : List ℕ) → PairEvent
   Await : (pages : ℕ) → PairEvent
 
--- what the front is at, with what is left of its activity
+-- What the front is at, with what is left of its activity.
 pub data Activity : Type 0 where
   Free : Activity
   Sending : Steps FrontEnding → Activity
@@ -53,12 +53,12 @@ pub data BackAt : Type 0 where
   Delivering : (asleep : Bool) (packet : List ℕ) → Steps Arrival → BackAt
   Waiting : (asleep : Bool) (pages : ℕ) → Steps Wait → BackAt
 
--- a turn that is over, with the packet's copy if the program ran on one
+-- A turn that is over, with the packet's copy if the program ran on one.
 pub record Past : Type 0 where
   pub turn : Turned
   pub copy : Option (List ℕ)
 
--- what is over: a turn, the delivery of a packet of the host's own, with what became of it, or a wait for rx slots with its answer
+-- What is over: a turn, the delivery of a packet of the host's own, with what became of it, or a wait for rx slots with its answer.
 pub data Deed : Type 0 where
   OfTurn : (past : Past) → Deed
   OfDelivery : (packet : List ℕ) (what : Delivery) → Deed
@@ -81,14 +81,14 @@ pub record Pair : Type 0 where
   pub received : List (List ℕ)
   pub deeds : List Deed
 
--- the packets that an activity gave
+-- The packets that an activity gave.
 abbrev pub packets_of : Given → List (List ℕ)
 packets_of given.Idle = []
 packets_of (given.Packet bytes) = bytes ∷ []
 packets_of given.Refused = []
 packets_of (given.Halted cause) = []
 
--- the activity goes on, or is over
+-- The activity goes on, or is over.
 abbrev pub ended : Pair → FrontEnding → Pair
 ended p e = record p { front = e.0; activity = Free; received = p.received ++ packets_of e.1 }
 
@@ -155,7 +155,7 @@ on_poll w (Sending t) p = p
 on_poll w (Posting t) p = p
 on_poll w (Polling t) p = p
 
--- the next event of the front's activity
+-- The next event of the front's activity.
 abbrev pub on_front : Activity → Pair → ℕ → Pair
 on_front Free p n = p
 on_front (Sending (ask w k)) p n = sending (record p { memory = after w p.memory }) (k (answer w p.memory n))
@@ -197,7 +197,7 @@ abbrev pub wake : BackWiring → Bool → Pair → Pair
 wake w true p = record p { memory = record p.memory { pending = false; awaits = awaits.Nothing }; at = First false (half_turn w p.back) }
 wake w false p = p
 
--- between turns, asleep or awake
+-- Between turns, asleep or awake.
 abbrev pub rested : BackWiring → Bool → BackState → BackAt
 rested w true s = Asleep
 rested w false s = First false (half_turn w s)
@@ -287,11 +287,11 @@ abbrev pub run : BackWiring → FrontWiring → Pair → List (PairEvent × ℕ)
 run bw fw p [] = p
 run bw fw p (e ∷ es) = run bw fw (step bw fw p e.0 e.1) es
 
--- a back that has done nothing yet
+-- A back that has done nothing yet.
 abbrev pub new_back : ℕ → BackState
 new_back start = record { tx_index = start; rx_index = start; halt = None }
 
--- before the first event
+-- Before the first event.
 abbrev pub opening : FrontState → ℕ → Pair
 opening front start = record {
   memory = opening_memory start;

@@ -20,14 +20,14 @@ use Rattle.honest_pair.specs.Copies.{Delivers}
 use Rattle.honest_pair.specs.Deeds.{AllKept, AreOwn, bytes_in, deliveries_of, waits_of}
 use Rattle.honest_pair.specs.declared.running.PairRun.{PairRun}
 
--- the events, each with a number
+-- The events, each with a number.
 abbrev pub GoWith : List PairEvent → List (PairEvent × ℕ) → Type 0
 GoWith [] [] = Unit {0}
 GoWith [] (x ∷ xs) = ⊥
 GoWith (e ∷ es) [] = ⊥
 GoWith (e ∷ es) (x ∷ xs) = (x.0 ≡ e) × (x.1 < 2 ^ 64) × GoWith es xs
 
--- no event is a delivery or a wait
+-- No event is a delivery or a wait.
 abbrev pub IsPlain : PairEvent → Type 0
 IsPlain (Deliver packet) = ⊥
 IsPlain (Await pages) = ⊥

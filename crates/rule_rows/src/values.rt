@@ -1,4 +1,4 @@
-//! Values, as a row has them.
+//! Values, as in a row.
 
 use bpf_note::{PACKET_ID, Val};
 

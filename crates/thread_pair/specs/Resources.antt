@@ -8,11 +8,11 @@ use Rattle.xen_page.specs.Mapping.{IsMappedBy}
 use Rattle.thread_pair.specs.declared.resources.BackResources.{BackResources}
 use Rattle.thread_pair.specs.declared.resources.FrontResources.{FrontResources}
 
--- the number of a back's seat
+-- The number of a back's seat.
 abbrev pub number_of : BackResources → ℕ
 number_of k = k.seat.number
 
--- n numbers, from the last down to 0
+-- The n numbers below n, the greatest first.
 abbrev pub falling : ℕ → List ℕ
 falling zero = []
 falling (suc n) = n ∷ falling n
@@ -29,7 +29,7 @@ pub record IsBackOf (c : CountersView) (queues : ℕ) (k : BackResources) : Type
   pub rx_writable : k.rx.write ≡ true
   pub seat : k.seat ≡ new_seat c k.queue
 
--- a front's own if there are `queues` queues: a front whose pages are among their frames
+-- A front's own if there are `queues` queues: a front whose pages are among their frames.
 pub record IsFrontOf (queues : ℕ) (k : FrontResources) : Type 0 where
   pub queue : k.queue < queues
   pub frames : (wiring_of k.front).frames ≡ length (owners_of queues)

@@ -17,7 +17,7 @@ causes =
 abbrev pub cause_of : ℕ → Option Cause
 cause_of number = get_or causes number None
 
--- what to write instead of what it refuses; no bytes if it is no cause
+-- What to write instead of what it refuses; no bytes if it is no cause.
 abbrev pub advice_or : Option Cause → List ℕ
 advice_or None = []
 advice_or (Some c) = cause_advice c

@@ -6,13 +6,13 @@ use Rattle.xen_host.specs.declared.queue.Queue.{Queue}
 use Rattle.xen_host.specs.declared.task.Begin.{Begin}
 use Rattle.xen_host.specs.declared.task.Begin.TheVariants as begin
 
--- the numbers of include/laxonje.h
+-- The numbers of include/laxonje.h.
 abbrev pub begin_number : Begin → ℕ
 begin_number begin.Begun = 0
 begin_number begin.Busy = 2
 begin_number begin.NoFrame = 3
 
--- there is no queue
+-- There is no queue.
 abbrev pub no_queue : ℕ
 no_queue = 1
 

@@ -15,7 +15,7 @@ use Rattle.xdp_world.specs.Entries.{Entry, events_of}
 use Rattle.xdp_world.specs.Keeping.{Keeps}
 use Rattle.xdp_world.specs.declared.kept.Kept.{Kept}
 
--- both rings begin at this index
+-- Both rings begin at this index.
 abbrev pub started_at : ℕ → State
 started_at start = record { tx_index = start; rx_index = start; halt = None }
 

@@ -23,7 +23,7 @@ pub record IsEnough (most : ℕ) (q : Queue) : Type 0 where
   pub now : Bounded Anything Any (rest q) most
   pub later : (s : State) → Bounded Anything Any (whole_turn (wiring_of q) s) most
 
--- a read, or nothing more
+-- A read, or nothing more.
 abbrev pub Pauses : Want → Type 0
 Pauses (want.Read at) = Unit {0}
 Pauses want.Done = Unit {0}
@@ -38,7 +38,7 @@ abbrev pub Replays : World → World → ℕ → List ℕ → Type 0
 Replays old new queue given = (wirings : ℕ → Wiring) (start : ℕ) (es : List Entry) → Stands old wirings start es →
     (more : List Entry) × AreOf queue more × (read_answers more ≡ given) × Stands new wirings start (es ++ more)
 
--- a queue that is stepped no further when these answers are left
+-- A queue that is stepped no further when these answers are left.
 abbrev pub Rests : Want → List ℕ → Type 0
 Rests (want.Read at) left = left ≡ []
 Rests want.Done left = Unit {0}

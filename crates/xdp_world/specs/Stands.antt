@@ -38,7 +38,7 @@ abbrev pub kept_of : Option (Vec Kept) → List Kept
 kept_of None = []
 kept_of (Some v) = v.items
 
--- the turns of a queue
+-- The turns of a queue.
 abbrev pub kept_in : List (Vec Kept) → ℕ → List Kept
 kept_in turns i = kept_of (slice_get turns i)
 
@@ -46,7 +46,7 @@ abbrev pub delivered_of : Option (Vec Delivered) → List Delivered
 delivered_of None = []
 delivered_of (Some v) = v.items
 
--- the deliveries of a queue that are over
+-- The deliveries of a queue that are over.
 abbrev pub delivered_in : List (Vec Delivered) → ℕ → List Delivered
 delivered_in deliveries i = delivered_of (slice_get deliveries i)
 
@@ -54,11 +54,11 @@ abbrev pub waited_of : Option (Vec Waited) → List Waited
 waited_of None = []
 waited_of (Some v) = v.items
 
--- the waits of a queue that are over
+-- The waits of a queue that are over.
 abbrev pub waited_in : List (Vec Waited) → ℕ → List Waited
 waited_in waits i = waited_of (slice_get waits i)
 
--- what a queue is doing
+-- What a queue is doing.
 abbrev pub doing_in : World → ℕ → Option Doing
 doing_in world i = slice_get world.doing.items i
 
@@ -188,7 +188,7 @@ abbrev pub GoesOn : World → World → List (ℕ × ℕ) → Type 0
 GoesOn old new steps = (wirings : ℕ → Wiring) (start : ℕ) (es : List Entry) → Stands old wirings start es →
     (more : List Entry) × (steps_of more ≡ steps) × Stands new wirings start (es ++ more)
 
--- one more can be kept without memory
+-- One more can be kept without memory.
 abbrev pub HasRoom : {A : Type 0} → Option (Vec A) → Type 0
 HasRoom None = Unit {0}
 HasRoom (Some v) = vec_len v < vec_capacity v

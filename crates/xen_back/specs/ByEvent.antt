@@ -13,11 +13,11 @@ use Rattle.xen_back.specs.declared.delivery.underway.Delivering.{Delivering}
 use Rattle.xen_back.specs.declared.delivery.delivering.Delivery.{Delivery}
 use Rattle.xen_back.specs.declared.queue.Queue.{Queue}
 
--- what is left of a delivery
+-- What is left of a delivery.
 abbrev pub left_of : Delivering → Steps Arrival
 left_of d = rest_moving d.vif d.state d.moving
 
--- how many frames there are, in which each place lies that it wants
+-- How many frames there are, in which each place lies that it wants.
 abbrev pub frames_of : Delivering → ℕ
 frames_of d = length d.vif.owners.now
 

@@ -1,5 +1,5 @@
 -- Stated: claims rest on this file.
--- Which words a turn reads, in order, and that it reads each once.
+-- Which words a turn reads, in order, each once.
 use Rattle.std.specs.Prelude.{ℕ, zero, suc, ◌≡◌, ◌≢◌, ◌<◌, ◌≤◌, ◌+◌, ◌/◌, ◌⊎◌, Bool, List}
 use Rattle.std.specs.Prelude.{[], ◌∷◌, ◌++◌, Option, None, Some, Ok, Err, length}
 use Rattle.std.specs.List.{Contains}
@@ -26,13 +26,13 @@ use Rattle.xen_back.specs.declared.turn.Halt.TheVariants as halt
 use Rattle.xen_back.specs.declared.turn.Refusal.TheVariants as refusal
 use Rattle.xen_back.specs.declared.wiring.Wiring.{Wiring}
 
--- the places of a trace's reads
+-- The places of a trace's reads.
 abbrev pub places_read : List Event → List Place
 places_read [] = []
 places_read (Read at v ∷ t) = at ∷ places_read t
 places_read (e ∷ t) = places_read t
 
--- no place is this one
+-- No place is this one.
 abbrev pub AllOther : Place → List Place → Type 0
 AllOther at [] = Unit {0}
 AllOther at (p ∷ ps) = (at ≢ p) × AllOther at ps
@@ -41,18 +41,18 @@ abbrev pub AreDistinct : List Place → Type 0
 AreDistinct [] = Unit {0}
 AreDistinct (p ∷ ps) = AllOther p ps × AreDistinct ps
 
--- the three words of each of n slots, the first of them the i-th from t
+-- The three words of each of n slots, the first of them the i-th from t.
 abbrev pub slot_places : Wiring → ℕ → ℕ → ℕ → List Place
 slot_places w t i zero = []
 slot_places w t i (suc n) = tx_slot w.vif (add32 t i) 0 ∷ tx_slot w.vif (add32 t i) 1 ∷ tx_slot w.vif (add32 t i) 2
     ∷ slot_places w t (i + 1) n
 
--- n words of a frame, in rising order
+-- Words of a frame, n of them, in rising order.
 abbrev pub page_places : ℕ → ℕ → ℕ → List Place
 page_places frame place zero = []
 page_places frame place (suc n) = page_word frame place ∷ page_places frame (place + 1) n
 
--- the two words of an entry
+-- The two words of an entry.
 abbrev pub entry_places : Option Place → List Place
 entry_places None = []
 entry_places (Some at) = at ∷ frame_place at ∷ []
@@ -83,7 +83,7 @@ FragmentsOnce = (w : Wiring) (fs : List Fragment) (p : List Event) (out : Option
     (frames : List ℕ) × (places_read p ≡ copy_places w fs frames) × AreGranted w fs frames p
     × (out ≢ None → length frames ≡ length fs) × (out ≡ None → length frames < length fs)
 
--- the two words of each rx slot, as many as there are references, the first of them the i-th from x, and the words of its entry
+-- The two words of each rx slot, as many as there are references, the first of them the i-th from x, and the words of its entry.
 abbrev pub target_places : Wiring → ℕ → ℕ → List ℕ → List Place
 target_places w x i [] = []
 target_places w x i (gref ∷ grefs) =
@@ -104,7 +104,7 @@ TargetsOnce = (w : Wiring) (x i left : ℕ) (p : List Event) (ok : Bool) (ts : L
 abbrev pub CoveredDistinct : Type 0
 CoveredDistinct = (frame place n : ℕ) → AreDistinct (page_places frame place n)
 
--- the two words of each of n rx slots, the first of them the i-th from x, without their entries
+-- The two words of each of n rx slots, the first of them the i-th from x, without their entries.
 abbrev pub posted_places : Wiring → ℕ → ℕ → ℕ → List Place
 posted_places w x i zero = []
 posted_places w x i (suc n) = rx_slot w.vif (add32 x i) 0 ∷ rx_slot w.vif (add32 x i) 1 ∷ posted_places w x (i + 1) n
@@ -113,7 +113,7 @@ posted_places w x i (suc n) = rx_slot w.vif (add32 x i) 0 ∷ rx_slot w.vif (add
 abbrev pub PostedDistinct : Type 0
 PostedDistinct = (w : Wiring) (x n : ℕ) → n ≤ 256 → AreDistinct (posted_places w x 0 n)
 
--- what a transmit into rx slots of these references reads: the producer, the slots with their entries, and the event index
+-- What a transmit into rx slots of these references reads: the producer, the slots with their entries, and the event index.
 abbrev pub sent_places : Wiring → ℕ → List ℕ → List Place
 sent_places w x grefs = rx_word w.vif 0 ∷ (target_places w x 0 grefs ++ rx_word w.vif 3 ∷ [])
 
@@ -159,11 +159,11 @@ pub record TurnReads (w : Wiring) (s : State) (p : List Event) (count : ℕ) (la
   pub whole : length frames ≡ length fragments
   pub read : SlotsRead w s p slots (copy_places w fragments frames ++ last)
 
--- the event index of the responses
+-- The event index of the responses.
 abbrev pub notice_reads : Wiring → List Place
 notice_reads w = tx_word w.vif 3 ∷ []
 
--- a packet that is sent into rx slots of these references, or up to one whose grant fails
+-- A packet that is sent into rx slots of these references, or up to one whose grant fails.
 abbrev pub SendReads : Wiring → State → List Event → ℕ → List ℕ → Type 0
 SendReads w s p count grefs = ArePosted w s.rx_index 0 grefs p × TurnReads w s p count (sent_places w s.rx_index grefs ++ notice_reads w)
 

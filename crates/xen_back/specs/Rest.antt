@@ -60,7 +60,7 @@ rest_in w s (stage.Page g) = bind (bind (copy_words g.fragment g.frame g.place (
 rest_in w s (stage.Run r) = bind (program (left r.vm) r.ops) (after_run w s r.chain)
 rest_in w s (stage.Send packet t) = bind (rest_of w.vif s.rx_index packet t.transmit.phase) (after_transmit w s t.chain packet t.ops)
 
--- the same of a queue's stage, which is out only while the next one is made of it
+-- what is left of the turn, by a queue's stage, which is out only while the next one is made of it
 abbrev pub rest_of_stage : Wiring → State → Option Stage → Steps Ending
 rest_of_stage w s (Some g) = rest_in w s g
 rest_of_stage w s None = never

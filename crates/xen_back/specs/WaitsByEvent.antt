@@ -10,7 +10,7 @@ use Rattle.xen_back.specs.declared.delivery.wait_stage.Awaiting.{Awaiting}
 use Rattle.xen_back.specs.declared.queue.Queue.{Queue}
 use Rattle.xen_back.specs.Waits.{Wait, rest_looking, whole_wait}
 
--- what is left of a wait
+-- What is left of a wait.
 abbrev pub left_of_wait : Awaiting → Steps Wait
 left_of_wait a = rest_looking a.rx a.state a.pages a.looking
 

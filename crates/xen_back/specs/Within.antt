@@ -23,7 +23,7 @@ IsWithin frames shapes (want.Add m k j delta) = IsCounter shapes m k j
 IsWithin frames shapes (want.Notify p) = Unit {0}
 IsWithin frames shapes want.Done = ⊥
 
--- what a queue that is wired so may want
+-- What a queue that is wired so may want.
 abbrev pub may_want : Wiring → Want → Type 0
 may_want w = IsWithin (length w.vif.owners.now) w.program.now.shapes
 

@@ -1,4 +1,4 @@
-//! What a turn, a delivery and a wait decide, whichever way they go, also where a host makes the accesses (`xen_host`): the status
+//! What a turn, a delivery and a wait decide, whichever way they go, also if a host makes the accesses (`xen_host`): the status
 //! and the response of a slot, the state after it, and what the host gets as the answer.
 
 ghost use Rattle.std.specs.Prelude.{◌≡◌, ◌≤◌, [], List, Option, Some, length, ℕ};

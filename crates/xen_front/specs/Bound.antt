@@ -11,11 +11,11 @@ use Rattle.xen_buffers.specs.Wired.{IsWired, frames_of}
 use Rattle.xen_front.specs.declared.state.State.{State}
 use Rattle.xen_buffers.specs.declared.wiring.Wiring.{Wiring}
 
--- a word of one of the frames that the front was made with
+-- A word of one of the frames that the front was made with.
 abbrev pub IsOwnPlace : Wiring → Place → Type 0
 IsOwnPlace w at = Contains (frames_of w) at.frame × (at.word < 1024)
 
--- an access to such a word, or a notice to the front's port
+-- An access to such a word, or a notice to the front's port.
 abbrev pub IsOwnWant : Wiring → Want → Type 0
 IsOwnWant w (want.Read at) = IsOwnPlace w at
 IsOwnWant w (want.Write at v) = IsOwnPlace w at
@@ -32,7 +32,7 @@ abbrev pub AreOwn : Wiring → List Event → Type 0
 AreOwn w [] = Unit {0}
 AreOwn w (e ∷ t) = IsOwnEvent w e × AreOwn w t
 
--- each ring has a flag for each of 256 ids
+-- Each ring has a flag for each of 256 ids.
 pub record HasFlags (s : State) : Type 0 where
   pub tx : length s.tx.out ≡ 256
   pub rx : length s.rx.out ≡ 256

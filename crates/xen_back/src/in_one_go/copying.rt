@@ -1,4 +1,4 @@
-//! Copying a packet's fragments: of each, the words of its page that it covers.
+//! Copying a packet's fragments: for each, the words of its page that it covers.
 
 ghost use Rattle.std.specs.List.{list_all};
 ghost use Rattle.std.specs.Prelude.{◌≡◌, ◌≤◌, ◌+◌, IsTrue, List, ℕ, Option, [], ◌∷◌, length, sum_by, ◌<◌, ◌-◌, ◌*◌, ◌/◌, ◌++◌};

@@ -39,7 +39,7 @@ const LONG: [u32; 35] = [
     8, 4, 9, 4, 10, 4, 11, 4, 12, 4, 13, 4, 14, 4, 15, 4,
 ];
 
-/// The shortest lists of answers that give each halt in a new ring, as docs/NETFRONT.md has them.
+/// The shortest lists of answers that give each halt in a new ring, as in docs/NETFRONT.md.
 #[test]
 fn the_shortest_scripts(rt: HostRuntime) {
     let scripts: [(u32, u32, &[u32], Halt); 7] = [
