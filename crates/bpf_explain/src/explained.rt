@@ -38,7 +38,8 @@ fn is_about_values(cause: Cause) -> bool
     !matches!(cause, Cause::FramePointer | Cause::Helper)
 }
 
-/// What the instruction reaches: the stack's slots, the packet's bytes, or a value's counters, if the cause is about them.
+/// What the instruction reaches: the stack's slots, the packet's bytes, or a value's counters, if the cause is about
+/// them.
 fn reached_text(
     alloc: Global,
     names: &[String],

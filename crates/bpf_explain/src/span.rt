@@ -8,7 +8,8 @@ use bpf_insn::Insn;
 use bpf_note::{MapShape, Val};
 use std::alloc::{AllocError, Global};
 
-/// The bytes of an access to the packet, counted from the base of the address's id: the first, and the one past the last.
+/// The bytes of an access to the packet, counted from the base of the address's id: the first, and the one past the
+/// last.
 pub(crate) fn span_text(alloc: Global, address: Val, access: Access) -> Result<String, AllocError>
     requires { access.bytes ≤ 8 }
     ensures { IfOk result (λ s. string_bytes s ≡ span_text address (Option.Some access)) }

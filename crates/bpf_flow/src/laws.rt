@@ -33,8 +33,8 @@ pub fn steps_follow_edges()
     ensures { (i : Insn) (s : State) (label : Option Op) (t : State) → LeadsTo (exec i s) label t → Leads i s.pc t.pc }
 {}
 
-/// An instruction is refused for an unset register exactly when it reads a register of which nothing is known. A call of
-/// a helper that programs may not call reads nothing.
+/// An instruction is refused for an unset register exactly when it reads a register of which nothing is known. A call
+/// of a helper that programs may not call reads nothing.
 pub fn unset_exactly_where_read()
     ensures { (i : Insn) (pc : ℕ) (n : Facts) (shapes : List Shape) → (after_of i pc n shapes ≡ Err Unset) ↔ ReadsUnset i n }
 {}

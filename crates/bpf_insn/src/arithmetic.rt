@@ -5,7 +5,7 @@ ghost use Rattle.bpf_insn.specs.Arithmetic.{computed, negated};
 use crate::alu_op::AluOp;
 use crate::truncated::low_32;
 
-/// What an arithmetic instruction leaves in its destination, of the numbers in destination and source: on 64 bits if
+/// What an arithmetic instruction leaves in its destination, by the numbers in destination and source: on 64 bits if
 /// `wide`, else on the low 32, and then the upper half is 0.
 #[inline(always)]
 pub fn alu(op: AluOp, wide: bool, dst: u64, src: u64) -> u64

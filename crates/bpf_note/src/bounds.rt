@@ -150,8 +150,8 @@ pub(crate) fn join_bounds(
     Ok(Some(joined))
 }
 
-/// Places in the two lists up to which the first list stays as it is when the two are joined. How far it looks is a matter of
-/// time alone.
+/// Places in the two lists up to which the first list stays as it is when the two are joined. How far it looks is a
+/// matter of time alone.
 fn kept_front(a: &[Bound], b: &[Bound]) -> (usize, usize)
     requires a { IsNormal a.now }
     requires b { IsNormal b.now }

@@ -15,8 +15,8 @@ use crate::val::Val;
 use std::alloc::{AllocError, Global};
 use std::marker::Model;
 
-/// What is known of a state before an instruction: a value for each register, which bytes of the stack are set and which
-/// slots of eight bytes keep a value, and each id's greatest base in the packet and its safe bound. Two notes are
+/// What is known of a state before an instruction: a value for each register, which bytes of the stack are set and
+/// which slots of eight bytes keep a value, and each id's greatest base in the packet and its safe bound. Two notes are
 /// equal if they say the same.
 #[derive(Drop)]
 pub struct Note {

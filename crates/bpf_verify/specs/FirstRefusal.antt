@@ -41,7 +41,7 @@ pub record IsFirstFault (code : List Insn) (maps pc : ℕ) (cause : Cause) : Typ
   pub fault : IsFault code maps pc insn cause
   pub before : (p : ℕ) (i : Insn) → p < pc → slice_get code p ≡ Some i → IsFine code maps p i
 
--- whether the jump at slot pc closes a cycle takes a search if the program has no order, and that memory. Nothing is wrong
+-- whether the jump at slot pc closes a cycle takes a search if the program has no order, and that memory; nothing is wrong
 -- below the slot, nor with the jump's target
 pub record IsSearching (code : List Insn) (maps pc : ℕ) : Type 0 where
   pub jump : JumpsBack code pc

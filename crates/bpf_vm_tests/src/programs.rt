@@ -125,8 +125,8 @@ pub fn code(alloc: Global, slots: &[[u8; 8]]) -> Option<Code> {
     }
 }
 
-/// What [`explain`] says of a program that it refuses, over one map of a value. The program is `count` times `r0 = 2`, and
-/// then these slots.
+/// What [`explain`] says of a program that it refuses, over one map of a value. The program is `count` times `r0 = 2`,
+/// and then these slots.
 pub fn explained(alloc: Global, count: usize, slots: &[[u8; 8]]) -> Option<Explained> {
     let shape = MapShape::of(1, 1)?;
     let code = match bytes_after(alloc, count, slots) {

@@ -1,5 +1,5 @@
-//! `rule_rows`: tries the verifier's rule for one instruction, and the join of two notes, on the rows of standard input. It
-//! says which rows come out otherwise than they say, and how many there are.
+//! `rule_rows`: tries the verifier's rule for one instruction, and the join of two notes, on the rows of standard
+//! input. It says which rows come out otherwise than they say, and how many there are.
 //!
 //! - `row`: a row, and what comes of it
 //! - `facts`, `values`: what is known, as in a row

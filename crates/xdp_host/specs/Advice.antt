@@ -5,7 +5,7 @@ use Rattle.bpf_insn.specs.declared.refusal.Cause.{Cause}
 use Rattle.bpf_insn.specs.declared.refusal.Cause.TheVariants as cause
 use Rattle.bpf_explain.specs.Advice.{cause_advice}
 
--- the causes by the numbers of include/laxonje.h, from 0. There is no V18.
+-- The causes by the numbers of include/laxonje.h, from 0. There is no V18.
 abbrev pub causes : List (Option Cause)
 causes =
     Some cause.Memory ∷ Some cause.Length ∷ Some cause.Opcode ∷ Some cause.Register ∷ Some cause.Target ∷ Some cause.BackJump

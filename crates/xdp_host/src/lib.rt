@@ -163,8 +163,8 @@ pub extern "C" fn laxonje_queue_make(
     }
 }
 
-/// Begins a turn, with what was read of the tx producer, and says its first ops. How many: none if there is no queue, something is
-/// under way, or there is no room, and nothing changes then.
+/// Begins a turn, with what was read of the tx producer, and says its first ops. How many: none if there is no queue,
+/// something is under way, or there is no room, and nothing changes then.
 #[unsafe(no_mangle)]
 pub extern "C" fn laxonje_queue_turn(
     alloc: Global,
@@ -218,9 +218,10 @@ pub extern "C" fn laxonje_queue_step(
     count
 }
 
-/// Begins to deliver a packet of the host's own to the guest, with what was read of the rx producer. It is copied; the steps
-/// that follow are of its delivery, until the op that says what became of it. The answer is 0; or, if nothing is begun, there
-/// is no queue, a turn or another delivery is under way, or the packet has fewer than 14 bytes or more than 65,535.
+/// Begins to deliver a packet of the host's own to the guest, with what was read of the rx producer. It is copied; the
+/// steps that follow are of its delivery, until the op that says what became of it. The answer is 0; or, if nothing is
+/// begun, there is no queue, a turn or another delivery is under way, or the packet has fewer than 14 bytes or more
+/// than 65,535.
 #[unsafe(no_mangle)]
 pub extern "C" fn laxonje_queue_deliver(
     alloc: Global,

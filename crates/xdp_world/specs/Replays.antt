@@ -29,7 +29,7 @@ Pauses (want.Read at) = Unit {0}
 Pauses want.Done = Unit {0}
 Pauses w = ⊥
 
--- n events are enough for what is left of the queue's turn, or it wants a read or nothing.
+-- For what is left of the queue's turn n events are enough, or it wants a read or nothing.
 abbrev pub IsNear : ℕ → Queue → Type 0
 IsNear n q = Pauses (want_of (rest q)) ⊎ Bounded Anything Any (rest q) n
 

@@ -94,9 +94,9 @@ impl<'p, 'b> World<'p, 'b> {
         Ok(())
     }
 
-    /// One event of a queue: of the delivery or the wait that is under way, else of its turn; or nothing if it has halted. The
-    /// answer serves a read, and is ignored else. A turn that is over by it is kept, and the next begins. If a delivery is over,
-    /// what became of its packet is kept; if a wait is over, its answer.
+    /// One event of a queue: of the delivery or the wait that is under way, else of its turn; or nothing if it has
+    /// halted. The answer serves a read, and is ignored else. A turn that is over by it is kept, and the next begins.
+    /// If a delivery is over, what became of its packet is kept; if a wait is over, its answer.
     pub fn step(&mut self, queue: usize, answer: u32) -> Result<(), AllocError>
         requires { queue < vec_len self.old.queues }
         ensures size { vec_len self.new.queues ≡ vec_len self.old.queues }

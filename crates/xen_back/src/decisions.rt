@@ -1,5 +1,5 @@
-//! What a turn, a delivery and a wait decide, whichever way they go, also if a host makes the accesses (`xen_host`): the status
-//! and the response of a slot, the state after it, and what the host gets as the answer.
+//! What a turn, a delivery and a wait decide, whichever way they go, also if a host makes the accesses (`xen_host`):
+//! the status and the response of a slot, the state after it, and what the host gets as the answer.
 
 ghost use Rattle.std.specs.Prelude.{◌≡◌, ◌≤◌, [], List, Option, Some, length, ℕ};
 ghost use Rattle.xen_back.specs.Rest.{after_reply, packet_at};

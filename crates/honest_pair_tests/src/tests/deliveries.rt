@@ -148,8 +148,8 @@ fn a_delivered_packet_is_received(rt: HostRuntime) {
     }
 }
 
-/// 5,000 bytes lie in two pages, so one post is too few, and two are enough. The notice of the posts wakes the back after the
-/// delivery.
+/// 5,000 bytes lie in two pages, so one post is too few, and two are enough. The notice of the posts wakes the back
+/// after the delivery.
 #[test]
 fn a_packet_of_two_pages_needs_two_posts(rt: HostRuntime) {
     let few = [

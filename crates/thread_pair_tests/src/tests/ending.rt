@@ -50,7 +50,7 @@ fn a_front_that_ends_early_ends_its_back(rt: HostRuntime) {
     assert_eq!(rt; rows, Some(rows_of(&wanted)));
 }
 
-/// Which ports are pending, of the first 64.
+/// Which of the first 64 ports are pending.
 fn pending(ports: &Ports) -> [bool; 64] {
     let mut pending = [false; 64];
     let mut number = 0;

@@ -105,7 +105,8 @@ const SENT_BACK: [u32; 28] = [
     0, 0, 0,
 ];
 
-/// Such a turn. Its tx slot is the i-th, with i + 1 published, and its rx slot lies at `word`. Whether both are read there.
+/// Such a turn. Its tx slot is the i-th, with i + 1 published, and its rx slot lies at `word`. Whether both are read
+/// there.
 fn turns_back(world: &mut World, i: u32, word: u32) -> Result<bool, AllocError>
     requires queues { vec_len world.old.queues ≡ 2 }
     requires few { i < 100 }

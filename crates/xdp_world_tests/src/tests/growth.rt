@@ -165,8 +165,8 @@ fn step_all(world: &mut World) -> Option<bool>
     Some(refused)
 }
 
-/// Whether a step was refused, and whether the steps came to one packet that was counted. None if no world is made, or a
-/// step is refused twice.
+/// Whether a step was refused, and whether the steps came to one packet that was counted. None if no world is made, or
+/// a step is refused twice.
 fn stepped(
     alloc: Global,
     layout: &Layout,

@@ -213,7 +213,8 @@ fn a_producer_past_the_ring_halts(rt: HostRuntime) {
     }
 }
 
-/// What the delivery of bytes comes to if all slots are posted, how many accesses it makes, and whether a notice is sent.
+/// What the delivery of bytes comes to if all slots are posted, how many accesses it makes, and whether a notice is
+/// sent.
 fn delivery(alloc: Global, packet: &[u8]) -> Option<(Delivery, usize, bool)> {
     let seen = delivered_first(alloc, 0, packet, &[256])?;
     Some((seen.delivery, seen.accesses.len(), seen.notified))
@@ -313,7 +314,8 @@ fn sent_into(alloc: Global, queue: &mut Queue, start: u32, i: u32) -> Option<Kin
     answering(alloc, queue, answers.as_slice(), &responses)
 }
 
-/// Whether a delivery takes the first slot and one after a turn the third, and what the turn comes to, if it takes the second.
+/// Whether a delivery takes the first slot and one after a turn the third, and what the turn comes to, if it takes the
+/// second.
 fn in_order(alloc: Global, start: u32) -> Option<([bool; 2], Option<Kind>)> {
     let (bench, mut buffer) = ready(alloc, &SENDS, &[])?;
     match bench.queue(alloc, start, &mut buffer) {

@@ -11,8 +11,8 @@ fn halting(answers: &[u32], cause: Halt) -> Step<'_> {
     Step::of(Call::Poll, answers, End::Halted(cause))
 }
 
-/// `sent` packets are sent and `posted` buffers posted, and then a poll is made, after which the front refuses every call for
-/// good, without an access.
+/// `sent` packets are sent and `posted` buffers posted, and then a poll is made, after which the front refuses every
+/// call for good, without an access.
 fn after_the_last(
     alloc: Global,
     start: u32,

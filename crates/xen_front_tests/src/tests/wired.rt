@@ -58,8 +58,8 @@ fn is_wired_with(alloc: Global, rings: [u32; 2], frames: u32) -> Option<bool> {
     is_wired(alloc, &buffers(2), &buffers(258), rings, frames)
 }
 
-/// As [`is_wired_with`], if one of the lists has other buffers: without the first tx buffer, without the first rx buffer, and
-/// with the tx buffers as both.
+/// As [`is_wired_with`], if one of the lists has other buffers: without the first tx buffer, without the first rx
+/// buffer, and with the tx buffers as both.
 fn are_lists_wired(alloc: Global) -> [Option<bool>; 3] {
     let (tx, rx) = (buffers(2), buffers(258));
     [
