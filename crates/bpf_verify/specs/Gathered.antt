@@ -11,7 +11,7 @@ use Rattle.bpf_flow.specs.Edges.{Edges, Answer}
 use Rattle.bpf_flow.specs.Rule.{after_of}
 use Rattle.bpf_flow.specs.Gives.{WantsMemory}
 
--- a note comes to a list: one that equals a note there is dropped, else it is appended; if eight stand there it is joined into
+-- a note arrives at a list: one that equals a note there is dropped, else it is appended; if eight stand there it is joined into
 -- the eighth
 pub data Arrives (ns : List Facts) (n : Facts) : List Facts → Type 0 where
   dropped : Contains ns n → Arrives ns n ns

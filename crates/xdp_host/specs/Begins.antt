@@ -22,7 +22,7 @@ pub record DeliverAnswers (old new : Queue) (producer : ℕ) (packet : List ℕ)
   pub told_is : told ≡ begin_number answer
   pub taken : IsBegin old new producer packet answer
 
--- The queue was to wait for `pages` slots, and its answer is what C is told.
+-- The queue was to wait for `pages` slots, and C gets its answer.
 pub record WaitAnswers (old new : Queue) (pages : ℕ) (told : ℕ) : Type 0 where
   pub answer : Begin
   pub told_is : told ≡ begin_number answer

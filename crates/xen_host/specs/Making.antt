@@ -90,7 +90,7 @@ pub record IsMadeOf (program : Accepted) (g : Given) (q : Queue) : Type 0 where
   pub packet : packet_of q ≡ []
   pub flags : q.engine.flags ≡ no_flags
 
--- What is told of the owners' fault.
+-- What is reported of the owners' fault.
 abbrev pub made_fault : OwnersFault → MakeFault
 made_fault owned.Memory = fault.Memory
 made_fault owned.Frames = fault.Frames

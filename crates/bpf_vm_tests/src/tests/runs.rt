@@ -251,7 +251,7 @@ fn noted(wants: Wants, want: VmWant) -> Option<Wants> {
     }
 }
 
-/// What is wanted of counters, the number and the instructions, if each counter holds 7, one instruction at a time.
+/// The wants of counters, the number and the instructions, if each counter holds 7, one instruction at a time.
 fn counted(start: Vm<'_, '_>) -> Option<(Wants, u32, u32)> {
     let mut vm = start;
     let mut wants = [None; 2];

@@ -73,7 +73,7 @@ fn a_whole_page_takes_one_rx_slot(rt: HostRuntime) {
     }
 }
 
-/// Whether a packet that is sent back is told, if the rx ring's event index is `event`.
+/// Whether a notice is sent for a packet that is sent back, if the rx ring's event index is `event`.
 fn is_told(alloc: Global, start: u32, event: u32) -> Option<bool> {
     let later = [start.wrapping_add(1), 9, 5, 1, 16, event, start];
     let answers = fourteen(alloc, start, 0, &later).ok()?;
