@@ -106,7 +106,7 @@ pub extern "C" fn laxonje_load_settings(
     out.set(alloc, loaded)
 }
 
-/// Another handle of the same program, as for another thread, in place of what `out` held.
+/// Copies the program, as for another thread, in place of what `out` held.
 #[unsafe(no_mangle)]
 pub extern "C" fn laxonje_again(
     alloc: Global,

@@ -27,7 +27,7 @@ fn awaited(alloc: Global, queue: &mut Queue, pages: u32, producer: u32) -> Optio
     Some((awaited, bus.accesses().len()))
 }
 
-/// What waiting for `pages` slots comes to if some are posted, and it writes the event index and then reads the
+/// What waiting for `pages` slots comes to with `posted` slots posted, if it writes the event index and then reads the
 /// producer.
 fn waited(alloc: Global, queue: &mut Queue, start: u32, pages: u32, posted: u32) -> Option<Awaited>
     requires ready { IsReady queue.old }

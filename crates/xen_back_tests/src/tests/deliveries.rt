@@ -108,7 +108,7 @@ fn the_longest_packet_takes_sixteen_slots(rt: HostRuntime) {
     }
 }
 
-/// What the delivery of 4,097 bytes comes to if one slot is posted, and whether a notice is sent, if it only reads the
+/// What the delivery of 4,097 bytes comes to with one slot posted, and whether a notice is sent, if it only reads the
 /// producer.
 fn too_few_slots(alloc: Global, start: u32) -> Option<(Delivery, bool)> {
     let one = start.wrapping_add(1);
@@ -213,7 +213,7 @@ fn a_producer_past_the_ring_halts(rt: HostRuntime) {
     }
 }
 
-/// What the delivery of bytes comes to if all slots are posted, how many accesses it makes, and whether a notice is
+/// What the delivery of bytes comes to with all slots posted, how many accesses it makes, and whether a notice is
 /// sent.
 fn delivery(alloc: Global, packet: &[u8]) -> Option<(Delivery, usize, bool)> {
     let seen = delivered_first(alloc, 0, packet, &[256])?;

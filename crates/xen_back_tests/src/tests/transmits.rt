@@ -139,7 +139,7 @@ fn a_second_grant_that_fails_writes_no_buffer(rt: HostRuntime) {
     }
 }
 
-/// What a packet of two pages comes to if one slot is posted, and how often the rx ring is written, if the tx ring is.
+/// What a packet of two pages comes to with one slot posted, and how often the rx ring is written, if the tx ring is.
 fn one_posted_slot(alloc: Global, start: u32) -> Option<(Kind, usize)> {
     let answered = [
         write(17, tx(start, 0, 0), 0xffff_0007),
