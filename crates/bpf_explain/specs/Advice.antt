@@ -41,14 +41,14 @@ abbrev pub pointer_advice : Val → List ℕ
 pointer_advice val.PktEnd = codes "access the packet through data: data_end serves comparisons alone"
 pointer_advice v = cause_advice NoPointer
 
--- V9, where the register was an address of this kind before
+-- V9, if the register was an address of this kind before
 abbrev pub lost_advice : Val → List ℕ
 lost_advice (val.Pkt id off) = codes "narrow the number that is added to at most 65535, in 64 bits, and compare the sum with data_end"
 lost_advice (val.Value m) = codes "make the number the key, or choose among constant places by if"
 lost_advice (val.Stack off) = codes "choose among constant places by if"
 lost_advice v = codes "keep a copy of the address"
 
--- V9, where more ways meet than notes keep apart
+-- V9, if more ways meet than notes keep apart
 unfoldable pub joined_advice : List ℕ
 joined_advice = codes "keep the offset as a number and add it to data anew"
 
@@ -97,7 +97,7 @@ value_advice MapAccess i n = map_advice i (address_of n i)
 value_advice Argument i n = argument_advice (n.reg 1) (n.reg 2)
 value_advice c i n = cause_advice c
 
--- where the instruction and what is known there are at hand
+-- the advice for a cause, and for the instruction and what is known there if both are at hand
 abbrev pub advice_text : Cause → Option Insn → Option Facts → List ℕ
 advice_text c (Some i) (Some n) = value_advice c i n
 advice_text c i n = cause_advice c

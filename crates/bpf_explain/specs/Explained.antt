@@ -40,7 +40,7 @@ abbrev pub values_text : List (List ℕ) → List Shape → Cause → Insn → F
 values_text names shapes c i n =
     if is_about_values c then codes "     " ++ reads_text names i n all_registers ++ reached_text names shapes c i n ++ codes "\n" else []
 
--- where a jump goes with V4; else where the instruction and what is known there are at hand
+-- for V4 where the jump goes; else the values, if the instruction and what is known there are at hand
 abbrev pub below_text : List (List ℕ) → List Shape → ℕ → Cause → Option Insn → Option Facts → List ℕ
 below_text names shapes pc Target (Some i) n = target_text pc (jump_of i)
 below_text names shapes pc c (Some i) (Some n) = values_text names shapes c i n
@@ -50,11 +50,12 @@ below_text names shapes pc c i n = []
 abbrev pub verdict_text : Refusal → List ℕ → List ℕ
 verdict_text r advice = codes "refused " ++ (refusal_text r ++ (codes "\nwrite instead: " ++ (advice ++ codes "\n")))
 
--- of bytes that spell no program
+-- the explanation of bytes that spell no program
 abbrev pub undecoded_text : List ℕ → Refusal → List ℕ
 undecoded_text program r = refused_slot_text program r.pc r.cause ++ verdict_text r (cause_advice r.cause)
 
--- of a program whose maps have these names and shapes: the listing with what is known at the refused slot, and the verdict
+-- the explanation of a program whose maps have these names and shapes: the listing with what is known at the refused slot, and the
+-- verdict
 abbrev pub explained_text : List Insn → List (List ℕ) → List Shape → Refusal → Option Facts → List ℕ
 explained_text code names shapes r note =
     listing_text (Some r.pc) (below_text names shapes r.pc r.cause (slice_get code r.pc) note) 0 code
@@ -86,7 +87,7 @@ abbrev pub addresses_text : Register → ℕ → ℕ → List ℕ
 addresses_text r pc addresses = codes "R" ++ (decimal (number r)
     ++ (codes " is an address on " ++ (decimal addresses ++ (codes " of the eight notes at " ++ decimal pc))))
 
--- that it is an address on so many of them, and a number on the last
+-- that r is an address on that many of the eight notes, and a number on the last
 abbrev pub joined_text : Register → ℕ → ℕ → List ℕ
 joined_text r pc addresses =
     addresses_text r pc addresses ++ (codes ", and a number on the last, into which every further one is joined: "

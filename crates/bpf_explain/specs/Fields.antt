@@ -13,7 +13,7 @@ is_of_fields Register = true
 is_of_fields Unsupported = true
 is_of_fields c = false
 
--- so many bytes from this place on, in hex
+-- `count` bytes from place `at` on, in hex
 abbrev pub hex_at : List ℕ → ℕ → ℕ → List ℕ
 hex_at bytes at count = encode_lower (take count (drop at bytes))
 

@@ -9,7 +9,7 @@ use Rattle.bpf_note.specs.declared.val.Val.{Val}
 use Rattle.bpf_note.specs.declared.val.Val.TheVariants.{Pkt, Value}
 use Rattle.bpf_explain.specs.declared.access.Access.{Access}
 
--- from the first byte to the one behind the last, counted from the base of the address's id: `  access=13..14`
+-- from the first byte to the one past the last, counted from the base of the address's id: `  access=13..14`
 abbrev pub bytes_from : ℤ → ℕ → List ℕ
 bytes_from first bytes = codes "  access=" ++ (signed_decimal first ++ (codes ".." ++ signed_decimal (first +ℤ pos bytes)))
 

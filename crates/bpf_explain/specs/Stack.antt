@@ -17,7 +17,7 @@ use Rattle.bpf_explain.specs.Values.{known_text}
 abbrev pub byte_text : Bool → List ℕ
 byte_text set = if set then codes "#" else codes "?"
 
--- so many bytes of the stack from a place on
+-- z bytes of the stack from a place on
 abbrev pub bytes_text : Facts → ℕ → ℕ → List ℕ
 bytes_text n place zero = []
 bytes_text n place (suc z) = byte_text (n.set place) ++ bytes_text n (place + 1) z
@@ -31,22 +31,22 @@ content_text names n j (Some v) = known_text names n v
 abbrev pub slot_text : List (List ℕ) → Facts → ℕ → List ℕ
 slot_text names n j = codes "  fp-" ++ (decimal (512 - 8 * j) ++ (codes "=" ++ content_text names n j (n.kept j)))
 
--- the slot of the last byte, where it isn't that of the first one
+-- the slot of the last byte, if it isn't that of the first one
 abbrev pub further_text : List (List ℕ) → Facts → ℕ → ℕ → List ℕ
 further_text names n first last = if first == last then [] else slot_text names n last
 
--- the slots that so many bytes from a place on touch; at most eight bytes touch two
+-- the slots that an access touches, by its place and its number of bytes; at most eight bytes touch two
 abbrev pub touched_text : List (List ℕ) → Facts → Option ℕ → ℕ → List ℕ
 touched_text names n None bytes = []
 touched_text names n (Some place) bytes =
     slot_text names n (place / 8) ++ further_text names n (place / 8) ((place + bytes - 1) / 8)
 
--- the place of so many bytes behind an address of the stack, where they lie in the stack
+-- the place of an access of that many bytes, `off` past an address of the stack, if it lies in the stack
 abbrev pub stack_place : Val → ℤ → ℕ → Option ℕ
 stack_place (Stack from) off bytes = place_in (pos 512 +ℤ from +ℤ off) bytes 512
 stack_place v off bytes = None
 
--- the place of an instruction's access, where it lies in the stack
+-- the place of an instruction's access, if it lies in the stack
 abbrev pub place_at : Facts → Option Access → Option ℕ
 place_at n None = None
 place_at n (Some a) = stack_place (n.reg (number a.base)) a.off a.bytes

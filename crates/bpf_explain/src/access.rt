@@ -7,7 +7,7 @@ ghost use Rattle.bpf_explain.specs.Accesses.{access_of, address_of, base_of};
 use bpf_insn::{Insn, Register, Size};
 use bpf_note::{Note, Val};
 
-/// An access to `bytes` bytes, `off` bytes behind the address in `base`.
+/// An access to `bytes` bytes, `off` bytes past the address in `base`.
 #[derive(Clone, Copy)]
 pub(crate) struct Access {
     pub base: Register,

@@ -54,7 +54,7 @@ fn pointer_advice(address: Val) -> &'static str
     }
 }
 
-/// V9, where the register was an address before.
+/// V9, if the register was an address before.
 pub(crate) fn lost_advice(address: Val) -> &'static str
     ensures { result.now ≡ lost_advice address }
 {
@@ -67,7 +67,7 @@ pub(crate) fn lost_advice(address: Val) -> &'static str
     }
 }
 
-/// V9, where more ways meet than notes keep apart.
+/// V9, if more ways meet than notes keep apart.
 #[tactic(auto, unfolding(crate::specs::Advice::joined_advice))]
 pub(crate) fn joined_advice() -> &'static str
     ensures { result.now ≡ joined_advice }
@@ -149,7 +149,7 @@ fn value_advice(cause: Cause, insn: Insn, note: &Note) -> &'static str
     }
 }
 
-/// What to write instead, where the instruction and what is known there are at hand or not.
+/// What to write instead, whether or not the instruction and what is known there are at hand.
 pub fn advice_for(cause: Cause, insn: Option<Insn>, note: Option<&Note>) -> &'static str
     ensures { result.now ≡ advice_text cause insn (option_map (λ n. facts n.now) note.entry) }
 {

@@ -38,7 +38,8 @@ fn is_about_values(cause: Cause) -> bool
     !matches!(cause, Cause::FramePointer | Cause::Helper)
 }
 
-/// What the instruction reaches: the stack's slots, the packet's bytes, or a value's counters, where the cause is about them.
+/// What the instruction reaches: the stack's slots, the packet's bytes, or a value's counters, if the cause is about
+/// them.
 fn reached_text(
     alloc: Global,
     names: &[String],
@@ -188,7 +189,7 @@ fn addresses_text(
     format!(in alloc; "R{number} is an address on {addresses} of the eight notes at {pc}")
 }
 
-/// That a register is an address on so many of the eight notes at slot `pc`, and a number on the last of them.
+/// Says that a register is an address on `addresses` of the eight notes at slot `pc`, and a number on the last of them.
 pub fn joined_text(
     alloc: Global,
     register: Register,

@@ -35,7 +35,7 @@ fn fields_text(alloc: Global, program: &[u8], at: usize) -> Result<String, Alloc
     format!(in alloc; "{opcode} {registers} {offset} {constant}")
 }
 
-/// The line of the refused slot, where its fields are the cause.
+/// The line of the refused slot, if its fields are the cause.
 pub(crate) fn refused_slot_text(
     alloc: Global,
     program: &[u8],

@@ -1,7 +1,7 @@
 //! Why a program is refused, as text: its listing, what is known at the refused slot, and what to write instead.
 //!
 //! - `explained`: all that is printed of a refused program
-//! - `listing`: its slots, in the instructions' text, and where that fails their `fields`
+//! - `listing`: its slots, in the instructions' text, or their `fields` if that fails
 //! - `values`, `stack`: what is known of registers and of the stack
 //! - `access`, `span`: the register and the numbers that decide
 //! - `advice`: what to write instead

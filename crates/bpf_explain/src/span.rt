@@ -8,7 +8,8 @@ use bpf_insn::Insn;
 use bpf_note::{MapShape, Val};
 use std::alloc::{AllocError, Global};
 
-/// The bytes of an access to the packet, counted from the base of the address's id: the first, and the one behind the last.
+/// The bytes of an access to the packet, counted from the base of the address's id: the first, and the one past the
+/// last.
 pub(crate) fn span_text(alloc: Global, address: Val, access: Access) -> Result<String, AllocError>
     requires { access.bytes ≤ 8 }
     ensures { IfOk result (λ s. string_bytes s ≡ span_text address (Option.Some access)) }
@@ -21,7 +22,7 @@ pub(crate) fn span_text(alloc: Global, address: Val, access: Access) -> Result<S
     format!(in alloc; "  access={first}..{end}")
 }
 
-/// How many counters each value of a map has, where the address is one of a value.
+/// How many counters each value of a map has, if the address is one of a value.
 pub(crate) fn counters_text(
     alloc: Global,
     shapes: &[MapShape],

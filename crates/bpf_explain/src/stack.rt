@@ -58,7 +58,7 @@ fn slot_text(alloc: Global, names: &[String], note: &Note, slot: u8) -> Result<S
     format!(in alloc; "  fp-{below}={content}")
 }
 
-/// The slot of the last byte, where it isn't that of the first one.
+/// The slot of the last byte, if it isn't that of the first one.
 fn further_text(
     alloc: Global,
     names: &[String],
@@ -76,7 +76,7 @@ fn further_text(
     }
 }
 
-/// The slots that so many bytes from a place on touch.
+/// The slots that `bytes` bytes from `place` on touch.
 fn touched_text(
     alloc: Global,
     names: &[String],
@@ -95,7 +95,7 @@ fn touched_text(
     format!(in alloc; "{one}{other}")
 }
 
-/// The place of so many bytes behind an address of the stack, where they lie in the stack.
+/// The place of `bytes` bytes, `off` past an address of the stack, if they lie in the stack.
 fn stack_place(value: Val, off: i16, bytes: u32) -> Option<u32>
     requires { bytes ≤ 8 }
     ensures place { result ≡ stack_place value off bytes }
@@ -116,7 +116,7 @@ fn stack_place(value: Val, off: i16, bytes: u32) -> Option<u32>
     }
 }
 
-/// The place of an instruction's access, where it lies in the stack.
+/// The place of an instruction's access, if it lies in the stack.
 pub(crate) fn place_of(note: &Note, insn: Insn) -> Option<u32>
     ensures { result ≡ place_of (facts note.now) insn }
 {

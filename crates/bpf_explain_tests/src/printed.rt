@@ -50,7 +50,7 @@ pub fn prints(
     Some(text.as_str() == wanted)
 }
 
-/// The same, where only these registers' values are known beside those at the entry.
+/// As [`prints`], if only these registers' values are known beside those at the entry.
 pub fn prints_by_registers(
     alloc: Global,
     bytes: &[u8],
@@ -75,7 +75,7 @@ pub fn prints_undecoded(
     Some(text.as_str() == wanted)
 }
 
-/// The advice for an instruction where two registers have these values.
+/// The advice for an instruction if two registers have these values.
 pub fn advice_by(
     alloc: Global,
     cause: Cause,

@@ -1,5 +1,5 @@
 -- Stated: claims rest on this file.
--- What arithmetic makes of values. Of several rules the first that fits is taken.
+-- What arithmetic makes of values. If several rules fit, the first is taken.
 use Rattle.std.specs.Prelude.{ℕ, ◌+◌, ◌-◌, ◌*◌, ◌/◌, ◌%◌, ◌^◌, min, ℤ, pos, negsuc, ◌+ℤ◌, ◌-ℤ◌, Option, None, Some, Bool, true}
 use Rattle.std.specs.Prelude.{false, ◌&&◌, if◌then◌else◌, ◌==◌, nat_le, nat_lt, int_le}
 use Rattle.bpf_insn.specs.Signed.{signed_reading, sign_extended}
@@ -42,7 +42,7 @@ operand_value n (Immediate i) = exactly (sign_extended i)
 abbrev pub signed : ℕ → ℤ
 signed c = signed_reading (2 ^ 64) c
 
--- the pointer into the packet with that offset, where 16 bits hold it
+-- the pointer into the packet with that offset, if 16 bits hold it
 abbrev pub packet_at : ℕ → ℤ → Val
 packet_at id (pos off) = if nat_le off 65535 then Pkt id off else full
 packet_at id (negsuc n) = full
@@ -102,7 +102,7 @@ abbrev pub ranged : AluOp → Val → Val → Val
 ranged op (Num lo hi) (Num c d) = if c == d then range_by op lo hi c else full
 ranged op v w = full
 
--- on 64 bits, where the operands aren't two constants; on 32 only constants are followed
+-- on 64 bits, if the operands aren't two constants; on 32 only constants are followed
 abbrev pub unfolded : Facts → AluOp → Bool → Val → Val → Computed
 unfolded n op false v w = Plain (any_number false)
 unfolded n Add true v w = sum_of n v w
@@ -135,7 +135,7 @@ negated_value wide v = folded_one (constant v) (negated wide) (any_number wide)
 abbrev pub extended_value : Bool → Size → Val → Val
 extended_value wide bits v = folded_one (constant v) (moved_extended wide bits) (any_number wide)
 
--- any number of so many bits
+-- any number of that width
 abbrev pub any_of_width : Width → Val
 any_of_width Bits16 = Num 0 0xFFFF
 any_of_width Bits32 = Num 0 0xFFFFFFFF

@@ -9,7 +9,7 @@ use Rattle.bpf_note.specs.declared.val.Val.{Val}
 use Rattle.bpf_note.specs.declared.val.Val.TheVariants.{Num, Pkt, PktEnd, MaybeValue, Value}
 use Rattle.bpf_note.specs.Facts.{Facts, with_reg, with_safe, with_each, resolved}
 
--- what holds where a condition doesn't
+-- what holds if a condition doesn't
 abbrev pub opposite : Condition → Option Condition
 opposite Equal = Some NotEqual
 opposite NotEqual = Some Equal
@@ -84,7 +84,7 @@ abbrev pub refined_if : Option Condition → Facts → ℕ → Operand → Val �
 refined_if None n k operand v w = n
 refined_if (Some cond) n k operand v w = refined cond n k operand v w
 
--- what is known where the jump is taken, and where it isn't; JMP32 teaches nothing
+-- what is known if the jump is taken, and if it isn't; JMP32 teaches nothing
 abbrev pub taken : Condition → Bool → Facts → ℕ → Operand → Val → Val → Facts
 taken cond false n k operand v w = n
 taken cond true n k operand v w = refined cond n k operand v w

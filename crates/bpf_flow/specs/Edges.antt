@@ -17,7 +17,7 @@ Edges = List (ℕ × Facts)
 abbrev pub Answer : Type 0
 Answer = Result Edges Cause
 
--- c where the test holds, else what follows
+-- c if the test holds, else what follows
 abbrev pub unless : {A : Type 0} → Bool → Cause → Result A Cause → Result A Cause
 unless b c go = if b then Err c else go
 

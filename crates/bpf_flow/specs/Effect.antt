@@ -19,7 +19,7 @@ use Rattle.bpf_flow.specs.declared.computed.Computed.TheVariants.{Plain, Fresh}
 use Rattle.bpf_flow.specs.declared.effect.Effect.{Effect}
 use Rattle.bpf_flow.specs.declared.effect.Effect.TheVariants.{Goes, Sets, SetsFresh, Stores, LooksUp, Branches, Ends}
 
--- what is known where a test is met, and where it isn't
+-- what is known if a test is met, and if it isn't
 abbrev pub met : Test → Facts → Facts
 met t n = taken t.cond t.wide n (number t.dst) t.src (n.reg (number t.dst)) (operand_value n t.src)
 
@@ -58,7 +58,7 @@ abbrev pub IsFresh : Computed → Type 0
 IsFresh (Plain v) = ⊥
 IsFresh (Fresh top) = Unit {0}
 
--- an instruction that can have such an effect where n is known: arithmetic that makes an address with a base of its own, a
+-- an instruction that can have such an effect if n is known: arithmetic that makes an address with a base of its own, a
 -- conditional jump, a call
 abbrev pub MayAllocate : Insn → Facts → Type 0
 MayAllocate (Alu op wide dst src) n = IsFresh (result_of n op wide (n.reg (number dst)) (operand_value n src))

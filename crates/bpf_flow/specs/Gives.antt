@@ -26,7 +26,7 @@ edges_of None = []
 edges_of (One e) = (e.pc, facts e.note.value) ∷ []
 edges_of (Two e f) = (e.pc, facts e.note.value) ∷ (f.pc, facts f.note.value) ∷ []
 
--- the same, where n is known at the slot that the first edge leads to
+-- the edges along the ways that are left, if n is known at the slot that the first edge leads to
 abbrev pub edges_along : Ways → Facts → Edges
 edges_along ways.None n = []
 edges_along (ways.One pc) n = (pc, n) ∷ []

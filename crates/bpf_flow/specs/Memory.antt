@@ -15,7 +15,7 @@ use Rattle.bpf_flow.specs.Edges.{Answer, goes_to}
 use Rattle.bpf_flow.specs.declared.access.Access.{Access}
 use Rattle.bpf_flow.specs.declared.access.Access.TheVariants.{InPacket, OnStack, InContext, AtValue}
 
--- the place in a region of so many bytes, where z bytes from it on lie in the region
+-- the place of z bytes in a region of `limit` bytes, if they lie in the region
 abbrev pub place_in : ℤ → ℕ → ℕ → Option ℕ
 place_in (pos p) z limit = if nat_le (p + z) limit then Some p else None
 place_in (negsuc m) z limit = None
@@ -61,7 +61,7 @@ abbrev pub all_set : Facts → ℕ → ℕ → Bool
 all_set n p zero = true
 all_set n p (suc z) = n.set p && all_set n (p + 1) z
 
--- any number of so many bytes
+-- any number of that size
 abbrev pub any_of_size : Size → Val
 any_of_size Byte = val.Num 0 0xFF
 any_of_size Half = val.Num 0 0xFFFF

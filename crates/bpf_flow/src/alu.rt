@@ -182,7 +182,7 @@ fn difference_of(a: Val, b: Val) -> Val
     }
 }
 
-/// A range shifted to the left, where its upper end keeps all its bits.
+/// A range shifted to the left, if its upper end keeps all its bits.
 fn shifted_left(lo: u64, hi: u64, by: u64) -> Val
     ensures { result ≡ range_by AluOp.Lsh lo hi by }
 {

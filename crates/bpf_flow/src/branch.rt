@@ -30,7 +30,7 @@ pub(crate) struct Test {
     pub src: Operand,
 }
 
-/// What holds where a condition doesn't, of those that teach.
+/// What holds if a condition doesn't, for those that teach.
 fn opposite(cond: Condition) -> Option<Condition>
     ensures { result ≡ opposite cond }
 {
@@ -170,7 +170,7 @@ fn refine(note: &mut Note, cond: Condition, dst: Register, src: Operand) -> Resu
 }
 
 impl Test {
-    /// Makes what is known that which is known where the test is met.
+    /// Makes what is known that which is known if the test is met.
     fn meet(self, note: &mut Note) -> Result<(), AllocError>
         ensures { OnOk result (facts note.new ≡ met self (facts note.old)) }
     {
@@ -180,7 +180,7 @@ impl Test {
         Ok(())
     }
 
-    /// Makes what is known that which is known where the test isn't met.
+    /// Makes what is known that which is known if the test isn't met.
     fn miss(self, note: &mut Note) -> Result<(), AllocError>
         ensures { OnOk result (facts note.new ≡ missed self (facts note.old)) }
     {

@@ -16,7 +16,7 @@ use bpf_insn::{Register, Size};
 use bpf_note::{Note, Spares, Val};
 use std::alloc::{AllocError, Global};
 
-/// What an instruction does that the rule allows. The next slot follows where no other is named.
+/// What an instruction does that the rule allows. The next slot follows if no other is named.
 #[derive(Clone, Copy, Drop)]
 pub(crate) enum Effect {
     /// Slot `to` follows, and the same is known there.
@@ -29,7 +29,7 @@ pub(crate) enum Effect {
     Stores { place: u32, size: Size, value: Val },
     /// `r0` gets the result of a lookup in map `m`.
     LooksUp { m: u32 },
-    /// Slot `to` follows where the test is met.
+    /// Slot `to` follows if the test is met.
     Branches { to: u32, test: Test },
     /// The program ends.
     Ends,

@@ -17,7 +17,7 @@ pub fn no_step_writes_the_frame_pointer()
     ensures { (code : List Insn) (s : State) (label : Option Op) (t : State) → LeadsTo (step code s) label t → t.reg 10 ≡ s.reg 10 }
 {}
 
-/// A label that fits one instruction doesn't fit another kind; and where two labels fit one step, they name one operation.
+/// A label that fits one instruction doesn't fit another kind; and if two labels fit one step, they name one operation.
 pub fn labels_fit_their_instruction()
     ensures kind { (i : Insn) (s : State) (label : Option Op) (t : State) → LeadsTo (exec i s) label t → Fits i label }
     ensures alike { (o : Outcome) (a b : Option Op) (t u : State) → LeadsTo o a t → LeadsTo o b u → Alike a b }
@@ -33,13 +33,13 @@ pub fn steps_follow_edges()
     ensures { (i : Insn) (s : State) (label : Option Op) (t : State) → LeadsTo (exec i s) label t → Leads i s.pc t.pc }
 {}
 
-/// An instruction is refused for an unset register exactly where it reads a register of which nothing is known. A call of
-/// a helper that programs may not call reads nothing.
+/// An instruction is refused for an unset register exactly when it reads a register of which nothing is known. A call
+/// of a helper that programs may not call reads nothing.
 pub fn unset_exactly_where_read()
     ensures { (i : Insn) (pc : ℕ) (n : Facts) (shapes : List Shape) → (after_of i pc n shapes ≡ Err Unset) ↔ ReadsUnset i n }
 {}
 
-/// An instruction is refused for the frame pointer exactly where it writes `r10` and reads no unset register.
+/// An instruction is refused for the frame pointer exactly when it writes `r10` and reads no unset register.
 pub fn frame_pointer_exactly_where_written()
     ensures { (i : Insn) (pc : ℕ) (n : Facts) (shapes : List Shape) →
         (after_of i pc n shapes ≡ Err FramePointer) ↔ (writes i 10 ≡ true) × (ReadsUnset i n → ⊥) }

@@ -87,6 +87,6 @@ pub record RunsOut (bytes : List ℕ) (pc : ℕ) : Type 0 where
   pub reached : Reaches bytes pc rest
   pub some : rest ≢ []
 
--- what `decode` answers where it gives no code
+-- what `decode` answers if it gives no code
 abbrev pub IsNoCode : List ℕ → Refusal → Type 0
 IsNoCode bytes r = IsRefused bytes r.cause r.pc ⊎ ((r.cause ≡ Memory) × RunsOut bytes r.pc)

@@ -101,7 +101,7 @@ flag false = 0
 abbrev pub slot : ℕ → ℕ → ℕ → ℤ → ℤ → Fields
 slot op dst src off imm = record { op = op; dst = dst; src = src; off = off; imm = imm }
 
--- the slots of an instruction, each field that it doesn't use being 0; none where it has no spelling
+-- the slots of an instruction, each field that it doesn't use being 0; none if it has no spelling
 abbrev pub slots : Insn → List Fields
 slots (Alu op wide dst (Immediate i)) = slot (alu_class wide + alu_code op) (number dst) 0 (pos (alu_offset op)) i ∷ []
 slots (Alu op wide dst (Register src)) = slot (alu_class wide + 8 + alu_code op) (number dst) (number src) (pos (alu_offset op))

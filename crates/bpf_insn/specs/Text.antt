@@ -71,7 +71,7 @@ abbrev pub source_text : Bool → Operand → List ℕ
 source_text wide (InRegister r) = register_text wide r
 source_text wide (Immediate i) = signed_decimal i
 
--- that of a jump, a constant as its 32 bits in hexadecimal
+-- the second operand of a jump, a constant as its 32 bits in hexadecimal
 abbrev pub compared_text : Bool → Operand → List ℕ
 compared_text wide (InRegister r) = register_text wide r
 compared_text wide (Immediate i) = codes "0x" ++ digits 16 false (cast_unsigned w32 i)

@@ -5,7 +5,7 @@ ghost use Rattle.bpf_insn.specs.Arithmetic.{computed, negated};
 use crate::alu_op::AluOp;
 use crate::truncated::low_32;
 
-/// What an arithmetic instruction leaves in its destination, of the numbers in destination and source: on 64 bits if
+/// What an arithmetic instruction leaves in its destination, by the numbers in destination and source: on 64 bits if
 /// `wide`, else on the low 32, and then the upper half is 0.
 #[inline(always)]
 pub fn alu(op: AluOp, wide: bool, dst: u64, src: u64) -> u64
@@ -29,7 +29,7 @@ pub fn alu(op: AluOp, wide: bool, dst: u64, src: u64) -> u64
     }
 }
 
-/// The same of an operation that is known where this is inlined.
+/// As [`alu`], for an operation that is known where this is inlined.
 #[inline(always)]
 fn at_width(op: AluOp, wide: bool, dst: u64, src: u64) -> u64
     ensures { result ≡ computed op wide dst src }
@@ -41,7 +41,7 @@ fn at_width(op: AluOp, wide: bool, dst: u64, src: u64) -> u64
     }
 }
 
-/// The same of a division or its remainder, which take long anyway: a call, so that a caller's loop stays small.
+/// As [`alu`], for a division or its remainder, which take long anyway: a call, so that a caller's loop stays small.
 #[inline(never)]
 fn division(op: AluOp, wide: bool, dst: u64, src: u64) -> u64
     ensures { result ≡ computed op wide dst src }

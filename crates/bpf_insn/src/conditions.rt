@@ -5,7 +5,7 @@ ghost use Rattle.bpf_insn.specs.Conditions.{is_met};
 use crate::condition::Condition;
 use crate::truncated::low_32;
 
-/// Whether a conditional jump is taken, of the numbers in destination and source: on 64 bits if `wide`, else on the
+/// Whether a conditional jump is taken, by the numbers in destination and source: on 64 bits if `wide`, else on the
 /// low 32.
 #[inline(always)]
 pub fn holds(cond: Condition, wide: bool, a: u64, b: u64) -> bool
@@ -27,7 +27,7 @@ pub fn holds(cond: Condition, wide: bool, a: u64, b: u64) -> bool
     }
 }
 
-/// The same of a condition that is known where this is inlined.
+/// As [`holds`], for a condition that is known where this is inlined.
 #[inline(always)]
 fn at_width(cond: Condition, wide: bool, a: u64, b: u64) -> bool
     ensures { result ≡ is_met cond wide a b }

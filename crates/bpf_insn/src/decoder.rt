@@ -220,7 +220,7 @@ pub fn decode(alloc: Global, bytes: &[u8]) -> Result<Code, Refusal>
             pc: 0,
         });
     }
-    // Where reading stops the bytes are read again without memory, so that a refusal doesn't hang on it.
+    // If reading stops, the bytes are read again without memory, so that a refusal doesn't depend on it.
     match slots_of(alloc, bytes) {
         Ok(insns) => Ok(Code::of_slots(insns)),
         Err(stopped) => match refusal_of(bytes) {

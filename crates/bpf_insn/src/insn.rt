@@ -80,7 +80,7 @@ pub enum Insn {
         wide_offset: bool,
         to: i32,
     },
-    /// Jumps by `off` where `dst cond src` holds.
+    /// Jumps by `off` if `dst cond src` holds.
     Jump {
         cond: Condition,
         wide: bool,

@@ -36,7 +36,7 @@ pub fn refusals_before_exit(alloc: Global, slot: [u8; 8]) -> [Option<Refusal>; 2
     refusals(alloc, &bytes)
 }
 
-/// What decoding so many EXITs answers: how many slots they are, or a refusal. Nothing without memory for their bytes.
+/// What decoding `count` EXITs answers: how many slots they are, or a refusal. Nothing without memory for their bytes.
 pub fn exits(alloc: Global, count: usize) -> Option<Result<usize, Refusal>> {
     let mut bytes = Vec::new(alloc);
     for _ in 0..count {

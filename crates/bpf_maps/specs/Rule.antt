@@ -42,7 +42,7 @@ times number parts = sum_by (λ (p : Part). if number == p.number then 1 else 0)
 abbrev pub Fits : List Shape → List Entry → View → Type 0
 Fits shapes history v = All (λ (p : Part). (v.shapes ≡ shapes) × (share p.number history ≡ p.ops)) v.parts
 
--- There is one legal history, which leaves the words. The share of each number is its list, each number stands in one view, and
+-- one legal history leaves the words; the share of each number is its list, each number stands in one view, and there are no
 -- there are no other entries
 pub record Kept (shapes : List Shape) (seats : ℕ) (s : State (Unit {0}) View) : Type 0 where
   pub history : List Entry

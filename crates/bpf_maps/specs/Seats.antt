@@ -31,7 +31,7 @@ IsSeatOf c s = (s.table ≡ c.table) × (s.shapes ≡ c.shapes)
 abbrev pub new_seat : CountersView → ℕ → SeatView
 new_seat c number = record { table = c.table; shapes = c.shapes; number = number; ops = [] }
 
--- so many seats, in order, from 0 on
+-- `count` seats, in order, from 0 on
 abbrev pub new_seats : CountersView → ℕ → List SeatView
 new_seats c count = map (new_seat c) (range_with_len 0 count)
 

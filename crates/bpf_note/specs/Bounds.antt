@@ -28,7 +28,7 @@ pub record AreJoined (xs ys zs : List Bound) : Type 0 where
   pub tops : (id : ℕ) → top_in zs id ≡ max (top_in xs id) (top_in ys id)
   pub safes : (id : ℕ) → safe_in zs id ≡ lesser (safe_in xs id) (safe_in ys id)
 
--- a list, and behind it the join of two others
+-- a list, and after it the join of two others
 abbrev pub IsJoinedOnto : List Bound → List Bound → List Bound → List Bound → Type 0
 IsJoinedOnto front xs ys new = (zs : List Bound) × (new ≡ front ++ zs) × AreJoined xs ys zs
 

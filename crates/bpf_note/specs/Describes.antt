@@ -37,7 +37,7 @@ IsReading w (Map m) x = (x ≡ references_start + m) × (m < length w.shapes)
 IsReading w (MaybeValue m id) x = (x ≡ w.address id) × ((x ≡ 0) ⊎ IsValueOf (slice_get w.shapes m) m x)
 IsReading w (Value m) x = IsValueOf (slice_get w.shapes m) m x
 
--- the same of what may be unset: then the value says nothing
+-- x, if there is one, is a reading of a value; if there is none, the value says nothing
 abbrev pub Reads : Meaning → Val → Option ℕ → Type 0
 Reads w v None = v ≡ Unset
 Reads w v (Some x) = IsReading w v x

@@ -6,7 +6,7 @@ use Rattle.bpf_note.specs.declared.val.Val.TheVariants.{Unset, Num, Pkt, Stack, 
 use Rattle.bpf_note.specs.State.{put}
 
 -- the value of each register; the value that a slot of eight stack bytes keeps, if it keeps one; whether a stack byte is
--- set; and of each id its greatest base and its safe bound
+-- set; and each id's greatest base and safe bound
 pub record Facts : Type 0 where
   pub reg : ℕ → Val
   pub kept : ℕ → Option Val

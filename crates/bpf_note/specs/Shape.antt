@@ -1,5 +1,5 @@
 -- Stated: claims rest on this file.
--- Array maps, as Linux's bpf.h has them (BPF_MAP_TYPE_ARRAY), whose values are rows of counters.
+-- Array maps, as in Linux's bpf.h (BPF_MAP_TYPE_ARRAY). Their values are rows of counters.
 use Rattle.std.specs.Prelude.{ℕ, ◌≡◌, ◌<◌, ◌≤◌, List, Option, None, Some, slice_get}
 
 -- how many values a map has, and how many counters of 64 bits a value has
@@ -18,7 +18,7 @@ pub record IsShape (s : Shape) : Type 0 where
 abbrev pub AreShapes : List Shape → Type 0
 AreShapes shapes = (m : ℕ) (shape : Shape) → slice_get shapes m ≡ Some shape → IsShape shape
 
--- a value and a counter of it lie within the map, where there is one
+-- a value and a counter of it lie within the map, if there is one
 abbrev pub IsWithin : Option Shape → ℕ → ℕ → Type 0
 IsWithin None k j = ⊥
 IsWithin (Some s) k j = (k < s.entries) × (j < s.counters)

@@ -74,7 +74,7 @@ pub(crate) fn stands(bounds: &[Bound], bound: Bound) -> bool
     top == bound.top && safe == bound.safe
 }
 
-/// The same bounds, with room for one more.
+/// A copy of the bounds, with room for one more.
 pub(crate) fn with_room(alloc: Global, bounds: &[Bound]) -> Result<Vec<Bound>, AllocError>
     ensures { IfOk result (λ c. c.items ≡ bounds.now) }
 {
@@ -126,7 +126,7 @@ pub(crate) fn are_same(a: &[Bound], b: &[Bound]) -> bool
     a == b
 }
 
-/// What is known of each id where either list may be true; `None` where that is the first list.
+/// What is known of each id if either list may be true; `None` if that is the first list.
 pub(crate) fn join_bounds(
     alloc: Global,
     a: &[Bound],
@@ -150,8 +150,8 @@ pub(crate) fn join_bounds(
     Ok(Some(joined))
 }
 
-/// Places in the two lists up to which the first list stays as it is where the two are joined. How far it looks is a matter of
-/// time alone.
+/// Places in the two lists up to which the first list stays as it is when the two are joined. How far it looks is a
+/// matter of time alone.
 fn kept_front(a: &[Bound], b: &[Bound]) -> (usize, usize)
     requires a { IsNormal a.now }
     requires b { IsNormal b.now }
@@ -314,7 +314,7 @@ fn paired(a: Bound, b: Bound) -> Bound
     }
 }
 
-/// The lesser of two bounds, where both are there.
+/// The lesser of two bounds, if both are there.
 fn lesser(a: Option<u32>, b: Option<u32>) -> Option<u32>
     ensures { result ≡ lesser a b }
 {

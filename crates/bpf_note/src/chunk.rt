@@ -57,7 +57,7 @@ impl Chunk {
         })
     }
 
-    /// The same bounds again, shared.
+    /// Another reference to these bounds.
     pub(crate) fn share(&self) -> Result<Chunk, AllocError>
         ensures { IfOk result (λ s. s ≡ self.now) }
     {
@@ -120,7 +120,7 @@ impl Chunk {
         Ok(())
     }
 
-    /// The join of the two: this one, where the other adds nothing to it.
+    /// The join of the two: this one, if the other adds nothing to it.
     pub(crate) fn joined(&self, alloc: Global, other: &Chunk) -> Result<Chunk, AllocError>
         ensures { IfOk result (λ s. AreJoined self.now other.now s) }
     {

@@ -37,7 +37,7 @@ impl Chunks {
         Chunks { list: None }
     }
 
-    /// The same chunks again, shared.
+    /// Another reference to these chunks.
     pub(crate) fn share(&self) -> Result<Chunks, AllocError>
         ensures { IfOk result (λ s. s ≡ self.now) }
     {
@@ -140,7 +140,7 @@ fn chunk_at(chunks: &[Chunk], number: usize) -> &[Bound]
     }
 }
 
-/// The same chunks again, each shared, with room for so many.
+/// Another reference to each of these chunks, with room for `room` chunks.
 fn shared_chunks(alloc: Global, chunks: &[Chunk], room: usize) -> Result<Vec<Chunk>, AllocError>
     ensures { IfOk result (λ v. v.items ≡ chunks.now) }
 {
@@ -164,7 +164,7 @@ fn set_in_chunks(alloc: Global, chunks: &mut Vec<Chunk>, new: Bound) -> Result<(
     chunks[at].set(alloc, new)
 }
 
-/// Adds chunks without bounds until there are so many.
+/// Adds chunks without bounds until there are `size` chunks.
 fn grow(chunks: &mut Vec<Chunk>, size: usize) -> Result<(), AllocError>
     ensures same { SameChunks chunks.old.items chunks.new.items }
     ensures most { length chunks.new.items ≤ max (length chunks.old.items) size }

@@ -1,4 +1,4 @@
-//! What is known where either of two notes may describe the state.
+//! What is known if either of two notes may describe the state.
 ghost use Rattle.std.specs.Prelude.{◌≡◌, ◌⊎◌, ◌↔◌, ◌&&◌, ◌<◌, ℕ, slice_index_or, false, IfOk, OnOk, OnErr, IsTrue};
 ghost use Rattle.bpf_note.specs.State.{State};
 ghost use Rattle.bpf_note.specs.Describes.{Describes};
@@ -12,7 +12,7 @@ use crate::slots::{is_same_value, set_bytes};
 use crate::val::Val;
 use std::alloc::{AllocError, Global};
 
-/// What is known where either of two notes may describe the state.
+/// What is known if either of two notes may describe the state.
 pub fn join(alloc: Global, a: &Note, b: &Note) -> Result<Note, AllocError>
     ensures joined { IfOk result (λ n. facts n ≡ joined (facts a.now) (facts b.now)) }
     ensures describes { IfOk result (λ n. (s : State) → Describes (facts a.now) s ⊎ Describes (facts b.now) s → Describes (facts n) s) }

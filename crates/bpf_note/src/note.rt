@@ -15,9 +15,9 @@ use crate::val::Val;
 use std::alloc::{AllocError, Global};
 use std::marker::Model;
 
-/// What is known of a state before an instruction: a value for each register, of the stack which bytes are set and which
-/// slots of eight bytes keep a value, and of each id its greatest base in the packet and its safe bound. Two notes are
-/// equal where they say the same.
+/// What is known of a state before an instruction: a value for each register, which bytes of the stack are set and
+/// which slots of eight bytes keep a value, and each id's greatest base in the packet and its safe bound. Two notes are
+/// equal if they say the same.
 #[derive(Drop)]
 pub struct Note {
     pub(crate) regs: [Val; 11],
@@ -173,14 +173,14 @@ impl Note {
         }
     }
 
-    /// The same note again.
+    /// A copy of the note.
     pub fn copy(&self, alloc: Global) -> Result<Note, AllocError>
         ensures { IfOk result (λ n. n ≡ self.now) }
     {
         Ok(Box::into_inner(self.boxed(alloc)?))
     }
 
-    /// The same note again, in a box.
+    /// A copy of the note, in a box.
     pub fn boxed(&self, alloc: Global) -> Result<Box<Note>, AllocError>
         ensures { IfOk result (λ n. n.value ≡ self.now) }
     {

@@ -25,7 +25,7 @@ impl Model for MapShape {
 }
 
 impl MapShape {
-    /// The shape with so many values and counters a value, where both are within their limits.
+    /// The shape with `entries` values of `counters` counters each, if both are within their limits.
     pub fn of(entries: u32, counters: u32) -> Option<MapShape>
         ensures some { IfSome result (λ s. s ≡ record { entries = entries; counters = counters }) }
         ensures within { IfSome result IsShape }

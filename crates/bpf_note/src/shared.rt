@@ -48,7 +48,7 @@ impl SharedBounds {
         }
     }
 
-    /// The same bounds again, shared.
+    /// A copy of these bounds, which shares their chunks.
     pub(crate) fn share(&self) -> Result<SharedBounds, AllocError>
         ensures { IfOk result (λ s. s ≡ self.now) }
     {
@@ -107,7 +107,7 @@ impl SharedBounds {
         self.high.covers(&other.high) && self.low.covers(&other.low)
     }
 
-    /// What is known of each id where either may be true.
+    /// What is known of each id if either may be true.
     pub(crate) fn joined(&self, other: &SharedBounds) -> Result<SharedBounds, AllocError>
         ensures { IfOk result (λ s. AreJoined self.now other.now s) }
     {

@@ -112,7 +112,7 @@ pub(crate) fn set_bytes(slot: Slot) -> [bool; 8]
     }
 }
 
-/// A slot of which one more byte is set, and that no longer keeps a value.
+/// A slot with one more byte set. It no longer keeps a value.
 pub(crate) fn slot_with_byte(slot: Slot, byte: u16) -> Slot
     requires { byte < 8 }
     ensures kept { kept_of result ≡ None }

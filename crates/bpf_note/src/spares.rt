@@ -24,14 +24,14 @@ impl Spares {
         }
     }
 
-    /// A note is done with. It goes at once where enough are kept, or memory runs out.
+    /// A note is done with. It goes at once if enough are kept, or memory runs out.
     pub fn take(&mut self, note: Box<Note>) {
         if self.notes.len() < MOST_SPARES {
             let _is_kept = self.notes.push(note).is_ok();
         }
     }
 
-    /// The same note again, in a box.
+    /// A copy of the note, in a box.
     pub fn copy(&mut self, note: &Note) -> Result<Box<Note>, AllocError>
         ensures { IfOk result (λ b. b.value ≡ note.now) }
     {

@@ -11,7 +11,7 @@ pub enum Val {
     Unset,
     /// A number from `lo` to `hi`, unsigned.
     Num { lo: u64, hi: u64 },
-    /// The address `off` bytes behind the base of `id` in the packet.
+    /// The address `off` bytes past the base of `id` in the packet.
     Pkt { id: u16, off: u16 },
     /// The address of the packet's end.
     PktEnd,

@@ -5,8 +5,8 @@ use bpf_same::{Comparison, Place, compare};
 use bpf_verify::verify;
 use std::alloc::Global;
 
-/// Both programs in hex, a slot each; how many maps of four counters they have; and of each slot of the new one where the old
-/// program stands: `c12` for a copy of slot 12, `o12` for an instruction of the new program's own before it.
+/// Both programs in hex, a slot each; how many maps of four counters they have; and for each slot of the new one where
+/// the old program stands: `c12` for a copy of slot 12, `o12` for an instruction of the new program's own before it.
 #[derive(Clone, Copy, Debug, Drop)]
 pub struct Pair<'a> {
     pub old: &'a [&'a str],
@@ -30,7 +30,7 @@ fn place(word: &str) -> Option<Place> {
     Some(Place { own, at })
 }
 
-/// What [`compare`] answers of a pair. None where the new program isn't accepted, or where memory runs out.
+/// What [`compare`] answers for a pair. None if the new program isn't accepted, or if memory runs out.
 pub fn compared(alloc: Global, pair: &Pair) -> Option<Comparison> {
     let mut places = Vec::new(alloc);
     for word in pair.places.split_ascii_whitespace() {

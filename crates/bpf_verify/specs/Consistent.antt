@@ -40,7 +40,7 @@ pub record AreNotesOf (p : Accepted) (notes : ℕ → List Facts) : Type 0 where
   pub starts : (s : State) → IsStart s → s.shapes ≡ p.shapes → DescribedBy p notes s
   pub steps : (s : State) → DescribedBy p notes s → GoesOnBy p notes (step p.code s)
 
--- such notes describe the state. A program that is accepted keeps no notes: that there are some is what its contracts say
+-- such notes describe the state; a program that is accepted keeps no notes: that there are some is what its contracts say
 abbrev pub IsDescribed : Accepted → State → Type 0
 IsDescribed p s = (notes : ℕ → List Facts) × AreNotesOf p notes × DescribedBy p notes s
 

@@ -29,7 +29,7 @@ pub record JumpsBack (code : List Insn) (p : ℕ) : Type 0 where
   pub lands : target p offset ≡ Some to
   pub back : to ≤ p
 
--- a jump to its own slot or below it, from where the flow graph leads back to it
+-- a jump to its own slot or below it, to a slot from which the flow graph leads back to it
 pub record ClosesCycle (code : List Insn) (p : ℕ) : Type 0 where
   pub insn : Insn
   pub here : slice_get code p ≡ Some insn

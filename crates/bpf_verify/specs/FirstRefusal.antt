@@ -41,7 +41,7 @@ pub record IsFirstFault (code : List Insn) (maps pc : ℕ) (cause : Cause) : Typ
   pub fault : IsFault code maps pc insn cause
   pub before : (p : ℕ) (i : Insn) → p < pc → slice_get code p ≡ Some i → IsFine code maps p i
 
--- whether the jump at slot pc closes a cycle takes a search where the program has no order, and that memory. Nothing is wrong
+-- whether the jump at slot pc closes a cycle takes a search if the program has no order, and that memory; nothing is wrong
 -- below the slot, nor with the jump's target
 pub record IsSearching (code : List Insn) (maps pc : ℕ) : Type 0 where
   pub jump : JumpsBack code pc
@@ -73,7 +73,7 @@ pub record IsStopped (code : List Insn) (shapes : List Shape) (pc : ℕ) (cause 
   pub allowed : (p : ℕ) → Contains before p → AreAllowed code shapes p (notes p)
   pub refused : IsFirstCause code shapes pc (notes pc) cause
 
--- the second pass stops at slot pc, and of the notes there this one is the first that the rule refuses
+-- the second pass stops at slot pc, and this is the first of the notes there that the rule refuses
 pub record IsStoppedBy (code : List Insn) (shapes : List Shape) (pc : ℕ) (cause : Cause) (note : Facts) : Type 0 where
   pub stopped : IsStopped code shapes pc cause
   pub first : IsFirstRefused code shapes pc (stopped.notes pc) cause note

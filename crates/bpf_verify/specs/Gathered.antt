@@ -11,7 +11,7 @@ use Rattle.bpf_flow.specs.Edges.{Edges, Answer}
 use Rattle.bpf_flow.specs.Rule.{after_of}
 use Rattle.bpf_flow.specs.Gives.{WantsMemory}
 
--- a note comes to a list. One that equals a note there is dropped, else it is appended; where eight stand it is joined into
+-- a note arrives at a list: one that equals a note there is dropped, else it is appended; if eight stand there it is joined into
 -- the eighth
 pub data Arrives (ns : List Facts) (n : Facts) : List Facts → Type 0 where
   dropped : Contains ns n → Arrives ns n ns
@@ -24,7 +24,7 @@ abbrev pub Hears : List Facts → ℕ → Edges → List Facts → Type 0
 Hears ns q [] r = ns ≡ r
 Hears ns q (e ∷ es) r = ((q ≡ e.0) × ((m : List Facts) × Arrives ns e.1 m × Hears m q es r)) ⊎ ((q ≡ e.0 → ⊥) × Hears ns q es r)
 
--- what the rule says of the instruction at a slot, where n is known
+-- what the rule says of the instruction at a slot, if n is known
 abbrev pub rule_by : Option Insn → ℕ → Facts → List Shape → Answer
 rule_by None pc n shapes = Ok []
 rule_by (Some i) pc n shapes = after_of i pc n shapes
@@ -36,7 +36,7 @@ abbrev pub allowed : Answer → Edges
 allowed (Ok es) = es
 allowed (Err c) = []
 
--- the edges out of a slot, note by note in their order, of each the next slot before a jump's target
+-- the edges out of a slot, note by note in their order, for each note the next slot before a jump's target
 abbrev pub told : List Insn → List Shape → ℕ → List Facts → Edges
 told code shapes p [] = []
 told code shapes p (n ∷ ns) = allowed (rule_at code shapes p n) ++ told code shapes p ns

@@ -6,8 +6,8 @@ use Rattle.bpf_note.specs.Facts.{Facts}
 use Rattle.bpf_note.specs.Shape.{Shape}
 use Rattle.bpf_verify.specs.Lost.{ComesWith, is_address, is_number}
 
--- the list has eight notes, of which the last, into which each further one is joined, gives register k a number; of the first
--- seven this many give it an address, and at least one does
+-- the list has eight notes; the last, into which each further one is joined, gives register k a number, and `addresses` of the
+-- first seven give it an address, at least one
 pub record IsJoinedIn (list : List Facts) (k addresses : ℕ) : Type 0 where
   pub first : List Facts
   pub eighth : Facts

@@ -25,7 +25,7 @@ abbrev pub is_number : Val → Bool
 is_number (Num lo hi) = true
 is_number v = false
 
--- register k is a number behind one of the edges
+-- register k is a number after one of the edges
 abbrev pub MakesNumber : ℕ → Edges → Type 0
 MakesNumber k [] = ⊥
 MakesNumber k (e ∷ es) = (is_number (e.1.reg k) ≡ true) ⊎ MakesNumber k es

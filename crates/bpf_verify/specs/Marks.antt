@@ -26,7 +26,7 @@ pub record Adds (marks : List Bool) (pile : List ℕ) (to : Option ℕ) (marks' 
   pub stays : (q : ℕ) → Contains pile q → Contains pile' q
   pub pile_only : (q : ℕ) → Contains pile' q → Contains pile q ⊎ (to ≡ Some q)
 
--- what is marked is reached, and where an edge leads on from it, that is marked or the slot is still on the pile
+-- what is marked is reached, and each edge from it leads to a marked slot unless it is still on the pile
 pub record IsExplored (Edge : ℕ → ℕ → Type 0) (from : ℕ) (marks : List Bool) (pile : List ℕ) : Type 0 where
   pub first : marked marks from ≡ true
   pub sound : (q : ℕ) → marked marks q ≡ true → Reaches Edge from q

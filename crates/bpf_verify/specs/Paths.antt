@@ -7,7 +7,7 @@ pub data Reaches (Edge : ℕ → ℕ → Type 0) : ℕ → ℕ → Type 0 where
   here : {p : ℕ} → Reaches Edge p p
   along : {p q r : ℕ} → Edge p q → Reaches Edge q r → Reaches Edge p r
 
--- so many edges lead from the first slot to the second
+-- a path of k edges leads from the first slot to the second
 pub data Steps (Edge : ℕ → ℕ → Type 0) : ℕ → ℕ → ℕ → Type 0 where
   stay : {p : ℕ} → Steps Edge zero p p
   step : {k p q r : ℕ} → Edge p q → Steps Edge k q r → Steps Edge (suc k) p r

@@ -16,7 +16,7 @@ abbrev pub LeadInside : Edges → ℕ → Type 0
 LeadInside [] n = Unit {0}
 LeadInside (e ∷ es) n = (e.0 < n) × LeadInside es n
 
--- out of memory, where the first is so, or a cause of which the second is so
+-- out of memory, if the first holds, or a cause of which the second holds
 abbrev pub IsMet : Cause → Type 0 → Type 0 → Type 0
 IsMet Memory W P = W
 IsMet c W P = P

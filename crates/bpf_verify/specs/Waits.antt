@@ -8,7 +8,7 @@ use Rattle.bpf_verify.specs.Ways.{fall_to, jump_to}
 use Rattle.bpf_verify.specs.Marks.{marked}
 use Rattle.bpf_verify.specs.Orders.{Takes}
 
--- 1 where it is q
+-- 1 if it is q
 abbrev pub one : Option ℕ → ℕ → ℕ
 one None q = 0
 one (Some t) q = if t == q then 1 else 0
@@ -17,7 +17,7 @@ one (Some t) q = if t == q then 1 else 0
 unfoldable pub hits : List Insn → ℕ → ℕ → ℕ
 hits code p q = one (fall_to code p) q + one (jump_to code p) q
 
--- the same of all live slots below k
+-- how often the live slots below k lead to q
 abbrev pub into : List Insn → (ℕ → Bool) → ℕ → ℕ → ℕ
 into code live zero q = 0
 into code live (suc k) q = into code live k q + (if live k then hits code k q else 0)

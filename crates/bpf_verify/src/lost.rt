@@ -80,7 +80,7 @@ fn last_write(code: &[Insn], pc: u32, register: Register) -> Option<u32>
     None
 }
 
-/// Whether the rule makes a register a number where a note gives it an address.
+/// Whether the rule makes a register a number if a note gives it an address.
 fn loses(
     alloc: Global,
     code: &[Insn],

@@ -25,8 +25,8 @@ use bpf_note::{MapShape, Note, Spares};
 use std::alloc::{AllocError, Global};
 use std::mem;
 
-/// The notes at each slot, and memory that is used again: of the list that was followed last, which the next list without notes
-/// takes over, and of notes.
+/// The notes at each slot, and memory that is used again: that of the list that was followed last, which the next list
+/// without notes takes over, and that of notes.
 #[derive(Drop)]
 struct Table {
     lists: Vec<NoteList>,

@@ -79,7 +79,8 @@ pub struct Explained {
     pub note: Option<Note>,
 }
 
-/// [`verify`], and on a refusal the code and the note at fault: of the notes at the refused slot the first that the rule refuses.
+/// [`verify`], and on a refusal the code and the note at fault: the first note at the refused slot that the rule
+/// refuses.
 pub fn explain(alloc: Global, code: Code, shapes: &[MapShape]) -> Result<Verified, Explained>
     requires { length shapes.now ≤ 4 }
     ensures code { IfOk result (λ v. v.code ≡ code) }

@@ -3,7 +3,7 @@ ghost use Rattle.std.specs.Prelude.{◌≡◌, List, ℕ, length};
 
 /// Writes bytes that come from a source, as words of a page that a bus reads.
 pub trait Fill<S> {
-    // Of which sources it writes so many bytes.
+    // The sources of which it writes this number of bytes.
     ghost fits: { Self → S → ℕ → Type 0 };
 
     // Which bytes it may write, and what it may leave the source as.

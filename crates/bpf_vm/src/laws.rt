@@ -15,7 +15,7 @@ pub fn accepted_programs_end()
         IsCourseOf p.shapes (course (instructions p.code) p.code s) }
 {}
 
-/// The same of each program that [`verify`](bpf_verify::verify) answers: every run of it exits, within its number of instructions and
+/// Every run of a program that [`verify`](bpf_verify::verify) answers exits, within its number of instructions and
 /// without a fault, whatever the counters answer, and asks for counters of its maps alone.
 pub fn verified_programs_end(program: &Verified)
     ensures end { (s : State) → IsStart s → s.shapes ≡ program.now.shapes →

@@ -105,7 +105,7 @@ impl<'p, 'b> Vm<'p, 'b> {
         ensures { IsStep None self.old self.new }
     {
         let insn = self.program.insn(self.pc);
-        match self.machine.turn::<true>(self.pc, insn) {
+        match self.machine.turn(self.pc, insn) {
             Turn::Goes(to) => {
                 self.machine.are_numbers();
                 self.pc = to;

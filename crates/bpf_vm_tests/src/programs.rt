@@ -40,7 +40,7 @@ pub fn add_slots(bytes: &mut Vec<u8>, slots: &[[u8; 8]]) -> Result<(), AllocErro
     Ok(())
 }
 
-/// The bytes of so many times `r0 = 2`, and of slots after them.
+/// The bytes of `count` times `r0 = 2`, and of slots after them.
 pub fn bytes_after(alloc: Global, count: usize, slots: &[[u8; 8]]) -> Result<Vec<u8>, AllocError> {
     let mut bytes = Vec::new(alloc);
     for _ in 0..count {
@@ -125,8 +125,8 @@ pub fn code(alloc: Global, slots: &[[u8; 8]]) -> Option<Code> {
     }
 }
 
-/// What [`explain`] says of a program that it refuses, over one map of a value. The program is so many times `r0 = 2`, and
-/// then these slots.
+/// What [`explain`] says of a program that it refuses, over one map of a value. The program is `count` times `r0 = 2`,
+/// and then these slots.
 pub fn explained(alloc: Global, count: usize, slots: &[[u8; 8]]) -> Option<Explained> {
     let shape = MapShape::of(1, 1)?;
     let code = match bytes_after(alloc, count, slots) {

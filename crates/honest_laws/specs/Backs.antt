@@ -33,7 +33,7 @@ DeliveryLaw = (w : Wiring) (start : ℕ) → start < 2 ^ 32 → Laid w → (v : 
     BackSafe w start (GivesPacket given packet) (λ b' e. Landed asleep start copies given packet b' e.0 e.1) b
     (whole_delivery v.vif s packet)
 
--- awake
+-- Awake.
 abbrev pub woken : Back → Back
 woken b = record b { asleep = false }
 
@@ -42,8 +42,8 @@ WakeLaw = (w : Wiring) (start : ℕ) (s : State) (copies given : List (List ℕ)
     Slept start s copies given b → Inv w start m f b →
     Inv w start (record m { pending = false; awaits = awaits.Nothing }) f (woken b) × Ready start s copies given (woken b)
 
--- A wait that a back begins between turns, asleep or awake: the store of the event index keeps the invariant, and behind it the producer
--- shows some number of slots; where that is too few, it stays so or the front tells.
+-- A wait that a back begins between turns, asleep or awake: the store of the event index keeps the invariant, and then the producer
+-- shows some number of slots; if that is too few, it stays so or the front tells.
 abbrev pub AskLaw : Type 0
 AskLaw = (w : Wiring) (start : ℕ) → Laid w → (asleep : Bool) (s : State) (copies given : List (List ℕ)) (b : Back) →
     Resting asleep start s copies given b → (pages : ℕ) (m : Memory) (f : Front) → Inv w start m f b →
@@ -56,17 +56,17 @@ LookLaw = (w : Wiring) (start : ℕ) → start < 2 ^ 32 → (asleep : Bool) (s :
     m.awaits ≡ awaits.Asked s.rx_index pages → (k : ℕ) × (available s.rx_index (m.word (page_word w.rx_frame 0)) ≡ Some k) ×
     (nat_lt k pages ≡ true → Inv w start (record m { awaits = awaits.Fewer s.rx_index pages }) f b)
 
--- a wait that found enough
+-- A wait that found enough.
 abbrev pub ForgetLaw : Type 0
 ForgetLaw = (w : Wiring) (start : ℕ) (m : Memory) (f : Front) (b : Back) → Inv w start m f b →
     Inv w start (record m { awaits = awaits.Nothing }) f b
 
--- what was too few still is, where the back's port isn't pending and no push of posts is open
+-- What was too few still is, if the back's port isn't pending and no push of posts is open.
 abbrev pub ToldLaw : Type 0
 ToldLaw = (w : Wiring) (start : ℕ) (m : Memory) (f : Front) (b : Back) (index pages : ℕ) → Inv w start m f b → f.posting ≡ false →
     m.awaits ≡ awaits.Fewer index pages → m.pending ≡ false → distance index (m.word (page_word w.rx_frame 0)) < pages
 
--- what is answered is a beginning of what was sent
+-- What is answered is a beginning of what was sent.
 abbrev pub PrefixLaw : Type 0
 PrefixLaw = (w : Wiring) (start : ℕ) (m : Memory) (f : Front) (b : Back) → Inv w start m f b → (more : List (List ℕ)) ×
     (bytes_in f.sent ≡ bytes_in b.done ++ more)
@@ -75,7 +75,7 @@ abbrev pub GivenLaw : Type 0
 GivenLaw = (w : Wiring) (start : ℕ) (m : Memory) (f : Front) (b : Back) → Inv w start m f b → (more : List (List ℕ)) ×
     (bytes_in b.given ≡ bytes_in f.rx_told ++ more)
 
--- a back that sleeps and isn't woken has seen all, where no push of the front is open
+-- A back that sleeps and isn't woken has seen all, if no push of the front is open.
 abbrev pub HeardLaw : Type 0
 HeardLaw = (w : Wiring) (start : ℕ) (m : Memory) (f : Front) (b : Back) (s : State) (copies given : List (List ℕ)) →
     Slept start s copies given b → Inv w start m f b →

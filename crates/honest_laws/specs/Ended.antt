@@ -15,7 +15,7 @@ use Rattle.honest_machine.specs.Halves.{Half, Over, HasRun}
 use Rattle.xen_buffers.specs.declared.wiring.Wiring.{Wiring}
 use Rattle.honest_laws.specs.Ghosts.{IsSent, Sent, Back, slots, bytes_in}
 
--- a back that is awake: so many slots of the packets ahead are read, and so many of them are answered
+-- A back that is awake: `used` slots of the packets ahead are read, and `wrote` of them are answered.
 abbrev pub working : (d a : List Sent) → (used wrote : ℕ) → List Sent → List ℕ → ℕ → Back
 working d a used wrote g rs e =
     record {
@@ -33,7 +33,7 @@ working d a used wrote g rs e =
       asleep = false;
     }
 
--- between turns
+-- Between turns.
 abbrev pub resting : (d a : List Sent) → List Sent → List ℕ → ℕ → Back
 resting d a g rs e = working d a 0 0 g rs e
 
@@ -54,7 +54,7 @@ slept d g rs =
       asleep = true;
     }
 
--- the queue's state says how much is done, and isn't halted
+-- The queue's state says how much is done, and isn't halted.
 pub record Between (start : ℕ) (d g : List Sent) (s : State) : Type 0 where
   pub tx : s.tx_index ≡ add32 start (length (slots d))
   pub rx : s.rx_index ≡ add32 start (length (slots g))
@@ -94,7 +94,7 @@ TurnEnd start copies given b s (Halted cause) = ⊥
 abbrev pub EndedTurn : (start : ℕ) → (copies given : List (List ℕ)) → Back → Ending → Type 0
 EndedTurn start copies given b e = TurnEnd start copies given b e.0 e.1
 
--- what is given in the second half of a turn
+-- What is given in the second half of a turn.
 abbrev pub GivesLeft : List (List ℕ) → Left → Back → Type 0
 GivesLeft given r b = (bytes_in b.given ≡ given) ⊎ ((r.number ≡ 3) × (bytes_in b.given ≡ given ++ r.packet ∷ []))
 
@@ -113,12 +113,12 @@ HalfEnd w start v s copies given b (HasRun slots packet r) =
 abbrev pub GivenAll : List (List ℕ) → Back → Type 0
 GivenAll given b = bytes_in b.given ≡ given
 
--- between turns, asleep or awake
+-- Between turns, asleep or awake.
 abbrev pub Resting : Bool → ℕ → State → (copies given : List (List ℕ)) → Back → Type 0
 Resting true = Slept
 Resting false = Ready
 
--- what is given while a packet of the host's own is delivered
+-- What is given while a packet of the host's own is delivered.
 abbrev pub GivesPacket : List (List ℕ) → List ℕ → Back → Type 0
 GivesPacket given packet b = (bytes_in b.given ≡ given) ⊎ (bytes_in b.given ≡ given ++ packet ∷ [])
 
@@ -130,7 +130,7 @@ Landed asleep start copies given packet b s (delivery.Refused slots) = ⊥
 Landed asleep start copies given packet b s (delivery.Halted cause) = ⊥
 Landed asleep start copies given packet b s delivery.NoFrame = Resting asleep start s copies given b
 
--- no fault, and each exit leaves a packet of which P holds
+-- No fault, and each exit leaves a packet of which P holds.
 abbrev pub Leaves : (List ℕ → Type 0) → Course → Type 0
 Leaves P (Exiting r0 packet) = P packet
 Leaves P (Stepping c) = Leaves P c
@@ -138,10 +138,10 @@ Leaves P (Loading m k j to) = (v : ℕ) → Leaves P (to v)
 Leaves P (Adding m k j delta to) = (v : ℕ) → Leaves P (to v)
 Leaves P Broken = ⊥
 
--- as many bytes as before
+-- As many bytes as before.
 abbrev pub Fits : List ℕ → List ℕ → Type 0
 Fits before after = (length after ≡ length before) × ((i : ℕ) → get_or after i 0 < 256)
 
--- the wired program ends on each packet without a fault, and keeps its size
+-- The wired program ends on each packet without a fault, and keeps its size.
 abbrev pub Programmed : BackWiring → Type 0
 Programmed v = (s : Sent) → IsSent s → Leaves (Fits s.bytes) (run_of v s.bytes)

@@ -16,7 +16,7 @@ use Rattle.honest_machine.specs.Memory.{Memory}
 use Rattle.honest_machine.specs.declared.awaits.Awaits.{Awaits}
 use Rattle.honest_machine.specs.declared.awaits.Awaits.TheVariants as awaits
 
--- what the pair is laid out by: the front's wiring, and the index at which both rings begin
+-- What the pair is laid out by: the front's wiring, and the index at which both rings begin.
 module _ (w : Wiring) (start : ℕ) where
   abbrev pub tx_at : (n j : ℕ) → Place
   tx_at n j = tx_entry w.tx_frame (add32 start n) j
@@ -30,14 +30,14 @@ module _ (w : Wiring) (start : ℕ) where
   abbrev pub rx_buffer : ℕ → Buffer
   rx_buffer id = buffer w.rx.now id
 
-  -- a slot's three words, and a response's two
+  -- A slot's three words, and a response's two.
   abbrev pub tx_words : Piece → List ℕ
   tx_words s = tx_req_words (piece_request w s.bytes s.n s.k s.id)
 
   abbrev pub rx_word_of : Piece → ℕ → ℕ
   rx_word_of s j = response_word true s.bytes s.n s.k s.id j
 
-  -- a grant to the back, with these flags
+  -- A grant to the back, with these flags.
   pub record IsLent (x : Place → ℕ) (b : Buffer) (kind : ℕ) : Type 0 where
     pub frame : x (frame_place (grant_place w b)) ≡ b.frame
     pub flags : x (grant_place w b) ≡ joined kind w.back
@@ -63,7 +63,7 @@ module _ (w : Wiring) (start : ℕ) where
         (n < given) ⊎ (1024 * (piece l n).k + j < filled) →
         x (page_word (rx_buffer (piece l n).id).frame j) ≡ word_of (piece l n).bytes (1024 * (piece l n).k + j)
 
-  -- counts of the tx ring, in order
+  -- Counts of the tx ring, in order.
   pub record TxCounts (f : Front) (b : Back) : Type 0 where
     pub took : f.taken ≤ f.told
     pub told : f.told ≤ tx_answered b
@@ -74,7 +74,7 @@ module _ (w : Wiring) (start : ℕ) where
     pub unique : (i j : ℕ) → f.taken ≤ i → i < j → j < tx_sent f → (piece (slots f.sent) i).id ≡ (piece (slots f.sent) j).id → ⊥
     pub good : AllOf IsSent f.sent
 
-  -- of the rx ring: g and v are the packets that are given and that is being written, u posts after g's are read, rs are known
+  -- Counts of the rx ring: g and v are the packets that are given and that is being written, u posts after g's are read, rs are known.
   pub record RxCounts (f : Front) (g v : List Sent) (u : ℕ) (rs : List ℕ) : Type 0 where
     pub took : f.got ≤ length (slots f.rx_told)
     pub told : (more : List Sent) × (g ≡ f.rx_told ++ more)
@@ -83,18 +83,18 @@ module _ (w : Wiring) (start : ℕ) where
     pub room : length f.posts ≤ f.got + 256
     pub unique : (i j : ℕ) → f.got ≤ i → i < j → j < length f.posts → id_at f.posts i ≡ id_at f.posts j → ⊥
     pub ids : (n : ℕ) → n < length f.posts → id_at f.posts n < 256
-    -- the back answers the posts in order
+    -- The back answers the posts in order.
     pub giving : length (slots (g ++ v)) ≤ length (slots g) + u
     pub named : (n : ℕ) → n < length (slots (g ++ v)) → (piece (slots (g ++ v)) n).id ≡ id_at f.posts n
     pub good : AllOf IsSent (g ++ v)
 
-  -- the words of a ring's header that change hands
+  -- The words of a ring's header that change hands.
   pub record TxHead (x : Place → ℕ) (sent answered asked : ℕ) : Type 0 where
     pub req_prod : x (page_word w.tx_frame 0) ≡ add32 start sent
     pub event : x (page_word w.tx_frame 1) ≡ add32 start asked
     pub rsp_prod : x (page_word w.tx_frame 2) ≡ add32 start answered
 
-  -- the event index names the last slot of those that the back awaits
+  -- The event index names the last slot of those that the back awaits.
   abbrev pub IsAsked : (Place → ℕ) → Awaits → Type 0
   IsAsked x awaits.Nothing = Unit {0}
   IsAsked x (awaits.Asked index pages) = x (page_word w.rx_frame 1) ≡ add32 index pages
@@ -105,21 +105,21 @@ module _ (w : Wiring) (start : ℕ) where
     pub event : IsAsked x asked
     pub rsp_prod : x (page_word w.rx_frame 2) ≡ add32 start given
 
-  -- the page of a response that was taken stands as long as it is read
+  -- The page of a response that was taken stands as long as it is read.
   pub record Reading (x : Place → ℕ) (f : Front) (s : Piece) : Type 0 where
     pub id : s.id < 256
     pub page : (j : ℕ) → j < 1024 → 1024 * s.k + j < words s.bytes →
         x (page_word (rx_buffer s.id).frame j) ≡ word_of s.bytes (1024 * s.k + j)
     pub apart : (n : ℕ) → f.got ≤ n → n < length f.posts → id_at f.posts n ≡ s.id → ⊥
 
-  -- an id that is in no slot and no post in flight
+  -- An id that is in no slot and no post in flight.
   abbrev pub IsFree : Front → ℕ → Type 0
   IsFree f i = (n : ℕ) → f.taken ≤ n → n < tx_sent f → (piece (slots f.sent) n).id ≡ i → ⊥
 
   abbrev pub IsFreePost : Front → ℕ → Type 0
   IsFreePost f i = (n : ℕ) → f.got ≤ n → n < length f.posts → id_at f.posts n ≡ i → ⊥
 
-  -- places that the front may write: slots that it hasn't published, and the grants and pages of buffers that aren't in flight
+  -- Places that the front may write: slots that it hasn't published, and the grants and pages of buffers that aren't in flight.
   pub data IsFronts (f : Front) : Place → Type 0 where
     tx_slot : (n j : ℕ) → tx_sent f ≤ n → n < f.taken + 256 → j < 3 → IsFronts f (tx_at n j)
     tx_flags : (i : ℕ) → i < 256 → IsFree f i → IsFronts f (grant_place w (tx_buffer i))
@@ -129,15 +129,15 @@ module _ (w : Wiring) (start : ℕ) where
     rx_flags : (i : ℕ) → i < 256 → IsFreePost f i → IsFronts f (grant_place w (rx_buffer i))
     rx_frame : (i : ℕ) → i < 256 → IsFreePost f i → IsFronts f (frame_place (grant_place w (rx_buffer i)))
 
-  -- what was written stands, at places of the writer's own
+  -- What was written stands, at places of the writer's own.
   abbrev pub FrontNotes : (Place → ℕ) → Front → Type 0
   FrontNotes x f = AllNotes (λ n. (x n.at ≡ n.value) × IsFronts f n.at) f.notes
 
-  -- no notice is lost: a back that sleeps has said where it stands, and is woken, has seen all, or will be told
+  -- No notice is lost: a back that sleeps has said where it stands, and is woken, has seen all, or will be told.
   abbrev pub Heard : Memory → Front → Back → Type 0
   Heard m f b = (b.event ≡ tx_answered b + 1) × ((m.pending ≡ true) ⊎ ((tx_sent f ≡ tx_answered b) ⊎ (f.window ≡ Some (tx_answered b))))
 
-  -- nor one about posts: where fewer than `pages` were posted past a position, the back is woken, that is still so, or it will be told
+  -- Nor one about posts: if fewer than `pages` were posted past a position, the back is woken, that is still so, or it will be told.
   pub record IsShort (pending : Bool) (posted : ℕ) (posting : Bool) (index pages : ℕ) : Type 0 where
     pub at : ℕ
     pub is : index ≡ add32 start at

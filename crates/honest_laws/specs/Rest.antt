@@ -10,7 +10,7 @@ use Rattle.xen_front.specs.declared.state.State.{State}
 use Rattle.xen_steps.specs.Places.{add32}
 use Rattle.honest_laws.specs.Ghosts.{Sent, Front, tx_sent, slots, piece, id_at, bytes_in}
 
--- a ring of the front's state: the ids of its requests by position, of which those from `taken` on are in flight
+-- A ring of the front's state: the ids of its requests by position, of which those from `taken` on are in flight.
 pub record Ringed (start : ℕ) (r : Ring) (ids : ℕ → ℕ) (taken sent : ℕ) : Type 0 where
   pub prod : r.prod ≡ add32 start sent
   pub cons : r.cons ≡ add32 start taken
@@ -28,7 +28,7 @@ pub record Chained (received : List (List ℕ)) (f : Front) : Type 0 where
   pub told : f.rx_told ≡ before ++ more
   pub bytes : bytes_in before ≡ received
 
--- a front between activities: its state says what is open, and isn't halted
+-- A front between activities: its state says what is open, and isn't halted.
 pub record Rest (start : ℕ) (s : State) (sent received : List (List ℕ)) (f : Front) : Type 0 where
   pub running : s.halt ≡ None
   pub tx : Ringed start s.tx (id_of f) f.taken (tx_sent f)
@@ -42,39 +42,39 @@ pub record Rest (start : ℕ) (s : State) (sent received : List (List ℕ)) (f :
   pub chain : Chained received f
   pub got : f.got ≡ length (slots chain.before)
 
--- what holds all along an activity: what a send took, and what is received
+-- What holds all along an activity: what a send took, and what is received.
 pub record Keeps (sent received : List (List ℕ)) (f : Front) : Type 0 where
   pub packets : bytes_in f.sent ++ f.unsent ≡ sent
   pub chain : Chained received f
 
--- inside a send no push of posts is open
+-- Inside a send no push of posts is open.
 pub record Sends (sent received : List (List ℕ)) (f : Front) : Type 0 where
   pub packets : bytes_in f.sent ++ f.unsent ≡ sent
   pub chain : Chained received f
   pub posting : f.posting ≡ false
 
--- inside a post no push of requests is
+-- Inside a post no push of requests is.
 pub record Posts (sent received : List (List ℕ)) (f : Front) : Type 0 where
   pub packets : bytes_in f.sent ++ f.unsent ≡ sent
   pub chain : Chained received f
   pub window : f.window ≡ None
 
--- and inside a poll neither
+-- Inside a poll neither is.
 pub record Polls (sent received : List (List ℕ)) (f : Front) : Type 0 where
   pub packets : bytes_in f.sent ++ f.unsent ≡ sent
   pub chain : Chained received f
   pub window : f.window ≡ None
   pub posting : f.posting ≡ false
 
--- an activity ends between activities, and never halted
+-- An activity ends between activities, and never halted.
 abbrev pub Over : ℕ → (sent received : List (List ℕ)) → Front → Ending → Type 0
 Over start sent received f e = Rest start e.0 sent (received ++ packets_of e.1) f
 
--- a front that begins an activity
+-- A front that begins an activity.
 abbrev pub began : Front → List (List ℕ) → Front
 began f u = record f { unsent = u; notes = []; window = None; posting = false; reading = None }
 
--- the answer of a call that begins a send
+-- The answer of a call that begins a send.
 pub record CanSend (s : State) (p : List ℕ) : Type 0 where
   pub least : 14 ≤ length p
   pub most : length p ≤ 65535

@@ -17,7 +17,7 @@ use Rattle.honest_machine.specs.Pair.{Activity, Free, Sending, Posting, Polling,
 use Rattle.honest_machine.specs.Pair.{packets_of, poll_result, post_result, post_tree, send_result, send_tree, step}
 use Rattle.honest_machine.specs.Traces.{IsAnswered}
 
--- an activity that is over, with the packet that it took and what it gave
+-- An activity that is over, with the packet that it took and what it gave.
 pub data Act : Type 0 where
   OfSend : (packet : List ℕ) (gives : Given) → Act
   OfPost : (gives : Given) → Act
@@ -48,7 +48,7 @@ pub data HaveActs (w : Wiring) : State → List Event → List Act → State →
   over : (s mid end : State) (t more front : List Event) (a : Act) (xs : List Act) → IsAct w s t mid a → HaveActs w mid more xs end front →
       HaveActs w s (t ++ more) (a ∷ xs) end front
 
--- where the front is after these events of an activity, which took these packets
+-- Where the front is after these events of an activity, which took these packets.
 abbrev pub IsActing : Wiring → State → Activity → List Event → List (List ℕ) → Type 0
 IsActing w s Free front taken = (front ≡ []) × (taken ≡ [])
 IsActing w s (Sending t) front taken =
@@ -67,7 +67,7 @@ pub record HasActed (w : Wiring) (start : State) (events : List Event) (p : Pair
   pub sent : p.sent ≡ taken_in acts ++ taken
   pub received : p.received ≡ given_in acts
 
--- the events of the front
+-- The events of the front.
 abbrev pub front_of : List Logged → List Event
 front_of [] = []
 front_of (OfFront e ∷ l) = e ∷ front_of l
@@ -78,7 +78,7 @@ front_of (Woke ∷ l) = front_of l
 abbrev pub ActsOn : Wiring → Pair → Pair → List Event → Type 0
 ActsOn w p p' events = (start : State) (past : List Event) → HasActed w start past p → HasActed w start (past ++ events) p'
 
--- what the front asks next is answered by a number of its width
+-- What the front asks next is answered by a number of its width.
 abbrev pub FrontIsAnswered : Activity → Memory → ℕ → Type 0
 FrontIsAnswered Free m n = Unit {0}
 FrontIsAnswered (Sending t) m n = IsAnswered t m n

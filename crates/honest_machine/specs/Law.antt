@@ -33,14 +33,14 @@ pub data HaveCopies : List Past → List (List ℕ) → Type 0 where
   few : (copy : List ℕ) (ops slots : ℕ) (ps : List Past) (copies : List (List ℕ)) → HaveCopies ps copies →
       HaveCopies (record { turn = Refused refusal.FewSlots ops slots; copy = Some copy } ∷ ps) (copy ∷ copies)
 
--- the packets that a turn sent back: its program's run ended in TX, and it wasn't refused
+-- The packets that a turn sent back: its program's run ended in TX, and it wasn't refused.
 abbrev pub sent_back : Turned → List (List ℕ)
 sent_back Idle = []
 sent_back (Ran number packet ops slots) = if number == 3 then packet ∷ [] else []
 sent_back (Refused cause ops slots) = []
 sent_back (Halted cause) = []
 
--- the packet of a delivery that lies in posted buffers
+-- The packet of a delivery that lies in posted buffers.
 abbrev pub delivered : List ℕ → Delivery → List (List ℕ)
 delivered packet (delivery.Sent slots) = packet ∷ []
 delivered packet delivery.FewSlots = []
@@ -48,7 +48,7 @@ delivered packet (delivery.Refused slots) = []
 delivered packet (delivery.Halted cause) = []
 delivered packet delivery.NoFrame = []
 
--- what a turn sent back, or the host delivered
+-- What a turn sent back, or the host delivered.
 abbrev pub given_by : Deed → List (List ℕ)
 given_by (OfTurn past) = sent_back past.turn
 given_by (OfDelivery packet what) = delivered packet what
@@ -57,7 +57,7 @@ given_by (OfWait pages answer) = []
 abbrev pub left_by : Left → List (List ℕ)
 left_by l = if l.number == 3 then l.packet ∷ [] else []
 
--- and the packet of an unfinished turn whose run ended in TX, or of an unfinished delivery
+-- Also the packet of an unfinished turn whose run ended in TX, or of an unfinished delivery.
 abbrev pub given_now : BackAt → List (List ℕ)
 given_now Asleep = []
 given_now (First b t) = []
@@ -101,11 +101,11 @@ pub record Honest (p : Pair) : Type 0 where
   pub received : (more : List (List ℕ)) × (all_given p ≡ p.received ++ more)
   pub arrived : AllArrived p.deeds
   pub heard : p.at ≡ Asleep → p.memory.pending ≡ false → (IsSending p.activity → ⊥) → p.memory.word (page_word 17 0) ≡ p.back.tx_index
-  -- no notice is lost: what a wait found too few of still isn't posted, or the back's port is pending
+  -- No notice is lost: what a wait found too few of still isn't posted, or the back's port is pending.
   pub told : (index pages : ℕ) → p.memory.awaits ≡ awaits.Fewer index pages → p.memory.pending ≡ false → (IsPosting p.activity → ⊥) →
       distance index (p.memory.word (page_word 18 0)) < pages
 
--- a front's state before its first activity
+-- A front's state before its first activity.
 pub record IsNewFront (s : FrontState) (start : ℕ) : Type 0 where
   pub tx : IsNew s.tx start
   pub rx : IsNew s.rx start
@@ -113,7 +113,7 @@ pub record IsNewFront (s : FrontState) (start : ℕ) : Type 0 where
   pub tx_size : length s.tx.out ≡ 256
   pub rx_size : length s.rx.out ≡ 256
 
--- bytes of packets, and numbers that answer counters
+-- Bytes of packets, and numbers that answer counters.
 abbrev pub IsByte : ℕ → Type 0
 IsByte b = b < 256
 

@@ -13,13 +13,13 @@ use Rattle.honest_machine.specs.Memory.{Memory, answer, put}
 use Rattle.honest_machine.specs.Pair.{Activity, Free, Sending, Posting, Polling, BackAt, Asleep, First, Second, Pair, PairEvent, Send}
 use Rattle.honest_machine.specs.Pair.{Await, Deliver, Delivering, Post, Poll, FrontStep, BackStep, Waiting, step}
 
--- an event of the front, or of the back; or the back woke, and took what was pending
+-- An event of the front, or of the back; or the back woke, and took what was pending.
 pub data Logged : Type 0 where
   OfFront : Event → Logged
   OfBack : Event → Logged
   Woke : Logged
 
--- the event of a want that is answered by this number
+-- The event of a want that is answered by this number.
 abbrev pub event_by : Want → ℕ → List Event
 event_by (want.Read at) a = Read at a ∷ []
 event_by (want.Write at v) a = Write at v ∷ []
@@ -47,7 +47,7 @@ back_asks (Second packet left t) m n = asked_of t m n
 back_asks (Delivering asleep packet t) m n = asked_of t m n
 back_asks (Waiting asleep pages t) m n = asked_of t m n
 
--- what begins, a delivery or a wait, where the back is between turns
+-- What begins, a delivery or a wait, if the back is between turns.
 abbrev pub begun_at : BackAt → Item → List Item
 begun_at Asleep item = item ∷ []
 begun_at (First false t) item = item ∷ []
@@ -56,7 +56,7 @@ begun_at (Second copy left t) item = []
 begun_at (Delivering asleep packet t) item = []
 begun_at (Waiting asleep pages t) item = []
 
--- what the back's queue has of a step: its event, the packet whose delivery begins, or how many slots the wait is for that begins
+-- What the back's queue has of a step: its event, the packet whose delivery begins, or how many slots the wait is for that begins.
 abbrev pub back_item : Pair → PairEvent → ℕ → List Item
 back_item p (Send packet) n = []
 back_item p Post n = []
@@ -89,7 +89,7 @@ logged_back (Second packet left t) m n = of_back (asked_of t m n)
 logged_back (Delivering asleep packet t) m n = of_back (asked_of t m n)
 logged_back (Waiting asleep pages t) m n = of_back (asked_of t m n)
 
--- what a step makes
+-- What a step makes.
 abbrev pub logged : Pair → PairEvent → ℕ → List Logged
 logged p (Send packet) n = []
 logged p Post n = []
@@ -103,7 +103,7 @@ abbrev pub log : BackWiring → FrontWiring → Pair → List (PairEvent × ℕ)
 log bw fw p [] = []
 log bw fw p (e ∷ es) = logged p e.0 e.1 ++ log bw fw (step bw fw p e.0 e.1) es
 
--- the words after an event, by those before it
+-- The words after an event, by those before it.
 abbrev pub changed : (Place → ℕ) → Event → Place → ℕ
 changed word (Read at a) = word
 changed word (Write at v) = put word at v
@@ -112,7 +112,7 @@ changed word (Load m k j v) = word
 changed word (Add m k j delta old) = word
 changed word (Notify port) = word
 
--- a read answers the word that stands there
+-- A read answers the word that stands there.
 abbrev pub Reads : (Place → ℕ) → Event → Type 0
 Reads word (Read at a) = a ≡ word at
 Reads word (Write at v) = Unit {0}

@@ -20,12 +20,12 @@ same a b = a.frame == b.frame && a.word == b.word
 abbrev pub put : (Place → ℕ) → Place → ℕ → Place → ℕ
 put word at v x = if same x at then v else word x
 
--- port 0 wakes the back; nobody takes the front's port
+-- Port 0 wakes the back; nobody takes the front's port.
 abbrev pub told : ℕ → Bool → Bool
 told zero pending = true
 told (suc port) pending = pending
 
--- the memory after what an end wanted was done
+-- The memory after what an end wanted was done.
 abbrev pub after : Want → Memory → Memory
 after (want.Read at) m = m
 after (want.Write at v) m = record m { word = put m.word at v }
@@ -45,7 +45,7 @@ answer (want.Add i k j delta) m n = n
 answer (want.Notify port) m n = 0
 answer want.Done m n = 0
 
--- a new ring's header from its index on: both producers are the index, and both events one more
+-- A new ring's header from its index on: both producers are the index, and both events one more.
 abbrev pub header_word : ℕ → ℕ → ℕ
 header_word start zero = start
 header_word start (suc zero) = add32 start 1
@@ -53,7 +53,7 @@ header_word start (suc (suc zero)) = start
 header_word start (suc (suc (suc zero))) = add32 start 1
 header_word start (suc (suc (suc (suc k)))) = 0
 
--- what stands in the words before the first event: new rings in frames 17 and 18, and 0 in all else
+-- What stands in the words before the first event: new rings in frames 17 and 18, and 0 in all else.
 abbrev pub opening_word : ℕ → Place → ℕ
 opening_word start at = if at.frame == 17 then header_word start at.word else if at.frame == 18 then header_word start at.word else 0
 

@@ -36,7 +36,7 @@ pub data PairEvent : Type 0 where
   Deliver : (packet : List ℕ) → PairEvent
   Await : (pages : ℕ) → PairEvent
 
--- what the front is at, with what is left of its activity
+-- What the front is at, with what is left of its activity.
 pub data Activity : Type 0 where
   Free : Activity
   Sending : Steps FrontEnding → Activity
@@ -53,12 +53,12 @@ pub data BackAt : Type 0 where
   Delivering : (asleep : Bool) (packet : List ℕ) → Steps Arrival → BackAt
   Waiting : (asleep : Bool) (pages : ℕ) → Steps Wait → BackAt
 
--- a turn that is over, with the packet's copy where the program ran on one
+-- A turn that is over, with the packet's copy if the program ran on one.
 pub record Past : Type 0 where
   pub turn : Turned
   pub copy : Option (List ℕ)
 
--- what is over: a turn, the delivery of a packet of the host's own, with what became of it, or a wait for rx slots with its answer
+-- What is over: a turn, the delivery of a packet of the host's own, with what became of it, or a wait for rx slots with its answer.
 pub data Deed : Type 0 where
   OfTurn : (past : Past) → Deed
   OfDelivery : (packet : List ℕ) (what : Delivery) → Deed
@@ -81,14 +81,14 @@ pub record Pair : Type 0 where
   pub received : List (List ℕ)
   pub deeds : List Deed
 
--- the packets that an activity gave
+-- The packets that an activity gave.
 abbrev pub packets_of : Given → List (List ℕ)
 packets_of given.Idle = []
 packets_of (given.Packet bytes) = bytes ∷ []
 packets_of given.Refused = []
 packets_of (given.Halted cause) = []
 
--- the activity goes on, or is over
+-- The activity goes on, or is over.
 abbrev pub ended : Pair → FrontEnding → Pair
 ended p e = record p { front = e.0; activity = Free; received = p.received ++ packets_of e.1 }
 
@@ -136,7 +136,7 @@ abbrev pub begin_poll : FrontWiring → Result (Unit {0}) PollRefusal → Pair �
 begin_poll w (Ok u) p = polling p (poll w p.front)
 begin_poll w (Err refusal) p = p
 
--- The calls find the front busy where it is inside an activity.
+-- The calls find the front busy if it is inside an activity.
 abbrev pub on_send : FrontWiring → Activity → Pair → List ℕ → Pair
 on_send w Free p bytes = begin_send w (send_result p.front bytes) p bytes
 on_send w (Sending t) p bytes = p
@@ -155,7 +155,7 @@ on_poll w (Sending t) p = p
 on_poll w (Posting t) p = p
 on_poll w (Polling t) p = p
 
--- the next event of the front's activity
+-- The next event of the front's activity.
 abbrev pub on_front : Activity → Pair → ℕ → Pair
 on_front Free p n = p
 on_front (Sending (ask w k)) p n = sending (record p { memory = after w p.memory }) (k (answer w p.memory n))
@@ -192,12 +192,12 @@ first w p (done h) = halved w p h
 first w p (ask v k) = record p { at = First true (ask v k) }
 first w p never = record p { at = First true never }
 
--- A sleeping back wakes where its port is pending, and clears it. That tells its host to look for posts anew.
+-- A sleeping back wakes if its port is pending, and clears it. That tells its host to look for posts anew.
 abbrev pub wake : BackWiring → Bool → Pair → Pair
 wake w true p = record p { memory = record p.memory { pending = false; awaits = awaits.Nothing }; at = First false (half_turn w p.back) }
 wake w false p = p
 
--- between turns, asleep or awake
+-- Between turns, asleep or awake.
 abbrev pub rested : BackWiring → Bool → BackState → BackAt
 rested w true s = Asleep
 rested w false s = First false (half_turn w s)
@@ -222,7 +222,7 @@ on_deliver w (Second copy left t) p packet = p
 on_deliver w (Delivering asleep other t) p packet = p
 on_deliver w (Waiting asleep pages t) p packet = p
 
--- The back has asked for so many slots, from the index on that its queue is at.
+-- The back has asked for `pages` slots, from the index on that its queue is at.
 abbrev pub asking : Pair → ℕ → Memory → Memory
 asking p pages m = record m { awaits = awaits.Asked p.back.rx_index pages }
 
@@ -287,11 +287,11 @@ abbrev pub run : BackWiring → FrontWiring → Pair → List (PairEvent × ℕ)
 run bw fw p [] = p
 run bw fw p (e ∷ es) = run bw fw (step bw fw p e.0 e.1) es
 
--- a back that has done nothing yet
+-- A back that has done nothing yet.
 abbrev pub new_back : ℕ → BackState
 new_back start = record { tx_index = start; rx_index = start; halt = None }
 
--- before the first event
+-- Before the first event.
 abbrev pub opening : FrontState → ℕ → Pair
 opening front start = record {
   memory = opening_memory start;

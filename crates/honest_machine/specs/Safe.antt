@@ -1,5 +1,5 @@
 -- Stated: claims rest on this file.
--- A computation of one end is safe where each of its events, on whatever the other end has done by then, keeps an invariant.
+-- A computation of one end is safe if each of its events, on whatever the other end has done by then, keeps an invariant.
 use Rattle.std.specs.Prelude.{ℕ, ◌<◌, ◌^◌}
 use Rattle.xen_steps.specs.Steps.{Steps, done, ask, never}
 use Rattle.honest_machine.specs.Memory.{Memory, after, answer}

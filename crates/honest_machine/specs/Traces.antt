@@ -61,7 +61,7 @@ pub record IsSecond (w : Wiring) (s : State) (packet : List ℕ) (left : Left) (
   pub ran : Runs (half_turn w s) first (HasRun slots packet left)
   pub gone : LedBy (after_run w s slots left) rest t
 
--- where the back is after these items of a turn, a delivery or a wait
+-- Where the back is after these items of a turn, a delivery or a wait.
 abbrev pub IsAt : Wiring → State → BackAt → List Item → Type 0
 IsAt w s Asleep front = front ≡ []
 IsAt w s (First false t) front = (front ≡ []) × (t ≡ half_turn w s)
@@ -82,7 +82,7 @@ pub record Traced (w : Wiring) (start : ℕ) (items : List Item) (p : Pair) : Ty
 abbrev pub Follows : Wiring → Pair → Pair → List Item → Type 0
 Follows w p p' items = (start : ℕ) (past : List Item) → Traced w start past p → Traced w start (past ++ items) p'
 
--- what is asked next is answered by a number of its width
+-- What is asked next is answered by a number of its width.
 abbrev pub IsAnswered : {A : Type 0} → Steps A → Memory → ℕ → Type 0
 IsAnswered (done x) m n = Unit {0}
 IsAnswered (ask v k) m n = (e : Event) × (event_by v (answer v m n) ≡ e ∷ []) × Occurs v (answer v m n) e

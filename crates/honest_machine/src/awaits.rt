@@ -1,12 +1,12 @@
 //! What the back has asked of the front.
 
-/// Of which posted buffers the back is to be told: `pages` rx slots from `index` on.
+/// Which posted buffers the back is to be told of: `pages` rx slots from `index` on.
 #[derive(Clone, Copy, Debug, PartialEq, Eq)]
 pub enum Awaits {
     /// None, or a notice was taken since.
     Nothing,
-    /// The event index is stored, and the back hasn't looked behind it.
+    /// The event index is stored, and the producer isn't read again yet.
     Asked { index: u32, pages: u32 },
-    /// The back has looked behind it, and fewer were posted.
+    /// The producer was read after that, and fewer were posted.
     Fewer { index: u32, pages: u32 },
 }

@@ -23,14 +23,14 @@ use Rattle.xdp_world.specs.declared.report.Waited.{Waited}
 use Rattle.honest_machine.specs.Law.{HasArrived, HasLooked, delivered}
 use Rattle.honest_machine.specs.Traces.{HasCopy}
 
--- it ran, or was refused for want of rx slots
+-- It ran, or was refused for want of rx slots.
 abbrev pub HasCopied : Turned → Type 0
 HasCopied Idle = ⊥
 HasCopied (Ran number packet ops slots) = Unit {0}
 HasCopied (Refused cause ops slots) = cause ≡ refusal.FewSlots
 HasCopied (Halted cause) = ⊥
 
--- the packets that a turn sent back
+-- The packets that a turn sent back.
 abbrev pub sent_back : Kept → List (List ℕ)
 sent_back kept.Idle = []
 sent_back (kept.Ran action number packet ops slots) = if number == 3 then packet.items ∷ [] else []

@@ -16,14 +16,14 @@ AllKept [] (k ∷ ks) = ⊥
 AllKept (p ∷ ps) [] = ⊥
 AllKept (p ∷ ps) (k ∷ ks) = Keeps p.turn k × AllKept ps ks
 
--- what became of the deliveries, each with how many turns were over before it, so many being over at first
+-- what became of the deliveries, each with how many turns were over before it, n being over at first
 abbrev pub deliveries_of : ℕ → List Deed → List Delivered
 deliveries_of n [] = []
 deliveries_of n (OfTurn past ∷ ds) = deliveries_of (n + 1) ds
 deliveries_of n (OfDelivery packet what ∷ ds) = record { turns = n; delivery = what } ∷ deliveries_of n ds
 deliveries_of n (OfWait pages answer ∷ ds) = deliveries_of n ds
 
--- the answers of the waits, each with how many turns and deliveries were over before it, so many being over at first
+-- the answers of the waits, each with how many turns and deliveries were over before it, n and m being over at first
 abbrev pub waits_of : (turns deliveries : ℕ) → List Deed → List Waited
 waits_of n m [] = []
 waits_of n m (OfTurn past ∷ ds) = waits_of (n + 1) m ds

@@ -20,14 +20,14 @@ use Rattle.honest_pair.specs.Copies.{Delivers}
 use Rattle.honest_pair.specs.Deeds.{AllKept, AreOwn, bytes_in, deliveries_of, waits_of}
 use Rattle.honest_pair.specs.declared.running.PairRun.{PairRun}
 
--- the events, each with a number
+-- The events, each with a number.
 abbrev pub GoWith : List PairEvent → List (PairEvent × ℕ) → Type 0
 GoWith [] [] = Unit {0}
 GoWith [] (x ∷ xs) = ⊥
 GoWith (e ∷ es) [] = ⊥
 GoWith (e ∷ es) (x ∷ xs) = (x.0 ≡ e) × (x.1 < 2 ^ 64) × GoWith es xs
 
--- no event is a delivery or a wait
+-- No event is a delivery or a wait.
 abbrev pub IsPlain : PairEvent → Type 0
 IsPlain (Deliver packet) = ⊥
 IsPlain (Await pages) = ⊥
@@ -50,12 +50,12 @@ pub record IsCallRun (program : Accepted) (start : ℕ) (calls : List Call) (r :
 -- The run of a pair through these events. `events` are they with the numbers that answered the counters' operations.
 --   core, alone, own: the back's events, the packets of its deliveries and the numbers of its waits, and no others, are a run of its queue
 --     with the report's turns, deliveries, waits, history and totals.
---   plain: where no event is a delivery or a wait, the calls are the entries of a core run.
+--   plain: if no event is a delivery or a wait, the calls are the entries of a core run.
 --   acts: the front's events are the traces of its sends, posts and polls, each a row of its table, and a beginning of one more; what was
 --     sent is what they took, and what was received what they gave.
 --   faithful: each read of either end answers what was last written to its place, else its opening word.
 --   honest: neither end is halted, and a back that sleeps with no notice pending, while the front is inside no send, has answered all;
---     where a wait found too few slots, and no notice is pending, while the front is inside no post, there are still too few.
+--     if a wait found too few slots, and no notice is pending, while the front is inside no post, there are still too few.
 --   turns, deliveries, waits, received: the report's turns, deliveries and waits are the pair's, and what was received are the packets that
 --     its polls gave.
 --   delivers: the copies of the report's turns, and what was received, are in order and once each what was sent, and what was sent back

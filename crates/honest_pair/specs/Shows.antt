@@ -44,13 +44,13 @@ use Rattle.honest_pair.specs.declared.calling.Calling.{Calling}
 use Rattle.honest_pair.specs.declared.calling.Calling.TheVariants as calling
 use Rattle.honest_pair.specs.declared.pair.Pair.{Pair as Held}
 
--- it isn't over
+-- It isn't over.
 abbrev pub IsGoing : {A : Type 0} → Steps A → Type 0
 IsGoing (done x) = ⊥
 IsGoing (ask w k) = Unit {0}
 IsGoing never = Unit {0}
 
--- a first half isn't over, but where the whole turn is
+-- A first half isn't over, unless the whole turn is.
 abbrev pub IsHalfGoing : Steps Half → Type 0
 IsHalfGoing (done (Over e)) = Unit {0}
 IsHalfGoing (done (HasRun slots packet left)) = ⊥
@@ -63,7 +63,7 @@ FrontShows f (Sending t) s = (front_rest f ≡ t) × IsGoing t
 FrontShows f (Posting t) s = (front_rest f ≡ t) × IsGoing t
 FrontShows f (Polling t) s = (front_rest f ≡ t) × IsGoing t
 
--- what the queue does inside a turn's first half, that is begun or not
+-- What the queue does inside a turn's first half, which is begun or not.
 abbrev pub doing_first : Bool → Doing
 doing_first true = doing.Turn
 doing_first false = doing.Between
@@ -101,7 +101,7 @@ pub record Shows (bw : BackWiring) (fw : FrontWiring) (held : Held) (p : Pair) :
   pub deliveries : delivered_in held.world.deliveries.items 0 ≡ deliveries_of 0 p.deeds
   pub waits : waited_in held.world.waits.items 0 ≡ waits_of 0 0 p.deeds
 
--- the world has come on by calls of its one queue with these items
+-- The world has come on by calls of its one queue with these items.
 pub record GoesOn (old new : World) (items : List Item) : Type 0 where
   pub shapes : new.counters.shapes ≡ old.counters.shapes
   pub stands : (wirings : ℕ → BackWiring) (start : ℕ) (cs : List Call) → StandsFor old wirings start cs →
@@ -126,7 +126,7 @@ pub record Received (old new : Held) : Type 0 where
   pub calls : new.calling ≡ old.calling
   pub received : map bytes_in new.received.items ≡ map bytes_in old.received.items ++ packets_of given
 
--- whether a turn is idle
+-- Whether a turn is idle.
 abbrev pub is_idle : Option Kept → Bool
 is_idle None = false
 is_idle (Some kept.Idle) = true
@@ -134,7 +134,7 @@ is_idle (Some (kept.Ran action number packet ops slots)) = false
 is_idle (Some (kept.Refused cause ops slots)) = false
 is_idle (Some (kept.Halted cause)) = false
 
--- the answer of a wait
+-- The answer of a wait.
 abbrev pub answer_of : Option Waited → Option Awaited
 answer_of None = None
 answer_of (Some w) = Some w.awaited
@@ -143,12 +143,12 @@ abbrev pub is_none : {A : Type 0} → Option A → Bool
 is_none None = true
 is_none (Some x) = false
 
--- what the back does for its host after an event of a call that goes on, or doesn't
+-- What the back does for its host after an event of a call that goes on, or doesn't.
 abbrev pub calls_while : Calling → (going : Bool) → Calling
 calls_while call true = call
 calls_while call false = calling.Nothing
 
--- what it awaits after an event of a wait: it has asked, and where the wait is over it knows whether there are fewer
+-- What it awaits after an event of a wait: it has asked, and if the wait is over it knows whether there are fewer.
 abbrev pub awaits_after : (index pages : ℕ) → Option Awaited → Awaits
 awaits_after index pages None = awaits.Asked index pages
 awaits_after index pages (Some awaited.Posted) = awaits.Nothing

@@ -8,7 +8,7 @@ use Rattle.xen_steps.specs.Places.{add32, page_word}
 use Rattle.xen_steps.specs.declared.want.Want.{Want}
 use Rattle.xen_steps.specs.declared.want.Want.TheVariants as want
 
--- the word at a place; 0 where there is none
+-- the word at a place; 0 if there is none
 abbrev pub words_at : List ℕ → Place → ℕ
 words_at words at = if nat_lt at.word 1024 then get_or words (1024 * at.frame + at.word) 0 else 0
 

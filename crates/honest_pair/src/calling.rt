@@ -6,6 +6,6 @@ pub enum Calling {
     Nothing,
     /// A packet of the host's own is being delivered.
     Delivery,
-    /// So many rx slots are awaited.
+    /// `pages` rx slots are awaited.
     Wait { pages: u32 },
 }

@@ -28,7 +28,7 @@ fn answer_at(waits: &[Waited], at: usize) -> Option<Awaited>
     }
 }
 
-/// What the back awaits after an event of a wait for so many slots from an index on.
+/// What the back awaits after an event of a wait for `pages` slots from `index` on.
 fn awaits_after(index: u32, pages: u32, answer: Option<Awaited>) -> Awaits
     ensures { result ≡ awaits_after_spec index pages answer }
 {
@@ -48,7 +48,7 @@ fn is_unanswered(answer: &Option<Awaited>) -> bool
 }
 
 impl Pair<'_, '_, '_> {
-    /// The next event of the back's delivery. Where it is over by that, the back is as before it, asleep or awake.
+    /// The next event of the back's delivery. If it is over by that, the back is as before it, asleep or awake.
     pub(crate) fn carry_on(&mut self) -> Result<(), AllocError>
         requires { self.old.calling ≡ Calling.Delivery }
         ensures { OnOk result (Does self.old self.new BackStep) }
@@ -61,7 +61,7 @@ impl Pair<'_, '_, '_> {
         Ok(())
     }
 
-    /// The next event of the back's wait. Where it is over by that, the back is as before it, asleep or awake.
+    /// The next event of the back's wait. If it is over by that, the back is as before it, asleep or awake.
     pub(crate) fn look_on(&mut self, pages: u32) -> Result<(), AllocError>
         requires { self.old.calling ≡ Calling.Wait pages }
         ensures { OnOk result (Does self.old self.new BackStep) }
@@ -76,7 +76,7 @@ impl Pair<'_, '_, '_> {
         Ok(())
     }
 
-    /// The back begins to wait for so many rx slots, unless it is inside a turn, a delivery or a wait.
+    /// The back begins to wait for `pages` rx slots, unless it is inside a turn, a delivery or a wait.
     pub(crate) fn await_slots(&mut self, pages: u32) -> Result<(), AllocError>
         ensures { OnOk result (Does self.old self.new (Await pages)) }
     {

@@ -35,7 +35,7 @@ impl Memory {
     ghost use Rattle.xen_steps.specs.Event.{Event, Occurs};
     ghost use Rattle.xen_steps.specs.Drive.{IsPageWant};
 
-    /// So many words, all 0.
+    /// `total` words, all 0.
     fn zeros(alloc: Global, total: usize) -> Result<Vec<u32>, AllocError>
         ensures items { IfOk result (λ v. v.items ≡ replicate total 0) }
         ensures count { IfOk result (λ v. vec_len v ≡ total) }

@@ -56,7 +56,7 @@ impl Pair<'_, '_, '_> {
         }
     }
 
-    /// The next event of the front's activity, where it is inside one.
+    /// The next event of the front's activity, if it is inside one.
     fn front_step(&mut self) -> Result<(), AllocError>
         ensures { OnOk result (Does self.old self.new FrontStep) }
     {
@@ -76,7 +76,7 @@ impl Pair<'_, '_, '_> {
         }
     }
 
-    /// A back that sleeps wakes where its port is pending.
+    /// A back that sleeps wakes if its port is pending.
     fn wake(&mut self)
         requires asleep { self.old.asleep ≡ true }
         requires calls { self.old.calling ≡ Calling.Nothing }

@@ -26,13 +26,13 @@ impl Plan {
         Ok(())
     }
 
-    /// A send of so many bytes, of which the first is given and the others count on from a seed.
+    /// A send of `size` bytes. The first is given, and the others count on from a seed.
     pub fn send(&mut self, size: usize, first: u8, seed: u32) -> Result<(), AllocError> {
         let packet = packet(*self.events.allocator(), size, first, seed)?;
         self.add(PairEvent::Send { packet })
     }
 
-    /// A delivery of so many bytes, of which the first is given and the others count on from a seed.
+    /// A delivery of `size` bytes. The first is given, and the others count on from a seed.
     pub fn deliver(&mut self, size: usize, first: u8, seed: u32) -> Result<(), AllocError> {
         let packet = packet(*self.events.allocator(), size, first, seed)?;
         self.add(PairEvent::Deliver { packet })
@@ -53,7 +53,7 @@ impl Plan {
     }
 }
 
-/// A packet of so many bytes, of which the first is given and the others count on from a seed.
+/// A packet of `size` bytes. The first is given, and the others count on from a seed.
 pub fn packet(alloc: Global, size: usize, first: u8, seed: u32) -> Result<Vec<u8>, AllocError>
     ensures { IfOk result (λ packet. vec_len packet ≡ size) }
 {

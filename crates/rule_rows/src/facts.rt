@@ -1,4 +1,4 @@
-//! What is known before and after an instruction, as a row has it: facts, a blank apart.
+//! What is known before and after an instruction, as in a row: facts, a blank apart.
 
 use crate::values::{id, value};
 use bpf_note::{MapShape, Note, Val};
@@ -48,7 +48,7 @@ fn read_fact(text: &str) -> Option<Fact> {
     Some(Fact::Kept(slot.parse().ok()?, value(known)?))
 }
 
-/// Makes a note say a fact; None of a register, a slot or a byte that isn't there, and where memory runs out.
+/// Makes a note say a fact; None for a register, a slot or a byte that isn't there, and if memory runs out.
 fn say(note: &mut Note, fact: Fact) -> Option<()> {
     match fact {
         Fact::Register(number, known) if number < 11 => note.set_register(number, known),
@@ -61,7 +61,7 @@ fn say(note: &mut Note, fact: Fact) -> Option<()> {
     Some(())
 }
 
-/// Makes a note say what a row has it say; None where that is no list of facts.
+/// Makes a note say what a row says; None if that is no list of facts.
 pub fn say_all(note: &mut Note, facts: &str) -> Option<()> {
     for text in facts.split_whitespace() {
         say(note, read_fact(text)?)?;

@@ -1,8 +1,8 @@
-//! `rule_rows`: tries the verifier's rule for one instruction, and the join of two notes, on the rows of standard input. It
-//! says which rows come out otherwise than they have it, and how many there are.
+//! `rule_rows`: tries the verifier's rule for one instruction, and the join of two notes, on the rows of standard
+//! input. It says which rows come out otherwise than they say, and how many there are.
 //!
 //! - `row`: a row, and what comes of it
-//! - `facts`, `values`: what is known, as a row has it
+//! - `facts`, `values`: what is known, as in a row
 #![tactic(auto)]
 
 mod facts;
@@ -13,7 +13,7 @@ use crate::row::{Outcome, outcome_of};
 use std::alloc::{AllocError, Global};
 use std::io;
 
-/// What is said of a row, if it comes out otherwise than it has it.
+/// What is said of a row, if it comes out otherwise than the row says.
 fn complaint(alloc: Global, number: u32, row: &str) -> Result<Option<String>, AllocError> {
     Ok(match outcome_of(alloc, row) {
         Outcome::AsWanted => None,

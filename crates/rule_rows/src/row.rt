@@ -32,7 +32,7 @@ fn spelled(alloc: Global, hex: &str) -> Option<Insn> {
     decode(alloc, &bytes).ok()?.insns().first().copied()
 }
 
-/// The instruction of a text, its bytes and its words, where both are of one: `0f32000000000000 r2 += r3`.
+/// The instruction of a text, its bytes and its words, if both are of one: `0f32000000000000 r2 += r3`.
 fn instruction(alloc: Global, text: &str) -> Option<Insn> {
     let (hex, words) = text.split_once(' ')?;
     let insn = spelled(alloc, hex)?;

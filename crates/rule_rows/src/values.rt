@@ -1,4 +1,4 @@
-//! Values, as a row has them.
+//! Values, as in a row.
 
 use bpf_note::{PACKET_ID, Val};
 
@@ -39,7 +39,7 @@ fn range(text: &str) -> Option<Val> {
     }
 }
 
-/// So many bytes after the base of an id, as `7+2`.
+/// A number of bytes after the base of an id, as `7+2`.
 fn packet(text: &str) -> Option<Val> {
     let (base, off) = text.split_once('+')?;
     Some(Val::Pkt {

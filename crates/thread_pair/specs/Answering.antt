@@ -31,7 +31,7 @@ abbrev pub reply : Host → Turned → Option (List ℕ)
 reply host.Answers (Ran number packet ops slots) = answer_to (action_of number) packet
 reply h u = None
 
--- the same, of a turn as a host sees it
+-- what is sent because of a turn as a host sees it
 abbrev pub shown_reply : Host → Turn → Option (List ℕ)
 shown_reply host.Answers (shown.Ran a number packet ops slots) = answer_to a packet.now
 shown_reply h u = None

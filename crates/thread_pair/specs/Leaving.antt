@@ -9,7 +9,7 @@ use Rattle.thread_pair.specs.declared.report.BackRow.{BackRow}
 use Rattle.thread_pair.specs.declared.report.PairReport.{PairReport}
 use Rattle.thread_pair.specs.declared.report.PairRow.{PairRow}
 
--- what a queue's row says of its back
+-- What a queue's row says of its back.
 abbrev pub back_of : PairRow → BackRow
 back_of r = record { copied = r.copied; refused = r.refused; halted = r.halted; deliveries = r.deliveries }
 

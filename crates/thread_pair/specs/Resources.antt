@@ -8,16 +8,17 @@ use Rattle.xen_page.specs.Mapping.{IsMappedBy}
 use Rattle.thread_pair.specs.declared.resources.BackResources.{BackResources}
 use Rattle.thread_pair.specs.declared.resources.FrontResources.{FrontResources}
 
--- the number of a back's seat
+-- The number of a back's seat.
 abbrev pub number_of : BackResources → ℕ
 number_of k = k.seat.number
 
--- so many numbers, from the last down to 0
+-- The n numbers below n, the greatest first.
 abbrev pub falling : ℕ → List ℕ
 falling zero = []
 falling (suc n) = n ∷ falling n
 
--- What a back is given among so many queues: its queue's rings, which the front lent for writing, and its queue's new seat at the counters.
+-- What a back is given if there are `queues` queues: its queue's rings, which the front lent for writing, and its queue's new seat at the
+-- counters.
 pub record IsBackOf (c : CountersView) (queues : ℕ) (k : BackResources) : Type 0 where
   pub queue : k.queue < queues
   pub tx : IsMappedBy (owners_of queues) 1 k.tx
@@ -28,7 +29,7 @@ pub record IsBackOf (c : CountersView) (queues : ℕ) (k : BackResources) : Type
   pub rx_writable : k.rx.write ≡ true
   pub seat : k.seat ≡ new_seat c k.queue
 
--- a front's own among so many queues: a front whose pages are among their frames
+-- A front's own if there are `queues` queues: a front whose pages are among their frames.
 pub record IsFrontOf (queues : ℕ) (k : FrontResources) : Type 0 where
   pub queue : k.queue < queues
   pub frames : (wiring_of k.front).frames ≡ length (owners_of queues)

@@ -26,7 +26,7 @@ use Rattle.thread_pair.specs.declared.next.Next.TheVariants as next
 use Rattle.thread_pair.specs.declared.report.BackRow.{BackRow}
 use Rattle.thread_pair.specs.declared.report.Deliveries.{Deliveries}
 
--- how a turn ended, and what became of the host's answer, if there was one
+-- How a turn ended, and what became of the host's answer, if there was one.
 abbrev pub Round : Type 0
 Round = Turned × Option Delivery
 
@@ -38,27 +38,27 @@ pub data IsRound (h : Host) (w : Wiring) (s : State) : List Event → List Event
       reply h u ≡ Some packet →
       IsDelivery w mid packet p end d → IsRound h w s t p end u (Some d)
 
--- a turn that found nothing to do, or the queue halted
+-- A turn that found nothing to do, or the queue halted.
 abbrev pub IsRest : Turned → Type 0
 IsRest Idle = Unit {0}
 IsRest (Halted cause) = Unit {0}
 IsRest u = ⊥
 
--- what comes after a turn that a host sees: it goes on but where the turn found nothing, and ends where the queue has halted
+-- What comes after a turn that a host sees: it goes on unless the turn found nothing, and ends if the queue has halted.
 abbrev pub next_of : Turn → Next
 next_of shown.Idle = next.Rests
 next_of (shown.Ran action number packet ops slots) = next.Goes
 next_of (shown.Refused cause ops slots) = next.Goes
 next_of (shown.Halted cause) = next.Ends
 
--- the tx slots that it answered
+-- The tx slots that it answered.
 abbrev pub slots_in : Turn → ℕ
 slots_in shown.Idle = 0
 slots_in (shown.Ran action number packet ops slots) = slots
 slots_in (shown.Refused cause ops slots) = slots
 slots_in (shown.Halted cause) = 0
 
--- what comes after a turn, and the tx slots that it answered
+-- What comes after a turn, and the tx slots that it answered.
 abbrev pub next_after : Turned → Next
 next_after Idle = next.Rests
 next_after (Ran number packet ops slots) = next.Goes
@@ -71,7 +71,7 @@ slots_by (Ran number packet ops slots) = slots
 slots_by (Refused cause ops slots) = slots
 slots_by (Halted cause) = 0
 
--- a turn that ran the program on a packet, and one that refused its packet
+-- A turn that ran the program on a packet, and one that refused its packet.
 abbrev pub is_run : Turned → Bool
 is_run (Ran number packet ops slots) = true
 is_run u = false
@@ -80,7 +80,7 @@ abbrev pub is_refusal : Turned → Bool
 is_refusal (Refused cause ops slots) = true
 is_refusal u = false
 
--- an answer that was sent, one for which too few slots were posted, and one for which a slot's grant failed
+-- An answer that was sent, one for which too few slots were posted, and one for which a slot's grant failed.
 abbrev pub is_sent : Option Delivery → Bool
 is_sent (Some (delivery.Sent slots)) = true
 is_sent d = false
@@ -93,7 +93,7 @@ abbrev pub is_lost : Option Delivery → Bool
 is_lost (Some (delivery.Refused slots)) = true
 is_lost d = false
 
--- why the queue has halted, as a turn and a delivery show it
+-- Why the queue has halted, as a turn and a delivery show it.
 abbrev pub halt_of : Turned → Option Halt
 halt_of (Halted cause) = Some cause
 halt_of u = None
@@ -106,12 +106,12 @@ abbrev pub or_else : Option Halt → Option Halt → Option Halt
 or_else (Some cause) h = Some cause
 or_else None h = h
 
--- the latest cause, if there is one
+-- The latest cause, if there is one.
 abbrev pub halt_in : List Round → Option Halt
 halt_in [] = None
 halt_in (r ∷ rs) = or_else (halt_at r.1) (or_else (halt_of r.0) (halt_in rs))
 
--- what a row says of rounds, the latest first
+-- What a row says of rounds, the latest first.
 abbrev pub delivered : List Round → Deliveries
 delivered rs = record {
   sent = count_by (λ (r : Round). is_sent r.1) rs;
@@ -127,14 +127,14 @@ counted rs = record {
   deliveries = delivered rs;
 }
 
--- a row, and one more turn as a host sees it
+-- A row, and one more turn as a host sees it.
 abbrev pub with_turn : Turn → BackRow → BackRow
 with_turn shown.Idle r = r
 with_turn (shown.Ran action number packet ops slots) r = record r { copied = r.copied + 1 }
 with_turn (shown.Refused cause ops slots) r = record r { refused = r.refused + 1 }
 with_turn (shown.Halted cause) r = record r { halted = Some cause }
 
--- a row, and one more delivery
+-- A row, and one more delivery.
 abbrev pub with_delivery : Delivery → BackRow → BackRow
 with_delivery (delivery.Sent slots) r = record r { deliveries = record r.deliveries { sent = r.deliveries.sent + 1 } }
 with_delivery delivery.FewSlots r = record r { deliveries = record r.deliveries { few = r.deliveries.few + 1 } }
@@ -142,7 +142,7 @@ with_delivery (delivery.Refused slots) r = record r { deliveries = record r.deli
 with_delivery (delivery.Halted cause) r = record r { halted = Some cause }
 with_delivery delivery.NoFrame r = r
 
--- each count can grow
+-- Each count can grow.
 abbrev pub HasRoom : Deliveries → Type 0
 HasRoom d = (d.sent < 4294967295) × (d.few < 4294967295) × (d.refused < 4294967295)
 

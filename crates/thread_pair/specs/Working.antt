@@ -21,8 +21,8 @@ use Rattle.thread_pair.specs.declared.host.Host.{Host}
 use Rattle.thread_pair.specs.declared.report.BackRow.{BackRow}
 use Rattle.thread_pair.specs.declared.shared.Shared.{Shared}
 
--- what all backs have in common: their program, how many queues there are, the interface's number, the index at which rings begin, and what
--- the host does
+-- What all backs have in common: their program, how many queues there are, the interface's number, the index at which rings begin, and what
+-- the host does.
 pub record Task : Type 0 where
   pub program : Accepted
   pub queues : ℕ
@@ -39,7 +39,7 @@ task_of program shared = record {
   host = shared.host;
 }
 
--- the task that a setup gives, and what the host does
+-- The task that a setup gives, and what the host does.
 abbrev pub task_for : Accepted → Setup → Host → Task
 task_for program setup h = record { program = program; queues = setup.queues; ifindex = setup.ifindex; start = setup.start; host = h }
 
@@ -63,12 +63,12 @@ pub data Works (h : Host) (w : Wiring) (s : State) : List Round → List Op → 
       (sent : Option Delivery) → Works h w s rs ops xs mid →
       IsRound h w mid t p end u sent → Works h w s ((u, sent) ∷ rs) (ops ++ labels t) (xs ++ (accesses t ++ accesses p)) end
 
--- the latest turn found nothing to do, or the queue has halted
+-- The latest turn found nothing to do, or the queue has halted.
 abbrev pub IsAtRest : List Round → Type 0
 IsAtRest [] = ⊥
 IsAtRest (r ∷ rs) = IsRest r.0
 
--- What was done at a seat was done by rounds of the queue with its number: so many rounds, or fewer if the latest left the queue at rest.
+-- What was done at a seat was done by rounds of the queue with its number: `turns` rounds, or fewer if the latest left the queue at rest.
 -- The row counts them.
 pub record IsWork (task : Task) (turns : ℕ) (row : BackRow) (s : SeatView) : Type 0 where
   pub wiring : Wiring

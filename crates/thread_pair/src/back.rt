@@ -33,8 +33,8 @@ pub(crate) struct BackDone {
     pub row: BackRow,
 }
 
-/// The promise that a seat comes back, of its counters, with its number, and with what rounds of its queue did, which the
-/// row counts.
+/// The promise that a seat comes back. It is of the same counters, with its number and with what rounds of its queue
+/// did, which the row counts.
 #[derive(Drop)]
 pub(crate) struct SeatBack {
     pub seat: Snapshot<CounterSeat>,
@@ -112,8 +112,8 @@ fn make_queue<'p, 'b>(
     Queue::make(program, desc, room)
 }
 
-/// Drives turns until the front has ended and a later turn is idle, or so many are done, or the queue has halted, and delivers
-/// what the host answers. The front is woken after each turn that took a packet.
+/// Drives turns until the front has ended and a later turn is idle, or `turns` turns are done, or the queue has halted,
+/// and delivers what the host answers. The front is woken after each turn that took a packet.
 pub(crate) fn work_back<R: Wait, G: Gate, B: Bus>(
     rt: &R,
     gate: &G,

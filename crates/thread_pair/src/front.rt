@@ -145,8 +145,8 @@ fn poll<B: Bus, I: Inbox>(
     }
 }
 
-/// One activity: a post, a send, or else a poll. Before it the back had done with so many tx slots, and had perhaps ended: then only
-/// polls are left.
+/// One activity: a post, a send, or else a poll. Before it the back had done with `settled` tx slots, and had perhaps
+/// ended: then only polls are left.
 fn act<B: Bus, I: Inbox>(
     front: &mut Front<'_>,
     bus: &mut B,

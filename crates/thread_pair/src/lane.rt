@@ -39,7 +39,7 @@ impl Lane {
         self.settled.load(Ordering::SeqCst)
     }
 
-    /// The back has done with so many more.
+    /// The back has done with `slots` more tx slots.
     pub fn settle(&self, slots: u32) {
         self.settled.fetch_add(slots, Ordering::SeqCst);
     }

@@ -79,7 +79,7 @@ impl Shared {
         Ok((shared, parkers))
     }
 
-    /// Whether the back of this queue has ended; never, where there is no such queue.
+    /// Whether the back of this queue has ended. It never has if there is no such queue.
     pub fn has_back_ended(&self, queue: usize) -> bool {
         match self.lanes.get(queue) {
             Some(lane) => lane.has_back_ended(),

@@ -108,7 +108,7 @@ pub fn setup(alloc: Global, queues: usize, start: u32, packets: Vec<Packet>) -> 
 /// The bytes of a packet of 14.
 const BYTES: [u8; 14] = [0, 1, 2, 3, 4, 5, 6, 7, 8, 9, 10, 11, 12, 13];
 
-/// Adds packets of 14 bytes, so many times for each queue.
+/// Adds packets of 14 bytes, as many for each queue as `times` says.
 fn add_packets(alloc: Global, packets: &mut Vec<Packet>, times: &[u32]) -> Result<(), AllocError> {
     for (queue, times) in times.iter().enumerate() {
         packets.push(Packet {
@@ -120,7 +120,7 @@ fn add_packets(alloc: Global, packets: &mut Vec<Packet>, times: &[u32]) -> Resul
     Ok(())
 }
 
-/// A setup of a packet of 14 bytes for each queue, so many times.
+/// A setup of packets of 14 bytes, as many for each queue as `times` says.
 pub fn setup_of(alloc: Global, times: &[u32], start: u32) -> Option<Setup>
     ensures { IfSome result (λ s. s.queues ≡ length times.now) }
 {

@@ -26,7 +26,7 @@ fn timed(delivery: Delivery) -> Result<(), Fault> {
     }
 }
 
-/// Times so many deliveries over a bus of the interface's frames.
+/// Times `times` deliveries over a bus of the interface's frames.
 fn time_over<B: Bus>(rt: &HostRuntime, bus: &mut B, size: usize, times: u32) -> Result<Timed, Fault>
     requires { B.size bus.old ≡ 20 }
 {
@@ -53,7 +53,7 @@ fn time_over<B: Bus>(rt: &HostRuntime, bus: &mut B, size: usize, times: u32) -> 
     Ok(batches(times, packets.batch(), nanoseconds))
 }
 
-/// Times so many deliveries of a packet of so many bytes. Posting the buffers isn't timed.
+/// Times `times` deliveries of a packet of `size` bytes. Posting the buffers isn't timed.
 pub fn time(rt: &HostRuntime, memory: Memory, size: usize, times: u32) -> Result<Timed, Fault> {
     match memory {
         Memory::Shared => {

@@ -13,17 +13,18 @@ pub enum Memory {
     Plain,
 }
 
-/// What a line asks for, so many times.
+/// What a line asks for, and how many times.
 #[derive(Drop)]
 pub enum Work {
-    /// `turn SIZE TIMES PROGRAM [SLOTS]`, or `plain-turn`: turns of packets of so many bytes in so many slots, or idle ones.
+    /// `turn SIZE TIMES PROGRAM [SLOTS]`, or `plain-turn`: turns of packets of `size` bytes in that many
+    /// slots, or idle ones.
     Turns {
         memory: Memory,
         packets: Packets,
         times: u32,
         program: Vec<u8>,
     },
-    /// `deliver SIZE TIMES`, or `plain-deliver`: deliveries of a packet of so many bytes.
+    /// `deliver SIZE TIMES`, or `plain-deliver`: deliveries of a packet of `size` bytes.
     Deliveries {
         memory: Memory,
         size: usize,
@@ -51,7 +52,7 @@ fn bytes(alloc: Global, word: Option<&str>) -> Result<Vec<u8>, Fault> {
     hex::decode(alloc, word).map_err(|_| Fault::Line)
 }
 
-/// What a line of turns asks for, by its words behind the first.
+/// What a line of turns asks for, by its words after the first.
 fn turns(alloc: Global, memory: Memory, words: [Option<&str>; 4]) -> Result<Work, Fault> {
     let [size, times, program, slots] = words;
     let slots = match slots {
@@ -66,7 +67,7 @@ fn turns(alloc: Global, memory: Memory, words: [Option<&str>; 4]) -> Result<Work
     })
 }
 
-/// What a line of deliveries asks for, by its words behind the first.
+/// What a line of deliveries asks for, by its words after the first.
 fn deliveries(memory: Memory, words: [Option<&str>; 2]) -> Result<Work, Fault> {
     let [size, times] = words;
     Ok(Work::Deliveries {

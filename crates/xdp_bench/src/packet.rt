@@ -1,7 +1,7 @@
 //! The packets that a frontend publishes.
 ghost use Rattle.std.specs.Prelude.{◌≤◌};
 
-/// How many turns or deliveries are timed at once, where the ring has room for their packets.
+/// How many turns or deliveries are timed at once, if the ring has room for their packets.
 const BATCH: u32 = 16;
 
 /// The entries of a ring.
@@ -13,7 +13,7 @@ const PAGE: usize = 4096;
 /// The headers of a TCP packet of Linux, which lie in a page of their own.
 const HEADERS: usize = 66;
 
-/// Packets of one size, or none, of which each takes so many slots.
+/// Packets of one size, or none. Each takes `slots` slots.
 #[derive(Clone, Copy, Debug, PartialEq, Eq, Drop)]
 pub struct Packets {
     pub size: usize,
@@ -29,7 +29,7 @@ pub fn pages_of(size: usize) -> u32
 }
 
 impl Packets {
-    /// Packets in so many slots, or with a slot per page.
+    /// Packets in that many slots, or with a slot per page.
     pub fn of(size: usize, slots: Option<u32>) -> Packets {
         let slots = slots.unwrap_or_else(|| pages_of(size));
         Packets { size, slots }
@@ -40,7 +40,7 @@ impl Packets {
         BATCH.min(RING / self.slots.max(1))
     }
 
-    /// The bytes in the first slot's page: the headers alone where a packet has more slots than pages.
+    /// The bytes in the first slot's page: the headers alone if a packet has more slots than pages.
     fn head(self) -> usize {
         if self.slots > pages_of(self.size) {
             HEADERS

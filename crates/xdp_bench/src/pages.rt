@@ -107,7 +107,7 @@ fn post_slots<B: Bus>(bus: &mut B, index: u32, size: usize)
     }
 }
 
-/// Publishes so many packets from an index on, posts rx slots for their pages, and returns the producer of both rings.
+/// Publishes `count` packets from `index` on, posts rx slots for their pages, and returns the producer of both rings.
 pub fn publish<B: Bus>(bus: &mut B, index: u32, packets: Packets, count: u32) -> u32
     ensures { B.size bus.new ≡ B.size bus.old }
 {

@@ -17,7 +17,7 @@ pub fn accepted(alloc: Global, program: &[u8]) -> Result<Verified, Fault>
     verify(alloc, code, &[]).map_err(|_| Fault::Refused)
 }
 
-/// Decodes and verifies so many times.
+/// Decodes and verifies a program, `times` times.
 pub fn time_verify(rt: &HostRuntime, times: u32, program: &[u8]) -> Result<Timed, Fault> {
     let start = Instant::now(rt).map_err(|_| Fault::Clock)?;
     for _time in 0..times {
@@ -30,7 +30,7 @@ pub fn time_verify(rt: &HostRuntime, times: u32, program: &[u8]) -> Result<Timed
     })
 }
 
-/// Runs so many times on a packet.
+/// Runs a program on a packet, `times` times.
 pub fn time_run(
     rt: &HostRuntime,
     times: u32,

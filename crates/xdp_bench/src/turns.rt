@@ -19,7 +19,7 @@ use xen_back::{Queue, QueueDesc, Turn};
 use xen_page::{Bus, Frames, Mapped, Owners, PageBus, PlainBus, Table, map};
 use xen_ring::{Port, Ports};
 
-/// Only turns that ran the program are timed, or idle ones where no packet is there.
+/// Only turns that ran the program are timed, or idle ones if no packet is there.
 fn timed(turn: Turn<'_>, packets: u32) -> Result<(), Fault> {
     match turn {
         Turn::Ran { .. } if packets > 0 => Ok(()),
@@ -28,7 +28,7 @@ fn timed(turn: Turn<'_>, packets: u32) -> Result<(), Fault> {
     }
 }
 
-/// So many batches of turns or deliveries, with the time that they took. One batch alone is too short to be timed.
+/// `times` batches of turns or deliveries, with the time that they took. One batch alone is too short to be timed.
 pub fn batches(times: u32, batch: u32, nanoseconds: u64) -> Timed {
     Timed {
         done: times.saturating_mul(batch),
@@ -77,7 +77,7 @@ pub fn queue<'p, 'b, B: Bus>(
     Ok(Queue::make(program, desc, buffer))
 }
 
-/// Times so many turns over a bus of the interface's frames.
+/// Times `times` turns over a bus of the interface's frames.
 fn time_over<B: Bus>(
     rt: &HostRuntime,
     bus: &mut B,
@@ -115,7 +115,7 @@ fn time_over<B: Bus>(
     Ok(batches(times, packets.batch(), nanoseconds))
 }
 
-/// Times so many batches of turns, a packet each; of 0 bytes no packet is published. Filling the pages isn't timed.
+/// Times `times` batches of turns, a packet each. No packet of 0 bytes is published. Filling the pages isn't timed.
 pub fn time(
     rt: &HostRuntime,
     memory: Memory,

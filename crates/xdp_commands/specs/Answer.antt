@@ -109,7 +109,7 @@ FilterAnswer s said = (c : Result Filtered Refusal) × Filters s c × (said ≡ 
 abbrev pub paired_answer : Host → List (List ℕ) → Paired → Said
 paired_answer h names p = (paired_text h names p, paired_status p)
 
--- the answer to a setup: by a run of its queues on threads, at most so many turns each, beside a host that does so
+-- the answer to a setup: by a run of its queues on threads, at most `turns` turns each, beside host h
 abbrev pub PairAnswer : ℕ → Host → SetupView → Said → Type 0
 PairAnswer turns h s said = (p : Paired) × IsPaired s turns h p × (said ≡ paired_answer h s.names p)
 
@@ -124,7 +124,7 @@ AnswerTo question.Filter = FilterAnswer
 abbrev pub RefusedAnswer : List ℕ → Fault → Said → Type 0
 RefusedAnswer settings f said = said ≡ settings_refused (Refused f)
 
--- the same, and the line that says where it is and what is allowed there
+-- the line of the first fault of settings, and the line that says where it is and what is allowed there
 abbrev pub PlacedAnswer : List ℕ → Fault → Said → Type 0
 PlacedAnswer settings f said = (line : List ℕ) × IsFaultText f settings line × (said ≡ (settings_text (Refused f) ++ line, 2))
 
@@ -138,7 +138,7 @@ abbrev pub SpelledAnswer : {A : Type 0} → (A → Said → Type 0) → (Fault �
 SpelledAnswer answer refused (Ok s) said = answer s said
 SpelledAnswer answer refused (Err f) said = refused f said
 
--- L0 where memory ran out while the settings, which are a text, were loaded
+-- L0 if memory ran out while the settings, which are a text, were loaded
 abbrev pub MemoryAnswer : List ℕ → Said → Type 0
 MemoryAnswer settings said = (text_of settings ≢ None) × (said ≡ settings_refused Memory)
 
@@ -178,7 +178,7 @@ IsAnswer (Some run) old new said = InputAnswer RunAnswer RefusedAnswer old new s
 IsAnswer (Some filter) old new said = InputAnswer FilterAnswer RefusedAnswer old new said
 IsAnswer (Some (pair turns h)) old new said = InputAnswer (PairAnswer turns h) RefusedAnswer old new said
 
--- at most so many bytes are taken
+-- at most n bytes are taken
 abbrev pub TakesAtMost : ℕ → Option (List ℕ) → Option (List ℕ) → Type 0
 TakesAtMost n old new = (taken : List ℕ) × Consumes old new taken × (length taken ≤ n)
 

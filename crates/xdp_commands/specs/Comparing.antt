@@ -17,7 +17,7 @@ pub record IsPair (r : RewrittenView) (program : Program) (original : List Insn)
   pub accepted : IsProgramOf r.setup.program r.setup.shapes program
   pub spelled : Spells original r.original
 
--- of so many slots each, and each has the runs of the other
+-- a pair in which each has the runs of the other; the program has `slots` slots, and the original has `originals`
 pub record IsSamePair (r : RewrittenView) (slots originals : ℕ) : Type 0 where
   pub program : Program
   pub original : List Insn

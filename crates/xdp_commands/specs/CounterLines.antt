@@ -4,7 +4,7 @@ use Rattle.std.specs.Prelude.{ℕ, zero, suc, ◌+◌, List, [], ◌∷◌, ◌+
 use Rattle.bpf_maps.specs.Seats.{TotalsView, total_at}
 use Rattle.bpf_note.specs.Shape.{Shape}
 
--- the place of a counter in its value, where a value has several
+-- the place of a counter in its value, if a value has several
 abbrev pub place_text : Shape → ℕ → List ℕ
 place_text shape j = if shape.counters == 1 then [] else codes " " ++ decimal j
 
@@ -14,12 +14,12 @@ counter_text name shape k j number =
     if number == 0 then [] else codes "counter " ++ (name
     ++ (codes " " ++ (decimal k ++ (place_text shape j ++ (codes " " ++ (decimal number ++ codes "\n"))))))
 
--- so many counters of a value, from counter j on, by what each holds
+-- n counters of a value, from counter j on, by what each holds
 abbrev pub value_text : (ℕ → ℕ) → List ℕ → Shape → ℕ → ℕ → ℕ → List ℕ
 value_text at name shape k j zero = []
 value_text at name shape k j (suc n) = counter_text name shape k j (at j) ++ value_text at name shape k (j + 1) n
 
--- so many values of a map, from value k on
+-- n values of a map, from value k on
 abbrev pub map_text : (ℕ → ℕ → ℕ) → List ℕ → Shape → ℕ → ℕ → List ℕ
 map_text at name shape k zero = []
 map_text at name shape k (suc n) = value_text (at k) name shape k 0 shape.counters ++ map_text at name shape (k + 1) n

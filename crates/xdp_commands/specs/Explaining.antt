@@ -24,7 +24,7 @@ use Rattle.xdp_commands.specs.declared.explaining.Loss.TheVariants.{ByInstructio
 use Rattle.xdp_commands.specs.declared.explaining.Outcome.{Outcome}
 use Rattle.xdp_commands.specs.declared.explaining.Outcome.TheVariants.{Accepted, Undecoded, Refused}
 
--- the bytes spell the program, which is refused so with these maps; a note is there where the rule for an instruction
+-- the bytes spell the program, which is refused so with these maps; a note is there if the rule for an instruction
 -- refuses it, and it is the first one at the slot that the rule refuses
 pub record IsExplained (program : List ℕ) (shapes : List Shape) (e : Explained) : Type 0 where
   pub spelled : Spells e.code program
@@ -32,7 +32,7 @@ pub record IsExplained (program : List ℕ) (shapes : List Shape) (e : Explained
   pub there : IsSome e.note ↔ IsRuleCause e.refusal.cause
   pub first : IfSome e.note (λ n. IsStoppedBy e.code shapes e.refusal.pc e.refusal.cause (facts n))
 
--- the register of which a refusal asks where it was an address last: none where no rule refuses the program
+-- the register of which a refusal asks where it was an address last: none if no rule refuses the program
 abbrev pub asked_of : Option Noted → Explained → Option Register
 asked_of None e = None
 asked_of (Some n) e = asked_register e.refusal.cause (slice_get e.code e.refusal.pc)
@@ -42,7 +42,7 @@ abbrev pub IsNotLost : Register → List Shape → Explained → Type 0
 IsNotLost r shapes e = (p : ℕ) (n : Facts) → IsLost e.code shapes e.refusal.pc (number r) p n → ⊥
 
 -- where that register's address went: the last slot that writes it made it a number; or else, of eight notes at the refused
--- slot, so many give it an address and the last a number
+-- slot, `addresses` give it an address and the last a number
 abbrev pub IsLossOf : Option Register → List Shape → Explained → Option Loss → Type 0
 IsLossOf None shapes e l = l ≡ None
 IsLossOf (Some r) shapes e None = IsNotLost r shapes e × ((addresses : ℕ) → IsJoined e.code shapes (number r) e.refusal.pc addresses → ⊥)

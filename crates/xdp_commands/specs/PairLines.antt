@@ -13,7 +13,7 @@ use Rattle.xdp_commands.specs.Lines.{refused_text}
 use Rattle.xdp_commands.specs.declared.pairing.Paired.{Paired}
 use Rattle.xdp_commands.specs.declared.pairing.Paired.TheVariants as paired
 
--- the cause's number, 0 where the queue wasn't halted
+-- the cause's number, 0 if the queue wasn't halted
 abbrev pub halted_number : Option Halt → ℕ
 halted_number None = 0
 halted_number (Some h) = halt_number h

@@ -22,7 +22,7 @@ IsAcceptedSetup s = (p : Program) × IsProgramOf s.program s.shapes p
 abbrev pub task_with : SetupView → Program → Host → Task
 task_with s p h = record { program = p; queues = s.queues; ifindex = s.ifindex; start = s.start; host = h }
 
--- a row for each queue, counters of the setup's maps, and what at most so many turns of the accepted program left in both
+-- a row for each queue, counters of the setup's maps, and what at most `turns` turns of the accepted program left in both
 pub record IsPairOfSetup (s : SetupView) (turns : ℕ) (h : Host) (r : PairReport) : Type 0 where
   pub program : Program
   pub accepted : IsProgramOf s.program s.shapes program
@@ -30,7 +30,7 @@ pub record IsPairOfSetup (s : SetupView) (turns : ℕ) (h : Host) (r : PairRepor
   pub maps : r.totals.shapes ≡ s.shapes
   pub left : AreLeft (task_with s program h) turns r
 
--- the queues of an accepted program ran, at most so many turns each, or their rings couldn't be mapped, or a thread couldn't
+-- the queues of an accepted program ran, at most `turns` turns each, or their rings couldn't be mapped, or a thread couldn't
 -- be started; or the program is refused
 abbrev pub IsPaired : SetupView → ℕ → Host → Paired → Type 0
 IsPaired s turns h (paired.Ran report) = IsPairOfSetup s turns h report

@@ -37,7 +37,7 @@ same_app = new_app (codes "same")
 abbrev pub run_app : App
 run_app = new_app (codes "run")
 
--- `--turns N`: a number from 1 to 1000000, which is 100000 where no word says it
+-- `--turns N`: a number from 1 to 1000000, which is 100000 if no word says it
 abbrev pub turns_rule : Rule
 turns_rule = record (new_rule (codes "turns")) {
   long = Some (codes "turns");
@@ -75,7 +75,7 @@ pub data Wanted : Type 0 where
   same : Wanted
   run : Wanted
   filter : Wanted
-  -- at most so many turns of each queue, and what the host does
+  -- at most that many turns of each queue, and what the host does
   pair : ℕ → Host → Wanted
 
 -- `exec`, by what was found for its words
@@ -93,7 +93,7 @@ number_of text =
     let digits = without_leading_plus text in
     if is_decimal digits && nat_lt (digits_value 10 digits) 4294967296 then Some (digits_value 10 digits) else None
 
--- the host answers where the flag was found
+-- the host answers if the flag was found
 abbrev pub host_of_word : Option Text → Host
 host_of_word None = host.Takes
 host_of_word (Some word) = if bytes_eq word (codes "true") then host.Answers else host.Takes
@@ -122,6 +122,6 @@ abbrev pub is_taken : Kinds → Bool
 is_taken [] = true
 is_taken (k ∷ ks) = false
 
--- what the words ask for, by the meaning of the command line; nothing where it refuses them, a call for help included
+-- what the words ask for, by the meaning of the command line; nothing if it refuses them, a call for help included
 unfoldable pub wanted_of_words : List Text → Option Wanted
 wanted_of_words words = if is_taken (fault_of program_app words) then option_and_then wanted_by (subcommand_of program_app words) else None

@@ -70,7 +70,7 @@ fn executed_answer(
     })
 }
 
-/// The bytes of a hex word, none where it is refused.
+/// The bytes of a hex word, none if it is refused.
 fn hex_bytes(alloc: Global, word: &str) -> Result<Option<Vec<u8>>, AllocError>
     ensures { IfOk result (λ o. option_map (λ v. v.items) o ≡ hex_bytes word.now) }
 {

@@ -1,4 +1,4 @@
-//! The command line, as `clap` has it.
+//! The command line, as `clap` sees it.
 ghost use Rattle.std.specs.Prelude.{◌≡◌, IfOk, false};
 ghost use Rattle.clap.specs.Words.{app_of};
 ghost use Rattle.clap.specs.declared.builder.command.Command.TheViews.{out-Command};
@@ -16,7 +16,7 @@ fn exec_command<'a>(alloc: Global) -> Result<Command<'a>, AllocError>
     Command::new(alloc, "exec").arg(program)?.arg(packet)
 }
 
-/// How many turns each queue makes at most, where no word says it.
+/// How many turns each queue makes at most, if no word says it.
 const TURNS: &str = "100000";
 
 /// The greatest number of turns that can be asked for.

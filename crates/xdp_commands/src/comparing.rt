@@ -18,7 +18,7 @@ use xdp_load::Rewritten;
 /// What becomes of a setup's program beside the one that it was made of.
 #[derive(Drop)]
 pub enum Compared {
-    /// Each run of one is a run of the other; they have so many slots.
+    /// Each run of one is a run of the other. The program has `slots` slots, and the original has `originals`.
     Same { slots: u32, originals: usize },
     /// Nothing is shown of their runs.
     NotShown,

@@ -6,7 +6,7 @@ use crate::numbers::Numbers;
 use bpf_note::MapShape;
 use std::alloc::{AllocError, Global};
 
-/// The place of a counter in its value, where a value has several.
+/// The place of a counter in its value, if a value has several.
 fn place_text(alloc: Global, shape: MapShape, j: u32) -> Result<String, AllocError>
     ensures { IfOk result (λ s. string_bytes s ≡ place_text shape j) }
 {

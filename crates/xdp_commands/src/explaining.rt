@@ -19,7 +19,8 @@ use std::alloc::{AllocError, Global};
 pub enum Loss {
     /// An instruction made it a number.
     ByInstruction(Lost),
-    /// More ways meet than notes keep apart: on so many of the eight the register is an address, and on the last a number.
+    /// More ways meet than notes keep apart: on that many of the eight the register is an address, on the last a
+    /// number.
     ByJoining(usize),
 }
 

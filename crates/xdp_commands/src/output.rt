@@ -6,7 +6,7 @@ ghost use Rattle.xdp_commands.specs.Answer.{Prints};
 
 use std::io::Write;
 
-/// The exit status where a read or a write failed.
+/// The exit status if a read or a write failed.
 pub const FAILED: u8 = 4;
 
 /// Writes all the bytes, and says whether each write took some. A write that is interrupted has failed.
@@ -26,7 +26,7 @@ fn put<W: Write>(output: &mut W, bytes: &[u8]) -> bool
     true
 }
 
-/// Prints a text, and gives the status, or 4 where a write failed.
+/// Prints a text, and gives the status, or 4 if a write failed.
 pub fn say<W: Write>(output: &mut W, text: &str, status: u8) -> u8
     ensures { Prints (W.contents output.old) (W.contents output.new) (text.now, status) result }
 {

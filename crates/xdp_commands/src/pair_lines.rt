@@ -13,7 +13,7 @@ use std::alloc::{AllocError, Global};
 use thread_pair::{Deliveries, Host, PairReport, PairRow};
 use xen_back::Halt;
 
-/// The number of a queue's halt, 0 where it wasn't halted.
+/// The number of a queue's halt, 0 if it wasn't halted.
 fn halted_number(halted: Option<Halt>) -> u8
     ensures { result ≡ halted_number halted }
 {

@@ -55,8 +55,8 @@ fn run_pairs<T: Threads + Wait + Sync>(
     outcome(pair_with(rt, alloc, setup, program, host, turns, &Open))
 }
 
-/// Accepts the program of a setup and runs the setup's queues on threads, each in at most so many turns, beside a host that
-/// answers or doesn't; or refuses the program.
+/// Accepts the program of a setup and runs the setup's queues on threads, each in at most `turns` turns, beside a host
+/// that answers or doesn't; or refuses the program.
 pub fn pair<T: Threads + Wait + Sync>(
     rt: &T,
     alloc: Global,

@@ -26,7 +26,7 @@ pub enum Request<'a> {
     Run,
     /// What the program of the settings makes of their packets.
     Filter,
-    /// What the queues of the settings do on threads, in at most so many turns each, beside a host that does so.
+    /// What the queues of the settings do on threads, in at most `turns` turns each, beside this host.
     Pair { turns: u32, host: Host },
 }
 
@@ -53,7 +53,7 @@ fn exec_in<'a>(matches: &ArgMatches<'a>) -> Option<Request<'a>>
     Some(Request::Exec { program, packet })
 }
 
-/// What the host does: it answers where the flag was found.
+/// What the host does: it answers if the flag was found.
 fn host_in(matches: &ArgMatches<'_>) -> Host
     ensures { result ≡ host_of (rows_of (found_of matches.now)) }
 {
@@ -108,7 +108,7 @@ fn is_memory(error: &Error) -> bool
     error.kind() == ErrorKind::OutOfMemory
 }
 
-/// What the words ask for, the first of them being the program's own name; nothing where the command line refuses them.
+/// What the words ask for, the first of them being the program's own name; nothing if the command line refuses them.
 pub fn read_words<'a, S: AsStr>(
     alloc: Global,
     words: &'a [S],

@@ -5,7 +5,7 @@ use Rattle.bpf_insn.specs.declared.refusal.Cause.{Cause}
 use Rattle.bpf_insn.specs.declared.refusal.Cause.TheVariants as cause
 use Rattle.bpf_explain.specs.Advice.{cause_advice}
 
--- the causes by the numbers of include/laxonje.h, from 0. There is no V18.
+-- The causes by the numbers of include/laxonje.h, from 0. There is no V18.
 abbrev pub causes : List (Option Cause)
 causes =
     Some cause.Memory ∷ Some cause.Length ∷ Some cause.Opcode ∷ Some cause.Register ∷ Some cause.Target ∷ Some cause.BackJump
@@ -17,7 +17,7 @@ causes =
 abbrev pub cause_of : ℕ → Option Cause
 cause_of number = get_or causes number None
 
--- what to write instead of what it refuses; no bytes where it is none
+-- What to write instead of what it refuses; no bytes if it is no cause.
 abbrev pub advice_or : Option Cause → List ℕ
 advice_or None = []
 advice_or (Some c) = cause_advice c

@@ -1,5 +1,5 @@
 -- Stated: claims rest on this file.
--- What C is answered where it asks for a program.
+-- What C is answered when it asks for a program.
 use Rattle.std.specs.Prelude.{ℕ, ◌≡◌, ◌<◌, ◌≤◌, ◌⊎◌, List, All, length, map, take}
 use Rattle.std.specs.List.{HoldsAt}
 use Rattle.bpf_insn.specs.Code.{Spells}

@@ -1,18 +1,18 @@
 -- Stated: claims rest on this file.
--- What C is answered where it has a packet delivered, or waits for rx slots.
+-- What C is answered when it has a packet delivered, or waits for rx slots.
 use Rattle.std.specs.Prelude.{ℕ, ◌≡◌, List}
 use Rattle.xen_host.specs.Queues.{IsBegin, IsWaitBegin}
 use Rattle.xen_host.specs.declared.queue.Queue.{Queue}
 use Rattle.xen_host.specs.declared.task.Begin.{Begin}
 use Rattle.xen_host.specs.declared.task.Begin.TheVariants as begin
 
--- the numbers of include/laxonje.h
+-- The numbers of include/laxonje.h.
 abbrev pub begin_number : Begin → ℕ
 begin_number begin.Begun = 0
 begin_number begin.Busy = 2
 begin_number begin.NoFrame = 3
 
--- there is no queue
+-- There is no queue.
 abbrev pub no_queue : ℕ
 no_queue = 1
 
@@ -22,7 +22,7 @@ pub record DeliverAnswers (old new : Queue) (producer : ℕ) (packet : List ℕ)
   pub told_is : told ≡ begin_number answer
   pub taken : IsBegin old new producer packet answer
 
--- The queue was to wait for so many slots, and its answer is what C is told.
+-- The queue was to wait for `pages` slots, and C gets its answer.
 pub record WaitAnswers (old new : Queue) (pages : ℕ) (told : ℕ) : Type 0 where
   pub answer : Begin
   pub told_is : told ≡ begin_number answer

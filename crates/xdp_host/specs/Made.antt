@@ -1,5 +1,5 @@
 -- Stated: claims rest on this file.
--- What C is answered where it makes a queue.
+-- What C is answered when it makes a queue.
 use Rattle.std.specs.Prelude.{ℕ, ◌≡◌, ◌⊎◌, List, Option, Some, map}
 use Rattle.bpf_verify.specs.Consistent.{Accepted}
 use Rattle.xen_page.specs.declared.extents.Extent.{Extent}
@@ -13,14 +13,14 @@ use Rattle.xdp_host.specs.declared.queue_fault.QueueFault.{QueueFault}
 use Rattle.xdp_host.specs.declared.queue_fault.QueueFault.TheVariants.{Make, Empty}
 use Rattle.xdp_host.specs.declared.queue_abi.XdpQueueDesc.{XdpQueueDesc}
 
--- the extents that C gives
+-- The extents that C gives.
 abbrev pub extent_of : XdpExtent → Extent
 extent_of x = record { frames = x.frames; domain = x.domain }
 
 abbrev pub extents_of : List XdpExtent → List Extent
 extents_of extents = map extent_of extents
 
--- what C gives, with the limits of the form that it gives the owners in
+-- What C gives, with the limits of the form that it gives the owners in.
 abbrev pub given : List ℕ → Limits → List ℕ → XdpQueueDesc → Given
 given owners limits table d =
     record {
@@ -38,7 +38,7 @@ given owners limits table d =
       rx_index = d.rx_index;
     }
 
--- the numbers of include/laxonje.h
+-- The numbers of include/laxonje.h.
 abbrev pub fault_number : QueueFault → ℕ
 fault_number (Make make.Memory) = 1
 fault_number (Make make.Frames) = 2

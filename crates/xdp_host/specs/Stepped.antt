@@ -1,5 +1,5 @@
 -- Stated: claims rest on this file.
--- What C is answered where a step has no queue.
+-- What C is answered if a step has no queue.
 use Rattle.std.specs.Prelude.{ℕ, ◌≡◌, List}
 use Rattle.xen_host.specs.declared.op.Op.{Op}
 

@@ -8,7 +8,7 @@ use Rattle.xdp_host.specs.declared.fault.Fault.{Fault}
 use Rattle.xdp_host.specs.declared.fault.Fault.TheVariants.{Refused, Map, Text, Empty}
 use Rattle.xdp_host.specs.declared.abi.XdpVerdict.{XdpVerdict}
 
--- accepted, with so many instructions
+-- accepted, with the number of instructions
 abbrev pub accepting : ℕ → XdpVerdict
 accepting instructions = record { kind = 0; cause = 0; at = instructions }
 

@@ -26,7 +26,7 @@ pub struct XdpVerdict {
 }
 
 impl XdpVerdict {
-    /// Accepted, with so many instructions.
+    /// Accepted, with the number of instructions.
     pub fn accepting(instructions: u32) -> XdpVerdict
         ensures { result ≡ accepting instructions }
     {
@@ -56,7 +56,7 @@ impl From<Fault> for XdpVerdict {
     }
 }
 
-/// How a run ended. Nothing was run where no instruction was done.
+/// How a run ended. Nothing was run if no instruction was done.
 #[repr(C)]
 #[derive(Clone, Copy, Debug, PartialEq, Eq, Drop)]
 pub struct XdpRun {

@@ -49,8 +49,8 @@ fn advice(cause: Option<Cause>) -> &'static str
     }
 }
 
-/// Copies out what to write instead of what a cause refuses, as far as there is room. How many bytes it has: none where there is
-/// no such cause.
+/// Copies out what to write instead of what a cause refuses, as far as there is room. How many bytes it has: none if
+/// there is no such cause.
 #[unsafe(no_mangle)]
 pub extern "C" fn laxonje_advice(cause: u32, out: &mut [u8]) -> usize
     ensures count { result ≡ length (advice_of cause) }

@@ -5,7 +5,7 @@ ghost use Rattle.xdp_host.specs.Batch.{RanEach, RunsOne};
 use crate::abi::XdpRun;
 use crate::loaded_program::LoadedProgram;
 
-/// A packet of a batch: so many of its bytes, from a start.
+/// A packet of a batch: `length` of its bytes, from `start` on.
 #[repr(C)]
 #[derive(Clone, Copy, Debug, PartialEq, Eq, Drop)]
 pub struct XdpPacket {

@@ -1,7 +1,7 @@
 //! A library for hosts that are not written in Rattle: a program is verified once, and runs on their packets and
 //! counters. No call has a condition. `include/laxonje.h` has the calls as C sees them.
 //!
-//! - `abi`, `queue_abi`: what crosses to C, as the header has it
+//! - `abi`, `queue_abi`: what crosses to C, as in the header
 //! - `handle`, `loaded_program`, `raw_box`: a program that C holds; `fault`, `advice`: why there is none, and what to write
 //!   instead
 //! - `runs`, `batch`, `maps`: runs on one packet and on many in one call, and what C asks of counters and of maps
@@ -106,7 +106,7 @@ pub extern "C" fn laxonje_load_settings(
     out.set(alloc, loaded)
 }
 
-/// The same program once more, as for another thread, in place of what the handle held.
+/// Copies the program, as for another thread, in place of what `out` held.
 #[unsafe(no_mangle)]
 pub extern "C" fn laxonje_again(
     alloc: Global,
@@ -163,8 +163,8 @@ pub extern "C" fn laxonje_queue_make(
     }
 }
 
-/// Begins a turn, with what was read of the tx producer, and says its first ops. How many: none where there is no queue, something is
-/// under way, or there is no room, and nothing changes then.
+/// Begins a turn, with what was read of the tx producer, and says its first ops. How many: none if there is no queue,
+/// something is under way, or there is no room, and nothing changes then.
 #[unsafe(no_mangle)]
 pub extern "C" fn laxonje_queue_turn(
     alloc: Global,
@@ -218,9 +218,10 @@ pub extern "C" fn laxonje_queue_step(
     count
 }
 
-/// Begins to deliver a packet of the host's own to the guest, with what was read of the rx producer. It is copied; the steps that follow are of its delivery, until the op
-/// that says what became of it. The answer is 0; or, where nothing is begun, there is no queue, a turn or another delivery is under
-/// way, or the packet has fewer than 14 bytes or more than 65,535.
+/// Begins to deliver a packet of the host's own to the guest, with what was read of the rx producer. It is copied; the
+/// steps that follow are of its delivery, until the op that says what became of it. The answer is 0; or, if nothing is
+/// begun, there is no queue, a turn or another delivery is under way, or the packet has fewer than 14 bytes or more
+/// than 65,535.
 #[unsafe(no_mangle)]
 pub extern "C" fn laxonje_queue_deliver(
     alloc: Global,
@@ -261,7 +262,7 @@ pub extern "C" fn laxonje_queue_packet(alloc: Global, queue: &mut XdpQueue, out:
     }
 }
 
-/// Where a queue stands between two turns. None where there is no queue, or inside a turn.
+/// Where a queue stands between two turns. None if there is no queue, or inside a turn.
 #[unsafe(no_mangle)]
 pub extern "C" fn laxonje_queue_state(alloc: Global, queue: &mut XdpQueue) -> XdpQueueState
     ensures kept { queue.new.slot.held ≡ queue.old.slot.held }

@@ -148,7 +148,7 @@ impl LoadedProgram {
         }
     }
 
-    /// The same program once more.
+    /// A copy of the program.
     pub fn again(&self, alloc: Global) -> Result<Box<LoadedProgram>, Fault>
         ensures ok { IfOk result (λ b. b.value ≡ self.now) }
         ensures err { IfErr result (λ f. f ≡ out_of_memory) }

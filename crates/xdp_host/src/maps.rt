@@ -46,7 +46,7 @@ pub extern "C" fn laxonje_map_count(alloc: Global, program: &mut XdpProgram) -> 
     }
 }
 
-/// The size of the map of this number, from 0: no entries and no counters where there is no such map, or no program.
+/// The size of the map of this number, from 0: no entries and no counters if there is no such map, or no program.
 #[unsafe(no_mangle)]
 pub extern "C" fn laxonje_map_size(alloc: Global, program: &mut XdpProgram, number: u32) -> XdpMap
     ensures kept { program.new.slot.held ≡ program.old.slot.held }

@@ -61,7 +61,7 @@ impl XdpQueueState {
     }
 }
 
-/// What a call that begins something answers where there is no queue.
+/// What a call that begins something answers if there is no queue.
 pub const NO_QUEUE: u32 = 1;
 
 /// What C is told of what is to be begun.

@@ -13,7 +13,7 @@ use crate::queue_handle::XdpQueue;
 use std::alloc::{AllocError, Global};
 use xen_host::{Extent, FrameOwners, MakeFault, Program, Queue};
 
-/// So many frames, one after another, which one domain owns. `include/laxonje.h` has this struct in the same order.
+/// `frames` frames, one after another, which one domain owns. `include/laxonje.h` has this struct in the same order.
 #[repr(C)]
 #[derive(Clone, Copy, Debug, PartialEq, Eq, Drop)]
 pub struct XdpExtent {

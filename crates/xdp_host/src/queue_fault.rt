@@ -4,7 +4,7 @@ ghost use Rattle.xdp_host.specs.Made.{fault_number};
 
 use xen_host::MakeFault;
 
-/// What `laxonje_queue_make` answers where a queue was made.
+/// What `laxonje_queue_make` answers if a queue was made.
 pub const MADE: u32 = 0;
 
 /// Why no queue was made.

@@ -15,8 +15,9 @@ fn begun_wait(queue: &mut Queue, pages: u32) -> u32
     begin_number(queue.await_slots(pages))
 }
 
-/// Begins to wait for so many rx slots: the steps that follow are of the wait, until the op that says whether they are there. The
-/// answer is 0; or, where nothing is begun, there is no queue, or a turn, a delivery or another wait is under way.
+/// Begins to wait for `pages` rx slots: the steps that follow are of the wait, until the op that says whether they are
+/// there. The answer is 0; or, if nothing is begun, there is no queue, or a turn, a delivery or another wait is under
+/// way.
 #[unsafe(no_mangle)]
 pub extern "C" fn laxonje_queue_await(alloc: Global, queue: &mut XdpQueue, pages: u32) -> u32
     ensures none { IfNone queue.old.slot.held ((result ≡ no_queue) × (queue.new.slot.held ≡ None)) }

@@ -90,7 +90,7 @@ pub extern "C" fn laxonje_counters(alloc: Global, program: &mut XdpProgram) -> u
     }
 }
 
-/// Which of a program's words a counter is: the greatest number where there is no such counter, or no program.
+/// Which of a program's words a counter is: the greatest number if there is no such counter, or no program.
 #[unsafe(no_mangle)]
 pub extern "C" fn laxonje_place(
     alloc: Global,

@@ -105,7 +105,7 @@ impl Program {
         Program::accept(alloc, bytes, shapes)
     }
 
-    /// The same program once more, as for another thread. It is verified again, so its cost is that of [`Program::load`].
+    /// A copy of the program, as for another thread. It is verified again, so its cost is that of [`Program::load`].
     pub fn again(&self, alloc: Global) -> Result<Program, AllocError>
         ensures { IfOk result (λ p. p ≡ self.now) }
     {
@@ -226,7 +226,8 @@ impl Program {
         }
     }
 
-    /// The same, if there are words enough. It isn't inlined, so that a program without maps saves no registers for it.
+    /// As [`Program::run_in_place`], if there are words enough. It isn't inlined, so that a program without maps saves
+    /// no registers for it.
     #[inline(never)]
     fn run_with_maps(
         &self,

@@ -5,7 +5,7 @@ use xdp_program::{
     LoadFault, MapShape, Program, Refusal, Run, SettingsFault, TextFault, load_settings,
 };
 
-/// A program as hex digits with its maps, each so many values of so many counters.
+/// A program as hex digits with its maps, each as its number of values and of counters a value.
 #[derive(Clone, Copy)]
 pub struct Source {
     pub digits: &'static str,
@@ -26,7 +26,7 @@ fn shapes_of(alloc: Global, maps: &[(u32, u32)]) -> Result<Vec<MapShape>, AllocE
     Ok(shapes)
 }
 
-/// A program; none where its digits or its shapes can't be had.
+/// A program; none if its digits or its shapes can't be had.
 fn load(alloc: Global, source: Source) -> Option<Result<Program, LoadFault>> {
     let bytes = hex::decode(alloc, source.digits).ok()?;
     let shapes = shapes_of(alloc, source.maps).ok()?;
@@ -74,7 +74,7 @@ pub fn run(program: &Program, counters: &mut [u64], packet: &mut [u8], at: (u32,
     (number, instructions)
 }
 
-/// A run of a program on a packet, from an interface and a queue; none where it isn't accepted.
+/// A run of a program on a packet, from an interface and a queue; none if it isn't accepted.
 pub fn ended(
     alloc: Global,
     source: Source,
@@ -86,7 +86,7 @@ pub fn ended(
     Some(run(&program, counters, packet, at))
 }
 
-/// The same on a packet of so many bytes.
+/// As [`ended`], on a packet of `length` bytes.
 pub fn ended_over(
     alloc: Global,
     source: Source,

@@ -33,7 +33,7 @@ db10080000000000\
 7900080000000000\
 9500000000000000";
 
-/// That program with its maps.
+/// [`ADDS_DIGITS`] with its maps.
 const ADDS: Source = Source {
     digits: ADDS_DIGITS,
     maps: &[(2, 1), (3, 2)],

@@ -22,8 +22,8 @@ use Rattle.xdp_world.specs.declared.kept.Kept.{Kept}
 use Rattle.xdp_world.specs.declared.report.Delivered.{Delivered}
 use Rattle.xdp_world.specs.declared.report.Waited.{Waited}
 
--- an item of a queue: a packet that the host gives it to deliver, so many rx slots that the host awaits, and the events of turns,
--- deliveries and waits
+-- An item of a queue: a packet that the host gives it to deliver, a number of rx slots that the host awaits, and the events of turns,
+-- deliveries and waits.
 pub data Item : Type 0 where
   Given : (packet : List ℕ) → Item
   SlotsAwaited : (pages : ℕ) → Item
@@ -33,7 +33,7 @@ abbrev pub all_came : List Event → List Item
 all_came [] = []
 all_came (e ∷ es) = Came e ∷ all_came es
 
--- what is over: a turn, a delivery with what became of its packet, or a wait with its answer
+-- What is over: a turn, a delivery with what became of its packet, or a wait with its answer.
 pub data Deed : Type 0 where
   TurnOf : (kept : Kept) → Deed
   DeliveryOf : (what : Delivery) → Deed
@@ -60,14 +60,14 @@ turns_in (TurnOf k ∷ ds) = k ∷ turns_in ds
 turns_in (DeliveryOf what ∷ ds) = turns_in ds
 turns_in (WaitOf answer ∷ ds) = turns_in ds
 
--- the deliveries, each with how many turns were over before it, so many being over at first
+-- The deliveries, each with how many turns were over before it, n being over at first.
 abbrev pub deliveries_in : ℕ → List Deed → List Delivered
 deliveries_in n [] = []
 deliveries_in n (TurnOf k ∷ ds) = deliveries_in (n + 1) ds
 deliveries_in n (DeliveryOf what ∷ ds) = record { turns = n; delivery = what } ∷ deliveries_in n ds
 deliveries_in n (WaitOf answer ∷ ds) = deliveries_in n ds
 
--- the waits, each with how many turns and deliveries were over before it, so many being over at first
+-- The waits, each with how many turns and deliveries were over before it, n and m being over at first.
 abbrev pub waits_in : (turns deliveries : ℕ) → List Deed → List Waited
 waits_in n m [] = []
 waits_in n m (TurnOf k ∷ ds) = waits_in (n + 1) m ds
@@ -80,7 +80,7 @@ pub record IsUndelivered (w : Wiring) (s : State) (packet : List ℕ) (front : L
   pub isnt_over : want_of left ≢ want.Done
   pub completed : (t : List Event) × (end : Arrival) × Runs left t end
 
--- A wait for so many slots that began with these events, and isn't over by them.
+-- A wait for `pages` slots that began with these events, and isn't over by them.
 pub record IsUnwaited (w : Wiring) (s : State) (pages : ℕ) (front : List Event) (left : Steps Wait) : Type 0 where
   pub gone : LedBy (whole_wait w.vif.rx s pages) front left
   pub isnt_over : want_of left ≢ want.Done

@@ -31,7 +31,7 @@ pub record IsInside (w : Wiring) (start : ℕ) (items : List Item) : Type 0 wher
   pub begun : front ≢ []
   pub left : IsLeft w end front
 
--- What the events come to, as calls behind earlier ones: each step is a call, and each packet and each wait, but one for a queue that is
+-- What the events come to, as calls after earlier ones: each step is a call, and each packet and each wait, but one for a queue that is
 -- inside a turn, a delivery or a wait by the calls before it.
 pub data Makes (wirings : ℕ → Wiring) (start : ℕ) : List Call → List WorldEvent → List Call → Type 0 where
   none : (before : List Call) → Makes wirings start before [] []

@@ -10,7 +10,7 @@ use Rattle.xdp_world.specs.Frames.{frame_of, owners_of, table_frames}
 use Rattle.xdp_world.specs.Stands.{Stands}
 use Rattle.xdp_world.specs.declared.world.World.{World}
 
--- the wiring of queue n in a world of so many
+-- The wiring of queue n in a world of `queues` queues.
 pub record IsFor (accepted : Accepted) (queues index n : ℕ) (w : Wiring) : Type 0 where
   pub tx : w.vif.tx ≡ frame_of (514 * n)
   pub rx : w.vif.rx ≡ frame_of (514 * n + 1)
@@ -23,7 +23,7 @@ pub record IsFor (accepted : Accepted) (queues index n : ℕ) (w : Wiring) : Typ
   pub ifindex : w.ifindex ≡ index
   pub number : w.queue ≡ n
 
--- a queue before its first turn
+-- A queue before its first turn.
 pub record IsFresh (program : Accepted) (queues ifindex start number : ℕ) (q : Queue) : Type 0 where
   pub wired : IsFor program queues ifindex number (wiring_of q)
   pub state : state_of q ≡ started_at start

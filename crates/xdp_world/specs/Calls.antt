@@ -5,7 +5,7 @@ use Rattle.xen_back.specs.declared.wiring.Wiring.{Wiring}
 use Rattle.xdp_world.specs.Activities.{Given, HasHalted, Item, SlotsAwaited, all_came}
 use Rattle.xdp_world.specs.Entries.{Entry, listed}
 
--- a step, with what came of it; or a delivery or a wait for so many rx slots that was begun on a queue
+-- A step, with what came of it; or a delivery or a wait for `pages` rx slots that was begun on a queue.
 pub data Call : Type 0 where
   Stepped : (entry : Entry) → Call
   Delivers : (queue : ℕ) → (packet : List ℕ) → Call
@@ -17,14 +17,14 @@ entries_of (Stepped e ∷ cs) = e ∷ entries_of cs
 entries_of (Delivers q packet ∷ cs) = entries_of cs
 entries_of (Awaits q pages ∷ cs) = entries_of cs
 
--- a queue's items
+-- A queue's items.
 abbrev pub items_of : ℕ → List Call → List Item
 items_of q [] = []
 items_of q (Stepped e ∷ cs) = (if e.queue == q then all_came (listed e.event) else []) ++ items_of q cs
 items_of q (Delivers i packet ∷ cs) = (if i == q then Given packet ∷ [] else []) ++ items_of q cs
 items_of q (Awaits i pages ∷ cs) = (if i == q then SlotsAwaited pages ∷ [] else []) ++ items_of q cs
 
--- steps alone
+-- Steps alone.
 abbrev pub all_stepped : List Entry → List Call
 all_stepped [] = []
 all_stepped (e ∷ es) = Stepped e ∷ all_stepped es

@@ -27,17 +27,17 @@ use Rattle.xdp_world.specs.declared.kept.Kept.{Kept}
 use Rattle.xdp_world.specs.declared.report.Delivered.{Delivered}
 use Rattle.xdp_world.specs.declared.report.Waited.{Waited}
 
--- the delivery that is over, if one is, after so many turns
+-- The delivery that is over, if one is, after `turns` turns.
 abbrev pub delivered_list : ℕ → Option Delivery → List Delivered
 delivered_list turns None = []
 delivered_list turns (Some what) = record { turns = turns; delivery = what } ∷ []
 
--- the wait that is over, if one is, after so many turns and deliveries
+-- The wait that is over, if one is, after `turns` turns and `deliveries` deliveries.
 abbrev pub waited_list : ℕ → ℕ → Option Awaited → List Waited
 waited_list turns deliveries None = []
 waited_list turns deliveries (Some answer) = record { turns = turns; deliveries = deliveries; awaited = answer } ∷ []
 
--- A delivery of a queue has come to this: it goes on, or it is over, and the queue goes on behind it.
+-- A delivery of a queue has come to this: it goes on, or it is over, and then the queue goes on.
 abbrev pub Lands : Queue → Steps Arrival → Queue → Doing → Option Delivery → Type 0
 Lands old m new after None = (d : Delivering) × (after ≡ doing.Delivery d) × (left_of d ≡ m) × (want_of m ≢ want.Done) ×
     (state_of new ≡ state_of old)
@@ -52,7 +52,7 @@ pub record Carries (old : Queue) (from : Delivering) (new : Queue) (after : Doin
   pub quiet : label_of event ≡ []
   pub lands : Lands old mid new after delivery
 
--- A wait of a queue has come to this: it goes on, or it is over, and the queue goes on behind it.
+-- A wait of a queue has come to this: it goes on, or it is over, and then the queue goes on.
 abbrev pub Resumes : Queue → Steps Wait → Queue → Doing → Option Awaited → Type 0
 Resumes old m new after None = (a : Awaiting) × (after ≡ doing.Wait a) × (left_of_wait a ≡ m) × (want_of m ≢ want.Done) ×
     (state_of new ≡ state_of old)
@@ -67,12 +67,12 @@ pub record Looks (old : Queue) (from : Awaiting) (new : Queue) (after : Doing) (
   pub quiet : label_of event ≡ []
   pub resumes : Resumes old mid new after awaited
 
--- what a queue is doing after an event of a turn
+-- What a queue is doing after an event of a turn.
 abbrev pub after_turn : Option Kept → Doing
 after_turn None = doing.Turn
 after_turn (Some k) = doing.Between
 
--- what a queue is doing after a step that is none of a delivery's or a wait's: nothing new where it has halted
+-- What a queue is doing after a step that is none of a delivery's or a wait's: nothing new if it has halted.
 abbrev pub doing_after : Doing → Option Event → Option Kept → Doing
 doing_after before None kept = before
 doing_after before (Some e) kept = after_turn kept

@@ -15,7 +15,7 @@ use Rattle.xdp_world.specs.Entries.{Entry, events_of}
 use Rattle.xdp_world.specs.Keeping.{Keeps}
 use Rattle.xdp_world.specs.declared.kept.Kept.{Kept}
 
--- both rings begin at this index
+-- Both rings begin at this index.
 abbrev pub started_at : ℕ → State
 started_at start = record { tx_index = start; rx_index = start; halt = None }
 
@@ -26,7 +26,7 @@ pub data Turns (w : Wiring) : State → List Event → List Kept → State → L
       s.halt ≡ None → IsTurn w s t mid u → Keeps u k → Turns w mid more ks end front →
       Turns w s (t ++ more) (k ∷ ks) end front
 
--- The events after the last turn: events with which one more turn begins, and which isn't over by them; none where the queue has halted.
+-- The events after the last turn: events with which one more turn begins, and which isn't over by them; none if the queue has halted.
 pub record IsUnfinished (w : Wiring) (s : State) (front : List Event) (left : Steps Ending) : Type 0 where
   pub gone : LedBy (whole_turn w s) front left
   pub isnt_over : s.halt ≡ None → want_of left ≢ want.Done

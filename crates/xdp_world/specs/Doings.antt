@@ -20,7 +20,7 @@ use Rattle.xdp_world.specs.Core.{IsUnfinished}
 use Rattle.xdp_world.specs.declared.doing.Doing.{Doing}
 use Rattle.xdp_world.specs.declared.doing.Doing.TheVariants as doing
 
--- whether a queue at this stage is between turns
+-- Whether a queue at this stage is between turns.
 abbrev pub is_ready : Option Stage → Bool
 is_ready (Some (stage.At packet phase.Ready)) = true
 is_ready s = false
@@ -45,18 +45,18 @@ AllFit ds qs = (i : ℕ) (d : Doing) (q : Queue) → i < length qs → Fits (sli
 pub AllFit-prop : (ds : List Doing) (qs : List Queue) → IsProp (AllFit ds qs)
 AllFit-prop ds qs = let p : (d : Doing) (q : Queue) → IsProp (Fits d q) = Fits-prop in hlevel p
 
--- whether a call of the host is under way: a delivery or a wait
+-- Whether a call of the host is under way: a delivery or a wait.
 abbrev pub is_call : Option Doing → Bool
 is_call (Some (doing.Delivery d)) = true
 is_call (Some (doing.Wait a)) = true
 is_call o = false
 
--- whether nothing is under way
+-- Whether nothing is under way.
 abbrev pub is_between : Option Doing → Bool
 is_between (Some doing.Between) = true
 is_between o = false
 
--- what a queue wants next: its delivery or its wait, where one is under way, else its turn
+-- What a queue wants next: its delivery or its wait, if one is under way, else its turn.
 abbrev pub want_at : Queue → Option Doing → Want
 want_at q (Some (doing.Delivery d)) = want_of (left_of d)
 want_at q (Some (doing.Wait a)) = want_of (left_of_wait a)

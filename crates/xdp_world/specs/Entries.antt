@@ -5,7 +5,7 @@ use Rattle.bpf_note.specs.declared.op.Op.{Op}
 use Rattle.xen_back.specs.Drive.{label_of}
 use Rattle.xen_steps.specs.Event.{Event, Read, Write, Instr, Load, Add, Notify}
 
--- a step: which queue, what a read would be answered, and the event, where the queue hadn't halted
+-- a step: which queue, what a read would be answered, and the event, if the queue hadn't halted
 pub record Entry : Type 0 where
   pub queue : ℕ
   pub answer : ℕ

@@ -38,7 +38,7 @@ abbrev pub Settles : Queue → Queue → Option Kept → Type 0
 Settles old new None = (want_of (rest old) ≢ want.Done) × (rest new ≡ rest old) × (state_of new ≡ state_of old)
 Settles old new (Some k) = (u : Turned) × (rest old ≡ done (state_of new, u)) × Keeps u k × IsReady new
 
--- the same, of a computation to which an event has come
+-- What remains goes on after an event, or the turn is over and kept, and the next begins.
 abbrev pub Comes : Queue → Steps Ending → Queue → Option Kept → Type 0
 Comes old m new None = (want_of m ≢ want.Done) × (rest new ≡ m) × (state_of new ≡ state_of old)
 Comes old m new (Some k) = (u : Turned) × (m ≡ done (state_of new, u)) × Keeps u k × IsReady new
@@ -52,20 +52,20 @@ pub record Happens (old new : Queue) (c d : TotalsView) (answer : ℕ) (op : Opt
   pub counts : Counts c op d
   pub comes : Comes old mid new kept
 
--- a queue that has halted does nothing
+-- A queue that has halted does nothing.
 pub record Rests (old new : Queue) (c d : TotalsView) : Type 0 where
   pub rest : rest new ≡ rest old
   pub state : state_of new ≡ state_of old
   pub counters : d ≡ c
 
--- What a step with this event, or with none where it has halted, does to a queue.
+-- What a step with this event, or with none if it has halted, does to a queue.
 abbrev pub Moved : ℕ → Queue → Option Event → Queue → Type 0
 Moved answer old None new = (want_of (rest old) ≡ want.Done) × (rest new ≡ rest old) × (wiring_of new ≡ wiring_of old)
 Moved answer old (Some e) new =
     (m : Steps Ending) × (kept : Option Kept) × Goes (rest old) e m × Serves e answer × Comes old m new kept ×
     (wiring_of new ≡ wiring_of old)
 
--- the same, with the turn that was over by it
+-- What such a step does to a queue, with the turn that was over by it.
 abbrev pub MovedBy : ℕ → Queue → Option Event → Option Kept → Queue → Type 0
 MovedBy answer old None kept new =
     (want_of (rest old) ≡ want.Done) × (rest new ≡ rest old) × (state_of new ≡ state_of old) × (wiring_of new ≡ wiring_of old) ×

@@ -18,17 +18,17 @@ abbrev pub read_in : Event → List ℕ
 read_in (Read at answer) = answer ∷ []
 read_in e = []
 
--- what a read was answered
+-- What a read was answered.
 abbrev pub read_answer : Option Event → List ℕ
 read_answer None = []
 read_answer (Some e) = read_in e
 
--- what the reads were answered, in order
+-- What the reads were answered, in order.
 abbrev pub read_answers : List Entry → List ℕ
 read_answers [] = []
 read_answers (e ∷ es) = read_answer e.event ++ read_answers es
 
--- each step is of this queue
+-- Each step is of this queue.
 abbrev pub AreOf : ℕ → List Entry → Type 0
 AreOf queue [] = Unit {0}
 AreOf queue (e ∷ es) = (e.queue ≡ queue) × AreOf queue es

@@ -18,18 +18,18 @@ use Rattle.xdp_world.specs.declared.world.World.{World}
 abbrev pub Anything : Want → Type 0
 Anything w = Unit {0}
 
--- So many events are enough for what is left of the queue's turn, and for each later turn.
+-- `most` events are enough for what is left of the queue's turn, and for each later turn.
 pub record IsEnough (most : ℕ) (q : Queue) : Type 0 where
   pub now : Bounded Anything Any (rest q) most
   pub later : (s : State) → Bounded Anything Any (whole_turn (wiring_of q) s) most
 
--- a read, or nothing more
+-- A read, or nothing more.
 abbrev pub Pauses : Want → Type 0
 Pauses (want.Read at) = Unit {0}
 Pauses want.Done = Unit {0}
 Pauses w = ⊥
 
--- So many events are enough for what is left of the queue's turn, or it wants a read or nothing.
+-- For what is left of the queue's turn n events are enough, or it wants a read or nothing.
 abbrev pub IsNear : ℕ → Queue → Type 0
 IsNear n q = Pauses (want_of (rest q)) ⊎ Bounded Anything Any (rest q) n
 
@@ -38,7 +38,7 @@ abbrev pub Replays : World → World → ℕ → List ℕ → Type 0
 Replays old new queue given = (wirings : ℕ → Wiring) (start : ℕ) (es : List Entry) → Stands old wirings start es →
     (more : List Entry) × AreOf queue more × (read_answers more ≡ given) × Stands new wirings start (es ++ more)
 
--- a queue that is stepped no further when these answers are left
+-- A queue that is stepped no further when these answers are left.
 abbrev pub Rests : Want → List ℕ → Type 0
 Rests (want.Read at) left = left ≡ []
 Rests want.Done left = Unit {0}

@@ -38,7 +38,7 @@ abbrev pub kept_of : Option (Vec Kept) → List Kept
 kept_of None = []
 kept_of (Some v) = v.items
 
--- the turns of a queue
+-- The turns of a queue.
 abbrev pub kept_in : List (Vec Kept) → ℕ → List Kept
 kept_in turns i = kept_of (slice_get turns i)
 
@@ -46,7 +46,7 @@ abbrev pub delivered_of : Option (Vec Delivered) → List Delivered
 delivered_of None = []
 delivered_of (Some v) = v.items
 
--- the deliveries of a queue that are over
+-- The deliveries of a queue that are over.
 abbrev pub delivered_in : List (Vec Delivered) → ℕ → List Delivered
 delivered_in deliveries i = delivered_of (slice_get deliveries i)
 
@@ -54,11 +54,11 @@ abbrev pub waited_of : Option (Vec Waited) → List Waited
 waited_of None = []
 waited_of (Some v) = v.items
 
--- the waits of a queue that are over
+-- The waits of a queue that are over.
 abbrev pub waited_in : List (Vec Waited) → ℕ → List Waited
 waited_in waits i = waited_of (slice_get waits i)
 
--- what a queue is doing
+-- What a queue is doing.
 abbrev pub doing_in : World → ℕ → Option Doing
 doing_in world i = slice_get world.doing.items i
 
@@ -110,7 +110,7 @@ pub record IsSame (old new : World) : Type 0 where
   pub history : new.history.items ≡ old.history.items
   pub counters : new.counters ≡ old.counters
 
--- The world made one step of a queue, and goes on by its event, where it has one. A turn that is over by it is kept, what became of
+-- The world made one step of a queue, and goes on by its event, if it has one. A turn that is over by it is kept, what became of
 -- a packet whose delivery is over by it, and the answer of a wait that is over by it. The queue stays wired, and is inside a turn by its
 -- events until that is over.
 pub record IsStep (old new : World) (queue answer : ℕ) : Type 0 where
@@ -143,7 +143,7 @@ pub record IsStep (old new : World) (queue answer : ℕ) : Type 0 where
   pub stands_for : (wirings : ℕ → Wiring) (start : ℕ) (cs : List Call) → StandsFor old wirings start cs →
       StandsFor new wirings start (cs ++ Stepped (record { queue = queue; answer = answer; event = event }) ∷ [])
 
--- The world began to deliver a packet on a queue that was between turns. Where the delivery is over by that, what became of it is kept.
+-- The world began to deliver a packet on a queue that was between turns. If the delivery is over by that, what became of it is kept.
 pub record HasBegun (old new : World) (queue : ℕ) (packet : List ℕ) (over : Option Delivery) : Type 0 where
   pub between : is_between (doing_in old queue) ≡ true
   pub lands : (d : Queue) (e : Doing) → let q = slice_index_or old.queues.items queue d in
@@ -163,7 +163,7 @@ IsDeliver old new queue packet begun.Busy = (is_between (doing_in old queue) ≡
 IsDeliver old new queue packet begun.Underway = HasBegun old new queue packet None
 IsDeliver old new queue packet (begun.Over what) = HasBegun old new queue packet (Some what)
 
--- The world began a wait for so many rx slots on a queue that was between turns. Where the wait is over by that, its answer is kept.
+-- The world began a wait for `pages` rx slots on a queue that was between turns. If the wait is over by that, its answer is kept.
 pub record HasBegunWait (old new : World) (queue pages : ℕ) (over : Option Awaited) : Type 0 where
   pub between : is_between (doing_in old queue) ≡ true
   pub resumes : (d : Queue) (e : Doing) → let q = slice_index_or old.queues.items queue d in
@@ -188,7 +188,7 @@ abbrev pub GoesOn : World → World → List (ℕ × ℕ) → Type 0
 GoesOn old new steps = (wirings : ℕ → Wiring) (start : ℕ) (es : List Entry) → Stands old wirings start es →
     (more : List Entry) × (steps_of more ≡ steps) × Stands new wirings start (es ++ more)
 
--- one more can be kept without memory
+-- One more can be kept without memory.
 abbrev pub HasRoom : {A : Type 0} → Option (Vec A) → Type 0
 HasRoom None = Unit {0}
 HasRoom (Some v) = vec_len v < vec_capacity v

@@ -20,7 +20,7 @@ pub enum WaitBegun {
     Busy,
 }
 
-/// The answer where a wait was begun, and is over or isn't.
+/// The answer if a wait was begun, and is over or isn't.
 fn begun_by(over: Option<Awaited>) -> WaitBegun
     ensures under_way { over ≡ None → result ≡ WaitBegun.Underway }
     ensures over { (answer : Awaited) → over ≡ Some answer → result ≡ WaitBegun.Over answer }
@@ -32,8 +32,9 @@ fn begun_by(over: Option<Awaited>) -> WaitBegun
 }
 
 impl World<'_, '_> {
-    /// Begins to wait for so many rx slots on a queue that is between turns: the queue's event index is stored, and then its producer
-    /// read. Where the answer is [`Awaited::Waiting`], the front's next push to so many slots owes a notice.
+    /// Begins to wait for `pages` rx slots on a queue that is between turns: the queue's event index is stored, and
+    /// then its producer is read. If the answer is [`Awaited::Waiting`], the front's next push to `pages` slots owes a
+    /// notice.
     pub fn await_slots(&mut self, queue: usize, pages: u32) -> Result<WaitBegun, AllocError>
         requires { queue < vec_len self.old.queues }
         ensures size { vec_len self.new.queues ≡ vec_len self.old.queues }

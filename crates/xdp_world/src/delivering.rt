@@ -28,7 +28,7 @@ pub(crate) fn is_between(doing: &Doing) -> bool
     matches!(doing, Doing::Between)
 }
 
-/// The answer where a delivery was begun, and is over or isn't.
+/// The answer if a delivery was begun, and is over or isn't.
 fn begun_by(over: Option<Delivery>) -> Begun
     ensures under_way { over ≡ None → result ≡ Begun.Underway }
     ensures over { (what : Delivery) → over ≡ Some what → result ≡ Begun.Over what }

@@ -16,7 +16,7 @@ pub enum WorldEvent {
     Step { queue: usize, answer: u32 },
     /// A packet of the host's own is to be delivered on a queue. Inside a turn, another delivery or a wait nothing happens.
     Deliver { queue: usize, packet: Vec<u8> },
-    /// The host waits for so many rx slots on a queue. Inside a turn, a delivery or another wait nothing happens.
+    /// The host waits for `pages` rx slots on a queue. Inside a turn, a delivery or another wait nothing happens.
     Await { queue: usize, pages: u32 },
 }
 

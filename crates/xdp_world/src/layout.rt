@@ -11,7 +11,8 @@ pub const BACK: u16 = 0;
 /// The front's domain, which owns all other frames and grants them.
 pub const FRONT: u16 = 1;
 
-/// The frames of a world of so many queues: frame 0 is the back's, and all others are the front's. Frames 1 to 16 are its grant table.
+/// The frames of a world of `queues` queues: frame 0 is the back's, and all others are the front's. Frames 1 to 16 are
+/// its grant table.
 #[derive(Drop)]
 pub struct Layout {
     pub(crate) owners: Owners,
@@ -34,7 +35,7 @@ fn domains(alloc: Global, queues: usize) -> Result<Vec<u16>, AllocError>
 }
 
 impl Layout {
-    /// The layout for so many queues.
+    /// The layout for `queues` queues.
     pub fn make(alloc: Global, queues: usize) -> Result<Layout, AllocError>
         requires { queues ≤ 8 }
         ensures { IfOk result (λ l. l.queues ≡ queues) }

@@ -61,7 +61,7 @@ pub(crate) fn waited<'p, 'd>(
     resumed(queue, awaiting)
 }
 
-/// Begins a wait for so many rx slots.
+/// Begins a wait for `pages` rx slots.
 pub(crate) fn wait_begun<'p, 'd>(
     queue: &mut Queue<'p, '_>,
     pages: u32,

@@ -61,7 +61,7 @@ pub(crate) fn buffers(alloc: Global, queues: usize) -> Result<Vec<Buffer>, Alloc
     Ok(buffers)
 }
 
-/// So many queues between turns.
+/// `queues` queues between turns.
 fn all_between<'p, 'b>(alloc: Global, queues: usize) -> Result<Vec<Doing<'p, 'b>>, AllocError>
     ensures count { IfOk result (λ v. vec_len v ≡ queues) }
     ensures between { IfOk result (λ v. (i : ℕ) (d : DoingView) → i < queues → slice_index_or v.items i d ≡ Doing.Between) }
@@ -73,7 +73,7 @@ fn all_between<'p, 'b>(alloc: Global, queues: usize) -> Result<Vec<Doing<'p, 'b>
     Ok(doing)
 }
 
-/// No deliveries of so many queues.
+/// No deliveries of `queues` queues.
 fn none_delivered(alloc: Global, queues: usize) -> Result<Vec<Vec<Delivered>>, AllocError>
     ensures count { IfOk result (λ v. vec_len v ≡ queues) }
     ensures none { IfOk result (λ v. (i : ℕ) → delivered_in v.items i ≡ []) }
@@ -85,7 +85,7 @@ fn none_delivered(alloc: Global, queues: usize) -> Result<Vec<Vec<Delivered>>, A
     Ok(deliveries)
 }
 
-/// No waits of so many queues.
+/// No waits of `queues` queues.
 fn none_waited(alloc: Global, queues: usize) -> Result<Vec<Vec<Waited>>, AllocError>
     ensures count { IfOk result (λ v. vec_len v ≡ queues) }
     ensures none { IfOk result (λ v. (i : ℕ) → waited_in v.items i ≡ []) }
@@ -98,7 +98,7 @@ fn none_waited(alloc: Global, queues: usize) -> Result<Vec<Vec<Waited>>, AllocEr
 }
 
 impl<'p, 'b> World<'p, 'b> {
-    /// So many queues of a program, before their first turns, with all counters 0. Their packets lie in the buffers.
+    /// `queues` queues of a program, before their first turns, with all counters 0. Their packets lie in the buffers.
     pub fn make(
         alloc: Global,
         layout: &'p Layout,

@@ -10,7 +10,7 @@ pub const REFERENCES: u32 = 514;
 /// How many buffers a front has for each of a queue's rings.
 pub const BUFFERS: u32 = 256;
 
-/// The frame that reference 0 grants, behind the back's frame and the grant table.
+/// The frame that reference 0 grants, after the back's frame and the grant table.
 pub(crate) const FIRST_GRANTED: u32 = 17;
 
 /// The first reference of a queue.

@@ -36,7 +36,7 @@ impl World<'_, '_> {
         matches!(self.queues[queue].want(), Want::Done)
     }
 
-    /// Steps a queue until it wants to read or has halted. So many steps are enough.
+    /// Steps a queue until it wants to read or has halted. `most` steps are enough.
     fn go_on(&mut self, queue: usize, most: u64) -> Result<(), AllocError>
         requires queue { queue < vec_len self.old.queues }
         requires free { IsFree self.old queue }
@@ -57,8 +57,8 @@ impl World<'_, '_> {
         Ok(())
     }
 
-    /// Gives each read of a queue the next answer, until a read finds none or the queue has halted. So many steps are enough
-    /// for a turn.
+    /// Gives each read of a queue the next answer, until a read finds none or the queue has halted. `most` steps are
+    /// enough for a turn.
     fn give(&mut self, queue: usize, answers: &[u32], most: u64) -> Result<(), AllocError>
         requires queue { queue < vec_len self.old.queues }
         requires free { IsFree self.old queue }

@@ -13,7 +13,7 @@ use bpf_maps::Op;
 use std::alloc::AllocError;
 use xen_back::{Awaited, Delivery};
 
-/// Keeps what became of a packet, if its delivery is over, after so many turns. There is room.
+/// Keeps what became of a packet, if its delivery is over, after `turns` turns. There is room.
 pub(crate) fn note_delivery(delivered: &mut Vec<Delivered>, turns: usize, over: Option<Delivery>)
     requires { vec_len delivered.old < vec_capacity delivered.old }
     ensures { delivered.new.items ≡ delivered.old.items ++ delivered_list turns over }
@@ -23,7 +23,7 @@ pub(crate) fn note_delivery(delivered: &mut Vec<Delivered>, turns: usize, over: 
     }
 }
 
-/// Keeps the answer of a wait, if it is over, after so many turns and deliveries. There is room.
+/// Keeps the answer of a wait, if it is over, after `turns` turns and `deliveries` deliveries. There is room.
 pub(crate) fn note_wait(
     waited: &mut Vec<Waited>,
     turns: usize,
@@ -94,9 +94,9 @@ impl<'p, 'b> World<'p, 'b> {
         Ok(())
     }
 
-    /// One event of a queue: of the delivery or the wait that is under way, else of its turn; or nothing where it has halted. The answer
-    /// serves a read, and is ignored else. A turn that is over by it is kept, and the next begins; of a delivery that is over, what became
-    /// of its packet; of a wait that is over, its answer.
+    /// One event of a queue: of the delivery or the wait that is under way, else of its turn; or nothing if it has
+    /// halted. The answer serves a read, and is ignored else. A turn that is over by it is kept, and the next begins.
+    /// If a delivery is over, what became of its packet is kept; if a wait is over, its answer.
     pub fn step(&mut self, queue: usize, answer: u32) -> Result<(), AllocError>
         requires { queue < vec_len self.old.queues }
         ensures size { vec_len self.new.queues ≡ vec_len self.old.queues }

@@ -14,7 +14,7 @@ use bpf_maps::Op;
 use xen_back::{State, Want};
 
 impl World<'_, '_> {
-    /// What a queue wants next: its delivery or its wait, where one is under way, else its turn.
+    /// What a queue wants next: its delivery or its wait, if one is under way, else its turn.
     pub fn want(&self, queue: usize) -> Want
         requires { queue < vec_len self.now.queues }
         ensures within { (d : Queue) → result ≢ Want.Done → may_want (wiring_of (slice_index_or self.now.queues.items queue d)) result }

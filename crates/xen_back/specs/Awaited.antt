@@ -1,7 +1,7 @@
 -- Stated: claims rest on this file.
 -- A host waits for rx slots: a row for each answer.
 -- It is the end of ring.h's RING_FINAL_CHECK_FOR_REQUESTS, for as many requests as a packet has pages: req_event is stored,
--- and req_prod read behind it.
+-- and then req_prod is read.
 use Rattle.std.specs.Prelude.{ℕ, ◌≡◌, ◌<◌, ◌≤◌, ◌^◌, List, [], ◌∷◌, Option, Some, None}
 use Rattle.xen_page.specs.Access.{Performs}
 use Rattle.xen_page.specs.declared.access.Access.{Access}
@@ -19,7 +19,7 @@ use Rattle.xen_back.specs.declared.turn.Halt.{Halt}
 use Rattle.xen_back.specs.declared.turn.Halt.TheVariants as halt
 use Rattle.xen_back.specs.declared.wiring.Wiring.{Wiring}
 
--- The event index is stored, so many slots past the last that was answered, and only then the producer is read.
+-- The event index is stored, `pages` slots past the last that was answered, and only then the producer is read.
 abbrev pub last_look : Vif → ℕ → ℕ → ℕ → List Event
 last_look w x pages p = Write (rx_word w 1) (add32 x pages) ∷ Read (rx_word w 0) p ∷ []
 
@@ -33,7 +33,7 @@ pub data IsAwaiting (w : Wiring) (s : State) (pages : ℕ) : List Event → Stat
   waiting : (p m : ℕ) → s.halt ≡ None → p < 2 ^ 32 → available s.rx_index p ≡ Some m → m < pages →
       IsAwaiting w s pages (last_look w.vif s.rx_index pages p) s awaited.Waiting
 
--- A host waits for so many slots: its accesses are the bus's.
+-- A host waits for `pages` slots: its accesses are the bus's.
 pub record HasAwaited {S : Type 0} (log : S → Option (List Access)) (gives : S → Access → S → Type 0)
     (old new : Queue) (pages : ℕ) (result : Awaited) (bus bus' : S) : Type 0 where
   pub trace : List Event

@@ -13,11 +13,11 @@ use Rattle.xen_back.specs.declared.delivery.underway.Delivering.{Delivering}
 use Rattle.xen_back.specs.declared.delivery.delivering.Delivery.{Delivery}
 use Rattle.xen_back.specs.declared.queue.Queue.{Queue}
 
--- what is left of a delivery
+-- What is left of a delivery.
 abbrev pub left_of : Delivering → Steps Arrival
 left_of d = rest_moving d.vif d.state d.moving
 
--- how many frames there are, in which each place lies that it wants
+-- How many frames there are, in which each place lies that it wants.
 abbrev pub frames_of : Delivering → ℕ
 frames_of d = length d.vif.owners.now
 
@@ -45,7 +45,7 @@ pub record IsDeliveryAsked (wanted : Want) (old new : Delivering) : Type 0 where
   pub vif : new.vif ≡ old.vif
   pub state : new.state ≡ old.state
 
--- A delivery is over, and the queue goes on behind it.
+-- A delivery is over, and then the queue goes on.
 pub record IsDeliveryOver (old new : Queue) (d : Delivering) (result : Delivery) : Type 0 where
   pub over : left_of d ≡ done (state_of new, result)
   pub ready : IsReady new

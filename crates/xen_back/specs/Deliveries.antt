@@ -19,11 +19,11 @@ use Rattle.xen_back.specs.declared.state.State.{State}
 use Rattle.xen_back.specs.declared.turn.Halt.{Halt}
 use Rattle.xen_back.specs.declared.turn.Halt.TheVariants as halt
 
--- the state after a delivery, and what became of the packet
+-- The state after a delivery, and what became of the packet.
 abbrev pub Arrival : Type 0
 Arrival = State × Delivery
 
--- what a transmit of the host's packet comes to
+-- What a transmit of the host's packet comes to.
 abbrev pub arrival : State → Outcome → Arrival
 arrival s outcome.Overflow = (record s { halt = Some halt.RxProducer }, delivery.Halted halt.RxProducer)
 arrival s outcome.TooFew = (s, delivery.FewSlots)
@@ -44,7 +44,7 @@ if_frame w s packet true = unless_halted w s packet s.halt
 abbrev pub whole_delivery : Vif → State → List ℕ → Steps Arrival
 whole_delivery w s packet = if_frame w s packet (is_frame packet)
 
--- what is left of a delivery that came so far
+-- What is left of a delivery that came so far.
 abbrev pub rest_moving : Vif → State → Moving → Steps Arrival
 rest_moving w s (moving.Sending m) = bind (rest_of w s.rx_index m.packet.now m.transmit.phase) (arrived s)
 rest_moving w s (moving.Over after what) = done (after, what)

@@ -14,7 +14,7 @@ use Rattle.xen_back.specs.Turns.{IsTurn}
 use Rattle.xen_back.specs.declared.queue.Queue.{Queue}
 use Rattle.xen_back.specs.declared.turn.Turn.{Turn}
 
--- the counter operation of an event
+-- The counter operation of an event.
 abbrev pub label_of : Event → List Op
 label_of (Load m k j v) = op.Load m k j v ∷ []
 label_of (Add m k j delta old) = op.Add m k j delta old ∷ []
@@ -24,7 +24,7 @@ abbrev pub labels : List Event → List Op
 labels [] = []
 labels (e ∷ t) = label_of e ++ labels t
 
--- what was done over a bus and a seat in going from one computation to another
+-- What was done over a bus and a seat in going from one computation to another.
 pub record Driven {A S : Type 0} (log : S → Option (List Access)) (gives : S → Access → S →
     Type 0) (s s' : Steps A) (bus bus' : S) (ops ops' : List Op) (t : List Event) : Type 0 where
   pub gone : LedBy s t s'

@@ -17,7 +17,7 @@ use Rattle.xen_back.specs.declared.state.State.{State}
 use Rattle.xen_back.specs.declared.turn.Kind.{Kind}
 use Rattle.xen_back.specs.declared.wiring.Wiring.{Wiring}
 
--- A bus that reaches so many frames, counters and a seat serve a queue that is wired so.
+-- A bus that reaches `frames` frames, counters and a seat serve a queue that is wired so.
 pub record Serve (w : Wiring) (frames : ℕ) (c : CountersView) (s : SeatView) : Type 0 where
   pub size : frames ≡ length w.vif.owners.now
   pub wired : IsWired w.vif
@@ -29,25 +29,25 @@ pub record ServeOn (frames frames' : ℕ) (s s' : SeatView) : Type 0 where
   pub size : frames' ≡ frames
   pub seat : s' ≡ record s { ops = s'.ops }
 
--- after a slot behind those of a chain: so many slots are left
+-- After a slot that follows those of a chain: `left` slots are left.
 abbrev pub after_slot : Wiring → State → ℕ → List Slot → Slot → Steps Ending
 after_slot w s left chain slot = bind (judged (chain ++ slot ∷ []) (standing (chain ++ slot ∷ []))
     (read_slots w s.tx_index left (chain ++ slot ∷ []))) (after_scan w s)
 
--- after a fragment, or where its grant is refused
+-- After a fragment, or if its grant is refused.
 abbrev pub after_fragment : Wiring → List Fragment → (Option (List ℕ) → Steps Ending) → List ℕ → Result Unit GrantFault → Steps Ending
 after_fragment w later k packet (Ok u) = bind (copy w later packet) k
 after_fragment w later k packet (Err fault) = k None
 
--- the packet, if each of its grants passed
+-- The packet, if each of its grants passed.
 abbrev pub copied : List ℕ → Result Unit GrantFault → Option (List ℕ)
 copied packet (Ok u) = Some packet
 copied packet (Err fault) = None
 
--- a turn has ended: in this state, as this turn, with this packet
+-- A turn has ended: in this state, as this turn, with this packet.
 abbrev pub ended : State × Kind → List ℕ → Steps Ending
 ended e packet = done (e.0, turned e.1 packet)
 
--- and so has a queue's
+-- A queue's turn has ended so.
 abbrev pub ended_in : Queue → Kind → Steps Ending
 ended_in q kind = ended (state_of q, kind) (packet_of_stage q.stage)

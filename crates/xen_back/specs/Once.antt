@@ -1,5 +1,5 @@
 -- Stated: claims rest on this file.
--- Which words a turn reads, in order, and that it reads each once.
+-- Which words a turn reads, in order, each once.
 use Rattle.std.specs.Prelude.{ℕ, zero, suc, ◌≡◌, ◌≢◌, ◌<◌, ◌≤◌, ◌+◌, ◌/◌, ◌⊎◌, Bool, List}
 use Rattle.std.specs.Prelude.{[], ◌∷◌, ◌++◌, Option, None, Some, Ok, Err, length}
 use Rattle.std.specs.List.{Contains}
@@ -26,13 +26,13 @@ use Rattle.xen_back.specs.declared.turn.Halt.TheVariants as halt
 use Rattle.xen_back.specs.declared.turn.Refusal.TheVariants as refusal
 use Rattle.xen_back.specs.declared.wiring.Wiring.{Wiring}
 
--- the places of a trace's reads
+-- The places of a trace's reads.
 abbrev pub places_read : List Event → List Place
 places_read [] = []
 places_read (Read at v ∷ t) = at ∷ places_read t
 places_read (e ∷ t) = places_read t
 
--- no place is this one
+-- No place is this one.
 abbrev pub AllOther : Place → List Place → Type 0
 AllOther at [] = Unit {0}
 AllOther at (p ∷ ps) = (at ≢ p) × AllOther at ps
@@ -41,30 +41,30 @@ abbrev pub AreDistinct : List Place → Type 0
 AreDistinct [] = Unit {0}
 AreDistinct (p ∷ ps) = AllOther p ps × AreDistinct ps
 
--- the three words of each of so many slots, the first of them the i-th from t
+-- The three words of each of n slots, the first of them the i-th from t.
 abbrev pub slot_places : Wiring → ℕ → ℕ → ℕ → List Place
 slot_places w t i zero = []
 slot_places w t i (suc n) = tx_slot w.vif (add32 t i) 0 ∷ tx_slot w.vif (add32 t i) 1 ∷ tx_slot w.vif (add32 t i) 2
     ∷ slot_places w t (i + 1) n
 
--- so many words of a frame, in rising order
+-- Words of a frame, n of them, in rising order.
 abbrev pub page_places : ℕ → ℕ → ℕ → List Place
 page_places frame place zero = []
 page_places frame place (suc n) = page_word frame place ∷ page_places frame (place + 1) n
 
--- the two words of an entry
+-- The two words of an entry.
 abbrev pub entry_places : Option Place → List Place
 entry_places None = []
 entry_places (Some at) = at ∷ frame_place at ∷ []
 
--- Of each fragment its entry's words and, if that granted a frame, the words that it covers; up to the first for which no frame is given.
+-- For each fragment, its entry's words and, if that granted a frame, the words that it covers; up to the first for which no frame is given.
 abbrev pub copy_places : Wiring → List Fragment → List ℕ → List Place
 copy_places w [] frames = []
 copy_places w (f ∷ fs) [] = entry_places (entry_place w.vif.table.now f.gref)
 copy_places w (f ∷ fs) (frame ∷ frames) =
     entry_places (entry_place w.vif.table.now f.gref) ++ (page_places frame (f.offset / 4) (covered f) ++ copy_places w fs frames)
 
--- Of a chain's slots each word is read, in rising order, and no word twice.
+-- Each word of a chain's slots is read, in rising order, and no word twice.
 abbrev pub SlotsOnce : Type 0
 SlotsOnce = (w : Wiring) (s : State) (n : ℕ) (look p : List Event) (slots : List Slot) → HasRead w s n look p slots →
     (places_read p ≡ slot_places w s.tx_index 0 (length slots)) × AreDistinct (places_read p)
@@ -76,14 +76,14 @@ AreGranted w [] (frame ∷ frames) p = ⊥
 AreGranted w (f ∷ fs) (frame ∷ frames) p =
     ((at : Place) × (entry_place w.vif.table.now f.gref ≡ Some at) × Contains p (Read (frame_place at) frame)) × AreGranted w fs frames p
 
--- Of the fragments that are copied each entry's words and each covered word are read, one after another: of all of them, or up to one
+-- Each entry's words and each covered word of the fragments that are copied are read, one after another: for all of them, or up to one
 -- whose entry grants nothing.
 abbrev pub FragmentsOnce : Type 0
 FragmentsOnce = (w : Wiring) (fs : List Fragment) (p : List Event) (out : Option (List ℕ)) → IsCopy w fs p out →
     (frames : List ℕ) × (places_read p ≡ copy_places w fs frames) × AreGranted w fs frames p
     × (out ≢ None → length frames ≡ length fs) × (out ≡ None → length frames < length fs)
 
--- the two words of each of so many rx slots, the first of them the i-th from x, and of each its entry's words
+-- The two words of each rx slot, as many as there are references, the first of them the i-th from x, and the words of its entry.
 abbrev pub target_places : Wiring → ℕ → ℕ → List ℕ → List Place
 target_places w x i [] = []
 target_places w x i (gref ∷ grefs) =
@@ -95,7 +95,7 @@ abbrev pub ArePosted : Wiring → ℕ → ℕ → List ℕ → List Event → Ty
 ArePosted w x i [] p = Unit {0}
 ArePosted w x i (gref ∷ grefs) p = Contains p (Read (rx_slot w.vif (add32 x i) 1) gref) × ArePosted w x (i + 1) grefs p
 
--- Of the rx slots that a transmit takes both words are read, and its entry's words, one after another and nothing else.
+-- Both words of each rx slot that a transmit takes are read, and its entry's words, one after another and nothing else.
 abbrev pub TargetsOnce : Type 0
 TargetsOnce = (w : Wiring) (x i left : ℕ) (p : List Event) (ok : Bool) (ts : List Target) → AreTargets w.vif x i left p ok ts →
     (grefs : List ℕ) × (length grefs ≡ length ts) × (places_read p ≡ target_places w x i grefs) × ArePosted w x i grefs p
@@ -104,7 +104,7 @@ TargetsOnce = (w : Wiring) (x i left : ℕ) (p : List Event) (ok : Bool) (ts : L
 abbrev pub CoveredDistinct : Type 0
 CoveredDistinct = (frame place n : ℕ) → AreDistinct (page_places frame place n)
 
--- the two words of each of so many rx slots, the first of them the i-th from x, without their entries
+-- The two words of each of n rx slots, the first of them the i-th from x, without their entries.
 abbrev pub posted_places : Wiring → ℕ → ℕ → ℕ → List Place
 posted_places w x i zero = []
 posted_places w x i (suc n) = rx_slot w.vif (add32 x i) 0 ∷ rx_slot w.vif (add32 x i) 1 ∷ posted_places w x (i + 1) n
@@ -113,7 +113,7 @@ posted_places w x i (suc n) = rx_slot w.vif (add32 x i) 0 ∷ rx_slot w.vif (add
 abbrev pub PostedDistinct : Type 0
 PostedDistinct = (w : Wiring) (x n : ℕ) → n ≤ 256 → AreDistinct (posted_places w x 0 n)
 
--- what a transmit into rx slots of these references reads: the producer, the slots with their entries, and the event index
+-- What a transmit into rx slots of these references reads: the producer, the slots with their entries, and the event index.
 abbrev pub sent_places : Wiring → ℕ → List ℕ → List Place
 sent_places w x grefs = rx_word w.vif 0 ∷ (target_places w x 0 grefs ++ rx_word w.vif 3 ∷ [])
 
@@ -159,11 +159,11 @@ pub record TurnReads (w : Wiring) (s : State) (p : List Event) (count : ℕ) (la
   pub whole : length frames ≡ length fragments
   pub read : SlotsRead w s p slots (copy_places w fragments frames ++ last)
 
--- the event index of the responses
+-- The event index of the responses.
 abbrev pub notice_reads : Wiring → List Place
 notice_reads w = tx_word w.vif 3 ∷ []
 
--- a packet that is sent into rx slots of these references, or up to one whose grant fails
+-- A packet that is sent into rx slots of these references, or up to one whose grant fails.
 abbrev pub SendReads : Wiring → State → List Event → ℕ → List ℕ → Type 0
 SendReads w s p count grefs = ArePosted w s.rx_index 0 grefs p × TurnReads w s p count (sent_places w s.rx_index grefs ++ notice_reads w)
 

@@ -28,7 +28,7 @@ abbrev pub slot_reads : Wiring → ℕ → Slot → List Event
 slot_reads w i (a ∷ b ∷ c ∷ []) = Read (tx_slot w.vif i 0) a ∷ Read (tx_slot w.vif i 1) b ∷ Read (tx_slot w.vif i 2) c ∷ []
 slot_reads w i slot = []
 
--- the reads of slots, the first of them the i-th from t
+-- The reads of slots, the first of them the i-th from t.
 abbrev pub slots_reads : Wiring → ℕ → ℕ → List Slot → List Event
 slots_reads w t i [] = []
 slots_reads w t i (slot ∷ slots) = slot_reads w (add32 t i) slot ++ slots_reads w t (i + 1) slots
@@ -41,7 +41,7 @@ abbrev pub AllWords : List Slot → Type 0
 AllWords [] = Unit {0}
 AllWords (slot ∷ slots) = IsSlotRead slot × AllWords slots
 
--- a proper beginning of a chain, which wants a data slot or an extra
+-- A proper beginning of a chain, which wants a data slot or an extra.
 abbrev pub IsBeginning : List Slot → Type 0
 IsBeginning slots = WantsData slots ⊎ WantsExtra slots
 
@@ -56,7 +56,7 @@ abbrev pub behind : List ℕ → Option (List ℕ) → Option (List ℕ)
 behind bytes None = None
 behind bytes (Some later) = Some (bytes ++ later)
 
--- The copy of fragments: of each its grant's entry and, if that grants a frame, the covered words, once each; up to the first that
+-- The copy of fragments: for each, its grant's entry and, if that grants a frame, the covered words, once each; up to the first that
 -- is refused.
 pub data IsCopy (w : Wiring) : List Fragment → List Event → Option (List ℕ) → Type 0 where
   copied : IsCopy w [] [] (Some [])
@@ -66,7 +66,7 @@ pub data IsCopy (w : Wiring) : List Fragment → List Event → Option (List ℕ
       IsEntry w.vif false f.gref p (Ok frame) → length words ≡ covered f → AreWords words → IsCopy w fs q out →
       IsCopy w (f ∷ fs) (p ++ (page_reads frame (f.offset / 4) words ++ q)) (behind (copy_of f words) out)
 
--- the responses from the i-th slot on
+-- The responses from the i-th slot on.
 abbrev pub response_writes : Wiring → ℕ → ℕ → List ℕ → List Event
 response_writes w t i [] = []
 response_writes w t i (r ∷ rs) = Write (tx_slot w.vif (add32 t i) 0) r ∷ response_writes w t (i + 1) rs

@@ -10,13 +10,13 @@ use Rattle.xen_steps.specs.Event.{Event, Instr, Load, Add}
 use Rattle.xen_back.specs.Responses.{Left}
 use Rattle.xen_back.specs.declared.wiring.Wiring.{Wiring}
 
--- the event of a step: its label, or an instruction that nothing else takes part in
+-- The event of a step: its label, or an instruction that nothing else takes part in.
 abbrev pub event_of : Option Op → Event
 event_of None = Instr
 event_of (Some (op.Load m k j v)) = Load m k j v
 event_of (Some (op.Add m k j delta old)) = Add m k j delta old
 
--- how many labels there are
+-- How many labels there are.
 abbrev pub ops_in : List (Option Op) → ℕ
 ops_in [] = 0
 ops_in (None ∷ labels) = ops_in labels
@@ -32,7 +32,7 @@ pub record IsProgram (w : Wiring) (packet : List ℕ) (p : List Event) (out : Le
   pub number : out.number ≡ r0 % 2 ^ 32
   pub ops : out.ops ≡ ops_in labels
 
--- so many instructions that read no counter
+-- Instructions that read no counter, n of them.
 abbrev pub plain_instructions : ℕ → List Event
 plain_instructions zero = []
 plain_instructions (suc n) = Instr ∷ plain_instructions n

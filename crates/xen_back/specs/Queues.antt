@@ -24,7 +24,7 @@ state_of q = q.state
 abbrev pub wiring_of : Queue → Wiring
 wiring_of q = q.wiring
 
--- the mappings of the tx ring's page and of the rx ring's page
+-- The mappings of the tx ring's page and of the rx ring's page.
 abbrev pub tx_ring_of : Queue → Mapping
 tx_ring_of q = q.tx_ring
 
@@ -37,11 +37,11 @@ pub record IsSameWiring (old new : Queue) : Type 0 where
   pub tx_ring : tx_ring_of new ≡ tx_ring_of old
   pub rx_ring : rx_ring_of new ≡ rx_ring_of old
 
--- what is left of its turn
+-- What is left of its turn.
 abbrev pub rest : Queue → Steps Ending
 rest q = rest_of_stage q.wiring q.state q.stage
 
--- between turns
+-- Between turns.
 abbrev pub IsReady : Queue → Type 0
 IsReady q = (p : List ℕ) × (q.stage ≡ Some (stage.At p phase.Ready))
 
@@ -59,7 +59,7 @@ pub record IsAsked (wanted : Want) (old new : Queue) : Type 0 where
   pub state : state_of new ≡ state_of old
   pub same : IsSameWiring old new
 
--- a way to the turn's end
+-- A way to the turn's end.
 abbrev pub HasRest : Queue → Type 0
 HasRest q = (t : List Event) × (end : Ending) × Runs (rest q) t end
 

@@ -29,10 +29,10 @@ response s (Some req) = joined req.id (cast_unsigned w16 (status_code s))
 abbrev pub responses : Status → List Slot → List ℕ
 responses s slots = map (response s) (requests_of slots)
 
--- so many tx slots are answered
+-- n tx slots are answered
 abbrev pub answered : State → ℕ → State
 answered s n = record s { tx_index = add32 s.tx_index n }
 
--- so many rx slots are answered
+-- n rx slots are answered
 abbrev pub after_slots : State → ℕ → State
 after_slots s n = record s { rx_index = add32 s.rx_index n }

@@ -24,7 +24,7 @@ use Rattle.xen_back.specs.declared.state.State.{State}
 use Rattle.xen_back.specs.declared.turn.Halt.{Halt}
 use Rattle.xen_back.specs.declared.wiring.Wiring.{Wiring}
 
--- so many slots are left after the one that is being read
+-- `left` slots are left after the one that is being read
 abbrev pub rest_of_slot : Wiring → State → ℕ → List Slot → Steps Slot → Steps Ending
 rest_of_slot w s left slots reading =
     bind (bind reading (λ slot. judged (slots ++ slot ∷ []) (standing (slots ++ slot ∷ []))
@@ -60,7 +60,7 @@ rest_in w s (stage.Page g) = bind (bind (copy_words g.fragment g.frame g.place (
 rest_in w s (stage.Run r) = bind (program (left r.vm) r.ops) (after_run w s r.chain)
 rest_in w s (stage.Send packet t) = bind (rest_of w.vif s.rx_index packet t.transmit.phase) (after_transmit w s t.chain packet t.ops)
 
--- the same of a queue's stage, which is out only while the next one is made of it
+-- what is left of the turn, by a queue's stage, which is out only while the next one is made of it
 abbrev pub rest_of_stage : Wiring → State → Option Stage → Steps Ending
 rest_of_stage w s (Some g) = rest_in w s g
 rest_of_stage w s None = never
@@ -84,7 +84,7 @@ abbrev pub packet_of_stage : Option Stage → List ℕ
 packet_of_stage (Some g) = packet_at g
 packet_of_stage None = []
 
--- a stage with another phase, where it has one
+-- a stage with another phase, if it has one
 abbrev pub at_phase : Stage → Phase → Stage
 at_phase (stage.At packet old) phase = stage.At packet phase
 at_phase g phase = g

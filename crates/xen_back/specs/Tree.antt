@@ -73,7 +73,7 @@ judged slots (Some (Ok wanted.Extra)) rest = rest
 judged slots (Some (Err fault)) rest = done (Err (halt.Chain fault))
 judged slots None rest = never
 
--- so many slots are left before the producer
+-- `left` slots are left before the producer
 abbrev pub read_slots : Wiring → ℕ → ℕ → List Slot → Steps Scan
 read_slots w t zero slots = done (Err halt.ShortChain)
 read_slots w t (suc left) slots =

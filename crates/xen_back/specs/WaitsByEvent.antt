@@ -10,7 +10,7 @@ use Rattle.xen_back.specs.declared.delivery.wait_stage.Awaiting.{Awaiting}
 use Rattle.xen_back.specs.declared.queue.Queue.{Queue}
 use Rattle.xen_back.specs.Waits.{Wait, rest_looking, whole_wait}
 
--- what is left of a wait
+-- What is left of a wait.
 abbrev pub left_of_wait : Awaiting → Steps Wait
 left_of_wait a = rest_looking a.rx a.state a.pages a.looking
 
@@ -30,7 +30,7 @@ pub record IsWaitFed (answer : Answer) (old new : Awaiting) : Type 0 where
   pub rx : new.rx ≡ old.rx
   pub state : new.state ≡ old.state
 
--- A wait is over, and the queue goes on behind it.
+-- A wait is over, and then the queue goes on.
 pub record IsWaitOver (old new : Queue) (a : Awaiting) (result : Awaited) : Type 0 where
   pub over : left_of_wait a ≡ done (state_of new, result)
   pub ready : IsReady new

@@ -13,7 +13,7 @@ use Rattle.xen_back.specs.Turned.{Ending}
 use Rattle.xen_back.specs.declared.state.State.{State}
 use Rattle.xen_back.specs.declared.wiring.Wiring.{Wiring}
 
--- The want's place is within so many frames, and its counter is one of the maps'.
+-- The want's place is within the first `frames` frames, and its counter is one of the maps'.
 abbrev pub IsWithin : ℕ → List Shape → Want → Type 0
 IsWithin frames shapes (want.Read at) = (at.frame < frames) × (at.word < 1024)
 IsWithin frames shapes (want.Write at v) = (at.frame < frames) × (at.word < 1024)
@@ -23,7 +23,7 @@ IsWithin frames shapes (want.Add m k j delta) = IsCounter shapes m k j
 IsWithin frames shapes (want.Notify p) = Unit {0}
 IsWithin frames shapes want.Done = ⊥
 
--- what a queue that is wired so may want
+-- What a queue that is wired so may want.
 abbrev pub may_want : Wiring → Want → Type 0
 may_want w = IsWithin (length w.vif.owners.now) w.program.now.shapes
 

@@ -53,7 +53,7 @@ impl<B: Bus> Fill<B> for PageRun {
     }
 }
 
-/// Puts whole words of a page behind a packet's bytes, each read once.
+/// Puts whole words of a page after a packet's bytes, each read once.
 fn push_words<B: Bus>(bus: &mut B, frame: u32, from: u32, to: u32, packet: &mut PacketBuf<'_>)
     requires frame { from < to → frame < B.size bus.old }
     requires ordered { from ≤ to }
@@ -165,7 +165,7 @@ impl<'b> CopyBuf<'b> {
         }
     }
 
-    /// Puts whole words of a page behind the packet's bytes, each read once.
+    /// Puts whole words of a page after the packet's bytes, each read once.
     pub(crate) fn read_whole<B: Bus>(&mut self, bus: &mut B, frame: u32, from: u32, to: u32)
         requires frame { from < to → frame < B.size bus.old }
         requires ordered { from ≤ to }

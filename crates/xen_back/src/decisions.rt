@@ -1,5 +1,5 @@
-//! What a turn, a delivery and a wait decide, whichever way they go, also where a host makes the accesses (`xen_host`): the status
-//! and the response of a slot, the state behind it, and what the host gets as the answer.
+//! What a turn, a delivery and a wait decide, whichever way they go, also if a host makes the accesses (`xen_host`):
+//! the status and the response of a slot, the state after it, and what the host gets as the answer.
 
 ghost use Rattle.std.specs.Prelude.{◌≡◌, ◌≤◌, [], List, Option, Some, length, ℕ};
 ghost use Rattle.xen_back.specs.Rest.{after_reply, packet_at};
@@ -30,7 +30,7 @@ pub fn status(number: u32) -> Status
     }
 }
 
-/// The first word of the response to a slot: of an extra where there is no request.
+/// The first word of the response to a slot. A slot without a request is an extra.
 pub fn response(status: Status, request: &Option<TxReq>) -> u32
     ensures { result ≡ response_spec status request.now }
 {
@@ -54,7 +54,7 @@ pub(crate) fn slot_index(state: &State, chain: &Chain) -> u32
     state.tx_index.wrapping_add(chain.len() as u32)
 }
 
-/// The state after so many tx slots are answered.
+/// The state after `n` tx slots are answered.
 pub fn after_answers(state: &State, n: u32) -> State
     ensures { result ≡ answered state.now n }
 {
@@ -65,7 +65,7 @@ pub fn after_answers(state: &State, n: u32) -> State
     }
 }
 
-/// The state after so many rx slots are answered.
+/// The state after `n` rx slots are answered.
 pub fn after_slots(state: &State, n: u32) -> State
     ensures { result ≡ after_slots_spec state.now n }
 {

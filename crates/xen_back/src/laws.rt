@@ -115,8 +115,8 @@ pub fn waits_are_rests()
     ensures ends { (frames rx : ℕ) (s : State) (pages : ℕ) → rx < frames → WaitEnds frames (whole_wait rx s pages) }
 {}
 
-/// Where a host awaits rx slots, a push from fewer slots to so many, or more, owes a notice, and one that stays below owes
-/// none.
+/// If a host awaits `pages` rx slots, a push from fewer slots to `pages` or more owes a notice, and one that stays
+/// below owes none.
 pub fn awaited_slots_are_told()
     ensures told { (x m n pages : ℕ) → x < 2 ^ 32 → m < pages → pages ≤ n → n ≤ 256
         → is_due (add32 x m) (add32 x n) (add32 x pages) ≡ true }

@@ -10,8 +10,8 @@
 //! - `delivery`: a packet of the host's own, in one go and by event, and waiting for slots
 //! - `wiring`, `desc`, `state`, `turn`, `copy_buf`: what these work on; `laws`: what holds of every turn
 //!
-//! Of the definitions `Turns` is the authority, the table of turns; `Tree` is the computation that makes them, and `Rest` what
-//! is left of it at a stage. Both ways are proved of the same computation.
+//! Among the definitions, `Turns` is the authority, the table of turns; `Tree` is the computation that makes them, and
+//! `Rest` what is left of it at a stage. Both ways are proved of the same computation.
 #![tactic(auto)]
 
 mod by_event;

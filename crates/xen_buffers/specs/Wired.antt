@@ -13,19 +13,19 @@ frame_of b = b.frame
 abbrev pub gref_of : Buffer → ℕ
 gref_of b = b.gref
 
--- all frames that a front uses: the two rings', its grant table's, and the buffers' of both rings
+-- All frames that a front uses: the two rings', its grant table's, and the buffers' of both rings.
 abbrev pub frames_of : Wiring → List ℕ
 frames_of w = w.tx_frame ∷ w.rx_frame ∷ (w.table.now ++ (map frame_of w.tx.now ++ map frame_of w.rx.now))
 
--- the references of its buffers
+-- The references of its buffers.
 abbrev pub references_of : Wiring → List ℕ
 references_of w = map gref_of w.tx.now ++ map gref_of w.rx.now
 
--- no number stands twice
+-- No number stands twice.
 abbrev pub AreDistinct : List ℕ → Type 0
 AreDistinct xs = AllPairs (λ x y. x ≢ y) xs
 
--- the reference of each buffer is in the table
+-- The reference of each buffer is in the table.
 abbrev pub AreInTable : List ℕ → List Buffer → Type 0
 AreInTable table buffers = All (λ (b : Buffer). entry_place table b.gref ≢ None) buffers
 
@@ -39,7 +39,7 @@ pub record IsWired (w : Wiring) : Type 0 where
   pub frames_apart : AreDistinct (frames_of w)
   pub references_apart : AreDistinct (references_of w)
 
--- what a front is wired to
+-- What a front is wired to.
 abbrev pub wiring_in : FrontDesc → Wiring
 wiring_in d =
     record {

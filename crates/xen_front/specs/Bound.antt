@@ -11,11 +11,11 @@ use Rattle.xen_buffers.specs.Wired.{IsWired, frames_of}
 use Rattle.xen_front.specs.declared.state.State.{State}
 use Rattle.xen_buffers.specs.declared.wiring.Wiring.{Wiring}
 
--- a word of one of the frames that the front was made with
+-- A word of one of the frames that the front was made with.
 abbrev pub IsOwnPlace : Wiring → Place → Type 0
 IsOwnPlace w at = Contains (frames_of w) at.frame × (at.word < 1024)
 
--- an access to such a word, or a notice to the front's port
+-- An access to such a word, or a notice to the front's port.
 abbrev pub IsOwnWant : Wiring → Want → Type 0
 IsOwnWant w (want.Read at) = IsOwnPlace w at
 IsOwnWant w (want.Write at v) = IsOwnPlace w at
@@ -32,12 +32,12 @@ abbrev pub AreOwn : Wiring → List Event → Type 0
 AreOwn w [] = Unit {0}
 AreOwn w (e ∷ t) = IsOwnEvent w e × AreOwn w t
 
--- each ring has a flag for each of 256 ids
+-- Each ring has a flag for each of 256 ids.
 pub record HasFlags (s : State) : Type 0 where
   pub tx : length s.tx.out ≡ 256
   pub rx : length s.rx.out ≡ 256
 
--- Each activity of a wired front keeps to the front's frames, and has at most so many events: a send 16 pieces of 2 + 1,024 + 3
+-- Each activity of a wired front keeps to the front's frames, and has at most this many events: a send 16 pieces of 2 + 1,024 + 3
 -- words and the push, a poll two looks of 3, 2 for each of 256 tx responses and a last one, and 16 slots of 3 + 1,024 words.
 pub record AreShort : Type 0 where
   pub sends : (w : Wiring) (s : State) (p ids : List ℕ) (t : List Event) (s' : State) (g : Given) → IsWired w → length ids ≤ 16 →

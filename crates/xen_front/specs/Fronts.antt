@@ -29,15 +29,15 @@ state_of f = f.state
 abbrev pub wiring_of : Front → Wiring
 wiring_of f = f.wiring
 
--- what is left of its activity
+-- What is left of its activity.
 abbrev pub rest : Front → Steps Ending
 rest f = rest_at f.wiring f.state f.sent f.received f.phase
 
--- inside an activity, or its end was not yet asked for
+-- Inside an activity, or its end was not yet asked for.
 abbrev pub busy : Front → Bool
 busy f = busy_in f.phase
 
--- the free ids among n from i on, the lowest first
+-- The free ids among n from i on, the lowest first.
 abbrev pub free_in : List Bool → ℕ → ℕ → List ℕ
 free_in out zero i = []
 free_in out (suc n) i = if get_or out i false then free_in out n (i + 1) else (i ∷ free_in out n (i + 1))
@@ -45,11 +45,11 @@ free_in out (suc n) i = if get_or out i false then free_in out n (i + 1) else (i
 unfoldable pub all_free : List Bool → List ℕ
 all_free out = free_in out 256 0
 
--- the lowest n of them
+-- The lowest n of them.
 abbrev pub chosen : ℕ → List Bool → List ℕ
 chosen n out = take n (all_free out)
 
--- The answers of the calls that begin an activity: of the tests in their order, the first that holds.
+-- The answers of the calls that begin an activity: the first test that holds, in their order.
 abbrev pub send_tests : Option Halt → (busy short long full : Bool) → Result (Unit {0}) SendRefusal
 send_tests (Some cause) b s l f = Err send_refusal.Halted
 send_tests None true s l f = Err send_refusal.Busy

@@ -7,8 +7,8 @@
 //! - `in_one_go`: a whole activity over a bus (`drive`), a packet's pieces on references alone (`straight`)
 //! - `packet`, `state`, `turn`: what these work on; `laws`: what holds of every activity
 //!
-//! Of the definitions `Activities` is the authority, the table of activities; `Tree` is the computation that makes them, and
-//! `Rest` what is left of it at a phase.
+//! Among the definitions, `Activities` is the authority, the table of activities; `Tree` is the computation that makes
+//! them, and `Rest` what is left of it at a phase.
 #![tactic(auto)]
 
 mod by_event;

@@ -79,7 +79,7 @@ impl Bench {
         }
     }
 
-    /// A front between activities. None where there is no memory for it.
+    /// A front between activities. None if there is no memory for it.
     pub fn front(&self, start: u32) -> Option<Front<'_>>
         ensures { IfSome result (λ front. (wiring_of front).frames ≡ 531) }
     {

@@ -31,14 +31,14 @@ pub data Ask : Type 0 where
 
 -- ---- what C gets, in the numbers of include/laxonje.h
 
--- a turn is over
+-- A turn is over.
 abbrev pub done_op : Kind → Op
 done_op kind.Idle = over 0 0 0
 done_op (kind.Ran ops number slots) = record (over 1 0 slots) { number = number; ops = ops }
 done_op (kind.Refused cause ops slots) = record (over 2 (refusal_number cause) slots) { ops = ops }
 done_op (kind.Halted cause) = over 3 (halt_number cause) 0
 
--- what became of a packet that was delivered
+-- What became of a packet that was delivered.
 abbrev pub delivered_op : Delivery → Op
 delivered_op (delivery.Sent slots) = over 4 0 slots
 delivered_op delivery.FewSlots = over 5 0 0
@@ -46,7 +46,7 @@ delivered_op (delivery.Refused slots) = over 6 0 slots
 delivered_op (delivery.Halted cause) = over 7 (halt_number cause) 0
 delivered_op delivery.NoFrame = over 8 0 0
 
--- what became of a wait for rx slots
+-- What became of a wait for rx slots.
 abbrev pub awaited_op : Awaited → Op
 awaited_op awaited.Posted = over 9 0 0
 awaited_op awaited.Waiting = over 10 0 0
@@ -66,7 +66,7 @@ op_of (WaitOver what) = awaited_op what
 
 -- ---- what a host does
 
--- reads of these words, or writes of them, from a place on
+-- Reads of these words, or writes of them, from a place on.
 abbrev pub reads_at : Place → List ℕ → List Event
 reads_at at [] = []
 reads_at at (v ∷ vs) = event.Read at v ∷ reads_at (frame_place at) vs
@@ -130,7 +130,7 @@ abbrev pub AllSized : List Ask → Type 0
 AllSized [] = Unit {0}
 AllSized (a ∷ more) = IsSized a × AllSized more
 
--- Its words are words of one page, which is one of so many frames.
+-- Its words are words of one page, which is one of `frames` frames.
 abbrev pub IsInPages : ℕ → Ask → Type 0
 IsInPages frames (Read at count) = (at.frame < frames) × (at.word + count ≤ 1024)
 IsInPages frames (Entry at reference written) = (at.frame < frames) × (at.word + 2 ≤ 1024)

@@ -9,7 +9,7 @@ use Rattle.xen_rx_fill.specs.declared.vif.Vif.{Vif}
 use Rattle.xen_host.specs.Asks.{Ask}
 use Rattle.xen_host.specs.Asks as ask
 
--- so many tx responses, from the i-th on
+-- n tx responses, from the i-th on
 abbrev pub stores : Vif → ℕ → List ℕ → ℕ → ℕ → List Ask
 stores w t words i zero = []
 stores w t words i (suc n) = ask.Store (tx_slot w (add32 t i) 0) (slice_index words i) ∷ stores w t words (i + 1) n
@@ -20,7 +20,7 @@ reply w x packet passed ts i =
     ask.StoreTwo (rx_slot w (add32 x i) 0) (response_word passed packet (length ts) i (target_at ts i).id 0)
     (response_word passed packet (length ts) i (target_at ts i).id 1)
 
--- so many of them, from the i-th on
+-- n rx responses, from the i-th on
 abbrev pub replies : Vif → ℕ → List ℕ → Bool → List Target → ℕ → ℕ → List Ask
 replies w x packet passed ts i zero = []
 replies w x packet passed ts i (suc n) = reply w x packet passed ts i ∷ replies w x packet passed ts (i + 1) n

@@ -15,7 +15,7 @@ use Rattle.xen_host.specs.declared.stage.Stage.{Stage}
 use Rattle.xen_host.specs.declared.stage.Stage.TheVariants as stage
 use Rattle.xen_host.specs.declared.work.Work.{Work}
 
--- The fragments from the i-th on can be copied behind the packet's bytes.
+-- The fragments from the i-th on can be copied after the packet's bytes.
 pub record HasCopyRoom (b : Work) (i : ℕ) : Type 0 where
   pub within : i ≤ length b.fragments.items
   pub in_page : IsTrue (list_all is_in_page b.fragments.items)

@@ -14,7 +14,7 @@ abbrev pub IsPush : Event → Event → Type 0
 IsPush (Write at index) (Read from event) = (at.word ≡ 2) × (from ≡ page_word at.frame 3)
 IsPush e f = ⊥
 
--- a word of a ring's page, or a notice
+-- A word of a ring's page, or a notice.
 abbrev pub IsOfRings : Vif → Event → Type 0
 IsOfRings w (Read at v) = (at.frame ≡ w.tx) ⊎ (at.frame ≡ w.rx)
 IsOfRings w (Write at v) = (at.frame ≡ w.tx) ⊎ (at.frame ≡ w.rx)
@@ -25,7 +25,7 @@ abbrev pub AllOfRings : Vif → List Event → Type 0
 AllOfRings w [] = Unit {0}
 AllOfRings w (e ∷ t) = IsOfRings w e × AllOfRings w t
 
--- Behind each push there is no event but of the rings' pages: no granted page is touched.
+-- After each push there is no event but of the rings' pages: no granted page is touched.
 abbrev pub GivesBack : Vif → List Event → Type 0
 GivesBack w [] = Unit {0}
 GivesBack w (e ∷ []) = Unit {0}
@@ -38,13 +38,13 @@ pub record HasPushed (ring index : ℕ) (t : List Event) : Type 0 where
   pub after : List Event
   pub joined : t ≡ before ++ Write (page_word ring 2) index ∷ Read (page_word ring 3) event ∷ after
 
--- the packet's slots were answered
+-- The packet's slots were answered.
 abbrev pub IsAnswered : Turned → Type 0
 IsAnswered (Ran number packet ops slots) = Unit {0}
 IsAnswered (Refused cause ops slots) = Unit {0}
 IsAnswered u = ⊥
 
--- rx slots were answered
+-- Rx slots were answered.
 abbrev pub IsAnsweredRx : Delivery → Type 0
 IsAnsweredRx (delivery.Sent slots) = Unit {0}
 IsAnsweredRx (delivery.Refused slots) = Unit {0}

@@ -50,7 +50,7 @@ pub record IsOn {A : Type 0} (rest : Steps A) (reads : ℕ) (here : Bool) (last 
 
 -- ---- turns
 
--- the packet that a turn of this kind leaves
+-- The packet that a turn of this kind leaves.
 abbrev pub packet_after : Kind → List ℕ → List ℕ
 packet_after (kind.Ran ops number slots) packet = packet
 packet_after k packet = []
@@ -71,7 +71,7 @@ TurnEnds e last left = IsOn (rest_in (wiring_of e.wires) e.state e.stage e.work)
 abbrev pub TurnLed : Wires → TxFlags → Steps Ending → Engine → (ops ops_after : List Op) → ℕ → (lent lent_after : List ℕ) → Type 0
 TurnLed w flags from new ops ops_after count lent lent_after = Led (TurnEnds new) w flags from new ops ops_after count lent lent_after
 
--- the same, after the program's run
+-- As TurnLed, after the program's run.
 pub record TurnRanLed (w : Wires) (flags : TxFlags) (from : Steps Ending) (new : Engine) (before after : List ℕ)
     (ops ops_after : List Op) (count : ℕ) (lent lent_after : List ℕ) : Type 0 where
   pub between : Steps Ending
@@ -103,7 +103,7 @@ WaitLed w flags packet from new ops ops_after count lent lent_after =
 
 -- ---- a transmit, by what it is for
 
--- what a transmit leaves as it is
+-- What a transmit leaves as it is.
 pub record Beside : Type 0 where
   pub wires : Wires
   pub flags : TxFlags

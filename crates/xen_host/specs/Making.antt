@@ -16,7 +16,7 @@ use Rattle.xen_host.specs.declared.make.QueueParts.{QueueParts}
 use Rattle.xen_host.specs.declared.queue.Queue.{Queue}
 use Rattle.xen_host.specs.declared.wires.Wires.{Wires}
 
--- what a host gives
+-- What a host gives.
 pub record Given : Type 0 where
   pub owners : List ℕ
   pub limits : Limits
@@ -48,24 +48,24 @@ given_of p =
       rx_index = p.rx_index;
     }
 
--- no more frames than there may be, and a grant table of the frontend's frames
+-- No more frames than there may be, and a grant table of the frontend's frames.
 abbrev pub AreFrames : Given → Type 0
 AreFrames g = length g.owners ≤ g.limits.frames
 
 abbrev pub IsTableOf : Given → Type 0
 IsTableOf g = (length g.table ≤ g.limits.table) × IsTable g.owners g.granter g.table
 
--- a ring's frame is the frontend's, and none of its table's
+-- A ring's frame is the frontend's, and none of its table's.
 abbrev pub IsRing : Given → ℕ → Type 0
 IsRing g frame = (slice_get g.owners frame ≡ Some g.granter) × (Contains g.table frame → ⊥)
 
--- the rings are two such frames
+-- The rings are two such frames.
 pub record AreRings (g : Given) : Type 0 where
   pub apart : g.tx ≢ g.rx
   pub tx : IsRing g g.tx
   pub rx : IsRing g g.rx
 
--- each part is what was given, within its limits
+-- Each part is what was given, within its limits.
 pub record IsWiredTo (program : Accepted) (g : Given) (w : Wires) : Type 0 where
   pub tx : w.tx ≡ g.tx
   pub rx : w.rx ≡ g.rx
@@ -83,14 +83,14 @@ pub record IsWiredTo (program : Accepted) (g : Given) (w : Wires) : Type 0 where
   pub rings : AreRings g
   pub domains : g.granter ≢ g.user
 
--- a queue between turns of these parts, with no packet
+-- A queue between turns of these parts, with no packet.
 pub record IsMadeOf (program : Accepted) (g : Given) (q : Queue) : Type 0 where
   pub wires : IsWiredTo program g q.engine.wires
   pub state : resting q ≡ Some (record { tx_index = g.tx_index; rx_index = g.rx_index; halt = None })
   pub packet : packet_of q ≡ []
   pub flags : q.engine.flags ≡ no_flags
 
--- what is told of the owners' fault
+-- What is reported of the owners' fault.
 abbrev pub made_fault : OwnersFault → MakeFault
 made_fault owned.Memory = fault.Memory
 made_fault owned.Frames = fault.Frames

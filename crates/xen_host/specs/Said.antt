@@ -17,7 +17,7 @@ pub record Said (first : List Ask) (last : Ask) (ops ops_after : List Op) (count
   pub words : WordsStay (first ++ last ∷ []) lent lent_after
   pub sized : AllSized (first ++ last ∷ [])
 
--- the program ran in a turn of this kind, and the guest was told so
+-- The program ran in a turn of this kind, and the guest was told so.
 abbrev pub has_run : Kind → Bool
 has_run (kind.Ran ops number slots) = true
 has_run k = false

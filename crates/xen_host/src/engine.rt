@@ -36,7 +36,7 @@ pub(crate) fn say(ops: &mut [Op], op: Op) -> usize
     1
 }
 
-/// Puts an op in a place behind those that are said.
+/// Puts an op in the place after those that are said.
 #[inline(always)]
 pub(crate) fn put(ops: &mut [Op], count: usize, op: Op)
     requires { count < length ops.old }

@@ -18,7 +18,7 @@ fn whole_word(bytes: &[u8], k: u32) -> u32
     u32::from_le_bytes(word)
 }
 
-/// Puts so many words of a packet, from one on, in front of the lent ones. The packet has all their bytes.
+/// Puts `count` words of a packet, from the word `from` on, in front of the lent ones. The packet has all their bytes.
 fn put_whole(bytes: &[u8], from: u32, count: u32, words: &mut [u32])
     requires short { length bytes.now ≤ 65535 }
     requires inside { 4 * (from + count) ≤ length bytes.now }
@@ -32,7 +32,8 @@ fn put_whole(bytes: &[u8], from: u32, count: u32, words: &mut [u32])
     }
 }
 
-/// Puts so many words of a packet, from one on, in front of the lent ones. The last may reach past the packet's end.
+/// Puts `count` words of a packet, from the word `from` on, in front of the lent ones. The last may reach past the
+/// packet's end.
 pub(crate) fn put_words(bytes: &[u8], from: u32, count: u32, words: &mut [u32])
     requires short { length bytes.now ≤ 65535 }
     requires some { 0 < count }

@@ -37,7 +37,7 @@ use xen_ring::{REQ_PROD, RSP_EVENT, RSP_PROD, due};
 use xen_rx_fill::{Outcome, Target, Targets, buffer_frame, pages_of, response, words_of};
 use xen_steps::{header, requests_shown, rx_entry};
 
-/// What a transmit comes to that used so many slots.
+/// What a transmit comes to that used `used` slots.
 #[inline(always)]
 fn outcome_of(passed: bool, used: u32) -> Outcome
     ensures { result ≡ outcome_of passed used }
@@ -100,7 +100,7 @@ impl Engine {
         }
     }
 
-    /// The next slot is read, and so many are left after it.
+    /// The next slot is read, and `left` slots are left after it.
     #[inline(always)]
     fn read_post(&mut self, purpose: Purpose, left: u32, ops: &mut [Op]) -> usize
         requires few { length self.old.work.targets + left < 16 }
@@ -195,7 +195,7 @@ impl Engine {
         }
     }
 
-    /// The packet's words in its i-th page are written; behind the last page the responses follow.
+    /// The packet's words in its i-th page are written; after the last page the responses follow.
     #[inline(always)]
     fn write_page(&mut self, purpose: Purpose, i: u32, words: &mut [u32], ops: &mut [Op]) -> usize
         requires few { i ≤ 16 }

@@ -45,7 +45,8 @@ impl Model for Slots {
     ghost invariant = { λ s. IsWhole s.form s.single };
 }
 
-/// Puts a fragment that is all into the room for fragments. Where one was before it is replaced, without a call that clears the room.
+/// Puts a fragment that is all into the room for fragments. If one was before it is replaced, without a call that
+/// clears the room.
 #[inline(always)]
 fn put_alone(room: &mut ArrayVec<Fragment, 18>, fragment: Fragment)
     ensures { room.new.items ≡ fragment ∷ [] }

@@ -3,7 +3,7 @@
 /// What a queue's next step is of.
 #[derive(Clone, Copy, Debug, PartialEq, Eq)]
 pub enum Task {
-    /// A turn: the next, where none is under way.
+    /// A turn: the next, if none is under way.
     Turn,
     /// A delivery of the host's own packet.
     Delivery,

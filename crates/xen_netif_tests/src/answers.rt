@@ -49,7 +49,7 @@ pub fn states(wanted: &[(Result<ChainState, ChainFault>, usize)]) -> States {
     answers
 }
 
-/// Of the first six slots, whether each is a request; and the last slot's request.
+/// Whether each of the first six slots is a request; and the last slot's request.
 pub fn requests_after(slots: &[[u32; 3]]) -> ([Option<bool>; 6], Option<Option<TxReq>>) {
     let mut chain = Chain::new();
     let _ = push_all(&mut chain, slots);

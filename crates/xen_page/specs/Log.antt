@@ -1,5 +1,5 @@
 -- Stated: claims rest on this file.
--- A log with room for so many accesses.
+-- A log with room for a number of accesses.
 use Rattle.std.specs.Prelude.{ℕ, List, [], ◌∷◌, ◌++◌, length, Bool, true, false, nat_lt, Option, Some, None, if◌then◌else◌}
 use Rattle.xen_page.specs.declared.access.Access.{Access}
 

@@ -32,7 +32,7 @@ pub record IsMappedBy (owners : List ℕ) (granter : ℕ) (m : Mapping) : Type 0
 abbrev pub marks : (write : Bool) → ℕ
 marks write = if write then 24 else 8
 
--- the place of an entry's frame word, behind its flags word
+-- the place of an entry's frame word, which follows its flags word
 abbrev pub frame_place : Place → Place
 frame_place at = record at { word = at.word + 1 }
 

@@ -1,5 +1,5 @@
 -- Stated: claims rest on this file.
--- The words of all frames, numbered from 0 on, where one frame follows another.
+-- The words of all frames, numbered from 0 on, one frame after another.
 use Rattle.std.specs.Prelude.{ℕ, ◌+◌, ◌*◌, ◌/◌, ◌%◌}
 use Rattle.xen_page.specs.declared.place.Place.{Place}
 

@@ -1,5 +1,5 @@
 -- Stated: claims rest on this file.
--- Who owns each frame of extents, as memory.h of Xen has them: so many frames, one after another.
+-- Who owns each frame of extents, as in Xen's memory.h: an extent is a number of frames, one after another.
 -- Rows worked by hand guard it: crates/xen_page_tests/src/tests/extents.rt.
 use Rattle.std.specs.Prelude.{ℕ, ◌^◌, ◌<◌, ◌≤◌, List, [], ◌∷◌, ◌++◌, length, replicate}
 use Rattle.xen_page.specs.declared.extents.Extent.{Extent}
@@ -21,7 +21,7 @@ abbrev pub domains_in : Kept → List ℕ
 domains_in (Each domains) = domains.items
 domains_in (InExtents extents) = domains_of extents.items
 
--- memory is asked for only where the frames can be counted
+-- memory is asked for only if the frames can be counted
 abbrev pub IsFaultOf : List Extent → OwnersFault → Type 0
 IsFaultOf extents Memory = AreCounted (domains_of extents)
 IsFaultOf extents Frames = 2 ^ 32 ≤ length (domains_of extents)

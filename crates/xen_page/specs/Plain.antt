@@ -6,7 +6,7 @@ use Rattle.xen_page.specs.Numbered.{index_of}
 use Rattle.xen_page.specs.declared.access.Access.{Access}
 use Rattle.xen_page.specs.declared.access.Access.TheVariants as access
 
--- A read answers the word that stands there, a write changes that word alone, and an exchange writes where it found what it compares with.
+-- A read answers the word that stands there, a write changes that word alone, and an exchange writes if it found what it compares with.
 abbrev pub Holds : List ℕ → Access → List ℕ → Type 0
 Holds old (access.Read at answer) new = (answer ≡ slice_index old (index_of at)) × (new ≡ old)
 Holds old (access.Write at value) new = new ≡ slice_set old (index_of at) value

@@ -21,8 +21,8 @@ pub record ReadsRun {S : Type 0} (log : S → Option (List Access)) (gives : S �
   pub performed : Performs log gives old (reads_of at words) new
   pub told : bytes ≡ flat_map (to_le_bytes w32) words
 
--- So many words of a run are read from a place on, each once and in rising order, and the room begins with their bytes, where
--- behind these it is as it was at the start.
+-- `count` words of a run are read from a place on, each once and in rising order, and the room begins with their bytes; after
+-- these it is as it was at the start.
 pub record HasRead {S : Type 0} (log : S → Option (List Access)) (gives : S → Access → S → Type 0)
     (at : Place) (count : ℕ) (old : S) (start : List ℕ) (new : S) (room : List ℕ) : Type 0 where
   pub words : List ℕ
@@ -31,7 +31,7 @@ pub record HasRead {S : Type 0} (log : S → Option (List Access)) (gives : S �
   pub performed : Performs log gives old (reads_of at words) new
   pub filled : room ≡ flat_map (to_le_bytes w32) words ++ drop (4 * count) start
 
--- Where a run was read up to a number of words, it is read up to a higher one.
+-- If a run was read up to a number of words, it is read up to a higher one.
 abbrev pub ReadsFurther : {S : Type 0} (log : S → Option (List Access)) (gives : S → Access → S → Type 0) (at : Place)
     (count : ℕ) (old : S) (room : List ℕ) (more : ℕ) (new : S) (filled : List ℕ) → Type 0
 ReadsFurther {S = S} log gives at count old room more new filled =

@@ -8,8 +8,8 @@ ghost use Rattle.xen_page.specs.Run.{ReadsRun, WritesRun};
 use crate::place::Place;
 use crate::run::{put_word, word_at};
 
-/// Reaches the words of frames, each access being one step. Of what a read returns nothing is known but what the bus
-/// says (`access_gives`): of pages that another domain may write between any two accesses, nothing.
+/// Reaches the words of frames, each access being one step. Nothing is known of what a read returns but what the bus
+/// says (`access_gives`): nothing, if another domain may write the page between any two accesses.
 pub trait Bus {
     // The number of frames.
     ghost size: { Self → ℕ };

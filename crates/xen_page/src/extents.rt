@@ -4,7 +4,7 @@ ghost use Rattle.std.specs.Prelude.{◌≡◌, length, slice_get};
 ghost use Rattle.std.specs.Option.{SomeIff};
 ghost use Rattle.xen_page.specs.Owned.{AreCounted, domains_of};
 
-/// So many frames, one after another, which one domain owns.
+/// `frames` frames, one after another, which one domain owns.
 #[derive(Clone, Copy, Debug, PartialEq, Eq, Hash)]
 pub struct Extent {
     pub frames: u32,

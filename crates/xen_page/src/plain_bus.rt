@@ -57,7 +57,7 @@ impl<'w> PlainBus<'w> {
         self.words
     }
 
-    /// So many words from a place on.
+    /// `count` words from a place on.
     fn words_from(&self, at: Place, count: usize) -> &[u32]
         requires { index_of at + count ≤ length self.now }
         ensures { result.now ≡ take count (drop (index_of at) self.now) }

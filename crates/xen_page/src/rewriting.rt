@@ -37,7 +37,7 @@ impl<'a, B: Bus> Rewriter<'a, B> {
         }
     }
 
-    /// As [`Rewriter::make`], where the accesses are counted from this number on.
+    /// As [`Rewriter::make`], with the accesses counted from this number on.
     pub fn numbered_from(bus: B, writes: &'a [(u32, Place, u32)], first: u32) -> Rewriter<'a, B>
         requires { All (λ w. (w.1.frame < B.size bus) × (w.1.word < 1024)) writes.now }
         ensures bus { bus_in result ≡ bus }

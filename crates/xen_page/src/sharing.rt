@@ -1,5 +1,5 @@
-//! The steps of shared words. Of what a word holds a contract can say nothing, and so not which access a step makes: that each
-//! makes one is for a reader of its line to see.
+//! The steps of shared words. A contract can say nothing of what a word holds, and so not which access a step makes: a
+//! reader of each step's line has to see that it makes one.
 
 ghost use Rattle.std.specs.Prelude.{◌≡◌, None};
 ghost use Rattle.xen_page.specs.Shared.{frames_of};

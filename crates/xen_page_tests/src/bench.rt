@@ -109,7 +109,7 @@ fn ended_once(bus: &mut ScriptBus, mapped: Mapped) -> Option<(Seen, bool)>
     }
 }
 
-/// The same of the mapping of reference 5, over a bus that answers so, and its accesses.
+/// As [`ended_once`], for the mapping of reference 5, over a bus that answers so; and its accesses.
 fn ended_over(
     alloc: Global,
     table: &Table,
@@ -126,7 +126,7 @@ fn ended_over(
     Some((stays, log(bus.accesses())))
 }
 
-/// The same with a table of one frame.
+/// As [`ended_over`], with a table of one frame.
 pub fn ended(alloc: Global, answers: &[u32], write: bool) -> Option<(Option<(Seen, bool)>, Log)> {
     let owners = owners(alloc).ok()?;
     let table = Table::make(&owners, FRONT, &[1])?;

@@ -4,11 +4,11 @@
 use Rattle.std.specs.Prelude.{ℕ, ◌+◌, ◌-◌, ◌%◌, ◌^◌, Bool, nat_le, nat_lt, Result, Ok, Err, if◌then◌else◌}
 use Rattle.xen_ring.specs.declared.overflow.Overflow.{Overflow}
 
--- the index n further on
+-- The index n further on.
 abbrev pub advanced : (index n : ℕ) → ℕ
 advanced index n = (index + n) % 2 ^ 32
 
--- how far an index has to run to come to another
+-- How far an index has to run to come to another.
 abbrev pub distance : (from to : ℕ) → ℕ
 distance from to = (to + (2 ^ 32 - from)) % 2 ^ 32
 
@@ -22,6 +22,6 @@ unconsumed_of prod cons rsp = if nat_le (distance rsp prod) 256 then Ok (distanc
 abbrev pub is_due : (old new event : ℕ) → Bool
 is_due old new event = nat_lt (distance event new) (distance old new)
 
--- the entry of a ring of 256 entries (ring.h: RING_GET_REQUEST takes the index modulo RING_SIZE)
+-- The entry of a ring of 256 entries (ring.h: RING_GET_REQUEST takes the index modulo RING_SIZE).
 abbrev pub place_of : ℕ → ℕ
 place_of index = index % 256

@@ -24,6 +24,6 @@ tx_entry_words = 3
 abbrev pub rx_entry_words : ℕ
 rx_entry_words = 2
 
--- the word of the page where word j of the entry that an index names stands, the entries having so many words
+-- the word of the page where word j of the entry that an index names stands, the entries having `entry_words` words
 abbrev pub entry_word : (entry_words index j : ℕ) → ℕ
 entry_word entry_words index j = 16 + entry_words * place_of index + j

@@ -21,7 +21,7 @@ pub data IsPosted (w : Vif) (i : ℕ) : List Event → ℕ → Result ℕ GrantF
       IsEntry w true (rx_req_of (a ∷ g ∷ [])).gref p r →
       IsPosted w i (Read (rx_slot w i 0) a ∷ Read (rx_slot w i 1) g ∷ p) (rx_req_of (a ∷ g ∷ [])).id r
 
--- Slots from the i-th past x are read until so many have passed, or one is refused.
+-- Slots from the i-th past x on are read until `left` of them have passed, or one is refused.
 pub data AreTargets (w : Vif) (x : ℕ) : ℕ → ℕ → List Event → Bool → List Target → Type 0 where
   all : (i : ℕ) → AreTargets w x i 0 [] true []
   refusing : (i left id : ℕ) (p : List Event) (fault : GrantFault) → IsPosted w (add32 x i) p id (Err fault) →
@@ -30,7 +30,7 @@ pub data AreTargets (w : Vif) (x : ℕ) : ℕ → ℕ → List Event → Bool �
       AreTargets w x (i + 1) left q ok ts →
       AreTargets w x i (suc left) (p ++ q) ok (record { id = id; frame = Some frame } ∷ ts)
 
--- so many words of the packet from the k-th on
+-- n words of the packet from the k-th on
 abbrev pub buffer_writes : List Target → List ℕ → ℕ → ℕ → List Event
 buffer_writes ts packet zero k = []
 buffer_writes ts packet (suc n) k = Write (buffer_word ts k) (word_of packet k) ∷ buffer_writes ts packet n (k + 1)

@@ -37,7 +37,7 @@ posted_second w i rest a = ask (want.Read (rx_slot w i 1)) (λ g. requested w (r
 abbrev pub posted : Vif → ℕ → (ℕ → Result ℕ GrantFault → Steps Posted) → Steps Posted
 posted w i rest = ask (want.Read (rx_slot w i 0)) (λ a. posted_second w i rest a)
 
--- so many more slots, after those before
+-- `left` more slots, after those before
 abbrev pub read_targets : Vif → ℕ → ℕ → List Target → Steps Posted
 read_targets w x zero targets = done (Ok targets)
 read_targets w x (suc left) targets = posted w (add32 x (length targets)) (targeted targets (read_targets w x left))
@@ -67,7 +67,7 @@ rx_answer w x packet passed n i (t ∷ ts) =
 abbrev pub rx_respond : Vif → ℕ → List ℕ → Bool → List Target → Steps Outcome
 rx_respond w x packet passed targets = rx_answer w x packet passed (length targets) 0 targets
 
--- so many words of the packet from the k-th on, into the buffers
+-- n words of the packet from the k-th on, into the buffers
 abbrev pub fill : List Target → List ℕ → ℕ → ℕ → Steps (Unit {0})
 fill targets packet zero k = done tt
 fill targets packet (suc n) k = ask (want.Write (buffer_word targets k) (word_of packet k)) (λ _. fill targets packet n (k + 1))

@@ -6,7 +6,8 @@
 //! - `in_one_go`: a whole transmit over a bus, on references alone
 //! - `vif`, `target`, `words`: what these work on; `laws`: what holds of every transmit
 //!
-//! Of the definitions `Sending` is the authority, the trace of a transmit; `Transmit` is the computation that makes it.
+//! Among the definitions, `Sending` is the authority, the trace of a transmit; `Transmit` is the computation that makes
+//! it.
 #![tactic(auto)]
 
 mod by_event;

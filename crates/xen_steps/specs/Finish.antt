@@ -33,7 +33,7 @@ IsAsked-prop (want.Add m k j d) = Unit-prop
 IsAsked-prop (want.Notify p) = Unit-prop
 IsAsked-prop want.Done = λ x y. absurd x
 
--- Finishing has one proof at most, where being within has.
+-- Finishing has one proof at most, if being within has.
 pub Finishes-prop : {A : Type 0} (within : Want → Type 0) → ((w : Want) → IsProp (within w)) → (s : Steps A) → IsProp (Finishes within s)
 Finishes-prop within p (done x) = Unit-prop
 Finishes-prop within p (ask w k) =

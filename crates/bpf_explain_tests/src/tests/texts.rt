@@ -10,7 +10,7 @@ const EXIT: [u8; 8] = [
     0x95, 0, 0, 0, 0, 0, 0, 0, // exit
 ];
 
-/// What is printed of `exit` if it is refused with this cause where `r0` is this value.
+/// What is printed of `exit` if it is refused with this cause while `r0` is this value.
 fn text_of_exit(alloc: Global, cause: Cause, value: Val) -> Option<String> {
     let note = note_of(alloc, &[(0, value)]);
     text(alloc, &EXIT, &[], Refusal { cause, pc: 0 }, Some(&note))
@@ -79,7 +79,7 @@ const CAUSES: [(Cause, u8, bool, &str); 10] = [
     (Cause::Argument, 17, true, "a wide load of a map in r1"),
 ];
 
-/// Whether the cause is explained so where `r0` is 1.
+/// Whether the cause is explained so if `r0` is 1.
 fn is_advised(
     alloc: Global,
     (cause, number, shows, advice): (Cause, u8, bool, &str),
@@ -99,7 +99,7 @@ fn causes_of_the_second_pass(rt: HostRuntime) {
     }
 }
 
-/// Advice by the cause alone, where there is no note.
+/// Advice by the cause alone, if there is no note.
 #[rattlefmt::skip]
 const ALONE: [(Cause, &str); 11] = [
     (Cause::Memory, "the same program, with more memory: memory ran out"),

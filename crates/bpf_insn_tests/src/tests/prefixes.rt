@@ -68,7 +68,7 @@ const OPCODES: [&str; 16] = [
     "................",
 ];
 
-/// A register of 11 is refused for the register exactly where the opcode is an instruction's.
+/// A register of 11 is refused for the register exactly when the opcode is an instruction's.
 #[test]
 fn every_opcode(rt: HostRuntime) {
     let mut op = 0u8;

@@ -1,7 +1,7 @@
-//! Rows of the instruction table: bytes and text. The bytes are as `llvm-mc -triple=bpfel -mcpu=v3` (LLVM 14) writes them
-//! where it knows the form, else as RFC 9669 gives them: section 4.1 for MOD, the offsets of SDIV, SMOD and MOVSX, section
-//! 4.2 for the unconditional swap, section 4.3 for JSET and the jump by the immediate, sections 5.1 to 5.4 for ST, MEMSX,
-//! FETCH and map references. The texts are in the notation of the kernel's disasm.c.
+//! Rows of the instruction table: bytes and text. The bytes are as `llvm-mc -triple=bpfel -mcpu=v3` (LLVM 14) writes
+//! them if it knows the form, else as RFC 9669 gives them: section 4.1 for MOD, the offsets of SDIV, SMOD and MOVSX,
+//! section 4.2 for the unconditional swap, section 4.3 for JSET and the jump by the immediate, sections 5.1 to 5.4 for
+//! ST, MEMSX, FETCH and map references. The texts are in the notation of the kernel's disasm.c.
 
 use crate::decoding::shows;
 use std::alloc::Global;

@@ -12,7 +12,7 @@ use std::test::Fail;
 use std::thread;
 use std::thread::{Promise, PromisedHandle, Scope, Threads};
 
-/// The seat comes back with its number, of its counters.
+/// The seat that comes back is of the same counters and has the same number.
 #[derive(Drop)]
 struct SeatBack(Snapshot<CounterSeat>);
 

@@ -11,7 +11,7 @@ use std::test::Fail;
 use std::thread;
 use std::thread::Threads;
 
-/// One thread adds 1 so many times, the other adds 2.
+/// One thread adds 1 `ones` times, the other adds 2 `twos` times.
 fn two<R: Threads + Sync>(
     rt: &R,
     alloc: Global,

@@ -6,7 +6,7 @@ ghost use Rattle.bpf_maps.specs.Seats.{IsSeatOf};
 
 use crate::{CounterSeat, Counters};
 
-/// Adds `delta` so many times to the first counter.
+/// Adds `delta` to the first counter, `times` times.
 pub(super) fn hit(counters: &Counters, mut seat: CounterSeat, delta: u64, times: u32) -> CounterSeat
     requires seat { IsSeatOf counters.now seat }
     requires place { IsCounter counters.now.shapes 0 0 0 }

@@ -66,7 +66,7 @@ fn own_test(rt: HostRuntime) {
     assert_eq!(rt; compared(rt.alloc(), &OWN_TEST), Some(Comparison::Same));
 }
 
-/// The same with a place that is wrong, and with none.
+/// [`COUNTED_LOOP`] with a place that is wrong, and with none.
 #[test]
 fn wrong_places_show_nothing(rt: HostRuntime) {
     let wrong = Pair {

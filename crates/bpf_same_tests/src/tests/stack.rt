@@ -59,7 +59,7 @@ fn store_at_a_masked_offset(rt: HostRuntime) {
     );
 }
 
-/// The same, where a comparison fixes the offset.
+/// As [`STORE_AT_A_MASKED_OFFSET`], but a comparison fixes the offset.
 const STORE_AT_A_COMPARED_OFFSET: Pair = Pair {
     old: &[
         "6116000000000000",

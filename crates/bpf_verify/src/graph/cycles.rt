@@ -55,7 +55,7 @@ fn closes_cycle(alloc: Global, code: &[Insn], pc: u32) -> Result<bool, AllocErro
     Ok(marks[pc as usize])
 }
 
-/// Whether all instructions can be ordered. Where no jump closes a cycle they can.
+/// Whether all instructions can be ordered. They can if no jump closes a cycle.
 pub(crate) fn is_ordered(alloc: Global, code: &[Insn]) -> Result<bool, AllocError>
     requires { length code.now ≤ 4096 }
     ensures ordered { IfOk result (λ b. IsTrue b ↔ IsOrdered code.now) }
@@ -69,7 +69,7 @@ pub(crate) fn is_ordered(alloc: Global, code: &[Insn]) -> Result<bool, AllocErro
     Ok(is_clear(&whole.left))
 }
 
-/// Whether the jump here closes a cycle; where the program is known to be `ordered` nothing is searched.
+/// Whether the jump here closes a cycle. If the program is known to be `ordered`, nothing is searched.
 pub(crate) fn closes_cycle_unless(
     alloc: Global,
     code: &[Insn],

@@ -11,7 +11,7 @@ pub fn pass_order_is_unique()
     ensures { (code : List Insn) (xs ys : List ℕ) → IsPassOrder code xs → IsPassOrder code ys → xs ≡ ys }
 {}
 
-/// Where every edge goes up, the order goes up.
+/// If every edge goes up, the order goes up.
 pub fn pass_order_rises()
     ensures { (code : List Insn) (xs : List ℕ) → IsPassOrder code xs → ((p q : ℕ) → Edge code p q → p < q) → (i j : ℕ) → i < j →
         j < length xs → slice_index xs i < slice_index xs j }

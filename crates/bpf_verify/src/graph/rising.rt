@@ -42,7 +42,7 @@ fn mark(marks: &mut Vec<bool>, to: Option<u32>)
     }
 }
 
-/// The slots that are reached from the first, upwards. Where no jump goes back, what leads to a slot lies below it.
+/// The slots that are reached from the first, upwards. If no jump goes back, what leads to a slot lies below it.
 pub(crate) fn rising_order(alloc: Global, code: &[Insn]) -> Result<Vec<u32>, AllocError>
     requires short { length code.now ≤ 4096 }
     requires some { 0 < length code.now }

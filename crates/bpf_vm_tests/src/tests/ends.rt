@@ -30,7 +30,7 @@ fn ended_by_hand(program: &Verified, buffer: &mut Buffer) -> Option<(u32, u32, O
     Some((ended.number, ended.instructions, first))
 }
 
-/// The same of [`STORES`].
+/// [`ended_by_hand`] for [`STORES`].
 fn ended(alloc: Global) -> Option<(u32, u32, Option<u8>)> {
     let (program, mut buffer) = ready(alloc, &STORES, &[])?;
     ended_by_hand(&program, &mut buffer)

@@ -51,7 +51,7 @@ fn alike(program: &Verified, first: &mut Buffer, second: &mut Buffer) -> Option<
     )
 }
 
-/// The same of a program.
+/// [`alike`] for a program of these slots, over new buffers.
 fn both(alloc: Global, slots: &[[u8; 8]]) -> Option<bool> {
     let (program, mut first) = ready(alloc, slots, &[])?;
     match Buffer::make(alloc) {

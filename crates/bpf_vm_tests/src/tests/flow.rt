@@ -120,7 +120,7 @@ fn the_first_refusal(rt: HostRuntime) {
     }
 }
 
-/// A jump over so many slots, or back.
+/// A jump over `to` slots, or back.
 fn jump(to: i32) -> Insn {
     Insn::Ja {
         wide_offset: false,
@@ -158,7 +158,7 @@ fn a_chain_of_backward_jumps(rt: HostRuntime) {
     );
 }
 
-/// What the structure of a chain is refused for, where a jump to itself comes behind it. Nothing without memory, or if it
+/// What the structure of a chain is refused for, if a jump to itself follows it. Nothing without memory, or if it
 /// isn't refused.
 fn fault_behind_chain(alloc: Global, jumps: u16) -> Option<(Cause, u32)> {
     let mut code = chain(alloc, jumps).ok()?;

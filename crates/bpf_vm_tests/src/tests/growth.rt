@@ -32,7 +32,7 @@ fn counted(alloc: Global, slots: &[[u8; 8]], shapes: &[MapShape]) -> Result<u32,
     }
 }
 
-/// The same, asked for again after V0.
+/// As [`counted`], asked for again after V0.
 fn counted_again(
     rt: &impl Print,
     alloc: Global,

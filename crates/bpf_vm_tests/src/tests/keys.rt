@@ -96,7 +96,7 @@ fn loaded(mut vm: Vm<'_, '_>) -> Option<([u32; 2], u32)> {
     Some(([before, all], vm.finish().0))
 }
 
-/// The same of [`UPPER_HALF`].
+/// [`loaded`] for [`UPPER_HALF`].
 fn loaded_half(alloc: Global) -> Option<([u32; 2], u32)> {
     let (program, mut buffer) = ready(alloc, &UPPER_HALF, &[MapShape::of(1, 1)?])?;
     loaded(Vm::start(&program, PacketBuf::empty(&mut buffer), 0, 0))
@@ -135,7 +135,7 @@ fn fetched(mut vm: Vm<'_, '_>) -> Option<(u64, u32)> {
     Some((delta, number_at_exit(vm)?))
 }
 
-/// The same of [`FETCHED_HALF`].
+/// [`fetched`] for [`FETCHED_HALF`].
 fn fetched_half(alloc: Global) -> Option<(u64, u32)> {
     let (program, mut buffer) = ready(alloc, &FETCHED_HALF, &[MapShape::of(1, 1)?])?;
     fetched(Vm::start(&program, PacketBuf::empty(&mut buffer), 0, 0))

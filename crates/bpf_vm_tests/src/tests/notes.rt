@@ -91,7 +91,7 @@ fn the_second_of_two_notes_is_refused(rt: HostRuntime) {
     );
 }
 
-/// As above, where both are numbers: 2 by the jump, then 1.
+/// As [`SECOND_OF_TWO`], but both are numbers: 2 by the jump, then 1.
 #[rattlefmt::skip]
 const BOTH_OF_TWO: [[u8; 8]; 6] = [
     [0x61, 0x12, 0x10, 0, 0, 0, 0, 0], // r2 = *(u32 *)(r1 + 16)

@@ -73,7 +73,7 @@ fn pushed_to(buffer: &mut Buffer) -> Option<(usize, bool, usize)> {
     Some((first, has_pushed, packet.bytes().len()))
 }
 
-/// The same of a new buffer.
+/// [`pushed_to`] for a new buffer.
 fn pushed_to_same(alloc: Global) -> Option<(usize, bool, usize)> {
     pushed_to(&mut Buffer::make(alloc).ok()?)
 }
@@ -115,7 +115,7 @@ fn filled(buffer: &mut Buffer) -> Option<([u8; 4], usize)> {
     Some(([bytes[0], bytes[1], bytes[2], bytes[3]], source.len()))
 }
 
-/// The same of a new buffer.
+/// [`filled`] for a new buffer.
 fn filled_anew(alloc: Global) -> Option<([u8; 4], usize)> {
     filled(&mut Buffer::make(alloc).ok()?)
 }

@@ -45,7 +45,7 @@ const STORES: [[u8; 8]; 13] = [
     [0x95, 0, 0, 0, 0, 0, 0, 0], // exit
 ];
 
-/// Jumps behind its end and back.
+/// Jumps past its end and back.
 #[rattlefmt::skip]
 const BACKWARDS: [[u8; 8]; 5] = [
     [5, 0, 2, 0, 0, 0, 0, 0], // goto +2
@@ -136,7 +136,7 @@ fn ended_on(program: &Verified, buffer: &mut Buffer, bytes: &[u8]) -> Option<(u3
     Some((ended.number, ended.instructions, is_left))
 }
 
-/// The same of that program on 14 bytes and then on 13 bytes in the same buffer.
+/// [`ended_on`] for that program, on 14 bytes and then on 13 bytes in the same buffer.
 fn ended_in_one_buffer(alloc: Global) -> Option<[Option<(u32, u32, bool)>; 2]> {
     let (program, mut buffer) = ready(alloc, &BOUNDS_CHECK, &[])?;
     let longer = ended_on(&program, &mut buffer, &[5; 14]);
@@ -165,7 +165,7 @@ fn ended_over(program: &Verified) -> Option<(u32, [u8; 16])>
     Some((number, own))
 }
 
-/// The same of [`STORES`].
+/// [`ended_over`] for [`STORES`].
 fn ended_on_own_bytes(alloc: Global) -> Option<(u32, [u8; 16])> {
     ended_over(&accepted(alloc, &STORES, &[])?)
 }
@@ -191,7 +191,7 @@ fn stored_by(program: &Verified, first: u8) -> Option<(u32, bool)>
     Some((number, kept && has_stored))
 }
 
-/// The same of [`STACK_STORES`].
+/// [`stored_by`] for [`STACK_STORES`].
 fn stored_on(alloc: Global, first: u8) -> Option<(u32, bool)> {
     stored_by(&accepted(alloc, &STACK_STORES, &[])?, first)
 }
@@ -251,7 +251,7 @@ fn noted(wants: Wants, want: VmWant) -> Option<Wants> {
     }
 }
 
-/// What is wanted of counters, the number and the instructions, where each counter holds 7, one instruction at a time.
+/// The wants of counters, the number and the instructions, if each counter holds 7, one instruction at a time.
 fn counted(start: Vm<'_, '_>) -> Option<(Wants, u32, u32)> {
     let mut vm = start;
     let mut wants = [None; 2];
@@ -276,7 +276,7 @@ fn counted(start: Vm<'_, '_>) -> Option<(Wants, u32, u32)> {
     None
 }
 
-/// The same, all steps between two wants at once.
+/// As [`counted`], but all steps between two wants at once.
 fn advanced(start: Vm<'_, '_>) -> Option<(Wants, u32, u32)> {
     let mut vm = start;
     let mut wants = [None; 2];

@@ -17,7 +17,7 @@ enum Entry {
     Send(u8),
     /// 14 bytes.
     Deliver(u8),
-    /// So many bytes.
+    /// A delivery of that many bytes, of which the first is given.
     DeliverOf(usize, u8),
     Post,
     Poll,
@@ -96,7 +96,7 @@ fn run(alloc: Global, slots: &[u64], start: u32, entries: &[Entry]) -> Option<Se
     Some(seen_of(alloc, &run))
 }
 
-/// A delivery that is over after so many turns.
+/// A delivery that is over after `turns` turns.
 fn after(turns: usize, delivery: Delivery) -> Option<Delivered> {
     Some(Delivered { turns, delivery })
 }
@@ -148,7 +148,8 @@ fn a_delivered_packet_is_received(rt: HostRuntime) {
     }
 }
 
-/// 5,000 bytes lie in two pages, so one post is too few, and two are enough. The notice of the posts wakes the back behind the delivery.
+/// 5,000 bytes lie in two pages, so one post is too few, and two are enough. The notice of the posts wakes the back
+/// after the delivery.
 #[test]
 fn a_packet_of_two_pages_needs_two_posts(rt: HostRuntime) {
     let few = [

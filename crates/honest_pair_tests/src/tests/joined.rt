@@ -10,7 +10,7 @@ use std::alloc::{AllocError, Global};
 use xdp_world::{Delivered, Kept};
 use xen_back::Delivery;
 
-/// So many random calls of both ends, and steps of both between them.
+/// `calls` random calls of both ends, and steps of both between them.
 fn plan(alloc: Global, seed: u32, calls: usize) -> Result<Plan, AllocError> {
     let mut random = Random { state: seed };
     let mut plan = Plan::new(alloc);
@@ -52,7 +52,7 @@ fn given<'r>(alloc: Global, run: &'r PairRun) -> Result<Vec<Option<&'r [u8]>>, A
     Ok(given)
 }
 
-/// None for each delivery that was sent after so many turns.
+/// None for each delivery that was sent after `after` turns.
 fn add_deliveries(
     given: &mut Vec<Option<&[u8]>>,
     run: &PairRun,
@@ -106,7 +106,7 @@ fn received(alloc: Global, events: &[PairEvent], run: &PairRun) -> Option<(usize
     }
 }
 
-/// How many packets of each way are received in a run of so many random calls.
+/// How many packets each way are received in a run of `calls` random calls.
 fn random_run(alloc: Global, start: u32, seed: u32, calls: usize) -> Option<(usize, usize)> {
     let mut plan = plan(alloc, seed, calls).ok()?;
     // What is under way ends.

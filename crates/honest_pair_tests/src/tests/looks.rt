@@ -53,7 +53,8 @@ fn next_send(events: &[PairEvent], from: usize) -> Option<(usize, &[u8])> {
     None
 }
 
-/// The place after the first send of this packet at or after a place. Where each send was taken, that has to be the next one.
+/// The place after the first send of this packet at or after a place. If each send was taken, that has to be the next
+/// one.
 fn place_of(events: &[PairEvent], from: usize, packet: &[u8], each: bool) -> Option<usize> {
     let mut at = from;
     for _send in from..events.len() {

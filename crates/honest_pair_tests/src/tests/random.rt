@@ -25,7 +25,7 @@ impl Random {
         x
     }
 
-    /// A number below a limit; 0 where that is 0.
+    /// A number below a limit; 0 if that is 0.
     pub(crate) fn below(&mut self, limit: usize) -> usize {
         if limit == 0 {
             0
@@ -56,7 +56,7 @@ impl Random {
     }
 }
 
-/// The most events of a send of so many bytes: five words a piece, the page words, and the push.
+/// The most events of a send of `size` bytes: five words a piece, the page words, and the push.
 fn most_of_send(size: usize) -> usize {
     size / 4 + 6 * (size / 4_096) + 10
 }
@@ -95,7 +95,7 @@ impl Chooser {
         Ok(())
     }
 
-    /// The steps after a call whose activity may need so many.
+    /// The steps after a call whose activity may need `most` of them.
     fn follow(&mut self, most: usize) -> Result<(), AllocError> {
         let count = if self.patient {
             most
@@ -142,7 +142,7 @@ impl Chooser {
 }
 
 impl Chooser {
-    /// Makes up so many calls, and the steps that let both ends finish.
+    /// Makes up `calls` calls, and the steps that let both ends finish.
     fn choose(&mut self, calls: usize) -> Result<(), AllocError> {
         for _call in 0..calls {
             self.call()?;
@@ -151,7 +151,7 @@ impl Chooser {
     }
 }
 
-/// What is seen of a run of so many random calls. A patient run has to copy all that was sent.
+/// What is seen of a run of `calls` random calls. A patient run has to copy all that was sent.
 fn random_run(
     alloc: Global,
     slots: &[u64],

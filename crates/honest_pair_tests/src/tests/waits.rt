@@ -18,9 +18,9 @@ enum Entry {
     Send,
     /// A packet of 14 bytes that the host has delivered.
     Deliver,
-    /// A buffer is posted, with its notice where one is due.
+    /// A buffer is posted, with its notice if one is due.
     Post,
-    /// So many events of a post, of which the fifth publishes it and the sixth reads the event index.
+    /// That many events of a post: the fifth publishes it, and the sixth reads the event index.
     PostOf(usize),
     Await(u32),
     Back(usize),
@@ -80,7 +80,7 @@ fn run(alloc: Global, start: u32, entries: &[Entry]) -> Option<Seen> {
     })
 }
 
-/// A wait that is over after so many turns and deliveries.
+/// A wait that is over after `turns` turns and `deliveries` deliveries.
 fn after(turns: usize, deliveries: usize, awaited: Awaited) -> Option<Waited> {
     Some(Waited {
         turns,
@@ -89,7 +89,7 @@ fn after(turns: usize, deliveries: usize, awaited: Awaited) -> Option<Waited> {
     })
 }
 
-/// What is seen where nothing but waits is over.
+/// What is seen if nothing but waits is over.
 fn waits_alone(waits: usize, last: Option<Waited>) -> Option<Seen> {
     Some(Seen {
         turns: 0,
@@ -184,7 +184,7 @@ fn a_post_beside_a_wait_isn_t_lost(rt: HostRuntime) {
         ];
         let seen = run(rt.alloc(), start, &entries);
         assert_eq!(rt; seen, waits_alone(2, after(0, 0, Awaited::Posted)));
-        // published behind the look
+        // published after the look
         let entries = [
             Entry::PostOf(4),
             Entry::Await(1),

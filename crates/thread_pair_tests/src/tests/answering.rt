@@ -59,7 +59,7 @@ impl<R: Clock> Gate for Written<'_, R> {
     }
 }
 
-/// The rows of a run of so many packets, before the first turn of which a word is written.
+/// The rows of a run of `packets` packets. Before its first turn a word is written.
 fn rows_with<R: Threads + Wait + Sync + Clock>(
     rt: &R,
     alloc: Global,
@@ -79,7 +79,7 @@ fn rows_with<R: Threads + Wait + Sync + Clock>(
     bench.rows(rt, alloc, &program, TURNS, &gate, &Discard, parkers)
 }
 
-/// The row of a queue whose five packets were passed on, of which so many answers came.
+/// The row of a queue whose five packets were passed on. `received` answers came.
 fn answered(received: u64, deliveries: Deliveries) -> Option<Rows> {
     let row = PairRow {
         received,

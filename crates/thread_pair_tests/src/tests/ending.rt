@@ -10,7 +10,7 @@ use xen_back::Halt;
 use xen_page::{Bus, PageBus, Place};
 use xen_ring::{Port, Ports};
 
-/// Whether there are so many queues, and each has sent and copied no more than that.
+/// Whether there are `count` queues, of which none has sent more than `sent` or copied more than `copied`.
 fn are_within(rows: &Rows, count: usize, sent: u64, copied: u64) -> bool {
     for row in rows.1.as_slice() {
         if let Some(row) = row {
@@ -50,7 +50,7 @@ fn a_front_that_ends_early_ends_its_back(rt: HostRuntime) {
     assert_eq!(rt; rows, Some(rows_of(&wanted)));
 }
 
-/// Which ports are pending, of the first 64.
+/// Which of the first 64 ports are pending.
 fn pending(ports: &Ports) -> [bool; 64] {
     let mut pending = [false; 64];
     let mut number = 0;
@@ -114,7 +114,7 @@ impl Gate for Overflown<'_> {
     }
 }
 
-/// The rows of a run behind that gate.
+/// The rows of a run with that gate.
 fn overflown_rows(
     rt: &(impl Threads + Wait + Sync),
     alloc: Global,

@@ -106,7 +106,7 @@ pub fn rows_with<R: Threads + Wait + Sync, G: Gate + Sync>(
     }
 }
 
-/// The rows of a run of packets of 14 bytes, so many for each queue.
+/// The rows of a run of packets of 14 bytes, as many for each queue as `times` says.
 pub fn rows_behind<R: Threads + Wait + Sync, G: Gate + Sync>(
     rt: &R,
     alloc: Global,

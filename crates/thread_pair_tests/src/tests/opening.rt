@@ -1,4 +1,4 @@
-//! What new rings hold, what a front posts and sends first, and that it posts nothing once its back has ended.
+//! What new rings hold, and what a front posts and sends first. It posts nothing once its back has ended.
 
 use crate::bench::{Bench, PASSES, SENDS_BACK, program, setup_of, word};
 use std::alloc::Global;
@@ -13,7 +13,7 @@ use xen_page::PageBus;
 /// The frames of the tx rings of queues 0 and 1. Each rx ring is in the frame after.
 const TX_RINGS: [u32; 2] = [17, 531];
 
-/// A ring's producers and event indices, as a page has them: `req_prod`, `req_event`, `rsp_prod` and `rsp_event`.
+/// A ring's producers and event indices, as in a page: `req_prod`, `req_event`, `rsp_prod` and `rsp_event`.
 type Header = [u32; 4];
 
 fn header(bus: &mut PageBus<'_>, frame: u32) -> Header {

@@ -24,7 +24,7 @@ impl Gate for Latest {
     }
 }
 
-/// Holds a front for a while where a packet came, so that it sends nothing and hasn't ended.
+/// Holds a front for a while if a packet came, so that it sends nothing and hasn't ended.
 #[derive(Drop)]
 struct Holding<R: Clock> {
     rt: R,

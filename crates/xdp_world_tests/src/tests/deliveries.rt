@@ -8,7 +8,7 @@ use xdp_world::{Begun, Delivered, Kept, Layout, World, WorldEvent};
 use xen_back::{Delivery, Halt, Want};
 use xen_page::Place;
 
-/// Fourteen bytes, of which each says where it lies.
+/// Fourteen bytes. Each says where it lies.
 pub static FOURTEEN: [u8; 14] = [0, 1, 2, 3, 4, 5, 6, 7, 8, 9, 10, 11, 12, 13];
 
 /// A packet that is longer than a page, and one that is no frame.
@@ -72,7 +72,7 @@ pub fn answered(world: &mut World, queue: usize, answers: &[u32]) -> Result<(), 
     Ok(())
 }
 
-/// A delivery that was over after so many turns.
+/// A delivery that was over after `turns` turns.
 pub fn over(turns: usize, delivery: Delivery) -> Delivered {
     Delivered { turns, delivery }
 }
@@ -105,7 +105,8 @@ const SENT_BACK: [u32; 28] = [
     0, 0, 0,
 ];
 
-/// Such a turn, whose tx slot is the i-th, with so many published, and whose rx slot lies at this word. Whether both are read there.
+/// Such a turn. Its tx slot is the i-th, with i + 1 published, and its rx slot lies at `word`. Whether both are read
+/// there.
 fn turns_back(world: &mut World, i: u32, word: u32) -> Result<bool, AllocError>
     requires queues { vec_len world.old.queues ≡ 2 }
     requires few { i < 100 }

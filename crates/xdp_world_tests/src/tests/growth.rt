@@ -151,7 +151,7 @@ fn step_again(world: &mut World, answer: u32) -> Option<bool>
     }
 }
 
-/// Makes the steps, each again where it was refused. Whether one was.
+/// Makes the steps, each again if it was refused. Whether one was.
 fn step_all(world: &mut World) -> Option<bool>
     requires { 0 < vec_len world.old.queues }
 {
@@ -165,8 +165,8 @@ fn step_all(world: &mut World) -> Option<bool>
     Some(refused)
 }
 
-/// Whether a step was refused, and whether the steps came to one packet that was counted. None where no world is made, or a
-/// step is refused twice.
+/// Whether a step was refused, and whether the steps came to one packet that was counted. None if no world is made, or
+/// a step is refused twice.
 fn stepped(
     alloc: Global,
     layout: &Layout,

@@ -39,7 +39,7 @@ pub(crate) fn passes(first: [u8; 14]) -> Kind {
     }
 }
 
-/// The first bytes of a packet, and 0 where it has none.
+/// The first bytes of a packet, and 0 if it has none.
 fn first_of(packet: &[u8]) -> [u8; 14] {
     let mut first = [0; 14];
     for (byte, found) in first.iter_mut().zip(packet) {

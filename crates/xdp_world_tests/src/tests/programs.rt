@@ -196,7 +196,7 @@ pub(crate) const PACKET: [u32; 10] = [
     252_579_084,
 ];
 
-/// Adds the steps of a turn of one packet: what it reads, the producer being `producer`, then so many zeros.
+/// Adds the steps of a turn of one packet: what it reads, the producer being `producer`, then `more` zeros.
 pub(crate) fn add_turn(
     steps: &mut Vec<(usize, u32)>,
     queue: usize,

@@ -89,7 +89,7 @@ impl Attack {
         Ok(())
     }
 
-    /// A chain of so many data slots, with extras or without. Returns its length.
+    /// A chain of `slots` data slots, with extras or without. Returns its length.
     fn chain(&mut self, slots: u32) -> Result<u32, AllocError> {
         let extras = if self.below(6) == 0 {
             self.below(5).wrapping_add(1)

@@ -221,7 +221,7 @@ impl Frontend {
         Ok(Ok((length, sum)))
     }
 
-    /// The responses of so many slots.
+    /// The responses of `slots` slots.
     fn respond(&mut self, slots: u32) -> Result<(), AllocError> {
         self.skip(slots.wrapping_add(1))?;
         let new = self.index.wrapping_add(slots);
@@ -290,7 +290,7 @@ impl Frontend {
         }
     }
 
-    /// So many turns, or fewer if the queue halts.
+    /// `count` turns, or fewer if the queue halts.
     fn turns(&mut self, alloc: Global, count: u32) -> Result<(), AllocError> {
         for _turn in 0..count {
             let row = match self.look()? {
@@ -366,7 +366,7 @@ fn run_scripts(
     }
 }
 
-/// Whether two scripts of twelve turns each, or fewer where a queue halts, come to their rows.
+/// Whether two scripts of twelve turns each, or fewer if a queue halts, come to their rows.
 fn run_two(alloc: Global, program: &Verified, seed: u64) -> bool {
     let start = if seed % 2 == 0 { 0 } else { 0xffff_ffff };
     let mut first = Frontend::new(alloc, seed.wrapping_mul(2).wrapping_add(1), 0, start);

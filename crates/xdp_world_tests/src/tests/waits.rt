@@ -13,7 +13,7 @@ const OVERFLOWN: Awaited = Awaited::Halted {
     cause: Halt::RxProducer,
 };
 
-/// A wait that was over after so many turns and deliveries.
+/// A wait that was over after `turns` turns and `deliveries` deliveries.
 fn after(turns: usize, deliveries: usize, awaited: Awaited) -> Waited {
     Waited {
         turns,
@@ -27,7 +27,7 @@ fn wait(event: u32, shown: u32) -> [(Want, u32); 2] {
     [(write(18, 1, event), 7), (read(18, 0), shown)]
 }
 
-/// Whether a wait for so many slots on queue 0 is under way.
+/// Whether a wait for `pages` slots on queue 0 is under way.
 fn waits(world: &mut World, pages: u32) -> Result<bool, AllocError>
     requires { 1 ≤ vec_len world.old.queues }
     ensures { vec_len world.new.queues ≡ vec_len world.old.queues }

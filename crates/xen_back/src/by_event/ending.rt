@@ -15,7 +15,7 @@ use crate::state::State;
 use crate::turn::Kind;
 use xen_steps::Want;
 
-/// Gives a stage another phase, where it has one.
+/// Gives a stage another phase, if it has one.
 fn set_phase(stage: &mut Stage, phase: Phase)
     ensures { stage.new ≡ at_phase stage.old phase }
 {

@@ -85,7 +85,7 @@ fn looked(state: &State, n: Option<u32>) -> Phase
     }
 }
 
-/// Before a slot, with so many left after it.
+/// Before a slot, with `left` slots left after it.
 fn next_slot(left: u32, chain: Chain) -> Phase
     requires { standing chain ≢ Some (Ok Complete) }
     ensures { (w : WiringView) (s : StateView) (packet : List ℕ) → rest_at w s packet result

@@ -49,7 +49,7 @@ fn begun_frame<'d>(state: &State, packet: &'d [u8]) -> Moving<'d>
     }
 }
 
-/// The same vif once more.
+/// A copy of the vif.
 fn shared<'p>(vif: &Vif<'p>) -> Vif<'p>
     ensures { result ≡ vif.now }
 {

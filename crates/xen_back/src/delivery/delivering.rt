@@ -22,11 +22,11 @@ use xen_rx_fill::{Outcome, send_packet};
 /// What became of a packet that the host delivers.
 #[derive(Clone, Copy, Debug, PartialEq, Eq)]
 pub enum Delivery {
-    /// It lies in the buffers of so many rx slots.
+    /// It lies in the buffers of `slots` rx slots.
     Sent { slots: u32 },
     /// The frontend posted fewer rx slots than the packet has pages. None was taken.
     FewSlots,
-    /// A posted slot's grant failed its check, and so many slots were answered with ERROR.
+    /// A posted slot's grant failed its check, and `slots` slots were answered with ERROR.
     Refused { slots: u32 },
     /// The queue has halted, and stays so.
     Halted { cause: Halt },

@@ -19,15 +19,15 @@ use xen_steps::requests_shown;
 /// The answer to a host that waits for rx slots.
 #[derive(Clone, Copy, Debug, PartialEq, Eq)]
 pub enum Awaited {
-    /// So many are posted by now, and no notice need come for them.
+    /// Enough are posted by now, and no notice need come for them.
     Posted,
-    /// Fewer are posted. The frontend sends a notice as soon as it posted so many.
+    /// Fewer are posted. The frontend sends a notice as soon as it has posted enough.
     Waiting,
     /// The queue has halted, and stays so.
     Halted { cause: Halt },
 }
 
-/// The answer where the producer shows so many slots.
+/// The answer by how many slots the producer shows: `None` if it shows more than the ring has.
 pub fn wait_answer(state: &State, pages: u32, shown: Option<u32>) -> (State, Awaited)
     ensures { (result.0, result.1) ≡ wait_end state.now pages shown }
 {
@@ -46,7 +46,7 @@ pub fn wait_answer(state: &State, pages: u32, shown: Option<u32>) -> (State, Awa
     }
 }
 
-/// Looks for so many slots behind the event index, unless the queue has halted.
+/// Stores the event index and then looks for `pages` slots, unless the queue has halted.
 pub(crate) fn looked_for<B: Bus>(
     wiring: &Wiring,
     state: &State,

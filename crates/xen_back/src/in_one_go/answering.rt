@@ -32,7 +32,7 @@ fn write_answer<B: Bus>(wiring: &Wiring, bus: &mut B, at: &State, i: usize, word
     bus.write(tx_entry(wiring.vif.tx, index, 0), word);
 }
 
-/// Pushes so many responses, and reads the event index.
+/// Pushes `n` responses, and reads the event index.
 fn push_answers<B: Bus>(wiring: &Wiring, bus: &mut B, at: &State, n: u32) -> u32
     requires frame { wiring.now.vif.tx < B.size bus.old }
     ensures size { B.size bus.new ≡ B.size bus.old }
@@ -45,7 +45,7 @@ fn push_answers<B: Bus>(wiring: &Wiring, bus: &mut B, at: &State, n: u32) -> u32
     bus.read(header(wiring.vif.tx, RSP_EVENT))
 }
 
-/// Sends a notice if one is due after so many responses.
+/// Sends a notice if one is due after `n` responses.
 fn notify(wiring: &Wiring, at: &State, ports: &Ports, n: u32, event: u32) {
     if due(at.tx_index, at.tx_index.wrapping_add(n), event) {
         ports.notify(wiring.vif.port);

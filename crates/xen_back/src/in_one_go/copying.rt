@@ -1,4 +1,4 @@
-//! Copying a packet's fragments: of each, the words of its page that it covers.
+//! Copying a packet's fragments: for each, the words of its page that it covers.
 
 ghost use Rattle.std.specs.List.{list_all};
 ghost use Rattle.std.specs.Prelude.{◌≡◌, ◌≤◌, ◌+◌, IsTrue, List, ℕ, Option, [], ◌∷◌, length, sum_by, ◌<◌, ◌-◌, ◌*◌, ◌/◌, ◌++◌};
@@ -21,7 +21,7 @@ use xen_netif::Fragment;
 use xen_page::{Bus, GrantFault, Place};
 use xen_rx_fill::read_grant;
 
-/// Puts a fragment's bytes in a word of its page behind a packet's bytes.
+/// Puts a fragment's bytes in a word of its page after a packet's bytes.
 fn push_part(fragment: &Fragment, place: u32, word: u32, packet: &mut CopyBuf<'_>)
     requires covers { Covers fragment.now place }
     requires room { length packet.old + length (bytes_in fragment.now place word) ≤ 65535 }
@@ -35,7 +35,7 @@ fn push_part(fragment: &Fragment, place: u32, word: u32, packet: &mut CopyBuf<'_
     packet.push_all(&word.to_le_bytes()[from..to]);
 }
 
-/// Puts a fragment's bytes in words of its page behind a packet's bytes.
+/// Puts a fragment's bytes in words of its page after a packet's bytes.
 fn read_parts<B: Bus>(
     bus: &mut B,
     fragment: &Fragment,
@@ -61,7 +61,7 @@ fn read_parts<B: Bus>(
     }
 }
 
-/// Puts a fragment's bytes behind a packet's bytes. Each word of the page that the fragment covers is read once.
+/// Puts a fragment's bytes after a packet's bytes. Each word of the page that the fragment covers is read once.
 pub(crate) fn read_fragment<B: Bus>(
     bus: &mut B,
     fragment: &Fragment,
@@ -83,7 +83,7 @@ pub(crate) fn read_fragment<B: Bus>(
     read_parts(bus, fragment, frame, whole.end, words.end, packet);
 }
 
-/// Puts a fragment's bytes behind a packet's, unless its grant is refused.
+/// Puts a fragment's bytes after a packet's, unless its grant is refused.
 fn copy_fragment<B: Bus>(
     wiring: &Wiring,
     bus: &mut B,
@@ -109,7 +109,7 @@ fn copy_fragment<B: Bus>(
     }
 }
 
-/// Puts the fragments' bytes behind a packet's, up to one whose grant is refused.
+/// Puts the fragments' bytes after a packet's, up to one whose grant is refused.
 pub(crate) fn copy_fragments<B: Bus>(
     wiring: &Wiring,
     bus: &mut B,

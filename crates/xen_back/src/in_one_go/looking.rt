@@ -1,4 +1,4 @@
-//! How many requests are there, where the producer shows none by a second read behind the event index; and a chain's slots.
+//! How many requests are there, by a second read after the event index if the producer shows none; and a chain's slots.
 
 ghost use Rattle.std.specs.Prelude.{◌≡◌, ◌<◌, ◌^◌, IfOk, IsTrue, List, ℕ, Ok, Some, [], ◌∷◌, length, false};
 ghost use Rattle.xen_netif.specs.Chain.{extra_info, more_data};
@@ -33,7 +33,7 @@ fn read_producer<B: Bus>(bus: &mut B, frame: u32) -> u32
     bus.read(header(frame, REQ_PROD))
 }
 
-/// Stores an event index, and reads the producer behind it.
+/// Stores an event index, and then reads the producer.
 pub(crate) fn look_behind<B: Bus>(bus: &mut B, frame: u32, event: u32) -> u32
     requires { frame < B.size bus.old }
     ensures size { B.size bus.new ≡ B.size bus.old }
@@ -108,7 +108,7 @@ fn is_whole(wanted: ChainState) -> bool
     matches!(wanted, ChainState::Complete)
 }
 
-/// The chain that begins with a slot, or why there is none. So many slots are left behind the first.
+/// The chain that begins with a slot, or why there is none. `left` slots are left after the first.
 pub(crate) fn read_chain<B: Bus>(
     wiring: &Wiring,
     state: &State,

@@ -27,7 +27,7 @@ use xen_page::Bus;
 use xen_ring::Ports;
 use xen_rx_fill::send_packet;
 
-/// Sends a packet back, and answers its slots. It isn't inlined, so that its frame isn't cleared where nothing is sent.
+/// Sends a packet back, and answers its slots. It isn't inlined, so that its frame isn't cleared if nothing is sent.
 #[inline(never)]
 fn send_back<B: Bus>(
     wiring: &Wiring,
@@ -90,7 +90,7 @@ fn run<B: Bus>(
     }
 }
 
-/// Answers the slots of a packet that is refused. It isn't inlined, so that its frame isn't cleared where none is.
+/// Answers the slots of a packet that is refused. It isn't inlined, so that its frame isn't cleared if none is.
 #[inline(never)]
 pub(crate) fn refuse<B: Bus>(
     wiring: &Wiring,

@@ -58,7 +58,7 @@ fn one_slot<B: Bus>(
     }
 }
 
-/// A turn whose packet begins with a slot that asks for another. It isn't inlined, so that its frame isn't cleared where a
+/// A turn whose packet begins with a slot that asks for another. It isn't inlined, so that its frame isn't cleared if a
 /// packet is in one slot.
 #[inline(never)]
 fn more_slots<B: Bus>(
@@ -116,7 +116,7 @@ fn next_index(state: &State) -> u32
     state.tx_index.wrapping_add(0)
 }
 
-/// A turn from its first slot. So many slots are left behind it.
+/// A turn from its first slot. `left` slots are left after it.
 fn from_slot<B: Bus>(
     wiring: &Wiring,
     state: &mut State,
@@ -199,7 +199,7 @@ fn turn<B: Bus>(
     }
 }
 
-/// A whole turn of a stage that is between turns, and is so again behind it.
+/// A whole turn of a stage that is between turns before and after it.
 pub(crate) fn stage_turned<'p, 'b, B: Bus>(
     wiring: &Wiring<'p>,
     state: &mut State,

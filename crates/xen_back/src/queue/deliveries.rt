@@ -40,7 +40,7 @@ impl<'p, 'b> Queue<'p, 'b> {
         underway(&self.wiring.vif, &self.state, packet)
     }
 
-    /// Ends a delivery that wants nothing more: the queue goes on behind it.
+    /// Ends a delivery that wants nothing more; then the queue goes on.
     pub fn end_delivery(&mut self, delivering: Delivering<'_, '_>) -> Delivery
         requires ready { IsReady self.old }
         requires own { IsDeliveryOf self.old delivering }

@@ -14,9 +14,9 @@ use xen_page::Bus;
 use xen_steps::Want;
 
 impl<'p, 'b> Queue<'p, 'b> {
-    /// Asks the frontend for a notice as soon as it has posted so many rx slots, and looks whether it has by now: after
-    /// [`Delivery::FewSlots`](crate::Delivery::FewSlots), with the packet's length in pages of 4,096 bytes. A ring has 256
-    /// slots, so more are never there.
+    /// Asks the frontend for a notice as soon as it has posted `pages` rx slots, and looks whether it has by now: after
+    /// [`Delivery::FewSlots`](crate::Delivery::FewSlots), with the packet's length in pages of 4,096 bytes. A ring has
+    /// 256 slots, so more are never there.
     pub fn await_slots<B: Bus>(&mut self, pages: u32, bus: &mut B) -> Awaited
         requires ready { IsReady self.old }
         requires size { B.size bus.old ≡ length (wiring_of self.old).vif.owners.now }
@@ -31,8 +31,8 @@ impl<'p, 'b> Queue<'p, 'b> {
         awaited
     }
 
-    /// Begins a wait for so many rx slots, as [`Queue::await_slots`] makes it, one event at a time. The queue takes no turn
-    /// and no delivery until [`Queue::end_wait`].
+    /// Begins a wait for `pages` rx slots, as [`Queue::await_slots`] makes it, one event at a time. The queue takes no
+    /// turn and no delivery until [`Queue::end_wait`].
     pub fn begin_wait(&self, pages: u32) -> Awaiting
         requires { IsReady self.now }
         ensures { IsWaitBegun self.now pages result }
@@ -46,7 +46,7 @@ impl<'p, 'b> Queue<'p, 'b> {
         }
     }
 
-    /// Ends a wait that wants nothing more: the queue goes on behind it.
+    /// Ends a wait that wants nothing more; then the queue goes on.
     pub fn end_wait(&mut self, awaiting: Awaiting) -> Awaited
         requires ready { IsReady self.old }
         requires own { IsWaitOf self.old awaiting }

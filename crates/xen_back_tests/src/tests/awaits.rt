@@ -15,7 +15,7 @@ use xen_page::ScriptBus;
 /// What waiting comes to, and how many accesses it makes.
 type Waited = (Awaited, usize);
 
-/// What waiting for so many slots comes to behind this producer.
+/// What waiting for `pages` slots comes to if the producer is this.
 fn awaited(alloc: Global, queue: &mut Queue, pages: u32, producer: u32) -> Option<Waited>
     requires ready { IsReady queue.old }
     requires owners { length (wiring_of queue.old).vif.owners.now ≡ 20 }
@@ -27,7 +27,8 @@ fn awaited(alloc: Global, queue: &mut Queue, pages: u32, producer: u32) -> Optio
     Some((awaited, bus.accesses().len()))
 }
 
-/// What waiting for so many slots comes to where some are posted, if it writes the event index and then reads the producer.
+/// What waiting for `pages` slots comes to with `posted` slots posted, if it writes the event index and then reads the
+/// producer.
 fn waited(alloc: Global, queue: &mut Queue, start: u32, pages: u32, posted: u32) -> Option<Awaited>
     requires ready { IsReady queue.old }
     requires owners { length (wiring_of queue.old).vif.owners.now ≡ 20 }
@@ -42,7 +43,7 @@ fn waited(alloc: Global, queue: &mut Queue, start: u32, pages: u32, posted: u32)
     (bus.accesses() == accesses.as_slice()).then_some(awaited)
 }
 
-/// The same of a new queue.
+/// [`waited`] for a new queue.
 fn waited_first(
     alloc: Global,
     bench: &Bench,
@@ -65,7 +66,7 @@ const ROWS: [(u32, u32, Awaited); 7] = [
     (257, 256, Awaited::Waiting),
 ];
 
-/// The first row that comes out otherwise, where the rings begin at `start`: its slots, and what that comes to.
+/// The first row that comes out otherwise, if the rings begin at `start`: its slots, and what that comes to.
 fn differing(
     alloc: Global,
     bench: &Bench,
@@ -81,7 +82,7 @@ fn differing(
     None
 }
 
-/// The same of new rings.
+/// [`differing`] for new rings.
 fn differing_from(alloc: Global, start: u32) -> Option<Option<(u32, u32, Option<Awaited>)>> {
     let (bench, mut buffer) = ready(alloc, &PASSES, &[])?;
     Some(differing(alloc, &bench, &mut buffer, start))
@@ -94,7 +95,7 @@ fn slots_are_awaited(rt: HostRuntime) {
     }
 }
 
-/// What two waits come to, the first behind a producer past the ring, and then a delivery.
+/// What two waits come to, the first with a producer past the ring, and then a delivery.
 fn halting(
     alloc: Global,
     queue: &mut Queue,
@@ -109,7 +110,7 @@ fn halting(
     ([first, second], delivered)
 }
 
-/// The same of a new queue.
+/// [`halting`] for a new queue.
 fn halting_from(
     alloc: Global,
     start: u32,

@@ -117,7 +117,7 @@ fn random_turns(queue: &mut Queue, start: u32, seed: u32) -> Option<u32> {
     Some(seed)
 }
 
-/// The same of a new queue.
+/// [`random_turns`] for a new queue.
 fn queue_turns(
     alloc: Global,
     bench: &Bench,
@@ -142,7 +142,7 @@ fn queues_within_the_bounds(alloc: Global, bench: &Bench, buffer: &mut Buffer) -
     QUEUES
 }
 
-/// The same of new queues.
+/// [`queues_within_the_bounds`] for a program that sends packets back.
 fn within_the_bounds(alloc: Global) -> Option<u32> {
     let (bench, mut buffer) = ready(alloc, &SENDS, &[])?;
     Some(queues_within_the_bounds(alloc, &bench, &mut buffer))

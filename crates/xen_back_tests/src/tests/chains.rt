@@ -164,7 +164,7 @@ fn a_packet_below_fourteen_bytes_is_refused(rt: HostRuntime) {
     }
 }
 
-/// Whether a packet below fourteen bytes is refused, and a notice is sent, where the event index is `event`.
+/// Whether a packet below fourteen bytes is refused, and a notice is sent, if the event index is `event`.
 fn is_told(alloc: Global, start: u32, event: u32) -> Option<bool> {
     let answers = [start.wrapping_add(1), 2, 0, slot(7, 13), event];
     let seen = turn(alloc, &PASSES, start, &answers)?;

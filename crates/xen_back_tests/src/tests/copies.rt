@@ -25,7 +25,7 @@ fn one_slot(alloc: Global, start: u32, second: u32, size: u16, later: &[u32]) ->
     turn(alloc, &PASSES, start, answers.as_slice())
 }
 
-/// What it comes to where its fourteen bytes begin the page, and how many accesses it makes.
+/// What it comes to if its fourteen bytes begin the page, and how many accesses it makes.
 fn one_slot_count(alloc: Global, start: u32, later: &[u32]) -> Option<(Kind, usize)> {
     let seen = one_slot(alloc, start, 0, 14, later)?;
     Some((seen.kind, seen.accesses.len()))

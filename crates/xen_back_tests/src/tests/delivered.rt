@@ -58,7 +58,7 @@ pub fn deliver(
     }
 }
 
-/// The same delivery one event at a time. None if it has no end.
+/// As [`deliver`], but one event at a time. None if it has no end.
 fn deliver_by_event(
     alloc: Global,
     queue: &mut Queue,
@@ -107,7 +107,7 @@ fn delivered_in_one_go(
     deliver(alloc, &mut queue, packet, answers)
 }
 
-/// The same one event at a time.
+/// As [`delivered_in_one_go`], but one event at a time.
 fn delivered_by_event(
     alloc: Global,
     bench: &Bench,
@@ -136,5 +136,5 @@ pub fn delivered_first(
     }
 }
 
-/// Fourteen bytes, of which each says where it lies.
+/// Fourteen bytes. Each says where it lies.
 pub const FOURTEEN: [u8; 14] = [0, 1, 2, 3, 4, 5, 6, 7, 8, 9, 10, 11, 12, 13];

@@ -51,12 +51,12 @@ fn a_short_packet_takes_one_slot(rt: HostRuntime) {
     }
 }
 
-/// So many bytes of 4.
+/// `length` bytes of 4.
 fn fours(alloc: Global, length: usize) -> Result<Vec<u8>, AllocError> {
     vec![in alloc; 4u8; length]
 }
 
-/// The delivery of so many bytes of 4.
+/// The delivery of `length` bytes of 4.
 fn fours_delivered(alloc: Global, start: u32, length: usize, answers: &[u32]) -> Option<Delivered> {
     let packet = fours(alloc, length).ok()?;
     delivered_first(alloc, start, packet.as_slice(), answers)
@@ -108,7 +108,7 @@ fn the_longest_packet_takes_sixteen_slots(rt: HostRuntime) {
     }
 }
 
-/// What the delivery of 4,097 bytes comes to where one slot is posted, and whether a notice is sent, if it only reads the
+/// What the delivery of 4,097 bytes comes to with one slot posted, and whether a notice is sent, if it only reads the
 /// producer.
 fn too_few_slots(alloc: Global, start: u32) -> Option<(Delivery, bool)> {
     let one = start.wrapping_add(1);
@@ -178,7 +178,7 @@ pub const OVERFLOWN: Delivery = Delivery::Halted {
     cause: Halt::RxProducer,
 };
 
-/// What the delivery of fourteen bytes behind this producer comes to, and how many accesses it makes.
+/// What the delivery of fourteen bytes comes to if the producer is this, and how many accesses it makes.
 pub fn delivered_behind(
     alloc: Global,
     queue: &mut Queue,
@@ -193,7 +193,7 @@ pub fn delivered_behind(
     Some((seen.delivery, seen.accesses.len()))
 }
 
-/// What two deliveries come to, the first behind a producer past the ring.
+/// What two deliveries come to, the first with a producer past the ring.
 fn past_the_ring(alloc: Global, start: u32) -> Option<[Option<(Delivery, usize)>; 2]> {
     let (bench, mut buffer) = ready(alloc, &PASSES, &[])?;
     match bench.queue(alloc, start, &mut buffer) {
@@ -213,13 +213,14 @@ fn a_producer_past_the_ring_halts(rt: HostRuntime) {
     }
 }
 
-/// What the delivery of bytes comes to where all slots are posted, how many accesses it makes, and whether a notice is sent.
+/// What the delivery of bytes comes to with all slots posted, how many accesses it makes, and whether a notice is
+/// sent.
 fn delivery(alloc: Global, packet: &[u8]) -> Option<(Delivery, usize, bool)> {
     let seen = delivered_first(alloc, 0, packet, &[256])?;
     Some((seen.delivery, seen.accesses.len(), seen.notified))
 }
 
-/// The same of so many bytes of 4.
+/// [`delivery`] for `length` bytes of 4.
 fn fours_delivery(alloc: Global, length: usize) -> Option<(Delivery, usize, bool)> {
     let packet = fours(alloc, length).ok()?;
     delivery(alloc, packet.as_slice())
@@ -313,7 +314,8 @@ fn sent_into(alloc: Global, queue: &mut Queue, start: u32, i: u32) -> Option<Kin
     answering(alloc, queue, answers.as_slice(), &responses)
 }
 
-/// Whether a delivery takes the first slot and one behind a turn the third, and what the turn comes to, if it takes the second.
+/// Whether a delivery takes the first slot and one after a turn the third, and what the turn comes to, if it takes the
+/// second.
 fn in_order(alloc: Global, start: u32) -> Option<([bool; 2], Option<Kind>)> {
     let (bench, mut buffer) = ready(alloc, &SENDS, &[])?;
     match bench.queue(alloc, start, &mut buffer) {

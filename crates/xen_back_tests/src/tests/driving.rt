@@ -124,7 +124,7 @@ fn driven_twice(
     Some(([first, second], bus.accesses().len(), told))
 }
 
-/// The same of a new queue.
+/// [`driven_twice`] for a new queue.
 fn driven_twice_first(alloc: Global, answers: &[u32]) -> Option<([Kind; 2], usize, [bool; 2])> {
     let (bench, mut buffer) = ready(alloc, &PASSES, &[])?;
     match bench.queue(alloc, 0, &mut buffer) {
@@ -158,7 +158,7 @@ fn notices(alloc: Global, queue: &mut Queue, answers: &[u32]) -> Option<(Kind, [
     Some((kind, [before, by_turn, ports.take(port)]))
 }
 
-/// The same of a new queue.
+/// [`notices`] for a new queue.
 fn first_notices(alloc: Global, answers: &[u32]) -> Option<(Kind, [bool; 3])> {
     let (bench, mut buffer) = ready(alloc, &PASSES, &[])?;
     match bench.queue(alloc, 0, &mut buffer) {
@@ -197,7 +197,7 @@ fn closed_after(alloc: Global, mut queue: Queue) -> Option<(Kind, (u32, u32))> {
     Some((kind, (tx.frame(), rx.frame())))
 }
 
-/// The same of a new queue.
+/// [`closed_after`] for a new queue.
 fn closed(alloc: Global) -> Option<(Kind, (u32, u32))> {
     let (bench, mut buffer) = ready(alloc, &PASSES, &[])?;
     match bench.queue(alloc, 0, &mut buffer) {

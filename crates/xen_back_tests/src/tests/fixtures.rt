@@ -96,7 +96,7 @@ pub fn packet_of(alloc: Global, turn: &Turn) -> Result<Vec<u8>, AllocError> {
     }
 }
 
-/// The answer to a want: this word to a read, and 0 for a counter. None where the turn is over.
+/// The answer to a want: this word to a read, and 0 for a counter. None if the turn is over.
 pub fn answer_to(want: Want, word: u32) -> Option<Answer>
     ensures fits { IfSome result (Fits want) }
     ensures over { IfNone result (want ≡ Want.Done) }
@@ -274,7 +274,7 @@ pub fn notice(
     (seen.kind == kind && seen.made(accesses)).then_some(seen.notified)
 }
 
-/// The words of `head`, those of `part` so many times, and those of `tail`.
+/// The words of `head`, those of `part` `times` times, and those of `tail`.
 pub fn joined(
     alloc: Global,
     head: &[u32],

@@ -44,7 +44,7 @@ pub fn kind_of(turn: &Turn) -> Kind {
 }
 
 impl Kind {
-    /// The end of a packet in so many slots, under a program that ended with a number and used no counter.
+    /// The end of a packet in `slots` slots, under a program that ended with a number and used no counter.
     pub fn ran(number: u32, slots: u32) -> Kind {
         Kind::Ran {
             number,
@@ -53,7 +53,7 @@ impl Kind {
         }
     }
 
-    /// The end of a packet in so many slots that is refused, before any counter is used.
+    /// The end of a packet in `slots` slots that is refused, before any counter is used.
     pub fn refused(cause: Refusal, slots: u32) -> Kind {
         Kind::Refused {
             cause,

@@ -73,7 +73,7 @@ fn a_whole_page_takes_one_rx_slot(rt: HostRuntime) {
     }
 }
 
-/// Whether a packet that is sent back is told, where the rx ring's event index is `event`.
+/// Whether a notice is sent for a packet that is sent back, if the rx ring's event index is `event`.
 fn is_told(alloc: Global, start: u32, event: u32) -> Option<bool> {
     let later = [start.wrapping_add(1), 9, 5, 1, 16, event, start];
     let answers = fourteen(alloc, start, 0, &later).ok()?;
@@ -160,7 +160,7 @@ fn fed_two_pages(alloc: Global, queue: &mut Queue, start: u32) -> Option<Seen> {
     fed(alloc, queue, answers.as_slice())
 }
 
-/// What a packet of 14 bytes behind it comes to.
+/// What a packet of 14 bytes after it comes to.
 fn fed_fourteen(alloc: Global, queue: &mut Queue, start: u32) -> Option<Seen> {
     let later = [start.wrapping_add(2), 10, 6, 1, 14, start, start];
     let answers = fourteen(alloc, start, 2, &later).ok()?;
@@ -178,7 +178,7 @@ fn first_of_two(alloc: Global, queue: &mut Queue, start: u32) -> Option<Kind> {
     seen.wrote(18, &responses).then_some(seen.kind)
 }
 
-/// What the next packet comes to, if it goes on behind it, on both rings.
+/// What the next packet comes to, if it goes on after it, on both rings.
 fn second_of_two(alloc: Global, queue: &mut Queue, start: u32) -> Option<Kind> {
     let responses = [
         write(18, rx(start, 1, 0), 10),

@@ -71,7 +71,7 @@ fn fed_longer(alloc: Global, queue: &mut Queue) -> Option<(Kind, usize)> {
     Some((seen.kind, seen.packet.len()))
 }
 
-/// Whether a packet of 14 bytes that are 0 is dropped behind it.
+/// Whether a packet of 14 bytes that are 0 is dropped after it.
 fn drops_shorter(alloc: Global, queue: &mut Queue) -> bool {
     match fed(alloc, queue, &[2, 2, 0, slot(8, 14), 1, 19]) {
         Some(seen) => seen.shows(Kind::ran(1, 1), &[0; 14]),
@@ -79,7 +79,7 @@ fn drops_shorter(alloc: Global, queue: &mut Queue) -> bool {
     }
 }
 
-/// What the longer packet comes to and its length, and whether the shorter one is dropped behind it.
+/// What the longer packet comes to and its length, and whether the shorter one is dropped after it.
 fn longer_and_shorter(alloc: Global) -> Option<(Option<(Kind, usize)>, bool)> {
     let (bench, mut buffer) = ready(alloc, &LOOKS_AT_BYTE_14, &[])?;
     match bench.queue(alloc, 0, &mut buffer) {

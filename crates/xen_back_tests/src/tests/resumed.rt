@@ -7,7 +7,7 @@ use std::alloc::Global;
 use xen_back::{Halt, Queue, State, Want};
 use xen_page::Place;
 
-/// What a queue wants first, and what behind a producer that shows a request.
+/// What a queue wants first, and what it wants next if the producer shows a request.
 fn first_wants(queue: &mut Queue, producer: u32) -> Option<(Want, Want)> {
     let first = queue.wanted();
     queue.feed(answer_to(first, producer)?);
@@ -23,7 +23,7 @@ fn resumed(alloc: Global, state: State) -> Option<(State, Want, Want)> {
     Some((begun, first, second))
 }
 
-/// What a delivery wants behind a producer that shows a request, of a queue that goes on from this state.
+/// What a delivery wants next if the producer shows a request, of a queue that goes on from this state.
 fn delivers(alloc: Global, state: State) -> Option<Want> {
     let (bench, mut buffer) = ready(alloc, &PASSES, &[])?;
     let queue = bench.resumed(alloc, state, &mut buffer)?;

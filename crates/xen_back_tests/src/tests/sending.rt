@@ -56,7 +56,7 @@ fn sent_with(
     }
 }
 
-/// The same where frame 1 is the frontend's grant table, and frame 18 its rx ring.
+/// As [`sent_with`]: frame 1 is the frontend's grant table, and frame 18 its rx ring.
 fn outcome(alloc: Global, start: u32, answers: &[u32], accesses: &[Access]) -> Option<Outcome> {
     let port = Port::of(1)?;
     let mut domains = [1; 20];

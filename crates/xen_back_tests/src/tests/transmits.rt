@@ -139,7 +139,7 @@ fn a_second_grant_that_fails_writes_no_buffer(rt: HostRuntime) {
     }
 }
 
-/// What a packet of two pages comes to where one slot is posted, and how often the rx ring is written, if the tx ring is.
+/// What a packet of two pages comes to with one slot posted, and how often the rx ring is written, if the tx ring is.
 fn one_posted_slot(alloc: Global, start: u32) -> Option<(Kind, usize)> {
     let answered = [
         write(17, tx(start, 0, 0), 0xffff_0007),
@@ -159,7 +159,7 @@ fn one_posted_slot_is_too_few_for_two_pages(rt: HostRuntime) {
     }
 }
 
-/// What a packet comes to behind an rx producer past the ring, and how many accesses it makes.
+/// What a packet comes to if the rx producer is past the ring, and how many accesses it makes.
 fn past_the_ring(alloc: Global, start: u32) -> Option<(Kind, usize)> {
     let seen = fourteen(alloc, start, &[start.wrapping_add(257)])?;
     Some((seen.kind, seen.accesses.len()))

@@ -17,7 +17,7 @@ pub struct Piece {
     ghost few: { index ≤ 15 },
 }
 
-/// A page of which so many words are written.
+/// A page of which some words are written.
 #[derive(Drop)]
 pub struct Filling {
     pub piece: Piece,
@@ -25,7 +25,7 @@ pub struct Filling {
     ghost most: { written ≤ 1024 },
 }
 
-/// A chain that is being received: how many responses are left behind the one that is being read, how many slots came
+/// A chain that is being received: how many responses are left after the one that is being read, how many slots came
 /// before it, and whether one of their statuses was negative.
 #[derive(Clone, Copy)]
 pub struct Chained {
@@ -43,7 +43,7 @@ pub struct Part {
     ghost room: { response.flags.more_data ≡ true → chained.slots ≤ 14 },
 }
 
-/// Before the word at a place of the part's page, behind which `more` words are covered.
+/// Before the word at a place of the part's page, after which `more` words are covered.
 #[derive(Clone, Copy)]
 pub struct Paging {
     pub part: Part,
@@ -87,7 +87,7 @@ pub enum Phase {
     TxLook,
     TxAnnounce,
     TxLookAgain,
-    /// So many tx responses are left; after them, the rx ring's producer.
+    /// That many tx responses are left; after them, the rx ring's producer.
     Take(u32),
     /// A taken response's grant.
     TxEnd { id: u16, left: u32 },

@@ -170,7 +170,7 @@ fn before_word(part: Part, frame: u32, fragment: Fragment, place: u32, more: u32
     })
 }
 
-/// Before a response, with `left` behind it.
+/// Before a response, with `left` responses after it.
 fn before_response(left: u32, slots: u32, bad: bool) -> Phase
     requires { slots ≤ 15 }
     ensures space { (q : List ℕ) → HasSpace result q }
@@ -244,7 +244,7 @@ pub(crate) fn after_word(
     }
 }
 
-/// Puts the bytes behind those that were received.
+/// Puts the bytes after those that were received.
 fn push_all(received: &mut Packet, bytes: &[u8])
     requires { length received.old + length bytes.now ≤ 65535 }
     ensures { received.new ≡ received.old ++ bytes.now }

@@ -24,7 +24,7 @@ pub(crate) fn halt(state: &mut State, cause: Halt) -> Phase
     Phase::Ended(Outcome::Halted { cause })
 }
 
-/// The number of responses that a ring's producer shows, if so many are outstanding.
+/// The number of responses that a ring's producer shows, if that many are outstanding.
 pub(crate) fn shown(ring: &Ring, producer: u32) -> Option<u32>
     ensures { result ≡ fresh ring.now.cons (outstanding_spec ring.now) producer }
 {

@@ -50,7 +50,7 @@ fn drive_event<B: Bus>(front: &mut Front, bus: &mut B, ports: &Ports, want: Want
     }
 }
 
-/// Makes all writes of a piece, where the front is before one.
+/// Makes all writes of a piece, if the front is before one.
 fn drive_piece<B: Bus>(front: &mut Front, bus: &mut B)
     requires { (wiring_of front.old).frames ≤ B.size bus.old }
     ensures size { B.size bus.new ≡ B.size bus.old }
@@ -61,7 +61,7 @@ fn drive_piece<B: Bus>(front: &mut Front, bus: &mut B)
     front.phase = past_piece(&front.wiring, front.sent.bytes(), phase, bus);
 }
 
-/// Makes all writes of a packet's pieces, where the front is before the first.
+/// Makes all writes of a packet's pieces, if the front is before the first.
 pub(crate) fn drive_pieces<B: Bus>(front: &mut Front, bus: &mut B)
     requires { (wiring_of front.old).frames ≤ B.size bus.old }
     ensures size { B.size bus.new ≡ B.size bus.old }

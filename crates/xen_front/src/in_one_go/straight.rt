@@ -81,7 +81,7 @@ fn write_piece<B: Bus>(wiring: &Wiring, sent: &[u8], piece: &Piece, bus: &mut B)
     write_slot(wiring, sent, piece, bus);
 }
 
-/// The phase after a piece, all of whose writes are made, where the phase is before one; else the phase itself.
+/// The phase after a piece, all of whose writes are made, if the phase is before one; else the phase itself.
 pub(crate) fn past_piece<B: Bus>(wiring: &Wiring, sent: &[u8], phase: Phase, bus: &mut B) -> Phase
     requires length { length sent.now ≤ 65535 }
     requires bounded { (s : State) × (q : List ℕ) ×

@@ -11,8 +11,8 @@ fn halting(answers: &[u32], cause: Halt) -> Step<'_> {
     Step::of(Call::Poll, answers, End::Halted(cause))
 }
 
-/// So many packets are sent and so many buffers posted, and then a poll is made, after which the front refuses every call for good,
-/// without an access.
+/// `sent` packets are sent and `posted` buffers posted, and then a poll is made, after which the front refuses every
+/// call for good, without an access.
 fn after_the_last(
     alloc: Global,
     start: u32,
@@ -39,7 +39,7 @@ const LONG: [u32; 35] = [
     8, 4, 9, 4, 10, 4, 11, 4, 12, 4, 13, 4, 14, 4, 15, 4,
 ];
 
-/// The shortest lists of answers that give each halt in a new ring, as docs/NETFRONT.md has them.
+/// The shortest lists of answers that give each halt in a new ring, as in docs/NETFRONT.md.
 #[test]
 fn the_shortest_scripts(rt: HostRuntime) {
     let scripts: [(u32, u32, &[u32], Halt); 7] = [
@@ -191,7 +191,7 @@ fn add_chain(answers: &mut Vec<u32>, start: u32, chain: Chain) -> Result<(), All
     Ok(())
 }
 
-/// A chain for which the front halts, after so many accesses.
+/// A chain for which the front halts, after `accesses` accesses.
 fn after_a_chain(
     alloc: Global,
     start: u32,

@@ -126,7 +126,7 @@ impl Poll {
     }
 }
 
-/// The word of an rx response's flags and status, mostly of a small one, with so many responses left behind it.
+/// The word of an rx response's flags and status, mostly of a small one, with `left` responses left after it.
 fn flags_and_status(left: u32, random: &mut Random) -> u32 {
     if random.is_wild() {
         return random.number();
@@ -172,7 +172,7 @@ impl Model {
         }
     }
 
-    /// Whether so many ids are free.
+    /// Whether `pieces` ids are free.
     pub fn has_room(&self, pieces: usize) -> bool {
         self.tx.open.len().saturating_add(pieces) <= 256
     }
@@ -230,7 +230,7 @@ impl Model {
         Ok(true)
     }
 
-    /// A packet of at most so many responses.
+    /// A packet of at most `responses` responses.
     fn receive(
         &mut self,
         responses: u32,
@@ -290,7 +290,7 @@ impl Poll {
     }
 }
 
-/// The words that so many bytes from an offset on cover, and the bytes.
+/// The words that `size` bytes from an offset on cover, and the bytes.
 fn page(offset: u32, size: u32, poll: &mut Poll, random: &mut Random) -> Result<(), AllocError> {
     let end = offset.saturating_add(size);
     let first = offset / 4;

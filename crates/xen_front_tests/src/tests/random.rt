@@ -76,7 +76,7 @@ fn step(
     }
 }
 
-/// Plays so many calls to a front and to its model, or fewer if it halts. Whether both do the same.
+/// Plays `calls` calls to a front and to its model, or fewer if it halts. Whether both do the same.
 fn plays(
     fronts: &mut Fronts,
     model: &mut Model,

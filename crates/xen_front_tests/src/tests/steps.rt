@@ -58,7 +58,7 @@ impl<'a> Step<'a> {
         Step { times, ..self }
     }
 
-    /// It makes so many accesses.
+    /// It makes `accesses` accesses.
     pub fn makes(self, accesses: usize) -> Step<'a> {
         Step {
             accesses: Some(accesses),
@@ -136,7 +136,7 @@ impl Fronts<'_> {
 }
 
 /// The counts of tx responses by status after these steps of new fronts, or the number of the first step that comes to
-/// something else. It is 0 where there are no fronts.
+/// something else. It is 0 if there are no fronts.
 pub fn after(alloc: Global, start: u32, steps: &[Step]) -> Result<[u64; 4], usize> {
     let Ok(bench) = Bench::make(alloc) else {
         return Err(0);
@@ -150,7 +150,7 @@ pub fn after(alloc: Global, start: u32, steps: &[Step]) -> Result<[u64; 4], usiz
     }
 }
 
-/// So many bytes of one value.
+/// `size` bytes of one value.
 pub fn filled(alloc: Global, byte: u8, size: usize) -> Option<Vec<u8>> {
     Vec::from_elem(alloc, byte, size).ok()
 }

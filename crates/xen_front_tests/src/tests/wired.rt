@@ -12,7 +12,7 @@ fn table(alloc: Global) -> Option<Table> {
     Table::make(&owners, 1, &[1, 2])
 }
 
-/// Whether a front may be made with these buffers, these ring pages and a bus of so many frames.
+/// Whether a front may be made with these buffers, these ring pages and a bus of `frames` frames.
 fn is_wired(
     alloc: Global,
     tx: &[Buffer],
@@ -53,13 +53,13 @@ fn with(buffers: &[Buffer; 256], id: usize, buffer: Buffer) -> [Buffer; 256] {
     changed
 }
 
-/// Whether a front may be made with the tests' buffers, these ring pages and a bus of so many frames.
+/// Whether a front may be made with the tests' buffers, these ring pages and a bus of `frames` frames.
 fn is_wired_with(alloc: Global, rings: [u32; 2], frames: u32) -> Option<bool> {
     is_wired(alloc, &buffers(2), &buffers(258), rings, frames)
 }
 
-/// The same where one of the lists has other buffers: without the first tx buffer, without the first rx buffer, and with the tx
-/// buffers as both.
+/// As [`is_wired_with`], if one of the lists has other buffers: without the first tx buffer, without the first rx
+/// buffer, and with the tx buffers as both.
 fn are_lists_wired(alloc: Global) -> [Option<bool>; 3] {
     let (tx, rx) = (buffers(2), buffers(258));
     [
@@ -69,7 +69,7 @@ fn are_lists_wired(alloc: Global) -> [Option<bool>; 3] {
     ]
 }
 
-/// The same where the last rx buffer is of frame 531 and has this reference.
+/// As [`is_wired_with`], if the last rx buffer is of frame 531 and has this reference.
 fn is_last_wired(alloc: Global, gref: u32) -> Option<bool> {
     let rx = with(&buffers(258), 255, Buffer { gref, frame: 531 });
     is_wired(alloc, &buffers(2), &rx, [17, 18], 532)

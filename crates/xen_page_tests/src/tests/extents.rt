@@ -11,7 +11,7 @@ fn extent(frames: u32, domain: u16) -> Extent {
     Extent { frames, domain }
 }
 
-/// A guest of 4 GB with a hole of 1 GB below 4 GB, behind a page of the host's.
+/// A guest of 4 GB with a hole of 1 GB below 4 GB, after a page of the host's.
 fn guest() -> [Extent; 5] {
     [
         extent(1, BACK),
@@ -73,7 +73,7 @@ fn frames_are_counted_in_32_bits(rt: HostRuntime) {
     assert_eq!(rt; seen, wanted);
 }
 
-/// Whether so many frames of the guest's, from one on, are a table that `make` makes, and that `large` does.
+/// Whether `count` frames of the guest's, from `first` on, are a table that `make` makes, and that `large` does.
 fn is_table(alloc: Global, first: u32, count: usize) -> Result<(bool, bool), OwnersFault> {
     let owners = Owners::of_extents(alloc, &guest())?;
     let mut frames = [0; 66];

@@ -160,7 +160,7 @@ fn pages_of(frames: &Frames, table: &Table, owners: &Owners) -> Option<Pages>
     Some((marks, again, is_writable, words))
 }
 
-/// The same over the frontend's pages.
+/// [`pages_of`] for the frontend's pages.
 fn pages_over(alloc: Global, table: &Table, owners: &Owners) -> Option<Pages>
     requires table { IsTable owners.now 1 table.now }
     requires within { All (λ frame. frame < 20) table.now }

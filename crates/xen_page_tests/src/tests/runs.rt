@@ -6,7 +6,7 @@ use crate::bench::{Log, MOST, log};
 use std::alloc::Global;
 use xen_page::{Access, Bus, Frames, PageBus, Place, Recorder, Rewriter, ScriptBus};
 
-/// The first of the last nine words of a page: eight, and one behind them.
+/// The first of the last nine words of a page: eight, and one after them.
 const NINE: Place = Place {
     frame: 1,
     word: 1015,
@@ -278,7 +278,7 @@ fn a_run_over_pages_is_written(rt: HostRuntime) {
     assert_eq!(rt; written_to_pages(rt.alloc()), Some((0x1716_1514, WRITTEN)));
 }
 
-/// The log of a run that a script with room for so many accesses is written, and whether it is full.
+/// The log of a run that a script with room for `cap` accesses is written, and whether it is full.
 fn written_to_script(alloc: Global, cap: usize) -> Option<(bool, Log)> {
     let mut bus = ScriptBus::make(alloc, 2, &[], cap).ok()?;
     write_by_run(&mut bus);

@@ -7,7 +7,7 @@ use crate::tests::buses::visited;
 use std::alloc::Global;
 use xen_page::{Access, Bus, Frames, Place, SharedWords, WordBus, WordRecorder, Words};
 
-/// The first of the last eleven words of a page: eight, and three behind them.
+/// The first of the last eleven words of a page: eight, and three after them.
 const ELEVEN: Place = Place {
     frame: 1,
     word: 1013,
@@ -16,7 +16,7 @@ const ELEVEN: Place = Place {
 /// What kind of step it was, its word, and what it read or wrote.
 type Step = (char, u32, u32);
 
-/// The steps of a log of at most eleven, and nothing behind them.
+/// The steps of a log of at most eleven, and nothing after them.
 type Steps = [Option<Step>; 12];
 
 const READ: Steps = [

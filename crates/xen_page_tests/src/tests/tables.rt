@@ -35,7 +35,7 @@ fn known(alloc: Global) -> Option<(u32, [Option<u16>; 3])> {
     Some((owners.count(), [owners.of(0), owners.of(19), owners.of(20)]))
 }
 
-/// How many frames have an owner where there are none.
+/// How many frames have an owner if there are none.
 fn none_known(alloc: Global) -> Option<u32> {
     let none: [u16; 0] = [];
     Some(Owners::make(alloc, &none).ok()?.count())
@@ -53,7 +53,7 @@ fn is_table(alloc: Global, granter: u16, frames: &[u32]) -> Option<bool> {
     Some(Table::make(&owners, granter, frames).is_some())
 }
 
-/// Whether the first so many frames of the front's, at most seventeen, are a table of its.
+/// Whether the first `count` frames of the front's, at most seventeen, are a table of its.
 fn is_front_table(alloc: Global, count: usize) -> Option<bool> {
     let frames = [1, 2, 3, 4, 5, 6, 7, 8, 9, 10, 11, 12, 13, 14, 15, 16, 17];
     is_table(alloc, FRONT, frames.get(..count)?)

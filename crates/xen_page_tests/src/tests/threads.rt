@@ -8,7 +8,7 @@ use xen_page::{Bus, Frames, PageBus, Place};
 
 const AT: Place = Place { frame: 0, word: 7 };
 
-// So many exchanges of the word's number for the next one.
+// Exchanges the word's number for the next one, `times` times.
 fn count_up(frames: &Frames, times: u32) -> u32
     requires { 1 ≤ frames.now }
 {

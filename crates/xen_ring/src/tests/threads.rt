@@ -4,7 +4,7 @@ use crate::{Port, Ports};
 use std::test::Fail;
 use std::thread;
 
-// Sends to a masked port, then takes it unmasked, so many times, and counts how often that went well.
+// Sends to a masked port, then takes it unmasked, `times` times, and counts how often that went well.
 fn rounds(ports: &Ports, port: Port, times: u32) -> u32 {
     let mut well: u32 = 0;
     for _time in 0..times {

@@ -87,7 +87,7 @@ pub fn read_grant<B: Bus>(vif: &Vif, bus: &mut B, gref: u32, write: bool) -> Res
     }
 }
 
-/// Reads so many slots with their grants, up to one that is refused. Whether all have passed.
+/// Reads `slots` slots with their grants, up to one that is refused. Whether all have passed.
 fn read_targets<B: Bus>(
     vif: &Vif,
     rx_index: u32,
@@ -174,7 +174,7 @@ fn write_responses<B: Bus>(
     }
 }
 
-/// Pushes so many responses, and sends a notice if one is due.
+/// Pushes `n` responses, and sends a notice if one is due.
 fn push_responses<B: Bus>(vif: &Vif, rx_index: u32, bus: &mut B, ports: &Ports, n: u32)
     requires frame { vif.now.rx < B.size bus.old }
     ensures size { B.size bus.new ≡ B.size bus.old }
