@@ -1,5 +1,5 @@
 -- What a driver does in one go is what a turn asks, event by event.
-use Rattle.std.proofs.Common.{◌≡◌, ℕ, ◌+◌, ◌-◌, ◌/◌, ◌<◌, ◌≤◌, ◌^◌, Bool, drop, get_or, false, List, [], ◌∷◌, ◌++◌, Option, Some, None, Result, Ok, Err, length, append-nil, append_assoc, refl, sym, ap, subst}
+use Rattle.std.proofs.Common.{◌≡◌, ℕ, ◌+◌, ◌-◌, ◌/◌, ◌<◌, ◌^◌, Bool, drop, get_or, false, List, [], ◌∷◌, ◌++◌, Option, Some, None, Result, Ok, Err, length, append-nil, append_assoc, refl, sym, ap, subst}
 use Rattle.xen_netif.specs.Chain.{Slot}
 use Rattle.xen_netif.specs.Copy.{bytes_from, bytes_in, covered}
 use Rattle.xen_netif.specs.Standing.{standing}
@@ -31,7 +31,6 @@ use Rattle.xen_back.specs.Tree.{answer, notice, publish, after_scan, copy, enter
 use Rattle.xen_back.specs.Turned.{Ending}
 use Rattle.xen_back.proofs.DriveLemmas.{driven_append}
 use Rattle.xen_back.proofs.RestLemmas.{answer_at, read_slots_more}
-use Rattle.std.proofs.lemmas.List.{drop_all}
 use Rattle.xen_back.specs.declared.state.State.{State}
 use Rattle.xen_back.specs.declared.turn.Halt.TheVariants as halt
 use Rattle.xen_back.specs.declared.wiring.Wiring.{Wiring}
@@ -150,17 +149,15 @@ answer_on log gives w tx n i words e start old bus new t d h p =
     (t ++ Write place word ∷ [], driven_append log gives start (ask (want.Write place word) (λ _. later)) later old bus new [] [] [] t (Write place word ∷ []) asked one)
 
 -- and the push of them all
-pub push_on : {S : Type 0} (log : S → Option (List Access)) (gives : S → Access → S → Type 0) (w : Wiring) (tx i : ℕ) (words : List ℕ) (event : ℕ) (e : Ending) (start : Steps Ending) (old bus new : S) (t : List Event) →
-    Driven log gives start (answer w tx (length words) i (drop i words) e) old bus [] [] t → length words ≤ i → event < 2 ^ 32 →
-    Performs log gives bus (access.Write (tx_word w.vif 2) (add32 tx (length words)) ∷ access.Read (tx_word w.vif 3) event ∷ []) new →
-    (u : List Event) × Driven log gives start (notice w (is_due tx (add32 tx (length words)) event) e) old new [] [] u
-push_on log gives w tx i words event e start old bus new t d h l p =
-    let last = notice w (is_due tx (add32 tx (length words)) event) e in
-    let first = publish w tx (add32 tx (length words)) e in
-    let u = Write (tx_word w.vif 2) (add32 tx (length words)) ∷ Read (tx_word w.vif 3) event ∷ [] in
-    let asked : Driven log gives start first old bus [] [] t = subst (λ l. Driven log gives start (answer w tx (length words) i l e) old bus [] [] t) (drop_all i words h) d in
-    let two : Driven log gives first last bus new [] [] u = record { gone = (_, (0, (refl, refl), refl), (_, (event, (l, refl), refl), refl)); performed = p; grown = refl } in
-    (t ++ u, driven_append log gives start first last old bus new [] [] [] t u asked two)
+pub publish_on : {S : Type 0} (log : S → Option (List Access)) (gives : S → Access → S → Type 0) (w : Wiring) (tx new event : ℕ) (e : Ending) (start : Steps Ending) (old bus bus' : S) (t : List Event) →
+    Driven log gives start (publish w tx new e) old bus [] [] t → event < 2 ^ 32 →
+    Performs log gives bus (access.Write (tx_word w.vif 2) new ∷ access.Read (tx_word w.vif 3) event ∷ []) bus' →
+    (u : List Event) × Driven log gives start (notice w (is_due tx new event) e) old bus' [] [] u
+publish_on log gives w tx new event e start old bus bus' t d l p =
+    let last = notice w (is_due tx new event) e in
+    let u = Write (tx_word w.vif 2) new ∷ Read (tx_word w.vif 3) event ∷ [] in
+    let two : Driven log gives (publish w tx new e) last bus bus' [] [] u = record { gone = (_, (0, (refl, refl), refl), (_, (event, (l, refl), refl), refl)); performed = p; grown = refl } in
+    (t ++ u, driven_append log gives start (publish w tx new e) last old bus bus' [] [] [] t u d two)
 
 pub tx_within : (v : Vif) → IsWired v → v.tx < length v.owners.now
 tx_within v h = slice_get_within v.owners.now v.tx v.granter h.tx

@@ -1,5 +1,5 @@
 -- What is done in one go where a packet is in one slot is what a turn asks, event by event.
-use Rattle.std.proofs.Common.{◌≡◌, ◌≢◌, ℕ, zero, suc, ◌+◌, ◌-◌, ◌<◌, ◌^◌, ◌%◌, Bool, true, false, List, [], ◌∷◌, ◌++◌, length, Option, Some, None, Ok, refl, sym, ◌∙◌, ap, append_assoc, append-nil, subst, arith}
+use Rattle.std.proofs.Common.{◌≡◌, ◌≢◌, ℕ, zero, suc, ◌+◌, ◌-◌, ◌*◌, ◌<◌, ◌^◌, ◌%◌, Bool, true, false, List, [], ◌∷◌, ◌++◌, length, Option, Some, None, Ok, refl, sym, ◌∙◌, ap, append_assoc, append-nil, subst, arith}
 use Rattle.std.specs.Prelude.{if◌then◌else◌}
 use Rattle.bpf_flow.specs.Step.{Outcome as StepOutcome, Next, Loads, Adds, Exited, Fault}
 use Rattle.bpf_note.specs.declared.op.Op.{Op}
@@ -14,11 +14,12 @@ use Rattle.xen_netif.specs.declared.chain.ChainState.TheVariants as wanted
 use Rattle.xen_page.specs.Access.{Performs}
 use Rattle.xen_page.specs.declared.access.Access.{Access}
 use Rattle.xen_page.specs.declared.access.Access.TheVariants as access
+use Rattle.xen_page.specs.declared.place.Place.{Place}
 use Rattle.xen_page.proofs.AccessLemmas.{performs_none}
 use Rattle.xen_steps.proofs.DriveLemmas.{accesses-append, bounded_next, gone_append}
 use Rattle.xen_steps.specs.Drive.{Any, Bounded, Driven as DrivenPages, Goes, LedBy, IsPageWant, accesses, accesses_of}
 use Rattle.xen_steps.specs.Event.{Event, Occurs, Instr, Load, Add, Read, Write, Notify}
-use Rattle.xen_steps.specs.Places.{add32, available}
+use Rattle.xen_steps.specs.Places.{add32, available, page_word, tx_entry}
 use Rattle.xen_steps.specs.Steps.{Steps, ask, bind, done, never}
 use Rattle.xen_steps.specs.declared.want.Want.{Want}
 use Rattle.xen_steps.specs.declared.want.Want.TheVariants as wants
@@ -102,11 +103,22 @@ pub notice_driven : {S : Type 0} (log : S → Option (List Access)) (gives : S �
 notice_driven log gives w false e bus = ([], driven_none log gives (done e) bus [])
 notice_driven log gives w true e bus = (Notify w.vif.port ∷ [], record { gone = (done e, (0, (refl, refl), refl), refl); performed = performs_none log gives bus; grown = refl })
 
+-- No slots on from an index is that index's own entry.
+own_entry : (frame x j : ℕ) → tx_entry frame x j ≡ tx_entry frame (add32 x 0) j
+own_entry frame x j =
+    let same : x % 256 ≡ (x + 0) % 2 ^ 32 % 256 = omega arith in
+    ap (λ (k : ℕ). page_word frame (16 + 3 * k + j)) same
+
 -- The next slot is read.
-pub first_read : {S : Type 0} (log : S → Option (List Access)) (gives : S → Access → S → Type 0) (w : Wiring) (s : State) (left : ℕ) (slot : Slot) (bus new : S) → IsSlotRead log gives w.vif.tx (add32 s.tx_index 0) slot bus new →
+pub first_read : {S : Type 0} (log : S → Option (List Access)) (gives : S → Access → S → Type 0) (w : Wiring) (s : State) (left : ℕ) (slot : Slot) (bus new : S) → IsSlotRead log gives w.vif.tx s.tx_index slot bus new →
     (t : List Event) × Driven log gives (after_look w s (Some (suc left))) (after_slot w s left [] slot) bus new [] [] t
 first_read log gives w s left slot bus new r =
-    slot_on log gives w s left [] (add32 s.tx_index 0) slot (standing (slot ∷ [])) (after_look w s (Some (suc left))) bus bus new [] (driven_none log gives (after_look w s (Some (suc left))) bus []) r refl
+    let place = own_entry w.vif.tx s.tx_index in
+    let done_so = subst (λ (p : Place). Performs log gives bus (access.Read p r.0 ∷ access.Read (tx_entry w.vif.tx s.tx_index 1) r.1 ∷ access.Read (tx_entry w.vif.tx s.tx_index 2) r.2 ∷ []) new) (place 0) r.7 in
+    let two = subst (λ (p : Place). Performs log gives bus (access.Read (tx_entry w.vif.tx (add32 s.tx_index 0) 0) r.0 ∷ access.Read p r.1 ∷ access.Read (tx_entry w.vif.tx s.tx_index 2) r.2 ∷ []) new) (place 1) done_so in
+    let all = subst (λ (p : Place). Performs log gives bus (access.Read (tx_entry w.vif.tx (add32 s.tx_index 0) 0) r.0 ∷ access.Read (tx_entry w.vif.tx (add32 s.tx_index 0) 1) r.1 ∷ access.Read p r.2 ∷ []) new) (place 2) two in
+    slot_on log gives w s left [] (add32 s.tx_index 0) slot (standing (slot ∷ [])) (after_look w s (Some (suc left))) bus bus new [] (driven_none log gives (after_look w s (Some (suc left))) bus [])
+    (r.0, r.1, r.2, r.3, r.4, r.5, r.6, all) refl
 
 -- and is a whole chain
 pub lone_after : (w : Wiring) (s : State) (left : ℕ) (slot : Slot) → extra_info slot ≡ false → more_data slot ≡ false → after_slot w s left [] slot ≡ after_chain w s (slot ∷ []) (fragments_of (slot ∷ []))

@@ -5,7 +5,7 @@
 //! - `by_event`: a turn one event at a time; what a queue wants (`wanting`), what it does with an answer (`feeding`), and a
 //!   file for each part of a turn: `looking`, `copying`, `executing`, `sent`, `answering`, `ending`
 //! - `in_one_go`: a whole turn over a bus (`turning`), for a chain of any length, in the order of its parts: `looking`, `copying`, `running`,
-//!   `answering`
+//!   `answering`; and what it is served by (`service`)
 //! - `decisions`: what a turn, a delivery and a wait decide, whichever way they go
 //! - `delivery`: a packet of the host's own, in one go and by event, and waiting for slots
 //! - `wiring`, `desc`, `state`, `turn`, `copy_buf`: what these work on; `laws`: what holds of every turn

@@ -1,18 +1,20 @@
 //! Answering a packet's slots.
 
-ghost use Rattle.std.specs.Prelude.{◌≡◌, ◌≤◌, ◌<◌, ◌^◌, List, [], ◌∷◌, length};
+ghost use Rattle.std.specs.Prelude.{◌≡◌, ◌≤◌, ◌<◌, ◌^◌, List, [], ◌∷◌, length, map};
 ghost use Rattle.xen_netif.specs.Chain.{Slot, requests_of};
 ghost use Rattle.xen_page.specs.Access.{Performs};
 ghost use Rattle.xen_page.specs.declared.access.Access.TheVariants as accesses;
 ghost use Rattle.xen_steps.specs.Event.{Event};
 ghost use Rattle.xen_steps.specs.Places.{add32, page_word, tx_entry as tx_entry_place};
 ghost use Rattle.xen_steps.specs.Steps.{done};
-ghost use Rattle.xen_rx_fill.specs.Wired.{IsWired};
 ghost use Rattle.xen_back.specs.Drive.{Driven};
-ghost use Rattle.xen_back.specs.Tree.{answered, respond};
-ghost use Rattle.xen_back.specs.Turned.{Turned};
+ghost use Rattle.xen_back.specs.InOneGo.{IsServed, Serve, ServeOn};
+ghost use Rattle.xen_back.specs.Responses.{response as response_word};
+ghost use Rattle.xen_back.specs.Tree.{answer as answer_from, answered, publish, respond};
+ghost use Rattle.xen_back.specs.Turned.{Ending, Turned};
 
 use crate::decisions::response;
+use crate::in_one_go::service::Service;
 use crate::state::State;
 use crate::wiring::Wiring;
 use xen_netif::{Status, TxReq};
@@ -46,33 +48,45 @@ fn push_answers<B: Bus>(wiring: &Wiring, bus: &mut B, at: &State, n: u32) -> u32
 }
 
 /// Sends a notice if one is due after `n` responses.
-fn notify(wiring: &Wiring, at: &State, ports: &Ports, n: u32, event: u32) {
+fn notify(wiring: &Wiring, ports: &Ports, at: &State, n: u32, event: u32) {
     if due(at.tx_index, at.tx_index.wrapping_add(n), event) {
         ports.notify(wiring.vif.port);
     }
 }
 
-/// Answers a chain's slots, given by their requests.
-pub(crate) fn answer<B: Bus>(
+/// Writes the responses to a chain's slots, given by their requests.
+fn write_answers<B: Bus>(
     wiring: &Wiring,
     bus: &mut B,
-    ports: &Ports,
     at: &State,
     requests: &[Option<TxReq>],
     status: Status,
 )
-    requires size { B.size bus.old ≡ length wiring.now.vif.owners.now }
-    requires wired { IsWired wiring.now.vif }
+    requires frame { wiring.now.vif.tx < B.size bus.old }
     requires few { length requests.now ≤ 23 }
     ensures size { B.size bus.new ≡ B.size bus.old }
-    ensures driven { (chain : List Slot) → requests_of chain ≡ requests.now → (u : Turned) → (t : List Event) ×
-        Driven B.log B.access_gives (respond wiring.now at.now chain status u)
-        (done (answered at.now (length chain), u)) bus.old bus.new [] [] t }
+    ensures driven { (e : Ending) → (t : List Event) × Driven B.log B.access_gives
+        (answer_from wiring.now at.now.tx_index (length requests.now) 0 (map (response_word status) requests.now) e)
+        (publish wiring.now at.now.tx_index (add32 at.now.tx_index (length requests.now)) e) bus.old bus.new [] [] t }
 {
     for (i, request) in requests.iter().enumerate() {
         write_answer(wiring, bus, at, i, response(status, request));
     }
-    let n = requests.len() as u32;
-    let event = push_answers(wiring, bus, at, n);
-    notify(wiring, at, ports, n, event);
+}
+
+impl<'a, 'c, 'p, B: Bus> Service<'a, 'c, 'p, B> {
+    /// Answers a chain's slots, given by their requests.
+    #[inline]
+    pub(crate) fn answer(&mut self, at: &State, requests: &[Option<TxReq>], status: Status)
+        requires served { Serve B.size self.old }
+        requires few { length requests.now ≤ 23 }
+        ensures on { ServeOn B.size self.old self.new }
+        ensures driven { (chain : List Slot) → requests_of chain ≡ requests.now → (u : Turned) → IsServed B.log B.access_gives
+            (respond self.old.wiring.now at.now chain status u) (done (answered at.now (length chain), u)) self.old self.new }
+    {
+        write_answers(self.wiring, self.bus, at, requests, status);
+        let n = requests.len() as u32;
+        let event = push_answers(self.wiring, self.bus, at, n);
+        notify(self.wiring, self.ports, at, n, event);
+    }
 }

@@ -4,7 +4,7 @@ use Rattle.xen_back.specs.Drive.{Driven}
 use Rattle.xen_back.specs.Responses.{response}
 use Rattle.xen_back.specs.Tree.{answer}
 use Rattle.xen_back.specs.Turned.{Ending}
-use Rattle.xen_back.proofs.in_one_go.answering.answer.Given as goal
+use Rattle.xen_back.proofs.in_one_go.answering.write_answers.Given as goal
 
 abbrev pub invariant-loop-i : goal.invariant-loop-i
 invariant-loop-i g l =

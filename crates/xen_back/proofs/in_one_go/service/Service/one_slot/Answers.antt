@@ -5,32 +5,30 @@ use Rattle.xen_netif.specs.declared.tx.TxReq.{TxReq}
 use Rattle.xen_back.specs.Drive.{Driven}
 use Rattle.xen_back.specs.InOneGo.{ended}
 use Rattle.xen_back.specs.Tree.{after_chain}
-use Rattle.xen_back.proofs.DriveLemmas.{driven_silent}
-use Rattle.xen_back.proofs.in_one_go.turning.one_slot.Goals as goal
+use Rattle.xen_back.proofs.in_one_go.service.Service.one_slot.Goals as goal
 
 pub returns-in-Ok-clause-driven : goal.returns-in-Ok-clause-driven
 returns-in-Ok-clause-driven g c =
     let log = g.B.Bus.log in
     let gives = g.B.Bus.access_gives in
-    let w = c.args.wiring.now in
+    let w = c.args.self.now.wiring.now in
     let s = c.args.state.now in
     let chain = c.args.slot.now.words ∷ [] in
     let r = c.copy_and_run in
     let asked = ap (λ (q : TxReq). Some q ∷ []) (sym c.of_words.ensures.fields) in
     let d = r.ensures.driven chain asked in
-    (d.0, subst (λ (x : Result (List Fragment) SizeFault). Driven log gives (after_chain w s chain x) (ended (r.new.state, r.result) r.new.packet) c.args.bus.now r.new.bus c.args.seat.now.ops r.new.seat.ops d.0) (sym c.in-Ok.ensures.answer) d.1)
+    (d.0, subst (λ (x : Result (List Fragment) SizeFault). Driven log gives (after_chain w s chain x) (ended (r.new.state, r.result) r.new.packet) c.args.self.now.bus.now r.new.self.bus.now c.args.self.now.seat.now.ops r.new.self.seat.now.ops d.0) (sym c.in-Ok.ensures.answer) d.1)
 
 pub returns-in-Err-clause-driven : goal.returns-in-Err-clause-driven
 returns-in-Err-clause-driven g c =
     let log = g.B.Bus.log in
     let gives = g.B.Bus.access_gives in
-    let w = c.args.wiring.now in
+    let w = c.args.self.now.wiring.now in
     let s = c.args.state.now in
     let chain = c.args.slot.now.words ∷ [] in
     let r = c.refuse in
     let asked = ap (λ (q : TxReq). Some q ∷ []) (sym c.of_words.ensures.fields) in
     let d = r.ensures.driven chain asked c.args.packet.now in
-    let ops = c.args.seat.now.ops in
+    let ops = c.args.self.now.seat.now.ops in
     let end = ended (r.new.state, r.result) c.args.packet.now in
-    let one = subst (λ (x : Result (List Fragment) SizeFault). Driven log gives (after_chain w s chain x) end c.args.bus.now r.new.bus [] [] d.0) (sym c.in-Err.ensures.answer) d.1 in
-    (d.0, driven_silent log gives _ end c.args.bus.now r.new.bus ops d.0 one)
+    (d.0, subst (λ (x : Result (List Fragment) SizeFault). Driven log gives (after_chain w s chain x) end c.args.self.now.bus.now r.new.self.bus.now ops r.new.self.seat.now.ops d.0) (sym c.in-Err.ensures.answer) d.1)
