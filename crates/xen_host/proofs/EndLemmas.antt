@@ -55,9 +55,9 @@ reads_of_fill w x fill.Producer b = (rx_word w 0, (refl, λ a. tt))
 reads_of_fill w x (fill.Slot left) b = (rx_slot w (add32 x (length b.targets)) 0, asks_post w (add32 x (length b.targets)) (targeted b.targets (read_targets w x left)) (after_targets w x b.packet))
 reads_of_fill w x (fill.Grant left id at) b = (at, (refl, λ a. (refl, λ c. tt)))
 reads_of_fill w x (fill.Words i) b = (none, tt)
-reads_of_fill w x (fill.Respond passed i) b = (none, tt)
-reads_of_fill w x (fill.Push passed) b = (rx_word w 3, (refl, λ a. tt))
-reads_of_fill w x (fill.Notice passed) b = (none, tt)
+reads_of_fill w x (fill.Respond grants i) b = (none, tt)
+reads_of_fill w x (fill.Push grants) b = (rx_word w 3, (refl, λ a. tt))
+reads_of_fill w x (fill.Notice grants) b = (none, tt)
 
 reads_of_turn : (w : Wiring) (s : State) (g : Stage) (b : Work) → is_turning g ≡ true → (at : Place) × AsksReads at (reads_in g) (rest_in w s g b)
 reads_of_turn w s stage.Ready b t = cc t
@@ -108,9 +108,9 @@ few_of_fill fill.Producer = omega arith
 few_of_fill (fill.Slot left) = omega arith
 few_of_fill (fill.Grant left id at) = omega arith
 few_of_fill (fill.Words i) = omega arith
-few_of_fill (fill.Respond passed i) = omega arith
-few_of_fill (fill.Push passed) = omega arith
-few_of_fill (fill.Notice passed) = omega arith
+few_of_fill (fill.Respond grants i) = omega arith
+few_of_fill (fill.Push grants) = omega arith
+few_of_fill (fill.Notice grants) = omega arith
 
 pub reads_few : (g : Stage) (b : Work) → Fits g b → reads_in g ≤ 1024
 reads_few stage.Ready b h = omega arith

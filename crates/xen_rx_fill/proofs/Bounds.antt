@@ -24,6 +24,8 @@ use Rattle.xen_rx_fill.specs.Transmit.{Posted, after_targets, fill, found, outco
 use Rattle.xen_rx_fill.specs.Wired.{IsWired}
 use Rattle.xen_rx_fill.specs.declared.by_event.phase.Outcome.{Outcome}
 use Rattle.xen_rx_fill.specs.declared.by_event.phase.Outcome.TheVariants as outcome
+use Rattle.xen_rx_fill.specs.declared.target.Grants.{Grants}
+use Rattle.xen_rx_fill.specs.declared.target.Grants.TheVariants.{Passed, Refused}
 use Rattle.xen_rx_fill.specs.declared.target.Target.{Target}
 use Rattle.xen_rx_fill.specs.declared.vif.Vif.{Vif}
 
@@ -160,24 +162,24 @@ module _ (w : Vif) (h : IsWired w) where
   bounded_rx_notice false o = tt
   bounded_rx_notice true o = (omega arith, tt, λ a. tt)
 
-  bounded_rx_answer : (x : ℕ) (packet : List ℕ) (passed : Bool) (n i : ℕ) (ts : List Target) → Bounded within Any (rx_answer w x packet passed n i ts) (2 * length ts + 3)
-  bounded_rx_answer x packet passed n i [] =
-      (omega arith, (rx_inside, omega arith), λ a. (omega arith, (rx_inside, omega arith), λ v. bounded_rx_notice (is_due x (add32 x n) v) (outcome_of passed n)))
-  bounded_rx_answer x packet passed n i (t ∷ ts) = (
+  bounded_rx_answer : (x : ℕ) (packet : List ℕ) (grants : Grants) (n i : ℕ) (ts : List Target) → Bounded within Any (rx_answer w x packet grants n i ts) (2 * length ts + 3)
+  bounded_rx_answer x packet grants n i [] =
+      (omega arith, (rx_inside, omega arith), λ a. (omega arith, (rx_inside, omega arith), λ v. bounded_rx_notice (is_due x (add32 x n) v) (outcome_of grants n)))
+  bounded_rx_answer x packet grants n i (t ∷ ts) = (
     omega arith,
     (rx_inside, omega arith),
     λ a. (
       omega arith,
       (rx_inside, omega arith),
-      λ b. bounded_le within Any (rx_answer w x packet passed n (i + 1) ts) (2 * length ts + 3) (2 * suc (length ts) + 3 - 1 - 1) (bounded_rx_answer x packet passed n (i + 1) ts) (omega arith),
+      λ b. bounded_le within Any (rx_answer w x packet grants n (i + 1) ts) (2 * length ts + 3) (2 * suc (length ts) + 3 - 1 - 1) (bounded_rx_answer x packet grants n (i + 1) ts) (omega arith),
     ),
   )
 
   bounded_after_targets : (x : ℕ) (packet : List ℕ) (p : Posted) → words packet ≤ 262144 → ArePosted 256 p → Bounded within Any (after_targets w x packet p) 262659
   bounded_after_targets x packet (Ok ts) l a =
-      bounded_bind within Any Any (fill ts packet (words packet - 0) 0) (λ u. rx_respond w x packet true ts) (words packet - 0) 515 262659 (bounded_fill ts packet (words packet - 0) 0 a.0)
-      (λ v u. bounded_le within Any (rx_respond w x packet true ts) (2 * length ts + 3) 515 (bounded_rx_answer x packet true (length ts) 0 ts) (omega (arith, a.1))) (omega (arith, l))
-  bounded_after_targets x packet (Err ts) l a = bounded_le within Any (rx_respond w x packet false ts) (2 * length ts + 3) 262659 (bounded_rx_answer x packet false (length ts) 0 ts) (omega (arith, a))
+      bounded_bind within Any Any (fill ts packet (words packet - 0) 0) (λ u. rx_respond w x packet Passed ts) (words packet - 0) 515 262659 (bounded_fill ts packet (words packet - 0) 0 a.0)
+      (λ v u. bounded_le within Any (rx_respond w x packet Passed ts) (2 * length ts + 3) 515 (bounded_rx_answer x packet Passed (length ts) 0 ts) (omega (arith, a.1))) (omega (arith, l))
+  bounded_after_targets x packet (Err ts) l a = bounded_le within Any (rx_respond w x packet Refused ts) (2 * length ts + 3) 262659 (bounded_rx_answer x packet Refused (length ts) 0 ts) (omega (arith, a))
 
   bounded_enough : (x : ℕ) (packet : List ℕ) (m : ℕ) (lacking : Bool) → nat_lt m (pages packet) ≡ lacking → m ≤ 256 →
       Bounded within Any (if lacking then done outcome.TooFew else bind (read_targets w x (pages packet) []) (after_targets w x packet)) 263683

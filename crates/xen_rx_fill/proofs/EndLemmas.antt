@@ -16,6 +16,8 @@ use Rattle.xen_rx_fill.specs.Packets.{pages, words}
 use Rattle.xen_rx_fill.specs.Transmit.{Posted, after_targets, fill, found, outcome_of, posted, read_targets, rx_answer, rx_notice, rx_respond, targeted, transmit}
 use Rattle.xen_rx_fill.specs.declared.by_event.phase.Outcome.{Outcome}
 use Rattle.xen_rx_fill.specs.declared.by_event.phase.Outcome.TheVariants as outcome
+use Rattle.xen_rx_fill.specs.declared.target.Grants.{Grants}
+use Rattle.xen_rx_fill.specs.declared.target.Grants.TheVariants.{Passed, Refused}
 use Rattle.xen_rx_fill.specs.declared.target.Target.{Target}
 use Rattle.xen_rx_fill.specs.declared.vif.Vif.{Vif}
 
@@ -51,14 +53,14 @@ module _ (w : Vif) where
   ends_rx_notice false o = tt
   ends_rx_notice true o = (tt, λ a e p. tt)
 
-  ends_rx_answer : (x : ℕ) (packet : List ℕ) (passed : Bool) (n i : ℕ) (ts : List Target) → Ends Any (rx_answer w x packet passed n i ts)
-  ends_rx_answer x packet passed n i [] = (tt, λ a e o. (tt, λ v y p. ends_rx_notice (is_due x (add32 x n) v) (outcome_of passed n)))
-  ends_rx_answer x packet passed n i (t ∷ ts) = (tt, λ a e o. (tt, λ b y p. ends_rx_answer x packet passed n (i + 1) ts))
+  ends_rx_answer : (x : ℕ) (packet : List ℕ) (grants : Grants) (n i : ℕ) (ts : List Target) → Ends Any (rx_answer w x packet grants n i ts)
+  ends_rx_answer x packet grants n i [] = (tt, λ a e o. (tt, λ v y p. ends_rx_notice (is_due x (add32 x n) v) (outcome_of grants n)))
+  ends_rx_answer x packet grants n i (t ∷ ts) = (tt, λ a e o. (tt, λ b y p. ends_rx_answer x packet grants n (i + 1) ts))
 
   ends_after_targets : (x : ℕ) (packet : List ℕ) (p : Posted) → Ends Any (after_targets w x packet p)
   ends_after_targets x packet (Ok ts) =
-      ends_bind Any Any (fill ts packet (words packet - 0) 0) (λ v. rx_respond w x packet true ts) (ends_fill ts packet (words packet - 0) 0) (λ v u. ends_rx_answer x packet true (length ts) 0 ts)
-  ends_after_targets x packet (Err ts) = ends_rx_answer x packet false (length ts) 0 ts
+      ends_bind Any Any (fill ts packet (words packet - 0) 0) (λ v. rx_respond w x packet Passed ts) (ends_fill ts packet (words packet - 0) 0) (λ v u. ends_rx_answer x packet Passed (length ts) 0 ts)
+  ends_after_targets x packet (Err ts) = ends_rx_answer x packet Refused (length ts) 0 ts
 
   ends_found : (x : ℕ) (packet : List ℕ) (o : Option ℕ) → Ends Any (found w x packet o)
   ends_found x packet None = tt

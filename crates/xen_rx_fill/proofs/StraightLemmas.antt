@@ -29,6 +29,8 @@ use Rattle.xen_rx_fill.specs.Shared.{IsEntry, inside, outside}
 use Rattle.xen_rx_fill.specs.Transmit.{Posted, after_targets, fill, found, outcome_of, posted, read_targets, rx_answer, rx_notice, rx_publish, rx_respond, targeted, transmit}
 use Rattle.xen_rx_fill.specs.declared.by_event.phase.Outcome.{Outcome}
 use Rattle.xen_rx_fill.specs.declared.by_event.phase.Outcome.TheVariants as outcome
+use Rattle.xen_rx_fill.specs.declared.target.Grants.{Grants}
+use Rattle.xen_rx_fill.specs.declared.target.Grants.TheVariants.{Passed}
 use Rattle.xen_rx_fill.specs.declared.target.Target.{Target}
 use Rattle.xen_rx_fill.specs.declared.vif.Vif.{Vif}
 use Rattle.xen_rx_fill.proofs.SendLemmas.{rx_answer_at}
@@ -63,22 +65,22 @@ pub found_enough : (w : Vif) (x : ℕ) (packet : List ℕ) (m : ℕ) → pages p
 found_enough w x packet m h = ap (λ b. if b then done outcome.TooFew else bind (read_targets w x (pages packet) []) (after_targets w x packet)) (le-ltb m (pages packet) h)
 
 -- The responses are pushed, and the event index is read.
-pub push_driven : {S : Type 0} (log : S → Option (List Access)) (gives : S → Access → S → Type 0) (w : Vif) (x n event : ℕ) (passed due : Bool) (bus new : S) → event < 2 ^ 32 →
+pub push_driven : {S : Type 0} (log : S → Option (List Access)) (gives : S → Access → S → Type 0) (w : Vif) (x n event : ℕ) (grants : Grants) (due : Bool) (bus new : S) → event < 2 ^ 32 →
     is_due x (add32 x n) event ≡ due → Performs log gives bus (access.Write (rx_word w 2) (add32 x n) ∷ access.Read (rx_word w 3) event ∷ []) new →
-    (t : List Event) × Driven log gives (rx_publish w x passed n) (done (outcome_of passed n)) bus new t
-push_driven log gives w x n event passed due bus new l e q = by due e
+    (t : List Event) × Driven log gives (rx_publish w x grants n) (done (outcome_of grants n)) bus new t
+push_driven log gives w x n event grants due bus new l e q = by due e
   where
     end : Steps Outcome
-    end = done (outcome_of passed n)
+    end = done (outcome_of grants n)
 
-    read : (b : Bool) → is_due x (add32 x n) event ≡ b → Driven log gives (rx_publish w x passed n) (rx_notice w b (outcome_of passed n)) bus new (Write (rx_word w 2) (add32 x n) ∷ Read (rx_word w 3) event ∷ [])
-    read b h = record { gone = (_, (0, (refl, refl), refl), (_, (event, (l, refl), refl), ap (λ d. rx_notice w d (outcome_of passed n)) h)); performed = q }
+    read : (b : Bool) → is_due x (add32 x n) event ≡ b → Driven log gives (rx_publish w x grants n) (rx_notice w b (outcome_of grants n)) bus new (Write (rx_word w 2) (add32 x n) ∷ Read (rx_word w 3) event ∷ [])
+    read b h = record { gone = (_, (0, (refl, refl), refl), (_, (event, (l, refl), refl), ap (λ d. rx_notice w d (outcome_of grants n)) h)); performed = q }
 
-    by : (b : Bool) → is_due x (add32 x n) event ≡ b → (t : List Event) × Driven log gives (rx_publish w x passed n) end bus new t
+    by : (b : Bool) → is_due x (add32 x n) event ≡ b → (t : List Event) × Driven log gives (rx_publish w x grants n) end bus new t
     by false h = (_, read false h)
     by true h = (
       (Write (rx_word w 2) (add32 x n) ∷ Read (rx_word w 3) event ∷ []) ++ Notify w.port ∷ [],
-      driven_append log gives (rx_publish w x passed n) (rx_notice w true (outcome_of passed n)) end bus new new (Write (rx_word w 2) (add32 x n) ∷ Read (rx_word w 3) event ∷ []) (Notify w.port ∷ [])
+      driven_append log gives (rx_publish w x grants n) (rx_notice w true (outcome_of grants n)) end bus new new (Write (rx_word w 2) (add32 x n) ∷ Read (rx_word w 3) event ∷ []) (Notify w.port ∷ [])
           (read true h) (record { gone = (_, (0, (refl, refl), refl), refl); performed = performs_none log gives new }),
     )
 
@@ -166,22 +168,22 @@ less_none n = omega arith
 
 -- after the slots, those that follow the words
 pub filled_driven : {S : Type 0} (log : S → Option (List Access)) (gives : S → Access → S → Type 0) (w : Vif) (x : ℕ) (packet : List ℕ) (ts : List Target) (bus new : S) (t : List Event) →
-    Driven log gives (fill ts packet (words packet) 0) (done tt) bus new t → Driven log gives (after_targets w x packet (Ok ts)) (rx_respond w x packet true ts) bus new t
+    Driven log gives (fill ts packet (words packet) 0) (done tt) bus new t → Driven log gives (after_targets w x packet (Ok ts)) (rx_respond w x packet Passed ts) bus new t
 filled_driven log gives w x packet ts bus new t d =
-    let rest : Unit {0} → Steps Outcome = λ _. rx_respond w x packet true ts in
-    subst (λ n. Driven log gives (bind (fill ts packet n 0) rest) (rx_respond w x packet true ts) bus new t) (sym (less_none (words packet))) (driven_bind log gives (fill ts packet (words packet) 0) (done tt) rest bus new t d)
+    let rest : Unit {0} → Steps Outcome = λ _. rx_respond w x packet Passed ts in
+    subst (λ n. Driven log gives (bind (fill ts packet n 0) rest) (rx_respond w x packet Passed ts) bus new t) (sym (less_none (words packet))) (driven_bind log gives (fill ts packet (words packet) 0) (done tt) rest bus new t d)
 
 pub fill_finishes : (w : Vif) (x : ℕ) (packet : List ℕ) (ts : List Target) (within : Want → Type 0) → Finishes within (after_targets w x packet (Ok ts)) → Finishes within (fill ts packet (words packet) 0)
 fill_finishes w x packet ts within h =
-    subst (λ n. Finishes within (fill ts packet n 0)) (less_none (words packet)) (finishes_first within (fill ts packet (words packet - 0) 0) (λ _. rx_respond w x packet true ts) h)
+    subst (λ n. Finishes within (fill ts packet n 0)) (less_none (words packet)) (finishes_first within (fill ts packet (words packet - 0) 0) (λ _. rx_respond w x packet Passed ts) h)
 
 -- One response is written.
-pub response_driven : {S : Type 0} (log : S → Option (List Access)) (gives : S → Access → S → Type 0) (w : Vif) (x : ℕ) (packet : List ℕ) (passed : Bool) (i : ℕ) (ts : List Target) (bus new : S) → i < length ts →
+pub response_driven : {S : Type 0} (log : S → Option (List Access)) (gives : S → Access → S → Type 0) (w : Vif) (x : ℕ) (packet : List ℕ) (grants : Grants) (i : ℕ) (ts : List Target) (bus new : S) → i < length ts →
     Performs log gives bus
-    (access.Write (rx_slot w (add32 x i) 0) (response_word passed packet (length ts) i (target_at ts i).id 0) ∷ access.Write (rx_slot w (add32 x i) 1) (response_word passed packet (length ts) i (target_at ts i).id 1) ∷ []) new →
-    (t : List Event) × Driven log gives (rx_answer w x packet passed (length ts) i (drop i ts)) (rx_answer w x packet passed (length ts) (i + 1) (drop (i + 1) ts)) bus new t
-response_driven log gives w x packet passed i ts bus new h q =
-    let end = rx_answer w x packet passed (length ts) (i + 1) (drop (i + 1) ts) in
+    (access.Write (rx_slot w (add32 x i) 0) (response_word grants packet (length ts) i (target_at ts i).id 0) ∷ access.Write (rx_slot w (add32 x i) 1) (response_word grants packet (length ts) i (target_at ts i).id 1) ∷ []) new →
+    (t : List Event) × Driven log gives (rx_answer w x packet grants (length ts) i (drop i ts)) (rx_answer w x packet grants (length ts) (i + 1) (drop (i + 1) ts)) bus new t
+response_driven log gives w x packet grants i ts bus new h q =
+    let end = rx_answer w x packet grants (length ts) (i + 1) (drop (i + 1) ts) in
     let t : List Event =
-    Write (rx_slot w (add32 x i) 0) (response_word passed packet (length ts) i (target_at ts i).id 0) ∷ Write (rx_slot w (add32 x i) 1) (response_word passed packet (length ts) i (target_at ts i).id 1) ∷ [] in
-    (t, subst (λ (s : Steps Outcome). Driven log gives s end bus new t) (sym (rx_answer_at w x packet passed (length ts) i ts h)) (record { gone = (_, (0, (refl, refl), refl), (_, (0, (refl, refl), refl), refl)); performed = q }))
+    Write (rx_slot w (add32 x i) 0) (response_word grants packet (length ts) i (target_at ts i).id 0) ∷ Write (rx_slot w (add32 x i) 1) (response_word grants packet (length ts) i (target_at ts i).id 1) ∷ [] in
+    (t, subst (λ (s : Steps Outcome). Driven log gives s end bus new t) (sym (rx_answer_at w x packet grants (length ts) i ts h)) (record { gone = (_, (0, (refl, refl), refl), (_, (0, (refl, refl), refl), refl)); performed = q }))

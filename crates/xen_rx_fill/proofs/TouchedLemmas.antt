@@ -11,6 +11,8 @@ use Rattle.xen_rx_fill.specs.Sending.{IsPosted, is_posted, AreTargets, all, refu
 use Rattle.xen_rx_fill.specs.Shared.{IsEntry, outside, inside, notices}
 use Rattle.xen_rx_fill.specs.Touched.{AreNext, here, later, IsGranted, IsAllowed, ring, entry_flags, entry_frame, source, tx_response, rx_response, pushed, announced, buffer, notified, instruction, loaded, added, AllAllowed}
 use Rattle.xen_rx_fill.specs.declared.by_event.phase.Outcome.{Outcome}
+use Rattle.xen_rx_fill.specs.declared.target.Grants.{Grants}
+use Rattle.xen_rx_fill.specs.declared.target.Grants.TheVariants.{Passed, Refused}
 use Rattle.xen_rx_fill.specs.declared.target.Target.{Target}
 use Rattle.xen_rx_fill.specs.declared.vif.Vif.{Vif}
 
@@ -86,38 +88,38 @@ posted_grants : (w : Vif) (i : ℕ) (p : List Event) (id : ℕ) (r : Result ℕ 
 posted_grants w i _ _ _ frame (is_posted a g p r la lg e) h =
     granted_on w true p (Read (rx_slot w i 0) a ∷ Read (rx_slot w i 1) g ∷ p) frame (back (Read (rx_slot w i 0) a ∷ Read (rx_slot w i 1) g ∷ []) p) (grants_by w true g p r frame e h)
 
-of_targets : (w : Vif) (t : List Event) (x i left : ℕ) (p : List Event) (ok : Bool) (ts : List Target) → AreTargets w x i left p ok ts → AllAllowed w t p
+of_targets : (w : Vif) (t : List Event) (x i left : ℕ) (p : List Event) (grants : Grants) (ts : List Target) → AreTargets w x i left p grants ts → AllAllowed w t p
 of_targets w t x _ _ _ _ _ (all i) = tt
 of_targets w t x _ _ _ _ _ (refusing i left id p fault o) = of_posted w t (add32 x i) p id (Err fault) o
-of_targets w t x _ _ _ _ _ (passing i left id frame p q ok ts o a) = append w t p q (of_posted w t (add32 x i) p id (Ok frame) o) (of_targets w t x (i + 1) left q ok ts a)
+of_targets w t x _ _ _ _ _ (passing i left id frame p q grants ts o a) = append w t p q (of_posted w t (add32 x i) p id (Ok frame) o) (of_targets w t x (i + 1) left q grants ts a)
 
-targets_grant : (w : Vif) (x i left : ℕ) (p : List Event) (ok : Bool) (ts : List Target) → AreTargets w x i left p ok ts → ok ≡ true → (j : ℕ) → j < length ts → IsGranted w true p (frame_in (target_at ts j).frame)
+targets_grant : (w : Vif) (x i left : ℕ) (p : List Event) (grants : Grants) (ts : List Target) → AreTargets w x i left p grants ts → grants ≡ Passed → (j : ℕ) → j < length ts → IsGranted w true p (frame_in (target_at ts j).frame)
 targets_grant w x _ _ _ _ _ (all i) e j l = absurd (omega arith)
 targets_grant w x _ _ _ _ _ (refusing i left id p fault o) e j l = cc
-targets_grant w x _ _ _ _ _ (passing i left id frame p q ok ts o a) e zero l = granted_on w true p (p ++ q) frame (front p q) (posted_grants w (add32 x i) p id (Ok frame) frame o refl)
-targets_grant w x _ _ _ _ _ (passing i left id frame p q ok ts o a) e (suc j) l =
-    granted_on w true q (p ++ q) (frame_in (target_at ts j).frame) (back p q) (targets_grant w x (i + 1) left q ok ts a e j (omega arith))
+targets_grant w x _ _ _ _ _ (passing i left id frame p q grants ts o a) e zero l = granted_on w true p (p ++ q) frame (front p q) (posted_grants w (add32 x i) p id (Ok frame) frame o refl)
+targets_grant w x _ _ _ _ _ (passing i left id frame p q grants ts o a) e (suc j) l =
+    granted_on w true q (p ++ q) (frame_in (target_at ts j).frame) (back p q) (targets_grant w x (i + 1) left q grants ts a e j (omega arith))
 
-targets_count : (w : Vif) (x i left : ℕ) (p : List Event) (ok : Bool) (ts : List Target) → AreTargets w x i left p ok ts → ok ≡ true → length ts ≡ left
+targets_count : (w : Vif) (x i left : ℕ) (p : List Event) (grants : Grants) (ts : List Target) → AreTargets w x i left p grants ts → grants ≡ Passed → length ts ≡ left
 targets_count w x _ _ _ _ _ (all i) e = refl
 targets_count w x _ _ _ _ _ (refusing i left id p fault o) e = cc
-targets_count w x _ _ _ _ _ (passing i left id frame p q ok ts o a) e = ap suc (targets_count w x (i + 1) left q ok ts a e)
+targets_count w x _ _ _ _ _ (passing i left id frame p q grants ts o a) e = ap suc (targets_count w x (i + 1) left q grants ts a e)
 
 of_fill : (w : Vif) (t : List Event) (ts : List Target) (packet : List ℕ) (n k : ℕ) → ((j : ℕ) → j < k + n → IsGranted w true t (frame_in (target_at ts (j / 1024)).frame)) → AllAllowed w t (buffer_writes ts packet n k)
 of_fill w t ts packet zero k h = tt
 of_fill w t ts packet (suc n) k h =
     (buffer (frame_in (target_at ts (k / 1024)).frame) (k % 1024) (word_of packet k) (omega arith) (h k (omega arith)), of_fill w t ts packet n (k + 1) (λ j l. h j (omega arith)))
 
-of_rx_writes : (w : Vif) (t : List Event) (x : ℕ) (packet : List ℕ) (passed : Bool) (n i : ℕ) (ts : List Target) → AllAllowed w t (rx_writes w x packet passed n i ts)
-of_rx_writes w t x packet passed n i [] = tt
-of_rx_writes w t x packet passed n i (s ∷ ts) =
-    (rx_response (add32 x i) 0 (response_word passed packet n i s.id 0) (omega arith), (rx_response (add32 x i) 1 (response_word passed packet n i s.id 1) (omega arith), of_rx_writes w t x packet passed n (i + 1) ts))
+of_rx_writes : (w : Vif) (t : List Event) (x : ℕ) (packet : List ℕ) (grants : Grants) (n i : ℕ) (ts : List Target) → AllAllowed w t (rx_writes w x packet grants n i ts)
+of_rx_writes w t x packet grants n i [] = tt
+of_rx_writes w t x packet grants n i (s ∷ ts) =
+    (rx_response (add32 x i) 0 (response_word grants packet n i s.id 0) (omega arith), (rx_response (add32 x i) 1 (response_word grants packet n i s.id 1) (omega arith), of_rx_writes w t x packet grants n (i + 1) ts))
 
-of_rx_respond : (w : Vif) (t : List Event) (x : ℕ) (packet : List ℕ) (passed : Bool) (ts : List Target) (p : List Event) → IsRxRespond w x packet passed ts p → AllAllowed w t p
-of_rx_respond w t x packet passed ts p h =
+of_rx_respond : (w : Vif) (t : List Event) (x : ℕ) (packet : List ℕ) (grants : Grants) (ts : List Target) (p : List Event) → IsRxRespond w x packet grants ts p → AllAllowed w t p
+of_rx_respond w t x packet grants ts p h =
     let q : List Event = Write (rx_word w 2) (add32 x (length ts)) ∷ Read (rx_word w 3) h.0 ∷ notices w (is_due x (add32 x (length ts)) h.0) in
     subst (λ l. AllAllowed w t l) (sym h.2)
-    (append w t (rx_writes w x packet passed (length ts) 0 ts) q (of_rx_writes w t x packet passed (length ts) 0 ts)
+    (append w t (rx_writes w x packet grants (length ts) 0 ts) q (of_rx_writes w t x packet grants (length ts) 0 ts)
     (pushed w.rx (add32 x (length ts)) (inr refl), (ring w.rx 3 h.0 (inr refl) (omega arith), of_notices w t (is_due x (add32 x (length ts)) h.0))))
 
 page_of : (len k : ℕ) → k < (len + 3) / 4 → k / 1024 < (len + 4095) / 4096
@@ -128,17 +130,17 @@ of_transmit w x packet _ _ (rx_overflow p l e) = (ring w.rx 0 p (inr refl) (omeg
 of_transmit w x packet _ _ (too_few p m l e h) = (ring w.rx 0 p (inr refl) (omega arith), tt)
 of_transmit w x packet _ _ (refused p m p1 p2 ts l e le a r) =
     let t : List Event = Read (rx_word w 0) p ∷ (p1 ++ p2) in
-    (ring w.rx 0 p (inr refl) (omega arith), append w t p1 p2 (of_targets w t x 0 (pages packet) p1 false ts a) (of_rx_respond w t x packet false ts p2 r))
+    (ring w.rx 0 p (inr refl) (omega arith), append w t p1 p2 (of_targets w t x 0 (pages packet) p1 Refused ts a) (of_rx_respond w t x packet Refused ts p2 r))
 of_transmit w x packet _ _ (sent p m p1 p2 ts l e le a r) =
     let fills = buffer_writes ts packet (words packet) 0 in
     let q : List Event = fills ++ p2 in
     let t : List Event = Read (rx_word w 0) p ∷ (p1 ++ q) in
-    let n : length ts ≡ pages packet = targets_count w x 0 (pages packet) p1 true ts a refl in
+    let n : length ts ≡ pages packet = targets_count w x 0 (pages packet) p1 Passed ts a refl in
     let on : Has p1 t = λ e f i. later (Read (rx_word w 0) p) (p1 ++ q) (front p1 q e f i) in (
       ring w.rx 0 p (inr refl) (omega arith),
-      append w t p1 q (of_targets w t x 0 (pages packet) p1 true ts a)
+      append w t p1 q (of_targets w t x 0 (pages packet) p1 Passed ts a)
           (append w t fills p2
           (of_fill w t ts packet (words packet) 0 (λ j k. granted_on w true p1 t (frame_in (target_at ts (j / 1024)).frame) on
-          (targets_grant w x 0 (pages packet) p1 true ts a refl (j / 1024) (rw n (page_of (length packet) j (omega arith))))))
-          (of_rx_respond w t x packet true ts p2 r)),
+          (targets_grant w x 0 (pages packet) p1 Passed ts a refl (j / 1024) (rw n (page_of (length packet) j (omega arith))))))
+          (of_rx_respond w t x packet Passed ts p2 r)),
     )

@@ -27,12 +27,12 @@ rest_of w x packet (phase.EntryFlags g) =
 rest_of w x packet (phase.EntryFrame g a) =
     bind (bind (entry_checked w true g.at a) (targeted g.targets (read_targets w x g.left) g.id)) (after_targets w x packet)
 rest_of w x packet (phase.Filling targets k) = fill_from w x packet targets k
-rest_of w x packet (phase.Response passed targets i) = rx_answer w x packet passed (length targets) i (drop i targets)
+rest_of w x packet (phase.Response grants targets i) = rx_answer w x packet grants (length targets) i (drop i targets)
 rest_of w x packet (phase.HalfResponse h) =
-    ask (want.Write (rx_slot w (add32 x h.i) 1) (response_word h.passed packet (length h.targets) h.i (target_at h.targets h.i).id 1))
-    (λ _. rx_answer w x packet h.passed (length h.targets) (h.i + 1) (drop (h.i + 1) h.targets))
-rest_of w x packet (phase.ReadEvent passed n) = rx_event w x passed n
-rest_of w x packet (phase.Notice passed n) = rx_notice w true (outcome_of passed n)
+    ask (want.Write (rx_slot w (add32 x h.i) 1) (response_word h.grants packet (length h.targets) h.i (target_at h.targets h.i).id 1))
+    (λ _. rx_answer w x packet h.grants (length h.targets) (h.i + 1) (drop (h.i + 1) h.targets))
+rest_of w x packet (phase.ReadEvent grants n) = rx_event w x grants n
+rest_of w x packet (phase.Notice grants n) = rx_notice w true (outcome_of grants n)
 rest_of w x packet (phase.Over o) = done o
 
 -- what is left after one of its events

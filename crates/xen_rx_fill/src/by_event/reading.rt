@@ -1,6 +1,6 @@
 //! Reading the posted slots and their grants.
 
-ghost use Rattle.std.specs.Prelude.{◌≡◌, ◌+◌, ◌<◌, ◌≤◌, ◌++◌, [], ◌∷◌, List, ℕ, length, true, false, None, Some};
+ghost use Rattle.std.specs.Prelude.{◌≡◌, ◌+◌, ◌<◌, ◌≤◌, ◌++◌, [], ◌∷◌, List, ℕ, length, true, None, Some};
 ghost use Rattle.xen_netif.specs.declared.rx.RxReq.{RxReq};
 ghost use Rattle.xen_page.specs.Entry.{entry_of};
 ghost use Rattle.xen_page.specs.Grant.{checked};
@@ -11,10 +11,11 @@ ghost use Rattle.xen_rx_fill.specs.Rest.{rest_of};
 ghost use Rattle.xen_steps.specs.Steps.{bind};
 ghost use Rattle.xen_rx_fill.specs.Transmit.{after_targets, found as found_spec, posted_second, read_targets};
 ghost use Rattle.xen_rx_fill.specs.Transmit.{requested as requested_spec, rx_respond, targeted};
+ghost use Rattle.xen_rx_fill.specs.declared.target.Grants.TheVariants.{Refused};
 ghost use Rattle.xen_rx_fill.specs.declared.vif.Vif.{Vif as VifView};
 
 use crate::by_event::phase::{Granting, Outcome, Phase, Posting};
-use crate::target::{Target, Targets};
+use crate::target::{Grants, Target, Targets};
 use crate::vif::Vif;
 use crate::words::pages_of;
 use xen_netif::RxReq;
@@ -132,12 +133,12 @@ pub(crate) fn after_entry(vif: &Vif, granting: Granting, flags_word: u32, frame_
 fn refused(targets: Targets, id: u16) -> Phase
     requires { length targets < 16 }
     ensures { (v : VifView) (x : ℕ) (packet : List ℕ) → rest_of v x packet result
-        ≡ rx_respond v x packet false (targets ++ record { id = id; frame = None } ∷ []) }
+        ≡ rx_respond v x packet Refused (targets ++ record { id = id; frame = None } ∷ []) }
 {
     let mut targets = targets;
     targets.push(Target { id, frame: None });
     Phase::Response {
-        passed: false,
+        grants: Grants::Refused,
         targets,
         i: 0,
     }

@@ -1,6 +1,6 @@
 //! A transmit that goes straight through over a bus: no phase is made.
 
-ghost use Rattle.std.specs.Prelude.{◌≡◌, ◌≤◌, ◌<◌, ◌+◌, ◌-◌, ◌*◌, ◌∷◌, ◌^◌, [], Bool, IfOk, List, ℕ, length, true};
+ghost use Rattle.std.specs.Prelude.{◌≡◌, ◌≤◌, ◌<◌, ◌+◌, ◌-◌, ◌*◌, ◌∷◌, ◌^◌, [], IfOk, List, ℕ, length, true};
 ghost use Rattle.xen_netif.specs.Slots.{rx_req_of};
 ghost use Rattle.xen_page.specs.Access.{Performs};
 ghost use Rattle.xen_page.specs.Entry.{entry_of};
@@ -18,10 +18,11 @@ ghost use Rattle.xen_rx_fill.specs.Straight.{Completes, scanned};
 ghost use Rattle.xen_rx_fill.specs.Transmit.{after_targets, fill, found, outcome_of, read_targets as read_targets_spec};
 ghost use Rattle.xen_rx_fill.specs.Transmit.{rx_publish, rx_respond, transmit};
 ghost use Rattle.xen_rx_fill.specs.Wired.{IsWired};
+ghost use Rattle.xen_rx_fill.specs.declared.target.Grants.{Grants as GrantsView};
 
 use crate::by_event::phase::Outcome;
 use crate::by_event::writing::outcome;
-use crate::target::{Target, Targets};
+use crate::target::{Grants, Target, Targets};
 use crate::vif::Vif;
 use crate::words::{buffer_frame, packet_word, pages_of, response, words_of};
 use xen_netif::RxReq;
@@ -87,14 +88,14 @@ pub fn read_grant<B: Bus>(vif: &Vif, bus: &mut B, gref: u32, write: bool) -> Res
     }
 }
 
-/// Reads so many slots with their grants, up to one that is refused. Whether all have passed.
+/// Reads so many slots with their grants, up to one that is refused.
 fn read_targets<B: Bus>(
     vif: &Vif,
     rx_index: u32,
     bus: &mut B,
     slots: u32,
     targets: &mut Targets,
-) -> bool
+) -> Grants
     requires few { slots ≤ 16 }
     requires none { targets.old ≡ [] }
     requires size { B.size bus.old ≡ length vif.now.owners.now }
@@ -111,10 +112,10 @@ fn read_targets<B: Bus>(
             frame,
         });
         if frame.is_none() {
-            return false;
+            return Grants::Refused;
         }
     }
-    true
+    Grants::Passed
 }
 
 /// Writes the words in a packet's i-th page into their buffer: those that lie whole in the packet as a run, then one whose end is zeros.
@@ -156,19 +157,19 @@ fn write_responses<B: Bus>(
     vif: &Vif,
     rx_index: u32,
     bus: &mut B,
-    passed: bool,
+    grants: Grants,
     targets: &Targets,
     packet: &[u8],
 )
     requires short { length packet.now ≤ 65535 }
     requires frame { vif.now.rx < B.size bus.old }
     ensures size { B.size bus.new ≡ B.size bus.old }
-    ensures driven { (t : List Event) × Driven B.log B.access_gives (rx_respond vif.now rx_index packet.now passed targets.now)
-        (rx_publish vif.now rx_index passed (length targets.now)) bus.old bus.new t }
+    ensures driven { (t : List Event) × Driven B.log B.access_gives (rx_respond vif.now rx_index packet.now grants targets.now)
+        (rx_publish vif.now rx_index grants (length targets.now)) bus.old bus.new t }
 {
     for i in 0..targets.len() {
         let index = rx_index.wrapping_add(i);
-        let [first, second] = response(passed, packet, targets, i).words();
+        let [first, second] = response(grants, packet, targets, i).words();
         bus.write(rx_entry(vif.rx, index, 0), first);
         bus.write(rx_entry(vif.rx, index, 1), second);
     }
@@ -178,8 +179,8 @@ fn write_responses<B: Bus>(
 fn push_responses<B: Bus>(vif: &Vif, rx_index: u32, bus: &mut B, ports: &Ports, n: u32)
     requires frame { vif.now.rx < B.size bus.old }
     ensures size { B.size bus.new ≡ B.size bus.old }
-    ensures driven { (passed : Bool) → (t : List Event) × Driven B.log B.access_gives (rx_publish vif.now rx_index passed n)
-        (done (outcome_of passed n)) bus.old bus.new t }
+    ensures driven { (grants : GrantsView) → (t : List Event) × Driven B.log B.access_gives (rx_publish vif.now rx_index grants n)
+        (done (outcome_of grants n)) bus.old bus.new t }
 {
     let next = rx_index.wrapping_add(n);
     bus.write(header(vif.rx, RSP_PROD), next);
@@ -207,14 +208,14 @@ fn send_pages<B: Bus>(
         bus.old bus.new t }
 {
     let mut targets = Targets::new();
-    let passed = read_targets(vif, rx_index, bus, pages_of(packet), &mut targets);
-    if passed {
+    let grants = read_targets(vif, rx_index, bus, pages_of(packet), &mut targets);
+    if grants == Grants::Passed {
         fill_buffers(bus, &targets, packet);
     }
-    write_responses(vif, rx_index, bus, passed, &targets, packet);
+    write_responses(vif, rx_index, bus, grants, &targets, packet);
     let n = targets.len();
     push_responses(vif, rx_index, bus, ports, n);
-    outcome(passed, n)
+    outcome(grants, n)
 }
 
 /// A transmit of a packet, whose first rx slot is at this index.
