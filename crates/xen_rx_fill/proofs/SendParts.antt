@@ -204,6 +204,6 @@ module _ (w : Vif) (x : ℕ) (packet : List ℕ) where
   )
   runs_transmit _ _ (refused p m p1 p2 ts l e le a r) = runs_found p m p1 p2 Refused ts (outcome.Refused (length ts)) l e le a (runs_respond w x packet Refused ts p2 r)
   runs_transmit _ _ (sent p m p1 p2 ts l e le a r) =
-      runs_found p m p1 (buffer_writes ts packet (words packet) 0 ++ p2) true ts (outcome.Sent (length ts)) l e le a
+      runs_found p m p1 (buffer_writes ts packet (words packet) 0 ++ p2) Passed ts (outcome.Sent (length ts)) l e le a
       (subst (λ n. Runs (bind (fill ts packet n 0) (λ _. rx_respond w x packet Passed ts)) (buffer_writes ts packet (words packet) 0 ++ p2) (outcome.Sent (length ts))) (sym (less_none (words packet)))
       (join (fill ts packet (words packet) 0) (λ _. rx_respond w x packet Passed ts) (buffer_writes ts packet (words packet) 0) p2 tt (outcome.Sent (length ts)) (runs_fill ts packet (words packet) 0) (runs_respond w x packet Passed ts p2 r)))

@@ -209,8 +209,9 @@ fn send_pages<B: Bus>(
 {
     let mut targets = Targets::new();
     let grants = read_targets(vif, rx_index, bus, pages_of(packet), &mut targets);
-    if grants == Grants::Passed {
-        fill_buffers(bus, &targets, packet);
+    match grants {
+        Grants::Passed => fill_buffers(bus, &targets, packet),
+        Grants::Refused => {}
     }
     write_responses(vif, rx_index, bus, grants, &targets, packet);
     let n = targets.len();
