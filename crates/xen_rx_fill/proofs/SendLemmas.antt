@@ -1,5 +1,5 @@
 -- Laws of the computations of a transmit, and of a transmit before what follows it.
-use Rattle.std.proofs.Common.{◌≡◌, ℕ, zero, suc, ◌+◌, ◌-◌, ◌<◌, Bool, true, IsTrue, List, [], ◌∷◌, length, drop, refl, arith, sym, ◌∙◌, ap, None}
+use Rattle.std.proofs.Common.{◌≡◌, ℕ, zero, suc, ◌+◌, ◌-◌, ◌<◌, IsTrue, List, [], ◌∷◌, length, drop, refl, arith, sym, ◌∙◌, ap, None}
 use Rattle.std.proofs.lemmas.List.{drop_more}
 use Rattle.xen_rx_fill.specs.Going.{is_going}
 use Rattle.xen_rx_fill.specs.Packets.{buffer_word, response_word, target_at, word_of, words}
