@@ -51,7 +51,16 @@ fn ring(alloc: Global, owners: &Owners, table: &Table, gref: u32, frame: u32) ->
         return None;
     }
     match ScriptBus::make(alloc, FRAMES, &[1, frame, 1], 0) {
-        Ok(mut bus) => map(&mut bus, table, owners, FRONT, BACK, gref, Rights::ReadWrite).ok(),
+        Ok(mut bus) => map(
+            &mut bus,
+            table,
+            owners,
+            FRONT,
+            BACK,
+            gref,
+            Rights::ReadWrite,
+        )
+        .ok(),
         Err(_) => None,
     }
 }

@@ -6,7 +6,8 @@ ghost use Rattle.xen_page.specs.Table.{IsTable};
 
 use std::alloc::{AllocError, Global};
 use xen_page::{
-    Access, Bus, Entry, GrantFault, Mapped, Owners, Place, Rights, ScriptBus, Table, check, map, unmap,
+    Access, Bus, Entry, GrantFault, Mapped, Owners, Place, Rights, ScriptBus, Table, check, map,
+    unmap,
 };
 
 pub const BACK: u16 = 0;
@@ -127,7 +128,11 @@ fn ended_over(
 }
 
 /// The same with a table of one frame.
-pub fn ended(alloc: Global, answers: &[u32], rights: Rights) -> Option<(Option<(Seen, bool)>, Log)> {
+pub fn ended(
+    alloc: Global,
+    answers: &[u32],
+    rights: Rights,
+) -> Option<(Option<(Seen, bool)>, Log)> {
     let owners = owners(alloc).ok()?;
     let table = Table::make(&owners, FRONT, &[1])?;
     if table.is_within(FRAMES) {

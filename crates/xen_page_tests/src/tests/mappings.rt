@@ -6,7 +6,9 @@ ghost use Rattle.xen_page.specs.Table.{IsTable};
 
 use crate::bench::{BACK, FRAMES, FRONT, ended, log, mapped, owners};
 use std::alloc::Global;
-use xen_page::{Access, Bus, Frames, GrantFault, Owners, PageBus, Place, Rights, Table, map, unmap};
+use xen_page::{
+    Access, Bus, Frames, GrantFault, Owners, PageBus, Place, Rights, Table, map, unmap,
+};
 
 /// The flags word of reference 5 of a table in frame 1.
 const FLAGS: Place = Place { frame: 1, word: 10 };

@@ -75,7 +75,12 @@ fn read_entry<B: Bus>(vif: &Vif, bus: &mut B, at: Place, rights: Rights) -> Resu
 }
 
 /// The frame that a reference grants with these rights.
-pub fn read_grant<B: Bus>(vif: &Vif, bus: &mut B, gref: u32, rights: Rights) -> Result<u32, GrantFault>
+pub fn read_grant<B: Bus>(
+    vif: &Vif,
+    bus: &mut B,
+    gref: u32,
+    rights: Rights,
+) -> Result<u32, GrantFault>
     requires size { B.size bus.old ≡ length vif.now.owners.now }
     requires wired { IsWired vif.now }
     ensures size { B.size bus.new ≡ B.size bus.old }
