@@ -17,6 +17,8 @@ use Rattle.xen_page.specs.Mapping.{frame_place}
 use Rattle.xen_page.specs.Table.{entry_place}
 use Rattle.xen_page.specs.declared.fault.GrantFault.{GrantFault}
 use Rattle.xen_page.specs.declared.place.Place.{Place}
+use Rattle.xen_page.specs.declared.entry.Rights.{Rights}
+use Rattle.xen_page.specs.declared.entry.Rights.TheVariants.{ReadOnly, ReadWrite}
 use Rattle.xen_ring.specs.Index.{distance, is_due}
 use Rattle.xen_steps.specs.Event.{Event, Read, Write, Instr, Load, Add, Notify}
 use Rattle.xen_steps.specs.Pages.{page_reads}
@@ -113,9 +115,9 @@ page_read : (frame place : ℕ) (vs : List ℕ) → places_read (page_reads fram
 page_read frame place [] = refl
 page_read frame place (v ∷ vs) = ap (λ l. page_word frame place ∷ l) (page_read frame (place + 1) vs)
 
-entry_read : (w : Wiring) (write : Bool) (gref : ℕ) (p : List Event) (r : Result ℕ GrantFault) → IsEntry w.vif write gref p r → places_read p ≡ entry_places (entry_place w.vif.table.now gref)
-entry_read w write gref _ _ (outside e) = sym (ap entry_places e)
-entry_read w write gref _ _ (inside at a b e l m) = sym (ap entry_places e)
+entry_read : (w : Wiring) (rights : Rights) (gref : ℕ) (p : List Event) (r : Result ℕ GrantFault) → IsEntry w.vif rights gref p r → places_read p ≡ entry_places (entry_place w.vif.table.now gref)
+entry_read w rights gref _ _ (outside e) = sym (ap entry_places e)
+entry_read w rights gref _ _ (inside at a b e l m) = sym (ap entry_places e)
 
 -- what is granted is the value
 value_of : (demands : List (Bool × GrantFault)) (value frame : ℕ) → first_fault demands value ≡ Ok frame → value ≡ frame
@@ -124,11 +126,11 @@ value_of ((true, fault) ∷ demands) value frame e = value_of demands value fram
 value_of ((false, fault) ∷ demands) value frame e = let no : ⊥ = cc in absurd no
 
 -- a granted frame is what the second word of its entry was answered
-granted_frame : (w : Wiring) (write : Bool) (gref : ℕ) (p : List Event) (r : Result ℕ GrantFault) (frame : ℕ) → IsEntry w.vif write gref p r → r ≡ Ok frame →
+granted_frame : (w : Wiring) (rights : Rights) (gref : ℕ) (p : List Event) (r : Result ℕ GrantFault) (frame : ℕ) → IsEntry w.vif rights gref p r → r ≡ Ok frame →
     (at : Place) × (entry_place w.vif.table.now gref ≡ Some at) × Contains p (Read (frame_place at) frame)
-granted_frame w write gref _ _ frame (outside e) f = let no : ⊥ = cc in absurd no
-granted_frame w write gref _ _ frame (inside at a b e l m) f =
-    let same : b ≡ frame = value_of (demands w.vif.owners.now w.vif.granter w.vif.user (entry_of a b) write) b frame f in
+granted_frame w rights gref _ _ frame (outside e) f = let no : ⊥ = cc in absurd no
+granted_frame w rights gref _ _ frame (inside at a b e l m) f =
+    let same : b ≡ frame = value_of (demands w.vif.owners.now w.vif.granter w.vif.user (entry_of a b) rights) b frame f in
     (at, e, (1, omega arith, ap (Read (frame_place at)) same))
 
 abbrev Within : List Event → List Event → Type 0
@@ -149,12 +151,12 @@ none_behind bytes (Some later) e = let no : ⊥ = cc in absurd no
 
 pub fragments_once : FragmentsOnce
 fragments_once w _ _ _ copied = ([], refl, tt, λ h. refl, λ h. let no : ⊥ = cc in absurd no)
-fragments_once w _ _ _ (denied f fs p fault e) = ([], entry_read w false f.gref p (Err fault) e, tt, λ h. absurd (h refl), λ h. omega arith)
+fragments_once w _ _ _ (denied f fs p fault e) = ([], entry_read w ReadOnly f.gref p (Err fault) e, tt, λ h. absurd (h refl), λ h. omega arith)
 fragments_once w _ _ _ (part f fs p q frame words out e count below c) =
     let i = fragments_once w fs q out c in
     let reads = page_reads frame (f.offset / 4) words in
     let words_read : places_read reads ≡ page_places frame (f.offset / 4) (covered f) = page_read frame (f.offset / 4) words ∙ ap (page_places frame (f.offset / 4)) count in
-    let entry = entry_read w false f.gref p (Ok frame) e in
+    let entry = entry_read w ReadOnly f.gref p (Ok frame) e in
     let first = granted_frame w false f.gref p (Ok frame) frame e refl in
     let behind_it : Within q (p ++ (reads ++ q)) = λ e h. Contains-append_right p (reads ++ q) e (Contains-append_right reads q e h) in (
       frame ∷ i.0,
@@ -171,7 +173,7 @@ fragments_once w _ _ _ (part f fs p q frame words out e count below c) =
 posted_read : (w : Wiring) (i : ℕ) (p : List Event) (id : ℕ) (r : Result ℕ GrantFault) → IsPosted w.vif i p id r →
     (gref : ℕ) × (places_read p ≡ rx_slot w.vif i 0 ∷ rx_slot w.vif i 1 ∷ entry_places (entry_place w.vif.table.now gref)) × Contains p (Read (rx_slot w.vif i 1) gref)
 posted_read w i _ _ _ (is_posted a g p r la lg e) =
-    (g, ap (λ l. rx_slot w.vif i 0 ∷ rx_slot w.vif i 1 ∷ l) (entry_read w true g p r e), (1, omega arith, refl))
+    (g, ap (λ l. rx_slot w.vif i 0 ∷ rx_slot w.vif i 1 ∷ l) (entry_read w ReadWrite g p r e), (1, omega arith, refl))
 
 pub targets_once : TargetsOnce
 targets_once w x _ _ _ _ _ (all i) = ([], refl, refl, tt)

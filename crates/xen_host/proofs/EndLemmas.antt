@@ -197,7 +197,7 @@ turn_split : (e : Engine) (last : Ask) (left : Steps Ending) → TurnEnds e last
     ((k : Kind) × (last ≡ ask.TurnOver k) × IsTurnOver e k left) ⊎ IsOn (rest_in (wiring_of e.wires) e.state e.stage e.work) (reads_in e.stage) (is_turning e.stage) last left
 turn_split e (ask.TurnOver k) left h = inl (k, refl, h)
 turn_split e (ask.Read at count) left h = inr h
-turn_split e (ask.Entry at reference written) left h = inr h
+turn_split e (ask.Entry at reference rights) left h = inr h
 turn_split e (ask.Write at count) left h = inr h
 turn_split e (ask.Store at word) left h = inr h
 turn_split e (ask.StoreTwo at x y) left h = inr h
@@ -210,7 +210,7 @@ delivery_split : (packet : List ℕ) (e : Engine) (last : Ask) (left : Steps Arr
     ((what : Delivery) × (last ≡ ask.DeliveryOver what) × (e.stage ≡ stage.Ready)) ⊎ IsOn (rest_of_delivery (vif_of e.wires) e.state e.stage e.work) (reads_in e.stage) (is_delivering e.stage) last left
 delivery_split packet e (ask.DeliveryOver what) left h = inl (what, refl, h.1)
 delivery_split packet e (ask.Read at count) left h = inr h.0
-delivery_split packet e (ask.Entry at reference written) left h = inr h.0
+delivery_split packet e (ask.Entry at reference rights) left h = inr h.0
 delivery_split packet e (ask.Write at count) left h = inr h.0
 delivery_split packet e (ask.Store at word) left h = inr h.0
 delivery_split packet e (ask.StoreTwo at x y) left h = inr h.0
@@ -223,7 +223,7 @@ wait_split : (packet : List ℕ) (e : Engine) (last : Ask) (left : Steps Wait) �
     ((what : Awaited) × (last ≡ ask.WaitOver what) × (e.stage ≡ stage.Ready)) ⊎ IsOn (rest_of_wait e.wires.rx e.state e.stage) (reads_in e.stage) (is_waiting e.stage) last left
 wait_split packet e (ask.WaitOver what) left h = inl (what, refl, h.1)
 wait_split packet e (ask.Read at count) left h = inr h.0
-wait_split packet e (ask.Entry at reference written) left h = inr h.0
+wait_split packet e (ask.Entry at reference rights) left h = inr h.0
 wait_split packet e (ask.Write at count) left h = inr h.0
 wait_split packet e (ask.Store at word) left h = inr h.0
 wait_split packet e (ask.StoreTwo at x y) left h = inr h.0

@@ -8,6 +8,8 @@ use Rattle.xen_netif.specs.declared.fragment.Fragment.{Fragment}
 use Rattle.xen_netif.specs.declared.status.Status.{Status}
 use Rattle.xen_page.specs.declared.fault.GrantFault.{GrantFault}
 use Rattle.xen_page.specs.declared.place.Place.{Place}
+use Rattle.xen_page.specs.declared.entry.Rights.{Rights}
+use Rattle.xen_page.specs.declared.entry.Rights.TheVariants.{ReadOnly, ReadWrite}
 use Rattle.xen_ring.specs.Index.{is_due}
 use Rattle.xen_steps.specs.Event.{Event, Read, Write, Instr, Load, Add, Notify}
 use Rattle.xen_steps.specs.Pages.{page_reads}
@@ -60,9 +62,9 @@ behind_calm w (Load m i j v ∷ t) u c h = behind_one w (Load m i j v) (t ++ u) 
 behind_calm w (Add m i j delta old ∷ t) u c h = behind_one w (Add m i j delta old) (t ++ u) (λ f p. p) (behind_calm w t u c h)
 behind_calm w (Notify port ∷ t) u c h = behind_one w (Notify port) (t ++ u) (λ f p. p) (behind_calm w t u c h)
 
-calm_entry : (w : Vif) (write : Bool) (gref : ℕ) (t : List Event) (r : Result ℕ GrantFault) → IsEntry w write gref t r → IsCalm t
-calm_entry w write gref _ _ (outside e) = tt
-calm_entry w write gref _ _ (inside at a b e k l) = tt
+calm_entry : (w : Vif) (rights : Rights) (gref : ℕ) (t : List Event) (r : Result ℕ GrantFault) → IsEntry w rights gref t r → IsCalm t
+calm_entry w rights gref _ _ (outside e) = tt
+calm_entry w rights gref _ _ (inside at a b e k l) = tt
 
 calm_page : (frame place : ℕ) (vs : List ℕ) → IsCalm (page_reads frame place vs)
 calm_page frame place [] = tt
@@ -70,10 +72,10 @@ calm_page frame place (v ∷ vs) = calm_page frame (place + 1) vs
 
 calm_copy : (w : Wiring) (fs : List Fragment) (t : List Event) (o : Option (List ℕ)) → IsCopy w fs t o → IsCalm t
 calm_copy w _ _ _ copied = tt
-calm_copy w _ _ _ (denied f fs t fault e) = calm_entry w.vif false f.gref t (Err fault) e
+calm_copy w _ _ _ (denied f fs t fault e) = calm_entry w.vif ReadOnly f.gref t (Err fault) e
 calm_copy w _ _ _ (part f fs t u frame vs out e l b c) =
     let reads = page_reads frame (f.offset / 4) vs in
-    calm_append t (reads ++ u) (calm_entry w.vif false f.gref t (Ok frame) e) (calm_append reads u (calm_page frame (f.offset / 4) vs) (calm_copy w fs u out c))
+    calm_append t (reads ++ u) (calm_entry w.vif ReadOnly f.gref t (Ok frame) e) (calm_append reads u (calm_page frame (f.offset / 4) vs) (calm_copy w fs u out c))
 
 calm_slot : (w : Wiring) (i : ℕ) (s : Slot) → IsCalm (slot_reads w i s)
 calm_slot w i [] = tt
@@ -93,7 +95,7 @@ calm_program (Some (op.Load m k j v) ∷ labels) = calm_program labels
 calm_program (Some (op.Add m k j delta old) ∷ labels) = calm_program labels
 
 calm_posted : (w : Vif) (i : ℕ) (t : List Event) (id : ℕ) (r : Result ℕ GrantFault) → IsPosted w i t id r → IsCalm t
-calm_posted w i _ _ _ (is_posted a g t r k l e) = calm_entry w true _ t r e
+calm_posted w i _ _ _ (is_posted a g t r k l e) = calm_entry w ReadWrite _ t r e
 
 calm_targets : (w : Vif) (x i left : ℕ) (t : List Event) (grants : Grants) (ts : List Target) → AreTargets w x i left t grants ts → IsCalm t
 calm_targets w x _ _ _ _ _ (all i) = tt

@@ -6,6 +6,7 @@ ghost use Rattle.std.specs.Prelude.{slice_index};
 ghost use Rattle.xen_netif.specs.Slots.{rx_req_of};
 ghost use Rattle.xen_page.specs.Entry.{entry_of};
 ghost use Rattle.xen_page.specs.Grant.{checked};
+ghost use Rattle.xen_page.specs.declared.entry.Rights.TheVariants.{ReadWrite};
 ghost use Rattle.xen_ring.specs.Index.{is_due};
 ghost use Rattle.xen_steps.specs.Places.{add32, available, page_word};
 ghost use Rattle.xen_steps.specs.Steps.{bind, done};
@@ -33,7 +34,7 @@ use crate::op::Op;
 use crate::stage::{Fill, Purpose, Stage};
 use crate::work::Work;
 use xen_netif::RxReq;
-use xen_page::{Entry, Place, check};
+use xen_page::{Entry, Place, Rights, check};
 use xen_ring::{REQ_PROD, RSP_EVENT, RSP_PROD, due};
 use xen_rx_fill::{Grants, Outcome, Target, Targets, buffer_frame, pages_of, response, words_of};
 use xen_steps::{header, requests_shown, rx_entry};
@@ -135,7 +136,7 @@ impl Engine {
                     fill: Fill::Grant { left, id, at },
                     purpose,
                 };
-                say(ops, Op::read_entry(at, gref, true))
+                say(ops, Op::read_entry(at, gref, Rights::ReadWrite))
             }
         }
     }
@@ -169,7 +170,7 @@ impl Engine {
         ensures words { length words.new ≡ length words.old }
         ensures led { FillLed purpose (beside self.old) (bind (targeted self.old.work.targets (read_targets (vif_of
             self.old.wires) self.old.state.rx_index left) id (checked self.old.wires.owners self.old.wires.granter
-            self.old.wires.user (entry_of (slice_index words.old 0) (slice_index words.old 1)) true)) (after_targets (vif_of
+            self.old.wires.user (entry_of (slice_index words.old 0) (slice_index words.old 1)) ReadWrite)) (after_targets (vif_of
             self.old.wires) self.old.state.rx_index self.old.work.packet)) self.new ops.old ops.new result words.old words.new }
     {
         let entry = Entry::of_words(words[0], words[1]);
@@ -178,7 +179,7 @@ impl Engine {
             self.wires.granter,
             self.wires.user,
             entry,
-            true,
+            Rights::ReadWrite,
         ) {
             Err(_) => self.refuse_post(purpose, id, ops),
             Ok(frame) => {

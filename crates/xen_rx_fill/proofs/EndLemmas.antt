@@ -5,6 +5,8 @@ use Rattle.xen_netif.specs.Slots.{rx_req_of}
 use Rattle.xen_page.specs.Table.{entry_place}
 use Rattle.xen_page.specs.declared.fault.GrantFault.{GrantFault}
 use Rattle.xen_page.specs.declared.place.Place.{Place}
+use Rattle.xen_page.specs.declared.entry.Rights.{Rights}
+use Rattle.xen_page.specs.declared.entry.Rights.TheVariants.{ReadWrite}
 use Rattle.xen_ring.specs.Index.{is_due}
 use Rattle.xen_steps.specs.Drive.{Any}
 use Rattle.xen_steps.specs.Finish.{Ends}
@@ -22,9 +24,9 @@ use Rattle.xen_rx_fill.specs.declared.target.Target.{Target}
 use Rattle.xen_rx_fill.specs.declared.vif.Vif.{Vif}
 
 module _ (w : Vif) where
-  pub ends_entry : (write : Bool) (o : Option Place) → Ends Any (entry_at w write o)
-  ends_entry write None = tt
-  ends_entry write (Some at) = (tt, λ a e o. (tt, λ b x p. tt))
+  pub ends_entry : (rights : Rights) (o : Option Place) → Ends Any (entry_at w rights o)
+  ends_entry rights None = tt
+  ends_entry rights (Some at) = (tt, λ a e o. (tt, λ b x p. tt))
 
   ends_posted : (i : ℕ) (rest : ℕ → Result ℕ GrantFault → Steps Posted) → ((id : ℕ) (r : Result ℕ GrantFault) → Ends Any (rest id r)) → Ends Any (posted w i rest)
   ends_posted i rest g = (
@@ -32,7 +34,7 @@ module _ (w : Vif) where
     λ a x o. (
       tt,
       λ b y p. let k = rx_req_of (a ∷ b ∷ []) in
-          ends_bind Any Any (entry w true k.gref) (rest k.id) (ends_entry true (entry_place w.table.now k.gref)) (λ r u. g k.id r),
+          ends_bind Any Any (entry w ReadWrite k.gref) (rest k.id) (ends_entry ReadWrite (entry_place w.table.now k.gref)) (λ r u. g k.id r),
     ),
   )
 

@@ -2,6 +2,8 @@
 use Rattle.xen_steps.proofs.FigureLemmas.{HasAtMost, most_append}
 use Rattle.std.proofs.Common.{◌≡◌, ℕ, zero, suc, ◌+◌, ◌*◌, ◌≤◌, Bool, true, false, List, [], ◌∷◌, ◌++◌, Result, Ok, Err, refl, sym, subst, ◌∙◌, ap, length, arith}
 use Rattle.xen_page.specs.declared.fault.GrantFault.{GrantFault}
+use Rattle.xen_page.specs.declared.entry.Rights.{Rights}
+use Rattle.xen_page.specs.declared.entry.Rights.TheVariants.{ReadWrite}
 use Rattle.xen_ring.specs.Index.{is_due}
 use Rattle.xen_steps.specs.Drive.{accesses}
 use Rattle.xen_steps.specs.Event.{Event, Read, Write, Instr, Load, Add, Notify}
@@ -32,12 +34,12 @@ pub n_notices : (w : Vif) (b : Bool) → n (notices w b) ≡ 0
 n_notices w false = refl
 n_notices w true = refl
 
-pub n_entry : (w : Vif) (write : Bool) (gref : ℕ) (p : List Event) (r : Result ℕ GrantFault) → IsEntry w write gref p r → n p ≤ 2
-n_entry w write gref _ _ (outside e) = omega arith
-n_entry w write gref _ _ (inside at a b e la lb) = omega arith
+pub n_entry : (w : Vif) (rights : Rights) (gref : ℕ) (p : List Event) (r : Result ℕ GrantFault) → IsEntry w rights gref p r → n p ≤ 2
+n_entry w rights gref _ _ (outside e) = omega arith
+n_entry w rights gref _ _ (inside at a b e la lb) = omega arith
 
 n_posted : (w : Vif) (i : ℕ) (p : List Event) (id : ℕ) (r : Result ℕ GrantFault) → IsPosted w i p id r → n p ≤ 4
-n_posted w i _ _ _ (is_posted a g p r la lg e) = omega (arith, n_entry w true g p r e)
+n_posted w i _ _ _ (is_posted a g p r la lg e) = omega (arith, n_entry w ReadWrite g p r e)
 
 n_targets : (w : Vif) (x i left : ℕ) (p : List Event) (grants : Grants) (ts : List Target) → AreTargets w x i left p grants ts → (n p ≤ 4 * left) × (length ts ≤ left)
 n_targets w x _ _ _ _ _ (all i) = (omega arith, omega arith)
@@ -76,12 +78,12 @@ pub most_notices : (w : Vif) (due : Bool) → HasAtMost (notices w due) 0 1
 most_notices w false = record { steps = omega arith; told = omega arith }
 most_notices w true = record { steps = omega arith; told = omega arith }
 
-pub most_entry : (w : Vif) (write : Bool) (gref : ℕ) (p : List Event) (r : Result ℕ GrantFault) → IsEntry w write gref p r → HasAtMost p 0 0
-most_entry w write gref _ _ (outside e) = record { steps = omega arith; told = omega arith }
-most_entry w write gref _ _ (inside at a b e la lb) = record { steps = omega arith; told = omega arith }
+pub most_entry : (w : Vif) (rights : Rights) (gref : ℕ) (p : List Event) (r : Result ℕ GrantFault) → IsEntry w rights gref p r → HasAtMost p 0 0
+most_entry w rights gref _ _ (outside e) = record { steps = omega arith; told = omega arith }
+most_entry w rights gref _ _ (inside at a b e la lb) = record { steps = omega arith; told = omega arith }
 
 most_posted : (w : Vif) (i : ℕ) (p : List Event) (id : ℕ) (r : Result ℕ GrantFault) → IsPosted w i p id r → HasAtMost p 0 0
-most_posted w i _ _ _ (is_posted a g p r la lg e) = let h = most_entry w true _ p r e in record { steps = h.steps; told = h.told }
+most_posted w i _ _ _ (is_posted a g p r la lg e) = let h = most_entry w ReadWrite _ p r e in record { steps = h.steps; told = h.told }
 
 most_targets : (w : Vif) (x i left : ℕ) (p : List Event) (grants : Grants) (ts : List Target) → AreTargets w x i left p grants ts → HasAtMost p 0 0
 most_targets w x _ _ _ _ _ (all i) = record { steps = omega arith; told = omega arith }

@@ -5,6 +5,7 @@ use Rattle.std.proofs.lemmas.List.{append-nil}
 use Rattle.std.proofs.lemmas.Bool.{ltb-true, ltb-false, lt-ltb, le-ltb}
 use Rattle.xen_netif.specs.Slots.{rx_req_of}
 use Rattle.xen_page.specs.declared.fault.GrantFault.{GrantFault}
+use Rattle.xen_page.specs.declared.entry.Rights.TheVariants.{ReadWrite}
 use Rattle.xen_ring.specs.Index.{is_due}
 use Rattle.xen_rx_fill.specs.Entries.{entry}
 use Rattle.xen_steps.specs.Event.{Event, Read, Write}
@@ -41,21 +42,21 @@ posted_parts w i rest (y ∷ z ∷ p) s h =
     let a = h.0 in
     let g = h.2.0 in
     let r = rx_req_of (a ∷ g ∷ []) in
-    let e = split (entry w true r.gref) (rest r.id) p s h.2.2 in
+    let e = split (entry w ReadWrite r.gref) (rest r.id) p s h.2.2 in
     record {
       front = Read (rx_slot w i 0) a ∷ Read (rx_slot w i 1) g ∷ e.front;
       back = e.back;
       id = r.id;
       check = e.mid;
       joined = rw (h.1.1, h.2.1.1) (ap (λ l. Read (rx_slot w i 0) a ∷ Read (rx_slot w i 1) g ∷ l) e.joined);
-      first = is_posted a g e.front e.mid h.1.0 h.2.1.0 (entry_parts w true r.gref e.front e.mid e.first);
+      first = is_posted a g e.front e.mid h.1.0 h.2.1.0 (entry_parts w ReadWrite r.gref e.front e.mid e.first);
       later = e.later;
     }
 
 runs_posted : (w : Vif) (i : ℕ) (rest : ℕ → Result ℕ GrantFault → Steps Posted) (p q : List Event) (id : ℕ) (r : Result ℕ GrantFault) (s : Posted) → IsPosted w i p id r → Runs (rest id r) q s → Runs (posted w i rest) (p ++ q) s
 runs_posted w i rest _ q _ _ s (is_posted a g p r la lg e) h =
     let k = rx_req_of (a ∷ g ∷ []) in
-    (a, (la, refl), (g, (lg, refl), join (entry w true k.gref) (rest k.id) p q r s (runs_entry w true k.gref p r e) h))
+    (a, (la, refl), (g, (lg, refl), join (entry w ReadWrite k.gref) (rest k.id) p q r s (runs_entry w ReadWrite k.gref p r e) h))
 
 -- the slots
 abbrev pub scanned : Grants → List Target → Posted

@@ -13,6 +13,8 @@ use Rattle.xen_page.specs.declared.access.Access.{Access}
 use Rattle.xen_page.specs.declared.access.Access.TheVariants as access
 use Rattle.xen_page.specs.declared.fault.GrantFault.{GrantFault}
 use Rattle.xen_page.specs.declared.place.Place.{Place}
+use Rattle.xen_page.specs.declared.entry.Rights.{Rights}
+use Rattle.xen_page.specs.declared.entry.Rights.TheVariants.{ReadWrite}
 use Rattle.xen_page.proofs.AccessLemmas.{performs_none, performs_then}
 use Rattle.xen_ring.specs.Index.{is_due}
 use Rattle.xen_steps.specs.Drive.{Driven, Goes, LedBy, accesses}
@@ -85,21 +87,21 @@ push_driven log gives w x n event grants due bus new l e q = by due e
     )
 
 -- An entry is read.
-pub gone_entry : {A : Type 0} (w : Vif) (write : Bool) (gref : ℕ) (p : List Event) (r : Result ℕ GrantFault) → IsEntry w write gref p r → (rest : Result ℕ GrantFault → Steps A) → LedBy (bind (entry w write gref) rest) p (rest r)
-gone_entry w write gref _ _ (outside e) rest = ap (λ (o : Option Place). bind (entry_at w write o) rest) e
-gone_entry w write gref _ _ (inside at a b e la lb) rest =
-    let r = checked w.owners.now w.granter w.user (entry_of a b) write in
-    subst (λ (o : Option Place). LedBy (bind (entry_at w write o) rest) (Read at a ∷ Read (frame_place at) b ∷ []) (rest r)) (sym e) (_, (a, (la, refl), refl), (_, (b, (lb, refl), refl), refl))
+pub gone_entry : {A : Type 0} (w : Vif) (rights : Rights) (gref : ℕ) (p : List Event) (r : Result ℕ GrantFault) → IsEntry w rights gref p r → (rest : Result ℕ GrantFault → Steps A) → LedBy (bind (entry w rights gref) rest) p (rest r)
+gone_entry w rights gref _ _ (outside e) rest = ap (λ (o : Option Place). bind (entry_at w rights o) rest) e
+gone_entry w rights gref _ _ (inside at a b e la lb) rest =
+    let r = checked w.owners.now w.granter w.user (entry_of a b) rights in
+    subst (λ (o : Option Place). LedBy (bind (entry_at w rights o) rest) (Read at a ∷ Read (frame_place at) b ∷ []) (rest r)) (sym e) (_, (a, (la, refl), refl), (_, (b, (lb, refl), refl), refl))
 
 -- A posted slot is read, with its grant's entry.
 pub slot_driven : {S : Type 0} (log : S → Option (List Access)) (gives : S → Access → S → Type 0) (w : Vif) (i a g : ℕ) (p : List Event) (r : Result ℕ GrantFault) (rest : ℕ → Result ℕ GrantFault → Steps Posted) (bus mid new : S) →
     a < 2 ^ 32 → g < 2 ^ 32 → Performs log gives bus (access.Read (rx_slot w i 0) a ∷ access.Read (rx_slot w i 1) g ∷ []) mid →
-    IsEntry w true (rx_req_of (a ∷ g ∷ [])).gref p r → Performs log gives mid (accesses p) new →
+    IsEntry w ReadWrite (rx_req_of (a ∷ g ∷ [])).gref p r → Performs log gives mid (accesses p) new →
     Driven log gives (posted w i rest) (rest (rx_req_of (a ∷ g ∷ [])).id r) bus new (Read (rx_slot w i 0) a ∷ Read (rx_slot w i 1) g ∷ p)
 slot_driven log gives w i a g p r rest bus mid new la lg q e h =
     let k = rx_req_of (a ∷ g ∷ []) in
     record {
-      gone = (_, (a, (la, refl), refl), (_, (g, (lg, refl), refl), gone_entry w true k.gref p r e (rest k.id)));
+      gone = (_, (a, (la, refl), refl), (_, (g, (lg, refl), refl), gone_entry w ReadWrite k.gref p r e (rest k.id)));
       performed = performs_then log gives bus mid new (access.Read (rx_slot w i 0) a ∷ access.Read (rx_slot w i 1) g ∷ []) (accesses p) q h;
     }
 
@@ -117,7 +119,7 @@ targeted_none ts new go id (Err fault) o e h n = ap (λ (x : Option ℕ). done (
 -- A slot of those that are to be read is read.
 pub targets_on : {S : Type 0} (log : S → Option (List Access)) (gives : S → Access → S → Type 0) (w : Vif) (x n i a g : ℕ) (ts : List Target) (p : List Event) (r : Result ℕ GrantFault) (start : Steps Posted) (old bus mid new : S) (t : List Event) →
     Driven log gives start (read_targets w x (n - i) ts) old bus t → i < n → length ts ≡ i → a < 2 ^ 32 → g < 2 ^ 32 →
-    Performs log gives bus (access.Read (rx_slot w (add32 x i) 0) a ∷ access.Read (rx_slot w (add32 x i) 1) g ∷ []) mid → IsEntry w true (rx_req_of (a ∷ g ∷ [])).gref p r → Performs log gives mid (accesses p) new →
+    Performs log gives bus (access.Read (rx_slot w (add32 x i) 0) a ∷ access.Read (rx_slot w (add32 x i) 1) g ∷ []) mid → IsEntry w ReadWrite (rx_req_of (a ∷ g ∷ [])).gref p r → Performs log gives mid (accesses p) new →
     (u : List Event) × Driven log gives start (targeted ts (read_targets w x (n - (i + 1))) (rx_req_of (a ∷ g ∷ [])).id r) old new u
 targets_on log gives w x n i a g ts p r start old bus mid new t d h l la lg q e f =
     let go = read_targets w x (n - (i + 1)) in

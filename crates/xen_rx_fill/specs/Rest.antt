@@ -15,6 +15,7 @@ use Rattle.xen_rx_fill.specs.declared.by_event.phase.Phase.{Phase}
 use Rattle.xen_rx_fill.specs.declared.by_event.phase.Phase.TheVariants as phase
 use Rattle.xen_steps.specs.declared.want.Want.TheVariants as want
 use Rattle.xen_rx_fill.specs.declared.vif.Vif.{Vif}
+use Rattle.xen_page.specs.declared.entry.Rights.TheVariants.{ReadWrite}
 
 abbrev pub rest_of : Vif → ℕ → List ℕ → Phase → Steps Outcome
 rest_of w x packet phase.Look = transmit w x packet
@@ -23,9 +24,9 @@ rest_of w x packet (phase.First r) =
 rest_of w x packet (phase.Second r a) =
     bind (posted_second w (add32 x (length r.targets)) (targeted r.targets (read_targets w x r.left)) a) (after_targets w x packet)
 rest_of w x packet (phase.EntryFlags g) =
-    bind (bind (entry_at w true (Some g.at)) (targeted g.targets (read_targets w x g.left) g.id)) (after_targets w x packet)
+    bind (bind (entry_at w ReadWrite (Some g.at)) (targeted g.targets (read_targets w x g.left) g.id)) (after_targets w x packet)
 rest_of w x packet (phase.EntryFrame g a) =
-    bind (bind (entry_checked w true g.at a) (targeted g.targets (read_targets w x g.left) g.id)) (after_targets w x packet)
+    bind (bind (entry_checked w ReadWrite g.at a) (targeted g.targets (read_targets w x g.left) g.id)) (after_targets w x packet)
 rest_of w x packet (phase.Filling targets k) = fill_from w x packet targets k
 rest_of w x packet (phase.Response grants targets i) = rx_answer w x packet grants (length targets) i (drop i targets)
 rest_of w x packet (phase.HalfResponse h) =

@@ -1,9 +1,10 @@
 -- Stated: claims rest on this file.
 -- The transmit's part of a turn's trace: the packet goes into the buffers of posted rx slots.
-use Rattle.std.specs.Prelude.{ℕ, zero, suc, ◌≡◌, ◌<◌, ◌≤◌, ◌+◌, ◌^◌, true, List, [], ◌∷◌, ◌++◌, length, Some, None}
+use Rattle.std.specs.Prelude.{ℕ, zero, suc, ◌≡◌, ◌<◌, ◌≤◌, ◌+◌, ◌^◌, List, [], ◌∷◌, ◌++◌, length, Some, None}
 use Rattle.std.specs.Prelude.{Result, Ok, Err}
 use Rattle.xen_netif.specs.Slots.{rx_req_of}
 use Rattle.xen_page.specs.declared.fault.GrantFault.{GrantFault}
+use Rattle.xen_page.specs.declared.entry.Rights.TheVariants.{ReadWrite}
 use Rattle.xen_ring.specs.Index.{is_due}
 use Rattle.xen_steps.specs.Event.{Event, Read, Write}
 use Rattle.xen_rx_fill.specs.Packets.{pages, words, word_of, buffer_word, response_word}
@@ -20,7 +21,7 @@ use Rattle.xen_rx_fill.specs.declared.vif.Vif.{Vif}
 -- A slot's two words and its grant's entry, checked for writing: the slot's id, and the check's result.
 pub data IsPosted (w : Vif) (i : ℕ) : List Event → ℕ → Result ℕ GrantFault → Type 0 where
   is_posted : (a g : ℕ) (p : List Event) (r : Result ℕ GrantFault) → a < 2 ^ 32 → g < 2 ^ 32 →
-      IsEntry w true (rx_req_of (a ∷ g ∷ [])).gref p r →
+      IsEntry w ReadWrite (rx_req_of (a ∷ g ∷ [])).gref p r →
       IsPosted w i (Read (rx_slot w i 0) a ∷ Read (rx_slot w i 1) g ∷ p) (rx_req_of (a ∷ g ∷ [])).id r
 
 -- Slots from the i-th past x are read until so many have passed, or one is refused.

@@ -5,6 +5,7 @@ use Rattle.std.specs.Prelude.{Ok, Err, nat_lt, if◌then◌else◌}
 use Rattle.xen_netif.specs.Slots.{rx_req_of}
 use Rattle.xen_netif.specs.declared.rx.RxReq.{RxReq}
 use Rattle.xen_page.specs.declared.fault.GrantFault.{GrantFault}
+use Rattle.xen_page.specs.declared.entry.Rights.TheVariants.{ReadWrite}
 use Rattle.xen_ring.specs.Index.{is_due}
 use Rattle.xen_rx_fill.specs.Entries.{entry}
 use Rattle.xen_rx_fill.specs.Packets.{pages, words, word_of, buffer_word, response_word}
@@ -30,7 +31,7 @@ targeted targets go id (Err fault) = done (Err (targets ++ record { id = id; fra
 
 -- the entry of a request's page
 abbrev pub requested : Vif → RxReq → (ℕ → Result ℕ GrantFault → Steps Posted) → Steps Posted
-requested w request rest = bind (entry w true request.gref) (rest request.id)
+requested w request rest = bind (entry w ReadWrite request.gref) (rest request.id)
 
 -- a slot's two words
 abbrev pub posted_second : Vif → ℕ → (ℕ → Result ℕ GrantFault → Steps Posted) → ℕ → Steps Posted

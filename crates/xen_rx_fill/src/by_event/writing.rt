@@ -1,6 +1,6 @@
 //! Writing the buffers and the responses.
 
-ghost use Rattle.std.specs.Prelude.{◌≡◌, ◌+◌, ◌<◌, ◌≤◌, List, ℕ, length, drop, true};
+ghost use Rattle.std.specs.Prelude.{◌≡◌, ◌+◌, ◌<◌, ◌≤◌, List, ℕ, length, drop};
 ghost use Rattle.xen_ring.specs.Index.{is_due};
 ghost use Rattle.xen_rx_fill.specs.Packets.{response_word, target_at as target_at_spec};
 ghost use Rattle.xen_steps.specs.Places.{add32};

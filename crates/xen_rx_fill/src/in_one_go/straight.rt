@@ -1,6 +1,6 @@
 //! A transmit that goes straight through over a bus: no phase is made.
 
-ghost use Rattle.std.specs.Prelude.{◌≡◌, ◌≤◌, ◌<◌, ◌+◌, ◌-◌, ◌*◌, ◌∷◌, ◌^◌, [], IfOk, List, ℕ, length, true};
+ghost use Rattle.std.specs.Prelude.{◌≡◌, ◌≤◌, ◌<◌, ◌+◌, ◌-◌, ◌*◌, ◌∷◌, ◌^◌, [], IfOk, List, ℕ, length};
 ghost use Rattle.xen_netif.specs.Slots.{rx_req_of};
 ghost use Rattle.xen_page.specs.Access.{Performs};
 ghost use Rattle.xen_page.specs.Entry.{entry_of};
@@ -26,7 +26,7 @@ use crate::target::{Grants, Target, Targets};
 use crate::vif::Vif;
 use crate::words::{buffer_frame, packet_word, pages_of, response, words_of};
 use xen_netif::RxReq;
-use xen_page::{Bus, Entry, GrantFault, Place, WORDS, check};
+use xen_page::{Bus, Entry, GrantFault, Place, Rights, WORDS, check};
 use xen_ring::{Ports, REQ_PROD, RSP_EVENT, RSP_PROD, due};
 use xen_steps::{header, requests_shown, rx_entry};
 
@@ -55,13 +55,13 @@ fn read_request<B: Bus>(bus: &mut B, frame: u32, index: u32) -> RxReq
 }
 
 /// Reads the two words of a grant's entry, and checks it.
-fn read_entry<B: Bus>(vif: &Vif, bus: &mut B, at: Place, write: bool) -> Result<u32, GrantFault>
+fn read_entry<B: Bus>(vif: &Vif, bus: &mut B, at: Place, rights: Rights) -> Result<u32, GrantFault>
     requires frame { at.frame < B.size bus.old }
     requires word { at.word + 1 < 1024 }
     ensures size { B.size bus.new ≡ B.size bus.old }
     ensures read { (a : ℕ) × (b : ℕ) × (a < 2 ^ 32) × (b < 2 ^ 32)
         × Performs B.log B.access_gives bus.old (accesses.Read at a ∷ accesses.Read (frame_place at) b ∷ []) bus.new
-        × (result ≡ checked vif.now.owners.now vif.now.granter vif.now.user (entry_of a b) write) }
+        × (result ≡ checked vif.now.owners.now vif.now.granter vif.now.user (entry_of a b) rights) }
 {
     let a = bus.read(at);
     let b = bus.read(at.next());
@@ -70,21 +70,26 @@ fn read_entry<B: Bus>(vif: &Vif, bus: &mut B, at: Place, write: bool) -> Result<
         vif.granter,
         vif.user,
         Entry::of_words(a, b),
-        write,
+        rights,
     )
 }
 
-/// The frame that a reference grants, for writing or for reading alone.
-pub fn read_grant<B: Bus>(vif: &Vif, bus: &mut B, gref: u32, write: bool) -> Result<u32, GrantFault>
+/// The frame that a reference grants with these rights.
+pub fn read_grant<B: Bus>(
+    vif: &Vif,
+    bus: &mut B,
+    gref: u32,
+    rights: Rights,
+) -> Result<u32, GrantFault>
     requires size { B.size bus.old ≡ length vif.now.owners.now }
     requires wired { IsWired vif.now }
     ensures size { B.size bus.new ≡ B.size bus.old }
     ensures inside { IfOk result (λ frame. frame < length vif.now.owners.now) }
-    ensures read { (p : List Event) × IsEntry vif.now write gref p result × Performs B.log B.access_gives bus.old (accesses_in p) bus.new }
+    ensures read { (p : List Event) × IsEntry vif.now rights gref p result × Performs B.log B.access_gives bus.old (accesses_in p) bus.new }
 {
     match vif.table.place(gref) {
         None => Err(GrantFault::BadGntref),
-        Some(at) => read_entry(vif, bus, at, write),
+        Some(at) => read_entry(vif, bus, at, rights),
     }
 }
 
@@ -106,7 +111,7 @@ fn read_targets<B: Bus>(
 {
     for slot in 0..slots {
         let request = read_request(bus, vif.rx, rx_index.wrapping_add(slot));
-        let frame = read_grant(vif, bus, request.gref, true).ok();
+        let frame = read_grant(vif, bus, request.gref, Rights::ReadWrite).ok();
         targets.push(Target {
             id: request.id,
             frame,
