@@ -90,8 +90,8 @@ impl Entry {
     }
 }
 
-/// Whether `user` may reach the frame of an entry of `granter`'s table with these rights: the frame, which is then the granter's,
-/// or the first fault.
+/// Whether `user` may reach the frame of an entry of `granter`'s table with these rights: the frame, which
+/// is then the granter's, or the first fault.
 pub fn check(
     owners: &Owners,
     granter: u16,

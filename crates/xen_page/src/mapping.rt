@@ -14,7 +14,8 @@ use crate::mapped::Mapped;
 use crate::owners::Owners;
 use crate::table::Table;
 
-/// Maps the frame that `granter` lends `user` under a reference of its table, with these rights. The entry's two words are read once each; then its flags word is exchanged for one with the marks.
+/// Maps the frame that `granter` lends `user` under a reference of its table, with these rights. The entry's two
+/// words are read once each; then its flags word is exchanged for one with the marks.
 pub fn map<B: Bus>(
     bus: &mut B,
     table: &Table,
