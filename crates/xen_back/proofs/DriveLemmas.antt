@@ -7,17 +7,14 @@ use Rattle.xen_back.specs.Tree.{Left, program}
 use Rattle.xen_back.specs.Turned.{Ending}
 use Rattle.xen_back.specs.declared.queue.Queue.{Queue}
 use Rattle.xen_steps.proofs.DriveLemmas.{accesses-append, gone_append}
-use Rattle.std.proofs.Common.{◌≡◌, ℕ, ◌<◌, ◌^◌, List, [], ◌∷◌, ◌++◌, Option, refl, sym, ◌∙◌, ap, append_assoc, zero, suc}
+use Rattle.std.proofs.Common.{◌≡◌, ℕ, List, [], ◌∷◌, ◌++◌, Option, refl, sym, ◌∙◌, ap, append_assoc, zero, suc}
 use Rattle.bpf_note.specs.declared.op.Op.{Op}
 use Rattle.xen_page.specs.declared.access.Access.{Access}
-use Rattle.xen_page.specs.declared.place.Place.{Place}
 use Rattle.xen_page.proofs.AccessLemmas.{performs_none, performs_then}
-use Rattle.xen_steps.specs.Event.{Event, Occurs, Read, Write, Instr, Load, Add, Notify}
+use Rattle.xen_steps.specs.Event.{Event}
 use Rattle.xen_steps.specs.Steps.{Steps, bind}
 use Rattle.xen_steps.specs.Drive.{LedBy, accesses}
 use Rattle.xen_back.specs.Drive.{Driven, labels, label_of}
-use Rattle.xen_steps.specs.declared.want.Want.{Want}
-use Rattle.xen_steps.specs.declared.want.Want.TheVariants as want
 
 append_none : {A : Type 0} (l : List A) → l ++ [] ≡ l
 append_none [] = refl

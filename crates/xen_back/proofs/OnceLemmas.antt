@@ -29,7 +29,7 @@ use Rattle.xen_rx_fill.specs.Sending.{AreTargets, IsPosted, IsRxRespond, IsTrans
 use Rattle.xen_rx_fill.specs.declared.by_event.phase.Outcome.{Outcome}
 use Rattle.xen_rx_fill.specs.declared.by_event.phase.Outcome.TheVariants as outcome
 use Rattle.xen_rx_fill.specs.declared.target.Grants.{Grants}
-use Rattle.xen_rx_fill.specs.declared.target.Grants.TheVariants.{Passed}
+use Rattle.xen_rx_fill.specs.declared.target.Grants.TheVariants.{Passed, Refused}
 use Rattle.xen_rx_fill.specs.declared.target.Target.{Target}
 use Rattle.xen_rx_fill.specs.Shared.{IsEntry, inside, outside, notices}
 use Rattle.xen_back.specs.Once.{AllOther, AreDistinct, AreGranted, AreLooks, ArePosted, CoveredDistinct, FragmentsOnce, GrantReads, HaltReads, PostedDistinct, SendReads, SizeReads, SlotsOnce, SlotsRead, TargetsOnce, TurnReads, TurnsOnce, copy_places, entry_places, page_places, places_read, posted_places, sent_places, slot_places, target_places, notice_reads}
@@ -157,7 +157,7 @@ fragments_once w _ _ _ (part f fs p q frame words out e count below c) =
     let reads = page_reads frame (f.offset / 4) words in
     let words_read : places_read reads ≡ page_places frame (f.offset / 4) (covered f) = page_read frame (f.offset / 4) words ∙ ap (page_places frame (f.offset / 4)) count in
     let entry = entry_read w ReadOnly f.gref p (Ok frame) e in
-    let first = granted_frame w false f.gref p (Ok frame) frame e refl in
+    let first = granted_frame w ReadOnly f.gref p (Ok frame) frame e refl in
     let behind_it : Within q (p ++ (reads ++ q)) = λ e h. Contains-append_right p (reads ++ q) e (Contains-append_right reads q e h) in (
       frame ∷ i.0,
       places_read-append p (reads ++ q)
@@ -321,16 +321,16 @@ sent_reads : (w : Wiring) (x : ℕ) (packet : List ℕ) (p : List Event) (o : Ou
 sent_reads w x packet _ _ (rx_overflow p l e) = refl
 sent_reads w x packet _ _ (too_few p m l e f) = refl
 sent_reads w x packet _ _ (refused p m p1 p2 ts l e f a r) =
-    let t = targets_once w x 0 (pages packet) p1 false ts a in (
+    let t = targets_once w x 0 (pages packet) p1 Refused ts a in (
       t.0,
-      ap (λ l. rx_word w.vif 0 ∷ l) (places_read-append p1 p2 ∙ ap (λ l. l ++ places_read p2) t.2 ∙ ap (λ l. target_places w x 0 t.0 ++ l) (rx_respond_read w x packet false ts p2 r)),
+      ap (λ l. rx_word w.vif 0 ∷ l) (places_read-append p1 p2 ∙ ap (λ l. l ++ places_read p2) t.2 ∙ ap (λ l. target_places w x 0 t.0 ++ l) (rx_respond_read w x packet Refused ts p2 r)),
       posted_within w x 0 t.0 p1 (Read (rx_word w.vif 0) p ∷ (p1 ++ p2)) (behind_producer (Read (rx_word w.vif 0) p) p1 p2) t.3,
     )
 sent_reads w x packet _ _ (sent p m p1 p2 ts l e f a r) =
     let t = targets_once w x 0 (pages packet) p1 Passed ts a in
     let writes = buffer_writes ts packet (words packet) 0 in
     let end : places_read (writes ++ p2) ≡ rx_word w.vif 3 ∷ [] =
-    places_read-append writes p2 ∙ ap (λ l. l ++ places_read p2) (no_words ts packet (words packet) 0) ∙ rx_respond_read w x packet true ts p2 r in (
+    places_read-append writes p2 ∙ ap (λ l. l ++ places_read p2) (no_words ts packet (words packet) 0) ∙ rx_respond_read w x packet Passed ts p2 r in (
       t.0,
       t.1 ∙ all_passed w x 0 (pages packet) p1 Passed ts a refl,
       ap (λ l. rx_word w.vif 0 ∷ l) (places_read-append p1 (writes ++ p2) ∙ ap (λ l. l ++ places_read (writes ++ p2)) t.2 ∙ ap (λ l. target_places w x 0 t.0 ++ l) end),

@@ -1,4 +1,4 @@
-use Rattle.std.proofs.Common.{None, refl, ◌+◌, arith}
+use Rattle.std.proofs.Common.{refl, ◌+◌, arith}
 use Rattle.bpf_verify.specs.Consistent.{instructions}
 use Rattle.xen_steps.specs.Drive.{Any}
 use Rattle.xen_steps.proofs.FinishLemmas.{finishes}
