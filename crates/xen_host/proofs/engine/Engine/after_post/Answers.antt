@@ -1,4 +1,4 @@
-use Rattle.std.proofs.Common.{refl, sym, ap, ◌∙◌, true}
+use Rattle.std.proofs.Common.{refl, sym, ap, ◌∙◌}
 use Rattle.std.specs.Prelude.{Option, Some}
 use Rattle.xen_steps.specs.Steps.{bind}
 use Rattle.xen_host.specs.Asks as ask
@@ -44,6 +44,6 @@ returns-in-Some c =
     let f = fill.Grant c.args.left r.id at in
     record {
       led = λ lent. lift_fill c.args.purpose q ts f _ _ _ _ lent lent
-          (says_one (IsFillOn q ts f) _ _ _ left _ (ask.Entry at r.gref true) _ _ _ _ lent c.requires.room c.say.ensures.one c.say.ensures.said
+          (says_one (IsFillOn q ts f) _ _ _ left _ (ask.Entry at r.gref ReadWrite) _ _ _ _ lent c.requires.room c.say.ensures.one c.say.ensures.said
           c.read_entry.ensures refl refl tt (is ∙ there) (refl, (refl, (refl, λ a. (refl, λ b. tt)))) refl refl c.requires.few);
     }

@@ -1,4 +1,4 @@
-use Rattle.std.proofs.Common.{◌+◌, drop, refl, sym, ap, ◌∙◌, false}
+use Rattle.std.proofs.Common.{◌+◌, drop, refl, sym, ap, ◌∙◌}
 use Rattle.std.specs.Prelude.{Option, Some}
 use Rattle.xen_steps.specs.Steps.{bind}
 use Rattle.xen_host.specs.Asks as ask
@@ -34,6 +34,6 @@ returns-in-Some c =
     let same = ap (λ (o : Option Place). bind (bind (entry_at w.vif ReadOnly o) (entered f (copy w (drop (c.args.i + 1) b.fragments.items)) b.packet)) (after_copy w q.state b.chain)) there in
     let left = bind (bind (entry_at w.vif ReadOnly (Some at)) (entered f (copy w (drop (c.args.i + 1) b.fragments.items)) b.packet)) (after_copy w q.state b.chain) in
     record {
-      led = λ lent. says_one _ _ _ _ left _ (ask.Entry at c.fragment-gref.result.gref false) _ _ _ _ lent c.requires.room c.say.ensures.one c.say.ensures.said
+      led = λ lent. says_one _ _ _ _ left _ (ask.Entry at c.fragment-gref.result.gref ReadOnly) _ _ _ _ lent c.requires.room c.say.ensures.one c.say.ensures.said
           c.read_entry.ensures refl refl tt same (record { is_rest = refl; waits = (refl, (refl, λ a. (refl, λ d. tt))); is_here = refl }) refl refl (c.requires.few, c.requires.within, c.requires.copies);
     }
