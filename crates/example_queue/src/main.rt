@@ -23,7 +23,7 @@ use bpf_vm::Buffer;
 use std::alloc::Global;
 use std::io;
 use xen_back::{Awaited, Delivery, Queue, QueueDesc, Turn};
-use xen_page::{Owners, Table, map};
+use xen_page::{Owners, Rights, Table, map};
 use xen_ring::{Port, Ports};
 
 /// `r0 = 2` and `exit`: each packet passes.
@@ -59,8 +59,8 @@ fn queue<'p, 'b>(
     ensures program { IfOk result (λ q. (wiring_of q).program.now ≡ program.now) }
 {
     let desc = QueueDesc {
-        tx: map(pages, table, owners, FRONT, BACK, TX, true)?,
-        rx: map(pages, table, owners, FRONT, BACK, RX, true)?,
+        tx: map(pages, table, owners, FRONT, BACK, TX, Rights::ReadWrite)?,
+        rx: map(pages, table, owners, FRONT, BACK, RX, Rights::ReadWrite)?,
         table,
         owners,
         granter: FRONT,

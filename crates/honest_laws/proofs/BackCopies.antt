@@ -14,6 +14,7 @@ use Rattle.xen_page.specs.Entry.{entry_of}
 use Rattle.xen_page.specs.Grant.{checked}
 use Rattle.xen_page.specs.Mapping.{frame_place}
 use Rattle.xen_page.specs.declared.fault.GrantFault.{GrantFault}
+use Rattle.xen_page.specs.declared.entry.Rights.TheVariants.{ReadOnly}
 use Rattle.xen_steps.specs.Pages.{copy_words}
 use Rattle.xen_steps.specs.Places.{page_word}
 use Rattle.xen_steps.specs.Steps.{done}
@@ -100,13 +101,13 @@ module _ (w : Wiring) (start : ℕ) (v : BackWiring) (j : Joined w v) (d : List 
   abbrev Granted : ℕ → Back → Result ℕ GrantFault → Type 0
   Granted id b r = (b ≡ read_all) × (r ≡ Ok (buffer w.tx.now id).frame)
 
-  entry_safe : (k : ℕ) (x : Piece) → k < length s.ids → piece (pieces_in s) k ≡ x → x.id < 256 → BackSafe w start (HasGiven g) (Granted x.id) read_all (entry (over w v).vif false (buffer w.tx.now x.id).gref)
+  entry_safe : (k : ℕ) (x : Piece) → k < length s.ids → piece (pieces_in s) k ≡ x → x.id < 256 → BackSafe w start (HasGiven g) (Granted x.id) read_all (entry (over w v).vif ReadOnly (buffer w.tx.now x.id).gref)
   entry_safe k x p q r =
       let at = grant_place w (buffer w.tx.now x.id) in
-      subst (λ o. BackSafe w start (HasGiven g) (Granted x.id) read_all (entry_at (over w v).vif false o)) (sym (j.tx_place x.id r))
-      (read_known w start (HasGiven g) (Granted x.id) read_all read_all at (joined 5 w.back) (entry_checked (over w v).vif false at) refl (λ m f h. ((lent_there m f k x p q h).flags, h))
+      subst (λ o. BackSafe w start (HasGiven g) (Granted x.id) read_all (entry_at (over w v).vif ReadOnly o)) (sym (j.tx_place x.id r))
+      (read_known w start (HasGiven g) (Granted x.id) read_all read_all at (joined 5 w.back) (entry_checked (over w v).vif ReadOnly at) refl (λ m f h. ((lent_there m f k x p q h).flags, h))
       (read_known w start (HasGiven g) (Granted x.id) read_all read_all (frame_place at) (buffer w.tx.now x.id).frame
-      (λ b. done (checked v.vif.owners.now v.vif.granter v.vif.user (entry_of (joined 5 w.back) b) false)) refl (λ m f h. ((lent_there m f k x p q h).frame, h)) (refl, j.tx_grant x.id r)))
+      (λ b. done (checked v.vif.owners.now v.vif.granter v.vif.user (entry_of (joined 5 w.back) b) ReadOnly)) refl (λ m f h. ((lent_there m f k x p q h).frame, h)) (refl, j.tx_grant x.id r)))
 
   abbrev Copying : List ℕ → Back → List ℕ → Type 0
   Copying out b bytes = (b ≡ read_all) × (bytes ≡ out)
@@ -195,7 +196,7 @@ module _ (w : Wiring) (start : ℕ) (v : BackWiring) (j : Joined w v) (d : List 
       let some : 0 < size = (let e = piece_size_of (length s.bytes) k in omega (arith, e, n, b)) in
       let words = covered_of (buffer w.tx.now id).gref size in
       let later = map (part w start) (pieces_from s.bytes (length s.ids) (k + 1) ids) in
-      safe_bind w start (HasGiven g) (Granted id) Copied read_all (entry (over w v).vif false (buffer w.tx.now id).gref) (entered (part w start x) (copy (over w v) later) acc)
+      safe_bind w start (HasGiven g) (Granted id) Copied read_all (entry (over w v).vif ReadOnly (buffer w.tx.now id).gref) (entered (part w start x) (copy (over w v) later) acc)
       (entry_safe k x inside at c.0)
       (λ b' r h. onto (λ b2 r2. BackSafe w start (HasGiven g) Copied b2 (entered (part w start x) (copy (over w v) later) acc r2)) read_all b' (Ok (buffer w.tx.now id).frame) r h.0 h.1
       (safe_bind w start (HasGiven g) (Copying (take (4096 * k + size) s.bytes)) Copied read_all (copy_words (part w start x) (buffer w.tx.now id).frame 0 (covered (part w start x)) acc) (copy (over w v) later)

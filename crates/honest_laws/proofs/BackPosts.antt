@@ -1,5 +1,5 @@
 -- A packet is sent back: the posts are read, and their grants accepted.
-use Rattle.std.proofs.Common.{◌≡◌, ℕ, zero, suc, ◌+◌, ◌-◌, ◌^◌, ◌<◌, ◌≤◌, Bool, true, List, [], ◌∷◌, ◌++◌, length, length-append, append_assoc, Some, Result, Ok, refl, sym, ◌∙◌, ap, arith, subst}
+use Rattle.std.proofs.Common.{◌≡◌, ℕ, zero, suc, ◌+◌, ◌-◌, ◌^◌, ◌<◌, ◌≤◌, Bool, List, [], ◌∷◌, ◌++◌, length, length-append, append_assoc, Some, Result, Ok, refl, sym, ◌∙◌, ap, arith, subst}
 use Rattle.std.specs.Prelude.{get_or}
 use Rattle.std.proofs.lemmas.List.{get_or_append_left}
 use Rattle.xen_back.specs.declared.wiring.Wiring.{Wiring as BackWiring}
@@ -11,6 +11,7 @@ use Rattle.xen_page.specs.Entry.{entry_of}
 use Rattle.xen_page.specs.Grant.{checked}
 use Rattle.xen_page.specs.Mapping.{frame_place}
 use Rattle.xen_page.specs.declared.fault.GrantFault.{GrantFault}
+use Rattle.xen_page.specs.declared.entry.Rights.TheVariants.{ReadWrite}
 use Rattle.xen_steps.specs.Places.{add32, available, page_word, rx_entry}
 use Rattle.xen_steps.specs.Steps.{done}
 use Rattle.xen_rx_fill.specs.Entries.{entry, entry_at, entry_checked}
@@ -130,14 +131,14 @@ module _ (w : Wiring) (start : ℕ) (small : start < 2 ^ 32) (v : BackWiring) (j
     abbrev Granted : ℕ → Back → Result ℕ GrantFault → Type 0
     Granted i b r = (b ≡ posts_read rs (i + 1)) × (r ≡ Ok (buffer w.rx.now (post i)).frame)
 
-    grant_safe : (i : ℕ) → first + i < length rs → post i < 256 → BackSafe w start (HasGiven g) (Granted i) (posts_read rs (i + 1)) (entry (over w v).vif true (buffer w.rx.now (post i)).gref)
+    grant_safe : (i : ℕ) → first + i < length rs → post i < 256 → BackSafe w start (HasGiven g) (Granted i) (posts_read rs (i + 1)) (entry (over w v).vif ReadWrite (buffer w.rx.now (post i)).gref)
     grant_safe i p s =
         let at = grant_place w (buffer w.rx.now (post i)) in
         let b = posts_read rs (i + 1) in
-        subst (λ o. BackSafe w start (HasGiven g) (Granted i) b (entry_at (over w v).vif true o)) (sym (j.rx_place (post i) s))
-        (read_known w start (HasGiven g) (Granted i) b b at (joined 1 w.back) (entry_checked (over w v).vif true at) refl (λ m f h. ((post_lent m f i (i + 1) p h).flags, h))
+        subst (λ o. BackSafe w start (HasGiven g) (Granted i) b (entry_at (over w v).vif ReadWrite o)) (sym (j.rx_place (post i) s))
+        (read_known w start (HasGiven g) (Granted i) b b at (joined 1 w.back) (entry_checked (over w v).vif ReadWrite at) refl (λ m f h. ((post_lent m f i (i + 1) p h).flags, h))
         (read_known w start (HasGiven g) (Granted i) b b (frame_place at) (buffer w.rx.now (post i)).frame
-        (λ o. done (checked v.vif.owners.now v.vif.granter v.vif.user (entry_of (joined 1 w.back) o) true)) refl (λ m f h. ((post_lent m f i (i + 1) p h).frame, h)) (refl, j.rx_grant (post i) s)))
+        (λ o. done (checked v.vif.owners.now v.vif.granter v.vif.user (entry_of (joined 1 w.back) o) ReadWrite)) refl (λ m f h. ((post_lent m f i (i + 1) p h).frame, h)) (refl, j.rx_grant (post i) s)))
 
     -- the request that stands in a slot
     request_of : (i : ℕ) → post i < 256 → rx_req_of (joined (post i) 0 ∷ (buffer w.rx.now (post i)).gref ∷ []) ≡ record { id = post i; gref = (buffer w.rx.now (post i)).gref }
@@ -158,7 +159,7 @@ module _ (w : Wiring) (start : ℕ) (small : start < 2 ^ 32) (v : BackWiring) (j
         (read_known w start (HasGiven g) (HasPosted n) (posts_read rs i) (posts_read rs (i + 1)) (rx_entry w.rx_frame index 1) gref (λ o. requested (over w v).vif (rx_req_of (joined (post i) 0 ∷ o ∷ [])) go) refl
         (λ m f h. (post_word m f index i 1 at inside (omega arith) h, post_read m f i inside h))
         (subst (λ o. BackSafe w start (HasGiven g) (HasPosted n) (posts_read rs (i + 1)) (requested (over w v).vif o go)) (sym (request_of i small_id))
-        (safe_bind w start (HasGiven g) (Granted i) (HasPosted n) (posts_read rs (i + 1)) (entry (over w v).vif true gref) (go (post i)) (grant_safe i inside small_id)
+        (safe_bind w start (HasGiven g) (Granted i) (HasPosted n) (posts_read rs (i + 1)) (entry (over w v).vif ReadWrite gref) (go (post i)) (grant_safe i inside small_id)
         (λ b r h. onto (λ b2 r2. BackSafe w start (HasGiven g) (HasPosted n) b2 (go (post i) r2)) (posts_read rs (i + 1)) b (Ok (buffer w.rx.now (post i)).frame) r h.0 h.1
         (targets_safe left (i + 1) n (acc ++ target i ∷ []) (length-append acc (target i ∷ []) ∙ omega (arith, c)) (omega (arith, q)) p s (append_assoc acc (target i ∷ []) (targets (i + 1) left) ∙ t))))))
 

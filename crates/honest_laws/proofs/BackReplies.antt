@@ -13,6 +13,7 @@ use Rattle.xen_rx_fill.specs.Packets.{pages, response_word, word_of, words}
 use Rattle.xen_rx_fill.specs.Transmit.{rx_answer, rx_event, rx_notice, rx_publish}
 use Rattle.xen_rx_fill.specs.declared.by_event.phase.Outcome.{Outcome}
 use Rattle.xen_rx_fill.specs.declared.by_event.phase.Outcome.TheVariants as outcome
+use Rattle.xen_rx_fill.specs.declared.target.Grants.TheVariants.{Passed}
 use Rattle.honest_laws.specs.Ghosts.{AllOf, IsSent, Sent, Piece, piece, id_at, slots, Front, Back, tx_sent}
 use Rattle.honest_laws.specs.Inv.{Heard, Inv, RxSlots, rx_at, rx_buffer, rx_word_of}
 use Rattle.honest_laws.specs.Ends.{BackSafe}
@@ -189,31 +190,31 @@ module _ (w : Wiring) (start : ℕ) (small : start < 2 ^ 32) (d a : List Sent) (
     rx_notice_safe false = (refl, refl)
     rx_notice_safe true = λ m f h. (given_all, rx_notifies m f v.vif.port h, k2, λ n q. (refl, refl))
 
-    rx_publish_safe : (wr : ℕ) → wr ≡ 2 * N → BackSafe w start K WasSent (now (words packet) wr) (rx_publish (over w v).vif (add32 start G) true N)
+    rx_publish_safe : (wr : ℕ) → wr ≡ 2 * N → BackSafe w start K WasSent (now (words packet) wr) (rx_publish (over w v).vif (add32 start G) Passed N)
     rx_publish_safe wr at =
         let new_index = add32 (add32 start G) N in
-        writes w start K WasSent (now (words packet) wr) given_all (page_word w.rx_frame 2) new_index (λ o. rx_event (over w v).vif (add32 start G) true N) k2
+        writes w start K WasSent (now (words packet) wr) given_all (page_word w.rx_frame 2) new_index (λ o. rx_event (over w v).vif (add32 start G) Passed N) k2
         (λ m f h. rx_pushes m f new_index refl (subst (λ z. Inv w start m f (now (words packet) z)) at h))
         (read_any w start K WasSent given_all (page_word w.rx_frame 3) (λ event. rx_notice (over w v).vif (is_due (add32 start G) new_index event) (outcome.Sent N)) k2 (λ event. rx_notice_safe (is_due (add32 start G) new_index event)))
 
     rx_answer_safe : (c i wr n : ℕ) → n ≡ N → i + c ≡ N → wr ≡ 2 * i →
-        BackSafe w start K WasSent (now (words packet) wr) (rx_answer (over w v).vif (add32 start G) packet true n i (targets w start small d a used g e sl rs packet N i c))
-    rx_answer_safe zero i wr n e1 e2 e3 = subst (λ o. BackSafe w start K WasSent (now (words packet) wr) (rx_publish (over w v).vif (add32 start G) true o)) (sym e1) (rx_publish_safe wr (omega (arith, e2, e3)))
+        BackSafe w start K WasSent (now (words packet) wr) (rx_answer (over w v).vif (add32 start G) packet Passed n i (targets w start small d a used g e sl rs packet N i c))
+    rx_answer_safe zero i wr n e1 e2 e3 = subst (λ o. BackSafe w start K WasSent (now (words packet) wr) (rx_publish (over w v).vif (add32 start G) Passed o)) (sym e1) (rx_publish_safe wr (omega (arith, e2, e3)))
     rx_answer_safe (suc c) i wr n e1 e2 e3 =
         let id = post w start small d a used g e sl rs packet N i in
-        let later = rx_answer (over w v).vif (add32 start G) packet true n (i + 1) (targets w start small d a used g e sl rs packet N (i + 1) c) in
+        let later = rx_answer (over w v).vif (add32 start G) packet Passed n (i + 1) (targets w start small d a used g e sl rs packet N (i + 1) c) in
         let index = add32 (add32 start G) i in
         let ic : length (X.ids) ≡ n = ids_count w start small d a used g e sl rs packet N N 0 ∙ sym e1 in
         let inside : i < N = omega (arith, e2) in
-        writes w start K WasSent (now (words packet) wr) (now (words packet) (wr + 1)) (rx_entry w.rx_frame index 0) (response_word true packet n i id 0)
-        (λ o. ask (want.Write (rx_entry w.rx_frame index 1) (response_word true packet n i id 1)) (λ o2. later)) (k1 (words packet) (wr + 1))
-        (λ m f h. subst (λ z. Inv w start (after (want.Write (rx_entry w.rx_frame index 0) (response_word true packet z i id 0)) m) f (now (words packet) (wr + 1))) ic
+        writes w start K WasSent (now (words packet) wr) (now (words packet) (wr + 1)) (rx_entry w.rx_frame index 0) (response_word Passed packet n i id 0)
+        (λ o. ask (want.Write (rx_entry w.rx_frame index 1) (response_word Passed packet n i id 1)) (λ o2. later)) (k1 (words packet) (wr + 1))
+        (λ m f h. subst (λ z. Inv w start (after (want.Write (rx_entry w.rx_frame index 0) (response_word Passed packet z i id 0)) m) f (now (words packet) (wr + 1))) ic
         (replies m f (words packet) i 0 wr (16 + 2 * (index % 256) + 0) inside (omega arith) (omega (arith, e3)) (ap (λ o. 16 + 2 * (o % 256) + 0) (add_add start G i)) h))
-        (writes w start K WasSent (now (words packet) (wr + 1)) (now (words packet) (wr + 1 + 1)) (rx_entry w.rx_frame index 1) (response_word true packet n i id 1) (λ o2. later) (k1 (words packet) (wr + 1 + 1))
-        (λ m f h. subst (λ z. Inv w start (after (want.Write (rx_entry w.rx_frame index 1) (response_word true packet z i id 1)) m) f (now (words packet) (wr + 1 + 1))) ic
+        (writes w start K WasSent (now (words packet) (wr + 1)) (now (words packet) (wr + 1 + 1)) (rx_entry w.rx_frame index 1) (response_word Passed packet n i id 1) (λ o2. later) (k1 (words packet) (wr + 1 + 1))
+        (λ m f h. subst (λ z. Inv w start (after (want.Write (rx_entry w.rx_frame index 1) (response_word Passed packet z i id 1)) m) f (now (words packet) (wr + 1 + 1))) ic
         (replies m f (words packet) i 1 (wr + 1) (16 + 2 * (index % 256) + 1) inside (omega arith) (omega (arith, e3)) (ap (λ o. 16 + 2 * (o % 256) + 1) (add_add start G i)) h))
         (rx_answer_safe c (i + 1) (wr + 1 + 1) n e1 (omega (arith, e2)) (omega (arith, e3))))
 
     -- all responses are written, and published
-    pub rx_respond_safe : (n : ℕ) → n ≡ N → BackSafe w start K WasSent (now (words packet) 0) (rx_answer (over w v).vif (add32 start G) packet true n 0 (targets w start small d a used g e sl rs packet N 0 N))
+    pub rx_respond_safe : (n : ℕ) → n ≡ N → BackSafe w start K WasSent (now (words packet) 0) (rx_answer (over w v).vif (add32 start G) packet Passed n 0 (targets w start small d a used g e sl rs packet N 0 N))
     rx_respond_safe n e1 = rx_answer_safe N 0 0 n e1 (omega arith) (omega arith)

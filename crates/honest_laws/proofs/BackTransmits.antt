@@ -11,6 +11,7 @@ use Rattle.xen_rx_fill.specs.Transmit.{after_targets, fill, found, read_targets,
 use Rattle.xen_rx_fill.specs.declared.by_event.phase.Outcome.{Outcome}
 use Rattle.xen_rx_fill.specs.declared.by_event.phase.Outcome.TheVariants as outcome
 use Rattle.xen_rx_fill.specs.declared.target.Target.{Target}
+use Rattle.xen_rx_fill.specs.declared.target.Grants.TheVariants.{Passed}
 use Rattle.honest_laws.specs.Ends.{BackSafe, HasGiven}
 use Rattle.honest_laws.specs.Ghosts.{IsSent, Sent, id_at, slots, Back}
 use Rattle.honest_laws.specs.Joined.{Joined}
@@ -83,7 +84,7 @@ module _ (w : Wiring) (start : ℕ) (small : start < 2 ^ 32) (v : BackWiring) (j
     now = fills.given_state w start small d a used g e sl rs packet N 0 0
 
     abbrev later : Unit {0} → Steps Outcome
-    later u = rx_respond (over w v).vif (add32 start G) packet true tg
+    later u = rx_respond (over w v).vif (add32 start G) packet Passed tg
 
     gives_safe : BackSafe w start K Transmitted now (bind (fill tg packet (words packet - 0) 0) later)
     gives_safe =

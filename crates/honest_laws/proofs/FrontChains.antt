@@ -16,6 +16,7 @@ use Rattle.xen_steps.specs.Pages.{copy_words}
 use Rattle.xen_steps.specs.Places.{add32, rx_entry}
 use Rattle.xen_steps.specs.Steps.{Steps}
 use Rattle.xen_rx_fill.specs.Packets.{response_word, rx_response, size_at, words}
+use Rattle.xen_rx_fill.specs.declared.target.Grants.TheVariants.{Passed}
 use Rattle.honest_laws.specs.Ghosts.{Sent, Piece, Front, Back, slots, piece, pieces_from, id_at}
 use Rattle.honest_laws.specs.Inv.{Inv}
 use Rattle.honest_machine.specs.Memory.{Memory}
@@ -92,9 +93,9 @@ module _ (w : Wiring) (laid : Numbers w) (start : ℕ) (K : Front → Type 0) (P
       ((m : Memory) (b : Back) → Inv w start m (rxing f (base + k + 1) t (Some (piece (slots t) (base + k))) rcv) b → Inv w start m last_front b) →
       Safe (Inv w start) K P last_front (chained (nat_lt (k + 1) (length ids)) s (record { slots = k + 1; bad = false; bytes = take (4096 * k + size_at p k) p }) rest) →
       Safe (Inv w start) K P (rxing f (base + k + 1) t (Some (piece (slots t) (base + k))) rcv)
-      (read_page w s (so_far p k) (rx_response true p (length ids) k (get_or ids k 0)) rest)
+      (read_page w s (so_far p k) (rx_response Passed p (length ids) k (get_or ids k 0)) rest)
   page_safe k s rest last_front lt kl last next =
-      let r = rx_response true p (length ids) k (get_or ids k 0) in
+      let r = rx_response Passed p (length ids) k (get_or ids k 0) in
       let b = buffer w.rx.now (get_or ids k 0) in
       let fr = part_of b r in
       let z = sized p k (length ids) most count lt in
@@ -118,10 +119,10 @@ module _ (w : Wiring) (laid : Numbers w) (start : ℕ) (K : Front → Type 0) (P
 
   -- where the response stands
   read_at : (k : ℕ) (s : State) (rd : Option Piece) (j : ℕ) (m : Memory) (b : Back) → k < length ids → j < 2 → s.rx.cons ≡ add32 start (base + k) → Inv w start m (rxing f (base + k) t rd rcv) b →
-      m.word (rx_entry w.rx_frame s.rx.cons j) ≡ response_word true p (length ids) k (At k) j
+      m.word (rx_entry w.rx_frame s.rx.cons j) ≡ response_word Passed p (length ids) k (At k) j
   read_at k s rd j m b lt l e h =
       ap (λ x. m.word (rx_entry w.rx_frame x j)) e ∙ rx_word w laid start f (base + k) t rd rcv m b h (base + k) j (omega arith) (omega (arith, inside, lt)) l
-      ∙ ap (λ x. response_word true x.bytes x.n x.k x.id j) (at k lt)
+      ∙ ap (λ x. response_word Passed x.bytes x.n x.k x.id j) (at k lt)
 
   -- a piece: its two words, the end of its grant, its page
   piece_safe : (k l : ℕ) (s : State) (rd : Option Piece) (last_front : Front) → k < length ids → Ringed start s.rx (id_at f.posts) (base + k) (length f.posts) → K last_front →
@@ -133,10 +134,10 @@ module _ (w : Wiring) (laid : Numbers w) (start : ℕ) (K : Front → Type 0) (P
       let z = sized p k (length ids) most count lt in
       let much = z.most in let z_in = z.inside in
       let below : base + k < length (slots t) = omega (arith, inside, lt) in
-      let R = rx_response true p (length ids) k (At k) in
+      let R = rx_response Passed p (length ids) k (At k) in
       let rest = receive w l in
-      let A = response_word true p (length ids) k (At k) 0 in
-      let B = response_word true p (length ids) k (At k) 1 in
+      let A = response_word Passed p (length ids) k (At k) 0 in
+      let B = response_word Passed p (length ids) k (At k) 1 in
       let here = rxing f (base + k) t rd rcv in
       let len = length-take (4096 * k) p in
       λ m b h. (

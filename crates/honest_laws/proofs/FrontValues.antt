@@ -14,6 +14,7 @@ use Rattle.xen_netif.specs.declared.flags.RxFlags.{RxFlags}
 use Rattle.xen_netif.specs.declared.fragment.Fragment.{Fragment}
 use Rattle.xen_rx_fill.proofs.ByteLemmas.{four}
 use Rattle.xen_rx_fill.specs.Packets.{response_word, rx_response, size_at, word_of}
+use Rattle.xen_rx_fill.specs.declared.target.Grants.TheVariants.{Passed}
 use Rattle.honest_laws.proofs.FrontReceives.{gathered}
 use Rattle.xen_netif.proofs.SlotLemmas.{rx_rsp_of-joined}
 
@@ -32,9 +33,9 @@ status_back : (n : ℕ) → n < 2 ^ 15 → cast_signed w16 (cast_unsigned w16 (p
 status_back n h = to_z-of_z w16 (pos n) (first_of (omega arith, search rules, grind arith))
 
 -- a response, from its words
-pub response_back : (p : List ℕ) (n k id : ℕ) → id < 2 ^ 16 → size_at p k < 2 ^ 15 → rx_rsp_of (response_word true p n k id 0 ∷ response_word true p n k id 1 ∷ []) ≡ rx_response true p n k id
+pub response_back : (p : List ℕ) (n k id : ℕ) → id < 2 ^ 16 → size_at p k < 2 ^ 15 → rx_rsp_of (response_word Passed p n k id 0 ∷ response_word Passed p n k id 1 ∷ []) ≡ rx_response Passed p n k id
 response_back p n k id small few =
-    rx_rsp_of-joined (rx_response true p n k id) (response_word true p n k id 0) (response_word true p n k id 1) (rx_flag_bits (flags_with (nat_lt (k + 1) n))) (cast_unsigned w16 (pos (size_at p k)))
+    rx_rsp_of-joined (rx_response Passed p n k id) (response_word Passed p n k id 0) (response_word Passed p n k id 1) (rx_flag_bits (flags_with (nat_lt (k + 1) n))) (cast_unsigned w16 (pos (size_at p k)))
     refl refl small (flags_fit (nat_lt (k + 1) n)) (flags_back (nat_lt (k + 1) n)) (status_back (size_at p k) few)
 
 not_lt : (a b : ℕ) → b ≤ a → nat_lt a b ≡ false
@@ -48,7 +49,7 @@ fifteen n k h = by (k == 15) refl
     by false e = refl
 
 -- it halts nothing
-pub no_fault : (r : Ring) (p : List ℕ) (n k id len : ℕ) → in_flight r id ≡ true → size_at p k ≤ 4096 → n ≤ 16 → len + size_at p k ≤ 65535 → fault_of r k len (rx_response true p n k id) ≡ None
+pub no_fault : (r : Ring) (p : List ℕ) (n k id len : ℕ) → in_flight r id ≡ true → size_at p k ≤ 4096 → n ≤ 16 → len + size_at p k ≤ 65535 → fault_of r k len (rx_response Passed p n k id) ≡ None
 no_fault r p n k id len flight size few room =
     rw (flight, not_lt 4096 (0 + size_at p k) (omega arith), fifteen n k few, not_lt 65535 (len + size_at p k) room) refl
 

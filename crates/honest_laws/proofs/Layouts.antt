@@ -1,5 +1,5 @@
 -- The layout's two ends are over the same pages, and their frames differ.
-use Rattle.std.proofs.Common.{◌≡◌, ℕ, zero, suc, ◌+◌, ◌*◌, ◌/◌, ◌%◌, ◌<◌, ◌≤◌, ◌⊎◌, inl, inr, Bool, true, false, ◌∷◌, Some, Ok, Err, refl, sym, ◌∙◌, ap, arith}
+use Rattle.std.proofs.Common.{◌≡◌, ℕ, zero, suc, ◌+◌, ◌*◌, ◌/◌, ◌%◌, ◌<◌, ◌≤◌, ◌⊎◌, inl, inr, ◌∷◌, Some, Ok, Err, refl, sym, ◌∙◌, ap, arith}
 use Rattle.std.specs.Prelude.{slice_get, replicate, if◌then◌else◌}
 use Rattle.bpf_verify.specs.Consistent.{Accepted}
 use Rattle.xen_back.specs.declared.wiring.Wiring.{Wiring as BackWiring}
@@ -12,6 +12,8 @@ use Rattle.xen_page.specs.Grant.{checked, is_domain}
 use Rattle.xen_page.specs.Table.{entry_place, place_in}
 use Rattle.xen_page.specs.declared.fault.GrantFault.TheVariants.{BadPage}
 use Rattle.xen_page.specs.declared.place.Place.{Place}
+use Rattle.xen_page.specs.declared.entry.Rights.{Rights}
+use Rattle.xen_page.specs.declared.entry.Rights.TheVariants.{ReadOnly, ReadWrite}
 use Rattle.honest_laws.specs.Joined.{Joined}
 use Rattle.honest_laws.specs.Laid.{Laid, Outside}
 use Rattle.honest_machine.specs.Layout.{IsBack, IsFront, owners, table_frames}
@@ -87,16 +89,16 @@ module _ (w : Wiring) (h : IsFront w) where
 
   module _ (program : Accepted) (v : BackWiring) (b : IsBack program v) where
     -- a grant to the back, of a frame that is the front's
-    grants : (kind frame : ℕ) (write : Bool) → 0 < frame → frame ≤ 530 → (kind ≡ 5) × (write ≡ false) ⊎ (kind ≡ 1) × (write ≡ true) →
-        checked v.vif.owners.now v.vif.granter v.vif.user (entry_of (joined kind w.back) frame) write ≡ Ok frame
-    grants kind frame write p q k =
-        ap (λ o. checked o v.vif.granter v.vif.user (entry_of (joined kind w.back) frame) write) b.owners
-        ∙ ap (λ o. checked owners o v.vif.user (entry_of (joined kind w.back) frame) write) b.granter
-        ∙ ap (λ o. checked owners 1 o (entry_of (joined kind w.back) frame) write) b.user
-        ∙ ap (λ o. checked owners 1 0 (entry_of (joined kind o) frame) write) h.back
+    grants : (kind frame : ℕ) (rights : Rights) → 0 < frame → frame ≤ 530 → (kind ≡ 5) × (rights ≡ ReadOnly) ⊎ (kind ≡ 1) × (rights ≡ ReadWrite) →
+        checked v.vif.owners.now v.vif.granter v.vif.user (entry_of (joined kind w.back) frame) rights ≡ Ok frame
+    grants kind frame rights p q k =
+        ap (λ o. checked o v.vif.granter v.vif.user (entry_of (joined kind w.back) frame) rights) b.owners
+        ∙ ap (λ o. checked owners o v.vif.user (entry_of (joined kind w.back) frame) rights) b.granter
+        ∙ ap (λ o. checked owners 1 o (entry_of (joined kind w.back) frame) rights) b.user
+        ∙ ap (λ o. checked owners 1 0 (entry_of (joined kind o) frame) rights) h.back
         ∙ elim k [
-          | inl c ↦ ap (λ o. checked owners 1 0 (entry_of (joined o 0) frame) write) c.0 ∙ ap (λ o. checked owners 1 0 (entry_of (joined 5 0) frame) o) c.1 ∙ last
-          | inr c ↦ ap (λ o. checked owners 1 0 (entry_of (joined o 0) frame) write) c.0 ∙ ap (λ o. checked owners 1 0 (entry_of (joined 1 0) frame) o) c.1 ∙ last
+          | inl c ↦ ap (λ o. checked owners 1 0 (entry_of (joined o 0) frame) rights) c.0 ∙ ap (λ o. checked owners 1 0 (entry_of (joined 5 0) frame) o) c.1 ∙ last
+          | inr c ↦ ap (λ o. checked owners 1 0 (entry_of (joined o 0) frame) rights) c.0 ∙ ap (λ o. checked owners 1 0 (entry_of (joined 1 0) frame) o) c.1 ∙ last
         ]
       where
         last : (if is_domain (slice_get owners frame) 1 then Ok frame else Err BadPage) ≡ Ok frame
@@ -108,8 +110,8 @@ module _ (w : Wiring) (h : IsFront w) where
       rx = b.rx ∙ sym h.rx_ring;
       tx_place = λ i p. (let g : (buffer w.tx.now i).gref ≡ 2 + i = ap (λ q. q.gref) (tx_is i p) in there (buffer w.tx.now i) (omega (arith, g, p)));
       rx_place = λ i p. (let g : (buffer w.rx.now i).gref ≡ 258 + i = ap (λ q. q.gref) (rx_is i p) in there (buffer w.rx.now i) (omega (arith, g, p)));
-      tx_grant = λ i p. (let f = tx_frame_is i p in grants 5 (buffer w.tx.now i).frame false (omega (arith, f)) (omega (arith, f, p)) (inl (refl, refl)));
-      rx_grant = λ i p. (let f = rx_frame_is i p in grants 1 (buffer w.rx.now i).frame true (omega (arith, f)) (omega (arith, f, p)) (inr (refl, refl)));
+      tx_grant = λ i p. (let f = tx_frame_is i p in grants 5 (buffer w.tx.now i).frame ReadOnly (omega (arith, f)) (omega (arith, f, p)) (inl (refl, refl)));
+      rx_grant = λ i p. (let f = rx_frame_is i p in grants 1 (buffer w.rx.now i).frame ReadWrite (omega (arith, f)) (omega (arith, f, p)) (inr (refl, refl)));
     }
       where
         there : (c : Buffer) → c.gref < 1024 → entry_place v.vif.table.now c.gref ≡ Some (grant_place w c)

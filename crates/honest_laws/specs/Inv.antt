@@ -11,6 +11,7 @@ use Rattle.xen_page.specs.Mapping.{frame_place}
 use Rattle.xen_page.specs.declared.place.Place.{Place}
 use Rattle.xen_steps.specs.Places.{add32, page_word, rx_entry, tx_entry}
 use Rattle.xen_rx_fill.specs.Packets.{response_word, word_of, words}
+use Rattle.xen_rx_fill.specs.declared.target.Grants.TheVariants.{Passed}
 use Rattle.honest_laws.specs.Ghosts.{AllOf, Sent, Piece, slots, piece, id_at, IsSent, Front, Back, tx_sent, tx_answered, rx_given, AllNotes}
 use Rattle.honest_machine.specs.Memory.{Memory}
 use Rattle.honest_machine.specs.declared.awaits.Awaits.{Awaits}
@@ -35,7 +36,7 @@ module _ (w : Wiring) (start : ℕ) where
   tx_words s = tx_req_words (piece_request w s.bytes s.n s.k s.id)
 
   abbrev pub rx_word_of : Piece → ℕ → ℕ
-  rx_word_of s j = response_word true s.bytes s.n s.k s.id j
+  rx_word_of s j = response_word Passed s.bytes s.n s.k s.id j
 
   -- A grant to the back, with these flags.
   pub record IsLent (x : Place → ℕ) (b : Buffer) (kind : ℕ) : Type 0 where

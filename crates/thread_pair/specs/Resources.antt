@@ -1,10 +1,11 @@
 -- Stated: claims rest on this file.
 -- What the threads are given.
-use Rattle.std.specs.Prelude.{ℕ, suc, zero, ◌+◌, ◌*◌, ◌<◌, ◌≡◌, List, [], ◌∷◌, length, true}
+use Rattle.std.specs.Prelude.{ℕ, suc, zero, ◌+◌, ◌*◌, ◌<◌, ◌≡◌, List, [], ◌∷◌, length}
 use Rattle.bpf_maps.specs.Seats.{CountersView, new_seat}
 use Rattle.xdp_world.specs.Frames.{frame_of, owners_of}
 use Rattle.xen_front.specs.Fronts.{wiring_of}
 use Rattle.xen_page.specs.Mapping.{IsMappedBy}
+use Rattle.xen_page.specs.declared.entry.Rights.TheVariants.{ReadWrite}
 use Rattle.thread_pair.specs.declared.resources.BackResources.{BackResources}
 use Rattle.thread_pair.specs.declared.resources.FrontResources.{FrontResources}
 
@@ -25,8 +26,8 @@ pub record IsBackOf (c : CountersView) (queues : ℕ) (k : BackResources) : Type
   pub rx : IsMappedBy (owners_of queues) 1 k.rx
   pub tx_frame : k.tx.frame ≡ frame_of (514 * k.queue)
   pub rx_frame : k.rx.frame ≡ frame_of (514 * k.queue + 1)
-  pub tx_writable : k.tx.write ≡ true
-  pub rx_writable : k.rx.write ≡ true
+  pub tx_writable : k.tx.rights ≡ ReadWrite
+  pub rx_writable : k.rx.rights ≡ ReadWrite
   pub seat : k.seat ≡ new_seat c k.queue
 
 -- A front's own if there are `queues` queues: a front whose pages are among their frames.

@@ -1,9 +1,10 @@
 //! A back thread.
-ghost use Rattle.std.specs.Prelude.{◌≡◌, ◌+◌, ◌<◌, ◌*◌, length, true};
+ghost use Rattle.std.specs.Prelude.{◌≡◌, ◌+◌, ◌<◌, ◌*◌, length};
 ghost use Rattle.xdp_world.specs.Frames.{frame_of, owners_of};
 ghost use Rattle.xdp_world.specs.Core.{started_at};
 ghost use Rattle.xen_back.specs.Queues.{IsReady, rx_ring_of, state_of, tx_ring_of, wiring_of};
 ghost use Rattle.xen_page.specs.Mapping.{IsMappedBy};
+ghost use Rattle.xen_page.specs.declared.entry.Rights.TheVariants.{ReadWrite};
 ghost use Rattle.bpf_maps.specs.Seats.{IsSeatOf};
 ghost use Rattle.thread_pair.specs.Resources.{IsBackOf};
 ghost use Rattle.thread_pair.specs.Working.{IsWiredFor, IsWork, IsWorkOver, task_of};
@@ -86,8 +87,8 @@ fn make_queue<'p, 'b>(
     room: &'b mut Buffer,
 ) -> Queue<'p, 'b>
     requires number { number < shared.now.layout.queues }
-    requires tx { IsMappedBy (owners_of shared.now.layout.queues) 1 tx × (tx.write ≡ true) }
-    requires rx { IsMappedBy (owners_of shared.now.layout.queues) 1 rx × (rx.write ≡ true) }
+    requires tx { IsMappedBy (owners_of shared.now.layout.queues) 1 tx × (tx.rights ≡ ReadWrite) }
+    requires rx { IsMappedBy (owners_of shared.now.layout.queues) 1 rx × (rx.rights ≡ ReadWrite) }
     requires frames { (tx.frame ≡ frame_of (514 * number)) × (rx.frame ≡ frame_of (514 * number + 1)) }
     ensures ready { IsReady result }
     ensures wired { IsWiredFor (task_of program.now shared.now) number (wiring_of result) }

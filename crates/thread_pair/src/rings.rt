@@ -1,10 +1,11 @@
 //! The rings' pages: their headers and grants, and their mappings.
-ghost use Rattle.std.specs.Prelude.{◌≡◌, ◌<◌, ◌*◌, IfErr, IfOk, List, Result, length, true};
+ghost use Rattle.std.specs.Prelude.{◌≡◌, ◌<◌, ◌*◌, IfErr, IfOk, List, Result, length};
 ghost use Rattle.thread_pair.specs.declared.fault.PairFault.TheVariants.{Map};
 ghost use Rattle.thread_pair.specs.Rings.{ring_of};
 ghost use Rattle.xen_page.specs.Access.{Performs};
 ghost use Rattle.xen_page.specs.Mapping.{IsMap, IsMappedBy, Mapping};
 ghost use Rattle.xen_page.specs.declared.access.Access.{Access};
+ghost use Rattle.xen_page.specs.declared.entry.Rights.TheVariants.{ReadWrite};
 ghost use Rattle.xen_page.specs.declared.fault.GrantFault.{GrantFault};
 ghost use Rattle.xen_page.specs.Shared.{frames_of};
 ghost use Rattle.xdp_world.specs.Frames.{frame_of, owners_of, table_frames};
@@ -12,7 +13,7 @@ ghost use Rattle.xdp_world.specs.Frames.{frame_of, owners_of, table_frames};
 use crate::fault::PairFault;
 use crate::shared::Shared;
 use xdp_world::{BACK, FRONT};
-use xen_page::{Bus, Mapped, PageBus, Place, map};
+use xen_page::{Bus, Mapped, PageBus, Place, Rights, map};
 use xen_ring::{REQ_EVENT, REQ_PROD, RSP_EVENT, RSP_PROD};
 
 /// The frame that reference 0 grants.
@@ -53,9 +54,9 @@ fn map_ring<B: Bus>(shared: &Shared, bus: &mut B, gref: u32) -> Result<Mapped, P
     requires gref { gref < 514 * shared.now.layout.queues }
     requires size { B.size bus.old ≡ length (owners_of shared.now.layout.queues) }
     ensures lent { IfOk result (IsMappedBy (owners_of shared.now.layout.queues) 1) }
-    ensures write { IfOk result (λ m. m.write ≡ true) }
+    ensures rights { IfOk result (λ m. m.rights ≡ ReadWrite) }
     ensures mapped { (t : List Access) × (answer : Result Mapping GrantFault) ×
-        IsMap table_frames (owners_of shared.now.layout.queues) 1 0 gref true t answer × Performs B.log B.access_gives bus.old t bus.new ×
+        IsMap table_frames (owners_of shared.now.layout.queues) 1 0 gref ReadWrite t answer × Performs B.log B.access_gives bus.old t bus.new ×
         (result ≡ ring_of gref answer) }
 {
     let mapped = map(
@@ -65,7 +66,7 @@ fn map_ring<B: Bus>(shared: &Shared, bus: &mut B, gref: u32) -> Result<Mapped, P
         FRONT,
         BACK,
         gref,
-        true,
+        Rights::ReadWrite,
     );
     match mapped {
         Ok(ring) if ring.frame() == FIRST_GRANTED + gref => Ok(ring),
@@ -77,7 +78,7 @@ fn map_ring<B: Bus>(shared: &Shared, bus: &mut B, gref: u32) -> Result<Mapped, P
 pub(crate) fn make_ring(shared: &Shared, gref: u32) -> Result<Mapped, PairFault>
     requires { gref < 514 * shared.now.layout.queues }
     ensures lent { IfOk result (IsMappedBy (owners_of shared.now.layout.queues) 1) }
-    ensures write { IfOk result (λ m. m.write ≡ true) }
+    ensures rights { IfOk result (λ m. m.rights ≡ ReadWrite) }
     ensures frame { IfOk result (λ m. m.frame ≡ frame_of gref) }
     ensures fault { IfErr result (λ e. e ≡ Map) }
 {

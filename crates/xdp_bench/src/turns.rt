@@ -1,7 +1,8 @@
 //! Turns of a queue over pages.
-ghost use Rattle.std.specs.Prelude.{◌≡◌, IfOk, length, true};
+ghost use Rattle.std.specs.Prelude.{◌≡◌, IfOk, length};
 ghost use Rattle.xen_back.specs.Queues.{IsReady, wiring_of};
 ghost use Rattle.xen_page.specs.Mapping.{IsMappedBy};
+ghost use Rattle.xen_page.specs.declared.entry.Rights.TheVariants.{ReadWrite};
 ghost use Rattle.xen_page.specs.Table.{IsTable};
 
 use crate::fault::Fault;
@@ -16,7 +17,7 @@ use bpf_vm::Buffer;
 use std::alloc::Alloc;
 use std::time::Instant;
 use xen_back::{Queue, QueueDesc, Turn};
-use xen_page::{Bus, Frames, Mapped, Owners, PageBus, PlainBus, Table, map};
+use xen_page::{Bus, Frames, Mapped, Owners, PageBus, PlainBus, Rights, Table, map};
 use xen_ring::{Port, Ports};
 
 /// Only turns that ran the program are timed, or idle ones if no packet is there.
@@ -42,9 +43,9 @@ fn ring<B: Bus>(bus: &mut B, table: &Table, owners: &Owners, gref: u32) -> Resul
     requires size { B.size bus.old ≡ length owners.now }
     ensures size { B.size bus.new ≡ B.size bus.old }
     ensures lent { IfOk result (IsMappedBy owners.now 1) }
-    ensures write { IfOk result (λ m. m.write ≡ true) }
+    ensures rights { IfOk result (λ m. m.rights ≡ ReadWrite) }
 {
-    map(bus, table, owners, FRONT, 0, gref, true).map_err(|_| Fault::Unexpected)
+    map(bus, table, owners, FRONT, 0, gref, Rights::ReadWrite).map_err(|_| Fault::Unexpected)
 }
 
 /// A queue over both rings, which are new.

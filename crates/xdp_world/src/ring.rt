@@ -1,10 +1,10 @@
 //! A ring's page, mapped.
-ghost use Rattle.std.specs.Prelude.{◌≡◌, ◌<◌, ◌*◌, IfOk, Some, true, slice_get};
+ghost use Rattle.std.specs.Prelude.{◌≡◌, ◌<◌, ◌*◌, IfOk, Some, slice_get};
 ghost use Rattle.xdp_world.specs.Frames.{frame_of};
 
 use crate::layout::{BACK, FRONT, Layout};
 use std::alloc::{AllocError, Global};
-use xen_page::{Mapped, ScriptBus, map};
+use xen_page::{Mapped, Rights, ScriptBus, map};
 
 /// The flags word of an entry that permits the back to read and write.
 const PERMIT: u32 = 1;
@@ -15,7 +15,7 @@ pub(crate) fn ring(alloc: Global, layout: &Layout, gref: u32) -> Result<Mapped, 
     ensures frame { IfOk result (λ m. m.frame ≡ frame_of gref) }
     ensures owned { IfOk result (λ m. slice_get layout.now.owners m.frame ≡ Some 1) }
     ensures granter { IfOk result (λ m. m.granter ≡ 1) }
-    ensures write { IfOk result (λ m. m.write ≡ true) }
+    ensures rights { IfOk result (λ m. m.rights ≡ ReadWrite) }
 {
     let mut bus = ScriptBus::make(
         alloc,
@@ -30,7 +30,7 @@ pub(crate) fn ring(alloc: Global, layout: &Layout, gref: u32) -> Result<Mapped, 
         FRONT,
         BACK,
         gref,
-        true,
+        Rights::ReadWrite,
     ) {
         Ok(mapped) => Ok(mapped),
         Err(_) => unreachable!(),

@@ -1,9 +1,10 @@
 //! What one queue of the tests stands on.
-ghost use Rattle.std.specs.Prelude.{◌≡◌, ◌≤◌, length, IfSome, true};
+ghost use Rattle.std.specs.Prelude.{◌≡◌, ◌≤◌, length, IfSome};
 ghost use Rattle.bpf_maps.specs.Seats.{IsSeatOf};
 ghost use Rattle.xen_back.specs.Queues.{IsReady, wiring_of};
 ghost use Rattle.xen_page.specs.Mapping.{IsMappedBy};
 ghost use Rattle.xen_page.specs.Table.{IsTable};
+ghost use Rattle.xen_page.specs.declared.entry.Rights.TheVariants.{ReadWrite};
 
 use bpf_maps::{CounterSeat, Counters};
 use bpf_note::MapShape;
@@ -12,7 +13,7 @@ use bpf_vm::Buffer;
 use std::alloc::Global;
 use xdp_world::{BACK, FRONT, Layout};
 use xen_back::{Queue, QueueDesc};
-use xen_page::{Frames, Mapped, Owners, ScriptBus, Table, map};
+use xen_page::{Frames, Mapped, Owners, Rights, ScriptBus, Table, map};
 
 /// The frames of a world of one queue: frame 0 is the back's, frames 1 to 16 are the front's table, frame 17 its tx ring and
 /// frame 18 its rx ring.
@@ -44,13 +45,22 @@ pub fn frames(alloc: Global) -> Option<Frames>
 /// The ring under a reference, mapped for writing.
 fn ring(alloc: Global, owners: &Owners, table: &Table, gref: u32, frame: u32) -> Option<Mapped>
     requires { IsTable owners.now 1 table.now }
-    ensures { IfSome result (λ m. IsMappedBy owners.now 1 m × (m.write ≡ true)) }
+    ensures { IfSome result (λ m. IsMappedBy owners.now 1 m × (m.rights ≡ ReadWrite)) }
 {
     if !table.is_within(FRAMES) {
         return None;
     }
     match ScriptBus::make(alloc, FRAMES, &[1, frame, 1], 0) {
-        Ok(mut bus) => map(&mut bus, table, owners, FRONT, BACK, gref, true).ok(),
+        Ok(mut bus) => map(
+            &mut bus,
+            table,
+            owners,
+            FRONT,
+            BACK,
+            gref,
+            Rights::ReadWrite,
+        )
+        .ok(),
         Err(_) => None,
     }
 }

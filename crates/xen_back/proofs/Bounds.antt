@@ -32,6 +32,8 @@ use Rattle.xen_netif.specs.declared.status.Status.{Status}
 use Rattle.xen_netif.specs.declared.status.Status.TheVariants as status
 use Rattle.xen_page.specs.Table.{entry_place}
 use Rattle.xen_page.specs.declared.fault.GrantFault.{GrantFault}
+use Rattle.xen_page.specs.declared.entry.Rights.{Rights}
+use Rattle.xen_page.specs.declared.entry.Rights.TheVariants.{ReadOnly}
 use Rattle.xen_ring.specs.Index.{is_due}
 use Rattle.xen_steps.specs.Drive.{Bounded}
 use Rattle.xen_rx_fill.specs.Wired.{IsWired}
@@ -152,9 +154,9 @@ module _ (w : Wiring) (shapes : List Shape) (h : IsWired w.vif) where
   bounded_sent : (x : ℕ) (packet : List ℕ) → Bounded within Any (transmit w.vif x packet) 263684
   bounded_sent x packet = bounded_wider (IsPageWant size) within page_within Any (transmit w.vif x packet) 263684 (bounded_transmit w.vif h x packet)
 
-  bounded_entry_within : (write : Bool) (gref : ℕ) → Bounded within (IsThere w.vif h) (entry w.vif write gref) 2
-  bounded_entry_within write gref =
-      bounded_wider (IsPageWant size) within page_within (IsThere w.vif h) (entry w.vif write gref) 2 (bounded_entry_at w.vif h write gref (entry_place w.vif.table.now gref) refl)
+  bounded_entry_within : (rights : Rights) (gref : ℕ) → Bounded within (IsThere w.vif h) (entry w.vif rights gref) 2
+  bounded_entry_within rights gref =
+      bounded_wider (IsPageWant size) within page_within (IsThere w.vif h) (entry w.vif rights gref) 2 (bounded_entry_at w.vif h rights gref (entry_place w.vif.table.now gref) refl)
 
   bounded_seen : (t : ℕ) (o : Option ℕ) → Bounded within Any (seen w t o) 2
   bounded_seen t None = tt
@@ -229,8 +231,8 @@ module _ (w : Wiring) (shapes : List Shape) (h : IsWired w.vif) where
   bounded_copy : (fs : List Fragment) (bytes : List ℕ) → AllInPage fs → Bounded within Any (copy w fs bytes) (1026 * length fs)
   bounded_copy [] bytes p = tt
   bounded_copy (f ∷ fs) bytes p =
-      bounded_bind within (IsThere w.vif h) Any (entry w.vif false f.gref) (entered f (copy w fs) bytes) 2 (1024 + 1026 * length fs) (1026 * suc (length fs))
-      (bounded_entry_within false f.gref) (λ r t. bounded_entered f (copy w fs) (1026 * length fs) bytes r p.0 t (λ b. bounded_copy fs b p.1)) (omega arith)
+      bounded_bind within (IsThere w.vif h) Any (entry w.vif ReadOnly f.gref) (entered f (copy w fs) bytes) 2 (1024 + 1026 * length fs) (1026 * suc (length fs))
+      (bounded_entry_within ReadOnly f.gref) (λ r t. bounded_entered f (copy w fs) (1026 * length fs) bytes r p.0 t (λ b. bounded_copy fs b p.1)) (omega arith)
 
   bounded_by : (code : List Insn) (n : ℕ) (s : Machine) (ops : ℕ) (go : (t : Machine) (ops : ℕ) → IsOf shapes (course n code t) → Bounded within Any (program (course n code t) ops) n) →
       (o : StepOutcome) → IsOf shapes (course_by (course n code) s o) → Bounded within Any (program (course_by (course n code) s o) ops) (suc n)

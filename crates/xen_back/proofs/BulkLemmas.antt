@@ -1,5 +1,5 @@
 -- What a driver does in one go is what a turn asks, event by event.
-use Rattle.std.proofs.Common.{◌≡◌, ℕ, ◌+◌, ◌-◌, ◌/◌, ◌<◌, ◌^◌, Bool, drop, get_or, false, List, [], ◌∷◌, ◌++◌, Option, Some, None, Result, Ok, Err, length, append-nil, append_assoc, refl, sym, ap, subst}
+use Rattle.std.proofs.Common.{◌≡◌, ℕ, ◌+◌, ◌-◌, ◌/◌, ◌<◌, ◌^◌, drop, get_or, List, [], ◌∷◌, ◌++◌, Option, Some, None, Result, Ok, Err, length, append-nil, append_assoc, refl, sym, ap, subst}
 use Rattle.xen_netif.specs.Chain.{Slot}
 use Rattle.xen_netif.specs.Copy.{bytes_from, bytes_in, covered}
 use Rattle.xen_netif.specs.Standing.{standing}
@@ -11,6 +11,8 @@ use Rattle.xen_page.specs.Access.{Performs}
 use Rattle.xen_page.specs.declared.access.Access.{Access}
 use Rattle.xen_page.specs.declared.access.Access.TheVariants as access
 use Rattle.xen_page.specs.declared.fault.GrantFault.{GrantFault}
+use Rattle.xen_page.specs.declared.entry.Rights.{Rights}
+use Rattle.xen_page.specs.declared.entry.Rights.TheVariants.{ReadOnly}
 use Rattle.xen_steps.specs.Drive.{LedBy, accesses}
 use Rattle.xen_steps.specs.Event.{Event, Read, Write}
 use Rattle.xen_steps.specs.Pages.{AreWords, copy_words, page_reads}
@@ -66,9 +68,9 @@ IsFragmentRead log gives frame f bytes out bus bus' =
     (words : List ℕ) × (length words ≡ covered f) × AreReadFrom log gives frame (f.offset / 4) words bus bus' × (out ≡ bytes ++ bytes_from f (f.offset / 4) words)
 
 -- a grant's entry is no counter's operation
-labels_entry : (v : Vif) (write : Bool) (gref : ℕ) (p : List Event) (r : Result ℕ GrantFault) → IsEntry v write gref p r → labels p ≡ []
-labels_entry v write gref _ _ (outside e) = refl
-labels_entry v write gref _ _ (inside at a b e la lb) = refl
+labels_entry : (v : Vif) (rights : Rights) (gref : ℕ) (p : List Event) (r : Result ℕ GrantFault) → IsEntry v rights gref p r → labels p ≡ []
+labels_entry v rights gref _ _ (outside e) = refl
+labels_entry v rights gref _ _ (inside at a b e la lb) = refl
 
 -- after a fragment's entry
 abbrev after_entry : Wiring → Fragment → List Fragment → (Option (List ℕ) → Steps Ending) → List ℕ → Result ℕ GrantFault → Steps Ending
@@ -76,22 +78,22 @@ after_entry w f later k bytes r = bind (entered f (copy w later) bytes r) k
 
 -- A fragment's entry is read.
 entry_driven : {S : Type 0} (log : S → Option (List Access)) (gives : S → Access → S → Type 0) (w : Wiring) (f : Fragment) (later : List Fragment) (k : Option (List ℕ) → Steps Ending) (bytes : List ℕ) (p : List Event) (r : Result ℕ GrantFault) (bus mid : S) →
-    IsEntry w.vif false f.gref p r → Performs log gives bus (accesses p) mid → Driven log gives (bind (copy w (f ∷ later) bytes) k) (after_entry w f later k bytes r) bus mid [] [] p
+    IsEntry w.vif ReadOnly f.gref p r → Performs log gives bus (accesses p) mid → Driven log gives (bind (copy w (f ∷ later) bytes) k) (after_entry w f later k bytes r) bus mid [] [] p
 entry_driven log gives w f later k bytes p r bus mid e q = record {
-  gone = gone_bind (copy w (f ∷ later) bytes) (entered f (copy w later) bytes r) p k (gone_entry w.vif false f.gref p r e (entered f (copy w later) bytes));
+  gone = gone_bind (copy w (f ∷ later) bytes) (entered f (copy w later) bytes r) p k (gone_entry w.vif ReadOnly f.gref p r e (entered f (copy w later) bytes));
   performed = q;
-  grown = sym (labels_entry w.vif false f.gref p r e);
+  grown = sym (labels_entry w.vif ReadOnly f.gref p r e);
 }
 
 -- its grant is refused
 pub refused_driven : {S : Type 0} (log : S → Option (List Access)) (gives : S → Access → S → Type 0) (w : Wiring) (f : Fragment) (later : List Fragment) (k : Option (List ℕ) → Steps Ending) (bytes : List ℕ) (p : List Event) (r : Result ℕ GrantFault) (fault : GrantFault)
-    (bus mid : S) → IsEntry w.vif false f.gref p r → Performs log gives bus (accesses p) mid → r ≡ Err fault → Driven log gives (bind (copy w (f ∷ later) bytes) k) (k None) bus mid [] [] p
+    (bus mid : S) → IsEntry w.vif ReadOnly f.gref p r → Performs log gives bus (accesses p) mid → r ≡ Err fault → Driven log gives (bind (copy w (f ∷ later) bytes) k) (k None) bus mid [] [] p
 refused_driven log gives w f later k bytes p r fault bus mid e q h =
     subst (λ x. Driven log gives (bind (copy w (f ∷ later) bytes) k) (after_entry w f later k bytes x) bus mid [] [] p) h (entry_driven log gives w f later k bytes p r bus mid e q)
 
 -- or its words are copied
 pub copied_driven : {S : Type 0} (log : S → Option (List Access)) (gives : S → Access → S → Type 0) (w : Wiring) (f : Fragment) (later : List Fragment) (k : Option (List ℕ) → Steps Ending) (bytes out : List ℕ) (p : List Event) (r : Result ℕ GrantFault) (frame : ℕ)
-    (bus mid new : S) → IsEntry w.vif false f.gref p r → Performs log gives bus (accesses p) mid → r ≡ Ok frame → IsFragmentRead log gives frame f bytes out mid new →
+    (bus mid new : S) → IsEntry w.vif ReadOnly f.gref p r → Performs log gives bus (accesses p) mid → r ≡ Ok frame → IsFragmentRead log gives frame f bytes out mid new →
     (t : List Event) × Driven log gives (bind (copy w (f ∷ later) bytes) k) (bind (copy w later out) k) bus new [] [] t
 copied_driven log gives w f later k bytes out p r frame bus mid new e q h read =
     let start = bind (copy w (f ∷ later) bytes) k in

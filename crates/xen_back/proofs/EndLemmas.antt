@@ -26,6 +26,7 @@ use Rattle.xen_netif.specs.declared.status.Status.{Status}
 use Rattle.xen_netif.specs.declared.status.Status.TheVariants as status
 use Rattle.xen_page.specs.declared.fault.GrantFault.{GrantFault}
 use Rattle.xen_page.specs.Table.{entry_place}
+use Rattle.xen_page.specs.declared.entry.Rights.TheVariants.{ReadOnly}
 use Rattle.xen_ring.specs.Index.{is_due}
 use Rattle.xen_steps.specs.Finish.{Ends}
 use Rattle.xen_steps.specs.Event.{Event}
@@ -173,7 +174,7 @@ module _ (w : Wiring) where
   ends_copy : (fs : List Fragment) (bytes : List ℕ) → Ends Any (copy w fs bytes)
   ends_copy [] bytes = tt
   ends_copy (f ∷ fs) bytes =
-      ends_bind Any Any (entry w.vif false f.gref) (entered f (copy w fs) bytes) (ends_entry w.vif false (entry_place w.vif.table.now f.gref)) (λ r u. ends_entered f (copy w fs) bytes r (λ b. ends_copy fs b))
+      ends_bind Any Any (entry w.vif ReadOnly f.gref) (entered f (copy w fs) bytes) (ends_entry w.vif ReadOnly (entry_place w.vif.table.now f.gref)) (λ r u. ends_entered f (copy w fs) bytes r (λ b. ends_copy fs b))
 
   ends_judged : (slots : List Slot) (v : Option (Result ChainState ChainFault)) (rest : Steps Scan) (r : Result ChainState ChainFault) → v ≡ Some r → (IsTrue (is_open v) → Ends Any rest) → Ends Any (judged slots v rest)
   ends_judged slots (Some (Ok wanted.Data)) rest r e g = g refl

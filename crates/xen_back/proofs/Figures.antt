@@ -42,6 +42,7 @@ use Rattle.xen_back.specs.declared.state.State.{State}
 use Rattle.xen_back.specs.declared.wiring.Wiring.{Wiring}
 use Rattle.xen_back.proofs.Bounds.{data_length, standing_length, responses_length}
 use Rattle.xen_back.proofs.WalkLemmas.{walk_length}
+use Rattle.xen_page.specs.declared.entry.Rights.TheVariants.{ReadOnly}
 
 n_look : (w : Wiring) (t : ℕ) (p : List Event) (o : Option ℕ) → IsLook w t p o → n p ≤ 3
 n_look w t _ _ (once p l h) = omega arith
@@ -81,9 +82,9 @@ covered_few f = by (f.size == 0) refl
 
 n_copy : (w : Wiring) (fs : List Fragment) (p : List Event) (o : Option (List ℕ)) → IsCopy w fs p o → 4 * n p ≤ sum_by fragment_size fs + 14 * length fs
 n_copy w _ _ _ copied = omega arith
-n_copy w _ _ _ (denied f fs p fault e) = omega (arith, n_entry w.vif false f.gref p (Err fault) e, sum_by-cons fragment_size f fs)
+n_copy w _ _ _ (denied f fs p fault e) = omega (arith, n_entry w.vif ReadOnly f.gref p (Err fault) e, sum_by-cons fragment_size f fs)
 n_copy w _ _ _ (part f fs p q frame vs out e l b c) =
-    omega (arith, n_entry w.vif false f.gref p (Ok frame) e, n_append p (page_reads frame (f.offset / 4) vs ++ q), n_append (page_reads frame (f.offset / 4) vs) q, n_page frame (f.offset / 4) vs, l, covered_few f, n_copy w fs q out c, sum_by-cons fragment_size f fs)
+    omega (arith, n_entry w.vif ReadOnly f.gref p (Ok frame) e, n_append p (page_reads frame (f.offset / 4) vs ++ q), n_append (page_reads frame (f.offset / 4) vs) q, n_page frame (f.offset / 4) vs, l, covered_few f, n_copy w fs q out c, sum_by-cons fragment_size f fs)
 
 -- the copy is no longer than its fragments
 abbrev pub IsShort : ℕ → Option (List ℕ) → Type 0
@@ -254,9 +255,9 @@ most_page frame place (v ∷ vs) = let h = most_page frame (place + 1) vs in rec
 
 most_copy : (w : Wiring) (fs : List Fragment) (p : List Event) (o : Option (List ℕ)) → IsCopy w fs p o → HasAtMost p 0 0
 most_copy w _ _ _ copied = record { steps = omega arith; told = omega arith }
-most_copy w _ _ _ (denied f fs p fault e) = most_entry w.vif false f.gref p (Err fault) e
+most_copy w _ _ _ (denied f fs p fault e) = most_entry w.vif ReadOnly f.gref p (Err fault) e
 most_copy w _ _ _ (part f fs p q frame vs out e l b c) =
-    most_append p (page_reads frame (f.offset / 4) vs ++ q) 0 0 0 0 (most_entry w.vif false f.gref p (Ok frame) e)
+    most_append p (page_reads frame (f.offset / 4) vs ++ q) 0 0 0 0 (most_entry w.vif ReadOnly f.gref p (Ok frame) e)
     (most_append (page_reads frame (f.offset / 4) vs) q 0 0 0 0 (most_page frame (f.offset / 4) vs) (most_copy w fs q out c))
 
 most_program : (labels : List (Option Op)) → HasAtMost (map event_of labels) (length labels) 0

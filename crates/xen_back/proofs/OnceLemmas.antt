@@ -17,6 +17,8 @@ use Rattle.xen_page.specs.Mapping.{frame_place}
 use Rattle.xen_page.specs.Table.{entry_place}
 use Rattle.xen_page.specs.declared.fault.GrantFault.{GrantFault}
 use Rattle.xen_page.specs.declared.place.Place.{Place}
+use Rattle.xen_page.specs.declared.entry.Rights.{Rights}
+use Rattle.xen_page.specs.declared.entry.Rights.TheVariants.{ReadOnly, ReadWrite}
 use Rattle.xen_ring.specs.Index.{distance, is_due}
 use Rattle.xen_steps.specs.Event.{Event, Read, Write, Instr, Load, Add, Notify}
 use Rattle.xen_steps.specs.Pages.{page_reads}
@@ -26,6 +28,8 @@ use Rattle.xen_rx_fill.specs.Packets.{pages, words}
 use Rattle.xen_rx_fill.specs.Sending.{AreTargets, IsPosted, IsRxRespond, IsTransmit, all, buffer_writes, is_posted, passing, refused, refusing, rx_overflow, rx_writes, sent, too_few}
 use Rattle.xen_rx_fill.specs.declared.by_event.phase.Outcome.{Outcome}
 use Rattle.xen_rx_fill.specs.declared.by_event.phase.Outcome.TheVariants as outcome
+use Rattle.xen_rx_fill.specs.declared.target.Grants.{Grants}
+use Rattle.xen_rx_fill.specs.declared.target.Grants.TheVariants.{Passed, Refused}
 use Rattle.xen_rx_fill.specs.declared.target.Target.{Target}
 use Rattle.xen_rx_fill.specs.Shared.{IsEntry, inside, outside, notices}
 use Rattle.xen_back.specs.Once.{AllOther, AreDistinct, AreGranted, AreLooks, ArePosted, CoveredDistinct, FragmentsOnce, GrantReads, HaltReads, PostedDistinct, SendReads, SizeReads, SlotsOnce, SlotsRead, TargetsOnce, TurnReads, TurnsOnce, copy_places, entry_places, page_places, places_read, posted_places, sent_places, slot_places, target_places, notice_reads}
@@ -111,9 +115,9 @@ page_read : (frame place : ℕ) (vs : List ℕ) → places_read (page_reads fram
 page_read frame place [] = refl
 page_read frame place (v ∷ vs) = ap (λ l. page_word frame place ∷ l) (page_read frame (place + 1) vs)
 
-entry_read : (w : Wiring) (write : Bool) (gref : ℕ) (p : List Event) (r : Result ℕ GrantFault) → IsEntry w.vif write gref p r → places_read p ≡ entry_places (entry_place w.vif.table.now gref)
-entry_read w write gref _ _ (outside e) = sym (ap entry_places e)
-entry_read w write gref _ _ (inside at a b e l m) = sym (ap entry_places e)
+entry_read : (w : Wiring) (rights : Rights) (gref : ℕ) (p : List Event) (r : Result ℕ GrantFault) → IsEntry w.vif rights gref p r → places_read p ≡ entry_places (entry_place w.vif.table.now gref)
+entry_read w rights gref _ _ (outside e) = sym (ap entry_places e)
+entry_read w rights gref _ _ (inside at a b e l m) = sym (ap entry_places e)
 
 -- what is granted is the value
 value_of : (demands : List (Bool × GrantFault)) (value frame : ℕ) → first_fault demands value ≡ Ok frame → value ≡ frame
@@ -122,11 +126,11 @@ value_of ((true, fault) ∷ demands) value frame e = value_of demands value fram
 value_of ((false, fault) ∷ demands) value frame e = let no : ⊥ = cc in absurd no
 
 -- a granted frame is what the second word of its entry was answered
-granted_frame : (w : Wiring) (write : Bool) (gref : ℕ) (p : List Event) (r : Result ℕ GrantFault) (frame : ℕ) → IsEntry w.vif write gref p r → r ≡ Ok frame →
+granted_frame : (w : Wiring) (rights : Rights) (gref : ℕ) (p : List Event) (r : Result ℕ GrantFault) (frame : ℕ) → IsEntry w.vif rights gref p r → r ≡ Ok frame →
     (at : Place) × (entry_place w.vif.table.now gref ≡ Some at) × Contains p (Read (frame_place at) frame)
-granted_frame w write gref _ _ frame (outside e) f = let no : ⊥ = cc in absurd no
-granted_frame w write gref _ _ frame (inside at a b e l m) f =
-    let same : b ≡ frame = value_of (demands w.vif.owners.now w.vif.granter w.vif.user (entry_of a b) write) b frame f in
+granted_frame w rights gref _ _ frame (outside e) f = let no : ⊥ = cc in absurd no
+granted_frame w rights gref _ _ frame (inside at a b e l m) f =
+    let same : b ≡ frame = value_of (demands w.vif.owners.now w.vif.granter w.vif.user (entry_of a b) rights) b frame f in
     (at, e, (1, omega arith, ap (Read (frame_place at)) same))
 
 abbrev Within : List Event → List Event → Type 0
@@ -147,13 +151,13 @@ none_behind bytes (Some later) e = let no : ⊥ = cc in absurd no
 
 pub fragments_once : FragmentsOnce
 fragments_once w _ _ _ copied = ([], refl, tt, λ h. refl, λ h. let no : ⊥ = cc in absurd no)
-fragments_once w _ _ _ (denied f fs p fault e) = ([], entry_read w false f.gref p (Err fault) e, tt, λ h. absurd (h refl), λ h. omega arith)
+fragments_once w _ _ _ (denied f fs p fault e) = ([], entry_read w ReadOnly f.gref p (Err fault) e, tt, λ h. absurd (h refl), λ h. omega arith)
 fragments_once w _ _ _ (part f fs p q frame words out e count below c) =
     let i = fragments_once w fs q out c in
     let reads = page_reads frame (f.offset / 4) words in
     let words_read : places_read reads ≡ page_places frame (f.offset / 4) (covered f) = page_read frame (f.offset / 4) words ∙ ap (page_places frame (f.offset / 4)) count in
-    let entry = entry_read w false f.gref p (Ok frame) e in
-    let first = granted_frame w false f.gref p (Ok frame) frame e refl in
+    let entry = entry_read w ReadOnly f.gref p (Ok frame) e in
+    let first = granted_frame w ReadOnly f.gref p (Ok frame) frame e refl in
     let behind_it : Within q (p ++ (reads ++ q)) = λ e h. Contains-append_right p (reads ++ q) e (Contains-append_right reads q e h) in (
       frame ∷ i.0,
       places_read-append p (reads ++ q)
@@ -169,16 +173,16 @@ fragments_once w _ _ _ (part f fs p q frame words out e count below c) =
 posted_read : (w : Wiring) (i : ℕ) (p : List Event) (id : ℕ) (r : Result ℕ GrantFault) → IsPosted w.vif i p id r →
     (gref : ℕ) × (places_read p ≡ rx_slot w.vif i 0 ∷ rx_slot w.vif i 1 ∷ entry_places (entry_place w.vif.table.now gref)) × Contains p (Read (rx_slot w.vif i 1) gref)
 posted_read w i _ _ _ (is_posted a g p r la lg e) =
-    (g, ap (λ l. rx_slot w.vif i 0 ∷ rx_slot w.vif i 1 ∷ l) (entry_read w true g p r e), (1, omega arith, refl))
+    (g, ap (λ l. rx_slot w.vif i 0 ∷ rx_slot w.vif i 1 ∷ l) (entry_read w ReadWrite g p r e), (1, omega arith, refl))
 
 pub targets_once : TargetsOnce
 targets_once w x _ _ _ _ _ (all i) = ([], refl, refl, tt)
 targets_once w x _ _ _ _ _ (refusing i left id p fault o) =
     let q = posted_read w (add32 x i) p id (Err fault) o in
     (q.0 ∷ [], refl, q.1 ∙ ap (λ l. rx_slot w.vif (add32 x i) 0 ∷ rx_slot w.vif (add32 x i) 1 ∷ l) (sym (append-nil (entry_places (entry_place w.vif.table.now q.0)))), (q.2, tt))
-targets_once w x _ _ _ _ _ (passing i left id frame p q ok ts o a) =
+targets_once w x _ _ _ _ _ (passing i left id frame p q grants ts o a) =
     let first = posted_read w (add32 x i) p id (Ok frame) o in
-    let later = targets_once w x (i + 1) left q ok ts a in (
+    let later = targets_once w x (i + 1) left q grants ts a in (
       first.0 ∷ later.0,
       ap suc later.1,
       places_read-append p q ∙ ap (λ l. l ++ places_read q) first.1
@@ -286,22 +290,22 @@ no_words : (ts : List Target) (packet : List ℕ) (n k : ℕ) → places_read (b
 no_words ts packet zero k = refl
 no_words ts packet (suc n) k = no_words ts packet n (k + 1)
 
-no_rx_responses : (w : Wiring) (x : ℕ) (packet : List ℕ) (passed : Bool) (n i : ℕ) (ts : List Target) → places_read (rx_writes w.vif x packet passed n i ts) ≡ []
-no_rx_responses w x packet passed n i [] = refl
-no_rx_responses w x packet passed n i (t ∷ ts) = no_rx_responses w x packet passed n (i + 1) ts
+no_rx_responses : (w : Wiring) (x : ℕ) (packet : List ℕ) (grants : Grants) (n i : ℕ) (ts : List Target) → places_read (rx_writes w.vif x packet grants n i ts) ≡ []
+no_rx_responses w x packet grants n i [] = refl
+no_rx_responses w x packet grants n i (t ∷ ts) = no_rx_responses w x packet grants n (i + 1) ts
 
-rx_respond_read : (w : Wiring) (x : ℕ) (packet : List ℕ) (passed : Bool) (ts : List Target) (p : List Event) → IsRxRespond w.vif x packet passed ts p → places_read p ≡ rx_word w.vif 3 ∷ []
-rx_respond_read w x packet passed ts p h =
+rx_respond_read : (w : Wiring) (x : ℕ) (packet : List ℕ) (grants : Grants) (ts : List Target) (p : List Event) → IsRxRespond w.vif x packet grants ts p → places_read p ≡ rx_word w.vif 3 ∷ []
+rx_respond_read w x packet grants ts p h =
     let due = is_due x (add32 x (length ts)) h.0 in
-    let writes = rx_writes w.vif x packet passed (length ts) 0 ts in
+    let writes = rx_writes w.vif x packet grants (length ts) 0 ts in
     let last : List Event = Write (rx_word w.vif 2) (add32 x (length ts)) ∷ Read (rx_word w.vif 3) h.0 ∷ notices w.vif due in
-    ap places_read h.2 ∙ places_read-append writes last ∙ ap (λ l. l ++ places_read last) (no_rx_responses w x packet passed (length ts) 0 ts) ∙ ap (λ l. rx_word w.vif 3 ∷ l) (no_notices w due)
+    ap places_read h.2 ∙ places_read-append writes last ∙ ap (λ l. l ++ places_read last) (no_rx_responses w x packet grants (length ts) 0 ts) ∙ ap (λ l. rx_word w.vif 3 ∷ l) (no_notices w due)
 
 -- as many slots pass as were wanted
-all_passed : (w : Wiring) (x i left : ℕ) (p : List Event) (ok : Bool) (ts : List Target) → AreTargets w.vif x i left p ok ts → ok ≡ true → length ts ≡ left
+all_passed : (w : Wiring) (x i left : ℕ) (p : List Event) (grants : Grants) (ts : List Target) → AreTargets w.vif x i left p grants ts → grants ≡ Passed → length ts ≡ left
 all_passed w x _ _ _ _ _ (all i) e = refl
 all_passed w x _ _ _ _ _ (refusing i left id p fault o) e = let no : ⊥ = cc in absurd no
-all_passed w x _ _ _ _ _ (passing i left id frame p q ok ts o a) e = ap suc (all_passed w x (i + 1) left q ok ts a e)
+all_passed w x _ _ _ _ _ (passing i left id frame p q grants ts o a) e = ap suc (all_passed w x (i + 1) left q grants ts a e)
 
 abbrev Sent : Wiring → ℕ → List ℕ → List Event → Outcome → Type 0
 Sent w x packet p outcome.Overflow = places_read p ≡ rx_word w.vif 0 ∷ []
@@ -317,18 +321,18 @@ sent_reads : (w : Wiring) (x : ℕ) (packet : List ℕ) (p : List Event) (o : Ou
 sent_reads w x packet _ _ (rx_overflow p l e) = refl
 sent_reads w x packet _ _ (too_few p m l e f) = refl
 sent_reads w x packet _ _ (refused p m p1 p2 ts l e f a r) =
-    let t = targets_once w x 0 (pages packet) p1 false ts a in (
+    let t = targets_once w x 0 (pages packet) p1 Refused ts a in (
       t.0,
-      ap (λ l. rx_word w.vif 0 ∷ l) (places_read-append p1 p2 ∙ ap (λ l. l ++ places_read p2) t.2 ∙ ap (λ l. target_places w x 0 t.0 ++ l) (rx_respond_read w x packet false ts p2 r)),
+      ap (λ l. rx_word w.vif 0 ∷ l) (places_read-append p1 p2 ∙ ap (λ l. l ++ places_read p2) t.2 ∙ ap (λ l. target_places w x 0 t.0 ++ l) (rx_respond_read w x packet Refused ts p2 r)),
       posted_within w x 0 t.0 p1 (Read (rx_word w.vif 0) p ∷ (p1 ++ p2)) (behind_producer (Read (rx_word w.vif 0) p) p1 p2) t.3,
     )
 sent_reads w x packet _ _ (sent p m p1 p2 ts l e f a r) =
-    let t = targets_once w x 0 (pages packet) p1 true ts a in
+    let t = targets_once w x 0 (pages packet) p1 Passed ts a in
     let writes = buffer_writes ts packet (words packet) 0 in
     let end : places_read (writes ++ p2) ≡ rx_word w.vif 3 ∷ [] =
-    places_read-append writes p2 ∙ ap (λ l. l ++ places_read p2) (no_words ts packet (words packet) 0) ∙ rx_respond_read w x packet true ts p2 r in (
+    places_read-append writes p2 ∙ ap (λ l. l ++ places_read p2) (no_words ts packet (words packet) 0) ∙ rx_respond_read w x packet Passed ts p2 r in (
       t.0,
-      t.1 ∙ all_passed w x 0 (pages packet) p1 true ts a refl,
+      t.1 ∙ all_passed w x 0 (pages packet) p1 Passed ts a refl,
       ap (λ l. rx_word w.vif 0 ∷ l) (places_read-append p1 (writes ++ p2) ∙ ap (λ l. l ++ places_read (writes ++ p2)) t.2 ∙ ap (λ l. target_places w x 0 t.0 ++ l) end),
       posted_within w x 0 t.0 p1 (Read (rx_word w.vif 0) p ∷ (p1 ++ (writes ++ p2))) (behind_producer (Read (rx_word w.vif 0) p) p1 (writes ++ p2)) t.3,
     )

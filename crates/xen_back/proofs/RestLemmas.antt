@@ -1,5 +1,5 @@
 -- What a turn's computation is at a phase that waits on an index or on a number.
-use Rattle.std.proofs.Common.{◌≡◌, ℕ, zero, suc, ◌+◌, ◌-◌, ◌<◌, false, List, [], length, drop, Some, refl, arith, ap, get_or, Option}
+use Rattle.std.proofs.Common.{◌≡◌, ℕ, zero, suc, ◌+◌, ◌-◌, ◌<◌, List, [], length, drop, Some, refl, arith, ap, get_or, Option}
 use Rattle.std.proofs.lemmas.List.{drop_more}
 use Rattle.xen_netif.specs.Chain.{Slot}
 use Rattle.xen_steps.specs.Places.{add32}
@@ -16,6 +16,7 @@ use Rattle.xen_back.specs.declared.queue.Queue.{Queue}
 use Rattle.xen_back.specs.declared.state.State.{State}
 use Rattle.xen_steps.specs.declared.want.Want.TheVariants as want
 use Rattle.xen_back.specs.declared.wiring.Wiring.{Wiring}
+use Rattle.xen_page.specs.declared.entry.Rights.TheVariants.{ReadOnly}
 
 -- A queue between turns has a whole turn left.
 pub ready_rest : (q : Queue) → IsReady q → rest q ≡ whole_turn (wiring_of q) (state_of q)
@@ -39,5 +40,5 @@ pub answer_at : (w : Wiring) (t n i : ℕ) (words : List ℕ) (e : Ending) → i
 answer_at w t n i words e h = ap (λ l. answer w t n i l e) (drop_more words i 0 h)
 
 pub copy_at : (w : Wiring) (fragments : List Fragment) (i : ℕ) (bytes : List ℕ) → i < length fragments →
-    copy w (drop i fragments) bytes ≡ bind (entry w.vif false (fragment_at fragments i).gref) (entered (fragment_at fragments i) (copy w (drop (i + 1) fragments)) bytes)
+    copy w (drop i fragments) bytes ≡ bind (entry w.vif ReadOnly (fragment_at fragments i).gref) (entered (fragment_at fragments i) (copy w (drop (i + 1) fragments)) bytes)
 copy_at w fragments i bytes h = ap (λ l. copy w l bytes) (drop_more fragments i (record { gref = 0; offset = 0; size = 0 }) h)

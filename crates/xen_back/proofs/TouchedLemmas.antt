@@ -1,7 +1,7 @@
 -- The places that a turn touches.
 use Rattle.bpf_note.specs.declared.op.Op.TheVariants as op
 use Rattle.xen_rx_fill.proofs.TouchedLemmas.{front, back, granted_on, all_on, append, both, of_notices, of_entry, grants_by, of_transmit}
-use Rattle.std.proofs.Common.{ℕ, ◌+◌, ◌*◌, ◌/◌, ◌%◌, ◌≤◌, false, List, [], ◌∷◌, ◌++◌, Option, Some, None, Ok, Err, refl, sym, length, map, arith, subst, inl}
+use Rattle.std.proofs.Common.{ℕ, ◌+◌, ◌*◌, ◌/◌, ◌%◌, ◌≤◌, List, [], ◌∷◌, ◌++◌, Option, Some, None, Ok, Err, refl, sym, length, map, arith, subst, inl}
 use Rattle.bpf_note.specs.declared.op.Op.{Op}
 use Rattle.xen_netif.specs.Chain.{Slot}
 use Rattle.xen_netif.specs.declared.fragment.Fragment.{Fragment}
@@ -22,6 +22,7 @@ use Rattle.xen_back.specs.Turns.{HasRun, IsTurn, still_halted, idle, overflown, 
 use Rattle.xen_back.specs.declared.state.State.{State}
 use Rattle.xen_back.specs.declared.wiring.Wiring.{Wiring}
 use Rattle.xen_back.proofs.Bounds.{AllInPage, covered_inside, fragments_are}
+use Rattle.xen_page.specs.declared.entry.Rights.TheVariants.{ReadOnly}
 
 -- of the tx ring
 of_look : (w : Wiring) (t : ℕ) (p : List Event) (o : Option ℕ) → IsLook w t p o → AllAllowed w.vif p p
@@ -53,18 +54,18 @@ of_respond w x slots st p h =
     (append w.vif p (response_writes w x 0 (responses st slots)) q (of_responses w p x 0 (responses st slots))
     (pushed w.vif.tx (add32 x (length slots)) (inl refl), (ring w.vif.tx 3 h.0 (inl refl) (omega arith), of_notices w.vif p (is_due x (add32 x (length slots)) h.0))))
 
-of_page : (w : Wiring) (t : List Event) (frame place : ℕ) (vs : List ℕ) → IsGranted w.vif false t frame → place + length vs ≤ 1024 → AllAllowed w.vif t (page_reads frame place vs)
+of_page : (w : Wiring) (t : List Event) (frame place : ℕ) (vs : List ℕ) → IsGranted w.vif ReadOnly t frame → place + length vs ≤ 1024 → AllAllowed w.vif t (page_reads frame place vs)
 of_page w t frame place [] g l = tt
 of_page w t frame place (v ∷ vs) g l = (source frame place v (omega arith) g, of_page w t frame (place + 1) vs g (omega arith))
 
 of_copy : (w : Wiring) (fs : List Fragment) (p : List Event) (o : Option (List ℕ)) → AllInPage fs → IsCopy w fs p o → AllAllowed w.vif p p
 of_copy w _ _ _ h copied = tt
-of_copy w _ _ _ h (denied f fs p fault e) = of_entry w.vif p false f.gref p (Err fault) e
+of_copy w _ _ _ h (denied f fs p fault e) = of_entry w.vif p ReadOnly f.gref p (Err fault) e
 of_copy w _ _ _ h (part f fs p q frame vs out e l b c) =
     let reads = page_reads frame (f.offset / 4) vs in
     let t = p ++ (reads ++ q) in
-    let g = granted_on w.vif false p t frame (front p (reads ++ q)) (grants_by w.vif false f.gref p (Ok frame) frame e refl) in
-    append w.vif t p (reads ++ q) (of_entry w.vif t false f.gref p (Ok frame) e)
+    let g = granted_on w.vif ReadOnly p t frame (front p (reads ++ q)) (grants_by w.vif ReadOnly f.gref p (Ok frame) frame e refl) in
+    append w.vif t p (reads ++ q) (of_entry w.vif t ReadOnly f.gref p (Ok frame) e)
     (append w.vif t reads q (of_page w t frame (f.offset / 4) vs g (omega (arith, l, covered_inside f h.0)))
     (all_on w.vif q t q (λ e f i. back p (reads ++ q) e f (back reads q e f i)) (of_copy w fs q out h.1 c)))
 

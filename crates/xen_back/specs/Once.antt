@@ -1,6 +1,6 @@
 -- Stated: claims rest on this file.
 -- Which words a turn reads, in order, each once.
-use Rattle.std.specs.Prelude.{ℕ, zero, suc, ◌≡◌, ◌≢◌, ◌<◌, ◌≤◌, ◌+◌, ◌/◌, ◌⊎◌, Bool, List}
+use Rattle.std.specs.Prelude.{ℕ, zero, suc, ◌≡◌, ◌≢◌, ◌<◌, ◌≤◌, ◌+◌, ◌/◌, ◌⊎◌, List}
 use Rattle.std.specs.Prelude.{[], ◌∷◌, ◌++◌, Option, None, Some, Ok, Err, length}
 use Rattle.std.specs.List.{Contains}
 use Rattle.xen_netif.specs.Chain.{Slot}
@@ -16,6 +16,7 @@ use Rattle.xen_steps.specs.Places.{add32, page_word}
 use Rattle.xen_rx_fill.specs.Packets.{pages}
 use Rattle.xen_rx_fill.specs.Places.{rx_slot, rx_word, tx_slot, tx_word}
 use Rattle.xen_rx_fill.specs.Sending.{AreTargets}
+use Rattle.xen_rx_fill.specs.declared.target.Grants.{Grants}
 use Rattle.xen_rx_fill.specs.declared.target.Target.{Target}
 use Rattle.xen_back.specs.Parts.{HasRead, IsCopy, slots_reads}
 use Rattle.xen_back.specs.Turned.{Turned, Idle, Ran, Refused, Halted}
@@ -97,7 +98,7 @@ ArePosted w x i (gref ∷ grefs) p = Contains p (Read (rx_slot w.vif (add32 x i)
 
 -- Both words of each rx slot that a transmit takes are read, and its entry's words, one after another and nothing else.
 abbrev pub TargetsOnce : Type 0
-TargetsOnce = (w : Wiring) (x i left : ℕ) (p : List Event) (ok : Bool) (ts : List Target) → AreTargets w.vif x i left p ok ts →
+TargetsOnce = (w : Wiring) (x i left : ℕ) (p : List Event) (grants : Grants) (ts : List Target) → AreTargets w.vif x i left p grants ts →
     (grefs : List ℕ) × (length grefs ≡ length ts) × (places_read p ≡ target_places w x i grefs) × ArePosted w x i grefs p
 
 -- The covered words of one frame are different words.

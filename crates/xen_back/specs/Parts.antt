@@ -1,12 +1,13 @@
 -- Stated: claims rest on this file.
 -- The parts of a turn's trace, each fixed by the answers before it.
-use Rattle.std.specs.Prelude.{ℕ, ◌≡◌, ◌≢◌, ◌<◌, ◌≤◌, ◌+◌, ◌/◌, ◌^◌, ◌⊎◌, false, List, [], ◌∷◌, ◌++◌, Option, Some, None, Ok, Err}
+use Rattle.std.specs.Prelude.{ℕ, ◌≡◌, ◌≢◌, ◌<◌, ◌≤◌, ◌+◌, ◌/◌, ◌^◌, ◌⊎◌, List, [], ◌∷◌, ◌++◌, Option, Some, None, Ok, Err}
 use Rattle.std.specs.Prelude.{length, take}
 use Rattle.xen_netif.specs.Chain.{Slot, WantsData, WantsExtra}
 use Rattle.xen_netif.specs.Copy.{copy_of}
 use Rattle.xen_netif.specs.declared.fragment.Fragment.{Fragment}
 use Rattle.xen_netif.specs.declared.status.Status.{Status}
 use Rattle.xen_page.specs.declared.fault.GrantFault.{GrantFault}
+use Rattle.xen_page.specs.declared.entry.Rights.TheVariants.{ReadOnly}
 use Rattle.xen_ring.specs.Index.{is_due}
 use Rattle.xen_steps.specs.Event.{Event, Read, Write}
 use Rattle.xen_steps.specs.Places.{add32, available}
@@ -60,10 +61,10 @@ behind bytes (Some later) = Some (bytes ++ later)
 -- is refused.
 pub data IsCopy (w : Wiring) : List Fragment → List Event → Option (List ℕ) → Type 0 where
   copied : IsCopy w [] [] (Some [])
-  denied : (f : Fragment) (fs : List Fragment) (p : List Event) (fault : GrantFault) → IsEntry w.vif false f.gref p (Err fault) →
+  denied : (f : Fragment) (fs : List Fragment) (p : List Event) (fault : GrantFault) → IsEntry w.vif ReadOnly f.gref p (Err fault) →
       IsCopy w (f ∷ fs) p None
   part : (f : Fragment) (fs : List Fragment) (p q : List Event) (frame : ℕ) (words : List ℕ) (out : Option (List ℕ)) →
-      IsEntry w.vif false f.gref p (Ok frame) → length words ≡ covered f → AreWords words → IsCopy w fs q out →
+      IsEntry w.vif ReadOnly f.gref p (Ok frame) → length words ≡ covered f → AreWords words → IsCopy w fs q out →
       IsCopy w (f ∷ fs) (p ++ (page_reads frame (f.offset / 4) words ++ q)) (behind (copy_of f words) out)
 
 -- The responses from the i-th slot on.

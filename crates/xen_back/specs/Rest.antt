@@ -1,6 +1,6 @@
 -- Stated: claims rest on this file.
 -- What a queue has left of its turn (its continuation).
-use Rattle.std.specs.Prelude.{ℕ, suc, ◌+◌, true, false, List, [], ◌∷◌, ◌++◌, length, drop}
+use Rattle.std.specs.Prelude.{ℕ, suc, ◌+◌, true, List, [], ◌∷◌, ◌++◌, length, drop}
 use Rattle.std.specs.Prelude.{slice_index_or, Option, Some, None, Result, Ok, Err}
 use Rattle.xen_netif.specs.Chain.{Slot}
 use Rattle.xen_netif.specs.Standing.{standing}
@@ -23,6 +23,7 @@ use Rattle.xen_back.specs.declared.by_event.stage.Stage.TheVariants as stage
 use Rattle.xen_back.specs.declared.state.State.{State}
 use Rattle.xen_back.specs.declared.turn.Halt.{Halt}
 use Rattle.xen_back.specs.declared.wiring.Wiring.{Wiring}
+use Rattle.xen_page.specs.declared.entry.Rights.TheVariants.{ReadOnly}
 
 -- `left` slots are left after the one that is being read
 abbrev pub rest_of_slot : Wiring → State → ℕ → List Slot → Steps Slot → Steps Ending
@@ -50,10 +51,10 @@ fragment_at fragments i = slice_index_or fragments i (record { gref = 0; offset 
 abbrev pub rest_in : Wiring → State → Stage → Steps Ending
 rest_in w s (stage.At packet phase) = rest_at w s packet phase
 rest_in w s (stage.EntryFlags e) =
-    bind (bind (entry_at w.vif false (Some e.at)) (entered (fragment_at e.fragments.items e.i)
+    bind (bind (entry_at w.vif ReadOnly (Some e.at)) (entered (fragment_at e.fragments.items e.i)
     (copy w (drop (e.i + 1) e.fragments.items)) e.packet)) (after_copy w s e.chain)
 rest_in w s (stage.EntryFrame e a) =
-    bind (bind (entry_checked w.vif false e.at a) (entered (fragment_at e.fragments.items e.i)
+    bind (bind (entry_checked w.vif ReadOnly e.at a) (entered (fragment_at e.fragments.items e.i)
     (copy w (drop (e.i + 1) e.fragments.items)) e.packet)) (after_copy w s e.chain)
 rest_in w s (stage.Page g) = bind (bind (copy_words g.fragment g.frame g.place (suc g.n) g.packet)
     (copy w (drop g.i g.fragments.items))) (after_copy w s g.chain)

@@ -16,6 +16,7 @@ use Rattle.xen_netif.specs.declared.fragment.Fragment.{Fragment}
 use Rattle.xen_netif.specs.declared.status.Status.{Status}
 use Rattle.xen_netif.specs.declared.status.Status.TheVariants as status
 use Rattle.xen_page.specs.declared.fault.GrantFault.{GrantFault}
+use Rattle.xen_page.specs.declared.entry.Rights.TheVariants.{ReadOnly}
 use Rattle.xen_ring.specs.Index.{is_due}
 use Rattle.xen_rx_fill.specs.Entries.{entry}
 use Rattle.xen_steps.specs.Places.{add32, available}
@@ -105,7 +106,7 @@ entered f rest bytes (Ok frame) = bind (copy_words f frame (f.offset / 4) (cover
 
 abbrev pub copy : Wiring → List Fragment → List ℕ → Steps (Option (List ℕ))
 copy w [] bytes = done (Some bytes)
-copy w (f ∷ fs) bytes = bind (entry w.vif false f.gref) (entered f (copy w fs) bytes)
+copy w (f ∷ fs) bytes = bind (entry w.vif ReadOnly f.gref) (entered f (copy w fs) bytes)
 
 abbrev pub program : Course → ℕ → Steps Left
 program (Exiting r0 packet) ops = ask want.Instr (λ _. done (record { number = r0 % 2 ^ 32; packet = packet; ops = ops }))

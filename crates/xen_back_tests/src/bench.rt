@@ -1,9 +1,10 @@
 //! What a queue of the tests stands on.
-ghost use Rattle.std.specs.Prelude.{◌≡◌, ◌≤◌, length, IfSome, true};
+ghost use Rattle.std.specs.Prelude.{◌≡◌, ◌≤◌, length, IfSome};
 ghost use Rattle.bpf_maps.specs.Seats.{IsSeatOf};
 ghost use Rattle.xen_back.specs.Queues.{IsReady, rx_ring_of, tx_ring_of, wiring_of};
 ghost use Rattle.xen_page.specs.Mapping.{IsMappedBy};
 ghost use Rattle.xen_page.specs.Table.{IsTable};
+ghost use Rattle.xen_page.specs.declared.entry.Rights.TheVariants.{ReadWrite};
 
 use bpf_insn::decode;
 use bpf_maps::{CounterSeat, Counters};
@@ -12,7 +13,7 @@ use bpf_verify::{Verified, verify};
 use bpf_vm::Buffer;
 use std::alloc::Global;
 use xen_back::{Queue, QueueDesc, State};
-use xen_page::{Mapped, Owners, ScriptBus, Table, map};
+use xen_page::{Mapped, Owners, Rights, ScriptBus, Table, map};
 use xen_ring::Port;
 
 /// The backend, domain 0, owns frame 0. The frontend, domain 1, owns the others: frame 1 is its grant table, frame 17 its
@@ -45,13 +46,13 @@ fn program(alloc: Global, bytes: &[u8], shapes: &[MapShape]) -> Option<Verified>
 /// The ring under a reference, mapped for writing.
 fn ring(alloc: Global, owners: &Owners, table: &Table, gref: u32, frame: u32) -> Option<Mapped>
     requires { IsTable owners.now 1 table.now }
-    ensures { IfSome result (λ m. IsMappedBy owners.now 1 m × (m.write ≡ true)) }
+    ensures { IfSome result (λ m. IsMappedBy owners.now 1 m × (m.rights ≡ ReadWrite)) }
 {
     if !table.is_within(FRAMES) {
         return None;
     }
     let mut bus = ScriptBus::make(alloc, FRAMES, &[1, frame, 1], 0).ok()?;
-    map(&mut bus, table, owners, 1, 0, gref, true).ok()
+    map(&mut bus, table, owners, 1, 0, gref, Rights::ReadWrite).ok()
 }
 
 /// What a queue stands on: the frames' owners, the frontend's table, in frame 1, and the program.
@@ -91,8 +92,8 @@ impl Bench {
         ensures ready { IfSome result IsReady }
         ensures owners { IfSome result (λ q. length (wiring_of q).vif.owners.now ≡ 20) }
         ensures program { IfSome result (λ q. (wiring_of q).program.now.shapes ≡ self.now.program.shapes) }
-        ensures tx { IfSome result (λ q. IsMappedBy self.now.owners 1 (tx_ring_of q) × ((tx_ring_of q).write ≡ true)) }
-        ensures rx { IfSome result (λ q. IsMappedBy self.now.owners 1 (rx_ring_of q) × ((rx_ring_of q).write ≡ true)) }
+        ensures tx { IfSome result (λ q. IsMappedBy self.now.owners 1 (tx_ring_of q) × ((tx_ring_of q).rights ≡ ReadWrite)) }
+        ensures rx { IfSome result (λ q. IsMappedBy self.now.owners 1 (rx_ring_of q) × ((rx_ring_of q).rights ≡ ReadWrite)) }
     {
         let desc = QueueDesc {
             tx: ring(alloc, &self.owners, &self.table, 0, 17)?,

@@ -14,6 +14,8 @@ use Rattle.xen_rx_fill.specs.Packets.{buffer_word, frame_in, response_word, targ
 use Rattle.xen_rx_fill.specs.Places.{rx_slot, tx_slot}
 use Rattle.xen_rx_fill.specs.Transmit.{fill, fill_from, rx_answer, rx_respond}
 use Rattle.xen_rx_fill.specs.declared.by_event.phase.Outcome.{Outcome}
+use Rattle.xen_rx_fill.specs.declared.target.Grants.{Grants}
+use Rattle.xen_rx_fill.specs.declared.target.Grants.TheVariants.{Passed}
 use Rattle.xen_rx_fill.specs.declared.target.Target.{Target}
 use Rattle.xen_rx_fill.specs.declared.vif.Vif.{Vif}
 use Rattle.xen_rx_fill.proofs.SendLemmas.{rx_answer_at}
@@ -69,43 +71,43 @@ stores_gone w t m words e i (suc n) lent h =
 
 -- ---- the responses of rx slots, from the i-th on
 
-pub replies_length : (w : Vif) (x : ℕ) (packet : List ℕ) (passed : Bool) (ts : List Target) (i n : ℕ) → length (replies w x packet passed ts i n) ≡ n
-replies_length w x packet passed ts i zero = refl
-replies_length w x packet passed ts i (suc n) = ap suc (replies_length w x packet passed ts (i + 1) n)
+pub replies_length : (w : Vif) (x : ℕ) (packet : List ℕ) (grants : Grants) (ts : List Target) (i n : ℕ) → length (replies w x packet grants ts i n) ≡ n
+replies_length w x packet grants ts i zero = refl
+replies_length w x packet grants ts i (suc n) = ap suc (replies_length w x packet grants ts (i + 1) n)
 
-pub replies_chained : (w : Vif) (x : ℕ) (packet : List ℕ) (passed : Bool) (ts : List Target) (i n : ℕ) → AreChained (replies w x packet passed ts i n)
-replies_chained w x packet passed ts i zero = tt
-replies_chained w x packet passed ts i (suc n) = (refl, refl, tt, replies_chained w x packet passed ts (i + 1) n)
+pub replies_chained : (w : Vif) (x : ℕ) (packet : List ℕ) (grants : Grants) (ts : List Target) (i n : ℕ) → AreChained (replies w x packet grants ts i n)
+replies_chained w x packet grants ts i zero = tt
+replies_chained w x packet grants ts i (suc n) = (refl, refl, tt, replies_chained w x packet grants ts (i + 1) n)
 
-replies_suc : (w : Vif) (x : ℕ) (packet : List ℕ) (passed : Bool) (ts : List Target) (i n : ℕ) → replies w x packet passed ts i (suc n) ≡ replies w x packet passed ts i n ++ reply w x packet passed ts (i + n) ∷ []
-replies_suc w x packet passed ts i zero = let e : i ≡ i + 0 = omega arith in ap (λ k. reply w x packet passed ts k ∷ []) e
-replies_suc w x packet passed ts i (suc n) =
+replies_suc : (w : Vif) (x : ℕ) (packet : List ℕ) (grants : Grants) (ts : List Target) (i n : ℕ) → replies w x packet grants ts i (suc n) ≡ replies w x packet grants ts i n ++ reply w x packet grants ts (i + n) ∷ []
+replies_suc w x packet grants ts i zero = let e : i ≡ i + 0 = omega arith in ap (λ k. reply w x packet grants ts k ∷ []) e
+replies_suc w x packet grants ts i (suc n) =
     let e : i + 1 + n ≡ i + suc n = omega arith in
-    ap (λ (l : List Ask). reply w x packet passed ts i ∷ l) (replies_suc w x packet passed ts (i + 1) n ∙ ap (λ k. replies w x packet passed ts (i + 1) n ++ reply w x packet passed ts k ∷ []) e)
+    ap (λ (l : List Ask). reply w x packet grants ts i ∷ l) (replies_suc w x packet grants ts (i + 1) n ∙ ap (λ k. replies w x packet grants ts (i + 1) n ++ reply w x packet grants ts k ∷ []) e)
 
-pub replies_more : (w : Vif) (x : ℕ) (packet : List ℕ) (passed : Bool) (ts : List Target) (i n k : ℕ) → n + i ≡ k → replies w x packet passed ts i (n + 1) ≡ replies w x packet passed ts i n ++ reply w x packet passed ts k ∷ []
-replies_more w x packet passed ts i n k e =
+pub replies_more : (w : Vif) (x : ℕ) (packet : List ℕ) (grants : Grants) (ts : List Target) (i n k : ℕ) → n + i ≡ k → replies w x packet grants ts i (n + 1) ≡ replies w x packet grants ts i n ++ reply w x packet grants ts k ∷ []
+replies_more w x packet grants ts i n k e =
     let one : n + 1 ≡ suc n = omega arith in
     let at : i + n ≡ k = omega (arith, e) in
-    ap (λ m. replies w x packet passed ts i m) one ∙ replies_suc w x packet passed ts i n ∙ ap (λ j. replies w x packet passed ts i n ++ reply w x packet passed ts j ∷ []) at
+    ap (λ m. replies w x packet grants ts i m) one ∙ replies_suc w x packet grants ts i n ∙ ap (λ j. replies w x packet grants ts i n ++ reply w x packet grants ts j ∷ []) at
 
-pub replies_gone : (w : Vif) (x : ℕ) (packet : List ℕ) (passed : Bool) (ts : List Target) (i n : ℕ) (lent : List ℕ) → i + n ≤ length ts →
-    LedBy (rx_answer w x packet passed (length ts) i (drop i ts)) (did_all (replies w x packet passed ts i n) lent) (rx_answer w x packet passed (length ts) (i + n) (drop (i + n) ts))
-replies_gone w x packet passed ts i zero lent h =
+pub replies_gone : (w : Vif) (x : ℕ) (packet : List ℕ) (grants : Grants) (ts : List Target) (i n : ℕ) (lent : List ℕ) → i + n ≤ length ts →
+    LedBy (rx_answer w x packet grants (length ts) i (drop i ts)) (did_all (replies w x packet grants ts i n) lent) (rx_answer w x packet grants (length ts) (i + n) (drop (i + n) ts))
+replies_gone w x packet grants ts i zero lent h =
     let z : i ≡ i + 0 = omega arith in
-    ap (λ k. rx_answer w x packet passed (length ts) k (drop k ts)) z
-replies_gone w x packet passed ts i (suc n) lent h =
+    ap (λ k. rx_answer w x packet grants (length ts) k (drop k ts)) z
+replies_gone w x packet grants ts i (suc n) lent h =
     let z : i + 1 + n ≡ i + suc n = omega arith in
     let m = length ts in
-    let first = response_word passed packet m i (target_at ts i).id 0 in
-    let second = response_word passed packet m i (target_at ts i).id 1 in
+    let first = response_word grants packet m i (target_at ts i).id 0 in
+    let second = response_word grants packet m i (target_at ts i).id 1 in
     let at = rx_slot w (add32 x i) 0 in
-    let more = did_all (replies w x packet passed ts (i + 1) n) lent in
-    let after = rx_answer w x packet passed m (i + 1) (drop (i + 1) ts) in
-    let goal : Steps Outcome → Type 0 = λ s. LedBy s (did_all (replies w x packet passed ts i (suc n)) lent) (rx_answer w x packet passed m (i + suc n) (drop (i + suc n) ts)) in
-    let later = subst (λ k. LedBy after more (rx_answer w x packet passed m k (drop k ts))) z (replies_gone w x packet passed ts (i + 1) n lent (omega (arith, h))) in
+    let more = did_all (replies w x packet grants ts (i + 1) n) lent in
+    let after = rx_answer w x packet grants m (i + 1) (drop (i + 1) ts) in
+    let goal : Steps Outcome → Type 0 = λ s. LedBy s (did_all (replies w x packet grants ts i (suc n)) lent) (rx_answer w x packet grants m (i + suc n) (drop (i + suc n) ts)) in
+    let later = subst (λ k. LedBy after more (rx_answer w x packet grants m k (drop k ts))) z (replies_gone w x packet grants ts (i + 1) n lent (omega (arith, h))) in
     let wrote : ◌≡◌ {A = Event} (Write (frame_place at) second) (Write (rx_slot w (add32 x i) 1) second) = ap (λ (p : Place). Write p second) (sym (next_rx_word w (add32 x i))) in
-    subst goal (sym (rx_answer_at w x packet passed m i ts (omega (arith, h))))
+    subst goal (sym (rx_answer_at w x packet grants m i ts (omega (arith, h))))
     (asking (want.Write (rx_slot w (add32 x i) 1) second) (λ _. after), (0, (refl, refl), refl), (after, (0, (refl, wrote), refl), later))
 
 -- ---- words of a packet that go into a page
@@ -136,7 +138,7 @@ pub page_gone : (w : Vif) (x : ℕ) (packet : List ℕ) (ts : List Target) (i to
 page_gone w x packet ts i to h e = by (nat_le (words packet) (1024 * i + 1024)) refl
   where
     r : Unit {0} → Steps Outcome
-    r = λ _. rx_respond w x packet true ts
+    r = λ _. rx_respond w x packet Passed ts
 
     n : ℕ
     n = words packet - 1024 * i
@@ -166,7 +168,7 @@ page_gone w x packet ts i to h e = by (nat_le (words packet) (1024 * i + 1024)) 
         (gone (to - 1024 * i) (omega (arith, m, lt)) (omega (arith, m)))
 
 -- No word is left.
-pub fill_over : (w : Vif) (x : ℕ) (packet : List ℕ) (ts : List Target) (k : ℕ) → words packet ≤ k → fill_from w x packet ts k ≡ rx_respond w x packet true ts
+pub fill_over : (w : Vif) (x : ℕ) (packet : List ℕ) (ts : List Target) (k : ℕ) → words packet ≤ k → fill_from w x packet ts k ≡ rx_respond w x packet Passed ts
 fill_over w x packet ts k h =
     let none : words packet - k ≡ 0 = omega (arith, h) in
-    ap (λ n. bind (fill ts packet n k) (λ _. rx_respond w x packet true ts)) none
+    ap (λ n. bind (fill ts packet n k) (λ _. rx_respond w x packet Passed ts)) none

@@ -55,9 +55,9 @@ reads_of_fill w x fill.Producer b = (rx_word w 0, (refl, λ a. tt))
 reads_of_fill w x (fill.Slot left) b = (rx_slot w (add32 x (length b.targets)) 0, asks_post w (add32 x (length b.targets)) (targeted b.targets (read_targets w x left)) (after_targets w x b.packet))
 reads_of_fill w x (fill.Grant left id at) b = (at, (refl, λ a. (refl, λ c. tt)))
 reads_of_fill w x (fill.Words i) b = (none, tt)
-reads_of_fill w x (fill.Respond passed i) b = (none, tt)
-reads_of_fill w x (fill.Push passed) b = (rx_word w 3, (refl, λ a. tt))
-reads_of_fill w x (fill.Notice passed) b = (none, tt)
+reads_of_fill w x (fill.Respond grants i) b = (none, tt)
+reads_of_fill w x (fill.Push grants) b = (rx_word w 3, (refl, λ a. tt))
+reads_of_fill w x (fill.Notice grants) b = (none, tt)
 
 reads_of_turn : (w : Wiring) (s : State) (g : Stage) (b : Work) → is_turning g ≡ true → (at : Place) × AsksReads at (reads_in g) (rest_in w s g b)
 reads_of_turn w s stage.Ready b t = cc t
@@ -108,9 +108,9 @@ few_of_fill fill.Producer = omega arith
 few_of_fill (fill.Slot left) = omega arith
 few_of_fill (fill.Grant left id at) = omega arith
 few_of_fill (fill.Words i) = omega arith
-few_of_fill (fill.Respond passed i) = omega arith
-few_of_fill (fill.Push passed) = omega arith
-few_of_fill (fill.Notice passed) = omega arith
+few_of_fill (fill.Respond grants i) = omega arith
+few_of_fill (fill.Push grants) = omega arith
+few_of_fill (fill.Notice grants) = omega arith
 
 pub reads_few : (g : Stage) (b : Work) → Fits g b → reads_in g ≤ 1024
 reads_few stage.Ready b h = omega arith
@@ -197,7 +197,7 @@ turn_split : (e : Engine) (last : Ask) (left : Steps Ending) → TurnEnds e last
     ((k : Kind) × (last ≡ ask.TurnOver k) × IsTurnOver e k left) ⊎ IsOn (rest_in (wiring_of e.wires) e.state e.stage e.work) (reads_in e.stage) (is_turning e.stage) last left
 turn_split e (ask.TurnOver k) left h = inl (k, refl, h)
 turn_split e (ask.Read at count) left h = inr h
-turn_split e (ask.Entry at reference written) left h = inr h
+turn_split e (ask.Entry at reference rights) left h = inr h
 turn_split e (ask.Write at count) left h = inr h
 turn_split e (ask.Store at word) left h = inr h
 turn_split e (ask.StoreTwo at x y) left h = inr h
@@ -210,7 +210,7 @@ delivery_split : (packet : List ℕ) (e : Engine) (last : Ask) (left : Steps Arr
     ((what : Delivery) × (last ≡ ask.DeliveryOver what) × (e.stage ≡ stage.Ready)) ⊎ IsOn (rest_of_delivery (vif_of e.wires) e.state e.stage e.work) (reads_in e.stage) (is_delivering e.stage) last left
 delivery_split packet e (ask.DeliveryOver what) left h = inl (what, refl, h.1)
 delivery_split packet e (ask.Read at count) left h = inr h.0
-delivery_split packet e (ask.Entry at reference written) left h = inr h.0
+delivery_split packet e (ask.Entry at reference rights) left h = inr h.0
 delivery_split packet e (ask.Write at count) left h = inr h.0
 delivery_split packet e (ask.Store at word) left h = inr h.0
 delivery_split packet e (ask.StoreTwo at x y) left h = inr h.0
@@ -223,7 +223,7 @@ wait_split : (packet : List ℕ) (e : Engine) (last : Ask) (left : Steps Wait) �
     ((what : Awaited) × (last ≡ ask.WaitOver what) × (e.stage ≡ stage.Ready)) ⊎ IsOn (rest_of_wait e.wires.rx e.state e.stage) (reads_in e.stage) (is_waiting e.stage) last left
 wait_split packet e (ask.WaitOver what) left h = inl (what, refl, h.1)
 wait_split packet e (ask.Read at count) left h = inr h.0
-wait_split packet e (ask.Entry at reference written) left h = inr h.0
+wait_split packet e (ask.Entry at reference rights) left h = inr h.0
 wait_split packet e (ask.Write at count) left h = inr h.0
 wait_split packet e (ask.Store at word) left h = inr h.0
 wait_split packet e (ask.StoreTwo at x y) left h = inr h.0

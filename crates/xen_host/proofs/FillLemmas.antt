@@ -27,7 +27,7 @@ use Rattle.xen_host.proofs.LedLemmas.{says_before}
 -- what is waited for, before another computation
 waits_bind : {A B : Type 0} (a : Ask) (n : ℕ) (s : Steps A) (f : A → Steps B) → WaitsFor a n s → WaitsFor a n (bind s f)
 waits_bind (ask.Read at count) n s f w = (w.0, reads_bind at count s f w.1)
-waits_bind (ask.Entry at reference written) n s f w = (w.0, reads_bind at 2 s f w.1)
+waits_bind (ask.Entry at reference rights) n s f w = (w.0, reads_bind at 2 s f w.1)
 waits_bind (ask.Push at word read) n s f w = (w.0, reads_bind _ 1 s f w.1)
 waits_bind (ask.Write at count) n s f w = w
 waits_bind (ask.Store at word) n s f w = w
@@ -39,7 +39,7 @@ waits_bind (ask.WaitOver what) n s f w = absurd w
 
 pub waits_none : {A : Type 0} (a : Ask) (s : Steps A) → takes_none a ≡ true → WaitsFor a 0 s
 waits_none (ask.Read at count) s h = cc h
-waits_none (ask.Entry at reference written) s h = cc h
+waits_none (ask.Entry at reference rights) s h = cc h
 waits_none (ask.Push at word read) s h = cc h
 waits_none (ask.Write at count) s h = refl
 waits_none (ask.Store at word) s h = refl
@@ -53,7 +53,7 @@ waits_none (ask.WaitOver what) s h = cc h
 pub turn_of_on : (e : Engine) (last : Ask) (left : Steps Ending) → IsOn (rest_in (wiring_of e.wires) e.state e.stage e.work) (reads_in e.stage) (is_turning e.stage) last left → TurnEnds e last left
 turn_of_on e (ask.TurnOver kind) left on = absurd on.waits
 turn_of_on e (ask.Read at count) left on = on
-turn_of_on e (ask.Entry at reference written) left on = on
+turn_of_on e (ask.Entry at reference rights) left on = on
 turn_of_on e (ask.Push at word read) left on = on
 turn_of_on e (ask.Write at count) left on = on
 turn_of_on e (ask.Store at word) left on = on
@@ -65,7 +65,7 @@ turn_of_on e (ask.WaitOver what) left on = on
 delivery_of_on : (packet : List ℕ) (e : Engine) (last : Ask) (left : Steps Arrival) → IsOn (rest_of_delivery (vif_of e.wires) e.state e.stage e.work) (reads_in e.stage) (is_delivering e.stage) last left → e.work.packet ≡ packet → DeliveryEnds packet e last left
 delivery_of_on packet e (ask.DeliveryOver what) left on p = absurd on.waits
 delivery_of_on packet e (ask.Read at count) left on p = (on, p)
-delivery_of_on packet e (ask.Entry at reference written) left on p = (on, p)
+delivery_of_on packet e (ask.Entry at reference rights) left on p = (on, p)
 delivery_of_on packet e (ask.Push at word read) left on p = (on, p)
 delivery_of_on packet e (ask.Write at count) left on p = (on, p)
 delivery_of_on packet e (ask.Store at word) left on p = (on, p)

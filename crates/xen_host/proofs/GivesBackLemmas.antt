@@ -8,6 +8,8 @@ use Rattle.xen_netif.specs.declared.fragment.Fragment.{Fragment}
 use Rattle.xen_netif.specs.declared.status.Status.{Status}
 use Rattle.xen_page.specs.declared.fault.GrantFault.{GrantFault}
 use Rattle.xen_page.specs.declared.place.Place.{Place}
+use Rattle.xen_page.specs.declared.entry.Rights.{Rights}
+use Rattle.xen_page.specs.declared.entry.Rights.TheVariants.{ReadOnly, ReadWrite}
 use Rattle.xen_ring.specs.Index.{is_due}
 use Rattle.xen_steps.specs.Event.{Event, Read, Write, Instr, Load, Add, Notify}
 use Rattle.xen_steps.specs.Pages.{page_reads}
@@ -17,6 +19,8 @@ use Rattle.xen_rx_fill.specs.Places.{rx_word, tx_word}
 use Rattle.xen_rx_fill.specs.Sending.{AreTargets, IsPosted, IsRxRespond, IsTransmit, all, buffer_writes, is_posted, passing, refused, refusing, rx_overflow, rx_writes, sent, too_few}
 use Rattle.xen_rx_fill.specs.Shared.{IsEntry, inside, notices, outside}
 use Rattle.xen_rx_fill.specs.declared.by_event.phase.Outcome.{Outcome}
+use Rattle.xen_rx_fill.specs.declared.target.Grants.{Grants}
+use Rattle.xen_rx_fill.specs.declared.target.Grants.TheVariants.{Passed, Refused}
 use Rattle.xen_rx_fill.specs.declared.target.Target.{Target}
 use Rattle.xen_rx_fill.specs.declared.vif.Vif.{Vif}
 use Rattle.xen_back.specs.Parts.{HasRead, IsCopy, IsLook, IsRespond, copied, denied, once, part, response_writes, slot_reads, slots_reads, twice}
@@ -58,9 +62,9 @@ behind_calm w (Load m i j v ∷ t) u c h = behind_one w (Load m i j v) (t ++ u) 
 behind_calm w (Add m i j delta old ∷ t) u c h = behind_one w (Add m i j delta old) (t ++ u) (λ f p. p) (behind_calm w t u c h)
 behind_calm w (Notify port ∷ t) u c h = behind_one w (Notify port) (t ++ u) (λ f p. p) (behind_calm w t u c h)
 
-calm_entry : (w : Vif) (write : Bool) (gref : ℕ) (t : List Event) (r : Result ℕ GrantFault) → IsEntry w write gref t r → IsCalm t
-calm_entry w write gref _ _ (outside e) = tt
-calm_entry w write gref _ _ (inside at a b e k l) = tt
+calm_entry : (w : Vif) (rights : Rights) (gref : ℕ) (t : List Event) (r : Result ℕ GrantFault) → IsEntry w rights gref t r → IsCalm t
+calm_entry w rights gref _ _ (outside e) = tt
+calm_entry w rights gref _ _ (inside at a b e k l) = tt
 
 calm_page : (frame place : ℕ) (vs : List ℕ) → IsCalm (page_reads frame place vs)
 calm_page frame place [] = tt
@@ -68,10 +72,10 @@ calm_page frame place (v ∷ vs) = calm_page frame (place + 1) vs
 
 calm_copy : (w : Wiring) (fs : List Fragment) (t : List Event) (o : Option (List ℕ)) → IsCopy w fs t o → IsCalm t
 calm_copy w _ _ _ copied = tt
-calm_copy w _ _ _ (denied f fs t fault e) = calm_entry w.vif false f.gref t (Err fault) e
+calm_copy w _ _ _ (denied f fs t fault e) = calm_entry w.vif ReadOnly f.gref t (Err fault) e
 calm_copy w _ _ _ (part f fs t u frame vs out e l b c) =
     let reads = page_reads frame (f.offset / 4) vs in
-    calm_append t (reads ++ u) (calm_entry w.vif false f.gref t (Ok frame) e) (calm_append reads u (calm_page frame (f.offset / 4) vs) (calm_copy w fs u out c))
+    calm_append t (reads ++ u) (calm_entry w.vif ReadOnly f.gref t (Ok frame) e) (calm_append reads u (calm_page frame (f.offset / 4) vs) (calm_copy w fs u out c))
 
 calm_slot : (w : Wiring) (i : ℕ) (s : Slot) → IsCalm (slot_reads w i s)
 calm_slot w i [] = tt
@@ -91,13 +95,13 @@ calm_program (Some (op.Load m k j v) ∷ labels) = calm_program labels
 calm_program (Some (op.Add m k j delta old) ∷ labels) = calm_program labels
 
 calm_posted : (w : Vif) (i : ℕ) (t : List Event) (id : ℕ) (r : Result ℕ GrantFault) → IsPosted w i t id r → IsCalm t
-calm_posted w i _ _ _ (is_posted a g t r k l e) = calm_entry w true _ t r e
+calm_posted w i _ _ _ (is_posted a g t r k l e) = calm_entry w ReadWrite _ t r e
 
-calm_targets : (w : Vif) (x i left : ℕ) (t : List Event) (ok : Bool) (ts : List Target) → AreTargets w x i left t ok ts → IsCalm t
+calm_targets : (w : Vif) (x i left : ℕ) (t : List Event) (grants : Grants) (ts : List Target) → AreTargets w x i left t grants ts → IsCalm t
 calm_targets w x _ _ _ _ _ (all i) = tt
 calm_targets w x _ _ _ _ _ (refusing i left id t fault h) = calm_posted w (add32 x i) t id (Err fault) h
-calm_targets w x _ _ _ _ _ (passing i left id frame t u ok ts h more) =
-    calm_append t u (calm_posted w (add32 x i) t id (Ok frame) h) (calm_targets w x (i + 1) left u ok ts more)
+calm_targets w x _ _ _ _ _ (passing i left id frame t u grants ts h more) =
+    calm_append t u (calm_posted w (add32 x i) t id (Ok frame) h) (calm_targets w x (i + 1) left u grants ts more)
 
 -- ---- parts of the rings alone
 
@@ -123,14 +127,14 @@ of_respond w x slots st t h =
     subst (λ l. AllOfRings w.vif l) (sym h.2)
     (rings_append w.vif (response_writes w x 0 (responses st slots)) _ (of_responses w x 0 (responses st slots)) (inl refl, (inl refl, of_notices w.vif (is_due x (add32 x (length slots)) h.0))))
 
-of_replies : (w : Vif) (x : ℕ) (packet : List ℕ) (passed : Bool) (n i : ℕ) (ts : List Target) → AllOfRings w (rx_writes w x packet passed n i ts)
-of_replies w x packet passed n i [] = tt
-of_replies w x packet passed n i (t ∷ ts) = (inr refl, (inr refl, of_replies w x packet passed n (i + 1) ts))
+of_replies : (w : Vif) (x : ℕ) (packet : List ℕ) (grants : Grants) (n i : ℕ) (ts : List Target) → AllOfRings w (rx_writes w x packet grants n i ts)
+of_replies w x packet grants n i [] = tt
+of_replies w x packet grants n i (t ∷ ts) = (inr refl, (inr refl, of_replies w x packet grants n (i + 1) ts))
 
-of_rx_respond : (w : Vif) (x : ℕ) (packet : List ℕ) (passed : Bool) (ts : List Target) (t : List Event) → IsRxRespond w x packet passed ts t → AllOfRings w t
-of_rx_respond w x packet passed ts t h =
+of_rx_respond : (w : Vif) (x : ℕ) (packet : List ℕ) (grants : Grants) (ts : List Target) (t : List Event) → IsRxRespond w x packet grants ts t → AllOfRings w t
+of_rx_respond w x packet grants ts t h =
     subst (λ l. AllOfRings w l) (sym h.2)
-    (rings_append w (rx_writes w x packet passed (length ts) 0 ts) _ (of_replies w x packet passed (length ts) 0 ts) (inr refl, (inr refl, of_notices w (is_due x (add32 x (length ts)) h.0))))
+    (rings_append w (rx_writes w x packet grants (length ts) 0 ts) _ (of_replies w x packet grants (length ts) 0 ts) (inr refl, (inr refl, of_notices w (is_due x (add32 x (length ts)) h.0))))
 
 -- ---- the words of a packet, behind which responses are written
 
@@ -156,9 +160,9 @@ behind_buffers w ts packet zero k u b h = h
 behind_buffers w ts packet (suc n) k u b h =
     before_write w (buffer_word ts k) (word_of packet k) (buffer_writes ts packet n (k + 1) ++ u) (buffers_begin ts packet n (k + 1) u b) (behind_buffers w ts packet n (k + 1) u b h)
 
-rx_begins : (w : Vif) (x : ℕ) (packet : List ℕ) (passed : Bool) (ts : List Target) (t u : List Event) → IsRxRespond w x packet passed ts t → BeginsWithWrite (t ++ u)
-rx_begins w x packet passed [] t u h = subst (λ l. BeginsWithWrite (l ++ u)) (sym h.2) tt
-rx_begins w x packet passed (s ∷ ts) t u h = subst (λ l. BeginsWithWrite (l ++ u)) (sym h.2) tt
+rx_begins : (w : Vif) (x : ℕ) (packet : List ℕ) (grants : Grants) (ts : List Target) (t u : List Event) → IsRxRespond w x packet grants ts t → BeginsWithWrite (t ++ u)
+rx_begins w x packet grants [] t u h = subst (λ l. BeginsWithWrite (l ++ u)) (sym h.2) tt
+rx_begins w x packet grants (s ∷ ts) t u h = subst (λ l. BeginsWithWrite (l ++ u)) (sym h.2) tt
 
 -- ---- the parts of a turn
 
@@ -193,13 +197,13 @@ behind_transmit w x packet _ _ u (too_few p m l e f) h = behind_one w (Read (rx_
 behind_transmit w x packet _ _ u (refused p m p1 p2 ts l e f a r) h =
     behind_one w (Read (rx_word w 0) p) ((p1 ++ p2) ++ u) (λ f k. k)
     (subst (λ (l : List Event). GivesBack w l) (sym (append_assoc p1 p2 u))
-    (behind_calm w p1 (p2 ++ u) (calm_targets w x 0 _ p1 false ts a) (of_rings w (p2 ++ u) (rings_append w p2 u (of_rx_respond w x packet false ts p2 r) h))))
+    (behind_calm w p1 (p2 ++ u) (calm_targets w x 0 _ p1 Refused ts a) (of_rings w (p2 ++ u) (rings_append w p2 u (of_rx_respond w x packet Refused ts p2 r) h))))
 behind_transmit w x packet _ _ u (sent p m p1 p2 ts l e f a r) h =
     let filled = buffer_writes ts packet (words packet) 0 in
-    let rest = behind_buffers w ts packet (words packet) 0 (p2 ++ u) (rx_begins w x packet true ts p2 u r) (of_rings w (p2 ++ u) (rings_append w p2 u (of_rx_respond w x packet true ts p2 r) h)) in
+    let rest = behind_buffers w ts packet (words packet) 0 (p2 ++ u) (rx_begins w x packet Passed ts p2 u r) (of_rings w (p2 ++ u) (rings_append w p2 u (of_rx_respond w x packet Passed ts p2 r) h)) in
     behind_one w (Read (rx_word w 0) p) ((p1 ++ (filled ++ p2)) ++ u) (λ f k. k)
     (subst (λ (l : List Event). GivesBack w l) (sym (append_assoc p1 (filled ++ p2) u ∙ ap (λ l. p1 ++ l) (append_assoc filled p2 u)))
-    (behind_calm w p1 (filled ++ (p2 ++ u)) (calm_targets w x 0 _ p1 true ts a) rest))
+    (behind_calm w p1 (filled ++ (p2 ++ u)) (calm_targets w x 0 _ p1 Passed ts a) rest))
 
 pub all_of : (w : Vif) (t : List Event) → GivesBack w (t ++ []) → GivesBack w t
 all_of w t h = subst (λ (l : List Event). GivesBack w l) (append-nil t) h
@@ -213,5 +217,5 @@ pushed_behind ring index t u h =
 pub pushed_respond : (w : Wiring) (x : ℕ) (slots : List Slot) (st : Status) (t : List Event) → IsRespond w x slots st t → HasPushed w.vif.tx (add32 x (length slots)) t
 pushed_respond w x slots st t h = record { before = response_writes w x 0 (responses st slots); event = h.0; after = notices w.vif (is_due x (add32 x (length slots)) h.0); joined = h.2 }
 
-pub pushed_rx : (w : Vif) (x : ℕ) (packet : List ℕ) (passed : Bool) (ts : List Target) (t : List Event) → IsRxRespond w x packet passed ts t → HasPushed w.rx (add32 x (length ts)) t
-pushed_rx w x packet passed ts t h = record { before = rx_writes w x packet passed (length ts) 0 ts; event = h.0; after = notices w (is_due x (add32 x (length ts)) h.0); joined = h.2 }
+pub pushed_rx : (w : Vif) (x : ℕ) (packet : List ℕ) (grants : Grants) (ts : List Target) (t : List Event) → IsRxRespond w x packet grants ts t → HasPushed w.rx (add32 x (length ts)) t
+pushed_rx w x packet grants ts t h = record { before = rx_writes w x packet grants (length ts) 0 ts; event = h.0; after = notices w (is_due x (add32 x (length ts)) h.0); joined = h.2 }

@@ -24,7 +24,7 @@ keeps a = true
 
 pub words_stay : (a : Ask) (lent : List ℕ) → keeps a ≡ true → WordsStay (a ∷ []) lent lent
 words_stay (ask.Read at count) lent k = refl
-words_stay (ask.Entry at reference written) lent k = refl
+words_stay (ask.Entry at reference rights) lent k = refl
 words_stay (ask.Write at count) lent k = refl
 words_stay (ask.Store at word) lent k = refl
 words_stay (ask.StoreTwo at x y) lent k = refl
@@ -84,7 +84,7 @@ says_last ends w flags from left new a o ops ops_after lent lent_after room said
 
 stay_kept : (a : Ask) (more : List Ask) (lent lent_after : List ℕ) → keeps a ≡ true → WordsStay more lent lent_after → WordsStay (a ∷ more) lent lent_after
 stay_kept (ask.Read at count) more lent lent_after k h = h
-stay_kept (ask.Entry at reference written) more lent lent_after k h = h
+stay_kept (ask.Entry at reference rights) more lent lent_after k h = h
 stay_kept (ask.Write at count) more lent lent_after k h = cc k
 stay_kept (ask.Store at word) more lent lent_after k h = h
 stay_kept (ask.StoreTwo at x y) more lent lent_after k h = h

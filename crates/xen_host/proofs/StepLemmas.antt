@@ -47,7 +47,7 @@ none_led {A = A} s n lent e = subst (λ k. LedBy {A = A} s [] (fed s (take k len
 -- What was asked last is answered.
 pub waits_led : {A : Type 0} (a : Ask) (n : ℕ) (s : Steps A) (lent : List ℕ) → AreSmall lent → n ≤ length lent → WaitsFor a n s → LedBy s (read_by a lent) (fed s (take n lent))
 waits_led {A = A} (ask.Read at count) n s lent b l w = subst (λ k. LedBy {A = A} s (reads_at at (take k lent)) (fed s (take n lent))) w.0 (read_led s at n lent b l (subst (λ k. AsksReads at k s) (sym w.0) w.1))
-waits_led {A = A} (ask.Entry at reference written) n s lent b l w = subst (λ k. LedBy {A = A} s (reads_at at (take k lent)) (fed s (take n lent))) w.0 (read_led s at n lent b l (subst (λ k. AsksReads at k s) (sym w.0) w.1))
+waits_led {A = A} (ask.Entry at reference rights) n s lent b l w = subst (λ k. LedBy {A = A} s (reads_at at (take k lent)) (fed s (take n lent))) w.0 (read_led s at n lent b l (subst (λ k. AsksReads at k s) (sym w.0) w.1))
 waits_led {A = A} (ask.Push at word read) n s lent b l w =
     let from = page_word at.frame read in
     subst (λ k. LedBy {A = A} s (reads_at from (take k lent)) (fed s (take n lent))) w.0 (read_led s from n lent b l (subst (λ k. AsksReads from k s) (sym w.0) w.1))
@@ -108,7 +108,7 @@ module _ {A : Type 0} (frames : ℕ) (within : Want → Type 0) (in_pages : AreI
   -- an ask that takes no answer
   did_within : (a : Ask) (lent : List ℕ) (s left : Steps A) → 1024 ≤ length lent → IsSized a → takes_none a ≡ true → LedBy s (did_by a lent) left → Finishes within s → IsInPages frames a
   did_within (ask.Read at count) lent s left l z e g h = cc e
-  did_within (ask.Entry at reference written) lent s left l z e g h = cc e
+  did_within (ask.Entry at reference rights) lent s left l z e g h = cc e
   did_within (ask.Write at count) lent s left l z e g h =
       let n : length (take count lent) ≡ count = omega (arith, length-take count lent, z.1, l) in
       let w = writes_within at (take count lent) s left (omega (arith, n, z.0)) g h in
@@ -124,7 +124,7 @@ module _ {A : Type 0} (frames : ℕ) (within : Want → Type 0) (in_pages : AreI
   -- what is asked last, and waited for
   pub last_within : (a : Ask) (n : ℕ) (lent : List ℕ) (s left : Steps A) → 1024 ≤ length lent → IsSized a → LedBy s (did_by a lent) left → WaitsFor a n left → Finishes within s → IsInPages frames a
   last_within (ask.Read at count) n lent s left l z g w h = reads_within at count left z.0 w.1 (finishes_gone within s left [] h g)
-  last_within (ask.Entry at reference written) n lent s left l z g w h = reads_within at 2 left (omega arith) w.1 (finishes_gone within s left [] h g)
+  last_within (ask.Entry at reference rights) n lent s left l z g w h = reads_within at 2 left (omega arith) w.1 (finishes_gone within s left [] h g)
   last_within (ask.Push at word read) n lent s left l z g w h =
       let p = writes_within at (word ∷ []) s left (omega arith) g h in
       let r = reads_within (page_word at.frame read) 1 left (omega arith) w.1 (finishes_gone within s left (Write at word ∷ []) h g) in

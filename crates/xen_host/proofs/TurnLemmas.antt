@@ -52,7 +52,7 @@ turn_goes q s t (ask.TurnOver k) left g e =
     let packet = packet_there q e.ready in
     (subst (λ p. IsTurn (wiring q) s t q.engine.state (turned k p)) (sym packet) row, rests q e.ready, λ n. packet ∙ e.packet n)
 turn_goes q s t (ask.Read at count) left g e = under_way _ _ left _ _ t (ask.Read at count) g e
-turn_goes q s t (ask.Entry at reference written) left g e = under_way _ _ left _ _ t (ask.Entry at reference written) g e
+turn_goes q s t (ask.Entry at reference rights) left g e = under_way _ _ left _ _ t (ask.Entry at reference rights) g e
 turn_goes q s t (ask.Write at count) left g e = under_way _ _ left _ _ t (ask.Write at count) g e
 turn_goes q s t (ask.Store at word) left g e = under_way _ _ left _ _ t (ask.Store at word) g e
 turn_goes q s t (ask.StoreTwo at x y) left g e = under_way _ _ left _ _ t (ask.StoreTwo at x y) g e
@@ -66,7 +66,7 @@ delivery_goes q s packet t (ask.DeliveryOver what) left g e =
     let row = delivery_rows (wiring q) s packet t q.engine.state what (runs_of_gone (whole_delivery (wiring q).vif s packet) left t (q.engine.state, what) g e.0) in
     (row, rests q e.1, packet_there q e.1 ∙ e.2)
 delivery_goes q s packet t (ask.Read at count) left g e = (under_way _ _ left _ _ t (ask.Read at count) g e.0, e.1)
-delivery_goes q s packet t (ask.Entry at reference written) left g e = (under_way _ _ left _ _ t (ask.Entry at reference written) g e.0, e.1)
+delivery_goes q s packet t (ask.Entry at reference rights) left g e = (under_way _ _ left _ _ t (ask.Entry at reference rights) g e.0, e.1)
 delivery_goes q s packet t (ask.Write at count) left g e = (under_way _ _ left _ _ t (ask.Write at count) g e.0, e.1)
 delivery_goes q s packet t (ask.Store at word) left g e = (under_way _ _ left _ _ t (ask.Store at word) g e.0, e.1)
 delivery_goes q s packet t (ask.StoreTwo at x y) left g e = (under_way _ _ left _ _ t (ask.StoreTwo at x y) g e.0, e.1)
@@ -80,7 +80,7 @@ wait_goes q s pages packet t (ask.WaitOver what) left g e =
     let row = wait_rows (wiring q) s pages t q.engine.state what (runs_of_gone (whole_wait q.engine.wires.rx s pages) left t (q.engine.state, what) g e.0) in
     (row, rests q e.1, packet_there q e.1 ∙ e.2)
 wait_goes q s pages packet t (ask.Read at count) left g e = (under_way _ _ left _ _ t (ask.Read at count) g e.0, e.1)
-wait_goes q s pages packet t (ask.Entry at reference written) left g e = (under_way _ _ left _ _ t (ask.Entry at reference written) g e.0, e.1)
+wait_goes q s pages packet t (ask.Entry at reference rights) left g e = (under_way _ _ left _ _ t (ask.Entry at reference rights) g e.0, e.1)
 wait_goes q s pages packet t (ask.Write at count) left g e = (under_way _ _ left _ _ t (ask.Write at count) g e.0, e.1)
 wait_goes q s pages packet t (ask.Store at word) left g e = (under_way _ _ left _ _ t (ask.Store at word) g e.0, e.1)
 wait_goes q s pages packet t (ask.StoreTwo at x y) left g e = (under_way _ _ left _ _ t (ask.StoreTwo at x y) g e.0, e.1)

@@ -1,7 +1,9 @@
 -- Stated: claims rest on this file.
 -- What a host is asked to do: the ops, as what they mean, and what C gets of each.
-use Rattle.std.specs.Prelude.{ℕ, ◌≡◌, ◌<◌, ◌≤◌, ◌+◌, Bool, true, false, List, [], ◌∷◌, ◌++◌, take, drop, if◌then◌else◌}
+use Rattle.std.specs.Prelude.{ℕ, ◌≡◌, ◌<◌, ◌≤◌, ◌+◌, Bool, true, false, List, [], ◌∷◌, ◌++◌, take, drop}
 use Rattle.xen_page.specs.Mapping.{frame_place}
+use Rattle.xen_page.specs.declared.entry.Rights.{Rights}
+use Rattle.xen_page.specs.declared.entry.Rights.TheVariants.{ReadOnly, ReadWrite}
 use Rattle.xen_page.specs.declared.place.Place.{Place}
 use Rattle.xen_steps.specs.Event.{Event}
 use Rattle.xen_steps.specs.Event as event
@@ -19,7 +21,7 @@ use Rattle.xen_host.specs.declared.op.Op.{Op}
 -- Words are consecutive, each an access of its own, in rising order.
 pub data Ask : Type 0 where
   Read : (at : Place) → (count : ℕ) → Ask
-  Entry : (at : Place) → (reference : ℕ) → (written : Bool) → Ask
+  Entry : (at : Place) → (reference : ℕ) → Rights → Ask
   Write : (at : Place) → (count : ℕ) → Ask
   Store : (at : Place) → (word : ℕ) → Ask
   StoreTwo : (at : Place) → (first second : ℕ) → Ask
@@ -52,9 +54,14 @@ awaited_op awaited.Posted = over 9 0 0
 awaited_op awaited.Waiting = over 10 0 0
 awaited_op (awaited.Halted cause) = over 11 (halt_number cause) 0
 
+-- what a host is told of an entry: its page is to be read, or to be written
+abbrev pub entry_number : Rights → ℕ
+entry_number ReadOnly = 1
+entry_number ReadWrite = 2
+
 abbrev pub op_of : Ask → Op
 op_of (Read at count) = access 1 at count
-op_of (Entry at reference written) = record (access 1 at 2) { entry = if written then 2 else 1; reference = reference }
+op_of (Entry at reference rights) = record (access 1 at 2) { entry = entry_number rights; reference = reference }
 op_of (Write at count) = access 2 at count
 op_of (Store at word) = record (access 5 at 1) { first = word }
 op_of (StoreTwo at first second) = record (access 5 at 2) { first = first; second = second }
@@ -91,7 +98,7 @@ did_all (a ∷ more) lent = did_by a lent ++ did_all more lent
 -- What a host reads, by the words that it has put in front of the lent ones.
 abbrev pub read_by : Ask → List ℕ → List Event
 read_by (Read at count) lent = reads_at at (take count lent)
-read_by (Entry at reference written) lent = reads_at at (take 2 lent)
+read_by (Entry at reference rights) lent = reads_at at (take 2 lent)
 read_by (Push at word read) lent = reads_at (page_word at.frame read) (take 1 lent)
 read_by a lent = []
 
@@ -133,7 +140,7 @@ AllSized (a ∷ more) = IsSized a × AllSized more
 -- Its words are words of one page, which is one of `frames` frames.
 abbrev pub IsInPages : ℕ → Ask → Type 0
 IsInPages frames (Read at count) = (at.frame < frames) × (at.word + count ≤ 1024)
-IsInPages frames (Entry at reference written) = (at.frame < frames) × (at.word + 2 ≤ 1024)
+IsInPages frames (Entry at reference rights) = (at.frame < frames) × (at.word + 2 ≤ 1024)
 IsInPages frames (Write at count) = (at.frame < frames) × (at.word + count ≤ 1024)
 IsInPages frames (Store at word) = (at.frame < frames) × (at.word + 1 ≤ 1024)
 IsInPages frames (StoreTwo at first second) = (at.frame < frames) × (at.word + 2 ≤ 1024)

@@ -33,7 +33,7 @@ abbrev pub FillFits : Fill → Work → Type 0
 FillFits (fill.Slot left) b = length b.targets + left < 16
 FillFits (fill.Grant left id at) b = length b.targets + left < 16
 FillFits (fill.Words i) b = i ≤ 16
-FillFits (fill.Respond passed i) b = i ≤ length b.targets
+FillFits (fill.Respond grants i) b = i ≤ length b.targets
 FillFits f b = Unit {0}
 
 abbrev pub Fits : Stage → Work → Type 0
@@ -50,9 +50,9 @@ fill-prop fill.Producer b = hlevel props
 fill-prop (fill.Slot left) b = hlevel props
 fill-prop (fill.Grant left id at) b = hlevel props
 fill-prop (fill.Words i) b = hlevel props
-fill-prop (fill.Respond passed i) b = hlevel props
-fill-prop (fill.Push passed) b = hlevel props
-fill-prop (fill.Notice passed) b = hlevel props
+fill-prop (fill.Respond grants i) b = hlevel props
+fill-prop (fill.Push grants) b = hlevel props
+fill-prop (fill.Notice grants) b = hlevel props
 
 -- This has one proof at most.
 pub Fits-prop : (g : Stage) (b : Work) → IsProp (Fits g b)

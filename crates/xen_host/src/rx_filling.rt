@@ -1,11 +1,12 @@
 //! A packet on its way into rx buffers.
 
 ghost use Rattle.std.specs.Prelude.{◌≡◌, ◌<◌, ◌≤◌, ◌+◌, ◌*◌, ◌-◌, ◌++◌, ◌∷◌, [], ℕ, List, drop, length, map, suc, take, true};
-ghost use Rattle.std.specs.Prelude.{false, None, Some};
+ghost use Rattle.std.specs.Prelude.{None, Some};
 ghost use Rattle.std.specs.Prelude.{slice_index};
 ghost use Rattle.xen_netif.specs.Slots.{rx_req_of};
 ghost use Rattle.xen_page.specs.Entry.{entry_of};
 ghost use Rattle.xen_page.specs.Grant.{checked};
+ghost use Rattle.xen_page.specs.declared.entry.Rights.TheVariants.{ReadWrite};
 ghost use Rattle.xen_ring.specs.Index.{is_due};
 ghost use Rattle.xen_steps.specs.Places.{add32, available, page_word};
 ghost use Rattle.xen_steps.specs.Steps.{bind, done};
@@ -14,6 +15,7 @@ ghost use Rattle.xen_rx_fill.specs.Packets.{frame_in, response_word, target_at, 
 ghost use Rattle.xen_rx_fill.specs.Places.{rx_slot, rx_word};
 ghost use Rattle.xen_rx_fill.specs.Transmit.{after_targets, fill_from, found, outcome_of, read_targets, requested, rx_answer};
 ghost use Rattle.xen_rx_fill.specs.Transmit.{rx_notice, rx_respond, targeted};
+ghost use Rattle.xen_rx_fill.specs.declared.target.Grants.TheVariants.{Refused};
 ghost use Rattle.xen_host.specs.Asks.{op_of};
 ghost use Rattle.xen_host.specs.Asks as ask;
 ghost use Rattle.xen_host.specs.Chained.{replies};
@@ -32,20 +34,19 @@ use crate::op::Op;
 use crate::stage::{Fill, Purpose, Stage};
 use crate::work::Work;
 use xen_netif::RxReq;
-use xen_page::{Entry, Place, check};
+use xen_page::{Entry, Place, Rights, check};
 use xen_ring::{REQ_PROD, RSP_EVENT, RSP_PROD, due};
-use xen_rx_fill::{Outcome, Target, Targets, buffer_frame, pages_of, response, words_of};
+use xen_rx_fill::{Grants, Outcome, Target, Targets, buffer_frame, pages_of, response, words_of};
 use xen_steps::{header, requests_shown, rx_entry};
 
 /// What a transmit comes to that used `used` slots.
 #[inline(always)]
-fn outcome_of(passed: bool, used: u32) -> Outcome
-    ensures { result ≡ outcome_of passed used }
+fn outcome_of(grants: Grants, used: u32) -> Outcome
+    ensures { result ≡ outcome_of grants used }
 {
-    if passed {
-        Outcome::Sent(used)
-    } else {
-        Outcome::Refused(used)
+    match grants {
+        Grants::Passed => Outcome::Sent(used),
+        Grants::Refused => Outcome::Refused(used),
     }
 }
 
@@ -71,9 +72,9 @@ impl Engine {
             Fill::Slot { left } => self.after_post(purpose, left, [words[0], words[1]], ops),
             Fill::Grant { left, id, .. } => self.after_grant(purpose, left, id, words, ops),
             Fill::Words { i } => self.write_page(purpose, i, words, ops),
-            Fill::Respond { passed, i } => self.reply_from(purpose, passed, i, ops),
-            Fill::Push { passed } => self.after_reply_event(purpose, passed, words[0], ops),
-            Fill::Notice { passed } => self.replied(purpose, passed, ops),
+            Fill::Respond { grants, i } => self.reply_from(purpose, grants, i, ops),
+            Fill::Push { grants } => self.after_reply_event(purpose, grants, words[0], ops),
+            Fill::Notice { grants } => self.replied(purpose, grants, ops),
         }
     }
 
@@ -93,7 +94,7 @@ impl Engine {
                 }
                 self.work.targets = Targets::new();
                 if pages == 0 {
-                    return self.reply_from(purpose, true, 0, ops);
+                    return self.reply_from(purpose, Grants::Passed, 0, ops);
                 }
                 self.read_post(purpose, pages - 1, ops)
             }
@@ -135,7 +136,7 @@ impl Engine {
                     fill: Fill::Grant { left, id, at },
                     purpose,
                 };
-                say(ops, Op::read_entry(at, gref, true))
+                say(ops, Op::read_entry(at, gref, Rights::ReadWrite))
             }
         }
     }
@@ -146,11 +147,11 @@ impl Engine {
         requires few { length self.old.work.targets < 16 }
         requires room { 1 ≤ length ops.old }
         ensures led { (lent : List ℕ) → FillLed purpose (beside self.old) (rx_respond (vif_of self.old.wires)
-            self.old.state.rx_index self.old.work.packet false (self.old.work.targets ++ record { id = id; frame = None } ∷ []))
+            self.old.state.rx_index self.old.work.packet Refused (self.old.work.targets ++ record { id = id; frame = None } ∷ []))
             self.new ops.old ops.new result lent lent }
     {
         self.work.targets.push(Target { id, frame: None });
-        self.reply_from(purpose, false, 0, ops)
+        self.reply_from(purpose, Grants::Refused, 0, ops)
     }
 
     /// After an entry.
@@ -169,7 +170,7 @@ impl Engine {
         ensures words { length words.new ≡ length words.old }
         ensures led { FillLed purpose (beside self.old) (bind (targeted self.old.work.targets (read_targets (vif_of
             self.old.wires) self.old.state.rx_index left) id (checked self.old.wires.owners self.old.wires.granter
-            self.old.wires.user (entry_of (slice_index words.old 0) (slice_index words.old 1)) true)) (after_targets (vif_of
+            self.old.wires.user (entry_of (slice_index words.old 0) (slice_index words.old 1)) ReadWrite)) (after_targets (vif_of
             self.old.wires) self.old.state.rx_index self.old.work.packet)) self.new ops.old ops.new result words.old words.new }
     {
         let entry = Entry::of_words(words[0], words[1]);
@@ -178,7 +179,7 @@ impl Engine {
             self.wires.granter,
             self.wires.user,
             entry,
-            true,
+            Rights::ReadWrite,
         ) {
             Err(_) => self.refuse_post(purpose, id, ops),
             Ok(frame) => {
@@ -208,7 +209,7 @@ impl Engine {
         let all = words_of(self.work.packet.bytes());
         let from = 1024 * i;
         if all <= from {
-            return self.reply_from(purpose, true, 0, ops);
+            return self.reply_from(purpose, Grants::Passed, 0, ops);
         }
         let to = all.min(from + 1024);
         say(ops, self.page_op(i, from, to, words));
@@ -219,7 +220,7 @@ impl Engine {
             };
             return 1;
         }
-        1 + self.reply_from(purpose, true, 0, &mut ops[1..])
+        1 + self.reply_from(purpose, Grants::Passed, 0, &mut ops[1..])
     }
 
     /// The words from one to another of the packet, in front of the lent ones, and into the i-th page.
@@ -244,31 +245,31 @@ impl Engine {
 
     /// The i-th response.
     #[inline(always)]
-    fn reply_op(&self, passed: bool, i: u32) -> Op
+    fn reply_op(&self, grants: Grants, i: u32) -> Op
         requires within { i < length self.now.work.targets }
         ensures { result ≡ op_of (ask.StoreTwo (rx_slot (vif_of self.now.wires) (add32 self.now.state.rx_index i) 0)
-            (response_word passed self.now.work.packet (length self.now.work.targets) i (target_at self.now.work.targets i).id 0)
-            (response_word passed self.now.work.packet (length self.now.work.targets) i (target_at self.now.work.targets i).id 1)) }
+            (response_word grants self.now.work.packet (length self.now.work.targets) i (target_at self.now.work.targets i).id 0)
+            (response_word grants self.now.work.packet (length self.now.work.targets) i (target_at self.now.work.targets i).id 1)) }
     {
         let Work {
             packet,
             targets,
             ..
         } = &self.work;
-        let [first, second] = response(passed, packet.bytes(), targets, i).words();
+        let [first, second] = response(grants, packet.bytes(), targets, i).words();
         let index = self.state.rx_index.wrapping_add(i);
         Op::store_two(rx_entry(self.wires.rx, index, 0), first, second)
     }
 
     /// The responses from the i-th on, as far as there is room. How many.
     #[inline(always)]
-    fn say_replies(&self, passed: bool, from: u32, ops: &mut [Op]) -> u32
+    fn say_replies(&self, grants: Grants, from: u32, ops: &mut [Op]) -> u32
         requires { from ≤ length self.now.work.targets }
         ensures room { result ≤ length ops.old }
         ensures within { from + result ≤ length self.now.work.targets }
         ensures few { from + result ≤ 16 }
         ensures all { result < length ops.old → from + result ≡ length self.now.work.targets }
-        ensures said { ops.new ≡ map op_of (replies (vif_of self.now.wires) self.now.state.rx_index self.now.work.packet passed
+        ensures said { ops.new ≡ map op_of (replies (vif_of self.now.wires) self.now.state.rx_index self.now.work.packet grants
             self.now.work.targets from result) ++ drop result ops.old }
     {
         let left = self.work.targets.len() - from;
@@ -278,32 +279,32 @@ impl Engine {
             ops.len() as u32
         };
         for k in 0..count {
-            put(ops, k as usize, self.reply_op(passed, from + k));
+            put(ops, k as usize, self.reply_op(grants, from + k));
         }
         count
     }
 
     /// The responses from the i-th on, and the push, as far as there is room.
     #[inline(always)]
-    fn reply_from(&mut self, purpose: Purpose, passed: bool, from: u32, ops: &mut [Op]) -> usize
+    fn reply_from(&mut self, purpose: Purpose, grants: Grants, from: u32, ops: &mut [Op]) -> usize
         requires within { from ≤ length self.old.work.targets }
         requires room { 1 ≤ length ops.old }
         ensures led { (lent : List ℕ) → FillLed purpose (beside self.old) (rx_answer (vif_of self.old.wires)
             self.old.state.rx_index
-            self.old.work.packet passed (length self.old.work.targets) from (drop from self.old.work.targets)) self.new ops.old ops.new
+            self.old.work.packet grants (length self.old.work.targets) from (drop from self.old.work.targets)) self.new ops.old ops.new
             result lent lent }
     {
-        let count = self.say_replies(passed, from, ops);
+        let count = self.say_replies(grants, from, ops);
         if count as usize == ops.len() {
             let i = from + count;
             self.stage = Stage::Fill {
-                fill: Fill::Respond { passed, i },
+                fill: Fill::Respond { grants, i },
                 purpose,
             };
             return count as usize;
         }
         self.stage = Stage::Fill {
-            fill: Fill::Push { passed },
+            fill: Fill::Push { grants },
             purpose,
         };
         put(ops, count as usize, self.reply_push());
@@ -325,49 +326,49 @@ impl Engine {
     fn after_reply_event(
         &mut self,
         purpose: Purpose,
-        passed: bool,
+        grants: Grants,
         event: u32,
         ops: &mut [Op],
     ) -> usize
         requires room { 1 ≤ length ops.old }
         ensures led { (lent : List ℕ) → FillLed purpose (beside self.old) (rx_notice (vif_of self.old.wires) (is_due
-            self.old.state.rx_index (add32 self.old.state.rx_index (length self.old.work.targets)) event) (outcome_of passed
+            self.old.state.rx_index (add32 self.old.state.rx_index (length self.old.work.targets)) event) (outcome_of grants
             (length self.old.work.targets))) self.new ops.old ops.new result lent lent }
     {
         let end = self.state.rx_index.wrapping_add(self.work.targets.len());
         if due(self.state.rx_index, end, event) {
-            self.give_rx_notice(purpose, passed, ops)
+            self.give_rx_notice(purpose, grants, ops)
         } else {
-            self.replied(purpose, passed, ops)
+            self.replied(purpose, grants, ops)
         }
     }
 
     /// A notice is due.
     #[inline(never)]
-    fn give_rx_notice(&mut self, purpose: Purpose, passed: bool, ops: &mut [Op]) -> usize
+    fn give_rx_notice(&mut self, purpose: Purpose, grants: Grants, ops: &mut [Op]) -> usize
         requires room { 1 ≤ length ops.old }
         ensures led { (lent : List ℕ) → FillLed purpose (beside self.old) (rx_notice (vif_of self.old.wires) true (outcome_of
-            passed (length self.old.work.targets))) self.new ops.old ops.new result lent lent }
+            grants (length self.old.work.targets))) self.new ops.old ops.new result lent lent }
     {
         self.stage = Stage::Fill {
-            fill: Fill::Notice { passed },
+            fill: Fill::Notice { grants },
             purpose,
         };
         say(ops, Op::notify(self.wires.port));
         if ops.len() == 1 {
             return 1;
         }
-        1 + self.replied(purpose, passed, &mut ops[1..])
+        1 + self.replied(purpose, grants, &mut ops[1..])
     }
 
     /// All is answered.
     #[inline(always)]
-    fn replied(&mut self, purpose: Purpose, passed: bool, ops: &mut [Op]) -> usize
+    fn replied(&mut self, purpose: Purpose, grants: Grants, ops: &mut [Op]) -> usize
         requires room { 1 ≤ length ops.old }
-        ensures led { (lent : List ℕ) → FillLed purpose (beside self.old) (done (outcome_of passed (length
+        ensures led { (lent : List ℕ) → FillLed purpose (beside self.old) (done (outcome_of grants (length
             self.old.work.targets))) self.new ops.old ops.new result lent lent }
     {
-        let outcome = outcome_of(passed, self.work.targets.len());
+        let outcome = outcome_of(grants, self.work.targets.len());
         self.filled(purpose, outcome, ops)
     }
 }

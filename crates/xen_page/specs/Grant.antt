@@ -2,10 +2,12 @@
 -- What a grant has to be before it is used (grant_table.h: the grant table's flags and status codes).
 -- Rows from grant_table.h guard the numbers: `faults` of crates/outside_rows. Rows worked by hand guard the order:
 -- crates/xen_page_tests/src/tests/entries.rt.
-use Rattle.std.specs.Prelude.{ℕ, ℤ, negsuc, Bool, false, ◌&&◌, not, ◌==◌, List, [], ◌∷◌, Option, Some, None, Result, Ok, Err}
+use Rattle.std.specs.Prelude.{ℕ, ℤ, negsuc, Bool, true, false, not, ◌==◌, List, [], ◌∷◌, Option, Some, None, Result, Ok, Err}
 use Rattle.std.specs.Prelude.{slice_get, codes, if◌then◌else◌}
 use Rattle.xen_page.specs.Entry.{is_readonly, permits_access}
 use Rattle.xen_page.specs.declared.entry.Entry.{Entry}
+use Rattle.xen_page.specs.declared.entry.Rights.{Rights}
+use Rattle.xen_page.specs.declared.entry.Rights.TheVariants.{ReadOnly, ReadWrite}
 use Rattle.xen_page.specs.declared.fault.GrantFault.{GrantFault}
 use Rattle.xen_page.specs.declared.fault.GrantFault.TheVariants.{BadGntref, PermissionDenied, BadPage, Eagain}
 
@@ -31,12 +33,17 @@ is_domain (Some owner) domain = owner == domain
 abbrev pub owns : List ℕ → (domain frame : ℕ) → Bool
 owns owners domain frame = is_domain (slice_get owners frame) domain
 
+-- An entry that is read-only allows no writing.
+abbrev pub allows : Entry → Rights → Bool
+allows e ReadOnly = true
+allows e ReadWrite = not (is_readonly e)
+
 -- What is required of an entry, in this order, each with the fault if it isn't so.
-abbrev pub demands : List ℕ → (granter user : ℕ) → Entry → (write : Bool) → List (Bool × GrantFault)
-demands owners granter user e write =
+abbrev pub demands : List ℕ → (granter user : ℕ) → Entry → Rights → List (Bool × GrantFault)
+demands owners granter user e rights =
     (permits_access e, BadGntref) ∷
     (e.domid == user, PermissionDenied) ∷
-    (not (write && is_readonly e), PermissionDenied) ∷
+    (allows e rights, PermissionDenied) ∷
     (owns owners granter e.frame, BadPage) ∷
     []
 
@@ -46,5 +53,5 @@ first_fault [] value = Ok value
 first_fault (demand ∷ later) value = if demand.0 then first_fault later value else Err demand.1
 
 -- the check of an entry: its frame, or a fault
-abbrev pub checked : List ℕ → (granter user : ℕ) → Entry → (write : Bool) → Result ℕ GrantFault
-checked owners granter user e write = first_fault (demands owners granter user e write) e.frame
+abbrev pub checked : List ℕ → (granter user : ℕ) → Entry → Rights → Result ℕ GrantFault
+checked owners granter user e rights = first_fault (demands owners granter user e rights) e.frame

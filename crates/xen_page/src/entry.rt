@@ -2,7 +2,7 @@
 
 ghost use Rattle.std.specs.Prelude.{◌≡◌, ◌∷◌, [], IfOk, Some, slice_get};
 ghost use Rattle.xen_page.specs.Entry.{entry_of, first_word, is_marked, is_readonly, permits_access};
-ghost use Rattle.xen_page.specs.Grant.{checked, owns};
+ghost use Rattle.xen_page.specs.Grant.{allows, checked, owns};
 
 use crate::fault::GrantFault;
 use crate::owners::Owners;
@@ -17,6 +17,15 @@ pub const GTF_READONLY: u16 = 4;
 pub const GTF_READING: u16 = 8;
 /// The mark of a mapping that writes.
 pub const GTF_WRITING: u16 = 16;
+
+/// What a domain wants to do with a frame that it is granted.
+#[derive(Clone, Copy, Debug, PartialEq, Eq)]
+pub enum Rights {
+    /// To read it alone.
+    ReadOnly,
+    /// To read it and to write it.
+    ReadWrite,
+}
 
 /// An entry of a grant table, version 1, as its two words were read.
 #[derive(Clone, Copy, Debug, PartialEq, Eq, Hash)]
@@ -63,6 +72,16 @@ impl Entry {
         self.flags & GTF_READONLY != 0
     }
 
+    /// Whether the frame may be used with these rights.
+    fn allows(self, rights: Rights) -> bool
+        ensures { result ≡ allows self rights }
+    {
+        match rights {
+            Rights::ReadOnly => true,
+            Rights::ReadWrite => !self.is_readonly(),
+        }
+    }
+
     /// Whether the entry carries the mark of a mapping.
     pub fn is_marked(self) -> bool
         ensures { result ≡ is_marked self }
@@ -71,22 +90,22 @@ impl Entry {
     }
 }
 
-/// Whether `user` may reach the frame of an entry of `granter`'s table, for writing if `write` is set:
-/// the frame, which is then the granter's, or the first fault.
+/// Whether `user` may reach the frame of an entry of `granter`'s table with these rights: the frame, which
+/// is then the granter's, or the first fault.
 pub fn check(
     owners: &Owners,
     granter: u16,
     user: u16,
     entry: Entry,
-    write: bool,
+    rights: Rights,
 ) -> Result<u32, GrantFault>
-    ensures checked { result ≡ checked owners.now granter user entry write }
+    ensures checked { result ≡ checked owners.now granter user entry rights }
     ensures owned { IfOk result (λ frame. slice_get owners.now frame ≡ Some granter) }
 {
     if !entry.permits_access() {
         return Err(GrantFault::BadGntref);
     }
-    if entry.domid != user || (write && entry.is_readonly()) {
+    if entry.domid != user || !entry.allows(rights) {
         return Err(GrantFault::PermissionDenied);
     }
     if !is_owner(owners, granter, entry.frame) {

@@ -39,7 +39,7 @@ pub mod words;
 
 pub use access::Access;
 pub use bus::Bus;
-pub use entry::{Entry, check};
+pub use entry::{Entry, Rights, check};
 pub use extents::Extent;
 pub use fault::GrantFault;
 pub use frames::Frames;

@@ -2,6 +2,7 @@
 
 ghost use Rattle.std.specs.Prelude.{◌≡◌, ◌<◌};
 
+use crate::entry::Rights;
 use crate::place::Place;
 use std::marker::Model;
 
@@ -10,7 +11,7 @@ use std::marker::Model;
 pub struct Mapped {
     pub(crate) granter: u16,
     pub(crate) frame: u32,
-    pub(crate) write: bool,
+    pub(crate) rights: Rights,
     /// Where the entry's flags word is.
     pub(crate) at: Place,
     /// The flags word, without the marks.
@@ -24,7 +25,7 @@ impl Model for Mapped {
 
     ghost Value = { Mapping };
 
-    ghost view = { λ m. record { granter = m.granter; frame = m.frame; write = m.write; at = m.at; word = m.word } };
+    ghost view = { λ m. record { granter = m.granter; frame = m.frame; rights = m.rights; at = m.at; word = m.word } };
 
     ghost invariant = { λ m. (m.at.word < 1024) × (is_marked (entry_of m.word m.frame) ≡ false) };
 }
@@ -42,13 +43,6 @@ impl Mapped {
         ensures { result ≡ self.now.granter }
     {
         self.granter
-    }
-
-    /// Whether the frame is mapped for writing.
-    pub fn is_writable(&self) -> bool
-        ensures { result ≡ self.now.write }
-    {
-        self.write
     }
 
     /// Where the entry's flags word is.

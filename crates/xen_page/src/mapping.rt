@@ -8,14 +8,14 @@ ghost use Rattle.xen_page.specs.Table.{IsTable};
 ghost use Rattle.xen_page.specs.declared.access.Access.{Access};
 
 use crate::bus::Bus;
-use crate::entry::{Entry, GTF_READING, GTF_WRITING, check};
+use crate::entry::{Entry, GTF_READING, GTF_WRITING, Rights, check};
 use crate::fault::GrantFault;
 use crate::mapped::Mapped;
 use crate::owners::Owners;
 use crate::table::Table;
 
-/// Maps the frame that `granter` lends `user` under a reference of its table, for writing if `write` is
-/// set. The entry's two words are read once each; then its flags word is exchanged for one with the marks.
+/// Maps the frame that `granter` lends `user` under a reference of its table, with these rights. The entry's two
+/// words are read once each; then its flags word is exchanged for one with the marks.
 pub fn map<B: Bus>(
     bus: &mut B,
     table: &Table,
@@ -23,17 +23,17 @@ pub fn map<B: Bus>(
     granter: u16,
     user: u16,
     gref: u32,
-    write: bool,
+    rights: Rights,
 ) -> Result<Mapped, GrantFault>
     requires table { IsTable owners.now granter table.now }
     requires within { All (λ frame. frame < B.size bus.old) table.now }
     ensures size { B.size bus.new ≡ B.size bus.old }
     ensures lent { IfOk result (IsMappedBy owners.now granter) }
-    ensures write { IfOk result (λ m. m.write ≡ write) }
+    ensures rights { IfOk result (λ m. m.rights ≡ rights) }
     ensures entry { IfOk result (λ m. m.at.frame < B.size bus.new) }
 
     // The accesses, and the answer that they fix.
-    ensures mapped { (t : List Access) × IsMap table.now owners.now granter user gref write t result
+    ensures mapped { (t : List Access) × IsMap table.now owners.now granter user gref rights t result
         × Performs B.log B.access_gives bus.old t bus.new }
 {
     let Some(at) = table.place(gref) else {
@@ -42,15 +42,15 @@ pub fn map<B: Bus>(
     let word = bus.read(at);
     let frame = bus.read(at.next());
     let entry = Entry::of_words(word, frame);
-    let frame = check_unmarked(owners, granter, user, entry, write)?;
-    let found = bus.cas(at, word, word | marks_for(write));
+    let frame = check_unmarked(owners, granter, user, entry, rights)?;
+    let found = bus.cas(at, word, word | marks_for(rights));
     if found != word {
         return Err(GrantFault::Eagain);
     }
     Ok(Mapped {
         granter,
         frame,
-        write,
+        rights,
         at,
         word,
     })
@@ -64,7 +64,7 @@ pub fn unmap<B: Bus>(bus: &mut B, mapped: Mapped) -> Result<(), Mapped>
     ensures unmapped { (t : List Access) × IsUnmap mapped t result
         × Performs B.log B.access_gives bus.old t bus.new }
 {
-    let marked = mapped.word | marks_for(mapped.write);
+    let marked = mapped.word | marks_for(mapped.rights);
     let found = bus.cas(mapped.at, marked, mapped.word);
     if found == marked { Ok(()) } else { Err(mapped) }
 }
@@ -74,13 +74,13 @@ fn check_unmarked(
     granter: u16,
     user: u16,
     entry: Entry,
-    write: bool,
+    rights: Rights,
 ) -> Result<u32, GrantFault>
-    ensures mappable { result ≡ mappable owners.now granter user entry write }
+    ensures mappable { result ≡ mappable owners.now granter user entry rights }
     ensures owned { IfOk result (λ frame. slice_get owners.now frame ≡ Some granter) }
     ensures unmarked { IfOk result (λ frame. (frame ≡ entry.frame) × (is_marked entry ≡ false)) }
 {
-    let frame = check(owners, granter, user, entry, write)?;
+    let frame = check(owners, granter, user, entry, rights)?;
     if entry.is_marked() {
         Err(GrantFault::Eagain)
     } else {
@@ -88,12 +88,11 @@ fn check_unmarked(
     }
 }
 
-fn marks_for(write: bool) -> u32
-    ensures { result ≡ marks write }
+fn marks_for(rights: Rights) -> u32
+    ensures { result ≡ marks rights }
 {
-    if write {
-        u32::from(GTF_READING | GTF_WRITING)
-    } else {
-        u32::from(GTF_READING)
+    match rights {
+        Rights::ReadOnly => u32::from(GTF_READING),
+        Rights::ReadWrite => u32::from(GTF_READING | GTF_WRITING),
     }
 }

@@ -6,7 +6,8 @@ ghost use Rattle.xen_page.specs.Table.{IsTable};
 
 use std::alloc::{AllocError, Global};
 use xen_page::{
-    Access, Bus, Entry, GrantFault, Mapped, Owners, Place, ScriptBus, Table, check, map, unmap,
+    Access, Bus, Entry, GrantFault, Mapped, Owners, Place, Rights, ScriptBus, Table, check, map,
+    unmap,
 };
 
 pub const BACK: u16 = 0;
@@ -31,7 +32,7 @@ pub const MOST: usize = 6;
 pub type Log = [Option<Access>; MOST];
 
 /// A frame that is mapped, whether it is mapped for writing, and where its entry is.
-pub type Seen = (u32, bool, Place);
+pub type Seen = (u32, Place);
 
 pub fn owners(alloc: Global) -> Result<Owners, AllocError> {
     let mut domains = [FRONT; FRAMES as usize];
@@ -62,13 +63,13 @@ pub fn visit<T: Bus>(bus: &mut T) -> [u32; 4]
 }
 
 /// What the check of an entry of these words answers.
-pub fn checked(alloc: Global, a: u32, b: u32, write: bool) -> Option<Result<u32, GrantFault>> {
+pub fn checked(alloc: Global, a: u32, b: u32, rights: Rights) -> Option<Result<u32, GrantFault>> {
     let owners = owners(alloc).ok()?;
-    Some(check(&owners, FRONT, BACK, Entry::of_words(a, b), write))
+    Some(check(&owners, FRONT, BACK, Entry::of_words(a, b), rights))
 }
 
 fn seen(mapped: &Mapped) -> Seen {
-    (mapped.frame(), mapped.is_writable(), mapped.entry())
+    (mapped.frame(), mapped.entry())
 }
 
 /// What mapping a reference answers over a bus that answers so, and its accesses. The table has these frames.
@@ -77,7 +78,7 @@ pub fn mapped(
     frames: &[u32],
     answers: &[u32],
     gref: u32,
-    write: bool,
+    rights: Rights,
 ) -> Option<(Result<Seen, GrantFault>, Log)> {
     let owners = owners(alloc).ok()?;
     let table = Table::make(&owners, FRONT, frames)?;
@@ -85,7 +86,7 @@ pub fn mapped(
         return None;
     }
     let mut bus = ScriptBus::make(alloc, FRAMES, answers, MOST).ok()?;
-    let answer = match map(&mut bus, &table, &owners, FRONT, BACK, gref, write) {
+    let answer = match map(&mut bus, &table, &owners, FRONT, BACK, gref, rights) {
         Ok(mapped) => Ok(seen(&mapped)),
         Err(fault) => Err(fault),
     };
@@ -115,23 +116,27 @@ fn ended_over(
     table: &Table,
     owners: &Owners,
     answers: &[u32],
-    write: bool,
+    rights: Rights,
 ) -> Option<(Option<(Seen, bool)>, Log)>
     requires table { IsTable owners.now 1 table.now }
     requires within { All (λ frame. frame < 20) table.now }
 {
     let mut bus = ScriptBus::make(alloc, FRAMES, answers, MOST).ok()?;
-    let mapped = map(&mut bus, table, owners, FRONT, BACK, 5, write).ok()?;
+    let mapped = map(&mut bus, table, owners, FRONT, BACK, 5, rights).ok()?;
     let stays = ended_once(&mut bus, mapped);
     Some((stays, log(bus.accesses())))
 }
 
 /// As [`ended_over`], with a table of one frame.
-pub fn ended(alloc: Global, answers: &[u32], write: bool) -> Option<(Option<(Seen, bool)>, Log)> {
+pub fn ended(
+    alloc: Global,
+    answers: &[u32],
+    rights: Rights,
+) -> Option<(Option<(Seen, bool)>, Log)> {
     let owners = owners(alloc).ok()?;
     let table = Table::make(&owners, FRONT, &[1])?;
     if table.is_within(FRAMES) {
-        ended_over(alloc, &table, &owners, answers, write)
+        ended_over(alloc, &table, &owners, answers, rights)
     } else {
         None
     }

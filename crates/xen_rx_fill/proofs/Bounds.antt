@@ -1,17 +1,19 @@
 -- How many events a transmit has at most, and where.
-use Rattle.std.proofs.Common.{◌≡◌, ℕ, zero, suc, ◌+◌, ◌-◌, ◌*◌, ◌/◌, ◌%◌, ◌<◌, ◌≤◌, Bool, true, false, ◌&&◌, List, [], ◌∷◌, ◌++◌, Option, Some, None, Result, Ok, Err, IsTrue, refl, sym, ap, length, arith, length-append, subst, not, nat_lt}
+use Rattle.std.proofs.Common.{◌≡◌, ℕ, zero, suc, ◌+◌, ◌-◌, ◌*◌, ◌/◌, ◌%◌, ◌<◌, ◌≤◌, Bool, true, false, List, [], ◌∷◌, ◌++◌, Option, Some, None, Result, Ok, Err, IsTrue, refl, sym, ap, length, arith, length-append, subst, nat_lt}
 use Rattle.std.specs.Prelude.{IfOk, slice_get, nat_le, if◌then◌else◌, ◌==◌}
 use Rattle.std.proofs.lemmas.Bool.{ltb-false}
 use Rattle.std.proofs.lemmas.Bool.Decides.{nat_tests}
 use Rattle.xen_netif.specs.Slots.{rx_req_of}
-use Rattle.xen_page.specs.Entry.{entry_of, permits_access, is_readonly}
-use Rattle.xen_page.specs.Grant.{checked, owns, is_domain}
+use Rattle.xen_page.specs.Entry.{entry_of, permits_access}
+use Rattle.xen_page.specs.Grant.{allows, checked, owns, is_domain}
 use Rattle.xen_page.specs.Table.{entry_place, place_in}
 use Rattle.xen_page.specs.declared.entry.Entry.{Entry}
 use Rattle.xen_page.specs.declared.fault.GrantFault.{GrantFault}
 use Rattle.xen_page.specs.declared.fault.GrantFault.TheVariants as fault
 use Rattle.xen_page.proofs.TableLemmas.{entry_frame_in}
 use Rattle.xen_page.specs.declared.place.Place.{Place}
+use Rattle.xen_page.specs.declared.entry.Rights.{Rights}
+use Rattle.xen_page.specs.declared.entry.Rights.TheVariants.{ReadWrite}
 use Rattle.xen_ring.specs.Index.{distance, is_due}
 use Rattle.xen_steps.specs.Drive.{Any, Bounded, IsPageWant}
 use Rattle.xen_steps.specs.Places.{add32, available}
@@ -24,6 +26,8 @@ use Rattle.xen_rx_fill.specs.Transmit.{Posted, after_targets, fill, found, outco
 use Rattle.xen_rx_fill.specs.Wired.{IsWired}
 use Rattle.xen_rx_fill.specs.declared.by_event.phase.Outcome.{Outcome}
 use Rattle.xen_rx_fill.specs.declared.by_event.phase.Outcome.TheVariants as outcome
+use Rattle.xen_rx_fill.specs.declared.target.Grants.{Grants}
+use Rattle.xen_rx_fill.specs.declared.target.Grants.TheVariants.{Passed, Refused}
 use Rattle.xen_rx_fill.specs.declared.target.Target.{Target}
 use Rattle.xen_rx_fill.specs.declared.vif.Vif.{Vif}
 
@@ -40,8 +44,8 @@ owned_inside owners domain frame h = by (slice_get owners frame) refl h
     by (Some x) e h = some_inside owners frame x e
 
 -- a frame that is checked is there
-checked_inside : (owners : List ℕ) (granter user : ℕ) (e : Entry) (write : Bool) (frame : ℕ) → checked owners granter user e write ≡ Ok frame → frame < length owners
-checked_inside owners granter user e write frame h = by (permits_access e) (e.domid == user) (not (write && is_readonly e)) (owns owners granter e.frame) refl h
+checked_inside : (owners : List ℕ) (granter user : ℕ) (e : Entry) (rights : Rights) (frame : ℕ) → checked owners granter user e rights ≡ Ok frame → frame < length owners
+checked_inside owners granter user e rights frame h = by (permits_access e) (e.domid == user) (allows e rights) (owns owners granter e.frame) refl h
   where
     by : (a b c d : Bool) → owns owners granter e.frame ≡ d →
         (if a then (if b then (if c then (if d then Ok e.frame else Err fault.BadPage) else Err fault.PermissionDenied) else Err fault.PermissionDenied) else Err fault.BadGntref) ≡ Ok frame → frame < length owners
@@ -52,9 +56,9 @@ checked_inside owners granter user e write frame h = by (permits_access e) (e.do
     by false b c d o h = cc
 
 -- as a clause says it
-pub granted_inside : (w : Vif) (e : Entry) (write : Bool) (r : Result ℕ GrantFault) → r ≡ checked w.owners.now w.granter w.user e write → IfOk r (λ frame. frame < length w.owners.now)
-granted_inside w e write (Ok frame) h = checked_inside w.owners.now w.granter w.user e write frame (sym h)
-granted_inside w e write (Err fault) h = tt
+pub granted_inside : (w : Vif) (e : Entry) (rights : Rights) (r : Result ℕ GrantFault) → r ≡ checked w.owners.now w.granter w.user e rights → IfOk r (λ frame. frame < length w.owners.now)
+granted_inside w e rights (Ok frame) h = checked_inside w.owners.now w.granter w.user e rights frame (sym h)
+granted_inside w e rights (Err fault) h = tt
 
 available_few : (index prod m : ℕ) → available index prod ≡ Some m → m ≤ 256
 available_few index prod m e = by (nat_le (distance index prod) 256) refl e
@@ -90,16 +94,16 @@ module _ (w : Vif) (h : IsWired w) where
   IsThere (Ok frame) = frame < size
   IsThere (Err fault) = Unit {0}
 
-  is_there : (e : Entry) (write : Bool) (r : Result ℕ GrantFault) → checked w.owners.now w.granter w.user e write ≡ r → IsThere r
-  is_there e write (Ok frame) c = checked_inside w.owners.now w.granter w.user e write frame c
-  is_there e write (Err fault) c = tt
+  is_there : (e : Entry) (rights : Rights) (r : Result ℕ GrantFault) → checked w.owners.now w.granter w.user e rights ≡ r → IsThere r
+  is_there e rights (Ok frame) c = checked_inside w.owners.now w.granter w.user e rights frame c
+  is_there e rights (Err fault) c = tt
 
-  pub bounded_entry_at : (write : Bool) (gref : ℕ) (o : Option Place) → entry_place w.table.now gref ≡ o → Bounded within IsThere (entry_at w write o) 2
-  bounded_entry_at write gref None e = tt
-  bounded_entry_at write gref (Some at) e =
+  pub bounded_entry_at : (rights : Rights) (gref : ℕ) (o : Option Place) → entry_place w.table.now gref ≡ o → Bounded within IsThere (entry_at w rights o) 2
+  bounded_entry_at rights gref None e = tt
+  bounded_entry_at rights gref (Some at) e =
       let inside : at.frame < size = owned_inside w.owners.now w.granter at.frame (entry_frame_in (λ frame. IsTrue (owns w.owners.now w.granter frame)) w.table.now gref at e h.table.2) in
       let small : at.word < 1023 = entry_word_small w.table.now gref at e in
-      (omega arith, (inside, omega (arith, small)), λ a. (omega arith, (inside, omega (arith, small)), λ b. is_there (entry_of a b) write (checked w.owners.now w.granter w.user (entry_of a b) write) refl))
+      (omega arith, (inside, omega (arith, small)), λ a. (omega arith, (inside, omega (arith, small)), λ b. is_there (entry_of a b) rights (checked w.owners.now w.granter w.user (entry_of a b) rights) refl))
 
   -- a transmit: where the producer shows enough slots, the packet has at most 256 pages
   rx_inside : w.rx < size
@@ -131,7 +135,7 @@ module _ (w : Vif) (h : IsWired w) where
       omega arith,
       (rx_inside, omega arith),
       λ b. let k = rx_req_of (a ∷ b ∷ []) in
-          bounded_bind within IsThere P (entry w true k.gref) (rest k.id) 2 n (4 + n - 1 - 1) (bounded_entry_at true k.gref (entry_place w.table.now k.gref) refl) (λ r t. g k.id r t) (omega arith),
+          bounded_bind within IsThere P (entry w ReadWrite k.gref) (rest k.id) 2 n (4 + n - 1 - 1) (bounded_entry_at ReadWrite k.gref (entry_place w.table.now k.gref) refl) (λ r t. g k.id r t) (omega arith),
     ),
   )
 
@@ -160,24 +164,24 @@ module _ (w : Vif) (h : IsWired w) where
   bounded_rx_notice false o = tt
   bounded_rx_notice true o = (omega arith, tt, λ a. tt)
 
-  bounded_rx_answer : (x : ℕ) (packet : List ℕ) (passed : Bool) (n i : ℕ) (ts : List Target) → Bounded within Any (rx_answer w x packet passed n i ts) (2 * length ts + 3)
-  bounded_rx_answer x packet passed n i [] =
-      (omega arith, (rx_inside, omega arith), λ a. (omega arith, (rx_inside, omega arith), λ v. bounded_rx_notice (is_due x (add32 x n) v) (outcome_of passed n)))
-  bounded_rx_answer x packet passed n i (t ∷ ts) = (
+  bounded_rx_answer : (x : ℕ) (packet : List ℕ) (grants : Grants) (n i : ℕ) (ts : List Target) → Bounded within Any (rx_answer w x packet grants n i ts) (2 * length ts + 3)
+  bounded_rx_answer x packet grants n i [] =
+      (omega arith, (rx_inside, omega arith), λ a. (omega arith, (rx_inside, omega arith), λ v. bounded_rx_notice (is_due x (add32 x n) v) (outcome_of grants n)))
+  bounded_rx_answer x packet grants n i (t ∷ ts) = (
     omega arith,
     (rx_inside, omega arith),
     λ a. (
       omega arith,
       (rx_inside, omega arith),
-      λ b. bounded_le within Any (rx_answer w x packet passed n (i + 1) ts) (2 * length ts + 3) (2 * suc (length ts) + 3 - 1 - 1) (bounded_rx_answer x packet passed n (i + 1) ts) (omega arith),
+      λ b. bounded_le within Any (rx_answer w x packet grants n (i + 1) ts) (2 * length ts + 3) (2 * suc (length ts) + 3 - 1 - 1) (bounded_rx_answer x packet grants n (i + 1) ts) (omega arith),
     ),
   )
 
   bounded_after_targets : (x : ℕ) (packet : List ℕ) (p : Posted) → words packet ≤ 262144 → ArePosted 256 p → Bounded within Any (after_targets w x packet p) 262659
   bounded_after_targets x packet (Ok ts) l a =
-      bounded_bind within Any Any (fill ts packet (words packet - 0) 0) (λ u. rx_respond w x packet true ts) (words packet - 0) 515 262659 (bounded_fill ts packet (words packet - 0) 0 a.0)
-      (λ v u. bounded_le within Any (rx_respond w x packet true ts) (2 * length ts + 3) 515 (bounded_rx_answer x packet true (length ts) 0 ts) (omega (arith, a.1))) (omega (arith, l))
-  bounded_after_targets x packet (Err ts) l a = bounded_le within Any (rx_respond w x packet false ts) (2 * length ts + 3) 262659 (bounded_rx_answer x packet false (length ts) 0 ts) (omega (arith, a))
+      bounded_bind within Any Any (fill ts packet (words packet - 0) 0) (λ u. rx_respond w x packet Passed ts) (words packet - 0) 515 262659 (bounded_fill ts packet (words packet - 0) 0 a.0)
+      (λ v u. bounded_le within Any (rx_respond w x packet Passed ts) (2 * length ts + 3) 515 (bounded_rx_answer x packet Passed (length ts) 0 ts) (omega (arith, a.1))) (omega (arith, l))
+  bounded_after_targets x packet (Err ts) l a = bounded_le within Any (rx_respond w x packet Refused ts) (2 * length ts + 3) 262659 (bounded_rx_answer x packet Refused (length ts) 0 ts) (omega (arith, a))
 
   bounded_enough : (x : ℕ) (packet : List ℕ) (m : ℕ) (lacking : Bool) → nat_lt m (pages packet) ≡ lacking → m ≤ 256 →
       Bounded within Any (if lacking then done outcome.TooFew else bind (read_targets w x (pages packet) []) (after_targets w x packet)) 263683

@@ -5,6 +5,8 @@ use Rattle.xen_netif.specs.Slots.{rx_req_of}
 use Rattle.xen_page.specs.Table.{entry_place}
 use Rattle.xen_page.specs.declared.fault.GrantFault.{GrantFault}
 use Rattle.xen_page.specs.declared.place.Place.{Place}
+use Rattle.xen_page.specs.declared.entry.Rights.{Rights}
+use Rattle.xen_page.specs.declared.entry.Rights.TheVariants.{ReadWrite}
 use Rattle.xen_ring.specs.Index.{is_due}
 use Rattle.xen_steps.specs.Drive.{Any}
 use Rattle.xen_steps.specs.Finish.{Ends}
@@ -16,13 +18,15 @@ use Rattle.xen_rx_fill.specs.Packets.{pages, words}
 use Rattle.xen_rx_fill.specs.Transmit.{Posted, after_targets, fill, found, outcome_of, posted, read_targets, rx_answer, rx_notice, rx_respond, targeted, transmit}
 use Rattle.xen_rx_fill.specs.declared.by_event.phase.Outcome.{Outcome}
 use Rattle.xen_rx_fill.specs.declared.by_event.phase.Outcome.TheVariants as outcome
+use Rattle.xen_rx_fill.specs.declared.target.Grants.{Grants}
+use Rattle.xen_rx_fill.specs.declared.target.Grants.TheVariants.{Passed, Refused}
 use Rattle.xen_rx_fill.specs.declared.target.Target.{Target}
 use Rattle.xen_rx_fill.specs.declared.vif.Vif.{Vif}
 
 module _ (w : Vif) where
-  pub ends_entry : (write : Bool) (o : Option Place) → Ends Any (entry_at w write o)
-  ends_entry write None = tt
-  ends_entry write (Some at) = (tt, λ a e o. (tt, λ b x p. tt))
+  pub ends_entry : (rights : Rights) (o : Option Place) → Ends Any (entry_at w rights o)
+  ends_entry rights None = tt
+  ends_entry rights (Some at) = (tt, λ a e o. (tt, λ b x p. tt))
 
   ends_posted : (i : ℕ) (rest : ℕ → Result ℕ GrantFault → Steps Posted) → ((id : ℕ) (r : Result ℕ GrantFault) → Ends Any (rest id r)) → Ends Any (posted w i rest)
   ends_posted i rest g = (
@@ -30,7 +34,7 @@ module _ (w : Vif) where
     λ a x o. (
       tt,
       λ b y p. let k = rx_req_of (a ∷ b ∷ []) in
-          ends_bind Any Any (entry w true k.gref) (rest k.id) (ends_entry true (entry_place w.table.now k.gref)) (λ r u. g k.id r),
+          ends_bind Any Any (entry w ReadWrite k.gref) (rest k.id) (ends_entry ReadWrite (entry_place w.table.now k.gref)) (λ r u. g k.id r),
     ),
   )
 
@@ -51,14 +55,14 @@ module _ (w : Vif) where
   ends_rx_notice false o = tt
   ends_rx_notice true o = (tt, λ a e p. tt)
 
-  ends_rx_answer : (x : ℕ) (packet : List ℕ) (passed : Bool) (n i : ℕ) (ts : List Target) → Ends Any (rx_answer w x packet passed n i ts)
-  ends_rx_answer x packet passed n i [] = (tt, λ a e o. (tt, λ v y p. ends_rx_notice (is_due x (add32 x n) v) (outcome_of passed n)))
-  ends_rx_answer x packet passed n i (t ∷ ts) = (tt, λ a e o. (tt, λ b y p. ends_rx_answer x packet passed n (i + 1) ts))
+  ends_rx_answer : (x : ℕ) (packet : List ℕ) (grants : Grants) (n i : ℕ) (ts : List Target) → Ends Any (rx_answer w x packet grants n i ts)
+  ends_rx_answer x packet grants n i [] = (tt, λ a e o. (tt, λ v y p. ends_rx_notice (is_due x (add32 x n) v) (outcome_of grants n)))
+  ends_rx_answer x packet grants n i (t ∷ ts) = (tt, λ a e o. (tt, λ b y p. ends_rx_answer x packet grants n (i + 1) ts))
 
   ends_after_targets : (x : ℕ) (packet : List ℕ) (p : Posted) → Ends Any (after_targets w x packet p)
   ends_after_targets x packet (Ok ts) =
-      ends_bind Any Any (fill ts packet (words packet - 0) 0) (λ v. rx_respond w x packet true ts) (ends_fill ts packet (words packet - 0) 0) (λ v u. ends_rx_answer x packet true (length ts) 0 ts)
-  ends_after_targets x packet (Err ts) = ends_rx_answer x packet false (length ts) 0 ts
+      ends_bind Any Any (fill ts packet (words packet - 0) 0) (λ v. rx_respond w x packet Passed ts) (ends_fill ts packet (words packet - 0) 0) (λ v u. ends_rx_answer x packet Passed (length ts) 0 ts)
+  ends_after_targets x packet (Err ts) = ends_rx_answer x packet Refused (length ts) 0 ts
 
   ends_found : (x : ℕ) (packet : List ℕ) (o : Option ℕ) → Ends Any (found w x packet o)
   ends_found x packet None = tt

@@ -13,6 +13,8 @@ use Rattle.xen_page.specs.declared.access.Access.{Access}
 use Rattle.xen_page.specs.declared.access.Access.TheVariants as access
 use Rattle.xen_page.specs.declared.fault.GrantFault.{GrantFault}
 use Rattle.xen_page.specs.declared.place.Place.{Place}
+use Rattle.xen_page.specs.declared.entry.Rights.{Rights}
+use Rattle.xen_page.specs.declared.entry.Rights.TheVariants.{ReadWrite}
 use Rattle.xen_page.proofs.AccessLemmas.{performs_none, performs_then}
 use Rattle.xen_ring.specs.Index.{is_due}
 use Rattle.xen_steps.specs.Drive.{Driven, Goes, LedBy, accesses}
@@ -29,6 +31,8 @@ use Rattle.xen_rx_fill.specs.Shared.{IsEntry, inside, outside}
 use Rattle.xen_rx_fill.specs.Transmit.{Posted, after_targets, fill, found, outcome_of, posted, read_targets, rx_answer, rx_notice, rx_publish, rx_respond, targeted, transmit}
 use Rattle.xen_rx_fill.specs.declared.by_event.phase.Outcome.{Outcome}
 use Rattle.xen_rx_fill.specs.declared.by_event.phase.Outcome.TheVariants as outcome
+use Rattle.xen_rx_fill.specs.declared.target.Grants.{Grants}
+use Rattle.xen_rx_fill.specs.declared.target.Grants.TheVariants.{Passed}
 use Rattle.xen_rx_fill.specs.declared.target.Target.{Target}
 use Rattle.xen_rx_fill.specs.declared.vif.Vif.{Vif}
 use Rattle.xen_rx_fill.proofs.SendLemmas.{rx_answer_at}
@@ -63,41 +67,41 @@ pub found_enough : (w : Vif) (x : ℕ) (packet : List ℕ) (m : ℕ) → pages p
 found_enough w x packet m h = ap (λ b. if b then done outcome.TooFew else bind (read_targets w x (pages packet) []) (after_targets w x packet)) (le-ltb m (pages packet) h)
 
 -- The responses are pushed, and the event index is read.
-pub push_driven : {S : Type 0} (log : S → Option (List Access)) (gives : S → Access → S → Type 0) (w : Vif) (x n event : ℕ) (passed due : Bool) (bus new : S) → event < 2 ^ 32 →
+pub push_driven : {S : Type 0} (log : S → Option (List Access)) (gives : S → Access → S → Type 0) (w : Vif) (x n event : ℕ) (grants : Grants) (due : Bool) (bus new : S) → event < 2 ^ 32 →
     is_due x (add32 x n) event ≡ due → Performs log gives bus (access.Write (rx_word w 2) (add32 x n) ∷ access.Read (rx_word w 3) event ∷ []) new →
-    (t : List Event) × Driven log gives (rx_publish w x passed n) (done (outcome_of passed n)) bus new t
-push_driven log gives w x n event passed due bus new l e q = by due e
+    (t : List Event) × Driven log gives (rx_publish w x grants n) (done (outcome_of grants n)) bus new t
+push_driven log gives w x n event grants due bus new l e q = by due e
   where
     end : Steps Outcome
-    end = done (outcome_of passed n)
+    end = done (outcome_of grants n)
 
-    read : (b : Bool) → is_due x (add32 x n) event ≡ b → Driven log gives (rx_publish w x passed n) (rx_notice w b (outcome_of passed n)) bus new (Write (rx_word w 2) (add32 x n) ∷ Read (rx_word w 3) event ∷ [])
-    read b h = record { gone = (_, (0, (refl, refl), refl), (_, (event, (l, refl), refl), ap (λ d. rx_notice w d (outcome_of passed n)) h)); performed = q }
+    read : (b : Bool) → is_due x (add32 x n) event ≡ b → Driven log gives (rx_publish w x grants n) (rx_notice w b (outcome_of grants n)) bus new (Write (rx_word w 2) (add32 x n) ∷ Read (rx_word w 3) event ∷ [])
+    read b h = record { gone = (_, (0, (refl, refl), refl), (_, (event, (l, refl), refl), ap (λ d. rx_notice w d (outcome_of grants n)) h)); performed = q }
 
-    by : (b : Bool) → is_due x (add32 x n) event ≡ b → (t : List Event) × Driven log gives (rx_publish w x passed n) end bus new t
+    by : (b : Bool) → is_due x (add32 x n) event ≡ b → (t : List Event) × Driven log gives (rx_publish w x grants n) end bus new t
     by false h = (_, read false h)
     by true h = (
       (Write (rx_word w 2) (add32 x n) ∷ Read (rx_word w 3) event ∷ []) ++ Notify w.port ∷ [],
-      driven_append log gives (rx_publish w x passed n) (rx_notice w true (outcome_of passed n)) end bus new new (Write (rx_word w 2) (add32 x n) ∷ Read (rx_word w 3) event ∷ []) (Notify w.port ∷ [])
+      driven_append log gives (rx_publish w x grants n) (rx_notice w true (outcome_of grants n)) end bus new new (Write (rx_word w 2) (add32 x n) ∷ Read (rx_word w 3) event ∷ []) (Notify w.port ∷ [])
           (read true h) (record { gone = (_, (0, (refl, refl), refl), refl); performed = performs_none log gives new }),
     )
 
 -- An entry is read.
-pub gone_entry : {A : Type 0} (w : Vif) (write : Bool) (gref : ℕ) (p : List Event) (r : Result ℕ GrantFault) → IsEntry w write gref p r → (rest : Result ℕ GrantFault → Steps A) → LedBy (bind (entry w write gref) rest) p (rest r)
-gone_entry w write gref _ _ (outside e) rest = ap (λ (o : Option Place). bind (entry_at w write o) rest) e
-gone_entry w write gref _ _ (inside at a b e la lb) rest =
-    let r = checked w.owners.now w.granter w.user (entry_of a b) write in
-    subst (λ (o : Option Place). LedBy (bind (entry_at w write o) rest) (Read at a ∷ Read (frame_place at) b ∷ []) (rest r)) (sym e) (_, (a, (la, refl), refl), (_, (b, (lb, refl), refl), refl))
+pub gone_entry : {A : Type 0} (w : Vif) (rights : Rights) (gref : ℕ) (p : List Event) (r : Result ℕ GrantFault) → IsEntry w rights gref p r → (rest : Result ℕ GrantFault → Steps A) → LedBy (bind (entry w rights gref) rest) p (rest r)
+gone_entry w rights gref _ _ (outside e) rest = ap (λ (o : Option Place). bind (entry_at w rights o) rest) e
+gone_entry w rights gref _ _ (inside at a b e la lb) rest =
+    let r = checked w.owners.now w.granter w.user (entry_of a b) rights in
+    subst (λ (o : Option Place). LedBy (bind (entry_at w rights o) rest) (Read at a ∷ Read (frame_place at) b ∷ []) (rest r)) (sym e) (_, (a, (la, refl), refl), (_, (b, (lb, refl), refl), refl))
 
 -- A posted slot is read, with its grant's entry.
 pub slot_driven : {S : Type 0} (log : S → Option (List Access)) (gives : S → Access → S → Type 0) (w : Vif) (i a g : ℕ) (p : List Event) (r : Result ℕ GrantFault) (rest : ℕ → Result ℕ GrantFault → Steps Posted) (bus mid new : S) →
     a < 2 ^ 32 → g < 2 ^ 32 → Performs log gives bus (access.Read (rx_slot w i 0) a ∷ access.Read (rx_slot w i 1) g ∷ []) mid →
-    IsEntry w true (rx_req_of (a ∷ g ∷ [])).gref p r → Performs log gives mid (accesses p) new →
+    IsEntry w ReadWrite (rx_req_of (a ∷ g ∷ [])).gref p r → Performs log gives mid (accesses p) new →
     Driven log gives (posted w i rest) (rest (rx_req_of (a ∷ g ∷ [])).id r) bus new (Read (rx_slot w i 0) a ∷ Read (rx_slot w i 1) g ∷ p)
 slot_driven log gives w i a g p r rest bus mid new la lg q e h =
     let k = rx_req_of (a ∷ g ∷ []) in
     record {
-      gone = (_, (a, (la, refl), refl), (_, (g, (lg, refl), refl), gone_entry w true k.gref p r e (rest k.id)));
+      gone = (_, (a, (la, refl), refl), (_, (g, (lg, refl), refl), gone_entry w ReadWrite k.gref p r e (rest k.id)));
       performed = performs_then log gives bus mid new (access.Read (rx_slot w i 0) a ∷ access.Read (rx_slot w i 1) g ∷ []) (accesses p) q h;
     }
 
@@ -115,7 +119,7 @@ targeted_none ts new go id (Err fault) o e h n = ap (λ (x : Option ℕ). done (
 -- A slot of those that are to be read is read.
 pub targets_on : {S : Type 0} (log : S → Option (List Access)) (gives : S → Access → S → Type 0) (w : Vif) (x n i a g : ℕ) (ts : List Target) (p : List Event) (r : Result ℕ GrantFault) (start : Steps Posted) (old bus mid new : S) (t : List Event) →
     Driven log gives start (read_targets w x (n - i) ts) old bus t → i < n → length ts ≡ i → a < 2 ^ 32 → g < 2 ^ 32 →
-    Performs log gives bus (access.Read (rx_slot w (add32 x i) 0) a ∷ access.Read (rx_slot w (add32 x i) 1) g ∷ []) mid → IsEntry w true (rx_req_of (a ∷ g ∷ [])).gref p r → Performs log gives mid (accesses p) new →
+    Performs log gives bus (access.Read (rx_slot w (add32 x i) 0) a ∷ access.Read (rx_slot w (add32 x i) 1) g ∷ []) mid → IsEntry w ReadWrite (rx_req_of (a ∷ g ∷ [])).gref p r → Performs log gives mid (accesses p) new →
     (u : List Event) × Driven log gives start (targeted ts (read_targets w x (n - (i + 1))) (rx_req_of (a ∷ g ∷ [])).id r) old new u
 targets_on log gives w x n i a g ts p r start old bus mid new t d h l la lg q e f =
     let go = read_targets w x (n - (i + 1)) in
@@ -166,22 +170,22 @@ less_none n = omega arith
 
 -- after the slots, those that follow the words
 pub filled_driven : {S : Type 0} (log : S → Option (List Access)) (gives : S → Access → S → Type 0) (w : Vif) (x : ℕ) (packet : List ℕ) (ts : List Target) (bus new : S) (t : List Event) →
-    Driven log gives (fill ts packet (words packet) 0) (done tt) bus new t → Driven log gives (after_targets w x packet (Ok ts)) (rx_respond w x packet true ts) bus new t
+    Driven log gives (fill ts packet (words packet) 0) (done tt) bus new t → Driven log gives (after_targets w x packet (Ok ts)) (rx_respond w x packet Passed ts) bus new t
 filled_driven log gives w x packet ts bus new t d =
-    let rest : Unit {0} → Steps Outcome = λ _. rx_respond w x packet true ts in
-    subst (λ n. Driven log gives (bind (fill ts packet n 0) rest) (rx_respond w x packet true ts) bus new t) (sym (less_none (words packet))) (driven_bind log gives (fill ts packet (words packet) 0) (done tt) rest bus new t d)
+    let rest : Unit {0} → Steps Outcome = λ _. rx_respond w x packet Passed ts in
+    subst (λ n. Driven log gives (bind (fill ts packet n 0) rest) (rx_respond w x packet Passed ts) bus new t) (sym (less_none (words packet))) (driven_bind log gives (fill ts packet (words packet) 0) (done tt) rest bus new t d)
 
 pub fill_finishes : (w : Vif) (x : ℕ) (packet : List ℕ) (ts : List Target) (within : Want → Type 0) → Finishes within (after_targets w x packet (Ok ts)) → Finishes within (fill ts packet (words packet) 0)
 fill_finishes w x packet ts within h =
-    subst (λ n. Finishes within (fill ts packet n 0)) (less_none (words packet)) (finishes_first within (fill ts packet (words packet - 0) 0) (λ _. rx_respond w x packet true ts) h)
+    subst (λ n. Finishes within (fill ts packet n 0)) (less_none (words packet)) (finishes_first within (fill ts packet (words packet - 0) 0) (λ _. rx_respond w x packet Passed ts) h)
 
 -- One response is written.
-pub response_driven : {S : Type 0} (log : S → Option (List Access)) (gives : S → Access → S → Type 0) (w : Vif) (x : ℕ) (packet : List ℕ) (passed : Bool) (i : ℕ) (ts : List Target) (bus new : S) → i < length ts →
+pub response_driven : {S : Type 0} (log : S → Option (List Access)) (gives : S → Access → S → Type 0) (w : Vif) (x : ℕ) (packet : List ℕ) (grants : Grants) (i : ℕ) (ts : List Target) (bus new : S) → i < length ts →
     Performs log gives bus
-    (access.Write (rx_slot w (add32 x i) 0) (response_word passed packet (length ts) i (target_at ts i).id 0) ∷ access.Write (rx_slot w (add32 x i) 1) (response_word passed packet (length ts) i (target_at ts i).id 1) ∷ []) new →
-    (t : List Event) × Driven log gives (rx_answer w x packet passed (length ts) i (drop i ts)) (rx_answer w x packet passed (length ts) (i + 1) (drop (i + 1) ts)) bus new t
-response_driven log gives w x packet passed i ts bus new h q =
-    let end = rx_answer w x packet passed (length ts) (i + 1) (drop (i + 1) ts) in
+    (access.Write (rx_slot w (add32 x i) 0) (response_word grants packet (length ts) i (target_at ts i).id 0) ∷ access.Write (rx_slot w (add32 x i) 1) (response_word grants packet (length ts) i (target_at ts i).id 1) ∷ []) new →
+    (t : List Event) × Driven log gives (rx_answer w x packet grants (length ts) i (drop i ts)) (rx_answer w x packet grants (length ts) (i + 1) (drop (i + 1) ts)) bus new t
+response_driven log gives w x packet grants i ts bus new h q =
+    let end = rx_answer w x packet grants (length ts) (i + 1) (drop (i + 1) ts) in
     let t : List Event =
-    Write (rx_slot w (add32 x i) 0) (response_word passed packet (length ts) i (target_at ts i).id 0) ∷ Write (rx_slot w (add32 x i) 1) (response_word passed packet (length ts) i (target_at ts i).id 1) ∷ [] in
-    (t, subst (λ (s : Steps Outcome). Driven log gives s end bus new t) (sym (rx_answer_at w x packet passed (length ts) i ts h)) (record { gone = (_, (0, (refl, refl), refl), (_, (0, (refl, refl), refl), refl)); performed = q }))
+    Write (rx_slot w (add32 x i) 0) (response_word grants packet (length ts) i (target_at ts i).id 0) ∷ Write (rx_slot w (add32 x i) 1) (response_word grants packet (length ts) i (target_at ts i).id 1) ∷ [] in
+    (t, subst (λ (s : Steps Outcome). Driven log gives s end bus new t) (sym (rx_answer_at w x packet grants (length ts) i ts h)) (record { gone = (_, (0, (refl, refl), refl), (_, (0, (refl, refl), refl), refl)); performed = q }))

@@ -2,6 +2,8 @@
 use Rattle.std.proofs.Common.{◌≡◌, ℕ, zero, suc, ◌+◌, ◌*◌, ◌/◌, ◌%◌, ◌<◌, Bool, true, false, List, [], ◌∷◌, ◌++◌, Result, Ok, Err, refl, sym, ap, length, arith, subst, inr}
 use Rattle.xen_page.specs.Mapping.{frame_place}
 use Rattle.xen_page.specs.declared.fault.GrantFault.{GrantFault}
+use Rattle.xen_page.specs.declared.entry.Rights.{Rights}
+use Rattle.xen_page.specs.declared.entry.Rights.TheVariants.{ReadOnly, ReadWrite}
 use Rattle.xen_ring.specs.Index.{is_due}
 use Rattle.xen_steps.specs.Event.{Event, Read, Write}
 use Rattle.xen_steps.specs.Places.{add32}
@@ -11,6 +13,8 @@ use Rattle.xen_rx_fill.specs.Sending.{IsPosted, is_posted, AreTargets, all, refu
 use Rattle.xen_rx_fill.specs.Shared.{IsEntry, outside, inside, notices}
 use Rattle.xen_rx_fill.specs.Touched.{AreNext, here, later, IsGranted, IsAllowed, ring, entry_flags, entry_frame, source, tx_response, rx_response, pushed, announced, buffer, notified, instruction, loaded, added, AllAllowed}
 use Rattle.xen_rx_fill.specs.declared.by_event.phase.Outcome.{Outcome}
+use Rattle.xen_rx_fill.specs.declared.target.Grants.{Grants}
+use Rattle.xen_rx_fill.specs.declared.target.Grants.TheVariants.{Passed, Refused}
 use Rattle.xen_rx_fill.specs.declared.target.Target.{Target}
 use Rattle.xen_rx_fill.specs.declared.vif.Vif.{Vif}
 
@@ -32,20 +36,20 @@ in_back e f (x ∷ p) q h = later x (p ++ q) (in_back e f p q h)
 pub back : (p q : List Event) → Has q (p ++ q)
 back p q e f h = in_back e f p q h
 
-pub granted_on : (w : Vif) (write : Bool) (p t : List Event) (frame : ℕ) → Has p t → IsGranted w write p frame → IsGranted w write t frame
-granted_on w write p t frame h g =
+pub granted_on : (w : Vif) (rights : Rights) (p t : List Event) (frame : ℕ) → Has p t → IsGranted w rights p frame → IsGranted w rights t frame
+granted_on w rights p t frame h g =
     record { gref = g.gref; at = g.at; a = g.a; b = g.b; place = g.place; read = h (Read g.at g.a) (Read (frame_place g.at) g.b) g.read; grants = g.grants }
 
 allowed_on : (w : Vif) (p t : List Event) (e : Event) → Has p t → IsAllowed w p e → IsAllowed w t e
 allowed_on w p t _ h (ring frame k v r l) = ring frame k v r l
 allowed_on w p t _ h (entry_flags gref v at e) = entry_flags gref v at e
 allowed_on w p t _ h (entry_frame gref v at e) = entry_frame gref v at e
-allowed_on w p t _ h (source frame k v l g) = source frame k v l (granted_on w false p t frame h g)
+allowed_on w p t _ h (source frame k v l g) = source frame k v l (granted_on w ReadOnly p t frame h g)
 allowed_on w p t _ h (tx_response i v) = tx_response i v
 allowed_on w p t _ h (rx_response i j v l) = rx_response i j v l
 allowed_on w p t _ h (pushed frame v r) = pushed frame v r
 allowed_on w p t _ h (announced v) = announced v
-allowed_on w p t _ h (buffer frame k v l g) = buffer frame k v l (granted_on w true p t frame h g)
+allowed_on w p t _ h (buffer frame k v l g) = buffer frame k v l (granted_on w ReadWrite p t frame h g)
 allowed_on w p t _ h notified = notified
 allowed_on w p t _ h instruction = instruction
 allowed_on w p t _ h (loaded m k j v) = loaded m k j v
@@ -68,56 +72,56 @@ of_notices w t false = tt
 of_notices w t true = (notified, tt)
 
 -- entries and what they grant
-pub of_entry : (w : Vif) (t : List Event) (write : Bool) (gref : ℕ) (p : List Event) (r : Result ℕ GrantFault) → IsEntry w write gref p r → AllAllowed w t p
-of_entry w t write gref _ _ (outside e) = tt
-of_entry w t write gref _ _ (inside at a b e la lb) = (entry_flags gref a at e, (entry_frame gref b at e, tt))
+pub of_entry : (w : Vif) (t : List Event) (rights : Rights) (gref : ℕ) (p : List Event) (r : Result ℕ GrantFault) → IsEntry w rights gref p r → AllAllowed w t p
+of_entry w t rights gref _ _ (outside e) = tt
+of_entry w t rights gref _ _ (inside at a b e la lb) = (entry_flags gref a at e, (entry_frame gref b at e, tt))
 
-pub grants_by : (w : Vif) (write : Bool) (gref : ℕ) (p : List Event) (r : Result ℕ GrantFault) (frame : ℕ) → IsEntry w write gref p r → r ≡ Ok frame → IsGranted w write p frame
-grants_by w write gref _ _ frame (outside e) h = cc
-grants_by w write gref _ _ frame (inside at a b e la lb) h =
+pub grants_by : (w : Vif) (rights : Rights) (gref : ℕ) (p : List Event) (r : Result ℕ GrantFault) (frame : ℕ) → IsEntry w rights gref p r → r ≡ Ok frame → IsGranted w rights p frame
+grants_by w rights gref _ _ frame (outside e) h = cc
+grants_by w rights gref _ _ frame (inside at a b e la lb) h =
     record { gref = gref; at = at; a = a; b = b; place = e; read = here []; grants = h }
 
 -- the transmit
 of_posted : (w : Vif) (t : List Event) (i : ℕ) (p : List Event) (id : ℕ) (r : Result ℕ GrantFault) → IsPosted w i p id r → AllAllowed w t p
 of_posted w t i _ _ _ (is_posted a g p r la lg e) =
-    (ring w.rx (16 + 2 * (i % 256) + 0) a (inr refl) (omega arith), (ring w.rx (16 + 2 * (i % 256) + 1) g (inr refl) (omega arith), of_entry w t true g p r e))
+    (ring w.rx (16 + 2 * (i % 256) + 0) a (inr refl) (omega arith), (ring w.rx (16 + 2 * (i % 256) + 1) g (inr refl) (omega arith), of_entry w t ReadWrite g p r e))
 
-posted_grants : (w : Vif) (i : ℕ) (p : List Event) (id : ℕ) (r : Result ℕ GrantFault) (frame : ℕ) → IsPosted w i p id r → r ≡ Ok frame → IsGranted w true p frame
+posted_grants : (w : Vif) (i : ℕ) (p : List Event) (id : ℕ) (r : Result ℕ GrantFault) (frame : ℕ) → IsPosted w i p id r → r ≡ Ok frame → IsGranted w ReadWrite p frame
 posted_grants w i _ _ _ frame (is_posted a g p r la lg e) h =
-    granted_on w true p (Read (rx_slot w i 0) a ∷ Read (rx_slot w i 1) g ∷ p) frame (back (Read (rx_slot w i 0) a ∷ Read (rx_slot w i 1) g ∷ []) p) (grants_by w true g p r frame e h)
+    granted_on w ReadWrite p (Read (rx_slot w i 0) a ∷ Read (rx_slot w i 1) g ∷ p) frame (back (Read (rx_slot w i 0) a ∷ Read (rx_slot w i 1) g ∷ []) p) (grants_by w ReadWrite g p r frame e h)
 
-of_targets : (w : Vif) (t : List Event) (x i left : ℕ) (p : List Event) (ok : Bool) (ts : List Target) → AreTargets w x i left p ok ts → AllAllowed w t p
+of_targets : (w : Vif) (t : List Event) (x i left : ℕ) (p : List Event) (grants : Grants) (ts : List Target) → AreTargets w x i left p grants ts → AllAllowed w t p
 of_targets w t x _ _ _ _ _ (all i) = tt
 of_targets w t x _ _ _ _ _ (refusing i left id p fault o) = of_posted w t (add32 x i) p id (Err fault) o
-of_targets w t x _ _ _ _ _ (passing i left id frame p q ok ts o a) = append w t p q (of_posted w t (add32 x i) p id (Ok frame) o) (of_targets w t x (i + 1) left q ok ts a)
+of_targets w t x _ _ _ _ _ (passing i left id frame p q grants ts o a) = append w t p q (of_posted w t (add32 x i) p id (Ok frame) o) (of_targets w t x (i + 1) left q grants ts a)
 
-targets_grant : (w : Vif) (x i left : ℕ) (p : List Event) (ok : Bool) (ts : List Target) → AreTargets w x i left p ok ts → ok ≡ true → (j : ℕ) → j < length ts → IsGranted w true p (frame_in (target_at ts j).frame)
+targets_grant : (w : Vif) (x i left : ℕ) (p : List Event) (grants : Grants) (ts : List Target) → AreTargets w x i left p grants ts → grants ≡ Passed → (j : ℕ) → j < length ts → IsGranted w ReadWrite p (frame_in (target_at ts j).frame)
 targets_grant w x _ _ _ _ _ (all i) e j l = absurd (omega arith)
 targets_grant w x _ _ _ _ _ (refusing i left id p fault o) e j l = cc
-targets_grant w x _ _ _ _ _ (passing i left id frame p q ok ts o a) e zero l = granted_on w true p (p ++ q) frame (front p q) (posted_grants w (add32 x i) p id (Ok frame) frame o refl)
-targets_grant w x _ _ _ _ _ (passing i left id frame p q ok ts o a) e (suc j) l =
-    granted_on w true q (p ++ q) (frame_in (target_at ts j).frame) (back p q) (targets_grant w x (i + 1) left q ok ts a e j (omega arith))
+targets_grant w x _ _ _ _ _ (passing i left id frame p q grants ts o a) e zero l = granted_on w ReadWrite p (p ++ q) frame (front p q) (posted_grants w (add32 x i) p id (Ok frame) frame o refl)
+targets_grant w x _ _ _ _ _ (passing i left id frame p q grants ts o a) e (suc j) l =
+    granted_on w ReadWrite q (p ++ q) (frame_in (target_at ts j).frame) (back p q) (targets_grant w x (i + 1) left q grants ts a e j (omega arith))
 
-targets_count : (w : Vif) (x i left : ℕ) (p : List Event) (ok : Bool) (ts : List Target) → AreTargets w x i left p ok ts → ok ≡ true → length ts ≡ left
+targets_count : (w : Vif) (x i left : ℕ) (p : List Event) (grants : Grants) (ts : List Target) → AreTargets w x i left p grants ts → grants ≡ Passed → length ts ≡ left
 targets_count w x _ _ _ _ _ (all i) e = refl
 targets_count w x _ _ _ _ _ (refusing i left id p fault o) e = cc
-targets_count w x _ _ _ _ _ (passing i left id frame p q ok ts o a) e = ap suc (targets_count w x (i + 1) left q ok ts a e)
+targets_count w x _ _ _ _ _ (passing i left id frame p q grants ts o a) e = ap suc (targets_count w x (i + 1) left q grants ts a e)
 
-of_fill : (w : Vif) (t : List Event) (ts : List Target) (packet : List ℕ) (n k : ℕ) → ((j : ℕ) → j < k + n → IsGranted w true t (frame_in (target_at ts (j / 1024)).frame)) → AllAllowed w t (buffer_writes ts packet n k)
+of_fill : (w : Vif) (t : List Event) (ts : List Target) (packet : List ℕ) (n k : ℕ) → ((j : ℕ) → j < k + n → IsGranted w ReadWrite t (frame_in (target_at ts (j / 1024)).frame)) → AllAllowed w t (buffer_writes ts packet n k)
 of_fill w t ts packet zero k h = tt
 of_fill w t ts packet (suc n) k h =
     (buffer (frame_in (target_at ts (k / 1024)).frame) (k % 1024) (word_of packet k) (omega arith) (h k (omega arith)), of_fill w t ts packet n (k + 1) (λ j l. h j (omega arith)))
 
-of_rx_writes : (w : Vif) (t : List Event) (x : ℕ) (packet : List ℕ) (passed : Bool) (n i : ℕ) (ts : List Target) → AllAllowed w t (rx_writes w x packet passed n i ts)
-of_rx_writes w t x packet passed n i [] = tt
-of_rx_writes w t x packet passed n i (s ∷ ts) =
-    (rx_response (add32 x i) 0 (response_word passed packet n i s.id 0) (omega arith), (rx_response (add32 x i) 1 (response_word passed packet n i s.id 1) (omega arith), of_rx_writes w t x packet passed n (i + 1) ts))
+of_rx_writes : (w : Vif) (t : List Event) (x : ℕ) (packet : List ℕ) (grants : Grants) (n i : ℕ) (ts : List Target) → AllAllowed w t (rx_writes w x packet grants n i ts)
+of_rx_writes w t x packet grants n i [] = tt
+of_rx_writes w t x packet grants n i (s ∷ ts) =
+    (rx_response (add32 x i) 0 (response_word grants packet n i s.id 0) (omega arith), (rx_response (add32 x i) 1 (response_word grants packet n i s.id 1) (omega arith), of_rx_writes w t x packet grants n (i + 1) ts))
 
-of_rx_respond : (w : Vif) (t : List Event) (x : ℕ) (packet : List ℕ) (passed : Bool) (ts : List Target) (p : List Event) → IsRxRespond w x packet passed ts p → AllAllowed w t p
-of_rx_respond w t x packet passed ts p h =
+of_rx_respond : (w : Vif) (t : List Event) (x : ℕ) (packet : List ℕ) (grants : Grants) (ts : List Target) (p : List Event) → IsRxRespond w x packet grants ts p → AllAllowed w t p
+of_rx_respond w t x packet grants ts p h =
     let q : List Event = Write (rx_word w 2) (add32 x (length ts)) ∷ Read (rx_word w 3) h.0 ∷ notices w (is_due x (add32 x (length ts)) h.0) in
     subst (λ l. AllAllowed w t l) (sym h.2)
-    (append w t (rx_writes w x packet passed (length ts) 0 ts) q (of_rx_writes w t x packet passed (length ts) 0 ts)
+    (append w t (rx_writes w x packet grants (length ts) 0 ts) q (of_rx_writes w t x packet grants (length ts) 0 ts)
     (pushed w.rx (add32 x (length ts)) (inr refl), (ring w.rx 3 h.0 (inr refl) (omega arith), of_notices w t (is_due x (add32 x (length ts)) h.0))))
 
 page_of : (len k : ℕ) → k < (len + 3) / 4 → k / 1024 < (len + 4095) / 4096
@@ -128,17 +132,17 @@ of_transmit w x packet _ _ (rx_overflow p l e) = (ring w.rx 0 p (inr refl) (omeg
 of_transmit w x packet _ _ (too_few p m l e h) = (ring w.rx 0 p (inr refl) (omega arith), tt)
 of_transmit w x packet _ _ (refused p m p1 p2 ts l e le a r) =
     let t : List Event = Read (rx_word w 0) p ∷ (p1 ++ p2) in
-    (ring w.rx 0 p (inr refl) (omega arith), append w t p1 p2 (of_targets w t x 0 (pages packet) p1 false ts a) (of_rx_respond w t x packet false ts p2 r))
+    (ring w.rx 0 p (inr refl) (omega arith), append w t p1 p2 (of_targets w t x 0 (pages packet) p1 Refused ts a) (of_rx_respond w t x packet Refused ts p2 r))
 of_transmit w x packet _ _ (sent p m p1 p2 ts l e le a r) =
     let fills = buffer_writes ts packet (words packet) 0 in
     let q : List Event = fills ++ p2 in
     let t : List Event = Read (rx_word w 0) p ∷ (p1 ++ q) in
-    let n : length ts ≡ pages packet = targets_count w x 0 (pages packet) p1 true ts a refl in
+    let n : length ts ≡ pages packet = targets_count w x 0 (pages packet) p1 Passed ts a refl in
     let on : Has p1 t = λ e f i. later (Read (rx_word w 0) p) (p1 ++ q) (front p1 q e f i) in (
       ring w.rx 0 p (inr refl) (omega arith),
-      append w t p1 q (of_targets w t x 0 (pages packet) p1 true ts a)
+      append w t p1 q (of_targets w t x 0 (pages packet) p1 Passed ts a)
           (append w t fills p2
-          (of_fill w t ts packet (words packet) 0 (λ j k. granted_on w true p1 t (frame_in (target_at ts (j / 1024)).frame) on
-          (targets_grant w x 0 (pages packet) p1 true ts a refl (j / 1024) (rw n (page_of (length packet) j (omega arith))))))
-          (of_rx_respond w t x packet true ts p2 r)),
+          (of_fill w t ts packet (words packet) 0 (λ j k. granted_on w ReadWrite p1 t (frame_in (target_at ts (j / 1024)).frame) on
+          (targets_grant w x 0 (pages packet) p1 Passed ts a refl (j / 1024) (rw n (page_of (length packet) j (omega arith))))))
+          (of_rx_respond w t x packet Passed ts p2 r)),
     )

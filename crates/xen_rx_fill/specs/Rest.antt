@@ -15,6 +15,7 @@ use Rattle.xen_rx_fill.specs.declared.by_event.phase.Phase.{Phase}
 use Rattle.xen_rx_fill.specs.declared.by_event.phase.Phase.TheVariants as phase
 use Rattle.xen_steps.specs.declared.want.Want.TheVariants as want
 use Rattle.xen_rx_fill.specs.declared.vif.Vif.{Vif}
+use Rattle.xen_page.specs.declared.entry.Rights.TheVariants.{ReadWrite}
 
 abbrev pub rest_of : Vif → ℕ → List ℕ → Phase → Steps Outcome
 rest_of w x packet phase.Look = transmit w x packet
@@ -23,16 +24,16 @@ rest_of w x packet (phase.First r) =
 rest_of w x packet (phase.Second r a) =
     bind (posted_second w (add32 x (length r.targets)) (targeted r.targets (read_targets w x r.left)) a) (after_targets w x packet)
 rest_of w x packet (phase.EntryFlags g) =
-    bind (bind (entry_at w true (Some g.at)) (targeted g.targets (read_targets w x g.left) g.id)) (after_targets w x packet)
+    bind (bind (entry_at w ReadWrite (Some g.at)) (targeted g.targets (read_targets w x g.left) g.id)) (after_targets w x packet)
 rest_of w x packet (phase.EntryFrame g a) =
-    bind (bind (entry_checked w true g.at a) (targeted g.targets (read_targets w x g.left) g.id)) (after_targets w x packet)
+    bind (bind (entry_checked w ReadWrite g.at a) (targeted g.targets (read_targets w x g.left) g.id)) (after_targets w x packet)
 rest_of w x packet (phase.Filling targets k) = fill_from w x packet targets k
-rest_of w x packet (phase.Response passed targets i) = rx_answer w x packet passed (length targets) i (drop i targets)
+rest_of w x packet (phase.Response grants targets i) = rx_answer w x packet grants (length targets) i (drop i targets)
 rest_of w x packet (phase.HalfResponse h) =
-    ask (want.Write (rx_slot w (add32 x h.i) 1) (response_word h.passed packet (length h.targets) h.i (target_at h.targets h.i).id 1))
-    (λ _. rx_answer w x packet h.passed (length h.targets) (h.i + 1) (drop (h.i + 1) h.targets))
-rest_of w x packet (phase.ReadEvent passed n) = rx_event w x passed n
-rest_of w x packet (phase.Notice passed n) = rx_notice w true (outcome_of passed n)
+    ask (want.Write (rx_slot w (add32 x h.i) 1) (response_word h.grants packet (length h.targets) h.i (target_at h.targets h.i).id 1))
+    (λ _. rx_answer w x packet h.grants (length h.targets) (h.i + 1) (drop (h.i + 1) h.targets))
+rest_of w x packet (phase.ReadEvent grants n) = rx_event w x grants n
+rest_of w x packet (phase.Notice grants n) = rx_notice w true (outcome_of grants n)
 rest_of w x packet (phase.Over o) = done o
 
 -- what is left after one of its events

@@ -1,9 +1,10 @@
 -- Stated: claims rest on this file.
 -- The transmit's part of a turn's trace: the packet goes into the buffers of posted rx slots.
-use Rattle.std.specs.Prelude.{ℕ, zero, suc, ◌≡◌, ◌<◌, ◌≤◌, ◌+◌, ◌^◌, Bool, true, false, List, [], ◌∷◌, ◌++◌, length, Some, None}
+use Rattle.std.specs.Prelude.{ℕ, zero, suc, ◌≡◌, ◌<◌, ◌≤◌, ◌+◌, ◌^◌, List, [], ◌∷◌, ◌++◌, length, Some, None}
 use Rattle.std.specs.Prelude.{Result, Ok, Err}
 use Rattle.xen_netif.specs.Slots.{rx_req_of}
 use Rattle.xen_page.specs.declared.fault.GrantFault.{GrantFault}
+use Rattle.xen_page.specs.declared.entry.Rights.TheVariants.{ReadWrite}
 use Rattle.xen_ring.specs.Index.{is_due}
 use Rattle.xen_steps.specs.Event.{Event, Read, Write}
 use Rattle.xen_rx_fill.specs.Packets.{pages, words, word_of, buffer_word, response_word}
@@ -12,41 +13,43 @@ use Rattle.xen_steps.specs.Places.{add32, available}
 use Rattle.xen_rx_fill.specs.Places.{rx_slot, rx_word}
 use Rattle.xen_rx_fill.specs.declared.by_event.phase.Outcome.{Outcome}
 use Rattle.xen_rx_fill.specs.declared.by_event.phase.Outcome.TheVariants as outcome
+use Rattle.xen_rx_fill.specs.declared.target.Grants.{Grants}
+use Rattle.xen_rx_fill.specs.declared.target.Grants.TheVariants.{Passed, Refused}
 use Rattle.xen_rx_fill.specs.declared.target.Target.{Target}
 use Rattle.xen_rx_fill.specs.declared.vif.Vif.{Vif}
 
 -- A slot's two words and its grant's entry, checked for writing: the slot's id, and the check's result.
 pub data IsPosted (w : Vif) (i : ℕ) : List Event → ℕ → Result ℕ GrantFault → Type 0 where
   is_posted : (a g : ℕ) (p : List Event) (r : Result ℕ GrantFault) → a < 2 ^ 32 → g < 2 ^ 32 →
-      IsEntry w true (rx_req_of (a ∷ g ∷ [])).gref p r →
+      IsEntry w ReadWrite (rx_req_of (a ∷ g ∷ [])).gref p r →
       IsPosted w i (Read (rx_slot w i 0) a ∷ Read (rx_slot w i 1) g ∷ p) (rx_req_of (a ∷ g ∷ [])).id r
 
 -- Slots from the i-th past x on are read until `left` of them have passed, or one is refused.
-pub data AreTargets (w : Vif) (x : ℕ) : ℕ → ℕ → List Event → Bool → List Target → Type 0 where
-  all : (i : ℕ) → AreTargets w x i 0 [] true []
+pub data AreTargets (w : Vif) (x : ℕ) : ℕ → ℕ → List Event → Grants → List Target → Type 0 where
+  all : (i : ℕ) → AreTargets w x i 0 [] Passed []
   refusing : (i left id : ℕ) (p : List Event) (fault : GrantFault) → IsPosted w (add32 x i) p id (Err fault) →
-      AreTargets w x i (suc left) p false (record { id = id; frame = None } ∷ [])
-  passing : (i left id frame : ℕ) (p q : List Event) (ok : Bool) (ts : List Target) → IsPosted w (add32 x i) p id (Ok frame) →
-      AreTargets w x (i + 1) left q ok ts →
-      AreTargets w x i (suc left) (p ++ q) ok (record { id = id; frame = Some frame } ∷ ts)
+      AreTargets w x i (suc left) p Refused (record { id = id; frame = None } ∷ [])
+  passing : (i left id frame : ℕ) (p q : List Event) (grants : Grants) (ts : List Target) → IsPosted w (add32 x i) p id (Ok frame) →
+      AreTargets w x (i + 1) left q grants ts →
+      AreTargets w x i (suc left) (p ++ q) grants (record { id = id; frame = Some frame } ∷ ts)
 
 -- n words of the packet from the k-th on
 abbrev pub buffer_writes : List Target → List ℕ → ℕ → ℕ → List Event
 buffer_writes ts packet zero k = []
 buffer_writes ts packet (suc n) k = Write (buffer_word ts k) (word_of packet k) ∷ buffer_writes ts packet n (k + 1)
 
-abbrev pub rx_writes : Vif → ℕ → List ℕ → Bool → ℕ → ℕ → List Target → List Event
-rx_writes w x packet passed n i [] = []
-rx_writes w x packet passed n i (t ∷ ts) =
-    Write (rx_slot w (add32 x i) 0) (response_word passed packet n i t.id 0)
-    ∷ Write (rx_slot w (add32 x i) 1) (response_word passed packet n i t.id 1)
-    ∷ rx_writes w x packet passed n (i + 1) ts
+abbrev pub rx_writes : Vif → ℕ → List ℕ → Grants → ℕ → ℕ → List Target → List Event
+rx_writes w x packet grants n i [] = []
+rx_writes w x packet grants n i (t ∷ ts) =
+    Write (rx_slot w (add32 x i) 0) (response_word grants packet n i t.id 0)
+    ∷ Write (rx_slot w (add32 x i) 1) (response_word grants packet n i t.id 1)
+    ∷ rx_writes w x packet grants n (i + 1) ts
 
 -- Two words per response, then the push, the event index, and a notice if one is due.
-abbrev pub IsRxRespond : Vif → ℕ → List ℕ → Bool → List Target → List Event → Type 0
-IsRxRespond w x packet passed ts p =
+abbrev pub IsRxRespond : Vif → ℕ → List ℕ → Grants → List Target → List Event → Type 0
+IsRxRespond w x packet grants ts p =
     (event : ℕ) × (event < 2 ^ 32)
-    × (p ≡ rx_writes w x packet passed (length ts) 0 ts ++ Write (rx_word w 2) (add32 x (length ts)) ∷ Read (rx_word w 3) event
+    × (p ≡ rx_writes w x packet grants (length ts) 0 ts ++ Write (rx_word w 2) (add32 x (length ts)) ∷ Read (rx_word w 3) event
     ∷ notices w (is_due x (add32 x (length ts)) event))
 
 -- A transmit. If a slot is refused, nothing is written to any buffer.
@@ -55,8 +58,8 @@ pub data IsTransmit (w : Vif) (x : ℕ) (packet : List ℕ) : List Event → Out
   too_few : (p m : ℕ) → p < 2 ^ 32 → available x p ≡ Some m → m < pages packet →
       IsTransmit w x packet (Read (rx_word w 0) p ∷ []) outcome.TooFew
   refused : (p m : ℕ) (p1 p2 : List Event) (ts : List Target) → p < 2 ^ 32 → available x p ≡ Some m → pages packet ≤ m →
-      AreTargets w x 0 (pages packet) p1 false ts → IsRxRespond w x packet false ts p2 →
+      AreTargets w x 0 (pages packet) p1 Refused ts → IsRxRespond w x packet Refused ts p2 →
       IsTransmit w x packet (Read (rx_word w 0) p ∷ (p1 ++ p2)) (outcome.Refused (length ts))
   sent : (p m : ℕ) (p1 p2 : List Event) (ts : List Target) → p < 2 ^ 32 → available x p ≡ Some m → pages packet ≤ m →
-      AreTargets w x 0 (pages packet) p1 true ts → IsRxRespond w x packet true ts p2 →
+      AreTargets w x 0 (pages packet) p1 Passed ts → IsRxRespond w x packet Passed ts p2 →
       IsTransmit w x packet (Read (rx_word w 0) p ∷ (p1 ++ (buffer_writes ts packet (words packet) 0 ++ p2))) (outcome.Sent (length ts))

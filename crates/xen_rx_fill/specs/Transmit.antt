@@ -5,6 +5,7 @@ use Rattle.std.specs.Prelude.{Ok, Err, nat_lt, if◌then◌else◌}
 use Rattle.xen_netif.specs.Slots.{rx_req_of}
 use Rattle.xen_netif.specs.declared.rx.RxReq.{RxReq}
 use Rattle.xen_page.specs.declared.fault.GrantFault.{GrantFault}
+use Rattle.xen_page.specs.declared.entry.Rights.TheVariants.{ReadWrite}
 use Rattle.xen_ring.specs.Index.{is_due}
 use Rattle.xen_rx_fill.specs.Entries.{entry}
 use Rattle.xen_rx_fill.specs.Packets.{pages, words, word_of, buffer_word, response_word}
@@ -13,6 +14,8 @@ use Rattle.xen_rx_fill.specs.Places.{rx_slot, rx_word}
 use Rattle.xen_steps.specs.Steps.{Steps, done, ask, bind}
 use Rattle.xen_rx_fill.specs.declared.by_event.phase.Outcome.{Outcome}
 use Rattle.xen_rx_fill.specs.declared.by_event.phase.Outcome.TheVariants as outcome
+use Rattle.xen_rx_fill.specs.declared.target.Grants.{Grants}
+use Rattle.xen_rx_fill.specs.declared.target.Grants.TheVariants.{Passed, Refused}
 use Rattle.xen_rx_fill.specs.declared.target.Target.{Target}
 use Rattle.xen_steps.specs.declared.want.Want.TheVariants as want
 use Rattle.xen_rx_fill.specs.declared.vif.Vif.{Vif}
@@ -28,7 +31,7 @@ targeted targets go id (Err fault) = done (Err (targets ++ record { id = id; fra
 
 -- the entry of a request's page
 abbrev pub requested : Vif → RxReq → (ℕ → Result ℕ GrantFault → Steps Posted) → Steps Posted
-requested w request rest = bind (entry w true request.gref) (rest request.id)
+requested w request rest = bind (entry w ReadWrite request.gref) (rest request.id)
 
 -- a slot's two words
 abbrev pub posted_second : Vif → ℕ → (ℕ → Result ℕ GrantFault → Steps Posted) → ℕ → Steps Posted
@@ -42,30 +45,30 @@ abbrev pub read_targets : Vif → ℕ → ℕ → List Target → Steps Posted
 read_targets w x zero targets = done (Ok targets)
 read_targets w x (suc left) targets = posted w (add32 x (length targets)) (targeted targets (read_targets w x left))
 
-abbrev pub outcome_of : Bool → ℕ → Outcome
-outcome_of false used = outcome.Refused used
-outcome_of true used = outcome.Sent used
+abbrev pub outcome_of : Grants → ℕ → Outcome
+outcome_of Refused used = outcome.Refused used
+outcome_of Passed used = outcome.Sent used
 
 abbrev pub rx_notice : Vif → Bool → Outcome → Steps Outcome
 rx_notice w false o = done o
 rx_notice w true o = ask (want.Notify w.port) (λ _. done o)
 
-abbrev pub rx_event : Vif → ℕ → Bool → ℕ → Steps Outcome
-rx_event w x passed n = ask (want.Read (rx_word w 3)) (λ event. rx_notice w (is_due x (add32 x n) event) (outcome_of passed n))
+abbrev pub rx_event : Vif → ℕ → Grants → ℕ → Steps Outcome
+rx_event w x grants n = ask (want.Read (rx_word w 3)) (λ event. rx_notice w (is_due x (add32 x n) event) (outcome_of grants n))
 
-abbrev pub rx_publish : Vif → ℕ → Bool → ℕ → Steps Outcome
-rx_publish w x passed n = ask (want.Write (rx_word w 2) (add32 x n)) (λ _. rx_event w x passed n)
+abbrev pub rx_publish : Vif → ℕ → Grants → ℕ → Steps Outcome
+rx_publish w x grants n = ask (want.Write (rx_word w 2) (add32 x n)) (λ _. rx_event w x grants n)
 
 -- the responses from the i-th of n on, two words each, and the push
-abbrev pub rx_answer : Vif → ℕ → List ℕ → Bool → ℕ → ℕ → List Target → Steps Outcome
-rx_answer w x packet passed n i [] = rx_publish w x passed n
-rx_answer w x packet passed n i (t ∷ ts) =
-    ask (want.Write (rx_slot w (add32 x i) 0) (response_word passed packet n i t.id 0))
-    (λ _. ask (want.Write (rx_slot w (add32 x i) 1) (response_word passed packet n i t.id 1))
-    (λ _. rx_answer w x packet passed n (i + 1) ts))
+abbrev pub rx_answer : Vif → ℕ → List ℕ → Grants → ℕ → ℕ → List Target → Steps Outcome
+rx_answer w x packet grants n i [] = rx_publish w x grants n
+rx_answer w x packet grants n i (t ∷ ts) =
+    ask (want.Write (rx_slot w (add32 x i) 0) (response_word grants packet n i t.id 0))
+    (λ _. ask (want.Write (rx_slot w (add32 x i) 1) (response_word grants packet n i t.id 1))
+    (λ _. rx_answer w x packet grants n (i + 1) ts))
 
-abbrev pub rx_respond : Vif → ℕ → List ℕ → Bool → List Target → Steps Outcome
-rx_respond w x packet passed targets = rx_answer w x packet passed (length targets) 0 targets
+abbrev pub rx_respond : Vif → ℕ → List ℕ → Grants → List Target → Steps Outcome
+rx_respond w x packet grants targets = rx_answer w x packet grants (length targets) 0 targets
 
 -- n words of the packet from the k-th on, into the buffers
 abbrev pub fill : List Target → List ℕ → ℕ → ℕ → Steps (Unit {0})
@@ -73,11 +76,11 @@ fill targets packet zero k = done tt
 fill targets packet (suc n) k = ask (want.Write (buffer_word targets k) (word_of packet k)) (λ _. fill targets packet n (k + 1))
 
 abbrev pub fill_from : Vif → ℕ → List ℕ → List Target → ℕ → Steps Outcome
-fill_from w x packet targets k = bind (fill targets packet (words packet - k) k) (λ _. rx_respond w x packet true targets)
+fill_from w x packet targets k = bind (fill targets packet (words packet - k) k) (λ _. rx_respond w x packet Passed targets)
 
 abbrev pub after_targets : Vif → ℕ → List ℕ → Posted → Steps Outcome
 after_targets w x packet (Ok targets) = fill_from w x packet targets 0
-after_targets w x packet (Err targets) = rx_respond w x packet false targets
+after_targets w x packet (Err targets) = rx_respond w x packet Refused targets
 
 abbrev pub found : Vif → ℕ → List ℕ → Option ℕ → Steps Outcome
 found w x packet None = done outcome.Overflow

@@ -20,7 +20,7 @@ mod words;
 
 pub use by_event::phase::Outcome;
 pub use in_one_go::straight::{read_grant, send_packet};
-pub use target::{Target, Targets};
+pub use target::{Grants, Target, Targets};
 pub use transmit::{Progress, Transmit};
 pub use vif::Vif;
 pub use words::{buffer_frame, packet_word, pages_of, response, words_of};

@@ -1,4 +1,4 @@
-//! The posted rx slots that a transmit has read.
+//! The posted rx slots that a transmit has read, and whether their grants passed.
 
 use arrayvec::ArrayVec;
 use std::marker::Model;
@@ -8,6 +8,15 @@ use std::marker::Model;
 pub struct Target {
     pub id: u16,
     pub frame: Option<u32>,
+}
+
+/// Whether the grants of a packet's slots passed their checks.
+#[derive(Clone, Copy, Debug, PartialEq, Eq)]
+pub enum Grants {
+    /// All did. The packet is sent, and the responses say how long it is.
+    Passed,
+    /// The last didn't. The responses say ERROR.
+    Refused,
 }
 
 /// At most 16 slots, one for each page of a packet. Contracts see the list of them.

@@ -1,10 +1,10 @@
 //! A packet's words in the posted buffers, and the responses.
 
 ghost use Rattle.std.specs.Prelude.{◌≡◌, ◌+◌, ◌*◌, ◌/◌, ◌%◌, ◌<◌, ◌≤◌, length, false, None, Some, slice_index};
-ghost use Rattle.xen_rx_fill.specs.Packets.{buffer_word, frame_in, pages, rx_response, size_at, status_at};
+ghost use Rattle.xen_rx_fill.specs.Packets.{buffer_word, frame_in, has_more, pages, rx_response, size_at, status_at};
 ghost use Rattle.xen_rx_fill.specs.Packets.{target_at as target_at_spec, word_of, words};
 
-use crate::target::{Target, Targets};
+use crate::target::{Grants, Target, Targets};
 use xen_netif::{RxFlags, RxRsp, Status};
 use xen_page::Place;
 
@@ -100,35 +100,44 @@ fn size_of(bytes: &[u8], i: u32) -> u32
     }
 }
 
-fn status(passed: bool, bytes: &[u8], i: u32) -> i16
+fn status(grants: Grants, bytes: &[u8], i: u32) -> i16
     requires short { length bytes.now ≤ 65535 }
     requires within { i < 16 }
-    ensures { result ≡ status_at passed bytes.now i }
+    ensures { result ≡ status_at grants bytes.now i }
 {
-    if passed {
-        size_of(bytes, i) as i16
-    } else {
-        Status::Error.code()
+    match grants {
+        Grants::Passed => size_of(bytes, i) as i16,
+        Grants::Refused => Status::Error.code(),
+    }
+}
+
+/// Whether the i-th of `n` responses says that there is more.
+fn has_more(grants: Grants, n: u32, i: u32) -> bool
+    requires { i < n }
+    ensures { result ≡ has_more grants n i }
+{
+    match grants {
+        Grants::Passed => i + 1 < n,
+        Grants::Refused => false,
     }
 }
 
 /// The i-th response.
-pub fn response(passed: bool, bytes: &[u8], targets: &Targets, i: u32) -> RxRsp
+pub fn response(grants: Grants, bytes: &[u8], targets: &Targets, i: u32) -> RxRsp
     requires short { length bytes.now ≤ 65535 }
     requires within { i < length targets.now }
-    ensures { result ≡ rx_response passed bytes.now (length targets.now) i (target_at_spec targets.now i).id }
+    ensures { result ≡ rx_response grants bytes.now (length targets.now) i (target_at_spec targets.now i).id }
 {
-    let n = targets.len();
     RxRsp {
         id: target_at(targets, i).id,
         offset: 0,
         flags: RxFlags {
             data_validated: false,
             csum_blank: false,
-            more_data: passed && i + 1 < n,
+            more_data: has_more(grants, targets.len(), i),
             extra_info: false,
             gso_prefix: false,
         },
-        status: status(passed, bytes, i),
+        status: status(grants, bytes, i),
     }
 }

@@ -1,6 +1,6 @@
 //! Copying a chain's fragments.
 
-ghost use Rattle.std.specs.Prelude.{◌≡◌, ◌<◌, ◌≤◌, ◌+◌, ◌-◌, ◌/◌, ◌++◌, List, ℕ, suc, length, drop, sum_by, false, Ok, Some};
+ghost use Rattle.std.specs.Prelude.{◌≡◌, ◌<◌, ◌≤◌, ◌+◌, ◌-◌, ◌/◌, ◌++◌, List, ℕ, suc, length, drop, sum_by, Ok, Some};
 ghost use Rattle.xen_netif.specs.Copy.{Covers, bytes_in};
 ghost use Rattle.xen_netif.specs.Fragments.{fragment_size, fragments_of};
 ghost use Rattle.xen_netif.specs.Standing.{standing};
@@ -8,6 +8,7 @@ ghost use Rattle.xen_netif.specs.declared.chain.ChainState.TheVariants.{Complete
 ghost use Rattle.xen_netif.specs.declared.status.Status.TheVariants.{Error};
 ghost use Rattle.xen_page.specs.Entry.{entry_of};
 ghost use Rattle.xen_page.specs.Grant.{checked};
+ghost use Rattle.xen_page.specs.declared.entry.Rights.TheVariants.{ReadOnly};
 ghost use Rattle.xen_back.specs.Rest.{fragment_at, rest_at, rest_in};
 ghost use Rattle.xen_steps.specs.Pages.{HasRoom};
 ghost use Rattle.xen_steps.specs.Steps.{bind};
@@ -30,7 +31,7 @@ use crate::turn::{Kind, Refusal};
 use crate::wiring::Wiring;
 use arrayvec::ArrayVec;
 use xen_netif::{Chain, Fragment, Status};
-use xen_page::{Entry, Place, check};
+use xen_page::{Entry, Place, Rights, check};
 
 /// After a whole chain.
 pub(crate) fn begin_copy<'p, 'b>(
@@ -103,7 +104,7 @@ fn entering<'b>(
     requires within { i < length fragments.items }
     requires room { length packet + sum_by fragment_size (drop i fragments.items) ≤ 65535 }
     ensures { (w : WiringView) (s : StateView) → rest_in w s (stages.EntryFlags result)
-        ≡ bind (bind (entry_at w.vif false (Some at))
+        ≡ bind (bind (entry_at w.vif ReadOnly (Some at))
         (entered (fragment_at fragments.items i) (copy w (drop (i + 1) fragments.items)) packet.entry)) (after_copy w s chain) }
 {
     Entering {
@@ -126,7 +127,7 @@ pub(crate) fn after_entry<'p, 'b>(
     ensures { rest_in wiring.now state.now result
         ≡ bind (entered (fragment_at entry.entry.fragments.items entry.entry.i)
         (copy wiring.now (drop (entry.entry.i + 1) entry.entry.fragments.items)) entry.entry.packet
-        (checked wiring.now.vif.owners.now wiring.now.vif.granter wiring.now.vif.user (entry_of flags_word frame_word) false))
+        (checked wiring.now.vif.owners.now wiring.now.vif.granter wiring.now.vif.user (entry_of flags_word frame_word) ReadOnly))
         (after_copy wiring.now state.now entry.entry.chain) }
 {
     let Entering {
@@ -141,7 +142,7 @@ pub(crate) fn after_entry<'p, 'b>(
         wiring.vif.granter,
         wiring.vif.user,
         Entry::of_words(flags_word, frame_word),
-        false,
+        Rights::ReadOnly,
     ) {
         Err(_) => Stage::At(packet, refuse(state, &chain, Refusal::Grant)),
         Ok(frame) => {

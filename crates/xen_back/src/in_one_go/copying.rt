@@ -18,7 +18,7 @@ ghost use Rattle.xen_back.specs.Reads.{AreReadFrom};
 use crate::copy_buf::CopyBuf;
 use crate::wiring::Wiring;
 use xen_netif::Fragment;
-use xen_page::{Bus, GrantFault, Place};
+use xen_page::{Bus, GrantFault, Place, Rights};
 use xen_rx_fill::read_grant;
 
 /// Puts a fragment's bytes in a word of its page after a packet's bytes.
@@ -100,7 +100,7 @@ fn copy_fragment<B: Bus>(
         Driven B.log B.access_gives (bind (copy wiring.now (fragment.now ∷ later) packet.old) k)
         (after_fragment wiring.now later k packet.new result) bus.old bus.new [] [] t }
 {
-    match read_grant(&wiring.vif, bus, fragment.gref, false) {
+    match read_grant(&wiring.vif, bus, fragment.gref, Rights::ReadOnly) {
         Err(fault) => Err(fault),
         Ok(frame) => {
             read_fragment(bus, fragment, frame, packet);

@@ -1,8 +1,9 @@
 //! Making a queue.
 
-ghost use Rattle.std.specs.Prelude.{◌≡◌, true};
+ghost use Rattle.std.specs.Prelude.{◌≡◌};
 ghost use Rattle.xen_page.specs.Mapping.{IsMappedBy};
 ghost use Rattle.xen_page.specs.Table.{IsTable};
+ghost use Rattle.xen_page.specs.declared.entry.Rights.TheVariants.{ReadWrite};
 ghost use Rattle.xen_back.specs.Making.{IsMade, IsResumed};
 
 use crate::by_event::phase::Phase;
@@ -21,7 +22,7 @@ impl<'p, 'b> Queue<'p, 'b> {
     pub fn make(program: &'p Verified, desc: QueueDesc<'p>, buffer: &'b mut Buffer) -> Queue<'p, 'b>
         requires tx { IsMappedBy desc.owners.now desc.granter desc.tx }
         requires rx { IsMappedBy desc.owners.now desc.granter desc.rx }
-        requires writable { (desc.tx.write ≡ true) × (desc.rx.write ≡ true) }
+        requires writable { (desc.tx.rights ≡ ReadWrite) × (desc.rx.rights ≡ ReadWrite) }
         requires table { IsTable desc.owners.now desc.granter desc.table.now }
         ensures { IsMade program.now desc.entry result }
     {
@@ -43,7 +44,7 @@ impl<'p, 'b> Queue<'p, 'b> {
     ) -> Queue<'p, 'b>
         requires tx { IsMappedBy desc.owners.now desc.granter desc.tx }
         requires rx { IsMappedBy desc.owners.now desc.granter desc.rx }
-        requires writable { (desc.tx.write ≡ true) × (desc.rx.write ≡ true) }
+        requires writable { (desc.tx.rights ≡ ReadWrite) × (desc.rx.rights ≡ ReadWrite) }
         requires table { IsTable desc.owners.now desc.granter desc.table.now }
         ensures { IsResumed program.now desc.entry state result }
     {

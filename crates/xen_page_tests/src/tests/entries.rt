@@ -2,7 +2,7 @@
 
 use crate::bench::checked;
 use std::alloc::Global;
-use xen_page::{Entry, GrantFault};
+use xen_page::{Entry, GrantFault, Rights};
 
 #[test]
 fn an_entry_has_its_fields_in_two_words(rt: HostRuntime) {
@@ -22,34 +22,54 @@ fn an_entry_has_its_fields_in_two_words(rt: HostRuntime) {
     assert_eq!(rt; flags, [true, true, false]);
 }
 
-/// The two words of an entry and whether it is checked for writing, and the frame or the fault.
-const CHECKS: [(u32, u32, bool, Result<u32, GrantFault>); 19] = [
-    (0, 19, false, Err(GrantFault::BadGntref)),
-    (0, 19, true, Err(GrantFault::BadGntref)),
-    (2, 19, false, Err(GrantFault::BadGntref)),
-    (3, 19, false, Err(GrantFault::BadGntref)),
-    (0x0002_0000, 0, true, Err(GrantFault::BadGntref)),
-    (0x0002_0001, 19, false, Err(GrantFault::PermissionDenied)),
-    (0x0001_0001, 19, false, Err(GrantFault::PermissionDenied)),
-    (0x0001_0001, 0, false, Err(GrantFault::PermissionDenied)),
-    (5, 19, true, Err(GrantFault::PermissionDenied)),
-    (5, 0, true, Err(GrantFault::PermissionDenied)),
-    (5, 19, false, Ok(19)),
-    (5, 0, false, Err(GrantFault::BadPage)),
-    (1, 0, false, Err(GrantFault::BadPage)),
-    (1, 20, false, Err(GrantFault::BadPage)),
-    (1, 0xFFFF_FFFF, true, Err(GrantFault::BadPage)),
-    (1, 19, true, Ok(19)),
-    (1, 1, false, Ok(1)),
-    (0x19, 19, true, Ok(19)),
-    (0xFFE1, 19, true, Ok(19)),
+/// The two words of an entry and the rights that it is checked for, and the frame or the fault.
+const CHECKS: [(u32, u32, Rights, Result<u32, GrantFault>); 19] = [
+    (0, 19, Rights::ReadOnly, Err(GrantFault::BadGntref)),
+    (0, 19, Rights::ReadWrite, Err(GrantFault::BadGntref)),
+    (2, 19, Rights::ReadOnly, Err(GrantFault::BadGntref)),
+    (3, 19, Rights::ReadOnly, Err(GrantFault::BadGntref)),
+    (
+        0x0002_0000,
+        0,
+        Rights::ReadWrite,
+        Err(GrantFault::BadGntref),
+    ),
+    (
+        0x0002_0001,
+        19,
+        Rights::ReadOnly,
+        Err(GrantFault::PermissionDenied),
+    ),
+    (
+        0x0001_0001,
+        19,
+        Rights::ReadOnly,
+        Err(GrantFault::PermissionDenied),
+    ),
+    (
+        0x0001_0001,
+        0,
+        Rights::ReadOnly,
+        Err(GrantFault::PermissionDenied),
+    ),
+    (5, 19, Rights::ReadWrite, Err(GrantFault::PermissionDenied)),
+    (5, 0, Rights::ReadWrite, Err(GrantFault::PermissionDenied)),
+    (5, 19, Rights::ReadOnly, Ok(19)),
+    (5, 0, Rights::ReadOnly, Err(GrantFault::BadPage)),
+    (1, 0, Rights::ReadOnly, Err(GrantFault::BadPage)),
+    (1, 20, Rights::ReadOnly, Err(GrantFault::BadPage)),
+    (1, 0xFFFF_FFFF, Rights::ReadWrite, Err(GrantFault::BadPage)),
+    (1, 19, Rights::ReadWrite, Ok(19)),
+    (1, 1, Rights::ReadOnly, Ok(1)),
+    (0x19, 19, Rights::ReadWrite, Ok(19)),
+    (0xFFE1, 19, Rights::ReadWrite, Ok(19)),
 ];
 
 #[test]
 fn the_first_fault_is_answered(rt: HostRuntime) {
-    for (a, b, write, wanted) in CHECKS {
-        let answer = checked(rt.alloc(), a, b, write);
-        assert!(rt; answer == Some(wanted), "{a} {b} {write}");
+    for (a, b, rights, wanted) in CHECKS {
+        let answer = checked(rt.alloc(), a, b, rights);
+        assert!(rt; answer == Some(wanted), "{a} {b} {rights:?}");
     }
 }
 

@@ -6,7 +6,9 @@ ghost use Rattle.xen_page.specs.Table.{IsTable};
 
 use crate::bench::{BACK, FRAMES, FRONT, ended, log, mapped, owners};
 use std::alloc::Global;
-use xen_page::{Access, Bus, Frames, GrantFault, Owners, PageBus, Place, Table, map, unmap};
+use xen_page::{
+    Access, Bus, Frames, GrantFault, Owners, PageBus, Place, Rights, Table, map, unmap,
+};
 
 /// The flags word of reference 5 of a table in frame 1.
 const FLAGS: Place = Place { frame: 1, word: 10 };
@@ -29,11 +31,11 @@ fn exchange(old: u32, new: u32, found: u32) -> Access {
 
 #[test]
 fn a_mapping_marks_its_entry(rt: HostRuntime) {
-    for (write, marked) in [(true, 25), (false, 9)] {
+    for (rights, marked) in [(Rights::ReadWrite, 25), (Rights::ReadOnly, 9)] {
         let accesses = [read(FLAGS, 1), read(FRAME, 17), exchange(1, marked, 1)];
         assert_eq!(rt;
-            mapped(rt.alloc(), &[1], &[1, 17, 1], 5, write),
-            Some((Ok((17, write, FLAGS)), log(&accesses)))
+            mapped(rt.alloc(), &[1], &[1, 17, 1], 5, rights),
+            Some((Ok((17, FLAGS)), log(&accesses)))
         );
     }
 }
@@ -54,7 +56,7 @@ const REFUSED: [(u32, u32, GrantFault); 8] = [
 fn a_refused_mapping_marks_nothing(rt: HostRuntime) {
     for (a, b, fault) in REFUSED {
         let accesses = log(&[read(FLAGS, a), read(FRAME, b)]);
-        let answer = mapped(rt.alloc(), &[1], &[a, b], 5, true);
+        let answer = mapped(rt.alloc(), &[1], &[a, b], 5, Rights::ReadWrite);
         assert!(rt; answer == Some((Err(fault), accesses)), "{a} {b}");
     }
 }
@@ -63,7 +65,7 @@ fn a_refused_mapping_marks_nothing(rt: HostRuntime) {
 fn an_entry_that_changed_is_left_alone(rt: HostRuntime) {
     let accesses = [read(FLAGS, 1), read(FRAME, 17), exchange(1, 25, 5)];
     assert_eq!(rt;
-        mapped(rt.alloc(), &[1], &[1, 17, 5], 5, true),
+        mapped(rt.alloc(), &[1], &[1, 17, 5], 5, Rights::ReadWrite),
         Some((Err(GrantFault::Eagain), log(&accesses)))
     );
 }
@@ -72,10 +74,10 @@ fn an_entry_that_changed_is_left_alone(rt: HostRuntime) {
 fn a_reference_past_the_table_is_not_looked_at(rt: HostRuntime) {
     let frames = [1, 2, 3, 4, 5, 6, 7, 8, 9, 10, 11, 12, 13, 14, 15, 16];
     assert_eq!(rt;
-        mapped(rt.alloc(), &frames, &[1, 17, 1], 8192, true),
+        mapped(rt.alloc(), &frames, &[1, 17, 1], 8192, Rights::ReadWrite),
         Some((Err(GrantFault::BadGntref), log(&[])))
     );
-    let last = mapped(rt.alloc(), &frames, &[1, 17, 1], 8191, true);
+    let last = mapped(rt.alloc(), &frames, &[1, 17, 1], 8191, Rights::ReadWrite);
     assert!(rt; matches!(last, Some((Ok(_), _))));
 }
 
@@ -92,15 +94,15 @@ fn a_changed_entry_stays_mapped(rt: HostRuntime) {
             exchange(0x19, 1, 0x19),
         ];
         assert_eq!(rt;
-            ended(rt.alloc(), &[1, 17, 1, found, 0x19], true),
-            Some((Some(((17, true, FLAGS), true)), log(&accesses)))
+            ended(rt.alloc(), &[1, 17, 1, found, 0x19], Rights::ReadWrite),
+            Some((Some(((17, FLAGS), true)), log(&accesses)))
         );
     }
 }
 
 #[test]
 fn a_mapping_takes_its_own_marks_away(rt: HostRuntime) {
-    for (write, marked) in [(true, 25), (false, 9)] {
+    for (rights, marked) in [(Rights::ReadWrite, 25), (Rights::ReadOnly, 9)] {
         let accesses = [
             read(FLAGS, 1),
             read(FRAME, 17),
@@ -108,7 +110,7 @@ fn a_mapping_takes_its_own_marks_away(rt: HostRuntime) {
             exchange(marked, 1, marked),
         ];
         assert_eq!(rt;
-            ended(rt.alloc(), &[1, 17, 1, marked], write),
+            ended(rt.alloc(), &[1, 17, 1, marked], rights),
             Some((None, log(&accesses)))
         );
     }
@@ -125,26 +127,26 @@ fn marks(
     requires frames { frames_of bus.old ≡ 20 }
     ensures { frames_of bus.new ≡ 20 }
 {
-    let mapped = map(bus, table, owners, FRONT, BACK, 5, true).ok()?;
+    let mapped = map(bus, table, owners, FRONT, BACK, 5, Rights::ReadWrite).ok()?;
     let marked = bus.read(FLAGS);
-    let again = map(bus, table, owners, FRONT, BACK, 5, false).err();
+    let again = map(bus, table, owners, FRONT, BACK, 5, Rights::ReadOnly).err();
     unmap(bus, mapped).ok()?;
     Some(([marked, bus.read(FLAGS)], again))
 }
 
-/// Whether a frame that is mapped for reading may be written, and the two words of its entry then.
-fn readable(bus: &mut PageBus, table: &Table, owners: &Owners) -> Option<(bool, [u32; 2])>
+/// The two words of the entry of a frame that is mapped for reading.
+fn readable(bus: &mut PageBus, table: &Table, owners: &Owners) -> Option<[u32; 2]>
     requires table { IsTable owners.now 1 table.now }
     requires within { All (λ frame. frame < 20) table.now }
     requires frames { frames_of bus.old ≡ 20 }
 {
-    let mapped = map(bus, table, owners, FRONT, BACK, 5, false).ok()?;
-    Some((mapped.is_writable(), [bus.read(FLAGS), bus.read(FRAME)]))
+    map(bus, table, owners, FRONT, BACK, 5, Rights::ReadOnly).ok()?;
+    Some([bus.read(FLAGS), bus.read(FRAME)])
 }
 
 /// What is found as pages are mapped for writing, again, unmapped, and mapped for reading: the flags word while they are
-/// mapped and afterwards, the second mapping's fault, whether the third may write, and the entry's two words.
-type Pages = ([u32; 2], Option<GrantFault>, bool, [u32; 2]);
+/// mapped and afterwards, the second mapping's fault, and the entry's two words.
+type Pages = ([u32; 2], Option<GrantFault>, [u32; 2]);
 
 /// What is found over these pages.
 fn pages_of(frames: &Frames, table: &Table, owners: &Owners) -> Option<Pages>
@@ -156,8 +158,8 @@ fn pages_of(frames: &Frames, table: &Table, owners: &Owners) -> Option<Pages>
     bus.write(FLAGS, 1);
     bus.write(FRAME, 17);
     let (marks, again) = marks(&mut bus, table, owners)?;
-    let (is_writable, words) = readable(&mut bus, table, owners)?;
-    Some((marks, again, is_writable, words))
+    let words = readable(&mut bus, table, owners)?;
+    Some((marks, again, words))
 }
 
 /// [`pages_of`] for the frontend's pages.
@@ -185,6 +187,6 @@ fn pages(alloc: Global) -> Option<Pages> {
 fn pages_are_mapped_and_unmapped(rt: HostRuntime) {
     assert_eq!(rt;
         pages(rt.alloc()),
-        Some(([25, 1], Some(GrantFault::Eagain), false, [9, 17]))
+        Some(([25, 1], Some(GrantFault::Eagain), [9, 17]))
     );
 }

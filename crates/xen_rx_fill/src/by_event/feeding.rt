@@ -27,10 +27,10 @@ pub(crate) fn phase_fed(vif: &Vif, rx_index: u32, bytes: &[u8], phase: Phase, wo
             flags_word,
         } => after_entry(vif, granting, flags_word, word),
         Phase::Filling { targets, k } => filled(bytes, targets, k),
-        Phase::Response { passed, targets, i } => responded(passed, targets, i),
+        Phase::Response { grants, targets, i } => responded(grants, targets, i),
         Phase::HalfResponse(responding) => after_response(responding),
-        Phase::ReadEvent { passed, n } => after_event(rx_index, passed, n, word),
-        Phase::Notice { passed, n } => Phase::Over(outcome(passed, n)),
+        Phase::ReadEvent { grants, n } => after_event(rx_index, grants, n, word),
+        Phase::Notice { grants, n } => Phase::Over(outcome(grants, n)),
         Phase::Over(o) => Phase::Over(o),
     }
 }

@@ -2,7 +2,7 @@
 
 ghost use Rattle.std.specs.Prelude.{◌<◌, ◌+◌, length};
 
-use crate::target::Targets;
+use crate::target::{Grants, Targets};
 use xen_page::Place;
 
 /// How a transmit ended. The last two used this many rx slots.
@@ -40,7 +40,7 @@ pub struct Granting {
 /// Between the two words of the i-th response.
 #[derive(Drop)]
 pub struct Responding {
-    pub passed: bool,
+    pub grants: Grants,
     pub targets: Targets,
     pub i: u32,
     ghost within: { i < length targets },
@@ -69,7 +69,7 @@ pub enum Phase {
     },
     /// Write the i-th response's first word, or push if all are written.
     Response {
-        passed: bool,
+        grants: Grants,
         targets: Targets,
         i: u32,
     },
@@ -77,12 +77,12 @@ pub enum Phase {
     HalfResponse(Responding),
     /// Read the event index after the push of `n` responses.
     ReadEvent {
-        passed: bool,
+        grants: Grants,
         n: u32,
     },
     /// Send the notice.
     Notice {
-        passed: bool,
+        grants: Grants,
         n: u32,
     },
     /// Nothing.

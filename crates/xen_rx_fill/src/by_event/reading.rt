@@ -1,9 +1,10 @@
 //! Reading the posted slots and their grants.
 
-ghost use Rattle.std.specs.Prelude.{◌≡◌, ◌+◌, ◌<◌, ◌≤◌, ◌++◌, [], ◌∷◌, List, ℕ, length, true, false, None, Some};
+ghost use Rattle.std.specs.Prelude.{◌≡◌, ◌+◌, ◌<◌, ◌≤◌, ◌++◌, [], ◌∷◌, List, ℕ, length, None, Some};
 ghost use Rattle.xen_netif.specs.declared.rx.RxReq.{RxReq};
 ghost use Rattle.xen_page.specs.Entry.{entry_of};
 ghost use Rattle.xen_page.specs.Grant.{checked};
+ghost use Rattle.xen_page.specs.declared.entry.Rights.TheVariants.{ReadWrite};
 ghost use Rattle.xen_rx_fill.specs.Entries.{entry_at, entry_checked};
 ghost use Rattle.xen_rx_fill.specs.Packets.{pages};
 ghost use Rattle.xen_steps.specs.Places.{add32};
@@ -11,14 +12,15 @@ ghost use Rattle.xen_rx_fill.specs.Rest.{rest_of};
 ghost use Rattle.xen_steps.specs.Steps.{bind};
 ghost use Rattle.xen_rx_fill.specs.Transmit.{after_targets, found as found_spec, posted_second, read_targets};
 ghost use Rattle.xen_rx_fill.specs.Transmit.{requested as requested_spec, rx_respond, targeted};
+ghost use Rattle.xen_rx_fill.specs.declared.target.Grants.TheVariants.{Refused};
 ghost use Rattle.xen_rx_fill.specs.declared.vif.Vif.{Vif as VifView};
 
 use crate::by_event::phase::{Granting, Outcome, Phase, Posting};
-use crate::target::{Target, Targets};
+use crate::target::{Grants, Target, Targets};
 use crate::vif::Vif;
 use crate::words::pages_of;
 use xen_netif::RxReq;
-use xen_page::{Entry, Place, check};
+use xen_page::{Entry, Place, Rights, check};
 
 /// After the read of the producer, which shows this many slots.
 pub(crate) fn found(bytes: &[u8], shown: Option<u32>) -> Phase
@@ -81,7 +83,7 @@ fn granting(left: u32, targets: Targets, id: u16, at: Place) -> Phase
     requires room { length targets + left < 16 }
     requires word { at.word < 1023 }
     ensures { (v : VifView) (x : ℕ) (packet : List ℕ) → rest_of v x packet result
-        ≡ bind (bind (entry_at v true (Some at)) (targeted targets (read_targets v x left) id)) (after_targets v x packet) }
+        ≡ bind (bind (entry_at v ReadWrite (Some at)) (targeted targets (read_targets v x left) id)) (after_targets v x packet) }
 {
     Phase::EntryFlags(Granting {
         left,
@@ -94,7 +96,7 @@ fn granting(left: u32, targets: Targets, id: u16, at: Place) -> Phase
 /// After an entry's flags word.
 pub(crate) fn after_flags(granting: Granting, flags_word: u32) -> Phase
     ensures { (v : VifView) (x : ℕ) (packet : List ℕ) → rest_of v x packet result
-        ≡ bind (bind (entry_checked v true granting.at flags_word)
+        ≡ bind (bind (entry_checked v ReadWrite granting.at flags_word)
         (targeted granting.targets (read_targets v x granting.left) granting.id)) (after_targets v x packet) }
 {
     Phase::EntryFrame {
@@ -107,7 +109,7 @@ pub(crate) fn after_flags(granting: Granting, flags_word: u32) -> Phase
 pub(crate) fn after_entry(vif: &Vif, granting: Granting, flags_word: u32, frame_word: u32) -> Phase
     ensures { (x : ℕ) (packet : List ℕ) → rest_of vif.now x packet result
         ≡ bind (targeted granting.targets (read_targets vif.now x granting.left) granting.id
-        (checked vif.now.owners.now vif.now.granter vif.now.user (entry_of flags_word frame_word) true))
+        (checked vif.now.owners.now vif.now.granter vif.now.user (entry_of flags_word frame_word) ReadWrite))
         (after_targets vif.now x packet) }
 {
     let Granting {
@@ -121,7 +123,7 @@ pub(crate) fn after_entry(vif: &Vif, granting: Granting, flags_word: u32, frame_
         vif.granter,
         vif.user,
         Entry::of_words(flags_word, frame_word),
-        true,
+        Rights::ReadWrite,
     ) {
         Err(_) => refused(targets, id),
         Ok(frame) => passed(left, targets, id, frame),
@@ -132,12 +134,12 @@ pub(crate) fn after_entry(vif: &Vif, granting: Granting, flags_word: u32, frame_
 fn refused(targets: Targets, id: u16) -> Phase
     requires { length targets < 16 }
     ensures { (v : VifView) (x : ℕ) (packet : List ℕ) → rest_of v x packet result
-        ≡ rx_respond v x packet false (targets ++ record { id = id; frame = None } ∷ []) }
+        ≡ rx_respond v x packet Refused (targets ++ record { id = id; frame = None } ∷ []) }
 {
     let mut targets = targets;
     targets.push(Target { id, frame: None });
     Phase::Response {
-        passed: false,
+        grants: Grants::Refused,
         targets,
         i: 0,
     }

@@ -1,6 +1,6 @@
 //! What a transmit wants next.
 
-ghost use Rattle.std.specs.Prelude.{◌≡◌, ◌*◌, ◌<◌, ◌≤◌, length, drop, true};
+ghost use Rattle.std.specs.Prelude.{◌≡◌, ◌*◌, ◌<◌, ◌≤◌, length, drop};
 ghost use Rattle.xen_rx_fill.specs.Packets.{words};
 ghost use Rattle.xen_steps.specs.Places.{add32};
 ghost use Rattle.xen_rx_fill.specs.Rest.{rest_of};
@@ -8,7 +8,7 @@ ghost use Rattle.xen_steps.specs.Steps.{want_of};
 ghost use Rattle.xen_rx_fill.specs.Transmit.{fill_from, rx_answer};
 
 use crate::by_event::phase::Phase;
-use crate::target::Targets;
+use crate::target::{Grants, Targets};
 use crate::vif::Vif;
 use crate::words::{buffer_at, packet_word, response, words_of};
 use xen_ring::{REQ_PROD, RSP_EVENT, RSP_PROD};
@@ -41,11 +41,11 @@ pub(crate) fn phase_want(vif: &Vif, rx_index: u32, bytes: &[u8], phase: &Phase) 
         Phase::EntryFlags(granting) => Want::Read(granting.at),
         Phase::EntryFrame { granting, .. } => Want::Read(granting.at.next()),
         Phase::Filling { targets, k } => filling_want(vif, rx_index, bytes, targets, *k),
-        Phase::Response { passed, targets, i } => {
-            response_want(vif, rx_index, bytes, *passed, targets, *i)
+        Phase::Response { grants, targets, i } => {
+            response_want(vif, rx_index, bytes, *grants, targets, *i)
         }
         Phase::HalfResponse(responding) => {
-            let response = response(responding.passed, bytes, &responding.targets, responding.i);
+            let response = response(responding.grants, bytes, &responding.targets, responding.i);
             Want::Write(
                 rx_entry(vif.rx, rx_index.wrapping_add(responding.i), 1),
                 response.words()[1],
@@ -65,7 +65,7 @@ fn filling_want(vif: &Vif, rx_index: u32, bytes: &[u8], targets: &Targets, k: u3
     if k < words_of(bytes) {
         Want::Write(buffer_at(targets, k), packet_word(bytes, k))
     } else {
-        response_want(vif, rx_index, bytes, true, targets, 0)
+        response_want(vif, rx_index, bytes, Grants::Passed, targets, 0)
     }
 }
 
@@ -74,16 +74,16 @@ fn response_want(
     vif: &Vif,
     rx_index: u32,
     bytes: &[u8],
-    passed: bool,
+    grants: Grants,
     targets: &Targets,
     i: u32,
 ) -> Want
     requires { length bytes.now ≤ 65535 }
-    ensures { result ≡ want_of (rx_answer vif.now rx_index bytes.now passed (length targets.now) i (drop i targets.now)) }
+    ensures { result ≡ want_of (rx_answer vif.now rx_index bytes.now grants (length targets.now) i (drop i targets.now)) }
 {
     let n = targets.len();
     if i < n {
-        let response = response(passed, bytes, targets, i);
+        let response = response(grants, bytes, targets, i);
         Want::Write(
             rx_entry(vif.rx, rx_index.wrapping_add(i), 0),
             response.words()[0],

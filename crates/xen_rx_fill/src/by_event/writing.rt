@@ -1,6 +1,6 @@
 //! Writing the buffers and the responses.
 
-ghost use Rattle.std.specs.Prelude.{◌≡◌, ◌+◌, ◌<◌, ◌≤◌, List, ℕ, length, drop, true};
+ghost use Rattle.std.specs.Prelude.{◌≡◌, ◌+◌, ◌<◌, ◌≤◌, List, ℕ, length, drop};
 ghost use Rattle.xen_ring.specs.Index.{is_due};
 ghost use Rattle.xen_rx_fill.specs.Packets.{response_word, target_at as target_at_spec};
 ghost use Rattle.xen_steps.specs.Places.{add32};
@@ -12,7 +12,7 @@ ghost use Rattle.xen_steps.specs.declared.want.Want.TheVariants as want;
 ghost use Rattle.xen_rx_fill.specs.declared.vif.Vif.{Vif as VifView};
 
 use crate::by_event::phase::{Outcome, Phase, Responding};
-use crate::target::Targets;
+use crate::target::{Grants, Targets};
 use crate::words::words_of;
 use xen_ring::due;
 
@@ -24,67 +24,66 @@ pub(crate) fn filled(bytes: &[u8], targets: Targets, k: u32) -> Phase
     if k < words_of(bytes) {
         Phase::Filling { targets, k: k + 1 }
     } else {
-        responded(true, targets, 0)
+        responded(Grants::Passed, targets, 0)
     }
 }
 
 /// After a response's first word, or after the push if all responses were written.
-pub(crate) fn responded(passed: bool, targets: Targets, i: u32) -> Phase
+pub(crate) fn responded(grants: Grants, targets: Targets, i: u32) -> Phase
     ensures { (v : VifView) (x : ℕ) (packet : List ℕ) → rest_of v x packet result
-        ≡ next_by (rx_answer v x packet passed (length targets) i (drop i targets)) 0 0 }
+        ≡ next_by (rx_answer v x packet grants (length targets) i (drop i targets)) 0 0 }
 {
     let n = targets.len();
     if i < n {
-        half_responded(passed, targets, i)
+        half_responded(grants, targets, i)
     } else {
-        Phase::ReadEvent { passed, n }
+        Phase::ReadEvent { grants, n }
     }
 }
 
 /// Between the words of a response.
-fn half_responded(passed: bool, targets: Targets, i: u32) -> Phase
+fn half_responded(grants: Grants, targets: Targets, i: u32) -> Phase
     requires { i < length targets }
     ensures { (v : VifView) (x : ℕ) (packet : List ℕ) → rest_of v x packet result
-        ≡ ask (want.Write (rx_slot v (add32 x i) 1) (response_word passed packet (length targets) i (target_at_spec targets i).id 1))
-        (λ _. rx_answer v x packet passed (length targets) (i + 1) (drop (i + 1) targets)) }
+        ≡ ask (want.Write (rx_slot v (add32 x i) 1) (response_word grants packet (length targets) i (target_at_spec targets i).id 1))
+        (λ _. rx_answer v x packet grants (length targets) (i + 1) (drop (i + 1) targets)) }
 {
-    Phase::HalfResponse(Responding { passed, targets, i })
+    Phase::HalfResponse(Responding { grants, targets, i })
 }
 
 /// After a response.
 pub(crate) fn after_response(responding: Responding) -> Phase
     ensures { (v : VifView) (x : ℕ) (packet : List ℕ) → rest_of v x packet result
-        ≡ rx_answer v x packet responding.passed (length responding.targets) (responding.i + 1)
+        ≡ rx_answer v x packet responding.grants (length responding.targets) (responding.i + 1)
         (drop (responding.i + 1) responding.targets) }
 {
-    let Responding { passed, targets, i } = responding;
+    let Responding { grants, targets, i } = responding;
     // Only the proof uses what this call ensures: there are few targets.
     let _few = targets.len();
     Phase::Response {
-        passed,
+        grants,
         targets,
         i: i + 1,
     }
 }
 
-pub(crate) fn outcome(passed: bool, n: u32) -> Outcome
-    ensures { result ≡ outcome_of passed n }
+pub(crate) fn outcome(grants: Grants, n: u32) -> Outcome
+    ensures { result ≡ outcome_of grants n }
 {
-    if passed {
-        Outcome::Sent(n)
-    } else {
-        Outcome::Refused(n)
+    match grants {
+        Grants::Passed => Outcome::Sent(n),
+        Grants::Refused => Outcome::Refused(n),
     }
 }
 
 /// After the event index.
-pub(crate) fn after_event(rx_index: u32, passed: bool, n: u32, event: u32) -> Phase
+pub(crate) fn after_event(rx_index: u32, grants: Grants, n: u32, event: u32) -> Phase
     ensures { (v : VifView) (packet : List ℕ) → rest_of v rx_index packet result
-        ≡ rx_notice v (is_due rx_index (add32 rx_index n) event) (outcome_of passed n) }
+        ≡ rx_notice v (is_due rx_index (add32 rx_index n) event) (outcome_of grants n) }
 {
     if due(rx_index, rx_index.wrapping_add(n), event) {
-        Phase::Notice { passed, n }
+        Phase::Notice { grants, n }
     } else {
-        Phase::Over(outcome(passed, n))
+        Phase::Over(outcome(grants, n))
     }
 }

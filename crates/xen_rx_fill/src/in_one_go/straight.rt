@@ -1,6 +1,6 @@
 //! A transmit that goes straight through over a bus: no phase is made.
 
-ghost use Rattle.std.specs.Prelude.{◌≡◌, ◌≤◌, ◌<◌, ◌+◌, ◌-◌, ◌*◌, ◌∷◌, ◌^◌, [], Bool, IfOk, List, ℕ, length, true};
+ghost use Rattle.std.specs.Prelude.{◌≡◌, ◌≤◌, ◌<◌, ◌+◌, ◌-◌, ◌*◌, ◌∷◌, ◌^◌, [], IfOk, List, ℕ, length};
 ghost use Rattle.xen_netif.specs.Slots.{rx_req_of};
 ghost use Rattle.xen_page.specs.Access.{Performs};
 ghost use Rattle.xen_page.specs.Entry.{entry_of};
@@ -18,14 +18,15 @@ ghost use Rattle.xen_rx_fill.specs.Straight.{Completes, scanned};
 ghost use Rattle.xen_rx_fill.specs.Transmit.{after_targets, fill, found, outcome_of, read_targets as read_targets_spec};
 ghost use Rattle.xen_rx_fill.specs.Transmit.{rx_publish, rx_respond, transmit};
 ghost use Rattle.xen_rx_fill.specs.Wired.{IsWired};
+ghost use Rattle.xen_rx_fill.specs.declared.target.Grants.{Grants as GrantsView};
 
 use crate::by_event::phase::Outcome;
 use crate::by_event::writing::outcome;
-use crate::target::{Target, Targets};
+use crate::target::{Grants, Target, Targets};
 use crate::vif::Vif;
 use crate::words::{buffer_frame, packet_word, pages_of, response, words_of};
 use xen_netif::RxReq;
-use xen_page::{Bus, Entry, GrantFault, Place, WORDS, check};
+use xen_page::{Bus, Entry, GrantFault, Place, Rights, WORDS, check};
 use xen_ring::{Ports, REQ_PROD, RSP_EVENT, RSP_PROD, due};
 use xen_steps::{header, requests_shown, rx_entry};
 
@@ -54,13 +55,13 @@ fn read_request<B: Bus>(bus: &mut B, frame: u32, index: u32) -> RxReq
 }
 
 /// Reads the two words of a grant's entry, and checks it.
-fn read_entry<B: Bus>(vif: &Vif, bus: &mut B, at: Place, write: bool) -> Result<u32, GrantFault>
+fn read_entry<B: Bus>(vif: &Vif, bus: &mut B, at: Place, rights: Rights) -> Result<u32, GrantFault>
     requires frame { at.frame < B.size bus.old }
     requires word { at.word + 1 < 1024 }
     ensures size { B.size bus.new ≡ B.size bus.old }
     ensures read { (a : ℕ) × (b : ℕ) × (a < 2 ^ 32) × (b < 2 ^ 32)
         × Performs B.log B.access_gives bus.old (accesses.Read at a ∷ accesses.Read (frame_place at) b ∷ []) bus.new
-        × (result ≡ checked vif.now.owners.now vif.now.granter vif.now.user (entry_of a b) write) }
+        × (result ≡ checked vif.now.owners.now vif.now.granter vif.now.user (entry_of a b) rights) }
 {
     let a = bus.read(at);
     let b = bus.read(at.next());
@@ -69,32 +70,37 @@ fn read_entry<B: Bus>(vif: &Vif, bus: &mut B, at: Place, write: bool) -> Result<
         vif.granter,
         vif.user,
         Entry::of_words(a, b),
-        write,
+        rights,
     )
 }
 
-/// The frame that a reference grants, for writing or for reading alone.
-pub fn read_grant<B: Bus>(vif: &Vif, bus: &mut B, gref: u32, write: bool) -> Result<u32, GrantFault>
+/// The frame that a reference grants with these rights.
+pub fn read_grant<B: Bus>(
+    vif: &Vif,
+    bus: &mut B,
+    gref: u32,
+    rights: Rights,
+) -> Result<u32, GrantFault>
     requires size { B.size bus.old ≡ length vif.now.owners.now }
     requires wired { IsWired vif.now }
     ensures size { B.size bus.new ≡ B.size bus.old }
     ensures inside { IfOk result (λ frame. frame < length vif.now.owners.now) }
-    ensures read { (p : List Event) × IsEntry vif.now write gref p result × Performs B.log B.access_gives bus.old (accesses_in p) bus.new }
+    ensures read { (p : List Event) × IsEntry vif.now rights gref p result × Performs B.log B.access_gives bus.old (accesses_in p) bus.new }
 {
     match vif.table.place(gref) {
         None => Err(GrantFault::BadGntref),
-        Some(at) => read_entry(vif, bus, at, write),
+        Some(at) => read_entry(vif, bus, at, rights),
     }
 }
 
-/// Reads `slots` slots with their grants, up to one that is refused. Whether all have passed.
+/// Reads `slots` slots with their grants, up to one that is refused.
 fn read_targets<B: Bus>(
     vif: &Vif,
     rx_index: u32,
     bus: &mut B,
     slots: u32,
     targets: &mut Targets,
-) -> bool
+) -> Grants
     requires few { slots ≤ 16 }
     requires none { targets.old ≡ [] }
     requires size { B.size bus.old ≡ length vif.now.owners.now }
@@ -105,16 +111,16 @@ fn read_targets<B: Bus>(
 {
     for slot in 0..slots {
         let request = read_request(bus, vif.rx, rx_index.wrapping_add(slot));
-        let frame = read_grant(vif, bus, request.gref, true).ok();
+        let frame = read_grant(vif, bus, request.gref, Rights::ReadWrite).ok();
         targets.push(Target {
             id: request.id,
             frame,
         });
         if frame.is_none() {
-            return false;
+            return Grants::Refused;
         }
     }
-    true
+    Grants::Passed
 }
 
 /// Writes the words in a packet's i-th page into their buffer: those that lie whole in the packet as a run, then one whose end is zeros.
@@ -156,19 +162,19 @@ fn write_responses<B: Bus>(
     vif: &Vif,
     rx_index: u32,
     bus: &mut B,
-    passed: bool,
+    grants: Grants,
     targets: &Targets,
     packet: &[u8],
 )
     requires short { length packet.now ≤ 65535 }
     requires frame { vif.now.rx < B.size bus.old }
     ensures size { B.size bus.new ≡ B.size bus.old }
-    ensures driven { (t : List Event) × Driven B.log B.access_gives (rx_respond vif.now rx_index packet.now passed targets.now)
-        (rx_publish vif.now rx_index passed (length targets.now)) bus.old bus.new t }
+    ensures driven { (t : List Event) × Driven B.log B.access_gives (rx_respond vif.now rx_index packet.now grants targets.now)
+        (rx_publish vif.now rx_index grants (length targets.now)) bus.old bus.new t }
 {
     for i in 0..targets.len() {
         let index = rx_index.wrapping_add(i);
-        let [first, second] = response(passed, packet, targets, i).words();
+        let [first, second] = response(grants, packet, targets, i).words();
         bus.write(rx_entry(vif.rx, index, 0), first);
         bus.write(rx_entry(vif.rx, index, 1), second);
     }
@@ -178,8 +184,8 @@ fn write_responses<B: Bus>(
 fn push_responses<B: Bus>(vif: &Vif, rx_index: u32, bus: &mut B, ports: &Ports, n: u32)
     requires frame { vif.now.rx < B.size bus.old }
     ensures size { B.size bus.new ≡ B.size bus.old }
-    ensures driven { (passed : Bool) → (t : List Event) × Driven B.log B.access_gives (rx_publish vif.now rx_index passed n)
-        (done (outcome_of passed n)) bus.old bus.new t }
+    ensures driven { (grants : GrantsView) → (t : List Event) × Driven B.log B.access_gives (rx_publish vif.now rx_index grants n)
+        (done (outcome_of grants n)) bus.old bus.new t }
 {
     let next = rx_index.wrapping_add(n);
     bus.write(header(vif.rx, RSP_PROD), next);
@@ -207,14 +213,15 @@ fn send_pages<B: Bus>(
         bus.old bus.new t }
 {
     let mut targets = Targets::new();
-    let passed = read_targets(vif, rx_index, bus, pages_of(packet), &mut targets);
-    if passed {
-        fill_buffers(bus, &targets, packet);
+    let grants = read_targets(vif, rx_index, bus, pages_of(packet), &mut targets);
+    match grants {
+        Grants::Passed => fill_buffers(bus, &targets, packet),
+        Grants::Refused => {}
     }
-    write_responses(vif, rx_index, bus, passed, &targets, packet);
+    write_responses(vif, rx_index, bus, grants, &targets, packet);
     let n = targets.len();
     push_responses(vif, rx_index, bus, ports, n);
-    outcome(passed, n)
+    outcome(grants, n)
 }
 
 /// A transmit of a packet, whose first rx slot is at this index.

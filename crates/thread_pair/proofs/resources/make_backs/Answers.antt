@@ -44,8 +44,8 @@ loop-seat-preserved c =
                   rx = c.in_ok-rx.ensures.lent;
                   tx_frame = c.in_ok-tx.ensures.frame;
                   rx_frame = c.in_ok-rx.ensures.frame;
-                  tx_writable = c.in_ok-tx.ensures.write;
-                  rx_writable = c.in_ok-rx.ensures.write;
+                  tx_writable = c.in_ok-tx.ensures.rights;
+                  rx_writable = c.in_ok-rx.ensures.rights;
                   seat = last.1 ∙ ap (new_seat d) (let l = c.len-queue.ensures in omega arith);
                 })),
             ap (λ (l : List BackResources). map number_of l ++ falling (length c.pop.new.self.items)) c.in_ok-push.ensures.items

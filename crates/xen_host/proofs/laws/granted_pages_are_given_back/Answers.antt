@@ -1,4 +1,4 @@
-use Rattle.std.proofs.Common.{ℕ, List, [], ◌∷◌, ◌++◌, append-nil, false, subst, true}
+use Rattle.std.proofs.Common.{ℕ, List, [], ◌∷◌, ◌++◌, append-nil, subst}
 use Rattle.xen_steps.specs.Event.{Event, Read}
 use Rattle.xen_steps.specs.Places.{add32}
 use Rattle.xen_rx_fill.specs.Places.{rx_word}
@@ -7,6 +7,7 @@ use Rattle.xen_rx_fill.specs.Sending.{IsTransmit, buffer_writes}
 use Rattle.xen_rx_fill.specs.Sending as sending
 use Rattle.xen_rx_fill.specs.declared.by_event.phase.Outcome.TheVariants as outcome
 use Rattle.xen_rx_fill.specs.declared.vif.Vif.{Vif}
+use Rattle.xen_rx_fill.specs.declared.target.Grants.TheVariants.{Passed, Refused}
 use Rattle.xen_back.specs.Delivered.{IsDelivery}
 use Rattle.xen_back.specs.Delivered as delivered
 use Rattle.xen_back.specs.Parts.{HasRead}
@@ -66,11 +67,11 @@ answered w s _ _ _ (turns.ran_tx p p5 p6 used slots out r n a b) i =
 sent_on : (w : Vif) (x : ℕ) (packet : List ℕ) (t : List Event) (used : ℕ) → IsTransmit w x packet t (outcome.Sent used) → HasPushed w.rx (add32 x used) t
 sent_on w x packet _ _ (sending.sent p m p1 p2 ts l e f a r) =
     let filled = buffer_writes ts packet (words packet) 0 in
-    pushed_behind w.rx _ (Read (rx_word w 0) p ∷ p1) (filled ++ p2) (pushed_behind w.rx _ filled p2 (pushed_rx w x packet true ts p2 r))
+    pushed_behind w.rx _ (Read (rx_word w 0) p ∷ p1) (filled ++ p2) (pushed_behind w.rx _ filled p2 (pushed_rx w x packet Passed ts p2 r))
 
 refused_on : (w : Vif) (x : ℕ) (packet : List ℕ) (t : List Event) (used : ℕ) → IsTransmit w x packet t (outcome.Refused used) → HasPushed w.rx (add32 x used) t
 refused_on w x packet _ _ (sending.refused p m p1 p2 ts l e f a r) =
-    pushed_behind w.rx _ (Read (rx_word w 0) p ∷ p1) p2 (pushed_rx w x packet false ts p2 r)
+    pushed_behind w.rx _ (Read (rx_word w 0) p ∷ p1) p2 (pushed_rx w x packet Refused ts p2 r)
 
 delivery : (w : Wiring) (s : State) (packet : List ℕ) (t : List Event) (new : State) (what : Delivery) → IsDelivery w s packet t new what → GivesBack w.vif t
 delivery w s packet _ _ _ (delivered.no_frame f) = tt

@@ -42,11 +42,11 @@ returns-then-found-word-clause-mapped g c =
     let a = c.read-word.result in
     let b = c.read-frame.result in
     let found = c.cas-found.result in (
-      reads_of c.in-Some.at a b (marking c.in-Some.at a found c.args.write ∷ []),
+      reads_of c.in-Some.at a b (marking c.in-Some.at a found c.args.rights ∷ []),
       changed c.in-Some.at a b c.in_ok-frame.frame found (sym c.place.ensures.place ∙ c.in-Some.is)
           (sym (rw c.of_words-entry.ensures.entry at c.check_unmarked.ensures.mappable) ∙ c.in_ok-frame.was) c.if-found-word.true,
       performs_marking g.B.Bus.log g.B.Bus.access_gives c.args.bus.now c.read-frame.new.self c.cas-found.new.self
-          c.in-Some.at a b found c.marks_for.result c.args.write c.marks_for.ensures
+          c.in-Some.at a b found c.marks_for.result c.args.rights c.marks_for.ensures
           (performs_reads g.B.Bus.log g.B.Bus.access_gives c.args.bus.now c.read-word.new.self c.read-frame.new.self
           c.in-Some.at c.next.result a b c.next.ensures
           c.read-word.ensures.told c.read-word.ensures.given c.read-frame.ensures.told c.read-frame.ensures.given)
@@ -57,11 +57,11 @@ pub returns-clause-mapped : goal.returns-clause-mapped
 returns-clause-mapped g c =
     let a = c.read-word.result in
     let b = c.read-frame.result in (
-      reads_of c.in-Some.at a b (marking c.in-Some.at a a c.args.write ∷ []),
+      reads_of c.in-Some.at a b (marking c.in-Some.at a a c.args.rights ∷ []),
       mapped c.in-Some.at a b c.in_ok-frame.frame (sym c.place.ensures.place ∙ c.in-Some.is)
           (sym (rw c.of_words-entry.ensures.entry at c.check_unmarked.ensures.mappable) ∙ c.in_ok-frame.was),
       performs_marking g.B.Bus.log g.B.Bus.access_gives c.args.bus.now c.read-frame.new.self c.cas-found.new.self
-          c.in-Some.at a b a c.marks_for.result c.args.write c.marks_for.ensures
+          c.in-Some.at a b a c.marks_for.result c.args.rights c.marks_for.ensures
           (performs_reads g.B.Bus.log g.B.Bus.access_gives c.args.bus.now c.read-word.new.self c.read-frame.new.self
           c.in-Some.at c.next.result a b c.next.ensures
           c.read-word.ensures.told c.read-word.ensures.given c.read-frame.ensures.told c.read-frame.ensures.given)

@@ -6,8 +6,8 @@ use Rattle.xen_page.proofs.mapping.unmap.Goals as goal
 pub returns-then-found-marked-clause-unmapped : goal.returns-then-found-marked-clause-unmapped
 returns-then-found-marked-clause-unmapped g c =
     let i = c.mapped.inside in
-    let m : Mapping = record { granter = i.granter; frame = i.frame; write = i.write; at = i.at; word = i.word } in
-    let marked = bit_or i.word (marks i.write) in
+    let m : Mapping = record { granter = i.granter; frame = i.frame; rights = i.rights; at = i.at; word = i.word } in
+    let marked = bit_or i.word (marks i.rights) in
     let is : c.cas-found.result ≡ marked = c.if-found-marked.true ∙ ap (λ k. bit_or i.word k) c.marks_for.ensures in
     rw (← c.mapped.view_is) (
       unmarking m marked ∷ [],
@@ -19,9 +19,9 @@ returns-then-found-marked-clause-unmapped g c =
 pub returns-else-found-marked-clause-unmapped : goal.returns-else-found-marked-clause-unmapped
 returns-else-found-marked-clause-unmapped g c =
     let i = c.mapped.inside in
-    let m : Mapping = record { granter = i.granter; frame = i.frame; write = i.write; at = i.at; word = i.word } in
+    let m : Mapping = record { granter = i.granter; frame = i.frame; rights = i.rights; at = i.at; word = i.word } in
     let found = c.cas-found.result in
-    let not : found ≢ bit_or i.word (marks i.write) = λ is. c.if-found-marked.false (is ∙ sym (ap (λ k. bit_or i.word k) c.marks_for.ensures)) in
+    let not : found ≢ bit_or i.word (marks i.rights) = λ is. c.if-found-marked.false (is ∙ sym (ap (λ k. bit_or i.word k) c.marks_for.ensures)) in
     rw (← c.mapped.view_is) (
       unmarking m found ∷ [],
       kept found not,

@@ -1,4 +1,4 @@
-use Rattle.std.proofs.Common.{ℕ, ◌+◌, ◌/◌, drop, sym, ap, ◌∙◌, false}
+use Rattle.std.proofs.Common.{ℕ, ◌+◌, ◌/◌, drop, sym, ap, ◌∙◌}
 use Rattle.std.specs.Prelude.{Result}
 use Rattle.xen_steps.specs.Steps.{bind}
 use Rattle.xen_host.specs.Wired.{wiring_of}
@@ -7,6 +7,7 @@ use Rattle.xen_netif.specs.declared.fragment.Fragment.{Fragment}
 use Rattle.xen_page.specs.Grant.{checked}
 use Rattle.xen_page.specs.declared.entry.Entry.{Entry}
 use Rattle.xen_page.specs.declared.fault.GrantFault.{GrantFault}
+use Rattle.xen_page.specs.declared.entry.Rights.TheVariants.{ReadOnly}
 use Rattle.xen_steps.specs.Pages.{copy_words, covered}
 use Rattle.xen_back.specs.Rest.{fragment_at}
 use Rattle.xen_back.specs.Tree.{after_copy, copy, entered}
@@ -18,7 +19,7 @@ returns-in-Err-clause-led c lent =
     let w = wiring_of q.wires in
     let b = q.work in
     let f = fragment_at b.fragments.items c.args.i in
-    let is = ap (λ (e : Entry). checked q.wires.owners q.wires.granter q.wires.user e false) (sym c.of_words-entry.ensures.entry) ∙ sym c.check.ensures.checked ∙ c.in-Err.is in
+    let is = ap (λ (e : Entry). checked q.wires.owners q.wires.granter q.wires.user e ReadOnly) (sym c.of_words-entry.ensures.entry) ∙ sym c.check.ensures.checked ∙ c.in-Err.is in
     let same = ap (λ (r : Result ℕ GrantFault). bind (entered f (copy w (drop (c.args.i + 1) b.fragments.items)) b.packet r) (after_copy w q.state b.chain)) is in
     ran_led _ _ _ _ _ _ _ _ _ lent lent (sym same) (c.refuse.ensures.led lent)
 
@@ -29,7 +30,7 @@ returns-in-Ok-clause-led c lent =
     let b = q.work in
     let f = fragment_at b.fragments.items c.args.i in
     let rest = copy w (drop (c.args.i + 1) b.fragments.items) in
-    let is = ap (λ (e : Entry). checked q.wires.owners q.wires.granter q.wires.user e false) (sym c.of_words-entry.ensures.entry) ∙ sym c.check.ensures.checked ∙ c.in-Ok.is in
+    let is = ap (λ (e : Entry). checked q.wires.owners q.wires.granter q.wires.user e ReadOnly) (sym c.of_words-entry.ensures.entry) ∙ sym c.check.ensures.checked ∙ c.in-Ok.is in
     let same = ap (λ (r : Result ℕ GrantFault). bind (entered f rest b.packet r) (after_copy w q.state b.chain)) is in
     let page = ap (λ (g : Fragment). bind (bind (copy_words g c.in-Ok.frame (g.offset / 4) (covered g) b.packet) rest) (after_copy w q.state b.chain)) c.fragment-fragment.ensures in
     ran_from_same _ _ _ _ _ _ _ _ _ _ lent lent (page ∙ sym same) (c.begin_page.ensures.led lent)

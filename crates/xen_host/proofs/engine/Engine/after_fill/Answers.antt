@@ -60,7 +60,7 @@ returns-in-Push-clause-led c =
     let x = q.state.rx_index in
     let lent = c.args.words.now in
     let is = ap (λ (f : Fill). fed (rest_filling (vif_of q.wires) x f q.work) (take (reads_filling f) lent)) c.in-Push.is in
-    let same = is ∙ ap (λ (l : List ℕ). fed (rest_filling (vif_of q.wires) x (fill.Push c.in-Push.passed) q.work) l) (take_one lent (omega (arith, c.requires.enough))) in
+    let same = is ∙ ap (λ (l : List ℕ). fed (rest_filling (vif_of q.wires) x (fill.Push c.in-Push.grants) q.work) l) (take_one lent (omega (arith, c.requires.enough))) in
     fill_same c.args.purpose (beside q) _ _ _ _ _ _ lent lent (sym same) (c.after_reply_event.ensures.led lent)
 
 pub returns-in-Notice-clause-led : goal.returns-in-Notice-clause-led

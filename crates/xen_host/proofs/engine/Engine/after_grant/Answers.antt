@@ -1,4 +1,4 @@
-use Rattle.std.proofs.Common.{◌≡◌, ℕ, suc, ◌-◌, ◌++◌, List, [], ◌∷◌, sym, ap, ◌∙◌, arith, true}
+use Rattle.std.proofs.Common.{◌≡◌, ℕ, suc, ◌-◌, ◌++◌, List, [], ◌∷◌, sym, ap, ◌∙◌, arith}
 use Rattle.std.specs.Prelude.{Some, Result}
 use Rattle.xen_steps.specs.Steps.{bind}
 use Rattle.xen_host.specs.Led.{beside}
@@ -9,6 +9,7 @@ use Rattle.xen_host.proofs.FillLemmas.{fill_same}
 use Rattle.xen_page.specs.Grant.{checked}
 use Rattle.xen_page.specs.declared.entry.Entry.{Entry}
 use Rattle.xen_page.specs.declared.fault.GrantFault.{GrantFault}
+use Rattle.xen_page.specs.declared.entry.Rights.TheVariants.{ReadWrite}
 use Rattle.xen_host.proofs.engine.Engine.after_grant.Goals as goal
 
 pub returns-in-Err-clause-led : goal.returns-in-Err-clause-led
@@ -19,7 +20,7 @@ returns-in-Err-clause-led c =
     let ts = q.work.targets in
     let lent = c.args.words.now in
     let after = after_targets w x q.work.packet in
-    let is = ap (λ (e : Entry). checked q.wires.owners q.wires.granter q.wires.user e true) (sym c.of_words-entry.ensures.entry) ∙ sym c.check.ensures.checked ∙ c.in-Err.is in
+    let is = ap (λ (e : Entry). checked q.wires.owners q.wires.granter q.wires.user e ReadWrite) (sym c.of_words-entry.ensures.entry) ∙ sym c.check.ensures.checked ∙ c.in-Err.is in
     let same = ap (λ (r : Result ℕ GrantFault). bind (targeted ts (read_targets w x c.args.left) c.args.id r) after) is in
     fill_same c.args.purpose (beside q) _ _ _ _ _ _ lent lent (sym same) (c.refuse_post.ensures.led lent)
 
@@ -32,7 +33,7 @@ returns-else-left-eq0-clause-led c =
     let lent = c.args.words.now in
     let n = c.args.left in
     let after = after_targets w x q.work.packet in
-    let is = ap (λ (e : Entry). checked q.wires.owners q.wires.granter q.wires.user e true) (sym c.of_words-entry.ensures.entry) ∙ sym c.check.ensures.checked ∙ c.in-Ok.is in
+    let is = ap (λ (e : Entry). checked q.wires.owners q.wires.granter q.wires.user e ReadWrite) (sym c.of_words-entry.ensures.entry) ∙ sym c.check.ensures.checked ∙ c.in-Ok.is in
     let same = ap (λ (r : Result ℕ GrantFault). bind (targeted ts (read_targets w x n) c.args.id r) after) is in
     let one : n ≡ suc (n - 1) = omega (arith, c.if-left-eq0.false) in
     let ts' = ts ++ record { id = c.args.id; frame = Some c.in-Ok.frame } ∷ [] in

@@ -1,4 +1,4 @@
-use Rattle.std.proofs.Common.{refl, sym, ap, ◌∙◌, true}
+use Rattle.std.proofs.Common.{refl, sym, ap, ◌∙◌}
 use Rattle.std.specs.Prelude.{Option, Some}
 use Rattle.xen_steps.specs.Steps.{bind}
 use Rattle.xen_host.specs.Asks as ask
@@ -12,6 +12,7 @@ use Rattle.xen_host.specs.declared.stage.Fill.TheVariants as fill
 use Rattle.xen_host.proofs.FillLemmas.{IsFillOn, fill_same, lift_fill}
 use Rattle.xen_netif.specs.declared.rx.RxReq.{RxReq}
 use Rattle.xen_page.specs.Table.{entry_place}
+use Rattle.xen_page.specs.declared.entry.Rights.TheVariants.{ReadWrite}
 use Rattle.xen_host.proofs.engine.Engine.after_post.Goals as goal
 
 pub returns-in-None : goal.returns-in-None
@@ -23,8 +24,8 @@ returns-in-None c =
     let r = c.of_words-id.result in
     let go = targeted ts (read_targets w x c.args.left) in
     let after = after_targets w x q.work.packet in
-    let is = ap (λ (y : RxReq). bind (bind (entry_at w true (entry_place w.table.now y.gref)) (go y.id)) after) (sym c.of_words-id.ensures.fields) in
-    let there = ap (λ (o : Option Place). bind (bind (entry_at w true o) (go r.id)) after) (sym c.place.ensures.place ∙ c.in-None.is) in
+    let is = ap (λ (y : RxReq). bind (bind (entry_at w ReadWrite (entry_place w.table.now y.gref)) (go y.id)) after) (sym c.of_words-id.ensures.fields) in
+    let there = ap (λ (o : Option Place). bind (bind (entry_at w ReadWrite o) (go r.id)) after) (sym c.place.ensures.place ∙ c.in-None.is) in
     record { led = λ lent. fill_same c.args.purpose (beside q) _ _ _ _ _ _ lent lent (sym (is ∙ there)) (c.refuse_post.ensures.led lent) }
 
 pub returns-in-Some : goal.returns-in-Some
@@ -37,12 +38,12 @@ returns-in-Some c =
     let at = c.in-Some.at in
     let go = targeted ts (read_targets w x c.args.left) in
     let after = after_targets w x q.work.packet in
-    let is = ap (λ (y : RxReq). bind (bind (entry_at w true (entry_place w.table.now y.gref)) (go y.id)) after) (sym c.of_words-id.ensures.fields) in
-    let there = ap (λ (o : Option Place). bind (bind (entry_at w true o) (go r.id)) after) (sym c.place.ensures.place ∙ c.in-Some.is) in
-    let left = bind (bind (entry_at w true (Some at)) (go r.id)) after in
+    let is = ap (λ (y : RxReq). bind (bind (entry_at w ReadWrite (entry_place w.table.now y.gref)) (go y.id)) after) (sym c.of_words-id.ensures.fields) in
+    let there = ap (λ (o : Option Place). bind (bind (entry_at w ReadWrite o) (go r.id)) after) (sym c.place.ensures.place ∙ c.in-Some.is) in
+    let left = bind (bind (entry_at w ReadWrite (Some at)) (go r.id)) after in
     let f = fill.Grant c.args.left r.id at in
     record {
       led = λ lent. lift_fill c.args.purpose q ts f _ _ _ _ lent lent
-          (says_one (IsFillOn q ts f) _ _ _ left _ (ask.Entry at r.gref true) _ _ _ _ lent c.requires.room c.say.ensures.one c.say.ensures.said
+          (says_one (IsFillOn q ts f) _ _ _ left _ (ask.Entry at r.gref ReadWrite) _ _ _ _ lent c.requires.room c.say.ensures.one c.say.ensures.said
           c.read_entry.ensures refl refl tt (is ∙ there) (refl, (refl, (refl, λ a. (refl, λ b. tt)))) refl refl c.requires.few);
     }

@@ -12,8 +12,8 @@ pub returns-then-ops-eq1 : goal.returns-then-ops-eq1
 returns-then-ops-eq1 c =
     let q = c.args.self.now in
     let ts = q.work.targets in
-    let f = fill.Notice c.args.passed in
-    let left = done (outcome_of c.args.passed (length ts)) in
+    let f = fill.Notice c.args.grants in
+    let left = done (outcome_of c.args.grants (length ts)) in
     record {
       led = λ lent. lift_fill c.args.purpose q ts f _ _ _ _ lent lent
           (says_last (IsFillOn q ts f) _ _ _ left _ (ask.Notify q.wires.port) _ _ _ lent lent (sym c.say.auto.ops ∙ c.if-ops-eq1.true) c.say.ensures.said c.notify.ensures refl tt
@@ -26,7 +26,7 @@ overflow_add-result c = omega (arith, fill_room c.args.purpose _ _ _ _ _ _ [] []
 pub returns : goal.returns
 returns c =
     let q = c.args.self.now in
-    let left = done (outcome_of c.args.passed (length q.work.targets)) in
+    let left = done (outcome_of c.args.grants (length q.work.targets)) in
     let one : suc c.replied.result ≡ 1 + c.replied.result = omega arith in
     let ops = said_behind c.notify.result c.args.ops.now c.say.new.ops c.replied.new.ops c.say.ensures.said in
     record {

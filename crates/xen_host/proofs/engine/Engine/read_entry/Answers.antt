@@ -1,4 +1,4 @@
-use Rattle.std.proofs.Common.{◌+◌, drop, refl, sym, ap, ◌∙◌, false}
+use Rattle.std.proofs.Common.{◌+◌, drop, refl, sym, ap, ◌∙◌}
 use Rattle.std.specs.Prelude.{Option, Some}
 use Rattle.xen_steps.specs.Steps.{bind}
 use Rattle.xen_host.specs.Asks as ask
@@ -7,6 +7,7 @@ use Rattle.xen_host.proofs.LedLemmas.{led_from, says_one}
 use Rattle.xen_netif.specs.declared.fragment.Fragment.{Fragment}
 use Rattle.xen_page.specs.Table.{entry_place}
 use Rattle.xen_page.specs.declared.place.Place.{Place}
+use Rattle.xen_page.specs.declared.entry.Rights.TheVariants.{ReadOnly}
 use Rattle.xen_rx_fill.specs.Entries.{entry_at}
 use Rattle.xen_back.specs.Rest.{fragment_at}
 use Rattle.xen_back.specs.Tree.{after_copy, copy, entered}
@@ -19,7 +20,7 @@ returns-in-None c =
     let b = q.work in
     let f = fragment_at b.fragments.items c.args.i in
     let there = sym (ap (λ (x : Fragment). entry_place w.vif.table.now x.gref) c.fragment-gref.ensures) ∙ sym c.place.ensures.place ∙ c.in-None.is in
-    let same = ap (λ (o : Option Place). bind (bind (entry_at w.vif false o) (entered f (copy w (drop (c.args.i + 1) b.fragments.items)) b.packet)) (after_copy w q.state b.chain)) there in
+    let same = ap (λ (o : Option Place). bind (bind (entry_at w.vif ReadOnly o) (entered f (copy w (drop (c.args.i + 1) b.fragments.items)) b.packet)) (after_copy w q.state b.chain)) there in
     record { led = λ lent. led_from _ _ _ _ _ _ _ _ _ lent lent (sym same) (c.refuse.ensures.led lent) }
 
 pub returns-in-Some : goal.returns-in-Some
@@ -30,9 +31,9 @@ returns-in-Some c =
     let at = c.in-Some.at in
     let f = fragment_at b.fragments.items c.args.i in
     let there = sym (ap (λ (x : Fragment). entry_place w.vif.table.now x.gref) c.fragment-gref.ensures) ∙ sym c.place.ensures.place ∙ c.in-Some.is in
-    let same = ap (λ (o : Option Place). bind (bind (entry_at w.vif false o) (entered f (copy w (drop (c.args.i + 1) b.fragments.items)) b.packet)) (after_copy w q.state b.chain)) there in
-    let left = bind (bind (entry_at w.vif false (Some at)) (entered f (copy w (drop (c.args.i + 1) b.fragments.items)) b.packet)) (after_copy w q.state b.chain) in
+    let same = ap (λ (o : Option Place). bind (bind (entry_at w.vif ReadOnly o) (entered f (copy w (drop (c.args.i + 1) b.fragments.items)) b.packet)) (after_copy w q.state b.chain)) there in
+    let left = bind (bind (entry_at w.vif ReadOnly (Some at)) (entered f (copy w (drop (c.args.i + 1) b.fragments.items)) b.packet)) (after_copy w q.state b.chain) in
     record {
-      led = λ lent. says_one _ _ _ _ left _ (ask.Entry at c.fragment-gref.result.gref false) _ _ _ _ lent c.requires.room c.say.ensures.one c.say.ensures.said
+      led = λ lent. says_one _ _ _ _ left _ (ask.Entry at c.fragment-gref.result.gref ReadOnly) _ _ _ _ lent c.requires.room c.say.ensures.one c.say.ensures.said
           c.read_entry.ensures refl refl tt same (record { is_rest = refl; waits = (refl, (refl, λ a. (refl, λ d. tt))); is_here = refl }) refl refl (c.requires.few, c.requires.within, c.requires.copies);
     }

@@ -23,16 +23,16 @@ returns-then-count-ops c =
     let x = q.state.rx_index in
     let p = q.work.packet in
     let ts = q.work.targets in
-    let passed = c.args.passed in
+    let grants = c.args.grants in
     let from = c.args.from in
     let s = c.say_replies-count in
     let n = s.result in
-    let f = fill.Respond passed (from + n) in
-    let left = rx_answer w x p passed (length ts) (from + n) (drop (from + n) ts) in
+    let f = fill.Respond grants (from + n) in
+    let left = rx_answer w x p grants (length ts) (from + n) (drop (from + n) ts) in
     record {
       led = λ lent. lift_fill c.args.purpose q ts f _ _ _ _ lent lent
-          (says_all (IsFillOn q ts f) _ _ _ left _ (replies w x p passed ts from n) _ _ n lent (replies_chained w x p passed ts from n) s.ensures.said (sym (replies_length w x p passed ts from n))
-          (c.if-count-ops.true ∙ s.auto.ops) c.requires.room (replies_gone w x p passed ts from n lent s.ensures.within) (λ a h. (refl, waits_none a left h)) refl refl s.ensures.within);
+          (says_all (IsFillOn q ts f) _ _ _ left _ (replies w x p grants ts from n) _ _ n lent (replies_chained w x p grants ts from n) s.ensures.said (sym (replies_length w x p grants ts from n))
+          (c.if-count-ops.true ∙ s.auto.ops) c.requires.room (replies_gone w x p grants ts from n lent s.ensures.within) (λ a h. (refl, waits_none a left h)) refl refl s.ensures.within);
     }
 
 pub returns : goal.returns
@@ -43,23 +43,23 @@ returns c =
     let p = q.work.packet in
     let ts = q.work.targets in
     let m = length ts in
-    let passed = c.args.passed in
+    let grants = c.args.grants in
     let from = c.args.from in
     let s = c.say_replies-count in
     let n = s.result in
-    let f = fill.Push passed in
+    let f = fill.Push grants in
     let v = add32 x m in
-    let between = rx_answer w x p passed m (from + n) (drop (from + n) ts) in
-    let left = rx_event w x passed m in
-    let all = replies w x p passed ts from n in
+    let between = rx_answer w x p grants m (from + n) (drop (from + n) ts) in
+    let left = rx_event w x grants m in
+    let all = replies w x p grants ts from n in
     let some : n < length c.args.ops.now = omega (arith, c.if-count-ops.false, s.ensures.room, s.auto.ops) in
     let whole : from + n ≡ m = s.ensures.all some in
     let end : drop (from + n) ts ≡ [] = drop_all (from + n) ts (omega (arith, whole)) in
-    let pushes : LedBy (rx_publish w x passed m) (Write (rx_word w 2) v ∷ []) left = (left, (0, (refl, refl), refl), refl) in
-    let then = subst (λ (y : Steps Outcome). LedBy y (Write (rx_word w 2) v ∷ []) left) (sym (ap (λ l. rx_answer w x p passed m (from + n) l) end)) pushes in
+    let pushes : LedBy (rx_publish w x grants m) (Write (rx_word w 2) v ∷ []) left = (left, (0, (refl, refl), refl), refl) in
+    let then = subst (λ (y : Steps Outcome). LedBy y (Write (rx_word w 2) v ∷ []) left) (sym (ap (λ l. rx_answer w x p grants m (from + n) l) end)) pushes in
     record {
       led = λ lent. lift_fill c.args.purpose q ts f _ _ _ _ lent lent
           (led_as _ _ _ _ _ _ _ _ _ _ lent lent (sym c.put.ensures) refl
-          (says_then (IsFillOn q ts f) _ _ _ between left _ all (ask.Push (rx_word w 2) v 3) _ _ _ _ lent (replies_chained w x p passed ts from n) s.ensures.said (sym (replies_length w x p passed ts from n)) some c.reply_push.ensures refl refl tt
-          (replies_gone w x p passed ts from n lent s.ensures.within) then (refl, (refl, (refl, λ a. tt))) refl refl tt));
+          (says_then (IsFillOn q ts f) _ _ _ between left _ all (ask.Push (rx_word w 2) v 3) _ _ _ _ lent (replies_chained w x p grants ts from n) s.ensures.said (sym (replies_length w x p grants ts from n)) some c.reply_push.ensures refl refl tt
+          (replies_gone w x p grants ts from n lent s.ensures.within) then (refl, (refl, (refl, λ a. tt))) refl refl tt));
     }

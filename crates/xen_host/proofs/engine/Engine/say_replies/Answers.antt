@@ -13,10 +13,10 @@ loop-k-preserved c =
     let x = q.state.rx_index in
     let p = q.work.packet in
     let ts = q.work.targets in
-    let passed = c.args.passed in
+    let grants = c.args.grants in
     let from = c.args.from in
     let k = c.loop-k.k in
     let first = c.args.ops.now in
     let at : k + from ≡ from + k = omega arith in
-    c.put.ensures ∙ put_ask (replies w x p passed ts from k) (reply w x p passed ts (from + k)) c.loop-k.ops first k c.reply_op.result c.loop-k.invariant (sym (replies_length w x p passed ts from k)) c.reply_op.ensures
-    ∙ ap (λ l. map op_of l ++ drop (k + 1) first) (sym (replies_more w x p passed ts from k (from + k) at))
+    c.put.ensures ∙ put_ask (replies w x p grants ts from k) (reply w x p grants ts (from + k)) c.loop-k.ops first k c.reply_op.result c.loop-k.invariant (sym (replies_length w x p grants ts from k)) c.reply_op.ensures
+    ∙ ap (λ l. map op_of l ++ drop (k + 1) first) (sym (replies_more w x p grants ts from k (from + k) at))

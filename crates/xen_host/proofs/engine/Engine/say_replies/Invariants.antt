@@ -6,4 +6,4 @@ use Rattle.xen_host.proofs.engine.Engine.say_replies.Given as goal
 
 abbrev pub invariant-loop-k : goal.invariant-loop-k
 invariant-loop-k l =
-    l.ops ≡ map op_of (replies (vif_of l.self.wires) l.self.state.rx_index l.self.work.packet l.passed l.self.work.targets l.from l.k) ++ drop l.k l.fn.ops
+    l.ops ≡ map op_of (replies (vif_of l.self.wires) l.self.state.rx_index l.self.work.packet l.grants l.self.work.targets l.from l.k) ++ drop l.k l.fn.ops

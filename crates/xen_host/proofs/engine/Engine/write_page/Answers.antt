@@ -1,4 +1,4 @@
-use Rattle.std.proofs.Common.{◌≡◌, ℕ, suc, ◌<◌, ◌≤◌, ◌+◌, ◌-◌, ◌*◌, List, [], refl, sym, ap, ◌∙◌, subst, arith, true}
+use Rattle.std.proofs.Common.{◌≡◌, ℕ, suc, ◌<◌, ◌≤◌, ◌+◌, ◌-◌, ◌*◌, List, [], refl, sym, ap, ◌∙◌, subst, arith}
 use Rattle.std.specs.Prelude.{min}
 use Rattle.xen_steps.specs.Steps.{Steps}
 use Rattle.xen_host.specs.Asks as ask
@@ -8,6 +8,7 @@ use Rattle.xen_host.proofs.LedLemmas.{said_behind, says_write, tail_is}
 use Rattle.xen_steps.specs.Places.{page_word}
 use Rattle.xen_rx_fill.specs.Transmit.{fill_from, rx_respond}
 use Rattle.xen_rx_fill.specs.declared.by_event.phase.Outcome.{Outcome}
+use Rattle.xen_rx_fill.specs.declared.target.Grants.TheVariants.{Passed}
 use Rattle.xen_host.specs.declared.stage.Fill.TheVariants as fill
 use Rattle.xen_host.proofs.FillLemmas.{IsFillOn, fill_as, fill_before, fill_room, lift_fill}
 use Rattle.xen_steps.specs.Drive.{LedBy}
@@ -60,7 +61,7 @@ returns-clause-led c =
     let last : words p ≤ 1024 * (i + 1) = omega (arith, most, all, c.if-to-all.false) in
     let at = page_word (frame_in (target_at ts i).frame) 0 in
     let from = fill_from w x p ts (1024 * i) in
-    let left = rx_respond w x p true ts in
+    let left = rx_respond w x p Passed ts in
     let gone = subst (λ (l : List ℕ). LedBy from (writes_at at l) left) (sym c.page_op.ensures.wrote)
     (subst (λ (s : Steps Outcome). LedBy from (writes_at at (packet_words p (1024 * i) (to - 1024 * i))) s) (fill_over w x p ts (1024 * (i + 1)) last) (page_gone w x p ts i to some most)) in
     let one : suc c.reply_from-2.result ≡ 1 + c.reply_from-2.result = omega arith in

@@ -24,5 +24,5 @@ returns-in-Response c =
     let packet = c.args.bytes.now in
     let r = c.in-Response in
     c.responded.ensures w x packet
-    ∙ rx_answer_by w x packet r.passed (length r.targets) r.i (drop r.i r.targets) c.args.word 0
+    ∙ rx_answer_by w x packet r.grants (length r.targets) r.i (drop r.i r.targets) c.args.word 0
     ∙ sym (ap (λ (s : Phase). next_by (rest_of w x packet s) c.args.word 0) r.is)

@@ -18,7 +18,7 @@ returns-in-Some-clause-read g c =
     let at = c.in-Some.at in
     let p = Read at r.0 ∷ Read (frame_place at) r.1 ∷ [] in
     let is = inside at r.0 r.1 (sym c.place.ensures.place ∙ c.in-Some.is) r.2 r.3 in
-    (p, subst (λ (x : Result ℕ GrantFault). IsEntry w c.args.write c.args.gref p x) (sym r.5) is, r.4)
+    (p, subst (λ (x : Result ℕ GrantFault). IsEntry w c.args.rights c.args.gref p x) (sym r.5) is, r.4)
 
 pub returns-in-Some-clause-inside : goal.returns-in-Some-clause-inside
-returns-in-Some-clause-inside g c = let r = c.read_entry.ensures.read in granted_inside c.args.vif.now (entry_of r.0 r.1) c.args.write c.read_entry.result r.5
+returns-in-Some-clause-inside g c = let r = c.read_entry.ensures.read in granted_inside c.args.vif.now (entry_of r.0 r.1) c.args.rights c.read_entry.result r.5

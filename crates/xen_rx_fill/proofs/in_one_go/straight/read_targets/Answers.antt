@@ -8,6 +8,7 @@ use Rattle.xen_rx_fill.specs.Transmit.{Posted, read_targets}
 use Rattle.xen_rx_fill.specs.declared.target.Target.{Target}
 use Rattle.xen_rx_fill.proofs.StraightLemmas.{targeted_none, targeted_some, targets_on}
 use Rattle.xen_rx_fill.proofs.in_one_go.straight.read_targets.Goals as goal
+use Rattle.xen_page.specs.declared.entry.Rights.TheVariants.{ReadWrite}
 
 pub returns-then-is_none-clause-driven : goal.returns-then-is_none-clause-driven
 returns-then-is_none-clause-driven g c =
@@ -23,7 +24,7 @@ returns-then-is_none-clause-driven g c =
     let new = c.read_grant.new.bus in
     let start = read_targets w x n [] in
     let go = read_targets w x (n - (l.slot + 1)) in
-    let is = subst (λ (k : RxReq). IsEntry w true k.gref e.0 c.read_grant.result) r.4 e.1 in
+    let is = subst (λ (k : RxReq). IsEntry w ReadWrite k.gref e.0 c.read_grant.result) r.4 e.1 in
     let u = targets_on log gives w x n l.slot r.0 r.1 l.targets e.0 c.read_grant.result start c.args.bus.now l.bus q.new.bus new l.invariant.driven.0 l.invariant.driven.1 (omega (arith, c.loop-slot-test.true)) l.invariant.count r.2 r.3 r.5 is e.2 in
     let grown = c.push.ensures ∙ ap (λ (k : RxReq). l.targets ++ record { id = k.id; frame = c.ok-frame.result } ∷ []) r.4 in
     let none : is_some c.ok-frame.result ≡ false = c.is_none.ensures ∙ ap not c.if-is_none.true in
@@ -43,7 +44,7 @@ loop-slot-preserved g c =
     let new = c.read_grant.new.bus in
     let start = read_targets w x n [] in
     let go = read_targets w x (n - (l.slot + 1)) in
-    let is = subst (λ (k : RxReq). IsEntry w true k.gref e.0 c.read_grant.result) r.4 e.1 in
+    let is = subst (λ (k : RxReq). IsEntry w ReadWrite k.gref e.0 c.read_grant.result) r.4 e.1 in
     let u = targets_on log gives w x n l.slot r.0 r.1 l.targets e.0 c.read_grant.result start c.args.bus.now l.bus q.new.bus new l.invariant.driven.0 l.invariant.driven.1 (omega (arith, c.loop-slot-test.true)) l.invariant.count r.2 r.3 r.5 is e.2 in
     let grown = c.push.ensures ∙ ap (λ (k : RxReq). l.targets ++ record { id = k.id; frame = c.ok-frame.result } ∷ []) r.4 in
     let some : is_some c.ok-frame.result ≡ true = c.is_none.ensures ∙ ap not c.if-is_none.false in

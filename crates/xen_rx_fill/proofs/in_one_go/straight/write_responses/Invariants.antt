@@ -8,5 +8,5 @@ abbrev pub invariant-loop-i : goal.invariant-loop-i
 invariant-loop-i g l =
     record {
       size : g.B.Bus.size l.bus ≡ g.B.Bus.size l.fn.bus;
-      driven : (t : List Event) × Driven g.B.Bus.log g.B.Bus.access_gives (rx_respond l.vif l.rx_index l.packet l.passed l.targets) (rx_answer l.vif l.rx_index l.packet l.passed (length l.targets) l.i (drop l.i l.targets)) l.fn.bus l.bus t;
+      driven : (t : List Event) × Driven g.B.Bus.log g.B.Bus.access_gives (rx_respond l.vif l.rx_index l.packet l.grants l.targets) (rx_answer l.vif l.rx_index l.packet l.grants (length l.targets) l.i (drop l.i l.targets)) l.fn.bus l.bus t;
     }
