@@ -1,6 +1,7 @@
 //! A ring's page, mapped.
 ghost use Rattle.std.specs.Prelude.{◌≡◌, ◌<◌, ◌*◌, IfOk, Some, slice_get};
 ghost use Rattle.xdp_world.specs.Frames.{frame_of};
+ghost use Rattle.xen_page.specs.declared.entry.Rights.TheVariants.{ReadWrite};
 
 use crate::layout::{BACK, FRONT, Layout};
 use std::alloc::{AllocError, Global};
