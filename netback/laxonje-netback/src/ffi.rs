@@ -168,6 +168,7 @@ pub const PRIO_PROCESS: c_int = 0;
 pub const SCHED_BATCH: c_int = 3;
 pub const PR_SET_SECCOMP: c_int = 22;
 pub const PR_CAPBSET_DROP: c_int = 24;
+pub const PR_SET_TIMERSLACK: c_int = 29;
 pub const PR_SET_NO_NEW_PRIVS: c_int = 38;
 pub const SECCOMP_MODE_FILTER: c_ulong = 2;
 

@@ -7,6 +7,8 @@ use std::io;
 use std::os::raw::{c_int, c_ulong};
 
 const LAST_CAPABILITY: u32 = 40;
+/// A sleep may end so many nanoseconds late. The kernel's own number is 50,000.
+const LEAST_SLACK: c_ulong = 1;
 
 /// Keeps CAP_NET_ADMIN, or nothing, in this thread and those that it starts. No program that is executed gets more.
 pub fn give_up_capabilities(keeps_network: bool) -> io::Result<()> {
@@ -23,8 +25,9 @@ pub fn give_up_capabilities(keeps_network: bool) -> io::Result<()> {
 }
 
 /// The priority of this thread and of those that it starts. When one is woken it doesn't take the processor from who runs (SCHED_BATCH): so
-/// a sender goes on, and its packets are taken many at a time.
+/// a sender goes on, and its packets are taken many at a time. Its sleeps end in time.
 pub fn set_priority(nice: i32) -> io::Result<()> {
+    control(ffi::PR_SET_TIMERSLACK, LEAST_SLACK, 0)?;
     let priority = 0;
     // SAFETY: `struct sched_param` is one number, which the call reads; 0 is this thread.
     done(unsafe { ffi::sched_setscheduler(0, ffi::SCHED_BATCH, &priority) })?;
@@ -104,7 +107,7 @@ mod calls {
 use calls::*;
 
 /// What a thread of packets does: reads and writes what is open, waits, asks Xen by ioctl, takes and gives memory, and ends.
-const PACKETS: [u32; 29] = [
+const PACKETS: [u32; 31] = [
     READ,
     WRITE,
     READV,
@@ -134,10 +137,12 @@ const PACKETS: [u32; 29] = [
     IO_SUBMIT,
     IO_GETEVENTS,
     IO_DESTROY,
+    NANOSLEEP,
+    CLOCK_NANOSLEEP,
 ];
 
 /// What the main thread does besides: opens devices, settings and TAPs, starts threads, and answers on its socket.
-const SERVICE: [u32; 32] = [
+const SERVICE: [u32; 30] = [
     OPEN,
     OPENAT,
     STAT,
@@ -147,8 +152,6 @@ const SERVICE: [u32; 32] = [
     STATX,
     LSEEK,
     RT_SIGACTION,
-    NANOSLEEP,
-    CLOCK_NANOSLEEP,
     GETPID,
     SOCKET,
     SENDMSG,

@@ -1,6 +1,7 @@
 //! Serving a queue: the guest's rings and pages, packets both ways, and the thread that does it.
 mod arena;
 mod guest;
+mod rests;
 mod worker;
 
 pub use guest::{Way, XenGuest};

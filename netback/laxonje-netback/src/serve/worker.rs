@@ -1,6 +1,7 @@
 //! The thread of a queue: packets both ways, until it is told to stop or the guest breaks the protocol.
 use super::arena::{Arena, Out};
 use super::guest::{Delivering, XenGuest, OWN_DOMAIN, RX_RING, TABLE_FRAMES, TX_RING};
+use super::rests::Rests;
 use crate::frame;
 use crate::log::{Limit, Log};
 use crate::os::{restrict_to_packets, wait, Tap, Wanted};
@@ -136,6 +137,7 @@ struct Running {
     tap_ready: bool,
     /// The guest has too few buffers, and owes a notice.
     waiting: bool,
+    rests: Rests,
     refusals: Limit,
 }
 
@@ -155,6 +157,7 @@ impl Worker {
             out: Out::new(),
             tap_ready: true,
             waiting: false,
+            rests: Rests::default(),
             refusals: Limit::default(),
         };
         let body = move || {
@@ -192,6 +195,7 @@ impl Running {
     fn round(&mut self) -> Result<bool, Ended> {
         let moved = self.take_packets()? | self.deliver_packets()?;
         self.send_notice()?;
+        self.rests.rest();
         // if more is to do, this looks for a TAP packet and an order and doesn't wait
         let more = (moved && self.worker.guest.shows_packets()) || self.arm()?;
         self.sleep(more)
@@ -319,6 +323,7 @@ impl Running {
             }
         }
         self.out.push(frame::header(blank), length);
+        self.rests.note_packet();
         if self.out.is_full() {
             self.exchange(false);
         }
