@@ -1,10 +1,11 @@
 -- For proofs: no claim rests on this file.
 -- What the limited rows of the code stand for.
 use Rattle.std.specs.Prelude.{map}
-use Rattle.xdp_load.specs.declared.limits.Limits.{Limits}
+use Rattle.xdp_load.specs.declared.numbers.Limits.{Limits}
 use Rattle.xdp_load.specs.declared.limits.HexPacket.{HexPacket as CodePacket}
 use Rattle.xdp_load.specs.declared.limits.WithinLimits.{WithinLimits}
-use Rattle.xdp_load.specs.Limits.{HexPacket, LimitedText, Numbers}
+use Rattle.xdp_load.specs.Limits.{HexPacket, LimitedText}
+use Rattle.xdp_load.specs.Numbers.{Numbers}
 
 abbrev pub limits_seen : Limits → Numbers
 limits_seen n = record { queues = n.queues; ifindex = n.ifindex; start = n.start }

@@ -7,10 +7,11 @@ use Rattle.xdp_load.specs.declared.kinds.PacketRow.{PacketRow}
 use Rattle.xdp_load.specs.declared.kinds.StepRow.{StepRow}
 use Rattle.xdp_load.specs.declared.kinds.PlaceRow.{PlaceRow}
 use Rattle.xdp_load.specs.declared.kinds.HexRow.{HexRow}
-use Rattle.xdp_load.specs.declared.document.Numbers.{Numbers}
+use Rattle.xdp_load.specs.declared.numbers.Numbers.{Numbers}
 use Rattle.xdp_load.specs.declared.document.Written.{Written}
 use Rattle.xdp_load.specs.Document.{MapText, RelocText, PacketText, PlaceText, StepText, Text}
-use Rattle.xdp_load.specs.Written.{NumberTexts, WrittenText}
+use Rattle.xdp_load.specs.Numbers.{NumberTexts}
+use Rattle.xdp_load.specs.Written.{WrittenText}
 
 abbrev pub map_seen : MapRow → MapText
 map_seen m = record { name = m.name.now; entries = m.entries; counters = m.counters }

@@ -2,8 +2,8 @@ use Rattle.std.proofs.Common.{◌≡◌, ◌∙◌, true, false, Some, option_ma
 use Rattle.std.specs.BTreeMap.{keys}
 use Rattle.std.proofs.lemmas.Iterator.{first_from_find}
 use Rattle.std.proofs.lemmas.Iterator.Consumers.{YieldsList-from_rest}
-use Rattle.xdp_load.proofs.SpotLemmas.{first_unknown, is_known, none_unknown}
-use Rattle.xdp_load.proofs.kind_spots.unknown_key.Goals as goal
+use Rattle.xdp_load.proofs.KeyLemmas.{first_unknown, is_known, none_unknown}
+use Rattle.xdp_load.proofs.table.unknown_key.Goals as goal
 
 pub returns-in_err-key : goal.returns-in_err-key
 returns-in_err-key c =
