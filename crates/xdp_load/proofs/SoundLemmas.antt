@@ -123,13 +123,13 @@ packet_within queues t p e =
     bind_ok (below key.PacketQueue queues t.queue) _ p e (λ q here rest.
     bind_ok (packet_text t.bytes) _ p rest (λ b there more.
     bind_ok (limited key.Times t.times) _ p more (λ n last same.
-    let (length_held, whole) = cond_ok (is_packet_text t.bytes) t.bytes b key.Bytes there in
+    let (length_held, same_text) = cond_ok (is_packet_text t.bytes) t.bytes b key.Bytes there in
     let length_parts = and_parts _ _ length_held in
     let times = limited_within key.Times t.times n last in
     subst (IsHexPacket queues) (same_Ok _ _ same) (record {
       queue = below_within key.PacketQueue queues t.queue q here;
-      long = subst (λ (x : List ℕ). 14 ≤ length x / 2) whole (leb-true _ _ length_parts.0);
-      short = subst (λ (x : List ℕ). length x / 2 ≤ 65535) whole (leb-true _ _ length_parts.1);
+      long = subst (λ (x : List ℕ). 14 ≤ length x / 2) same_text (leb-true _ _ length_parts.0);
+      short = subst (λ (x : List ℕ). length x / 2 ≤ 65535) same_text (leb-true _ _ length_parts.1);
       some_times = times.0;
       few_times = times.1;
     }))))
@@ -235,11 +235,11 @@ of_relocated w l d s held names bytes e =
 -- no name is a bad one
 pub good_names : (n : ℕ) (ts : List (List ℕ)) → bad_name n ts ≡ None → are_names ts ≡ true
 good_names n [] e = refl
-good_names n (t ∷ ts) e = go (is_bad_first (t ∷ ts)) refl e
+good_names n (t ∷ ts) e = go (is_bad_first (t ∷ ts)) refl e (λ k. good_names (suc n) ts k)
   where
-    go : (b : Bool) → is_bad_first (t ∷ ts) ≡ b → cond b (Some n) (bad_name (suc n) ts) ≡ None → are_names (t ∷ ts) ≡ true
-    go true h k = absurd (cc)
-    go false h k = rw (h, good_names (suc n) ts k)
+    go : (b : Bool) → is_bad_first (t ∷ ts) ≡ b → cond b (Some n) (bad_name (suc n) ts) ≡ None → (bad_name (suc n) ts ≡ None → are_names ts ≡ true) → are_names (t ∷ ts) ≡ true
+    go true h k rest = absurd (cc)
+    go false h k rest = rw (h, rest k)
 
 of_setup : (w : WrittenText) (l : LimitedText) (s : SetupView) → IsLimited w l → setup_of_limited w l ≡ Ok s → IsSound s
 unfolding setup_of_limited

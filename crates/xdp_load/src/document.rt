@@ -17,12 +17,27 @@ use toml::Table;
 
 /// The keys of a document.
 const TOP_KEYS: [Key; 8] = [
-    Key::Program, Key::Queues, Key::IfIndex, Key::Start, Key::Map, Key::Reloc, Key::Step, Key::Packet,
+    Key::Program,
+    Key::Queues,
+    Key::IfIndex,
+    Key::Start,
+    Key::Map,
+    Key::Reloc,
+    Key::Step,
+    Key::Packet,
 ];
 
 /// The keys of a document that has its original beside them.
 pub const REWRITTEN_KEYS: [Key; 9] = [
-    Key::Original, Key::Program, Key::Queues, Key::IfIndex, Key::Start, Key::Map, Key::Reloc, Key::Step, Key::Packet,
+    Key::Original,
+    Key::Program,
+    Key::Queues,
+    Key::IfIndex,
+    Key::Start,
+    Key::Map,
+    Key::Reloc,
+    Key::Step,
+    Key::Packet,
 ];
 
 /// The texts of the program.

@@ -82,7 +82,11 @@ fn is_packet_length(text: &str) -> bool
 fn packet_text(text: &str) -> Result<&str, Key>
     ensures { seen_by (λ t. t.now) result ≡ packet_text text.now }
 {
-    if is_packet_length(text) { Ok(text) } else { Err(Key::Bytes) }
+    if is_packet_length(text) {
+        Ok(text)
+    } else {
+        Err(Key::Bytes)
+    }
 }
 
 /// A packet within its limits.

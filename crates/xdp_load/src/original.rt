@@ -16,7 +16,7 @@ use crate::key::Key;
 use crate::kinds::{HexRow, MapRow, PlaceRow, RelocRow};
 use crate::numbers::limited;
 use crate::packets::joined;
-use crate::relocations::relocate;
+use crate::relocations::relocated;
 use crate::rows::rows_at;
 use crate::spot::Spot;
 use crate::table::{found, has_only};
@@ -104,7 +104,7 @@ pub fn limited_places(alloc: Global, rows: &[PlaceRow]) -> Result<Vec<Place>, Lo
 }
 
 /// The bytes of the original, its relocations applied.
-#[tactic(auto, using(crate::proofs::RowLemmas::names_seen), unfolding(crate::specs::Original::relocated_program))]
+#[tactic(auto, unfolding(crate::specs::Original::relocated_program))]
 fn relocated_program(
     alloc: Global,
     maps: &[MapRow<'_>],
@@ -113,9 +113,8 @@ fn relocated_program(
     requires { length maps.now ≤ 4 }
     ensures { Gives (λ v. v.items) result (relocated_program (names_of (map map_seen maps.now)) (original_seen original.now)) }
 {
-    let mut program = joined(alloc, original.program.as_slice())?;
-    relocate(program.as_mut_slice(), maps, original.relocs.as_slice())?;
-    Ok(program)
+    let program = joined(alloc, original.program.as_slice())?;
+    relocated(program, maps, original.relocs.as_slice())
 }
 
 /// The bytes of the original, or a fault in its table.

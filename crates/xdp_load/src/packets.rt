@@ -1,6 +1,6 @@
 //! Hex texts: the program and the packets.
 ghost use Rattle.std.specs.Prelude.{map};
-ghost use Rattle.xdp_load.specs.Gives.{Gives, each};
+ghost use Rattle.xdp_load.specs.Gives.{Gives, each, in_row};
 ghost use Rattle.xdp_load.specs.Seen.{hex_seen};
 ghost use Rattle.xdp_load.specs.LimitsSeen.{hex_packet_seen};
 ghost use Rattle.xdp_load.specs.Setup.{bytes_in, joined, packet_of};
@@ -46,18 +46,27 @@ pub fn joined(alloc: Global, texts: &[HexRow<'_>]) -> Result<Vec<u8>, LoadError>
     Ok(program)
 }
 
+/// The packet of the row with that number.
+#[tactic(auto, using(crate::proofs::RowLemmas::packet_fails, crate::proofs::RowLemmas::packet_read))]
+fn packet_of(alloc: Global, number: usize, row: &HexPacket<'_>) -> Result<Packet, LoadError>
+    ensures { Gives packet_view result (in_row Hex number (packet_of (hex_packet_seen row.now))) }
+{
+    let bytes = bytes_in(alloc, Key::Bytes, number, row.bytes)?;
+    Ok(Packet {
+        queue: row.queue,
+        bytes,
+        times: row.times,
+    })
+}
+
 /// The packets with their bytes.
 pub fn packets_of(alloc: Global, rows: &[HexPacket<'_>]) -> Result<Vec<Packet>, LoadError>
     ensures { Gives (λ v. map packet_view v.items) result (each Hex packet_of 0 (map hex_packet_seen rows.now)) }
 {
     let mut packets = Vec::new(alloc);
     for (i, row) in rows.iter().enumerate() {
-        let bytes = bytes_in(alloc, Key::Bytes, i, row.bytes)?;
-        packets.push(Packet {
-            queue: row.queue,
-            bytes,
-            times: row.times,
-        })?;
+        let packet = packet_of(alloc, i, row)?;
+        packets.push(packet)?;
     }
     Ok(packets)
 }

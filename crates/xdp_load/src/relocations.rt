@@ -4,8 +4,8 @@ ghost use Rattle.std.specs.List.{list_any};
 ghost use Rattle.std.specs.Ordering.{int_eq};
 ghost use Rattle.std.specs.Str.{bytes_eq};
 ghost use Rattle.xdp_load.specs.Gives.{Gives, seen_by};
-ghost use Rattle.xdp_load.specs.Seen.{reloc_seen};
-ghost use Rattle.xdp_load.specs.Setup.{own_slot, relocated, relocated_once, wide_slot, with_map};
+ghost use Rattle.xdp_load.specs.Seen.{map_seen, reloc_seen};
+ghost use Rattle.xdp_load.specs.Setup.{loaded_program, names_of, own_slot, relocated, relocated_once, wide_slot, with_map};
 
 use crate::fault::{Fault, LoadError, in_row};
 use crate::key::Key;
@@ -81,11 +81,7 @@ fn relocate_once(
 }
 
 /// Applies the relocations in turn.
-pub fn relocate(
-    program: &mut [u8],
-    maps: &[MapRow<'_>],
-    rows: &[RelocRow<'_>],
-) -> Result<(), LoadError>
+fn relocate(program: &mut [u8], maps: &[MapRow<'_>], rows: &[RelocRow<'_>]) -> Result<(), LoadError>
     requires { length maps.now ≤ 4 }
     ensures { Gives (λ _. program.new) result (relocated (map (λ m. m.name.now) maps.now) 0 program.old (map reloc_seen rows.now)) }
 {
@@ -94,4 +90,19 @@ pub fn relocate(
         in_row(Fault::Relocation, i, done)?;
     }
     Ok(())
+}
+
+/// A program with its relocations.
+#[tactic(auto, using(crate::proofs::RowLemmas::names_seen))]
+pub fn relocated(
+    program: Vec<u8>,
+    maps: &[MapRow<'_>],
+    rows: &[RelocRow<'_>],
+) -> Result<Vec<u8>, LoadError>
+    requires { length maps.now ≤ 4 }
+    ensures { Gives (λ v. v.items) result (loaded_program (names_of (map map_seen maps.now)) (map reloc_seen rows.now) program.items) }
+{
+    let mut program = program;
+    relocate(program.as_mut_slice(), maps, rows)?;
+    Ok(program)
 }

@@ -18,7 +18,7 @@ use crate::kinds::MapRow;
 use crate::limits::{WithinLimits, limited_of};
 use crate::names::bad_name;
 use crate::packets::{Packet, joined, packets_of};
-use crate::relocations::relocate;
+use crate::relocations::relocated;
 use crate::spot::Spot;
 use bpf_note::MapShape;
 use std::alloc::{AllocError, Global};
@@ -77,12 +77,8 @@ fn relocated_setup(
     ensures { Gives setup_view result (relocated_setup (written_seen written.now) (limited_seen limited.entry)
         (decoded.0.items, map packet_view decoded.1.items)) }
 {
-    let (mut program, packets) = decoded;
-    relocate(
-        program.as_mut_slice(),
-        written.maps.as_slice(),
-        written.relocs.as_slice(),
-    )?;
+    let (program, packets) = decoded;
+    let program = relocated(program, written.maps.as_slice(), written.relocs.as_slice())?;
     let names = names_of(alloc, written.maps.as_slice())?;
     Ok(Setup {
         program,
