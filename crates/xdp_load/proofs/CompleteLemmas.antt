@@ -1,5 +1,5 @@
 -- Each sound setup is that of a document: the one that spells its fields.
-use Rattle.std.proofs.Common.{append-nil, not, true, None, Result, ◌≡◌, ◌<◌, ◌≤◌, ◌/◌, ℕ, pos, List, [], ◌∷◌, length, map, codes, Option, Some, Ok, refl, ap, arith, suc}
+use Rattle.std.proofs.Common.{append-nil, not, true, None, Result, ◌≡◌, ◌<◌, ◌≤◌, ◌/◌, ℕ, pos, List, [], ◌∷◌, length, map, codes, Ok, refl, ap, arith, suc}
 use Rattle.std.proofs.lemmas.Bool.{and_parts, le-leb, lt-ltb, not-true}
 use Rattle.std.specs.List.{AllByRecursion}
 use Rattle.bpf_note.specs.Shape.{IsShape, Shape}
@@ -8,11 +8,11 @@ use Rattle.hex.proofs.HexLemmas.{decode_of-encode_lower, decode_of-ok}
 use Rattle.toml.specs.Data.{Data, string, integer, array, table, Members, no_members, member}
 use Rattle.toml.specs.View.{items_of}
 use Rattle.xdp_load.specs.Complete.{HasFields, IsWritten}
-use Rattle.xdp_load.specs.Document.{Text, MapText, PacketText, StepText, map_row, packet_row, step_row, rows}
+use Rattle.xdp_load.specs.Document.{Text, MapText, PacketText, StepText, map_row, packet_row, step_row}
 use Rattle.xdp_load.specs.Gives.{each}
 use Rattle.xdp_load.specs.Keys.{least, most}
 use Rattle.xdp_load.specs.Limits.{HexPacket, LimitedText, are_names, bad_name, is_bad_first, limited_shape, limited_step, limited_packet, limited_of, limited_lists, limited_rows}
-use Rattle.xdp_load.specs.Numbers.{below, limited, limited_numbers}
+use Rattle.xdp_load.specs.Numbers.{limited, limited_numbers}
 use Rattle.xdp_load.specs.declared.fault.Fault.{Fault}
 use Rattle.xdp_load.specs.declared.fault.Fault.TheVariants as fault
 use Rattle.xdp_load.specs.declared.key.Key.{Key}

@@ -1,14 +1,14 @@
 -- The rows of an array, one after another.
-use Rattle.std.proofs.Common.{append_assoc, cond, position, take, ◌-◌, Bool, ◌||◌, add-one, not, zero, suc, arith, ◌≡◌, ◌<◌, ◌+◌, ◌++◌, ◌∙◌, ℕ, List, [], ◌∷◌, length, get_or, drop, map, Option, Some, None, Result, Ok, Err, refl, ap, sym, false, true}
+use Rattle.std.proofs.Common.{append_assoc, cond, position, take, ◌-◌, Bool, ◌||◌, add-one, not, zero, suc, arith, ◌≡◌, ◌<◌, ◌+◌, ◌++◌, ◌∙◌, ℕ, List, [], ◌∷◌, length, get_or, drop, map, Option, Some, None, Result, Ok, Err, refl, ap, sym}
 use Rattle.std.proofs.lemmas.List.{drop_more, length-drop, length-map, map-append}
 use Rattle.std.proofs.Math.Seq.{take-length}
 use Rattle.std.specs.List.{list_any, prefix_len}
 use Rattle.toml.specs.Data.{Data}
 use Rattle.toml.specs.View.{items_of}
-use Rattle.xdp_load.specs.Document.{RelocText, Text, items_list}
+use Rattle.xdp_load.specs.Document.{Text, items_list}
 use Rattle.xdp_load.specs.Gives.{Fails, each, in_original, in_row, or_else, or_refused, original_error, seen_by, ◌>>=◌}
-use Rattle.xdp_load.specs.Seen.{map_seen, reloc_seen}
-use Rattle.xdp_load.specs.Spot.{Refused, refused, row}
+use Rattle.xdp_load.specs.Seen.{map_seen}
+use Rattle.xdp_load.specs.Spot.{Refused, row}
 use Rattle.xdp_load.specs.SpotSeen.{refused_seen}
 use Rattle.xdp_load.specs.declared.fault.Fault.{Fault}
 use Rattle.xdp_load.specs.declared.fault.Fault.TheVariants as fault
@@ -17,8 +17,7 @@ use Rattle.xdp_load.specs.declared.fault.LoadError.TheVariants as error
 use Rattle.xdp_load.specs.declared.key.Key.{Key}
 use Rattle.xdp_load.specs.declared.key.Key.TheVariants as key
 use Rattle.xdp_load.specs.declared.kinds.MapRow.{MapRow}
-use Rattle.xdp_load.specs.declared.kinds.RelocRow.{RelocRow}
-use Rattle.xdp_load.specs.Setup.{Packet, bytes_in, bytes_of, joined, names_of, packet_of, relocated, relocated_once}
+use Rattle.xdp_load.specs.Setup.{Packet, bytes_in, bytes_of, joined, names_of, packet_of}
 use Rattle.xdp_load.specs.Limits.{HexPacket, bad_name, is_bad_first}
 
 pub items_list-items_of : (ds : List Data) → items_list (items_of ds) ≡ ds

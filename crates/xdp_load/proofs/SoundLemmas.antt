@@ -1,12 +1,11 @@
 -- Each setup is sound.
-use Rattle.std.proofs.Common.{◌≡◌, ◌<◌, ◌≤◌, ◌&&◌, ◌∙◌, ℕ, ℤ, pos, negsuc, Bool, true, false, cond, suc, List, [], ◌∷◌, length, Option, Some, None, option_map, Result, Ok, Err, refl, ap, sym, subst, arith, ◌/◌}
+use Rattle.std.proofs.Common.{◌≡◌, ◌<◌, ◌≤◌, ◌&&◌, ◌∙◌, ℕ, ℤ, pos, negsuc, Bool, true, false, cond, suc, List, [], ◌∷◌, length, Option, Some, None, Result, Ok, Err, refl, ap, sym, subst, arith, ◌/◌}
 use Rattle.std.specs.Prelude.{IfOk, nat_le, nat_lt}
 use Rattle.std.specs.List.{AllByRecursion}
 use Rattle.std.specs.Option.{option_map_or}
 use Rattle.std.specs.Result.{result_ok}
 use Rattle.std.proofs.lemmas.List.{length-map}
 use Rattle.std.proofs.lemmas.Bool.{and_parts, leb-true, ltb-true}
-use Rattle.std.proofs.lemmas.Option.{same_Some}
 use Rattle.xdp_load.specs.declared.fault.Fault.{Fault}
 use Rattle.xdp_load.specs.declared.fault.Fault.TheVariants as fault
 use Rattle.xdp_load.specs.Document.{MapText, PacketText, StepText}
@@ -15,7 +14,7 @@ use Rattle.xdp_load.specs.Keys.{least, most}
 use Rattle.xdp_load.specs.Limits.{HexPacket, LimitedText, are_names, bad_name, is_bad_first, is_packet_text, limited_shape, limited_lists, limited_of, limited_packet, limited_rows, limited_step, packet_text}
 use Rattle.xdp_load.specs.Numbers.{NumberTexts, Numbers, below, limited, limited_numbers}
 use Rattle.xdp_load.specs.Setup.{Packet, SetupView, bytes_of, decoded_of, document_of, joined, loaded_program, names_of, text_of, packet_of, relocated_setup, setup_of, setup_of_limited, setup_of_table}
-use Rattle.xdp_load.specs.Spot.{Refused, at, refused, row, whole}
+use Rattle.xdp_load.specs.Spot.{at, refused, row, whole}
 use Rattle.xdp_load.specs.Written.{WrittenText, written_of}
 use Rattle.xdp_load.specs.declared.key.Key.{Key}
 use Rattle.xdp_load.specs.declared.key.Key.TheVariants as key

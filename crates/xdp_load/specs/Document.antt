@@ -6,7 +6,7 @@ use Rattle.std.specs.List.{list_any}
 use Rattle.std.specs.Str.{bytes_eq}
 use Rattle.std.specs.Option.{option_map_or}
 use Rattle.toml.specs.Data.{Data, Items, no_items, item, Members, no_members, member, as_bool, as_str, as_integer, as_array, as_table, get_member}
-use Rattle.xdp_load.specs.Gives.{each, in_key, or_else, or_refused, ◌>>=◌}
+use Rattle.xdp_load.specs.Gives.{each, or_else, or_refused, ◌>>=◌}
 use Rattle.xdp_load.specs.Keys.{missing, name}
 use Rattle.xdp_load.specs.Spot.{Refused, at}
 use Rattle.xdp_load.specs.declared.fault.Fault.TheVariants as fault

@@ -1,6 +1,6 @@
 -- Stated: claims rest on this file.
 -- Settings that say, in a table `original`, of which program theirs was made, or a fault and where it is.
-use Rattle.std.specs.Prelude.{ℕ, Bool, List, [], ◌∷◌, Option, option_and_then, Result, Ok, Err, if◌then◌else◌}
+use Rattle.std.specs.Prelude.{ℕ, Bool, List, [], ◌∷◌, option_and_then, Result, Ok, Err, if◌then◌else◌}
 use Rattle.toml.specs.Data.{Members, as_table}
 use Rattle.xdp_load.specs.declared.fault.Fault.TheVariants as fault
 use Rattle.xdp_load.specs.declared.key.Key.{Key}

@@ -1,6 +1,6 @@
 -- Stated: claims rest on this file.
 -- A document as it is written, before any limit is looked at.
-use Rattle.std.specs.Prelude.{List, [], ◌∷◌, Option, Some, None, Result, Ok, Err}
+use Rattle.std.specs.Prelude.{List, [], ◌∷◌, Result, Ok, Err}
 use Rattle.std.specs.Option.{option_map_or}
 use Rattle.toml.specs.Data.{Data, Members}
 use Rattle.xdp_load.specs.declared.fault.Fault.TheVariants as fault

@@ -1,4 +1,4 @@
-use Rattle.std.proofs.Common.{◌∙◌, ap, sym}
+use Rattle.std.proofs.Common.{◌∙◌, sym}
 use Rattle.xdp_load.specs.Limits.{limited_packet}
 use Rattle.xdp_load.specs.LimitsSeen.{hex_packet_seen}
 use Rattle.xdp_load.specs.Seen.{packet_seen}

@@ -1,4 +1,4 @@
-use Rattle.std.proofs.Common.{◌∙◌, ap, sym}
+use Rattle.std.proofs.Common.{◌∙◌, sym}
 use Rattle.xdp_load.specs.Original.{limited_place}
 use Rattle.xdp_load.specs.OriginalSeen.{place_view}
 use Rattle.xdp_load.specs.Seen.{place_seen}
