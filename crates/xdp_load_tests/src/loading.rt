@@ -110,7 +110,9 @@ pub fn gives_script(alloc: Global, text: &str, script: &[(usize, u32)]) -> bool 
 fn is_at(error: &LoadError, fault: Fault, part: Part, spot: &Spot) -> bool {
     match error {
         LoadError::Memory => false,
-        LoadError::Refused(refused) => refused.fault == fault && refused.part == part && refused.spot == *spot,
+        LoadError::Refused(refused) => refused.fault == fault
+            && refused.part == part
+            && refused.spot == *spot,
     }
 }
 
@@ -123,7 +125,13 @@ pub fn is_refused_at(alloc: Global, text: &str, fault: Fault, spot: &Spot) -> bo
 }
 
 /// Whether settings with an original are refused for this fault at this spot of their own keys or of the original's.
-pub fn is_rewritten_refused_at(alloc: Global, text: &str, fault: Fault, part: Part, spot: &Spot) -> bool {
+pub fn is_rewritten_refused_at(
+    alloc: Global,
+    text: &str,
+    fault: Fault,
+    part: Part,
+    spot: &Spot,
+) -> bool {
     match load_rewritten(alloc, text.as_bytes()) {
         Ok(_) => false,
         Err(error) => is_at(&error, fault, part, spot),
@@ -139,7 +147,13 @@ fn has_places(places: &[Place], wanted: &[(u32, bool)]) -> bool {
 }
 
 /// Whether settings with an original give this program and this original, as hexadecimal texts, and these places.
-pub fn gives_original(alloc: Global, text: &str, program: &str, original: &str, places: &[(u32, bool)]) -> bool {
+pub fn gives_original(
+    alloc: Global,
+    text: &str,
+    program: &str,
+    original: &str,
+    places: &[(u32, bool)],
+) -> bool {
     match load_rewritten(alloc, text.as_bytes()) {
         Ok(rewritten) => {
             is_hex_of(alloc, program, rewritten.setup.program.as_slice())

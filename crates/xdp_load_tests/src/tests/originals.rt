@@ -23,14 +23,26 @@ map = \"b\"
 #[test]
 fn faults_of_the_original_have_their_spots(rt: HostRuntime) {
     for (text, fault, spot) in [
-        ("[original]\nprogram = 1", Fault::Key, Spot::At(Key::Program)),
-        ("[original]\nprogram = []\nplaces = [[0, 0]]", Fault::Key, Spot::Row(Key::Place, 0)),
+        (
+            "[original]\nprogram = 1",
+            Fault::Key,
+            Spot::At(Key::Program),
+        ),
+        (
+            "[original]\nprogram = []\nplaces = [[0, 0]]",
+            Fault::Key,
+            Spot::Row(Key::Place, 0),
+        ),
         (
             "program = []\nqueues = 9\n[original]\nprogram = []\nplaces = [[0, true], [-1, true]]",
             Fault::Limit,
             Spot::Row(Key::Place, 1),
         ),
-        ("program = []\n[original]\nprogram = [\"0\"]", Fault::Hex, Spot::Row(Key::Program, 0)),
+        (
+            "program = []\n[original]\nprogram = [\"0\"]",
+            Fault::Hex,
+            Spot::Row(Key::Program, 0),
+        ),
         (
             "program = []\n[original]\nprogram = []\nreloc = [{ slot = 0, map = \"a\" }]",
             Fault::Relocation,
@@ -46,9 +58,21 @@ fn faults_of_the_original_have_their_spots(rt: HostRuntime) {
 fn faults_of_the_settings_are_their_own(rt: HostRuntime) {
     for (text, fault, spot) in [
         ("program = []", Fault::Key, Spot::At(Key::Original)),
-        ("original = { colour = 1 }", Fault::Key, Spot::At(Key::Original)),
-        ("program = 1\n[original]\nprogram = []", Fault::Key, Spot::At(Key::Program)),
-        ("program = [\"0\"]\n[original]\nprogram = [\"0\"]", Fault::Hex, Spot::Row(Key::Program, 0)),
+        (
+            "original = { colour = 1 }",
+            Fault::Key,
+            Spot::At(Key::Original),
+        ),
+        (
+            "program = 1\n[original]\nprogram = []",
+            Fault::Key,
+            Spot::At(Key::Program),
+        ),
+        (
+            "program = [\"0\"]\n[original]\nprogram = [\"0\"]",
+            Fault::Hex,
+            Spot::Row(Key::Program, 0),
+        ),
     ] {
         assert!(rt; is_rewritten_refused_at(rt.alloc(), text, fault, Part::Settings, &spot));
     }

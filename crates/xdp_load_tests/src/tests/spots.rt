@@ -8,13 +8,31 @@ use xdp_load::{Fault, Key, Spot};
 fn keys_of_a_wrong_type_have_their_spots(rt: HostRuntime) {
     for (text, spot) in [
         ("queues = true", Spot::At(Key::Program)),
-        ("start = true\nprogram = [0]\nqueues = true", Spot::Row(Key::Program, 0)),
+        (
+            "start = true\nprogram = [0]\nqueues = true",
+            Spot::Row(Key::Program, 0),
+        ),
         ("map = 0\nstart = true\nprogram = []", Spot::At(Key::Start)),
-        ("program = []\nmap = [{}, 1]\nreloc = 1", Spot::Row(Key::Name, 0)),
-        ("program = []\nmap = [{name = \"a\", entries = 1}, {name = \"b\"}]", Spot::Row(Key::Entries, 1)),
-        ("program = []\nreloc = [{slot = 0, map = \"a\", at = 1}]", Spot::Row(Key::Reloc, 0)),
-        ("program = []\nscript = [[0, 1], [0]]\npacket = 1", Spot::Row(Key::Step, 1)),
-        ("program = []\npacket = [{queue = 0, bytes = \"\", times = \"\"}]", Spot::Row(Key::Times, 0)),
+        (
+            "program = []\nmap = [{}, 1]\nreloc = 1",
+            Spot::Row(Key::Name, 0),
+        ),
+        (
+            "program = []\nmap = [{name = \"a\", entries = 1}, {name = \"b\"}]",
+            Spot::Row(Key::Entries, 1),
+        ),
+        (
+            "program = []\nreloc = [{slot = 0, map = \"a\", at = 1}]",
+            Spot::Row(Key::Reloc, 0),
+        ),
+        (
+            "program = []\nscript = [[0, 1], [0]]\npacket = 1",
+            Spot::Row(Key::Step, 1),
+        ),
+        (
+            "program = []\npacket = [{queue = 0, bytes = \"\", times = \"\"}]",
+            Spot::Row(Key::Times, 0),
+        ),
     ] {
         assert!(rt; is_refused_at(rt.alloc(), text, Fault::Key, &spot));
     }
@@ -23,11 +41,26 @@ fn keys_of_a_wrong_type_have_their_spots(rt: HostRuntime) {
 #[test]
 fn limits_have_their_spots(rt: HostRuntime) {
     for (text, spot) in [
-        ("program = []\nmap = [{name = \"\", entries = 0}]\nqueues = 9", Spot::At(Key::Queues)),
-        ("program = []\nscript = [[1, 0]]\nstart = -1", Spot::At(Key::Start)),
-        ("program = []\nscript = [[0, 0], [1, -1]]", Spot::Row(Key::StepQueue, 1)),
-        ("program = []\npacket = [{queue = 0, bytes = \"\", times = 0}]", Spot::Row(Key::Bytes, 0)),
-        ("program = []\npacket = [{queue = 1, bytes = \"\"}]\nscript = [[0, -1]]", Spot::Row(Key::Answer, 0)),
+        (
+            "program = []\nmap = [{name = \"\", entries = 0}]\nqueues = 9",
+            Spot::At(Key::Queues),
+        ),
+        (
+            "program = []\nscript = [[1, 0]]\nstart = -1",
+            Spot::At(Key::Start),
+        ),
+        (
+            "program = []\nscript = [[0, 0], [1, -1]]",
+            Spot::Row(Key::StepQueue, 1),
+        ),
+        (
+            "program = []\npacket = [{queue = 0, bytes = \"\", times = 0}]",
+            Spot::Row(Key::Bytes, 0),
+        ),
+        (
+            "program = []\npacket = [{queue = 1, bytes = \"\"}]\nscript = [[0, -1]]",
+            Spot::Row(Key::Answer, 0),
+        ),
     ] {
         assert!(rt; is_refused_at(rt.alloc(), text, Fault::Limit, &spot));
     }
@@ -41,7 +74,11 @@ fn names_hex_texts_and_relocations_have_their_spots(rt: HostRuntime) {
             Fault::Name,
             Spot::Row(Key::Name, 1),
         ),
-        ("program = [\"95\", \"0\"]", Fault::Hex, Spot::Row(Key::Program, 1)),
+        (
+            "program = [\"95\", \"0\"]",
+            Fault::Hex,
+            Spot::Row(Key::Program, 1),
+        ),
         (
             "program = [\"1801000000000000\"]\nmap = [{name = \"a\", entries = 1}]\nreloc = [{slot = 0, map = \"b\"}, {slot = 0, map = \"a\"}]",
             Fault::Relocation,
@@ -67,11 +104,25 @@ fn an_unknown_key_is_named(rt: HostRuntime) -> Result<(), Fail> {
     let alloc = rt.alloc();
     let text = "program = 1\nrings = 1\n\n[original]\nprogram = []";
     assert!(rt; is_refused_at(alloc, text, Fault::Key, &unknown(alloc, "original")?));
-    assert!(rt; is_refused_at(alloc, "\"que\\u0075e\" = 1", Fault::Key, &unknown(alloc, "queue")?));
+    assert!(rt;
+        is_refused_at(
+            alloc,
+            "\"que\\u0075e\" = 1",
+            Fault::Key,
+            &unknown(alloc, "queue")?
+        )
+    );
     Ok(())
 }
 
 #[test]
 fn what_is_no_toml_has_the_byte_at_which_its_reader_stopped(rt: HostRuntime) {
-    assert!(rt; is_refused_at(rt.alloc(), "program = []\n]", Fault::Syntax, &Spot::Byte(13)));
+    assert!(rt;
+        is_refused_at(
+            rt.alloc(),
+            "program = []\n]",
+            Fault::Syntax,
+            &Spot::Byte(13)
+        )
+    );
 }
