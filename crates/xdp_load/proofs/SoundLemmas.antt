@@ -12,11 +12,13 @@ use Rattle.xdp_load.specs.Document.{MapText, PacketText, StepText}
 use Rattle.xdp_load.specs.Gives.{Gives, each, in_key, in_original, in_row, or_else, or_refused, ◌>>=◌}
 use Rattle.xdp_load.specs.Keys.{least, most}
 use Rattle.xdp_load.specs.Limits.{HexPacket, LimitedText, are_names, bad_name, is_bad_first, is_packet_text, limited_shape, limited_lists, limited_of, limited_packet, limited_rows, limited_step, packet_text}
-use Rattle.xdp_load.specs.Numbers.{NumberTexts, Numbers, below, limited, limited_numbers}
+use Rattle.xdp_load.specs.Numbers.{below, limited, limited_numbers}
 use Rattle.xdp_load.specs.Setup.{Packet, SetupView, bytes_of, decoded_of, document_of, joined, loaded_program, names_of, text_of, packet_of, relocated_setup, setup_of, setup_of_limited, setup_of_table}
 use Rattle.xdp_load.specs.Spot.{at, refused, row, whole}
 use Rattle.xdp_load.specs.Written.{WrittenText, written_of}
 use Rattle.xdp_load.specs.declared.key.Key.{Key}
+use Rattle.xdp_load.specs.declared.numbers.Limits.{Limits}
+use Rattle.xdp_load.specs.declared.numbers.Numbers.{Numbers}
 use Rattle.xdp_load.specs.declared.key.Key.TheVariants as key
 use Rattle.bpf_note.specs.Shape.{IsShape, Shape}
 use Rattle.hex.proofs.HexLemmas.{decode_of-ok}
@@ -88,12 +90,12 @@ below_within k q z n e = bind_ok (limited k z) _ n e (λ m here rest.
     let (held, same) = cond_ok (nat_lt m q) m n k rest in
     subst (λ j. j < q) same (ltb-true m q held))
 
-numbers_within : (n : NumberTexts) (m : Numbers) → limited_numbers n ≡ Ok m → (1 ≤ m.queues) × (m.queues ≤ 8)
+numbers_within : (n : Numbers) (m : Limits) → limited_numbers n ≡ Ok m → (1 ≤ m.queues) × (m.queues ≤ 8)
 numbers_within n m e =
     bind_ok (limited key.Queues n.queues) _ m e (λ q here rest.
     bind_ok (limited key.IfIndex n.ifindex) _ m rest (λ i there more.
     bind_ok (limited key.Start n.start) _ m more (λ s last same.
-    subst (λ (k : Numbers). (1 ≤ k.queues) × (k.queues ≤ 8)) (same_Ok _ _ same) (limited_within key.Queues n.queues q here))))
+    subst (λ (k : Limits). (1 ≤ k.queues) × (k.queues ≤ 8)) (same_Ok _ _ same) (limited_within key.Queues n.queues q here))))
 
 step_within : (queues : ℕ) (s : StepText) (p : ℕ × ℕ) → limited_step queues s ≡ Ok p → p.0 < queues
 step_within queues s p e =
@@ -164,7 +166,7 @@ record IsLimited (w : WrittenText) (l : LimitedText) : Type 0 where
   script : AllByRecursion (λ p. p.0 < l.numbers.queues) l.script
   packets : AllByRecursion (IsHexPacket l.numbers.queues) l.packets
 
-rows_limited : (w : WrittenText) (n : Numbers) (l : LimitedText) → length w.maps ≤ 4 → (1 ≤ n.queues) × (n.queues ≤ 8) → limited_rows w n ≡ Ok l → IsLimited w l
+rows_limited : (w : WrittenText) (n : Limits) (l : LimitedText) → length w.maps ≤ 4 → (1 ≤ n.queues) × (n.queues ≤ 8) → limited_rows w n ≡ Ok l → IsLimited w l
 unfolding limited_rows
 rows_limited w n l few q e =
     bind_ok (each fault.Limit limited_shape 0 w.maps) _ l e (λ shapes e1 rest.
@@ -181,7 +183,7 @@ rows_limited w n l few q e =
       packets = each_all fault.Limit (limited_packet n.queues) _ (packet_within n.queues) 0 w.packets packets e3;
     }))))
 
-lists_limited : (w : WrittenText) (n : Numbers) (l : LimitedText) → (1 ≤ n.queues) × (n.queues ≤ 8) → limited_lists w n ≡ Ok l → IsLimited w l
+lists_limited : (w : WrittenText) (n : Limits) (l : LimitedText) → (1 ≤ n.queues) × (n.queues ≤ 8) → limited_lists w n ≡ Ok l → IsLimited w l
 unfolding limited_lists
 lists_limited w n l q e = go (nat_le (length w.maps) 4) refl e
   where

@@ -1,6 +1,6 @@
 -- Stated: claims rest on this file.
 -- The keys of settings: where each stands, its limits, and what docs/SETTINGS.md allows there.
-use Rattle.std.specs.Prelude.{ℕ, ℤ, pos, List, Option, Some, None, codes, unwrap_or}
+use Rattle.std.specs.Prelude.{ℕ, ℤ, pos, List, [], ◌∷◌, Option, Some, None, codes, unwrap_or}
 use Rattle.xdp_load.specs.declared.key.Key.{Key}
 use Rattle.xdp_load.specs.declared.key.Key.TheVariants.{Program, Queues, IfIndex, Start, Map, Name, Entries, Counters, Reloc, Slot}
 use Rattle.xdp_load.specs.declared.key.Key.TheVariants.{OfMap, Step, StepQueue, Answer, Packet, PacketQueue, Bytes, Times, Original}
@@ -50,6 +50,10 @@ name k = unwrap_or (part_name k) (list_name k)
 -- the greatest u32
 abbrev pub most_word : ℕ
 most_word = 4294967295
+
+-- the keys of a document
+abbrev pub top_keys : List Key
+top_keys = Program ∷ Queues ∷ IfIndex ∷ Start ∷ Map ∷ Reloc ∷ Step ∷ Packet ∷ []
 
 -- a number's limits
 abbrev pub least : Key → ℕ

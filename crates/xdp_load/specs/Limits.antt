@@ -9,8 +9,9 @@ use Rattle.xdp_load.specs.Document.{Text, MapText, PacketText, StepText}
 use Rattle.xdp_load.specs.declared.fault.Fault.TheVariants.{Limit}
 use Rattle.xdp_load.specs.declared.key.Key.{Key}
 use Rattle.xdp_load.specs.declared.key.Key.TheVariants as key
+use Rattle.xdp_load.specs.declared.numbers.Limits.{Limits}
 use Rattle.xdp_load.specs.Gives.{each, in_key, ◌>>=◌}
-use Rattle.xdp_load.specs.Numbers.{Numbers, below, limited, limited_numbers}
+use Rattle.xdp_load.specs.Numbers.{below, limited, limited_numbers}
 use Rattle.xdp_load.specs.Spot.{Refused, at, refused}
 use Rattle.xdp_load.specs.Written.{WrittenText}
 
@@ -47,20 +48,20 @@ limited_packet queues p = do
   Ok (record { queue = queue; bytes = bytes; times = times })
 
 pub record LimitedText : Type 0 where
-  pub numbers : Numbers
+  pub numbers : Limits
   pub shapes : List Shape
   pub script : List (ℕ × ℕ)
   pub packets : List HexPacket
 
 -- the lists, where there are at most four maps
-unfoldable pub limited_rows : WrittenText → Numbers → Result LimitedText Refused
+unfoldable pub limited_rows : WrittenText → Limits → Result LimitedText Refused
 limited_rows w n = do
   shapes ← each Limit limited_shape 0 w.maps
   script ← each Limit (limited_step n.queues) 0 w.script
   packets ← each Limit (limited_packet n.queues) 0 w.packets
   Ok (record { numbers = n; shapes = shapes; script = script; packets = packets })
 
-unfoldable pub limited_lists : WrittenText → Numbers → Result LimitedText Refused
+unfoldable pub limited_lists : WrittenText → Limits → Result LimitedText Refused
 limited_lists w n = if nat_le (length w.maps) 4 then limited_rows w n else Err (refused Limit (at key.Map))
 
 -- the numbers and lengths, where all are within their limits and there are at most four maps

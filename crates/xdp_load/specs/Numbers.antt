@@ -7,6 +7,8 @@ use Rattle.xdp_load.specs.Gives.{◌>>=◌}
 use Rattle.xdp_load.specs.Keys.{least, most}
 use Rattle.xdp_load.specs.declared.key.Key.{Key}
 use Rattle.xdp_load.specs.declared.key.Key.TheVariants as key
+use Rattle.xdp_load.specs.declared.numbers.Limits.{Limits}
+use Rattle.xdp_load.specs.declared.numbers.Numbers.{Numbers}
 
 -- the whole number, where it lies within the limits of that key
 abbrev pub limited : Key → ℤ → Result ℕ Key
@@ -18,12 +20,7 @@ abbrev pub below : Key → ℕ → ℤ → Result ℕ Key
 below k n z = limited k z >>= (λ q. if nat_lt q n then Ok q else Err k)
 
 -- as they are written
-pub record NumberTexts : Type 0 where
-  pub queues : ℤ
-  pub ifindex : ℤ
-  pub start : ℤ
-
-abbrev pub numbers_of : Members → Result NumberTexts Key
+abbrev pub numbers_of : Members → Result Numbers Key
 numbers_of ms = do
   queues ← number_at key.Queues ms
   ifindex ← number_at key.IfIndex ms
@@ -31,12 +28,7 @@ numbers_of ms = do
   Ok (record { queues = queues; ifindex = ifindex; start = start })
 
 -- within their limits
-pub record Numbers : Type 0 where
-  pub queues : ℕ
-  pub ifindex : ℕ
-  pub start : ℕ
-
-abbrev pub limited_numbers : NumberTexts → Result Numbers Key
+abbrev pub limited_numbers : Numbers → Result Limits Key
 limited_numbers n = do
   queues ← limited key.Queues n.queues
   ifindex ← limited key.IfIndex n.ifindex

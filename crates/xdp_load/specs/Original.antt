@@ -11,7 +11,8 @@ use Rattle.xdp_load.specs.Limits.{limited_of}
 use Rattle.xdp_load.specs.Numbers.{limited}
 use Rattle.xdp_load.specs.Setup.{SetupView, document_of, joined, loaded_program, names_of, setup_of_limited, text_of}
 use Rattle.xdp_load.specs.Spot.{Refused, at, refused, whole}
-use Rattle.xdp_load.specs.Written.{WrittenText, program_of, rows_of, top_keys, written_by}
+use Rattle.xdp_load.specs.Keys.{top_keys}
+use Rattle.xdp_load.specs.Written.{WrittenText, program_of, rows_of, written_by}
 
 -- the original as it is written
 pub record OriginalText : Type 0 where

@@ -1,20 +1,22 @@
 -- Stated: claims rest on this file.
 -- A document as it is written, before any limit is looked at.
-use Rattle.std.specs.Prelude.{List, [], ◌∷◌, Result, Ok, Err}
+use Rattle.std.specs.Prelude.{List, Result, Ok, Err}
 use Rattle.std.specs.Option.{option_map_or}
 use Rattle.toml.specs.Data.{Data, Members}
 use Rattle.xdp_load.specs.declared.fault.Fault.TheVariants as fault
 use Rattle.xdp_load.specs.declared.key.Key.{Key}
+use Rattle.xdp_load.specs.declared.numbers.Numbers.{Numbers}
 use Rattle.xdp_load.specs.declared.key.Key.TheVariants as key
 use Rattle.xdp_load.specs.Document.{Text, MapText, RelocText, PacketText, StepText, hex_row, list_at, map_row, packet_row, reloc_row}
 use Rattle.xdp_load.specs.Document.{rows, step_row, unknown_key, values_at}
 use Rattle.xdp_load.specs.Gives.{in_key, ◌>>=◌}
-use Rattle.xdp_load.specs.Numbers.{NumberTexts, numbers_of}
+use Rattle.xdp_load.specs.Keys.{top_keys}
+use Rattle.xdp_load.specs.Numbers.{numbers_of}
 use Rattle.xdp_load.specs.Spot.{Refused, refused, unknown}
 
 pub record WrittenText : Type 0 where
   pub program : List Text
-  pub numbers : NumberTexts
+  pub numbers : Numbers
   pub maps : List MapText
   pub relocs : List RelocText
   pub script : List StepText
@@ -25,9 +27,6 @@ program_of ms = rows hex_row key.Program (list_at key.Program ms)
 
 unfoldable pub rows_of : {A : Type 0} → (Data → Result A Key) → Key → Members → Result (List A) Refused
 rows_of f k ms = rows f k (values_at k ms)
-
-abbrev pub top_keys : List Key
-top_keys = key.Program ∷ key.Queues ∷ key.IfIndex ∷ key.Start ∷ key.Map ∷ key.Reloc ∷ key.Step ∷ key.Packet ∷ []
 
 unfoldable pub rows_of_table : Members → Result WrittenText Refused
 rows_of_table ms = do

@@ -6,7 +6,7 @@ ghost use Rattle.xdp_load.specs.Written.{program_of, rows_of_table, written_by, 
 ghost use Rattle.xdp_load.specs.Seen.{hex_seen, written_seen};
 
 use crate::fault::{Fault, LoadError, in_key};
-use crate::key::Key;
+use crate::key::{Key, TOP_KEYS};
 use crate::kinds::{HexRow, MapRow, PacketRow, RelocRow, StepRow};
 use crate::numbers::{Numbers, numbers_of};
 use crate::rows::{list_at, rows, rows_at};
@@ -14,31 +14,6 @@ use crate::spot::Spot;
 use crate::table::unknown_key;
 use std::alloc::Global;
 use toml::Table;
-
-/// The keys of a document.
-const TOP_KEYS: [Key; 8] = [
-    Key::Program,
-    Key::Queues,
-    Key::IfIndex,
-    Key::Start,
-    Key::Map,
-    Key::Reloc,
-    Key::Step,
-    Key::Packet,
-];
-
-/// The keys of a document that has its original beside them.
-pub const REWRITTEN_KEYS: [Key; 9] = [
-    Key::Original,
-    Key::Program,
-    Key::Queues,
-    Key::IfIndex,
-    Key::Start,
-    Key::Map,
-    Key::Reloc,
-    Key::Step,
-    Key::Packet,
-];
 
 /// The texts of the program.
 #[tactic(auto, unfolding(crate::specs::Written::program_of))]

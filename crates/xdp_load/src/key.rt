@@ -134,3 +134,28 @@ impl Key {
         }
     }
 }
+
+/// The keys of a document.
+pub const TOP_KEYS: [Key; 8] = [
+    Key::Program,
+    Key::Queues,
+    Key::IfIndex,
+    Key::Start,
+    Key::Map,
+    Key::Reloc,
+    Key::Step,
+    Key::Packet,
+];
+
+/// The keys of a document that has its original beside them.
+pub const REWRITTEN_KEYS: [Key; 9] = [
+    Key::Original,
+    Key::Program,
+    Key::Queues,
+    Key::IfIndex,
+    Key::Start,
+    Key::Map,
+    Key::Reloc,
+    Key::Step,
+    Key::Packet,
+];

@@ -4,7 +4,7 @@ ghost use Rattle.xdp_load.specs.Gives.{Gives, each, seen_by};
 ghost use Rattle.xdp_load.specs.Limits.{is_packet_text, limited_lists, limited_of, limited_packet, limited_rows, limited_shape};
 ghost use Rattle.xdp_load.specs.Limits.{limited_step, packet_text};
 ghost use Rattle.xdp_load.specs.Seen.{map_seen, packet_seen, step_seen, written_seen};
-ghost use Rattle.xdp_load.specs.LimitsSeen.{hex_packet_seen, limited_seen, limits_seen};
+ghost use Rattle.xdp_load.specs.LimitsSeen.{hex_packet_seen, limited_seen};
 ghost use Rattle.xdp_load.specs.declared.fault.Fault.TheVariants.{Limit};
 
 use crate::document::Written;
@@ -135,7 +135,7 @@ fn limited_rows<'a>(
     written: &Written<'a>,
     numbers: Limits,
 ) -> Result<WithinLimits<'a>, LoadError>
-    ensures { Gives limited_seen result (limited_rows (written_seen written.now) (limits_seen numbers)) }
+    ensures { Gives limited_seen result (limited_rows (written_seen written.now) numbers) }
 {
     let shapes = limited_shapes(alloc, written.maps.as_slice())?;
     let script = limited_script(alloc, numbers.queues, written.script.as_slice())?;
@@ -155,7 +155,7 @@ fn limited_lists<'a>(
     written: &Written<'a>,
     numbers: Limits,
 ) -> Result<WithinLimits<'a>, LoadError>
-    ensures value { Gives limited_seen result (limited_lists (written_seen written.now) (limits_seen numbers)) }
+    ensures value { Gives limited_seen result (limited_lists (written_seen written.now) numbers) }
     ensures few { OnOk result (vec_len written.now.maps ≤ 4) }
 {
     if written.maps.len() > 4 {

@@ -1,11 +1,8 @@
 //! The numbers of a document: as they are written, and within their limits.
 ghost use Rattle.std.specs.Prelude.{◌≡◌, ◌≤◌, IfOk};
 ghost use Rattle.toml.specs.View.{table_view};
-ghost use Rattle.xdp_load.specs.Gives.{seen_by};
 ghost use Rattle.xdp_load.specs.Keys.{least, most};
-ghost use Rattle.xdp_load.specs.LimitsSeen.{limits_seen};
 ghost use Rattle.xdp_load.specs.Numbers.{below, limited, limited_numbers, numbers_of};
-ghost use Rattle.xdp_load.specs.Seen.{numbers_seen};
 
 use crate::key::Key;
 use crate::table::number_at;
@@ -21,7 +18,7 @@ pub struct Numbers {
 
 /// The numbers, where each is a whole number or left out.
 pub fn numbers_of(table: &Table) -> Result<Numbers, Key>
-    ensures { seen_by numbers_seen result ≡ numbers_of (table_view table.now) }
+    ensures { result ≡ numbers_of (table_view table.now) }
 {
     let queues = number_at(table, Key::Queues)?;
     let ifindex = number_at(table, Key::IfIndex)?;
@@ -62,7 +59,7 @@ pub struct Limits {
 
 /// The numbers, where they are within their limits.
 pub fn limited_numbers(numbers: Numbers) -> Result<Limits, Key>
-    ensures { seen_by limits_seen result ≡ limited_numbers (numbers_seen numbers) }
+    ensures { result ≡ limited_numbers numbers }
 {
     let queues = limited(Key::Queues, numbers.queues)?;
     let ifindex = limited(Key::IfIndex, numbers.ifindex)?;

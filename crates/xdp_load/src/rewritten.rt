@@ -11,8 +11,9 @@ ghost use Rattle.xdp_load.specs.Sound.{IsSound};
 ghost use Rattle.xdp_load.specs.Spot.{refused, whole};
 ghost use Rattle.xdp_load.specs.declared.fault.Fault.TheVariants.{Text};
 
-use crate::document::{REWRITTEN_KEYS, Written, written_by};
+use crate::document::{Written, written_by};
 use crate::fault::{Fault, LoadError};
+use crate::key::REWRITTEN_KEYS;
 use crate::limits::limited_of;
 use crate::original::{Place, limited_places, original_of, original_program};
 use crate::setup::{Setup, document_of, setup_of_limited, text_of};
