@@ -6,10 +6,10 @@ use Rattle.std.specs.Io.KnownBytes.{Appends, Consumes, IsAtEnd, Keeps}
 use Rattle.hex.specs.Hex.{decode_of}
 use Rattle.bpf_insn.specs.declared.refusal.Refusal.{Refusal}
 use Rattle.bpf_vm.specs.declared.ended.Ended.{Ended}
-use Rattle.xdp_load.specs.Spots.{IsFaultText}
+use Rattle.xdp_load.specs.Spot.{Refused as RefusedAt}
+use Rattle.xdp_load.specs.Spots.{IsSpotText}
 use Rattle.xdp_load.specs.Original.{RewrittenView, rewritten_of}
 use Rattle.xdp_load.specs.Setup.{SetupView, setup_of, text_of}
-use Rattle.xdp_load.specs.declared.fault.Fault.{Fault}
 use Rattle.xdp_load.specs.declared.fault.LoadFault.{LoadFault}
 use Rattle.xdp_load.specs.declared.fault.LoadFault.TheVariants.{Memory, Refused}
 use Rattle.xdp_world.specs.declared.report.Report.{Report}
@@ -121,20 +121,20 @@ AnswerTo question.Run = RunAnswer
 AnswerTo question.Filter = FilterAnswer
 
 -- the line of the first fault of settings
-abbrev pub RefusedAnswer : List ℕ → Fault → Said → Type 0
-RefusedAnswer settings f said = said ≡ settings_refused (Refused f)
+abbrev pub RefusedAnswer : List ℕ → RefusedAt → Said → Type 0
+RefusedAnswer settings r said = said ≡ settings_refused (Refused r.fault)
 
--- the line of the first fault of settings, and the line that says where it is and what is allowed there
-abbrev pub PlacedAnswer : List ℕ → Fault → Said → Type 0
-PlacedAnswer settings f said = (line : List ℕ) × IsFaultText f settings line × (said ≡ (settings_text (Refused f) ++ line, 2))
+-- the line of the first fault of settings, and the line that says where its first spot is and what is allowed there
+abbrev pub PlacedAnswer : List ℕ → RefusedAt → Said → Type 0
+PlacedAnswer settings r said = (line : List ℕ) × IsSpotText r.spot settings line × (said ≡ (settings_text (Refused r.fault) ++ line, 2))
 
 -- the answer to settings with this fault, of which this is asked
-abbrev pub RefusedTo : Question → List ℕ → Fault → Said → Type 0
+abbrev pub RefusedTo : Question → List ℕ → RefusedAt → Said → Type 0
 RefusedTo question.Explain = PlacedAnswer
 RefusedTo _ = RefusedAnswer
 
 -- the answer to what settings spell: to a setup, or to their first fault
-abbrev pub SpelledAnswer : {A : Type 0} → (A → Said → Type 0) → (Fault → Said → Type 0) → Result A Fault → Said → Type 0
+abbrev pub SpelledAnswer : {A : Type 0} → (A → Said → Type 0) → (RefusedAt → Said → Type 0) → Result A RefusedAt → Said → Type 0
 SpelledAnswer answer refused (Ok s) said = answer s said
 SpelledAnswer answer refused (Err f) said = refused f said
 
@@ -143,7 +143,7 @@ abbrev pub MemoryAnswer : List ℕ → Said → Type 0
 MemoryAnswer settings said = (text_of settings ≢ None) × (said ≡ settings_refused Memory)
 
 -- the answer to settings
-abbrev pub SettingsAnswer : (SetupView → Said → Type 0) → (List ℕ → Fault → Said → Type 0) → List ℕ → Said → Type 0
+abbrev pub SettingsAnswer : (SetupView → Said → Type 0) → (List ℕ → RefusedAt → Said → Type 0) → List ℕ → Said → Type 0
 SettingsAnswer answer refused settings said = SpelledAnswer answer (refused settings) (setup_of settings) said ⊎ MemoryAnswer settings said
 
 -- the answer to settings with an original
@@ -162,7 +162,7 @@ abbrev pub InputSame : Option (List ℕ) → Option (List ℕ) → Said → Type
 InputSame old new said = (settings : List ℕ) × IsSettings old new settings × RewrittenAnswer settings said
 
 -- the answer to the settings that a reader gives
-abbrev pub InputAnswer : (SetupView → Said → Type 0) → (List ℕ → Fault → Said → Type 0) → Option (List ℕ) → Option (List ℕ) → Said →
+abbrev pub InputAnswer : (SetupView → Said → Type 0) → (List ℕ → RefusedAt → Said → Type 0) → Option (List ℕ) → Option (List ℕ) → Said →
     Type 0
 InputAnswer answer refused old new said =
     (settings : List ℕ) × IsSettings old new settings × SettingsAnswer answer refused settings said

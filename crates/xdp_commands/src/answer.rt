@@ -3,6 +3,7 @@ ghost use Rattle.std.specs.Prelude.{◌≡◌, ◌≤◌, IfOk, IfErr, Some, len
 ghost use Rattle.xdp_load.specs.OriginalSeen.{rewritten_view};
 ghost use Rattle.xdp_load.specs.SetupSeen.{setup_view};
 ghost use Rattle.xdp_load.specs.Sound.{IsSound};
+ghost use Rattle.xdp_load.specs.SpotSeen.{refused_seen};
 ghost use Rattle.xdp_commands.specs.Answer.{AnswerTo, ExecAnswer, ExplainAnswer, FilterAnswer, InputAnswer, IsAnswer, PacketAnswer};
 ghost use Rattle.xdp_commands.specs.Answer.{PairAnswer, PlacedAnswer, Reads, RefusedAnswer, RefusedTo, RewrittenAnswer};
 ghost use Rattle.xdp_commands.specs.Answer.{RunAnswer, SameAnswer, SettingsAnswer, SetupAnswer};
@@ -29,7 +30,7 @@ use std::io::Read;
 use std::sync::Wait;
 use std::thread::Threads;
 use thread_pair::Host;
-use xdp_load::{Fault, LoadFault, Rewritten, Setup, fault_text, load, load_rewritten};
+use xdp_load::{LoadError, LoadFault, Refused, Rewritten, Setup, fault_text, load, load_rewritten};
 
 /// A text that is printed, and the exit status.
 #[derive(Drop)]
@@ -126,11 +127,11 @@ fn settings_refused(alloc: Global, fault: LoadFault) -> Result<Answer, AllocErro
 }
 
 /// The answer to settings that are refused, with the line that says where, and what is allowed there.
-fn placed_answer(alloc: Global, settings: &[u8], fault: Fault) -> Result<Answer, AllocError>
-    ensures { IfOk result (λ a. PlacedAnswer settings.now fault (said_of a)) }
+fn placed_answer(alloc: Global, settings: &[u8], refused: &Refused) -> Result<Answer, AllocError>
+    ensures { IfOk result (λ a. PlacedAnswer settings.now (refused_seen refused.now) (said_of a)) }
 {
-    let mut text = settings_text(alloc, LoadFault::Refused(fault))?;
-    let line = fault_text(alloc, fault, settings)?;
+    let mut text = settings_text(alloc, LoadFault::Refused(refused.fault))?;
+    let line = fault_text(alloc, &refused.spot, settings)?;
     text.push_str(line.as_str())?;
     Ok(Answer { text, status: 2 })
 }
@@ -261,13 +262,13 @@ fn fault_answer(
     alloc: Global,
     question: Question,
     settings: &[u8],
-    fault: Fault,
+    refused: &Refused,
 ) -> Result<Answer, AllocError>
-    ensures { IfOk result (λ a. RefusedTo question settings.now fault (said_of a)) }
+    ensures { IfOk result (λ a. RefusedTo question settings.now (refused_seen refused.now) (said_of a)) }
 {
     match question {
-        Question::Explain => placed_answer(alloc, settings, fault),
-        _ => settings_refused(alloc, LoadFault::Refused(fault)),
+        Question::Explain => placed_answer(alloc, settings, refused),
+        _ => settings_refused(alloc, LoadFault::Refused(refused.fault)),
     }
 }
 
@@ -277,8 +278,8 @@ fn settings_answer(alloc: Global, question: Question, settings: &[u8]) -> Result
 {
     match load(alloc, settings) {
         Ok(setup) => setup_answer(alloc, question, &setup),
-        Err(LoadFault::Memory) => settings_refused(alloc, LoadFault::Memory),
-        Err(LoadFault::Refused(fault)) => fault_answer(alloc, question, settings, fault),
+        Err(LoadError::Memory) => settings_refused(alloc, LoadFault::Memory),
+        Err(LoadError::Refused(refused)) => fault_answer(alloc, question, settings, &refused),
     }
 }
 
@@ -288,7 +289,7 @@ fn rewritten_answer(alloc: Global, settings: &[u8]) -> Result<Answer, AllocError
 {
     match load_rewritten(alloc, settings) {
         Ok(rewritten) => same_answer(alloc, &rewritten),
-        Err(fault) => settings_refused(alloc, fault),
+        Err(error) => settings_refused(alloc, error.fault()),
     }
 }
 
@@ -304,7 +305,7 @@ fn threads_answer<T: Threads + Wait + Sync>(
 {
     match load(alloc, settings) {
         Ok(setup) => pair_answer(rt, alloc, &setup, host, turns),
-        Err(fault) => settings_refused(alloc, fault),
+        Err(error) => settings_refused(alloc, error.fault()),
     }
 }
 

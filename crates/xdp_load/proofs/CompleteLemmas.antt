@@ -1,6 +1,6 @@
 -- Each sound setup is that of a document: the one that spells its fields.
-use Rattle.std.proofs.Common.{append-nil, ◌≡◌, ◌<◌, ◌≤◌, ◌/◌, ℕ, pos, List, [], ◌∷◌, length, map, codes, Option, Some, Ok, refl, ap, arith, suc}
-use Rattle.std.proofs.lemmas.Bool.{le-leb, lt-ltb}
+use Rattle.std.proofs.Common.{append-nil, not, true, None, Result, ◌≡◌, ◌<◌, ◌≤◌, ◌/◌, ℕ, pos, List, [], ◌∷◌, length, map, codes, Ok, refl, ap, arith, suc}
+use Rattle.std.proofs.lemmas.Bool.{and_parts, le-leb, lt-ltb, not-true}
 use Rattle.std.specs.List.{AllByRecursion}
 use Rattle.bpf_note.specs.Shape.{IsShape, Shape}
 use Rattle.hex.specs.Hex.{IsBytes, encode_lower}
@@ -8,8 +8,15 @@ use Rattle.hex.proofs.HexLemmas.{decode_of-encode_lower, decode_of-ok}
 use Rattle.toml.specs.Data.{Data, string, integer, array, table, Members, no_members, member}
 use Rattle.toml.specs.View.{items_of}
 use Rattle.xdp_load.specs.Complete.{HasFields, IsWritten}
-use Rattle.xdp_load.specs.Document.{Text, MapText, PacketText, StepText, map_row, packet_row, step_row, rows}
-use Rattle.xdp_load.specs.Limits.{HexPacket, LimitedText, below, each, limited, limited_shape, limited_step, limited_packet, limited_of, limited_lists, limited_numbers}
+use Rattle.xdp_load.specs.Document.{Text, MapText, PacketText, StepText, map_row, packet_row, step_row}
+use Rattle.xdp_load.specs.Gives.{each}
+use Rattle.xdp_load.specs.Keys.{least, most}
+use Rattle.xdp_load.specs.Limits.{HexPacket, LimitedText, are_names, bad_name, is_bad_first, limited_shape, limited_step, limited_packet, limited_of, limited_lists, limited_rows}
+use Rattle.xdp_load.specs.Numbers.{limited, limited_numbers}
+use Rattle.xdp_load.specs.declared.fault.Fault.{Fault}
+use Rattle.xdp_load.specs.declared.fault.Fault.TheVariants as fault
+use Rattle.xdp_load.specs.declared.key.Key.{Key}
+use Rattle.xdp_load.specs.declared.key.Key.TheVariants as key
 use Rattle.xdp_load.specs.Setup.{Packet, SetupView, packet_of, names_of, decoded_of, relocated_setup, setup_of_limited, setup_of_table}
 use Rattle.xdp_load.specs.Sound.{IsPacket, IsSound}
 use Rattle.xdp_load.specs.Written.{WrittenText, written_of, rows_of_table, program_of, rows_of}
@@ -17,9 +24,9 @@ use Rattle.xdp_load.proofs.RowLemmas.{items_list-items_of}
 
 -- ---- rows
 
-rows_all : {A B : Type 0} (f : Data → Option B) (g : A → Data) (h : A → B) → ((x : A) → f (g x) ≡ Some (h x)) → (xs : List A) → rows f (map g xs) ≡ Some (map h xs)
-rows_all f g h e [] = refl
-rows_all f g h e (x ∷ xs) = rw (e x, rows_all f g h e xs) refl
+each_read : {A B C : Type 0} (c : Fault) (f : B → Result C Key) (g : A → B) (h : A → C) → ((x : A) → f (g x) ≡ Ok (h x)) → (n : ℕ) (xs : List A) → each c f n (map g xs) ≡ Ok (map h xs)
+each_read c f g h e n [] = refl
+each_read c f g h e n (x ∷ xs) = rw (e x, each_read c f g h e (suc n) xs) refl
 
 -- ---- what is written
 
@@ -32,7 +39,7 @@ map_text p = record { name = p.0; entries = pos p.1.entries; counters = pos p.1.
 abbrev map_data : Named → Data
 map_data p = table (member (codes "name") (string p.0) (member (codes "entries") (integer (pos p.1.entries)) (member (codes "counters") (integer (pos p.1.counters)) no_members)))
 
-map_read : (p : Named) → map_row (map_data p) ≡ Some (map_text p)
+map_read : (p : Named) → map_row (map_data p) ≡ Ok (map_text p)
 map_read p = refl
 
 abbrev step_text : ℕ × ℕ → StepText
@@ -41,7 +48,7 @@ step_text s = record { queue = pos s.0; answer = pos s.1 }
 abbrev step_data : ℕ × ℕ → Data
 step_data s = array (items_of (integer (pos s.0) ∷ integer (pos s.1) ∷ []))
 
-step_read : (s : ℕ × ℕ) → step_row (step_data s) ≡ Some (step_text s)
+step_read : (s : ℕ × ℕ) → step_row (step_data s) ≡ Ok (step_text s)
 step_read s = refl
 
 abbrev packet_text : Packet → PacketText
@@ -50,7 +57,7 @@ packet_text p = record { queue = pos p.queue; bytes = encode_lower p.bytes; time
 abbrev packet_data : Packet → Data
 packet_data p = table (member (codes "queue") (integer (pos p.queue)) (member (codes "bytes") (string (encode_lower p.bytes)) (member (codes "times") (integer (pos p.times)) no_members)))
 
-packet_read : (p : Packet) → packet_row (packet_data p) ≡ Some (packet_text p)
+packet_read : (p : Packet) → packet_row (packet_data p) ≡ Ok (packet_text p)
 packet_read p = refl
 
 abbrev named : List Text → List Shape → List Named
@@ -84,27 +91,24 @@ document_written s =
       items_list-items_of (map map_data (named s.names s.shapes)),
       items_list-items_of (map step_data s.script),
       items_list-items_of (map packet_data s.packets),
-      rows_all map_row map_data map_text map_read (named s.names s.shapes),
-      rows_all step_row step_data step_text step_read s.script,
-      rows_all packet_row packet_data packet_text packet_read s.packets,
+      each_read fault.Key map_row map_data map_text map_read 0 (named s.names s.shapes),
+      each_read fault.Key step_row step_data step_text step_read 0 s.script,
+      each_read fault.Key packet_row packet_data packet_text packet_read 0 s.packets,
     ) refl
 
 -- ---- the limits
 
-limited_all : (least most n : ℕ) → least ≤ n → n ≤ most → limited least most (pos n) ≡ Some n
-limited_all least most n a b = rw (le-leb least n a, le-leb n most b) refl
+limited_all : (k : Key) (n : ℕ) → least k ≤ n → n ≤ most k → limited k (pos n) ≡ Ok n
+limited_all k n a b = rw (le-leb (least k) n a, le-leb n (most k) b) refl
 
-below_all : (k n : ℕ) → n < k → k ≤ 8 → below k (pos n) ≡ Some n
-below_all k n a b = rw (limited_all 0 4294967295 n (omega arith) (omega (arith, a, b)), lt-ltb n k a) refl
+shape_limited : (n : Text) (s : Shape) → IsShape s → limited_shape (map_text (n, s)) ≡ Ok s
+shape_limited n s h = rw (limited_all key.Entries s.entries h.some_entries h.most_entries, limited_all key.Counters s.counters h.some_counters h.most_counters) refl
 
-shape_limited : (n : Text) (s : Shape) → IsShape s → limited_shape (map_text (n, s)) ≡ Some s
-shape_limited n s h = rw (limited_all 1 1024 s.entries h.some_entries h.most_entries, limited_all 1 8 s.counters h.some_counters h.most_counters) refl
-
-shapes_limited : (ns : List Text) (ss : List Shape) → length ns ≡ length ss → AllByRecursion IsShape ss → each limited_shape (map map_text (named ns ss)) ≡ Some ss
-shapes_limited [] [] e a = refl
-shapes_limited [] (s ∷ ss) e a = absurd (omega (arith, e))
-shapes_limited (n ∷ ns) [] e a = absurd (omega (arith, e))
-shapes_limited (n ∷ ns) (s ∷ ss) e a = rw (shape_limited n s a.0, shapes_limited ns ss (omega (arith, e)) a.1) refl
+shapes_limited : (i : ℕ) (ns : List Text) (ss : List Shape) → length ns ≡ length ss → AllByRecursion IsShape ss → each fault.Limit limited_shape i (map map_text (named ns ss)) ≡ Ok ss
+shapes_limited i [] [] e a = refl
+shapes_limited i [] (s ∷ ss) e a = absurd (omega (arith, e))
+shapes_limited i (n ∷ ns) [] e a = absurd (omega (arith, e))
+shapes_limited i (n ∷ ns) (s ∷ ss) e a = rw (shape_limited n s a.0, shapes_limited (suc i) ns ss (omega (arith, e)) a.1) refl
 
 names_back : (ns : List Text) (ss : List Shape) → length ns ≡ length ss → names_of (map map_text (named ns ss)) ≡ ns
 unfolding names_of
@@ -119,12 +123,12 @@ maps_counted [] (s ∷ ss) e = absurd (omega (arith, e))
 maps_counted (n ∷ ns) [] e = absurd (omega (arith, e))
 maps_counted (n ∷ ns) (s ∷ ss) e = ap suc (maps_counted ns ss (omega (arith, e)))
 
-step_limited : (q : ℕ) (p : ℕ × ℕ) → q ≤ 8 → p.0 < q → p.1 < 4294967296 → limited_step q (step_text p) ≡ Some p
-step_limited q p few a b = rw (below_all q p.0 a few, limited_all 0 4294967295 p.1 (omega arith) (omega (arith, b))) refl
+step_limited : (q : ℕ) (p : ℕ × ℕ) → q ≤ 8 → p.0 < q → p.1 < 4294967296 → limited_step q (step_text p) ≡ Ok p
+step_limited q p few a b = rw (limited_all key.StepQueue p.0 (omega arith) (omega (arith, a, few)), lt-ltb p.0 q a, limited_all key.Answer p.1 (omega arith) (omega (arith, b))) refl
 
-steps_limited : (q : ℕ) (ps : List (ℕ × ℕ)) → q ≤ 8 → AllByRecursion (λ p. p.0 < q) ps → AllByRecursion (λ p. p.1 < 4294967296) ps → each (limited_step q) (map step_text ps) ≡ Some ps
-steps_limited q [] few a b = refl
-steps_limited q (p ∷ ps) few a b = rw (step_limited q p few a.0 b.0, steps_limited q ps few a.1 b.1) refl
+steps_limited : (q i : ℕ) (ps : List (ℕ × ℕ)) → q ≤ 8 → AllByRecursion (λ p. p.0 < q) ps → AllByRecursion (λ p. p.1 < 4294967296) ps → each fault.Limit (limited_step q) i (map step_text ps) ≡ Ok ps
+steps_limited q i [] few a b = refl
+steps_limited q i (p ∷ ps) few a b = rw (step_limited q p few a.0 b.0, steps_limited q (suc i) ps few a.1 b.1) refl
 
 abbrev hex_packet : Packet → HexPacket
 hex_packet p = record { queue = p.queue; bytes = encode_lower p.bytes; times = p.times }
@@ -135,20 +139,28 @@ digits_counted xs h =
     let twice = (decode_of-ok (encode_lower xs) xs (decode_of-encode_lower xs h)).2 in
     omega (arith, twice)
 
-packet_limited : (q : ℕ) (p : Packet) → q ≤ 8 → IsPacket q p → IsBytes p.bytes → limited_packet q (packet_text p) ≡ Some (hex_packet p)
+packet_limited : (q : ℕ) (p : Packet) → q ≤ 8 → IsPacket q p → IsBytes p.bytes → limited_packet q (packet_text p) ≡ Ok (hex_packet p)
 packet_limited q p few h b =
-    rw (below_all q p.queue h.queue few, limited_all 1 100000 p.times h.some_times h.few_times, digits_counted p.bytes b, le-leb 14 (length p.bytes) h.long, le-leb (length p.bytes) 65535 h.short) refl
+    let queue = h.queue in
+    rw (limited_all key.PacketQueue p.queue (omega arith) (omega (arith, queue, few)), lt-ltb p.queue q queue, limited_all key.Times p.times h.some_times h.few_times, digits_counted p.bytes b, le-leb 14 (length p.bytes) h.long, le-leb (length p.bytes) 65535 h.short) refl
 
-packets_limited : (q : ℕ) (ps : List Packet) → q ≤ 8 → AllByRecursion (IsPacket q) ps → AllByRecursion (λ p. IsBytes p.bytes) ps → each (limited_packet q) (map packet_text ps) ≡ Some (map hex_packet ps)
-packets_limited q [] few a b = refl
-packets_limited q (p ∷ ps) few a b = rw (packet_limited q p few a.0 b.0, packets_limited q ps few a.1 b.1) refl
+packets_limited : (q i : ℕ) (ps : List Packet) → q ≤ 8 → AllByRecursion (IsPacket q) ps → AllByRecursion (λ p. IsBytes p.bytes) ps → each fault.Limit (limited_packet q) i (map packet_text ps) ≡ Ok (map hex_packet ps)
+packets_limited q i [] few a b = refl
+packets_limited q i (p ∷ ps) few a b = rw (packet_limited q p few a.0 b.0, packets_limited q (suc i) ps few a.1 b.1) refl
 
-packet_decoded : (p : Packet) → IsBytes p.bytes → packet_of (hex_packet p) ≡ Some p
+packet_decoded : (p : Packet) → IsBytes p.bytes → packet_of (hex_packet p) ≡ Ok p
 packet_decoded p b = rw (decode_of-encode_lower p.bytes b) refl
 
-packets_decoded : (ps : List Packet) → AllByRecursion (λ p. IsBytes p.bytes) ps → each packet_of (map hex_packet ps) ≡ Some ps
-packets_decoded [] b = refl
-packets_decoded (p ∷ ps) b = rw (packet_decoded p b.0, packets_decoded ps b.1) refl
+packets_decoded : (i : ℕ) (ps : List Packet) → AllByRecursion (λ p. IsBytes p.bytes) ps → each fault.Hex packet_of i (map hex_packet ps) ≡ Ok ps
+packets_decoded i [] b = refl
+packets_decoded i (p ∷ ps) b = rw (packet_decoded p b.0, packets_decoded (suc i) ps b.1) refl
+
+-- a name that is no right one is a bad one
+names_good : (n : ℕ) (ts : List Text) → are_names ts ≡ true → bad_name n ts ≡ None
+names_good n [] e = refl
+names_good n (t ∷ ts) e =
+    let (free, rest) = and_parts (not (is_bad_first (t ∷ ts))) (are_names ts) e in
+    rw (not-true _ free, names_good (suc n) ts rest)
 
 -- ---- the whole
 
@@ -160,26 +172,30 @@ limits_of s = record {
   packets = map hex_packet s.packets;
 }
 
-numbers_limited : (s : SetupView) → IsSound s → HasFields s → limited_numbers (written s).numbers ≡ Some (limits_of s).numbers
+numbers_limited : (s : SetupView) → IsSound s → HasFields s → limited_numbers (written s).numbers ≡ Ok (limits_of s).numbers
 numbers_limited s h f =
     let i = f.ifindex in
     let b = f.start in
-    rw (limited_all 1 8 s.queues h.some_queues h.few_queues, limited_all 0 4294967295 s.ifindex (omega arith) (omega (arith, i)), limited_all 0 4294967295 s.start (omega arith) (omega (arith, b))) refl
+    rw (limited_all key.Queues s.queues h.some_queues h.few_queues, limited_all key.IfIndex s.ifindex (omega arith) (omega (arith, i)), limited_all key.Start s.start (omega arith) (omega (arith, b))) refl
+
+rows_limited : (s : SetupView) → IsSound s → HasFields s → limited_rows (written s) (limits_of s).numbers ≡ Ok (limits_of s)
+unfolding limited_rows
+rows_limited s h f =
+    rw (shapes_limited 0 s.names s.shapes h.named h.shapes, steps_limited s.queues 0 s.script h.few_queues h.script f.answers, packets_limited s.queues 0 s.packets h.few_queues h.packets f.packets) refl
 
 lists_limited : (s : SetupView) → IsSound s → HasFields s → limited_lists (written s) (limits_of s).numbers ≡ Ok (limits_of s)
 unfolding limited_lists
 lists_limited s h f =
-    rw (shapes_limited s.names s.shapes h.named h.shapes, steps_limited s.queues s.script h.few_queues h.script f.answers, packets_limited s.queues s.packets h.few_queues h.packets f.packets) refl
+    let few : length (map map_text (named s.names s.shapes)) ≤ 4 = rw (maps_counted s.names s.shapes h.named) h.few_maps in
+    rw (le-leb (length (map map_text (named s.names s.shapes))) 4 few) (rows_limited s h f)
 
 written_limited : (s : SetupView) → IsSound s → HasFields s → limited_of (written s) ≡ Ok (limits_of s)
 unfolding limited_of
-written_limited s h f =
-    let few : length (map map_text (named s.names s.shapes)) ≤ 4 = rw (maps_counted s.names s.shapes h.named) h.few_maps in
-    rw (le-leb (length (map map_text (named s.names s.shapes))) 4 few, numbers_limited s h f) (lists_limited s h f)
+written_limited s h f = rw (numbers_limited s h f) (lists_limited s h f)
 
 written_decoded : (s : SetupView) → HasFields s → decoded_of (written s) (limits_of s) ≡ Ok (s.program, s.packets)
 unfolding decoded_of
-written_decoded s f = rw (decode_of-encode_lower s.program f.program, append-nil s.program, packets_decoded s.packets f.packets) refl
+written_decoded s f = rw (decode_of-encode_lower s.program f.program, append-nil s.program, packets_decoded 0 s.packets f.packets) refl
 
 written_relocated : (s : SetupView) → IsSound s → relocated_setup (written s) (limits_of s) (s.program, s.packets) ≡ Ok s
 unfolding relocated_setup
@@ -187,7 +203,7 @@ written_relocated s h = rw (names_back s.names s.shapes h.named) refl
 
 limited_setup : (s : SetupView) → IsSound s → HasFields s → setup_of_limited (written s) (limits_of s) ≡ Ok s
 unfolding setup_of_limited
-limited_setup s h f = rw (names_back s.names s.shapes h.named, h.names, written_decoded s f) (written_relocated s h)
+limited_setup s h f = rw (names_back s.names s.shapes h.named, names_good 0 s.names h.names, written_decoded s f) (written_relocated s h)
 
 whole_setup : (s : SetupView) → IsSound s → HasFields s → setup_of_table (document s) ≡ Ok s
 unfolding setup_of_table

@@ -1,9 +1,10 @@
 -- Stated: claims rest on this file.
--- The keys of settings: where each stands, and what docs/SETTINGS.md allows there.
-use Rattle.std.specs.Prelude.{ℕ, List, Option, Some, None, codes}
+-- The keys of settings: where each stands, its limits, and what docs/SETTINGS.md allows there.
+use Rattle.std.specs.Prelude.{ℕ, ℤ, pos, List, [], ◌∷◌, Option, Some, None, codes, unwrap_or}
 use Rattle.xdp_load.specs.declared.key.Key.{Key}
 use Rattle.xdp_load.specs.declared.key.Key.TheVariants.{Program, Queues, IfIndex, Start, Map, Name, Entries, Counters, Reloc, Slot}
-use Rattle.xdp_load.specs.declared.key.Key.TheVariants.{OfMap, Step, StepQueue, Answer, Packet, PacketQueue, Bytes, Times}
+use Rattle.xdp_load.specs.declared.key.Key.TheVariants.{OfMap, Step, StepQueue, Answer, Packet, PacketQueue, Bytes, Times, Original}
+use Rattle.xdp_load.specs.declared.key.Key.TheVariants.{Place}
 
 -- the key of the document that it is, or that holds the rows in which it is
 abbrev pub list_name : Key → List ℕ
@@ -25,6 +26,8 @@ list_name Packet = codes "packet"
 list_name PacketQueue = codes "packet"
 list_name Bytes = codes "packet"
 list_name Times = codes "packet"
+list_name Original = codes "original"
+list_name Place = codes "places"
 
 -- the key within a row, or the part of a step
 abbrev pub part_name : Key → Option (List ℕ)
@@ -39,6 +42,42 @@ part_name Answer = Some (codes "answer")
 part_name Bytes = Some (codes "bytes")
 part_name Times = Some (codes "times")
 part_name _ = None
+
+-- the key as it is written in its table
+abbrev pub name : Key → List ℕ
+name k = unwrap_or (part_name k) (list_name k)
+
+-- the greatest u32
+abbrev pub most_word : ℕ
+most_word = 4294967295
+
+-- the keys of a document
+abbrev pub top_keys : List Key
+top_keys = Program ∷ Queues ∷ IfIndex ∷ Start ∷ Map ∷ Reloc ∷ Step ∷ Packet ∷ []
+
+-- a number's limits
+abbrev pub least : Key → ℕ
+least Queues = 1
+least Entries = 1
+least Counters = 1
+least Times = 1
+least _ = 0
+
+abbrev pub most : Key → ℕ
+most Queues = 8
+most Entries = 1024
+most Counters = 8
+most Times = 100000
+most _ = most_word
+
+-- the number where there is no such key, if it may be left out
+abbrev pub missing : Key → Option ℤ
+missing Queues = Some (pos 1)
+missing IfIndex = Some (pos 0)
+missing Start = Some (pos 0)
+missing Counters = Some (pos 1)
+missing Times = Some (pos 1)
+missing _ = None
 
 abbrev pub allowed : Key → List ℕ
 allowed Program = codes "a list of hex texts, each with whole bytes (required)"
@@ -59,3 +98,5 @@ allowed Packet = codes "tables, each with queue, bytes and, optionally, times"
 allowed PacketQueue = codes "a whole number below queues (required)"
 allowed Bytes = codes "a hex text of 14 to 65535 bytes (required)"
 allowed Times = codes "a whole number, 1 to 100000"
+allowed Original = codes "a table with program, places and, optionally, reloc (required)"
+allowed Place = codes "places, each of a whole number, 0 to 4294967295, and true or false"

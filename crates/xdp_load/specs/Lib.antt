@@ -7,12 +7,14 @@ pub mod Limits
 pub mod LimitsSeen
 pub mod Lines
 pub mod Seen
+pub mod Numbers
 pub mod Original
 pub mod OriginalRows
 pub mod OriginalSeen
 pub mod Setup
 pub mod SetupSeen
 pub mod Sound
+pub mod Spot
+pub mod SpotSeen
 pub mod Spots
-pub mod SpotsSeen
 pub mod Written

@@ -1,11 +1,11 @@
 -- Stated: claims rest on this file.
 -- The line of a settings text at which a key, a row of a list or a key of the row is found.
 use Rattle.std.specs.Prelude.{ℕ, suc, ◌+◌, ◌==◌, ◌||◌, List, [], ◌∷◌, length, take, drop, codes, slice_get}
-use Rattle.std.specs.Prelude.{Bool, false, not, Option, Some, None, option_map, position, if◌then◌else◌}
+use Rattle.std.specs.Prelude.{Bool, false, not, Option, Some, None, option_and_then, option_map, position, if◌then◌else◌}
 use Rattle.std.specs.List.{find, list_any, take_while}
 use Rattle.std.specs.Option.{option_map_or, option_or}
 use Rattle.std.specs.Str.{bytes_eq}
-use Rattle.xdp_load.specs.Document.{Text, ◌>>=◌}
+use Rattle.xdp_load.specs.Document.{Text}
 
 -- ---- what a line begins with
 
@@ -22,7 +22,7 @@ abbrev pub behind : Text → Text → Option Text
 behind word t = if bytes_eq (take (length word) t) word then Some (drop (length word) t) else None
 
 abbrev pub behind_key : Text → Text → Text → Option Text
-behind_key quote key t = behind quote t >>= behind key >>= behind quote
+behind_key quote key t = option_and_then (behind quote) (option_and_then (behind key) (behind quote t))
 
 abbrev pub begins_with_one : Text → Text → Bool
 begins_with_one ends [] = false

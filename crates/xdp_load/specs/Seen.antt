@@ -7,10 +7,9 @@ use Rattle.xdp_load.specs.declared.kinds.PacketRow.{PacketRow}
 use Rattle.xdp_load.specs.declared.kinds.StepRow.{StepRow}
 use Rattle.xdp_load.specs.declared.kinds.PlaceRow.{PlaceRow}
 use Rattle.xdp_load.specs.declared.kinds.HexRow.{HexRow}
-use Rattle.xdp_load.specs.declared.document.Numbers.{Numbers}
 use Rattle.xdp_load.specs.declared.document.Written.{Written}
 use Rattle.xdp_load.specs.Document.{MapText, RelocText, PacketText, PlaceText, StepText, Text}
-use Rattle.xdp_load.specs.Written.{NumberTexts, WrittenText}
+use Rattle.xdp_load.specs.Written.{WrittenText}
 
 abbrev pub map_seen : MapRow → MapText
 map_seen m = record { name = m.name.now; entries = m.entries; counters = m.counters }
@@ -30,13 +29,10 @@ place_seen p = record { at = p.at; own = p.own }
 abbrev pub hex_seen : HexRow → Text
 hex_seen h = h.text.now
 
-abbrev pub numbers_seen : Numbers → NumberTexts
-numbers_seen n = record { queues = n.queues; ifindex = n.ifindex; start = n.start }
-
 abbrev pub written_seen : Written → WrittenText
 written_seen w = record {
   program = map hex_seen w.program.items;
-  numbers = numbers_seen w.numbers;
+  numbers = w.numbers;
   maps = map map_seen w.maps.items;
   relocs = map reloc_seen w.relocs.items;
   script = map step_seen w.script.items;

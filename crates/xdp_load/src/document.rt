@@ -1,54 +1,26 @@
 //! A document as it is written, before any limit is looked at.
-ghost use Rattle.std.specs.Prelude.{◌≡◌, map, option_map};
+ghost use Rattle.std.specs.Prelude.{map};
 ghost use Rattle.toml.specs.View.{table_view};
 ghost use Rattle.xdp_load.specs.Gives.{Gives};
-ghost use Rattle.xdp_load.specs.Written.{numbers_of, program_of, rows_of_table, written_of};
-ghost use Rattle.xdp_load.specs.Seen.{hex_seen, numbers_seen, written_seen};
+ghost use Rattle.xdp_load.specs.Written.{program_of, rows_of_table, written_by, written_of};
+ghost use Rattle.xdp_load.specs.Seen.{hex_seen, written_seen};
 
-use crate::fault::{Fault, LoadFault};
+use crate::fault::{Fault, LoadError, in_key};
+use crate::key::{Key, TOP_KEYS};
 use crate::kinds::{HexRow, MapRow, PacketRow, RelocRow, StepRow};
-use crate::rows::{rows, rows_at, rows_in};
-use crate::table::{found, has_only, integer_or};
+use crate::numbers::{Numbers, numbers_of};
+use crate::rows::{list_at, rows, rows_at};
+use crate::spot::Spot;
+use crate::table::unknown_key;
 use std::alloc::Global;
 use toml::Table;
 
-/// The keys of a document.
-pub const TOP_KEYS: [&str; 8] = [
-    "program", "queues", "ifindex", "start", "map", "reloc", "script", "packet",
-];
-
 /// The texts of the program.
 #[tactic(auto, unfolding(crate::specs::Written::program_of))]
-pub fn program_of(alloc: Global, table: &Table) -> Result<Vec<HexRow<'_>>, LoadFault>
+pub fn program_of(alloc: Global, table: &Table) -> Result<Vec<HexRow<'_>>, LoadError>
     ensures { Gives (λ v. map hex_seen v.items) result (program_of (table_view table.now)) }
 {
-    let texts = found(table, "program").ok_or(Fault::Key)?;
-    match rows_in(texts) {
-        Some(values) => rows(alloc, values),
-        None => Err(LoadFault::Refused(Fault::Key)),
-    }
-}
-
-/// The numbers of a document as they are written.
-#[derive(Clone, Copy)]
-pub struct Numbers {
-    pub queues: i64,
-    pub ifindex: i64,
-    pub start: i64,
-}
-
-/// The numbers, where each is a whole number or left out.
-fn numbers_of(table: &Table) -> Option<Numbers>
-    ensures { option_map numbers_seen result ≡ numbers_of (table_view table.now) }
-{
-    let queues = integer_or(table, "queues", 1)?;
-    let ifindex = integer_or(table, "ifindex", 0)?;
-    let start = integer_or(table, "start", 0)?;
-    Some(Numbers {
-        queues,
-        ifindex,
-        start,
-    })
+    rows(alloc, Key::Program, list_at(table, Key::Program))
 }
 
 /// A document as it is written.
@@ -64,15 +36,15 @@ pub struct Written<'a> {
 
 /// What a document with known keys says.
 #[tactic(auto, unfolding(crate::specs::Written::rows_of_table))]
-pub fn rows_of_table<'a>(alloc: Global, table: &'a Table) -> Result<Written<'a>, LoadFault>
+fn rows_of_table<'a>(alloc: Global, table: &'a Table) -> Result<Written<'a>, LoadError>
     ensures { Gives written_seen result (rows_of_table (table_view table.now)) }
 {
-    let numbers = numbers_of(table).ok_or(Fault::Key)?;
     let program = program_of(alloc, table)?;
-    let maps = rows_at(alloc, table, "map")?;
-    let relocs = rows_at(alloc, table, "reloc")?;
-    let script = rows_at(alloc, table, "script")?;
-    let packets = rows_at(alloc, table, "packet")?;
+    let numbers = in_key(Fault::Key, numbers_of(table))?;
+    let maps = rows_at(alloc, table, Key::Map)?;
+    let relocs = rows_at(alloc, table, Key::Reloc)?;
+    let script = rows_at(alloc, table, Key::Step)?;
+    let packets = rows_at(alloc, table, Key::Packet)?;
     Ok(Written {
         program,
         numbers,
@@ -83,13 +55,27 @@ pub fn rows_of_table<'a>(alloc: Global, table: &'a Table) -> Result<Written<'a>,
     })
 }
 
+/// What a document says that knows these keys.
+pub fn written_by<'a>(
+    alloc: Global,
+    table: &'a Table,
+    known: &[Key],
+) -> Result<Written<'a>, LoadError>
+    ensures { Gives written_seen result (written_by known.now (table_view table.now)) }
+{
+    match unknown_key(table, known) {
+        Some(name) => {
+            let name = String::from_str(alloc, name)?;
+            Err(LoadError::at(Fault::Key, Spot::Unknown(name)))
+        }
+        None => rows_of_table(alloc, table),
+    }
+}
+
 /// A document, if each of its keys is known and of the right type.
 #[tactic(auto, unfolding(crate::specs::Written::written_of))]
-pub fn read_document<'a>(alloc: Global, table: &'a Table) -> Result<Written<'a>, LoadFault>
+pub fn read_document<'a>(alloc: Global, table: &'a Table) -> Result<Written<'a>, LoadError>
     ensures { Gives written_seen result (written_of (table_view table.now)) }
 {
-    if !has_only(table, &TOP_KEYS) {
-        return Err(LoadFault::Refused(Fault::Key));
-    }
-    rows_of_table(alloc, table)
+    written_by(alloc, table, &TOP_KEYS)
 }

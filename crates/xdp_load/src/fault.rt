@@ -1,8 +1,12 @@
-//! Why settings are refused.
+//! Why and where settings are refused.
 ghost use Rattle.std.specs.Prelude.{◌≡◌};
 ghost use Rattle.xdp_load.specs.FaultNumber.{fault_number};
-ghost use Rattle.xdp_load.specs.declared.fault.LoadFault.TheVariants.{Memory, Refused};
+ghost use Rattle.xdp_load.specs.Gives.{Gives, fault_of, in_key, in_row, original_error};
+ghost use Rattle.xdp_load.specs.declared.fault.LoadError.TheVariants as error;
+ghost use Rattle.xdp_load.specs.declared.fault.Part.TheVariants.{Settings};
 
+use crate::key::Key;
+use crate::spot::Spot;
 use std::alloc::{AllocError, AllocFailed};
 use thiserror::Error;
 
@@ -32,7 +36,7 @@ pub enum Fault {
     Relocation,
 }
 
-/// Why there is no setup of a settings text.
+/// The fault of settings of which there is no setup, wherever it is.
 #[derive(Clone, Copy, Debug, PartialEq, Eq, Error)]
 pub enum LoadFault {
     /// L0
@@ -61,26 +65,101 @@ impl LoadFault {
     }
 }
 
-impl From<Fault> for LoadFault {
-    ghost from_gives = { λ fault e. e ≡ Refused fault };
+/// The settings' own keys, or those of the table `original`.
+#[derive(Clone, Copy, Debug, PartialEq, Eq)]
+pub enum Part {
+    Settings,
+    Original,
+}
 
-    fn from(fault: Fault) -> LoadFault {
-        LoadFault::Refused(fault)
+/// A fault of settings, and where it is.
+#[derive(Debug, PartialEq, Eq, Drop)]
+pub struct Refused {
+    pub fault: Fault,
+    pub part: Part,
+    pub spot: Spot,
+}
+
+/// Why there is no setup of a settings text.
+#[derive(Debug, PartialEq, Eq, Error, Drop)]
+pub enum LoadError {
+    /// L0
+    #[error("out of memory")]
+    Memory,
+    /// L1 to L7
+    #[error("the settings are refused")]
+    Refused(Refused),
+}
+
+impl LoadError {
+    /// A fault of the settings' own keys.
+    pub fn at(fault: Fault, spot: Spot) -> LoadError
+        ensures { result ≡ error.Refused (record { fault = fault; part = Settings; spot = spot }) }
+    {
+        LoadError::Refused(Refused {
+            fault,
+            part: Part::Settings,
+            spot,
+        })
+    }
+
+    /// The same fault of the original's keys.
+    pub fn in_original(self) -> LoadError
+        ensures { result ≡ original_error self }
+    {
+        match self {
+            LoadError::Memory => LoadError::Memory,
+            LoadError::Refused(refused) => LoadError::Refused(Refused {
+                fault: refused.fault,
+                part: Part::Original,
+                spot: refused.spot,
+            }),
+        }
+    }
+
+    /// The fault alone.
+    pub fn fault(&self) -> LoadFault
+        ensures { result ≡ fault_of self.now }
+    {
+        match self {
+            LoadError::Memory => LoadFault::Memory,
+            LoadError::Refused(refused) => LoadFault::Refused(refused.fault),
+        }
     }
 }
 
-impl From<AllocError> for LoadFault {
-    ghost from_gives = { λ _ e. e ≡ Memory };
+impl From<AllocError> for LoadError {
+    ghost from_gives = { λ _ e. e ≡ error.Memory };
 
-    fn from(_error: AllocError) -> LoadFault {
-        LoadFault::Memory
+    fn from(_error: AllocError) -> LoadError {
+        LoadError::Memory
     }
 }
 
-impl<T: Drop> From<AllocFailed<T>> for LoadFault {
-    ghost from_gives = { λ _ e. e ≡ Memory };
+impl<T: Drop> From<AllocFailed<T>> for LoadError {
+    ghost from_gives = { λ _ e. e ≡ error.Memory };
 
-    fn from(_error: AllocFailed<T>) -> LoadFault {
-        LoadFault::Memory
+    fn from(_error: AllocFailed<T>) -> LoadError {
+        LoadError::Memory
+    }
+}
+
+/// What a key of the document gives.
+pub fn in_key<T: Drop>(fault: Fault, read: Result<T, Key>) -> Result<T, LoadError>
+    ensures { Gives (λ x. x) result (in_key fault read) }
+{
+    match read {
+        Ok(value) => Ok(value),
+        Err(key) => Err(LoadError::at(fault, Spot::At(key))),
+    }
+}
+
+/// What a row gives.
+pub fn in_row<T: Drop>(fault: Fault, number: usize, read: Result<T, Key>) -> Result<T, LoadError>
+    ensures { Gives (λ x. x) result (in_row fault number read) }
+{
+    match read {
+        Ok(value) => Ok(value),
+        Err(key) => Err(LoadError::at(fault, Spot::Row(key, number))),
     }
 }

@@ -1,8 +1,8 @@
 //! The keys of settings, and what is allowed at each.
 ghost use Rattle.std.specs.Prelude.{◌≡◌, option_map};
-ghost use Rattle.xdp_load.specs.Keys.{allowed, list_name, part_name};
+ghost use Rattle.xdp_load.specs.Keys.{allowed, least, list_name, missing, most, name, part_name};
 
-/// A key of the settings. `Map`, `Reloc`, `Step` and `Packet` are a list, or one of its rows, as a whole.
+/// A key of the settings. `Map`, `Reloc`, `Step`, `Packet` and `Place` are a list, or one of its rows, as a whole.
 #[derive(Clone, Copy, Debug, PartialEq, Eq)]
 pub enum Key {
     Program,
@@ -23,6 +23,8 @@ pub enum Key {
     PacketQueue,
     Bytes,
     Times,
+    Original,
+    Place,
 }
 
 impl Key {
@@ -39,6 +41,8 @@ impl Key {
             Key::Reloc | Key::Slot | Key::OfMap => "reloc",
             Key::Step | Key::StepQueue | Key::Answer => "script",
             Key::Packet | Key::PacketQueue | Key::Bytes | Key::Times => "packet",
+            Key::Original => "original",
+            Key::Place => "places",
         }
     }
 
@@ -56,6 +60,49 @@ impl Key {
             Key::Answer => Some("answer"),
             Key::Bytes => Some("bytes"),
             Key::Times => Some("times"),
+            _ => None,
+        }
+    }
+
+    /// The key as it is written in its table.
+    pub fn name(self) -> &'static str
+        ensures { result.now ≡ name self }
+    {
+        match self.part_name() {
+            Some(part) => part,
+            None => self.list_name(),
+        }
+    }
+
+    /// The least number that is allowed there.
+    pub fn least(self) -> u32
+        ensures { result ≡ least self }
+    {
+        match self {
+            Key::Queues | Key::Entries | Key::Counters | Key::Times => 1,
+            _ => 0,
+        }
+    }
+
+    /// The greatest number that is allowed there.
+    pub fn most(self) -> u32
+        ensures { result ≡ most self }
+    {
+        match self {
+            Key::Queues | Key::Counters => 8,
+            Key::Entries => 1024,
+            Key::Times => 100_000,
+            _ => u32::MAX,
+        }
+    }
+
+    /// The number that it has where it is left out, if it may be.
+    pub fn missing(self) -> Option<i64>
+        ensures { result ≡ missing self }
+    {
+        match self {
+            Key::Queues | Key::Counters | Key::Times => Some(1),
+            Key::IfIndex | Key::Start => Some(0),
             _ => None,
         }
     }
@@ -82,6 +129,33 @@ impl Key {
             Key::PacketQueue => "a whole number below queues (required)",
             Key::Bytes => "a hex text of 14 to 65535 bytes (required)",
             Key::Times => "a whole number, 1 to 100000",
+            Key::Original => "a table with program, places and, optionally, reloc (required)",
+            Key::Place => "places, each of a whole number, 0 to 4294967295, and true or false",
         }
     }
 }
+
+/// The keys of a document.
+pub const TOP_KEYS: [Key; 8] = [
+    Key::Program,
+    Key::Queues,
+    Key::IfIndex,
+    Key::Start,
+    Key::Map,
+    Key::Reloc,
+    Key::Step,
+    Key::Packet,
+];
+
+/// The keys of a document that has its original beside them.
+pub const REWRITTEN_KEYS: [Key; 9] = [
+    Key::Original,
+    Key::Program,
+    Key::Queues,
+    Key::IfIndex,
+    Key::Start,
+    Key::Map,
+    Key::Reloc,
+    Key::Step,
+    Key::Packet,
+];

@@ -1,6 +1,12 @@
 //! The rows of the settings, as they are written.
+ghost use Rattle.std.specs.Prelude.{◌≡◌, map, option_map};
+ghost use Rattle.toml.specs.View.{view};
+ghost use Rattle.xdp_load.specs.Document.{place_of, step_of};
+ghost use Rattle.xdp_load.specs.Seen.{place_seen, step_seen};
+
+use crate::key::Key;
 use crate::rows::{Row, rows_in};
-use crate::table::{has_only, integer_at, integer_or, text_at};
+use crate::table::{has_only, number_at, text_at};
 use toml::Value;
 
 /// A map as it is written.
@@ -21,15 +27,15 @@ impl<'a> Row<'a> for MapRow<'a> {
 
     ghost meaning = { map_row };
 
-    fn of(value: &'a Value) -> Option<MapRow<'a>> {
-        let table = value.as_table()?;
-        if !has_only(table, &["name", "entries", "counters"]) {
-            return None;
+    fn of(value: &'a Value) -> Result<MapRow<'a>, Key> {
+        let table = value.as_table().ok_or(Key::Map)?;
+        if !has_only(table, &[Key::Name, Key::Entries, Key::Counters]) {
+            return Err(Key::Map);
         }
-        let name = text_at(table, "name")?;
-        let entries = integer_at(table, "entries")?;
-        let counters = integer_or(table, "counters", 1)?;
-        Some(MapRow {
+        let name = text_at(table, Key::Name)?;
+        let entries = number_at(table, Key::Entries)?;
+        let counters = number_at(table, Key::Counters)?;
+        Ok(MapRow {
             name,
             entries,
             counters,
@@ -54,14 +60,14 @@ impl<'a> Row<'a> for RelocRow<'a> {
 
     ghost meaning = { reloc_row };
 
-    fn of(value: &'a Value) -> Option<RelocRow<'a>> {
-        let table = value.as_table()?;
-        if !has_only(table, &["slot", "map"]) {
-            return None;
+    fn of(value: &'a Value) -> Result<RelocRow<'a>, Key> {
+        let table = value.as_table().ok_or(Key::Reloc)?;
+        if !has_only(table, &[Key::Slot, Key::OfMap]) {
+            return Err(Key::Reloc);
         }
-        let slot = integer_at(table, "slot")?;
-        let map = text_at(table, "map")?;
-        Some(RelocRow { slot, map })
+        let slot = number_at(table, Key::Slot)?;
+        let map = text_at(table, Key::OfMap)?;
+        Ok(RelocRow { slot, map })
     }
 }
 
@@ -83,15 +89,15 @@ impl<'a> Row<'a> for PacketRow<'a> {
 
     ghost meaning = { packet_row };
 
-    fn of(value: &'a Value) -> Option<PacketRow<'a>> {
-        let table = value.as_table()?;
-        if !has_only(table, &["queue", "bytes", "times"]) {
-            return None;
+    fn of(value: &'a Value) -> Result<PacketRow<'a>, Key> {
+        let table = value.as_table().ok_or(Key::Packet)?;
+        if !has_only(table, &[Key::PacketQueue, Key::Bytes, Key::Times]) {
+            return Err(Key::Packet);
         }
-        let queue = integer_at(table, "queue")?;
-        let bytes = text_at(table, "bytes")?;
-        let times = integer_or(table, "times", 1)?;
-        Some(PacketRow {
+        let queue = number_at(table, Key::PacketQueue)?;
+        let bytes = text_at(table, Key::Bytes)?;
+        let times = number_at(table, Key::Times)?;
+        Ok(PacketRow {
             queue,
             bytes,
             times,
@@ -106,6 +112,19 @@ pub struct StepRow {
     pub answer: i64,
 }
 
+/// The step that the rows of an array spell.
+fn step_of(rows: &[Value]) -> Option<StepRow>
+    ensures { option_map step_seen result ≡ step_of (map view rows.now) }
+{
+    match rows {
+        [queue, answer] => Some(StepRow {
+            queue: queue.as_integer()?,
+            answer: answer.as_integer()?,
+        }),
+        _ => None,
+    }
+}
+
 impl<'a> Row<'a> for StepRow {
     ghost use Rattle.xdp_load.specs.Document.{StepText, step_row};
     ghost use Rattle.xdp_load.specs.Seen.{step_seen};
@@ -116,13 +135,10 @@ impl<'a> Row<'a> for StepRow {
 
     ghost meaning = { step_row };
 
-    fn of(value: &'a Value) -> Option<StepRow> {
-        match rows_in(value)? {
-            [queue, answer] => Some(StepRow {
-                queue: queue.as_integer()?,
-                answer: answer.as_integer()?,
-            }),
-            _ => None,
+    fn of(value: &'a Value) -> Result<StepRow, Key> {
+        match rows_in(value) {
+            Some(rows) => step_of(rows).ok_or(Key::Step),
+            None => Err(Key::Step),
         }
     }
 }
@@ -132,6 +148,19 @@ impl<'a> Row<'a> for StepRow {
 pub struct PlaceRow {
     pub at: i64,
     pub own: bool,
+}
+
+/// The place that the rows of an array spell.
+fn place_of(rows: &[Value]) -> Option<PlaceRow>
+    ensures { option_map place_seen result ≡ place_of (map view rows.now) }
+{
+    match rows {
+        [at, own] => Some(PlaceRow {
+            at: at.as_integer()?,
+            own: own.as_bool()?,
+        }),
+        _ => None,
+    }
 }
 
 impl<'a> Row<'a> for PlaceRow {
@@ -144,13 +173,10 @@ impl<'a> Row<'a> for PlaceRow {
 
     ghost meaning = { place_row };
 
-    fn of(value: &'a Value) -> Option<PlaceRow> {
-        match rows_in(value)? {
-            [at, own] => Some(PlaceRow {
-                at: at.as_integer()?,
-                own: own.as_bool()?,
-            }),
-            _ => None,
+    fn of(value: &'a Value) -> Result<PlaceRow, Key> {
+        match rows_in(value) {
+            Some(rows) => place_of(rows).ok_or(Key::Place),
+            None => Err(Key::Place),
         }
     }
 }
@@ -162,18 +188,17 @@ pub struct HexRow<'a> {
 }
 
 impl<'a> Row<'a> for HexRow<'a> {
-    ghost use Rattle.toml.specs.Data.{as_str};
-    ghost use Rattle.xdp_load.specs.Document.{Text};
+    ghost use Rattle.xdp_load.specs.Document.{Text, hex_row};
     ghost use Rattle.xdp_load.specs.Seen.{hex_seen};
 
     ghost Text = { Text };
 
     ghost seen = { hex_seen };
 
-    ghost meaning = { as_str };
+    ghost meaning = { hex_row };
 
-    fn of(value: &'a Value) -> Option<HexRow<'a>> {
-        let text = value.as_str()?;
-        Some(HexRow { text })
+    fn of(value: &'a Value) -> Result<HexRow<'a>, Key> {
+        let text = value.as_str().ok_or(Key::Program)?;
+        Ok(HexRow { text })
     }
 }

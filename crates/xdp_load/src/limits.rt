@@ -1,100 +1,62 @@
-//! The limits of the numbers and the lengths.
-ghost use Rattle.std.specs.Prelude.{◌≡◌, ◌≤◌, IfSome, OnOk, vec_len, map, option_map};
-ghost use Rattle.xdp_load.specs.Gives.{Gives, or_fault};
-ghost use Rattle.xdp_load.specs.Limits.{below, each, limited, limited_lists, limited_numbers, limited_of, limited_packet};
-ghost use Rattle.xdp_load.specs.Limits.{is_packet_text, limited_shape, limited_step};
-ghost use Rattle.xdp_load.specs.Seen.{map_seen, numbers_seen, packet_seen, step_seen, written_seen};
-ghost use Rattle.xdp_load.specs.LimitsSeen.{hex_packet_seen, limited_seen, limits_seen};
+//! The limits of the lists: the numbers and the lengths of their rows.
+ghost use Rattle.std.specs.Prelude.{◌≡◌, ◌≤◌, OnOk, vec_len, map};
+ghost use Rattle.xdp_load.specs.Gives.{Gives, each, seen_by};
+ghost use Rattle.xdp_load.specs.Limits.{is_packet_text, limited_lists, limited_of, limited_packet, limited_rows, limited_shape};
+ghost use Rattle.xdp_load.specs.Limits.{limited_step, packet_text};
+ghost use Rattle.xdp_load.specs.Seen.{map_seen, packet_seen, step_seen, written_seen};
+ghost use Rattle.xdp_load.specs.LimitsSeen.{hex_packet_seen, limited_seen};
 ghost use Rattle.xdp_load.specs.declared.fault.Fault.TheVariants.{Limit};
 
-use crate::document::{Numbers, Written};
-use crate::fault::{Fault, LoadFault};
+use crate::document::Written;
+use crate::fault::{Fault, LoadError, in_key, in_row};
+use crate::key::Key;
 use crate::kinds::{MapRow, PacketRow, StepRow};
+use crate::numbers::{Limits, below, limited, limited_numbers};
+use crate::spot::Spot;
 use bpf_note::MapShape;
 use std::alloc::Global;
 
-/// The number, where it lies in the range.
-pub fn limited(least: u32, most: u32, number: i64) -> Option<u32>
-    ensures value { result ≡ limited least most number }
-    ensures within { IfSome result (λ n. (least ≤ n) × (n ≤ most)) }
-{
-    match u32::try_from(number) {
-        Ok(number) if least <= number && number <= most => Some(number),
-        _ => None,
-    }
-}
-
-/// The number, where it is below the other.
-pub fn below(queues: u32, number: i64) -> Option<u32>
-    ensures { result ≡ below queues number }
-{
-    let queue = limited(0, u32::MAX, number)?;
-    if queue < queues { Some(queue) } else { None }
-}
-
-/// The numbers within their limits.
-#[derive(Clone, Copy)]
-pub struct Limits {
-    pub queues: u32,
-    pub ifindex: u32,
-    pub start: u32,
-}
-
-/// The numbers, where they are within their limits.
-pub fn limited_numbers(numbers: Numbers) -> Option<Limits>
-    ensures { option_map limits_seen result ≡ limited_numbers (numbers_seen numbers) }
-{
-    let queues = limited(1, 8, numbers.queues)?;
-    let ifindex = limited(0, u32::MAX, numbers.ifindex)?;
-    let start = limited(0, u32::MAX, numbers.start)?;
-    Some(Limits {
-        queues,
-        ifindex,
-        start,
-    })
-}
-
 /// The shape of a map within its limits.
-fn limited_shape(row: &MapRow<'_>) -> Option<MapShape>
+fn limited_shape(row: &MapRow<'_>) -> Result<MapShape, Key>
     ensures { result ≡ limited_shape (map_seen row.now) }
 {
-    let entries = limited(1, 1024, row.entries)?;
-    let counters = limited(1, 8, row.counters)?;
-    MapShape::of(entries, counters)
+    let entries = limited(Key::Entries, row.entries)?;
+    let counters = limited(Key::Counters, row.counters)?;
+    MapShape::of(entries, counters).ok_or(Key::Map)
 }
 
 /// The shapes of the maps, each within its limits.
-pub fn limited_shapes(alloc: Global, rows: &[MapRow<'_>]) -> Result<Vec<MapShape>, LoadFault>
-    ensures { Gives (λ v. v.items) result (or_fault Limit (each limited_shape (map map_seen rows.now))) }
+fn limited_shapes(alloc: Global, rows: &[MapRow<'_>]) -> Result<Vec<MapShape>, LoadError>
+    ensures { Gives (λ v. v.items) result (each Limit limited_shape 0 (map map_seen rows.now)) }
 {
     let mut shapes = Vec::new(alloc);
-    for row in rows {
-        let shape = limited_shape(row).ok_or(Fault::Limit)?;
+    for (i, row) in rows.iter().enumerate() {
+        let shape = in_row(Fault::Limit, i, limited_shape(row))?;
         shapes.push(shape)?;
     }
     Ok(shapes)
 }
 
 /// A step within its limits.
-fn limited_step(queues: u32, row: &StepRow) -> Option<(usize, u32)>
+fn limited_step(queues: u32, row: &StepRow) -> Result<(usize, u32), Key>
     ensures { result ≡ limited_step queues (step_seen row.now) }
 {
-    let queue = below(queues, row.queue)?;
-    let answer = limited(0, u32::MAX, row.answer)?;
-    Some((queue as usize, answer))
+    let queue = below(Key::StepQueue, queues, row.queue)?;
+    let answer = limited(Key::Answer, row.answer)?;
+    Ok((queue as usize, answer))
 }
 
 /// The steps within their limits.
-pub fn limited_script(
+fn limited_script(
     alloc: Global,
     queues: u32,
     rows: &[StepRow],
-) -> Result<Vec<(usize, u32)>, LoadFault>
-    ensures { Gives (λ v. v.items) result (or_fault Limit (each (limited_step queues) (map step_seen rows.now))) }
+) -> Result<Vec<(usize, u32)>, LoadError>
+    ensures { Gives (λ v. v.items) result (each Limit (limited_step queues) 0 (map step_seen rows.now)) }
 {
     let mut script = Vec::new(alloc);
-    for row in rows {
-        let step = limited_step(queues, row).ok_or(Fault::Limit)?;
+    for (i, row) in rows.iter().enumerate() {
+        let step = in_row(Fault::Limit, i, limited_step(queues, row))?;
         script.push(step)?;
     }
     Ok(script)
@@ -109,40 +71,49 @@ pub struct HexPacket<'a> {
 }
 
 /// Whether a hex text has the length of a packet, at two digits a byte.
-pub fn is_packet_length(text: &str) -> bool
+fn is_packet_length(text: &str) -> bool
     ensures { result ≡ is_packet_text text.now }
 {
     let length = text.len() / 2;
     14 <= length && length <= 65_535
 }
 
-/// A packet within its limits.
-fn limited_packet<'a>(queues: u32, row: &PacketRow<'a>) -> Option<HexPacket<'a>>
-    ensures { option_map hex_packet_seen result ≡ limited_packet queues (packet_seen row.now) }
+/// The hex text of a packet, where it has the length of one.
+fn packet_text(text: &str) -> Result<&str, Key>
+    ensures { seen_by (λ t. t.now) result ≡ packet_text text.now }
 {
-    let queue = below(queues, row.queue)?;
-    let times = limited(1, 100_000, row.times)?;
-    if !is_packet_length(row.bytes) {
-        return None;
+    if is_packet_length(text) {
+        Ok(text)
+    } else {
+        Err(Key::Bytes)
     }
-    Some(HexPacket {
+}
+
+/// A packet within its limits.
+fn limited_packet<'a>(queues: u32, row: &PacketRow<'a>) -> Result<HexPacket<'a>, Key>
+    ensures { seen_by hex_packet_seen result ≡ limited_packet queues (packet_seen row.now) }
+{
+    let queue = below(Key::PacketQueue, queues, row.queue)?;
+    let bytes = packet_text(row.bytes)?;
+    let times = limited(Key::Times, row.times)?;
+    Ok(HexPacket {
         queue: queue as usize,
-        bytes: row.bytes,
+        bytes,
         times,
     })
 }
 
 /// The packets within their limits.
-pub fn limited_packets<'a>(
+fn limited_packets<'a>(
     alloc: Global,
     queues: u32,
     rows: &[PacketRow<'a>],
-) -> Result<Vec<HexPacket<'a>>, LoadFault>
-    ensures { Gives (λ v. map hex_packet_seen v.items) result (or_fault Limit (each (limited_packet queues) (map packet_seen rows.now))) }
+) -> Result<Vec<HexPacket<'a>>, LoadError>
+    ensures { Gives (λ v. map hex_packet_seen v.items) result (each Limit (limited_packet queues) 0 (map packet_seen rows.now)) }
 {
     let mut packets = Vec::new(alloc);
-    for row in rows {
-        let packet = limited_packet(queues, row).ok_or(Fault::Limit)?;
+    for (i, row) in rows.iter().enumerate() {
+        let packet = in_row(Fault::Limit, i, limited_packet(queues, row))?;
         packets.push(packet)?;
     }
     Ok(packets)
@@ -157,14 +128,14 @@ pub struct WithinLimits<'a> {
     pub packets: Vec<HexPacket<'a>>,
 }
 
-/// The lists within their limits.
-#[tactic(auto, unfolding(crate::specs::Limits::limited_lists))]
-fn limited_lists<'a>(
+/// The rows of the lists within their limits.
+#[tactic(auto, unfolding(crate::specs::Limits::limited_rows))]
+fn limited_rows<'a>(
     alloc: Global,
     written: &Written<'a>,
     numbers: Limits,
-) -> Result<WithinLimits<'a>, LoadFault>
-    ensures { Gives limited_seen result (limited_lists (written_seen written.now) (limits_seen numbers)) }
+) -> Result<WithinLimits<'a>, LoadError>
+    ensures { Gives limited_seen result (limited_rows (written_seen written.now) numbers) }
 {
     let shapes = limited_shapes(alloc, written.maps.as_slice())?;
     let script = limited_script(alloc, numbers.queues, written.script.as_slice())?;
@@ -177,17 +148,28 @@ fn limited_lists<'a>(
     })
 }
 
-/// What is written, where it is within its limits.
-#[tactic(auto, unfolding(crate::specs::Limits::limited_of))]
-pub fn limited_of<'a>(alloc: Global, written: &Written<'a>) -> Result<WithinLimits<'a>, LoadFault>
-    ensures value { Gives limited_seen result (limited_of (written_seen written.now)) }
+/// The lists within their limits, where there are at most four maps.
+#[tactic(auto, unfolding(crate::specs::Limits::limited_lists))]
+fn limited_lists<'a>(
+    alloc: Global,
+    written: &Written<'a>,
+    numbers: Limits,
+) -> Result<WithinLimits<'a>, LoadError>
+    ensures value { Gives limited_seen result (limited_lists (written_seen written.now) numbers) }
     ensures few { OnOk result (vec_len written.now.maps ≤ 4) }
 {
     if written.maps.len() > 4 {
-        return Err(LoadFault::Refused(Fault::Limit));
+        return Err(LoadError::at(Fault::Limit, Spot::At(Key::Map)));
     }
-    match limited_numbers(written.numbers) {
-        Some(numbers) => limited_lists(alloc, written, numbers),
-        None => Err(LoadFault::Refused(Fault::Limit)),
-    }
+    limited_rows(alloc, written, numbers)
+}
+
+/// What is written, where it is within its limits.
+#[tactic(auto, unfolding(crate::specs::Limits::limited_of))]
+pub fn limited_of<'a>(alloc: Global, written: &Written<'a>) -> Result<WithinLimits<'a>, LoadError>
+    ensures value { Gives limited_seen result (limited_of (written_seen written.now)) }
+    ensures few { OnOk result (vec_len written.now.maps ≤ 4) }
+{
+    let numbers = in_key(Fault::Limit, limited_numbers(written.numbers))?;
+    limited_lists(alloc, written, numbers)
 }

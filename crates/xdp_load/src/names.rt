@@ -2,7 +2,7 @@
 ghost use Rattle.std.specs.Prelude.{◌≡◌, map};
 ghost use Rattle.std.specs.List.{list_any};
 ghost use Rattle.std.specs.Str.{bytes_eq};
-ghost use Rattle.xdp_load.specs.Limits.{are_names, is_bad_first};
+ghost use Rattle.xdp_load.specs.Limits.{bad_name, is_bad_first};
 
 use crate::kinds::MapRow;
 
@@ -14,7 +14,7 @@ fn is_repeated(name: &str, rows: &[MapRow<'_>]) -> bool
 }
 
 /// Whether the first map's name is no right one, or is given again.
-pub fn is_bad_first(rows: &[MapRow<'_>]) -> bool
+fn is_bad_first(rows: &[MapRow<'_>]) -> bool
     ensures { result ≡ is_bad_first (map (λ m. m.name.now) rows.now) }
 {
     match rows.split_first() {
@@ -26,15 +26,14 @@ pub fn is_bad_first(rows: &[MapRow<'_>]) -> bool
     }
 }
 
-/// Whether the names are of a right length, and each differs from those after it.
-#[tactic(auto, using(crate::proofs::RowLemmas::names_more))]
-pub fn are_names(rows: &[MapRow<'_>]) -> bool
-    ensures { result ≡ are_names (map (λ m. m.name.now) rows.now) }
+/// The number of the first map whose name is no right one, or is given again.
+pub fn bad_name(rows: &[MapRow<'_>]) -> Option<usize>
+    ensures { result ≡ bad_name 0 (map (λ m. m.name.now) rows.now) }
 {
     for i in 0..rows.len() {
         if is_bad_first(&rows[i..]) {
-            return false;
+            return Some(i);
         }
     }
-    true
+    None
 }

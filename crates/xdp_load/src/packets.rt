@@ -1,16 +1,17 @@
 //! Hex texts: the program and the packets.
 ghost use Rattle.std.specs.Prelude.{map};
-ghost use Rattle.xdp_load.specs.Gives.{Gives, or_fault};
-ghost use Rattle.xdp_load.specs.Limits.{each};
+ghost use Rattle.xdp_load.specs.Gives.{Gives, each, in_row};
 ghost use Rattle.xdp_load.specs.Seen.{hex_seen};
 ghost use Rattle.xdp_load.specs.LimitsSeen.{hex_packet_seen};
-ghost use Rattle.xdp_load.specs.Setup.{bytes_of, joined, packet_of};
+ghost use Rattle.xdp_load.specs.Setup.{bytes_in, joined, packet_of};
 ghost use Rattle.xdp_load.specs.SetupSeen.{packet_view};
 ghost use Rattle.xdp_load.specs.declared.fault.Fault.TheVariants.{Hex};
 
-use crate::fault::{Fault, LoadFault};
+use crate::fault::{Fault, LoadError};
+use crate::key::Key;
 use crate::kinds::HexRow;
 use crate::limits::HexPacket;
+use crate::spot::Spot;
 use hex::FromHexError;
 use std::alloc::Global;
 
@@ -22,41 +23,50 @@ pub struct Packet {
     pub times: u32,
 }
 
-/// The bytes of a hex text.
-fn bytes_of(alloc: Global, text: &str) -> Result<Vec<u8>, LoadFault>
-    ensures { Gives (λ v. v.items) result (or_fault Hex (bytes_of text.now)) }
+/// The bytes of the hex text at a key, in the row with that number.
+fn bytes_in(alloc: Global, key: Key, number: usize, text: &str) -> Result<Vec<u8>, LoadError>
+    ensures { Gives (λ v. v.items) result (bytes_in key number text.now) }
 {
     match hex::decode(alloc, text) {
         Ok(bytes) => Ok(bytes),
-        Err(FromHexError::OutOfMemory) => Err(LoadFault::Memory),
-        Err(_) => Err(LoadFault::Refused(Fault::Hex)),
+        Err(FromHexError::OutOfMemory) => Err(LoadError::Memory),
+        Err(_) => Err(LoadError::at(Fault::Hex, Spot::Row(key, number))),
     }
 }
 
-/// The bytes of some hex texts, one after another.
-pub fn joined(alloc: Global, texts: &[HexRow<'_>]) -> Result<Vec<u8>, LoadFault>
-    ensures { Gives (λ v. v.items) result (or_fault Hex (joined (map hex_seen texts.now))) }
+/// The bytes of some hex texts of a program, one after another.
+pub fn joined(alloc: Global, texts: &[HexRow<'_>]) -> Result<Vec<u8>, LoadError>
+    ensures { Gives (λ v. v.items) result (joined 0 (map hex_seen texts.now)) }
 {
     let mut program = Vec::new(alloc);
-    for text in texts {
-        let bytes = bytes_of(alloc, text.text)?;
+    for (i, text) in texts.iter().enumerate() {
+        let bytes = bytes_in(alloc, Key::Program, i, text.text)?;
         program.extend_from_slice(bytes.as_slice())?;
     }
     Ok(program)
 }
 
+/// The packet of the row with that number.
+#[tactic(auto, using(crate::proofs::RowLemmas::packet_fails, crate::proofs::RowLemmas::packet_read))]
+fn packet_of(alloc: Global, number: usize, row: &HexPacket<'_>) -> Result<Packet, LoadError>
+    ensures { Gives packet_view result (in_row Hex number (packet_of (hex_packet_seen row.now))) }
+{
+    let bytes = bytes_in(alloc, Key::Bytes, number, row.bytes)?;
+    Ok(Packet {
+        queue: row.queue,
+        bytes,
+        times: row.times,
+    })
+}
+
 /// The packets with their bytes.
-pub fn packets_of(alloc: Global, rows: &[HexPacket<'_>]) -> Result<Vec<Packet>, LoadFault>
-    ensures { Gives (λ v. map packet_view v.items) result (or_fault Hex (each packet_of (map hex_packet_seen rows.now))) }
+pub fn packets_of(alloc: Global, rows: &[HexPacket<'_>]) -> Result<Vec<Packet>, LoadError>
+    ensures { Gives (λ v. map packet_view v.items) result (each Hex packet_of 0 (map hex_packet_seen rows.now)) }
 {
     let mut packets = Vec::new(alloc);
-    for row in rows {
-        let bytes = bytes_of(alloc, row.bytes)?;
-        packets.push(Packet {
-            queue: row.queue,
-            bytes,
-            times: row.times,
-        })?;
+    for (i, row) in rows.iter().enumerate() {
+        let packet = packet_of(alloc, i, row)?;
+        packets.push(packet)?;
     }
     Ok(packets)
 }

@@ -1,26 +1,25 @@
 //! The setup of a settings text.
-ghost use Rattle.std.specs.Prelude.{◌≡◌, ◌≤◌, if◌then◌else◌, IfOk, IsErrAnd, None, Some, false, length, map, option_map, string_bytes, vec_len};
-ghost use Rattle.std.specs.Bool.{OnFalse, OnTrue};
+ghost use Rattle.std.specs.Prelude.{◌≡◌, ◌≤◌, if◌then◌else◌, IfOk, IsErrAnd, None, Some, map, option_map, string_bytes, vec_len};
 ghost use Rattle.std.specs.Str.{is_utf8};
-ghost use Rattle.xdp_load.specs.Gives.{Gives};
-ghost use Rattle.xdp_load.specs.Limits.{are_names, limited_of};
-ghost use Rattle.xdp_load.specs.Seen.{map_seen, reloc_seen, written_seen};
+ghost use Rattle.xdp_load.specs.Gives.{Gives, IsError};
+ghost use Rattle.xdp_load.specs.Seen.{written_seen};
 ghost use Rattle.xdp_load.specs.LimitsSeen.{limited_seen};
-ghost use Rattle.xdp_load.specs.Setup.{decoded_of, document_of, loaded_program, names_of, relocated_setup, setup_of};
-ghost use Rattle.xdp_load.specs.Setup.{setup_of_limited, setup_of_table, text_of};
+ghost use Rattle.xdp_load.specs.Setup.{decoded_of, document_of, relocated_setup, setup_of, setup_of_limited, setup_of_table, text_of};
 ghost use Rattle.xdp_load.specs.Sound.{IsSound};
+ghost use Rattle.xdp_load.specs.Spot.{refused, whole};
 ghost use Rattle.xdp_load.specs.SetupSeen.{packet_view, setup_view};
-ghost use Rattle.xdp_load.specs.declared.fault.Fault.TheVariants.{Name, Relocation, Text};
-ghost use Rattle.xdp_load.specs.declared.fault.LoadFault.TheVariants.{Refused};
+ghost use Rattle.xdp_load.specs.declared.fault.Fault.TheVariants.{Text};
 ghost use Rattle.toml.specs.View.{table_view};
 
 use crate::document::{Written, read_document};
-use crate::fault::{Fault, LoadFault};
-use crate::kinds::{MapRow, RelocRow};
+use crate::fault::{Fault, LoadError};
+use crate::key::Key;
+use crate::kinds::MapRow;
 use crate::limits::{WithinLimits, limited_of};
-use crate::names::are_names;
+use crate::names::bad_name;
 use crate::packets::{Packet, joined, packets_of};
-use crate::relocations::{have_own_slots, relocate};
+use crate::relocations::relocated;
+use crate::spot::Spot;
 use bpf_note::MapShape;
 use std::alloc::{AllocError, Global};
 use toml::Table;
@@ -46,7 +45,7 @@ fn decoded_of(
     alloc: Global,
     written: &Written<'_>,
     limited: &WithinLimits<'_>,
-) -> Result<(Vec<u8>, Vec<Packet>), LoadFault>
+) -> Result<(Vec<u8>, Vec<Packet>), LoadError>
     ensures { Gives (λ d. (d.0.items, map packet_view d.1.items)) result
         (decoded_of (written_seen written.now) (limited_seen limited.now)) }
 {
@@ -66,25 +65,6 @@ fn names_of(alloc: Global, maps: &[MapRow<'_>]) -> Result<Vec<String>, AllocErro
     Ok(names)
 }
 
-/// Applies the relocations, and says whether it could.
-#[tactic(auto, using(crate::proofs::RowLemmas::names_seen))]
-pub fn load_program(program: &mut Vec<u8>, maps: &[MapRow<'_>], relocs: &[RelocRow<'_>]) -> bool
-    requires { length maps.now ≤ 4 }
-    ensures done { OnTrue result (loaded_program (names_of (map map_seen maps.now)) (map reloc_seen relocs.now) program.old.items
-        ≡ Some program.new.items) }
-    ensures refused { OnFalse result (loaded_program (names_of (map map_seen maps.now)) (map reloc_seen relocs.now) program.old.items
-        ≡ None) }
-{
-    // Of more relocations than slots, two have one slot or one lies outside: refused with no pair compared.
-    if relocs.len() > program.len() / 8 {
-        return false;
-    }
-    if !have_own_slots(relocs) {
-        return false;
-    }
-    relocate(program.as_mut_slice(), maps, relocs)
-}
-
 /// The setup of a document whose hex is read.
 #[tactic(auto, using(crate::proofs::RowLemmas::names_seen), unfolding(crate::specs::Setup::relocated_setup))]
 fn relocated_setup(
@@ -92,23 +72,13 @@ fn relocated_setup(
     written: &Written<'_>,
     limited: WithinLimits<'_>,
     decoded: (Vec<u8>, Vec<Packet>),
-) -> Result<Setup, LoadFault>
+) -> Result<Setup, LoadError>
     requires { vec_len written.now.maps ≤ 4 }
-    ensures gives { Gives setup_view result (relocated_setup (written_seen written.now) (limited_seen limited.entry)
+    ensures { Gives setup_view result (relocated_setup (written_seen written.now) (limited_seen limited.entry)
         (decoded.0.items, map packet_view decoded.1.items)) }
-
-    // Relocations are checked before memory is taken.
-    ensures relocated { loaded_program (names_of (written_seen written.now).maps) (written_seen written.now).relocs decoded.0.items
-        ≡ None → IsErrAnd result (λ e. e ≡ Refused Relocation) }
 {
-    let (mut program, packets) = decoded;
-    if !load_program(
-        &mut program,
-        written.maps.as_slice(),
-        written.relocs.as_slice(),
-    ) {
-        return Err(LoadFault::Refused(Fault::Relocation));
-    }
+    let (program, packets) = decoded;
+    let program = relocated(program, written.maps.as_slice(), written.relocs.as_slice())?;
     let names = names_of(alloc, written.maps.as_slice())?;
     Ok(Setup {
         program,
@@ -128,15 +98,12 @@ pub fn setup_of_limited(
     alloc: Global,
     written: &Written<'_>,
     limited: WithinLimits<'_>,
-) -> Result<Setup, LoadFault>
+) -> Result<Setup, LoadError>
     requires { vec_len written.now.maps ≤ 4 }
-    ensures gives { Gives setup_view result (setup_of_limited (written_seen written.now) (limited_seen limited.entry)) }
-
-    // Names are checked before memory is taken.
-    ensures named { are_names (names_of (written_seen written.now).maps) ≡ false → IsErrAnd result (λ e. e ≡ Refused Name) }
+    ensures { Gives setup_view result (setup_of_limited (written_seen written.now) (limited_seen limited.entry)) }
 {
-    if !are_names(written.maps.as_slice()) {
-        return Err(LoadFault::Refused(Fault::Name));
+    if let Some(number) = bad_name(written.maps.as_slice()) {
+        return Err(LoadError::at(Fault::Name, Spot::Row(Key::Name, number)));
     }
     let decoded = decoded_of(alloc, written, &limited)?;
     relocated_setup(alloc, written, limited, decoded)
@@ -144,7 +111,7 @@ pub fn setup_of_limited(
 
 /// The setup of a document.
 #[tactic(auto, unfolding(crate::specs::Setup::setup_of_table))]
-fn setup_of_table(alloc: Global, table: &Table) -> Result<Setup, LoadFault>
+fn setup_of_table(alloc: Global, table: &Table) -> Result<Setup, LoadError>
     ensures { Gives setup_view result (setup_of_table (table_view table.now)) }
 {
     let written = read_document(alloc, table)?;
@@ -173,39 +140,36 @@ pub fn text_of(bytes: &[u8]) -> Option<&str>
 }
 
 /// The document of a text.
-pub fn document_of(alloc: Global, text: &str) -> Result<Table, LoadFault>
+pub fn document_of(alloc: Global, text: &str) -> Result<Table, LoadError>
     ensures { Gives table_view result (document_of text.now) }
 {
     match toml::table_from_str(alloc, text) {
         Ok(table) => Ok(table),
-        Err(error) => {
-            if error.is_memory() {
-                Err(LoadFault::Memory)
-            } else {
-                Err(LoadFault::Refused(Fault::Syntax))
-            }
-        }
+        Err(error) => match error.span() {
+            Some(span) => Err(LoadError::at(Fault::Syntax, Spot::Byte(span.start))),
+            None => Err(LoadError::Memory),
+        },
     }
 }
 
 /// The setup of a settings text, read phase by phase.
 #[tactic(auto, unfolding(crate::specs::Setup::setup_of))]
-fn load_setup(alloc: Global, bytes: &[u8]) -> Result<Setup, LoadFault>
+fn load_setup(alloc: Global, bytes: &[u8]) -> Result<Setup, LoadError>
     ensures gives { Gives setup_view result (setup_of bytes.now) }
-    ensures text { text_of bytes.now ≡ None → IsErrAnd result (λ e. e ≡ Refused Text) }
+    ensures text { text_of bytes.now ≡ None → IsErrAnd result (IsError (refused Text whole)) }
 {
-    let text = text_of(bytes).ok_or(Fault::Text)?;
+    let text = text_of(bytes).ok_or(LoadError::at(Fault::Text, Spot::Text))?;
     let table = document_of(alloc, text)?;
     setup_of_table(alloc, &table)
 }
 
-/// The setup of a settings text, or its first fault in the order of [`Fault`] over the whole document. docs/SETTINGS.md has
-/// the keys.
-pub fn load(alloc: Global, bytes: &[u8]) -> Result<Setup, LoadFault>
+/// The setup of a settings text, or its first fault in the order of [`Fault`] over the whole document, and its first spot.
+/// docs/SETTINGS.md has the keys.
+pub fn load(alloc: Global, bytes: &[u8]) -> Result<Setup, LoadError>
     ensures value { Gives setup_view result (setup_of bytes.now) }
 
     // What is no text is refused before memory is taken.
-    ensures text { text_of bytes.now ≡ None → IsErrAnd result (λ e. e ≡ Refused Text) }
+    ensures text { text_of bytes.now ≡ None → IsErrAnd result (IsError (refused Text whole)) }
     ensures sound { IfOk result (λ s. IsSound (setup_view s)) }
 {
     load_setup(alloc, bytes)

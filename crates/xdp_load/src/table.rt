@@ -1,76 +1,60 @@
 //! What a table of a document holds at a key.
-ghost use Rattle.std.specs.Prelude.{◌≡◌, ◌∷◌, ◌||◌, map, option_map};
+ghost use Rattle.std.specs.Prelude.{◌≡◌, option_map};
 ghost use Rattle.std.specs.List.{list_any};
 ghost use Rattle.std.specs.Str.{bytes_eq};
-ghost use Rattle.toml.specs.Data.{get_member};
 ghost use Rattle.toml.specs.View.{view, table_view};
-ghost use Rattle.xdp_load.specs.Document.{has_only, integer_at, integer_or, text_at};
+ghost use Rattle.xdp_load.specs.Document.{found, has_only, number_at, text_at, unknown_key};
+ghost use Rattle.xdp_load.specs.Gives.{seen_by};
+ghost use Rattle.xdp_load.specs.Keys.{name};
 
+use crate::key::Key;
 use toml::{Table, Value};
 
 /// Whether the key is one of those.
-pub fn is_known(key: &str, known: &[&str]) -> bool
-    ensures { result ≡ list_any (λ k. bytes_eq key.now k.now) known.now }
+fn is_known(key: &str, known: &[Key]) -> bool
+    ensures { result ≡ list_any (λ k. bytes_eq key.now (name k)) known.now }
 {
-    known.iter().any(|k| key == *k)
+    known.iter().any(|k| key == k.name())
+}
+
+/// The first key that isn't one of those.
+pub fn unknown_key<'a>(table: &'a Table, known: &[Key]) -> Option<&'a str>
+    ensures { option_map (λ k. k.now) result ≡ unknown_key known.now (table_view table.now) }
+{
+    let key = table.keys().find(|key| !is_known(key.as_str(), known))?;
+    Some(key.as_str())
 }
 
 /// Whether the table has no key but those.
-pub fn has_only(table: &Table, known: &[&str]) -> bool
-    ensures { result ≡ has_only (map (λ k. k.now) known.now) (table_view table.now) }
+pub fn has_only(table: &Table, known: &[Key]) -> bool
+    ensures { result ≡ has_only known.now (table_view table.now) }
 {
-    table.keys().all(|key| is_known(key.as_str(), known))
-}
-
-/// Whether the key is this one or one of those.
-fn is_known_with(key: &str, one: &str, known: &[&str]) -> bool
-    ensures { result ≡ (bytes_eq key.now one.now || list_any (λ k. bytes_eq key.now k.now) known.now) }
-{
-    key == one || is_known(key, known)
-}
-
-/// Whether the table has no key but this one and those.
-pub fn has_only_with(table: &Table, one: &str, known: &[&str]) -> bool
-    ensures { result ≡ has_only (one.now ∷ map (λ k. k.now) known.now) (table_view table.now) }
-{
-    table
-        .keys()
-        .all(|key| is_known_with(key.as_str(), one, known))
+    unknown_key(table, known).is_none()
 }
 
 /// What the table has at a key.
-pub fn found<'a>(table: &'a Table, key: &str) -> Option<&'a Value>
-    ensures { option_map (λ v. view v.now) result ≡ get_member key.now (table_view table.now) }
+pub fn found(table: &Table, key: Key) -> Option<&Value>
+    ensures { option_map (λ v. view v.now) result ≡ found key (table_view table.now) }
 {
-    table.get(key)
+    table.get(key.name())
 }
 
-/// The text at a key, if the key holds a text.
-pub fn text_at<'a>(table: &'a Table, key: &str) -> Option<&'a str>
-    ensures { option_map (λ s. s.now) result ≡ text_at key.now (table_view table.now) }
+/// The text at a key.
+pub fn text_at(table: &Table, key: Key) -> Result<&str, Key>
+    ensures { seen_by (λ s. s.now) result ≡ text_at key (table_view table.now) }
 {
     match found(table, key) {
-        Some(value) => value.as_str(),
-        None => None,
+        Some(value) => value.as_str().ok_or(key),
+        None => Err(key),
     }
 }
 
-/// The whole number at a key, if the key holds one.
-pub fn integer_at(table: &Table, key: &str) -> Option<i64>
-    ensures { result ≡ integer_at key.now (table_view table.now) }
+/// The whole number at a key, or the one that it has where it is left out.
+pub fn number_at(table: &Table, key: Key) -> Result<i64, Key>
+    ensures { result ≡ number_at key (table_view table.now) }
 {
     match found(table, key) {
-        Some(value) => value.as_integer(),
-        None => None,
-    }
-}
-
-/// The whole number at a key, or this one where there is no such key.
-pub fn integer_or(table: &Table, key: &str, missing: i64) -> Option<i64>
-    ensures { result ≡ integer_or missing key.now (table_view table.now) }
-{
-    match found(table, key) {
-        Some(value) => value.as_integer(),
-        None => Some(missing),
+        Some(value) => value.as_integer().ok_or(key),
+        None => key.missing().ok_or(key),
     }
 }

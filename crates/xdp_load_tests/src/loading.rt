@@ -2,7 +2,7 @@
 ghost use Rattle.std.specs.Prelude.{◌≤◌, length};
 
 use std::alloc::Global;
-use xdp_load::{LoadFault, Setup, load};
+use xdp_load::{Fault, LoadError, Part, Place, Setup, Spot, load, load_rewritten};
 
 /// How many bytes the program has, how many shapes, names, steps and packets there are; the queues; the interface's number;
 /// and the index at which each ring begins.
@@ -12,7 +12,7 @@ pub type Counts = ([usize; 5], usize, u32, u32);
 pub fn fault_number(alloc: Global, bytes: &[u8]) -> Option<u8> {
     match load(alloc, bytes) {
         Ok(_) => None,
-        Err(fault) => Some(fault.number()),
+        Err(error) => Some(error.fault().number()),
     }
 }
 
@@ -35,10 +35,10 @@ fn counts_of(setup: &Setup) -> Counts {
 }
 
 /// The counts of a setup, or why there is none.
-pub fn counts(alloc: Global, text: &str) -> Result<Counts, LoadFault> {
+pub fn counts(alloc: Global, text: &str) -> Result<Counts, LoadError> {
     match load(alloc, text.as_bytes()) {
         Ok(setup) => Ok(counts_of(&setup)),
-        Err(fault) => Err(fault),
+        Err(error) => Err(error),
     }
 }
 
@@ -103,6 +103,63 @@ pub fn gives_packets(alloc: Global, text: &str, packets: &[(usize, &str, u32)]) 
 pub fn gives_script(alloc: Global, text: &str, script: &[(usize, u32)]) -> bool {
     match load(alloc, text.as_bytes()) {
         Ok(setup) => setup.script.as_slice() == script,
+        Err(_) => false,
+    }
+}
+
+fn is_at(error: &LoadError, fault: Fault, part: Part, spot: &Spot) -> bool {
+    match error {
+        LoadError::Memory => false,
+        LoadError::Refused(refused) => refused.fault == fault
+            && refused.part == part
+            && refused.spot == *spot,
+    }
+}
+
+/// Whether settings are refused for this fault at this spot.
+pub fn is_refused_at(alloc: Global, text: &str, fault: Fault, spot: &Spot) -> bool {
+    match load(alloc, text.as_bytes()) {
+        Ok(_) => false,
+        Err(error) => is_at(&error, fault, Part::Settings, spot),
+    }
+}
+
+/// Whether settings with an original are refused for this fault at this spot of their own keys or of the original's.
+pub fn is_rewritten_refused_at(
+    alloc: Global,
+    text: &str,
+    fault: Fault,
+    part: Part,
+    spot: &Spot,
+) -> bool {
+    match load_rewritten(alloc, text.as_bytes()) {
+        Ok(_) => false,
+        Err(error) => is_at(&error, fault, part, spot),
+    }
+}
+
+fn has_places(places: &[Place], wanted: &[(u32, bool)]) -> bool {
+    places.len() == wanted.len()
+        && places
+            .iter()
+            .zip(wanted)
+            .all(|(place, (at, own))| place.at == *at && place.own == *own)
+}
+
+/// Whether settings with an original give this program and this original, as hexadecimal texts, and these places.
+pub fn gives_original(
+    alloc: Global,
+    text: &str,
+    program: &str,
+    original: &str,
+    places: &[(u32, bool)],
+) -> bool {
+    match load_rewritten(alloc, text.as_bytes()) {
+        Ok(rewritten) => {
+            is_hex_of(alloc, program, rewritten.setup.program.as_slice())
+                && is_hex_of(alloc, original, rewritten.original.as_slice())
+                && has_places(rewritten.places.as_slice(), places)
+        }
         Err(_) => false,
     }
 }

@@ -1,6 +1,8 @@
 mod beginnings;
 mod growth;
+mod originals;
 mod setups;
+mod spots;
 
 /// Settings of forty lines, with every key.
 const EVERY_KEY: &str = "\

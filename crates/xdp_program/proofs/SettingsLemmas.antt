@@ -6,9 +6,9 @@ use Rattle.bpf_insn.specs.declared.insn.Insn.{Insn}
 use Rattle.bpf_insn.proofs.UniqueLemmas.{one_code}
 use Rattle.bpf_verify.specs.Consistent.{Accepted}
 use Rattle.bpf_verify.specs.FirstRefusal.{IsFaultless}
-use Rattle.xdp_load.specs.Gives.{Fails}
+use Rattle.xdp_load.specs.Gives.{HasFault}
 use Rattle.xdp_load.specs.Setup.{SetupView, setup_of}
-use Rattle.xdp_load.specs.declared.fault.Fault.{Fault}
+use Rattle.xdp_load.specs.Spot.{Refused}
 use Rattle.xdp_load.specs.declared.fault.LoadFault.{LoadFault as TextFault}
 use Rattle.xdp_load.specs.declared.fault.LoadFault.TheVariants as text
 use Rattle.xdp_program.specs.Refused.{IsRefused}
@@ -17,15 +17,15 @@ use Rattle.xdp_program.specs.declared.fault.SettingsFault.{SettingsFault}
 use Rattle.xdp_program.specs.declared.fault.SettingsFault.TheVariants.{Text, Program}
 use Rattle.xdp_program.proofs.LoadLemmas.{AloneMemory, refused_out_of_memory}
 
-pub one_setup : (s t : SetupView) (r : Result SetupView Fault) → r ≡ Ok s → r ≡ Ok t → s ≡ t
+pub one_setup : (s t : SetupView) (r : Result SetupView Refused) → r ≡ Ok s → r ≡ Ok t → s ≡ t
 one_setup s t r a b = cc (a, b)
 
-pub setup_or_fault : (s : SetupView) (f : Fault) (r : Result SetupView Fault) → r ≡ Ok s → r ≡ Err f → ⊥
+pub setup_or_fault : (s : SetupView) (f : Refused) (r : Result SetupView Refused) → r ≡ Ok s → r ≡ Err f → ⊥
 setup_or_fault s f r e h = cc (e, h)
 
-fails_out_of_memory : (f : TextFault) (s : SetupView) (r : Result SetupView Fault) → r ≡ Ok s → Fails f r → f ≡ text.Memory
+fails_out_of_memory : (f : TextFault) (s : SetupView) (r : Result SetupView Refused) → r ≡ Ok s → HasFault f r → f ≡ text.Memory
 fails_out_of_memory text.Memory s r e h = refl
-fails_out_of_memory (text.Refused f) s r e h = absurd (setup_or_fault s f r e h)
+fails_out_of_memory (text.Refused f) s r e h = absurd (setup_or_fault s h.0 r e h.1)
 
 fault_out_of_memory : AloneMemory → (f : SettingsFault) (bytes : List ℕ) → IsSettingsFault bytes f → (s : SetupView) (code : List Insn) → setup_of bytes ≡ Ok s → Spells code s.program → IsFaultless code s.shapes → IsSettingsOutOfMemory f
 fault_out_of_memory law (Text f) bytes h s code e spells fine = fails_out_of_memory f s (setup_of bytes) e h

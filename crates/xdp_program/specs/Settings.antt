@@ -4,7 +4,7 @@ use Rattle.std.specs.Prelude.{ℕ, ◌≡◌, ◌≤◌, List, Ok, length}
 use Rattle.bpf_insn.specs.Code.{Spells}
 use Rattle.bpf_verify.specs.Consistent.{Accepted}
 use Rattle.bpf_verify.specs.FirstRefusal.{IsFaultless}
-use Rattle.xdp_load.specs.Gives.{Fails}
+use Rattle.xdp_load.specs.Gives.{HasFault}
 use Rattle.xdp_load.specs.Setup.{SetupView, setup_of}
 use Rattle.xdp_load.specs.declared.fault.LoadFault.TheVariants.{Memory}
 use Rattle.xdp_program.specs.Refused.{IsRefused, IsOutOfMemory}
@@ -19,7 +19,7 @@ IsProgramOf text p = (s : SetupView) × (setup_of text ≡ Ok s) × Spells p.cod
 -- the text's fault, or out of memory as it is read; or the text spells settings, of at most four maps, and this is the fault of
 -- their program with these
 abbrev pub IsSettingsFault : List ℕ → SettingsFault → Type 0
-IsSettingsFault text (Text f) = Fails f (setup_of text)
+IsSettingsFault text (Text f) = HasFault f (setup_of text)
 IsSettingsFault text (Program f) = (s : SetupView) × (setup_of text ≡ Ok s) × (length s.shapes ≤ 4) × IsRefused s.program s.shapes f
 
 -- out of memory

@@ -22,7 +22,7 @@ fn accept(alloc: Global, text: &[u8]) -> Result<Program, SettingsFault>
             Ok(program) => Ok(program),
             Err(fault) => Err(SettingsFault::Program(fault)),
         },
-        Err(fault) => Err(SettingsFault::Text(fault)),
+        Err(error) => Err(SettingsFault::Text(error.fault())),
     }
 }
 

@@ -5,7 +5,7 @@ use crate::loading::{Counts, counts};
 use crate::tests::EVERY_KEY;
 use std::alloc::Global;
 use std::test::Fail;
-use xdp_load::{Fault, LoadFault};
+use xdp_load::{Fault, Key, LoadError, Part, Refused, Spot};
 
 /// Two maps have one name.
 const NAMED_TWICE: &str = "\
@@ -18,9 +18,9 @@ fn load_again(
     rt: &impl Print,
     alloc: Global,
     text: &str,
-) -> Result<Result<Counts, LoadFault>, Fail> {
+) -> Result<Result<Counts, LoadError>, Fail> {
     match counts(alloc, text) {
-        Err(LoadFault::Memory) => {
+        Err(LoadError::Memory) => {
             println!(rt; "refused")?;
             Ok(counts(alloc, text))
         }
@@ -38,6 +38,11 @@ fn settings_are_loaded_again(rt: HostRuntime) -> Result<(), Fail> {
 #[test]
 fn settings_are_refused_again(rt: HostRuntime) -> Result<(), Fail> {
     let found = load_again(&rt, rt.alloc(), NAMED_TWICE)?;
-    assert_eq!(rt; found, Err(LoadFault::Refused(Fault::Name)));
+    let refused = Refused {
+        fault: Fault::Name,
+        part: Part::Settings,
+        spot: Spot::Row(Key::Name, 0),
+    };
+    assert_eq!(rt; found, Err(LoadError::Refused(refused)));
     Ok(())
 }

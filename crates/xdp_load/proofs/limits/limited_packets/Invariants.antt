@@ -1,9 +1,11 @@
 use Rattle.std.proofs.Common.{◌≡◌, map, drop}
-use Rattle.xdp_load.specs.Limits.{each, limited_packet}
+use Rattle.xdp_load.specs.Gives.{each}
+use Rattle.xdp_load.proofs.RowLemmas.{each_done}
+use Rattle.xdp_load.specs.declared.fault.Fault.TheVariants.{Limit}
+use Rattle.xdp_load.specs.Limits.{limited_packet}
 use Rattle.xdp_load.specs.Seen.{packet_seen}
 use Rattle.xdp_load.specs.LimitsSeen.{hex_packet_seen}
-use Rattle.xdp_load.proofs.RowLemmas.{each_done}
 use Rattle.xdp_load.proofs.limits.limited_packets.Given as goal
 
-abbrev pub invariant-loop-row : goal.invariant-loop-row
-invariant-loop-row l = each_done (limited_packet l.queues) (map hex_packet_seen l.packets.items) (map packet_seen (drop l.row-index l.rows)) ≡ each (limited_packet l.queues) (map packet_seen l.rows)
+abbrev pub invariant-loop-i : goal.invariant-loop-i
+invariant-loop-i l = each_done Limit (limited_packet l.queues) l.i (map hex_packet_seen l.packets.items) (map packet_seen (drop l.i l.rows)) ≡ each Limit (limited_packet l.queues) 0 (map packet_seen l.rows)

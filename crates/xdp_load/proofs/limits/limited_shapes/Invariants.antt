@@ -1,8 +1,10 @@
 use Rattle.std.proofs.Common.{◌≡◌, map, drop}
-use Rattle.xdp_load.specs.Limits.{each, limited_shape}
-use Rattle.xdp_load.specs.Seen.{map_seen}
+use Rattle.xdp_load.specs.Gives.{each}
 use Rattle.xdp_load.proofs.RowLemmas.{each_done}
+use Rattle.xdp_load.specs.declared.fault.Fault.TheVariants.{Limit}
+use Rattle.xdp_load.specs.Limits.{limited_shape}
+use Rattle.xdp_load.specs.Seen.{map_seen}
 use Rattle.xdp_load.proofs.limits.limited_shapes.Given as goal
 
-abbrev pub invariant-loop-row : goal.invariant-loop-row
-invariant-loop-row l = each_done limited_shape l.shapes.items (map map_seen (drop l.row-index l.rows)) ≡ each limited_shape (map map_seen l.rows)
+abbrev pub invariant-loop-i : goal.invariant-loop-i
+invariant-loop-i l = each_done Limit limited_shape l.i l.shapes.items (map map_seen (drop l.i l.rows)) ≡ each Limit limited_shape 0 (map map_seen l.rows)
