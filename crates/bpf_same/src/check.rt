@@ -10,7 +10,11 @@ ghost use Rattle.bpf_flow.specs.Rule.{IsRuled};
 ghost use Rattle.bpf_same.specs.Decided.{IsDecided};
 ghost use Rattle.bpf_same.specs.Followed.{IsKnown, Passes, Meets, MeetsAt, FollowsOne, Goes, GoesBoth, Targets, FollowsTwo, IsSplit, Follows, IsPassed, IsClaimed, AreClaims};
 
+use crate::access::{is_own_step, is_shared, reads_alike};
 use crate::decide::decided;
+use crate::equations::Equations;
+use crate::sum::Sum;
+use crate::turn::Turn;
 use crate::equal::{is_but_for_offset, is_same_insn};
 use crate::mark::Place;
 use bpf_flow::{Successor, Successors, after, jump_target, next_slot};
@@ -27,16 +31,18 @@ pub(crate) struct Claims<'a> {
     pub(crate) old: &'a [Insn],
     pub(crate) places: &'a [Place],
     pub(crate) notes: &'a [Vec<Box<Note>>],
+    pub(crate) equations: &'a [Equations],
+    pub(crate) low: u32,
 }
 
 /// Where a jump leads, if that is known.
-fn passed(insn: Insn, note: &Note, at: u32) -> Option<u32>
+fn passed(insn: Insn, equations: &Equations, note: &Note, at: u32) -> Option<u32>
     requires { at < 4096 }
     ensures { IfSome result (IsPassed insn (facts note.now) at) }
 {
     match insn {
         Insn::Ja { to, .. } => jump_target(at, to),
-        Insn::Jump { off, .. } => match decided(insn, note) {
+        Insn::Jump { off, .. } if reads_alike(equations, insn) => match decided(insn, note) {
             Some(true) => jump_target(at, i32::from(off)),
             Some(false) => Some(at + 1),
             None => None,
@@ -69,6 +75,23 @@ pub(crate) fn is_covered(notes: &[Box<Note>], note: &Note) -> bool
         }
     }
     false
+}
+
+/// Whether no more is claimed than that registers are the same.
+fn is_at_entry(equations: &Equations) -> bool {
+    for register in 0..11 {
+        if let Some(sum) = equations.old_sum(register) {
+            if sum != Sum::held(register) {
+                return false;
+            }
+        }
+    }
+    for holder in 0..64 {
+        if equations.claimed(holder).is_some() {
+            return false;
+        }
+    }
+    true
 }
 
 fn place_at(places: &[Place], at: u32) -> Option<Place>
@@ -147,21 +170,30 @@ fn is_split(insn: Insn, pc: u32, next: u32, taken: u32) -> bool
     }
 }
 
+/// A slot of the new program, with one of its notes.
+#[derive(Clone, Copy, Drop)]
+struct Before<'a> {
+    insn: Insn,
+    place: Place,
+    note: &'a Note,
+    equations: &'a Equations,
+}
+
 impl Claims<'_> {
     /// Where the old program goes on from a slot without any effect.
-    fn passed_from(&self, note: &Note, at: u32) -> Option<u32>
+    fn passed_from(&self, equations: &Equations, note: &Note, at: u32) -> Option<u32>
         requires { length self.now.old.now ≤ 4096 }
         ensures { IfSome result (λ q. (i : Insn) × (slice_get self.now.old.now at ≡ Some i) × IsPassed i (facts note.now) at q) }
     {
         if (at as usize) < self.old.len() {
-            passed(self.old[at as usize], note, at)
+            passed(self.old[at as usize], equations, note, at)
         } else {
             None
         }
     }
 
     /// Whether jumps whose ways are known lead the old program from a slot to another one.
-    fn passes(&self, note: &Note, from: u32, to: u32) -> bool
+    fn passes(&self, equations: &Equations, note: &Note, from: u32, to: u32) -> bool
         requires { length self.now.old.now ≤ 4096 }
         ensures { IsTrue result → Passes self.now.old.now (facts note.now) from to }
     {
@@ -170,7 +202,7 @@ impl Claims<'_> {
             if at == to {
                 return true;
             }
-            match self.passed_from(note, at) {
+            match self.passed_from(equations, note, at) {
                 Some(next) => at = next,
                 None => return false,
             }
@@ -191,113 +223,123 @@ impl Claims<'_> {
         ensures { IsTrue result → Meets self.now.old.now self.now.places.now self.now.notes.now (facts note.now) from slot }
     {
         (slot as usize) < self.places.len()
-            && self.passes(note, from, self.places[slot as usize].at)
+            && (slot as usize) < self.equations.len()
+            && self.passes(&self.equations[slot as usize], note, from, self.places[slot as usize].at)
             && self.is_known(slot, note)
     }
 
-    fn meets(&self, from: Option<u32>, there: &Successor) -> bool
+    /// Whether what is claimed of the slot that a step leads to holds after it.
+    fn keeps(&self, before: &Before, own: bool, there: &Successor) -> bool {
+        let turn = Turn {
+            insn: before.insn,
+            own,
+            low: self.low,
+            before: before.equations,
+            after: &there.note,
+        };
+        (there.pc as usize) < self.equations.len() && turn.keeps(&self.equations[there.pc as usize])
+    }
+
+    fn meets(&self, before: &Before, from: Option<u32>, there: &Successor) -> bool
         requires { length self.now.old.now ≤ 4096 }
-        ensures { IsTrue result → MeetsAt self.now.old.now self.now.places.now self.now.notes.now (facts there.now.note.value) from there.now.pc }
     {
         match from {
-            Some(from) => self.meets_from(from, there.pc, &there.note),
+            Some(from) => self.keeps(before, true, there) && self.meets_from(from, there.pc, &there.note),
             None => false,
         }
     }
 
     /// Whether a way isn't taken, or leads to what the old program meets.
-    fn goes(&self, insn: Insn, note: &Note, way: bool, from: Option<u32>, there: &Successor) -> bool
+    fn goes(&self, before: &Before, way: bool, from: Option<u32>, there: &Successor) -> bool
         requires { length self.now.old.now ≤ 4096 }
-        ensures { IsTrue result → Goes self.now.old.now self.now.places.now self.now.notes.now insn (facts note.now) (not way) from
-            (facts there.now.note.value) there.now.pc }
     {
-        is_other(insn, note, way) || self.meets(from, there)
+        is_other(before.insn, before.note, way) || self.meets(before, from, there)
     }
 
     /// Whether the old program follows a conditional jump, whose ways it goes from these slots.
     fn goes_both(
         &self,
-        insn: Insn,
-        note: &Note,
+        before: &Before,
         from: Option<u32>,
         target: Option<u32>,
         next: &Successor,
         taken: &Successor,
     ) -> bool
         requires { length self.now.old.now ≤ 4096 }
-        ensures { IsTrue result → GoesBoth self.now.old.now self.now.places.now self.now.notes.now insn (facts note.now) from target
-            (facts next.now.note.value) next.now.pc (facts taken.now.note.value) taken.now.pc }
     {
-        self.goes(insn, note, false, from, next) && self.goes(insn, note, true, target, taken)
+        self.goes(before, false, from, next) && self.goes(before, true, target, taken)
     }
 
-    fn follows_two(
-        &self,
-        place: Place,
-        insn: Insn,
-        note: &Note,
-        next: &Successor,
-        taken: &Successor,
-    ) -> bool
+    fn follows_two(&self, before: &Before, next: &Successor, taken: &Successor) -> bool
         requires { length self.now.old.now ≤ 4096 }
-        ensures { IsTrue result → FollowsTwo self.now.old.now self.now.places.now self.now.notes.now place.own place.at insn (facts note.now)
-            (facts next.now.note.value) next.now.pc (facts taken.now.note.value) taken.now.pc }
     {
-        let at = place.at;
-        if place.own {
-            return self.goes_both(insn, note, Some(at), Some(at), next, taken);
+        let at = before.place.at;
+        if before.place.own {
+            return self.goes_both(before, Some(at), Some(at), next, taken);
         }
-        if at as usize >= self.old.len() {
+        if at as usize >= self.old.len() || !reads_alike(before.equations, before.insn) {
             return false;
         }
-        match targets(self.old[at as usize], at, insn) {
-            Some(target) => self.goes_both(insn, note, Some(at + 1), target, next, taken),
+        match targets(self.old[at as usize], at, before.insn) {
+            Some(target) => self.goes_both(before, Some(at + 1), target, next, taken),
             None => false,
         }
     }
 
-    /// Whether the old program follows an instruction that leads to one slot.
-    fn follows_one(&self, at: u32, insn: Insn, there: &Successor) -> bool
+    /// Whether the old program stays where it is while the new one steps.
+    fn stays(&self, before: &Before, there: &Successor) -> bool
         requires { length self.now.old.now ≤ 4096 }
-        ensures { IsTrue result → FollowsOne self.now.old.now self.now.places.now self.now.notes.now at insn (facts there.now.note.value) there.now.pc }
     {
-        match insn {
-            Insn::Ja { .. } => self.meets_from(at, there.pc, &there.note),
+        self.keeps(before, true, there) && self.meets_from(before.place.at, there.pc, &there.note)
+    }
+
+    /// Whether both programs take one step.
+    fn steps(&self, before: &Before, there: &Successor) -> bool
+        requires { length self.now.old.now ≤ 4096 }
+    {
+        let at = before.place.at;
+        is_at(self.old, at, before.insn)
+            && at < 4096
+            && reads_alike(before.equations, before.insn)
+            && is_shared(before.insn, before.note, self.low)
+            && self.keeps(before, false, there)
+            && self.meets_from(next_slot(before.insn, at), there.pc, &there.note)
+    }
+
+    /// Whether the old program follows an instruction that leads to one slot.
+    fn follows_one(&self, before: &Before, there: &Successor) -> bool
+        requires { length self.now.old.now ≤ 4096 }
+    {
+        match before.insn {
+            Insn::Ja { .. } => self.stays(before, there),
             Insn::Jump { .. } => false,
             _ => {
-                is_at(self.old, at, insn)
-                    && at < 4096
-                    && self.meets_from(next_slot(insn, at), there.pc, &there.note)
+                if before.place.own {
+                    is_own_step(before.insn, before.note, self.low) && self.stays(before, there)
+                } else {
+                    self.steps(before, there)
+                }
             }
         }
     }
 
     /// Whether the old program follows an instruction.
-    fn follows(
-        &self,
-        alloc: Global,
-        place: Place,
-        insn: Insn,
-        note: &Note,
-        pc: u32,
-        shapes: &[MapShape],
-    ) -> bool
+    fn follows(&self, alloc: Global, before: &Before, pc: u32, shapes: &[MapShape]) -> bool
         requires short { length self.now.old.now ≤ 4096 }
         requires inside { pc < 4096 }
-        ensures { IsTrue result → Follows self.now.old.now self.now.places.now self.now.notes.now shapes.now place.at insn (facts note.now) pc }
     {
-        if !is_ruled(insn, pc, shapes.len()) {
+        if !is_ruled(before.insn, pc, shapes.len()) {
             return false;
         }
-        match after(alloc, &insn, pc, note, shapes) {
-            Ok(Successors::None) => is_exit(insn) && is_at(self.old, place.at, insn),
-            Ok(Successors::One(there)) => self.follows_one(place.at, insn, &there),
+        match after(alloc, &before.insn, pc, before.note, shapes) {
+            Ok(Successors::None) => {
+                is_exit(before.insn)
+                    && is_at(self.old, before.place.at, before.insn)
+                    && reads_alike(before.equations, before.insn)
+            }
+            Ok(Successors::One(there)) => self.follows_one(before, &there),
             Ok(Successors::Two(next, taken)) => {
-                if is_split(insn, pc, next.pc, taken.pc) {
-                    self.follows_two(place, insn, note, &next, &taken)
-                } else {
-                    false
-                }
+                is_split(before.insn, pc, next.pc, taken.pc) && self.follows_two(before, &next, &taken)
             }
             Err(_) => false,
         }
@@ -310,6 +352,7 @@ impl Claims<'_> {
         place: Place,
         insn: Insn,
         notes: &[Box<Note>],
+        equations: &Equations,
         pc: u32,
         shapes: &[MapShape],
     ) -> bool
@@ -319,7 +362,13 @@ impl Claims<'_> {
             Follows self.now.old.now self.now.places.now self.now.notes.now shapes.now place.at insn (facts b.value) pc }
     {
         for k in 0..notes.len() {
-            if !self.follows(alloc, place, insn, &notes[k], pc, shapes) {
+            let before = Before {
+                insn,
+                place,
+                note: &notes[k],
+                equations,
+            };
+            if !self.follows(alloc, &before, pc, shapes) {
                 return false;
             }
         }
@@ -336,12 +385,13 @@ impl Claims<'_> {
         match place_at(self.places, pc) {
             Some(place) => match insn_at(new, pc) {
                 Some(insn) => {
-                    (pc as usize) < self.notes.len()
+                    (pc as usize) < self.notes.len() && (pc as usize) < self.equations.len()
                         && self.follows_each(
                             alloc,
                             place,
                             insn,
                             self.notes[pc as usize].as_slice(),
+                            &self.equations[pc as usize],
                             pc,
                             shapes,
                         )
@@ -358,7 +408,7 @@ impl Claims<'_> {
         ensures { IsTrue result → Meets self.now.old.now self.now.places.now self.now.notes.now entry 0 0 }
     {
         let note = Note::entry(alloc);
-        self.meets_from(0, 0, &note)
+        is_at_entry(&self.equations[0]) && self.meets_from(0, 0, &note)
     }
 
     /// Whether what is claimed holds.
