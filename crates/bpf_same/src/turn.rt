@@ -86,11 +86,16 @@ impl Turn<'_> {
         }
     }
 
-    /// What the new program has written into a register.
-    fn new_written(&self, register: u8) -> Option<Sum> {
-        if let Some(number) = number_of(self.after.register(register)) {
-            return Some(Sum::constant(number));
+    /// The number that a register holds after the step, where the note says it.
+    fn noted(&self, register: u8) -> Option<Sum> {
+        match number_of(self.after.register(register)) {
+            Some(number) => Some(Sum::constant(number)),
+            None => None,
         }
+    }
+
+    /// What the new program has computed.
+    fn new_computed(&self) -> Option<Sum> {
         match self.insn {
             Insn::Alu { op: AluOp::Xor, wide: true, dst, src: Operand::Register(src) } if src == dst => {
                 Some(Sum::constant(0))
@@ -104,11 +109,24 @@ impl Turn<'_> {
         }
     }
 
+    /// What the new program has written into a register.
+    fn new_written(&self, register: u8) -> Option<Sum> {
+        match self.new_computed() {
+            Some(sum) => Some(sum),
+            None => self.noted(register),
+        }
+    }
+
     /// What the old program has written into a register.
     fn old_written(&self, register: u8) -> Option<Sum> {
-        if let Some(number) = number_of(self.after.register(register)) {
-            return Some(Sum::constant(number));
+        match self.old_computed() {
+            Some(sum) => Some(sum),
+            None => self.noted(register),
         }
+    }
+
+    /// What the old program has computed.
+    fn old_computed(&self) -> Option<Sum> {
         match self.insn {
             Insn::Alu { op, wide, dst, src } => match (self.before.old_sum(dst.number()), self.old_operand(src)) {
                 (Some(first), Some(second)) => computed(op, wide, first, second),
