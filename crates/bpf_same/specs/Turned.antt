@@ -115,7 +115,7 @@ IsOwnStep (End kind width dst) low n = Unit {0}
 IsOwnStep (MovSx wide bits dst src) low n = Unit {0}
 IsOwnStep (Const dst value) low n = Unit {0}
 IsOwnStep (MapRef dst m) low n = Unit {0}
-IsOwnStep (Ldx size signed dst src off) low n = (size_bytes size ≡ 8 → ⊥) ⊎ IsOwnAccess src off low n
+IsOwnStep (Ldx size signed dst src off) low n = (size_bytes size ≡ 8 → ⊥) ⊎ (size ≡ Double) × IsOwnAccess src off low n
 IsOwnStep (Stx size dst src off) low n = (size ≡ Double) × IsOwnAccess dst off low n
 IsOwnStep i low n = ⊥
 

@@ -114,13 +114,20 @@ impl Meeting<'_> {
         self.one.new_sum(holder) != self.other.new_sum(holder)
     }
 
+    /// Whether a holder holds itself where they meet.
+    fn is_itself(&self, holder: u8) -> bool
+        requires { holder < 64 }
+    {
+        if self.rest & Sum::held(holder).holders == 0 {
+            return self.met.claimed(holder).is_none();
+        }
+        self.one.claimed(holder).is_none() && self.other.claimed(holder).is_none()
+    }
+
     /// Whether a sum is the same one in both, of holders that hold themselves.
     fn is_met(&self, sum: Sum, there: Sum) -> bool {
-        if sum.holders & self.rest != 0 {
-            return false;
-        }
         for holder in 0..HOLDERS {
-            if sum.has(holder) && self.met.claimed(holder).is_some() {
+            if sum.has(holder) && !self.is_itself(holder) {
                 return false;
             }
         }
