@@ -457,6 +457,6 @@ walks b new shapes r0 bytes _ _ k (goes s u label labels h w) sh = λ place eqs 
 pub same_runs : (b : Book) (new : List Insn) (shapes : List Shape) → ((s : State) → IsStart s → Describes entry s) → AreClaims b new shapes → IsSame shapes b.old new
 same_runs b new shapes begun k = λ s is e r0 bytes done run.
     let go : IsFollowed b r0 bytes (operations run.labels) s = walks b new shapes r0 bytes s run.labels k run.walk e in
-    let there : Runs b.old r0 bytes s (operations run.labels) = k.start k.first k.here s s is.pc (begun s is)
-    (record { pc = is.pc; packet = refl; ifindex = refl; queue = refl; shapes = refl; stack = λ i l. refl; equations = k.begins (held s) s.reg (held_fits s is.state) (λ j l. sym (held_register s j l)) }) r0 bytes (operations run.labels) go in
+    let there : Runs b.old r0 bytes s (operations run.labels) = k.begins.start k.begins.first k.begins.here s s is.pc (begun s is)
+    (record { pc = is.pc; packet = refl; ifindex = refl; queue = refl; shapes = refl; stack = λ i l. refl; equations = k.begins.begins (held s) s.reg (held_fits s is.state) (λ j l. sym (held_register s j l)) }) r0 bytes (operations run.labels) go in
     subst (λ (done : List Op). Runs b.old r0 bytes s done) run.did there

@@ -76,6 +76,12 @@ pub record Lands (b : Book) (i : Insn) (own : Bool) (e : Equations) (n : Facts) 
   pub keeps : Keeps i own b.low n e next
   pub meets : Meets b n p q
 
+-- what is claimed at slot q holds after the instruction
+pub record KeepsAt (b : Book) (i : Insn) (own : Bool) (e : Equations) (n : Facts) (q : ℕ) : Type 0 where
+  pub next : Equations
+  pub here : slice_get b.equations q ≡ Some next
+  pub keeps : Keeps i own b.low n e next
+
 abbrev pub LandsAt : Book → Insn → Bool → Equations → Facts → Option ℕ → ℕ → Type 0
 LandsAt b i own e n (Some p) q = Lands b i own e n p q
 LandsAt b i own e n None q = ⊥
@@ -159,10 +165,14 @@ IsClaimed b new shapes pc = (i : Insn) (place : Place) (e : Equations) (list : V
 abbrev pub IsAtStart : Equations → Type 0
 IsAtStart e = (f g : ℕ → Option ℕ) → ((n : ℕ) → IsWord (f n)) → ((k : ℕ) → k < 11 → g k ≡ f k) → Hold e f g
 
--- what is claimed of each slot holds
-pub record AreClaims (b : Book) (new : List Insn) (shapes : List Shape) : Type 0 where
+-- what is claimed where both programs begin holds
+pub record Begins (b : Book) : Type 0 where
   pub first : Equations
   pub here : slice_get b.equations 0 ≡ Some first
   pub begins : IsAtStart first
   pub start : Meets b entry 0 0
+
+-- what is claimed of each slot holds
+pub record AreClaims (b : Book) (new : List Insn) (shapes : List Shape) : Type 0 where
+  pub begins : Begins b
   pub each : (pc : ℕ) → IsClaimed b new shapes pc

@@ -97,6 +97,17 @@ IsOldAfter i own low m e k s = (f g f' g' : ℕ → Option ℕ) → Turned i own
 abbrev pub IsBefore : Insn → Bool → ℕ → Facts → Equations → Sum → Sum → Type 0
 IsBefore i own low m e there here = (f g f' g' : ℕ → Option ℕ) → Turned i own low m f g f' g' → Hold e f g → total f' there ≡ total f here
 
+-- both programs have written the same into register k, which the sum says
+abbrev pub IsOldAlike : Insn → Bool → ℕ → Facts → ℕ → Sum → Type 0
+IsOldAlike i own low m k s = (f g f' g' : ℕ → Option ℕ) → Turned i own low m f g f' g' → g' k ≡ total f' s
+
+-- after the step register k of the old program holds this sum of what is held then; the same of a holder
+abbrev pub KeepsOld : Insn → Bool → ℕ → Facts → Equations → ℕ → Sum → Type 0
+KeepsOld i own low m e k s = (f g f' g' : ℕ → Option ℕ) → Turned i own low m f g f' g' → Hold e f g → g' k ≡ total f' s
+
+abbrev pub KeepsNew : Insn → Bool → ℕ → Facts → Equations → ℕ → Sum → Type 0
+KeepsNew i own low m e n s = (f g f' g' : ℕ → Option ℕ) → Turned i own low m f g f' g' → Hold e f g → f' n ≡ total f' s
+
 -- equations that hold before it are followed by others
 abbrev pub Keeps : Insn → Bool → ℕ → Facts → Equations → Equations → Type 0
 Keeps i own low m e next = (f g f' g' : ℕ → Option ℕ) → Turned i own low m f g f' g' → Hold e f g → Hold next f' g'

@@ -1,5 +1,5 @@
 //! Whether what is claimed of each slot holds, each by itself.
-ghost use Rattle.std.specs.Prelude.{◌≡◌, ◌<◌, ◌≤◌, ◌⊎◌, ℕ, List, Some, length, slice_get, IsTrue, IfOk, IfSome, not};
+ghost use Rattle.std.specs.Prelude.{◌≡◌, ◌<◌, ◌≤◌, ◌⊎◌, ℕ, List, Some, length, slice_get, IsTrue, IfOk, IfSome, not, true};
 ghost use Rattle.std.specs.Global.{Box};
 ghost use Rattle.bpf_note.specs.Describes.{Describes};
 ghost use Rattle.bpf_note.specs.Facts.{entry};
@@ -8,12 +8,13 @@ ghost use Rattle.bpf_note.specs.State.{State};
 ghost use Rattle.bpf_flow.specs.Gives.{edges_of};
 ghost use Rattle.bpf_flow.specs.Rule.{IsRuled};
 ghost use Rattle.bpf_same.specs.Decided.{IsDecided};
-ghost use Rattle.bpf_same.specs.Followed.{IsKnown, Passes, Meets, MeetsAt, FollowsOne, Goes, GoesBoth, Targets, FollowsTwo, IsSplit, Follows, IsPassed, IsClaimed, AreClaims};
+ghost use Rattle.bpf_same.specs.Followed.{IsKnown, Passes, Meets, Lands, LandsAt, KeepsAt, Steps, StepsBy, Begins, FollowsOne, Goes, GoesBoth, Splits, Targets, FollowsTwo, IsSplit, Follows, IsPassed, IsClaimed, IsAtStart, AreClaims};
+ghost use Rattle.bpf_same.specs.Books.{book_of};
 
 use crate::access::{is_own_step, is_shared, reads_alike};
 use crate::decide::decided;
 use crate::equations::Equations;
-use crate::sum::Sum;
+use crate::start::is_at_entry;
 use crate::turn::Turn;
 use crate::equal::{is_but_for_offset, is_same_insn};
 use crate::mark::Place;
@@ -38,7 +39,7 @@ pub(crate) struct Claims<'a> {
 /// Where a jump leads, if that is known.
 fn passed(insn: Insn, equations: &Equations, note: &Note, at: u32) -> Option<u32>
     requires { at < 4096 }
-    ensures { IfSome result (IsPassed insn (facts note.now) at) }
+    ensures { (low : ℕ) → IfSome result (IsPassed insn equations.now low (facts note.now) at) }
 {
     match insn {
         Insn::Ja { to, .. } => jump_target(at, to),
@@ -77,38 +78,11 @@ pub(crate) fn is_covered(notes: &[Box<Note>], note: &Note) -> bool
     false
 }
 
-/// Whether no more is claimed than that registers are the same.
-fn is_at_entry(equations: &Equations) -> bool {
-    for register in 0..11 {
-        if let Some(sum) = equations.old_sum(register) {
-            if sum != Sum::held(register) {
-                return false;
-            }
-        }
-    }
-    for holder in 0..64 {
-        if equations.claimed(holder).is_some() {
-            return false;
-        }
-    }
-    true
-}
-
-fn place_at(places: &[Place], at: u32) -> Option<Place>
-    ensures { result ≡ slice_get places.now at }
+fn equations_at(equations: &[Equations], at: u32) -> Option<Equations>
+    ensures { result ≡ slice_get equations.now at }
 {
-    if (at as usize) < places.len() {
-        Some(places[at as usize])
-    } else {
-        None
-    }
-}
-
-fn insn_at(code: &[Insn], at: u32) -> Option<Insn>
-    ensures { result ≡ slice_get code.now at }
-{
-    if (at as usize) < code.len() {
-        Some(code[at as usize])
+    if (at as usize) < equations.len() {
+        Some(equations[at as usize])
     } else {
         None
     }
@@ -183,7 +157,7 @@ impl Claims<'_> {
     /// Where the old program goes on from a slot without any effect.
     fn passed_from(&self, equations: &Equations, note: &Note, at: u32) -> Option<u32>
         requires { length self.now.old.now ≤ 4096 }
-        ensures { IfSome result (λ q. (i : Insn) × (slice_get self.now.old.now at ≡ Some i) × IsPassed i (facts note.now) at q) }
+        ensures { IfSome result (λ q. (i : Insn) × (slice_get self.now.old.now at ≡ Some i) × IsPassed i equations.now self.now.low (facts note.now) at q) }
     {
         if (at as usize) < self.old.len() {
             passed(self.old[at as usize], equations, note, at)
@@ -195,7 +169,7 @@ impl Claims<'_> {
     /// Whether jumps whose ways are known lead the old program from a slot to another one.
     fn passes(&self, equations: &Equations, note: &Note, from: u32, to: u32) -> bool
         requires { length self.now.old.now ≤ 4096 }
-        ensures { IsTrue result → Passes self.now.old.now (facts note.now) from to }
+        ensures { IsTrue result → Passes self.now.old.now equations.now self.now.low (facts note.now) from to }
     {
         let mut at = from;
         for _turn in 0..MOST_JUMPS {
@@ -220,7 +194,7 @@ impl Claims<'_> {
     /// Whether the old program, from a slot on, meets what is claimed of a slot of the new one.
     fn meets_from(&self, from: u32, slot: u32, note: &Note) -> bool
         requires { length self.now.old.now ≤ 4096 }
-        ensures { IsTrue result → Meets self.now.old.now self.now.places.now self.now.notes.now (facts note.now) from slot }
+        ensures { IsTrue result → Meets (book_of self.now) (facts note.now) from slot }
     {
         (slot as usize) < self.places.len()
             && (slot as usize) < self.equations.len()
@@ -229,7 +203,9 @@ impl Claims<'_> {
     }
 
     /// Whether what is claimed of the slot that a step leads to holds after it.
-    fn keeps(&self, before: &Before, own: bool, there: &Successor) -> bool {
+    fn keeps(&self, before: &Before, own: bool, there: &Successor) -> bool
+        ensures { IsTrue result → KeepsAt (book_of self.now) before.now.insn own before.now.equations.now (facts there.now.note.value) there.now.pc }
+    {
         let turn = Turn {
             insn: before.insn,
             own,
@@ -240,11 +216,20 @@ impl Claims<'_> {
         (there.pc as usize) < self.equations.len() && turn.keeps(&self.equations[there.pc as usize])
     }
 
-    fn meets(&self, before: &Before, from: Option<u32>, there: &Successor) -> bool
+    /// Whether what is claimed of that slot holds, and the old program goes on from a slot of its own.
+    fn lands(&self, before: &Before, own: bool, from: u32, there: &Successor) -> bool
         requires { length self.now.old.now ≤ 4096 }
+        ensures { IsTrue result → Lands (book_of self.now) before.now.insn own before.now.equations.now (facts there.now.note.value) from there.now.pc }
+    {
+        self.keeps(before, own, there) && self.meets_from(from, there.pc, &there.note)
+    }
+
+    fn lands_at(&self, before: &Before, from: Option<u32>, there: &Successor) -> bool
+        requires { length self.now.old.now ≤ 4096 }
+        ensures { IsTrue result → LandsAt (book_of self.now) before.now.insn true before.now.equations.now (facts there.now.note.value) from there.now.pc }
     {
         match from {
-            Some(from) => self.keeps(before, true, there) && self.meets_from(from, there.pc, &there.note),
+            Some(from) => self.lands(before, true, from, there),
             None => false,
         }
     }
@@ -252,8 +237,10 @@ impl Claims<'_> {
     /// Whether a way isn't taken, or leads to what the old program meets.
     fn goes(&self, before: &Before, way: bool, from: Option<u32>, there: &Successor) -> bool
         requires { length self.now.old.now ≤ 4096 }
+        ensures { IsTrue result → Goes (book_of self.now) before.now.insn before.now.equations.now (facts before.now.note.now) (not way) from
+            (facts there.now.note.value) there.now.pc }
     {
-        is_other(before.insn, before.note, way) || self.meets(before, from, there)
+        is_other(before.insn, before.note, way) || self.lands_at(before, from, there)
     }
 
     /// Whether the old program follows a conditional jump, whose ways it goes from these slots.
@@ -266,17 +253,18 @@ impl Claims<'_> {
         taken: &Successor,
     ) -> bool
         requires { length self.now.old.now ≤ 4096 }
+        ensures { IsTrue result → GoesBoth (book_of self.now) before.now.insn before.now.equations.now (facts before.now.note.now) from target
+            (facts next.now.note.value) next.now.pc (facts taken.now.note.value) taken.now.pc }
     {
         self.goes(before, false, from, next) && self.goes(before, true, target, taken)
     }
 
-    fn follows_two(&self, before: &Before, next: &Successor, taken: &Successor) -> bool
+    /// Whether both programs take one of a conditional jump's ways.
+    fn splits(&self, before: &Before, at: u32, next: &Successor, taken: &Successor) -> bool
         requires { length self.now.old.now ≤ 4096 }
+        ensures { IsTrue result → Splits (book_of self.now) at before.now.insn before.now.equations.now (facts before.now.note.now)
+            (facts next.now.note.value) next.now.pc (facts taken.now.note.value) taken.now.pc }
     {
-        let at = before.place.at;
-        if before.place.own {
-            return self.goes_both(before, Some(at), Some(at), next, taken);
-        }
         if at as usize >= self.old.len() || !reads_alike(before.equations, before.insn) {
             return false;
         }
@@ -286,40 +274,55 @@ impl Claims<'_> {
         }
     }
 
-    /// Whether the old program stays where it is while the new one steps.
-    fn stays(&self, before: &Before, there: &Successor) -> bool
+    fn follows_two(&self, before: &Before, next: &Successor, taken: &Successor) -> bool
         requires { length self.now.old.now ≤ 4096 }
+        ensures { IsTrue result → FollowsTwo (book_of self.now) before.now.place.own before.now.place.at before.now.insn before.now.equations.now (facts before.now.note.now)
+            (facts next.now.note.value) next.now.pc (facts taken.now.note.value) taken.now.pc }
     {
-        self.keeps(before, true, there) && self.meets_from(before.place.at, there.pc, &there.note)
+        let at = before.place.at;
+        if before.place.own {
+            self.goes_both(before, Some(at), Some(at), next, taken)
+        } else {
+            self.splits(before, at, next, taken)
+        }
     }
 
     /// Whether both programs take one step.
     fn steps(&self, before: &Before, there: &Successor) -> bool
         requires { length self.now.old.now ≤ 4096 }
+        ensures { IsTrue result → Steps (book_of self.now) before.now.place.at before.now.insn before.now.equations.now (facts before.now.note.now) (facts there.now.note.value) there.now.pc }
     {
         let at = before.place.at;
         is_at(self.old, at, before.insn)
             && at < 4096
             && reads_alike(before.equations, before.insn)
             && is_shared(before.insn, before.note, self.low)
-            && self.keeps(before, false, there)
-            && self.meets_from(next_slot(before.insn, at), there.pc, &there.note)
+            && self.lands(before, false, next_slot(before.insn, at), there)
+    }
+
+    /// Whether the new program takes a step of its own, or both take one.
+    fn steps_by(&self, before: &Before, there: &Successor) -> bool
+        requires { length self.now.old.now ≤ 4096 }
+        ensures { IsTrue result → StepsBy (book_of self.now) before.now.place.own before.now.place.at before.now.insn before.now.equations.now (facts before.now.note.now)
+            (facts there.now.note.value) there.now.pc }
+    {
+        if before.place.own {
+            is_own_step(before.insn, before.note, self.low) && self.lands(before, true, before.place.at, there)
+        } else {
+            self.steps(before, there)
+        }
     }
 
     /// Whether the old program follows an instruction that leads to one slot.
     fn follows_one(&self, before: &Before, there: &Successor) -> bool
         requires { length self.now.old.now ≤ 4096 }
+        ensures { IsTrue result → FollowsOne (book_of self.now) before.now.place.own before.now.place.at before.now.insn before.now.equations.now (facts before.now.note.now)
+            (facts there.now.note.value) there.now.pc }
     {
         match before.insn {
-            Insn::Ja { .. } => self.stays(before, there),
+            Insn::Ja { .. } => self.lands(before, true, before.place.at, there),
             Insn::Jump { .. } => false,
-            _ => {
-                if before.place.own {
-                    is_own_step(before.insn, before.note, self.low) && self.stays(before, there)
-                } else {
-                    self.steps(before, there)
-                }
-            }
+            _ => self.steps_by(before, there),
         }
     }
 
@@ -327,6 +330,7 @@ impl Claims<'_> {
     fn follows(&self, alloc: Global, before: &Before, pc: u32, shapes: &[MapShape]) -> bool
         requires short { length self.now.old.now ≤ 4096 }
         requires inside { pc < 4096 }
+        ensures { IsTrue result → Follows (book_of self.now) shapes.now before.now.place.at before.now.insn before.now.equations.now (facts before.now.note.now) pc }
     {
         if !is_ruled(before.insn, pc, shapes.len()) {
             return false;
@@ -358,8 +362,8 @@ impl Claims<'_> {
     ) -> bool
         requires short { length self.now.old.now ≤ 4096 }
         requires inside { pc < 4096 }
-        ensures { IsTrue result → (k : ℕ) (b : Box Noted) → slice_get notes.now k ≡ Some b →
-            Follows self.now.old.now self.now.places.now self.now.notes.now shapes.now place.at insn (facts b.value) pc }
+        ensures { IsTrue result → (k : ℕ) (n : Box Noted) → slice_get notes.now k ≡ Some n →
+            Follows (book_of self.now) shapes.now place.at insn equations.now (facts n.value) pc }
     {
         for k in 0..notes.len() {
             let before = Before {
@@ -380,42 +384,39 @@ impl Claims<'_> {
         requires short { length self.now.old.now ≤ 4096 }
         requires inside { pc < length new.now }
         requires few { length new.now ≤ 4096 }
-        ensures { IsTrue result → IsClaimed self.now.old.now new.now self.now.places.now self.now.notes.now shapes.now pc }
+        ensures { IsTrue result → IsClaimed (book_of self.now) new.now shapes.now pc }
     {
-        match place_at(self.places, pc) {
-            Some(place) => match insn_at(new, pc) {
-                Some(insn) => {
-                    (pc as usize) < self.notes.len() && (pc as usize) < self.equations.len()
-                        && self.follows_each(
-                            alloc,
-                            place,
-                            insn,
-                            self.notes[pc as usize].as_slice(),
-                            &self.equations[pc as usize],
-                            pc,
-                            shapes,
-                        )
-                }
-                None => false,
-            },
-            None => false,
-        }
+        (pc as usize) < self.notes.len()
+            && (pc as usize) < self.equations.len()
+            && (pc as usize) < self.places.len()
+            && self.follows_each(
+                alloc,
+                self.places[pc as usize],
+                new[pc as usize],
+                self.notes[pc as usize].as_slice(),
+                &self.equations[pc as usize],
+                pc,
+                shapes,
+            )
     }
 
     /// Whether the old program, from its first slot on, meets what is claimed of the new one's first slot.
     fn begins(&self, alloc: Global) -> bool
         requires { length self.now.old.now ≤ 4096 }
-        ensures { IsTrue result → Meets self.now.old.now self.now.places.now self.now.notes.now entry 0 0 }
+        ensures { IsTrue result → Begins (book_of self.now) }
     {
         let note = Note::entry(alloc);
-        is_at_entry(&self.equations[0]) && self.meets_from(0, 0, &note)
+        match equations_at(self.equations, 0) {
+            Some(equations) => is_at_entry(&equations) && self.meets_from(0, 0, &note),
+            None => false,
+        }
     }
 
     /// Whether what is claimed holds.
     pub(crate) fn hold(&self, alloc: Global, new: &[Insn], shapes: &[MapShape]) -> bool
         requires short { length self.now.old.now ≤ 4096 }
         requires few { length new.now ≤ 4096 }
-        ensures { IsTrue result → AreClaims self.now.old.now new.now self.now.places.now self.now.notes.now shapes.now }
+        ensures { IsTrue result → AreClaims (book_of self.now) new.now shapes.now }
     {
         if !self.begins(alloc) {
             return false;

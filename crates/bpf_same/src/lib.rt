@@ -17,6 +17,7 @@ mod laws;
 mod mark;
 mod meet;
 mod same;
+mod start;
 mod sum;
 mod turn;
 

@@ -1,5 +1,7 @@
 //! What may be claimed where ways meet. Nothing is promised of it: `turn` judges.
 
+ghost use Rattle.std.specs.Prelude.{◌<◌};
+
 use crate::equations::Equations;
 use crate::sum::{HOLDERS, REGISTERS, Sum};
 use crate::turn::{Turn, alters};

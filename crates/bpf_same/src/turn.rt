@@ -1,15 +1,25 @@
 //! What a step of the new program, with the old one's where both have it, makes of sums.
+ghost use Rattle.std.specs.Prelude.{◌≡◌, ◌<◌, ◌≤◌, ℕ, Option, Some, true, false, IsTrue, IfSome};
+ghost use Rattle.bpf_insn.specs.declared.insn.Insn.TheVariants as insns;
+ghost use Rattle.bpf_insn.specs.declared.size.Size.TheVariants as sizes;
+ghost use Rattle.bpf_insn.specs.Register.{number};
+ghost use Rattle.bpf_insn.specs.Signed.{sign_extended};
+ghost use Rattle.bpf_note.specs.Parts.{facts};
+ghost use Rattle.bpf_same.specs.Sums.{Hold, new_of, old_of, total};
+ghost use Rattle.bpf_same.specs.Turned.{Computes, IsBefore, IsNewAfter, IsOldAfter, IsOwn, IsWordAt, IsOldAlike, Keeps, KeepsNew, KeepsOld, alters, number_in, operand_in};
 
 use crate::equations::Equations;
 use crate::sum::{HOLDERS, REGISTERS, Sum};
-use bpf_insn::{AluOp, Insn, Operand, Register, Size, alu};
+use bpf_insn::{AluOp, Insn, Operand, Register, Size};
 use bpf_note::{Note, PACKET_ID, Val};
 
 /// Where the packet begins.
 const PACKET_START: u64 = 0x10000000;
 
 /// The number that a value is, if it is one.
-fn number_of(value: Val) -> Option<u64> {
+fn number_of(value: Val) -> Option<u64>
+    ensures { IfSome result (λ x. number_in value ≡ Some x) }
+{
     match value {
         Val::Num { lo, hi } if lo == hi => Some(lo),
         Val::Pkt { id, off } if id == PACKET_ID => Some(PACKET_START + u64::from(off)),
@@ -18,7 +28,9 @@ fn number_of(value: Val) -> Option<u64> {
 }
 
 /// Whether an instruction writes or loses a register.
-pub(crate) fn alters(insn: Insn, register: u8) -> bool {
+pub(crate) fn alters(insn: Insn, register: u8) -> bool
+    ensures { result ≡ alters insn register }
+{
     match insn {
         Insn::Alu { dst, .. }
         | Insn::Neg { dst, .. }
@@ -29,39 +41,60 @@ pub(crate) fn alters(insn: Insn, register: u8) -> bool {
         | Insn::Ldx { dst, .. } => register == dst.number(),
         Insn::AddCounter { fetch, src, .. } => fetch && register == src.number(),
         Insn::Call { .. } => register <= 5,
-        _ => false,
+        Insn::St { .. }
+        | Insn::Stx { .. }
+        | Insn::Ja { .. }
+        | Insn::Jump { .. }
+        | Insn::Exit
+        | Insn::Second => false,
     }
 }
 
 /// The holder that is the word of the stack at an offset from its end, if that lies below `low`, counted from its start.
-pub(crate) fn own_word(base: Register, off: i16, low: u32) -> Option<u8> {
-    if base != Register::R10 || off >= 0 || off < -424 || off % 8 != 0 {
+pub(crate) fn own_word(base: Register, off: i16, low: u32) -> Option<u8>
+    ensures { IfSome result (IsWordAt base off low) }
+{
+    if base != Register::R10 || off > -8 || off < -424 || off % 8 != 0 {
         return None;
     }
-    if (520 + i32::from(off)) as u32 > low {
+    let holder = 10 + (-off as u16) / 8;
+    if 600 - 8 * u32::from(holder) > low {
         return None;
     }
-    Some((10 - off / 8) as u8)
+    Some(holder as u8)
 }
 
-/// Whether a holder is a register, or a word of the stack below `low`.
-fn is_own(holder: u8, low: u32) -> bool {
-    holder < REGISTERS || 600 - 8 * u32::from(holder) <= low
+/// Whether a word of the stack lies below `low`.
+fn is_own(holder: u8, low: u32) -> bool
+    requires first { 11 ≤ holder }
+    requires last { holder < 64 }
+    ensures { IsTrue result → IsOwn low holder }
+{
+    600 - 8 * u32::from(holder) <= low
 }
 
 /// What an operation computes of sums.
-fn computed(op: AluOp, wide: bool, first: Sum, second: Sum) -> Option<Sum> {
+fn computed(op: AluOp, wide: bool, first: Sum, second: Sum) -> Option<Sum>
+    ensures { IfSome result (λ s. (f : ℕ → Option ℕ) (a b o : Option ℕ) → a ≡ total f first → b ≡ total f second → Computes op wide a b o → o ≡ total f s) }
+{
     match op {
         AluOp::Mov if wide => Some(second),
         AluOp::Add if wide => first.plus(second),
-        _ if first.holders == 0 && second.holders == 0 => {
-            Some(Sum::constant(alu(op, wide, first.constant, second.constant)))
+        AluOp::And if wide && first.holders == 0 && second.holders == 0 => {
+            Some(Sum::constant(first.constant & second.constant))
         }
         _ => None,
     }
 }
 
-/// A step, the equations and the note before it, and the note after it. `own`: the old program doesn't take it.
+/// A constant of an instruction, extended by its sign.
+fn extended(value: i32) -> u64
+    ensures { result ≡ sign_extended value }
+{
+    i64::from(value).cast_unsigned()
+}
+
+/// A step, the equations before it, and the note after it. `own`: the old program doesn't take it.
 #[derive(Clone, Copy, Drop)]
 pub(crate) struct Turn<'a> {
     pub(crate) insn: Insn,
@@ -72,92 +105,186 @@ pub(crate) struct Turn<'a> {
 }
 
 impl Turn<'_> {
-    fn new_operand(&self, src: Operand) -> Sum {
+    fn new_operand(&self, src: Operand) -> Sum
+        ensures { (f g : ℕ → Option ℕ) → Hold self.now.before.now f g → operand_in f src ≡ total f result }
+    {
         match src {
             Operand::Register(register) => self.before.new_sum(register.number()),
-            Operand::Immediate(value) => Sum::constant(i64::from(value).cast_unsigned()),
+            Operand::Immediate(value) => Sum::constant(extended(value)),
         }
     }
 
-    fn old_operand(&self, src: Operand) -> Option<Sum> {
+    fn old_operand(&self, src: Operand) -> Option<Sum>
+        ensures { IfSome result (λ s. (f g : ℕ → Option ℕ) → Hold self.now.before.now f g → operand_in g src ≡ total f s) }
+    {
         match src {
             Operand::Register(register) => self.before.old_sum(register.number()),
-            Operand::Immediate(value) => Some(Sum::constant(i64::from(value).cast_unsigned())),
+            Operand::Immediate(value) => Some(Sum::constant(extended(value))),
         }
     }
 
     /// The number that a register holds after the step, where the note says it.
-    fn noted(&self, register: u8) -> Option<Sum> {
+    fn noted(&self, register: u8) -> Option<Sum>
+        requires { register < 11 }
+        ensures { IfSome result (IsNewAfter self.now.insn self.now.own self.now.low (facts self.now.after.now) self.now.before.now register) }
+    {
         match number_of(self.after.register(register)) {
             Some(number) => Some(Sum::constant(number)),
             None => None,
         }
     }
 
-    /// What the new program has computed.
-    fn new_computed(&self) -> Option<Sum> {
-        match self.insn {
-            Insn::Alu { op: AluOp::Xor, wide: true, dst, src: Operand::Register(src) } if src == dst => {
-                Some(Sum::constant(0))
-            }
-            Insn::Alu { op, wide, dst, src } => computed(op, wide, self.before.new_sum(dst.number()), self.new_operand(src)),
-            Insn::Ldx { size: Size::Double, src, off, .. } if self.own => match own_word(src, off, self.low) {
-                Some(word) => Some(self.before.new_sum(word)),
+    /// What the new program's operation makes of its operands.
+    fn new_result(&self, op: AluOp, wide: bool, dst: Register, src: Operand) -> Option<Sum>
+        requires { self.now.insn ≡ insns.Alu op wide dst src }
+        ensures { IfSome result (IsNewAfter self.now.insn self.now.own self.now.low (facts self.now.after.now) self.now.before.now (number dst)) }
+    {
+        computed(op, wide, self.before.new_sum(dst.number()), self.new_operand(src))
+    }
+
+    /// What the old program's operation makes of its operands.
+    fn old_result(&self, op: AluOp, wide: bool, dst: Register, src: Operand) -> Option<Sum>
+        requires insn { self.now.insn ≡ insns.Alu op wide dst src }
+        requires copied { self.now.own ≡ false }
+        ensures { IfSome result (IsOldAfter self.now.insn self.now.own self.now.low (facts self.now.after.now) self.now.before.now (number dst)) }
+    {
+        match self.before.old_sum(dst.number()) {
+            Some(first) => match self.old_operand(src) {
+                Some(second) => computed(op, wide, first, second),
                 None => None,
             },
+            None => None,
+        }
+    }
+
+    /// What a load of one of the new program's own words gives.
+    fn loaded(&self, dst: Register, src: Register, off: i16) -> Option<Sum>
+        requires insn { self.now.insn ≡ insns.Ldx sizes.Double false dst src off }
+        requires own { self.now.own ≡ true }
+        ensures { IfSome result (IsNewAfter self.now.insn self.now.own self.now.low (facts self.now.after.now) self.now.before.now (number dst)) }
+    {
+        match own_word(src, off, self.low) {
+            Some(word) => Some(self.before.new_sum(word)),
+            None => None,
+        }
+    }
+
+    /// What the new program computes, or loads from its own words.
+    fn new_computed(&self, register: u8) -> Option<Sum>
+        requires { alters self.now.insn register ≡ true }
+        ensures { IfSome result (IsNewAfter self.now.insn self.now.own self.now.low (facts self.now.after.now) self.now.before.now register) }
+    {
+        match self.insn {
+            Insn::Alu {
+                op: AluOp::Xor,
+                wide: true,
+                dst,
+                src: Operand::Register(src),
+            } if src == dst => Some(Sum::constant(0)),
+            Insn::Alu { op, wide, dst, src } => self.new_result(op, wide, dst, src),
+            Insn::Ldx {
+                size: Size::Double,
+                signed: false,
+                dst,
+                src,
+                off,
+            } if self.own => self.loaded(dst, src, off),
+            _ => None,
+        }
+    }
+
+    /// What the old program computes.
+    fn old_computed(&self, register: u8) -> Option<Sum>
+        requires altered { alters self.now.insn register ≡ true }
+        requires copied { self.now.own ≡ false }
+        ensures { IfSome result (IsOldAfter self.now.insn self.now.own self.now.low (facts self.now.after.now) self.now.before.now register) }
+    {
+        match self.insn {
+            Insn::Alu { op, wide, dst, src } => self.old_result(op, wide, dst, src),
             _ => None,
         }
     }
 
     /// What the new program has written into a register.
-    fn new_written(&self, register: u8) -> Option<Sum> {
-        match self.new_computed() {
+    fn new_written(&self, register: u8) -> Option<Sum>
+        requires small { register < 11 }
+        requires altered { alters self.now.insn register ≡ true }
+        ensures { IfSome result (IsNewAfter self.now.insn self.now.own self.now.low (facts self.now.after.now) self.now.before.now register) }
+    {
+        match self.new_computed(register) {
             Some(sum) => Some(sum),
             None => self.noted(register),
         }
     }
 
     /// What the old program has written into a register.
-    fn old_written(&self, register: u8) -> Option<Sum> {
-        match self.old_computed() {
+    fn old_written(&self, register: u8) -> Option<Sum>
+        requires small { register < 11 }
+        requires altered { alters self.now.insn register ≡ true }
+        requires copied { self.now.own ≡ false }
+        ensures { IfSome result (IsOldAfter self.now.insn self.now.own self.now.low (facts self.now.after.now) self.now.before.now register) }
+    {
+        match self.old_computed(register) {
             Some(sum) => Some(sum),
             None => self.noted(register),
         }
     }
 
-    /// What the old program has computed.
-    fn old_computed(&self) -> Option<Sum> {
-        match self.insn {
-            Insn::Alu { op, wide, dst, src } => match (self.before.old_sum(dst.number()), self.old_operand(src)) {
-                (Some(first), Some(second)) => computed(op, wide, first, second),
-                _ => None,
-            },
-            _ => None,
+    /// What a word holds after a store to one of the new program's own.
+    fn stored(&self, word: u8, dst: Register, src: Register, off: i16) -> Option<Sum>
+        requires first { 11 ≤ word }
+        requires last { word < 64 }
+        requires insn { self.now.insn ≡ insns.Stx sizes.Double dst src off }
+        requires own { self.now.own ≡ true }
+        requires lies { IsOwn self.now.low word }
+        ensures { IfSome result (IsNewAfter self.now.insn self.now.own self.now.low (facts self.now.after.now) self.now.before.now word) }
+    {
+        match own_word(dst, off, self.low) {
+            Some(there) => {
+                if there == word {
+                    Some(self.before.new_sum(src.number()))
+                } else {
+                    Some(self.before.new_sum(word))
+                }
+            }
+            None => None,
         }
     }
 
-    /// What is stored into a word of the new program's own.
-    fn stored(&self, word: u8) -> Sum
-        requires { word < 64 }
+    /// What a word of the new program's own holds after the step.
+    fn word_after(&self, word: u8) -> Option<Sum>
+        requires first { 11 ≤ word }
+        requires last { word < 64 }
+        requires lies { IsOwn self.now.low word }
+        ensures { IfSome result (IsNewAfter self.now.insn self.now.own self.now.low (facts self.now.after.now) self.now.before.now word) }
     {
-        if self.own {
-            if let Insn::Stx { size: Size::Double, dst, src, off } = self.insn {
-                if own_word(dst, off, self.low) == Some(word) {
-                    return self.before.new_sum(src.number());
-                }
-            }
+        if !self.own {
+            return Some(self.before.new_sum(word));
         }
-        self.before.new_sum(word)
+        match self.insn {
+            Insn::Stx {
+                size: Size::Double,
+                dst,
+                src,
+                off,
+            } => self.stored(word, dst, src, off),
+            Insn::Stx { .. } => None,
+            _ => Some(self.before.new_sum(word)),
+        }
     }
 
     /// What a holder of the new program holds after the step, as a sum of what they hold before.
     pub(crate) fn new_after(&self, holder: u8) -> Option<Sum>
         requires { holder < 64 }
+        ensures { IfSome result (IsNewAfter self.now.insn self.now.own self.now.low (facts self.now.after.now) self.now.before.now holder) }
     {
         if holder >= REGISTERS {
-            return if is_own(holder, self.low) { Some(self.stored(holder)) } else { None };
-        }
-        if alters(self.insn, holder) {
+            if is_own(holder, self.low) {
+                self.word_after(holder)
+            } else {
+                None
+            }
+        } else if alters(self.insn, holder) {
             self.new_written(holder)
         } else {
             Some(self.before.new_sum(holder))
@@ -165,74 +292,113 @@ impl Turn<'_> {
     }
 
     /// The same of a register of the old program.
-    pub(crate) fn old_after(&self, register: u8) -> Option<Sum> {
-        if self.own || !alters(self.insn, register) {
+    pub(crate) fn old_after(&self, register: u8) -> Option<Sum>
+        requires { register < 11 }
+        ensures { IfSome result (IsOldAfter self.now.insn self.now.own self.now.low (facts self.now.after.now) self.now.before.now register) }
+    {
+        if self.own {
             self.before.old_sum(register)
-        } else {
+        } else if alters(self.insn, register) {
             self.old_written(register)
+        } else {
+            self.before.old_sum(register)
         }
     }
 
     /// A sum of what is held after the step, as a sum of what is held before.
-    pub(crate) fn before_it(&self, sum: Sum) -> Option<Sum> {
-        let mut total = Sum::constant(sum.constant);
+    pub(crate) fn before_it(&self, sum: Sum) -> Option<Sum>
+        ensures { IfSome result (IsBefore self.now.insn self.now.own self.now.low (facts self.now.after.now) self.now.before.now sum) }
+    {
+        let mut all = Sum::constant(sum.constant);
         for holder in 0..HOLDERS {
             if sum.has(holder) {
                 match self.new_after(holder) {
-                    Some(part) => match total.plus(part) {
-                        Some(more) => total = more,
+                    Some(part) => match all.plus(part) {
+                        Some(more) => all = more,
                         None => return None,
                     },
                     None => return None,
                 }
             }
         }
-        Some(total)
+        Some(all)
     }
 
+    /// Whether both programs have written the same into a register.
     fn is_alike(&self, register: u8, sum: Sum) -> bool
-        requires { register < 64 }
+        requires { register < 11 }
+        ensures { IsTrue result → IsOldAlike self.now.insn self.now.own self.now.low (facts self.now.after.now) register sum }
     {
-        !self.own && alters(self.insn, register) && sum == Sum::held(register)
+        !self.own && alters(self.insn, register) && sum.is(Sum::held(register))
     }
 
     /// Whether a register of the old program holds this sum after the step.
     fn keeps_old(&self, register: u8, sum: Sum) -> bool
-        requires { register < 64 }
+        requires { register < 11 }
+        ensures { IsTrue result → KeepsOld self.now.insn self.now.own self.now.low (facts self.now.after.now) self.now.before.now register sum }
     {
         if self.is_alike(register, sum) {
             return true;
         }
-        match (self.old_after(register), self.before_it(sum)) {
-            (Some(a), Some(b)) => a == b,
-            _ => false,
+        match self.old_after(register) {
+            Some(there) => match self.before_it(sum) {
+                Some(here) => there.is(here),
+                None => false,
+            },
+            None => false,
         }
     }
 
     /// Whether a holder of the new program holds this sum after the step.
     fn keeps_new(&self, holder: u8, sum: Sum) -> bool
         requires { holder < 64 }
+        ensures { IsTrue result → KeepsNew self.now.insn self.now.own self.now.low (facts self.now.after.now) self.now.before.now holder sum }
     {
-        match (self.new_after(holder), self.before_it(sum)) {
-            (Some(a), Some(b)) => a == b,
-            _ => false,
+        match self.new_after(holder) {
+            Some(there) => match self.before_it(sum) {
+                Some(here) => there.is(here),
+                None => false,
+            },
+            None => false,
+        }
+    }
+
+    /// Whether what is claimed of a register of the old program after the step holds.
+    fn keeps_register(&self, next: &Equations, register: u8) -> bool
+        requires { register < 11 }
+        ensures { IsTrue result → (s : Sum) → old_of next.now register ≡ Some s →
+            KeepsOld self.now.insn self.now.own self.now.low (facts self.now.after.now) self.now.before.now register s }
+    {
+        match next.old_sum(register) {
+            Some(sum) => self.keeps_old(register, sum),
+            None => true,
+        }
+    }
+
+    /// Whether what is claimed of a holder after the step holds.
+    fn keeps_holder(&self, next: &Equations, holder: u8) -> bool
+        requires { holder < 64 }
+        ensures { IsTrue result → (s : Sum) → new_of next.now holder ≡ Some s →
+            KeepsNew self.now.insn self.now.own self.now.low (facts self.now.after.now) self.now.before.now holder s }
+    {
+        match next.claimed(holder) {
+            Some(sum) => self.keeps_new(holder, sum),
+            None => true,
         }
     }
 
     /// Whether what is claimed after the step holds.
-    pub(crate) fn keeps(&self, then: &Equations) -> bool {
+    pub(crate) fn keeps(&self, next: &Equations) -> bool
+        ensures { IsTrue result → Keeps self.now.insn self.now.own self.now.low (facts self.now.after.now) self.now.before.now next.now }
+    {
         for register in 0..REGISTERS {
-            if let Some(sum) = then.old_sum(register) {
-                if !self.keeps_old(register, sum) {
-                    return false;
-                }
+            if !self.keeps_register(next, register) {
+                return false;
             }
         }
         for holder in 0..HOLDERS {
-            if let Some(sum) = then.claimed(holder) {
-                if !self.keeps_new(holder, sum) {
-                    return false;
-                }
+            if !self.keeps_holder(next, holder) {
+                return false;
             }
         }
         true

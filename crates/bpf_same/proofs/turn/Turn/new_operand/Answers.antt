@@ -1,0 +1,9 @@
+use Rattle.std.proofs.Common.{sym, ap, ◌∙◌, Some}
+use Rattle.bpf_same.specs.Turned.{operand_in}
+use Rattle.bpf_same.proofs.turn.Turn.new_operand.Goals as goal
+
+pub returns-in-Register : goal.returns-in-Register
+returns-in-Register c = λ f g h. ap (operand_in f) c.in-Register.is ∙ (ap f (sym c.number.ensures.number) ∙ c.new_sum.ensures f g h)
+
+pub returns-in-Immediate : goal.returns-in-Immediate
+returns-in-Immediate c = λ f g h. ap (operand_in f) c.in-Immediate.is ∙ (ap Some (sym c.extended.ensures) ∙ sym (c.constant.ensures f))
