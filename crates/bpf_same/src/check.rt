@@ -343,7 +343,11 @@ impl Claims<'_> {
             }
             Ok(Successors::One(there)) => self.follows_one(before, &there),
             Ok(Successors::Two(next, taken)) => {
-                is_split(before.insn, pc, next.pc, taken.pc) && self.follows_two(before, &next, &taken)
+                if is_split(before.insn, pc, next.pc, taken.pc) {
+                    self.follows_two(before, &next, &taken)
+                } else {
+                    false
+                }
             }
             Err(_) => false,
         }

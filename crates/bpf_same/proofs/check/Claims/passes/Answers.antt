@@ -4,4 +4,4 @@ use Rattle.bpf_same.proofs.check.Claims.passes.Goals as goal
 
 pub loop-turn-preserved : goal.loop-turn-preserved
 loop-turn-preserved c =
-    pass_on c.args.self.now.old.now (facts c.args.note.now) c.args.from c.loop-turn.at c.in-Some.next c.in-Some.ensures.0 c.loop-turn.invariant c.in-Some.ensures.1 c.in-Some.ensures.2
+    pass_on c.args.self.now.old.now c.args.equations.now c.args.self.now.low (facts c.args.note.now) c.args.from c.loop-turn.at c.in-Some.next c.in-Some.ensures.0 c.loop-turn.invariant c.in-Some.ensures.1 c.in-Some.ensures.2

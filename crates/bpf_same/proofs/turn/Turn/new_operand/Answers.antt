@@ -1,4 +1,6 @@
-use Rattle.std.proofs.Common.{sym, ap, ◌∙◌, Some}
+use Rattle.std.proofs.Common.{◌≡◌, sym, ap, ◌∙◌, Some}
+use Rattle.bpf_insn.specs.Signed.{sign_extended}
+use Rattle.bpf_same.specs.Sums.{total}
 use Rattle.bpf_same.specs.Turned.{operand_in}
 use Rattle.bpf_same.proofs.turn.Turn.new_operand.Goals as goal
 
@@ -6,4 +8,6 @@ pub returns-in-Register : goal.returns-in-Register
 returns-in-Register c = λ f g h. ap (operand_in f) c.in-Register.is ∙ (ap f (sym c.number.ensures.number) ∙ c.new_sum.ensures f g h)
 
 pub returns-in-Immediate : goal.returns-in-Immediate
-returns-in-Immediate c = λ f g h. ap (operand_in f) c.in-Immediate.is ∙ (ap Some (sym c.extended.ensures) ∙ sym (c.constant.ensures f))
+returns-in-Immediate c = λ f g h.
+    let e : Some (sign_extended c.in-Immediate.value) ≡ total f c.constant.result = ap Some (sym c.extended.ensures) ∙ sym (c.constant.ensures f) in
+    ap (operand_in f) c.in-Immediate.is ∙ e
