@@ -8,6 +8,9 @@ use Rattle.bpf_insn.specs.declared.alu_op.AluOp.TheVariants as op
 use Rattle.bpf_insn.specs.declared.register.Register.{Register}
 use Rattle.bpf_insn.specs.declared.size.Size.TheVariants.{Double}
 use Rattle.bpf_insn.specs.declared.operand.Operand.{Operand}
+use Rattle.bpf_insn.specs.declared.operand.Operand.TheVariants as operands
+use Rattle.bpf_insn.specs.Arithmetic.{computed}
+use Rattle.std.proofs.lemmas.Nat.Bits.{xor_self}
 use Rattle.bpf_insn.specs.declared.insn.Insn.{Insn}
 use Rattle.bpf_insn.specs.declared.insn.Insn.TheVariants.{Alu, Ldx, Stx}
 use Rattle.bpf_note.specs.Facts.{Facts}
@@ -17,6 +20,9 @@ use Rattle.bpf_same.specs.Sums.{plus, bit, with_bit, gathered, total, IsWord, Ho
 use Rattle.bpf_same.specs.Turned.{alters, operand_in, Computes, Turned, IsOwn, IsWordAt, IsNewAfter, IsOldAfter, IsBefore, KeepsOld, KeepsNew, IsOldAlike}
 use Rattle.bpf_same.proofs.SumLemmas.{plus_assoc}
 use Rattle.bpf_same.proofs.ComputeLemmas.{total_word}
+
+some_same : {x y : ℕ} → Some x ≡ Some y → x ≡ y
+some_same e = cc
 
 same_number : (k n : ℕ) → (k == n) ≡ true → k ≡ n
 same_number k n e = grind (arith, nat_tests)
@@ -83,3 +89,16 @@ alike_by i own low m k s there c a l h same = λ f g f' g' t. t.alike k l c a �
 
 same_word : (n w : ℕ) → 11 ≤ n → 11 ≤ w → negsuc (8 * n - 81) ≡ negsuc (8 * w - 81) → n ≡ w
 same_word n w a b e = let h : 8 * n - 81 ≡ 8 * w - 81 = cc in omega (arith, h, a, b)
+
+xor_none : (x : ℕ) → computed op.Xor true x x ≡ 0
+unfolding computed
+xor_none x = xor_self (x % 2 ^ 64)
+
+-- a register that is cleared holds 0
+pub cleared : (i : Insn) (own : Bool) (low : ℕ) (m : Facts) (e : Equations) (o : AluOp) (wide : Bool) (dst : Register) (src : Operand) (s : Sum) → i ≡ Alu o wide dst src → (o ≡ op.Xor) × (wide ≡ true) × (src ≡ operands.Register dst) →
+    ((f : ℕ → Option ℕ) → total f s ≡ Some 0) → IsNewAfter i own low m e (number dst) s
+cleared i own low m e o wide dst src s is c h = λ f g f' g' t there.
+    let as : i ≡ Alu op.Xor true dst (operands.Register dst) = is ∙ (ap (λ (o : AluOp). Alu o wide dst src) c.0 ∙ (ap (λ (w : Bool). Alu op.Xor w dst src) c.1 ∙ ap (Alu op.Xor true dst) c.2)) in
+    let k = t.made op.Xor true dst (operands.Register dst) as in
+    let same : k.y ≡ k.x = some_same (sym k.second ∙ k.first) in
+    k.is ∙ (ap (λ (y : ℕ). Some (computed op.Xor true k.x y)) same ∙ (ap Some (xor_none k.x) ∙ sym (h f)))

@@ -1,5 +1,5 @@
 //! What instructions touch of memory, and what they read.
-ghost use Rattle.std.specs.Prelude.{◌≡◌, ◌<◌, ◌≤◌, ℕ, Option, IsTrue, IfSome};
+ghost use Rattle.std.specs.Prelude.{◌≡◌, ◌<◌, ◌≤◌, ◌≤ℤ◌, ◌+ℤ◌, pos, ℕ, Option, IsTrue, IfSome};
 ghost use Rattle.bpf_insn.specs.Register.{number};
 ghost use Rattle.bpf_note.specs.Describes.{Describes};
 ghost use Rattle.bpf_note.specs.Parts.{facts};
@@ -12,13 +12,22 @@ use crate::turn::own_word;
 use bpf_insn::{AluOp, Insn, Operand, Register, Size};
 use bpf_note::{Note, Val};
 
+/// Whether offsets from the stack's end lie at or above a byte.
+fn is_at_least(low: u32, at: i16, off: i16) -> bool
+    ensures { IsTrue result → pos low ≤ℤ ((pos 512 +ℤ at) +ℤ off) }
+{
+    i64::from(low) <= 512 + i64::from(at) + i64::from(off)
+}
+
 /// Whether an access doesn't touch the stack below `low`.
 fn is_above(note: &Note, base: Register, off: i16, low: u32) -> bool
     ensures { IsTrue result → (z : ℕ) (s : State) → Describes (facts note.now) s → IsAbove low s (s.reg (number base)) off z }
 {
     match note.register(base.number()) {
-        Val::Stack { off: at } => i64::from(low) <= 512 + i64::from(at) + i64::from(off),
-        Val::Pkt { .. } | Val::Ctx | Val::Value { .. } => true,
+        Val::Stack { off: at } => is_at_least(low, at, off),
+        Val::Pkt { .. } => true,
+        Val::Ctx => true,
+        Val::Value { .. } => true,
         _ => low == 0,
     }
 }
@@ -29,7 +38,8 @@ pub(crate) fn is_shared(insn: Insn, note: &Note, low: u32) -> bool
 {
     match insn {
         Insn::Ldx { src, off, .. } => is_above(note, src, off, low),
-        Insn::St { dst, off, .. } | Insn::Stx { dst, off, .. } => is_above(note, dst, off, low),
+        Insn::St { dst, off, .. } => is_above(note, dst, off, low),
+        Insn::Stx { dst, off, .. } => is_above(note, dst, off, low),
         Insn::Call { .. } => is_above(note, Register::R2, 0, low),
         _ => true,
     }

@@ -78,6 +78,26 @@ pub(crate) fn is_covered(notes: &[Box<Note>], note: &Note) -> bool
     false
 }
 
+fn place_at(places: &[Place], at: u32) -> Option<Place>
+    ensures { result ≡ slice_get places.now at }
+{
+    if (at as usize) < places.len() {
+        Some(places[at as usize])
+    } else {
+        None
+    }
+}
+
+fn insn_at(code: &[Insn], at: u32) -> Option<Insn>
+    ensures { result ≡ slice_get code.now at }
+{
+    if (at as usize) < code.len() {
+        Some(code[at as usize])
+    } else {
+        None
+    }
+}
+
 fn equations_at(equations: &[Equations], at: u32) -> Option<Equations>
     ensures { result ≡ slice_get equations.now at }
 {
@@ -160,7 +180,10 @@ impl Claims<'_> {
         ensures { IfSome result (λ q. (i : Insn) × (slice_get self.now.old.now at ≡ Some i) × IsPassed i equations.now self.now.low (facts note.now) at q) }
     {
         if (at as usize) < self.old.len() {
-            passed(self.old[at as usize], equations, note, at)
+            match insn_at(self.old, at) {
+                Some(insn) => passed(insn, equations, note, at),
+                None => None,
+            }
         } else {
             None
         }
@@ -196,10 +219,15 @@ impl Claims<'_> {
         requires { length self.now.old.now ≤ 4096 }
         ensures { IsTrue result → Meets (book_of self.now) (facts note.now) from slot }
     {
-        (slot as usize) < self.places.len()
-            && (slot as usize) < self.equations.len()
-            && self.passes(&self.equations[slot as usize], note, from, self.places[slot as usize].at)
-            && self.is_known(slot, note)
+        match place_at(self.places, slot) {
+            Some(place) => match equations_at(self.equations, slot) {
+                Some(equations) => {
+                    self.passes(&equations, note, from, place.at) && self.is_known(slot, note)
+                }
+                None => false,
+            },
+            None => false,
+        }
     }
 
     /// Whether what is claimed of the slot that a step leads to holds after it.
@@ -390,18 +418,27 @@ impl Claims<'_> {
         requires few { length new.now ≤ 4096 }
         ensures { IsTrue result → IsClaimed (book_of self.now) new.now shapes.now pc }
     {
-        (pc as usize) < self.notes.len()
-            && (pc as usize) < self.equations.len()
-            && (pc as usize) < self.places.len()
-            && self.follows_each(
-                alloc,
-                self.places[pc as usize],
-                new[pc as usize],
-                self.notes[pc as usize].as_slice(),
-                &self.equations[pc as usize],
-                pc,
-                shapes,
-            )
+        match place_at(self.places, pc) {
+            Some(place) => match insn_at(new, pc) {
+                Some(insn) => match equations_at(self.equations, pc) {
+                    Some(equations) => {
+                        (pc as usize) < self.notes.len()
+                            && self.follows_each(
+                                alloc,
+                                place,
+                                insn,
+                                self.notes[pc as usize].as_slice(),
+                                &equations,
+                                pc,
+                                shapes,
+                            )
+                    }
+                    None => false,
+                },
+                None => false,
+            },
+            None => false,
+        }
     }
 
     /// Whether the old program, from its first slot on, meets what is claimed of the new one's first slot.

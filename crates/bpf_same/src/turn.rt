@@ -1,12 +1,13 @@
 //! What a step of the new program, with the old one's where both have it, makes of sums.
 ghost use Rattle.std.specs.Prelude.{◌≡◌, ◌<◌, ◌≤◌, ℕ, Option, Some, true, false, IsTrue, IfSome};
 ghost use Rattle.bpf_insn.specs.declared.insn.Insn.TheVariants as insns;
+ghost use Rattle.bpf_insn.specs.declared.operand.Operand.TheVariants as operands;
 ghost use Rattle.bpf_insn.specs.declared.size.Size.TheVariants as sizes;
 ghost use Rattle.bpf_insn.specs.Register.{number};
 ghost use Rattle.bpf_insn.specs.Signed.{sign_extended};
 ghost use Rattle.bpf_note.specs.Parts.{facts};
 ghost use Rattle.bpf_same.specs.Sums.{Hold, new_of, old_of, total};
-ghost use Rattle.bpf_same.specs.Turned.{Computes, IsBefore, IsNewAfter, IsOldAfter, IsOwn, IsWordAt, IsOldAlike, Keeps, KeepsNew, KeepsOld, alters, number_in, operand_in};
+ghost use Rattle.bpf_same.specs.Turned.{Computes, IsBefore, IsNewAfter, IsOldAfter, IsOwn, IsWordAt, IsOldAlike, Keeps, KeepsNew, KeepsOld, alters, is_register_store, number_in, operand_in};
 
 use crate::equations::Equations;
 use crate::sum::{HOLDERS, REGISTERS, Sum};
@@ -87,6 +88,32 @@ fn computed(op: AluOp, wide: bool, first: Sum, second: Sum) -> Option<Sum>
     }
 }
 
+fn is_register(src: Operand, register: Register) -> bool
+    ensures { IsTrue result → src ≡ operands.Register register }
+{
+    match src {
+        Operand::Register(read) => read == register,
+        Operand::Immediate(_) => false,
+    }
+}
+
+/// Whether an operation makes 0 of a register, whatever it holds.
+fn is_cleared(op: AluOp, wide: bool, dst: Register, src: Operand) -> bool
+    ensures { IsTrue result → (op ≡ AluOp.Xor) × (wide ≡ true) × (src ≡ operands.Register dst) }
+{
+    match op {
+        AluOp::Xor => wide && is_register(src, dst),
+        _ => false,
+    }
+}
+
+/// Whether an instruction stores a register.
+fn is_register_store(insn: Insn) -> bool
+    ensures { result ≡ is_register_store insn }
+{
+    matches!(insn, Insn::Stx { .. })
+}
+
 /// A constant of an instruction, extended by its sign.
 fn extended(value: i32) -> u64
     ensures { result ≡ sign_extended value }
@@ -139,6 +166,9 @@ impl Turn<'_> {
         requires { self.now.insn ≡ insns.Alu op wide dst src }
         ensures { IfSome result (IsNewAfter self.now.insn self.now.own self.now.low (facts self.now.after.now) self.now.before.now (number dst)) }
     {
+        if is_cleared(op, wide, dst, src) {
+            return Some(Sum::constant(0));
+        }
         computed(op, wide, self.before.new_sum(dst.number()), self.new_operand(src))
     }
 
@@ -175,12 +205,6 @@ impl Turn<'_> {
         ensures { IfSome result (IsNewAfter self.now.insn self.now.own self.now.low (facts self.now.after.now) self.now.before.now register) }
     {
         match self.insn {
-            Insn::Alu {
-                op: AluOp::Xor,
-                wide: true,
-                dst,
-                src: Operand::Register(src),
-            } if src == dst => Some(Sum::constant(0)),
             Insn::Alu { op, wide, dst, src } => self.new_result(op, wide, dst, src),
             Insn::Ldx {
                 size: Size::Double,
@@ -251,16 +275,27 @@ impl Turn<'_> {
         }
     }
 
-    /// What a word of the new program's own holds after the step.
-    fn word_after(&self, word: u8) -> Option<Sum>
-        requires first { 11 ≤ word }
-        requires last { word < 64 }
+    /// What a word holds after a step that stores no register.
+    fn word_left(&self, word: u8) -> Option<Sum>
+        requires small { word < 64 }
         requires lies { IsOwn self.now.low word }
         ensures { IfSome result (IsNewAfter self.now.insn self.now.own self.now.low (facts self.now.after.now) self.now.before.now word) }
     {
-        if !self.own {
-            return Some(self.before.new_sum(word));
+        if is_register_store(self.insn) {
+            None
+        } else {
+            Some(self.before.new_sum(word))
         }
+    }
+
+    /// What a word holds after a step of the new program's own.
+    fn own_word_after(&self, word: u8) -> Option<Sum>
+        requires first { 11 ≤ word }
+        requires last { word < 64 }
+        requires lies { IsOwn self.now.low word }
+        requires own { self.now.own ≡ true }
+        ensures { IfSome result (IsNewAfter self.now.insn self.now.own self.now.low (facts self.now.after.now) self.now.before.now word) }
+    {
         match self.insn {
             Insn::Stx {
                 size: Size::Double,
@@ -268,8 +303,51 @@ impl Turn<'_> {
                 src,
                 off,
             } => self.stored(word, dst, src, off),
-            Insn::Stx { .. } => None,
-            _ => Some(self.before.new_sum(word)),
+            _ => self.word_left(word),
+        }
+    }
+
+    /// What a word holds after a step that both programs take.
+    fn copied_word_after(&self, word: u8) -> Option<Sum>
+        requires small { word < 64 }
+        requires lies { IsOwn self.now.low word }
+        requires copied { self.now.own ≡ false }
+        ensures { IfSome result (IsNewAfter self.now.insn self.now.own self.now.low (facts self.now.after.now) self.now.before.now word) }
+    {
+        Some(self.before.new_sum(word))
+    }
+
+    /// What a word of the new program's own holds after the step.
+    fn word_after(&self, word: u8) -> Option<Sum>
+        requires first { 11 ≤ word }
+        requires last { word < 64 }
+        requires lies { IsOwn self.now.low word }
+        ensures { IfSome result (IsNewAfter self.now.insn self.now.own self.now.low (facts self.now.after.now) self.now.before.now word) }
+    {
+        if self.own {
+            self.own_word_after(word)
+        } else {
+            self.copied_word_after(word)
+        }
+    }
+
+    /// What a register that a step leaves holds after it.
+    fn register_left(&self, register: u8) -> Option<Sum>
+        requires small { register < 11 }
+        requires left { alters self.now.insn register ≡ false }
+        ensures { IfSome result (IsNewAfter self.now.insn self.now.own self.now.low (facts self.now.after.now) self.now.before.now register) }
+    {
+        Some(self.before.new_sum(register))
+    }
+
+    fn register_after(&self, register: u8) -> Option<Sum>
+        requires { register < 11 }
+        ensures { IfSome result (IsNewAfter self.now.insn self.now.own self.now.low (facts self.now.after.now) self.now.before.now register) }
+    {
+        if alters(self.insn, register) {
+            self.new_written(register)
+        } else {
+            self.register_left(register)
         }
     }
 
@@ -278,16 +356,12 @@ impl Turn<'_> {
         requires { holder < 64 }
         ensures { IfSome result (IsNewAfter self.now.insn self.now.own self.now.low (facts self.now.after.now) self.now.before.now holder) }
     {
-        if holder >= REGISTERS {
-            if is_own(holder, self.low) {
-                self.word_after(holder)
-            } else {
-                None
-            }
-        } else if alters(self.insn, holder) {
-            self.new_written(holder)
+        if holder < REGISTERS {
+            self.register_after(holder)
+        } else if is_own(holder, self.low) {
+            self.word_after(holder)
         } else {
-            Some(self.before.new_sum(holder))
+            None
         }
     }
 
@@ -329,7 +403,13 @@ impl Turn<'_> {
         requires { register < 11 }
         ensures { IsTrue result → IsOldAlike self.now.insn self.now.own self.now.low (facts self.now.after.now) register sum }
     {
-        !self.own && alters(self.insn, register) && sum.is(Sum::held(register))
+        if self.own {
+            false
+        } else if alters(self.insn, register) {
+            sum.is(Sum::held(register))
+        } else {
+            false
+        }
     }
 
     /// Whether a register of the old program holds this sum after the step.
