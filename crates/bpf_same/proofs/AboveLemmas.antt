@@ -118,3 +118,12 @@ stack_above low n s k z at o d v short l = λ a j e is.
 
 pub nothing_above : (low : ℕ) (s : State) (base : Option ℕ) (z : ℕ) (o : ℤ) → low ≡ 0 → IsAbove low s base o z
 nothing_above low s base z o e = λ a j f g. omega (arith, e)
+
+-- the same of a 16-bit number that is read back
+pub stack_above_read : (low : ℕ) (n : Facts) (s : State) (k z : ℕ) (at o a b : ℤ) → Describes n s → n.reg k ≡ Stack at → IsShort o → ((negsuc 511 ≤ℤ at) → (at ≤ℤ pos 0) → a ≡ at) → b ≡ o → (pos low ≤ℤ ((pos 512 +ℤ a) +ℤ b)) → IsAbove low s (s.reg k) o z
+stack_above_read low n s k z at o a b d v short first second l = λ x j e is.
+    let w = meaning s d.base d.address in
+    let r = read w (Stack at) (s.reg k) x (subst (λ (v : Val). Reads w v (s.reg k)) v (d.regs k)) e in
+    let same : a ≡ at = first r.1 r.2 in
+    let sum : (pos low ≤ℤ ((pos 512 +ℤ at) +ℤ o)) = subst (λ (a : ℤ). pos low ≤ℤ ((pos 512 +ℤ a) +ℤ o)) same (subst (λ (b : ℤ). pos low ≤ℤ ((pos 512 +ℤ a) +ℤ b)) second l) in
+    stack_above low n s k z at o d v short sum x j e is

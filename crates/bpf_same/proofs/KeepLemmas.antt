@@ -10,14 +10,14 @@ use Rattle.bpf_insn.specs.declared.size.Size.TheVariants.{Double}
 use Rattle.bpf_insn.specs.declared.operand.Operand.{Operand}
 use Rattle.bpf_insn.specs.declared.operand.Operand.TheVariants as operands
 use Rattle.bpf_insn.specs.Arithmetic.{computed}
-use Rattle.std.proofs.lemmas.Nat.Bits.{xor_self}
+use Rattle.std.specs.Int.Bits.{xor_self}
 use Rattle.bpf_insn.specs.declared.insn.Insn.{Insn}
 use Rattle.bpf_insn.specs.declared.insn.Insn.TheVariants.{Alu, Ldx, Stx}
 use Rattle.bpf_note.specs.Facts.{Facts}
 use Rattle.bpf_same.specs.declared.sum.Sum.{Sum}
 use Rattle.bpf_same.specs.declared.equations.Equations.{Equations}
 use Rattle.bpf_same.specs.Sums.{plus, bit, with_bit, gathered, total, IsWord, Hold, old_of}
-use Rattle.bpf_same.specs.Turned.{alters, operand_in, Computes, Turned, IsOwn, IsWordAt, IsNewAfter, IsOldAfter, IsBefore, KeepsOld, KeepsNew, IsOldAlike}
+use Rattle.bpf_same.specs.Turned.{alters, operand_in, Computes, Turned, IsOwn, IsWordAt, IsNewAfter, IsOldAfter, IsBefore, IsPart, IsMore, KeepsOld, KeepsNew, IsOldAlike}
 use Rattle.bpf_same.proofs.SumLemmas.{plus_assoc}
 use Rattle.bpf_same.proofs.ComputeLemmas.{total_word}
 
@@ -98,7 +98,24 @@ xor_none x = xor_self (x % 2 ^ 64)
 pub cleared : (i : Insn) (own : Bool) (low : ℕ) (m : Facts) (e : Equations) (o : AluOp) (wide : Bool) (dst : Register) (src : Operand) (s : Sum) → i ≡ Alu o wide dst src → (o ≡ op.Xor) × (wide ≡ true) × (src ≡ operands.Register dst) →
     ((f : ℕ → Option ℕ) → total f s ≡ Some 0) → IsNewAfter i own low m e (number dst) s
 cleared i own low m e o wide dst src s is c h = λ f g f' g' t there.
-    let as : i ≡ Alu op.Xor true dst (operands.Register dst) = is ∙ (ap (λ (o : AluOp). Alu o wide dst src) c.0 ∙ (ap (λ (w : Bool). Alu op.Xor w dst src) c.1 ∙ ap (Alu op.Xor true dst) c.2)) in
-    let k = t.made op.Xor true dst (operands.Register dst) as in
+    let shape : i ≡ Alu op.Xor true dst (operands.Register dst) = is ∙ (ap (λ (o : AluOp). Alu o wide dst src) c.0 ∙ (ap (λ (w : Bool). Alu op.Xor w dst src) c.1 ∙ ap (Alu op.Xor true dst) c.2)) in
+    let k = t.made op.Xor true dst (operands.Register dst) shape in
     let same : k.y ≡ k.x = some_same (sym k.second ∙ k.first) in
     k.is ∙ (ap (λ (y : ℕ). Some (computed op.Xor true k.x y)) same ∙ (ap Some (xor_none k.x) ∙ sym (h f)))
+
+next_suc : (n : ℕ) → n + 1 ≡ suc n
+next_suc n = omega arith
+
+pub more_if : (i : Insn) (own : Bool) (low : ℕ) (m : Facts) (e : Equations) (there : Sum) (n : ℕ) (all part : Sum) (o : Option Sum) → bit there.holders n ≡ 1 → IsNewAfter i own low m e n part →
+    IfSome o (λ s. (f : ℕ → Option ℕ) → total f s ≡ plus (total f all) (total f part)) → IfSome o (IsMore i own low m e there n all)
+more_if i own low m e there n all part None b p h = tt
+more_if i own low m e there n all part (Some s) b p h = λ before f g f' g' t holds.
+    ap (λ (n : ℕ). plus (Some there.constant) (gathered f' there.holders n)) (next_suc n) ∙
+    one_more f f' there.constant there.holders n (total f all) (total f part) (total f s) b (before f g f' g' t holds) (p f g f' g' t holds) (h f)
+
+pub none_more : (i : Insn) (own : Bool) (low : ℕ) (m : Facts) (e : Equations) (there : Sum) (n : ℕ) (all : Sum) → bit there.holders n ≡ 0 → IsMore i own low m e there n all all
+none_more i own low m e there n all b = λ before f g f' g' t holds.
+    ap (λ (n : ℕ). plus (Some there.constant) (gathered f' there.holders n)) (next_suc n) ∙ no_more f' there.constant there.holders n (total f all) b (before f g f' g' t holds)
+
+pub none_before : (i : Insn) (own : Bool) (low : ℕ) (m : Facts) (e : Equations) (there all : Sum) → there.constant < 2 ^ 64 → ((f : ℕ → Option ℕ) → total f all ≡ Some there.constant) → IsPart i own low m e there 0 all
+none_before i own low m e there all l h = λ f g f' g' t holds. none_yet there.constant (total f all) l (h f)

@@ -22,7 +22,7 @@ use Rattle.bpf_note.specs.Describes.{Describes}
 use Rattle.bpf_flow.specs.Step.{first_operand, reached}
 use Rattle.bpf_same.specs.declared.sum.Sum.{Sum}
 use Rattle.bpf_same.specs.declared.equations.Equations.{Equations}
-use Rattle.bpf_same.specs.Sums.{total, IsWord, Hold}
+use Rattle.bpf_same.specs.Sums.{plus, gathered, total, IsWord, Hold}
 
 -- the instruction writes or loses register k
 abbrev pub alters : Insn → ℕ → Bool
@@ -96,6 +96,13 @@ IsOldAfter i own low m e k s = (f g f' g' : ℕ → Option ℕ) → Turned i own
 -- a sum of what is held after it is this sum of what is held before it
 abbrev pub IsBefore : Insn → Bool → ℕ → Facts → Equations → Sum → Sum → Type 0
 IsBefore i own low m e there here = (f g f' g' : ℕ → Option ℕ) → Turned i own low m f g f' g' → Hold e f g → total f' there ≡ total f here
+
+-- the first n holders of a sum come to this before the step, and with the next one to that
+abbrev pub IsPart : Insn → Bool → ℕ → Facts → Equations → Sum → ℕ → Sum → Type 0
+IsPart i own low m e there n all = (f g f' g' : ℕ → Option ℕ) → Turned i own low m f g f' g' → Hold e f g → plus (Some there.constant) (gathered f' there.holders n) ≡ total f all
+
+abbrev pub IsMore : Insn → Bool → ℕ → Facts → Equations → Sum → ℕ → Sum → Sum → Type 0
+IsMore i own low m e there n all more = IsPart i own low m e there n all → IsPart i own low m e there (n + 1) more
 
 -- both programs have written the same into register k, which the sum says
 abbrev pub IsOldAlike : Insn → Bool → ℕ → Facts → ℕ → Sum → Type 0

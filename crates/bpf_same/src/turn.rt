@@ -7,7 +7,7 @@ ghost use Rattle.bpf_insn.specs.Register.{number};
 ghost use Rattle.bpf_insn.specs.Signed.{sign_extended};
 ghost use Rattle.bpf_note.specs.Parts.{facts};
 ghost use Rattle.bpf_same.specs.Sums.{Hold, new_of, old_of, total};
-ghost use Rattle.bpf_same.specs.Turned.{Computes, IsBefore, IsNewAfter, IsOldAfter, IsOwn, IsWordAt, IsOldAlike, Keeps, KeepsNew, KeepsOld, alters, is_register_store, number_in, operand_in};
+ghost use Rattle.bpf_same.specs.Turned.{Computes, IsBefore, IsMore, IsNewAfter, IsOldAfter, IsOwn, IsWordAt, IsOldAlike, Keeps, KeepsNew, KeepsOld, alters, is_register_store, number_in, operand_in};
 
 use crate::equations::Equations;
 use crate::sum::{HOLDERS, REGISTERS, Sum};
@@ -379,20 +379,30 @@ impl Turn<'_> {
         }
     }
 
+    /// A sum of what is held before the step, and what one holder holds after it, if that is in the other sum.
+    fn more(&self, all: Sum, sum: Sum, holder: u8) -> Option<Sum>
+        requires { holder < 64 }
+        ensures { IfSome result (IsMore self.now.insn self.now.own self.now.low (facts self.now.after.now) self.now.before.now sum holder all) }
+    {
+        if sum.has(holder) {
+            match self.new_after(holder) {
+                Some(part) => all.plus(part),
+                None => None,
+            }
+        } else {
+            Some(all)
+        }
+    }
+
     /// A sum of what is held after the step, as a sum of what is held before.
     pub(crate) fn before_it(&self, sum: Sum) -> Option<Sum>
         ensures { IfSome result (IsBefore self.now.insn self.now.own self.now.low (facts self.now.after.now) self.now.before.now sum) }
     {
         let mut all = Sum::constant(sum.constant);
         for holder in 0..HOLDERS {
-            if sum.has(holder) {
-                match self.new_after(holder) {
-                    Some(part) => match all.plus(part) {
-                        Some(more) => all = more,
-                        None => return None,
-                    },
-                    None => return None,
-                }
+            match self.more(all, sum, holder) {
+                Some(more) => all = more,
+                None => return None,
             }
         }
         Some(all)

@@ -14,6 +14,9 @@ loop-register-preserved c = λ k low s e f w.
           subst (λ (k : ℕ). IsWord (f k) → total f s ≡ f k) this (c.is_itself.ensures holds s (subst (λ (k : ℕ). old_of c.args.equations.now k ≡ Some s) (sym this) e) f) w
     ]
 
+pub loop-holder-init : goal.loop-holder-init
+loop-holder-init c = (λ k small s e f w. c.loop-register.invariant k (omega (arith, small, c.loop-register-test.false)) s e f w, λ n low. absurd (omega (arith, low)))
+
 pub loop-holder-preserved : goal.loop-holder-preserved
 loop-holder-preserved c = (c.loop-holder.invariant.0, λ n low.
     elim (cases_lt n c.loop-holder.holder) [

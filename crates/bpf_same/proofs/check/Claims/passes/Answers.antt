@@ -1,6 +1,9 @@
 use Rattle.bpf_note.specs.Parts.{facts}
-use Rattle.bpf_same.proofs.FollowLemmas.{pass_on}
+use Rattle.bpf_same.proofs.FollowLemmas.{pass_on, stay}
 use Rattle.bpf_same.proofs.check.Claims.passes.Goals as goal
+
+pub loop-turn-init : goal.loop-turn-init
+loop-turn-init c = stay c.args.self.now.old.now c.args.equations.now c.args.self.now.low (facts c.args.note.now) c.args.from
 
 pub loop-turn-preserved : goal.loop-turn-preserved
 loop-turn-preserved c =
