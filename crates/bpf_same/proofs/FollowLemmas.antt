@@ -461,14 +461,14 @@ same_runs b new shapes begun k = λ s is e r0 bytes done run.
     (record { pc = is.pc; packet = refl; ifindex = refl; queue = refl; shapes = refl; stack = λ i l. refl; equations = k.begins.begins (held s) s.reg (held_fits s is.state) (λ j l. sym (held_register s j l)) }) r0 bytes (operations run.labels) go in
     subst (λ (done : List Op). Runs b.old r0 bytes s done) run.did there
 
-pub taken_if : (i : Insn) (cond : Condition) (wide : Bool) (dst : Register) (src : Operand) (off : ℤ) (e : Equations) (low : ℕ) (n : Facts) (p : ℕ) (o : Option ℕ) → i ≡ Jump cond wide dst src off → ReadsAlike e i → IsDecided i n true → o ≡ target p off → IfSome o (IsPassed i e low n p)
+pub taken_if : (i : Insn) (cond : Condition) (wide : Bool) (dst : Register) (src : Operand) (off : ℤ) (e : Equations) (low : ℕ) (n : Facts) (p : ℕ) (o : Option ℕ) → i ≡ Jump cond wide dst src off → ReadsAlike e (Jump cond wide dst src off) →
+    IsDecided (Jump cond wide dst src off) n true → o ≡ target p off → IfSome o (IsPassed i e low n p)
 taken_if i cond wide dst src off e low n p None is alike d at = tt
-taken_if i cond wide dst src off e low n p (Some q) is alike d at =
-    subst (λ (i : Insn). IsPassed i e low n p q) (sym is) (taken_passed cond wide dst src off e low n p q (subst (λ (i : Insn). ReadsAlike e i) is alike) (subst (λ (i : Insn). IsDecided i n true) is d) (sym at))
+taken_if i cond wide dst src off e low n p (Some q) is alike d at = subst (λ (i : Insn). IsPassed i e low n p q) (sym is) (taken_passed cond wide dst src off e low n p q alike d (sym at))
 
-pub left_if : (i : Insn) (cond : Condition) (wide : Bool) (dst : Register) (src : Operand) (off : ℤ) (e : Equations) (low : ℕ) (n : Facts) (p : ℕ) → i ≡ Jump cond wide dst src off → ReadsAlike e i → IsDecided i n false → IsPassed i e low n p (p + 1)
-left_if i cond wide dst src off e low n p is alike d =
-    subst (λ (i : Insn). IsPassed i e low n p (p + 1)) (sym is) (left_passed cond wide dst src off e low n p (subst (λ (i : Insn). ReadsAlike e i) is alike) (subst (λ (i : Insn). IsDecided i n false) is d))
+pub left_if : (i : Insn) (cond : Condition) (wide : Bool) (dst : Register) (src : Operand) (off : ℤ) (e : Equations) (low : ℕ) (n : Facts) (p : ℕ) → i ≡ Jump cond wide dst src off → ReadsAlike e (Jump cond wide dst src off) →
+    IsDecided (Jump cond wide dst src off) n false → IsPassed i e low n p (p + 1)
+left_if i cond wide dst src off e low n p is alike d = subst (λ (i : Insn). IsPassed i e low n p (p + 1)) (sym is) (left_passed cond wide dst src off e low n p alike d)
 
 pub passed_if : (old : List Insn) (e : Equations) (low : ℕ) (n : Facts) (p : ℕ) (i : Insn) (o : Option ℕ) → slice_get old p ≡ Some i → IfSome o (IsPassed i e low n p) → IfSome o (λ q. (i : Insn) × (slice_get old p ≡ Some i) × IsPassed i e low n p q)
 passed_if old e low n p i None at h = tt

@@ -119,3 +119,6 @@ none_more i own low m e there n all b = λ before f g f' g' t holds.
 
 pub none_before : (i : Insn) (own : Bool) (low : ℕ) (m : Facts) (e : Equations) (there all : Sum) → there.constant < 2 ^ 64 → ((f : ℕ → Option ℕ) → total f all ≡ Some there.constant) → IsPart i own low m e there 0 all
 none_before i own low m e there all l h = λ f g f' g' t holds. none_yet there.constant (total f all) l (h f)
+
+pub same_sum : {x y : Sum} → Some x ≡ Some y → x ≡ y
+same_sum e = cc

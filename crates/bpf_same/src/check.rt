@@ -234,14 +234,19 @@ impl Claims<'_> {
     fn keeps(&self, before: &Before, own: bool, there: &Successor) -> bool
         ensures { IsTrue result → KeepsAt (book_of self.now) before.now.insn own before.now.equations.now (facts there.now.note.value) there.now.pc }
     {
-        let turn = Turn {
-            insn: before.insn,
-            own,
-            low: self.low,
-            before: before.equations,
-            after: &there.note,
-        };
-        (there.pc as usize) < self.equations.len() && turn.keeps(&self.equations[there.pc as usize])
+        match equations_at(self.equations, there.pc) {
+            Some(next) => {
+                let turn = Turn {
+                    insn: before.insn,
+                    own,
+                    low: self.low,
+                    before: before.equations,
+                    after: &there.note,
+                };
+                turn.keeps(&next)
+            }
+            None => false,
+        }
     }
 
     /// Whether what is claimed of that slot holds, and the old program goes on from a slot of its own.
@@ -442,13 +447,27 @@ impl Claims<'_> {
     }
 
     /// Whether the old program, from its first slot on, meets what is claimed of the new one's first slot.
+    fn starts(&self, alloc: Global) -> bool
+        requires { length self.now.old.now ≤ 4096 }
+        ensures { IsTrue result → Meets (book_of self.now) entry 0 0 }
+    {
+        let note = Note::entry(alloc);
+        self.meets_from(0, 0, &note)
+    }
+
+    /// Whether what is claimed where both programs begin holds.
     fn begins(&self, alloc: Global) -> bool
         requires { length self.now.old.now ≤ 4096 }
         ensures { IsTrue result → Begins (book_of self.now) }
     {
-        let note = Note::entry(alloc);
         match equations_at(self.equations, 0) {
-            Some(equations) => is_at_entry(&equations) && self.meets_from(0, 0, &note),
+            Some(equations) => {
+                if is_at_entry(&equations) {
+                    self.starts(alloc)
+                } else {
+                    false
+                }
+            }
             None => false,
         }
     }

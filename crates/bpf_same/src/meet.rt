@@ -1,6 +1,6 @@
 //! What may be claimed where ways meet. Nothing is promised of it: `turn` judges.
 
-ghost use Rattle.std.specs.Prelude.{◌<◌};
+ghost use Rattle.std.specs.Prelude.{◌<◌, IfSome};
 
 use crate::equations::Equations;
 use crate::sum::{HOLDERS, REGISTERS, Sum};
@@ -48,6 +48,7 @@ fn moved(turn: &Turn, sum: Sum) -> Option<Sum> {
 /// The holder that has after a step what another had before: itself, if it is left as it was.
 fn holder_of(turn: &Turn, part: u8) -> Option<u8>
     requires { part < 64 }
+    ensures { IfSome result (λ h. h < 64) }
 {
     let wanted = Some(Sum::held(part));
     if turn.new_after(part) == wanted {

@@ -7,7 +7,7 @@ use Rattle.bpf_same.proofs.turn.Turn.before_it.Goals as goal
 pub loop-holder-init : goal.loop-holder-init
 loop-holder-init c =
     let s = c.args.self.now in
-    (omega arith, none_before s.insn s.own s.low (facts s.after.now) s.before.now c.args.sum c.constant.result (omega arith) c.constant.ensures)
+    (omega arith, none_before s.insn s.own s.low (facts s.after.now) s.before.now c.args.sum c.constant-all.result (omega arith) c.constant-all.ensures)
 
 pub loop-holder-preserved : goal.loop-holder-preserved
 loop-holder-preserved c = (omega (arith, c.loop-holder-test.true), c.in-Some.ensures c.loop-holder.invariant.1)

@@ -1,4 +1,5 @@
 use Rattle.std.proofs.Common.{◌≡◌, sym, ap, ◌∙◌, Some}
+use Rattle.std.proofs.lemmas.Int.{to_z-of_z}
 use Rattle.bpf_insn.specs.Signed.{sign_extended}
 use Rattle.bpf_same.specs.Sums.{total}
 use Rattle.bpf_same.specs.Turned.{operand_in}
@@ -9,5 +10,5 @@ returns-in-Register c = λ f g h. ap (operand_in f) c.in-Register.is ∙ (ap f (
 
 pub returns-in-Immediate : goal.returns-in-Immediate
 returns-in-Immediate c = λ f g h.
-    let e : Some (sign_extended c.in-Immediate.value) ≡ total f c.constant.result = ap Some (sym c.extended.ensures) ∙ sym (c.constant.ensures f) in
+    let e : Some (sign_extended c.in-Immediate.value) ≡ total f c.constant.result = ap Some (sym (simp to_z-of_z at c.extended.ensures)) ∙ sym (c.constant.ensures f) in
     ap (operand_in f) c.in-Immediate.is ∙ e
