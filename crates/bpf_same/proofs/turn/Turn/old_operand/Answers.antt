@@ -1,4 +1,4 @@
-use Rattle.std.proofs.Common.{◌≡◌, sym, ap, ◌∙◌, Some}
+use Rattle.std.proofs.Common.{rules, FitsSigned, w32, ◌≡◌, sym, ap, ◌∙◌, Some}
 use Rattle.std.proofs.lemmas.Int.{to_z-of_z}
 use Rattle.bpf_insn.specs.Signed.{sign_extended}
 use Rattle.bpf_same.specs.Sums.{total}
@@ -11,5 +11,6 @@ returns-in-Register c = old_operand_if c.args.self.now.before.now c.args.src c.i
 
 pub returns-in-Immediate : goal.returns-in-Immediate
 returns-in-Immediate c = λ f g h.
+    let fits : FitsSigned w32 c.in-Immediate.value = search rules in
     let e : Some (sign_extended c.in-Immediate.value) ≡ total f c.constant.result = ap Some (sym (simp to_z-of_z at c.extended.ensures)) ∙ sym (c.constant.ensures f) in
     ap (operand_in g) c.in-Immediate.is ∙ e
