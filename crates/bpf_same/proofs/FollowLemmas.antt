@@ -1,6 +1,6 @@
 -- Where the old program follows each instruction, each walk of the new program is one of the old.
-use Rattle.std.proofs.Common.{ℕ, ◌+◌, ◌≡◌, inl, inr, refl, sym, ap, ◌∙◌, subst, ℤ, List, [], ◌∷◌, Option, None, Some, Bool, true, false}
-use Rattle.std.specs.Prelude.{if◌then◌else◌, slice_get}
+use Rattle.std.proofs.Common.{ℕ, ◌+◌, ◌≡◌, ◌≤◌, inl, inr, refl, sym, ap, ◌∙◌, subst, ℤ, List, [], ◌∷◌, Option, None, Some, Bool, true, false}
+use Rattle.std.specs.Prelude.{if◌then◌else◌, slice_get, IfSome}
 use Rattle.std.specs.Global.{Box, Vec}
 use Rattle.bpf_insn.specs.Register.{number}
 use Rattle.bpf_insn.specs.Conditions.{is_met}
@@ -10,13 +10,17 @@ use Rattle.bpf_insn.specs.declared.operand.Operand.{Operand}
 use Rattle.bpf_insn.specs.declared.insn.Insn.{Insn}
 use Rattle.bpf_insn.specs.declared.insn.Insn.TheVariants.{Alu, Neg, End, MovSx, Const, MapRef, Ldx, St, Stx, AddCounter, Ja, Jump, Call, Exit, Second}
 use Rattle.bpf_note.specs.Shape.{Shape}
+use Rattle.bpf_insn.specs.Size.{size_bytes}
+use Rattle.bpf_insn.specs.declared.size.Size.{Size}
+use Rattle.bpf_note.specs.Regions as regions
+use Rattle.bpf_note.specs.Regions.{InPacket, InStack, InContext, InCounter, Nowhere}
 use Rattle.bpf_note.specs.State.{State, IsStart}
 use Rattle.bpf_note.specs.Parts.{Noted, facts}
 use Rattle.bpf_note.specs.Facts.{Facts, entry}
 use Rattle.bpf_note.specs.Describes.{Describes}
 use Rattle.bpf_note.specs.declared.op.Op.{Op}
 use Rattle.bpf_note.specs.declared.op.Op.TheVariants as ops
-use Rattle.bpf_flow.specs.Step.{Outcome, Next, Loads, Adds, Exited, Fault, need, at_slot, operand, target, jumped, exec, step, LeadsTo}
+use Rattle.bpf_flow.specs.Step.{Outcome, Next, Loads, Adds, Exited, Fault, need, at_slot, with_number, is_frame, written, operand, first_operand, reached, loaded, load_from, store_to, taken, target, jumped, exec, step, LeadsTo}
 use Rattle.bpf_flow.specs.Graph.{next_slot}
 use Rattle.bpf_flow.specs.Edges.{Edges}
 use Rattle.bpf_flow.specs.Sound.{Accounts, Covers}
@@ -26,12 +30,14 @@ use Rattle.bpf_vm.specs.Run.{Walk, ends, goes}
 use Rattle.bpf_same.specs.declared.mark.Place.{Place}
 use Rattle.bpf_same.specs.Same.{operations, Runs, IsSame}
 use Rattle.bpf_same.specs.Decided.{Compared, IsDecided}
-use Rattle.bpf_same.specs.Followed.{Notes, IsKnown, IsFollowed, Passes, Meets, FollowsOne, Goes, GoesBoth, Targets, FollowsTwo, IsSplit, IsAccounted, in_front, Follows, IsPassed, IsClaimed, is_jump, AreClaims}
-use Rattle.bpf_same.proofs.MoveLemmas.{shifted, moved, leads_shifted, operand_moved}
+use Rattle.bpf_same.specs.declared.equations.Equations.{Equations}
+use Rattle.bpf_same.specs.Sums.{held, Hold}
+use Rattle.bpf_same.specs.Turned.{alters, Turned, Keeps, AreAlike, ReadsAlike, Shares, IsOwnStep}
+use Rattle.bpf_same.specs.Followed.{Book, Notes, IsKnown, Beside, IsFollowed, Passes, Meets, Lands, LandsAt, Steps, StepsBy, FollowsOne, Goes, GoesBoth, Targets, Splits, FollowsTwo, IsSplit, IsAccounted, in_front, Follows, IsPassed, IsClaimed, IsAtStart, is_jump, AreClaims}
+use Rattle.bpf_same.proofs.PairLemmas.{parted, Behind, Pairs, pairs_lead, pairs_exit, operand_is, exec_pairs}
+use Rattle.bpf_same.proofs.TurnLemmas.{needed_is, held_register, held_fits, alike_of, noted_is, copied_turned}
+use Rattle.bpf_same.proofs.OwnLemmas.{own_alone}
 
-pub needed_is : {A P : Type 0} (o : Option A) (go : A → Outcome) (l : Option Op) (u : State) → ((x : A) → o ≡ Some x → LeadsTo (go x) l u → P) → LeadsTo (need o go) l u → P
-needed_is None go l u f h = absurd (no_fault l u h)
-needed_is (Some x) go l u f h = f x refl h
 
 operations_front : (label : Option Op) (labels : List (Option Op)) → operations (label ∷ labels) ≡ in_front label (operations labels)
 operations_front None labels = refl
@@ -48,37 +54,77 @@ before code r0 bytes t u label done h r = record {
 step_at : (code : List Insn) (s : State) (i : Insn) (label : Option Op) (u : State) → slice_get code s.pc ≡ Some i → LeadsTo (exec i s) label u → LeadsTo (step code s) label u
 step_at code s i label u e h = subst (λ (o : Option Insn). LeadsTo (need o (λ i. exec i s)) label u) (sym e) h
 
+some_is : {A : Type 0} {x y : A} → Some x ≡ Some y → x ≡ y
+some_is e = cc
+
+true_false : true ≡ false → ⊥
+true_false e = cc
+
+false_true : {P : Type 0} → false ≡ true → P
+false_true e = cc
+
+-- the old program's state, at the slot where it stands
+at_same : (e : Equations) (low p : ℕ) (s t : State) → Beside e low p s t → at_slot t p ≡ t
+at_same e low p s t b = ap (at_slot t) (sym b.pc)
+
+parted_is : (e : Equations) (low p : ℕ) (s t : State) → Beside e low p s t → t ≡ parted s p t.reg t.stack
+parted_is e low p s t b =
+    ap (λ (pc : ℕ). record t { pc = pc }) b.pc
+    ∙ ap (λ (x : List ℕ). record t { pc = p; packet = x }) b.packet
+    ∙ ap (λ (i : ℕ). record t { pc = p; packet = s.packet; ifindex = i }) b.ifindex
+    ∙ ap (λ (q : ℕ). record t { pc = p; packet = s.packet; ifindex = s.ifindex; queue = q }) b.queue
+    ∙ ap (λ (m : List Shape). record t { pc = p; packet = s.packet; ifindex = s.ifindex; queue = s.queue; shapes = m }) b.shapes
+
+alike_there : (e : Equations) (low p : ℕ) (i : Insn) (s t : State) → Beside e low p s t → ReadsAlike e i → AreAlike i s.reg t.reg
+alike_there e low p i s t b alike = alike_of i (held s) s.reg t.reg (λ k l. held_register s k l) (alike (held s) t.reg b.equations)
+
+-- what is compared is the same in the old program
+compared_old : (e : Equations) (low p : ℕ) (cond : Condition) (wide : Bool) (dst : Register) (src : Operand) (off : ℤ) (s t : State) (c : Bool) → Beside e low p s t → ReadsAlike e (Jump cond wide dst src off) →
+    Compared cond wide (s.reg (number dst)) (operand s src) c → Compared cond wide (t.reg (number dst)) (operand t src) c
+compared_old e low p cond wide dst src off s t c b alike k =
+    let a = alike_there e low p (Jump cond wide dst src off) s t b alike in
+    record { x = k.x; y = k.y; first = a.0 ∙ k.first; second = operand_is t src ∙ (a.1 ∙ (sym (operand_is s src) ∙ k.second)); met = k.met }
+
 -- a slot that is passed, in front of a way on
-pub pass_on : (old : List Insn) (n : Facts) (p q r : ℕ) (i : Insn) → Passes old n p q → slice_get old q ≡ Some i → IsPassed i n q r → Passes old n p r
-pass_on old n p q r i before_that there h = λ s d r0 bytes done run. before_that s d r0 bytes done (before old r0 bytes (at_slot s q) (at_slot s r) None done (step_at old (at_slot s q) i None (at_slot s r) there (h s d)) run)
+pub pass_on : (old : List Insn) (e : Equations) (low : ℕ) (n : Facts) (p q r : ℕ) (i : Insn) → Passes old e low n p q → slice_get old q ≡ Some i → IsPassed i e low n q r → Passes old e low n p r
+pass_on old e low n p q r i before_that there h = λ s t d b r0 bytes done run.
+    let moved : Beside e low q s (at_slot t q) = record { pc = refl; packet = b.packet; ifindex = b.ifindex; queue = b.queue; shapes = b.shapes; stack = b.stack; equations = b.equations } in
+    before_that s t d b r0 bytes done (before old r0 bytes (at_slot t q) (at_slot t r) None done (step_at old (at_slot t q) i None (at_slot t r) there (h s (at_slot t q) d moved)) run)
 
-pub stay : (old : List Insn) (n : Facts) (p : ℕ) → Passes old n p p
-stay old n p = λ s d r0 bytes done run. run
+pub stay : (old : List Insn) (e : Equations) (low : ℕ) (n : Facts) (p : ℕ) → Passes old e low n p p
+stay old e low n p = λ s t d b r0 bytes done run. subst (λ (t : State). Runs old r0 bytes t done) (at_same e low p s t b) run
 
-target_leads : (s : State) (o : Option ℕ) (r : ℕ) → o ≡ Some r → LeadsTo (need o (λ p. Next (at_slot s p))) None (at_slot s r)
-target_leads s o r e = subst (λ (o : Option ℕ). LeadsTo (need o (λ p. Next (at_slot s p))) None (at_slot s r)) (sym e) refl
+target_leads : (t : State) (o : Option ℕ) (r : ℕ) → o ≡ Some r → LeadsTo (need o (λ p. Next (at_slot t p))) None (at_slot t r)
+target_leads t o r e = subst (λ (o : Option ℕ). LeadsTo (need o (λ p. Next (at_slot t p))) None (at_slot t r)) (sym e) refl
 
-pub ja_passed : (wide : Bool) (to : ℤ) (n : Facts) (p q : ℕ) → target p to ≡ Some q → IsPassed (Ja wide to) n p q
-ja_passed wide to n p q e = λ s d. target_leads s (target p to) q e
+pub ja_passed : (wide : Bool) (to : ℤ) (e : Equations) (low : ℕ) (n : Facts) (p q : ℕ) → target p to ≡ Some q → IsPassed (Ja wide to) e low n p q
+ja_passed wide to e low n p q h = λ s t d b. target_leads t (target t.pc to) q (ap (λ (pc : ℕ). target pc to) b.pc ∙ h)
 
 -- what a conditional jump comes to, its numbers and its way being known
-jump_leads : (cond : Condition) (wide : Bool) (dst : Register) (src : Operand) (off : ℤ) (s : State) (p : ℕ) (c : Bool) (u : State) → Compared cond wide (s.reg (number dst)) (operand s src) c →
-    LeadsTo (if c then jumped (at_slot s p) off else Next (at_slot s (p + 1))) None u → LeadsTo (exec (Jump cond wide dst src off) (at_slot s p)) None u
-jump_leads cond wide dst src off s p c u k h =
-    subst (λ (o : Option ℕ). LeadsTo (need o (λ a. need (operand (at_slot s p) src) (λ b. if is_met cond wide a b then jumped (at_slot s p) off else Next (at_slot s (p + 1))))) None u) (sym k.first)
-    (subst (λ (o : Option ℕ). LeadsTo (need o (λ b. if is_met cond wide k.x b then jumped (at_slot s p) off else Next (at_slot s (p + 1)))) None u) (sym (operand_moved src s p ∙ k.second))
-    (subst (λ (c : Bool). LeadsTo (if c then jumped (at_slot s p) off else Next (at_slot s (p + 1))) None u) (sym k.met) h))
+jump_leads : (cond : Condition) (wide : Bool) (dst : Register) (src : Operand) (off : ℤ) (t : State) (c : Bool) (u : State) → Compared cond wide (t.reg (number dst)) (operand t src) c →
+    LeadsTo (if c then jumped t off else Next (at_slot t (t.pc + 1))) None u → LeadsTo (exec (Jump cond wide dst src off) t) None u
+jump_leads cond wide dst src off t c u k h =
+    subst (λ (o : Option ℕ). LeadsTo (need o (λ a. need (operand t src) (λ b. if is_met cond wide a b then jumped t off else Next (at_slot t (t.pc + 1))))) None u) (sym k.first)
+    (subst (λ (o : Option ℕ). LeadsTo (need o (λ b. if is_met cond wide k.x b then jumped t off else Next (at_slot t (t.pc + 1)))) None u) (sym k.second)
+    (subst (λ (c : Bool). LeadsTo (if c then jumped t off else Next (at_slot t (t.pc + 1))) None u) (sym k.met) h))
 
-pub taken_passed : (cond : Condition) (wide : Bool) (dst : Register) (src : Operand) (off : ℤ) (n : Facts) (p q : ℕ) → IsDecided (Jump cond wide dst src off) n true → target p off ≡ Some q → IsPassed (Jump cond wide dst src off) n p q
-taken_passed cond wide dst src off n p q k e = λ s d. jump_leads cond wide dst src off s p true (at_slot s q) (k s d) (target_leads s (target p off) q e)
+pub taken_passed : (cond : Condition) (wide : Bool) (dst : Register) (src : Operand) (off : ℤ) (e : Equations) (low : ℕ) (n : Facts) (p q : ℕ) → ReadsAlike e (Jump cond wide dst src off) → IsDecided (Jump cond wide dst src off) n true → target p off ≡ Some q →
+    IsPassed (Jump cond wide dst src off) e low n p q
+taken_passed cond wide dst src off e low n p q alike k h = λ s t d b.
+    jump_leads cond wide dst src off t true (at_slot t q) (compared_old e low p cond wide dst src off s t true b alike (k s d)) (target_leads t (target t.pc off) q (ap (λ (pc : ℕ). target pc off) b.pc ∙ h))
 
-pub left_passed : (cond : Condition) (wide : Bool) (dst : Register) (src : Operand) (off : ℤ) (n : Facts) (p : ℕ) → IsDecided (Jump cond wide dst src off) n false → IsPassed (Jump cond wide dst src off) n p (p + 1)
-left_passed cond wide dst src off n p k = λ s d. jump_leads cond wide dst src off s p false (at_slot s (p + 1)) (k s d) refl
+pub left_passed : (cond : Condition) (wide : Bool) (dst : Register) (src : Operand) (off : ℤ) (e : Equations) (low : ℕ) (n : Facts) (p : ℕ) → ReadsAlike e (Jump cond wide dst src off) → IsDecided (Jump cond wide dst src off) n false →
+    IsPassed (Jump cond wide dst src off) e low n p (p + 1)
+left_passed cond wide dst src off e low n p alike k = λ s t d b.
+    jump_leads cond wide dst src off t false (at_slot t (p + 1)) (compared_old e low p cond wide dst src off s t false b alike (k s d)) (ap (λ (pc : ℕ). at_slot t (pc + 1)) b.pc)
 
 -- where the way to what is claimed is passed, and one of the notes there describes what this describes, the old program follows
-pub meet : (old : List Insn) (places : List Place) (notes : Notes) (n : Facts) (p q : ℕ) (place : Place) → slice_get places q ≡ Some place → Passes old n p place.at → ((s : State) → Describes n s → IsKnown notes q s) → Meets old places notes n p q
-meet old places notes n p q place here way known = λ s pc d r0 bytes done go.
-    way s d r0 bytes done (go place (ap (slice_get places) pc ∙ here) (subst (λ (q : ℕ). IsKnown notes q s) (sym pc) (known s d)))
+pub meet : (b : Book) (n : Facts) (p q : ℕ) (place : Place) (e : Equations) → slice_get b.places q ≡ Some place → slice_get b.equations q ≡ Some e → Passes b.old e b.low n p place.at → ((s : State) → Describes n s → IsKnown b.notes q s) → Meets b n p q
+meet b n p q place e here claimed way known = λ e' claimed' s t pc d beside r0 bytes done go.
+    let same : e' ≡ e = some_is (sym claimed' ∙ claimed) in
+    let there : Beside e b.low p s t = subst (λ (e : Equations). Beside e b.low p s t) same beside in
+    way s t d there r0 bytes done (go place e (at_slot t place.at) (ap (slice_get b.places) pc ∙ here) (ap (slice_get b.equations) pc ∙ claimed) (subst (λ (q : ℕ). IsKnown b.notes q s) (sym pc) (known s d))
+    (record { pc = refl; packet = there.packet; ifindex = there.ifindex; queue = there.queue; shapes = there.shapes; stack = there.stack; equations = there.equations }))
 
 -- a state that a step leads to is covered by the edges
 covered : (es : Edges) (o : Outcome) (label : Option Op) (u : State) → Accounts es o → LeadsTo o label u → Covers es u
@@ -112,22 +158,111 @@ branch_exits s cond wide dst src off r0 e = need_exits (s.reg (number dst)) _ r0
     by true e = jumped_exits s off r0 e
     by false e = cc
 
--- an instruction that is no jump, which the old program has too
-pub plain_follows : (old : List Insn) (places : List Place) (notes : Notes) (shapes : List Shape) (p : ℕ) (i : Insn) (n m : Facts) (pc q : ℕ) → is_jump i ≡ false → slice_get old p ≡ Some i →
-    IsAccounted ((q, m) ∷ []) shapes i n pc → Meets old places notes m (next_slot i p) q → Follows old places notes shapes p i n pc
-plain_follows old places notes shapes p i n m pc q j there sound next = record {
-  goes = λ s at sh d label u h r0 bytes done go.
-      let cover : (u.pc ≡ q) × Describes m u = by_one q m u (covered ((q, m) ∷ []) (exec i s) label u (sound s d at sh) h) in
-      let leads = step_at old (at_slot s p) i label (at_slot u (next_slot i p)) there
-      (subst (λ (o : Outcome). LeadsTo o label (at_slot u (next_slot i p))) (sym (moved i s p j)) (leads_shifted (next_slot i p) (exec i s) label u h)) in
-      before old r0 bytes (at_slot s p) (at_slot u (next_slot i p)) label done leads (next u cover.0 cover.1 r0 bytes done go);
-  ends = λ s d r0 e. ap (λ (o : Option Insn). need o (λ i. exec i (at_slot s p))) there ∙ (moved i s p j ∙ ap (shifted (next_slot i p)) e);
+
+written_exits : (s : State) (pc k x r0 : ℕ) → written s pc k x ≡ Exited r0 → ⊥
+written_exits s pc k x r0 e = by (is_frame k) e
+  where
+    by : (b : Bool) → (if b then Fault else Next (with_number s pc k x)) ≡ Exited r0 → ⊥
+    by true e = cc
+    by false e = cc
+
+load_exits : (place : regions.Place) (s : State) (signed : Bool) (size : Size) (dst r0 : ℕ) → load_from place s signed size dst ≡ Exited r0 → ⊥
+load_exits (InPacket i) s signed size dst r0 e = need_exits (loaded s (InPacket i) (size_bytes size)) _ r0 (λ x e. written_exits s (s.pc + 1) dst (taken signed size x) r0 e) e
+load_exits (InStack i) s signed size dst r0 e = need_exits (loaded s (InStack i) (size_bytes size)) _ r0 (λ x e. written_exits s (s.pc + 1) dst (taken signed size x) r0 e) e
+load_exits (InContext i) s signed size dst r0 e = need_exits (loaded s (InContext i) (size_bytes size)) _ r0 (λ x e. written_exits s (s.pc + 1) dst (taken signed size x) r0 e) e
+load_exits (InCounter m k j) s signed size dst r0 e = by (is_frame dst) e
+  where
+    by : (b : Bool) → (if b then Fault else Loads m k j (λ x. with_number s (s.pc + 1) dst (taken signed size x))) ≡ Exited r0 → ⊥
+    by true e = cc
+    by false e = cc
+load_exits Nowhere s signed size dst r0 e = cc
+
+store_exits : (place : regions.Place) (s : State) (z x r0 : ℕ) → store_to place s z x ≡ Exited r0 → ⊥
+store_exits (InPacket i) s z x r0 e = cc
+store_exits (InStack i) s z x r0 e = cc
+store_exits (InContext i) s z x r0 e = cc
+store_exits (InCounter m k j) s z x r0 e = cc
+store_exits Nowhere s z x r0 e = cc
+
+own_exits : (i : Insn) (low : ℕ) (n : Facts) (s : State) (r0 : ℕ) → IsOwnStep i low n → exec i s ≡ Exited r0 → ⊥
+own_exits (Alu op wide dst src) low n s r0 o e = need_exits (operand s src) _ r0 (λ y e. need_exits (first_operand op (s.reg (number dst))) _ r0 (λ x e. written_exits s (s.pc + 1) (number dst) _ r0 e) e) e
+own_exits (Neg wide dst) low n s r0 o e = need_exits (s.reg (number dst)) _ r0 (λ x e. written_exits s (s.pc + 1) (number dst) _ r0 e) e
+own_exits (End kind width dst) low n s r0 o e = need_exits (s.reg (number dst)) _ r0 (λ x e. written_exits s (s.pc + 1) (number dst) _ r0 e) e
+own_exits (MovSx wide bits dst src) low n s r0 o e = need_exits (s.reg (number src)) _ r0 (λ x e. written_exits s (s.pc + 1) (number dst) _ r0 e) e
+own_exits (Const dst value) low n s r0 o e = written_exits s (s.pc + 2) (number dst) value r0 e
+own_exits (MapRef dst m) low n s r0 o e = written_exits s (s.pc + 2) (number dst) _ r0 e
+own_exits (Ldx size signed dst src off) low n s r0 o e = need_exits (s.reg (number src)) _ r0 (λ a e. load_exits (reached s a off (size_bytes size)) s signed size (number dst) r0 e) e
+own_exits (St size dst off imm) low n s r0 o e = o
+own_exits (Stx size dst src off) low n s r0 o e = need_exits (s.reg (number src)) _ r0 (λ x e. need_exits (s.reg (number dst)) _ r0 (λ a e. store_exits (reached s a off (size_bytes size)) s (size_bytes size) x r0 e) e) e
+own_exits (AddCounter fetch dst src off) low n s r0 o e = o
+own_exits (Ja wide to) low n s r0 o e = o
+own_exits (Jump cond wide dst src off) low n s r0 o e = o
+own_exits (Call helper) low n s r0 o e = o
+own_exits Exit low n s r0 o e = o
+own_exits Second low n s r0 o e = o
+
+-- after a step of both, or of the new program's own, the old program's state v stands beside the new one's state u
+landed : (b : Book) (i : Insn) (own : Bool) (e : Equations) (low : ℕ) (m : Facts) (p q : ℕ) → Lands b i own e m p q → (s t u v : State) → Hold e (held s) t.reg → Turned i own b.low m (held s) t.reg (held u) v.reg → Describes m u → u.pc ≡ q → v.pc ≡ p →
+    v.packet ≡ u.packet → v.ifindex ≡ u.ifindex → v.queue ≡ u.queue → v.shapes ≡ u.shapes → ((j : ℕ) → b.low ≤ j → v.stack j ≡ u.stack j) → (r0 : ℕ) (bytes : List ℕ) (done : List Op) → IsFollowed b r0 bytes done u → Runs b.old r0 bytes v done
+landed b i own e low m p q l s t u v hold turned d at pc packet ifindex queue shapes stack r0 bytes done go =
+    l.meets l.next l.here u v at d (record { pc = pc; packet = packet; ifindex = ifindex; queue = queue; shapes = shapes; stack = stack; equations = l.keeps (held s) t.reg (held u) v.reg turned hold }) r0 bytes done go
+
+-- a jump leaves what holders hold
+jump_turned : (i : Insn) (low q : ℕ) (m : Facts) (s : State) (g : ℕ → Option ℕ) → is_jump i ≡ true → Describes m (at_slot s q) → Turned i true low m (held s) g (held (at_slot s q)) g
+jump_turned i low q m s g j d = record {
+  fits = held_fits (at_slot s q) d.state;
+  kept = λ k small e. refl;
+  words = λ k own other. refl;
+  beside = λ dst src off w k own e. absurd (true_false (sym j ∙ ap is_jump e));
+  stored = λ dst src off w own e. absurd (true_false (sym j ∙ ap is_jump e));
+  loaded = λ dst src off w own e. absurd (true_false (sym j ∙ ap is_jump e));
+  made = λ op wide dst src e. absurd (true_false (sym j ∙ ap is_jump e));
+  noted = λ k x e small. held_register (at_slot s q) k small ∙ noted_is m (at_slot s q) k x d e;
+  stays = λ k e. refl;
+  old_kept = λ k e. refl;
+  old_made = λ op wide dst src own e. absurd (true_false (sym j ∙ ap is_jump e));
+  alike = λ k small e. absurd (true_false e);
 }
 
-pub exit_follows : (old : List Insn) (places : List Place) (notes : Notes) (shapes : List Shape) (p : ℕ) (n : Facts) (pc : ℕ) → slice_get old p ≡ Some Exit → Follows old places notes shapes p Exit n pc
-exit_follows old places notes shapes p n pc there = record {
-  goes = λ s at sh d label u h r0 bytes done go. absurd (needed (s.reg 0) Exited label u (λ x h. exited x label u h) h);
-  ends = λ s d r0 e. ap (λ (o : Option Insn). need o (λ i. exec i (at_slot s p))) there ∙ e;
+-- a step that both programs take
+both_step : (b : Book) (shapes : List Shape) (p : ℕ) (i : Insn) (e : Equations) (n m : Facts) (pc q : ℕ) → is_jump i ≡ false → Steps b p i e n m q → IsAccounted ((q, m) ∷ []) shapes i n pc → Follows b shapes p i e n pc
+both_step b shapes p i e n m pc q j st sound = record {
+  goes = λ s t beside at sh d label u h r0 bytes done go.
+      let cover : (u.pc ≡ q) × Describes m u = by_one q m u (covered ((q, m) ∷ []) (exec i s) label u (sound s d at sh) h) in
+      let v = pairs_lead (Behind (λ k. alters i k) (next_slot i p) b.low s t.reg) (exec i s) (exec i t) label u (pairs s t beside d) h in
+      let there : slice_get b.old t.pc ≡ Some i = ap (slice_get b.old) beside.pc ∙ st.there in
+      let behind = v.2 in
+      before b.old r0 bytes t v.0 label done (step_at b.old t i label v.0 there v.1)
+      (landed b i false e b.low m (next_slot i p) q st.lands s t u v.0 beside.equations (copied_turned i s u t v.0 b.low (next_slot i p) m label h v.1 cover.1 behind) cover.1 cover.0 behind.pc
+      behind.packet behind.ifindex behind.queue behind.shapes behind.stack r0 bytes done go);
+  ends = λ s t beside d r0 x.
+      ap (λ (o : Option Insn). need o (λ i. exec i t)) (ap (slice_get b.old) beside.pc ∙ st.there) ∙ pairs_exit (Behind (λ k. alters i k) (next_slot i p) b.low s t.reg) (exec i s) (exec i t) r0 (pairs s t beside d) x;
+}
+  where
+    pairs : (s t : State) → Beside e b.low p s t → Describes n s → Pairs (Behind (λ k. alters i k) (next_slot i p) b.low s t.reg) (exec i s) (exec i t)
+    pairs s t beside d = subst (λ (x : State). Pairs (Behind (λ k. alters i k) (next_slot i p) b.low s t.reg) (exec i s) (exec i x)) (sym (parted_is e b.low p s t beside))
+        (exec_pairs s p b.low t.reg t.stack beside.stack i j (alike_there e b.low p i s t beside st.alike) (st.shares s d))
+
+-- a step of the new program's own
+own_step : (b : Book) (shapes : List Shape) (p : ℕ) (i : Insn) (e : Equations) (n m : Facts) (pc q : ℕ) → IsOwnStep i b.low n → Lands b i true e m p q → IsAccounted ((q, m) ∷ []) shapes i n pc → Follows b shapes p i e n pc
+own_step b shapes p i e n m pc q o l sound = record {
+  goes = λ s t beside at sh d label u h r0 bytes done go.
+      let cover : (u.pc ≡ q) × Describes m u = by_one q m u (covered ((q, m) ∷ []) (exec i s) label u (sound s d at sh) h) in
+      let a = own_alone i b.low n m s t.reg label u o d cover.1 h in
+      let run : Runs b.old r0 bytes t done = landed b i true e b.low m p q l s t u t beside.equations a.turned cover.1 cover.0 beside.pc (beside.packet ∙ sym a.packet) (beside.ifindex ∙ sym a.ifindex) (beside.queue ∙ sym a.queue)
+      (beside.shapes ∙ sym a.shapes) (λ j above. beside.stack j above ∙ sym (a.stack j above)) r0 bytes done go in
+      subst (λ (label : Option Op). Runs b.old r0 bytes t (in_front label done)) (sym a.label) run;
+  ends = λ s t beside d r0 x. absurd (own_exits i b.low n s r0 o x);
+}
+
+by_owner : (b : Book) (shapes : List Shape) (own : Bool) (p : ℕ) (i : Insn) (e : Equations) (n m : Facts) (pc q : ℕ) → is_jump i ≡ false → StepsBy b own p i e n m q → IsAccounted ((q, m) ∷ []) shapes i n pc → Follows b shapes p i e n pc
+by_owner b shapes true p i e n m pc q j f sound = own_step b shapes p i e n m pc q f.0 f.1 sound
+by_owner b shapes false p i e n m pc q j f sound = both_step b shapes p i e n m pc q j f sound
+
+pub exit_follows : (b : Book) (shapes : List Shape) (p : ℕ) (e : Equations) (n : Facts) (pc : ℕ) → slice_get b.old p ≡ Some Exit → ReadsAlike e Exit → Follows b shapes p Exit e n pc
+exit_follows b shapes p e n pc there alike = record {
+  goes = λ s t beside at sh d label u h r0 bytes done go. absurd (needed (s.reg 0) Exited label u (λ x h. exited x label u h) h);
+  ends = λ s t beside d r0 x. ap (λ (o : Option Insn). need o (λ i. exec i t)) (ap (slice_get b.old) beside.pc ∙ there) ∙ (ap (λ (o : Option ℕ). need o Exited) (alike_there e b.low p Exit s t beside alike) ∙ x);
 }
 
 next_does : (P : Option Op → State → Type 0) (t : State) (label : Option Op) (u : State) → P None t → LeadsTo (Next t) label u → P label u
@@ -136,23 +271,20 @@ next_does P t (Some (ops.Load m k j v)) u p h = absurd h
 next_does P t (Some (ops.Add m k j d v)) u p h = absurd h
 
 -- a jump that the old program follows by staying where it is
-pub ja_follows : (old : List Insn) (places : List Place) (notes : Notes) (shapes : List Shape) (p : ℕ) (wide : Bool) (to : ℤ) (n m : Facts) (pc q : ℕ) →
-    IsAccounted ((q, m) ∷ []) shapes (Ja wide to) n pc → Meets old places notes m p q → Follows old places notes shapes p (Ja wide to) n pc
-ja_follows old places notes shapes p wide to n m pc q sound next = record {
-  goes = λ s at sh d label u h r0 bytes done go.
+ja_follows : (b : Book) (shapes : List Shape) (p : ℕ) (wide : Bool) (to : ℤ) (e : Equations) (n m : Facts) (pc q : ℕ) → IsAccounted ((q, m) ∷ []) shapes (Ja wide to) n pc → Lands b (Ja wide to) true e m p q → Follows b shapes p (Ja wide to) e n pc
+ja_follows b shapes p wide to e n m pc q sound l = record {
+  goes = λ s t beside at sh d label u h r0 bytes done go.
       let cover : (u.pc ≡ q) × Describes m u = by_one q m u (covered ((q, m) ∷ []) (exec (Ja wide to) s) label u (sound s d at sh) h) in
-      let run : Runs old r0 bytes (at_slot u p) done = next u cover.0 cover.1 r0 bytes done go in
-      needed (target s.pc to) _ label u (λ r h. next_does (λ (label : Option Op) (u : State). Runs old r0 bytes (at_slot u p) done → Runs old r0 bytes (at_slot s p) (in_front label done)) (at_slot s r) label u (λ run. run) h run) h;
-  ends = λ s d r0 e. absurd (jumped_exits s to r0 e);
+      needed (target s.pc to) _ label u (λ r h. next_does (λ (label : Option Op) (u : State). u.pc ≡ q → Describes m u → IsFollowed b r0 bytes done u → Runs b.old r0 bytes t (in_front label done)) (at_slot s r) label u
+      (λ here known go. landed b (Ja wide to) true e b.low m p q l s t (at_slot s r) t beside.equations (jump_turned (Ja wide to) b.low r m s t.reg refl known) known here beside.pc beside.packet beside.ifindex beside.queue beside.shapes beside.stack r0 bytes done go)
+      h cover.0 cover.1 go) h;
+  ends = λ s t beside d r0 x. absurd (jumped_exits s to r0 x);
 }
 
 -- what a step of a conditional jump comes to: the way, and what is known there
 data Ways (cond : Condition) (wide : Bool) (dst : Register) (src : Operand) (off : ℤ) (n m : Facts) (s : State) : Option Op → State → Type 0 where
   takes : (q : ℕ) → Compared cond wide (s.reg (number dst)) (operand s src) true → target s.pc off ≡ Some q → Describes m (at_slot s q) → Ways cond wide dst src off n m s None (at_slot s q)
   leaves : Compared cond wide (s.reg (number dst)) (operand s src) false → Describes n (at_slot s (s.pc + 1)) → Ways cond wide dst src off n m s None (at_slot s (s.pc + 1))
-
-some_is : {A : Type 0} {x y : A} → Some x ≡ Some y → x ≡ y
-some_is e = cc
 
 by_two : (p q : ℕ) (n m : Facts) (u : State) → Covers ((p, n) ∷ (q, m) ∷ []) u → (p ≡ q → ⊥) → (u.pc ≡ p → Describes n u) × (u.pc ≡ q → Describes m u)
 by_two p q n m u (inl h) apart = (λ e. h.1, λ e. absurd (apart (sym h.0 ∙ e)))
@@ -180,148 +312,164 @@ not_ruled_out cond wide o p b c h k =
     let d : h.y ≡ k.y = some_is (sym h.second ∙ k.second) in
     sym h.met ∙ (ap (λ (x : ℕ). is_met cond wide x h.y) a ∙ (ap (λ (y : ℕ). is_met cond wide k.x y) d ∙ k.met))
 
-true_false : true ≡ false → ⊥
-true_false e = cc
+-- the old program's ways from slot p lead to a, or to b where the jump is taken
+abbrev Leads : List Insn → ℕ → Equations → ℕ → Condition → Bool → Register → Operand → Option ℕ → Option ℕ → Type 0
+Leads old low e p cond wide dst src a c = (s t : State) (way : Bool) → Beside e low p s t → Compared cond wide (s.reg (number dst)) (operand s src) way → (z : ℕ) → (if way then c else a) ≡ Some z → (r0 : ℕ) (bytes : List ℕ) (done : List Op) →
+    Runs old r0 bytes (at_slot t z) done → Runs old r0 bytes t done
 
 -- where a way leads to what the old program follows, and is one that may be taken
-arrives : (old : List Insn) (places : List Place) (notes : Notes) (i : Insn) (n m : Facts) (other : Bool) (o : Option ℕ) (q : ℕ) (v : State) (P : Type 0) (r0 : ℕ) (bytes : List ℕ) (done : List Op) → v.pc ≡ q → Describes m v → (IsDecided i n other → ⊥) →
-    Goes old places notes i n other o m q → ((z : ℕ) → o ≡ Some z → Runs old r0 bytes (at_slot v z) done → P) → IsFollowed old places notes r0 bytes done v → P
-arrives old places notes i n m other o q v P r0 bytes done e d never (inl decided) f go = absurd (never decided)
-arrives old places notes i n m other None q v P r0 bytes done e d never (inr meets) f go = absurd meets
-arrives old places notes i n m other (Some z) q v P r0 bytes done e d never (inr meets) f go = f z refl (meets v e d r0 bytes done go)
+arrives : (b : Book) (i : Insn) (e : Equations) (p : ℕ) (n m : Facts) (other : Bool) (o : Option ℕ) (q q' : ℕ) (s t : State) (P : Type 0) (r0 : ℕ) (bytes : List ℕ) (done : List Op) → is_jump i ≡ true → Beside e b.low p s t → q' ≡ q → Describes m (at_slot s q') →
+    (IsDecided i n other → ⊥) → Goes b i e n other o m q → ((z : ℕ) → o ≡ Some z → Runs b.old r0 bytes (at_slot t z) done → P) → IsFollowed b r0 bytes done (at_slot s q') → P
+arrives b i e p n m other o q q' s t P r0 bytes done j beside at d never (inl decided) f go = absurd (never decided)
+arrives b i e p n m other None q q' s t P r0 bytes done j beside at d never (inr lands) f go = absurd lands
+arrives b i e p n m other (Some z) q q' s t P r0 bytes done j beside at d never (inr lands) f go =
+    f z refl (landed b i true e b.low m z q lands s t (at_slot s q') (at_slot t z) beside.equations (jump_turned i b.low q' m s t.reg j d) d at refl beside.packet beside.ifindex beside.queue beside.shapes beside.stack r0 bytes done go)
 
--- the old program's ways from slot p lead to a, or to b where the jump is taken
-abbrev Leads : List Insn → ℕ → Condition → Bool → Register → Operand → Option ℕ → Option ℕ → Type 0
-Leads old p cond wide dst src a b = (s : State) (c : Bool) → Compared cond wide (s.reg (number dst)) (operand s src) c → (z : ℕ) → (if c then b else a) ≡ Some z → (r0 : ℕ) (bytes : List ℕ) (done : List Op) → Runs old r0 bytes (at_slot s z) done → Runs old r0 bytes (at_slot s p) done
-
-both_follow : (old : List Insn) (places : List Place) (notes : Notes) (shapes : List Shape) (p : ℕ) (a b : Option ℕ) (cond : Condition) (wide : Bool) (dst : Register) (src : Operand) (off : ℤ) (n l m : Facts) (pc q r : ℕ) →
-    q ≡ pc + 1 → target pc off ≡ Some r → (q ≡ r → ⊥) → IsAccounted ((q, l) ∷ (r, m) ∷ []) shapes (Jump cond wide dst src off) n pc → GoesBoth old places notes (Jump cond wide dst src off) n a b l q m r → Leads old p cond wide dst src a b →
-    Follows old places notes shapes p (Jump cond wide dst src off) n pc
-both_follow old places notes shapes p a b cond wide dst src off n l m pc q r next to apart sound ways leads = record {
-  goes = λ s at sh d label u h r0 bytes done go.
+both_follow : (b : Book) (shapes : List Shape) (p : ℕ) (a c : Option ℕ) (cond : Condition) (wide : Bool) (dst : Register) (src : Operand) (off : ℤ) (e : Equations) (n l m : Facts) (pc q r : ℕ) →
+    q ≡ pc + 1 → target pc off ≡ Some r → (q ≡ r → ⊥) → IsAccounted ((q, l) ∷ (r, m) ∷ []) shapes (Jump cond wide dst src off) n pc → GoesBoth b (Jump cond wide dst src off) e n a c l q m r → Leads b.old b.low e p cond wide dst src a c →
+    Follows b shapes p (Jump cond wide dst src off) e n pc
+both_follow b shapes p a c cond wide dst src off e n l m pc q r next to apart sound ways leads = record {
+  goes = λ s t beside at sh d label u h r0 bytes done go.
       let next_there : q ≡ s.pc + 1 = next ∙ ap (λ (pc : ℕ). pc + 1) (sym at) in
-      by s at next_there d label u r0 bytes done
-      (goes_by cond wide dst src off l m s r label u (ap (λ (pc : ℕ). target pc off) at ∙ to) (λ e. apart (next_there ∙ e))
+      by s t beside at next_there d label u r0 bytes done
+      (goes_by cond wide dst src off l m s r label u (ap (λ (pc : ℕ). target pc off) at ∙ to) (λ x. apart (next_there ∙ x))
       (subst (λ (x : ℕ). Accounts ((x, l) ∷ (r, m) ∷ []) (exec (Jump cond wide dst src off) s)) next_there (sound s d at sh)) h) go;
-  ends = λ s d r0 e. absurd (branch_exits s cond wide dst src off r0 e);
+  ends = λ s t beside d r0 x. absurd (branch_exits s cond wide dst src off r0 x);
 }
   where
-    by : (s : State) → s.pc ≡ pc → q ≡ s.pc + 1 → Describes n s → (label : Option Op) (u : State) (r0 : ℕ) (bytes : List ℕ) (done : List Op) → Ways cond wide dst src off l m s label u → IsFollowed old places notes r0 bytes done u → Runs old r0 bytes (at_slot s p) (in_front label done)
-    by s at here d _ _ r0 bytes done (takes q' k e dm) go =
-        arrives old places notes (Jump cond wide dst src off) n m false b r (at_slot s q') (Runs old r0 bytes (at_slot s p) done) r0 bytes done (some_is (sym e ∙ (ap (λ (pc : ℕ). target pc off) at ∙ to))) dm
-        (λ never. true_false (not_ruled_out cond wide (s.reg (number dst)) (operand s src) true false k (never s d))) ways.taken (λ z f run. leads s true k z f r0 bytes done run) go
-    by s at here d _ _ r0 bytes done (leaves k dl) go =
-        arrives old places notes (Jump cond wide dst src off) n l true a q (at_slot s (s.pc + 1)) (Runs old r0 bytes (at_slot s p) done) r0 bytes done (sym here) dl
-        (λ never. true_false (not_ruled_out cond wide (s.reg (number dst)) (operand s src) true false (never s d) k)) ways.next (λ z f run. leads s false k z f r0 bytes done run) go
+    by : (s t : State) → Beside e b.low p s t → s.pc ≡ pc → q ≡ s.pc + 1 → Describes n s → (label : Option Op) (u : State) (r0 : ℕ) (bytes : List ℕ) (done : List Op) → Ways cond wide dst src off l m s label u → IsFollowed b r0 bytes done u →
+        Runs b.old r0 bytes t (in_front label done)
+    by s t beside at here d _ _ r0 bytes done (takes q' k x dm) go =
+        arrives b (Jump cond wide dst src off) e p n m false c r q' s t (Runs b.old r0 bytes t done) r0 bytes done refl beside (some_is (sym x ∙ (ap (λ (pc : ℕ). target pc off) at ∙ to))) dm
+        (λ never. true_false (not_ruled_out cond wide (s.reg (number dst)) (operand s src) true false k (never s d))) ways.taken (λ z f run. leads s t true beside k z f r0 bytes done run) go
+    by s t beside at here d _ _ r0 bytes done (leaves k dl) go =
+        arrives b (Jump cond wide dst src off) e p n l true a q (s.pc + 1) s t (Runs b.old r0 bytes t done) r0 bytes done refl beside (sym here) dl
+        (λ never. true_false (not_ruled_out cond wide (s.reg (number dst)) (operand s src) true false (never s d) k)) ways.next (λ z f run. leads s t false beside k z f r0 bytes done run) go
 
-stays_leads : (old : List Insn) (p : ℕ) (cond : Condition) (wide : Bool) (dst : Register) (src : Operand) → Leads old p cond wide dst src (Some p) (Some p)
-stays_leads old p cond wide dst src = λ s c k z e r0 bytes done run. subst (λ (z : ℕ). Runs old r0 bytes (at_slot s z) done) (sym (by c z e)) run
+stays_leads : (old : List Insn) (low : ℕ) (e : Equations) (p : ℕ) (cond : Condition) (wide : Bool) (dst : Register) (src : Operand) → Leads old low e p cond wide dst src (Some p) (Some p)
+stays_leads old low e p cond wide dst src = λ s t c beside k z x r0 bytes done run. subst (λ (t : State). Runs old r0 bytes t done) (ap (at_slot t) (sym (by c z x)) ∙ at_same e low p s t beside) run
   where
     by : (c : Bool) (z : ℕ) → (if c then Some p else Some p) ≡ Some z → p ≡ z
-    by true z e = some_is e
-    by false z e = some_is e
+    by true z x = some_is x
+    by false z x = some_is x
 
-jump_leads_on : (old : List Insn) (p : ℕ) (cond : Condition) (wide : Bool) (dst : Register) (src : Operand) (off : ℤ) → slice_get old p ≡ Some (Jump cond wide dst src off) → Leads old p cond wide dst src (Some (p + 1)) (target p off)
-jump_leads_on old p cond wide dst src off there = λ s c k z e r0 bytes done run.
-    before old r0 bytes (at_slot s p) (at_slot s z) None done (step_at old (at_slot s p) (Jump cond wide dst src off) None (at_slot s z) there (jump_leads cond wide dst src off s p c (at_slot s z) k (by s c z e))) run
+jump_leads_on : (old : List Insn) (low : ℕ) (e : Equations) (p : ℕ) (cond : Condition) (wide : Bool) (dst : Register) (src : Operand) (off : ℤ) → ReadsAlike e (Jump cond wide dst src off) → slice_get old p ≡ Some (Jump cond wide dst src off) →
+    Leads old low e p cond wide dst src (Some (p + 1)) (target p off)
+jump_leads_on old low e p cond wide dst src off alike there = λ s t c beside k z x r0 bytes done run.
+    before old r0 bytes t (at_slot t z) None done (step_at old t (Jump cond wide dst src off) None (at_slot t z) (ap (slice_get old) beside.pc ∙ there)
+    (jump_leads cond wide dst src off t c (at_slot t z) (compared_old e low p cond wide dst src off s t c beside alike k) (by t c z beside.pc x))) run
   where
-    by : (s : State) (c : Bool) (z : ℕ) → (if c then target p off else Some (p + 1)) ≡ Some z → LeadsTo (if c then jumped (at_slot s p) off else Next (at_slot s (p + 1))) None (at_slot s z)
-    by s true z e = target_leads s (target p off) z e
-    by s false z e = target_leads s (Some (p + 1)) z e
+    by : (t : State) (c : Bool) (z : ℕ) → t.pc ≡ p → (if c then target p off else Some (p + 1)) ≡ Some z → LeadsTo (if c then jumped t off else Next (at_slot t (t.pc + 1))) None (at_slot t z)
+    by t true z pc x = target_leads t (target t.pc off) z (ap (λ (pc : ℕ). target pc off) pc ∙ x)
+    by t false z pc x = ap (λ (pc : ℕ). at_slot t (pc + 1)) pc ∙ ap (at_slot t) (some_is x)
 
 -- what the old program has at slot p is the same jump but for its offset
-targets_lead : (old : List Insn) (p : ℕ) (cond : Condition) (wide : Bool) (dst : Register) (src : Operand) (off : ℤ) (t : Option ℕ) (o : Option Insn) → slice_get old p ≡ o → Targets o p (Jump cond wide dst src off) t → Leads old p cond wide dst src (Some (p + 1)) t
-targets_lead old p cond wide dst src off t None there h = absurd h
-targets_lead old p cond wide dst src off t (Some (Jump cond' wide' dst' src' off')) there h =
-    let same : Jump cond' wide' dst' src' off' ≡ Jump cond wide dst src off' = let e = h.1 in cc in
-    subst (λ (t : Option ℕ). Leads old p cond wide dst src (Some (p + 1)) t) h.2 (jump_leads_on old p cond wide dst src off' (there ∙ ap Some same))
-targets_lead old p cond wide dst src off t (Some (Alu op wide' dst' src')) there h = absurd h
-targets_lead old p cond wide dst src off t (Some (Neg wide' dst')) there h = absurd h
-targets_lead old p cond wide dst src off t (Some (End kind width dst')) there h = absurd h
-targets_lead old p cond wide dst src off t (Some (MovSx wide' bits dst' src')) there h = absurd h
-targets_lead old p cond wide dst src off t (Some (Const dst' value)) there h = absurd h
-targets_lead old p cond wide dst src off t (Some (MapRef dst' m)) there h = absurd h
-targets_lead old p cond wide dst src off t (Some (Ldx size signed dst' src' off')) there h = absurd h
-targets_lead old p cond wide dst src off t (Some (St size dst' off' imm)) there h = absurd h
-targets_lead old p cond wide dst src off t (Some (Stx size dst' src' off')) there h = absurd h
-targets_lead old p cond wide dst src off t (Some (AddCounter fetch dst' src' off')) there h = absurd h
-targets_lead old p cond wide dst src off t (Some (Ja wide' to)) there h = absurd h
-targets_lead old p cond wide dst src off t (Some (Call helper)) there h = absurd h
-targets_lead old p cond wide dst src off t (Some Exit) there h = absurd h
-targets_lead old p cond wide dst src off t (Some Second) there h = absurd h
+targets_lead : (old : List Insn) (low : ℕ) (e : Equations) (p : ℕ) (cond : Condition) (wide : Bool) (dst : Register) (src : Operand) (off : ℤ) (t : Option ℕ) (o : Option Insn) → ReadsAlike e (Jump cond wide dst src off) → slice_get old p ≡ o →
+    Targets o p (Jump cond wide dst src off) t → Leads old low e p cond wide dst src (Some (p + 1)) t
+targets_lead old low e p cond wide dst src off t None alike there h = absurd h
+targets_lead old low e p cond wide dst src off t (Some (Jump cond' wide' dst' src' off')) alike there h =
+    let same : Jump cond' wide' dst' src' off' ≡ Jump cond wide dst src off' = let x = h.1 in cc in
+    subst (λ (t : Option ℕ). Leads old low e p cond wide dst src (Some (p + 1)) t) h.2 (jump_leads_on old low e p cond wide dst src off' alike (there ∙ ap Some same))
+targets_lead old low e p cond wide dst src off t (Some (Alu op wide' dst' src')) alike there h = absurd h
+targets_lead old low e p cond wide dst src off t (Some (Neg wide' dst')) alike there h = absurd h
+targets_lead old low e p cond wide dst src off t (Some (End kind width dst')) alike there h = absurd h
+targets_lead old low e p cond wide dst src off t (Some (MovSx wide' bits dst' src')) alike there h = absurd h
+targets_lead old low e p cond wide dst src off t (Some (Const dst' value)) alike there h = absurd h
+targets_lead old low e p cond wide dst src off t (Some (MapRef dst' m)) alike there h = absurd h
+targets_lead old low e p cond wide dst src off t (Some (Ldx size signed dst' src' off')) alike there h = absurd h
+targets_lead old low e p cond wide dst src off t (Some (St size dst' off' imm)) alike there h = absurd h
+targets_lead old low e p cond wide dst src off t (Some (Stx size dst' src' off')) alike there h = absurd h
+targets_lead old low e p cond wide dst src off t (Some (AddCounter fetch dst' src' off')) alike there h = absurd h
+targets_lead old low e p cond wide dst src off t (Some (Ja wide' to)) alike there h = absurd h
+targets_lead old low e p cond wide dst src off t (Some (Call helper)) alike there h = absurd h
+targets_lead old low e p cond wide dst src off t (Some Exit) alike there h = absurd h
+targets_lead old low e p cond wide dst src off t (Some Second) alike there h = absurd h
 
-jump_follows : (old : List Insn) (places : List Place) (notes : Notes) (shapes : List Shape) (own : Bool) (p : ℕ) (cond : Condition) (wide : Bool) (dst : Register) (src : Operand) (off : ℤ) (n l m : Facts) (pc q r : ℕ) →
-    IsSplit (Jump cond wide dst src off) pc q r → IsAccounted ((q, l) ∷ (r, m) ∷ []) shapes (Jump cond wide dst src off) n pc → FollowsTwo old places notes own p (Jump cond wide dst src off) n l q m r → Follows old places notes shapes p (Jump cond wide dst src off) n pc
-jump_follows old places notes shapes true p cond wide dst src off n l m pc q r split sound f =
-    both_follow old places notes shapes p (Some p) (Some p) cond wide dst src off n l m pc q r split.0 split.1 split.2 sound f (stays_leads old p cond wide dst src)
-jump_follows old places notes shapes false p cond wide dst src off n l m pc q r split sound f =
-    both_follow old places notes shapes p (Some (p + 1)) f.0 cond wide dst src off n l m pc q r split.0 split.1 split.2 sound f.2 (targets_lead old p cond wide dst src off f.0 (slice_get old p) refl f.1)
+jump_follows : (b : Book) (shapes : List Shape) (own : Bool) (p : ℕ) (cond : Condition) (wide : Bool) (dst : Register) (src : Operand) (off : ℤ) (e : Equations) (n l m : Facts) (pc q r : ℕ) → IsSplit (Jump cond wide dst src off) pc q r →
+    IsAccounted ((q, l) ∷ (r, m) ∷ []) shapes (Jump cond wide dst src off) n pc → FollowsTwo b own p (Jump cond wide dst src off) e n l q m r → Follows b shapes p (Jump cond wide dst src off) e n pc
+jump_follows b shapes true p cond wide dst src off e n l m pc q r split sound f =
+    both_follow b shapes p (Some p) (Some p) cond wide dst src off e n l m pc q r split.0 split.1 split.2 sound f (stays_leads b.old b.low e p cond wide dst src)
+jump_follows b shapes false p cond wide dst src off e n l m pc q r split sound f =
+    both_follow b shapes p (Some (p + 1)) f.to cond wide dst src off e n l m pc q r split.0 split.1 split.2 sound f.both (targets_lead b.old b.low e p cond wide dst src off f.to (slice_get b.old p) f.alike refl f.targets)
 
-pub two_follow : (old : List Insn) (places : List Place) (notes : Notes) (shapes : List Shape) (own : Bool) (p : ℕ) (i : Insn) (n l m : Facts) (pc q r : ℕ) →
-    IsSplit i pc q r → IsAccounted ((q, l) ∷ (r, m) ∷ []) shapes i n pc → FollowsTwo old places notes own p i n l q m r → Follows old places notes shapes p i n pc
-two_follow old places notes shapes own p (Jump cond wide dst src off) n l m pc q r split sound f = jump_follows old places notes shapes own p cond wide dst src off n l m pc q r split sound f
-two_follow old places notes shapes own p (Ja wide to) n l m pc q r split sound f = absurd split
-two_follow old places notes shapes own p (Alu op wide dst src) n l m pc q r split sound f = absurd split
-two_follow old places notes shapes own p (Neg wide dst) n l m pc q r split sound f = absurd split
-two_follow old places notes shapes own p (End kind width dst) n l m pc q r split sound f = absurd split
-two_follow old places notes shapes own p (MovSx wide bits dst src) n l m pc q r split sound f = absurd split
-two_follow old places notes shapes own p (Const dst value) n l m pc q r split sound f = absurd split
-two_follow old places notes shapes own p (MapRef dst k) n l m pc q r split sound f = absurd split
-two_follow old places notes shapes own p (Ldx size signed dst src off) n l m pc q r split sound f = absurd split
-two_follow old places notes shapes own p (St size dst off imm) n l m pc q r split sound f = absurd split
-two_follow old places notes shapes own p (Stx size dst src off) n l m pc q r split sound f = absurd split
-two_follow old places notes shapes own p (AddCounter fetch dst src off) n l m pc q r split sound f = absurd split
-two_follow old places notes shapes own p (Call helper) n l m pc q r split sound f = absurd split
-two_follow old places notes shapes own p Exit n l m pc q r split sound f = absurd split
-two_follow old places notes shapes own p Second n l m pc q r split sound f = absurd split
+pub two_follow : (b : Book) (shapes : List Shape) (own : Bool) (p : ℕ) (i : Insn) (e : Equations) (n l m : Facts) (pc q r : ℕ) → IsSplit i pc q r → IsAccounted ((q, l) ∷ (r, m) ∷ []) shapes i n pc → FollowsTwo b own p i e n l q m r → Follows b shapes p i e n pc
+two_follow b shapes own p (Jump cond wide dst src off) e n l m pc q r split sound f = jump_follows b shapes own p cond wide dst src off e n l m pc q r split sound f
+two_follow b shapes own p (Ja wide to) e n l m pc q r split sound f = absurd split
+two_follow b shapes own p (Alu op wide dst src) e n l m pc q r split sound f = absurd split
+two_follow b shapes own p (Neg wide dst) e n l m pc q r split sound f = absurd split
+two_follow b shapes own p (End kind width dst) e n l m pc q r split sound f = absurd split
+two_follow b shapes own p (MovSx wide bits dst src) e n l m pc q r split sound f = absurd split
+two_follow b shapes own p (Const dst value) e n l m pc q r split sound f = absurd split
+two_follow b shapes own p (MapRef dst k) e n l m pc q r split sound f = absurd split
+two_follow b shapes own p (Ldx size signed dst src off) e n l m pc q r split sound f = absurd split
+two_follow b shapes own p (St size dst off imm) e n l m pc q r split sound f = absurd split
+two_follow b shapes own p (Stx size dst src off) e n l m pc q r split sound f = absurd split
+two_follow b shapes own p (AddCounter fetch dst src off) e n l m pc q r split sound f = absurd split
+two_follow b shapes own p (Call helper) e n l m pc q r split sound f = absurd split
+two_follow b shapes own p Exit e n l m pc q r split sound f = absurd split
+two_follow b shapes own p Second e n l m pc q r split sound f = absurd split
 
-pub one_follows : (old : List Insn) (places : List Place) (notes : Notes) (shapes : List Shape) (p : ℕ) (i : Insn) (n m : Facts) (pc q : ℕ) → IsAccounted ((q, m) ∷ []) shapes i n pc → FollowsOne old places notes p i m q → Follows old places notes shapes p i n pc
-one_follows old places notes shapes p (Ja wide to) n m pc q sound f = ja_follows old places notes shapes p wide to n m pc q sound f
-one_follows old places notes shapes p (Jump cond wide dst src off) n m pc q sound f = absurd f
-one_follows old places notes shapes p (Alu op wide dst src) n m pc q sound f = plain_follows old places notes shapes p (Alu op wide dst src) n m pc q refl f.0 sound f.1
-one_follows old places notes shapes p (Neg wide dst) n m pc q sound f = plain_follows old places notes shapes p (Neg wide dst) n m pc q refl f.0 sound f.1
-one_follows old places notes shapes p (End kind width dst) n m pc q sound f = plain_follows old places notes shapes p (End kind width dst) n m pc q refl f.0 sound f.1
-one_follows old places notes shapes p (MovSx wide bits dst src) n m pc q sound f = plain_follows old places notes shapes p (MovSx wide bits dst src) n m pc q refl f.0 sound f.1
-one_follows old places notes shapes p (Const dst value) n m pc q sound f = plain_follows old places notes shapes p (Const dst value) n m pc q refl f.0 sound f.1
-one_follows old places notes shapes p (MapRef dst k) n m pc q sound f = plain_follows old places notes shapes p (MapRef dst k) n m pc q refl f.0 sound f.1
-one_follows old places notes shapes p (Ldx size signed dst src off) n m pc q sound f = plain_follows old places notes shapes p (Ldx size signed dst src off) n m pc q refl f.0 sound f.1
-one_follows old places notes shapes p (St size dst off imm) n m pc q sound f = plain_follows old places notes shapes p (St size dst off imm) n m pc q refl f.0 sound f.1
-one_follows old places notes shapes p (Stx size dst src off) n m pc q sound f = plain_follows old places notes shapes p (Stx size dst src off) n m pc q refl f.0 sound f.1
-one_follows old places notes shapes p (AddCounter fetch dst src off) n m pc q sound f = plain_follows old places notes shapes p (AddCounter fetch dst src off) n m pc q refl f.0 sound f.1
-one_follows old places notes shapes p (Call helper) n m pc q sound f = plain_follows old places notes shapes p (Call helper) n m pc q refl f.0 sound f.1
-one_follows old places notes shapes p Exit n m pc q sound f = plain_follows old places notes shapes p Exit n m pc q refl f.0 sound f.1
-one_follows old places notes shapes p Second n m pc q sound f = plain_follows old places notes shapes p Second n m pc q refl f.0 sound f.1
+pub one_follows : (b : Book) (shapes : List Shape) (own : Bool) (p : ℕ) (i : Insn) (e : Equations) (n m : Facts) (pc q : ℕ) → IsAccounted ((q, m) ∷ []) shapes i n pc → FollowsOne b own p i e n m q → Follows b shapes p i e n pc
+one_follows b shapes own p (Ja wide to) e n m pc q sound f = ja_follows b shapes p wide to e n m pc q sound f
+one_follows b shapes own p (Jump cond wide dst src off) e n m pc q sound f = absurd f
+one_follows b shapes own p (Alu op wide dst src) e n m pc q sound f = by_owner b shapes own p (Alu op wide dst src) e n m pc q refl f sound
+one_follows b shapes own p (Neg wide dst) e n m pc q sound f = by_owner b shapes own p (Neg wide dst) e n m pc q refl f sound
+one_follows b shapes own p (End kind width dst) e n m pc q sound f = by_owner b shapes own p (End kind width dst) e n m pc q refl f sound
+one_follows b shapes own p (MovSx wide bits dst src) e n m pc q sound f = by_owner b shapes own p (MovSx wide bits dst src) e n m pc q refl f sound
+one_follows b shapes own p (Const dst value) e n m pc q sound f = by_owner b shapes own p (Const dst value) e n m pc q refl f sound
+one_follows b shapes own p (MapRef dst k) e n m pc q sound f = by_owner b shapes own p (MapRef dst k) e n m pc q refl f sound
+one_follows b shapes own p (Ldx size signed dst src off) e n m pc q sound f = by_owner b shapes own p (Ldx size signed dst src off) e n m pc q refl f sound
+one_follows b shapes own p (St size dst off imm) e n m pc q sound f = by_owner b shapes own p (St size dst off imm) e n m pc q refl f sound
+one_follows b shapes own p (Stx size dst src off) e n m pc q sound f = by_owner b shapes own p (Stx size dst src off) e n m pc q refl f sound
+one_follows b shapes own p (AddCounter fetch dst src off) e n m pc q sound f = by_owner b shapes own p (AddCounter fetch dst src off) e n m pc q refl f sound
+one_follows b shapes own p (Call helper) e n m pc q sound f = by_owner b shapes own p (Call helper) e n m pc q refl f sound
+one_follows b shapes own p Exit e n m pc q sound f = by_owner b shapes own p Exit e n m pc q refl f sound
+one_follows b shapes own p Second e n m pc q sound f = by_owner b shapes own p Second e n m pc q refl f sound
 
 needed_exit : (o : Option Insn) (s : State) (r0 : ℕ) (P : Type 0) → ((i : Insn) → o ≡ Some i → exec i s ≡ Exited r0 → P) → need o (λ i. exec i s) ≡ Exited r0 → P
 needed_exit None s r0 P f e = cc
 needed_exit (Some i) s r0 P f e = f i refl e
 
--- what is claimed of a slot, of its instruction, place and notes
-pub claimed : (old new : List Insn) (places : List Place) (notes : Notes) (shapes : List Shape) (pc : ℕ) (i : Insn) (place : Place) (list : Vec (Box Noted)) → slice_get new pc ≡ Some i → slice_get places pc ≡ Some place → slice_get notes pc ≡ Some list →
-    ((k : ℕ) (b : Box Noted) → slice_get list.items k ≡ Some b → Follows old places notes shapes place.at i (facts b.value) pc) → IsClaimed old new places notes shapes pc
-claimed old new places notes shapes pc i place list a b c f = λ i' place' list' k box a' b' c' at.
+-- what is claimed of a slot, of its instruction, place, equations and notes
+pub claimed : (b : Book) (new : List Insn) (shapes : List Shape) (pc : ℕ) (i : Insn) (place : Place) (e : Equations) (list : Vec (Box Noted)) → slice_get new pc ≡ Some i → slice_get b.places pc ≡ Some place → slice_get b.equations pc ≡ Some e →
+    slice_get b.notes pc ≡ Some list → ((k : ℕ) (n : Box Noted) → slice_get list.items k ≡ Some n → Follows b shapes place.at i e (facts n.value) pc) → IsClaimed b new shapes pc
+claimed b new shapes pc i place e list a c x y f = λ i' place' e' list' k box a' c' x' y' at.
     let same_insn : i ≡ i' = some_is (sym a ∙ a') in
-    let same_place : place ≡ place' = some_is (sym b ∙ b') in
-    let same_list : list' ≡ list = some_is (sym c' ∙ c) in
-    subst (λ (i : Insn). Follows old places notes shapes place'.at i (facts box.value) pc) same_insn
-    (subst (λ (p : Place). Follows old places notes shapes p.at i (facts box.value) pc) same_place (f k box (subst (λ (l : Vec (Box Noted)). slice_get l.items k ≡ Some box) same_list at)))
+    let same_place : place ≡ place' = some_is (sym c ∙ c') in
+    let same_equations : e ≡ e' = some_is (sym x ∙ x') in
+    let same_list : list' ≡ list = some_is (sym y' ∙ y) in
+    subst (λ (i : Insn). Follows b shapes place'.at i e' (facts box.value) pc) same_insn
+    (subst (λ (e : Equations). Follows b shapes place'.at i e (facts box.value) pc) same_equations
+    (subst (λ (p : Place). Follows b shapes p.at i e (facts box.value) pc) same_place (f k box (subst (λ (l : Vec (Box Noted)). slice_get l.items k ≡ Some box) same_list at))))
 
 -- of each state of a walk
-pub walks : (old new : List Insn) (places : List Place) (notes : Notes) (shapes : List Shape) (r0 : ℕ) (bytes : List ℕ) (s : State) (labels : List (Option Op)) → AreClaims old new places notes shapes →
-    Walk new r0 bytes s labels → s.shapes ≡ shapes → IsFollowed old places notes r0 bytes (operations labels) s
-walks old new places notes shapes r0 bytes _ _ k (ends s e b) sh = λ place here known.
-    let there = needed_exit (slice_get new s.pc) s r0 (step old (at_slot s place.at) ≡ Exited r0)
-    (λ i f e. (k.each s.pc i place known.list known.k known.note f here known.here known.at).ends s known.describes r0 e) e in
-    record { labels = None ∷ []; walk = ends (at_slot s place.at) there b; did = refl }
-walks old new places notes shapes r0 bytes _ _ k (goes s u label labels h w) sh = λ place here known.
-    let go = walks old new places notes shapes r0 bytes u labels k w ((kept new s label u h).shapes ∙ sh) in
-    subst (λ (done : List Op). Runs old r0 bytes (at_slot s place.at) done) (sym (operations_front label labels))
-    (needed_is (slice_get new s.pc) _ label u (λ i e h. (k.each s.pc i place known.list known.k known.note e here known.here known.at).goes s refl sh known.describes label u h r0 bytes (operations labels) go) h)
+pub walks : (b : Book) (new : List Insn) (shapes : List Shape) (r0 : ℕ) (bytes : List ℕ) (s : State) (labels : List (Option Op)) → AreClaims b new shapes → Walk new r0 bytes s labels → s.shapes ≡ shapes → IsFollowed b r0 bytes (operations labels) s
+walks b new shapes r0 bytes _ _ k (ends s e same) sh = λ place eqs t here claimed known beside.
+    let there = needed_exit (slice_get new s.pc) s r0 (step b.old t ≡ Exited r0)
+    (λ i f e. (k.each s.pc i place eqs known.list known.k known.note f here claimed known.here known.at).ends s t beside known.describes r0 e) e in
+    record { labels = None ∷ []; walk = ends t there (beside.packet ∙ same); did = refl }
+walks b new shapes r0 bytes _ _ k (goes s u label labels h w) sh = λ place eqs t here claimed known beside.
+    let go = walks b new shapes r0 bytes u labels k w ((kept new s label u h).shapes ∙ sh) in
+    subst (λ (done : List Op). Runs b.old r0 bytes t done) (sym (operations_front label labels))
+    (needed_is (slice_get new s.pc) _ label u (λ i e h. (k.each s.pc i place eqs known.list known.k known.note e here claimed known.here known.at).goes s t beside refl sh known.describes label u h r0 bytes (operations labels) go) h)
 
 -- a program of which what is claimed holds has the runs of the old one
-pub same_runs : (old new : List Insn) (places : List Place) (notes : Notes) (shapes : List Shape) → ((s : State) → IsStart s → Describes entry s) → AreClaims old new places notes shapes → IsSame shapes old new
-same_runs old new places notes shapes begun k = λ s is e r0 bytes done run.
-    let go : IsFollowed old places notes r0 bytes (operations run.labels) s = walks old new places notes shapes r0 bytes s run.labels k run.walk e in
-    let there : Runs old r0 bytes (at_slot s 0) (operations run.labels) = k.start s is.pc (begun s is) r0 bytes (operations run.labels) go in
-    let same : at_slot s 0 ≡ s = ap (λ (pc : ℕ). at_slot s pc) (sym is.pc) in
-    subst (λ (done : List Op). Runs old r0 bytes s done) run.did (subst (λ (t : State). Runs old r0 bytes t (operations run.labels)) same there)
+pub same_runs : (b : Book) (new : List Insn) (shapes : List Shape) → ((s : State) → IsStart s → Describes entry s) → AreClaims b new shapes → IsSame shapes b.old new
+same_runs b new shapes begun k = λ s is e r0 bytes done run.
+    let go : IsFollowed b r0 bytes (operations run.labels) s = walks b new shapes r0 bytes s run.labels k run.walk e in
+    let there : Runs b.old r0 bytes s (operations run.labels) = k.begins.start k.begins.first k.begins.here s s is.pc (begun s is)
+    (record { pc = is.pc; packet = refl; ifindex = refl; queue = refl; shapes = refl; stack = λ i l. refl; equations = k.begins.begins (held s) s.reg (held_fits s is.state) (λ j l. sym (held_register s j l)) }) r0 bytes (operations run.labels) go in
+    subst (λ (done : List Op). Runs b.old r0 bytes s done) run.did there
+
+pub taken_if : (i : Insn) (cond : Condition) (wide : Bool) (dst : Register) (src : Operand) (off : ℤ) (e : Equations) (low : ℕ) (n : Facts) (p : ℕ) (o : Option ℕ) → i ≡ Jump cond wide dst src off → ReadsAlike e (Jump cond wide dst src off) →
+    IsDecided (Jump cond wide dst src off) n true → o ≡ target p off → IfSome o (IsPassed i e low n p)
+taken_if i cond wide dst src off e low n p None is alike d at = tt
+taken_if i cond wide dst src off e low n p (Some q) is alike d at = subst (λ (i : Insn). IsPassed i e low n p q) (sym is) (taken_passed cond wide dst src off e low n p q alike d (sym at))
+
+pub left_if : (i : Insn) (cond : Condition) (wide : Bool) (dst : Register) (src : Operand) (off : ℤ) (e : Equations) (low : ℕ) (n : Facts) (p : ℕ) → i ≡ Jump cond wide dst src off → ReadsAlike e (Jump cond wide dst src off) →
+    IsDecided (Jump cond wide dst src off) n false → IsPassed i e low n p (p + 1)
+left_if i cond wide dst src off e low n p is alike d = subst (λ (i : Insn). IsPassed i e low n p (p + 1)) (sym is) (left_passed cond wide dst src off e low n p alike d)
+
+pub passed_if : (old : List Insn) (e : Equations) (low : ℕ) (n : Facts) (p : ℕ) (i : Insn) (o : Option ℕ) → slice_get old p ≡ Some i → IfSome o (IsPassed i e low n p) → IfSome o (λ q. (i : Insn) × (slice_get old p ≡ Some i) × IsPassed i e low n p q)
+passed_if old e low n p i None at h = tt
+passed_if old e low n p i (Some q) at h = (i, at, h)

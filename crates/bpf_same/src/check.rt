@@ -1,5 +1,5 @@
 //! Whether what is claimed of each slot holds, each by itself.
-ghost use Rattle.std.specs.Prelude.{◌≡◌, ◌<◌, ◌≤◌, ◌⊎◌, ℕ, List, Some, length, slice_get, IsTrue, IfOk, IfSome, not};
+ghost use Rattle.std.specs.Prelude.{◌≡◌, ◌<◌, ◌≤◌, ◌⊎◌, ℕ, List, Some, length, slice_get, IsTrue, IfOk, IfSome, not, true};
 ghost use Rattle.std.specs.Global.{Box};
 ghost use Rattle.bpf_note.specs.Describes.{Describes};
 ghost use Rattle.bpf_note.specs.Facts.{entry};
@@ -8,9 +8,14 @@ ghost use Rattle.bpf_note.specs.State.{State};
 ghost use Rattle.bpf_flow.specs.Gives.{edges_of};
 ghost use Rattle.bpf_flow.specs.Rule.{IsRuled};
 ghost use Rattle.bpf_same.specs.Decided.{IsDecided};
-ghost use Rattle.bpf_same.specs.Followed.{IsKnown, Passes, Meets, MeetsAt, FollowsOne, Goes, GoesBoth, Targets, FollowsTwo, IsSplit, Follows, IsPassed, IsClaimed, AreClaims};
+ghost use Rattle.bpf_same.specs.Followed.{IsKnown, Passes, Meets, Lands, LandsAt, KeepsAt, Steps, StepsBy, Begins, FollowsOne, Goes, GoesBoth, Splits, Targets, FollowsTwo, IsSplit, Follows, IsPassed, IsClaimed, IsAtStart, AreClaims};
+ghost use Rattle.bpf_same.specs.Books.{book_of};
 
+use crate::access::{is_own_step, is_shared, reads_alike};
 use crate::decide::decided;
+use crate::equations::Equations;
+use crate::start::is_at_entry;
+use crate::turn::Turn;
 use crate::equal::{is_but_for_offset, is_same_insn};
 use crate::mark::Place;
 use bpf_flow::{Successor, Successors, after, jump_target, next_slot};
@@ -27,16 +32,18 @@ pub(crate) struct Claims<'a> {
     pub(crate) old: &'a [Insn],
     pub(crate) places: &'a [Place],
     pub(crate) notes: &'a [Vec<Box<Note>>],
+    pub(crate) equations: &'a [Equations],
+    pub(crate) low: u32,
 }
 
 /// Where a jump leads, if that is known.
-fn passed(insn: Insn, note: &Note, at: u32) -> Option<u32>
+fn passed(insn: Insn, equations: &Equations, note: &Note, at: u32) -> Option<u32>
     requires { at < 4096 }
-    ensures { IfSome result (IsPassed insn (facts note.now) at) }
+    ensures { (low : ℕ) → IfSome result (IsPassed insn equations.now low (facts note.now) at) }
 {
     match insn {
         Insn::Ja { to, .. } => jump_target(at, to),
-        Insn::Jump { off, .. } => match decided(insn, note) {
+        Insn::Jump { off, .. } if reads_alike(equations, insn) => match decided(insn, note) {
             Some(true) => jump_target(at, i32::from(off)),
             Some(false) => Some(at + 1),
             None => None,
@@ -86,6 +93,16 @@ fn insn_at(code: &[Insn], at: u32) -> Option<Insn>
 {
     if (at as usize) < code.len() {
         Some(code[at as usize])
+    } else {
+        None
+    }
+}
+
+fn equations_at(equations: &[Equations], at: u32) -> Option<Equations>
+    ensures { result ≡ slice_get equations.now at }
+{
+    if (at as usize) < equations.len() {
+        Some(equations[at as usize])
     } else {
         None
     }
@@ -147,30 +164,42 @@ fn is_split(insn: Insn, pc: u32, next: u32, taken: u32) -> bool
     }
 }
 
+/// A slot of the new program, with one of its notes.
+#[derive(Clone, Copy, Drop)]
+struct Before<'a> {
+    insn: Insn,
+    place: Place,
+    note: &'a Note,
+    equations: &'a Equations,
+}
+
 impl Claims<'_> {
     /// Where the old program goes on from a slot without any effect.
-    fn passed_from(&self, note: &Note, at: u32) -> Option<u32>
+    fn passed_from(&self, equations: &Equations, note: &Note, at: u32) -> Option<u32>
         requires { length self.now.old.now ≤ 4096 }
-        ensures { IfSome result (λ q. (i : Insn) × (slice_get self.now.old.now at ≡ Some i) × IsPassed i (facts note.now) at q) }
+        ensures { IfSome result (λ q. (i : Insn) × (slice_get self.now.old.now at ≡ Some i) × IsPassed i equations.now self.now.low (facts note.now) at q) }
     {
         if (at as usize) < self.old.len() {
-            passed(self.old[at as usize], note, at)
+            match insn_at(self.old, at) {
+                Some(insn) => passed(insn, equations, note, at),
+                None => None,
+            }
         } else {
             None
         }
     }
 
     /// Whether jumps whose ways are known lead the old program from a slot to another one.
-    fn passes(&self, note: &Note, from: u32, to: u32) -> bool
+    fn passes(&self, equations: &Equations, note: &Note, from: u32, to: u32) -> bool
         requires { length self.now.old.now ≤ 4096 }
-        ensures { IsTrue result → Passes self.now.old.now (facts note.now) from to }
+        ensures { IsTrue result → Passes self.now.old.now equations.now self.now.low (facts note.now) from to }
     {
         let mut at = from;
         for _turn in 0..MOST_JUMPS {
             if at == to {
                 return true;
             }
-            match self.passed_from(note, at) {
+            match self.passed_from(equations, note, at) {
                 Some(next) => at = next,
                 None => return false,
             }
@@ -188,113 +217,167 @@ impl Claims<'_> {
     /// Whether the old program, from a slot on, meets what is claimed of a slot of the new one.
     fn meets_from(&self, from: u32, slot: u32, note: &Note) -> bool
         requires { length self.now.old.now ≤ 4096 }
-        ensures { IsTrue result → Meets self.now.old.now self.now.places.now self.now.notes.now (facts note.now) from slot }
+        ensures { IsTrue result → Meets (book_of self.now) (facts note.now) from slot }
     {
-        (slot as usize) < self.places.len()
-            && self.passes(note, from, self.places[slot as usize].at)
-            && self.is_known(slot, note)
+        match place_at(self.places, slot) {
+            Some(place) => match equations_at(self.equations, slot) {
+                Some(equations) => {
+                    self.passes(&equations, note, from, place.at) && self.is_known(slot, note)
+                }
+                None => false,
+            },
+            None => false,
+        }
     }
 
-    fn meets(&self, from: Option<u32>, there: &Successor) -> bool
+    /// Whether what is claimed of the slot that a step leads to holds after it.
+    fn keeps(&self, before: &Before, own: bool, there: &Successor) -> bool
+        ensures { IsTrue result → KeepsAt (book_of self.now) before.now.insn own before.now.equations.now (facts there.now.note.value) there.now.pc }
+    {
+        match equations_at(self.equations, there.pc) {
+            Some(next) => {
+                let turn = Turn {
+                    insn: before.insn,
+                    own,
+                    low: self.low,
+                    before: before.equations,
+                    after: &there.note,
+                };
+                turn.keeps(&next)
+            }
+            None => false,
+        }
+    }
+
+    /// Whether what is claimed of that slot holds, and the old program goes on from a slot of its own.
+    fn lands(&self, before: &Before, own: bool, from: u32, there: &Successor) -> bool
         requires { length self.now.old.now ≤ 4096 }
-        ensures { IsTrue result → MeetsAt self.now.old.now self.now.places.now self.now.notes.now (facts there.now.note.value) from there.now.pc }
+        ensures { IsTrue result → Lands (book_of self.now) before.now.insn own before.now.equations.now (facts there.now.note.value) from there.now.pc }
+    {
+        self.keeps(before, own, there) && self.meets_from(from, there.pc, &there.note)
+    }
+
+    fn lands_at(&self, before: &Before, from: Option<u32>, there: &Successor) -> bool
+        requires { length self.now.old.now ≤ 4096 }
+        ensures { IsTrue result → LandsAt (book_of self.now) before.now.insn true before.now.equations.now (facts there.now.note.value) from there.now.pc }
     {
         match from {
-            Some(from) => self.meets_from(from, there.pc, &there.note),
+            Some(from) => self.lands(before, true, from, there),
             None => false,
         }
     }
 
     /// Whether a way isn't taken, or leads to what the old program meets.
-    fn goes(&self, insn: Insn, note: &Note, way: bool, from: Option<u32>, there: &Successor) -> bool
+    fn goes(&self, before: &Before, way: bool, from: Option<u32>, there: &Successor) -> bool
         requires { length self.now.old.now ≤ 4096 }
-        ensures { IsTrue result → Goes self.now.old.now self.now.places.now self.now.notes.now insn (facts note.now) (not way) from
+        ensures { IsTrue result → Goes (book_of self.now) before.now.insn before.now.equations.now (facts before.now.note.now) (not way) from
             (facts there.now.note.value) there.now.pc }
     {
-        is_other(insn, note, way) || self.meets(from, there)
+        is_other(before.insn, before.note, way) || self.lands_at(before, from, there)
     }
 
     /// Whether the old program follows a conditional jump, whose ways it goes from these slots.
     fn goes_both(
         &self,
-        insn: Insn,
-        note: &Note,
+        before: &Before,
         from: Option<u32>,
         target: Option<u32>,
         next: &Successor,
         taken: &Successor,
     ) -> bool
         requires { length self.now.old.now ≤ 4096 }
-        ensures { IsTrue result → GoesBoth self.now.old.now self.now.places.now self.now.notes.now insn (facts note.now) from target
+        ensures { IsTrue result → GoesBoth (book_of self.now) before.now.insn before.now.equations.now (facts before.now.note.now) from target
             (facts next.now.note.value) next.now.pc (facts taken.now.note.value) taken.now.pc }
     {
-        self.goes(insn, note, false, from, next) && self.goes(insn, note, true, target, taken)
+        self.goes(before, false, from, next) && self.goes(before, true, target, taken)
     }
 
-    fn follows_two(
-        &self,
-        place: Place,
-        insn: Insn,
-        note: &Note,
-        next: &Successor,
-        taken: &Successor,
-    ) -> bool
+    /// Whether both programs take one of a conditional jump's ways.
+    fn splits(&self, before: &Before, at: u32, next: &Successor, taken: &Successor) -> bool
         requires { length self.now.old.now ≤ 4096 }
-        ensures { IsTrue result → FollowsTwo self.now.old.now self.now.places.now self.now.notes.now place.own place.at insn (facts note.now)
+        ensures { IsTrue result → Splits (book_of self.now) at before.now.insn before.now.equations.now (facts before.now.note.now)
             (facts next.now.note.value) next.now.pc (facts taken.now.note.value) taken.now.pc }
     {
-        let at = place.at;
-        if place.own {
-            return self.goes_both(insn, note, Some(at), Some(at), next, taken);
-        }
-        if at as usize >= self.old.len() {
+        if at as usize >= self.old.len() || !reads_alike(before.equations, before.insn) {
             return false;
         }
-        match targets(self.old[at as usize], at, insn) {
-            Some(target) => self.goes_both(insn, note, Some(at + 1), target, next, taken),
+        match targets(self.old[at as usize], at, before.insn) {
+            Some(target) => self.goes_both(before, Some(at + 1), target, next, taken),
             None => false,
         }
     }
 
-    /// Whether the old program follows an instruction that leads to one slot.
-    fn follows_one(&self, at: u32, insn: Insn, there: &Successor) -> bool
+    fn follows_two(&self, before: &Before, next: &Successor, taken: &Successor) -> bool
         requires { length self.now.old.now ≤ 4096 }
-        ensures { IsTrue result → FollowsOne self.now.old.now self.now.places.now self.now.notes.now at insn (facts there.now.note.value) there.now.pc }
+        ensures { IsTrue result → FollowsTwo (book_of self.now) before.now.place.own before.now.place.at before.now.insn before.now.equations.now (facts before.now.note.now)
+            (facts next.now.note.value) next.now.pc (facts taken.now.note.value) taken.now.pc }
     {
-        match insn {
-            Insn::Ja { .. } => self.meets_from(at, there.pc, &there.note),
+        let at = before.place.at;
+        if before.place.own {
+            self.goes_both(before, Some(at), Some(at), next, taken)
+        } else {
+            self.splits(before, at, next, taken)
+        }
+    }
+
+    /// Whether both programs take one step.
+    fn steps(&self, before: &Before, there: &Successor) -> bool
+        requires { length self.now.old.now ≤ 4096 }
+        ensures { IsTrue result → Steps (book_of self.now) before.now.place.at before.now.insn before.now.equations.now (facts before.now.note.now) (facts there.now.note.value) there.now.pc }
+    {
+        let at = before.place.at;
+        is_at(self.old, at, before.insn)
+            && at < 4096
+            && reads_alike(before.equations, before.insn)
+            && is_shared(before.insn, before.note, self.low)
+            && self.lands(before, false, next_slot(before.insn, at), there)
+    }
+
+    /// Whether the new program takes a step of its own, or both take one.
+    fn steps_by(&self, before: &Before, there: &Successor) -> bool
+        requires { length self.now.old.now ≤ 4096 }
+        ensures { IsTrue result → StepsBy (book_of self.now) before.now.place.own before.now.place.at before.now.insn before.now.equations.now (facts before.now.note.now)
+            (facts there.now.note.value) there.now.pc }
+    {
+        if before.place.own {
+            is_own_step(before.insn, before.note, self.low) && self.lands(before, true, before.place.at, there)
+        } else {
+            self.steps(before, there)
+        }
+    }
+
+    /// Whether the old program follows an instruction that leads to one slot.
+    fn follows_one(&self, before: &Before, there: &Successor) -> bool
+        requires { length self.now.old.now ≤ 4096 }
+        ensures { IsTrue result → FollowsOne (book_of self.now) before.now.place.own before.now.place.at before.now.insn before.now.equations.now (facts before.now.note.now)
+            (facts there.now.note.value) there.now.pc }
+    {
+        match before.insn {
+            Insn::Ja { .. } => self.lands(before, true, before.place.at, there),
             Insn::Jump { .. } => false,
-            _ => {
-                is_at(self.old, at, insn)
-                    && at < 4096
-                    && self.meets_from(next_slot(insn, at), there.pc, &there.note)
-            }
+            _ => self.steps_by(before, there),
         }
     }
 
     /// Whether the old program follows an instruction.
-    fn follows(
-        &self,
-        alloc: Global,
-        place: Place,
-        insn: Insn,
-        note: &Note,
-        pc: u32,
-        shapes: &[MapShape],
-    ) -> bool
+    fn follows(&self, alloc: Global, before: &Before, pc: u32, shapes: &[MapShape]) -> bool
         requires short { length self.now.old.now ≤ 4096 }
         requires inside { pc < 4096 }
-        ensures { IsTrue result → Follows self.now.old.now self.now.places.now self.now.notes.now shapes.now place.at insn (facts note.now) pc }
+        ensures { IsTrue result → Follows (book_of self.now) shapes.now before.now.place.at before.now.insn before.now.equations.now (facts before.now.note.now) pc }
     {
-        if !is_ruled(insn, pc, shapes.len()) {
+        if !is_ruled(before.insn, pc, shapes.len()) {
             return false;
         }
-        match after(alloc, &insn, pc, note, shapes) {
-            Ok(Successors::None) => is_exit(insn) && is_at(self.old, place.at, insn),
-            Ok(Successors::One(there)) => self.follows_one(place.at, insn, &there),
+        match after(alloc, &before.insn, pc, before.note, shapes) {
+            Ok(Successors::None) => {
+                is_exit(before.insn)
+                    && is_at(self.old, before.place.at, before.insn)
+                    && reads_alike(before.equations, before.insn)
+            }
+            Ok(Successors::One(there)) => self.follows_one(before, &there),
             Ok(Successors::Two(next, taken)) => {
-                if is_split(insn, pc, next.pc, taken.pc) {
-                    self.follows_two(place, insn, note, &next, &taken)
+                if is_split(before.insn, pc, next.pc, taken.pc) {
+                    self.follows_two(before, &next, &taken)
                 } else {
                     false
                 }
@@ -310,16 +393,23 @@ impl Claims<'_> {
         place: Place,
         insn: Insn,
         notes: &[Box<Note>],
+        equations: &Equations,
         pc: u32,
         shapes: &[MapShape],
     ) -> bool
         requires short { length self.now.old.now ≤ 4096 }
         requires inside { pc < 4096 }
-        ensures { IsTrue result → (k : ℕ) (b : Box Noted) → slice_get notes.now k ≡ Some b →
-            Follows self.now.old.now self.now.places.now self.now.notes.now shapes.now place.at insn (facts b.value) pc }
+        ensures { IsTrue result → (k : ℕ) (n : Box Noted) → slice_get notes.now k ≡ Some n →
+            Follows (book_of self.now) shapes.now place.at insn equations.now (facts n.value) pc }
     {
         for k in 0..notes.len() {
-            if !self.follows(alloc, place, insn, &notes[k], pc, shapes) {
+            let before = Before {
+                insn,
+                place,
+                note: &notes[k],
+                equations,
+            };
+            if !self.follows(alloc, &before, pc, shapes) {
                 return false;
             }
         }
@@ -331,21 +421,25 @@ impl Claims<'_> {
         requires short { length self.now.old.now ≤ 4096 }
         requires inside { pc < length new.now }
         requires few { length new.now ≤ 4096 }
-        ensures { IsTrue result → IsClaimed self.now.old.now new.now self.now.places.now self.now.notes.now shapes.now pc }
+        ensures { IsTrue result → IsClaimed (book_of self.now) new.now shapes.now pc }
     {
         match place_at(self.places, pc) {
             Some(place) => match insn_at(new, pc) {
-                Some(insn) => {
-                    (pc as usize) < self.notes.len()
-                        && self.follows_each(
-                            alloc,
-                            place,
-                            insn,
-                            self.notes[pc as usize].as_slice(),
-                            pc,
-                            shapes,
-                        )
-                }
+                Some(insn) => match equations_at(self.equations, pc) {
+                    Some(equations) => {
+                        (pc as usize) < self.notes.len()
+                            && self.follows_each(
+                                alloc,
+                                place,
+                                insn,
+                                self.notes[pc as usize].as_slice(),
+                                &equations,
+                                pc,
+                                shapes,
+                            )
+                    }
+                    None => false,
+                },
                 None => false,
             },
             None => false,
@@ -353,19 +447,36 @@ impl Claims<'_> {
     }
 
     /// Whether the old program, from its first slot on, meets what is claimed of the new one's first slot.
-    fn begins(&self, alloc: Global) -> bool
+    fn starts(&self, alloc: Global) -> bool
         requires { length self.now.old.now ≤ 4096 }
-        ensures { IsTrue result → Meets self.now.old.now self.now.places.now self.now.notes.now entry 0 0 }
+        ensures { IsTrue result → Meets (book_of self.now) entry 0 0 }
     {
         let note = Note::entry(alloc);
         self.meets_from(0, 0, &note)
+    }
+
+    /// Whether what is claimed where both programs begin holds.
+    fn begins(&self, alloc: Global) -> bool
+        requires { length self.now.old.now ≤ 4096 }
+        ensures { IsTrue result → Begins (book_of self.now) }
+    {
+        match equations_at(self.equations, 0) {
+            Some(equations) => {
+                if is_at_entry(&equations) {
+                    self.starts(alloc)
+                } else {
+                    false
+                }
+            }
+            None => false,
+        }
     }
 
     /// Whether what is claimed holds.
     pub(crate) fn hold(&self, alloc: Global, new: &[Insn], shapes: &[MapShape]) -> bool
         requires short { length self.now.old.now ≤ 4096 }
         requires few { length new.now ≤ 4096 }
-        ensures { IsTrue result → AreClaims self.now.old.now new.now self.now.places.now self.now.notes.now shapes.now }
+        ensures { IsTrue result → AreClaims (book_of self.now) new.now shapes.now }
     {
         if !self.begins(alloc) {
             return false;

@@ -7,13 +7,19 @@
 //! - `laws`: what holds of programs with the same runs
 #![tactic(auto)]
 
+mod access;
 mod check;
 mod decide;
 mod equal;
+mod equations;
 mod find;
 mod laws;
 mod mark;
+mod meet;
 mod same;
+mod start;
+mod sum;
+mod turn;
 
 pub use laws::same_both_ways;
 pub use mark::Place;

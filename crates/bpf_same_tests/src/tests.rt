@@ -1,5 +1,6 @@
 //! Pairs of programs.
 mod ends;
 mod jumps;
+mod own;
 mod same;
 mod stack;

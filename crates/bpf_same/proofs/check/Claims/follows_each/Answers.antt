@@ -4,6 +4,7 @@ use Rattle.std.specs.Global.{Box}
 use Rattle.std.proofs.lemmas.Bool.{cases_lt}
 use Rattle.std.proofs.lemmas.Option.{slice_get_read, slice_get_within}
 use Rattle.bpf_note.specs.Parts.{Noted, facts}
+use Rattle.bpf_same.specs.Books.{book_of}
 use Rattle.bpf_same.specs.Followed.{Follows}
 use Rattle.bpf_same.proofs.check.Claims.follows_each.Goals as goal
 
@@ -17,7 +18,7 @@ loop-k-preserved c = λ j low b at.
           let both : Some c.index-notes-k.result ≡ Some b = sym here ∙ (ap (slice_get c.args.notes.now) this ∙ at) in
           let same : c.index-notes-k.result ≡ b = cc in
           let follows : c.follows.result ≡ true = search rules in
-          subst (λ (n : Noted). Follows c.args.self.now.old.now c.args.self.now.places.now c.args.self.now.notes.now c.args.shapes.now c.args.place.at c.args.insn (facts n) c.args.pc) (c.deref.ensures ∙ ap (λ (b : Box Noted). b.value) same) (c.follows.ensures follows)
+          subst (λ (n : Noted). Follows (book_of c.args.self.now) c.args.shapes.now c.args.place.at c.args.insn c.args.equations.now (facts n) c.args.pc) (c.deref.ensures ∙ ap (λ (b : Box Noted). b.value) same) (c.follows.ensures follows)
     ]
 
 pub returns : goal.returns

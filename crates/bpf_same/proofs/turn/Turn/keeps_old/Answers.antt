@@ -1,0 +1,11 @@
+use Rattle.bpf_note.specs.Parts.{facts}
+use Rattle.bpf_same.proofs.KeepLemmas.{keeps_by}
+use Rattle.bpf_same.proofs.turn.Turn.keeps_old.Goals as goal
+
+pub returns-in-Some-before_it : goal.returns-in-Some-before_it
+returns-in-Some-before_it c = λ t.
+    let s = c.args.self.now in
+    keeps_by s.insn s.own s.low (facts s.after.now) s.before.now c.args.register c.args.sum c.in-Some.there c.in-Some-before_it.here c.in-Some.ensures c.in-Some-before_it.ensures (c.is.ensures t)
+
+pub returns-then-is_alike : goal.returns-then-is_alike
+returns-then-is_alike c = λ t f g f' g' turned h. c.is_alike.ensures c.if-is_alike.true f g f' g' turned

@@ -1,0 +1,131 @@
+//! What instructions touch of memory, and what they read.
+ghost use Rattle.std.specs.Prelude.{◌≡◌, ◌<◌, ◌≤◌, ◌≤ℤ◌, ◌+ℤ◌, pos, ℕ, Option, IsTrue, IfSome};
+ghost use Rattle.bpf_insn.specs.Register.{number};
+ghost use Rattle.bpf_note.specs.Describes.{Describes};
+ghost use Rattle.bpf_note.specs.Parts.{facts};
+ghost use Rattle.bpf_note.specs.State.{State};
+ghost use Rattle.bpf_same.specs.Sums.{Hold};
+ghost use Rattle.bpf_same.specs.Turned.{IsAbove, IsOwnAccess, IsOwnStep, ReadsAlike, Shares, operand_in};
+
+use crate::equations::Equations;
+use crate::turn::own_word;
+use bpf_insn::{AluOp, Insn, Operand, Register, Size};
+use bpf_note::{Note, Val};
+
+/// Whether offsets from the stack's end lie at or above a byte.
+fn is_at_least(low: u32, at: i16, off: i16) -> bool
+    ensures { IsTrue result → pos low ≤ℤ ((pos 512 +ℤ at) +ℤ off) }
+{
+    i64::from(low) <= 512 + i64::from(at) + i64::from(off)
+}
+
+/// Whether an access doesn't touch the stack below `low`.
+fn is_above(note: &Note, base: Register, off: i16, low: u32) -> bool
+    ensures { IsTrue result → (z : ℕ) (s : State) → Describes (facts note.now) s → IsAbove low s (s.reg (number base)) off z }
+{
+    match note.register(base.number()) {
+        Val::Stack { off: at } => is_at_least(low, at, off),
+        Val::Pkt { .. } => true,
+        Val::Ctx => true,
+        Val::Value { .. } => true,
+        _ => low == 0,
+    }
+}
+
+/// Whether an instruction doesn't touch the stack below `low`.
+pub(crate) fn is_shared(insn: Insn, note: &Note, low: u32) -> bool
+    ensures { IsTrue result → Shares low (facts note.now) insn }
+{
+    match insn {
+        Insn::Ldx { src, off, .. } => is_above(note, src, off, low),
+        Insn::St { dst, off, .. } => is_above(note, dst, off, low),
+        Insn::Stx { dst, off, .. } => is_above(note, dst, off, low),
+        Insn::Call { .. } => is_above(note, Register::R2, 0, low),
+        _ => true,
+    }
+}
+
+/// Whether one of the new program's own words is accessed.
+fn is_own_access(base: Register, off: i16, note: &Note, low: u32) -> bool
+    ensures { IsTrue result → IsOwnAccess base off low (facts note.now) }
+{
+    own_word(base, off, low).is_some() && matches!(note.register(10), Val::Stack { off: 0 })
+}
+
+/// Whether an instruction of the new program's own writes a register, or a word of its own, and does nothing else.
+pub(crate) fn is_own_step(insn: Insn, note: &Note, low: u32) -> bool
+    ensures { IsTrue result → IsOwnStep insn low (facts note.now) }
+{
+    match insn {
+        Insn::Alu { .. }
+        | Insn::Neg { .. }
+        | Insn::End { .. }
+        | Insn::MovSx { .. }
+        | Insn::Const { .. }
+        | Insn::MapRef { .. } => true,
+        Insn::Ldx {
+            size: Size::Double,
+            src,
+            off,
+            ..
+        } => is_own_access(src, off, note, low),
+        Insn::Ldx { .. } => true,
+        Insn::Stx {
+            size: Size::Double,
+            dst,
+            off,
+            ..
+        } => is_own_access(dst, off, note, low),
+        _ => false,
+    }
+}
+
+fn is_same(equations: &Equations, register: Register) -> bool
+    ensures { IsTrue result → (f g : ℕ → Option ℕ) → Hold equations.now f g → g (number register) ≡ f (number register) }
+{
+    equations.is_same(register.number())
+}
+
+fn is_same_operand(equations: &Equations, src: Operand) -> bool
+    ensures { IsTrue result → (f g : ℕ → Option ℕ) → Hold equations.now f g → operand_in g src ≡ operand_in f src }
+{
+    match src {
+        Operand::Register(register) => is_same(equations, register),
+        Operand::Immediate(_) => true,
+    }
+}
+
+/// Whether both programs' operands are the same.
+fn are_same(equations: &Equations, dst: Register, src: Operand) -> bool
+    ensures { IsTrue result → (f g : ℕ → Option ℕ) → Hold equations.now f g →
+        (g (number dst) ≡ f (number dst)) × (operand_in g src ≡ operand_in f src) }
+{
+    is_same(equations, dst) && is_same_operand(equations, src)
+}
+
+fn are_both_same(equations: &Equations, dst: Register, src: Register) -> bool
+    ensures { IsTrue result → (f g : ℕ → Option ℕ) → Hold equations.now f g →
+        (g (number dst) ≡ f (number dst)) × (g (number src) ≡ f (number src)) }
+{
+    is_same(equations, dst) && is_same(equations, src)
+}
+
+/// Whether both programs read the same registers with the same numbers.
+pub(crate) fn reads_alike(equations: &Equations, insn: Insn) -> bool
+    ensures { IsTrue result → ReadsAlike equations.now insn }
+{
+    match insn {
+        Insn::Alu {
+            op: AluOp::Mov,
+            src,
+            ..
+        } => is_same_operand(equations, src),
+        Insn::Alu { dst, src, .. } | Insn::Jump { dst, src, .. } => are_same(equations, dst, src),
+        Insn::Neg { dst, .. } | Insn::End { dst, .. } | Insn::St { dst, .. } => is_same(equations, dst),
+        Insn::MovSx { src, .. } | Insn::Ldx { src, .. } => is_same(equations, src),
+        Insn::Stx { dst, src, .. } | Insn::AddCounter { dst, src, .. } => are_both_same(equations, dst, src),
+        Insn::Call { .. } => are_both_same(equations, Register::R1, Register::R2),
+        Insn::Exit => is_same(equations, Register::R0),
+        Insn::Const { .. } | Insn::MapRef { .. } | Insn::Ja { .. } | Insn::Second => true,
+    }
+}

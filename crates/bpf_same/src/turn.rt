@@ -1,0 +1,496 @@
+//! What a step of the new program, with the old one's where both have it, makes of sums.
+ghost use Rattle.std.specs.Prelude.{◌≡◌, ◌<◌, ◌≤◌, ℕ, Option, Some, true, false, IsTrue, IfSome};
+ghost use Rattle.bpf_insn.specs.declared.insn.Insn.TheVariants as insns;
+ghost use Rattle.bpf_insn.specs.declared.operand.Operand.TheVariants as operands;
+ghost use Rattle.bpf_insn.specs.declared.size.Size.TheVariants as sizes;
+ghost use Rattle.bpf_insn.specs.Register.{number};
+ghost use Rattle.bpf_insn.specs.Signed.{sign_extended};
+ghost use Rattle.bpf_note.specs.Parts.{facts};
+ghost use Rattle.bpf_same.specs.Sums.{Hold, new_of, old_of, total};
+ghost use Rattle.bpf_same.specs.Turned.{Computes, IsBefore, IsMore, IsNewAfter, IsOldAfter, IsOwn, IsWordAt, IsOldAlike, Keeps, KeepsNew, KeepsOld, alters, is_register_store, number_in, operand_in};
+
+use crate::equations::Equations;
+use crate::sum::{HOLDERS, REGISTERS, Sum};
+use bpf_insn::{AluOp, Insn, Operand, Register, Size};
+use bpf_note::{Note, PACKET_ID, Val};
+
+/// Where the packet begins.
+const PACKET_START: u64 = 0x10000000;
+
+/// The number that a value is, if it is one.
+fn number_of(value: Val) -> Option<u64>
+    ensures { IfSome result (λ x. number_in value ≡ Some x) }
+{
+    match value {
+        Val::Num { lo, hi } if lo == hi => Some(lo),
+        Val::Pkt { id, off } if id == PACKET_ID => Some(PACKET_START + u64::from(off)),
+        _ => None,
+    }
+}
+
+/// Whether an instruction writes or loses a register.
+pub(crate) fn alters(insn: Insn, register: u8) -> bool
+    ensures { result ≡ alters insn register }
+{
+    match insn {
+        Insn::Alu { dst, .. }
+        | Insn::Neg { dst, .. }
+        | Insn::End { dst, .. }
+        | Insn::MovSx { dst, .. }
+        | Insn::Const { dst, .. }
+        | Insn::MapRef { dst, .. }
+        | Insn::Ldx { dst, .. } => register == dst.number(),
+        Insn::AddCounter { fetch, src, .. } => fetch && register == src.number(),
+        Insn::Call { .. } => register <= 5,
+        Insn::St { .. }
+        | Insn::Stx { .. }
+        | Insn::Ja { .. }
+        | Insn::Jump { .. }
+        | Insn::Exit
+        | Insn::Second => false,
+    }
+}
+
+/// The holder that is the word of the stack at an offset from its end, if that lies below `low`, counted from its start.
+pub(crate) fn own_word(base: Register, off: i16, low: u32) -> Option<u8>
+    ensures { IfSome result (IsWordAt base off low) }
+{
+    if base != Register::R10 || off > -8 || off < -424 || off % 8 != 0 {
+        return None;
+    }
+    let holder = 10 + (-off as u16) / 8;
+    if 600 - 8 * u32::from(holder) > low {
+        return None;
+    }
+    Some(holder as u8)
+}
+
+/// Whether a word of the stack lies below `low`.
+fn is_own(holder: u8, low: u32) -> bool
+    requires first { 11 ≤ holder }
+    requires last { holder < 64 }
+    ensures { IsTrue result → IsOwn low holder }
+{
+    600 - 8 * u32::from(holder) <= low
+}
+
+/// What an operation computes of sums.
+fn computed(op: AluOp, wide: bool, first: Sum, second: Sum) -> Option<Sum>
+    ensures { IfSome result (λ s. (f : ℕ → Option ℕ) (a b o : Option ℕ) → a ≡ total f first → b ≡ total f second → Computes op wide a b o → o ≡ total f s) }
+{
+    match op {
+        AluOp::Mov if wide => Some(second),
+        AluOp::Add if wide => first.plus(second),
+        AluOp::And if wide && first.holders == 0 && second.holders == 0 => {
+            Some(Sum::constant(first.constant & second.constant))
+        }
+        _ => None,
+    }
+}
+
+fn is_register(src: Operand, register: Register) -> bool
+    ensures { IsTrue result → src ≡ operands.Register register }
+{
+    match src {
+        Operand::Register(read) => read == register,
+        Operand::Immediate(_) => false,
+    }
+}
+
+/// Whether an operation makes 0 of a register, whatever it holds.
+fn is_cleared(op: AluOp, wide: bool, dst: Register, src: Operand) -> bool
+    ensures { IsTrue result → (op ≡ AluOp.Xor) × (wide ≡ true) × (src ≡ operands.Register dst) }
+{
+    match op {
+        AluOp::Xor => wide && is_register(src, dst),
+        _ => false,
+    }
+}
+
+/// Whether an instruction stores a register.
+fn is_register_store(insn: Insn) -> bool
+    ensures { result ≡ is_register_store insn }
+{
+    matches!(insn, Insn::Stx { .. })
+}
+
+/// A constant of an instruction, extended by its sign.
+fn extended(value: i32) -> u64
+    ensures { result ≡ sign_extended value }
+{
+    i64::from(value).cast_unsigned()
+}
+
+/// A step, the equations before it, and the note after it. `own`: the old program doesn't take it.
+#[derive(Clone, Copy, Drop)]
+pub(crate) struct Turn<'a> {
+    pub(crate) insn: Insn,
+    pub(crate) own: bool,
+    pub(crate) low: u32,
+    pub(crate) before: &'a Equations,
+    pub(crate) after: &'a Note,
+}
+
+impl Turn<'_> {
+    fn new_operand(&self, src: Operand) -> Sum
+        ensures { (f g : ℕ → Option ℕ) → Hold self.now.before.now f g → operand_in f src ≡ total f result }
+    {
+        match src {
+            Operand::Register(register) => self.before.new_sum(register.number()),
+            Operand::Immediate(value) => Sum::constant(extended(value)),
+        }
+    }
+
+    fn old_operand(&self, src: Operand) -> Option<Sum>
+        ensures { IfSome result (λ s. (f g : ℕ → Option ℕ) → Hold self.now.before.now f g → operand_in g src ≡ total f s) }
+    {
+        match src {
+            Operand::Register(register) => self.before.old_sum(register.number()),
+            Operand::Immediate(value) => Some(Sum::constant(extended(value))),
+        }
+    }
+
+    /// The number that a register holds after the step, where the note says it.
+    fn noted(&self, register: u8) -> Option<Sum>
+        requires { register < 11 }
+        ensures { IfSome result (IsNewAfter self.now.insn self.now.own self.now.low (facts self.now.after.now) self.now.before.now register) }
+    {
+        match number_of(self.after.register(register)) {
+            Some(number) => Some(Sum::constant(number)),
+            None => None,
+        }
+    }
+
+    /// What the new program's operation makes of its operands.
+    fn new_result(&self, op: AluOp, wide: bool, dst: Register, src: Operand) -> Option<Sum>
+        requires { self.now.insn ≡ insns.Alu op wide dst src }
+        ensures { IfSome result (IsNewAfter self.now.insn self.now.own self.now.low (facts self.now.after.now) self.now.before.now (number dst)) }
+    {
+        if is_cleared(op, wide, dst, src) {
+            return Some(Sum::constant(0));
+        }
+        computed(op, wide, self.before.new_sum(dst.number()), self.new_operand(src))
+    }
+
+    /// What the old program's operation makes of its operands.
+    fn old_result(&self, op: AluOp, wide: bool, dst: Register, src: Operand) -> Option<Sum>
+        requires insn { self.now.insn ≡ insns.Alu op wide dst src }
+        requires copied { self.now.own ≡ false }
+        ensures { IfSome result (IsOldAfter self.now.insn self.now.own self.now.low (facts self.now.after.now) self.now.before.now (number dst)) }
+    {
+        match self.before.old_sum(dst.number()) {
+            Some(first) => match self.old_operand(src) {
+                Some(second) => computed(op, wide, first, second),
+                None => None,
+            },
+            None => None,
+        }
+    }
+
+    /// What a load of one of the new program's own words gives.
+    fn loaded(&self, dst: Register, src: Register, off: i16) -> Option<Sum>
+        requires insn { self.now.insn ≡ insns.Ldx sizes.Double false dst src off }
+        requires own { self.now.own ≡ true }
+        ensures { IfSome result (IsNewAfter self.now.insn self.now.own self.now.low (facts self.now.after.now) self.now.before.now (number dst)) }
+    {
+        match own_word(src, off, self.low) {
+            Some(word) => Some(self.before.new_sum(word)),
+            None => None,
+        }
+    }
+
+    /// What the new program computes, or loads from its own words.
+    fn new_computed(&self, register: u8) -> Option<Sum>
+        requires { alters self.now.insn register ≡ true }
+        ensures { IfSome result (IsNewAfter self.now.insn self.now.own self.now.low (facts self.now.after.now) self.now.before.now register) }
+    {
+        match self.insn {
+            Insn::Alu { op, wide, dst, src } => self.new_result(op, wide, dst, src),
+            Insn::Ldx {
+                size: Size::Double,
+                signed: false,
+                dst,
+                src,
+                off,
+            } if self.own => self.loaded(dst, src, off),
+            _ => None,
+        }
+    }
+
+    /// What the old program computes.
+    fn old_computed(&self, register: u8) -> Option<Sum>
+        requires altered { alters self.now.insn register ≡ true }
+        requires copied { self.now.own ≡ false }
+        ensures { IfSome result (IsOldAfter self.now.insn self.now.own self.now.low (facts self.now.after.now) self.now.before.now register) }
+    {
+        match self.insn {
+            Insn::Alu { op, wide, dst, src } => self.old_result(op, wide, dst, src),
+            _ => None,
+        }
+    }
+
+    /// What the new program has written into a register.
+    fn new_written(&self, register: u8) -> Option<Sum>
+        requires small { register < 11 }
+        requires altered { alters self.now.insn register ≡ true }
+        ensures { IfSome result (IsNewAfter self.now.insn self.now.own self.now.low (facts self.now.after.now) self.now.before.now register) }
+    {
+        match self.new_computed(register) {
+            Some(sum) => Some(sum),
+            None => self.noted(register),
+        }
+    }
+
+    /// What the old program has written into a register.
+    fn old_written(&self, register: u8) -> Option<Sum>
+        requires small { register < 11 }
+        requires altered { alters self.now.insn register ≡ true }
+        requires copied { self.now.own ≡ false }
+        ensures { IfSome result (IsOldAfter self.now.insn self.now.own self.now.low (facts self.now.after.now) self.now.before.now register) }
+    {
+        match self.old_computed(register) {
+            Some(sum) => Some(sum),
+            None => self.noted(register),
+        }
+    }
+
+    /// What a word holds after a store to one of the new program's own.
+    fn stored(&self, word: u8, dst: Register, src: Register, off: i16) -> Option<Sum>
+        requires first { 11 ≤ word }
+        requires last { word < 64 }
+        requires insn { self.now.insn ≡ insns.Stx sizes.Double dst src off }
+        requires own { self.now.own ≡ true }
+        requires lies { IsOwn self.now.low word }
+        ensures { IfSome result (IsNewAfter self.now.insn self.now.own self.now.low (facts self.now.after.now) self.now.before.now word) }
+    {
+        match own_word(dst, off, self.low) {
+            Some(there) => {
+                if there == word {
+                    Some(self.before.new_sum(src.number()))
+                } else {
+                    Some(self.before.new_sum(word))
+                }
+            }
+            None => None,
+        }
+    }
+
+    /// What a word holds after a step that stores no register.
+    fn word_left(&self, word: u8) -> Option<Sum>
+        requires small { word < 64 }
+        requires lies { IsOwn self.now.low word }
+        ensures { IfSome result (IsNewAfter self.now.insn self.now.own self.now.low (facts self.now.after.now) self.now.before.now word) }
+    {
+        if is_register_store(self.insn) {
+            None
+        } else {
+            Some(self.before.new_sum(word))
+        }
+    }
+
+    /// What a word holds after a step of the new program's own.
+    fn own_word_after(&self, word: u8) -> Option<Sum>
+        requires first { 11 ≤ word }
+        requires last { word < 64 }
+        requires lies { IsOwn self.now.low word }
+        requires own { self.now.own ≡ true }
+        ensures { IfSome result (IsNewAfter self.now.insn self.now.own self.now.low (facts self.now.after.now) self.now.before.now word) }
+    {
+        match self.insn {
+            Insn::Stx {
+                size: Size::Double,
+                dst,
+                src,
+                off,
+            } => self.stored(word, dst, src, off),
+            _ => self.word_left(word),
+        }
+    }
+
+    /// What a word holds after a step that both programs take.
+    fn copied_word_after(&self, word: u8) -> Option<Sum>
+        requires small { word < 64 }
+        requires lies { IsOwn self.now.low word }
+        requires copied { self.now.own ≡ false }
+        ensures { IfSome result (IsNewAfter self.now.insn self.now.own self.now.low (facts self.now.after.now) self.now.before.now word) }
+    {
+        Some(self.before.new_sum(word))
+    }
+
+    /// What a word of the new program's own holds after the step.
+    fn word_after(&self, word: u8) -> Option<Sum>
+        requires first { 11 ≤ word }
+        requires last { word < 64 }
+        requires lies { IsOwn self.now.low word }
+        ensures { IfSome result (IsNewAfter self.now.insn self.now.own self.now.low (facts self.now.after.now) self.now.before.now word) }
+    {
+        if self.own {
+            self.own_word_after(word)
+        } else {
+            self.copied_word_after(word)
+        }
+    }
+
+    /// What a register that a step leaves holds after it.
+    fn register_left(&self, register: u8) -> Option<Sum>
+        requires small { register < 11 }
+        requires left { alters self.now.insn register ≡ false }
+        ensures { IfSome result (IsNewAfter self.now.insn self.now.own self.now.low (facts self.now.after.now) self.now.before.now register) }
+    {
+        Some(self.before.new_sum(register))
+    }
+
+    fn register_after(&self, register: u8) -> Option<Sum>
+        requires { register < 11 }
+        ensures { IfSome result (IsNewAfter self.now.insn self.now.own self.now.low (facts self.now.after.now) self.now.before.now register) }
+    {
+        if alters(self.insn, register) {
+            self.new_written(register)
+        } else {
+            self.register_left(register)
+        }
+    }
+
+    /// What a holder of the new program holds after the step, as a sum of what they hold before.
+    pub(crate) fn new_after(&self, holder: u8) -> Option<Sum>
+        requires { holder < 64 }
+        ensures { IfSome result (IsNewAfter self.now.insn self.now.own self.now.low (facts self.now.after.now) self.now.before.now holder) }
+    {
+        if holder < REGISTERS {
+            self.register_after(holder)
+        } else if is_own(holder, self.low) {
+            self.word_after(holder)
+        } else {
+            None
+        }
+    }
+
+    /// The same of a register of the old program.
+    pub(crate) fn old_after(&self, register: u8) -> Option<Sum>
+        requires { register < 11 }
+        ensures { IfSome result (IsOldAfter self.now.insn self.now.own self.now.low (facts self.now.after.now) self.now.before.now register) }
+    {
+        if self.own {
+            self.before.old_sum(register)
+        } else if alters(self.insn, register) {
+            self.old_written(register)
+        } else {
+            self.before.old_sum(register)
+        }
+    }
+
+    /// A sum of what is held before the step, and what one holder holds after it, if that is in the other sum.
+    fn more(&self, all: Sum, sum: Sum, holder: u8) -> Option<Sum>
+        requires { holder < 64 }
+        ensures { IfSome result (IsMore self.now.insn self.now.own self.now.low (facts self.now.after.now) self.now.before.now sum holder all) }
+    {
+        if sum.has(holder) {
+            match self.new_after(holder) {
+                Some(part) => all.plus(part),
+                None => None,
+            }
+        } else {
+            Some(all)
+        }
+    }
+
+    /// A sum of what is held after the step, as a sum of what is held before.
+    pub(crate) fn before_it(&self, sum: Sum) -> Option<Sum>
+        ensures { IfSome result (IsBefore self.now.insn self.now.own self.now.low (facts self.now.after.now) self.now.before.now sum) }
+    {
+        let mut all = Sum::constant(sum.constant);
+        for holder in 0..HOLDERS {
+            match self.more(all, sum, holder) {
+                Some(more) => all = more,
+                None => return None,
+            }
+        }
+        Some(all)
+    }
+
+    /// Whether both programs have written the same into a register.
+    fn is_alike(&self, register: u8, sum: Sum) -> bool
+        requires { register < 11 }
+        ensures { IsTrue result → IsOldAlike self.now.insn self.now.own self.now.low (facts self.now.after.now) register sum }
+    {
+        if self.own {
+            false
+        } else if alters(self.insn, register) {
+            sum.is(Sum::held(register))
+        } else {
+            false
+        }
+    }
+
+    /// Whether a register of the old program holds this sum after the step.
+    fn keeps_old(&self, register: u8, sum: Sum) -> bool
+        requires { register < 11 }
+        ensures { IsTrue result → KeepsOld self.now.insn self.now.own self.now.low (facts self.now.after.now) self.now.before.now register sum }
+    {
+        if self.is_alike(register, sum) {
+            return true;
+        }
+        match self.old_after(register) {
+            Some(there) => match self.before_it(sum) {
+                Some(here) => there.is(here),
+                None => false,
+            },
+            None => false,
+        }
+    }
+
+    /// Whether a holder of the new program holds this sum after the step.
+    fn keeps_new(&self, holder: u8, sum: Sum) -> bool
+        requires { holder < 64 }
+        ensures { IsTrue result → KeepsNew self.now.insn self.now.own self.now.low (facts self.now.after.now) self.now.before.now holder sum }
+    {
+        match self.new_after(holder) {
+            Some(there) => match self.before_it(sum) {
+                Some(here) => there.is(here),
+                None => false,
+            },
+            None => false,
+        }
+    }
+
+    /// Whether what is claimed of a register of the old program after the step holds.
+    fn keeps_register(&self, next: &Equations, register: u8) -> bool
+        requires { register < 11 }
+        ensures { IsTrue result → (s : Sum) → old_of next.now register ≡ Some s →
+            KeepsOld self.now.insn self.now.own self.now.low (facts self.now.after.now) self.now.before.now register s }
+    {
+        match next.old_sum(register) {
+            Some(sum) => self.keeps_old(register, sum),
+            None => true,
+        }
+    }
+
+    /// Whether what is claimed of a holder after the step holds.
+    fn keeps_holder(&self, next: &Equations, holder: u8) -> bool
+        requires { holder < 64 }
+        ensures { IsTrue result → (s : Sum) → new_of next.now holder ≡ Some s →
+            KeepsNew self.now.insn self.now.own self.now.low (facts self.now.after.now) self.now.before.now holder s }
+    {
+        match next.claimed(holder) {
+            Some(sum) => self.keeps_new(holder, sum),
+            None => true,
+        }
+    }
+
+    /// Whether what is claimed after the step holds.
+    pub(crate) fn keeps(&self, next: &Equations) -> bool
+        ensures { IsTrue result → Keeps self.now.insn self.now.own self.now.low (facts self.now.after.now) self.now.before.now next.now }
+    {
+        for register in 0..REGISTERS {
+            if !self.keeps_register(next, register) {
+                return false;
+            }
+        }
+        for holder in 0..HOLDERS {
+            if !self.keeps_holder(next, holder) {
+                return false;
+            }
+        }
+        true
+    }
+}
