@@ -38,7 +38,6 @@ use Rattle.bpf_same.proofs.PairLemmas.{parted, Behind, Pairs, pairs_lead, pairs_
 use Rattle.bpf_same.proofs.TurnLemmas.{needed_is, held_register, held_fits, alike_of, noted_is, copied_turned}
 use Rattle.bpf_same.proofs.OwnLemmas.{own_alone}
 
-
 operations_front : (label : Option Op) (labels : List (Option Op)) → operations (label ∷ labels) ≡ in_front label (operations labels)
 operations_front None labels = refl
 operations_front (Some op) labels = refl
@@ -157,7 +156,6 @@ branch_exits s cond wide dst src off r0 e = need_exits (s.reg (number dst)) _ r0
     by : (c : Bool) → (if c then jumped s off else Next (at_slot s (s.pc + 1))) ≡ Exited r0 → ⊥
     by true e = jumped_exits s off r0 e
     by false e = cc
-
 
 written_exits : (s : State) (pc k x r0 : ℕ) → written s pc k x ≡ Exited r0 → ⊥
 written_exits s pc k x r0 e = by (is_frame k) e

@@ -132,7 +132,13 @@ call_left f x k e = by (k == 0) (nat_le k 5) (past_five k e) e
 module _ (s : State) (p low : ℕ) (g h : ℕ → Option ℕ) (above : (i : ℕ) → low ≤ i → h i ≡ s.stack i) where
   number_behind : (pc q k x : ℕ) → Behind (λ j. j == k) q low s g (with_number s pc k x) (with_number (parted s p g h) q k x)
   number_behind pc q k x = record {
-    pc = refl; packet = refl; ifindex = refl; queue = refl; shapes = refl; stack = above; below = λ i l. refl;
+    pc = refl;
+    packet = refl;
+    ifindex = refl;
+    queue = refl;
+    shapes = refl;
+    stack = above;
+    below = λ i l. refl;
     changed = λ j e. put_alike s.reg g k j (Some x) e;
     left = λ j e. (put_left s.reg k j (Some x) e, put_left g k j (Some x) e);
   }
@@ -169,13 +175,36 @@ module _ (s : State) (p low : ℕ) (g h : ℕ → Option ℕ) (above : (i : ℕ)
   load_pairs Nowhere signed size dst e = tt
 
   store_pairs : (place : Place) (z x : ℕ) → ((j : ℕ) → place ≡ InStack j → low ≤ j) → Pairs (Behind (λ j. false) (p + 1) low s g) (store_to place s z x) (store_to place (parted s p g h) z x)
-  store_pairs (InPacket i) z x e = (_, refl, record {
-    pc = refl; packet = refl; ifindex = refl; queue = refl; shapes = refl; stack = above; below = λ j l. refl; changed = λ k e. never e; left = λ k e. (refl, refl);
-  })
-  store_pairs (InStack i) z x e = (_, refl, record {
-    pc = refl; packet = refl; ifindex = refl; queue = refl; shapes = refl; stack = λ j l. put_from s.stack h i z x j (above j l);
-    below = λ j l. put_under s.stack i z x j (omega (arith, l, e i refl)); changed = λ k e. never e; left = λ k e. (refl, refl);
-  })
+  store_pairs (InPacket i) z x e = (
+    _,
+    refl,
+    record {
+      pc = refl;
+      packet = refl;
+      ifindex = refl;
+      queue = refl;
+      shapes = refl;
+      stack = above;
+      below = λ j l. refl;
+      changed = λ k e. never e;
+      left = λ k e. (refl, refl);
+    },
+  )
+  store_pairs (InStack i) z x e = (
+    _,
+    refl,
+    record {
+      pc = refl;
+      packet = refl;
+      ifindex = refl;
+      queue = refl;
+      shapes = refl;
+      stack = λ j l. put_from s.stack h i z x j (above j l);
+      below = λ j l. put_under s.stack i z x j (omega (arith, l, e i refl));
+      changed = λ k e. never e;
+      left = λ k e. (refl, refl);
+    },
+  )
   store_pairs (InContext i) z x e = tt
   store_pairs (InCounter m k j) z x e = tt
   store_pairs Nowhere z x e = tt
@@ -186,9 +215,21 @@ module _ (s : State) (p low : ℕ) (g h : ℕ → Option ℕ) (above : (i : ℕ)
       by : (b : Bool) → Pairs (Behind (λ j. j == src) (p + 1) low s g) (if b then Fault else Adds m k j d (λ x. with_number s (s.pc + 1) src x)) (if b then Fault else Adds m k j d (λ x. with_number (parted s p g h) (p + 1) src x))
       by true = tt
       by false = ((λ x. with_number (parted s p g h) (p + 1) src x), refl, λ x. number_behind (s.pc + 1) (p + 1) src x)
-  add_pairs (InCounter m k j) false src d = ((λ x. at_slot (parted s p g h) (p + 1)), refl, λ x. record {
-    pc = refl; packet = refl; ifindex = refl; queue = refl; shapes = refl; stack = above; below = λ j l. refl; changed = λ k e. never e; left = λ k e. (refl, refl);
-  })
+  add_pairs (InCounter m k j) false src d = (
+    (λ x. at_slot (parted s p g h) (p + 1)),
+    refl,
+    λ x. record {
+      pc = refl;
+      packet = refl;
+      ifindex = refl;
+      queue = refl;
+      shapes = refl;
+      stack = above;
+      below = λ j l. refl;
+      changed = λ k e. never e;
+      left = λ k e. (refl, refl);
+    },
+  )
   add_pairs (InPacket i) fetch src d = tt
   add_pairs (InStack i) fetch src d = tt
   add_pairs (InContext i) fetch src d = tt
@@ -203,7 +244,13 @@ module _ (s : State) (p low : ℕ) (g h : ℕ → Option ℕ) (above : (i : ℕ)
 
   called_behind : (x : ℕ) → Behind (λ k. nat_le k 5) (p + 1) low s g (called s x) (called (parted s p g h) x)
   called_behind x = record {
-    pc = refl; packet = refl; ifindex = refl; queue = refl; shapes = refl; stack = above; below = λ i l. refl;
+    pc = refl;
+    packet = refl;
+    ifindex = refl;
+    queue = refl;
+    shapes = refl;
+    stack = above;
+    below = λ i l. refl;
     changed = λ k e. call_alike s.reg g x k e;
     left = λ k e. (call_left s.reg x k e, call_left g x k e);
   }

@@ -126,7 +126,8 @@ alu_computes op wide dst src s l u h =
 -- the same of what holders hold
 pub computes_held : (op : AluOp) (wide : Bool) (dst : Register) (src : Operand) (s u : State) → Computes op wide (s.reg (number dst)) (operand_in s.reg src) (u.reg (number dst)) → Computes op wide (held s (number dst)) (operand_in (held s) src) (held u (number dst))
 computes_held op wide dst src s u c = record {
-  x = c.x; y = c.y;
+  x = c.x;
+  y = c.y;
   first = ap (first_operand op) (held_register s (number dst) (number_small dst)) ∙ c.first;
   second = operand_same (held s) s.reg (λ k l. held_register s k l) src ∙ c.second;
   is = held_register u (number dst) (number_small dst) ∙ c.is;

@@ -121,9 +121,13 @@ pub(crate) fn reads_alike(equations: &Equations, insn: Insn) -> bool
             ..
         } => is_same_operand(equations, src),
         Insn::Alu { dst, src, .. } | Insn::Jump { dst, src, .. } => are_same(equations, dst, src),
-        Insn::Neg { dst, .. } | Insn::End { dst, .. } | Insn::St { dst, .. } => is_same(equations, dst),
+        Insn::Neg { dst, .. } | Insn::End { dst, .. } | Insn::St { dst, .. } => is_same(
+            equations, dst,
+        ),
         Insn::MovSx { src, .. } | Insn::Ldx { src, .. } => is_same(equations, src),
-        Insn::Stx { dst, src, .. } | Insn::AddCounter { dst, src, .. } => are_both_same(equations, dst, src),
+        Insn::Stx { dst, src, .. } | Insn::AddCounter { dst, src, .. } => are_both_same(
+            equations, dst, src,
+        ),
         Insn::Call { .. } => are_both_same(equations, Register::R1, Register::R2),
         Insn::Exit => is_same(equations, Register::R0),
         Insn::Const { .. } | Insn::MapRef { .. } | Insn::Ja { .. } | Insn::Second => true,

@@ -13,11 +13,11 @@ ghost use Rattle.bpf_same.specs.Books.{book_of};
 
 use crate::access::{is_own_step, is_shared, reads_alike};
 use crate::decide::decided;
+use crate::equal::{is_but_for_offset, is_same_insn};
 use crate::equations::Equations;
+use crate::mark::Place;
 use crate::start::is_at_entry;
 use crate::turn::Turn;
-use crate::equal::{is_but_for_offset, is_same_insn};
-use crate::mark::Place;
 use bpf_flow::{Successor, Successors, after, jump_target, next_slot};
 use bpf_insn::Insn;
 use bpf_note::{MapShape, Note, covers};
@@ -340,7 +340,8 @@ impl Claims<'_> {
             (facts there.now.note.value) there.now.pc }
     {
         if before.place.own {
-            is_own_step(before.insn, before.note, self.low) && self.lands(before, true, before.place.at, there)
+            is_own_step(before.insn, before.note, self.low)
+                && self.lands(before, true, before.place.at, there)
         } else {
             self.steps(before, there)
         }

@@ -169,7 +169,12 @@ impl Turn<'_> {
         if is_cleared(op, wide, dst, src) {
             return Some(Sum::constant(0));
         }
-        computed(op, wide, self.before.new_sum(dst.number()), self.new_operand(src))
+        computed(
+            op,
+            wide,
+            self.before.new_sum(dst.number()),
+            self.new_operand(src),
+        )
     }
 
     /// What the old program's operation makes of its operands.

@@ -84,7 +84,10 @@ const MADE_OTHERWISE: Pair = Pair {
 
 #[test]
 fn made_otherwise(rt: HostRuntime) {
-    assert_eq!(rt; compared(rt.alloc(), &MADE_OTHERWISE), Some(Comparison::NotShown));
+    assert_eq!(rt;
+        compared(rt.alloc(), &MADE_OTHERWISE),
+        Some(Comparison::NotShown)
+    );
 }
 
 /// A store of the new program's own to what the old one stored.
@@ -109,7 +112,10 @@ const STORE_TO_THE_OLD_WORD: Pair = Pair {
 
 #[test]
 fn store_to_the_old_word(rt: HostRuntime) {
-    assert_eq!(rt; compared(rt.alloc(), &STORE_TO_THE_OLD_WORD), Some(Comparison::NotShown));
+    assert_eq!(rt;
+        compared(rt.alloc(), &STORE_TO_THE_OLD_WORD),
+        Some(Comparison::NotShown)
+    );
 }
 
 /// A load of both, of what the new program alone has stored.
@@ -127,7 +133,10 @@ const LOAD_OF_AN_OWN_WORD: Pair = Pair {
 
 #[test]
 fn load_of_an_own_word(rt: HostRuntime) {
-    assert_eq!(rt; compared(rt.alloc(), &LOAD_OF_AN_OWN_WORD), Some(Comparison::NotShown));
+    assert_eq!(rt;
+        compared(rt.alloc(), &LOAD_OF_AN_OWN_WORD),
+        Some(Comparison::NotShown)
+    );
 }
 
 /// A register that differs where both read it.
@@ -140,7 +149,10 @@ const OTHER_NUMBER: Pair = Pair {
 
 #[test]
 fn other_number(rt: HostRuntime) {
-    assert_eq!(rt; compared(rt.alloc(), &OTHER_NUMBER), Some(Comparison::NotShown));
+    assert_eq!(rt;
+        compared(rt.alloc(), &OTHER_NUMBER),
+        Some(Comparison::NotShown)
+    );
 }
 
 /// A store of the new program's own to the packet.
@@ -164,5 +176,8 @@ const STORE_TO_THE_PACKET: Pair = Pair {
 
 #[test]
 fn store_to_the_packet(rt: HostRuntime) {
-    assert_eq!(rt; compared(rt.alloc(), &STORE_TO_THE_PACKET), Some(Comparison::NotShown));
+    assert_eq!(rt;
+        compared(rt.alloc(), &STORE_TO_THE_PACKET),
+        Some(Comparison::NotShown)
+    );
 }

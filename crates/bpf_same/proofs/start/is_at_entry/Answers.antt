@@ -18,14 +18,17 @@ pub loop-holder-init : goal.loop-holder-init
 loop-holder-init c = (λ k small s e f w. c.loop-register.invariant k (omega (arith, small, c.loop-register-test.false)) s e f w, λ n low. absurd (omega (arith, low)))
 
 pub loop-holder-preserved : goal.loop-holder-preserved
-loop-holder-preserved c = (c.loop-holder.invariant.0, λ n low.
-    elim (cases_lt n c.loop-holder.holder) [
-      | inl old ↦ c.loop-holder.invariant.1 n old
-      | inr high ↦
-          let this : c.loop-holder.holder ≡ n = omega (arith, low, high) in
-          let holds : c.is_free.result ≡ true = search rules in
-          subst (λ (n : ℕ). new_of c.args.equations.now n ≡ None) this (c.is_free.ensures holds)
-    ])
+loop-holder-preserved c = (
+  c.loop-holder.invariant.0,
+  λ n low.
+      elim (cases_lt n c.loop-holder.holder) [
+        | inl old ↦ c.loop-holder.invariant.1 n old
+        | inr high ↦
+            let this : c.loop-holder.holder ≡ n = omega (arith, low, high) in
+            let holds : c.is_free.result ≡ true = search rules in
+            subst (λ (n : ℕ). new_of c.args.equations.now n ≡ None) this (c.is_free.ensures holds)
+      ],
+)
 
 pub returns : goal.returns
 returns c = λ t f g w same. record {

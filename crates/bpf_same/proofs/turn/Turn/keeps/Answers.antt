@@ -21,15 +21,18 @@ pub loop-holder-init : goal.loop-holder-init
 loop-holder-init c = (λ k small s e. c.loop-register.invariant k (omega (arith, small, c.loop-register-test.false)) s e, λ n low s e. absurd (omega (arith, low)))
 
 pub loop-holder-preserved : goal.loop-holder-preserved
-loop-holder-preserved c = (c.loop-holder.invariant.0, λ n low s e.
-    let t = c.args.self.now in
-    elim (cases_lt n c.loop-holder.holder) [
-      | inl old ↦ c.loop-holder.invariant.1 n old s e
-      | inr high ↦
-          let this : c.loop-holder.holder ≡ n = omega (arith, low, high) in
-          let holds : c.keeps_holder.result ≡ true = search rules in
-          subst (λ (n : ℕ). KeepsNew t.insn t.own t.low (facts t.after.now) t.before.now n s) this (c.keeps_holder.ensures holds s (subst (λ (n : ℕ). new_of c.args.next.now n ≡ Some s) (sym this) e))
-    ])
+loop-holder-preserved c = (
+  c.loop-holder.invariant.0,
+  λ n low s e.
+      let t = c.args.self.now in
+      elim (cases_lt n c.loop-holder.holder) [
+        | inl old ↦ c.loop-holder.invariant.1 n old s e
+        | inr high ↦
+            let this : c.loop-holder.holder ≡ n = omega (arith, low, high) in
+            let holds : c.keeps_holder.result ≡ true = search rules in
+            subst (λ (n : ℕ). KeepsNew t.insn t.own t.low (facts t.after.now) t.before.now n s) this (c.keeps_holder.ensures holds s (subst (λ (n : ℕ). new_of c.args.next.now n ≡ Some s) (sym this) e))
+      ],
+)
 
 pub returns : goal.returns
 returns c = λ r f g f' g' t h. record {
