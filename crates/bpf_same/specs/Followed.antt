@@ -150,7 +150,7 @@ pub record Follows (b : Book) (shapes : List Shape) (p : ℕ) (i : Insn) (e : Eq
       IsFollowed b r0 bytes done u → Runs b.old r0 bytes t (in_front label done)
   pub ends : (s t : State) → Beside e b.low p s t → Describes n s → (r0 : ℕ) → exec i s ≡ Exited r0 → step b.old t ≡ Exited r0
 
--- the instruction may lead elsewhere than to the slot behind it
+-- the instruction may lead elsewhere than to the next slot
 abbrev pub is_jump : Insn → Bool
 is_jump (Ja wide_offset to) = true
 is_jump (Jump cond wide dst src off) = true
