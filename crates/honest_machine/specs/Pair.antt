@@ -192,7 +192,7 @@ first w p (done h) = halved w p h
 first w p (ask v k) = record p { at = First true (ask v k) }
 first w p never = record p { at = First true never }
 
--- A sleeping back wakes if its port is pending, and clears it. That tells its host to look for posts anew.
+-- A sleeping back wakes if its port is pending, and clears it: its host has to look for posts anew.
 abbrev pub wake : BackWiring → Bool → Pair → Pair
 wake w true p = record p { memory = record p.memory { pending = false; awaits = awaits.Nothing }; at = First false (half_turn w p.back) }
 wake w false p = p

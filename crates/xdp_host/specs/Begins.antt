@@ -16,7 +16,7 @@ begin_number begin.NoFrame = 3
 abbrev pub no_queue : ℕ
 no_queue = 1
 
--- The queue was given the rx producer and the packet, and its answer is what C is told.
+-- The queue was given the rx producer and the packet, and C gets the number of its answer.
 pub record DeliverAnswers (old new : Queue) (producer : ℕ) (packet : List ℕ) (told : ℕ) : Type 0 where
   pub answer : Begin
   pub told_is : told ≡ begin_number answer

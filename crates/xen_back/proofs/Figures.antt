@@ -177,13 +177,13 @@ n_read w s m p1 p2 slots h =
 n_run : (w : Wiring) (s : State) (p : List Event) (slots : List Slot) (out : Left) → HasRun w s p slots out → (n p ≤ 16503) × (length slots ≤ 18) × (length out.packet ≤ 65535)
 n_run w s p slots out h =
     let few = chain_few slots h.fragments h.read.read.words (standing_chain slots h.whole) h.sizes in
-    let c = n_copy w h.fragments h.p3 (Some h.packet) h.copied in
-    let r = n_read w s h.n h.p1 h.p2 slots h.read in
-    let none : n h.p4 ≡ 0 = ap n h.ran.events ∙ n_program h.ran.labels in
-    let same : n p ≡ n (h.p1 ++ (h.p2 ++ (h.p3 ++ h.p4))) = ap n h.joined in
-    let short : length h.packet ≤ sum_by fragment_size h.fragments = copy_short w h.fragments h.p3 (Some h.packet) h.copied in
+    let c = n_copy w h.fragments h.copies (Some h.packet) h.copied in
+    let r = n_read w s h.n h.looks h.reads slots h.read in
+    let none : n h.runs ≡ 0 = ap n h.ran.events ∙ n_program h.ran.labels in
+    let same : n p ≡ n (h.looks ++ (h.reads ++ (h.copies ++ h.runs))) = ap n h.joined in
+    let short : length h.packet ≤ sum_by fragment_size h.fragments = copy_short w h.fragments h.copies (Some h.packet) h.copied in
     let kept : length out.packet ≡ length h.packet = walk_length w.program.now.code h.ran.r0 out.packet (start_state w.program.now.shapes h.packet w.ifindex w.queue) h.ran.labels h.ran.walk in (
-      omega (arith, few.0.count, few.0.size, few.1, c, r.0, r.1, none, same, n_append h.p1 (h.p2 ++ (h.p3 ++ h.p4)), n_append h.p2 (h.p3 ++ h.p4), n_append h.p3 h.p4),
+      omega (arith, few.0.count, few.0.size, few.1, c, r.0, r.1, none, same, n_append h.looks (h.reads ++ (h.copies ++ h.runs)), n_append h.reads (h.copies ++ h.runs), n_append h.copies h.runs),
       few.1,
       omega (arith, short, kept, few.0.size),
     )
@@ -269,12 +269,12 @@ most_program (Some (op.Add m k j d v) ∷ labels) = let h = most_program labels 
 most_run : (w : Wiring) (s : State) (p : List Event) (slots : List Slot) (out : Left) → HasRun w s p slots out → HasAtMost p (instructions w.program.now.code) 0
 most_run w s p slots out h =
     let n = instructions w.program.now.code in
-    let ran : HasAtMost h.p4 n 0 = most_more h.p4 (length h.ran.labels) 0 n 0 (subst (λ q. HasAtMost q (length h.ran.labels) 0) (sym h.ran.events) (most_program h.ran.labels)) h.ran.within (omega arith) in
-    let look : HasAtMost h.p1 0 0 = most_look w s.tx_index h.p1 (Some h.n) h.read.look in
-    let read : HasAtMost h.p2 0 0 = subst (λ q. HasAtMost q 0 0) (sym h.read.read.reads) (most_slots w s.tx_index 0 slots) in
-    let copied : HasAtMost h.p3 0 0 = most_copy w h.fragments h.p3 (Some h.packet) h.copied in
-    let all = most_append h.p1 (h.p2 ++ (h.p3 ++ h.p4)) 0 0 (0 + (0 + n)) (0 + (0 + 0)) look (most_append h.p2 (h.p3 ++ h.p4) 0 0 (0 + n) (0 + 0) read (most_append h.p3 h.p4 0 0 n 0 copied ran)) in
-    subst (λ q. HasAtMost q n 0) (sym h.joined) (most_more (h.p1 ++ (h.p2 ++ (h.p3 ++ h.p4))) _ _ n 0 all (omega arith) (omega arith))
+    let ran : HasAtMost h.runs n 0 = most_more h.runs (length h.ran.labels) 0 n 0 (subst (λ q. HasAtMost q (length h.ran.labels) 0) (sym h.ran.events) (most_program h.ran.labels)) h.ran.within (omega arith) in
+    let look : HasAtMost h.looks 0 0 = most_look w s.tx_index h.looks (Some h.n) h.read.look in
+    let read : HasAtMost h.reads 0 0 = subst (λ q. HasAtMost q 0 0) (sym h.read.read.reads) (most_slots w s.tx_index 0 slots) in
+    let copied : HasAtMost h.copies 0 0 = most_copy w h.fragments h.copies (Some h.packet) h.copied in
+    let all = most_append h.looks (h.reads ++ (h.copies ++ h.runs)) 0 0 (0 + (0 + n)) (0 + (0 + 0)) look (most_append h.reads (h.copies ++ h.runs) 0 0 (0 + n) (0 + 0) read (most_append h.copies h.runs 0 0 n 0 copied ran)) in
+    subst (λ q. HasAtMost q n 0) (sym h.joined) (most_more (h.looks ++ (h.reads ++ (h.copies ++ h.runs))) _ _ n 0 all (omega arith) (omega arith))
 
 -- a run, a transmit and a response
 module _ (w : Wiring) (s : State) where

@@ -264,25 +264,25 @@ grant_reads w s n p1 p2 p3 p6 slots fs h e k g =
 -- the reads of a packet that was run on, and of what comes after it
 ran_reads : (w : Wiring) (s : State) (p q : List Event) (slots : List Slot) (out : Left) (last : List Place) → HasRun w s p slots out → places_read q ≡ last → TurnReads w s (p ++ q) (length slots) last
 ran_reads w s p q slots out last h e =
-    let copies = fragments_once w h.fragments h.p3 (Some h.packet) h.copied in
+    let copies = fragments_once w h.fragments h.copies (Some h.packet) h.copied in
     let copy = copy_places w h.fragments copies.0 in
-    let none : places_read h.p4 ≡ [] = ap places_read h.ran.events ∙ no_steps h.ran.labels in
-    let behind_run : places_read (h.p4 ++ q) ≡ last = places_read-append h.p4 q ∙ ap (λ l. l ++ places_read q) none ∙ e in
-    let tail : places_read (h.p3 ++ (h.p4 ++ q)) ≡ copy ++ last =
-    places_read-append h.p3 (h.p4 ++ q) ∙ ap (λ l. l ++ places_read (h.p4 ++ q)) copies.1 ∙ ap (λ l. copy ++ l) behind_run in
-    let joined : p ++ q ≡ h.p1 ++ (h.p2 ++ (h.p3 ++ (h.p4 ++ q))) =
-    ap (λ l. l ++ q) h.joined ∙ append_assoc h.p1 (h.p2 ++ (h.p3 ++ h.p4)) q
-    ∙ ap (λ l. h.p1 ++ l) (append_assoc h.p2 (h.p3 ++ h.p4) q ∙ ap (λ l. h.p2 ++ l) (append_assoc h.p3 h.p4 q)) in
-    let inside : Within h.p3 (p ++ q) = subst (Within h.p3) (sym joined) (within_joined h.p1 h.p2 h.p3 (h.p4 ++ q)) in
+    let none : places_read h.runs ≡ [] = ap places_read h.ran.events ∙ no_steps h.ran.labels in
+    let behind_run : places_read (h.runs ++ q) ≡ last = places_read-append h.runs q ∙ ap (λ l. l ++ places_read q) none ∙ e in
+    let tail : places_read (h.copies ++ (h.runs ++ q)) ≡ copy ++ last =
+    places_read-append h.copies (h.runs ++ q) ∙ ap (λ l. l ++ places_read (h.runs ++ q)) copies.1 ∙ ap (λ l. copy ++ l) behind_run in
+    let joined : p ++ q ≡ h.looks ++ (h.reads ++ (h.copies ++ (h.runs ++ q))) =
+    ap (λ l. l ++ q) h.joined ∙ append_assoc h.looks (h.reads ++ (h.copies ++ h.runs)) q
+    ∙ ap (λ l. h.looks ++ l) (append_assoc h.reads (h.copies ++ h.runs) q ∙ ap (λ l. h.reads ++ l) (append_assoc h.copies h.runs q)) in
+    let inside : Within h.copies (p ++ q) = subst (Within h.copies) (sym joined) (within_joined h.looks h.reads h.copies (h.runs ++ q)) in
     record {
       slots = slots;
       counted = refl;
       fragments = h.fragments;
       sizes = h.sizes;
       frames = copies.0;
-      granted = granted_within w h.fragments copies.0 h.p3 (p ++ q) inside copies.2;
+      granted = granted_within w h.fragments copies.0 h.copies (p ++ q) inside copies.2;
       whole = copies.3 (λ e. cc);
-      read = subst (λ l. SlotsRead w s l slots (copy ++ last)) (sym joined) (chain_reads w s h.n h.p1 h.p2 (h.p3 ++ (h.p4 ++ q)) slots (copy ++ last) h.read tail);
+      read = subst (λ l. SlotsRead w s l slots (copy ++ last)) (sym joined) (chain_reads w s h.n h.looks h.reads (h.copies ++ (h.runs ++ q)) slots (copy ++ last) h.read tail);
     }
 
 -- a transmit writes its buffers and responses, and reads none of them

@@ -81,10 +81,10 @@ of_read w s n p1 p2 slots h = (of_look w s.tx_index p1 (Some n) h.look, subst (�
 
 of_run : (w : Wiring) (s : State) (p : List Event) (slots : List Slot) (out : Left) → HasRun w s p slots out → AllAllowed w.vif p p
 of_run w s p slots out h =
-    let r = of_read w s h.n h.p1 h.p2 slots h.read in
-    let c = of_copy w h.fragments h.p3 (Some h.packet) (fragments_are slots h.fragments h.sizes).in_page h.copied in
-    let g : AllAllowed w.vif h.p4 h.p4 = subst (λ l. AllAllowed w.vif h.p4 l) (sym h.ran.events) (of_program w h.p4 h.ran.labels) in
-    subst (λ l. AllAllowed w.vif l l) (sym h.joined) (both w.vif h.p1 (h.p2 ++ (h.p3 ++ h.p4)) r.0 (both w.vif h.p2 (h.p3 ++ h.p4) r.1 (both w.vif h.p3 h.p4 c g)))
+    let r = of_read w s h.n h.looks h.reads slots h.read in
+    let c = of_copy w h.fragments h.copies (Some h.packet) (fragments_are slots h.fragments h.sizes).in_page h.copied in
+    let g : AllAllowed w.vif h.runs h.runs = subst (λ l. AllAllowed w.vif h.runs l) (sym h.ran.events) (of_program w h.runs h.ran.labels) in
+    subst (λ l. AllAllowed w.vif l l) (sym h.joined) (both w.vif h.looks (h.reads ++ (h.copies ++ h.runs)) r.0 (both w.vif h.reads (h.copies ++ h.runs) r.1 (both w.vif h.copies h.runs c g)))
 
 pub turn_touches : (w : Wiring) (s : State) (p : List Event) (new : State) (u : Turned) → IsTurn w s p new u → AllAllowed w.vif p p
 turn_touches w s _ _ _ (still_halted cause h) = tt

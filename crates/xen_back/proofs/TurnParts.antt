@@ -43,10 +43,10 @@ abbrev pub run_parts : (w : Wiring) (s : State) (p1 p2 p3 p4 : List Event) (n : 
     HasRead w s n p1 p2 slots → standing slots ≡ Some (Ok wanted.Complete) → fragments_of slots ≡ Ok fragments → IsCopy w fragments p3 (Some bytes) →
     Runs (program (run_of w bytes) 0) p4 out → HasRun w s (p1 ++ (p2 ++ (p3 ++ p4))) slots out
 run_parts w s p1 p2 p3 p4 n slots fragments bytes out read whole sizes copied done = record {
-  p1 = p1;
-  p2 = p2;
-  p3 = p3;
-  p4 = p4;
+  looks = p1;
+  reads = p2;
+  copies = p3;
+  runs = p4;
   joined = refl;
   n = n;
   fragments = fragments;

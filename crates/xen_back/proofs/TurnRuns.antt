@@ -159,10 +159,10 @@ none_after w s p r h = subst (λ q. Runs (whole_turn w s) q r) (append-nil p) h
 
 run_runs : (w : Wiring) (s : State) (p q : List Event) (slots : List Slot) (out : Left) (r : Ending) → HasRun w s p slots out → Runs (after_run w s slots out) q r → Runs (whole_turn w s) (p ++ q) r
 run_runs w s p q slots out r a g =
-    subst (λ t. Runs (whole_turn w s) t r) (sym (ap (λ l. l ++ q) a.joined ∙ sym (regroup a.p1 a.p2 a.p3 a.p4 q)))
-    (chain_runs w s a.p1 a.p2 (a.p3 ++ (a.p4 ++ q)) a.n slots (Ok a.fragments) r a.read (standing_chain slots a.whole) a.sizes
-    (join (copy w a.fragments []) (after_copy w s slots) a.p3 (a.p4 ++ q) (Some a.packet) r (runs_copy w a.fragments a.p3 (Some a.packet) a.copied)
-    (join (program (run_of w a.packet) 0) (after_run w s slots) a.p4 q out r (runs_program w a.packet a.p4 out a.ran) g)))
+    subst (λ t. Runs (whole_turn w s) t r) (sym (ap (λ l. l ++ q) a.joined ∙ sym (regroup a.looks a.reads a.copies a.runs q)))
+    (chain_runs w s a.looks a.reads (a.copies ++ (a.runs ++ q)) a.n slots (Ok a.fragments) r a.read (standing_chain slots a.whole) a.sizes
+    (join (copy w a.fragments []) (after_copy w s slots) a.copies (a.runs ++ q) (Some a.packet) r (runs_copy w a.fragments a.copies (Some a.packet) a.copied)
+    (join (program (run_of w a.packet) 0) (after_run w s slots) a.runs q out r (runs_program w a.packet a.runs out a.ran) g)))
 
 pub is_three : (n : ℕ) → n ≡ 3 → (n == 3) ≡ true
 is_three n e = grind (arith, nat_tests)

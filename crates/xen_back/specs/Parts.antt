@@ -80,8 +80,8 @@ IsRespond w t slots st p =
     ∷ notices w.vif (is_due t (add32 t (length slots)) event))
 
 -- Requests are there, and slots of the first chain were read.
-pub record HasRead (w : Wiring) (s : State) (n : ℕ) (p1 p2 : List Event) (slots : List Slot) : Type 0 where
+pub record HasRead (w : Wiring) (s : State) (n : ℕ) (looks reads : List Event) (slots : List Slot) : Type 0 where
   pub running : s.halt ≡ None
-  pub look : IsLook w s.tx_index p1 (Some n)
+  pub look : IsLook w s.tx_index looks (Some n)
   pub some : 0 < n
-  pub read : AreRead w s.tx_index n p2 slots
+  pub read : AreRead w s.tx_index n reads slots

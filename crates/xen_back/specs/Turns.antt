@@ -22,51 +22,51 @@ use Rattle.xen_back.specs.declared.wiring.Wiring.{Wiring}
 
 -- A packet was copied, and the program ran on it.
 pub record HasRun (w : Wiring) (s : State) (p : List Event) (slots : List Slot) (out : Left) : Type 0 where
-  pub p1 : List Event
-  pub p2 : List Event
-  pub p3 : List Event
-  pub p4 : List Event
-  pub joined : p ≡ p1 ++ (p2 ++ (p3 ++ p4))
+  pub looks : List Event
+  pub reads : List Event
+  pub copies : List Event
+  pub runs : List Event
+  pub joined : p ≡ looks ++ (reads ++ (copies ++ runs))
   pub n : ℕ
   pub fragments : List Fragment
   pub packet : List ℕ
-  pub read : HasRead w s n p1 p2 slots
+  pub read : HasRead w s n looks reads slots
   pub whole : IsChain slots
   pub sizes : fragments_of slots ≡ Ok fragments
-  pub copied : IsCopy w fragments p3 (Some packet)
-  pub ran : IsProgram w packet p4 out
+  pub copied : IsCopy w fragments copies (Some packet)
+  pub ran : IsProgram w packet runs out
 
 -- A turn, a row for each kind of it.
 pub data IsTurn (w : Wiring) (s : State) : List Event → State → Turned → Type 0 where
   still_halted : (cause : Halt) → s.halt ≡ Some cause → IsTurn w s [] s (Halted cause)
-  idle : (p1 : List Event) → s.halt ≡ None → IsLook w s.tx_index p1 (Some 0) → IsTurn w s p1 s Idle
-  overflown : (p1 : List Event) → s.halt ≡ None → IsLook w s.tx_index p1 None →
-      IsTurn w s p1 (record s { halt = Some halt.TxProducer }) (Halted halt.TxProducer)
-  short : (p1 p2 : List Event) (n : ℕ) (slots : List Slot) → HasRead w s n p1 p2 slots → length slots ≡ n → IsBeginning slots →
-      IsTurn w s (p1 ++ p2) (record s { halt = Some halt.ShortChain }) (Halted halt.ShortChain)
-  broken : (p1 p2 : List Event) (n : ℕ) (slots : List Slot) (fault : ChainFault) → HasRead w s n p1 p2 slots → HasFault fault slots →
-      IsTurn w s (p1 ++ p2) (record s { halt = Some (halt.Chain fault) }) (Halted (halt.Chain fault))
-  refused_sizes : (p1 p2 p6 : List Event) (n : ℕ) (slots : List Slot) (fault : SizeFault) → HasRead w s n p1 p2 slots → IsChain slots →
-      fragments_of slots ≡ Err fault → IsRespond w s.tx_index slots Error p6 →
-      IsTurn w s (p1 ++ (p2 ++ p6)) (answered s (length slots)) (Refused (refusal.Size fault) 0 (length slots))
-  refused_grant : (p1 p2 p3 p6 : List Event) (n : ℕ) (slots : List Slot) (fragments : List Fragment) → HasRead w s n p1 p2 slots →
+  idle : (looks : List Event) → s.halt ≡ None → IsLook w s.tx_index looks (Some 0) → IsTurn w s looks s Idle
+  overflown : (looks : List Event) → s.halt ≡ None → IsLook w s.tx_index looks None →
+      IsTurn w s looks (record s { halt = Some halt.TxProducer }) (Halted halt.TxProducer)
+  short : (looks reads : List Event) (n : ℕ) (slots : List Slot) → HasRead w s n looks reads slots → length slots ≡ n → IsBeginning slots →
+      IsTurn w s (looks ++ reads) (record s { halt = Some halt.ShortChain }) (Halted halt.ShortChain)
+  broken : (looks reads : List Event) (n : ℕ) (slots : List Slot) (fault : ChainFault) → HasRead w s n looks reads slots → HasFault fault slots →
+      IsTurn w s (looks ++ reads) (record s { halt = Some (halt.Chain fault) }) (Halted (halt.Chain fault))
+  refused_sizes : (looks reads answers : List Event) (n : ℕ) (slots : List Slot) (fault : SizeFault) → HasRead w s n looks reads slots → IsChain slots →
+      fragments_of slots ≡ Err fault → IsRespond w s.tx_index slots Error answers →
+      IsTurn w s (looks ++ (reads ++ answers)) (answered s (length slots)) (Refused (refusal.Size fault) 0 (length slots))
+  refused_grant : (looks reads copies answers : List Event) (n : ℕ) (slots : List Slot) (fragments : List Fragment) → HasRead w s n looks reads slots →
       IsChain slots →
-      fragments_of slots ≡ Ok fragments → IsCopy w fragments p3 None → IsRespond w s.tx_index slots Error p6 →
-      IsTurn w s (p1 ++ (p2 ++ (p3 ++ p6))) (answered s (length slots)) (Refused refusal.Grant 0 (length slots))
-  ran : (p p6 : List Event) (slots : List Slot) (out : Left) → HasRun w s p slots out → out.number ≢ 3 →
-      IsRespond w s.tx_index slots (status_of out.number) p6 →
-      IsTurn w s (p ++ p6) (answered s (length slots)) (Ran out.number out.packet out.ops (length slots))
-  halted_rx : (p p5 : List Event) (slots : List Slot) (out : Left) → HasRun w s p slots out → out.number ≡ 3 →
-      IsTransmit w.vif s.rx_index out.packet p5 outcome.Overflow →
-      IsTurn w s (p ++ p5) (record s { halt = Some halt.RxProducer }) (Halted halt.RxProducer)
-  refused_few : (p p5 p6 : List Event) (slots : List Slot) (out : Left) → HasRun w s p slots out → out.number ≡ 3 →
-      IsTransmit w.vif s.rx_index out.packet p5 outcome.TooFew → IsRespond w s.tx_index slots Error p6 →
-      IsTurn w s (p ++ (p5 ++ p6)) (answered s (length slots)) (Refused refusal.FewSlots out.ops (length slots))
-  refused_rx : (p p5 p6 : List Event) (used : ℕ) (slots : List Slot) (out : Left) → HasRun w s p slots out → out.number ≡ 3 →
-      IsTransmit w.vif s.rx_index out.packet p5 (outcome.Refused used) →
-      IsRespond w s.tx_index slots Error p6 → IsTurn w s (p ++ (p5 ++ p6)) (answered (after_slots s used) (length slots))
+      fragments_of slots ≡ Ok fragments → IsCopy w fragments copies None → IsRespond w s.tx_index slots Error answers →
+      IsTurn w s (looks ++ (reads ++ (copies ++ answers))) (answered s (length slots)) (Refused refusal.Grant 0 (length slots))
+  ran : (p answers : List Event) (slots : List Slot) (out : Left) → HasRun w s p slots out → out.number ≢ 3 →
+      IsRespond w s.tx_index slots (status_of out.number) answers →
+      IsTurn w s (p ++ answers) (answered s (length slots)) (Ran out.number out.packet out.ops (length slots))
+  halted_rx : (p sends : List Event) (slots : List Slot) (out : Left) → HasRun w s p slots out → out.number ≡ 3 →
+      IsTransmit w.vif s.rx_index out.packet sends outcome.Overflow →
+      IsTurn w s (p ++ sends) (record s { halt = Some halt.RxProducer }) (Halted halt.RxProducer)
+  refused_few : (p sends answers : List Event) (slots : List Slot) (out : Left) → HasRun w s p slots out → out.number ≡ 3 →
+      IsTransmit w.vif s.rx_index out.packet sends outcome.TooFew → IsRespond w s.tx_index slots Error answers →
+      IsTurn w s (p ++ (sends ++ answers)) (answered s (length slots)) (Refused refusal.FewSlots out.ops (length slots))
+  refused_rx : (p sends answers : List Event) (used : ℕ) (slots : List Slot) (out : Left) → HasRun w s p slots out → out.number ≡ 3 →
+      IsTransmit w.vif s.rx_index out.packet sends (outcome.Refused used) →
+      IsRespond w s.tx_index slots Error answers → IsTurn w s (p ++ (sends ++ answers)) (answered (after_slots s used) (length slots))
       (Refused refusal.RxGrant out.ops (length slots))
-  ran_tx : (p p5 p6 : List Event) (used : ℕ) (slots : List Slot) (out : Left) → HasRun w s p slots out → out.number ≡ 3 →
-      IsTransmit w.vif s.rx_index out.packet p5 (outcome.Sent used) →
-      IsRespond w s.tx_index slots Okay p6 → IsTurn w s (p ++ (p5 ++ p6)) (answered (after_slots s used) (length slots))
+  ran_tx : (p sends answers : List Event) (used : ℕ) (slots : List Slot) (out : Left) → HasRun w s p slots out → out.number ≡ 3 →
+      IsTransmit w.vif s.rx_index out.packet sends (outcome.Sent used) →
+      IsRespond w s.tx_index slots Okay answers → IsTurn w s (p ++ (sends ++ answers)) (answered (after_slots s used) (length slots))
       (Ran 3 out.packet out.ops (length slots))

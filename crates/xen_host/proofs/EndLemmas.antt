@@ -40,7 +40,7 @@ use Rattle.xen_host.specs.declared.stage.Fill.TheVariants as fill
 use Rattle.xen_host.specs.declared.stage.Purpose.TheVariants as purpose
 use Rattle.xen_host.specs.declared.stage.Stage.{Stage}
 use Rattle.xen_host.specs.declared.stage.Stage.TheVariants as stage
-use Rattle.xen_host.specs.declared.wires.Wires.{Wires}
+use Rattle.xen_host.specs.declared.wires.OwnedWiring.{OwnedWiring}
 use Rattle.xen_host.specs.declared.work.Work.{Work}
 use Rattle.xen_host.proofs.AskLemmas.{asks_post, asks_slot, asks_words, page_short, reads_bind}
 use Rattle.xen_host.proofs.StepLemmas.{AreInPages, AreSmall, all_within, last_within, page_pages, read_led, turn_pages}
@@ -129,7 +129,7 @@ reads_few (stage.WaitLook pages) b h = omega arith
 -- ---- what ends
 
 -- a queue at a stage of a turn whose rest completes, and so on
-turn_task : (w : Wires) (s : State) (g : Stage) (b : Work) → is_turning g ≡ true → Completes (wiring_of w) (rest_in (wiring_of w) s g b) → TaskCompletes w s g b
+turn_task : (w : OwnedWiring) (s : State) (g : Stage) (b : Work) → is_turning g ≡ true → Completes (wiring_of w) (rest_in (wiring_of w) s g b) → TaskCompletes w s g b
 turn_task w s stage.Ready b t h = cc t
 turn_task w s stage.Announce b t h = h
 turn_task w s (stage.Slot left) b t h = h
@@ -144,7 +144,7 @@ turn_task w s (stage.Deliver producer) b t h = cc t
 turn_task w s (stage.Wait pages) b t h = cc t
 turn_task w s (stage.WaitLook pages) b t h = cc t
 
-pub task_turn : (w : Wires) (s : State) (g : Stage) (b : Work) → is_turning g ≡ true → TaskCompletes w s g b → Completes (wiring_of w) (rest_in (wiring_of w) s g b)
+pub task_turn : (w : OwnedWiring) (s : State) (g : Stage) (b : Work) → is_turning g ≡ true → TaskCompletes w s g b → Completes (wiring_of w) (rest_in (wiring_of w) s g b)
 task_turn w s stage.Ready b t h = cc t
 task_turn w s stage.Announce b t h = h
 task_turn w s (stage.Slot left) b t h = h
@@ -159,7 +159,7 @@ task_turn w s (stage.Deliver producer) b t h = cc t
 task_turn w s (stage.Wait pages) b t h = cc t
 task_turn w s (stage.WaitLook pages) b t h = cc t
 
-delivery_task : (w : Wires) (s : State) (g : Stage) (b : Work) → is_delivering g ≡ true → Arriving w s g b → TaskCompletes w s g b
+delivery_task : (w : OwnedWiring) (s : State) (g : Stage) (b : Work) → is_delivering g ≡ true → Arriving w s g b → TaskCompletes w s g b
 delivery_task w s stage.Ready b t h = cc t
 delivery_task w s stage.Announce b t h = cc t
 delivery_task w s (stage.Slot left) b t h = cc t
@@ -174,7 +174,7 @@ delivery_task w s (stage.Deliver producer) b t h = h
 delivery_task w s (stage.Wait pages) b t h = cc t
 delivery_task w s (stage.WaitLook pages) b t h = cc t
 
-wait_task : (w : Wires) (s : State) (g : Stage) (b : Work) → is_waiting g ≡ true → Waiting w s g → TaskCompletes w s g b
+wait_task : (w : OwnedWiring) (s : State) (g : Stage) (b : Work) → is_waiting g ≡ true → Waiting w s g → TaskCompletes w s g b
 wait_task w s stage.Ready b t h = cc t
 wait_task w s stage.Announce b t h = cc t
 wait_task w s (stage.Slot left) b t h = cc t
@@ -188,7 +188,7 @@ wait_task w s (stage.Deliver producer) b t h = cc t
 wait_task w s (stage.Wait pages) b t h = h
 wait_task w s (stage.WaitLook pages) b t h = h
 
-ready_task : (w : Wires) (s : State) (g : Stage) (b : Work) → g ≡ stage.Ready → TaskCompletes w s g b
+ready_task : (w : OwnedWiring) (s : State) (g : Stage) (b : Work) → g ≡ stage.Ready → TaskCompletes w s g b
 ready_task w s g b e = subst (λ (x : Stage). TaskCompletes w s x b) (sym e) tt
 
 -- ---- where a step ends
@@ -242,7 +242,7 @@ pub record EndsWell {A : Type 0} (frames : ℕ) (within : Want → Type 0) (asks
   pub finishes : Finishes within left
 
 module _ {A : Type 0} (frames : ℕ) (within : Want → Type 0) (in_pages : AreInPages frames within) (ends : Ask → Steps A → Type 0) where
-  pub ends_well : (w : Wires) (flags : TxFlags) (from : Steps A) (new : Engine) (ops ops_after : List Op) (count : ℕ) (lent lent_after : List ℕ) → 1024 ≤ length lent_after →
+  pub ends_well : (w : OwnedWiring) (flags : TxFlags) (from : Steps A) (new : Engine) (ops ops_after : List Op) (count : ℕ) (lent lent_after : List ℕ) → 1024 ≤ length lent_after →
       (h : Led ends w flags from new ops ops_after count lent lent_after) → ((n : ℕ) × WaitsFor h.last n h.left) ⊎ IsInPages frames h.last → Finishes within from →
       EndsWell frames within (h.first ++ h.last ∷ []) h.left
   ends_well w flags from new ops ops_after count lent lent_after long h waits f = record {
@@ -259,7 +259,7 @@ pub record Ended (frames : ℕ) (e : Engine) (asks : List Ask) : Type 0 where
   pub inside : AllInPages frames asks
   pub task : TaskCompletes e.wires e.state e.stage e.work
 
-pub turn_ended : (w : Wires) (flags : TxFlags) (from : Steps Ending) (new : Engine) (ops ops_after : List Op) (count : ℕ) (lent lent_after : List ℕ) → 1024 ≤ length lent_after →
+pub turn_ended : (w : OwnedWiring) (flags : TxFlags) (from : Steps Ending) (new : Engine) (ops ops_after : List Op) (count : ℕ) (lent lent_after : List ℕ) → 1024 ≤ length lent_after →
     (h : Led (TurnEnds new) w flags from new ops ops_after count lent lent_after) → Completes (wiring_of w) from → Ended (length w.owners) new (h.first ++ h.last ∷ [])
 turn_ended w flags from new ops ops_after count lent lent_after long h c = by (turn_split new h.last h.left h.is_end)
   where
@@ -274,10 +274,10 @@ turn_ended w flags from new ops ops_after count lent lent_after long h c = by (t
     by (inr on) =
         let r = ends_well frames (may_want (wiring_of w)) (turn_pages frames w.program.shapes) (TurnEnds new) w flags from new ops ops_after count lent lent_after long h
         (inl (reads_in new.stage, on.waits)) c in
-        let there = subst (λ (x : Wires). Completes (wiring_of x) h.left) (sym h.wires) r.finishes in
+        let there = subst (λ (x : OwnedWiring). Completes (wiring_of x) h.left) (sym h.wires) r.finishes in
         record { inside = r.inside; task = turn_task new.wires new.state new.stage new.work on.is_here (subst (λ (x : Steps Ending). Completes (wiring_of new.wires) x) on.is_rest there) }
 
-pub delivery_ended : (w : Wires) (flags : TxFlags) (packet : List ℕ) (from : Steps Arrival) (new : Engine) (ops ops_after : List Op) (count : ℕ) (lent lent_after : List ℕ) → 1024 ≤ length lent_after →
+pub delivery_ended : (w : OwnedWiring) (flags : TxFlags) (packet : List ℕ) (from : Steps Arrival) (new : Engine) (ops ops_after : List Op) (count : ℕ) (lent lent_after : List ℕ) → 1024 ≤ length lent_after →
     (h : Led (DeliveryEnds packet new) w flags from new ops ops_after count lent lent_after) → Finishes (IsPageWant (length w.owners)) from → Ended (length w.owners) new (h.first ++ h.last ∷ [])
 delivery_ended w flags packet from new ops ops_after count lent lent_after long h c = by (delivery_split packet new h.last h.left h.is_end)
   where
@@ -292,10 +292,10 @@ delivery_ended w flags packet from new ops ops_after count lent lent_after long 
     by (inr on) =
         let r = ends_well frames (IsPageWant frames) (page_pages frames) (DeliveryEnds packet new) w flags from new ops ops_after count lent lent_after long h
         (inl (reads_in new.stage, on.waits)) c in
-        let there = subst (λ (x : Wires). Finishes (IsPageWant (length x.owners)) h.left) (sym h.wires) r.finishes in
+        let there = subst (λ (x : OwnedWiring). Finishes (IsPageWant (length x.owners)) h.left) (sym h.wires) r.finishes in
         record { inside = r.inside; task = delivery_task new.wires new.state new.stage new.work on.is_here (subst (λ (x : Steps Arrival). Finishes (IsPageWant (length new.wires.owners)) x) on.is_rest there) }
 
-pub wait_ended : (w : Wires) (flags : TxFlags) (packet : List ℕ) (from : Steps Wait) (new : Engine) (ops ops_after : List Op) (count : ℕ) (lent lent_after : List ℕ) → 1024 ≤ length lent_after →
+pub wait_ended : (w : OwnedWiring) (flags : TxFlags) (packet : List ℕ) (from : Steps Wait) (new : Engine) (ops ops_after : List Op) (count : ℕ) (lent lent_after : List ℕ) → 1024 ≤ length lent_after →
     (h : Led (WaitEnds packet new) w flags from new ops ops_after count lent lent_after) → Finishes (IsPageWant (length w.owners)) from → Ended (length w.owners) new (h.first ++ h.last ∷ [])
 wait_ended w flags packet from new ops ops_after count lent lent_after long h c = by (wait_split packet new h.last h.left h.is_end)
   where
@@ -310,23 +310,23 @@ wait_ended w flags packet from new ops ops_after count lent lent_after long h c 
     by (inr on) =
         let r = ends_well frames (IsPageWant frames) (page_pages frames) (WaitEnds packet new) w flags from new ops ops_after count lent lent_after long h
         (inl (reads_in new.stage, on.waits)) c in
-        let there = subst (λ (x : Wires). Finishes (IsPageWant (length x.owners)) h.left) (sym h.wires) r.finishes in
+        let there = subst (λ (x : OwnedWiring). Finishes (IsPageWant (length x.owners)) h.left) (sym h.wires) r.finishes in
         record { inside = r.inside; task = wait_task new.wires new.state new.stage new.work on.is_here (subst (λ (x : Steps Wait). Finishes (IsPageWant (length new.wires.owners)) x) on.is_rest there) }
 
 -- What is answered to what was asked last finishes too.
-pub fed_turn : (w : Wires) (s : State) (g : Stage) (b : Work) (lent : List ℕ) → AreSmall lent → reads_in g ≤ length lent → is_turning g ≡ true → TaskCompletes w s g b → Completes (wiring_of w) (fed (rest_in (wiring_of w) s g b) (take (reads_in g) lent))
+pub fed_turn : (w : OwnedWiring) (s : State) (g : Stage) (b : Work) (lent : List ℕ) → AreSmall lent → reads_in g ≤ length lent → is_turning g ≡ true → TaskCompletes w s g b → Completes (wiring_of w) (fed (rest_in (wiring_of w) s g b) (take (reads_in g) lent))
 fed_turn w s g b lent small long t c =
     let r = reads_of_turn (wiring_of w) s g b t in
     let rest = rest_in (wiring_of w) s g b in
     finishes_gone (may_want (wiring_of w)) rest (fed rest (take (reads_in g) lent)) (reads_at r.0 (take (reads_in g) lent)) (task_turn w s g b t c) (read_led rest r.0 (reads_in g) lent small long r.1)
 
-pub fed_delivery : (w : Wires) (s : State) (g : Stage) (b : Work) (lent : List ℕ) → AreSmall lent → reads_in g ≤ length lent → is_delivering g ≡ true → Arriving w s g b → Finishes (IsPageWant (length w.owners)) (fed (rest_of_delivery (vif_of w) s g b) (take (reads_in g) lent))
+pub fed_delivery : (w : OwnedWiring) (s : State) (g : Stage) (b : Work) (lent : List ℕ) → AreSmall lent → reads_in g ≤ length lent → is_delivering g ≡ true → Arriving w s g b → Finishes (IsPageWant (length w.owners)) (fed (rest_of_delivery (vif_of w) s g b) (take (reads_in g) lent))
 fed_delivery w s g b lent small long t c =
     let r = reads_of_delivery (vif_of w) s g b t in
     let rest = rest_of_delivery (vif_of w) s g b in
     finishes_gone (IsPageWant (length w.owners)) rest (fed rest (take (reads_in g) lent)) (reads_at r.0 (take (reads_in g) lent)) c (read_led rest r.0 (reads_in g) lent small long r.1)
 
-pub fed_wait : (w : Wires) (s : State) (g : Stage) (lent : List ℕ) → AreSmall lent → reads_in g ≤ length lent → is_waiting g ≡ true → Waiting w s g → Finishes (IsPageWant (length w.owners)) (fed (rest_of_wait w.rx s g) (take (reads_in g) lent))
+pub fed_wait : (w : OwnedWiring) (s : State) (g : Stage) (lent : List ℕ) → AreSmall lent → reads_in g ≤ length lent → is_waiting g ≡ true → Waiting w s g → Finishes (IsPageWant (length w.owners)) (fed (rest_of_wait w.rx s g) (take (reads_in g) lent))
 fed_wait w s g lent small long t c =
     let r = reads_of_wait w.rx s g t in
     let rest = rest_of_wait w.rx s g in

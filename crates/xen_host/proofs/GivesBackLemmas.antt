@@ -183,9 +183,9 @@ behind_copy w fs t o u c h = behind_calm w.vif t u (calm_copy w fs t o c) h
 
 pub behind_run : (w : Wiring) (s : State) (t : List Event) (slots : List Slot) (out : Left) (u : List Event) → HasRun w s t slots out → GivesBack w.vif u → GivesBack w.vif (t ++ u)
 behind_run w s t slots out u r h =
-    let ran : GivesBack w.vif (r.p4 ++ u) = behind_calm w.vif r.p4 u (subst IsCalm (sym r.ran.events) (calm_program r.ran.labels)) h in
-    let all = behind_read w s r.n r.p1 r.p2 slots (r.p3 ++ (r.p4 ++ u)) r.read (behind_copy w r.fragments r.p3 (Some r.packet) (r.p4 ++ u) r.copied ran) in
-    subst (λ (l : List Event). GivesBack w.vif l) (apart r.p1 r.p2 r.p3 r.p4 ∙ ap (λ l. l ++ u) (sym r.joined)) all
+    let ran : GivesBack w.vif (r.runs ++ u) = behind_calm w.vif r.runs u (subst IsCalm (sym r.ran.events) (calm_program r.ran.labels)) h in
+    let all = behind_read w s r.n r.looks r.reads slots (r.copies ++ (r.runs ++ u)) r.read (behind_copy w r.fragments r.copies (Some r.packet) (r.runs ++ u) r.copied ran) in
+    subst (λ (l : List Event). GivesBack w.vif l) (apart r.looks r.reads r.copies r.runs ∙ ap (λ l. l ++ u) (sym r.joined)) all
   where
     apart : (p1 p2 p3 p4 : List Event) → (p1 ++ (p2 ++ (p3 ++ (p4 ++ u)))) ≡ (p1 ++ (p2 ++ (p3 ++ p4))) ++ u
     apart p1 p2 p3 p4 =

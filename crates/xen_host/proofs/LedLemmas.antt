@@ -15,7 +15,7 @@ use Rattle.xen_host.specs.Fits.{Fits}
 use Rattle.xen_host.specs.Led.{Led}
 use Rattle.xen_host.specs.declared.engine.Engine.{Engine}
 use Rattle.xen_host.specs.declared.op.Op.{Op}
-use Rattle.xen_host.specs.declared.wires.Wires.{Wires}
+use Rattle.xen_host.specs.declared.wires.OwnedWiring.{OwnedWiring}
 
 -- it keeps the lent words
 abbrev pub keeps : Ask → Bool
@@ -35,7 +35,7 @@ words_stay (ask.DeliveryOver what) lent k = refl
 words_stay (ask.WaitOver what) lent k = refl
 
 -- One ask is said.
-pub says_one : {A : Type 0} (ends : Ask → Steps A → Type 0) (w : Wires) (flags : TxFlags) (from left : Steps A) (new : Engine) (a : Ask) (o : Op) (ops ops_after : List Op) (count : ℕ) (lent : List ℕ) →
+pub says_one : {A : Type 0} (ends : Ask → Steps A → Type 0) (w : OwnedWiring) (flags : TxFlags) (from left : Steps A) (new : Engine) (a : Ask) (o : Op) (ops ops_after : List Op) (count : ℕ) (lent : List ℕ) →
     1 ≤ length ops → count ≡ 1 → ops_after ≡ o ∷ drop 1 ops → o ≡ op_of a → needs_no_answer a ≡ false → keeps a ≡ true → IsSized a →
     LedBy from (did_by a lent) left → ends a left → new.wires ≡ w → new.flags ≡ flags → Fits new.stage new.work → Led ends w flags from new ops ops_after count lent lent
 says_one ends w flags from left new a o ops ops_after count lent room one said is stops keep sized gone is_end wires flags_are fits = record {
@@ -59,7 +59,7 @@ says_one ends w flags from left new a o ops ops_after count lent room one said i
 }
 
 -- It is said last, where there is no more room.
-pub says_last : {A : Type 0} (ends : Ask → Steps A → Type 0) (w : Wires) (flags : TxFlags) (from left : Steps A) (new : Engine) (a : Ask) (o : Op) (ops ops_after : List Op) (lent lent_after : List ℕ) →
+pub says_last : {A : Type 0} (ends : Ask → Steps A → Type 0) (w : OwnedWiring) (flags : TxFlags) (from left : Steps A) (new : Engine) (a : Ask) (o : Op) (ops ops_after : List Op) (lent lent_after : List ℕ) →
     length ops ≡ 1 → ops_after ≡ o ∷ drop 1 ops → o ≡ op_of a → WordsStay (a ∷ []) lent lent_after → IsSized a →
     LedBy from (did_by a lent_after) left → ends a left → new.wires ≡ w → new.flags ≡ flags → Fits new.stage new.work → Led ends w flags from new ops ops_after 1 lent lent_after
 says_last ends w flags from left new a o ops ops_after lent lent_after room said is words sized gone is_end wires flags_are fits = record {
@@ -95,7 +95,7 @@ stay_kept (ask.DeliveryOver what) more lent lent_after k h = h
 stay_kept (ask.WaitOver what) more lent lent_after k h = h
 
 -- An ask that takes no answer, before others. `tail` are the ops behind the first.
-pub says_before : {A : Type 0} (ends : Ask → Steps A → Type 0) (w : Wires) (flags : TxFlags) (from between : Steps A) (new : Engine) (a : Ask) (o : Op) (ops tail ops_after : List Op) (count : ℕ) (lent lent_after : List ℕ) →
+pub says_before : {A : Type 0} (ends : Ask → Steps A → Type 0) (w : OwnedWiring) (flags : TxFlags) (from between : Steps A) (new : Engine) (a : Ask) (o : Op) (ops tail ops_after : List Op) (count : ℕ) (lent lent_after : List ℕ) →
     tail ≡ drop 1 ops → takes_none a ≡ true → o ≡ op_of a → ((more : List Ask) → WordsStay more lent_after lent_after → WordsStay (a ∷ more) lent lent_after) → IsSized a → LedBy from (did_by a lent_after) between →
     (h : Led ends w flags between new tail ops_after count lent_after lent_after) → 1 ≤ length ops → Led ends w flags from new ops (o ∷ ops_after) (suc count) lent lent_after
 says_before ends w flags from between new a o ops tail ops_after count lent lent_after rest none is words sized gone h some =
@@ -143,7 +143,7 @@ pub kept_words : (a : Ask) (lent : List ℕ) → keeps a ≡ true → (more : Li
 kept_words a lent k more h = stay_kept a more lent lent k h
 
 -- From another computation that is the same.
-pub led_from : {A : Type 0} (ends : Ask → Steps A → Type 0) (w : Wires) (flags : TxFlags) (from same : Steps A) (new : Engine) (ops ops_after : List Op) (count : ℕ) (lent lent_after : List ℕ) →
+pub led_from : {A : Type 0} (ends : Ask → Steps A → Type 0) (w : OwnedWiring) (flags : TxFlags) (from same : Steps A) (new : Engine) (ops ops_after : List Op) (count : ℕ) (lent lent_after : List ℕ) →
     same ≡ from → Led ends w flags same new ops ops_after count lent lent_after → Led ends w flags from new ops ops_after count lent lent_after
 led_from {A = A} ends w flags from same new ops ops_after count lent lent_after e h = subst (λ (x : Steps A). Led ends w flags x new ops ops_after count lent lent_after) e h
 
@@ -203,7 +203,7 @@ put_ask all a ops first count o e n is =
     ∙ sym (append_assoc (map op_of all) (op_of a ∷ []) (drop (count + 1) first)) ∙ ap (λ l. l ++ drop (count + 1) first) (sym (ops_more all a))
 
 -- Several are said, and then one that is answered.
-pub says_then : {A : Type 0} (ends : Ask → Steps A → Type 0) (w : Wires) (flags : TxFlags) (from between left : Steps A) (new : Engine) (all : List Ask) (a : Ask) (o : Op) (ops ops_before : List Op) (count : ℕ) (lent : List ℕ) →
+pub says_then : {A : Type 0} (ends : Ask → Steps A → Type 0) (w : OwnedWiring) (flags : TxFlags) (from between left : Steps A) (new : Engine) (all : List Ask) (a : Ask) (o : Op) (ops ops_before : List Op) (count : ℕ) (lent : List ℕ) →
     AreChained all → ops_before ≡ map op_of all ++ drop count ops → count ≡ length all → count < length ops → o ≡ op_of a → needs_no_answer a ≡ false → keeps a ≡ true → IsSized a →
     LedBy from (did_all all lent) between → LedBy between (did_by a lent) left → ends a left → new.wires ≡ w → new.flags ≡ flags → Fits new.stage new.work →
     Led ends w flags from new ops (take count ops_before ++ o ∷ drop (count + 1) ops_before) (count + 1) lent lent
@@ -239,7 +239,7 @@ chained_last [] last h = (tt, h.0)
 chained_last (x ∷ first) last h = let r = chained_last first last h.3 in ((h.0, h.1, h.2, r.0), r.1)
 
 -- Several are said, as far as there was room.
-pub says_all : {A : Type 0} (ends : Ask → Steps A → Type 0) (w : Wires) (flags : TxFlags) (from left : Steps A) (new : Engine) (all : List Ask) (ops ops_after : List Op) (count : ℕ) (lent : List ℕ) →
+pub says_all : {A : Type 0} (ends : Ask → Steps A → Type 0) (w : OwnedWiring) (flags : TxFlags) (from left : Steps A) (new : Engine) (all : List Ask) (ops ops_after : List Op) (count : ℕ) (lent : List ℕ) →
     AreChained all → ops_after ≡ map op_of all ++ drop count ops → count ≡ length all → count ≡ length ops → 1 ≤ length ops →
     LedBy from (did_all all lent) left → ((a : Ask) → takes_none a ≡ true → ends a left) → new.wires ≡ w → new.flags ≡ flags → Fits new.stage new.work →
     Led ends w flags from new ops ops_after count lent lent
@@ -280,7 +280,7 @@ said_behind o ops said tail e =
     ap (λ l. take 1 said ++ (tail ++ l)) (none_behind said) ∙ ap (λ l. take 1 said ++ l) (append-nil tail) ∙ ap (λ (l : List Op). take 1 l ++ tail) e
 
 -- The same ops and count, said otherwise.
-pub led_as : {A : Type 0} (ends : Ask → Steps A → Type 0) (w : Wires) (flags : TxFlags) (from : Steps A) (new : Engine) (ops ops_after other : List Op) (count n : ℕ) (lent lent_after : List ℕ) →
+pub led_as : {A : Type 0} (ends : Ask → Steps A → Type 0) (w : OwnedWiring) (flags : TxFlags) (from : Steps A) (new : Engine) (ops ops_after other : List Op) (count n : ℕ) (lent lent_after : List ℕ) →
     ops_after ≡ other → count ≡ n → Led ends w flags from new ops ops_after count lent lent_after → Led ends w flags from new ops other n lent lent_after
 led_as ends w flags from new ops ops_after other count n lent lent_after e k h =
     subst (λ (l : List Op). Led ends w flags from new ops l n lent lent_after) e (subst (λ m. Led ends w flags from new ops ops_after m lent lent_after) k h)
@@ -289,7 +289,7 @@ pub tail_is : (o : Op) (ops said : List Op) → said ≡ o ∷ drop 1 ops → ta
 tail_is o ops said e = take_all (length said - 1) (drop 1 said) (omega (arith, length-drop 1 said)) ∙ ap (λ l. drop 1 l) e
 
 -- A WRITE is said last.
-pub says_write : {A : Type 0} (ends : Ask → Steps A → Type 0) (w : Wires) (flags : TxFlags) (from left : Steps A) (new : Engine) (at : Place) (count : ℕ) (o : Op) (ops ops_after : List Op) (lent lent_after : List ℕ) →
+pub says_write : {A : Type 0} (ends : Ask → Steps A → Type 0) (w : OwnedWiring) (flags : TxFlags) (from left : Steps A) (new : Engine) (at : Place) (count : ℕ) (o : Op) (ops ops_after : List Op) (lent lent_after : List ℕ) →
     1 ≤ length ops → ops_after ≡ o ∷ drop 1 ops → o ≡ op_of (ask.Write at count) → drop count lent_after ≡ drop count lent → 1 ≤ count → count ≤ 1024 →
     LedBy from (did_by (ask.Write at count) lent_after) left → ends (ask.Write at count) left → new.wires ≡ w → new.flags ≡ flags → Fits new.stage new.work → Led ends w flags from new ops ops_after 1 lent lent_after
 says_write ends w flags from left new at count o ops ops_after lent lent_after room said is words some few gone is_end wires flags_are fits = record {

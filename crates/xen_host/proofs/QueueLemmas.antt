@@ -38,14 +38,14 @@ use Rattle.xen_host.specs.declared.queue.Queue.{Queue}
 use Rattle.xen_host.specs.declared.stage.Purpose.TheVariants as purpose
 use Rattle.xen_host.specs.declared.stage.Stage.{Stage}
 use Rattle.xen_host.specs.declared.stage.Stage.TheVariants as stage
-use Rattle.xen_host.specs.declared.wires.Wires.{Wires}
+use Rattle.xen_host.specs.declared.wires.OwnedWiring.{OwnedWiring}
 use Rattle.xen_host.specs.declared.work.Work.{Work}
 use Rattle.xen_host.proofs.EndLemmas.{delivery_ended, fed_delivery, fed_turn, fed_wait, reads_few, turn_ended, wait_ended}
 use Rattle.xen_host.proofs.StageLemmas.{AtTurn, Under, delivery, nothing, turn, under, wait}
 use Rattle.xen_host.proofs.StepLemmas.{AreSmall}
 use Rattle.xen_host.proofs.TurnLemmas.{delivery_steps, turn_goes, turn_steps, wait_steps}
 
-task_delivery : (w : Wires) (s : State) (g : Stage) (b : Work) → is_delivering g ≡ true → TaskCompletes w s g b → Arriving w s g b
+task_delivery : (w : OwnedWiring) (s : State) (g : Stage) (b : Work) → is_delivering g ≡ true → TaskCompletes w s g b → Arriving w s g b
 task_delivery w s stage.Ready b t h = cc t
 task_delivery w s stage.Announce b t h = cc t
 task_delivery w s (stage.Slot left) b t h = cc t
@@ -60,7 +60,7 @@ task_delivery w s (stage.Deliver producer) b t h = h
 task_delivery w s (stage.Wait pages) b t h = cc t
 task_delivery w s (stage.WaitLook pages) b t h = cc t
 
-task_wait : (w : Wires) (s : State) (g : Stage) (b : Work) → is_waiting g ≡ true → TaskCompletes w s g b → Waiting w s g
+task_wait : (w : OwnedWiring) (s : State) (g : Stage) (b : Work) → is_waiting g ≡ true → TaskCompletes w s g b → Waiting w s g
 task_wait w s stage.Ready b t h = cc t
 task_wait w s stage.Announce b t h = cc t
 task_wait w s (stage.Slot left) b t h = cc t
@@ -84,8 +84,8 @@ pub record Stands (e : Engine) : Type 0 where
 pub stands : (q : Queue) → Stands q.engine
 stands q = record { fits = q.fits; wired = q.wired; turns = q.turns; left = q.left }
 
-wires_stand : (q : Queue) (w : Wires) → w ≡ q.engine.wires → IsWired (vif_of w) × TurnsComplete (wiring_of w)
-wires_stand q w e = subst (λ (x : Wires). IsWired (vif_of x) × TurnsComplete (wiring_of x)) (sym e) (q.wired, q.turns)
+wires_stand : (q : Queue) (w : OwnedWiring) → w ≡ q.engine.wires → IsWired (vif_of w) × TurnsComplete (wiring_of w)
+wires_stand q w e = subst (λ (x : OwnedWiring). IsWired (vif_of x) × TurnsComplete (wiring_of x)) (sym e) (q.wired, q.turns)
 
 module _ (old : Queue) (engine : Engine) (lent lent_after before after : List ℕ) (ops ops_after : List Op) (count : ℕ) (long : 1024 ≤ length lent) (same : length lent_after ≡ length lent) (small : AreSmall lent)
     (led : StepAt old.engine.stage old.engine engine lent lent_after before after ops ops_after count) where
@@ -237,7 +237,7 @@ begun old new producer ops ops_after count small led lent long =
       within = r.inside;
       wires = l.wires;
       flags = l.flags_are;
-      turn = turn_goes new s (reads ++ did) l.last l.left (subst (λ (x : Wires). LedBy (whole_turn (wiring_of x) s) (reads ++ did) l.left) (sym l.wires) g) l.is_end;
+      turn = turn_goes new s (reads ++ did) l.last l.left (subst (λ (x : OwnedWiring). LedBy (whole_turn (wiring_of x) s) (reads ++ did) l.left) (sym l.wires) g) l.is_end;
     }
 
 blank : List ℕ

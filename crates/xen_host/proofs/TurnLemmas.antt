@@ -27,7 +27,7 @@ use Rattle.xen_host.specs.declared.op.Op.{Op}
 use Rattle.xen_host.specs.declared.queue.Queue.{Queue}
 use Rattle.xen_host.specs.declared.stage.Stage.{Stage}
 use Rattle.xen_host.specs.declared.stage.Stage.TheVariants as stage
-use Rattle.xen_host.specs.declared.wires.Wires.{Wires}
+use Rattle.xen_host.specs.declared.wires.OwnedWiring.{OwnedWiring}
 use Rattle.xen_host.proofs.StepLemmas.{AreSmall, waits_led}
 
 -- It goes on.
@@ -109,7 +109,7 @@ turn_steps old new flags lent lent_after before after ops ops_after count small 
     let g = gone_append (whole_turn (wiring old) s) rest h.led.left trace (read_by asked lent ++ (ran ++ did)) token.gone
     (gone_append rest (fed rest (take n lent)) h.led.left (read_by asked lent) (ran ++ did) (waits_led asked n rest lent small long token.waits)
     (gone_append (fed rest (take n lent)) h.between h.led.left ran did h.ran.gone h.led.gone)) in
-    turn_goes new s t h.led.last h.led.left (subst (λ (x : Wires). LedBy (whole_turn (wiring_of x) s) t h.led.left) (sym h.led.wires) g) h.led.is_end
+    turn_goes new s t h.led.last h.led.left (subst (λ (x : OwnedWiring). LedBy (whole_turn (wiring_of x) s) t h.led.left) (sym h.led.wires) g) h.led.is_end
 
 -- A step of a delivery.
 pub delivery_steps : (old new : Queue) (flags : TxFlags) (lent lent_after : List ℕ) (ops ops_after : List Op) (count : ℕ) → AreSmall lent → reads_in old.engine.stage ≤ length lent →
@@ -124,7 +124,7 @@ delivery_steps old new flags lent lent_after ops ops_after count small long h s 
     let t = trace ++ (read_by_some asked lent ++ did) in
     let g = gone_append (whole_delivery (wiring old).vif s packet) rest h.left trace (read_by_some asked lent ++ did) token.0.gone
     (gone_append rest (fed rest (take n lent)) h.left (read_by_some asked lent) did (some_led asked n rest lent small long token.0.waits) h.gone) in
-    delivery_goes new s packet t h.last h.left (subst (λ (x : Wires). LedBy (whole_delivery (wiring_of x).vif s packet) t h.left) (sym h.wires) g)
+    delivery_goes new s packet t h.last h.left (subst (λ (x : OwnedWiring). LedBy (whole_delivery (wiring_of x).vif s packet) t h.left) (sym h.wires) g)
     (subst (λ p. DeliveryEnds p new.engine h.last h.left) token.1 h.is_end)
 
 -- A step of a wait.
@@ -140,5 +140,5 @@ wait_steps old new flags lent lent_after ops ops_after count small long h s page
     let t = trace ++ (read_by_some asked lent ++ did) in
     let g = gone_append (whole_wait e.wires.rx s pages) rest h.left trace (read_by_some asked lent ++ did) token.0.gone
     (gone_append rest (fed rest (take n lent)) h.left (read_by_some asked lent) did (some_led asked n rest lent small long token.0.waits) h.gone) in
-    wait_goes new s pages packet t h.last h.left (subst (λ (x : Wires). LedBy (whole_wait x.rx s pages) t h.left) (sym h.wires) g)
+    wait_goes new s pages packet t h.last h.left (subst (λ (x : OwnedWiring). LedBy (whole_wait x.rx s pages) t h.left) (sym h.wires) g)
     (subst (λ p. WaitEnds p new.engine h.last h.left) token.1 h.is_end)

@@ -54,7 +54,7 @@ awaited_op awaited.Posted = over 9 0 0
 awaited_op awaited.Waiting = over 10 0 0
 awaited_op (awaited.Halted cause) = over 11 (halt_number cause) 0
 
--- what a host is told of an entry: its page is to be read, or to be written
+-- What an op says of an entry: its page is to be read, or to be written.
 abbrev pub entry_number : Rights → ℕ
 entry_number ReadOnly = 1
 entry_number ReadWrite = 2

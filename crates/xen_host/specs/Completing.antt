@@ -10,17 +10,17 @@ use Rattle.xen_host.specs.Wired.{vif_of, wiring_of}
 use Rattle.xen_host.specs.declared.stage.Purpose.TheVariants as purpose
 use Rattle.xen_host.specs.declared.stage.Stage.{Stage}
 use Rattle.xen_host.specs.declared.stage.Stage.TheVariants as stage
-use Rattle.xen_host.specs.declared.wires.Wires.{Wires}
+use Rattle.xen_host.specs.declared.wires.OwnedWiring.{OwnedWiring}
 use Rattle.xen_host.specs.declared.work.Work.{Work}
 
-abbrev pub Arriving : Wires → State → Stage → Work → Type 0
+abbrev pub Arriving : OwnedWiring → State → Stage → Work → Type 0
 Arriving w s g b = Finishes (IsPageWant (length w.owners)) (rest_of_delivery (vif_of w) s g b)
 
-abbrev pub Waiting : Wires → State → Stage → Type 0
+abbrev pub Waiting : OwnedWiring → State → Stage → Type 0
 Waiting w s g = Finishes (IsPageWant (length w.owners)) (rest_of_wait w.rx s g)
 
 -- It ends, whatever it is answered, and until then wants nothing that it may not.
-abbrev pub TaskCompletes : Wires → State → Stage → Work → Type 0
+abbrev pub TaskCompletes : OwnedWiring → State → Stage → Work → Type 0
 TaskCompletes w s stage.Ready b = Unit {0}
 TaskCompletes w s (stage.Fill f purpose.Delivery) b = Arriving w s (stage.Fill f purpose.Delivery) b
 TaskCompletes w s (stage.Deliver producer) b = Arriving w s (stage.Deliver producer) b
@@ -28,16 +28,16 @@ TaskCompletes w s (stage.Wait pages) b = Waiting w s (stage.Wait pages)
 TaskCompletes w s (stage.WaitLook pages) b = Waiting w s (stage.WaitLook pages)
 TaskCompletes w s g b = Completes (wiring_of w) (rest_in (wiring_of w) s g b)
 
-turn-prop : (w : Wires) (s : State) (g : Stage) (b : Work) → IsProp (Completes (wiring_of w) (rest_in (wiring_of w) s g b))
+turn-prop : (w : OwnedWiring) (s : State) (g : Stage) (b : Work) → IsProp (Completes (wiring_of w) (rest_in (wiring_of w) s g b))
 turn-prop w s g b = Completes-prop (wiring_of w) (rest_in (wiring_of w) s g b)
 
-delivery-prop : (w : Wires) (s : State) (g : Stage) (b : Work) → IsProp (Arriving w s g b)
+delivery-prop : (w : OwnedWiring) (s : State) (g : Stage) (b : Work) → IsProp (Arriving w s g b)
 delivery-prop w s g b = Finishes-prop (IsPageWant (length w.owners)) (IsPageWant-prop (length w.owners)) (rest_of_delivery (vif_of w) s g b)
 
-wait-prop : (w : Wires) (s : State) (g : Stage) → IsProp (Waiting w s g)
+wait-prop : (w : OwnedWiring) (s : State) (g : Stage) → IsProp (Waiting w s g)
 wait-prop w s g = Finishes-prop (IsPageWant (length w.owners)) (IsPageWant-prop (length w.owners)) (rest_of_wait w.rx s g)
 
-pub TaskCompletes-prop : (w : Wires) (s : State) (g : Stage) (b : Work) → IsProp (TaskCompletes w s g b)
+pub TaskCompletes-prop : (w : OwnedWiring) (s : State) (g : Stage) (b : Work) → IsProp (TaskCompletes w s g b)
 TaskCompletes-prop w s stage.Ready b = λ x y i. x
 TaskCompletes-prop w s (stage.Fill f purpose.Delivery) b = delivery-prop w s (stage.Fill f purpose.Delivery) b
 TaskCompletes-prop w s (stage.Deliver producer) b = delivery-prop w s (stage.Deliver producer) b

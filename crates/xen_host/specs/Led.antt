@@ -26,11 +26,11 @@ use Rattle.xen_host.specs.declared.stage.Purpose.{Purpose}
 use Rattle.xen_host.specs.declared.stage.Purpose.TheVariants as purpose
 use Rattle.xen_host.specs.declared.stage.Stage.{Stage}
 use Rattle.xen_host.specs.declared.stage.Stage.TheVariants as stage
-use Rattle.xen_host.specs.declared.wires.Wires.{Wires}
+use Rattle.xen_host.specs.declared.wires.OwnedWiring.{OwnedWiring}
 use Rattle.xen_host.specs.declared.work.Work.{Work}
 
 -- What was asked leads from a computation to where it ends. The wiring stays; the flags are these.
-pub record Led {A : Type 0} (ends : Ask → Steps A → Type 0) (w : Wires) (flags : TxFlags) (from : Steps A) (new : Engine)
+pub record Led {A : Type 0} (ends : Ask → Steps A → Type 0) (w : OwnedWiring) (flags : TxFlags) (from : Steps A) (new : Engine)
     (ops ops_after : List Op) (count : ℕ) (lent lent_after : List ℕ) : Type 0 where
   pub first : List Ask
   pub last : Ask
@@ -68,11 +68,11 @@ abbrev pub TurnEnds : Engine → Ask → Steps Ending → Type 0
 TurnEnds e (TurnOver k) left = IsTurnOver e k left
 TurnEnds e last left = IsOn (rest_in (wiring_of e.wires) e.state e.stage e.work) (reads_in e.stage) (is_turning e.stage) last left
 
-abbrev pub TurnLed : Wires → TxFlags → Steps Ending → Engine → (ops ops_after : List Op) → ℕ → (lent lent_after : List ℕ) → Type 0
+abbrev pub TurnLed : OwnedWiring → TxFlags → Steps Ending → Engine → (ops ops_after : List Op) → ℕ → (lent lent_after : List ℕ) → Type 0
 TurnLed w flags from new ops ops_after count lent lent_after = Led (TurnEnds new) w flags from new ops ops_after count lent lent_after
 
 -- As TurnLed, after the program's run.
-pub record TurnRanLed (w : Wires) (flags : TxFlags) (from : Steps Ending) (new : Engine) (before after : List ℕ)
+pub record TurnRanLed (w : OwnedWiring) (flags : TxFlags) (from : Steps Ending) (new : Engine) (before after : List ℕ)
     (ops ops_after : List Op) (count : ℕ) (lent lent_after : List ℕ) : Type 0 where
   pub between : Steps Ending
   pub ran : HasRunThrough w.program.shapes from between before after
@@ -86,7 +86,7 @@ DeliveryEnds packet e last left =
     IsOn (rest_of_delivery (vif_of e.wires) e.state e.stage e.work) (reads_in e.stage) (is_delivering e.stage) last left ×
     (e.work.packet ≡ packet)
 
-abbrev pub DeliveryLed : Wires → TxFlags → List ℕ → Steps Arrival → Engine → (ops ops_after : List Op) → ℕ →
+abbrev pub DeliveryLed : OwnedWiring → TxFlags → List ℕ → Steps Arrival → Engine → (ops ops_after : List Op) → ℕ →
     (lent lent_after : List ℕ) → Type 0
 DeliveryLed w flags packet from new ops ops_after count lent lent_after =
     Led (DeliveryEnds packet new) w flags from new ops ops_after count lent lent_after
@@ -96,7 +96,7 @@ WaitEnds packet e (WaitOver what) left = (left ≡ done (e.state, what)) × (e.s
 WaitEnds packet e last left =
     IsOn (rest_of_wait e.wires.rx e.state e.stage) (reads_in e.stage) (is_waiting e.stage) last left × (e.work.packet ≡ packet)
 
-abbrev pub WaitLed : Wires → TxFlags → List ℕ → Steps Wait → Engine → (ops ops_after : List Op) → ℕ →
+abbrev pub WaitLed : OwnedWiring → TxFlags → List ℕ → Steps Wait → Engine → (ops ops_after : List Op) → ℕ →
     (lent lent_after : List ℕ) → Type 0
 WaitLed w flags packet from new ops ops_after count lent lent_after =
     Led (WaitEnds packet new) w flags from new ops ops_after count lent lent_after
@@ -105,7 +105,7 @@ WaitLed w flags packet from new ops ops_after count lent lent_after =
 
 -- What a transmit leaves as it is.
 pub record Beside : Type 0 where
-  pub wires : Wires
+  pub wires : OwnedWiring
   pub flags : TxFlags
   pub state : State
   pub chain : List Slot

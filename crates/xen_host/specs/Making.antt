@@ -14,7 +14,7 @@ use Rattle.xen_host.specs.declared.make.MakeFault.{MakeFault}
 use Rattle.xen_host.specs.declared.make.MakeFault.TheVariants as fault
 use Rattle.xen_host.specs.declared.make.QueueParts.{QueueParts}
 use Rattle.xen_host.specs.declared.queue.Queue.{Queue}
-use Rattle.xen_host.specs.declared.wires.Wires.{Wires}
+use Rattle.xen_host.specs.declared.wires.OwnedWiring.{OwnedWiring}
 
 -- What a host gives.
 pub record Given : Type 0 where
@@ -66,7 +66,7 @@ pub record AreRings (g : Given) : Type 0 where
   pub rx : IsRing g g.rx
 
 -- Each part is what was given, within its limits.
-pub record IsWiredTo (program : Accepted) (g : Given) (w : Wires) : Type 0 where
+pub record IsWiredTo (program : Accepted) (g : Given) (w : OwnedWiring) : Type 0 where
   pub tx : w.tx ≡ g.tx
   pub rx : w.rx ≡ g.rx
   pub table : w.table ≡ g.table

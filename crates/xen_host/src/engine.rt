@@ -8,7 +8,7 @@ ghost use Rattle.xen_host.specs.Led.{TurnLed, packet_after, with_packet};
 
 use crate::op::Op;
 use crate::stage::Stage;
-use crate::wires::Wires;
+use crate::wires::OwnedWiring;
 use crate::work::Work;
 use xen_back::decisions::halted;
 use xen_back::{Halt, Kind, State};
@@ -17,7 +17,7 @@ use xen_netif::TxFlags;
 /// What a queue works with. Each of its steps is made by a function that sets the stage and says the ops that lead there.
 #[derive(Drop)]
 pub struct Engine {
-    pub(crate) wires: Wires,
+    pub(crate) wires: OwnedWiring,
     pub(crate) state: State,
     pub(crate) stage: Stage,
     /// The flags of the first slot of the turn that is under way or over.

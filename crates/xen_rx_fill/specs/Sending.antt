@@ -57,9 +57,9 @@ pub data IsTransmit (w : Vif) (x : ℕ) (packet : List ℕ) : List Event → Out
   rx_overflow : (p : ℕ) → p < 2 ^ 32 → available x p ≡ None → IsTransmit w x packet (Read (rx_word w 0) p ∷ []) outcome.Overflow
   too_few : (p m : ℕ) → p < 2 ^ 32 → available x p ≡ Some m → m < pages packet →
       IsTransmit w x packet (Read (rx_word w 0) p ∷ []) outcome.TooFew
-  refused : (p m : ℕ) (p1 p2 : List Event) (ts : List Target) → p < 2 ^ 32 → available x p ≡ Some m → pages packet ≤ m →
-      AreTargets w x 0 (pages packet) p1 Refused ts → IsRxRespond w x packet Refused ts p2 →
-      IsTransmit w x packet (Read (rx_word w 0) p ∷ (p1 ++ p2)) (outcome.Refused (length ts))
-  sent : (p m : ℕ) (p1 p2 : List Event) (ts : List Target) → p < 2 ^ 32 → available x p ≡ Some m → pages packet ≤ m →
-      AreTargets w x 0 (pages packet) p1 Passed ts → IsRxRespond w x packet Passed ts p2 →
-      IsTransmit w x packet (Read (rx_word w 0) p ∷ (p1 ++ (buffer_writes ts packet (words packet) 0 ++ p2))) (outcome.Sent (length ts))
+  refused : (p m : ℕ) (reads answers : List Event) (ts : List Target) → p < 2 ^ 32 → available x p ≡ Some m → pages packet ≤ m →
+      AreTargets w x 0 (pages packet) reads Refused ts → IsRxRespond w x packet Refused ts answers →
+      IsTransmit w x packet (Read (rx_word w 0) p ∷ (reads ++ answers)) (outcome.Refused (length ts))
+  sent : (p m : ℕ) (reads answers : List Event) (ts : List Target) → p < 2 ^ 32 → available x p ≡ Some m → pages packet ≤ m →
+      AreTargets w x 0 (pages packet) reads Passed ts → IsRxRespond w x packet Passed ts answers →
+      IsTransmit w x packet (Read (rx_word w 0) p ∷ (reads ++ (buffer_writes ts packet (words packet) 0 ++ answers))) (outcome.Sent (length ts))
