@@ -61,8 +61,9 @@ impl<'p> Desk<'p> {
         }
     }
 
-    /// What comes after a poll that gave nothing, by the numbers of unanswered tx requests and of posted rx slots after it,
-    /// and of the tx slots that the back had done with before it. For all others a packet may still come.
+    /// What comes after a poll that gave nothing: the end, a rest, or another round. `open` and `posted` are the unanswered tx
+    /// requests and the posted rx slots now, `settled` the tx slots that the back had done with before the poll; for the others
+    /// a packet may still come.
     fn after_idle(&mut self, open: u32, posted: u32, settled: u32, last: bool) -> Next {
         let on_way = open.max(self.taken.wrapping_sub(settled));
         let spare = posted.saturating_sub(on_way);
