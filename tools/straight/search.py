@@ -272,7 +272,7 @@ class Search:
         return fresh
 
     def restart(self, here: Copy, register: int) -> bool:
-        """An address plus so many numbers that their sum may lie far past any packet: it was compared with the
+        """An address plus numbers whose sum may lie far past any packet: it was compared with the
         packet's end, and is made anew from its distance there."""
         if (here.key, register) in self.marks.restarts:
             return False

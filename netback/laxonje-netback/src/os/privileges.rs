@@ -7,7 +7,7 @@ use std::io;
 use std::os::raw::{c_int, c_ulong};
 
 const LAST_CAPABILITY: u32 = 40;
-/// A sleep may end so many nanoseconds late. The kernel's own number is 50,000.
+/// A sleep may end that many nanoseconds late. The kernel's own number is 50,000.
 const LEAST_SLACK: c_ulong = 1;
 
 /// Keeps CAP_NET_ADMIN, or nothing, in this thread and those that it starts. No program that is executed gets more.

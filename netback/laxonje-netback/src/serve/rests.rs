@@ -7,7 +7,7 @@ use std::iter::repeat_with;
 use std::thread;
 use std::time::{Duration, Instant};
 
-/// A rest comes after so many packets: the buffer of a socket takes some 270 short ones, if it has the usual size.
+/// A rest comes after that many packets: the buffer of a socket takes some 270 short ones, if it has the usual size.
 const PACKETS: usize = 256;
 const NAP: Duration = Duration::from_micros(20);
 /// A nap that took so long: others had the processor, and may want it still.
