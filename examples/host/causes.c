@@ -1,4 +1,5 @@
-/* Each cause of the header by its name: the shortest program, or settings text, that is refused for it (docs/REFUSALS.md). It is C and C++. */
+/* Each cause of the header by its name: the shortest program, or settings text, that is refused for it (docs/REFUSALS.md). And each limit:
+ * what is at it is taken, and what is past it isn't. It is C and C++. */
 #include <laxonje.h>
 #include <stdio.h>
 #include <string.h>
@@ -63,10 +64,40 @@ static size_t bytes_of(const char *slots, uint8_t *bytes)
 	return count;
 }
 
+/* A program of that many bytes: r0 = 0, again and again, and exit. */
+static struct laxonje_verdict check_of(size_t count, const struct laxonje_map *maps, size_t map_count)
+{
+	static uint8_t code[LAXONJE_PROGRAM_BYTES + 8];
+	memset(code, 0, sizeof code);
+	for (size_t at = 0; at < count; at += 8)
+		code[at] = at + 8 < count ? 0xb7 : 0x95;
+	return laxonje_check(code, count, maps, map_count);
+}
+
+static void limits(struct laxonje_program *program)
+{
+	static const struct laxonje_map all[LAXONJE_MAPS + 1] = { { LAXONJE_ENTRIES, 1 }, { 1, LAXONJE_COUNTERS }, { 1, 1 }, { 1, 1 }, { 1, 1 } };
+	static const struct laxonje_map entries = { LAXONJE_ENTRIES + 1, 1 }, counters = { 1, LAXONJE_COUNTERS + 1 };
+	static const uint8_t code[] = { 0xb7, 0, 0, 0, 2, 0, 0, 0, 0x95, 0, 0, 0, 0, 0, 0, 0 };
+	static uint8_t packet[LAXONJE_PACKET + 1];
+	const uint32_t most = LAXONJE_PROGRAM_BYTES / 8;
+	says("as many maps as there may be", 0, check_of(16, all, LAXONJE_MAPS), LAXONJE_ACCEPTED, 0, 2);
+	says("a map more", 0, check_of(16, all, LAXONJE_MAPS + 1), LAXONJE_MAP, 0, LAXONJE_MAPS);
+	says("an entry more", 0, check_of(16, &entries, 1), LAXONJE_MAP, 0, 0);
+	says("a counter more", 0, check_of(16, &counters, 1), LAXONJE_MAP, 0, 0);
+	says("the longest program", 0, check_of(LAXONJE_PROGRAM_BYTES, NULL, 0), LAXONJE_ACCEPTED, 0, most);
+	says("a longer one", 0, check_of(LAXONJE_PROGRAM_BYTES + 8, NULL, 0), LAXONJE_REFUSED, LAXONJE_V_LENGTH, 0);
+	says("a program", 0, laxonje_load(code, sizeof code, NULL, 0, program), LAXONJE_ACCEPTED, 0, 2);
+	if (laxonje_run(program, NULL, 0, packet, LAXONJE_PACKET, 0, 0).instructions != 2 ||
+	    laxonje_run(program, NULL, 0, packet, LAXONJE_PACKET + 1, 0, 0).instructions != 0)
+		printf("the longest packet\n"), wrong++;
+}
+
 int main(void)
 {
 	struct laxonje_program *program = laxonje_program_new();
 	uint8_t bytes[LONGEST];
+	limits(program);
 	for (size_t i = 0; i < sizeof programs / sizeof programs[0]; i++) {
 		const struct program *it = &programs[i];
 		size_t count = bytes_of(it->slots, bytes);
