@@ -6,12 +6,13 @@ import sys
 def help_if_asked(text):
     """Prints the help of a tool and ends, if that alone is asked for."""
     if sys.argv[1:] == ["--help"]:
-        put(f"{text}\n")
+        put(f"{text}\n", "the help", is_read_in_part=True)
         sys.exit()
 
 
-def put(text):
-    """Prints settings. Ends with status 1 if standard output doesn't take all of them."""
+def put(text, what="the settings", is_read_in_part=False):
+    """Prints a text, which is this. Ends with status 1 if standard output doesn't take all of it; but not if its reader may
+    stop where it has read enough."""
     if sys.stdout is None:
         fail("standard output is closed: nothing was printed")
     try:
@@ -20,13 +21,15 @@ def put(text):
     except (OSError, UnicodeEncodeError) as fault:
         # what is still in the buffer would be tried again at the end
         os.dup2(os.open(os.devnull, os.O_WRONLY), sys.stdout.fileno())
-        fail(f"standard output doesn't take the settings: {getattr(fault, 'strerror', None) or fault}")
+        if isinstance(fault, BrokenPipeError) and is_read_in_part:
+            sys.exit(0)
+        fail(f"standard output doesn't take {what}: {getattr(fault, 'strerror', None) or fault}")
 
 
-def fail(line):
-    """Ends with a line on standard error, and status 1."""
-    say([line])
-    sys.exit(1)
+def fail(line, status=1):
+    """Ends with one line on standard error, and this status."""
+    say([in_one_line(line)])
+    sys.exit(status)
 
 
 def say(lines):

@@ -1,7 +1,7 @@
 /* Queues of guests whose frames are given in extents, in tables: which are made, and packets of some. It is C and C++. */
 #include "rows.h"
 
-enum { NOBODY = 0x7ff4, OTHER = GUEST + 1, OWN = 0, FAR = 1 << 18, ENTRIES = 512, MOST_EXTENTS = 3, MOST_TABLE = 65, REFERENCE = 9 };
+enum { NOBODY = 0x7ff4, OTHER = GUEST + 1, OWN = 0, FAR = 1 << 18, ENTRIES = 512, MOST_EXTENTS = 3, MOST_TABLE = LAXONJE_EXTENT_TABLE_FRAMES + 1, REFERENCE = 9 };
 #define ALL LAXONJE_EXTENT_FRAMES
 
 /* A try: the extents, the frames of the rings, the first of the table's and how many those are, the backend's domain, and the
@@ -17,7 +17,7 @@ struct making {
 
 static const struct making far_off = { "frames that no list reaches", { { FAR, NOBODY }, { 4, GUEST }, { 1, OTHER } }, 3,
 	                               FAR, FAR + 1, FAR + 2, 1, OWN, LAXONJE_MADE };
-static const struct making large = { "a table of 64 frames", { { 80, GUEST } }, 1, 0, 1, 2, 64, OWN, LAXONJE_MADE };
+static const struct making large = { "a table of 64 frames", { { 80, GUEST } }, 1, 0, 1, 2, LAXONJE_EXTENT_TABLE_FRAMES, OWN, LAXONJE_MADE };
 
 static const struct making makings[] = {
 	{ "a ring in the last frame of an extent", { { 2, GUEST }, { 2, GUEST }, { 1, OTHER } }, 3, 1, 3, 2, 1, OWN, LAXONJE_MADE },
@@ -32,7 +32,7 @@ static const struct making makings[] = {
 	{ "no extents", { { 0, 0 } }, 0, 0, 1, 2, 1, OWN, LAXONJE_MADE_TABLE },
 	{ "no table", { { 80, GUEST } }, 1, 0, 1, 2, 0, OWN, LAXONJE_MADE_TABLE },
 	{ "a table of 17 frames", { { 80, GUEST } }, 1, 0, 1, 2, 17, OWN, LAXONJE_MADE },
-	{ "a table of 65 frames", { { 80, GUEST } }, 1, 0, 1, 2, 65, OWN, LAXONJE_MADE_TABLE },
+	{ "a table of 65 frames", { { 80, GUEST } }, 1, 0, 1, 2, MOST_TABLE, OWN, LAXONJE_MADE_TABLE },
 	{ "a table that ends in another's frame", { { 65, GUEST }, { 1, OTHER } }, 2, 0, 1, 2, 64, OWN, LAXONJE_MADE_TABLE },
 	{ "two extents", { { 4, GUEST }, { 4, OTHER } }, 2, 0, 1, 2, 1, OWN, LAXONJE_MADE },
 	{ "these two swapped", { { 4, OTHER }, { 4, GUEST } }, 2, 0, 1, 2, 1, OWN, LAXONJE_MADE_TABLE },
@@ -92,9 +92,9 @@ static void lists(struct laxonje_program *program, struct laxonje_queue *queue)
 		owners[i] = GUEST;
 	for (uint32_t i = 0; i <= LAXONJE_TABLE_FRAMES; i++)
 		table[i] = 2 + i;
-	is("a list", laxonje_queue_make(program, owners, LAXONJE_FRAMES, table, 16, &desc, queue), LAXONJE_MADE);
-	is("17 frames beside a list", laxonje_queue_make(program, owners, LAXONJE_FRAMES, table, 17, &desc, queue), LAXONJE_MADE_TABLE);
-	is("a longer list", laxonje_queue_make(program, owners, LAXONJE_FRAMES + 1, table, 16, &desc, queue), LAXONJE_MADE_FRAMES);
+	is("a list", laxonje_queue_make(program, owners, LAXONJE_FRAMES, table, LAXONJE_TABLE_FRAMES, &desc, queue), LAXONJE_MADE);
+	is("17 frames beside a list", laxonje_queue_make(program, owners, LAXONJE_FRAMES, table, LAXONJE_TABLE_FRAMES + 1, &desc, queue), LAXONJE_MADE_TABLE);
+	is("a longer list", laxonje_queue_make(program, owners, LAXONJE_FRAMES + 1, table, LAXONJE_TABLE_FRAMES, &desc, queue), LAXONJE_MADE_FRAMES);
 }
 
 int main(void)

@@ -6,6 +6,8 @@ import subprocess
 from dataclasses import dataclass
 from typing import NamedTuple, Optional
 
+from output import fail
+
 
 class Lost(NamedTuple):
     """A refused access: where its register was an address last, and what was known of the number added there."""
@@ -41,14 +43,23 @@ class Verdict:
         return Lost(said[1], int(said[2]), register, (int(span[1]), int(span[2])) if span else None)
 
 
+def asked(xdpbox: str, command: str, settings: str) -> subprocess.CompletedProcess:
+    """What xdpbox answers. Ends if it can't be run."""
+    try:
+        return subprocess.run([xdpbox, command], input=settings, capture_output=True, text=True, check=False)
+    except OSError as fault:
+        fail(f"{xdpbox} can't be run: {fault.strerror}")
+        raise
+
+
 def is_same(xdpbox: str, settings: str) -> bool:
     """Whether `xdpbox same` shows that the program of settings, as text, has the runs of the one beside it."""
-    run = subprocess.run([xdpbox, "same"], input=settings, capture_output=True, text=True, check=False)
+    run = asked(xdpbox, "same", settings)
     return run.returncode == 0 and run.stdout.startswith("same, ")
 
 
 def verdict(xdpbox: str, settings: str) -> Verdict:
     """What `xdpbox explain` answers to settings as text."""
-    run = subprocess.run([xdpbox, "explain"], input=settings, capture_output=True, text=True, check=False)
+    run = asked(xdpbox, "explain", settings)
     refused = re.search(r"^refused (V\d+) at (\d+)", run.stdout, re.M)
     return Verdict(run.stdout, refused[1], int(refused[2])) if refused else Verdict(run.stdout)

@@ -22,6 +22,11 @@ WORDS = {
     "tools/man-of-header": [],
     "tools/release": ["--fast"],
     "tools/test-built": ["--fast"],
+    "tools/packets-of-pcap": [],
+    "tools/script-of-packet": ["--fast"],
+    "tools/same-program": ["one.toml"],
+    "tools/straighten": ["--fast"],
+    "tools/statement": ["--fast"],
     "tools/gate/test-pcap": ["all"],
     "tools/gate/test-tools": ["all"],
 }
@@ -43,3 +48,15 @@ def word_tests():
     for name, wrong in WORDS.items():
         status, text, error = said([ROOT / name, *wrong], cwd="/")
         yield f"{name} {' '.join(wrong)}", status == 2 and not text and error.count("\n") == 1 and "--help" in error
+    yield from output_tests()
+
+
+def output_tests():
+    """A contract that nobody can read, and a number of other digits."""
+    statement = ROOT / "tools/statement"
+    for where, wanted in ((">&-", "is closed"), ("> /dev/full", "No space left")):
+        status, text, error = said(["sh", "-c", f'exec "$0" xen_ring::due {where}', statement])
+        yield f"tools/statement {where}", status == 1 and not text and error.count("\n") == 1 and wanted in error
+    for word in ("\u0663", "\u00b2", "a\nb"):
+        status, text, error = said([statement, word])
+        yield f"tools/statement {word!r}", status == 2 and not text and error.count("\n") == 1

@@ -182,9 +182,18 @@ def name_tests(clang, xdpbox, path, folder):
         ("flags that can't be read", {"CFLAGS": '"'}, "CFLAGS can't be read"),
         ("an xdpbox that isn't there", {"XDPBOX": "/nowhere"}, "which isn't a program that can be run"),
         ("an xdpbox that is a folder", {"XDPBOX": "/"}, "which isn't a program that can be run"),
+        ("an xdpbox that is no program", {"XDPBOX": str(unrunnable(folder))}, "can't be run: Exec format error"),
     ):
         yield f"{what} is named", is_one_line(*ran(clang, xdpbox, command, path, env=env), wanted)
     yield from output_tests(clang, xdpbox, command, path)
+
+
+def unrunnable(folder):
+    """A file that may be run and that no machine can."""
+    path = folder / "xdpbox"
+    path.write_bytes(b"\0")
+    path.chmod(0o755)
+    return path
 
 
 def output_tests(clang, xdpbox, *words):
@@ -192,7 +201,12 @@ def output_tests(clang, xdpbox, *words):
     name = pathlib.Path(words[0]).name
     with open("/dev/full", "wb") as full:
         made = ran(clang, xdpbox, *words, stdout=full)
-    yield f"{name} on a full output", is_one_line(*made, "doesn't take the settings: No space left")
+    yield f"{name} on a full output", is_one_line(*made, ": No space left")
+    reader, writer = os.pipe()
+    os.close(reader)
+    gone = ran(clang, xdpbox, *words, stdout=writer)
+    os.close(writer)
+    yield f"{name} without a reader", is_one_line(*gone, ": Broken pipe")
     closed = ran(clang, xdpbox, "sh", "-c", 'exec "$@" >&-', "sh", *words)
     yield f"{name} on a closed output", is_one_line(*closed, "standard output is closed")
 
@@ -212,3 +226,50 @@ def capture_tests(xdpbox):
     yield "no capture is named", is_one_line(*ran("", xdpbox, command, "/nowhere"), "No such file")
     yield from output_tests("", xdpbox, command, capture)
     yield from output_tests("", xdpbox, script, "00" * 14)
+    yield from script_tests(xdpbox, script)
+    yield from file_tests(xdpbox, capture)
+
+
+def script_tests(xdpbox, script):
+    """Words that are no packet, no queue or no number of steps."""
+    packet = "00" * 14
+    for digits in ("\u00b2", "\u0664", "x", "-1", "1" * 20):
+        yield f"{digits} is no queue", is_one_line(*ran("", xdpbox, script, packet, digits), "is no queue")
+    for digits in ("\u0664", "-1", "100001", "1" * 12):
+        yield f"{digits} steps are named", is_one_line(*ran("", xdpbox, script, packet, "0", digits), "is no number of steps")
+    for bytes_, wanted in (("zz", "is no packet"), ("a\nb", "is no packet"), ("00", "a packet has 14 to"), ("", "a packet has 14 to")):
+        yield f"the packet {bytes_!r} is named", is_one_line(*ran("", xdpbox, script, bytes_), wanted)
+
+
+# files that are neither a capture nor settings nor a map, by their names
+NONE = {
+    b"empty": b"",
+    b"binary": bytes(range(256)),
+    b"a\nqueues = 8": b"\xff",
+    b"\xff": b"x",
+    b"deep": b"x = " + b"[" * 9999,
+}
+
+
+def file_tests(xdpbox, capture):
+    """Files that aren't what a tool reads, each of which it names in one line."""
+    settings = TOOLS.parent / "examples/straightened/loop/before.toml"
+    with tempfile.TemporaryDirectory() as folder:
+        for name, data in NONE.items():
+            pathlib.Path(folder, os.fsdecode(name)).write_bytes(data)
+            said = ran("", xdpbox, TOOLS / "packets-of-pcap", name, cwd=folder)
+            yield f"{name!r} is no capture", is_one_line(*said, "")
+            for words in ((name, settings, settings), (settings, name, settings), (settings, settings, name)):
+                said = ran("", xdpbox, TOOLS / "same-program", *words, cwd=folder)
+                yield f"{name!r} is named by same-program", is_one_line(*said, "")
+            with open(os.path.join(os.fsencode(folder), name), "rb") as given:
+                yield f"{name!r} has no settings", is_one_line(*ran("", xdpbox, TOOLS / "straighten", stdin=given), "has no settings")
+        for name, wanted in ((folder, "Is a directory"), ("/nowhere", "No such file")):
+            yield f"{wanted} of same-program", is_one_line(*ran("", xdpbox, TOOLS / "same-program", name, capture, capture), wanted)
+        path = pathlib.Path(folder, "map")
+        path.write_text("".join(f"{slot} copy {slot}\n" for slot in range(2)))
+        plain = pathlib.Path(folder, "plain.toml")
+        plain.write_text('program = ["b700000002000000", "9500000000000000"]\n')
+        yield from output_tests("", xdpbox, TOOLS / "same-program", plain, plain, path)
+    closed = ran("", xdpbox, "sh", "-c", 'exec "$@" <&-', "sh", TOOLS / "straighten")
+    yield "straighten on a closed input", is_one_line(*closed, "standard input is closed")
