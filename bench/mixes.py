@@ -3,6 +3,7 @@
 
     bench/mixes.py NAME [SLOTS]              the program in hex
     bench/mixes.py --settings NAME [SLOTS]   settings for `xdpbox check`
+    bench/mixes.py --same NAME [SLOTS]       settings for `xdpbox same`, beside an original that differs in the slot before the last
 
 NAME is a mix, or a program that is made for the memory and the time that our verifier takes: `hostile-ids`, `far-jumps`,
 `far-jumps-of-eight`, `far-checks`, `most-waiting`, `late-ids`, `early-ids`, `id-checks`, `set-stack`, `checked-ids`, `joined-checks` or
@@ -241,15 +242,29 @@ def print_lines():
             print(f"{name}-{slots}", program(name, slots).hex())
 
 
+def settings_of(code):
+    return f'program = ["{code.hex()}"]'
+
+
+def same_settings_of(code):
+    """Settings with an original in which the slot before the last is another instruction."""
+    original = code[:-16] + assembled("r0 = 77") + code[-8:]
+    places = ", ".join(f"[{slot}, false]" for slot in range(len(code) // 8))
+    return f"{settings_of(code)}\n[original]\n{settings_of(original)}\nplaces = [{places}]"
+
+
+FORMS = {"--settings": settings_of, "--same": same_settings_of}
+
+
 def main(words):
-    settings = words[:1] == ["--settings"]
-    name, slots = (words[settings:] + [None, None])[:2]
+    form = FORMS.get(words[0]) if words else None
+    name, slots = (words[form is not None:] + [None, None])[:2]
     if not words:
         return print_lines()
     if name not in {**MIXES, **MADE} or slots and not slots.isdigit():
         sys.exit(__doc__)
-    code = program(name, int(slots or MOST_SLOTS)).hex()
-    print(f'program = ["{code}"]' if settings else code)
+    code = program(name, int(slots or MOST_SLOTS))
+    print(form(code) if form else code.hex())
 
 
 if __name__ == "__main__":

@@ -1,14 +1,12 @@
-//! Whether what is claimed of each slot holds, each by itself.
-ghost use Rattle.std.specs.Prelude.{◌≡◌, ◌<◌, ◌≤◌, ◌⊎◌, ℕ, List, Some, length, slice_get, IsTrue, IfOk, IfSome, not, true};
+//! Whether the old program follows an instruction of the new one.
+ghost use Rattle.std.specs.Prelude.{◌≡◌, ◌<◌, ◌≤◌, ℕ, Some, length, slice_get, IsTrue, IfSome, not, true};
 ghost use Rattle.std.specs.Global.{Box};
 ghost use Rattle.bpf_note.specs.Describes.{Describes};
-ghost use Rattle.bpf_note.specs.Facts.{entry};
 ghost use Rattle.bpf_note.specs.Parts.{Noted, facts};
 ghost use Rattle.bpf_note.specs.State.{State};
-ghost use Rattle.bpf_flow.specs.Gives.{edges_of};
 ghost use Rattle.bpf_flow.specs.Rule.{IsRuled};
 ghost use Rattle.bpf_same.specs.Decided.{IsDecided};
-ghost use Rattle.bpf_same.specs.Followed.{IsKnown, Passes, Meets, Lands, LandsAt, KeepsAt, Steps, StepsBy, Begins, FollowsOne, Goes, GoesBoth, Splits, Targets, FollowsTwo, IsSplit, Follows, IsPassed, IsClaimed, IsAtStart, AreClaims};
+ghost use Rattle.bpf_same.specs.Followed.{IsKnown, Passes, Meets, Lands, LandsAt, KeepsAt, Steps, StepsBy, FollowsOne, Goes, GoesBoth, Splits, Targets, FollowsTwo, IsSplit, Follows, IsPassed};
 ghost use Rattle.bpf_same.specs.Books.{book_of};
 
 use crate::access::{is_own_step, is_shared, reads_alike};
@@ -16,12 +14,11 @@ use crate::decide::decided;
 use crate::equal::{is_but_for_offset, is_same_insn};
 use crate::equations::Equations;
 use crate::mark::Place;
-use crate::start::is_at_entry;
 use crate::turn::Turn;
 use bpf_flow::{Successor, Successors, after, jump_target, next_slot};
 use bpf_insn::Insn;
 use bpf_note::{MapShape, Note, covers};
-use std::alloc::{AllocError, Global};
+use std::alloc::Global;
 
 /// How many jumps the old program is followed over, one after the other.
 const MOST_JUMPS: u32 = 256;
@@ -78,7 +75,7 @@ pub(crate) fn is_covered(notes: &[Box<Note>], note: &Note) -> bool
     false
 }
 
-fn place_at(places: &[Place], at: u32) -> Option<Place>
+pub(crate) fn place_at(places: &[Place], at: u32) -> Option<Place>
     ensures { result ≡ slice_get places.now at }
 {
     if (at as usize) < places.len() {
@@ -88,7 +85,7 @@ fn place_at(places: &[Place], at: u32) -> Option<Place>
     }
 }
 
-fn insn_at(code: &[Insn], at: u32) -> Option<Insn>
+pub(crate) fn insn_at(code: &[Insn], at: u32) -> Option<Insn>
     ensures { result ≡ slice_get code.now at }
 {
     if (at as usize) < code.len() {
@@ -98,7 +95,7 @@ fn insn_at(code: &[Insn], at: u32) -> Option<Insn>
     }
 }
 
-fn equations_at(equations: &[Equations], at: u32) -> Option<Equations>
+pub(crate) fn equations_at(equations: &[Equations], at: u32) -> Option<Equations>
     ensures { result ≡ slice_get equations.now at }
 {
     if (at as usize) < equations.len() {
@@ -166,11 +163,11 @@ fn is_split(insn: Insn, pc: u32, next: u32, taken: u32) -> bool
 
 /// A slot of the new program, with one of its notes.
 #[derive(Clone, Copy, Drop)]
-struct Before<'a> {
-    insn: Insn,
-    place: Place,
-    note: &'a Note,
-    equations: &'a Equations,
+pub(crate) struct Before<'a> {
+    pub(crate) insn: Insn,
+    pub(crate) place: Place,
+    pub(crate) note: &'a Note,
+    pub(crate) equations: &'a Equations,
 }
 
 impl Claims<'_> {
@@ -215,7 +212,7 @@ impl Claims<'_> {
     }
 
     /// Whether the old program, from a slot on, meets what is claimed of a slot of the new one.
-    fn meets_from(&self, from: u32, slot: u32, note: &Note) -> bool
+    pub(crate) fn meets_from(&self, from: u32, slot: u32, note: &Note) -> bool
         requires { length self.now.old.now ≤ 4096 }
         ensures { IsTrue result → Meets (book_of self.now) (facts note.now) from slot }
     {
@@ -361,7 +358,13 @@ impl Claims<'_> {
     }
 
     /// Whether the old program follows an instruction.
-    fn follows(&self, alloc: Global, before: &Before, pc: u32, shapes: &[MapShape]) -> bool
+    pub(crate) fn follows(
+        &self,
+        alloc: Global,
+        before: &Before,
+        pc: u32,
+        shapes: &[MapShape],
+    ) -> bool
         requires short { length self.now.old.now ≤ 4096 }
         requires inside { pc < 4096 }
         ensures { IsTrue result → Follows (book_of self.now) shapes.now before.now.place.at before.now.insn before.now.equations.now (facts before.now.note.now) pc }
@@ -385,108 +388,5 @@ impl Claims<'_> {
             }
             Err(_) => false,
         }
-    }
-
-    /// Whether the old program follows an instruction, whichever of the notes at its slot describes the state.
-    fn follows_each(
-        &self,
-        alloc: Global,
-        place: Place,
-        insn: Insn,
-        notes: &[Box<Note>],
-        equations: &Equations,
-        pc: u32,
-        shapes: &[MapShape],
-    ) -> bool
-        requires short { length self.now.old.now ≤ 4096 }
-        requires inside { pc < 4096 }
-        ensures { IsTrue result → (k : ℕ) (n : Box Noted) → slice_get notes.now k ≡ Some n →
-            Follows (book_of self.now) shapes.now place.at insn equations.now (facts n.value) pc }
-    {
-        for k in 0..notes.len() {
-            let before = Before {
-                insn,
-                place,
-                note: &notes[k],
-                equations,
-            };
-            if !self.follows(alloc, &before, pc, shapes) {
-                return false;
-            }
-        }
-        true
-    }
-
-    /// Whether what is claimed of a slot holds.
-    fn is_claimed(&self, alloc: Global, new: &[Insn], pc: u32, shapes: &[MapShape]) -> bool
-        requires short { length self.now.old.now ≤ 4096 }
-        requires inside { pc < length new.now }
-        requires few { length new.now ≤ 4096 }
-        ensures { IsTrue result → IsClaimed (book_of self.now) new.now shapes.now pc }
-    {
-        match place_at(self.places, pc) {
-            Some(place) => match insn_at(new, pc) {
-                Some(insn) => match equations_at(self.equations, pc) {
-                    Some(equations) => {
-                        (pc as usize) < self.notes.len()
-                            && self.follows_each(
-                                alloc,
-                                place,
-                                insn,
-                                self.notes[pc as usize].as_slice(),
-                                &equations,
-                                pc,
-                                shapes,
-                            )
-                    }
-                    None => false,
-                },
-                None => false,
-            },
-            None => false,
-        }
-    }
-
-    /// Whether the old program, from its first slot on, meets what is claimed of the new one's first slot.
-    fn starts(&self, alloc: Global) -> bool
-        requires { length self.now.old.now ≤ 4096 }
-        ensures { IsTrue result → Meets (book_of self.now) entry 0 0 }
-    {
-        let note = Note::entry(alloc);
-        self.meets_from(0, 0, &note)
-    }
-
-    /// Whether what is claimed where both programs begin holds.
-    fn begins(&self, alloc: Global) -> bool
-        requires { length self.now.old.now ≤ 4096 }
-        ensures { IsTrue result → Begins (book_of self.now) }
-    {
-        match equations_at(self.equations, 0) {
-            Some(equations) => {
-                if is_at_entry(&equations) {
-                    self.starts(alloc)
-                } else {
-                    false
-                }
-            }
-            None => false,
-        }
-    }
-
-    /// Whether what is claimed holds.
-    pub(crate) fn hold(&self, alloc: Global, new: &[Insn], shapes: &[MapShape]) -> bool
-        requires short { length self.now.old.now ≤ 4096 }
-        requires few { length new.now ≤ 4096 }
-        ensures { IsTrue result → AreClaims (book_of self.now) new.now shapes.now }
-    {
-        if !self.begins(alloc) {
-            return false;
-        }
-        for pc in 0..new.len() as u32 {
-            if !self.is_claimed(alloc, new, pc, shapes) {
-                return false;
-            }
-        }
-        true
     }
 }

@@ -2,7 +2,7 @@
 ghost use Rattle.std.specs.Prelude.{◌≡◌, ◌<◌, ℕ, Option, IsTrue};
 ghost use Rattle.bpf_same.specs.Sums.{Hold, new_of, old_of, total};
 
-use crate::sum::Sum;
+use crate::sum::{REGISTERS, Sum};
 
 /// Of each register of the old program what it holds, as a sum of what the new one holds, if that is claimed; of each holder of the new
 /// one the same, if another sum than itself is claimed.
@@ -13,6 +13,23 @@ pub(crate) struct Equations {
 }
 
 impl Equations {
+    /// Nothing is claimed.
+    pub(crate) fn none() -> Equations {
+        Equations {
+            old: [None; 11],
+            new: [None; 64],
+        }
+    }
+
+    /// Each register holds the same in both programs.
+    pub(crate) fn alike() -> Equations {
+        let mut alike = Equations::none();
+        for register in 0..REGISTERS {
+            alike.old[register as usize] = Some(Sum::held(register));
+        }
+        alike
+    }
+
     /// What a register of the old program holds, if that is claimed.
     pub(crate) fn old_sum(&self, register: u8) -> Option<Sum>
         ensures { result ≡ old_of self.now register }

@@ -2,9 +2,11 @@
 //!
 //! - `same`: the comparison
 //! - `mark`: where the old program stands before a slot of the new one
-//! - `find`: what is known at each slot; `check`: whether that and the places show the runs to be the same
+//! - `find`: what is known at each slot; `check`: whether the old program follows an instruction; `hold`: whether what is known and
+//!   the places show the runs to be the same
 //! - `equations`: what the old program's registers are, as a `sum` of what the new one holds: those at the `start`, after an
-//!   instruction (`turn`), where ways `meet`; `access`: what a copied access may touch
+//!   instruction (`turn`), where ways `meet`; `keep`: whether those claimed after an instruction hold; `access`: what a copied
+//!   access may touch
 //! - `decide`: what decides a conditional jump; `equal`: whether two instructions are one
 //! - `laws`: what holds of programs with the same runs
 #![tactic(auto)]
@@ -15,6 +17,8 @@ mod decide;
 mod equal;
 mod equations;
 mod find;
+mod hold;
+mod keep;
 mod laws;
 mod mark;
 mod meet;

@@ -63,11 +63,8 @@ fn holder_of(turn: &Turn, part: u8) -> Option<u8>
 }
 
 /// What may be claimed after a step.
-pub(crate) fn behind(turn: &Turn) -> Equations {
-    let mut found = Equations {
-        old: [None; 11],
-        new: [None; 64],
-    };
+pub(crate) fn claims_after(turn: &Turn) -> Equations {
+    let mut found = Equations::none();
     for holder in 0..HOLDERS {
         if let Some(sum) = turn.new_after(holder) {
             if let Some(sum) = moved(turn, sum) {
@@ -78,12 +75,13 @@ pub(crate) fn behind(turn: &Turn) -> Equations {
         }
     }
     for register in 0..REGISTERS {
-        found.old[register as usize] = old_behind(turn, &found, register);
+        found.old[register as usize] = old_claim_after(turn, &found, register);
     }
     found
 }
 
-fn old_behind(turn: &Turn, found: &Equations, register: u8) -> Option<Sum>
+/// What may be claimed of a register of the old program after a step.
+fn old_claim_after(turn: &Turn, found: &Equations, register: u8) -> Option<Sum>
     requires { register < 11 }
 {
     let same = if turn.own || !alters(turn.insn, register) {
@@ -180,14 +178,10 @@ impl Meeting<'_> {
 
 /// What is claimed by both.
 pub(crate) fn met(one: &Equations, other: &Equations) -> Equations {
-    let met = Equations {
-        old: [None; 11],
-        new: [None; 64],
-    };
     let mut meeting = Meeting {
         one,
         other,
-        met,
+        met: Equations::none(),
         rest: u64::MAX,
     };
     for word in REGISTERS..HOLDERS {

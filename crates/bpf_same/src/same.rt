@@ -5,7 +5,7 @@ ghost use Rattle.bpf_same.specs.Same.{IsSame};
 
 use crate::check::Claims;
 use crate::equal::is_same_code;
-use crate::find::{equations_of, lowest_of, notes_of};
+use crate::find::{Known, lowest_of, notes_of};
 use crate::laws::same_both_ways;
 use crate::mark::Place;
 use bpf_insn::{Code, Insn};
@@ -41,7 +41,14 @@ fn is_shown(
     the_entry_describes_every_start();
     let notes = notes_of(alloc, new, shapes)?;
     let low = lowest_of(new, places, notes.as_slice());
-    let equations = equations_of(alloc, new, places, notes.as_slice(), shapes, low)?;
+    let known = Known {
+        new,
+        places,
+        notes: notes.as_slice(),
+        shapes,
+        low,
+    };
+    let equations = known.equations(alloc)?;
     let claims = Claims {
         old,
         places,

@@ -6,16 +6,28 @@ ghost use Rattle.bpf_insn.specs.declared.size.Size.TheVariants as sizes;
 ghost use Rattle.bpf_insn.specs.Register.{number};
 ghost use Rattle.bpf_insn.specs.Signed.{sign_extended};
 ghost use Rattle.bpf_note.specs.Parts.{facts};
-ghost use Rattle.bpf_same.specs.Sums.{Hold, new_of, old_of, total};
-ghost use Rattle.bpf_same.specs.Turned.{Computes, IsBefore, IsMore, IsNewAfter, IsOldAfter, IsOwn, IsWordAt, IsOldAlike, Keeps, KeepsNew, KeepsOld, alters, is_register_store, number_in, operand_in};
+ghost use Rattle.bpf_same.specs.Sums.{Hold, total};
+ghost use Rattle.bpf_same.specs.Turned.{Computes, IsNewAfter, IsOldAfter, IsOwn, IsWordAt, alters, is_register_store, number_in, operand_in};
 
 use crate::equations::Equations;
-use crate::sum::{HOLDERS, REGISTERS, Sum};
+use crate::sum::{REGISTERS, Sum};
 use bpf_insn::{AluOp, Insn, Operand, Register, Size};
 use bpf_note::{Note, PACKET_ID, Val};
 
 /// Where the packet begins.
 const PACKET_START: u64 = 0x10000000;
+
+/// How many bytes a word of the stack has.
+const WORD: i16 = 8;
+
+/// The offset of the first holder that is a word from the stack's end.
+const FIRST_WORD: i16 = -WORD;
+
+/// The offset of the last one.
+const LAST_WORD: i16 = -424;
+
+/// A holder's word ends in the stack this many bytes after its start, less a word for each number of the holder.
+const WORDS_END: u32 = 600;
 
 /// The number that a value is, if it is one.
 fn number_of(value: Val) -> Option<u64>
@@ -55,11 +67,11 @@ pub(crate) fn alters(insn: Insn, register: u8) -> bool
 pub(crate) fn own_word(base: Register, off: i16, low: u32) -> Option<u8>
     ensures { IfSome result (IsWordAt base off low) }
 {
-    if base != Register::R10 || off > -8 || off < -424 || off % 8 != 0 {
+    if base != Register::R10 || off > FIRST_WORD || off < LAST_WORD || off % WORD != 0 {
         return None;
     }
-    let holder = 10 + (-off as u16) / 8;
-    if 600 - 8 * u32::from(holder) > low {
+    let holder = u16::from(REGISTERS) - 1 + (-off as u16) / WORD as u16;
+    if WORDS_END - WORD as u32 * u32::from(holder) > low {
         return None;
     }
     Some(holder as u8)
@@ -71,7 +83,7 @@ fn is_own(holder: u8, low: u32) -> bool
     requires last { holder < 64 }
     ensures { IsTrue result → IsOwn low holder }
 {
-    600 - 8 * u32::from(holder) <= low
+    WORDS_END - WORD as u32 * u32::from(holder) <= low
 }
 
 /// What an operation computes of sums.
@@ -382,120 +394,5 @@ impl Turn<'_> {
         } else {
             self.before.old_sum(register)
         }
-    }
-
-    /// A sum of what is held before the step, and what one holder holds after it, if that is in the other sum.
-    fn more(&self, all: Sum, sum: Sum, holder: u8) -> Option<Sum>
-        requires { holder < 64 }
-        ensures { IfSome result (IsMore self.now.insn self.now.own self.now.low (facts self.now.after.now) self.now.before.now sum holder all) }
-    {
-        if sum.has(holder) {
-            match self.new_after(holder) {
-                Some(part) => all.plus(part),
-                None => None,
-            }
-        } else {
-            Some(all)
-        }
-    }
-
-    /// A sum of what is held after the step, as a sum of what is held before.
-    pub(crate) fn before_it(&self, sum: Sum) -> Option<Sum>
-        ensures { IfSome result (IsBefore self.now.insn self.now.own self.now.low (facts self.now.after.now) self.now.before.now sum) }
-    {
-        let mut all = Sum::constant(sum.constant);
-        for holder in 0..HOLDERS {
-            match self.more(all, sum, holder) {
-                Some(more) => all = more,
-                None => return None,
-            }
-        }
-        Some(all)
-    }
-
-    /// Whether both programs have written the same into a register.
-    fn is_alike(&self, register: u8, sum: Sum) -> bool
-        requires { register < 11 }
-        ensures { IsTrue result → IsOldAlike self.now.insn self.now.own self.now.low (facts self.now.after.now) register sum }
-    {
-        if self.own {
-            false
-        } else if alters(self.insn, register) {
-            sum.is(Sum::held(register))
-        } else {
-            false
-        }
-    }
-
-    /// Whether a register of the old program holds this sum after the step.
-    fn keeps_old(&self, register: u8, sum: Sum) -> bool
-        requires { register < 11 }
-        ensures { IsTrue result → KeepsOld self.now.insn self.now.own self.now.low (facts self.now.after.now) self.now.before.now register sum }
-    {
-        if self.is_alike(register, sum) {
-            return true;
-        }
-        match self.old_after(register) {
-            Some(there) => match self.before_it(sum) {
-                Some(here) => there.is(here),
-                None => false,
-            },
-            None => false,
-        }
-    }
-
-    /// Whether a holder of the new program holds this sum after the step.
-    fn keeps_new(&self, holder: u8, sum: Sum) -> bool
-        requires { holder < 64 }
-        ensures { IsTrue result → KeepsNew self.now.insn self.now.own self.now.low (facts self.now.after.now) self.now.before.now holder sum }
-    {
-        match self.new_after(holder) {
-            Some(there) => match self.before_it(sum) {
-                Some(here) => there.is(here),
-                None => false,
-            },
-            None => false,
-        }
-    }
-
-    /// Whether what is claimed of a register of the old program after the step holds.
-    fn keeps_register(&self, next: &Equations, register: u8) -> bool
-        requires { register < 11 }
-        ensures { IsTrue result → (s : Sum) → old_of next.now register ≡ Some s →
-            KeepsOld self.now.insn self.now.own self.now.low (facts self.now.after.now) self.now.before.now register s }
-    {
-        match next.old_sum(register) {
-            Some(sum) => self.keeps_old(register, sum),
-            None => true,
-        }
-    }
-
-    /// Whether what is claimed of a holder after the step holds.
-    fn keeps_holder(&self, next: &Equations, holder: u8) -> bool
-        requires { holder < 64 }
-        ensures { IsTrue result → (s : Sum) → new_of next.now holder ≡ Some s →
-            KeepsNew self.now.insn self.now.own self.now.low (facts self.now.after.now) self.now.before.now holder s }
-    {
-        match next.claimed(holder) {
-            Some(sum) => self.keeps_new(holder, sum),
-            None => true,
-        }
-    }
-
-    /// Whether what is claimed after the step holds.
-    pub(crate) fn keeps(&self, next: &Equations) -> bool
-        ensures { IsTrue result → Keeps self.now.insn self.now.own self.now.low (facts self.now.after.now) self.now.before.now next.now }
-    {
-        for register in 0..REGISTERS {
-            if !self.keeps_register(next, register) {
-                return false;
-            }
-        }
-        for holder in 0..HOLDERS {
-            if !self.keeps_holder(next, holder) {
-                return false;
-            }
-        }
-        true
     }
 }
