@@ -5,6 +5,8 @@ use honest_machine::Awaits;
 use std::alloc::{AllocError, Global};
 use xen_back::{Answer, Want};
 use xen_page::Place;
+use xen_ring::{REQ_EVENT, REQ_PROD, RSP_EVENT, RSP_PROD};
+use xen_steps::header;
 
 /// How many words a frame has.
 const WORDS: u32 = 1024;
@@ -59,10 +61,11 @@ impl Memory {
         requires { frame < 531 }
         ensures { memory_in self.new ≡ record (memory_in self.old) { word = opened frame start (memory_in self.old).word } }
     {
-        self.write(Place { frame, word: 0 }, start);
-        self.write(Place { frame, word: 1 }, start.wrapping_add(1));
-        self.write(Place { frame, word: 2 }, start);
-        self.write(Place { frame, word: 3 }, start.wrapping_add(1));
+        let event = start.wrapping_add(1);
+        self.write(header(frame, REQ_PROD), start);
+        self.write(header(frame, REQ_EVENT), event);
+        self.write(header(frame, RSP_PROD), start);
+        self.write(header(frame, RSP_EVENT), event);
     }
 
     /// Two new rings, all other words 0, and the port not pending.
