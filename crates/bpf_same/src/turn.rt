@@ -17,16 +17,16 @@ use bpf_note::{Note, PACKET_ID, Val};
 /// Where the packet begins.
 const PACKET_START: u64 = 0x10000000;
 
-/// How many bytes a word of the stack has.
+/// The size of a word of the stack, in bytes.
 const WORD: i16 = 8;
 
-/// The offset of the first holder that is a word from the stack's end.
+/// The offset from the stack's end of the first word that is a holder.
 const FIRST_WORD: i16 = -WORD;
 
 /// The offset of the last one.
 const LAST_WORD: i16 = -424;
 
-/// A holder's word ends in the stack this many bytes after its start, less a word for each number of the holder.
+/// Holder n's word ends at this byte of the stack, less n words.
 const WORDS_END: u32 = 600;
 
 /// The number that a value is, if it is one.
