@@ -253,8 +253,8 @@ struct laxonje_queue_standing {
 
 /* What a host does next. A field that isn't of its kind is 0.
  *
- * For an access, `frame` has an owner, and `word + count` and `lent + count` are at most LAXONJE_PAGE_WORDS. For the READ of a grant entry,
- * `entry` says what for, and `reference` which grant.
+ * For an access, `frame` has an owner, `word + count` and `lent + count` are at most LAXONJE_PAGE_WORDS, and `value[1]` of a PUSH is below it.
+ * For the READ of a grant entry, `entry` says what for, and `reference` which grant.
  *
  * For what is over, `number` is what the program returned, `cause` why it was refused or halted, `ops` how many operations on counters the
  * program's run did, and `slots` how many slots the packet took. `index` and `grant` are 0: they are for later versions. */
