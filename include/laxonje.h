@@ -253,8 +253,8 @@ struct laxonje_queue_standing {
 
 /* What a host does next. A field that isn't of its kind is 0.
  *
- * For an access, `frame` has an owner, and `word + count` and `lent + count` are at most LAXONJE_PAGE_WORDS. For the READ of a grant entry,
- * `entry` says what for, and `reference` which grant.
+ * For an access, `frame` has an owner, `word + count` and `lent + count` are at most LAXONJE_PAGE_WORDS, and `value[1]` of a PUSH is below it.
+ * For the READ of a grant entry, `entry` says what for, and `reference` which grant.
  *
  * For what is over, `number` is what the program returned, `cause` why it was refused or halted, `ops` how many operations on counters the
  * program's run did, and `slots` how many slots the packet took. `index` and `grant` are 0: they are for later versions. */
@@ -388,10 +388,10 @@ uint32_t laxonje_queue_make_extents(struct laxonje_program *program, const struc
 size_t laxonje_queue_turn(struct laxonje_queue *queue, uint32_t producer, struct laxonje_op *ops, size_t op_count);
 
 /* Goes on after the ops before, and says the next ones, which the host makes in their order: up to the first that is a LAXONJE_OP_READ,
- * a LAXONJE_OP_PUSH or LAXONJE_OP_DONE, and no more than there is room for. The answer is how many. `words` has the words that a READ or a
- * PUSH asked for, and gets those of a WRITE: at least LAXONJE_PAGE_WORDS of them. Other words stay as they are. The program's counters are
- * the first of `counters`, as laxonje_run has them. With fewer words or counters, no room, no queue, or nothing under way there are no
- * ops, and nothing has changed. */
+ * a LAXONJE_OP_PUSH or LAXONJE_OP_DONE, or a LAXONJE_OP_WRITE that another follows, and no more than there is room for. The answer is how
+ * many. `words` has the words that a READ or a PUSH asked for, and gets those of a WRITE: at least LAXONJE_PAGE_WORDS of them. Other words
+ * stay as they are. The program's counters are the first of `counters`, as laxonje_run has them. With fewer words or counters, no room, no
+ * queue, or nothing under way there are no ops, and nothing has changed: then there is no op to look at. */
 size_t laxonje_queue_step(struct laxonje_queue *queue, uint32_t *words, size_t word_count,
                           uint64_t *counters, size_t counter_count, struct laxonje_op *ops, size_t op_count);
 
@@ -410,9 +410,9 @@ uint32_t laxonje_queue_await(struct laxonje_queue *queue, uint32_t pages);
  * that was idle, and with no queue. A delivery and a wait leave them. */
 uint32_t laxonje_queue_flags(struct laxonje_queue *queue);
 
-/* Copies the packet of the turn that ran or of the delivery that is over, as far as there is room, and answers how long it is. It is there
- * until the next turn or delivery begins. No bytes before the first, inside a turn, a delivery or a wait, after a turn that was idle, was
- * refused or halted, and with no queue. */
+/* Copies the packet of the turn that ran or of the delivery that is over, as far as there is room, and answers how long it is, which may be
+ * more than `out_bytes`. It is there until the next turn or delivery begins. No bytes before the first, inside a turn, a delivery or a wait,
+ * after a turn that was idle, was refused or halted, and with no queue. */
 size_t laxonje_queue_packet(struct laxonje_queue *queue, uint8_t *out, size_t out_bytes);
 
 /* Where a queue stands between two turns: what another queue of the same rings is made with, to go on in its place. */

@@ -20,7 +20,7 @@ struct laxonje_io {
 	void (*told)(void *host, const struct laxonje_op *op, const uint32_t *words);
 };
 
-/* A queue, with the frames of its rings, as it was made, and the counters of its program. `words` is the loop's own. */
+/* A queue, with `tx` and `rx` of the desc that it was made of, and the counters of its program. `words` is the loop's own. */
 struct laxonje_drive {
 	struct laxonje_queue *queue;
 	uint32_t tx;
@@ -30,7 +30,8 @@ struct laxonje_drive {
 	uint32_t words[LAXONJE_PAGE_WORDS];
 };
 
-/* The outcome if no op was said: there is no queue, the host lends too few counters, or the queue is inside something else. */
+/* The outcome if no op was said: there is no queue, the host lends too few counters, the queue is inside something else, or a packet to be
+ * delivered has a wrong length. */
 #define LAXONJE_NOTHING UINT32_MAX
 
 /* Words of a page, into the lent ones. */
@@ -92,12 +93,19 @@ static inline uint32_t laxonje_drive_producer_(struct laxonje_drive *drive, cons
 	return drive->words[0];
 }
 
+/* In place of the op that ends something, if there was none. */
+static inline struct laxonje_op laxonje_drive_nothing_(void)
+{
+	struct laxonje_op op = { 0, 0, 0, 0, 0, { 0, 0 }, 0, 0, LAXONJE_NOTHING, 0, 0, 0, 0, 0, 0 };
+	return op;
+}
+
 /* The ops of a call and those of the next ones, to the end of what is under way: the op that says what it came to. */
 static inline struct laxonje_op laxonje_drive_finish_(struct laxonje_drive *drive, const struct laxonje_io *io, struct laxonje_op *ops,
                                                       size_t count)
 {
 	for (;;) {
-		struct laxonje_op last = { 0, 0, 0, 0, 0, { 0, 0 }, 0, 0, LAXONJE_NOTHING, 0, 0, 0, 0, 0, 0 };
+		struct laxonje_op last = laxonje_drive_nothing_();
 		for (size_t i = 0; i < count; i++)
 			laxonje_drive_make_(drive, io, &ops[i]);
 		if (count)
@@ -124,25 +132,39 @@ static inline struct laxonje_op laxonje_drive_turn(struct laxonje_drive *drive, 
 	return laxonje_drive_finish_(drive, io, ops, count);
 }
 
-/* A packet of the host's own to the guest. If it is taken (enum laxonje_taken), `over` says what became of it. */
+/* A packet of the host's own to the guest. If it is taken (enum laxonje_taken), `over` says what became of it; else its outcome is
+ * LAXONJE_NOTHING. */
 static inline uint32_t laxonje_drive_deliver(struct laxonje_drive *drive, const struct laxonje_io *io, const uint8_t *packet, size_t packet_bytes,
                                              struct laxonje_op *over)
 {
 	uint32_t producer = laxonje_drive_producer_(drive, io, drive->rx);
 	uint32_t taken = laxonje_queue_deliver(drive->queue, producer, packet, packet_bytes);
-	if (taken == LAXONJE_TAKEN)
-		*over = laxonje_drive_begun_(drive, io);
+	*over = taken == LAXONJE_TAKEN ? laxonje_drive_begun_(drive, io) : laxonje_drive_nothing_();
 	return taken;
 }
 
-/* A wait for the rx slots of a packet of that many bytes. If it is taken, `over` says what it came to. */
+/* A wait for the rx slots of a packet of that many bytes. If it is taken, `over` says what it came to; else its outcome is LAXONJE_NOTHING. */
 static inline uint32_t laxonje_drive_await(struct laxonje_drive *drive, const struct laxonje_io *io, size_t packet_bytes, struct laxonje_op *over)
 {
 	const size_t page = 4 * LAXONJE_PAGE_WORDS;
 	uint32_t taken = laxonje_queue_await(drive->queue, (uint32_t)((packet_bytes + page - 1) / page));
-	if (taken == LAXONJE_TAKEN)
-		*over = laxonje_drive_begun_(drive, io);
+	*over = taken == LAXONJE_TAKEN ? laxonje_drive_begun_(drive, io) : laxonje_drive_nothing_();
 	return taken;
+}
+
+/* Why no queue was made, in words for a log (enum laxonje_made). */
+static inline const char *laxonje_made_name(uint32_t made)
+{
+	switch (made) {
+	case LAXONJE_MADE: return "a queue was made";
+	case LAXONJE_MADE_MEMORY: return "memory ran out";
+	case LAXONJE_MADE_FRAMES: return "too many frames";
+	case LAXONJE_MADE_TABLE: return "too many frames of the grant table, none, or one that isn't the frontend's";
+	case LAXONJE_MADE_RING: return "a ring's frame isn't the frontend's, is the other ring's, or is one of the table's";
+	case LAXONJE_MADE_DOMAIN: return "the frontend's domain is the backend's own";
+	case LAXONJE_MADE_PROGRAM: return "there is no program";
+	default: return "no answer";
+	}
 }
 
 /* Why a packet was refused, in words for a log (enum laxonje_refusal). */
@@ -178,7 +200,7 @@ static inline const char *laxonje_halt_name(uint32_t cause)
 static inline const char *laxonje_name(uint32_t outcome, uint32_t cause)
 {
 	switch (outcome) {
-	case LAXONJE_NOTHING: return "nothing: no queue, too few counters, or inside something else";
+	case LAXONJE_NOTHING: return "nothing: no queue, too few counters, inside something else, or a packet of a wrong length";
 	case LAXONJE_TURN_IDLE: return "no request";
 	case LAXONJE_TURN_RAN: return "the program ran";
 	case LAXONJE_TURN_REFUSED: return laxonje_refusal_name(cause);

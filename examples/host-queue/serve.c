@@ -21,11 +21,15 @@ static void notify(void *host, uint32_t port) { send_event(host, port); }
 static void serve(void *host, struct laxonje_program *program, uint64_t *counters, size_t counter_count)
 {
 	const struct laxonje_io io = { host, page, notify, NULL }; /* NULL: or a function that gets each op, a trace */
-	struct laxonje_drive drive = { laxonje_queue_new(), TX, RX, counters, counter_count, { 0 } };
+	struct laxonje_drive drive = { laxonje_queue_new(), desc.tx, desc.rx, counters, counter_count, { 0 } };
 	struct laxonje_op over;
+	uint32_t made = LAXONJE_MADE_MEMORY;
 
-	laxonje_queue_make_extents(program, extents, 1, table, 1, &desc, drive.queue);
-	for (;;) {
+	if (drive.queue)
+		made = laxonje_queue_make_extents(program, extents, 1, table, 1, &desc, drive.queue);
+	if (made != LAXONJE_MADE)
+		fprintf(stderr, "%s\n", laxonje_made_name(made));
+	while (made == LAXONJE_MADE) {
 		over = laxonje_drive_turn(&drive, &io);
 		if (over.outcome == LAXONJE_TURN_IDLE) {
 			wait_for_the_guests_event(host);
