@@ -31,6 +31,7 @@ use Rattle.xen_host.specs.Completing.{Arriving, TaskCompletes, Waiting}
 use Rattle.xen_host.specs.Fed.{AsksReads, WaitsFor, fed}
 use Rattle.xen_host.specs.Fits.{Fits}
 use Rattle.xen_host.specs.Led.{DeliveryEnds, IsOn, IsTurnOver, Led, TurnEnds, WaitEnds}
+use Rattle.xen_host.specs.Told.{IsToldAt}
 use Rattle.xen_host.specs.Rest.{is_delivering, is_turning, is_waiting, reads_filling, reads_in, rest_filling, rest_in, rest_of_delivery, rest_of_wait}
 use Rattle.xen_host.specs.Wired.{vif_of, wiring_of}
 use Rattle.xen_host.specs.declared.engine.Engine.{Engine}
@@ -193,8 +194,8 @@ ready_task w s g b e = subst (λ (x : Stage). TaskCompletes w s x b) (sym e) tt
 
 -- ---- where a step ends
 
-turn_split : (e : Engine) (last : Ask) (left : Steps Ending) → TurnEnds e last left →
-    ((k : Kind) × (last ≡ ask.TurnOver k) × IsTurnOver e k left) ⊎ IsOn (rest_in (wiring_of e.wires) e.state e.stage e.work) (reads_in e.stage) (is_turning e.stage) last left
+pub turn_split : (e : Engine) (last : Ask) (left : Steps Ending) → TurnEnds e last left →
+    ((k : Kind) × (last ≡ ask.TurnOver k) × IsTurnOver e k left) ⊎ IsOn (rest_in (wiring_of e.wires) e.state e.stage e.work) (reads_in e.stage) (is_turning e.stage) (IsToldAt e.wires.table e.stage) last left
 turn_split e (ask.TurnOver k) left h = inl (k, refl, h)
 turn_split e (ask.Read at count) left h = inr h
 turn_split e (ask.Entry at reference rights) left h = inr h
@@ -206,8 +207,8 @@ turn_split e (ask.Notify port) left h = inr h
 turn_split e (ask.DeliveryOver what) left h = inr h
 turn_split e (ask.WaitOver what) left h = inr h
 
-delivery_split : (packet : List ℕ) (e : Engine) (last : Ask) (left : Steps Arrival) → DeliveryEnds packet e last left →
-    ((what : Delivery) × (last ≡ ask.DeliveryOver what) × (e.stage ≡ stage.Ready)) ⊎ IsOn (rest_of_delivery (vif_of e.wires) e.state e.stage e.work) (reads_in e.stage) (is_delivering e.stage) last left
+pub delivery_split : (packet : List ℕ) (e : Engine) (last : Ask) (left : Steps Arrival) → DeliveryEnds packet e last left →
+    ((what : Delivery) × (last ≡ ask.DeliveryOver what) × (e.stage ≡ stage.Ready)) ⊎ IsOn (rest_of_delivery (vif_of e.wires) e.state e.stage e.work) (reads_in e.stage) (is_delivering e.stage) (IsToldAt e.wires.table e.stage) last left
 delivery_split packet e (ask.DeliveryOver what) left h = inl (what, refl, h.1)
 delivery_split packet e (ask.Read at count) left h = inr h.0
 delivery_split packet e (ask.Entry at reference rights) left h = inr h.0
@@ -219,8 +220,8 @@ delivery_split packet e (ask.Notify port) left h = inr h.0
 delivery_split packet e (ask.TurnOver k) left h = inr h.0
 delivery_split packet e (ask.WaitOver what) left h = inr h.0
 
-wait_split : (packet : List ℕ) (e : Engine) (last : Ask) (left : Steps Wait) → WaitEnds packet e last left →
-    ((what : Awaited) × (last ≡ ask.WaitOver what) × (e.stage ≡ stage.Ready)) ⊎ IsOn (rest_of_wait e.wires.rx e.state e.stage) (reads_in e.stage) (is_waiting e.stage) last left
+pub wait_split : (packet : List ℕ) (e : Engine) (last : Ask) (left : Steps Wait) → WaitEnds packet e last left →
+    ((what : Awaited) × (last ≡ ask.WaitOver what) × (e.stage ≡ stage.Ready)) ⊎ IsOn (rest_of_wait e.wires.rx e.state e.stage) (reads_in e.stage) (is_waiting e.stage) (IsToldAt e.wires.table e.stage) last left
 wait_split packet e (ask.WaitOver what) left h = inl (what, refl, h.1)
 wait_split packet e (ask.Read at count) left h = inr h.0
 wait_split packet e (ask.Entry at reference rights) left h = inr h.0
@@ -266,7 +267,7 @@ turn_ended w flags from new ops ops_after count lent lent_after long h c = by (t
     frames : ℕ
     frames = length w.owners
 
-    by : ((k : Kind) × (h.last ≡ ask.TurnOver k) × IsTurnOver new k h.left) ⊎ IsOn (rest_in (wiring_of new.wires) new.state new.stage new.work) (reads_in new.stage) (is_turning new.stage) h.last h.left → Ended frames new (h.first ++ h.last ∷ [])
+    by : ((k : Kind) × (h.last ≡ ask.TurnOver k) × IsTurnOver new k h.left) ⊎ IsOn (rest_in (wiring_of new.wires) new.state new.stage new.work) (reads_in new.stage) (is_turning new.stage) (IsToldAt new.wires.table new.stage) h.last h.left → Ended frames new (h.first ++ h.last ∷ [])
     by (inl x) =
         let r = ends_well frames (may_want (wiring_of w)) (turn_pages frames w.program.shapes) (TurnEnds new) w flags from new ops ops_after count lent lent_after long h
         (inr (subst (λ (a : Ask). IsInPages frames a) (sym x.1) tt)) c in
@@ -284,7 +285,7 @@ delivery_ended w flags packet from new ops ops_after count lent lent_after long 
     frames : ℕ
     frames = length w.owners
 
-    by : ((what : Delivery) × (h.last ≡ ask.DeliveryOver what) × (new.stage ≡ stage.Ready)) ⊎ IsOn (rest_of_delivery (vif_of new.wires) new.state new.stage new.work) (reads_in new.stage) (is_delivering new.stage) h.last h.left → Ended frames new (h.first ++ h.last ∷ [])
+    by : ((what : Delivery) × (h.last ≡ ask.DeliveryOver what) × (new.stage ≡ stage.Ready)) ⊎ IsOn (rest_of_delivery (vif_of new.wires) new.state new.stage new.work) (reads_in new.stage) (is_delivering new.stage) (IsToldAt new.wires.table new.stage) h.last h.left → Ended frames new (h.first ++ h.last ∷ [])
     by (inl x) =
         let r = ends_well frames (IsPageWant frames) (page_pages frames) (DeliveryEnds packet new) w flags from new ops ops_after count lent lent_after long h
         (inr (subst (λ (a : Ask). IsInPages frames a) (sym x.1) tt)) c in
@@ -302,7 +303,7 @@ wait_ended w flags packet from new ops ops_after count lent lent_after long h c 
     frames : ℕ
     frames = length w.owners
 
-    by : ((what : Awaited) × (h.last ≡ ask.WaitOver what) × (new.stage ≡ stage.Ready)) ⊎ IsOn (rest_of_wait new.wires.rx new.state new.stage) (reads_in new.stage) (is_waiting new.stage) h.last h.left → Ended frames new (h.first ++ h.last ∷ [])
+    by : ((what : Awaited) × (h.last ≡ ask.WaitOver what) × (new.stage ≡ stage.Ready)) ⊎ IsOn (rest_of_wait new.wires.rx new.state new.stage) (reads_in new.stage) (is_waiting new.stage) (IsToldAt new.wires.table new.stage) h.last h.left → Ended frames new (h.first ++ h.last ∷ [])
     by (inl x) =
         let r = ends_well frames (IsPageWant frames) (page_pages frames) (WaitEnds packet new) w flags from new ops ops_after count lent lent_after long h
         (inr (subst (λ (a : Ask). IsInPages frames a) (sym x.1) tt)) c in

@@ -13,6 +13,7 @@ use Rattle.xen_host.specs.Asks as ask
 use Rattle.xen_host.specs.Fed.{WaitsFor}
 use Rattle.xen_host.specs.Led.{Beside, DeliveryEnds, FillLed, IsOn, Led, TurnEnds, beside}
 use Rattle.xen_host.specs.Rest.{is_delivering, is_turning, reads_filling, reads_in, rest_filling, rest_in, rest_of_delivery}
+use Rattle.xen_host.specs.Told.{IsToldAt, IsToldFilling}
 use Rattle.xen_host.specs.Wired.{vif_of, wiring_of}
 use Rattle.xen_host.specs.declared.engine.Engine.{Engine}
 use Rattle.xen_host.specs.declared.op.Op.{Op}
@@ -50,7 +51,7 @@ waits_none (ask.DeliveryOver what) s h = cc h
 waits_none (ask.WaitOver what) s h = cc h
 
 -- what goes on isn't over
-pub turn_of_on : (e : Engine) (last : Ask) (left : Steps Ending) → IsOn (rest_in (wiring_of e.wires) e.state e.stage e.work) (reads_in e.stage) (is_turning e.stage) last left → TurnEnds e last left
+pub turn_of_on : (e : Engine) (last : Ask) (left : Steps Ending) → IsOn (rest_in (wiring_of e.wires) e.state e.stage e.work) (reads_in e.stage) (is_turning e.stage) (IsToldAt e.wires.table e.stage) last left → TurnEnds e last left
 turn_of_on e (ask.TurnOver kind) left on = absurd on.waits
 turn_of_on e (ask.Read at count) left on = on
 turn_of_on e (ask.Entry at reference rights) left on = on
@@ -62,7 +63,7 @@ turn_of_on e (ask.Notify port) left on = on
 turn_of_on e (ask.DeliveryOver what) left on = on
 turn_of_on e (ask.WaitOver what) left on = on
 
-delivery_of_on : (packet : List ℕ) (e : Engine) (last : Ask) (left : Steps Arrival) → IsOn (rest_of_delivery (vif_of e.wires) e.state e.stage e.work) (reads_in e.stage) (is_delivering e.stage) last left → e.work.packet ≡ packet → DeliveryEnds packet e last left
+delivery_of_on : (packet : List ℕ) (e : Engine) (last : Ask) (left : Steps Arrival) → IsOn (rest_of_delivery (vif_of e.wires) e.state e.stage e.work) (reads_in e.stage) (is_delivering e.stage) (IsToldAt e.wires.table e.stage) last left → e.work.packet ≡ packet → DeliveryEnds packet e last left
 delivery_of_on packet e (ask.DeliveryOver what) left on p = absurd on.waits
 delivery_of_on packet e (ask.Read at count) left on p = (on, p)
 delivery_of_on packet e (ask.Entry at reference rights) left on p = (on, p)
@@ -84,7 +85,8 @@ abbrev pub filling_at : Engine → List Target → Fill → Purpose → Engine
 filling_at q ts f p = record q { stage = stage.Fill f p; work = with_targets q.work ts }
 
 abbrev pub IsFillOn : Engine → List Target → Fill → Ask → Steps Outcome → Type 0
-IsFillOn q ts f a left = (left ≡ rest_filling (vif_of q.wires) q.state.rx_index f (with_targets q.work ts)) × WaitsFor a (reads_filling f) left
+IsFillOn q ts f a left =
+    (left ≡ rest_filling (vif_of q.wires) q.state.rx_index f (with_targets q.work ts)) × IsToldFilling q.wires.table f a × WaitsFor a (reads_filling f) left
 
 pub lift_fill : (p : Purpose) (q : Engine) (ts : List Target) (f : Fill) (x : Steps Outcome) (ops ops_after : List Op) (count : ℕ) (lent lent_after : List ℕ) →
     Led (IsFillOn q ts f) q.wires q.flags x (filling_at q ts f p) ops ops_after count lent lent_after → FillLed p (beside q) x (filling_at q ts f p) ops ops_after count lent lent_after
@@ -97,7 +99,7 @@ lift_fill (purpose.Back n) q ts f x ops ops_after count lent lent_after h =
       left = bind h.left then;
       gone = gone_bind x h.left (did_all h.first lent_after ++ did_by h.last lent_after) then h.gone;
       is_end = turn_of_on (filling_at q ts f (purpose.Back n)) h.last (bind h.left then)
-          (record { is_rest = ap (λ (s : Steps Outcome). bind s then) h.is_end.0; waits = waits_bind h.last (reads_filling f) h.left then h.is_end.1; is_here = refl });
+          (record { is_rest = ap (λ (s : Steps Outcome). bind s then) h.is_end.0; waits = waits_bind h.last (reads_filling f) h.left then h.is_end.2; is_here = refl; told = h.is_end.1 });
       wires = refl;
       flags_are = refl;
       fits = h.fits;
@@ -111,7 +113,7 @@ lift_fill purpose.Delivery q ts f x ops ops_after count lent lent_after h =
       left = bind h.left then;
       gone = gone_bind x h.left (did_all h.first lent_after ++ did_by h.last lent_after) then h.gone;
       is_end = delivery_of_on q.work.packet (filling_at q ts f purpose.Delivery) h.last (bind h.left then)
-          (record { is_rest = ap (λ (s : Steps Outcome). bind s then) h.is_end.0; waits = waits_bind h.last (reads_filling f) h.left then h.is_end.1; is_here = refl }) refl;
+          (record { is_rest = ap (λ (s : Steps Outcome). bind s then) h.is_end.0; waits = waits_bind h.last (reads_filling f) h.left then h.is_end.2; is_here = refl; told = h.is_end.1 }) refl;
       wires = refl;
       flags_are = refl;
       fits = h.fits;

@@ -43,6 +43,7 @@ use Rattle.xen_host.specs.declared.work.Work.{Work}
 use Rattle.xen_host.proofs.EndLemmas.{delivery_ended, fed_delivery, fed_turn, fed_wait, reads_few, turn_ended, wait_ended}
 use Rattle.xen_host.proofs.StageLemmas.{AtTurn, Under, delivery, nothing, turn, under, wait}
 use Rattle.xen_host.proofs.StepLemmas.{AreSmall}
+use Rattle.xen_host.proofs.ToldLemmas.{delivery_told, turn_told, wait_told}
 use Rattle.xen_host.proofs.TurnLemmas.{delivery_steps, turn_goes, turn_steps, wait_steps}
 
 task_delivery : (w : OwnedWiring) (s : State) (g : Stage) (b : Work) → is_delivering g ≡ true → TaskCompletes w s g b → Arriving w s g b
@@ -141,6 +142,7 @@ module _ (old : Queue) (engine : Engine) (lent lent_after before after : List �
             first = l.first;
             last = l.last;
             said = l.said;
+            told = turn_told old.engine.wires new.engine l.last l.left l.wires l.is_end;
             within = r.inside;
             wires = l.wires;
             flags = l.flags_are;
@@ -158,6 +160,7 @@ module _ (old : Queue) (engine : Engine) (lent lent_after before after : List �
             first = l.first;
             last = l.last;
             said = l.said;
+            told = delivery_told e.wires e.work.packet new.engine l.last l.left l.wires l.is_end;
             within = r.inside;
             wires = l.wires;
             flags = l.flags_are ∙ sym t.flags;
@@ -175,6 +178,7 @@ module _ (old : Queue) (engine : Engine) (lent lent_after before after : List �
             first = l.first;
             last = l.last;
             said = l.said;
+            told = wait_told e.wires e.work.packet new.engine l.last l.left l.wires l.is_end;
             within = r.inside;
             wires = l.wires;
             flags = l.flags_are ∙ sym t.flags;
@@ -234,6 +238,7 @@ begun old new producer ops ops_after count small led lent long =
       first = l.first;
       last = l.last;
       said = l.said;
+      told = turn_told old.engine.wires new.engine l.last l.left l.wires l.is_end;
       within = r.inside;
       wires = l.wires;
       flags = l.flags_are;

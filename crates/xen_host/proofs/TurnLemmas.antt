@@ -31,7 +31,7 @@ use Rattle.xen_host.specs.declared.wires.OwnedWiring.{OwnedWiring}
 use Rattle.xen_host.proofs.StepLemmas.{AreSmall, waits_led}
 
 -- It goes on.
-under_way : {A : Type 0} (whole rest left : Steps A) (reads : ℕ) (here : Bool) (t : List Event) (last : Ask) → LedBy whole t left → IsOn rest reads here last left → IsUnderWay whole rest reads here t (Some last)
+under_way : {A : Type 0} {tells : Ask → Type 0} (whole rest left : Steps A) (reads : ℕ) (here : Bool) (t : List Event) (last : Ask) → LedBy whole t left → IsOn rest reads here tells last left → IsUnderWay whole rest reads here t (Some last)
 under_way {A} whole rest left reads here t last g on = record {
   gone = subst (λ (x : Steps A). LedBy whole t x) on.is_rest g;
   waits = subst (λ (x : Steps A). WaitsFor last reads x) on.is_rest on.waits;

@@ -19,6 +19,7 @@ use Rattle.xen_host.specs.Fits.{Fits}
 use Rattle.xen_host.specs.Ran.{HasRunThrough}
 use Rattle.xen_host.specs.Rest.{flags_after, is_delivering, is_turning, is_waiting, reads_filling, reads_in, rest_in, rest_of_delivery, rest_of_wait}
 use Rattle.xen_host.specs.Said.{Said, has_run}
+use Rattle.xen_host.specs.Told.{IsToldAt}
 use Rattle.xen_host.specs.Wired.{vif_of, wiring_of}
 use Rattle.xen_host.specs.declared.engine.Engine.{Engine}
 use Rattle.xen_host.specs.declared.op.Op.{Op}
@@ -42,11 +43,12 @@ pub record Led {A : Type 0} (ends : Ask → Steps A → Type 0) (w : OwnedWiring
   pub flags_are : new.flags ≡ flags
   pub fits : Fits new.stage new.work
 
--- What is left is an engine's rest, which waits for what was asked last.
-pub record IsOn {A : Type 0} (rest : Steps A) (reads : ℕ) (here : Bool) (last : Ask) (left : Steps A) : Type 0 where
+-- What is left is an engine's rest, which waits for what was asked last, and the host is told so.
+pub record IsOn {A : Type 0} (rest : Steps A) (reads : ℕ) (here : Bool) (tells : Ask → Type 0) (last : Ask) (left : Steps A) : Type 0 where
   pub is_rest : left ≡ rest
   pub waits : WaitsFor last reads left
   pub is_here : here ≡ true
+  pub told : tells last
 
 -- ---- turns
 
@@ -66,7 +68,9 @@ pub record IsTurnOver (e : Engine) (k : Kind) (left : Steps Ending) : Type 0 whe
 
 abbrev pub TurnEnds : Engine → Ask → Steps Ending → Type 0
 TurnEnds e (TurnOver k) left = IsTurnOver e k left
-TurnEnds e last left = IsOn (rest_in (wiring_of e.wires) e.state e.stage e.work) (reads_in e.stage) (is_turning e.stage) last left
+TurnEnds e last left =
+    IsOn (rest_in (wiring_of e.wires) e.state e.stage e.work) (reads_in e.stage) (is_turning e.stage) (IsToldAt e.wires.table e.stage) last
+    left
 
 abbrev pub TurnLed : OwnedWiring → TxFlags → Steps Ending → Engine → (ops ops_after : List Op) → ℕ → (lent lent_after : List ℕ) → Type 0
 TurnLed w flags from new ops ops_after count lent lent_after = Led (TurnEnds new) w flags from new ops ops_after count lent lent_after
@@ -83,8 +87,8 @@ pub record TurnRanLed (w : OwnedWiring) (flags : TxFlags) (from : Steps Ending) 
 abbrev pub DeliveryEnds : List ℕ → Engine → Ask → Steps Arrival → Type 0
 DeliveryEnds packet e (DeliveryOver what) left = (left ≡ done (e.state, what)) × (e.stage ≡ stage.Ready) × (e.work.packet ≡ packet)
 DeliveryEnds packet e last left =
-    IsOn (rest_of_delivery (vif_of e.wires) e.state e.stage e.work) (reads_in e.stage) (is_delivering e.stage) last left ×
-    (e.work.packet ≡ packet)
+    IsOn (rest_of_delivery (vif_of e.wires) e.state e.stage e.work) (reads_in e.stage) (is_delivering e.stage)
+    (IsToldAt e.wires.table e.stage) last left × (e.work.packet ≡ packet)
 
 abbrev pub DeliveryLed : OwnedWiring → TxFlags → List ℕ → Steps Arrival → Engine → (ops ops_after : List Op) → ℕ →
     (lent lent_after : List ℕ) → Type 0
@@ -94,7 +98,8 @@ DeliveryLed w flags packet from new ops ops_after count lent lent_after =
 abbrev pub WaitEnds : List ℕ → Engine → Ask → Steps Wait → Type 0
 WaitEnds packet e (WaitOver what) left = (left ≡ done (e.state, what)) × (e.stage ≡ stage.Ready) × (e.work.packet ≡ packet)
 WaitEnds packet e last left =
-    IsOn (rest_of_wait e.wires.rx e.state e.stage) (reads_in e.stage) (is_waiting e.stage) last left × (e.work.packet ≡ packet)
+    IsOn (rest_of_wait e.wires.rx e.state e.stage) (reads_in e.stage) (is_waiting e.stage) (IsToldAt e.wires.table e.stage) last left ×
+    (e.work.packet ≡ packet)
 
 abbrev pub WaitLed : OwnedWiring → TxFlags → List ℕ → Steps Wait → Engine → (ops ops_after : List Op) → ℕ →
     (lent lent_after : List ℕ) → Type 0

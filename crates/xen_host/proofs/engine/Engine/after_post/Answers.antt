@@ -45,5 +45,5 @@ returns-in-Some c =
     record {
       led = λ lent. lift_fill c.args.purpose q ts f _ _ _ _ lent lent
           (says_one (IsFillOn q ts f) _ _ _ left _ (ask.Entry at r.gref ReadWrite) _ _ _ _ lent c.requires.room c.say.ensures.one c.say.ensures.said
-          c.read_entry.ensures refl refl tt (is ∙ there) (refl, (refl, (refl, λ a. (refl, λ b. tt)))) refl refl c.requires.few);
+          c.read_entry.ensures refl refl tt (is ∙ there) (refl, (sym c.place.ensures.place ∙ c.in-Some.is, refl), (refl, (refl, λ a. (refl, λ b. tt)))) refl refl c.requires.few);
     }

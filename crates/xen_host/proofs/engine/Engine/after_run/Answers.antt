@@ -39,7 +39,7 @@ returns-then-number-eq-XDP_TX c =
       led = λ lent. led_from _ _ _ _ _ _ _ _ _ lent lent (sym (tx_run w q.state q.work.chain r.number q.work.packet r.ops c.if-number-eq-XDP_TX.true))
           (says_one _ _ _ left left _ (ask.Read (rx_word w.vif 0) 1) _ _ _ _ lent c.requires.room c.say.ensures.one c.say.ensures.said
           (c.read.ensures ∙ ap (λ (p : Place). ask.op_of (ask.Read p 1)) c.header.ensures) refl refl (omega arith, omega arith) refl
-          (record { is_rest = refl; waits = (refl, (refl, λ a. tt)); is_here = refl }) refl refl tt);
+          (record { is_rest = refl; waits = (refl, (refl, λ a. tt)); is_here = refl; told = tt }) refl refl tt);
     }
 
 pub returns : goal.returns

@@ -18,5 +18,5 @@ returns c =
     record {
       led = λ lent. says_one _ _ _ _ left _ (ask.Push (tx_word w.vif 1) v 0) _ _ _ _ lent c.requires c.say.ensures.one c.say.ensures.said
           (c.push.ensures ∙ ap (λ (p : Place). ask.op_of (ask.Push p v 0)) c.header.ensures) refl refl tt
-          (left, (0, (refl, refl), refl), refl) (record { is_rest = refl; waits = (refl, (refl, λ a. tt)); is_here = refl }) refl refl tt;
+          (left, (0, (refl, refl), refl), refl) (record { is_rest = refl; waits = (refl, (refl, λ a. tt)); is_here = refl; told = tt }) refl refl tt;
     }

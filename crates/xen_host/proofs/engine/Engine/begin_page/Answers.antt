@@ -36,5 +36,5 @@ returns-clause-led c lent =
     let left = bind (bind (copy_words f frame (f.offset / 4) (covered f) b.packet) (copy w (drop c.args.i b.fragments.items))) (after_copy w q.state b.chain) in
     let op = c.read.ensures ∙ ap (λ k. ask.op_of (ask.Read (page_word frame k) (r.end - r.start))) e.start ∙ ap (λ m. ask.op_of (ask.Read at m)) (sym n) in
     ran_none _ _ _ _ _ _ _ _ lent lent (says_one _ _ _ _ left _ (ask.Read at (covered f)) _ _ _ _ lent c.requires.room c.say.ensures.one c.say.ensures.said op refl refl (some, page_short f c.requires.in_page) refl
-    (record { is_rest = refl; waits = (refl, asks_words f frame (f.offset / 4) (covered f) b.packet (copy w (drop c.args.i b.fragments.items)) (after_copy w q.state b.chain)); is_here = refl }) refl refl
+    (record { is_rest = refl; waits = (refl, asks_words f frame (f.offset / 4) (covered f) b.packet (copy w (drop c.args.i b.fragments.items)) (after_copy w q.state b.chain)); is_here = refl; told = tt }) refl refl
     (record { within = c.requires.copies.within; in_page = c.requires.copies.in_page; here = c.requires.in_page; some = some; room = c.requires.more }))

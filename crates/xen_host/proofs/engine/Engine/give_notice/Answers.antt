@@ -11,7 +11,7 @@ returns-then-ops-eq1 c =
     let left = done (ended_at c.args.at c.args.kind q.work) in
     record {
       led = λ lent. says_last _ _ _ _ left _ (ask.Notify q.wires.port) _ _ _ lent lent (sym c.say.auto.ops ∙ c.if-ops-eq1.true) c.say.ensures.said c.notify.ensures refl tt
-          (left, (0, (refl, refl), refl), refl) (record { is_rest = refl; waits = refl; is_here = refl }) refl refl tt;
+          (left, (0, (refl, refl), refl), refl) (record { is_rest = refl; waits = refl; is_here = refl; told = tt }) refl refl tt;
     }
 
 pub overflow_add-result : goal.overflow_add-result

@@ -17,7 +17,7 @@ returns-then-ops-eq1 c =
     record {
       led = λ lent. lift_fill c.args.purpose q ts f _ _ _ _ lent lent
           (says_last (IsFillOn q ts f) _ _ _ left _ (ask.Notify q.wires.port) _ _ _ lent lent (sym c.say.auto.ops ∙ c.if-ops-eq1.true) c.say.ensures.said c.notify.ensures refl tt
-          (left, (0, (refl, refl), refl), refl) (refl, refl) refl refl tt);
+          (left, (0, (refl, refl), refl), refl) (refl, tt, refl) refl refl tt);
     }
 
 pub overflow_add-result : goal.overflow_add-result

@@ -35,5 +35,5 @@ returns-in-Some c =
     let left = bind (bind (entry_at w.vif ReadOnly (Some at)) (entered f (copy w (drop (c.args.i + 1) b.fragments.items)) b.packet)) (after_copy w q.state b.chain) in
     record {
       led = λ lent. says_one _ _ _ _ left _ (ask.Entry at c.fragment-gref.result.gref ReadOnly) _ _ _ _ lent c.requires.room c.say.ensures.one c.say.ensures.said
-          c.read_entry.ensures refl refl tt same (record { is_rest = refl; waits = (refl, (refl, λ a. (refl, λ d. tt))); is_here = refl }) refl refl (c.requires.few, c.requires.within, c.requires.copies);
+          c.read_entry.ensures refl refl tt same (record { is_rest = refl; waits = (refl, (refl, λ a. (refl, λ d. tt))); is_here = refl; told = (sym c.place.ensures.place ∙ c.in-Some.is, refl) }) refl refl (c.requires.few, c.requires.within, c.requires.copies);
     }

@@ -27,5 +27,5 @@ returns c =
       led = λ lent. lift_fill c.args.purpose q ts f left _ _ _ lent lent
           (says_one (IsFillOn q ts f) _ _ _ left _ (ask.Read (rx_slot w i 0) 2) _ _ _ _ lent c.requires.room c.say.ensures.one c.say.ensures.said
           (c.read.ensures ∙ ap (λ (p : Place). ask.op_of (ask.Read p 2)) place) refl refl (omega arith, omega arith) refl
-          (refl, (refl, asks_post w i rest (after_targets w x q.work.packet))) refl refl c.requires.few);
+          (refl, tt, (refl, asks_post w i rest (after_targets w x q.work.packet))) refl refl c.requires.few);
     }

@@ -23,5 +23,5 @@ returns c =
     record {
       led = λ lent. says_one _ _ _ _ left _ (ask.Read (tx_slot w.vif i 0) 3) _ _ _ _ lent c.requires.room c.say.ensures.one c.say.ensures.said
           (c.read.ensures ∙ ap (λ (p : Place). ask.op_of (ask.Read p 3)) place) refl refl (omega arith, omega arith)
-          refl (record { is_rest = refl; waits = (refl, asks_slot w i judge (after_scan w q.state)); is_here = refl }) refl refl c.requires.wants;
+          refl (record { is_rest = refl; waits = (refl, asks_slot w i judge (after_scan w q.state)); is_here = refl; told = tt }) refl refl c.requires.wants;
     }

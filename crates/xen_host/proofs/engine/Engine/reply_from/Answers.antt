@@ -14,6 +14,7 @@ use Rattle.xen_steps.specs.Drive.{LedBy}
 use Rattle.xen_steps.specs.Event.{Write}
 use Rattle.xen_host.specs.Chained.{replies}
 use Rattle.xen_host.proofs.ChainLemmas.{replies_chained, replies_gone, replies_length}
+use Rattle.xen_host.proofs.ToldLemmas.{other_none}
 use Rattle.xen_host.proofs.engine.Engine.reply_from.Goals as goal
 
 pub returns-then-count-ops : goal.returns-then-count-ops
@@ -32,7 +33,7 @@ returns-then-count-ops c =
     record {
       led = λ lent. lift_fill c.args.purpose q ts f _ _ _ _ lent lent
           (says_all (IsFillOn q ts f) _ _ _ left _ (replies w x p grants ts from n) _ _ n lent (replies_chained w x p grants ts from n) s.ensures.said (sym (replies_length w x p grants ts from n))
-          (c.if-count-ops.true ∙ s.auto.ops) c.requires.room (replies_gone w x p grants ts from n lent s.ensures.within) (λ a h. (refl, waits_none a left h)) refl refl s.ensures.within);
+          (c.if-count-ops.true ∙ s.auto.ops) c.requires.room (replies_gone w x p grants ts from n lent s.ensures.within) (λ a h. (refl, other_none a h, waits_none a left h)) refl refl s.ensures.within);
     }
 
 pub returns : goal.returns
@@ -61,5 +62,5 @@ returns c =
       led = λ lent. lift_fill c.args.purpose q ts f _ _ _ _ lent lent
           (led_as _ _ _ _ _ _ _ _ _ _ lent lent (sym c.put.ensures) refl
           (says_then (IsFillOn q ts f) _ _ _ between left _ all (ask.Push (rx_word w 2) v 3) _ _ _ _ lent (replies_chained w x p grants ts from n) s.ensures.said (sym (replies_length w x p grants ts from n)) some c.reply_push.ensures refl refl tt
-          (replies_gone w x p grants ts from n lent s.ensures.within) then (refl, (refl, (refl, λ a. tt))) refl refl tt));
+          (replies_gone w x p grants ts from n lent s.ensures.within) then (refl, tt, (refl, (refl, λ a. tt))) refl refl tt));
     }

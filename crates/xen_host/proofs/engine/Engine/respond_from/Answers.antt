@@ -17,6 +17,7 @@ use Rattle.xen_host.specs.Rest.{ending_of}
 use Rattle.xen_host.specs.Chained.{stores}
 use Rattle.xen_host.proofs.ChainLemmas.{stores_chained, stores_gone, stores_length}
 use Rattle.xen_host.proofs.FillLemmas.{turn_of_on, waits_none}
+use Rattle.xen_host.proofs.ToldLemmas.{other_none}
 use Rattle.xen_host.proofs.engine.Engine.respond_from.Goals as goal
 
 pub returns-then-count-ops : goal.returns-then-count-ops
@@ -37,7 +38,7 @@ returns-then-count-ops c =
     record {
       led = λ lent. says_all _ _ _ _ left _ (stores w.vif t words from n) _ _ n lent (stores_chained w.vif t words from n) s.ensures.said (sym (stores_length w.vif t words from n))
           (c.if-count-ops.true ∙ s.auto.ops) c.requires.room (stores_gone w t m words e from n lent inside)
-          (λ x h. turn_of_on new x left (record { is_rest = refl; waits = waits_none x left h; is_here = refl })) refl refl s.ensures.within;
+          (λ x h. turn_of_on new x left (record { is_rest = refl; waits = waits_none x left h; is_here = refl; told = other_none x h })) refl refl s.ensures.within;
     }
 
 pub returns : goal.returns
@@ -65,5 +66,5 @@ returns c =
     record {
       led = λ lent. led_as _ _ _ _ _ _ _ _ _ _ lent lent (sym c.put.ensures) refl
           (says_then _ _ _ _ between left _ all (ask.Push (tx_word w.vif 2) v 3) _ _ _ _ lent (stores_chained w.vif t words from n) s.ensures.said (sym (stores_length w.vif t words from n)) some c.response_push.ensures refl refl tt
-          (stores_gone w t m words e from n lent inside) then (record { is_rest = refl; waits = (refl, (refl, λ x. tt)); is_here = refl }) refl refl tt);
+          (stores_gone w t m words e from n lent inside) then (record { is_rest = refl; waits = (refl, (refl, λ x. tt)); is_here = refl; told = tt }) refl refl tt);
     }

@@ -24,5 +24,5 @@ returns c =
     record {
       led = λ lent. led_from _ _ _ _ _ _ _ _ _ lent lent (sym live) (says_one _ _ _ _ left _ (ask.Push (page_word rx 1) v 0) _ _ _ _ lent c.requires.room c.say.ensures.one c.say.ensures.said
           (c.push.ensures ∙ ap (λ (p : Place). ask.op_of (ask.Push p v 0)) c.header.ensures) refl refl tt
-          (left, (0, (refl, refl), refl), refl) (record { is_rest = refl; waits = (refl, (refl, λ a. tt)); is_here = refl }, refl) refl refl tt);
+          (left, (0, (refl, refl), refl), refl) (record { is_rest = refl; waits = (refl, (refl, λ a. tt)); is_here = refl; told = tt }, refl) refl refl tt);
     }

@@ -39,7 +39,7 @@ returns-then-to-all-clause-led c =
     let f = fill.Words (i + 1) in
     lift_fill c.args.purpose q ts f from _ _ _ lent after
     (says_write (IsFillOn q ts f) _ _ from left _ at (to - 1024 * i) c.page_op.result _ _ lent after c.requires.room c.say.ensures.said c.page_op.ensures.op c.page_op.ensures.rest
-    (omega (arith, some, most)) (omega (arith, most)) gone (refl, refl) refl refl (omega (arith, some, all, c.words_of-all.ensures.few)))
+    (omega (arith, some, most)) (omega (arith, most)) gone (refl, tt, refl) refl refl (omega (arith, some, all, c.words_of-all.ensures.few)))
 
 pub overflow_add-result : goal.overflow_add-result
 overflow_add-result c = omega (arith, fill_room c.args.purpose _ _ _ _ _ _ [] [] (c.reply_from-2.ensures.led []), c.say.auto.ops)
