@@ -40,7 +40,9 @@ fn passed(insn: Insn, equations: &Equations, note: &Note, at: u32) -> Option<u32
 {
     match insn {
         Insn::Ja { to, .. } => jump_target(at, to),
-        Insn::Jump { off, .. } if reads_alike(equations, insn) => match decided(insn, note) {
+        Insn::Jump { off, .. } if reads_alike(equations, insn) => match decided(
+            insn, equations, note,
+        ) {
             Some(true) => jump_target(at, i32::from(off)),
             Some(false) => Some(at + 1),
             None => None,
@@ -113,10 +115,10 @@ fn is_at(code: &[Insn], at: u32, insn: Insn) -> bool
 }
 
 /// Whether a conditional jump is known to go the other way.
-fn is_other(insn: Insn, note: &Note, way: bool) -> bool
-    ensures { IsTrue result → IsDecided insn (facts note.now) (not way) }
+fn is_other(insn: Insn, equations: &Equations, note: &Note, way: bool) -> bool
+    ensures { IsTrue result → IsDecided insn equations.now (facts note.now) (not way) }
 {
-    match decided(insn, note) {
+    match decided(insn, equations, note) {
         Some(is_taken) => is_taken != way,
         None => false,
     }
@@ -270,7 +272,8 @@ impl Claims<'_> {
         ensures { IsTrue result → Goes (book_of self.now) before.now.insn before.now.equations.now (facts before.now.note.now) (not way) from
             (facts there.now.note.value) there.now.pc }
     {
-        is_other(before.insn, before.note, way) || self.lands_at(before, from, there)
+        is_other(before.insn, before.equations, before.note, way)
+            || self.lands_at(before, from, there)
     }
 
     /// Whether the old program follows a conditional jump, whose ways it goes from these slots.

@@ -22,6 +22,7 @@ mod keep;
 mod laws;
 mod mark;
 mod meet;
+mod range;
 mod same;
 mod start;
 mod sum;
