@@ -1,5 +1,5 @@
 -- What decides a conditional jump does so.
-use Rattle.std.proofs.Common.{ℕ, ◌≡◌, ◌≤◌, ◌<◌, ◌^◌, refl, ap, ◌∙◌, subst, arith, Option, None, Some, Bool, true, false, ℤ}
+use Rattle.std.proofs.Common.{ℕ, ◌≡◌, ◌≤◌, ◌<◌, ◌^◌, ap, ◌∙◌, arith, Option, None, Some, Bool, true, false, ℤ}
 use Rattle.std.specs.Prelude.{pos, negsuc, IfSome}
 use Rattle.bpf_insn.specs.declared.insn.Insn.TheVariants.{Jump}
 use Rattle.bpf_insn.specs.Register.{number}
@@ -16,7 +16,7 @@ use Rattle.bpf_flow.specs.Step.{operand}
 use Rattle.bpf_flow.proofs.JumpLemmas.{met_is}
 use Rattle.bpf_same.specs.declared.equations.Equations.{Equations}
 use Rattle.bpf_same.specs.Ranges.{IsSpan, IsOperandSpan}
-use Rattle.bpf_same.specs.Decided.{IsBetween, Compared, IsDecided}
+use Rattle.bpf_same.specs.Decided.{IsBetween, IsDecided}
 
 abbrev pub AreMet : Condition → Bool → ℕ → ℕ → ℕ → ℕ → Bool → Type 0
 AreMet cond wide lo hi low high b = (x y : ℕ) → lo ≤ x → x ≤ hi → low ≤ y → y ≤ high → x < 2 ^ 64 → y < 2 ^ 64 → is_met cond wide x y ≡ b

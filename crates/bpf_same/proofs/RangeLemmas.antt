@@ -1,12 +1,11 @@
 -- Between which numbers registers lie.
 use Rattle.std.proofs.Common.{ℕ, ◌+◌, ◌-◌, ◌%◌, ◌^◌, ◌≡◌, ◌<◌, ◌≤◌, min, max, refl, sym, ap, ◌∙◌, subst, arith, length, Option, None, Some}
 use Rattle.std.specs.Prelude.{IfSome}
-use Rattle.bpf_insn.specs.declared.operand.Operand.{Operand}
 use Rattle.bpf_note.specs.declared.val.Val.{Val}
 use Rattle.bpf_note.specs.declared.val.Val.TheVariants.{Num, Pkt, PktEnd}
-use Rattle.bpf_note.specs.State.{State, packet_start}
+use Rattle.bpf_note.specs.State.{packet_start}
 use Rattle.bpf_note.specs.Facts.{Facts, packet_id}
-use Rattle.bpf_note.specs.Describes.{Describes, Reads, meaning}
+use Rattle.bpf_note.specs.Describes.{Reads, meaning}
 use Rattle.bpf_flow.proofs.RegisterLemmas.{is_set_reads}
 use Rattle.bpf_same.specs.declared.range.Range.{Range}
 use Rattle.bpf_same.specs.declared.sum.Sum.{Sum}

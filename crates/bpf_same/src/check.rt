@@ -14,8 +14,9 @@ use crate::decide::decided;
 use crate::equal::{is_but_for_offset, is_same_insn};
 use crate::equations::Equations;
 use crate::mark::Place;
+use crate::sharper::known_after;
 use crate::turn::Turn;
-use bpf_flow::{Successor, Successors, after, jump_target, next_slot};
+use bpf_flow::{Successor, Successors, jump_target, next_slot};
 use bpf_insn::Insn;
 use bpf_note::{MapShape, Note, covers};
 use std::alloc::Global;
@@ -375,21 +376,21 @@ impl Claims<'_> {
         if !is_ruled(before.insn, pc, shapes.len()) {
             return false;
         }
-        match after(alloc, &before.insn, pc, before.note, shapes) {
-            Ok(Successors::None) => {
+        match known_after(alloc, before.insn, pc, before.note, shapes) {
+            Some(Successors::None) => {
                 is_exit(before.insn)
                     && is_at(self.old, before.place.at, before.insn)
                     && reads_alike(before.equations, before.insn)
             }
-            Ok(Successors::One(there)) => self.follows_one(before, &there),
-            Ok(Successors::Two(next, taken)) => {
+            Some(Successors::One(there)) => self.follows_one(before, &there),
+            Some(Successors::Two(next, taken)) => {
                 if is_split(before.insn, pc, next.pc, taken.pc) {
                     self.follows_two(before, &next, &taken)
                 } else {
                     false
                 }
             }
-            Err(_) => false,
+            None => false,
         }
     }
 }

@@ -40,7 +40,7 @@ fn least_length(note: &Note) -> u32
 }
 
 /// The numbers that a value may be.
-fn range_of(note: &Note, value: Val) -> Option<Range>
+pub(crate) fn range_of(note: &Note, value: Val) -> Option<Range>
     ensures { IfSome result (λ r. IsRead (facts note.now) value r.low r.high) }
 {
     match value {

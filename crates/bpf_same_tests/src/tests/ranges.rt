@@ -136,6 +136,92 @@ fn addresses_behind_the_longest_packet(rt: HostRuntime) {
     assert_eq!(rt; beyond(&rt, "25030700feff0000"), Some(Comparison::NotShown));
 }
 
+/// What is answered where the verifier's rule forgets a sum: of an address that a byte moves and a number that is loaded, which
+/// is tested.
+fn forgotten(rt: &HostRuntime, load: &str, test: &str) -> Option<Comparison> {
+    let [a, b, c, d, e, f, g] = BEGINNING;
+    let old = [
+        a,
+        b,
+        c,
+        d,
+        e,
+        f,
+        g,
+        "7163000000000000",
+        "570300000f000000",
+        "bf64000000000000",
+        "0f34000000000000",
+        load,
+        "0f54000000000000",
+        "2d74020000000000",
+        "b700000001000000",
+        "9500000000000000",
+        "b700000002000000",
+        "9500000000000000",
+    ];
+    let new = [
+        a,
+        b,
+        c,
+        d,
+        e,
+        f,
+        g,
+        "7163000000000000",
+        "570300000f000000",
+        "bf64000000000000",
+        "0f34000000000000",
+        load,
+        test,
+        "0f54000000000000",
+        "2d74020000000000",
+        "b700000001000000",
+        "9500000000000000",
+        "b700000002000000",
+        "9500000000000000",
+        "0f54000000000000",
+        "b700000002000000",
+        "9500000000000000",
+    ];
+    let pair = Pair {
+        old: &old,
+        new: &new,
+        maps: 0,
+        places: "c0 c1 c2 c3 c4 c5 c6 c7 c8 c9 c10 c11 o12 c12 c13 c14 c15 c16 c17 c12 c16 c17",
+    };
+    compared(rt.alloc(), &pair)
+}
+
+/// Numbers of four and of eight bytes, and tests for more than 65,535 and 65,534.
+const FOUR_BYTES: &str = "6165040000000000";
+
+const EIGHT_BYTES: &str = "7965000000000000";
+
+const ABOVE_65535: &str = "25050600ffff0000";
+
+const ABOVE_65534: &str = "25050600feff0000";
+
+#[test]
+fn sums_behind_the_longest_packet(rt: HostRuntime) {
+    assert_eq!(rt;
+        forgotten(&rt, FOUR_BYTES, ABOVE_65535),
+        Some(Comparison::Same)
+    );
+    assert_eq!(rt;
+        forgotten(&rt, FOUR_BYTES, ABOVE_65534),
+        Some(Comparison::NotShown)
+    );
+}
+
+#[test]
+fn sums_that_wrap(rt: HostRuntime) {
+    assert_eq!(rt;
+        forgotten(&rt, EIGHT_BYTES, ABOVE_65535),
+        Some(Comparison::NotShown)
+    );
+}
+
 /// What is answered where a comparison with a bound is left out, which follows one of the number less 256.
 fn bounded(rt: &HostRuntime, between: &str, test: [&str; 2], bound: &str) -> Option<Comparison> {
     let [a, b, c, d, e, f, g] = BEGINNING;

@@ -1,4 +1,4 @@
-use Rattle.std.proofs.Common.{◌+◌, ◌≡◌, arith}
+use Rattle.std.proofs.Common.{arith}
 use Rattle.bpf_note.specs.Parts.{facts}
 use Rattle.bpf_same.proofs.RangeLemmas.{packet_reads}
 use Rattle.bpf_same.proofs.range.range_of.Goals as goal
