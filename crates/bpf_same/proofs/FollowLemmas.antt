@@ -107,15 +107,15 @@ jump_leads cond wide dst src off t c u k h =
     (subst (λ (o : Option ℕ). LeadsTo (need o (λ b. if is_met cond wide k.x b then jumped t off else Next (at_slot t (t.pc + 1)))) None u) (sym k.second)
     (subst (λ (c : Bool). LeadsTo (if c then jumped t off else Next (at_slot t (t.pc + 1))) None u) (sym k.met) h))
 
-pub taken_passed : (cond : Condition) (wide : Bool) (dst : Register) (src : Operand) (off : ℤ) (e : Equations) (low : ℕ) (n : Facts) (p q : ℕ) → ReadsAlike e (Jump cond wide dst src off) → IsDecided (Jump cond wide dst src off) n true → target p off ≡ Some q →
+pub taken_passed : (cond : Condition) (wide : Bool) (dst : Register) (src : Operand) (off : ℤ) (e : Equations) (low : ℕ) (n : Facts) (p q : ℕ) → ReadsAlike e (Jump cond wide dst src off) → IsDecided (Jump cond wide dst src off) e n true → target p off ≡ Some q →
     IsPassed (Jump cond wide dst src off) e low n p q
 taken_passed cond wide dst src off e low n p q alike k h = λ s t d b.
-    jump_leads cond wide dst src off t true (at_slot t q) (compared_old e low p cond wide dst src off s t true b alike (k s d)) (target_leads t (target t.pc off) q (ap (λ (pc : ℕ). target pc off) b.pc ∙ h))
+    jump_leads cond wide dst src off t true (at_slot t q) (compared_old e low p cond wide dst src off s t true b alike (k s t.reg d b.equations)) (target_leads t (target t.pc off) q (ap (λ (pc : ℕ). target pc off) b.pc ∙ h))
 
-pub left_passed : (cond : Condition) (wide : Bool) (dst : Register) (src : Operand) (off : ℤ) (e : Equations) (low : ℕ) (n : Facts) (p : ℕ) → ReadsAlike e (Jump cond wide dst src off) → IsDecided (Jump cond wide dst src off) n false →
+pub left_passed : (cond : Condition) (wide : Bool) (dst : Register) (src : Operand) (off : ℤ) (e : Equations) (low : ℕ) (n : Facts) (p : ℕ) → ReadsAlike e (Jump cond wide dst src off) → IsDecided (Jump cond wide dst src off) e n false →
     IsPassed (Jump cond wide dst src off) e low n p (p + 1)
 left_passed cond wide dst src off e low n p alike k = λ s t d b.
-    jump_leads cond wide dst src off t false (at_slot t (p + 1)) (compared_old e low p cond wide dst src off s t false b alike (k s d)) (ap (λ (pc : ℕ). at_slot t (pc + 1)) b.pc)
+    jump_leads cond wide dst src off t false (at_slot t (p + 1)) (compared_old e low p cond wide dst src off s t false b alike (k s t.reg d b.equations)) (ap (λ (pc : ℕ). at_slot t (pc + 1)) b.pc)
 
 -- where the way to what is claimed is passed, and one of the notes there describes what this describes, the old program follows
 pub meet : (b : Book) (n : Facts) (p q : ℕ) (place : Place) (e : Equations) → slice_get b.places q ≡ Some place → slice_get b.equations q ≡ Some e → Passes b.old e b.low n p place.at → ((s : State) → Describes n s → IsKnown b.notes q s) → Meets b n p q
@@ -317,7 +317,7 @@ Leads old low e p cond wide dst src a c = (s t : State) (way : Bool) → Beside 
 
 -- where a way leads to what the old program follows, and is one that may be taken
 arrives : (b : Book) (i : Insn) (e : Equations) (p : ℕ) (n m : Facts) (other : Bool) (o : Option ℕ) (q q' : ℕ) (s t : State) (P : Type 0) (r0 : ℕ) (bytes : List ℕ) (done : List Op) → is_jump i ≡ true → Beside e b.low p s t → q' ≡ q → Describes m (at_slot s q') →
-    (IsDecided i n other → ⊥) → Goes b i e n other o m q → ((z : ℕ) → o ≡ Some z → Runs b.old r0 bytes (at_slot t z) done → P) → IsFollowed b r0 bytes done (at_slot s q') → P
+    (IsDecided i e n other → ⊥) → Goes b i e n other o m q → ((z : ℕ) → o ≡ Some z → Runs b.old r0 bytes (at_slot t z) done → P) → IsFollowed b r0 bytes done (at_slot s q') → P
 arrives b i e p n m other o q q' s t P r0 bytes done j beside at d never (inl decided) f go = absurd (never decided)
 arrives b i e p n m other None q q' s t P r0 bytes done j beside at d never (inr lands) f go = absurd lands
 arrives b i e p n m other (Some z) q q' s t P r0 bytes done j beside at d never (inr lands) f go =
@@ -339,10 +339,10 @@ both_follow b shapes p a c cond wide dst src off e n l m pc q r next to apart so
         Runs b.old r0 bytes t (in_front label done)
     by s t beside at here d _ _ r0 bytes done (takes q' k x dm) go =
         arrives b (Jump cond wide dst src off) e p n m false c r q' s t (Runs b.old r0 bytes t done) r0 bytes done refl beside (some_is (sym x ∙ (ap (λ (pc : ℕ). target pc off) at ∙ to))) dm
-        (λ never. true_false (not_ruled_out cond wide (s.reg (number dst)) (operand s src) true false k (never s d))) ways.taken (λ z f run. leads s t true beside k z f r0 bytes done run) go
+        (λ never. true_false (not_ruled_out cond wide (s.reg (number dst)) (operand s src) true false k (never s t.reg d beside.equations))) ways.taken (λ z f run. leads s t true beside k z f r0 bytes done run) go
     by s t beside at here d _ _ r0 bytes done (leaves k dl) go =
         arrives b (Jump cond wide dst src off) e p n l true a q (s.pc + 1) s t (Runs b.old r0 bytes t done) r0 bytes done refl beside (sym here) dl
-        (λ never. true_false (not_ruled_out cond wide (s.reg (number dst)) (operand s src) true false (never s d) k)) ways.next (λ z f run. leads s t false beside k z f r0 bytes done run) go
+        (λ never. true_false (not_ruled_out cond wide (s.reg (number dst)) (operand s src) true false (never s t.reg d beside.equations) k)) ways.next (λ z f run. leads s t false beside k z f r0 bytes done run) go
 
 stays_leads : (old : List Insn) (low : ℕ) (e : Equations) (p : ℕ) (cond : Condition) (wide : Bool) (dst : Register) (src : Operand) → Leads old low e p cond wide dst src (Some p) (Some p)
 stays_leads old low e p cond wide dst src = λ s t c beside k z x r0 bytes done run. subst (λ (t : State). Runs old r0 bytes t done) (ap (at_slot t) (sym (by c z x)) ∙ at_same e low p s t beside) run
@@ -460,12 +460,12 @@ same_runs b new shapes begun k = λ s is e r0 bytes done run.
     subst (λ (done : List Op). Runs b.old r0 bytes s done) run.did there
 
 pub taken_if : (i : Insn) (cond : Condition) (wide : Bool) (dst : Register) (src : Operand) (off : ℤ) (e : Equations) (low : ℕ) (n : Facts) (p : ℕ) (o : Option ℕ) → i ≡ Jump cond wide dst src off → ReadsAlike e (Jump cond wide dst src off) →
-    IsDecided (Jump cond wide dst src off) n true → o ≡ target p off → IfSome o (IsPassed i e low n p)
+    IsDecided (Jump cond wide dst src off) e n true → o ≡ target p off → IfSome o (IsPassed i e low n p)
 taken_if i cond wide dst src off e low n p None is alike d at = tt
 taken_if i cond wide dst src off e low n p (Some q) is alike d at = subst (λ (i : Insn). IsPassed i e low n p q) (sym is) (taken_passed cond wide dst src off e low n p q alike d (sym at))
 
 pub left_if : (i : Insn) (cond : Condition) (wide : Bool) (dst : Register) (src : Operand) (off : ℤ) (e : Equations) (low : ℕ) (n : Facts) (p : ℕ) → i ≡ Jump cond wide dst src off → ReadsAlike e (Jump cond wide dst src off) →
-    IsDecided (Jump cond wide dst src off) n false → IsPassed i e low n p (p + 1)
+    IsDecided (Jump cond wide dst src off) e n false → IsPassed i e low n p (p + 1)
 left_if i cond wide dst src off e low n p is alike d = subst (λ (i : Insn). IsPassed i e low n p (p + 1)) (sym is) (left_passed cond wide dst src off e low n p alike d)
 
 pub passed_if : (old : List Insn) (e : Equations) (low : ℕ) (n : Facts) (p : ℕ) (i : Insn) (o : Option ℕ) → slice_get old p ≡ Some i → IfSome o (IsPassed i e low n p) → IfSome o (λ q. (i : Insn) × (slice_get old p ≡ Some i) × IsPassed i e low n p q)

@@ -106,7 +106,7 @@ FollowsOne b own p i e n m q = StepsBy b own p i e n m q
 
 -- a way of a conditional jump is never taken, or leads to slot q, where the old program follows from slot p on
 abbrev pub Goes : Book → Insn → Equations → Facts → Bool → Option ℕ → Facts → ℕ → Type 0
-Goes b i e n other p m q = IsDecided i n other ⊎ LandsAt b i true e m p q
+Goes b i e n other p m q = IsDecided i e n other ⊎ LandsAt b i true e m p q
 
 -- both ways of a conditional jump: not taken, and taken
 pub record GoesBoth (b : Book) (i : Insn) (e : Equations) (n : Facts) (p t : Option ℕ) (l : Facts) (q : ℕ) (m : Facts) (r : ℕ) : Type 0 where

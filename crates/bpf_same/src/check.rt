@@ -14,8 +14,9 @@ use crate::decide::decided;
 use crate::equal::{is_but_for_offset, is_same_insn};
 use crate::equations::Equations;
 use crate::mark::Place;
+use crate::sharper::known_after;
 use crate::turn::Turn;
-use bpf_flow::{Successor, Successors, after, jump_target, next_slot};
+use bpf_flow::{Successor, Successors, jump_target, next_slot};
 use bpf_insn::Insn;
 use bpf_note::{MapShape, Note, covers};
 use std::alloc::Global;
@@ -40,7 +41,9 @@ fn passed(insn: Insn, equations: &Equations, note: &Note, at: u32) -> Option<u32
 {
     match insn {
         Insn::Ja { to, .. } => jump_target(at, to),
-        Insn::Jump { off, .. } if reads_alike(equations, insn) => match decided(insn, note) {
+        Insn::Jump { off, .. } if reads_alike(equations, insn) => match decided(
+            insn, equations, note,
+        ) {
             Some(true) => jump_target(at, i32::from(off)),
             Some(false) => Some(at + 1),
             None => None,
@@ -113,10 +116,10 @@ fn is_at(code: &[Insn], at: u32, insn: Insn) -> bool
 }
 
 /// Whether a conditional jump is known to go the other way.
-fn is_other(insn: Insn, note: &Note, way: bool) -> bool
-    ensures { IsTrue result → IsDecided insn (facts note.now) (not way) }
+fn is_other(insn: Insn, equations: &Equations, note: &Note, way: bool) -> bool
+    ensures { IsTrue result → IsDecided insn equations.now (facts note.now) (not way) }
 {
-    match decided(insn, note) {
+    match decided(insn, equations, note) {
         Some(is_taken) => is_taken != way,
         None => false,
     }
@@ -270,7 +273,8 @@ impl Claims<'_> {
         ensures { IsTrue result → Goes (book_of self.now) before.now.insn before.now.equations.now (facts before.now.note.now) (not way) from
             (facts there.now.note.value) there.now.pc }
     {
-        is_other(before.insn, before.note, way) || self.lands_at(before, from, there)
+        is_other(before.insn, before.equations, before.note, way)
+            || self.lands_at(before, from, there)
     }
 
     /// Whether the old program follows a conditional jump, whose ways it goes from these slots.
@@ -372,21 +376,21 @@ impl Claims<'_> {
         if !is_ruled(before.insn, pc, shapes.len()) {
             return false;
         }
-        match after(alloc, &before.insn, pc, before.note, shapes) {
-            Ok(Successors::None) => {
+        match known_after(alloc, before.insn, pc, before.note, shapes) {
+            Some(Successors::None) => {
                 is_exit(before.insn)
                     && is_at(self.old, before.place.at, before.insn)
                     && reads_alike(before.equations, before.insn)
             }
-            Ok(Successors::One(there)) => self.follows_one(before, &there),
-            Ok(Successors::Two(next, taken)) => {
+            Some(Successors::One(there)) => self.follows_one(before, &there),
+            Some(Successors::Two(next, taken)) => {
                 if is_split(before.insn, pc, next.pc, taken.pc) {
                     self.follows_two(before, &next, &taken)
                 } else {
                     false
                 }
             }
-            Err(_) => false,
+            None => false,
         }
     }
 }

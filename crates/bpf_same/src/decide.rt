@@ -1,28 +1,13 @@
 //! What decides a conditional jump.
 ghost use Rattle.std.specs.Prelude.{◌≡◌, ◌≤◌, ◌<◌, ◌^◌, ℕ, IfSome};
 ghost use Rattle.bpf_note.specs.Parts.{facts};
-ghost use Rattle.bpf_flow.specs.Alu.{operand_value};
 ghost use Rattle.bpf_insn.specs.Conditions.{is_met};
 ghost use Rattle.bpf_same.specs.Decided.{IsBetween, IsDecided};
 
-use bpf_insn::{Condition, Insn, Operand, holds};
-use bpf_note::{Note, Val};
-
-/// The value of an operand.
-fn value_of(note: &Note, operand: Operand) -> Val
-    ensures { result ≡ operand_value (facts note.now) operand }
-{
-    match operand {
-        Operand::Register(register) => note.register(register.number()),
-        Operand::Immediate(value) => {
-            let value = i64::from(value).cast_unsigned();
-            Val::Num {
-                lo: value,
-                hi: value,
-            }
-        }
-    }
-}
+use crate::equations::Equations;
+use crate::range::{operand_span, span};
+use bpf_insn::{Condition, Insn, holds};
+use bpf_note::Note;
 
 /// Whether a condition holds between each number of one range and each of another one, where that is the same for all.
 fn between_ranges(cond: Condition, lo: u64, hi: u64, low: u64, high: u64) -> Option<bool>
@@ -64,8 +49,8 @@ fn between_numbers(
 }
 
 /// Whether a conditional jump is taken, where what is known decides it.
-pub(crate) fn decided(insn: Insn, note: &Note) -> Option<bool>
-    ensures { IfSome result (IsDecided insn (facts note.now)) }
+pub(crate) fn decided(insn: Insn, equations: &Equations, note: &Note) -> Option<bool>
+    ensures { IfSome result (IsDecided insn equations.now (facts note.now)) }
 {
     match insn {
         Insn::Jump {
@@ -74,12 +59,14 @@ pub(crate) fn decided(insn: Insn, note: &Note) -> Option<bool>
             dst,
             src,
             ..
-        } => match note.register(dst.number()) {
-            Val::Num { lo, hi } => match value_of(note, src) {
-                Val::Num { lo: low, hi: high } => between_numbers(cond, wide, lo, hi, low, high),
-                _ => None,
+        } => match span(note, equations, dst.number()) {
+            Some(one) => match operand_span(note, equations, src) {
+                Some(other) => {
+                    between_numbers(cond, wide, one.low, one.high, other.low, other.high)
+                }
+                None => None,
             },
-            _ => None,
+            None => None,
         },
         _ => None,
     }

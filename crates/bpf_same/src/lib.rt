@@ -2,12 +2,12 @@
 //!
 //! - `same`: the comparison
 //! - `mark`: where the old program stands before a slot of the new one
-//! - `find`: what is known at each slot; `check`: whether the old program follows an instruction; `hold`: whether what is known and
+//! - `find`: what is known at each slot, as instructions leave it (`sharper`); `check`: whether the old program follows an instruction; `hold`: whether what is known and
 //!   the places show the runs to be the same
 //! - `equations`: what the old program's registers are, as a `sum` of what the new one holds: those at the `start`, after an
 //!   instruction (`turn`), where ways `meet`; `keep`: whether those claimed after an instruction hold; `access`: what a copied
 //!   access may touch
-//! - `decide`: what decides a conditional jump; `equal`: whether two instructions are one
+//! - `decide`: what decides a conditional jump, by the `range` that a register lies in; `equal`: whether two instructions are one
 //! - `laws`: what holds of programs with the same runs
 #![tactic(auto)]
 
@@ -22,7 +22,9 @@ mod keep;
 mod laws;
 mod mark;
 mod meet;
+mod range;
 mod same;
+mod sharper;
 mod start;
 mod sum;
 mod turn;

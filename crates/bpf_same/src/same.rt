@@ -39,7 +39,7 @@ fn is_shown(
         return Ok(true);
     }
     the_entry_describes_every_start();
-    let notes = notes_of(alloc, new, shapes)?;
+    let mut notes = notes_of(alloc, new, shapes)?;
     let low = lowest_of(new, places, notes.as_slice());
     let known = Known {
         new,
@@ -48,12 +48,13 @@ fn is_shown(
         shapes,
         low,
     };
-    let equations = known.equations(alloc)?;
+    let found = known.found(alloc)?;
+    found.forget(alloc, &mut notes);
     let claims = Claims {
         old,
         places,
         notes: notes.as_slice(),
-        equations: equations.as_slice(),
+        equations: found.equations.as_slice(),
         low,
     };
     Ok(claims.hold(alloc, new, shapes))

@@ -15,7 +15,7 @@ use bpf_insn::{AluOp, Insn, Operand, Register, Size};
 use bpf_note::{Note, PACKET_ID, Val};
 
 /// Where the packet begins.
-const PACKET_START: u64 = 0x10000000;
+pub(crate) const PACKET_START: u64 = 0x10000000;
 
 /// The size of a word of the stack, in bytes.
 const WORD: i16 = 8;
@@ -127,7 +127,7 @@ fn is_register_store(insn: Insn) -> bool
 }
 
 /// A constant of an instruction, extended by its sign.
-fn extended(value: i32) -> u64
+pub(crate) fn extended(value: i32) -> u64
     ensures { result ≡ sign_extended value }
 {
     i64::from(value).cast_unsigned()

@@ -1,7 +1,7 @@
 //! Tests of [`bpf_same`] by what it makes public. They are a crate of their own so that the gate proves it once.
 //!
 //! - `pairs`: what a comparison answers of a pair of programs in hex
-//! - `tests`: pairs with the `same` runs, and pairs that differ by `jumps`, by what the new program has of its `own`, by the `stack`, or by guards and counters (`ends`)
+//! - `tests`: pairs with the `same` runs; pairs of both kinds by `ranges`; and pairs that differ by `jumps`, by what the new program has of its `own`, by the `stack`, or by guards and counters (`ends`)
 #![tactic(auto)]
 
 pub mod pairs;

@@ -2,5 +2,6 @@
 mod ends;
 mod jumps;
 mod own;
+mod ranges;
 mod same;
 mod stack;

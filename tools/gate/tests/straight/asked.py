@@ -15,7 +15,7 @@ from straight.verifier import is_same
 TOOLS = pathlib.Path(__file__).resolve().parents[3]
 EXAMPLES = TOOLS.parent / "examples/straightened"
 # examples whose result is proved to be the same
-PROVED = "loop", "loop-with-break"
+PROVED = "loop", "loop-with-break", "nine-ways"
 # what stands in place of `xdpbox same`, and which of the two ways it leaves
 ANSWERS = {
     "a yes": ("echo 'same, 1 slots for 1'", "proved"),

@@ -1,0 +1,8 @@
+use Rattle.std.specs.Prelude.{IfSome}
+use Rattle.bpf_note.specs.Parts.{facts}
+use Rattle.bpf_same.specs.Ranges.{IsSpan}
+use Rattle.bpf_same.proofs.range.span.Given as goal
+
+-- what is found so far bounds the register
+abbrev pub invariant-loop-other : goal.invariant-loop-other
+invariant-loop-other l = IfSome l.found (λ r. IsSpan (facts l.note) l.equations l.register r.low r.high)

@@ -1,0 +1,126 @@
+//! Between which numbers a register of the new program lies.
+ghost use Rattle.std.specs.Prelude.{◌≡◌, ◌<◌, ℕ, Option, IfSome};
+ghost use Rattle.bpf_note.specs.Parts.{facts};
+ghost use Rattle.bpf_same.specs.Ranges.{IsFarthest, IsLeastLength, IsMoved, IsOperandSpan, IsRead, IsSpan, Lies};
+
+use crate::equations::Equations;
+use crate::sum::REGISTERS;
+use crate::turn::{PACKET_START, extended};
+use bpf_insn::Operand;
+use bpf_note::{Note, PACKET_ID, Val};
+
+/// How many bytes a packet has at most.
+const MOST_BYTES: u32 = 65535;
+
+/// The numbers from one to another.
+#[derive(Clone, Copy, Debug, Drop)]
+pub(crate) struct Range {
+    pub(crate) low: u64,
+    pub(crate) high: u64,
+}
+
+/// How far from the packet's start an id's base is at most.
+fn farthest(note: &Note, id: u16) -> u32
+    ensures { IsFarthest (facts note.now) id result }
+{
+    match note.safe(id) {
+        Some(safe) if safe <= MOST_BYTES => note.top(id).min(MOST_BYTES - safe),
+        _ => note.top(id),
+    }
+}
+
+/// How many bytes the packet has at least.
+fn least_length(note: &Note) -> u32
+    ensures { IsLeastLength (facts note.now) result }
+{
+    match note.safe(PACKET_ID) {
+        Some(safe) if safe <= MOST_BYTES => safe,
+        _ => 0,
+    }
+}
+
+/// The numbers that a value may be.
+pub(crate) fn range_of(note: &Note, value: Val) -> Option<Range>
+    ensures { IfSome result (λ r. IsRead (facts note.now) value r.low r.high) }
+{
+    match value {
+        Val::Num { lo, hi } => Some(Range { low: lo, high: hi }),
+        Val::PktEnd => Some(Range {
+            low: PACKET_START + u64::from(least_length(note)),
+            high: PACKET_START + u64::from(MOST_BYTES),
+        }),
+        Val::Pkt { id, off } => Some(Range {
+            low: PACKET_START + u64::from(off),
+            high: PACKET_START + u64::from(farthest(note, id)) + u64::from(off),
+        }),
+        _ => None,
+    }
+}
+
+/// These numbers with another one added to each, modulo 2^64, if they are numbers in a row too.
+fn moved(range: Range, by: u64) -> Option<Range>
+    ensures { IfSome result (λ r. IsMoved range.low range.high by r.low r.high) }
+{
+    let (low, high) = (range.low.wrapping_add(by), range.high.wrapping_add(by));
+    if low <= high {
+        Some(Range { low, high })
+    } else {
+        None
+    }
+}
+
+/// The numbers that a register may hold by what another one does, which holds as much but for a constant.
+fn moved_from(note: &Note, equations: &Equations, register: u8, other: u8) -> Option<Range>
+    requires small { register < 11 }
+    requires other { other < 11 }
+    ensures { IfSome result (λ r. IsSpan (facts note.now) equations.now register r.low r.high) }
+{
+    let (here, there) = (equations.new_sum(register), equations.new_sum(other));
+    if here.holders != there.holders {
+        return None;
+    }
+    match range_of(note, note.register(other)) {
+        Some(range) => moved(range, here.constant.wrapping_sub(there.constant)),
+        None => None,
+    }
+}
+
+/// The numbers that are in both.
+fn in_both(one: Option<Range>, other: Range) -> Range
+    ensures { (o : Option ℕ) → IfSome one (λ r. Lies o r.low r.high) → Lies o other.low other.high → Lies o result.low result.high }
+{
+    match one {
+        Some(one) => Range {
+            low: one.low.max(other.low),
+            high: one.high.min(other.high),
+        },
+        None => other,
+    }
+}
+
+/// The numbers that a register may hold.
+pub(crate) fn span(note: &Note, equations: &Equations, register: u8) -> Option<Range>
+    requires { register < 11 }
+    ensures { IfSome result (λ r. IsSpan (facts note.now) equations.now register r.low r.high) }
+{
+    let mut found = range_of(note, note.register(register));
+    for other in 0..REGISTERS {
+        if let Some(range) = moved_from(note, equations, register, other) {
+            found = Some(in_both(found, range));
+        }
+    }
+    found
+}
+
+/// The numbers that an operand may be.
+pub(crate) fn operand_span(note: &Note, equations: &Equations, src: Operand) -> Option<Range>
+    ensures { IfSome result (λ r. IsOperandSpan (facts note.now) equations.now src r.low r.high) }
+{
+    match src {
+        Operand::Register(register) => span(note, equations, register.number()),
+        Operand::Immediate(value) => Some(Range {
+            low: extended(value),
+            high: extended(value),
+        }),
+    }
+}

@@ -1,0 +1,129 @@
+//! What an instruction leaves known: by the verifier's rule, and for a sum that it forgets by the ranges of both numbers.
+ghost use Rattle.std.specs.Prelude.{◌≡◌, ◌<◌, length, true, IfSome, IsTrue};
+ghost use Rattle.bpf_insn.specs.declared.insn.Insn.TheVariants as insns;
+ghost use Rattle.bpf_note.specs.Parts.{facts};
+ghost use Rattle.bpf_flow.specs.Rule.{IsRuled};
+ghost use Rattle.bpf_same.specs.Ranges.{IsAdded, IsOperandRead, IsSharper, IsSummed};
+ghost use Rattle.bpf_same.specs.Followed.{IsAccounted};
+ghost use Rattle.bpf_flow.specs.Gives.{edges_of};
+
+use crate::range::{Range, range_of};
+use crate::turn::extended;
+use bpf_flow::{Successor, Successors, after};
+use bpf_insn::{AluOp, Insn, Operand, Register};
+use bpf_note::{MapShape, Note, Val};
+use std::alloc::Global;
+
+/// A register, and the numbers that it may hold.
+#[derive(Clone, Copy, Drop)]
+struct Bounded {
+    register: u8,
+    range: Range,
+}
+
+/// The numbers that an operand may be, by what is known of the state alone.
+fn operand_range(note: &Note, src: Operand) -> Option<Range>
+    ensures { IfSome result (λ r. IsOperandRead (facts note.now) src r.low r.high) }
+{
+    match src {
+        Operand::Register(register) => range_of(note, note.register(register.number())),
+        Operand::Immediate(value) => Some(Range {
+            low: extended(value),
+            high: extended(value),
+        }),
+    }
+}
+
+/// The sums of a number of each, if none wraps.
+fn added(one: Range, other: Range) -> Option<Range>
+    ensures { IfSome result (λ r. IsAdded one.low one.high other.low other.high r.low r.high) }
+{
+    match one.high.checked_add(other.high) {
+        Some(high) => Some(Range {
+            low: one.low.wrapping_add(other.low),
+            high,
+        }),
+        None => None,
+    }
+}
+
+/// The register that gets a sum of both, and which numbers that may be.
+fn sum_of(note: &Note, dst: Register, src: Operand) -> Option<Bounded>
+    ensures small { IfSome result (λ r. r.register < 11) }
+    ensures lies { IfSome result (λ r. IsSummed (insns.Alu AluOp.Add true dst src) (facts note.now) r.register r.range.low r.range.high) }
+{
+    let register = dst.number();
+    match range_of(note, note.register(register)) {
+        Some(one) => match operand_range(note, src) {
+            Some(other) => match added(one, other) {
+                Some(range) => Some(Bounded { register, range }),
+                None => None,
+            },
+            None => None,
+        },
+        None => None,
+    }
+}
+
+fn is_sum(op: AluOp, wide: bool) -> bool
+    ensures { IsTrue result → (op ≡ AluOp.Add) × (wide ≡ true) }
+{
+    match op {
+        AluOp::Add => wide,
+        _ => false,
+    }
+}
+
+/// The register that gets a sum, and which numbers that may be.
+fn summed(insn: Insn, note: &Note) -> Option<Bounded>
+    ensures small { IfSome result (λ r. r.register < 11) }
+    ensures lies { IfSome result (λ r. IsSummed insn (facts note.now) r.register r.range.low r.range.high) }
+{
+    match insn {
+        Insn::Alu { op, wide, dst, src } => {
+            if is_sum(op, wide) {
+                sum_of(note, dst, src)
+            } else {
+                None
+            }
+        }
+        _ => None,
+    }
+}
+
+/// What is known after an instruction, with the numbers that a sum may be where it is forgotten.
+fn sharpened(insn: Insn, note: &Note, there: Successor) -> Successor
+    ensures { IsSharper insn (facts note.now) there.pc (facts there.note.value) result.pc (facts result.note.value) }
+{
+    let mut there = there;
+    if let Some(sum) = summed(insn, note) {
+        if let Val::Num {
+            lo: 0,
+            hi: u64::MAX,
+        } = there.note.register(sum.register)
+        {
+            let (lo, hi) = (sum.range.low, sum.range.high);
+            there.note.set_register(sum.register, Val::Num { lo, hi });
+        }
+    }
+    there
+}
+
+/// Where an instruction leads from a slot, if the verifier's rule gives that.
+pub(crate) fn known_after(
+    alloc: Global,
+    insn: Insn,
+    pc: u32,
+    note: &Note,
+    shapes: &[MapShape],
+) -> Option<Successors>
+    requires inside { pc < 4096 }
+    requires ruled { IsRuled insn pc (length shapes.now) }
+    ensures { IfSome result (λ e. IsAccounted (edges_of e) shapes.now insn (facts note.now) pc) }
+{
+    match after(alloc, &insn, pc, note, shapes) {
+        Ok(Successors::One(there)) => Some(Successors::One(sharpened(insn, note, there))),
+        Ok(there) => Some(there),
+        Err(_) => None,
+    }
+}
