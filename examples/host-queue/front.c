@@ -5,6 +5,9 @@
 #include <stdlib.h>
 #include <unistd.h>
 
+/* How long an event of the host's may take: many times what it takes while others use all processors. */
+enum { MILLISECONDS = 60000 };
+
 static void kick(void *held)
 {
 	const struct channel *channel = held;
@@ -18,7 +21,7 @@ static bool awaits(void *held)
 	const struct channel *channel = held;
 	struct pollfd on = { channel->interrupt, POLLIN, 0 };
 	uint64_t count;
-	return poll(&on, 1, 500) == 1 && read(channel->interrupt, &count, sizeof count) == sizeof count;
+	return poll(&on, 1, MILLISECONDS) == 1 && read(channel->interrupt, &count, sizeof count) == sizeof count;
 }
 
 unsigned run_front(uint8_t *memory, struct channel channel, enum guest_behaviour behaviour, unsigned packets, unsigned seed)

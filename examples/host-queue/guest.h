@@ -27,7 +27,7 @@ struct guest {
 	uint16_t host_domain;
 	void *host;
 	void (*kick)(void *host);   /* an event to the host */
-	bool (*awaits)(void *host); /* waits for one from the host, for half a second or so: whether it came */
+	bool (*awaits)(void *host); /* waits for one from the host, longer than it takes on a busy machine: whether it came */
 };
 
 enum { GUEST_BATCH = 8, GUEST_FEW_FRAMES = 2, GUEST_HEADERS = 42, GUEST_ECHO = 7, GUEST_BLANK = 4 };
@@ -151,7 +151,7 @@ static void guest_take_answers(struct guest_front *front)
 	}
 }
 
-/* Sends a batch, and takes all of its answers, and a packet for each of its packets. */
+/* Sends a batch, and takes all of its answers, and a packet for each of its packets. Ends if no event comes, or a packet too many. */
 static void guest_exchange(struct guest_front *front, unsigned first, unsigned count)
 {
 	uint32_t posted = front->tx.req_prod_pvt;
@@ -170,7 +170,7 @@ static void guest_exchange(struct guest_front *front, unsigned first, unsigned c
 	while (front->tx.rsp_cons != front->tx.req_prod_pvt || seen < count) {
 		RING_FINAL_CHECK_FOR_RESPONSES(&front->tx, more);
 		RING_FINAL_CHECK_FOR_RESPONSES(&front->rx, packets);
-		if (!more && !packets && !front->guest->awaits(front->guest->host)) {
+		if ((packets && seen == count) || (!more && !packets && !front->guest->awaits(front->guest->host))) {
 			front->wrong++;
 			return;
 		}
@@ -212,7 +212,7 @@ static void guest_attack(struct guest_front *front, unsigned n)
 		guest_scribble(front);
 }
 
-/* Sends that many packets; returns how many of them were answered wrongly. */
+/* Sends that many packets, or until one was answered wrongly; returns how many were. */
 static inline unsigned guest_run(const struct guest *guest, enum guest_behaviour behaviour, unsigned packets, unsigned seed)
 {
 	struct guest_front front = { .guest = guest, .behaviour = behaviour, .seed = seed };
@@ -222,7 +222,7 @@ static inline unsigned guest_run(const struct guest *guest, enum guest_behaviour
 	else
 		guest_post_all(&front, GUEST_RX_FRAMES);
 	guest->kick(guest->host);
-	for (unsigned n = 0; behaviour != GUEST_HOSTILE && n < packets; n += GUEST_BATCH)
+	for (unsigned n = 0; behaviour != GUEST_HOSTILE && n < packets && !front.wrong; n += GUEST_BATCH)
 		guest_exchange(&front, n, packets - n < GUEST_BATCH ? packets - n : GUEST_BATCH);
 	for (unsigned n = 0; behaviour == GUEST_HOSTILE && n < packets; n += GUEST_BATCH)
 		guest_attack(&front, n / GUEST_BATCH);

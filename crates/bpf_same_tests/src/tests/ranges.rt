@@ -15,7 +15,7 @@ const BEGINNING: [&str; 7] = [
 
 /// What is answered where the new program compares an address with the end again, whose distance from the packet's start a
 /// mask bounds.
-fn compared_again(rt: &HostRuntime, mask: &str) -> Option<Comparison> {
+fn compared_again(rt: &HostRuntime, mask: &'static str) -> Option<Comparison> {
     let [a, b, c, d, e, f, g] = BEGINNING;
     let old = [
         a,
@@ -79,7 +79,7 @@ fn an_address_behind_the_last_known_byte(rt: HostRuntime) {
 }
 
 /// What is answered where the program tests a number beyond which an address lies behind the packet.
-fn beyond(rt: &HostRuntime, test: &str) -> Option<Comparison> {
+fn beyond(rt: &HostRuntime, test: &'static str) -> Option<Comparison> {
     let [a, b, c, d, e, f, g] = BEGINNING;
     let old = [
         a,
@@ -138,7 +138,7 @@ fn addresses_behind_the_longest_packet(rt: HostRuntime) {
 
 /// What is answered where the verifier's rule forgets a sum: of an address that a byte moves and a number that is loaded, which
 /// is tested.
-fn forgotten(rt: &HostRuntime, load: &str, test: &str) -> Option<Comparison> {
+fn forgotten(rt: &HostRuntime, load: &'static str, test: &'static str) -> Option<Comparison> {
     let [a, b, c, d, e, f, g] = BEGINNING;
     let old = [
         a,
@@ -223,7 +223,12 @@ fn sums_that_wrap(rt: HostRuntime) {
 }
 
 /// What is answered where a comparison with a bound is left out, which follows one of the number less 256.
-fn bounded(rt: &HostRuntime, between: &str, test: [&str; 2], bound: &str) -> Option<Comparison> {
+fn bounded(
+    rt: &HostRuntime,
+    between: &'static str,
+    test: [&'static str; 2],
+    bound: &'static str,
+) -> Option<Comparison> {
     let [a, b, c, d, e, f, g] = BEGINNING;
     let old = [
         a,
