@@ -1,4 +1,4 @@
--- How a host is told of what was said last.
+-- What the last op shows.
 use Rattle.std.proofs.Common.{◌≡◌, ℕ, ◌⊎◌, inl, inr, List, sym, subst, true}
 use Rattle.xen_steps.specs.Steps.{Steps}
 use Rattle.xen_back.specs.Deliveries.{Arrival}

@@ -43,7 +43,7 @@ pub record Led {A : Type 0} (ends : Ask → Steps A → Type 0) (w : OwnedWiring
   pub flags_are : new.flags ≡ flags
   pub fits : Fits new.stage new.work
 
--- What is left is an engine's rest, which waits for what was asked last, and the host is told so.
+-- What is left is an engine's rest, which waits for what was asked last, as the op shows.
 pub record IsOn {A : Type 0} (rest : Steps A) (reads : ℕ) (here : Bool) (tells : Ask → Type 0) (last : Ask) (left : Steps A) : Type 0 where
   pub is_rest : left ≡ rest
   pub waits : WaitsFor last reads left

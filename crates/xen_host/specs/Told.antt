@@ -1,6 +1,6 @@
 -- Stated: claims rest on this file.
--- How a host is told of the op that a queue goes on from. Of a grant entry it is told the reference, and whether the page is to be read or to
--- be written. A store and the read after it are one op, a PUSH, in which the host has a fence between the two.
+-- What the op shows that a queue goes on from. For a grant entry it has a reference of that entry, and whether the page is to be read or to be
+-- written. A store and the read after it are one op, a PUSH, in which the host has a fence between the two.
 -- Rows worked by hand guard it: examples/host-queue/ops.c.
 use Rattle.std.specs.Prelude.{ℕ, ◌≡◌, List, Some}
 use Rattle.xen_page.specs.Table.{entry_place}
