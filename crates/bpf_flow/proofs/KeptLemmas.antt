@@ -26,7 +26,7 @@ Keeps s (Adds m k j delta to) = (AreShapes s.shapes → IsCounter s.shapes m k j
 Keeps s (Exited x) = Unit {0}
 Keeps s Fault = Unit {0}
 
--- so many bytes at a place lie in the packet, or are a counter of the maps
+-- z bytes at a place lie in a packet of n bytes, or are a counter of the maps
 abbrev Lies : ℕ → List Shape → ℕ → Place → Type 0
 Lies n shapes z (InPacket i) = i + z ≤ n
 Lies n shapes z (InCounter m k j) = AreShapes shapes → IsCounter shapes m k j

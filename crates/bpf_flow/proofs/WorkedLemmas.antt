@@ -28,7 +28,7 @@ next (Adds m k j d to) go = go (to 0)
 next (Exited x) go = Exited x
 next Fault go = Fault
 
--- the outcome of the step after so many
+-- the outcome after n steps and one more
 after : List Insn → ℕ → State → Outcome
 after code zero s = step code s
 after code (suc n) s = next (step code s) (after code n)

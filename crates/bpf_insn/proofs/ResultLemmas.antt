@@ -111,7 +111,7 @@ pub low_moved_extended_fits : (size : Size) (a : ℕ) → moved_extended false s
 unfolding moved_extended
 low_moved_extended_fits size a = omega arith
 
--- a swap keeps so many bytes
+-- a swap keeps 2, 4 or 8 bytes
 pub swapped_16 : (kind : SwapKind) (a : ℕ) → swapped kind Bits16 a < 2 ^ 16
 unfolding swapped
 swapped_16 ToLittle a = omega arith

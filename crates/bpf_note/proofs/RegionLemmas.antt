@@ -61,7 +61,7 @@ counter_at_address shapes m k j s e h hk hj =
     ∙ counter_from_is shapes (0x10000 * m + 8 * n) m (8 * n) s p.0 p.1 e ∙ counter_in_number s m n (8 * n) refl inside
     ∙ ap (λ x. InCounter m x (n % s.counters)) (value_of_number s.counters k j hj) ∙ ap (InCounter m k) (counter_of_number s.counters k j hj)
 
--- what is said of the place of a counter that is found so many bytes from the start of a map's values
+-- what is said of the place of a counter that is found `at` bytes from the start of a map's values
 pub record IsFound (s : Shape) (m at n k j : ℕ) : Type 0 where
   pub same_map : m ≡ n
   pub whole : at % 8 ≡ 0

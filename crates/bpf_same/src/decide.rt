@@ -28,7 +28,7 @@ fn between_ranges(cond: Condition, lo: u64, hi: u64, low: u64, high: u64) -> Opt
     }
 }
 
-/// The same between two numbers that are known, or two ranges.
+/// Whether a comparison of two known numbers, or of two ranges, is decided.
 fn between_numbers(
     cond: Condition,
     wide: bool,

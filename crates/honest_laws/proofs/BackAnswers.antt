@@ -64,7 +64,7 @@ module _ (w : Wiring) (start : ℕ) (st : Status) where
       ∙ ap (λ l. reply w start code x ∷ l) (later_replies p n 1 ids)
 
 module _ (w : Wiring) (start : ℕ) (y : Laid w) (v : BackWiring) (d : List Sent) (s : Sent) (l g : List Sent) (rs : List ℕ) (e : ℕ) (good : IsSent s) where
-  -- all slots are read, and so many are answered
+  -- all slots are read, and i are answered
   abbrev wrote : ℕ → Back
   wrote i = working d (s ∷ l) (length s.ids) i g rs e
 

@@ -52,7 +52,7 @@ module _ (w : Wiring) (start : ℕ) where
       at p = grind (arith, nat_tests)
 
 module _ (w : Wiring) (start : ℕ) (v : BackWiring) (d : List Sent) (s : Sent) (l g : List Sent) (rs : List ℕ) (e : ℕ) where
-  -- so many slots of the first packet ahead are read
+  -- k slots of the first packet ahead are read
   abbrev read_of : ℕ → Back
   read_of k = working d (s ∷ l) k 0 g rs e
 
@@ -116,7 +116,7 @@ module _ (w : Wiring) (start : ℕ) (v : BackWiring) (d : List Sent) (s : Sent) 
   abbrev pub Scanned : ℕ → List Slot → Back → Scan → Type 0
   Scanned n all b o = (b ≡ read_of n) × (o ≡ Ok all)
 
-  -- the slots read so far, after which so many data slots may come
+  -- the slots read so far, after which `room` data slots may come
   abbrev Begun : List Slot → ℕ → Type 0
   Begun acc room = (slot : Slot) (more : List Slot) → extra_info slot ≡ false → standing (acc ++ slot ∷ more) ≡ after_data room true (slot ∷ more)
 

@@ -52,7 +52,7 @@ module _ (w : Wiring) (start : ℕ) (small : start < 2 ^ 32) (d a : List Sent) (
   abbrev pub all : List Piece
   all = slots (g ++ gift ∷ [])
 
-  -- so many of its words are written, and so many of its responses' words
+  -- fl of its words are written, and wr of its responses' words
   abbrev pub given_state : ℕ → ℕ → Back
   given_state fl wr = sending d a used g rs e sl N (gift ∷ []) fl wr
 

@@ -28,7 +28,7 @@ use Rattle.honest_laws.proofs.BackRings.{given_bound, got_bound}
 use Rattle.honest_laws.proofs.BackLooks.{over, safe_bind, read_known}
 use Rattle.honest_laws.proofs.BackChains.{onto}
 
--- a back inside a transmit, awake or asleep: so many posts are read, this packet is written into them, so many of its words and of its responses' words are
+-- a back inside a transmit, awake or asleep: u posts are read, the packet v is written into them, fl of its words and wr of its responses' words are
 abbrev pub sending : (d a : List Sent) → (used : ℕ) → (g : List Sent) → List ℕ → ℕ → Bool → (u : ℕ) → (v : List Sent) → (fl wr : ℕ) → Back
 sending d a used g rs e sl u v fl wr =
     record { done = d; ahead = a; used = used; given = g; rx_used = u; rx_seen = rs; wrote = 0; giving = v; filled = fl; rx_wrote = wr; event = e; asleep = sl }
@@ -48,7 +48,7 @@ known_post w start small d a used g e sl rs u v2 fl wr m f n p h =
     (ap (λ x. id_at x n) k ∙ get_or_append_left rs h.rx.known.0 0 n p, omega (arith, c, l, p))
 
 module _ (w : Wiring) (start : ℕ) (small : start < 2 ^ 32) (v : BackWiring) (j : Joined w v) (d a : List Sent) (used : ℕ) (g : List Sent) (e : ℕ) (sl : Bool) where
-  -- so many posts are read
+  -- u posts are read
   abbrev pub posts_read : List ℕ → ℕ → Back
   posts_read rs u = sending d a used g rs e sl u [] 0 0
 

@@ -27,7 +27,7 @@ use Rattle.honest_laws.proofs.FrontRings.{all_free_clear}
 use Rattle.honest_machine.proofs.SafeLemmas.{safe_bind}
 use Rattle.honest_laws.proofs.FrontWrites.{write_own}
 
--- a front that polls: so many tx responses are taken, and so many known
+-- a front that polls: c tx responses are taken, and it was told of d
 abbrev pub polled : Front → ℕ → ℕ → Front
 polled f c d = record f { unsent = []; notes = []; window = None; posting = false; reading = None; taken = c; told = d }
 

@@ -20,7 +20,7 @@ use Rattle.honest_laws.specs.Numbers.{Numbers}
 use Rattle.honest_laws.proofs.FrontOwns.{rx_lent, rx_event}
 use Rattle.honest_laws.proofs.FrontWrites.{write_own}
 
--- a front that receives: so many rx responses are taken, of the packets that are known to be given
+-- a front that receives: c rx responses are taken, of the packets that are known to be given
 abbrev pub rxing : Front → ℕ → List Sent → Option Piece → List (List ℕ) → Front
 rxing f c t rd rcv = record f { unsent = []; notes = []; window = None; posting = false; reading = rd; got = c; rx_told = t; received = rcv }
 
@@ -132,7 +132,7 @@ module _ (w : Wiring) (laid : Numbers w) (start : ℕ) (f : Front) where
       awaited = h.awaited;
     }
 
--- the bytes that so many words of a packet's k-th page add, from the j-th on
+-- the bytes that n words of a packet's k-th page add, from the j-th on
 abbrev pub gathered : Fragment → List ℕ → (k j n : ℕ) → List ℕ → List ℕ
 gathered fr p k j zero acc = acc
 gathered fr p k j (suc n) acc = gathered fr p k (j + 1) n (acc ++ bytes_in fr j (word_of p (1024 * k + j)))

@@ -64,7 +64,7 @@ module _ (w : Wiring) (laid : Numbers w) (start : ℕ) (small : start < 2 ^ 32) 
         good = all_right IsSent before y good;
       }
 
-  -- so many responses are there
+  -- n responses are there
   after_safe : (x : List Sent) (s : State) (n : ℕ) → AllOf IsSent x → length (slots x) ≡ n → s.halt ≡ None → s.tx ≡ tx0 → Ringed start s.rx (id_at f.posts) (length (slots before)) (length f.posts) →
       Safe (Inv w start) K P (rxing f (length (slots before)) (before ++ x) None rcv) (after_rx_look w s (Some n))
   after_safe x s zero good e halt same r = idle x s halt same r

@@ -7,7 +7,7 @@ use Rattle.thread_pair.proofs.ReturnLemmas.{snoc_same}
 pub length_new : (c : CountersView) (n : ℕ) → length (new_seats c n) ≡ n
 length_new c n = length-map-range_with_len (new_seat c) 0 n
 
--- the last of so many new seats has the number of those before it
+-- the last of n new seats has the number of those before it
 pub last_new : (c : CountersView) (seats left : List SeatView) (seat : SeatView) → seats ≡ left ++ seat ∷ [] → seats ≡ new_seats c (length seats) → (left ≡ new_seats c (length left)) × (seat ≡ new_seat c (length left))
 last_new c seats left seat is new =
     let n : length seats ≡ length left + 1 = omega (arith, ap length is, length-append left (seat ∷ [])) in

@@ -55,7 +55,7 @@ fn rewritten_of_table(alloc: Global, table: &Table) -> Result<Rewritten, LoadErr
     })
 }
 
-/// The same of a text, read phase by phase.
+/// The parts of a text with a rewritten program, read phase by phase.
 #[tactic(auto, unfolding(crate::specs::Original::rewritten_of))]
 fn rewritten_of(alloc: Global, bytes: &[u8]) -> Result<Rewritten, LoadError>
     ensures gives { Gives rewritten_view result (rewritten_of bytes.now) }

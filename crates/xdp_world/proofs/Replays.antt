@@ -28,7 +28,7 @@ use Rattle.xdp_world.specs.Stands.{IsStep, SoFar}
 use Rattle.xdp_world.specs.declared.kept.Kept.{Kept}
 use Rattle.xdp_world.specs.declared.world.World.{World}
 
--- so many events are enough for a queue of this program
+-- 287,383 events and one for each instruction are enough for a queue of a program of n
 pub enough : (q : Queue) (n : ℕ) → IsConsistent (wiring_of q).program.now → instructions (wiring_of q).program.now.code ≡ n → (front : List Event) →
     LedBy (whole_turn (wiring_of q) (state_of q)) front (rest q) → IsEnough (287383 + n) q
 enough q n ok is front gone =
@@ -187,7 +187,7 @@ rests_none (want.Notify p) h = absurd h
 pub rests_done : (w : Want) (left : List ℕ) → w ≡ want.Done → Rests w left
 rests_done w left e = subst (λ (x : Want). Rests x left) (sym e) tt
 
--- so many events are enough for a queue that has come through events
+-- the same number of events is enough for a queue that has come through events
 pub enough_begun : (accepted : Accepted) (w : Wiring) (start : ℕ) (ev : List Event) (ks : List Kept) (q : Queue) → IsConsistent accepted → w.program.now ≡ accepted →
     SoFar w start ev ks q → IsEnough (287383 + instructions accepted.code) q
 enough_begun accepted w start ev ks q ok is h =

@@ -112,7 +112,7 @@ length_ones : (n : ℕ) → length {A = ℕ} (replicate n 1) ≡ n
 length_ones zero = refl
 length_ones (suc n) = let h = length_ones n in omega (arith, h)
 
--- the front of queue q among so many
+-- the wiring of queue q, of up to eight
 pub is_wired : (queues q : ℕ) (w : Wiring) → q < queues → queues ≤ 8 → w.frames ≡ length (owners_of queues) → w.tx_frame ≡ 17 + 514 * q → w.rx_frame ≡ 17 + 514 * q + 1 → w.table.now ≡ table_frames →
     w.tx.now ≡ granted_from (514 * q + 2) → w.rx.now ≡ granted_from (514 * q + 258) → IsWired w
 is_wired queues q w lt few frames tx_frame rx_frame table tx rx =

@@ -3,8 +3,8 @@ ghost use Rattle.std.specs.Prelude.{◌≡◌, ◌<◌, IfOk, OnErr, vec_len};
 ghost use Rattle.xdp_world.specs.Stands.{IsAwait, IsSame};
 
 use crate::delivering::is_between;
-use crate::looking::wait_begun;
 use crate::stepping::note_wait;
+use crate::wait_event::wait_begun;
 use crate::world::World;
 use std::alloc::AllocError;
 use xen_back::Awaited;

@@ -11,7 +11,7 @@ use crate::carrying::carried;
 use crate::doing::Doing;
 use crate::event::event;
 use crate::kept::{Kept, keep};
-use crate::looking::waited;
+use crate::wait_event::waited;
 use bpf_maps::{Op, Totals};
 use std::mem;
 use xen_back::{Awaited, Delivery, Queue, Want};

@@ -51,7 +51,7 @@ pub plain_labels : (n : ℕ) → labels (plain_instructions n) ≡ []
 plain_labels zero = refl
 plain_labels (suc n) = plain_labels n
 
--- an interpreter that advances does so many instructions
+-- an interpreter that advances by n instructions
 pub gone_plain : (c : Course) (n ops : ℕ) (f : Left → Steps Ending) → LedBy (bind (program (after_steps n c) ops) f) (plain_instructions n) (bind (program c ops) f)
 gone_plain c zero ops f = refl
 gone_plain c (suc n) ops f = (bind (program (after_steps n c) ops) f, (0, (refl, refl), refl), gone_plain c n ops f)

@@ -61,7 +61,7 @@ waits_led (ask.WaitOver what) n s lent b l w = absurd w
 
 -- ---- where what is asked lies
 
--- The wants of words are words of so many frames.
+-- The words that are wanted lie in the first `frames` frames.
 pub record AreInPages (frames : ℕ) (within : Want → Type 0) : Type 0 where
   pub reads : (at : Place) → within (want.Read at) → (at.frame < frames) × (at.word < 1024)
   pub writes : (at : Place) (v : ℕ) → within (want.Write at v) → (at.frame < frames) × (at.word < 1024)

@@ -15,7 +15,7 @@ use Rattle.xen_page.specs.declared.access.Access.{Access}
 use Rattle.xen_page.specs.declared.access.Access.TheVariants as access
 use Rattle.xen_page.specs.declared.place.Place.{Place}
 
--- the place so many words further
+-- the place n words further
 abbrev pub further : Place → ℕ → Place
 further at n = record { frame = at.frame; word = at.word + n }
 

@@ -8,7 +8,7 @@ use Rattle.xen_page.specs.Run.{ReadsRun, reads_of}
 use Rattle.xen_page.specs.declared.access.Access.{Access}
 use Rattle.xen_page.specs.declared.place.Place.{Place}
 
--- so many words further, within a page
+-- n words further, within a page
 pub place_further : (first n : ℕ) → first % 1024 + n < 1024 → place_at (first + n) ≡ further (place_at first) n
 place_further first n h =
     let frame : (first + n) / 1024 ≡ first / 1024 = omega (arith, h) in

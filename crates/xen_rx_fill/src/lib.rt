@@ -1,6 +1,6 @@
 //! A packet sent back to the frontend: it is copied into posted buffers of the rx ring, one event at a time.
 //!
-//! - `transmit`: a transmit that is under way, and its calls
+//! - `transmit`: a transmit under way: what it wants, and what it does with an answer
 //! - `by_event`: what it wants (`wanting`), what it does with an answer (`feeding`): `reading` slots and grants, `writing`
 //!   buffers and responses
 //! - `in_one_go`: a whole transmit over a bus, on references alone

@@ -1,4 +1,4 @@
-//! A transmit that is under way, and its `calls`.
+//! A transmit under way. Its `calls` are what a host calls.
 
 mod calls;
 

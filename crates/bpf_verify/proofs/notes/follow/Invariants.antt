@@ -5,7 +5,7 @@ use Rattle.bpf_verify.specs.Tables.{facts_at}
 use Rattle.bpf_verify.proofs.FollowLemmas.{IsFollowing}
 use Rattle.bpf_verify.proofs.notes.follow.Given as goal
 
--- so many notes have gone, and the last is the next
+-- the first i lists of facts are followed, and the one before them is the next
 abbrev pub invariant-loop-note : goal.invariant-loop-note
 invariant-loop-note l = (vec_len l.table.lists ≡ length l.code) × ((i : ℕ) × (drop i (facts_at l.fn.table.lists.items l.pc) ≡ map facts (reverse l.list)) ×
     IsFollowing l.code l.shapes l.pc i (facts_at l.fn.table.lists.items) (facts_at l.table.lists.items))

@@ -3,7 +3,7 @@ use Rattle.xen_steps.specs.Event.{Read, Write}
 use Rattle.xen_steps.specs.Steps.{want_of}
 use Rattle.xen_steps.proofs.DriveLemmas.{occurs_read, occurs_write}
 use Rattle.xen_back.specs.WaitsByEvent.{left_of_wait}
-use Rattle.xdp_world.proofs.looking.looked.Goals as goal
+use Rattle.xdp_world.proofs.wait_event.looked.Goals as goal
 
 pub returns-in-Read-clause-event : goal.returns-in-Read-clause-event
 returns-in-Read-clause-event c =

@@ -3,7 +3,7 @@ use Rattle.xen_steps.specs.Steps.{want_of}
 use Rattle.xen_steps.specs.declared.want.Want.TheVariants as want
 use Rattle.xen_back.specs.WaitsByEvent.{left_of_wait}
 use Rattle.xdp_world.proofs.Fitting.{ready_true}
-use Rattle.xdp_world.proofs.looking.resumed.Goals as goal
+use Rattle.xdp_world.proofs.wait_event.resumed.Goals as goal
 
 pub returns-in_default : goal.returns-in_default
 returns-in_default c =

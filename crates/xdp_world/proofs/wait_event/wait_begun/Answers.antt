@@ -2,7 +2,7 @@ use Rattle.std.proofs.Common.{subst}
 use Rattle.xen_steps.specs.Steps.{Steps}
 use Rattle.xen_back.specs.Waits.{Wait}
 use Rattle.xdp_world.specs.Carries.{Resumes}
-use Rattle.xdp_world.proofs.looking.wait_begun.Goals as goal
+use Rattle.xdp_world.proofs.wait_event.wait_begun.Goals as goal
 
 pub returns-clause-resumes : goal.returns-clause-resumes
 returns-clause-resumes c =
