@@ -1,14 +1,13 @@
 -- What an access reaches of the stack.
-use Rattle.std.proofs.Common.{ℕ, ◌+◌, ◌-◌, ◌*◌, ◌/◌, ◌%◌, ◌^◌, ◌≡◌, ◌<◌, ◌≤◌, ◌⊎◌, inl, inr, refl, sym, ap, ◌∙◌, subst, arith, ℤ, pos, negsuc, List, length, Option, None, Some, Bool, true, false, ◌&&◌, mul-le-mul}
+use Rattle.std.proofs.Common.{ℕ, ◌+◌, ◌-◌, ◌*◌, ◌/◌, ◌%◌, ◌^◌, ◌≡◌, ◌<◌, ◌≤◌, ◌⊎◌, inl, inr, refl, subst, arith, ℤ, pos, negsuc, List, length, Option, None, Some, Bool, true, false, ◌&&◌, mul-le-mul}
 use Rattle.std.specs.Prelude.{if◌then◌else◌, ◌==◌, nat_le, nat_lt, ◌+ℤ◌, ◌≤ℤ◌, slice_get}
 use Rattle.std.proofs.lemmas.Bool.Decides.{nat_tests}
 use Rattle.std.proofs.lemmas.Int.{ints}
-use Rattle.bpf_insn.specs.Signed.{sign_extended}
 use Rattle.bpf_note.specs.declared.val.Val.{Val}
 use Rattle.bpf_note.specs.declared.val.Val.TheVariants.{Pkt, Stack, Ctx, Value}
 use Rattle.bpf_note.specs.Shape.{Shape, IsShape, AreShapes}
-use Rattle.bpf_note.specs.State.{State, IsState, packet_start, stack_start, stack_end, context_start, values_start}
-use Rattle.bpf_note.specs.Regions.{Place, InPacket, InStack, InContext, InCounter, Nowhere, region, lies_in, counter_at, counter_in, counter_from, counter_address}
+use Rattle.bpf_note.specs.State.{State, packet_start, stack_start, stack_end, context_start, values_start}
+use Rattle.bpf_note.specs.Regions.{InPacket, InStack, InContext, InCounter, Nowhere, region, lies_in, counter_at, counter_in, counter_from}
 use Rattle.bpf_note.specs.Facts.{Facts}
 use Rattle.bpf_note.specs.Describes.{Describes, Meaning, meaning, Reads, IsReading, IsValueOf}
 use Rattle.bpf_flow.specs.Step.{address, reached}

@@ -13,27 +13,27 @@ use Rattle.bpf_same.specs.Same.{operations, Runs, IsSame}
 use Rattle.bpf_same.proofs.FollowLemmas.{before}
 
 -- what an operation found
-abbrev found : Op → ℕ
+abbrev pub found : Op → ℕ
 found (ops.Load m k j v) = v
 found (ops.Add m k j delta old) = old
 
 -- the operations found these numbers, in order, and 0 once there are no more
-abbrev Finds : List ℕ → List Op → Type 0
+abbrev pub Finds : List ℕ → List Op → Type 0
 Finds xs [] = Unit {0}
 Finds [] (op ∷ done) = (found op ≡ 0) × Finds [] done
 Finds (x ∷ xs) (op ∷ done) = (found op ≡ x) × Finds xs done
 
-abbrev AreWords : List ℕ → Type 0
+abbrev pub AreWords : List ℕ → Type 0
 AreWords [] = Unit {0}
 AreWords (x ∷ xs) = (x < 2 ^ 64) × AreWords xs
 
 -- a run that finds these numbers
-record Answered (code : List Insn) (s : State) (xs : List ℕ) : Type 0 where
-  r0 : ℕ
-  bytes : List ℕ
-  done : List Op
-  run : Runs code r0 bytes s done
-  finds : Finds xs done
+pub record Answered (code : List Insn) (s : State) (xs : List ℕ) : Type 0 where
+  pub r0 : ℕ
+  pub bytes : List ℕ
+  pub done : List Op
+  pub run : Runs code r0 bytes s done
+  pub finds : Finds xs done
 
 step_in_front : (code : List Insn) (s t : State) (xs : List ℕ) → LeadsTo (step code s) None t → Answered code t xs → Answered code s xs
 step_in_front code s t xs h a = record { r0 = a.r0; bytes = a.bytes; done = a.done; run = before code a.r0 a.bytes s t None a.done h a.run; finds = a.finds }
@@ -71,7 +71,7 @@ by_outcome n code s xs w go (Exited r0) e h = record { r0 = r0; bytes = s.packet
 by_outcome n code s xs w go Fault e h = absurd h
 
 -- a course without a fault has a run, whatever is found
-answered : (n : ℕ) (code : List Insn) (s : State) (xs : List ℕ) → AreWords xs → IsWhole (course n code s) → Answered code s xs
+pub answered : (n : ℕ) (code : List Insn) (s : State) (xs : List ℕ) → AreWords xs → IsWhole (course n code s) → Answered code s xs
 answered zero code s xs w h = absurd h
 answered (suc n) code s xs w h = by_outcome n code s xs w (λ t ys v k. answered n code t ys v k) (step code s) refl h
 
@@ -81,7 +81,7 @@ numbers [] = []
 numbers (None ∷ labels) = numbers labels
 numbers (Some op ∷ labels) = found op ∷ numbers labels
 
-words_of : (o : Outcome) (op : Op) (t : State) → LeadsTo o (Some op) t → found op < 2 ^ 64
+pub words_of : (o : Outcome) (op : Op) (t : State) → LeadsTo o (Some op) t → found op < 2 ^ 64
 words_of (Next u) (ops.Load m k j v) t h = absurd h
 words_of (Next u) (ops.Add m k j d v) t h = absurd h
 words_of (Loads m k j go) (ops.Load m' k' j' v) t h = h.3
@@ -104,7 +104,7 @@ record AreOne (r0 r0' : ℕ) (bytes bytes' : List ℕ) (done done' : List Op) : 
   packet : bytes ≡ bytes'
   did : done ≡ done'
 
-same_op : (o : Outcome) (op op' : Op) (t t' : State) → LeadsTo o (Some op) t → LeadsTo o (Some op') t' → found op' ≡ found op → op ≡ op'
+pub same_op : (o : Outcome) (op op' : Op) (t t' : State) → LeadsTo o (Some op) t → LeadsTo o (Some op') t' → found op' ≡ found op → op ≡ op'
 same_op (Next u) (ops.Load m k j v) op' t t' h g e = absurd h
 same_op (Next u) (ops.Add m k j d v) op' t t' h g e = absurd h
 same_op (Loads m k j go) (ops.Add m1 k1 j1 d1 v1) op' t t' h g e = absurd h
@@ -118,11 +118,11 @@ same_op (Exited x) (ops.Add m k j d v) op' t t' h g e = absurd h
 same_op Fault (ops.Load m k j v) op' t t' h g e = absurd h
 same_op Fault (ops.Add m k j d v) op' t t' h g e = absurd h
 
-no_more : (code : List Insn) (s t : State) (r0 : ℕ) (label : Option Op) → step code s ≡ Exited r0 → LeadsTo (step code s) label t → ⊥
+pub no_more : (code : List Insn) (s t : State) (r0 : ℕ) (label : Option Op) → step code s ≡ Exited r0 → LeadsTo (step code s) label t → ⊥
 no_more code s t r0 label e h = exited r0 label t (subst (λ (o : Outcome). LeadsTo o label t) e h)
 
 -- a step's label and what it found fix the next state
-same_label : (o : Outcome) (l : Option Op) (u u' : State) → LeadsTo o l u → LeadsTo o l u' → u ≡ u'
+pub same_label : (o : Outcome) (l : Option Op) (u u' : State) → LeadsTo o l u → LeadsTo o l u' → u ≡ u'
 same_label (Next t) None u u' h g = sym h ∙ g
 same_label (Next t) (Some (ops.Load m k j v)) u u' h g = absurd h
 same_label (Next t) (Some (ops.Add m k j d v)) u u' h g = absurd h
@@ -136,7 +136,7 @@ same_label (Exited x) l u u' h g = absurd (exited x l u h)
 same_label Fault l u u' h g = absurd (no_fault l u h)
 
 -- a step has an operation or none
-none_some : (o : Outcome) (op : Op) (t t' : State) → LeadsTo o None t → LeadsTo o (Some op) t' → ⊥
+pub none_some : (o : Outcome) (op : Op) (t t' : State) → LeadsTo o None t → LeadsTo o (Some op) t' → ⊥
 none_some (Next u) (ops.Load m k j v) t t' h g = g
 none_some (Next u) (ops.Add m k j d v) t t' h g = g
 none_some (Loads m k j go) op t t' h g = h

@@ -1,6 +1,6 @@
 -- What operations make of sums, and what equations say of registers.
-use Rattle.std.proofs.Common.{ℕ, ◌+◌, ◌%◌, ◌^◌, ◌≡◌, ◌<◌, refl, sym, ap, ◌∙◌, subst, arith, Option, None, Some, Bool, true, false}
-use Rattle.std.specs.Prelude.{IfSome, bit_and, bit_xor}
+use Rattle.std.proofs.Common.{ℕ, ◌+◌, ◌%◌, ◌^◌, ◌≡◌, ◌<◌, sym, ap, ◌∙◌, subst, arith, Option, None, Some, Bool, true}
+use Rattle.std.specs.Prelude.{IfSome, bit_and}
 use Rattle.bpf_insn.specs.Register.{number}
 use Rattle.bpf_insn.specs.Arithmetic.{computed}
 use Rattle.bpf_insn.specs.declared.alu_op.AluOp.{AluOp}

@@ -32,8 +32,8 @@ use Rattle.bpf_same.specs.Same.{operations, Runs, IsSame}
 use Rattle.bpf_same.specs.Decided.{Compared, IsDecided}
 use Rattle.bpf_same.specs.declared.equations.Equations.{Equations}
 use Rattle.bpf_same.specs.Sums.{held, Hold}
-use Rattle.bpf_same.specs.Turned.{alters, Turned, Keeps, AreAlike, ReadsAlike, Shares, IsOwnStep}
-use Rattle.bpf_same.specs.Followed.{Book, Notes, IsKnown, Beside, IsFollowed, Passes, Meets, Lands, LandsAt, Steps, StepsBy, FollowsOne, Goes, GoesBoth, Targets, Splits, FollowsTwo, IsSplit, IsAccounted, in_front, Follows, IsPassed, IsClaimed, IsAtStart, is_jump, AreClaims}
+use Rattle.bpf_same.specs.Turned.{alters, Turned, AreAlike, ReadsAlike, IsOwnStep}
+use Rattle.bpf_same.specs.Followed.{Book, IsKnown, Beside, IsFollowed, Passes, Meets, Lands, Steps, StepsBy, FollowsOne, Goes, GoesBoth, Targets, FollowsTwo, IsSplit, IsAccounted, in_front, Follows, IsPassed, IsClaimed, is_jump, AreClaims}
 use Rattle.bpf_same.proofs.PairLemmas.{parted, Behind, Pairs, pairs_lead, pairs_exit, operand_is, exec_pairs}
 use Rattle.bpf_same.proofs.TurnLemmas.{needed_is, held_register, held_fits, alike_of, noted_is, copied_turned}
 use Rattle.bpf_same.proofs.OwnLemmas.{own_alone}
@@ -164,7 +164,7 @@ written_exits s pc k x r0 e = by (is_frame k) e
     by true e = cc
     by false e = cc
 
-load_exits : (place : regions.Place) (s : State) (signed : Bool) (size : Size) (dst r0 : ℕ) → load_from place s signed size dst ≡ Exited r0 → ⊥
+pub load_exits : (place : regions.Place) (s : State) (signed : Bool) (size : Size) (dst r0 : ℕ) → load_from place s signed size dst ≡ Exited r0 → ⊥
 load_exits (InPacket i) s signed size dst r0 e = need_exits (loaded s (InPacket i) (size_bytes size)) _ r0 (λ x e. written_exits s (s.pc + 1) dst (taken signed size x) r0 e) e
 load_exits (InStack i) s signed size dst r0 e = need_exits (loaded s (InStack i) (size_bytes size)) _ r0 (λ x e. written_exits s (s.pc + 1) dst (taken signed size x) r0 e) e
 load_exits (InContext i) s signed size dst r0 e = need_exits (loaded s (InContext i) (size_bytes size)) _ r0 (λ x e. written_exits s (s.pc + 1) dst (taken signed size x) r0 e) e

@@ -1,5 +1,5 @@
 -- What is shown of sums after a step.
-use Rattle.std.proofs.Common.{ℕ, suc, zero, ◌+◌, ◌-◌, ◌*◌, ◌%◌, ◌^◌, ◌≡◌, ◌<◌, ◌≤◌, refl, sym, ap, ◌∙◌, subst, arith, ℤ, negsuc, Option, None, Some, Bool, true, false, ◌&&◌}
+use Rattle.std.proofs.Common.{ℕ, suc, ◌+◌, ◌-◌, ◌*◌, ◌%◌, ◌^◌, ◌≡◌, ◌<◌, ◌≤◌, sym, ap, ◌∙◌, subst, arith, ℤ, negsuc, Option, None, Some, Bool, true, false}
 use Rattle.std.specs.Prelude.{IfSome, ◌==◌}
 use Rattle.std.proofs.lemmas.Bool.Decides.{nat_tests}
 use Rattle.bpf_insn.specs.Register.{number}
@@ -12,14 +12,13 @@ use Rattle.bpf_insn.specs.declared.operand.Operand.TheVariants as operands
 use Rattle.bpf_insn.specs.Arithmetic.{computed}
 use Rattle.std.specs.Int.Bits.{xor_self}
 use Rattle.bpf_insn.specs.declared.insn.Insn.{Insn}
-use Rattle.bpf_insn.specs.declared.insn.Insn.TheVariants.{Alu, Ldx, Stx}
+use Rattle.bpf_insn.specs.declared.insn.Insn.TheVariants.{Alu, Ldx}
 use Rattle.bpf_note.specs.Facts.{Facts}
 use Rattle.bpf_same.specs.declared.sum.Sum.{Sum}
 use Rattle.bpf_same.specs.declared.equations.Equations.{Equations}
 use Rattle.bpf_same.specs.Sums.{plus, bit, with_bit, gathered, total, IsWord, Hold, old_of}
-use Rattle.bpf_same.specs.Turned.{alters, operand_in, Computes, Turned, IsOwn, IsWordAt, IsNewAfter, IsOldAfter, IsBefore, IsPart, IsMore, KeepsOld, KeepsNew, IsOldAlike}
+use Rattle.bpf_same.specs.Turned.{alters, operand_in, Computes, Turned, IsNewAfter, IsOldAfter, IsBefore, IsPart, IsMore, KeepsOld, KeepsNew, IsOldAlike}
 use Rattle.bpf_same.proofs.SumLemmas.{plus_assoc}
-use Rattle.bpf_same.proofs.ComputeLemmas.{total_word}
 
 some_same : {x y : ℕ} → Some x ≡ Some y → x ≡ y
 some_same e = cc

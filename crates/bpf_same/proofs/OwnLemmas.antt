@@ -1,19 +1,15 @@
 -- What a step of the new program's own makes of what holders hold.
-use Rattle.std.proofs.Common.{ℕ, zero, suc, ◌+◌, ◌-◌, ◌*◌, ◌/◌, ◌%◌, ◌≡◌, ◌<◌, ◌≤◌, ◌^◌, ◌⊎◌, inl, inr, refl, sym, ap, ◌∙◌, subst, arith, ℤ, pos, negsuc, List, length, Option, None, Some, Bool, true, false, nat_lt, ◌&&◌, add-zero}
-use Rattle.std.specs.Prelude.{if◌then◌else◌, ◌==◌, nat_le}
+use Rattle.std.proofs.Common.{ℕ, zero, suc, ◌+◌, ◌-◌, ◌*◌, ◌/◌, ◌%◌, ◌≡◌, ◌<◌, ◌≤◌, ◌^◌, ◌⊎◌, inl, inr, refl, sym, ap, ◌∙◌, subst, arith, ℤ, List, length, Option, None, Some, Bool, true, false, ◌&&◌, add-zero}
+use Rattle.std.specs.Prelude.{if◌then◌else◌, ◌==◌}
 use Rattle.std.proofs.lemmas.Bool.{cases_lt}
 use Rattle.std.proofs.lemmas.Bool.Decides.{nat_tests}
 use Rattle.std.proofs.Math.Nat.{pow-succ'}
 use Rattle.bpf_note.specs.Shape.{Shape}
 use Rattle.bpf_insn.specs.Register.{number}
 use Rattle.bpf_insn.specs.Size.{size_bytes}
-use Rattle.bpf_insn.specs.Signed.{sign_extended}
-use Rattle.bpf_insn.specs.declared.alu_op.AluOp.{AluOp}
 use Rattle.bpf_insn.specs.declared.register.Register.{Register}
-use Rattle.bpf_insn.specs.declared.register.Register.TheVariants.{R10}
 use Rattle.bpf_insn.specs.declared.size.Size.{Size}
 use Rattle.bpf_insn.specs.declared.size.Size.TheVariants.{Double}
-use Rattle.bpf_insn.specs.declared.operand.Operand.{Operand}
 use Rattle.bpf_insn.specs.declared.insn.Insn.{Insn}
 use Rattle.bpf_insn.specs.declared.insn.Insn.TheVariants.{Alu, Neg, End, MovSx, Const, MapRef, Ldx, St, Stx, AddCounter, Ja, Jump, Call, Exit, Second}
 use Rattle.bpf_note.specs.State.{State, IsState, put, packet_start, stack_start, stack_end, context_start}
@@ -23,13 +19,13 @@ use Rattle.bpf_note.specs.Facts.{Facts}
 use Rattle.bpf_note.specs.Describes.{Describes}
 use Rattle.bpf_note.specs.declared.op.Op.{Op}
 use Rattle.bpf_note.specs.declared.op.Op.TheVariants as ops
-use Rattle.bpf_flow.specs.Step.{Outcome, Next, Loads, Fault, need, with_number, with_stack, at_slot, is_frame, written, operand, first_operand, address, reached, loaded, load_from, store_to, exec, LeadsTo, taken, Fits}
+use Rattle.bpf_flow.specs.Step.{Next, need, with_number, with_stack, written, operand, first_operand, address, reached, loaded, load_from, store_to, exec, LeadsTo, taken}
 use Rattle.bpf_flow.proofs.StepLemmas.{no_fault, needed}
-use Rattle.bpf_flow.proofs.ReachLemmas.{shift_is, region_stack}
+use Rattle.bpf_flow.proofs.ReachLemmas.{region_stack}
 use Rattle.bpf_flow.proofs.RegisterLemmas.{number_small}
-use Rattle.bpf_same.specs.Sums.{held, IsWord}
-use Rattle.bpf_same.specs.Turned.{alters, is_register_store, IsOwn, IsWordAt, operand_in, Computes, Turned, IsOwnStep, IsOwnAccess}
-use Rattle.bpf_same.proofs.PairLemmas.{word_under, put_left}
+use Rattle.bpf_same.specs.Sums.{held}
+use Rattle.bpf_same.specs.Turned.{alters, is_register_store, IsOwn, IsWordAt, Turned, IsOwnStep, IsOwnAccess}
+use Rattle.bpf_same.proofs.PairLemmas.{put_left}
 use Rattle.bpf_same.proofs.TurnLemmas.{needed_is, held_register, held_word, held_fits, noted_is, written_is, put_here, alu_computes, computes_held, word_kept}
 
 -- what is left of the state by a step of the new program's own, and what it makes of holders
@@ -76,7 +72,7 @@ number_alone i low m s g l u q k x a none d h load w =
     }
 
 -- a counter lies under eight bytes alone
-counter_size : (len : ℕ) (shapes : List Shape) (a z m k j : ℕ) → region len shapes a z ≡ InCounter m k j → z ≡ 8
+pub counter_size : (len : ℕ) (shapes : List Shape) (a z m k j : ℕ) → region len shapes a z ≡ InCounter m k j → z ≡ 8
 unfolding region
 counter_size len shapes a z m k j e = by (lies_in packet_start (packet_start + len) a z) (lies_in stack_start stack_end a z) (lies_in context_start (context_start + 20) a z && z == 4 && a % 4 == 0) (z == 8) refl e
   where
@@ -88,15 +84,15 @@ counter_size len shapes a z m k j e = by (lies_in packet_start (packet_start + l
     by false false false false f e = cc
 
 -- a load that isn't one of a counter
-record Loaded (place : Place) (s : State) (signed : Bool) (size : Size) (dst : ℕ) (l : Option Op) (u : State) : Type 0 where
-  x : ℕ
-  is : loaded s place (size_bytes size) ≡ Some x
-  done : (l ≡ None) × (u ≡ with_number s (s.pc + 1) dst (taken signed size x))
+pub record Loaded (place : Place) (s : State) (signed : Bool) (size : Size) (dst : ℕ) (l : Option Op) (u : State) : Type 0 where
+  pub x : ℕ
+  pub is : loaded s place (size_bytes size) ≡ Some x
+  pub done : (l ≡ None) × (u ≡ with_number s (s.pc + 1) dst (taken signed size x))
 
 plain_is : (place : Place) (s : State) (signed : Bool) (size : Size) (dst : ℕ) (l : Option Op) (u : State) → LeadsTo (need (loaded s place (size_bytes size)) (λ x. written s (s.pc + 1) dst (taken signed size x))) l u → Loaded place s signed size dst l u
 plain_is place s signed size dst l u h = needed_is (loaded s place (size_bytes size)) _ l u (λ x f h. record { x = x; is = f; done = written_is s (s.pc + 1) dst (taken signed size x) l u h }) h
 
-load_is : (place : Place) (s : State) (signed : Bool) (size : Size) (dst : ℕ) (l : Option Op) (u : State) → ((m k j : ℕ) → place ≡ InCounter m k j → ⊥) → LeadsTo (load_from place s signed size dst) l u → Loaded place s signed size dst l u
+pub load_is : (place : Place) (s : State) (signed : Bool) (size : Size) (dst : ℕ) (l : Option Op) (u : State) → ((m k j : ℕ) → place ≡ InCounter m k j → ⊥) → LeadsTo (load_from place s signed size dst) l u → Loaded place s signed size dst l u
 load_is (InPacket i) s signed size dst l u e h = plain_is (InPacket i) s signed size dst l u h
 load_is (InStack i) s signed size dst l u e h = plain_is (InStack i) s signed size dst l u h
 load_is (InContext i) s signed size dst l u e h = plain_is (InContext i) s signed size dst l u h

@@ -1,17 +1,15 @@
 -- An instruction that both programs have does the same in both states, where they read the same.
-use Rattle.std.proofs.Common.{ℕ, zero, suc, ◌+◌, ◌-◌, ◌*◌, ◌≡◌, ◌<◌, ◌≤◌, refl, sym, ap, ◌∙◌, subst, arith, ℤ, pos, negsuc, List, length, Option, None, Some, Bool, true, false, ◌&&◌, nat_lt}
+use Rattle.std.proofs.Common.{ℕ, zero, suc, ◌+◌, ◌-◌, ◌≡◌, ◌<◌, ◌≤◌, refl, sym, ap, ◌∙◌, subst, arith, ℤ, pos, negsuc, length, Option, None, Some, Bool, true, false, ◌&&◌, nat_lt}
 use Rattle.std.specs.Prelude.{if◌then◌else◌, ◌==◌, nat_le, slice_get}
 use Rattle.std.proofs.lemmas.Bool.Decides.{nat_tests}
 use Rattle.bpf_insn.specs.Register.{number}
 use Rattle.bpf_insn.specs.Size.{size_bytes}
 use Rattle.bpf_insn.specs.Signed.{sign_extended}
-use Rattle.bpf_insn.specs.declared.register.Register.{Register}
 use Rattle.bpf_insn.specs.declared.size.Size.{Size}
 use Rattle.bpf_insn.specs.declared.operand.Operand.{Operand}
 use Rattle.bpf_insn.specs.declared.operand.Operand.TheVariants as operands
 use Rattle.bpf_insn.specs.declared.insn.Insn.{Insn}
 use Rattle.bpf_insn.specs.declared.insn.Insn.TheVariants.{Alu, Neg, End, MovSx, Const, MapRef, Ldx, St, Stx, AddCounter, Ja, Jump, Call, Exit, Second}
-use Rattle.bpf_note.specs.Shape.{Shape}
 use Rattle.bpf_note.specs.State.{State, put}
 use Rattle.bpf_note.specs.Bytes.{word_at, higher, byte_of, put_bytes}
 use Rattle.bpf_note.specs.Regions.{Place, InPacket, InStack, InContext, InCounter, Nowhere, region}
@@ -47,7 +45,7 @@ Pairs R (Adds m k j d go) o = (to : ℕ → State) × (o ≡ Adds m k j d to) ×
 Pairs R (Exited x) o = o ≡ Exited x
 Pairs R Fault o = Unit {0}
 
-need_pairs : {A : Type 0} (R : State → State → Type 0) (o p : Option A) (f f' : A → Outcome) → p ≡ o → ((x : A) → o ≡ Some x → Pairs R (f x) (f' x)) → Pairs R (need o f) (need p f')
+pub need_pairs : {A : Type 0} (R : State → State → Type 0) (o p : Option A) (f f' : A → Outcome) → p ≡ o → ((x : A) → o ≡ Some x → Pairs R (f x) (f' x)) → Pairs R (need o f) (need p f')
 need_pairs R None p f f' e r = tt
 need_pairs {A = A} R (Some x) p f f' e r = subst (λ (q : Option A). Pairs R (f x) (need q f')) (sym e) (r x refl)
 

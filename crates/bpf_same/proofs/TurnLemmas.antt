@@ -1,9 +1,8 @@
 -- What a step makes of what holders and the old program's registers hold.
-use Rattle.std.proofs.Common.{ℕ, zero, suc, ◌+◌, ◌-◌, ◌*◌, ◌≡◌, ◌<◌, ◌≤◌, ◌^◌, ◌⊎◌, inl, inr, refl, sym, ap, ◌∙◌, subst, arith, ℤ, pos, negsuc, List, length, Option, None, Some, Bool, true, false, nat_lt}
+use Rattle.std.proofs.Common.{ℕ, ◌+◌, ◌-◌, ◌*◌, ◌≡◌, ◌<◌, ◌≤◌, ◌^◌, refl, sym, ap, ◌∙◌, subst, arith, Option, None, Some, Bool, true, false, nat_lt}
 use Rattle.std.specs.Prelude.{if◌then◌else◌, ◌==◌}
 use Rattle.std.proofs.lemmas.Bool.Decides.{nat_tests}
 use Rattle.bpf_insn.specs.Register.{number}
-use Rattle.bpf_insn.specs.Size.{size_bytes}
 use Rattle.bpf_insn.specs.declared.alu_op.AluOp.{AluOp}
 use Rattle.bpf_insn.specs.declared.register.Register.{Register}
 use Rattle.bpf_insn.specs.declared.operand.Operand.{Operand}
@@ -22,9 +21,9 @@ use Rattle.bpf_note.specs.declared.op.Op.TheVariants as ops
 use Rattle.bpf_flow.specs.Step.{Outcome, Next, Fault, need, with_number, is_frame, written, operand, first_operand, exec, LeadsTo}
 use Rattle.bpf_flow.proofs.StepLemmas.{no_fault}
 use Rattle.bpf_flow.proofs.RegisterLemmas.{number_small}
-use Rattle.bpf_same.specs.Sums.{held, IsWord, Hold}
-use Rattle.bpf_same.specs.Turned.{alters, is_register_store, IsOwn, IsWordAt, operand_in, Computes, number_in, Turned, AreAlike}
-use Rattle.bpf_same.proofs.PairLemmas.{Behind, operand_is, word_under, put_left}
+use Rattle.bpf_same.specs.Sums.{held, IsWord}
+use Rattle.bpf_same.specs.Turned.{alters, IsOwn, operand_in, Computes, number_in, Turned, AreAlike}
+use Rattle.bpf_same.proofs.PairLemmas.{Behind, operand_is, word_under}
 
 pub needed_is : {A P : Type 0} (o : Option A) (go : A → Outcome) (l : Option Op) (u : State) → ((x : A) → o ≡ Some x → LeadsTo (go x) l u → P) → LeadsTo (need o go) l u → P
 needed_is None go l u f h = absurd (no_fault l u h)

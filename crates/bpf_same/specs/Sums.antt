@@ -1,6 +1,6 @@
 -- For proofs: no claim rests on this file.
 -- Sums of what the new program holds, modulo 2 ^ 64, and what equations say by them.
-use Rattle.std.specs.Prelude.{ℕ, zero, suc, ◌+◌, ◌-◌, ◌*◌, ◌/◌, ◌%◌, ◌^◌, ◌≡◌, ◌<◌, ◌≤◌, List, Option, None, Some, Bool, true, false, if◌then◌else◌, ◌==◌, nat_lt, slice_index_or}
+use Rattle.std.specs.Prelude.{ℕ, zero, suc, ◌+◌, ◌-◌, ◌*◌, ◌/◌, ◌%◌, ◌^◌, ◌≡◌, ◌<◌, Option, None, Some, if◌then◌else◌, nat_lt, slice_index_or}
 use Rattle.bpf_note.specs.State.{State}
 use Rattle.bpf_note.specs.Bytes.{word_at}
 use Rattle.bpf_same.specs.declared.sum.Sum.{Sum}

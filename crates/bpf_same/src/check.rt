@@ -109,7 +109,7 @@ pub(crate) fn equations_at(equations: &[Equations], at: u32) -> Option<Equations
 }
 
 /// Whether this instruction stands at a slot.
-fn is_at(code: &[Insn], at: u32, insn: Insn) -> bool
+pub(crate) fn is_at(code: &[Insn], at: u32, insn: Insn) -> bool
     ensures { IsTrue result → slice_get code.now at ≡ Some insn }
 {
     (at as usize) < code.len() && is_same_insn(code[at as usize], insn)

@@ -1,12 +1,16 @@
 //! Whether an accepted program has the runs of another one.
 ghost use Rattle.std.specs.Prelude.{◌≡◌, ◌≤◌, length, IfOk, IsTrue};
 ghost use Rattle.bpf_verify.specs.Consistent.{IsConsistent};
+ghost use Rattle.bpf_same.specs.Counts.{IsSameByCounts, IsWholeByCounts};
 ghost use Rattle.bpf_same.specs.Same.{IsSame};
 
 use crate::check::Claims;
 use crate::equal::is_same_code;
 use crate::find::{Known, lowest_of, notes_of};
-use crate::laws::same_both_ways;
+use crate::fuse::{Fusion, fusion_of};
+use crate::fused::{Draft, same_by_counts};
+use crate::laws::{same_both_ways, same_by_counts_both_ways};
+use crate::live::live_registers;
 use crate::mark::Place;
 use bpf_insn::{Code, Insn};
 use bpf_note::{MapShape, the_entry_describes_every_start};
@@ -18,6 +22,9 @@ use std::alloc::{AllocError, Global};
 pub enum Comparison {
     /// Each run of one is a run of the other.
     Same,
+    /// Each run of the new program is one of the old one, but that one atomic addition to a counter may stand for a load and a store,
+    /// as where nobody else writes the counter between.
+    SameByCounts,
     /// Nothing: they may have the same runs or not.
     NotShown,
 }
@@ -60,6 +67,62 @@ fn is_shown(
     Ok(claims.hold(alloc, new, shapes))
 }
 
+/// Whether the old program's runs are the new one's by counts.
+fn is_shown_by_counts(
+    alloc: Global,
+    new: &[Insn],
+    shapes: &[MapShape],
+    old: &[Insn],
+    places: &[Place],
+    fusion: &Fusion,
+) -> Result<bool, AllocError>
+    requires short { length old.now ≤ 4096 }
+    requires few { length new.now ≤ 4096 }
+    ensures { IfOk result (λ yes. IsTrue yes → IsSameByCounts shapes.now old.now new.now) }
+{
+    same_by_counts();
+    let code = fusion.code.as_slice();
+    if code.len() > old.len() {
+        return Ok(false);
+    }
+    let live = live_registers(alloc, code)?;
+    let draft = Draft {
+        old,
+        new: code,
+        live: live.as_slice(),
+        spots: fusion.spots.as_slice(),
+    };
+    if !draft.holds() {
+        return Ok(false);
+    }
+    is_shown(alloc, new, shapes, code, places)
+}
+
+/// What is shown of the two programs.
+fn compared(
+    alloc: Global,
+    new: &[Insn],
+    shapes: &[MapShape],
+    old: &[Insn],
+    places: &[Place],
+) -> Result<Comparison, AllocError>
+    requires short { length old.now ≤ 4096 }
+    requires few { length new.now ≤ 4096 }
+    ensures same { IfOk result (λ c. c ≡ Comparison.Same → IsSame shapes.now old.now new.now) }
+    ensures counts { IfOk result (λ c. c ≡ Comparison.SameByCounts → IsSameByCounts shapes.now old.now new.now) }
+    ensures itself { IfOk result (λ c. new.now ≡ old.now → c ≡ Comparison.Same) }
+{
+    if is_shown(alloc, new, shapes, old, places)? {
+        return Ok(Comparison::Same);
+    }
+    match fusion_of(alloc, old, new, places)? {
+        Some(fusion) if is_shown_by_counts(alloc, new, shapes, old, places, &fusion)? => {
+            Ok(Comparison::SameByCounts)
+        }
+        _ => Ok(Comparison::NotShown),
+    }
+}
+
 /// Compares an accepted program with one that it was made of. The old program need not be accepted, and may loop. A place says
 /// where the old program stands before a slot of the new one; the places need not be right, nor as many as the slots.
 pub fn compare(
@@ -72,14 +135,15 @@ pub fn compare(
     ensures same { IfOk result (λ c. c ≡ Comparison.Same → IsSame new.now.shapes old.now new.now.code) }
     // Each run of the old program is one of the new.
     ensures whole { IfOk result (λ c. c ≡ Comparison.Same → IsSame new.now.shapes new.now.code old.now) }
+    // Each run of the new program is one of the old one, by counts.
+    ensures counts { IfOk result (λ c. c ≡ Comparison.SameByCounts → IsSameByCounts new.now.shapes old.now new.now.code) }
+    // Each run of the old program is one of the new one, by counts.
+    ensures counts_whole { IfOk result (λ c. c ≡ Comparison.SameByCounts → IsWholeByCounts new.now.shapes new.now.code old.now) }
     // A program is the same as itself, whatever the places.
     ensures itself { IfOk result (λ c. new.now.code ≡ old.now → c ≡ Comparison.Same) }
     ensures accepted { IsConsistent new.now }
 {
     same_both_ways();
-    if is_shown(alloc, new.insns(), new.shapes(), old.insns(), places)? {
-        Ok(Comparison::Same)
-    } else {
-        Ok(Comparison::NotShown)
-    }
+    same_by_counts_both_ways();
+    compared(alloc, new.insns(), new.shapes(), old.insns(), places)
 }

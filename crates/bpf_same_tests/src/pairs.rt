@@ -5,7 +5,7 @@ use bpf_same::{Comparison, Place, compare};
 use bpf_verify::verify;
 use std::alloc::Global;
 
-/// Both programs in hex, a slot each; how many maps of four counters they have; and for each slot of the new one where
+/// Both programs in hex, a slot each or several; how many maps of four counters they have; and for each slot of the new one where
 /// the old program stands: `c12` for a copy of slot 12, `o12` for an instruction of the new program's own before it.
 #[derive(Clone, Copy, Debug, Drop)]
 pub struct Pair<'a> {

@@ -1,4 +1,7 @@
 //! Pairs of programs.
+mod counts;
+mod counts_apart;
+mod counts_used;
 mod ends;
 mod jumps;
 mod own;

@@ -1,10 +1,8 @@
-use Rattle.std.proofs.Common.{rules, ◌≡◌, ◌∙◌, sym, ap, arith, ℕ, ℤ, w16}
+use Rattle.std.proofs.Common.{◌∙◌, sym, ap, arith, w16}
 use Rattle.std.proofs.lemmas.Int.{ints, to_z-of_z}
 use Rattle.bpf_insn.specs.Register.{number}
-use Rattle.bpf_note.specs.declared.val.Val.{Val}
-use Rattle.bpf_note.specs.declared.val.Val.TheVariants.{Stack, Pkt, Ctx, Value}
 use Rattle.bpf_note.specs.Parts.{facts}
-use Rattle.bpf_same.proofs.AboveLemmas.{IsShort, stack_above_read, packet_above, context_above, value_above, nothing_above}
+use Rattle.bpf_same.proofs.AboveLemmas.{IsShort, stack_above_read, packet_above, context_above, value_above}
 use Rattle.bpf_same.proofs.access.is_above.Goals as goal
 
 pub returns-in-Stack : goal.returns-in-Stack

@@ -1,4 +1,4 @@
-use Rattle.std.proofs.Common.{rules, FitsSigned, w16, ◌≡◌, sym, ap, ◌∙◌, subst, arith, ℕ, ℤ, pos, length}
+use Rattle.std.proofs.Common.{rules, FitsSigned, w16, ◌≡◌, sym, ap, ◌∙◌, subst, arith, ℕ, pos, length}
 use Rattle.std.proofs.lemmas.Int.{to_z-of_z}
 use Rattle.bpf_insn.specs.Size.{size_bytes}
 use Rattle.bpf_insn.specs.declared.insn.Insn.{Insn}

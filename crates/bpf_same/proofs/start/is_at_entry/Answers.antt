@@ -1,6 +1,5 @@
-use Rattle.std.proofs.Common.{rules, ◌≡◌, ◌<◌, ◌≤◌, ◌∙◌, ℕ, Option, Some, None, inl, inr, true, sym, subst, arith}
+use Rattle.std.proofs.Common.{rules, ◌≡◌, ◌∙◌, ℕ, Some, None, inl, inr, true, sym, subst, arith}
 use Rattle.std.proofs.lemmas.Bool.{cases_lt}
-use Rattle.bpf_same.specs.declared.sum.Sum.{Sum}
 use Rattle.bpf_same.specs.Sums.{old_of, new_of, total, IsWord}
 use Rattle.bpf_same.proofs.start.is_at_entry.Goals as goal
 

@@ -1,4 +1,4 @@
-use Rattle.std.proofs.Common.{arith, sym, ap, ◌∙◌, subst, Option, ℕ, true}
+use Rattle.std.proofs.Common.{arith, sym, ◌∙◌, subst, Option, ℕ, true}
 use Rattle.bpf_insn.specs.declared.alu_op.AluOp.TheVariants as op
 use Rattle.bpf_same.specs.Sums.{IsWord}
 use Rattle.bpf_same.proofs.ComputeLemmas.{total_word, total_alone, moved, anded, computes_as, added_if}

@@ -1,4 +1,3 @@
-use Rattle.std.proofs.Common.{arith}
 use Rattle.bpf_same.proofs.SumLemmas.{total_plus}
 use Rattle.bpf_same.proofs.sum.Sum.plus.Goals as goal
 

@@ -1,4 +1,4 @@
-use Rattle.std.proofs.Common.{◌≡◌, ◌∙◌, ap, sym, arith, ℕ, Some}
+use Rattle.std.proofs.Common.{◌≡◌, ◌∙◌, ap, arith, ℕ, Some}
 use Rattle.bpf_note.specs.Parts.{facts}
 use Rattle.bpf_same.specs.Sums.{plus, gathered}
 use Rattle.bpf_same.proofs.KeepLemmas.{none_before}

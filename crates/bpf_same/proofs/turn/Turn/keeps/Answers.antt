@@ -1,7 +1,6 @@
-use Rattle.std.proofs.Common.{rules, ◌≡◌, ◌<◌, ◌≤◌, ◌∙◌, ℕ, Option, Some, None, inl, inr, true, sym, subst, arith}
+use Rattle.std.proofs.Common.{rules, ◌≡◌, ℕ, Some, inl, inr, true, sym, subst, arith}
 use Rattle.std.proofs.lemmas.Bool.{cases_lt}
 use Rattle.bpf_note.specs.Parts.{facts}
-use Rattle.bpf_same.specs.declared.sum.Sum.{Sum}
 use Rattle.bpf_same.specs.Sums.{old_of, new_of}
 use Rattle.bpf_same.specs.Turned.{KeepsOld, KeepsNew}
 use Rattle.bpf_same.proofs.turn.Turn.keeps.Goals as goal

@@ -1,4 +1,4 @@
-use Rattle.std.proofs.Common.{◌≡◌, ◌<◌, ℕ, Option, Some}
+use Rattle.std.proofs.Common.{◌≡◌, ◌<◌, ℕ, Some}
 use Rattle.bpf_note.specs.Parts.{facts}
 use Rattle.bpf_same.specs.declared.sum.Sum.{Sum}
 use Rattle.bpf_same.specs.Sums.{old_of, new_of}

@@ -1,4 +1,4 @@
-use Rattle.std.proofs.Common.{◌≡◌, sym, ap, ◌∙◌}
+use Rattle.std.proofs.Common.{sym, ap, ◌∙◌}
 use Rattle.bpf_same.specs.Turned.{number_in}
 use Rattle.bpf_same.proofs.turn.Turn.noted.Goals as goal
 
