@@ -1,7 +1,7 @@
 """Whether a result has the runs of the program that it was made of, and how that was shown.
 
 This is the one place that decides it: what isn't shown here isn't printed. `xdpbox same` is asked first, whose yes is
-proved; else the comparison of the package `same` decides, which is tested."""
+proved: the same runs, or the same by counts; else the comparison of the package `same` decides, which is tested."""
 from __future__ import annotations
 
 from typing import NamedTuple, Optional
@@ -12,9 +12,10 @@ from same.state import Differs
 
 from .graph import Fail
 from .settings import text_beside
-from .verifier import is_same
+from .verifier import called
 
-PROVED, COMPARED = "proved", "compared"
+PROVED, BY_COUNTS, COMPARED = "proved", "proved by counts", "compared"
+PROVED_BY = {"same": PROVED, "same by counts": BY_COUNTS}
 UNPROVED = "a program was found of which it isn't proved that it is the same: without --proved it is compared"
 ACCESSES = 1, 2, 3  # kinds of instructions
 
@@ -24,8 +25,8 @@ class NoComparison(Fail):
 
 
 class Shown(NamedTuple):
-    """`how`: PROVED or COMPARED. `guards`: slots of the original in front of which the result may end. `missing`: why
-    the result can't be taken, or None."""
+    """`how`: PROVED, BY_COUNTS or COMPARED. `guards`: slots of the original in front of which the result may end.
+    `missing`: why the result can't be taken, or None."""
 
     how: str = COMPARED
     guards: tuple = ()
@@ -36,8 +37,9 @@ def shown(xdpbox: str, original: dict, result: dict, labels: dict, guard: bool, 
     """What is shown of a result. `labels`: of each of its slots the kind and a slot of the original. `guard`: whether
     it may end in front of an access outside of the packet. `proved`: whether a tested comparison isn't enough."""
     asked = question(original, result, labels)
-    if asked is not None and is_same(xdpbox, asked):
-        return Shown(PROVED)
+    answer = None if asked is None else called(xdpbox, asked)
+    if answer is not None:
+        return Shown(PROVED_BY[answer])
     if proved:
         return Shown(missing=Fail(UNPROVED))
     try:

@@ -52,10 +52,12 @@ def asked(xdpbox: str, command: str, settings: str) -> subprocess.CompletedProce
         raise
 
 
-def is_same(xdpbox: str, settings: str) -> bool:
-    """Whether `xdpbox same` shows that the program of settings, as text, has the runs of the one beside it."""
+def called(xdpbox: str, settings: str) -> Optional[str]:
+    """What `xdpbox same` calls the program of settings, as text, beside the other one there: `same`, `same by counts`, or
+    None."""
     run = asked(xdpbox, "same", settings)
-    return run.returncode == 0 and run.stdout.startswith("same, ")
+    said = re.match("(same|same by counts), ", run.stdout)
+    return said[1] if run.returncode == 0 and said else None
 
 
 def verdict(xdpbox: str, settings: str) -> Verdict:

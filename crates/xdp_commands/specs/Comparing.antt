@@ -4,13 +4,14 @@ use Rattle.std.specs.Prelude.{ℕ, ◌≡◌, List, ◌++◌, codes, decimal, le
 use Rattle.bpf_insn.specs.Code.{Spells}
 use Rattle.bpf_insn.specs.Refusal.{IsNoCode}
 use Rattle.bpf_insn.specs.declared.insn.Insn.{Insn}
+use Rattle.bpf_same.specs.Counts.{IsSameByCounts, IsWholeByCounts}
 use Rattle.bpf_same.specs.Same.{IsSame}
 use Rattle.bpf_verify.specs.Consistent.{Accepted as Program}
 use Rattle.xdp_load.specs.Original.{RewrittenView}
 use Rattle.xdp_commands.specs.Executing.{IsProgramOf, IsRefusalOfBytes}
 use Rattle.xdp_commands.specs.Lines.{refused_text}
 use Rattle.xdp_commands.specs.declared.comparing.Compared.{Compared}
-use Rattle.xdp_commands.specs.declared.comparing.Compared.TheVariants.{Same, NotShown, Refused, Undecoded}
+use Rattle.xdp_commands.specs.declared.comparing.Compared.TheVariants.{Same, SameByCounts, NotShown, Refused, Undecoded}
 
 -- the setup's program has no cause of refusal with its maps, and the original's bytes spell a program
 pub record IsPair (r : RewrittenView) (program : Program) (original : List Insn) : Type 0 where
@@ -27,15 +28,28 @@ pub record IsSamePair (r : RewrittenView) (slots originals : ℕ) : Type 0 where
   pub counted : slots ≡ length program.code
   pub originals_counted : originals ≡ length original
 
--- the program is accepted and the same, or accepted; or it is refused, or the original's bytes are
+-- a pair in which each has the runs of the other, but that one addition of the program may stand for a load and a store of the
+-- original; the program has `slots` slots, and the original has `originals`
+pub record IsPairByCounts (r : RewrittenView) (slots originals : ℕ) : Type 0 where
+  pub program : Program
+  pub original : List Insn
+  pub pair : IsPair r program original
+  pub counts : IsSameByCounts r.setup.shapes original program.code
+  pub whole : IsWholeByCounts r.setup.shapes program.code original
+  pub counted : slots ≡ length program.code
+  pub originals_counted : originals ≡ length original
+
+-- the program is accepted and the same, or the same by counts, or accepted; or it is refused, or the original's bytes are
 abbrev pub Compares : RewrittenView → Compared → Type 0
 Compares r (Same slots originals) = IsSamePair r slots originals
+Compares r (SameByCounts slots originals) = IsPairByCounts r slots originals
 Compares r NotShown = (p : Program) × (o : List Insn) × IsPair r p o
 Compares r (Refused refusal) = IsRefusalOfBytes r.setup.program r.setup.shapes refusal
 Compares r (Undecoded refusal) = (p : Program) × IsProgramOf r.setup.program r.setup.shapes p × IsNoCode r.original refusal
 
 abbrev pub compared_text : Compared → List ℕ
 compared_text (Same slots originals) = codes "same, " ++ (decimal slots ++ (codes " slots for " ++ (decimal originals ++ codes "\n")))
+compared_text (SameByCounts slots originals) = codes "same by counts, " ++ (decimal slots ++ (codes " slots for " ++ (decimal originals ++ codes "\n")))
 compared_text NotShown = codes "not shown\n"
 compared_text (Refused refusal) = refused_text refusal
 compared_text (Undecoded refusal) = codes "original " ++ refused_text refusal
@@ -43,6 +57,7 @@ compared_text (Undecoded refusal) = codes "original " ++ refused_text refusal
 -- the status: shown, or not
 abbrev pub compared_status : Compared → ℕ
 compared_status (Same slots originals) = 0
+compared_status (SameByCounts slots originals) = 0
 compared_status NotShown = 1
 compared_status (Refused refusal) = 1
 compared_status (Undecoded refusal) = 1

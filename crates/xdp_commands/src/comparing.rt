@@ -20,6 +20,9 @@ use xdp_load::Rewritten;
 pub enum Compared {
     /// Each run of one is a run of the other. The program has `slots` slots, and the original has `originals`.
     Same { slots: u32, originals: usize },
+    /// Each run of the program is one of the original, but that one atomic addition to a counter may stand for a load and a store,
+    /// as where nobody else writes the counter between.
+    SameByCounts { slots: u32, originals: usize },
     /// Nothing is shown of their runs.
     NotShown,
     /// The program is refused.
@@ -57,6 +60,10 @@ fn compare_with(
             slots: program.slots(),
             originals: original.insns().len(),
         }),
+        Comparison::SameByCounts => Ok(Compared::SameByCounts {
+            slots: program.slots(),
+            originals: original.insns().len(),
+        }),
         Comparison::NotShown => Ok(Compared::NotShown),
     }
 }
@@ -84,6 +91,9 @@ pub fn compared_text(alloc: Global, compared: &Compared) -> Result<String, Alloc
         Compared::Same { slots, originals } => {
             format!(in alloc; "same, {slots} slots for {originals}\n")
         }
+        Compared::SameByCounts { slots, originals } => {
+            format!(in alloc; "same by counts, {slots} slots for {originals}\n")
+        }
         Compared::NotShown => String::from_str(alloc, "not shown\n"),
         Compared::Refused(refusal) => refused_text(alloc, refusal),
         Compared::Undecoded(refusal) => {
@@ -98,7 +108,7 @@ pub fn compared_status(compared: &Compared) -> u8
     ensures { result ≡ compared_status compared.now }
 {
     match compared {
-        Compared::Same { .. } => 0,
+        Compared::Same { .. } | Compared::SameByCounts { .. } => 0,
         Compared::NotShown | Compared::Refused(_) | Compared::Undecoded(_) => 1,
     }
 }

@@ -10,18 +10,24 @@ import programs
 from straight.command import Refused, Wanted, straightened
 from straight.settings import text_beside
 from straight.shown import question
-from straight.verifier import is_same
+from straight.verifier import called
 
 TOOLS = pathlib.Path(__file__).resolve().parents[3]
 EXAMPLES = TOOLS.parent / "examples/straightened"
-# examples whose result is proved to be the same
-PROVED = "loop", "loop-with-break", "nine-ways"
-# what stands in place of `xdpbox same`, and which of the two ways it leaves
+# examples whose result is proved to be the same, and how
+PROVED = {"loop": "proved", "loop-with-break": "proved", "nine-ways": "proved", "plain-count": "proved by counts"}
+# programs whose result is proved to be the same by counts, and those with a counter that is stored to otherwise
+BY_COUNTS = "COUNT", "COUNT_OF_A_NUMBER", "TWO_COUNTS", "COUNT_IN_A_LOOP"
+NO_COUNTS = "COUNT_READ", "DOUBLED", "COUNTER_SET", "COUNTED_TWICE"
+# what stands in place of `xdpbox same`, and which of the ways it leaves
 ANSWERS = {
     "a yes": ("echo 'same, 1 slots for 1'", "proved"),
+    "a yes by counts": ("echo 'same by counts, 1 slots for 1'", "proved by counts"),
+    "a yes by something else": ("echo 'same by chance, 1 slots for 1'", "compared"),
     "a no": ("echo 'not shown'; exit 1", "compared"),
     "an xdpbox without the command": ("echo 'words refused'; exit 2", "compared"),
     "a yes that is refused": ("echo 'same, 1 slots for 1'; exit 4", "compared"),
+    "a yes by counts that is refused": ("echo 'same by counts, 1 slots for 1'; exit 4", "compared"),
     "a status without a word": ("exit 0", "compared"),
     "no answer": ("kill $$", "compared"),
 }
@@ -36,7 +42,8 @@ def is_called_same(xdpbox, original, result, labels):
     original, result = (tomllib.loads(path.read_text()) for path in (original, result))
     rows = (line.split() for line in labels.read_text().splitlines())
     wanted = question(original, result, {int(slot): (kind, int(at)) for slot, kind, at in rows})
-    return "it is called the same" if wanted is not None and is_same(xdpbox, wanted) else ""
+    answer = None if wanted is None else called(xdpbox, wanted)
+    return f"it is called {answer}" if answer else ""
 
 
 def how(xdpbox, settings, proved=False):
@@ -71,14 +78,20 @@ def tool_tests(xdpbox):
                 words, stdin=given, env={**os.environ, "XDPBOX": xdpbox}, capture_output=True, text=True, check=False
             )
         yield "--proved prints what is proved", "" if made.stdout.split("\n")[0].endswith(", proved") else made.stderr
-        yield "--same keeps what was asked", "" if path.exists() and is_same(xdpbox, path.read_text()) else "it isn't"
+        kept = path.exists() and called(xdpbox, path.read_text()) == "same"
+        yield "--same keeps what was asked", "" if kept else "it isn't"
 
 
 def tests(xdpbox):
-    for name in PROVED:
+    for name, wanted in PROVED.items():
         found = how(xdpbox, before(name))
-        yield f"{name} is proved", "" if found == "proved" else found
-    yield "a count isn't", "" if how(xdpbox, programs.COUNT) == "compared" else "it is"
+        yield f"{name} is {wanted}", "" if found == wanted else found
+    for name in BY_COUNTS:
+        found = how(xdpbox, getattr(programs, name), proved=True)
+        yield f"{name} is proved by counts", "" if found == "proved by counts" else found
+    for name in NO_COUNTS:
+        found = how(xdpbox, getattr(programs, name))
+        yield f"{name} isn't", "" if found == "compared" else found
     yield "constants in memory aren't asked of", "" if question(programs.TABLE, programs.TABLE, {}) is None else "they are"
     other = {**programs.COUNT, "map": [{"name": "b", "entries": 1}]}
     yield "nor other maps", "" if question(programs.COUNT, other, {}) is None else "they are"

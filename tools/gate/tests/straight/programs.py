@@ -211,6 +211,41 @@ COUNTER_INDEX = settings(
     counters=4
 )
 COUNT = settings(*lookup((LOAD_DOUBLE, R1, R0), (ADD_CONSTANT, R1, 0, 0, 3), (STORE_DOUBLE, R0, R1)), *PASS, entries=1)
+# a byte of the packet is added, which is read between the load and the store
+COUNT_OF_A_NUMBER = settings(
+    *START,
+    *in_packet(1, 12),
+    (MOVE_REGISTER, R6, R2),
+    *lookup((LOAD_DOUBLE, R1, R0), (LOAD_BYTE, R3, R6), (ADD_REGISTER, R3, R1), (STORE_DOUBLE, R0, R3)),
+    *PASS,
+    entries=1
+)
+TWO_COUNTS = settings(
+    *lookup(
+        (LOAD_DOUBLE, R1, R0),
+        (ADD_CONSTANT, R1, 0, 0, 1),
+        (STORE_DOUBLE, R0, R1),
+        (LOAD_DOUBLE, R1, R0, 8),
+        (ADD_CONSTANT, R1, 0, 0, 60),
+        (STORE_DOUBLE, R0, R1, 8),
+    ),
+    *PASS,
+    entries=1,
+    counters=2
+)
+# a count in each of three turns
+COUNT_IN_A_LOOP = settings(
+    *lookup(
+        (MOVE_CONSTANT, R3),
+        (LOAD_DOUBLE, R1, R0),
+        (ADD_CONSTANT, R1, 0, 0, 5),
+        (STORE_DOUBLE, R0, R1),
+        (ADD_CONSTANT, R3, 0, 0, 1),
+        (IF_NOT_CONSTANT, R3, 0, -5, 3),
+    ),
+    *PASS,
+    entries=1
+)
 # r1 += r1: the counter is doubled, which is no addition of a number
 DOUBLED = settings(*lookup((LOAD_DOUBLE, R1, R0), (ADD_REGISTER, R1, R1), (STORE_DOUBLE, R0, R1)), *PASS, entries=1)
 # what was counted is the answer

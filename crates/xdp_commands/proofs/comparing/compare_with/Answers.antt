@@ -1,4 +1,5 @@
 use Rattle.std.proofs.Common.{ap, length, subst}
+use Rattle.bpf_same.specs.Counts.{IsSameByCounts, IsWholeByCounts}
 use Rattle.bpf_same.specs.Same.{IsSame}
 use Rattle.xdp_commands.proofs.comparing.compare_with.Goals as goal
 
@@ -16,3 +17,18 @@ returns-in-Same c =
       counted = c.slots.ensures.slots;
       originals_counted = ap length c.insns.ensures.same;
     }
+
+pub returns-in-SameByCounts : goal.returns-in-SameByCounts
+returns-in-SameByCounts c = record {
+  program = c.args.program.now;
+  original = c.args.original.now;
+  pair = record { accepted = c.requires.program; spelled = c.requires.original };
+  counts =
+      subst (λ s. IsSameByCounts s c.args.original.now c.args.program.now.code) c.requires.program.maps
+      (c.in_ok-compare.ensures.counts c.in-SameByCounts.is);
+  whole =
+      subst (λ s. IsWholeByCounts s c.args.program.now.code c.args.original.now) c.requires.program.maps
+      (c.in_ok-compare.ensures.counts_whole c.in-SameByCounts.is);
+  counted = c.slots-in-SameByCounts.ensures.slots;
+  originals_counted = ap length c.insns-in-SameByCounts.ensures.same;
+}
