@@ -15,8 +15,8 @@ use Rattle.bpf_flow.specs.Graph.{Leads, reads}
 use Rattle.bpf_flow.specs.Step.{Exited, exec, reached, step, LeadsTo}
 use Rattle.bpf_vm.specs.Run.{Walk}
 use Rattle.bpf_same.specs.declared.count.Count.{Count}
-use Rattle.bpf_same.specs.declared.fused.Spot.{Spot}
-use Rattle.bpf_same.specs.declared.fused.Spot.TheVariants.{Inside}
+use Rattle.bpf_same.specs.declared.fused.Role.{Role}
+use Rattle.bpf_same.specs.declared.fused.Role.TheVariants.{Inside}
 use Rattle.bpf_same.specs.Same.{operations}
 use Rattle.bpf_same.specs.Sums.{bit}
 use Rattle.bpf_same.specs.Turned.{alters}
@@ -27,7 +27,7 @@ pub record Plan : Type 0 where
   pub old : List Insn
   pub new : List Insn
   pub live : List ℕ
-  pub spots : List Spot
+  pub roles : List Role
 
 -- the registers of a mask hold the same
 abbrev pub Alike : ℕ → (ℕ → Option ℕ) → (ℕ → Option ℕ) → Type 0
@@ -49,9 +49,9 @@ pub record Shadows (s t : State) : Type 0 where
 abbrev pub live_at : Plan → ℕ → ℕ
 live_at plan p = slice_index_or plan.live p 0
 
--- what lies inside a count is come to from its load alone
+-- slots inside a count are reached from its load alone: this isn't one
 abbrev pub IsOutside : Plan → ℕ → Type 0
-IsOutside plan p = slice_get plan.spots p ≡ Some Inside → ⊥
+IsOutside plan p = slice_get plan.roles p ≡ Some Inside → ⊥
 
 -- from each state beside the new program's the old one has a walk that does this to counters
 abbrev pub IsWalked : Plan → ℕ → List ℕ → State → List Effect → Type 0
@@ -72,8 +72,8 @@ pub record IsShared (plan : Plan) (p : ℕ) : Type 0 where
   pub ends : (s t : State) → s.pc ≡ p → Shadows s t → Alike (live_at plan p) s.reg t.reg → (x : ℕ) →
       step plan.new s ≡ Exited x → step plan.old t ≡ Exited x
 
--- a walk of the new program comes to an addition to the counter at this offset from a register, and goes on from state u; from
--- registers of which some hold the same, and some what the addition finds more, the old program comes to a store of the sum
+-- a walk of the new program reaches an addition to the counter at this offset from a register, and goes on from the state after it;
+-- from registers of which some hold the same, and some what the addition finds more, the old program reaches a store of the sum
 pub record Coming (plan : Plan) (base : Register) (off : ℤ) (same counted : ℕ) (s : State) (r0 : ℕ) (bytes : List ℕ) (labels : List (Option Op)) : Type 0 where
   pub m : ℕ
   pub k : ℕ
@@ -98,8 +98,8 @@ abbrev pub IsInside : Plan → Register → ℤ → ℕ → ℕ → ℕ → Type
 IsInside plan base off p same counted = (s : State) → s.pc ≡ p → (r0 : ℕ) (bytes : List ℕ) (labels : List (Option Op)) →
     Walk plan.new r0 bytes s labels → Coming plan base off same counted s r0 bytes labels
 
--- a walk of the new program from a count's load comes to the addition, and goes on from state u; the old program comes there by a
--- load and a store
+-- a walk of the new program reaches the addition of a count from its load, and goes on from the state after it; the old program
+-- gets there by a load and a store
 pub record Counted (plan : Plan) (s : State) (r0 : ℕ) (bytes : List ℕ) (labels : List (Option Op)) : Type 0 where
   pub m : ℕ
   pub k : ℕ
@@ -137,7 +137,7 @@ Leaves before i after = (k : ℕ) → k < 11 → bit after k ≡ 1 → (bit befo
 abbrev pub LeadsOut : Plan → ℕ → Insn → ℕ → Type 0
 LeadsOut plan before i p = (q : ℕ) → Leads i p q → IsOutside plan q × Leaves before i (live_at plan q)
 
--- the instruction writes a register and does nothing else, as a load of a counter does
+-- the instruction writes a register and does nothing else; a load of eight bytes may be one of a counter
 abbrev pub IsPlain : Insn → Type 0
 IsPlain (Alu op wide dst src) = Unit {0}
 IsPlain (Neg wide dst) = Unit {0}
@@ -155,7 +155,7 @@ pub record IsWritten (c : Count) (r : ℕ) (d : Count) : Type 0 where
   pub alike : (k : ℕ) → k < 11 → bit d.alike k ≡ 1 → (k ≡ r) ⊎ (bit c.alike k ≡ 1)
   pub ahead : (k : ℕ) → k < 11 → bit d.ahead k ≡ 1 → (k ≢ r) × (bit c.ahead k ≡ 1)
 
--- the same after one that writes it with what was loaded more in the old program
+-- the same after one that writes it with a number that is larger in the old program by what was loaded
 pub record IsCounted (c : Count) (r : ℕ) (d : Count) : Type 0 where
   pub base : d.base ≡ c.base
   pub off : d.off ≡ c.off

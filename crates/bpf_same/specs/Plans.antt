@@ -4,4 +4,4 @@ use Rattle.bpf_same.specs.declared.fused.Draft.{Draft}
 use Rattle.bpf_same.specs.Fused.{Plan}
 
 abbrev pub plan_of : Draft → Plan
-plan_of d = record { old = d.old.now; new = d.new.now; live = d.live.now; spots = d.spots.now }
+plan_of d = record { old = d.old.now; new = d.new.now; live = d.live.now; roles = d.roles.now }

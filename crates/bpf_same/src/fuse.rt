@@ -2,7 +2,7 @@
 ghost use Rattle.std.specs.Prelude.{◌≤◌, length};
 
 use crate::check::place_at;
-use crate::fused::{MOST_COUNTED, Spot};
+use crate::fused::{MOST_COUNTED, Role};
 use crate::mark::Place;
 use bpf_insn::{AluOp, Insn, Operand, Register, Size};
 use std::alloc::{AllocError, Global};
@@ -18,7 +18,7 @@ struct Address {
 #[derive(Drop)]
 pub(crate) struct Fusion {
     pub(crate) code: Vec<Insn>,
-    pub(crate) spots: Vec<Spot>,
+    pub(crate) roles: Vec<Role>,
 }
 
 /// The register that a load of a counter writes, and the counter's address.
@@ -65,12 +65,12 @@ impl Fusion {
     /// The program as it is.
     fn none(alloc: Global, old: &[Insn]) -> Result<Fusion, AllocError> {
         let mut code = Vec::with_capacity(alloc, old.len())?;
-        let mut spots = Vec::with_capacity(alloc, old.len())?;
+        let mut roles = Vec::with_capacity(alloc, old.len())?;
         for at in 0..old.len() {
             code.push(old[at])?;
-            spots.push(Spot::Shared)?;
+            roles.push(Role::Shared)?;
         }
-        Ok(Fusion { code, spots })
+        Ok(Fusion { code, roles })
     }
 
     fn put(&mut self, at: usize, insn: Insn) {
@@ -79,9 +79,9 @@ impl Fusion {
         }
     }
 
-    fn mark(&mut self, at: usize, spot: Spot) {
-        if at < self.spots.len() {
-            self.spots[at] = spot;
+    fn mark(&mut self, at: usize, spot: Role) {
+        if at < self.roles.len() {
+            self.roles[at] = spot;
         }
     }
 
@@ -89,7 +89,7 @@ impl Fusion {
     fn load_before(&self, store: usize, address: Address) -> Option<(usize, Register)> {
         for back in 1..=MOST_COUNTED as usize {
             let at = store.checked_sub(back)?;
-            if at >= self.code.len() || at >= self.spots.len() || self.spots[at] != Spot::Shared {
+            if at >= self.code.len() || at >= self.roles.len() || self.roles[at] != Role::Shared {
                 return None;
             }
             match loaded(self.code[at]) {
@@ -112,9 +112,9 @@ impl Fusion {
         self.put(load, zero);
         self.put(store, addition);
         for at in load..=store {
-            self.mark(at, Spot::Inside);
+            self.mark(at, Role::Inside);
         }
-        self.mark(load, Spot::Load);
+        self.mark(load, Role::Load);
         Some(())
     }
 

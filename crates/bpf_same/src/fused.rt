@@ -23,7 +23,7 @@ pub(crate) const MOST_COUNTED: u32 = 64;
 
 /// What a slot is to a count.
 #[derive(Clone, Copy, Debug, PartialEq, Eq, Drop)]
-pub(crate) enum Spot {
+pub(crate) enum Role {
     /// Nothing: both programs have its instruction.
     Shared,
     /// Its load.
@@ -38,7 +38,7 @@ pub(crate) struct Draft<'a> {
     pub(crate) old: &'a [Insn],
     pub(crate) new: &'a [Insn],
     pub(crate) live: &'a [u64],
-    pub(crate) spots: &'a [Spot],
+    pub(crate) roles: &'a [Role],
 }
 
 impl Draft<'_> {
@@ -56,7 +56,7 @@ impl Draft<'_> {
     fn is_outside(&self, at: u32) -> bool
         ensures { IsTrue result → IsOutside (plan_of self.now) at }
     {
-        (at as usize) >= self.spots.len() || self.spots[at as usize] != Spot::Inside
+        (at as usize) >= self.roles.len() || self.roles[at as usize] != Role::Inside
     }
 
     /// Whether an instruction may lead to a slot, by the registers that hold the same before it.
@@ -246,14 +246,14 @@ impl Draft<'_> {
 
     /// Whether a slot is what it is said to be.
     fn is_as_said(&self, at: u32) -> bool
-        requires inside { at < length self.now.spots.now }
-        requires few { length self.now.spots.now ≤ 4096 }
+        requires inside { at < length self.now.roles.now }
+        requires few { length self.now.roles.now ≤ 4096 }
         ensures { IsTrue result → IsOutside (plan_of self.now) at → IsShared (plan_of self.now) at ⊎ IsCount (plan_of self.now) at }
     {
-        match self.spots[at as usize] {
-            Spot::Shared => self.is_shared(at),
-            Spot::Load => self.is_count(at),
-            Spot::Inside => true,
+        match self.roles[at as usize] {
+            Role::Shared => self.is_shared(at),
+            Role::Load => self.is_count(at),
+            Role::Inside => true,
         }
     }
 
@@ -262,10 +262,10 @@ impl Draft<'_> {
         requires { length self.now.new.now ≤ 4096 }
         ensures { IsTrue result → AreFused (plan_of self.now) }
     {
-        if self.spots.len() != self.new.len() || !self.is_outside(0) {
+        if self.roles.len() != self.new.len() || !self.is_outside(0) {
             return false;
         }
-        for at in 0..self.spots.len() as u32 {
+        for at in 0..self.roles.len() as u32 {
             if !self.is_as_said(at) {
                 return false;
             }

@@ -29,7 +29,7 @@ pub enum Comparison {
     NotShown,
 }
 
-/// Whether the programs are one, or what is known of the new one and the places show that it has the old one's runs.
+/// Whether what is known of the new program and the places show that it has the old one's runs.
 fn is_shown(
     alloc: Global,
     new: &[Insn],
@@ -39,12 +39,8 @@ fn is_shown(
 ) -> Result<bool, AllocError>
     requires short { length old.now ≤ 4096 }
     requires few { length new.now ≤ 4096 }
-    ensures shown { IfOk result (λ yes. IsTrue yes → IsSame shapes.now old.now new.now) }
-    ensures itself { IfOk result (λ yes. new.now ≡ old.now → IsTrue yes) }
+    ensures { IfOk result (λ yes. IsTrue yes → IsSame shapes.now old.now new.now) }
 {
-    if is_same_code(new, old) {
-        return Ok(true);
-    }
     the_entry_describes_every_start();
     let mut notes = notes_of(alloc, new, shapes)?;
     let low = lowest_of(new, places, notes.as_slice());
@@ -90,7 +86,7 @@ fn is_shown_by_counts(
         old,
         new: code,
         live: live.as_slice(),
-        spots: fusion.spots.as_slice(),
+        roles: fusion.roles.as_slice(),
     };
     if !draft.holds() {
         return Ok(false);
@@ -98,7 +94,7 @@ fn is_shown_by_counts(
     is_shown(alloc, new, shapes, code, places)
 }
 
-/// What is shown of the two programs.
+/// What is shown of the two programs: by counts first, since with a count in it the old program isn't followed as it stands.
 fn compared(
     alloc: Global,
     new: &[Insn],
@@ -112,14 +108,18 @@ fn compared(
     ensures counts { IfOk result (λ c. c ≡ Comparison.SameByCounts → IsSameByCounts shapes.now old.now new.now) }
     ensures itself { IfOk result (λ c. new.now ≡ old.now → c ≡ Comparison.Same) }
 {
-    if is_shown(alloc, new, shapes, old, places)? {
+    if is_same_code(new, old) {
         return Ok(Comparison::Same);
     }
-    match fusion_of(alloc, old, new, places)? {
-        Some(fusion) if is_shown_by_counts(alloc, new, shapes, old, places, &fusion)? => {
-            Ok(Comparison::SameByCounts)
+    if let Some(fusion) = fusion_of(alloc, old, new, places)? {
+        if is_shown_by_counts(alloc, new, shapes, old, places, &fusion)? {
+            return Ok(Comparison::SameByCounts);
         }
-        _ => Ok(Comparison::NotShown),
+    }
+    if is_shown(alloc, new, shapes, old, places)? {
+        Ok(Comparison::Same)
+    } else {
+        Ok(Comparison::NotShown)
     }
 }
 

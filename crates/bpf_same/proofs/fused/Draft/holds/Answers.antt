@@ -23,7 +23,7 @@ pub returns : goal.returns
 returns c = λ t. record {
   begins = c.is_outside.ensures c.if-not-is_outside.false;
   each = λ p out.
-      elim (cases_lt p (length c.args.self.now.spots.now)) [
+      elim (cases_lt p (length c.args.self.now.roles.now)) [
         | inl low ↦ c.loop-at.invariant p (omega (arith, low, c.loop-at-test.false)) out
         | inr high ↦ inl (shared_past (plan_of c.args.self.now) p (slice_get_past c.args.self.now.new.now p (omega (arith, high, c.if-self.false))))
       ];
