@@ -1,11 +1,12 @@
 //! `outside_rows`: answers the questions of standard input, one per line, by this product's functions. What it has to
 //! write, the file `stdout`, is what Xen's headers, LLVM's assembler and Linux's interpreter answered.
 //!
-//! - `instructions`, `grants`, `rings`, `slots`: questions by their matter; `numbers`: the numbers in one
+//! - `instructions`, `grants`, `lists`, `rings`, `slots`: questions by their matter; `numbers`: the numbers in one
 #![tactic(auto)]
 
 mod grants;
 mod instructions;
+mod lists;
 mod numbers;
 mod rings;
 mod slots;
@@ -23,6 +24,9 @@ fn answer(alloc: Global, question: &str) -> Result<Option<String>, AllocError> {
         return Ok(Some(text));
     }
     if let Some(text) = grants::answer(alloc, kind, rest)? {
+        return Ok(Some(text));
+    }
+    if let Some(text) = lists::answer(alloc, kind, rest)? {
         return Ok(Some(text));
     }
     instructions::answer(alloc, kind, rest)

@@ -1,0 +1,67 @@
+//! What the keys of a map are.
+ghost use Rattle.std.specs.Prelude.{◌≡◌, ◌≤◌, length, ◌↔◌, IsTrue};
+ghost use Rattle.bpf_lists.specs.Keys.{size as size_of, width as width_of, IsKind, data_of, bits_of};
+
+/// What the keys of a map are, each with its number of bytes of data, from 1 to 64.
+#[derive(Clone, Copy, Debug, PartialEq, Eq)]
+pub enum Kind {
+    /// All bytes have to be the same, as in BPF_MAP_TYPE_HASH.
+    Exact(u8),
+    /// A length in bits in four bytes, little-endian, then the data, as in BPF_MAP_TYPE_LPM_TRIE.
+    Prefix(u8),
+}
+
+impl Kind {
+    /// The most bytes of data that a key has.
+    pub const MOST_BYTES: u8 = 64;
+
+    /// How many bytes a key has.
+    pub fn size(&self) -> usize
+        ensures { result ≡ size_of self.now }
+    {
+        match self {
+            Kind::Exact(bytes) => *bytes as usize,
+            Kind::Prefix(bytes) => 4 + *bytes as usize,
+        }
+    }
+
+    /// How many bytes of data a key has.
+    pub fn width(&self) -> usize
+        ensures { result ≡ width_of self.now }
+    {
+        match self {
+            Kind::Exact(bytes) | Kind::Prefix(bytes) => *bytes as usize,
+        }
+    }
+
+    /// Whether there are 1 to 64 bytes of data.
+    pub fn is_supported(&self) -> bool
+        ensures { IsTrue result ↔ IsKind self.now }
+    {
+        let width = self.width();
+        1 <= width && width <= Kind::MOST_BYTES as usize
+    }
+
+    /// The data of a key.
+    pub(crate) fn data_bytes<'a>(&self, key: &'a [u8]) -> &'a [u8]
+        requires { length key.now ≡ size_of self.now }
+        ensures value { result.now ≡ data_of self.now key.now }
+        ensures len { length result.now ≡ width_of self.now }
+    {
+        match self {
+            Kind::Exact(_) => key,
+            Kind::Prefix(_) => &key[4..],
+        }
+    }
+
+    /// How many bits of its data a key is about.
+    pub(crate) fn data_bits(&self, key: &[u8]) -> u32
+        requires { length key.now ≡ size_of self.now }
+        ensures { result ≡ bits_of self.now key.now }
+    {
+        match self {
+            Kind::Exact(bytes) => 8 * *bytes as u32,
+            Kind::Prefix(_) => u32::from_le_bytes([key[0], key[1], key[2], key[3]]),
+        }
+    }
+}

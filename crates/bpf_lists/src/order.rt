@@ -1,0 +1,111 @@
+//! Rows in the order of their data, and the search among them.
+ghost use Rattle.std.specs.Prelude.{◌≡◌, ◌+◌, ◌-◌, ◌*◌, ◌<◌, ◌≤◌, ℕ, length, slice_index, ◌↔◌, IsTrue, ◌⊎◌};
+ghost use Rattle.bpf_lists.specs.Keys.{size as size_of, value, data_of};
+ghost use Rattle.bpf_lists.specs.Order.{at as key_of, IsOrdered, Covers, Reaches, AreParents};
+
+use crate::kind::Kind;
+use crate::{keys, numbers};
+use std::marker::Model;
+
+/// Rows in the order of their data, of those with the same data the shorter first.
+#[derive(Drop)]
+pub(crate) struct Order {
+    pub(crate) kind: Kind,
+    pub(crate) keys: Vec<u8>,
+    pub(crate) rows: Vec<u32>,
+}
+
+impl Model for Order {
+    ghost use Rattle.bpf_lists.specs.Order.{Ordered, IsOrdered};
+
+    ghost Value = { Ordered };
+
+    ghost view = { λ o. record { kind = o.kind; keys = o.keys.items; rows = o.rows.items } };
+
+    ghost invariant = { λ o. IsOrdered (record { kind = o.kind; keys = o.keys.items; rows = o.rows.items }) };
+}
+
+impl Order {
+    /// How many rows there are.
+    pub(crate) fn len(&self) -> usize
+        ensures value { result ≡ length self.now.rows }
+        ensures ordered { IsOrdered self.now }
+    {
+        self.rows.len()
+    }
+
+    /// The kind of the keys.
+    pub(crate) fn kind(&self) -> Kind
+        ensures value { result ≡ self.now.kind }
+        ensures ordered { IsOrdered self.now }
+    {
+        self.kind
+    }
+
+    /// The row at a place.
+    pub(crate) fn row(&self, place: usize) -> u32
+        requires { place < length self.now.rows }
+        ensures { result ≡ slice_index self.now.rows place }
+    {
+        self.rows[place]
+    }
+
+    /// The key of the row at a place.
+    pub(crate) fn key(&self, place: usize) -> &[u8]
+        requires { place < length self.now.rows }
+        ensures value { result.now ≡ key_of self.now place }
+        ensures len { length result.now ≡ size_of self.now.kind }
+    {
+        keys::key_at(self.kind, self.keys.as_slice(), self.rows[place] as usize)
+    }
+
+    /// Whether the row at a place holds for a key.
+    pub(crate) fn covers(&self, place: usize, key: &[u8]) -> bool
+        requires place { place < length self.now.rows }
+        requires key { length key.now ≡ size_of self.now.kind }
+        ensures { IsTrue result ↔ Covers self.now.kind (key_of self.now place) key.now }
+    {
+        keys::covers(self.kind(), self.key(place), key)
+    }
+
+    /// The first place whose row's data are above those of the key.
+    pub(crate) fn first_above(&self, key: &[u8]) -> usize
+        requires { length key.now ≡ size_of self.now.kind }
+        ensures most { result ≤ length self.now.rows }
+        ensures low { (i : ℕ) → i < result → value (data_of self.now.kind (key_of self.now i)) ≤ value (data_of self.now.kind key.now) }
+        ensures high { (i : ℕ) → result ≤ i → i < length self.now.rows →
+            value (data_of self.now.kind key.now) < value (data_of self.now.kind (key_of self.now i)) }
+    {
+        let kind = self.kind();
+        let wanted = kind.data_bytes(key);
+        let mut low = 0;
+        let mut high = self.len();
+        while low < high {
+            let middle = low + (high - low) / 2;
+            if numbers::compare(kind.data_bytes(self.key(middle)), wanted).is_gt() {
+                high = middle;
+            } else {
+                low = middle + 1;
+            }
+        }
+        low
+    }
+
+    /// Goes from the place below `from` to the rows that cover its row, up to one that covers the key. One above its place, or 0.
+    pub(crate) fn climb(&self, parents: &[u32], from: usize, key: &[u8]) -> usize
+        requires from { from ≤ length parents.now }
+        requires parents { length parents.now ≤ length self.now.rows }
+        requires nested { AreParents self.now parents.now }
+        requires key { length key.now ≡ size_of self.now.kind }
+        requires start { Reaches self.now from key.now from }
+        ensures most { result ≤ from }
+        ensures reaches { Reaches self.now from key.now result }
+        ensures covers { 0 < result → Covers self.now.kind (key_of self.now (result - 1)) key.now }
+    {
+        let mut above = from;
+        while above > 0 && !self.covers(above - 1, key) {
+            above = parents[above - 1] as usize;
+        }
+        above
+    }
+}

@@ -1,0 +1,70 @@
+//! The rows of a keyed map.
+ghost use Rattle.std.specs.Prelude.{◌≡◌, length, IfOk, IfErr};
+ghost use Rattle.bpf_lists.specs.Keys.{size as size_of, IsFound};
+ghost use Rattle.bpf_lists.specs.Refusals.{AreListed, IsRefused};
+
+use crate::kind::Kind;
+use crate::order::Order;
+use crate::refusal::Refusal;
+use crate::{keys, sorting};
+use std::alloc::Global;
+use std::marker::Model;
+
+/// The rows of a keyed map. Contracts see the kind of the keys, and the keys one after the other.
+#[derive(Drop)]
+pub struct KeyedRows {
+    order: Order,
+    parents: Vec<u32>,
+}
+
+impl Model for KeyedRows {
+    ghost use Rattle.std.specs.Prelude.{◌≡◌, length};
+    ghost use Rattle.bpf_lists.specs.Keys.{Keyed};
+    ghost use Rattle.bpf_lists.specs.Order.{AreParents};
+
+    ghost Value = { Keyed };
+
+    ghost view = { λ t. record { kind = t.order.kind; keys = t.order.keys } };
+
+    ghost invariant = { λ t. (length t.parents.items ≡ length t.order.rows) × AreParents t.order t.parents.items };
+}
+
+impl KeyedRows {
+    /// Rows with these keys, one after the other, each as a map's lookup takes it.
+    pub fn make(alloc: Global, kind: Kind, keys: &[u8]) -> Result<KeyedRows, Refusal>
+        ensures kind { IfOk result (λ t. t.kind ≡ kind) }
+        ensures keys { IfOk result (λ t. t.keys ≡ keys.now) }
+        ensures listed { IfOk result (λ t. AreListed kind keys.now) }
+        ensures refused { IfErr result (IsRefused kind keys.now) }
+    {
+        let count = keys::checked_count(kind, keys)?;
+        keys::check_rows(kind, keys, count)?;
+        let order = sorting::order(alloc, kind, keys, count)?;
+        let parents = sorting::parents(alloc, &order)?;
+        Ok(KeyedRows { order, parents })
+    }
+
+    /// The kind of the keys.
+    pub fn kind(&self) -> Kind
+        ensures { result ≡ self.now.kind }
+    {
+        self.order.kind()
+    }
+
+    /// The row with this key, or with the longest prefix that it begins with and that is no longer.
+    pub fn find(&self, key: &[u8]) -> Option<u32>
+        requires { length key.now ≡ size_of self.now.kind }
+        ensures { IsFound self.now.kind self.now.keys key.now result }
+    {
+        let kind = self.order.kind();
+        if kind.data_bits(key) as usize > 8 * kind.width() {
+            return None;
+        }
+        let from = self.order.first_above(key);
+        let above = self.order.climb(self.parents.as_slice(), from, key);
+        if above == 0 {
+            return None;
+        }
+        Some(self.order.row(above - 1))
+    }
+}

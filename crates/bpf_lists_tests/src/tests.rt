@@ -1,0 +1,4 @@
+mod exact;
+mod growth;
+mod prefixes;
+mod refusals;
