@@ -147,10 +147,10 @@ need_exits : (o : Option ℕ) (f : ℕ → Outcome) (r0 : ℕ) → ((x : ℕ) �
 need_exits None f r0 h e = cc
 need_exits (Some x) f r0 h e = h x e
 
-jumped_exits : (s : State) (off : ℤ) (r0 : ℕ) → jumped s off ≡ Exited r0 → ⊥
+pub jumped_exits : (s : State) (off : ℤ) (r0 : ℕ) → jumped s off ≡ Exited r0 → ⊥
 jumped_exits s off r0 e = need_exits (target s.pc off) (λ q. Next (at_slot s q)) r0 (λ q e. cc) e
 
-branch_exits : (s : State) (cond : Condition) (wide : Bool) (dst : Register) (src : Operand) (off : ℤ) (r0 : ℕ) → exec (Jump cond wide dst src off) s ≡ Exited r0 → ⊥
+pub branch_exits : (s : State) (cond : Condition) (wide : Bool) (dst : Register) (src : Operand) (off : ℤ) (r0 : ℕ) → exec (Jump cond wide dst src off) s ≡ Exited r0 → ⊥
 branch_exits s cond wide dst src off r0 e = need_exits (s.reg (number dst)) _ r0 (λ x e. need_exits (operand s src) _ r0 (λ y e. by (is_met cond wide x y) e) e) e
   where
     by : (c : Bool) → (if c then jumped s off else Next (at_slot s (s.pc + 1))) ≡ Exited r0 → ⊥

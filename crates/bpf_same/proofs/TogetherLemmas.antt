@@ -42,7 +42,7 @@ shadow_is s t b =
     ∙ ap (λ (q : ℕ). record t { pc = s.pc; packet = s.packet; ifindex = s.ifindex; queue = q }) b.queue
     ∙ ap (λ (m : List Shape). record t { pc = s.pc; packet = s.packet; ifindex = s.ifindex; queue = s.queue; shapes = m }) b.shapes
 
-all_shared : (i : Insn) (s : State) → AreShared i 0 s
+pub all_shared : (i : Insn) (s : State) → AreShared i 0 s
 all_shared (Ldx size signed dst src off) s = λ a j e at. omega arith
 all_shared (St size dst off imm) s = λ a j e at. omega arith
 all_shared (Stx size dst src off) s = λ a j e at. omega arith

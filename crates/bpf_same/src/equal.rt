@@ -182,7 +182,14 @@ fn is_call(there: Insn, helper: i32) -> bool
     }
 }
 
-fn is_jump(there: Insn, cond: Condition, wide: bool, dst: Register, src: Operand, off: i16) -> bool
+pub(crate) fn is_jump(
+    there: Insn,
+    cond: Condition,
+    wide: bool,
+    dst: Register,
+    src: Operand,
+    off: i16,
+) -> bool
     ensures { IsTrue result ↔ there ≡ Jump cond wide dst src off }
 {
     match there {

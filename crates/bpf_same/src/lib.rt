@@ -9,6 +9,7 @@
 //!   access may touch
 //! - `fuse`: the old program with its counts (a load, additions and a store of one counter) made additions; `fused`: whether it is the
 //!   same by counts: what is known inside a `count`, and which registers are `live` after it
+//! - `renumbered`: whether it is the old one but for the numbers of its slots
 //! - `decide`: what decides a conditional jump, by the `range` that a register lies in; `equal`: whether two instructions are one
 //! - `laws`: what holds of programs with the same runs
 #![tactic(auto)]
@@ -29,6 +30,7 @@ mod live;
 mod mark;
 mod meet;
 mod range;
+mod renumbered;
 mod same;
 mod sharper;
 mod start;

@@ -2,6 +2,7 @@
 ghost use Rattle.std.specs.Prelude.{◌≡◌, ◌≤◌, length, IfOk, IsTrue};
 ghost use Rattle.bpf_verify.specs.Consistent.{IsConsistent};
 ghost use Rattle.bpf_same.specs.Counts.{IsSameByCounts, IsWholeByCounts};
+ghost use Rattle.bpf_same.specs.Renumbered.{IsRenumbering};
 ghost use Rattle.bpf_same.specs.Same.{IsSame};
 
 use crate::check::Claims;
@@ -12,6 +13,7 @@ use crate::fused::{Draft, same_by_counts};
 use crate::laws::{same_both_ways, same_by_counts_both_ways};
 use crate::live::live_registers;
 use crate::mark::Place;
+use crate::renumbered::is_same_renumbered;
 use bpf_insn::{Code, Insn};
 use bpf_note::{MapShape, the_entry_describes_every_start};
 use bpf_verify::Verified;
@@ -107,8 +109,12 @@ fn compared(
     ensures same { IfOk result (λ c. c ≡ Comparison.Same → IsSame shapes.now old.now new.now) }
     ensures counts { IfOk result (λ c. c ≡ Comparison.SameByCounts → IsSameByCounts shapes.now old.now new.now) }
     ensures itself { IfOk result (λ c. new.now ≡ old.now → c ≡ Comparison.Same) }
+    ensures renumbered { IfOk result (λ c. IsRenumbering places.now old.now new.now → c ≡ Comparison.Same) }
 {
     if is_same_code(new, old) {
+        return Ok(Comparison::Same);
+    }
+    if is_same_renumbered(places, old, new) {
         return Ok(Comparison::Same);
     }
     if let Some(fusion) = fusion_of(alloc, old, new, places)? {
@@ -141,6 +147,8 @@ pub fn compare(
     ensures counts_whole { IfOk result (λ c. c ≡ Comparison.SameByCounts → IsWholeByCounts new.now.shapes new.now.code old.now) }
     // A program is the same as itself, whatever the places.
     ensures itself { IfOk result (λ c. new.now.code ≡ old.now → c ≡ Comparison.Same) }
+    // A program is the same as one of which it is a renumbering by the places.
+    ensures renumbered { IfOk result (λ c. IsRenumbering places.now old.now new.now.code → c ≡ Comparison.Same) }
     ensures accepted { IsConsistent new.now }
 {
     same_both_ways();

@@ -1,7 +1,7 @@
 //! Tests of [`bpf_same`] by what it makes public. They are a crate of their own so that the gate proves it once.
 //!
 //! - `pairs`: what a comparison answers of a pair of programs in hex
-//! - `tests`: pairs with the `same` runs; with the same by `counts`, and those of which a count is used otherwise (`counts_used`) or
+//! - `tests`: pairs with the `same` runs; with other numbers of slots alone (`renumbered`); with the same by `counts`, and those of which a count is used otherwise (`counts_used`) or
 //!   stands apart (`counts_apart`); pairs of both kinds by `ranges`; and pairs that differ by `jumps`, by what the new program has of
 //!   its `own`, by the `stack`, or by guards and counters (`ends`)
 #![tactic(auto)]

@@ -6,5 +6,6 @@ mod ends;
 mod jumps;
 mod own;
 mod ranges;
+mod renumbered;
 mod same;
 mod stack;

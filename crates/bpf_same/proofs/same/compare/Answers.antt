@@ -20,6 +20,10 @@ by_counts : (shapes shapes' : List Shape) (old old' new new' : List Insn) → sh
 by_counts shapes shapes' old old' new new' s o n h =
     subst (λ (x : List Shape). IsSameByCounts x old' new') s (subst (λ (x : List Insn). IsSameByCounts shapes x new') o (subst (λ (x : List Insn). IsSameByCounts shapes old x) n h))
 
+pub returns-clause-counts : goal.returns-clause-counts
+returns-clause-counts c =
+    IfOk-weaker c.compared.result _ _ (λ x h e. by_counts _ _ _ _ _ _ c.shapes.ensures.same c.insns-2.ensures.same c.insns.ensures.same (h e)) c.compared.ensures.counts
+
 pub returns-clause-counts_whole : goal.returns-clause-counts_whole
 returns-clause-counts_whole c =
     IfOk-weaker c.compared.result _ _ (λ x h e. c.same_by_counts_both_ways.ensures c.args.new.now c.args.old.now c.insns.ensures.consistent (by_counts _ _ _ _ _ _ c.shapes.ensures.same c.insns-2.ensures.same c.insns.ensures.same (h e)))
