@@ -34,9 +34,9 @@ fault_out_of_memory law (Program f) bytes h s code e spells fine =
     let few : length s.shapes ≤ 4 = subst (λ (x : SetupView). length x.shapes ≤ 4) same h.2 in
     refused_out_of_memory law s.program s.shapes code f (subst (λ (x : SetupView). IsRefused x.program x.shapes f) same h.3) spells fine few
 
-pub settings_accepted : AloneMemory → (r : Result Accepted SettingsFault) (bytes : List ℕ) → IfOk r (IsProgramOf bytes) → IfErr r (IsSettingsFault bytes) →
-    (s : SetupView) (code : List Insn) → setup_of bytes ≡ Ok s → Spells code s.program → IsFaultless code s.shapes → MatchResult r (λ p. (p.code ≡ code) × (p.shapes ≡ s.shapes)) IsSettingsOutOfMemory
-settings_accepted law (Ok p) bytes h refused s code e spells fine =
+pub settings_accepted : {A : Type 0} (of : A → Accepted) → AloneMemory → (r : Result A SettingsFault) (bytes : List ℕ) → IfOk r (λ n. IsProgramOf bytes (of n)) → IfErr r (IsSettingsFault bytes) →
+    (s : SetupView) (code : List Insn) → setup_of bytes ≡ Ok s → Spells code s.program → IsFaultless code s.shapes → MatchResult r (λ n. ((of n).code ≡ code) × ((of n).shapes ≡ s.shapes)) IsSettingsOutOfMemory
+settings_accepted of law (Ok n) bytes h refused s code e spells fine =
     let same : h.0 ≡ s = one_setup h.0 s (setup_of bytes) h.1 e in
-    (one_code p.code code s.program (subst (λ (x : SetupView). Spells p.code x.program) same h.2) spells, h.3 ∙ ap (λ (x : SetupView). x.shapes) same)
-settings_accepted law (Err f) bytes program h s code e spells fine = fault_out_of_memory law f bytes h s code e spells fine
+    (one_code (of n).code code s.program (subst (λ (x : SetupView). Spells (of n).code x.program) same h.2) spells, h.3 ∙ ap (λ (x : SetupView). x.shapes) same)
+settings_accepted of law (Err f) bytes program h s code e spells fine = fault_out_of_memory law f bytes h s code e spells fine

@@ -16,6 +16,10 @@ abbrev pub IsProgramOf : List ℕ → Accepted → Type 0
 IsProgramOf text p = (s : SetupView) × (setup_of text ≡ Ok s) × Spells p.code s.program × (p.shapes ≡ s.shapes) ×
     IsFaultless p.code p.shapes
 
+-- the text spells settings whose maps have these names, by number
+abbrev pub AreNamesOf : List ℕ → List (List ℕ) → Type 0
+AreNamesOf text names = (s : SetupView) × (setup_of text ≡ Ok s) × (names ≡ s.names)
+
 -- the text's fault, or out of memory as it is read; or the text spells settings, of at most four maps, and this is the fault of
 -- their program with these
 abbrev pub IsSettingsFault : List ℕ → SettingsFault → Type 0

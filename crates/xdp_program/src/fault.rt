@@ -1,6 +1,6 @@
 //! Why there is no program.
 use bpf_insn::{Cause, Refusal};
-use std::alloc::AllocError;
+use std::alloc::{AllocError, AllocFailed};
 
 /// Why a program isn't accepted.
 #[derive(Clone, Copy, Debug, PartialEq, Eq, Drop)]
@@ -20,6 +20,20 @@ impl From<AllocError> for LoadFault {
     fn from(error: AllocError) -> LoadFault {
         LoadFault::Refused(Refusal {
             cause: Cause::from(error),
+            pc: 0,
+        })
+    }
+}
+
+impl<T: Drop> From<AllocFailed<T>> for LoadFault {
+    ghost use Rattle.std.specs.Prelude.{◌≡◌};
+    ghost use Rattle.xdp_program.specs.Refused.{out_of_memory};
+
+    ghost from_gives = { λ _ e. e ≡ out_of_memory };
+
+    fn from(_error: AllocFailed<T>) -> LoadFault {
+        LoadFault::Refused(Refusal {
+            cause: Cause::Memory,
             pc: 0,
         })
     }

@@ -2,11 +2,12 @@
 //!
 //! - `program`: an accepted program that its holder owns, and its calls
 //! - `run`: whole runs over counters in a slice
-//! - `settings`: programs of settings texts
+//! - `settings`, `names`: programs of settings texts, with the names of their maps
 //! - `fault`: why there is no program
 #![tactic(auto)]
 
 mod fault;
+mod names;
 mod program;
 mod run;
 mod settings;
@@ -15,7 +16,8 @@ pub use bpf_insn::{Cause, Refusal};
 pub use bpf_verify::MapShape;
 pub use bpf_vm::{Ended, STACK_SIZE};
 pub use fault::{LoadFault, SettingsFault};
+pub use names::MapNames;
 pub use program::{Program, Run};
 pub use run::{run_counting, run_on};
-pub use settings::load_settings;
+pub use settings::{NamedProgram, load_settings};
 pub use xdp_load::{Fault, LoadFault as TextFault};

@@ -1,12 +1,13 @@
 //! An accepted program that its holder owns.
 use crate::fault::LoadFault;
 use crate::run::run_on;
-use bpf_insn::{Cause, Refusal, decode, spelling_is_unique};
+use bpf_insn::decode;
 use bpf_maps::{place, total};
 use bpf_verify::{MapShape, Verified, faultless_programs_are_accepted, verify};
 use bpf_vm::{Ended, PacketBuf, STACK_SIZE};
 use std::alloc::{AllocError, Global};
 use std::marker::Model;
+use std::sync::Arc;
 
 /// The most bytes that a packet has.
 const LONGEST: usize = 65_535;
@@ -32,24 +33,20 @@ struct Lent<'b> {
     packet: &'b mut [u8],
 }
 
-/// An accepted program with its maps. Contracts see its instructions by slot and its maps' shapes.
+/// An accepted program with its maps. It is verified once, whoever else has it. Contracts see its instructions by slot and its
+/// maps' shapes.
 #[derive(Drop)]
 pub struct Program {
-    /// What it was decoded from, for [`Program::again`].
-    bytes: Vec<u8>,
-    verified: Verified,
+    verified: Arc<Verified>,
 }
 
 impl Model for Program {
-    ghost use Rattle.bpf_insn.specs.Code.{Spells};
+    ghost use Rattle.std.specs.Arc.{arc_value};
     ghost use Rattle.bpf_verify.specs.Consistent.{Accepted};
-    ghost use Rattle.bpf_verify.specs.FirstRefusal.{IsFaultless};
 
     ghost Value = { Accepted };
 
-    ghost view = { λ p. p.verified };
-
-    ghost invariant = { λ p. Spells p.verified.code p.bytes.items × IsFaultless p.verified.code p.verified.shapes };
+    ghost view = { λ p. arc_value p.verified };
 }
 
 impl Program {
@@ -79,12 +76,10 @@ impl Program {
             Ok(code) => code,
             Err(refusal) => return Err(LoadFault::Refused(refusal)),
         };
-        let bytes = match bytes.to_vec(alloc) {
-            Ok(bytes) => bytes,
-            Err(error) => return Err(LoadFault::from(error)),
-        };
         match verify(alloc, code, shapes) {
-            Ok(verified) => Ok(Program { bytes, verified }),
+            Ok(verified) => Ok(Program {
+                verified: Arc::new(alloc, verified)?,
+            }),
             Err(refusal) => Err(LoadFault::Refused(refusal)),
         }
     }
@@ -105,23 +100,13 @@ impl Program {
         Program::accept(alloc, bytes, shapes)
     }
 
-    /// A copy of the program, as for another thread. It is verified again, so its cost is that of [`Program::load`].
-    pub fn again(&self, alloc: Global) -> Result<Program, AllocError>
+    /// The same program for another owner, as in another thread. Nothing is verified or copied.
+    pub fn again(&self) -> Result<Program, AllocError>
         ensures { IfOk result (λ p. p ≡ self.now) }
     {
-        spelling_is_unique();
-        match Program::load(alloc, self.bytes.as_slice(), self.verified.shapes()) {
-            Ok(program) => Ok(program),
-            Err(
-                LoadFault::Refused(
-                    Refusal {
-                        cause: Cause::Memory,
-                        ..
-                    },
-                ),
-            ) => Err(AllocError),
-            Err(_) => unreachable!(),
-        }
+        Ok(Program {
+            verified: Arc::try_clone(&self.verified)?,
+        })
     }
 
     /// The program as a machine takes it.
@@ -178,8 +163,9 @@ impl Program {
         ensures bound { result.instructions ≤ instructions self.now.code }
         ensures words { length counters.new ≡ length counters.old }
     {
+        let program = self.verified();
         // Only the proof uses what this call ensures: the program is consistent.
-        let _shapes = self.verified.shapes();
+        let _shapes = program.shapes();
         match PacketBuf::over(packet, stack) {
             Ok(lent) => {
                 // Only the proof uses what this call ensures: a packet is of bytes.
@@ -188,7 +174,7 @@ impl Program {
                     number,
                     packet,
                     instructions,
-                } = run_on(&self.verified, counters, lent, ifindex, queue);
+                } = run_on(program, counters, lent, ifindex, queue);
                 Lent {
                     number,
                     instructions,

@@ -100,7 +100,7 @@ pub fn ended_over(
 /// A run of a program that is made again, once the first has run and is gone.
 pub fn ended_again(alloc: Global, source: Source, counters: &mut [u64]) -> Option<(End, End)> {
     let program = program_of(alloc, source)?;
-    let other = program.again(alloc).ok()?;
+    let other = program.again().ok()?;
     let first = run(&program, counters, &mut [], (0, 0));
     drop(program);
     Some((first, run(&other, counters, &mut [], (0, 0))))
@@ -108,8 +108,20 @@ pub fn ended_again(alloc: Global, source: Source, counters: &mut [u64]) -> Optio
 
 /// A run of the program of settings.
 pub fn settings_ended(alloc: Global, text: &str, counters: &mut [u64]) -> Option<End> {
-    let program = load_settings(alloc, text.as_bytes()).ok()?;
-    Some(run(&program, counters, &mut [0], (0, 0)))
+    let named = load_settings(alloc, text.as_bytes()).ok()?;
+    Some(run(&named.program, counters, &mut [0], (0, 0)))
+}
+
+/// The number of the map with a name of settings.
+pub fn map_named(alloc: Global, text: &str, name: &str) -> Option<usize> {
+    let named = load_settings(alloc, text.as_bytes()).ok()?;
+    named.names.number(name.as_bytes())
+}
+
+/// Whether a map of settings has this name; none if they have no program.
+pub fn is_named(alloc: Global, text: &str, number: usize, name: &str) -> Option<bool> {
+    let named = load_settings(alloc, text.as_bytes()).ok()?;
+    Some(named.names.name(number) == name.as_bytes())
 }
 
 /// How many instructions and words of counters a program has.

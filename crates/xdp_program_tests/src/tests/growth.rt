@@ -40,32 +40,15 @@ fn load_settings_and_run(rt: &impl Print, alloc: Global) -> Result<Option<u32>, 
         }
         other => other,
     };
-    Ok(program.ok().map(|it| run(&it, &mut [], &mut [1], (0, 0)).0))
+    Ok(
+        program
+            .ok()
+            .map(|it| run(&it.program, &mut [], &mut [1], (0, 0)).0),
+    )
 }
 
 #[test]
 fn settings_are_loaded_again(rt: HostRuntime) -> Result<(), Fail> {
     assert_eq!(rt; load_settings_and_run(&rt, rt.alloc())?, Some(2));
-    Ok(())
-}
-
-/// The number of a run of a program that is made again once more after an allocation was refused.
-fn again_and_run(rt: &impl Print, alloc: Global) -> Result<Option<u32>, Fail> {
-    let Ok(program) = Program::load(alloc, &BYTES, &[]) else {
-        return load_and_run(rt, alloc);
-    };
-    let other = match program.again(alloc) {
-        Err(_) => {
-            println!(rt; "refused")?;
-            program.again(alloc)
-        }
-        other => other,
-    };
-    Ok(other.ok().map(|it| run(&it, &mut [], &mut [1], (0, 0)).0))
-}
-
-#[test]
-fn a_program_is_made_again(rt: HostRuntime) -> Result<(), Fail> {
-    assert_eq!(rt; again_and_run(&rt, rt.alloc())?, Some(2));
     Ok(())
 }

@@ -1,6 +1,7 @@
 //! What is accepted and refused, and where a counter lies.
 use crate::loading::{
-    Source, fault_of, refusal_of, settings_ended, settings_fault, sizes, word_of,
+    Source, fault_of, is_named, map_named, refusal_of, settings_ended, settings_fault, sizes,
+    word_of,
 };
 use crate::tests::{ADDS_DIGITS, PASS_DIGITS, PASS_WITH_MAPS};
 use xdp_program::{Fault, LoadFault, SettingsFault, TextFault};
@@ -88,6 +89,24 @@ fn settings_give_a_program_with_its_map(rt: HostRuntime) {
     let mut counters = [5, 7];
     let end = settings_ended(rt.alloc(), COUNTS, &mut counters);
     assert_eq!(rt; (end, counters), (Some((2, 10)), [5, 8]));
+}
+
+/// A name, and the number of the map that has it.
+const NAMES: [(&str, Option<usize>); 4] = [
+    ("hits", Some(0)),
+    ("hit", None),
+    ("hits ", None),
+    ("", None),
+];
+
+#[test]
+fn settings_name_their_maps(rt: HostRuntime) {
+    for (name, number) in NAMES {
+        let found = map_named(rt.alloc(), COUNTS, name);
+        assert_eq!(rt; found, number, "{name}");
+    }
+    assert_eq!(rt; is_named(rt.alloc(), COUNTS, 0, "hits"), Some(true));
+    assert_eq!(rt; is_named(rt.alloc(), COUNTS, 1, ""), Some(true));
 }
 
 #[test]
