@@ -9,9 +9,9 @@
  *    to, and isn't null, but for 0 elements. What is passed as not const overlaps nothing else that is passed.
  * 2. A struct laxonje_program or laxonje_queue is made by laxonje_program_new or laxonje_queue_new, which answer null if there is none,
  *    and isn't used once it is deleted.
- * 3. One call at a time for one program and for one queue. Different ones may be used by any threads at once. A program or a
- *    queue is handed to another thread by a lock, by that thread's start or join, or by a sequentially consistent atomic:
- *    laxonje_again makes a program to be handed over.
+ * 3. One call at a time for one handle, of a program or of a queue. Different ones may be used by any threads at once, also of one program:
+ *    laxonje_again makes a handle more of it, without verifying it again. A handle is handed to another thread by a lock, by that
+ *    thread's start or join, or by a sequentially consistent atomic.
  * 4. malloc, realloc and free are those of one allocator, and align blocks to 16 bytes. No call from a signal handler, or
  *    from the forked child of a process with threads.
  * 5. This header is written by hand. No proof compares it with the library, but tools/gate/header-fits, the assertions below and the examples
@@ -33,8 +33,12 @@ extern "C" {
 #define LAXONJE_ASSERT(what) _Static_assert(what, #what)
 #endif
 
-/* The version of this header. laxonje_version says which one the library is made for. */
+/* The version of this header. laxonje_version says which one the library is made for. An archive of another version isn't linked: what is
+ * compiled with this header wants the symbol laxonje_header_3, and a queue's step has a name of its own there, since an op of version 2
+ * is shorter. */
 #define LAXONJE_VERSION 3
+extern const char laxonje_header_3;
+#pragma redefine_extname laxonje_queue_step laxonje_queue_step_3
 
 /* The most maps, entries of a map, counters of an entry, and bytes of a packet and of a program. */
 #define LAXONJE_MAPS 4
@@ -43,7 +47,8 @@ extern "C" {
 #define LAXONJE_PACKET 65535
 #define LAXONJE_PROGRAM_BYTES 32768
 
-/* What laxonje_place answers if there is no such counter. */
+/* What laxonje_place answers if there is no such counter, laxonje_map_named if there is no such map, and laxonje_queue_counters if there is
+ * no queue. */
 #define LAXONJE_NOWHERE SIZE_MAX
 
 /* An array map: 1 to 1,024 entries of 1 to 8 counters of 64 bits. */
@@ -57,7 +62,8 @@ enum laxonje_kind {
 	LAXONJE_REFUSED,  /* V`cause` at the 8-byte slot `at`. V0: out of memory */
 	LAXONJE_MAP,      /* map `at` is the first out of its limits, or the fifth */
 	LAXONJE_SETTINGS, /* the settings text has the fault L`cause`. L0: out of memory */
-	LAXONJE_EMPTY     /* there is no program to make another of */
+	LAXONJE_EMPTY,    /* there is no program to make another of */
+	LAXONJE_NULL      /* `out` is null: nothing was done */
 };
 
 /* The causes V0 to V19 of LAXONJE_REFUSED. There is no V18. */
@@ -165,7 +171,8 @@ enum laxonje_made {
 	LAXONJE_MADE_TABLE,   /* the table isn't 1 to LAXONJE_TABLE_FRAMES, or LAXONJE_EXTENT_TABLE_FRAMES, of the frontend's frames */
 	LAXONJE_MADE_RING,    /* a ring's frame isn't the frontend's, is the other ring's, or is one of the table's */
 	LAXONJE_MADE_DOMAIN,  /* the frontend's domain is the backend's own */
-	LAXONJE_MADE_PROGRAM  /* there is no program */
+	LAXONJE_MADE_PROGRAM, /* there is no program */
+	LAXONJE_MADE_NULL     /* `desc` or `out` is null: this is looked at first */
 };
 
 enum laxonje_op_kind {
@@ -187,10 +194,12 @@ enum laxonje_entry {
 
 /* The answer to a packet that is to be delivered, or to a wait for rx slots. But for the first, nothing has changed. */
 enum laxonje_taken {
-	LAXONJE_TAKEN,         /* the next steps do it, up to LAXONJE_OP_DONE */
-	LAXONJE_TAKEN_NOT,     /* there is no queue */
-	LAXONJE_TAKEN_BUSY,    /* a turn, a delivery or a wait is under way */
-	LAXONJE_TAKEN_NO_FRAME /* the packet has fewer than 14 bytes, or more than LAXONJE_PACKET */
+	LAXONJE_TAKEN,          /* the next steps do it, up to LAXONJE_OP_DONE */
+	LAXONJE_TAKEN_NOT,      /* there is no queue */
+	LAXONJE_TAKEN_BUSY,     /* a turn, a delivery or a wait is under way */
+	LAXONJE_TAKEN_NO_FRAME, /* the packet has fewer than 14 bytes, or more than LAXONJE_PACKET */
+	LAXONJE_TAKEN_SLOTS,    /* a wait for more slots than the 256 of a ring */
+	LAXONJE_TAKEN_COUNTERS  /* the host lends fewer counters than the program has: laxonje_drive.h answers this */
 };
 
 /* What a turn, a delivery or a wait came to. */
@@ -310,7 +319,7 @@ uint32_t laxonje_proved(void);
 const char *laxonje_build(void);
 
 /* A handle of a program, which holds none so far: laxonje_load, laxonje_load_settings and laxonje_again put one into it. Null if memory
- * ran out, or if the library is of another version. */
+ * ran out, or if the library is of another version. To each call a null handle is one that holds nothing. */
 static inline struct laxonje_program *laxonje_program_new(void);
 
 /* Frees a program and its handle, and sets the pointer to null. It does nothing with null. */
@@ -327,8 +336,8 @@ struct laxonje_verdict laxonje_load(const uint8_t *program, size_t program_bytes
 /* The same with the program and the maps of a settings text (docs/SETTINGS.md). */
 struct laxonje_verdict laxonje_load_settings(const uint8_t *text, size_t text_bytes, struct laxonje_program *out);
 
-/* The same program once more, in place of what `out` held. It is verified again. LAXONJE_EMPTY, and none in `out`, where
- * there is no program. */
+/* A handle more of the same program, for another thread, in place of what `out` held. Nothing is verified or copied. LAXONJE_EMPTY, and none
+ * in `out`, if there is no program. */
 struct laxonje_verdict laxonje_again(struct laxonje_program *program, struct laxonje_program *out);
 
 /* Runs a program on a packet where it lies. Its counters are the first words of `counters`. Nothing is run, and nothing
@@ -360,6 +369,14 @@ size_t laxonje_map_count(struct laxonje_program *program);
  * program. A program whose maps have the same sizes in the same order may go on with another's counters. */
 struct laxonje_map laxonje_map_size(struct laxonje_program *program, uint32_t number);
 
+/* The number of the map with this name of the settings that the program was loaded from. LAXONJE_NOWHERE if there is no such map, or no
+ * program. The maps of a program that laxonje_load loaded have no names. */
+size_t laxonje_map_named(struct laxonje_program *program, const uint8_t *name, size_t name_bytes);
+
+/* Copies out the name of the map of this number, from 0, as far as there is room, and answers how many bytes it has, 1 to 32: UTF-8, without
+ * a zero at its end. 0 if it has no name, if there is no such map, or no program. */
+size_t laxonje_map_name(struct laxonje_program *program, uint32_t number, uint8_t *out, size_t out_bytes);
+
 /* Frees a program, and leaves none in its handle. */
 void laxonje_free(struct laxonje_program *program);
 
@@ -370,7 +387,7 @@ static inline struct laxonje_queue *laxonje_queue_new(void);
 static inline void laxonje_queue_delete(struct laxonje_queue **queue);
 
 /* Makes a queue between turns, in place of what `out` held. `owners` has the domain of each of the host's frames, `table` the
- * frames of the frontend's grant table. The queue has the program once more, verified again, so that the host keeps its own.
+ * frames of the frontend's grant table. The queue has the program too, so the host may delete its own.
  * The answer is LAXONJE_MADE, or else why no queue was made (enum laxonje_made): then `out` holds what it held. */
 uint32_t laxonje_queue_make(struct laxonje_program *program, const uint16_t *owners, size_t owner_count,
                             const uint32_t *table, size_t table_count, const struct laxonje_queue_desc *desc,
@@ -395,6 +412,10 @@ size_t laxonje_queue_turn(struct laxonje_queue *queue, uint32_t producer, struct
 size_t laxonje_queue_step(struct laxonje_queue *queue, uint32_t *words, size_t word_count,
                           uint64_t *counters, size_t counter_count, struct laxonje_op *ops, size_t op_count);
 
+/* How many words the counters of the queue's program are: lend as many to each step, also of a delivery or a wait. LAXONJE_NOWHERE with no
+ * queue. */
+size_t laxonje_queue_counters(struct laxonje_queue *queue);
+
 /* Begins to deliver a packet of the host's own to the guest, between two turns: `producer` is that of the rx ring, word 0 of the frame
  * `rx`, as the host has just read it. The packet is copied. The next steps are of its delivery, until the one that says LAXONJE_OP_DONE.
  * The answer is LAXONJE_TAKEN, or else why nothing was begun (enum laxonje_taken). */
@@ -402,8 +423,8 @@ uint32_t laxonje_queue_deliver(struct laxonje_queue *queue, uint32_t producer, c
 
 /* Begins to wait for `pages` rx slots, between two turns: after LAXONJE_DELIVERY_FEW_SLOTS, with the packet's bytes divided by 4,096 and
  * rounded up. The next steps are of the wait, until the one that says LAXONJE_OP_DONE: they store the rx ring's event index, and read its
- * producer after it. The answer is LAXONJE_TAKEN, or else why nothing was begun (enum laxonje_taken). A ring has 256 slots: a wait for
- * more never ends. The last index that was stored counts. */
+ * producer after it. The answer is LAXONJE_TAKEN, or else why nothing was begun (enum laxonje_taken). The last index that was stored
+ * counts. */
 uint32_t laxonje_queue_await(struct laxonje_queue *queue, uint32_t pages);
 
 /* The flags of the first slot of the turn that is under way or over (enum laxonje_flag). 0 before a turn has read a slot, as for a turn
@@ -428,7 +449,7 @@ void laxonje_queue_free(struct laxonje_queue *queue);
 
 static inline void *laxonje_handle_(void)
 {
-	return laxonje_version() == LAXONJE_VERSION ? calloc(1, LAXONJE_HANDLE) : NULL;
+	return laxonje_version() == LAXONJE_VERSION && laxonje_header_3 ? calloc(1, LAXONJE_HANDLE) : NULL;
 }
 
 static inline struct laxonje_program *laxonje_program_new(void)

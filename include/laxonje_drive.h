@@ -30,16 +30,36 @@ struct laxonje_drive {
 	uint32_t words[LAXONJE_PAGE_WORDS];
 };
 
-/* The outcome if no op was said: there is no queue, the host lends too few counters, the queue is inside something else, or a packet to be
- * delivered has a wrong length. */
+/* The outcome if nothing was begun: `cause` says why (enum laxonje_taken). If it is LAXONJE_TAKEN_BUSY, `page` or `notify` didn't return
+ * before, as by an exception, so an access is missing, and the queue can only be deleted. */
 #define LAXONJE_NOTHING UINT32_MAX
+
+/* Four words, wherever they lie, by one load: each once. */
+#if defined(__x86_64__) && defined(__SSE2__) && !defined(LAXONJE_LOAD_4_)
+struct laxonje_words_ {
+	uint32_t word[4];
+};
+#define LAXONJE_LOAD_4_(words, at)                                                                            \
+	__asm__ __volatile__("movdqu %1, %%xmm0\n\tmovdqu %%xmm0, %0"                                         \
+	                     : "=m"(*(struct laxonje_words_ *)(words)) : "m"(*(const struct laxonje_words_ *)(at)) : "xmm0", "memory")
+#endif
+
+/* Words in rising order, each once: by four as far as they go, since any answer is allowed for any word. */
+static inline void laxonje_drive_load_(const uint32_t *at, uint32_t count, uint32_t *words)
+{
+	uint32_t i = 0;
+#ifdef LAXONJE_LOAD_4_
+	for (; i + 4 <= count; i += 4)
+		LAXONJE_LOAD_4_(words + i, at + i);
+#endif
+	for (; i < count; i++)
+		words[i] = __atomic_load_n(at + i, __ATOMIC_ACQUIRE);
+}
 
 /* Words of a page, into the lent ones. */
 static inline void laxonje_drive_read_(const struct laxonje_io *io, const struct laxonje_op *op, uint32_t *words)
 {
-	const uint32_t *at = io->page(io->host, op) + op->word;
-	for (uint32_t i = 0; i < op->count; i++)
-		words[i] = __atomic_load_n(at + i, __ATOMIC_ACQUIRE);
+	laxonje_drive_load_(io->page(io->host, op) + op->word, op->count, words);
 }
 
 /* Words into a page. */
@@ -93,11 +113,20 @@ static inline uint32_t laxonje_drive_producer_(struct laxonje_drive *drive, cons
 	return drive->words[0];
 }
 
-/* In place of the op that ends something, if there was none. */
-static inline struct laxonje_op laxonje_drive_nothing_(void)
+/* In place of the op that ends something, if nothing was begun. */
+static inline struct laxonje_op laxonje_drive_nothing_(uint32_t cause)
 {
-	struct laxonje_op op = { 0, 0, 0, 0, 0, { 0, 0 }, 0, 0, LAXONJE_NOTHING, 0, 0, 0, 0, 0, 0 };
+	struct laxonje_op op = { 0, 0, 0, 0, 0, { 0, 0 }, 0, 0, LAXONJE_NOTHING, 0, cause, 0, 0, 0, 0 };
 	return op;
+}
+
+/* Whether something may begin: nothing does without the counters that its steps will want. */
+static inline uint32_t laxonje_drive_may_begin_(const struct laxonje_drive *drive)
+{
+	size_t wanted = laxonje_queue_counters(drive->queue);
+	if (wanted == LAXONJE_NOWHERE)
+		return LAXONJE_TAKEN_NOT;
+	return wanted > drive->counter_count ? LAXONJE_TAKEN_COUNTERS : LAXONJE_TAKEN;
 }
 
 /* The ops of a call and those of the next ones, to the end of what is under way: the op that says what it came to. */
@@ -105,13 +134,12 @@ static inline struct laxonje_op laxonje_drive_finish_(struct laxonje_drive *driv
                                                       size_t count)
 {
 	for (;;) {
-		struct laxonje_op last = laxonje_drive_nothing_();
 		for (size_t i = 0; i < count; i++)
 			laxonje_drive_make_(drive, io, &ops[i]);
-		if (count)
-			last = ops[count - 1];
-		if (!count || last.kind == LAXONJE_OP_DONE)
-			return last;
+		if (!count)
+			return laxonje_drive_nothing_(LAXONJE_TAKEN_BUSY);
+		if (ops[count - 1].kind == LAXONJE_OP_DONE)
+			return ops[count - 1];
 		count = laxonje_queue_step(drive->queue, drive->words, LAXONJE_PAGE_WORDS, drive->counters, drive->counter_count, ops, LAXONJE_OPS);
 	}
 }
@@ -128,6 +156,9 @@ static inline struct laxonje_op laxonje_drive_begun_(struct laxonje_drive *drive
 static inline struct laxonje_op laxonje_drive_turn(struct laxonje_drive *drive, const struct laxonje_io *io)
 {
 	struct laxonje_op ops[LAXONJE_OPS];
+	uint32_t taken = laxonje_drive_may_begin_(drive);
+	if (taken != LAXONJE_TAKEN)
+		return laxonje_drive_nothing_(taken);
 	size_t count = laxonje_queue_turn(drive->queue, laxonje_drive_producer_(drive, io, drive->tx), ops, LAXONJE_OPS);
 	return laxonje_drive_finish_(drive, io, ops, count);
 }
@@ -137,19 +168,39 @@ static inline struct laxonje_op laxonje_drive_turn(struct laxonje_drive *drive, 
 static inline uint32_t laxonje_drive_deliver(struct laxonje_drive *drive, const struct laxonje_io *io, const uint8_t *packet, size_t packet_bytes,
                                              struct laxonje_op *over)
 {
-	uint32_t producer = laxonje_drive_producer_(drive, io, drive->rx);
-	uint32_t taken = laxonje_queue_deliver(drive->queue, producer, packet, packet_bytes);
-	*over = taken == LAXONJE_TAKEN ? laxonje_drive_begun_(drive, io) : laxonje_drive_nothing_();
+	uint32_t taken = laxonje_drive_may_begin_(drive);
+	if (taken == LAXONJE_TAKEN)
+		taken = laxonje_queue_deliver(drive->queue, laxonje_drive_producer_(drive, io, drive->rx), packet, packet_bytes);
+	*over = taken == LAXONJE_TAKEN ? laxonje_drive_begun_(drive, io) : laxonje_drive_nothing_(taken);
 	return taken;
 }
 
-/* A wait for the rx slots of a packet of that many bytes. If it is taken, `over` says what it came to; else its outcome is LAXONJE_NOTHING. */
+/* A wait for the rx slots of a packet of that many bytes, one that can be delivered. If it is taken, `over` says what it came to; else its
+ * outcome is LAXONJE_NOTHING. */
 static inline uint32_t laxonje_drive_await(struct laxonje_drive *drive, const struct laxonje_io *io, size_t packet_bytes, struct laxonje_op *over)
 {
-	const size_t page = 4 * LAXONJE_PAGE_WORDS;
-	uint32_t taken = laxonje_queue_await(drive->queue, (uint32_t)((packet_bytes + page - 1) / page));
-	*over = taken == LAXONJE_TAKEN ? laxonje_drive_begun_(drive, io) : laxonje_drive_nothing_();
+	const size_t page = 4 * LAXONJE_PAGE_WORDS, header = 14;
+	uint32_t taken = laxonje_drive_may_begin_(drive);
+	if (taken == LAXONJE_TAKEN && (packet_bytes < header || packet_bytes > LAXONJE_PACKET))
+		taken = LAXONJE_TAKEN_NO_FRAME;
+	if (taken == LAXONJE_TAKEN)
+		taken = laxonje_queue_await(drive->queue, (uint32_t)((packet_bytes + page - 1) / page));
+	*over = taken == LAXONJE_TAKEN ? laxonje_drive_begun_(drive, io) : laxonje_drive_nothing_(taken);
 	return taken;
+}
+
+/* Why nothing was begun, in words for a log (enum laxonje_taken). */
+static inline const char *laxonje_taken_name(uint32_t taken)
+{
+	switch (taken) {
+	case LAXONJE_TAKEN: return "it was begun";
+	case LAXONJE_TAKEN_NOT: return "there is no queue";
+	case LAXONJE_TAKEN_BUSY: return "something is under way";
+	case LAXONJE_TAKEN_NO_FRAME: return "fewer than 14 bytes, or more than 65,535";
+	case LAXONJE_TAKEN_SLOTS: return "more slots than a ring has";
+	case LAXONJE_TAKEN_COUNTERS: return "fewer counters than the program has";
+	default: return "no answer";
+	}
 }
 
 /* Why no queue was made, in words for a log (enum laxonje_made). */
@@ -163,6 +214,7 @@ static inline const char *laxonje_made_name(uint32_t made)
 	case LAXONJE_MADE_RING: return "a ring's frame isn't the frontend's, is the other ring's, or is one of the table's";
 	case LAXONJE_MADE_DOMAIN: return "the frontend's domain is the backend's own";
 	case LAXONJE_MADE_PROGRAM: return "there is no program";
+	case LAXONJE_MADE_NULL: return "a null pointer for the desc or the queue";
 	default: return "no answer";
 	}
 }
@@ -200,7 +252,7 @@ static inline const char *laxonje_halt_name(uint32_t cause)
 static inline const char *laxonje_name(uint32_t outcome, uint32_t cause)
 {
 	switch (outcome) {
-	case LAXONJE_NOTHING: return "nothing: no queue, too few counters, inside something else, or a packet of a wrong length";
+	case LAXONJE_NOTHING: return laxonje_taken_name(cause);
 	case LAXONJE_TURN_IDLE: return "no request";
 	case LAXONJE_TURN_RAN: return "the program ran";
 	case LAXONJE_TURN_REFUSED: return laxonje_refusal_name(cause);

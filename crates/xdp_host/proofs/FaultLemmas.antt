@@ -37,7 +37,7 @@ out_of_memory_loaded_text bytes p h few =
     (h.0, h.1, subst (λ shapes. length shapes ≤ 4) h.3 few, out_of_memory_refused p.code h.0.program h.0.shapes h.2)
 
 -- what is known of a program is known of the one that was put into a box, and what is known of the fault of the other answer
-pub ok_with : {X E : Type 0} (r : Result X E) (view : X → Accepted) (P : Accepted → Type 0) (p : Accepted) → IfOk r (λ x. view x ≡ p) → P p → IfOk r (λ x. P (view x))
+pub ok_with : {X E A : Type 0} (r : Result X E) (view : X → A) (P : A → Type 0) (p : A) → IfOk r (λ x. view x ≡ p) → P p → IfOk r (λ x. P (view x))
 ok_with (Ok x) view P p e h = subst P (sym e) h
 ok_with (Err e) view P p _ h = tt
 

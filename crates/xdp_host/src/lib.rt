@@ -9,12 +9,13 @@
 //! - `queue_calls`, `queue_waits`: a queue's calls
 #![tactic(auto)]
 
-ghost use Rattle.std.specs.Prelude.{◌≡◌, ◌⊎◌, ◌++◌, ◌≤◌, List, IfNone, IfSome, IsSome, MatchOption, None, drop, length, take};
+ghost use Rattle.std.specs.Prelude.{◌≡◌, ◌⊎◌, ◌++◌, ◌≤◌, List, IfNone, IfSome, IsSome, MatchOption, [], None, drop, length, take};
 ghost use Rattle.bpf_insn.specs.Code.{Spells};
 ghost use Rattle.bpf_insn.specs.declared.insn.Insn.{Insn};
 ghost use Rattle.bpf_verify.specs.Consistent.{Accepted, instructions};
 ghost use Rattle.bpf_verify.specs.FirstRefusal.{IsFaultless};
 ghost use Rattle.xdp_load.specs.Setup.{SetupView, setup_of};
+ghost use Rattle.xdp_program.specs.Settings.{AreNamesOf};
 ghost use Rattle.xdp_host.specs.Answers.{Accepts, AcceptsText, AcceptsUnlessOutOfMemory, AreWithin, Refuses, RefusesText, shapes_of};
 ghost use Rattle.xdp_host.specs.Verdict.{accepting, verdict_of, out_of_memory};
 ghost use Rattle.xen_host.specs.Frames.{list_limits};
@@ -46,14 +47,14 @@ pub use batch::XdpPacket;
 pub use fault::Fault;
 pub use handle::{XdpProgram, programs_cross_threads};
 pub use loaded_program::LoadedProgram;
-pub use maps::{laxonje_map_count, laxonje_map_size};
+pub use maps::{laxonje_map_count, laxonje_map_name, laxonje_map_named, laxonje_map_size};
 use queue_abi::NO_QUEUE;
 pub use queue_abi::{XdpQueueDesc, XdpQueueState};
 use queue_calls::{boxed, copied, given_packet};
 pub use queue_extents::{XdpExtent, laxonje_queue_make_extents};
 pub use queue_fault::QueueFault;
 pub use queue_handle::{XdpQueue, queues_cross_threads};
-pub use queue_waits::{laxonje_queue_await, laxonje_queue_flags};
+pub use queue_waits::{laxonje_queue_await, laxonje_queue_counters, laxonje_queue_flags};
 pub use runs::{laxonje_counters, laxonje_place, laxonje_run, laxonje_run_batch};
 use std::alloc::Global;
 use xen_host::{FrameOwners, Op};
@@ -84,6 +85,7 @@ pub extern "C" fn laxonje_load(
 ) -> XdpVerdict
     ensures answers { MatchOption out.new.slot.held (Refuses program.now maps.now result)
         (λ h. Accepts program.now maps.now h.program result) }
+    ensures unnamed { IfSome out.new.slot.held (λ h. h.names ≡ []) }
     ensures accepted { (code : List Insn) → Spells code program.now → IsFaultless code (shapes_of maps.now) → AreWithin maps.now →
         AcceptsUnlessOutOfMemory result }
 {
@@ -99,6 +101,7 @@ pub extern "C" fn laxonje_load_settings(
     out: &mut XdpProgram,
 ) -> XdpVerdict
     ensures answers { MatchOption out.new.slot.held (RefusesText text.now result) (λ h. AcceptsText text.now h.program result) }
+    ensures named { IfSome out.new.slot.held (λ h. AreNamesOf text.now h.names) }
     ensures accepted { (s : SetupView) (code : List Insn) → setup_of text.now ≡ Ok s → Spells code s.program → IsFaultless code s.shapes →
         AcceptsUnlessOutOfMemory result }
 {
@@ -106,7 +109,7 @@ pub extern "C" fn laxonje_load_settings(
     out.set(alloc, loaded)
 }
 
-/// Copies the program, as for another thread, in place of what `out` held.
+/// The same program for another handle, as in another thread, in place of what `out` held. Nothing is verified or copied.
 #[unsafe(no_mangle)]
 pub extern "C" fn laxonje_again(
     alloc: Global,
@@ -137,7 +140,7 @@ pub extern "C" fn laxonje_free(alloc: Global, program: &mut XdpProgram)
     drop(program.take(alloc));
 }
 
-/// Makes a queue, which has the program once more, in place of what `out` held. The answer is 0, or which of the values is wrong;
+/// Makes a queue, which has the program too, in place of what `out` held. The answer is 0, or which of the values is wrong;
 /// then `out` holds what it held.
 #[unsafe(no_mangle)]
 pub extern "C" fn laxonje_queue_make(

@@ -1,5 +1,5 @@
 //! An accepted program, and what C gives in the words of the libraries.
-ghost use Rattle.std.specs.Prelude.{◌≡◌, ◌≤◌, ℕ, List, All, IfOk, IfErr, Ok, length, take};
+ghost use Rattle.std.specs.Prelude.{◌≡◌, ◌≤◌, ℕ, List, [], All, IfOk, IfErr, Ok, length, take};
 ghost use Rattle.bpf_insn.specs.Code.{Spells};
 ghost use Rattle.bpf_insn.specs.declared.insn.Insn.{Insn};
 ghost use Rattle.bpf_note.specs.Shape.{IsShape};
@@ -8,7 +8,7 @@ ghost use Rattle.bpf_verify.specs.FirstRefusal.{IsFaultless};
 ghost use Rattle.xdp_load.specs.Setup.{SetupView, setup_of};
 ghost use Rattle.xdp_program.specs.Ran.{Ran};
 ghost use Rattle.xdp_program.specs.Refused.{IsMade, IsUnmade};
-ghost use Rattle.xdp_program.specs.Settings.{IsProgramOf};
+ghost use Rattle.xdp_program.specs.Settings.{AreNamesOf, IsProgramOf};
 ghost use Rattle.xdp_host.specs.Answers.{AreWithin, IsFault, IsFaultOfText, IsFirstOutside, IsLoaded, IsOutOfMemory, shape_of, shapes_of};
 ghost use Rattle.xdp_host.specs.Verdict.{accepting, out_of_memory};
 
@@ -16,7 +16,10 @@ use crate::abi::{XdpMap, XdpVerdict};
 use crate::fault::Fault;
 use std::alloc::Global;
 use std::marker::Model;
-use xdp_program::{LoadFault, MapShape, Program, Run, STACK_SIZE, SettingsFault, load_settings};
+use xdp_program::{
+    LoadFault, MapNames, MapShape, NamedProgram, Program, Run, STACK_SIZE, SettingsFault,
+    load_settings,
+};
 
 /// The most maps that a program has.
 const MOST_MAPS: usize = 4;
@@ -33,10 +36,11 @@ impl Model for Stack {
     ghost view = { λ _. tt };
 }
 
-/// An accepted program, and its stack.
+/// An accepted program, the names of its maps, and its stack.
 #[derive(Drop)]
 pub struct LoadedProgram {
     pub program: Program,
+    pub names: MapNames,
     stack: Stack,
 }
 
@@ -92,15 +96,16 @@ fn accept(alloc: Global, program: &[u8], maps: &[XdpMap]) -> Result<Program, Fau
 }
 
 /// Accepts the program of a settings text with its maps.
-fn accept_text(alloc: Global, text: &[u8]) -> Result<Program, Fault>
-    ensures loaded { IfOk result (IsProgramOf text.now) }
-    ensures few { IfOk result (λ p. length p.shapes ≤ 4) }
+fn accept_text(alloc: Global, text: &[u8]) -> Result<NamedProgram, Fault>
+    ensures loaded { IfOk result (λ n. IsProgramOf text.now n.program) }
+    ensures names { IfOk result (λ n. AreNamesOf text.now n.names) }
+    ensures few { IfOk result (λ n. length n.program.shapes ≤ 4) }
     ensures fault { IfErr result (IsFaultOfText text.now) }
     ensures accepted { (s : SetupView) (code : List Insn) → setup_of text.now ≡ Ok s → Spells code s.program → IsFaultless code s.shapes →
         IfErr result IsOutOfMemory }
 {
     match load_settings(alloc, text) {
-        Ok(program) => Ok(program),
+        Ok(named) => Ok(named),
         Err(SettingsFault::Text(fault)) => Err(Fault::Text(fault)),
         Err(SettingsFault::Program(LoadFault::Refused(refusal))) => Err(Fault::Refused(refusal)),
         Err(SettingsFault::Program(LoadFault::Maps)) => unreachable!(),
@@ -109,27 +114,46 @@ fn accept_text(alloc: Global, text: &[u8]) -> Result<Program, Fault>
 
 impl LoadedProgram {
     /// A box of a program.
-    fn boxed(alloc: Global, program: Program) -> Result<Box<LoadedProgram>, Fault>
-        ensures ok { IfOk result (λ b. b.value.program ≡ program) }
+    fn boxed(alloc: Global, program: Program, names: MapNames) -> Result<Box<LoadedProgram>, Fault>
+        ensures program { IfOk result (λ b. b.value.program ≡ program) }
+        ensures names { IfOk result (λ b. b.value.names ≡ names) }
         ensures err { IfErr result (λ f. f ≡ out_of_memory) }
     {
         let stack = Stack {
             bytes: [0; STACK_SIZE],
         };
-        let held = Box::new(alloc, LoadedProgram { program, stack })?;
+        let held = Box::new(
+            alloc,
+            LoadedProgram {
+                program,
+                names,
+                stack,
+            },
+        )?;
         Ok(held)
+    }
+
+    /// A box of a program whose maps have no names.
+    fn unnamed(alloc: Global, program: Program) -> Result<Box<LoadedProgram>, Fault>
+        ensures program { IfOk result (λ b. b.value.program ≡ program) }
+        ensures names { IfOk result (λ b. b.value.names ≡ []) }
+        ensures err { IfErr result (λ f. f ≡ out_of_memory) }
+    {
+        let names = MapNames::none(alloc)?;
+        LoadedProgram::boxed(alloc, program, names)
     }
 
     /// Accepts a program with its maps.
     #[tactic(auto, using(crate::proofs::FaultLemmas::out_of_memory_loaded))]
     pub fn load(alloc: Global, program: &[u8], maps: &[XdpMap]) -> Result<Box<LoadedProgram>, Fault>
         ensures loaded { IfOk result (λ b. IsLoaded program.now maps.now b.value.program) }
+        ensures unnamed { IfOk result (λ b. b.value.names ≡ []) }
         ensures fault { IfErr result (IsFault program.now maps.now) }
         ensures accepted { (code : List Insn) → Spells code program.now → IsFaultless code (shapes_of maps.now) → AreWithin maps.now →
             IfErr result IsOutOfMemory }
     {
         match accept(alloc, program, maps) {
-            Ok(program) => LoadedProgram::boxed(alloc, program),
+            Ok(program) => LoadedProgram::unnamed(alloc, program),
             Err(fault) => Err(fault),
         }
     }
@@ -137,24 +161,26 @@ impl LoadedProgram {
     /// Accepts the program of a settings text with its maps.
     pub fn load_settings(alloc: Global, text: &[u8]) -> Result<Box<LoadedProgram>, Fault>
         ensures loaded { IfOk result (λ b. IsProgramOf text.now b.value.program) }
+        ensures names { IfOk result (λ b. AreNamesOf text.now b.value.names) }
         ensures fault { IfErr result (IsFaultOfText text.now) }
         ensures accepted { (s : SetupView) (code : List Insn) → setup_of text.now ≡ Ok s → Spells code s.program →
             IsFaultless code s.shapes →
             IfErr result IsOutOfMemory }
     {
         match accept_text(alloc, text) {
-            Ok(program) => LoadedProgram::boxed(alloc, program),
+            Ok(named) => LoadedProgram::boxed(alloc, named.program, named.names),
             Err(fault) => Err(fault),
         }
     }
 
-    /// A copy of the program.
+    /// The same program for another handle.
     pub fn again(&self, alloc: Global) -> Result<Box<LoadedProgram>, Fault>
         ensures ok { IfOk result (λ b. b.value ≡ self.now) }
         ensures err { IfErr result (λ f. f ≡ out_of_memory) }
     {
-        let program = self.program.again(alloc)?;
-        LoadedProgram::boxed(alloc, program)
+        let program = self.program.again()?;
+        let names = self.names.again()?;
+        LoadedProgram::boxed(alloc, program, names)
     }
 
     /// Runs the program on a packet where it lies, as [`Program::run`] does.
@@ -166,7 +192,11 @@ impl LoadedProgram {
             (result.number ≡ 0) × (result.instructions ≡ 0) × (packet.new ≡ packet.old) × (counters.new ≡ counters.old) }
         ensures words { length counters.new ≡ length counters.old }
     {
-        let LoadedProgram { program, stack } = self;
+        let LoadedProgram {
+            program,
+            names: _,
+            stack,
+        } = self;
         program.run(&mut stack.bytes, counters, packet, ifindex, queue)
     }
 

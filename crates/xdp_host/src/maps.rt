@@ -1,9 +1,10 @@
 //! What C asks of a program's maps.
-ghost use Rattle.std.specs.Prelude.{◌≡◌, MatchOption, length};
-ghost use Rattle.xdp_host.specs.Maps.{map_at, map_or, no_map};
+ghost use Rattle.std.specs.Prelude.{◌≡◌, ◌++◌, MatchOption, drop, length, take};
+ghost use Rattle.xdp_host.specs.Maps.{map_at, map_or, name_at, no_map, number_of};
 
 use crate::abi::XdpMap;
 use crate::handle::XdpProgram;
+use crate::queue_calls::copied;
 use std::alloc::Global;
 use xdp_program::{MapShape, Program};
 
@@ -59,5 +60,45 @@ pub extern "C" fn laxonje_map_size(alloc: Global, program: &mut XdpProgram, numb
             size
         }
         None => size_of(None),
+    }
+}
+
+/// The number of the map with this name, from 0: the greatest number if there is no such map, or no program.
+#[unsafe(no_mangle)]
+pub extern "C" fn laxonje_map_named(alloc: Global, program: &mut XdpProgram, name: &[u8]) -> usize
+    ensures kept { program.new.slot.held ≡ program.old.slot.held }
+    ensures number { MatchOption program.old.slot.held (result ≡ usize.MAX) (λ h. result ≡ number_of h.names name.now) }
+{
+    match program.take(alloc) {
+        Some(held) => {
+            let number = held.names.number(name);
+            program.put(held);
+            number.unwrap_or(usize::MAX)
+        }
+        None => usize::MAX,
+    }
+}
+
+/// Copies out the name of the map of this number, from 0, as far as there is room. How many bytes it has: none if it has no name, if
+/// there is no such map, or no program.
+#[unsafe(no_mangle)]
+pub extern "C" fn laxonje_map_name(
+    alloc: Global,
+    program: &mut XdpProgram,
+    number: u32,
+    out: &mut [u8],
+) -> usize
+    ensures kept { program.new.slot.held ≡ program.old.slot.held }
+    ensures count { MatchOption program.old.slot.held (result ≡ 0) (λ h. result ≡ length (name_at h.names number)) }
+    ensures copied { MatchOption program.old.slot.held (out.new ≡ out.old)
+        (λ h. out.new ≡ take (length out.old) (name_at h.names number) ++ drop (length (name_at h.names number)) out.old) }
+{
+    match program.take(alloc) {
+        Some(held) => {
+            let count = copied(held.names.name(number as usize), out);
+            program.put(held);
+            count
+        }
+        None => 0,
     }
 }

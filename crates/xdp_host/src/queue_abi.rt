@@ -64,6 +64,9 @@ impl XdpQueueState {
 /// What a call that begins something answers if there is no queue.
 pub const NO_QUEUE: u32 = 1;
 
+/// What a wait for more slots than a ring has is answered.
+pub const TOO_MANY_SLOTS: u32 = 4;
+
 /// What C is told of what is to be begun.
 pub fn begin_number(answer: Begin) -> u32
     ensures { result ≡ begin_number answer }

@@ -1,23 +1,30 @@
-//! What C asks of a queue's rx slots, and of the slots of a turn.
+//! What C asks of a queue's rx slots, of the slots of a turn, and of its counters.
 ghost use Rattle.std.specs.Prelude.{◌≡◌, None, IfNone, IfSome, IsSome, MatchOption};
+ghost use Rattle.bpf_maps.specs.Layout.{total};
 ghost use Rattle.xen_netif.specs.Slots.{tx_flag_bits};
 ghost use Rattle.xdp_host.specs.Begins.{WaitAnswers, no_queue};
 
-use crate::queue_abi::{NO_QUEUE, begin_number};
+use crate::queue_abi::{NO_QUEUE, TOO_MANY_SLOTS, begin_number};
 use crate::queue_handle::XdpQueue;
 use std::alloc::Global;
 use xen_host::Queue;
 
-/// Begins a wait of a queue.
+/// How many slots the rx ring has.
+const RING_SLOTS: u32 = 256;
+
+/// Begins a wait of a queue, unless it would never end.
 fn begun_wait(queue: &mut Queue, pages: u32) -> u32
     ensures { WaitAnswers queue.old queue.new pages result }
 {
+    if pages > RING_SLOTS {
+        return TOO_MANY_SLOTS;
+    }
     begin_number(queue.await_slots(pages))
 }
 
 /// Begins to wait for `pages` rx slots: the steps that follow are of the wait, until the op that says whether they are
-/// there. The answer is 0; or, if nothing is begun, there is no queue, or a turn, a delivery or another wait is under
-/// way.
+/// there. The answer is 0; or, if nothing is begun, there is no queue, the ring doesn't have so many, or a turn, a
+/// delivery or another wait is under way.
 #[unsafe(no_mangle)]
 pub extern "C" fn laxonje_queue_await(alloc: Global, queue: &mut XdpQueue, pages: u32) -> u32
     ensures none { IfNone queue.old.slot.held ((result ≡ no_queue) × (queue.new.slot.held ≡ None)) }
@@ -48,5 +55,21 @@ pub extern "C" fn laxonje_queue_flags(alloc: Global, queue: &mut XdpQueue) -> u3
             flags
         }
         None => 0,
+    }
+}
+
+/// How many words the counters of a queue's program are: with fewer no step of it does anything. The greatest number with no queue.
+#[unsafe(no_mangle)]
+pub extern "C" fn laxonje_queue_counters(alloc: Global, queue: &mut XdpQueue) -> usize
+    ensures kept { queue.new.slot.held ≡ queue.old.slot.held }
+    ensures words { MatchOption queue.old.slot.held (result ≡ usize.MAX) (λ q. result ≡ total q.engine.wires.program.shapes) }
+{
+    match queue.take(alloc) {
+        Some(held) => {
+            let count = held.counters();
+            queue.put(held);
+            count
+        }
+        None => usize::MAX,
     }
 }

@@ -245,10 +245,10 @@ begun old new producer ops ops_after count small led lent long =
       turn = turn_goes new s (reads ++ did) l.last l.left (subst (λ (x : OwnedWiring). LedBy (whole_turn (wiring_of x) s) (reads ++ did) l.left) (sym l.wires) g) l.is_end;
     }
 
-blank : List ℕ
+pub blank : List ℕ
 blank = replicate 1024 0
 
-blank_length : length blank ≡ 1024
+pub blank_length : length blank ≡ 1024
 unfolding blank
 blank_length = length-replicate {A = ℕ} 1024 0
 

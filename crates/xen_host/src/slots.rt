@@ -1,18 +1,16 @@
 //! The slots of a turn's chain.
 
-ghost use Rattle.std.specs.Prelude.{◌≡◌, ◌≤◌, ◌<◌, ◌∷◌, [], length, slice_index, sum_by, false, IfOk, IsTrue, MatchResult, Ok};
+ghost use Rattle.std.specs.Prelude.{◌≡◌, ◌≤◌, ◌∷◌, [], sum_by, false, IfOk, IsTrue, MatchResult, Ok};
 ghost use Rattle.std.specs.Prelude.{Err, Some};
 ghost use Rattle.std.specs.List.{list_all};
 ghost use Rattle.xen_netif.specs.Chain.{extra_info, more_data};
 ghost use Rattle.xen_netif.specs.Fragments.{fragment_size, fragments_of, is_in_page};
 ghost use Rattle.xen_netif.specs.Standing.{standing};
-ghost use Rattle.xen_back.specs.Tree.{responses};
 
 use arrayvec::ArrayVec;
 use std::marker::Model;
-use xen_back::decisions::response;
 use xen_netif::{
-    Chain, ChainFault, ChainState, Fragment, SizeFault, Status, TxReq, is_alone, only_fragment,
+    Chain, ChainFault, ChainState, Fragment, SizeFault, TxReq, is_alone, only_fragment,
 };
 
 /// In which form the slots are held.
@@ -95,24 +93,13 @@ fn place_all(chain: &Chain, room: &mut ArrayVec<Fragment, 18>) -> Result<(), Siz
     }
 }
 
-/// The i-th response to a chain.
-#[inline(never)]
-fn response_in(chain: &Chain, status: Status, i: usize) -> u32
-    requires { i < length chain.now }
-    ensures { result ≡ slice_index (responses status chain.now) i }
-{
-    let requests = chain.requests();
-    response(status, &requests[i])
-}
-
 impl Slots {
-    ghost use Rattle.std.specs.Prelude.{◌≡◌, ◌≢◌, ◌≤◌, ◌<◌, ◌↔◌, ◌++◌, ◌∷◌, [], length, slice_index, sum_by, IfOk};
+    ghost use Rattle.std.specs.Prelude.{◌≡◌, ◌≢◌, ◌≤◌, ◌<◌, ◌↔◌, ◌++◌, ◌∷◌, [], length, sum_by, IfOk, IfSome};
     ghost use Rattle.std.specs.Prelude.{IsTrue, MatchResult, Ok, Err, OnErr, OnOk, Some, false};
-    ghost use Rattle.xen_netif.specs.Chain.{extra_info, more_data};
+    ghost use Rattle.xen_netif.specs.Chain.{extra_info, more_data, requests_of};
     ghost use Rattle.std.specs.List.{list_all};
     ghost use Rattle.xen_netif.specs.Fragments.{fragment_size, fragments_of, is_in_page};
     ghost use Rattle.xen_netif.specs.Standing.{standing};
-    ghost use Rattle.xen_back.specs.Tree.{responses};
 
     /// None.
     pub fn new() -> Slots
@@ -205,15 +192,31 @@ impl Slots {
         }
     }
 
-    /// The i-th response.
-    pub fn response(&self, status: Status, i: usize) -> u32
-        requires { i < length self.now }
-        ensures { result ≡ slice_index (responses status self.now) i }
+    /// The request of the slot that lies by itself, if it does.
+    #[inline(always)]
+    pub fn only_request(&self) -> Option<TxReq>
+        ensures request { IfSome result (λ request. requests_of self.now ≡ Some request ∷ []) }
+        ensures one { IfSome result (λ request. length self.now ≡ 1) }
     {
         match self.form {
-            SlotForm::Empty => unreachable!(),
-            SlotForm::Single => response(status, &Some(TxReq::of_words(self.single))),
-            SlotForm::Chained => response_in(&self.chain, status, i),
+            SlotForm::Single => Some(TxReq::of_words(self.single)),
+            _ => None,
+        }
+    }
+
+    /// The request in each slot, in order, as [`Chain::requests`] gives them.
+    pub fn requests(&self) -> ArrayVec<Option<TxReq>, 23>
+        ensures items { result.items ≡ requests_of self.now }
+        ensures len { length result.items ≡ length self.now }
+    {
+        match self.form {
+            SlotForm::Empty => ArrayVec::new(),
+            SlotForm::Single => {
+                let mut requests = ArrayVec::new();
+                requests.push(Some(TxReq::of_words(self.single)));
+                requests
+            }
+            SlotForm::Chained => self.chain.requests(),
         }
     }
 }

@@ -3,7 +3,7 @@ use Rattle.xen_back.specs.Tree.{responses}
 use Rattle.xen_host.specs.Asks.{op_of}
 use Rattle.xen_host.specs.Chained.{stores}
 use Rattle.xen_host.specs.Wired.{vif_of}
-use Rattle.xen_host.proofs.engine.Engine.say_responses.Given as goal
+use Rattle.xen_host.proofs.engine.Engine.say_each.Given as goal
 
 abbrev pub invariant-loop-k : goal.invariant-loop-k
 invariant-loop-k l =

@@ -1,0 +1,358 @@
+-- A host's loop ends: each step makes an access or gives a notice, or is the last.
+use Rattle.std.proofs.Common.{◌≡◌, ℕ, zero, suc, ◌+◌, ◌≤◌, true, List, [], ◌∷◌, ◌++◌, length, map, refl, sym, ap, ◌∙◌, subst, arith}
+use Rattle.std.specs.Prelude.{Option, None, Some, IsSome}
+use Rattle.std.proofs.lemmas.Bool.Decides.{nat_tests}
+use Rattle.xen_steps.specs.Drive.{Goes, IsPageWant, LedBy}
+use Rattle.xen_steps.specs.Event.{Event, Read, Write}
+use Rattle.xen_steps.specs.Places.{add32, page_word}
+use Rattle.xen_steps.specs.Steps.{Runs, Steps, done, want_of}
+use Rattle.xen_steps.specs.declared.want.Want.TheVariants as want
+use Rattle.xen_steps.proofs.FinishLemmas.{finishes_gone, runs_gone, some_run}
+use Rattle.xen_rx_fill.specs.Places.{rx_word, tx_word}
+use Rattle.xen_rx_fill.specs.Sending.{IsTransmit}
+use Rattle.xen_rx_fill.specs.declared.by_event.phase.Outcome.{Outcome}
+use Rattle.xen_rx_fill.specs.declared.by_event.phase.Outcome.TheVariants as outcome
+use Rattle.xen_rx_fill.proofs.Figures.{most_transmit, n_transmit}
+use Rattle.xen_rx_fill.proofs.Bounds.{frame_inside}
+use Rattle.xen_back.specs.Awaited.{IsAwaiting}
+use Rattle.xen_back.specs.Awaited as awaited
+use Rattle.xen_back.specs.Delivered.{IsDelivery, is_frame}
+use Rattle.xen_back.specs.Delivered as delivered
+use Rattle.xen_back.specs.Deliveries.{whole_delivery}
+use Rattle.xen_back.specs.Program.{event_of}
+use Rattle.xen_back.specs.Tree.{unless_halted as turn_by, whole_turn}
+use Rattle.xen_back.specs.Turned.{Turned}
+use Rattle.xen_back.specs.Turns.{IsTurn}
+use Rattle.xen_back.specs.Waits.{Wait, check_unless, whole_wait}
+use Rattle.xen_back.specs.Within.{may_want}
+use Rattle.xen_back.specs.declared.delivery.wait.Awaited.{Awaited}
+use Rattle.xen_back.specs.declared.delivery.delivering.Delivery.{Delivery}
+use Rattle.xen_back.specs.declared.state.State.{State}
+use Rattle.xen_back.specs.declared.turn.Halt.{Halt}
+use Rattle.xen_back.specs.declared.wiring.Wiring.{Wiring}
+use Rattle.xen_back.proofs.ArriveLemmas.{arrives, delivery_rows}
+use Rattle.xen_back.proofs.Figures.{turn_accesses, turn_most}
+use Rattle.xen_back.proofs.TurnParts.{turn_parts}
+use Rattle.xen_back.proofs.TurnRuns.{runs_turn}
+use Rattle.xen_back.proofs.WaitLemmas.{wait_ends, wait_rows}
+use Rattle.xen_host.specs.Asks.{Ask, IsSized, did_all, did_by, read_by}
+use Rattle.xen_host.specs.Asks as ask
+use Rattle.xen_host.specs.Fed.{WaitsFor}
+use Rattle.xen_host.specs.Loops.{AreSteps, IsStep}
+use Rattle.xen_host.specs.Queues.{BegunBy, DeliveryGoesOn, HasBegun, IsBegun, IsDelivering, IsTurning, IsWaitBegun, IsWaiting, TurnGoesOn, WaitGoesOn}
+use Rattle.xen_host.specs.Queues.{first_read, packet_of, read_by_some, resting, wiring}
+use Rattle.xen_host.specs.Rest.{is_waiting, reads_in, rest_in, rest_of_delivery, rest_of_wait}
+use Rattle.xen_host.specs.Told.{IsPush, IsToldAt}
+use Rattle.xen_host.specs.Wired.{vif_of}
+use Rattle.xen_host.specs.declared.op.Op.{Op}
+use Rattle.xen_host.specs.declared.queue.Queue.{Queue}
+use Rattle.xen_host.specs.declared.stage.Stage.{Stage}
+use Rattle.xen_host.specs.declared.stage.Stage.TheVariants as stage
+use Rattle.xen_host.proofs.QueueLemmas.{blank, blank_length}
+use Rattle.xen_host.proofs.WeightLemmas.{After, over, goes, IsAsked, IsSizedSome, weight, weight_append, owed, owed_some, paid, paid_some, asked_weighs, last_sized, step_few, few}
+
+-- ---- a turn
+
+abbrev pub turn_weighs : Option Halt → ℕ
+turn_weighs None = 33028
+turn_weighs (Some cause) = 0
+
+ended_light : {A : Type 0} (x r : A) (p : List Event) → Runs (done x) p r → weight p ≤ 0
+ended_light x r [] h = omega arith
+ended_light x r (e ∷ p) h = absurd h
+
+turn_light : (w : Wiring) (s : State) (p : List Event) (new : State) (u : Turned) → IsTurn w s p new u → weight p ≤ turn_weighs s.halt
+turn_light w s p new u t = by s.halt (runs_turn w s p new u t)
+  where
+    by : (o : Option Halt) → Runs (turn_by w s o) p (new, u) → weight p ≤ turn_weighs o
+    by None r = omega (arith, turn_accesses w s p new u t, (turn_most w s p new u t).told)
+    by (Some cause) r = ended_light _ _ p r
+
+begins : (t p : List Event) (m : ℕ) → weight (t ++ p) ≤ m → weight t ≤ m
+begins t p m l = omega (arith, weight_append t p, l)
+
+abbrev pub OnTurn : State → Queue → List Event → Option Ask → Type 0
+OnTurn s q t None = ⊥
+OnTurn s q t (Some a) = IsTurning q s t a
+
+on_turn_light : (s : State) (q : Queue) (t : List Event) (o : Option Ask) → OnTurn s q t o → weight t ≤ turn_weighs s.halt
+on_turn_light s q t None h = absurd h
+on_turn_light s q t (Some a) h =
+    let w = wiring q in
+    let e = q.engine in
+    let whole = whole_turn w s in
+    let rest = rest_in w e.state e.stage e.work in
+    let r = some_run (may_want w) rest (finishes_gone (may_want w) whole rest t (q.turns s) h.gone) in
+    begins t r.0 _ (turn_light w s (t ++ r.0) r.1.0 r.1.1 (turn_parts w s (t ++ r.0) r.1.0 r.1.1 (runs_gone whole rest t r.0 (r.1.0, r.1.1) h.gone r.2)))
+
+-- the events of a step, behind those before it
+abbrev traced : (q next : Queue) → IsStep q next → List Event → List Event → List Event → List Event
+traced q next c t reads labels = t ++ (reads ++ (labels ++ (did_all c.stepped.first c.lent_after ++ did_by c.stepped.last c.lent_after)))
+
+some : (q next : Queue) (c : IsStep q next) → 1 ≤ length c.lent
+some q next c = omega (arith, c.enough.page)
+
+sized : (q next : Queue) (c : IsStep q next) → IsSized c.stepped.last
+sized q next c = last_sized c.stepped.first c.stepped.last c.stepped.said.sized
+
+-- What is asked weighs more than was owed.
+adds : (q next : Queue) (c : IsStep q next) (t reads labels : List Event) (owes : ℕ) → owes ≤ weight reads → IsAsked c.stepped.last →
+    weight t + owes + 1 ≤ weight (traced q next c t reads labels) + owed c.stepped.last
+adds q next c t reads labels owes paid i =
+    let first = did_all c.stepped.first c.lent_after in
+    let last = did_by c.stepped.last c.lent_after in
+    let some_after : 1 ≤ length c.lent_after = omega (arith, c.enough.page, c.words) in
+    omega (
+      arith,
+      weight_append t (reads ++ (labels ++ (first ++ last))),
+      weight_append reads (labels ++ (first ++ last)),
+      weight_append labels (first ++ last),
+      weight_append first last,
+      paid,
+      asked_weighs c.stepped.last c.lent_after some_after (sized q next c) i,
+    )
+
+ends : (t reads rest : List Event) (owes most : ℕ) → owes ≤ weight reads → weight (t ++ (reads ++ rest)) ≤ most → weight t + owes ≤ most
+ends t reads rest owes most paid l = omega (arith, weight_append t (reads ++ rest), weight_append reads rest, paid, l)
+
+is_some : {A : Type 0} (o : Option A) (x : A) → o ≡ Some x → IsSome o
+is_some {A = A} o x e = subst (λ (y : Option A). IsSome y) (sym e) refl
+
+-- where a turn has come to, by what was asked last
+on_turn : (s : State) (q : Queue) (a : Ask) (t : List Event) → TurnGoesOn q a s t → (most v : ℕ) → (weight t ≤ turn_weighs s.halt → v ≤ most) →
+    IsSized a → (IsAsked a → v + 1 ≤ weight t + owed a) → After (OnTurn s) most v q
+on_turn s q (ask.TurnOver kind) t h most v l z more = over (is_some (resting q) q.engine.state h.1) (l (turn_light (wiring q) s t _ _ h.0))
+on_turn s q (ask.DeliveryOver what) t h most v l z more = absurd h.waits
+on_turn s q (ask.WaitOver what) t h most v l z more = absurd h.waits
+on_turn s q (ask.Read at count) t h most v l z more = goes t (ask.Read at count) h z (more tt)
+on_turn s q (ask.Entry at reference rights) t h most v l z more = goes t (ask.Entry at reference rights) h z (more tt)
+on_turn s q (ask.Write at count) t h most v l z more = goes t (ask.Write at count) h z (more tt)
+on_turn s q (ask.Store at word) t h most v l z more = goes t (ask.Store at word) h z (more tt)
+on_turn s q (ask.StoreTwo at one two) t h most v l z more = goes t (ask.StoreTwo at one two) h z (more tt)
+on_turn s q (ask.Push at word read) t h most v l z more = goes t (ask.Push at word read) h z (more tt)
+on_turn s q (ask.Notify port) t h most v l z more = goes t (ask.Notify port) h z (more tt)
+
+pub turn_step : (s : State) (q next : Queue) (c : IsStep q next) (t : List Event) (o : Option Ask) → OnTurn s q t o → IsSizedSome o →
+    After (OnTurn s) (turn_weighs s.halt) (weight t + owed_some o) next
+turn_step s q next c t None p z = absurd p
+turn_step s q next c t (Some a) p z =
+    let reads = read_by a c.lent in
+    let labels = map event_of c.stepped.labels in
+    let pays = paid a c.lent (some q next c) z in
+    let rest = labels ++ (did_all c.stepped.first c.lent_after ++ did_by c.stepped.last c.lent_after) in
+    on_turn s next c.stepped.last (traced q next c t reads labels) (c.stepped.turn s t a p) (turn_weighs s.halt) (weight t + owed a) (ends t reads rest (owed a) (turn_weighs s.halt) pays)
+    (sized q next c) (adds q next c t reads labels (owed a) pays)
+
+-- ---- a delivery
+
+abbrev pub delivery_weighs : Option Halt → ℕ
+delivery_weighs None = 16484
+delivery_weighs (Some cause) = 0
+
+is_short : (packet : List ℕ) → is_frame packet ≡ true → length packet ≤ 65535
+is_short packet f = grind (arith, nat_tests)
+
+sent_light : (w : Wiring) (s : State) (packet : List ℕ) (p : List Event) (o : Outcome) → is_frame packet ≡ true → s.halt ≡ None → IsTransmit w.vif s.rx_index packet p o →
+    weight p ≤ delivery_weighs s.halt
+sent_light w s packet p o f h t =
+    let l : weight p ≤ 16484 = omega (arith, n_transmit w.vif s.rx_index packet p o (is_short packet f) t, (most_transmit w.vif s.rx_index packet p o t).told) in
+    subst (λ (x : Option Halt). weight p ≤ delivery_weighs x) (sym h) l
+
+delivery_light : (w : Wiring) (s : State) (packet : List ℕ) (p : List Event) (after : State) (what : Delivery) → IsDelivery w s packet p after what → weight p ≤ delivery_weighs s.halt
+delivery_light w s packet _ _ _ (delivered.no_frame f) = omega arith
+delivery_light w s packet _ _ _ (delivered.still_halted cause f h) = omega arith
+delivery_light w s packet _ _ _ (delivered.overflown p f h t) = sent_light w s packet p outcome.Overflow f h t
+delivery_light w s packet _ _ _ (delivered.few p f h t) = sent_light w s packet p outcome.TooFew f h t
+delivery_light w s packet _ _ _ (delivered.refused p used f h t) = sent_light w s packet p (outcome.Refused used) f h t
+delivery_light w s packet _ _ _ (delivered.sent p used f h t) = sent_light w s packet p (outcome.Sent used) f h t
+
+abbrev pub OnDelivery : State → List ℕ → Queue → List Event → Option Ask → Type 0
+OnDelivery s packet q t o = IsDelivering q s packet t o
+
+on_delivery_light : (s : State) (packet : List ℕ) (q : Queue) (t : List Event) (o : Option Ask) → IsDelivering q s packet t o → weight t ≤ delivery_weighs s.halt
+on_delivery_light s packet q t o h =
+    let w = vif_of q.engine.wires in
+    let e = q.engine in
+    let within = IsPageWant (length e.wires.owners) in
+    let whole = whole_delivery w s packet in
+    let rest = rest_of_delivery w e.state e.stage e.work in
+    let r = some_run within rest (finishes_gone within whole rest t (arrives w s packet q.wired) h.0.gone) in
+    begins t r.0 _ (delivery_light (wiring q) s packet (t ++ r.0) r.1.0 r.1.1 (delivery_rows (wiring q) s packet (t ++ r.0) r.1.0 r.1.1 (runs_gone whole rest t r.0 (r.1.0, r.1.1) h.0.gone r.2)))
+
+on_delivery : (s : State) (packet : List ℕ) (q : Queue) (a : Ask) (t : List Event) → DeliveryGoesOn q a s packet t → (most v : ℕ) → (weight t ≤ delivery_weighs s.halt → v ≤ most) →
+    IsSized a → (IsAsked a → v + 1 ≤ weight t + owed a) → After (OnDelivery s packet) most v q
+on_delivery s packet q (ask.DeliveryOver what) t h most v l z more = over (is_some (resting q) q.engine.state h.1) (l (delivery_light (wiring q) s packet t _ _ h.0))
+on_delivery s packet q (ask.TurnOver kind) t h most v l z more = absurd h.0.waits
+on_delivery s packet q (ask.WaitOver what) t h most v l z more = absurd h.0.waits
+on_delivery s packet q (ask.Read at count) t h most v l z more = goes t (ask.Read at count) h z (more tt)
+on_delivery s packet q (ask.Entry at reference rights) t h most v l z more = goes t (ask.Entry at reference rights) h z (more tt)
+on_delivery s packet q (ask.Write at count) t h most v l z more = goes t (ask.Write at count) h z (more tt)
+on_delivery s packet q (ask.Store at word) t h most v l z more = goes t (ask.Store at word) h z (more tt)
+on_delivery s packet q (ask.StoreTwo at one two) t h most v l z more = goes t (ask.StoreTwo at one two) h z (more tt)
+on_delivery s packet q (ask.Push at word read) t h most v l z more = goes t (ask.Push at word read) h z (more tt)
+on_delivery s packet q (ask.Notify port) t h most v l z more = goes t (ask.Notify port) h z (more tt)
+
+delivery_step : (s : State) (packet : List ℕ) (q next : Queue) (c : IsStep q next) (t : List Event) (o : Option Ask) → OnDelivery s packet q t o → IsSizedSome o →
+    After (OnDelivery s packet) (delivery_weighs s.halt) (weight t + owed_some o) next
+delivery_step s packet q next c t o p z =
+    let reads = read_by_some o c.lent in
+    let pays = paid_some o c.lent (some q next c) z in
+    let rest = did_all c.stepped.first c.lent_after ++ did_by c.stepped.last c.lent_after in
+    on_delivery s packet next c.stepped.last (traced q next c t reads []) (c.stepped.delivery s packet t o p).0 (delivery_weighs s.halt) (weight t + owed_some o)
+    (ends t reads rest (owed_some o) (delivery_weighs s.halt) pays) (sized q next c) (adds q next c t reads [] (owed_some o) pays)
+
+-- ---- a wait
+
+wait_light : (w : Wiring) (s : State) (pages : ℕ) (p : List Event) (after : State) (what : Awaited) → IsAwaiting w s pages p after what → weight p ≤ 2
+wait_light w s pages _ _ _ (awaited.still_halted cause h) = omega arith
+wait_light w s pages _ _ _ (awaited.overflown p h l e) = omega arith
+wait_light w s pages _ _ _ (awaited.posted p m h l e f) = omega arith
+wait_light w s pages _ _ _ (awaited.waiting p m h l e f) = omega arith
+
+abbrev pub OnWait : State → ℕ → List ℕ → Queue → List Event → Option Ask → Type 0
+OnWait s pages packet q t o = IsWaiting q s pages packet t o
+
+on_wait_light : (s : State) (pages : ℕ) (packet : List ℕ) (q : Queue) (t : List Event) (o : Option Ask) → IsWaiting q s pages packet t o → weight t ≤ 2
+on_wait_light s pages packet q t o h =
+    let e = q.engine in
+    let rx = e.wires.rx in
+    let within = IsPageWant (length e.wires.owners) in
+    let whole = whole_wait rx s pages in
+    let rest = rest_of_wait rx e.state e.stage in
+    let r = some_run within rest (finishes_gone within whole rest t (wait_ends (length e.wires.owners) rx s pages (frame_inside (vif_of e.wires) rx q.wired.rx)) h.0.gone) in
+    begins t r.0 2 (wait_light (wiring q) s pages (t ++ r.0) r.1.0 r.1.1 (wait_rows (wiring q) s pages (t ++ r.0) r.1.0 r.1.1 (runs_gone whole rest t r.0 (r.1.0, r.1.1) h.0.gone r.2)))
+
+on_wait : (s : State) (pages : ℕ) (packet : List ℕ) (q : Queue) (a : Ask) (t : List Event) → WaitGoesOn q a s pages packet t → (v : ℕ) → (weight t ≤ 2 → v ≤ 2) →
+    IsSized a → (IsAsked a → IsWaiting q s pages packet t (Some a) → v + 1 ≤ weight t + owed a) → After (OnWait s pages packet) 2 v q
+on_wait s pages packet q (ask.WaitOver what) t h v l z more = over (is_some (resting q) q.engine.state h.1) (l (wait_light (wiring q) s pages t _ _ h.0))
+on_wait s pages packet q (ask.TurnOver kind) t h v l z more = absurd h.0.waits
+on_wait s pages packet q (ask.DeliveryOver what) t h v l z more = absurd h.0.waits
+on_wait s pages packet q (ask.Read at count) t h v l z more = goes t (ask.Read at count) h z (more tt h)
+on_wait s pages packet q (ask.Entry at reference rights) t h v l z more = goes t (ask.Entry at reference rights) h z (more tt h)
+on_wait s pages packet q (ask.Write at count) t h v l z more = goes t (ask.Write at count) h z (more tt h)
+on_wait s pages packet q (ask.Store at word) t h v l z more = goes t (ask.Store at word) h z (more tt h)
+on_wait s pages packet q (ask.StoreTwo at one two) t h v l z more = goes t (ask.StoreTwo at one two) h z (more tt h)
+on_wait s pages packet q (ask.Push at word read) t h v l z more = goes t (ask.Push at word read) h z (more tt h)
+on_wait s pages packet q (ask.Notify port) t h v l z more = goes t (ask.Notify port) h z (more tt h)
+
+wait_step : (s : State) (pages : ℕ) (packet : List ℕ) (q next : Queue) (c : IsStep q next) (t : List Event) (o : Option Ask) → OnWait s pages packet q t o → IsSizedSome o →
+    After (OnWait s pages packet) 2 (weight t + owed_some o) next
+wait_step s pages packet q next c t o p z =
+    let reads = read_by_some o c.lent in
+    let pays = paid_some o c.lent (some q next c) z in
+    let rest = did_all c.stepped.first c.lent_after ++ did_by c.stepped.last c.lent_after in
+    on_wait s pages packet next c.stepped.last (traced q next c t reads []) (c.stepped.wait s pages packet t o p).0 (weight t + owed_some o)
+    (ends t reads rest (owed_some o) 2 pays) (sized q next c) (λ i h. adds q next c t reads [] (owed_some o) pays i)
+
+-- Its first step makes both accesses, or ends: a PUSH leads to the second stage, and nothing was made in the first.
+pushed : (a : Ask) (lent : List ℕ) (t : List Event) → IsPush a → weight (did_by a lent) ≤ weight t → 2 ≤ weight t + owed a
+pushed (ask.Push at word read) lent t p l = omega (arith, l)
+pushed (ask.Read at count) lent t p l = absurd p
+pushed (ask.Entry at reference rights) lent t p l = absurd p
+pushed (ask.Write at count) lent t p l = absurd p
+pushed (ask.Store at word) lent t p l = absurd p
+pushed (ask.StoreTwo at one two) lent t p l = absurd p
+pushed (ask.Notify port) lent t p l = absurd p
+pushed (ask.TurnOver kind) lent t p l = absurd p
+pushed (ask.DeliveryOver what) lent t p l = absurd p
+pushed (ask.WaitOver what) lent t p l = absurd p
+
+no_read : (a : Ask) → IsSized a → {A : Type 0} → (s : Steps A) → WaitsFor a 0 s → owed a ≡ 0
+no_read (ask.Read at count) z s h = absurd (omega (arith, z.0, h.0))
+no_read (ask.Entry at reference rights) z s h = absurd (omega (arith, h.0))
+no_read (ask.Push at word read) z s h = absurd (omega (arith, h.0))
+no_read (ask.Write at count) z s h = refl
+no_read (ask.Store at word) z s h = refl
+no_read (ask.StoreTwo at one two) z s h = refl
+no_read (ask.Notify port) z s h = refl
+no_read (ask.TurnOver kind) z s h = refl
+no_read (ask.DeliveryOver what) z s h = refl
+no_read (ask.WaitOver what) z s h = refl
+
+reads_next : (rx : ℕ) (s : State) (pages : ℕ) (o : Option Halt) → want_of (check_unless rx s pages o) ≡ want.Read (page_word rx 0) → ⊥
+reads_next rx s pages None e = cc e
+reads_next rx s pages (Some cause) e = cc e
+
+both_made : (rx : ℕ) (s after : State) (pages left : ℕ) (o : Option Halt) (t : List Event) → 1 ≤ weight t → LedBy (check_unless rx s pages o) t (whole_wait rx after left) → 2 ≤ weight t
+both_made rx s after pages left o [] l g = absurd (omega (arith, l))
+both_made rx s after pages left (Some cause) (e ∷ t) l g = absurd g.1.1
+both_made rx s after pages left None (e ∷ []) l g =
+    absurd (reads_next rx after left after.halt (sym (ap (λ (x : Steps Wait). want_of x) (sym g.1.2 ∙ g.2))))
+both_made rx s after pages left None (e ∷ f ∷ t) l g =
+    let made = subst (λ (x : Steps Wait). Goes x f g.2.0) g.1.2 g.2.1 in
+    let two : weight (Write (page_word rx 1) (add32 s.rx_index pages) ∷ Read (page_word rx 0) made.0 ∷ t) ≡ 2 + weight t = omega arith in
+    let same : weight (e ∷ f ∷ t) ≡ 2 + weight t = ap (λ x. weight (x ∷ f ∷ t)) g.1.1.1 ∙ ap (λ x. weight (Write (page_word rx 1) (add32 s.rx_index pages) ∷ x ∷ t)) made.1.1 ∙ two in
+    omega (arith, same)
+
+first_waits : (table lent : List ℕ) (rx : ℕ) (s after : State) (pages : ℕ) (g : Stage) (a : Ask) (t : List Event) → is_waiting g ≡ true → IsToldAt table g a →
+    WaitsFor a (reads_in g) (rest_of_wait rx after g) → LedBy (whole_wait rx s pages) t (rest_of_wait rx after g) → IsSized a → weight (did_by a lent) ≤ weight t →
+    1 ≤ weight t + owed a → 2 ≤ weight t + owed a
+first_waits table lent rx s after pages stage.Ready a t i told waits gone z did one = cc i
+first_waits table lent rx s after pages stage.Announce a t i told waits gone z did one = cc i
+first_waits table lent rx s after pages (stage.Slot left) a t i told waits gone z did one = cc i
+first_waits table lent rx s after pages (stage.Entry k at) a t i told waits gone z did one = cc i
+first_waits table lent rx s after pages (stage.Page k f frame) a t i told waits gone z did one = cc i
+first_waits table lent rx s after pages (stage.Fill f p) a t i told waits gone z did one = cc i
+first_waits table lent rx s after pages (stage.Respond x k) a t i told waits gone z did one = cc i
+first_waits table lent rx s after pages (stage.Push at kind) a t i told waits gone z did one = cc i
+first_waits table lent rx s after pages (stage.Notice at kind) a t i told waits gone z did one = cc i
+first_waits table lent rx s after pages (stage.Deliver producer) a t i told waits gone z did one = cc i
+first_waits table lent rx s after pages (stage.Wait left) a t i told waits gone z did one =
+    let none = no_read a z (whole_wait rx after left) waits in
+    let some : 1 ≤ weight t = omega (arith, one, none) in
+    omega (arith, both_made rx s after pages left s.halt t some gone)
+first_waits table lent rx s after pages (stage.WaitLook left) a t i told waits gone z did one = pushed a lent t told did
+
+-- ---- a host's loop
+
+-- After what begins it, what was asked is on its way, or over.
+turn_begun : (old begun : Queue) (producer : ℕ) (lent : List ℕ) (ops ops_after : List Op) (count : ℕ) → 1024 ≤ length lent → (b : BegunBy old begun producer ops ops_after count lent) →
+    After (OnTurn old.engine.state) (turn_weighs old.engine.state.halt) (weight (first_read old.engine.state.halt (Read (tx_word (wiring old).vif 0) producer))) begun
+turn_begun old begun producer lent ops ops_after count long b =
+    let s = old.engine.state in
+    let reads = first_read s.halt (Read (tx_word (wiring old).vif 0) producer) in
+    let first = did_all b.first lent in
+    let last = did_by b.last lent in
+    let z = last_sized b.first b.last b.said.sized in
+    on_turn s begun b.last (reads ++ (first ++ last)) b.turn (turn_weighs s.halt) (weight reads) (begins reads (first ++ last) (turn_weighs s.halt)) z
+    (λ i. omega (arith, weight_append reads (first ++ last), weight_append first last, asked_weighs b.last lent (omega (arith, long)) z i))
+
+pub turns_few : (old begun new : Queue) (producer : ℕ) (ops ops_after : List Op) (count n : ℕ) → HasBegun old begun producer ops ops_after count → AreSteps n begun new → n ≤ 33027
+turns_few old begun new producer ops ops_after count n h steps =
+    let s = old.engine.state in
+    let long : 1024 ≤ length blank = omega (arith, blank_length) in
+    let b = turn_begun old begun producer blank ops ops_after count long (h blank long) in
+    by s.halt (step_few n _ begun new steps (λ t a p z. few (OnTurn s) (turn_weighs s.halt) (on_turn_light s) (turn_step s) n begun new steps t (Some a) p z) b)
+  where
+    by : (o : Option Halt) → suc n + weight (first_read o (Read (tx_word (wiring old).vif 0) producer)) ≤ turn_weighs o + 1 → n ≤ 33027
+    by None l = omega (arith, l)
+    by (Some cause) l = omega (arith, l)
+
+pub deliveries_few : (old begun new : Queue) (producer : ℕ) (packet : List ℕ) (n : ℕ) → IsBegun old begun producer packet → AreSteps n begun new → n ≤ 16484
+deliveries_few old begun new producer packet n h steps =
+    let s = old.engine.state in
+    let reads = first_read s.halt (Read (rx_word (wiring old).vif 0) producer) in
+    by s.halt (few (OnDelivery s packet) (delivery_weighs s.halt) (on_delivery_light s packet) (delivery_step s packet) n begun new steps reads None h.delivering tt)
+  where
+    by : (o : Option Halt) → n + (weight (first_read o (Read (rx_word (wiring old).vif 0) producer)) + 0) ≤ delivery_weighs o + 1 → n ≤ 16484
+    by None l = omega (arith, l)
+    by (Some cause) l = omega (arith, l)
+
+first_wait : (old next : Queue) (c : IsStep old next) (s : State) (pages : ℕ) (packet : List ℕ) → IsWaiting old s pages packet [] None → After (OnWait s pages packet) 2 1 next
+first_wait old next c s pages packet p =
+    let first = did_all c.stepped.first c.lent_after in
+    let last = did_by c.stepped.last c.lent_after in
+    let t = first ++ last in
+    let z = sized old next c in
+    on_wait s pages packet next c.stepped.last t (c.stepped.wait s pages packet [] None p).0 1 (λ l. omega arith) z
+    (λ i h. first_waits old.engine.wires.table c.lent_after next.engine.wires.rx s next.engine.state pages next.engine.stage c.stepped.last t h.0.is_here c.stepped.told h.0.waits h.0.gone z
+    (omega (arith, weight_append first last)) (adds old next c [] [] [] 0 (omega arith) i))
+
+pub waits_few : (old begun new : Queue) (pages n : ℕ) → IsWaitBegun old begun pages → AreSteps n begun new → n ≤ 2
+waits_few old begun new pages zero h steps = omega arith
+waits_few old begun new pages (suc n) h steps =
+    let s = old.engine.state in
+    let packet = packet_of old in
+    let rest = step_few n 1 steps.0 new steps.2 (λ t a p z. few (OnWait s pages packet) 2 (on_wait_light s pages packet) (wait_step s pages packet) n steps.0 new steps.2 t (Some a) p z)
+    (first_wait begun steps.0 steps.1 s pages packet h.waiting) in
+    omega (arith, rest)
