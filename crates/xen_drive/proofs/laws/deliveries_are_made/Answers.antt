@@ -1,0 +1,10 @@
+use Rattle.xen_drive.specs.Driving.{delivery}
+use Rattle.xen_drive.proofs.BoundLemmas.{delivery_begins, delivery_ends}
+use Rattle.xen_drive.proofs.StepLemmas.{carried_by}
+use Rattle.xen_drive.proofs.laws.deliveries_are_made.Goals as goal
+
+pub returns : goal.returns
+returns g c old packet bus bus' before h h' n b d o p =
+    let log = g.B.Bus.log in
+    let gives = g.B.Bus.access_gives in
+    delivery_ends log gives old packet bus bus' before n h' (carried_by log gives (delivery packet) old.engine.state old.engine.wires bus before n h h' (delivery_begins log gives old packet bus before h b) d) o p
