@@ -5,14 +5,14 @@ use Rattle.clap.specs.declared.error.Error.{Error}
 use Rattle.clap.specs.declared.error.kind.ErrorKind.TheVariants.{OutOfMemory}
 use Rattle.clap.specs.declared.parser.matches.ArgMatches.{ArgMatches}
 use Rattle.clap.proofs.OnLiterals.{clap_on_literals}
-use Rattle.xdp_commands.specs.Words.{Wanted, wanted_by, wanted_of_words, is_taken, program_app, single_app}
+use Rattle.xdp_commands.specs.Words.{Wanted, wanted_by, wanted_of_words, is_taken, program_app, settings_app, single_app}
 
 is_exact : is_simple_and_free program_app ≡ true
-unfolding clap_on_literals program_app single_app
+unfolding clap_on_literals program_app settings_app single_app
 is_exact = refl
 
 is_known : is_simple program_app ≡ true
-unfolding clap_on_literals program_app single_app
+unfolding clap_on_literals program_app settings_app single_app
 is_known = refl
 
 -- an error that isn't for memory comes only where there is a fault

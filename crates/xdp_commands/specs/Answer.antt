@@ -23,12 +23,13 @@ use Rattle.xdp_commands.specs.Explaining.{IsOutcome, outcome_status, outcome_tex
 use Rattle.xdp_commands.specs.declared.explaining.Outcome.{Outcome}
 use Rattle.xdp_commands.specs.Filtering.{Filters, filtered_text}
 use Rattle.xdp_commands.specs.declared.filtering.Filtered.{Filtered}
+use Rattle.xdp_commands.specs.Help.{help_lines, version_line}
 use Rattle.xdp_commands.specs.Lines.{checked_text, executed_text, ran_text, settings_text}
 use Rattle.xdp_commands.specs.PairLines.{paired_status, paired_text}
 use Rattle.xdp_commands.specs.Pairing.{IsPaired}
 use Rattle.xdp_commands.specs.declared.pairing.Paired.{Paired}
 use Rattle.thread_pair.specs.declared.host.Host.{Host}
-use Rattle.xdp_commands.specs.Words.{Wanted, exec, check, explain, same, run, filter, pair}
+use Rattle.xdp_commands.specs.Words.{Wanted, exec, check, explain, same, run, filter, pair, help, version}
 
 -- a text, and an exit status
 abbrev pub Said : Type 0
@@ -177,12 +178,14 @@ IsAnswer (Some same) old new said = InputSame old new said
 IsAnswer (Some run) old new said = InputAnswer RunAnswer RefusedAnswer old new said
 IsAnswer (Some filter) old new said = InputAnswer FilterAnswer RefusedAnswer old new said
 IsAnswer (Some (pair turns h)) old new said = InputAnswer (PairAnswer turns h) RefusedAnswer old new said
+IsAnswer (Some (help t)) old new said = said ≡ (help_lines t, 0)
+IsAnswer (Some version) old new said = said ≡ (version_line, 0)
 
 -- at most n bytes are taken
 abbrev pub TakesAtMost : ℕ → Option (List ℕ) → Option (List ℕ) → Type 0
 TakesAtMost n old new = (taken : List ℕ) × Consumes old new taken × (length taken ≤ n)
 
--- what a call does to its reader, whatever it answers: `exec` alone reads nothing
+-- what a call does to its reader, whatever it answers: `exec`, `help` and `version` read nothing
 abbrev pub Takes : Option Wanted → Option (List ℕ) → Option (List ℕ) → Type 0
 Takes None old new = Keeps old new
 Takes (Some (exec program packet)) old new = Keeps old new
@@ -192,6 +195,8 @@ Takes (Some same) old new = TakesAtMost 1048577 old new
 Takes (Some run) old new = TakesAtMost 1048577 old new
 Takes (Some filter) old new = TakesAtMost 1048577 old new
 Takes (Some (pair turns h)) old new = TakesAtMost 1048577 old new
+Takes (Some (help t)) old new = Keeps old new
+Takes (Some version) old new = Keeps old new
 
 -- a call that may end as a read failed, when nothing is printed
 abbrev pub Reads : Option Wanted → Type 0
@@ -203,6 +208,8 @@ Reads (Some same) = Unit {0}
 Reads (Some run) = Unit {0}
 Reads (Some filter) = Unit {0}
 Reads (Some (pair turns h)) = Unit {0}
+Reads (Some (help t)) = ⊥
+Reads (Some version) = ⊥
 
 -- the text is printed and the status given; or a write failed, the status is 4, and a beginning of the text is printed
 abbrev pub Prints : Option (List ℕ) → Option (List ℕ) → Said → ℕ → Type 0

@@ -1,13 +1,17 @@
 -- Stated: claims rest on this file.
 -- What becomes of a setup's program beside the one that it was made of.
-use Rattle.std.specs.Prelude.{ℕ, ◌≡◌, List, ◌++◌, codes, decimal, length}
+use Rattle.std.specs.Prelude.{ℕ, ◌≡◌, List, ◌++◌, codes, decimal, length, map}
 use Rattle.bpf_insn.specs.Code.{Spells}
 use Rattle.bpf_insn.specs.Refusal.{IsNoCode}
 use Rattle.bpf_insn.specs.declared.insn.Insn.{Insn}
 use Rattle.bpf_same.specs.Counts.{IsSameByCounts, IsWholeByCounts}
+use Rattle.bpf_same.specs.Renumbered.{IsRenumbering}
 use Rattle.bpf_same.specs.Same.{IsSame}
+use Rattle.bpf_same.specs.declared.mark.Place.{Place as Tried}
 use Rattle.bpf_verify.specs.Consistent.{Accepted as Program}
-use Rattle.xdp_load.specs.Original.{RewrittenView}
+use Rattle.xdp_load.specs.Original.{Place, RewrittenView}
+use Rattle.xdp_load.specs.OriginalSeen.{place_view}
+use Rattle.xdp_load.specs.declared.original.Place.{Place as Read}
 use Rattle.xdp_commands.specs.Executing.{IsProgramOf, IsRefusalOfBytes}
 use Rattle.xdp_commands.specs.Lines.{refused_text}
 use Rattle.xdp_commands.specs.declared.comparing.Compared.{Compared}
@@ -39,11 +43,26 @@ pub record IsPairByCounts (r : RewrittenView) (slots originals : ℕ) : Type 0 w
   pub counted : slots ≡ length program.code
   pub originals_counted : originals ≡ length original
 
--- the program is accepted and the same, or the same by counts, or accepted; or it is refused, or the original's bytes are
+-- a place, as it is tried
+abbrev pub tried : Place → Tried
+tried p = record { own = p.own; at = p.at }
+
+abbrev pub tried_of : Read → Tried
+tried_of p = tried (place_view p)
+
+-- a pair of two programs, of which neither is the other one but for the numbers of its slots, by the places
+pub record IsPairUnshown (r : RewrittenView) : Type 0 where
+  pub program : Program
+  pub original : List Insn
+  pub pair : IsPair r program original
+  pub other : program.code ≡ original → ⊥
+  pub renumbered : IsRenumbering (map tried r.places) original program.code → ⊥
+
+-- the program is accepted, and the same, or the same by counts, or another one; or it is refused, or the original's bytes are
 abbrev pub Compares : RewrittenView → Compared → Type 0
 Compares r (Same slots originals) = IsSamePair r slots originals
 Compares r (SameByCounts slots originals) = IsPairByCounts r slots originals
-Compares r NotShown = (p : Program) × (o : List Insn) × IsPair r p o
+Compares r NotShown = IsPairUnshown r
 Compares r (Refused refusal) = IsRefusalOfBytes r.setup.program r.setup.shapes refusal
 Compares r (Undecoded refusal) = (p : Program) × IsProgramOf r.setup.program r.setup.shapes p × IsNoCode r.original refusal
 

@@ -6,10 +6,13 @@ use Rattle.std.specs.Char.{digit_value}
 use Rattle.std.specs.List.{list_all}
 use Rattle.std.specs.Str.{bytes_eq}
 use Rattle.std.specs.Str.Parse.{digits_value, without_leading_plus}
+use Rattle.clap.specs.Simple.{on_top}
 use Rattle.clap.specs.Words.{App, Kinds, Row, Rule, Text, fault_of, first_of, one_of, subcommand_of, new_app, new_rule, with_rule}
 use Rattle.clap.specs.Words.{with_subcommand}
 use Rattle.clap.specs.declared.builder.action.ArgAction.TheVariants.{SetTrue}
 use Rattle.clap.specs.declared.builder.value_parser.ValueParser.TheVariants.{Signed}
+use Rattle.xdp_commands.specs.declared.help.Topic.{Topic}
+use Rattle.xdp_commands.specs.declared.help.Topic.TheVariants as topic
 use Rattle.thread_pair.specs.declared.host.Host.{Host}
 use Rattle.thread_pair.specs.declared.host.Host.TheVariants as host
 
@@ -58,14 +61,30 @@ pair_app = with_rule (with_rule (new_app (codes "pair")) turns_rule) answer_rule
 abbrev pub filter_app : App
 filter_app = new_app (codes "filter")
 
+-- `help COMMAND`, the word left out or not
+abbrev pub help_app : App
+help_app = with_rule (new_app (codes "help")) (new_rule (codes "command"))
+
+-- `version`
+abbrev pub version_app : App
+version_app = new_app (codes "version")
+
+-- the program's own command: `help` is a subcommand of its own
+abbrev pub bare_app : App
+bare_app = on_top (λ s. record s { disable_help_subcommand = true }) (new_app (codes "xdpbox"))
+
 -- the commands that pass no packets of settings to a program
 unfoldable pub single_app : App
 single_app =
-    with_subcommand (with_subcommand (with_subcommand (with_subcommand (new_app (codes "xdpbox")) exec_app.top) check_app.top)
+    with_subcommand (with_subcommand (with_subcommand (with_subcommand bare_app exec_app.top) check_app.top)
     explain_app.top) same_app.top
 
+-- these, and those that pass packets to it on one thread
+unfoldable pub settings_app : App
+settings_app = with_subcommand (with_subcommand single_app run_app.top) filter_app.top
+
 unfoldable pub program_app : App
-program_app = with_subcommand (with_subcommand (with_subcommand single_app run_app.top) filter_app.top) pair_app.top
+program_app = with_subcommand (with_subcommand (with_subcommand settings_app pair_app.top) help_app.top) version_app.top
 
 -- what a call asks for
 pub data Wanted : Type 0 where
@@ -77,6 +96,8 @@ pub data Wanted : Type 0 where
   filter : Wanted
   -- at most that many turns of each queue, and what the host does
   pair : ℕ → Host → Wanted
+  help : Topic → Wanted
+  version : Wanted
 
 -- `exec`, by what was found for its words
 abbrev pub exec_of : List Row → Option Wanted
@@ -105,6 +126,28 @@ host_of rows = host_of_word (first_of (codes "answer") rows)
 abbrev pub pair_of : List Row → Option Wanted
 pair_of rows = option_map (λ turns. pair turns (host_of rows)) (option_and_then number_of (one_of (codes "turns") rows))
 
+-- what help is about, by a command's name
+abbrev pub topic_of : Text → Option Topic
+topic_of name =
+    if bytes_eq name (codes "exec") then Some topic.Exec
+    else if bytes_eq name (codes "check") then Some topic.Check
+    else if bytes_eq name (codes "explain") then Some topic.Explain
+    else if bytes_eq name (codes "same") then Some topic.Same
+    else if bytes_eq name (codes "filter") then Some topic.Filter
+    else if bytes_eq name (codes "run") then Some topic.Run
+    else if bytes_eq name (codes "pair") then Some topic.Pair
+    else if bytes_eq name (codes "help") then Some topic.Help
+    else if bytes_eq name (codes "version") then Some topic.Version
+    else None
+
+-- `help`, by the command that was found, or on all commands
+abbrev pub help_of_word : Option Text → Option Wanted
+help_of_word None = Some (help topic.Commands)
+help_of_word (Some name) = option_map (λ t. help t) (topic_of name)
+
+abbrev pub help_of : List Row → Option Wanted
+help_of rows = help_of_word (first_of (codes "command") rows)
+
 -- the subcommand that the words name, with what was found for its own words
 abbrev pub wanted_by : Text × List Row → Option Wanted
 wanted_by p =
@@ -115,6 +158,8 @@ wanted_by p =
     else if bytes_eq p.0 (codes "run") then Some run
     else if bytes_eq p.0 (codes "filter") then Some filter
     else if bytes_eq p.0 (codes "pair") then pair_of p.1
+    else if bytes_eq p.0 (codes "help") then help_of p.1
+    else if bytes_eq p.0 (codes "version") then Some version
     else None
 
 -- the command line takes the words
@@ -122,6 +167,6 @@ abbrev pub is_taken : Kinds → Bool
 is_taken [] = true
 is_taken (k ∷ ks) = false
 
--- what the words ask for, by the meaning of the command line; nothing if it refuses them, a call for help included
+-- what the words ask for, by the meaning of the command line; nothing if it refuses them, as it does the flag `--help`
 unfoldable pub wanted_of_words : List Text → Option Wanted
 wanted_of_words words = if is_taken (fault_of program_app words) then option_and_then wanted_by (subcommand_of program_app words) else None

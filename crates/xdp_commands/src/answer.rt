@@ -9,6 +9,7 @@ ghost use Rattle.xdp_commands.specs.Answer.{PairAnswer, PlacedAnswer, Reads, Ref
 ghost use Rattle.xdp_commands.specs.Answer.{RunAnswer, SameAnswer, SettingsAnswer, SetupAnswer};
 ghost use Rattle.xdp_commands.specs.Answer.{checked_answer, executed_answer, hex_bytes, program_status, settings_refused};
 ghost use Rattle.xdp_commands.specs.Answer.{Takes, TakesAtMost, words_refused};
+ghost use Rattle.xdp_commands.specs.Help.{help_lines, version_line};
 ghost use Rattle.xdp_commands.specs.Words as wanted;
 ghost use Rattle.xdp_commands.specs.Seen.{said_of, wanted_of};
 
@@ -16,6 +17,7 @@ use crate::comparing::{compare, compared_status, compared_text};
 use crate::executing::{Accepted, check, execute, run};
 use crate::explaining::{outcome_of, outcome_status, outcome_text};
 use crate::filtering::filter;
+use crate::help::{Topic, help_text, version_text};
 use crate::input::read_settings;
 use crate::lines::{checked_text, executed_text, filtered_text, ran_text, settings_text};
 use crate::pair_lines::{paired_status, paired_text};
@@ -344,6 +346,22 @@ fn input_pair<T: Threads + Wait + Sync, R: Read>(
     Ok(threads_answer(rt, alloc, host, turns, settings.as_slice())?)
 }
 
+/// Returns the answer of `help`.
+fn help_answer(alloc: Global, topic: Topic) -> Result<Answer, AllocError>
+    ensures { IfOk result (λ a. said_of a ≡ (help_lines topic, 0)) }
+{
+    let text = help_text(alloc, topic)?;
+    Ok(Answer { text, status: 0 })
+}
+
+/// Returns the answer of `version`.
+fn version_answer(alloc: Global) -> Result<Answer, AllocError>
+    ensures { IfOk result (λ a. said_of a ≡ (version_line, 0)) }
+{
+    let text = version_text(alloc)?;
+    Ok(Answer { text, status: 0 })
+}
+
 /// The answer to what the words ask for, if they ask for anything.
 pub fn answer_to<T: Threads + Wait + Sync, R: Read>(
     rt: &T,
@@ -365,5 +383,7 @@ pub fn answer_to<T: Threads + Wait + Sync, R: Read>(
         Some(Request::Run) => input_answer(alloc, Question::Run, input),
         Some(Request::Filter) => input_answer(alloc, Question::Filter, input),
         Some(Request::Pair { turns, host }) => input_pair(rt, alloc, host, turns, input),
+        Some(Request::Help(topic)) => Ok(help_answer(alloc, topic)?),
+        Some(Request::Version) => Ok(version_answer(alloc)?),
     }
 }

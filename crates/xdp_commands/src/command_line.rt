@@ -2,7 +2,7 @@
 ghost use Rattle.std.specs.Prelude.{◌≡◌, IfOk, false};
 ghost use Rattle.clap.specs.Words.{app_of};
 ghost use Rattle.clap.specs.declared.builder.command.Command.TheViews.{out-Command};
-ghost use Rattle.xdp_commands.specs.Words.{exec_app, pair_app, program_app, single_app};
+ghost use Rattle.xdp_commands.specs.Words.{bare_app, exec_app, help_app, pair_app, program_app, settings_app, single_app};
 
 use clap::{Arg, ArgAction, Command, value_parser};
 use std::alloc::{AllocError, Global};
@@ -36,6 +36,20 @@ fn pair_command<'a>(alloc: Global) -> Result<Command<'a>, AllocError>
     Command::new(alloc, "pair").arg(turns)?.arg(answer)
 }
 
+/// `help COMMAND`, the word left out or not.
+fn help_command<'a>(alloc: Global) -> Result<Command<'a>, AllocError>
+    ensures { IfOk result (λ c. (app_of c ≡ help_app) × ((out-Command c).has_globals ≡ false)) }
+{
+    Command::new(alloc, "help").arg(Arg::new(alloc, "command"))
+}
+
+/// The program's own command: `help` is a subcommand of its own.
+fn bare_command<'a>(alloc: Global) -> Command<'a>
+    ensures { (app_of result ≡ bare_app) × ((out-Command result).has_globals ≡ false) }
+{
+    Command::new(alloc, "xdpbox").disable_help_subcommand(true)
+}
+
 /// The commands that pass no packets of settings to a program.
 #[tactic(auto, unfolding(crate::specs::Words::single_app))]
 fn single_commands<'a>(alloc: Global) -> Result<Command<'a>, AllocError>
@@ -45,11 +59,21 @@ fn single_commands<'a>(alloc: Global) -> Result<Command<'a>, AllocError>
     let check = Command::new(alloc, "check");
     let explain = Command::new(alloc, "explain");
     let same = Command::new(alloc, "same");
-    Command::new(alloc, "xdpbox")
+    bare_command(alloc)
         .subcommand(exec)?
         .subcommand(check)?
         .subcommand(explain)?
         .subcommand(same)
+}
+
+/// These, and the commands that pass packets to the program on one thread.
+#[tactic(auto, unfolding(crate::specs::Words::settings_app))]
+fn settings_commands<'a>(alloc: Global) -> Result<Command<'a>, AllocError>
+    ensures { IfOk result (λ c. app_of c ≡ settings_app) }
+{
+    let run = Command::new(alloc, "run");
+    let filter = Command::new(alloc, "filter");
+    single_commands(alloc)?.subcommand(run)?.subcommand(filter)
 }
 
 /// The program's command.
@@ -57,11 +81,11 @@ fn single_commands<'a>(alloc: Global) -> Result<Command<'a>, AllocError>
 pub fn program_command<'a>(alloc: Global) -> Result<Command<'a>, AllocError>
     ensures { IfOk result (λ c. app_of c ≡ program_app) }
 {
-    let run = Command::new(alloc, "run");
-    let filter = Command::new(alloc, "filter");
     let pair = pair_command(alloc)?;
-    single_commands(alloc)?
-        .subcommand(run)?
-        .subcommand(filter)?
-        .subcommand(pair)
+    let help = help_command(alloc)?;
+    let version = Command::new(alloc, "version");
+    settings_commands(alloc)?
+        .subcommand(pair)?
+        .subcommand(help)?
+        .subcommand(version)
 }

@@ -4,7 +4,7 @@ ghost use Rattle.bpf_insn.specs.Code.{Spells};
 ghost use Rattle.xdp_load.specs.OriginalSeen.{place_view, rewritten_view};
 ghost use Rattle.xdp_load.specs.SetupSeen.{setup_view};
 ghost use Rattle.xdp_load.specs.Sound.{IsSound};
-ghost use Rattle.xdp_commands.specs.Comparing.{Compares, IsSamePair, compared_status, compared_text};
+ghost use Rattle.xdp_commands.specs.Comparing.{Compares, IsSamePair, compared_status, compared_text, tried_of};
 ghost use Rattle.xdp_commands.specs.Executing.{IsProgramOf};
 
 use crate::executing::accept;
@@ -32,15 +32,16 @@ pub enum Compared {
 }
 
 /// The places of the original's that are to be tried.
-fn places_of(alloc: Global, places: &[xdp_load::Place]) -> Result<Vec<Place>, AllocError> {
-    let mut tried = Vec::new(alloc);
-    for place in places {
-        tried.push(Place {
+fn places_of(alloc: Global, places: &[xdp_load::Place]) -> Result<Vec<Place>, AllocError>
+    ensures { IfOk result (λ v. v.items ≡ map tried_of places.now) }
+{
+    places
+        .iter()
+        .map(|place| Place {
             own: place.own,
             at: place.at,
-        })?;
-    }
-    Ok(tried)
+        })
+        .collect(alloc)
 }
 
 /// Compares the program of a setup, which was accepted, with the one that it was made of.

@@ -4,6 +4,7 @@
 //!   none (`stop`)
 //! - `input`, `output`: reading settings, and writing
 //! - `executing`, `explaining`, `comparing`, `filtering`, `pairing`: what each command does
+//! - `help`: what `help` and `version` print
 //! - `lines`, `turn_lines`, `pair_lines`, `counter_lines`, `numbers`: what is printed
 #![tactic(auto)]
 
@@ -14,6 +15,7 @@ mod counter_lines;
 mod executing;
 mod explaining;
 mod filtering;
+mod help;
 mod input;
 mod lines;
 mod numbers;
@@ -26,6 +28,7 @@ mod stop;
 mod turn_lines;
 
 pub use counter_lines::add_counters;
+pub use help::Topic;
 pub use pair_lines::{paired_status, paired_text};
 pub use pairing::{Paired, outcome};
 pub use program::{print_memory, run_words};

@@ -1,10 +1,11 @@
 //! What the words of a call ask for.
 ghost use Rattle.std.specs.Prelude.{◌≡◌, ◌↔◌, IfOk, IsTrue, codes, map, option_map, option_and_then};
 ghost use Rattle.clap.specs.Words.{first_of, found_of, kind_of, one_of, rows_of, subcommand_rows_of};
-ghost use Rattle.xdp_commands.specs.Words.{exec_of, host_of, number_of, pair_of, wanted_by, wanted_of_words};
+ghost use Rattle.xdp_commands.specs.Words.{exec_of, help_of, host_of, number_of, pair_of, topic_of, wanted_by, wanted_of_words};
 ghost use Rattle.xdp_commands.specs.Seen.{wanted_of};
 
 use crate::command_line::program_command;
+use crate::help::Topic;
 use clap::error::ErrorKind;
 use clap::{ArgMatches, Error};
 use std::alloc::{AllocError, Global};
@@ -28,6 +29,10 @@ pub enum Request<'a> {
     Filter,
     /// What the queues of the settings do on threads, in at most `turns` turns each, beside this host.
     Pair { turns: u32, host: Host },
+    /// The lines on a command, or on all.
+    Help(Topic),
+    /// The version.
+    Version,
 }
 
 /// The word of a positional.
@@ -72,6 +77,50 @@ fn pair_in<'a>(matches: &ArgMatches<'a>) -> Option<Request<'a>>
     Some(Request::Pair { turns, host })
 }
 
+/// Returns what help is about, by a command's name.
+fn topic_of(name: &str) -> Option<Topic>
+    ensures { result ≡ topic_of name.now }
+{
+    if name == "exec" {
+        return Some(Topic::Exec);
+    }
+    if name == "check" {
+        return Some(Topic::Check);
+    }
+    if name == "explain" {
+        return Some(Topic::Explain);
+    }
+    if name == "same" {
+        return Some(Topic::Same);
+    }
+    if name == "filter" {
+        return Some(Topic::Filter);
+    }
+    if name == "run" {
+        return Some(Topic::Run);
+    }
+    if name == "pair" {
+        return Some(Topic::Pair);
+    }
+    if name == "help" {
+        return Some(Topic::Help);
+    }
+    if name == "version" {
+        return Some(Topic::Version);
+    }
+    None
+}
+
+/// Returns the command that help was asked about, or all of them.
+fn help_in<'a>(matches: &ArgMatches<'a>) -> Option<Request<'a>>
+    ensures { option_map wanted_of result ≡ help_of (rows_of (found_of matches.now)) }
+{
+    match word_at(matches, "command") {
+        None => Some(Request::Help(Topic::Commands)),
+        Some(name) => Some(Request::Help(topic_of(name)?)),
+    }
+}
+
 /// What the matches ask for.
 fn request_in<'a>(matches: &ArgMatches<'a>) -> Option<Request<'a>>
     ensures { option_map wanted_of result ≡ option_and_then wanted_by (subcommand_rows_of matches.now) }
@@ -97,6 +146,12 @@ fn request_in<'a>(matches: &ArgMatches<'a>) -> Option<Request<'a>>
     }
     if name == "pair" {
         return pair_in(inner);
+    }
+    if name == "help" {
+        return help_in(inner);
+    }
+    if name == "version" {
+        return Some(Request::Version);
     }
     None
 }
