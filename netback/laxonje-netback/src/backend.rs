@@ -1,14 +1,16 @@
 //! The main thread: XenStore's changes, reports of queues, signals, and questions.
 use crate::control::Control;
+use crate::device::node::{self, Kernel};
 use crate::device::{Device, Id, Shared};
 use crate::ffi::SIGHUP;
 use crate::keys;
-use crate::log::{Limit, Log};
+use crate::log::Log;
 use crate::options::Options;
-use crate::os::{give_up_capabilities, restrict_to_service, set_priority, wait, Signals, Wanted};
+use crate::os::{allow_priority, give_up_capabilities, restrict_to_service, wait, Signals, Wanted};
 use crate::serve::{Report, Reports};
 use crate::stats;
 use crate::xen::{Grants, Store};
+use std::cell::RefCell;
 use std::collections::{BTreeMap, BTreeSet};
 use std::io::{self, Read};
 use std::os::unix::io::AsRawFd;
@@ -16,11 +18,15 @@ use std::os::unix::net::UnixStream;
 use std::path::Path;
 use std::sync::mpsc::{channel, Receiver};
 use std::sync::Arc;
+use std::thread::sleep;
 use std::time::{Duration, Instant};
 
 const BACKENDS: &str = "backend/vif";
 const TOKEN: &str = "back";
-const LINUX_DRIVER: &str = "/sys/bus/xen-backend/drivers/vif";
+/// Beside the kernel's xen-netback, a device that no driver is bound to is taken after this time: the kernel may be about to bind its own.
+const SETTLES: Duration = Duration::from_secs(1);
+/// Nobody can be answered: descriptors have run out.
+const PAUSE: Duration = Duration::from_millis(10);
 /// The most changes at once, before signals and questions have their turn.
 const MOST_CHANGES: usize = 1000;
 
@@ -34,17 +40,14 @@ pub struct Backend {
     log: Log,
     /// Devices that aren't served, and lines about them.
     wrong: BTreeMap<Id, String>,
-    lines: Limit,
+    /// Devices that the kernel's xen-netback hasn't bound, and when they may be taken.
+    unbound: BTreeMap<Id, Instant>,
     looked: Instant,
 }
 
 impl Backend {
     /// Opens all that is needed, and gives up what isn't.
     pub fn open(options: Options) -> io::Result<Backend> {
-        if Path::new(LINUX_DRIVER).exists() {
-            let why = "the kernel's xen-netback is loaded and takes each device: modprobe -r xen-netback, and keep it from being loaded";
-            return Err(io::Error::new(io::ErrorKind::AddrInUse, why));
-        }
         let named = |what: &'static str| move |error: io::Error| io::Error::new(error.kind(), format!("{what}: {error}"));
         let signals = Signals::block()?;
         let store = Store::open().map_err(named("XenStore"))?;
@@ -55,9 +58,10 @@ impl Backend {
         if !grants.shares() {
             log.line("Xen knows no pages of this process by references (the module xen-gntalloc): packets cost more");
         }
-        if let Err(error) = set_priority(options.nice) {
-            log.line(&format!("the priority isn't {}: {error}", options.nice));
+        if Path::new(node::BACKENDS).join("drivers/vif").exists() {
+            log.line("the kernel's xen-netback is loaded: devices that it is bound to are left to it");
         }
+        allow_priority(options.nice);
         if options.restricted {
             give_up_capabilities(true).map_err(named("capabilities"))?;
             restrict_to_service().map_err(named("the list of system calls"))?;
@@ -67,9 +71,9 @@ impl Backend {
         wake.set_nonblocking(true)?;
         woken.set_nonblocking(true)?;
         store.watch(BACKENDS, TOKEN)?;
-        let shared = Shared { store, grants, options, reports: Reports { to, wake: Arc::new(wake) } };
-        let (devices, wrong, lines, looked) = (BTreeMap::new(), BTreeMap::new(), Limit::default(), Instant::now());
-        Ok(Backend { shared, control, signals, reported, woken, devices, log, wrong, lines, looked })
+        let shared = Shared { store, grants, options, reports: Reports { to, wake: Arc::new(wake) }, filters: RefCell::default() };
+        let (devices, wrong, unbound, looked) = (BTreeMap::new(), BTreeMap::new(), BTreeMap::new(), Instant::now());
+        Ok(Backend { shared, control, signals, reported, woken, devices, log, wrong, unbound, looked })
     }
 
     /// Serves until a signal says to end. Guests stay connected: their packets wait for the next process.
@@ -85,7 +89,10 @@ impl Backend {
     fn round(&mut self) -> bool {
         let fds = [self.shared.store.fd(), self.woken.as_raw_fd(), self.control.fd(), self.signals.fd()];
         let mut wanted = fds.map(Wanted::of);
-        wait(&mut wanted, self.time());
+        if let Err(error) = wait(&mut wanted, self.time()) {
+            self.log.caused(&format_args!("no events: {error}"));
+            sleep(PAUSE);
+        }
         if wanted[0].ready {
             let changed = self.changed();
             self.follow(changed);
@@ -105,7 +112,8 @@ impl Backend {
         let now = Instant::now();
         let device = self.devices.values().filter_map(|device| device.later).min();
         let file = self.shared.options.watch.map(|each| self.looked + each);
-        device.into_iter().chain(file).min().map(|at| at.saturating_duration_since(now) + Duration::from_millis(1))
+        let unbound = self.unbound.values().min().copied();
+        device.into_iter().chain(file).chain(unbound).min().map(|at| at.saturating_duration_since(now) + Duration::from_millis(1))
     }
 
     /// Which devices have changed. Many changes of one device count once.
@@ -137,7 +145,7 @@ impl Backend {
     fn follow(&mut self, changed: BTreeSet<Id>) {
         let served = self.shared.options.domain;
         for id in changed.into_iter().filter(|id| served.map_or(true, |domain| domain == id.domain)) {
-            if !self.devices.contains_key(&id) {
+            if !self.devices.contains_key(&id) && self.may_take(id) {
                 self.find(id);
             }
             let stays = self.devices.get_mut(&id).map_or(true, |device| device.follow(&self.shared));
@@ -146,6 +154,21 @@ impl Backend {
                 device.leave(&self.shared);
             }
         }
+    }
+
+    /// Whether the kernel leaves a device to this process.
+    fn may_take(&mut self, id: Id) -> bool {
+        let kernel = node::kernel(Path::new(node::BACKENDS), id);
+        if kernel != Kernel::Unbound || self.shared.store.read(&format!("{}/frontend", id.back())).is_none() {
+            self.unbound.remove(&id);
+            return kernel != Kernel::Bound;
+        }
+        let now = Instant::now();
+        let is_settled = *self.unbound.entry(id).or_insert(now + SETTLES) <= now;
+        if is_settled {
+            self.unbound.remove(&id);
+        }
+        is_settled
     }
 
     fn find(&mut self, id: Id) {
@@ -158,8 +181,8 @@ impl Backend {
             Err(why) => {
                 let known = self.wrong.insert(id, why.clone()).map_or(false, |before| before == why);
                 let _ = self.shared.store.write(&format!("error/{}/error", id.back()), &why);
-                if let (false, Some(skipped)) = (known, self.lines.allows()) {
-                    self.log.line(&format!("domain {} device {} isn't served: {why}{skipped}", id.domain, id.number));
+                if !known {
+                    self.log.caused(&format_args!("domain {} device {} isn't served: {why}", id.domain, id.number));
                 }
             }
         }
@@ -180,7 +203,9 @@ impl Backend {
     fn look_again(&mut self) {
         let now = Instant::now();
         let due = |device: &Device| device.later.map_or(false, |at| at <= now);
-        let due: BTreeSet<Id> = self.devices.iter().filter(|(_, device)| due(device)).map(|(id, _)| *id).collect();
+        let devices = self.devices.iter().filter(|(_, device)| due(device)).map(|(id, _)| *id);
+        let unbound = self.unbound.iter().filter(|(_, at)| **at <= now).map(|(id, _)| *id);
+        let due: BTreeSet<Id> = devices.chain(unbound).collect();
         self.follow(due);
         if self.shared.options.watch.map_or(false, |each| self.looked + each <= now) {
             self.looked = now;
@@ -201,8 +226,9 @@ impl Backend {
             let answer = self.answer_to(&asked.question);
             asked.answer(&answer)
         });
-        if let (Err(error), Some(skipped)) = (answered, self.lines.allows()) {
-            self.log.line(&format!("a question isn't answered: {error}{skipped}"));
+        if let Err(error) = answered {
+            self.log.caused(&format_args!("a question isn't answered: {error}"));
+            sleep(PAUSE);
         }
     }
 

@@ -67,6 +67,18 @@ pub fn ask(path: &Path, question: &str) -> io::Result<String> {
 mod tests {
     use super::*;
 
+    /// A child that another test starts has a copy of each descriptor until it runs its own program, and so the socket may
+    /// be answered on for a moment more.
+    fn is_soon_given_up(path: &Path) -> bool {
+        (0..500).any(|_| {
+            let opened = Control::open(path).is_ok();
+            if !opened {
+                std::thread::sleep(Duration::from_millis(10));
+            }
+            opened
+        })
+    }
+
     #[test]
     fn a_question_is_answered_and_one_program_has_the_socket() {
         let path = std::env::temp_dir().join(format!("laxonje-control-{}.sock", std::process::id()));
@@ -85,7 +97,7 @@ mod tests {
         assert_eq!(client.join().unwrap().unwrap(), "an answer");
         assert_eq!(Control::open(&path).err().unwrap().kind(), io::ErrorKind::AddrInUse);
         drop(control);
-        assert!(Control::open(&path).is_ok());
+        assert!(is_soon_given_up(&path));
         fs::remove_file(&path).unwrap();
     }
 }

@@ -137,18 +137,26 @@ pub struct ifreq {
 }
 pub const TUNSETIFF: c_ulong = 0x4004_54ca;
 pub const TUNSETPERSIST: c_ulong = 0x4004_54cb;
+pub const TUNSETCARRIER: c_ulong = 0x4004_54e2;
 pub const SIOCGIFFLAGS: c_ulong = 0x8913;
 pub const SIOCSIFFLAGS: c_ulong = 0x8914;
+pub const SIOCGIFNAME: c_ulong = 0x8910;
 pub const SIOCSIFMTU: c_ulong = 0x8922;
+pub const SIOCSIFNAME: c_ulong = 0x8923;
 pub const SIOCSIFHWADDR: c_ulong = 0x8924;
 pub const SIOCGIFINDEX: c_ulong = 0x8933;
+pub const SIOCSIFTXQLEN: c_ulong = 0x8943;
 pub const SIOCBRADDIF: c_ulong = 0x89a2;
 pub const IFF_UP: u16 = 1;
-/// `IFF_TAP | IFF_MULTI_QUEUE | IFF_NO_PI | IFF_VNET_HDR`.
-pub const TAP_FLAGS: u16 = 0x0002 | 0x0100 | 0x1000 | 0x4000;
+/// `IFF_TAP | IFF_NO_PI | IFF_VNET_HDR`.
+pub const TAP_FLAGS: u16 = 0x0002 | 0x1000 | 0x4000;
+pub const IFF_MULTI_QUEUE: u16 = 0x0100;
 pub const ARPHRD_ETHER: u16 = 1;
 pub const O_NONBLOCK: c_int = 0o4000;
+pub const EINTR: c_int = 4;
 pub const EBUSY: c_int = 16;
+pub const ENODEV: c_int = 19;
+pub const EINVAL: c_int = 22;
 
 #[repr(C)]
 pub struct cap_header {
@@ -162,6 +170,13 @@ pub struct cap_data {
     pub permitted: u32,
     pub inheritable: u32,
 }
+#[repr(C)]
+#[derive(Clone, Copy, Default)]
+pub struct rlimit {
+    pub current: c_ulong,
+    pub most: c_ulong,
+}
+pub const RLIMIT_NICE: c_int = 13;
 pub const CAP_VERSION_3: u32 = 0x2008_0522;
 pub const CAP_NET_ADMIN: u32 = 12;
 pub const PRIO_PROCESS: c_int = 0;
@@ -231,5 +246,18 @@ extern "C" {
     pub fn prctl(option: c_int, second: c_ulong, third: c_ulong, fourth: c_ulong, fifth: c_ulong) -> c_int;
     pub fn sched_setscheduler(pid: c_int, policy: c_int, priority: *const c_int) -> c_int;
     pub fn setpriority(which: c_int, who: c_uint, nice: c_int) -> c_int;
+    pub fn getrlimit(resource: c_int, limit: *mut rlimit) -> c_int;
+    pub fn setrlimit(resource: c_int, limit: *const rlimit) -> c_int;
     pub fn capset(header: *mut cap_header, data: *const cap_data) -> c_int;
 }
+
+// The sizes that headers.c compares with the headers.
+const _: () = assert!(std::mem::size_of::<xengnttab_grant_copy_segment>() == 24);
+const _: () = assert!(std::mem::size_of::<xentoollog_logger>() == 24);
+const _: () = assert!(std::mem::size_of::<ifreq>() == 40);
+const _: () = assert!(std::mem::size_of::<pollfd>() == 8);
+const _: () = assert!(std::mem::size_of::<signal_set>() == 128);
+const _: () = assert!(std::mem::size_of::<rlimit>() == 16);
+const _: () = assert!(std::mem::size_of::<cap_header>() == 8 && std::mem::size_of::<cap_data>() == 12);
+const _: () = assert!(std::mem::size_of::<sock_filter>() == 8 && std::mem::size_of::<sock_fprog>() == 16);
+const _: () = assert!(std::mem::size_of::<iocb>() == 64 && std::mem::size_of::<io_event>() == 32);

@@ -1,22 +1,25 @@
 //! Filters: which settings file a device has, and the program of it.
+use crate::ffi::O_NONBLOCK;
 use laxonje::{LoadError, Program};
+use std::collections::BTreeMap;
 use std::error::Error;
 use std::fmt;
-use std::fs::File;
+use std::fs::OpenOptions;
 use std::io::{self, Read};
+use std::os::unix::fs::OpenOptionsExt;
 use std::path::{Path, PathBuf};
+use std::rc::Rc;
 
 /// The most bytes that a settings text has.
 const MOST_TEXT: u64 = 1 << 20;
+/// What the toolstack appends to the name of a guest that comes from another host, until it is here.
+const INCOMING: &str = "--incoming";
 
 /// A program with its file.
 #[derive(Debug)]
 pub struct Filter {
     pub path: PathBuf,
     pub program: Program,
-    /// The names of its maps, or their numbers.
-    pub names: Vec<String>,
-    text: Vec<u8>,
 }
 
 /// Why a file gives no filter.
@@ -54,96 +57,125 @@ impl Error for FilterError {}
 impl Filter {
     pub fn load(path: &Path) -> Result<Filter, FilterError> {
         let text = read(path).map_err(|error| FilterError::Read(path.to_owned(), error))?;
-        let program = Program::from_settings(&text).map_err(|error| FilterError::Load(path.to_owned(), error))?;
-        let names = names(&String::from_utf8_lossy(&text), program.maps().len());
-        Ok(Filter { path: path.to_owned(), program, names, text })
+        Filter::of(path, &text).map_err(|error| FilterError::Load(path.to_owned(), error))
     }
 
-    /// Whether another filter is the same text of the same file.
-    pub fn is(&self, other: &Filter) -> bool {
-        self.path == other.path && self.text == other.text
+    fn of(path: &Path, text: &[u8]) -> Result<Filter, LoadError> {
+        let program = Program::from_settings(text)?;
+        Ok(Filter { path: path.to_owned(), program })
+    }
+
+    /// Whether another filter's counters go on as this one's: its maps have the same names and sizes, in the same order.
+    pub fn counts_as(&self, other: &Filter) -> bool {
+        self.program.map_names() == other.program.map_names() && self.program.maps() == other.program.maps()
     }
 }
 
-/// A longer text is cut, and is refused then.
+/// The filters of all devices. A text is verified once, however many devices have it and however often it is looked at.
+#[derive(Debug, Default)]
+pub struct Filters(BTreeMap<PathBuf, Known>);
+
+/// A text, and what came of it.
+#[derive(Debug)]
+struct Known {
+    text: Vec<u8>,
+    filter: Result<Rc<Filter>, LoadError>,
+}
+
+impl Filters {
+    /// The filter of the first place that is there: the same one as before, if its text is the same.
+    pub fn find(&mut self, places: Vec<PathBuf>) -> Result<Rc<Filter>, FilterError> {
+        let path = match places.iter().find(|path| path.exists()) {
+            Some(path) => path,
+            None => return Err(FilterError::None(places)),
+        };
+        let text = read(path).map_err(|error| FilterError::Read(path.clone(), error))?;
+        let known = self.0.get(path).filter(|known| known.text == text).map(|known| known.filter.clone());
+        let filter = known.unwrap_or_else(|| self.learn(path, text));
+        filter.map_err(|error| FilterError::Load(path.clone(), error))
+    }
+
+    fn learn(&mut self, path: &Path, text: Vec<u8>) -> Result<Rc<Filter>, LoadError> {
+        let filter = Filter::of(path, &text).map(Rc::new);
+        self.0.insert(path.to_owned(), Known { text, filter: filter.clone() });
+        filter
+    }
+}
+
+/// Reads a regular file: to wait for who writes a fifo would keep all devices waiting. A longer text is cut, and is refused then.
 fn read(path: &Path) -> io::Result<Vec<u8>> {
+    let file = OpenOptions::new().read(true).custom_flags(O_NONBLOCK).open(path)?;
+    if !file.metadata()?.is_file() {
+        return Err(io::Error::new(io::ErrorKind::InvalidInput, "no regular file"));
+    }
     let mut text = Vec::new();
-    File::open(path)?.take(MOST_TEXT + 1).read_to_end(&mut text)?;
+    file.take(MOST_TEXT + 1).read_to_end(&mut text)?;
     Ok(text)
 }
 
-/// The names of the maps of a settings text that is accepted, in its order; their numbers if that many names aren't found.
-fn names(text: &str, count: usize) -> Vec<String> {
-    let mut found = Vec::new();
-    let mut table = "";
-    for line in text.lines().map(str::trim) {
-        if line.starts_with('[') {
-            table = line;
-        }
-        let value = line.strip_prefix("name").map(str::trim_start).and_then(|rest| rest.strip_prefix('='));
-        if let (true, Some(value)) = (table.starts_with("[[map]]"), value) {
-            found.extend(value.trim().strip_prefix('"').and_then(|rest| rest.split('"').next()).map(str::to_owned));
-        }
-    }
-    match found.len() == count {
-        true => found,
-        false => (0..count).map(|number| number.to_string()).collect(),
-    }
+/// Which guest a device is of, for its filter's file.
+#[derive(Clone, Debug, Default, PartialEq, Eq)]
+pub struct Guest {
+    pub name: String,
+    /// The text of its UUID, which stays when it is renamed or comes from another host.
+    pub uuid: Option<String>,
 }
 
-/// Where a device's filter may be, best first: the key `filter` of its backend's node alone, if it is there; else by the guest's name
-/// and the device's number, by the name, and the default.
-pub fn places(folder: &Path, key: Option<&str>, guest: &str, device: u32) -> Vec<PathBuf> {
+/// Where a device's filter may be, best first: the key `filter` of its backend's node alone, if it is there; else by the guest's UUID, by its
+/// name, each with the device's number and without, and the default.
+pub fn places(folder: &Path, key: Option<&str>, guest: &Guest, device: u32) -> Vec<PathBuf> {
     if let Some(key) = key {
         return vec![folder.join(key)];
     }
-    let mut names = vec!["default.toml".to_owned()];
-    let plain = !guest.is_empty() && !guest.starts_with('.') && !guest.contains('/');
-    if plain {
-        names.insert(0, format!("{guest}.toml"));
-        names.insert(0, format!("{guest}.{device}.toml"));
-    }
-    names.iter().map(|name| folder.join(name)).collect()
-}
-
-/// The filter of the first place that is there.
-pub fn find(places: Vec<PathBuf>) -> Result<Filter, FilterError> {
-    match places.iter().find(|path| path.exists()) {
-        Some(path) => Filter::load(path),
-        None => Err(FilterError::None(places)),
-    }
+    let name = guest.name.strip_suffix(INCOMING).unwrap_or(&guest.name);
+    let is_plain = |name: &&str| !name.is_empty() && !name.starts_with('.') && !name.contains('/');
+    let by = |name: &str| [folder.join(format!("{name}.{device}.toml")), folder.join(format!("{name}.toml"))];
+    let of_guest = guest.uuid.as_deref().into_iter().chain([name]).filter(is_plain).flat_map(by);
+    of_guest.chain([folder.join("default.toml")]).collect()
 }
 
 #[cfg(test)]
 mod tests {
     use super::*;
 
+    const COUNT: &[u8] = include_bytes!("../../../examples/count-protocols/settings.toml");
+
+    fn folder(name: &str) -> PathBuf {
+        let folder = std::env::temp_dir().join(format!("laxonje-{name}-{}", std::process::id()));
+        std::fs::create_dir_all(&folder).unwrap();
+        folder
+    }
+
     #[test]
     fn a_device_has_its_file_that_of_its_guest_or_the_default() {
-        let names = |key, guest, device| {
+        let names = |key, guest: &Guest, device| {
             places(Path::new("/f"), key, guest, device).iter().map(|path| path.display().to_string()).collect::<Vec<_>>()
         };
-        assert_eq!(names(None, "web", 1), ["/f/web.1.toml", "/f/web.toml", "/f/default.toml"]);
-        assert_eq!(names(Some("/x/y.toml"), "web", 1), ["/x/y.toml"]);
-        assert_eq!(names(Some("y.toml"), "web", 1), ["/f/y.toml"]);
-        for guest in ["", "../web", "a/b", ".."] {
-            assert_eq!(names(None, guest, 0), ["/f/default.toml"], "{guest}");
+        let named = |name: &str| Guest { name: name.to_owned(), uuid: None };
+        assert_eq!(names(None, &named("web"), 1), ["/f/web.1.toml", "/f/web.toml", "/f/default.toml"]);
+        assert_eq!(names(Some("/x/y.toml"), &named("web"), 1), ["/x/y.toml"]);
+        assert_eq!(names(Some("y.toml"), &named("web"), 1), ["/f/y.toml"]);
+        for guest in ["", "../web", "a/b", "..", "--incoming"] {
+            assert_eq!(names(None, &named(guest), 0), ["/f/default.toml"], "{guest}");
         }
+        // while it comes from another host
+        assert_eq!(names(None, &named("web--incoming"), 0), names(None, &named("web"), 0));
+        let known = Guest { name: "web".to_owned(), uuid: Some("6f2a".to_owned()) };
+        assert_eq!(names(None, &known, 0), ["/f/6f2a.0.toml", "/f/6f2a.toml", "/f/web.0.toml", "/f/web.toml", "/f/default.toml"]);
     }
 
     #[test]
     fn the_first_that_is_there_is_taken_and_refusals_say_where() {
-        let folder = std::env::temp_dir().join(format!("laxonje-filters-{}", std::process::id()));
-        std::fs::create_dir_all(&folder).unwrap();
+        let (folder, mut filters) = (folder("filters"), Filters::default());
         let at = |name: &str| folder.join(name);
-        let none = find(vec![at("a.toml"), at("b.toml")]).unwrap_err().to_string();
+        let mut find = |names: &[&str]| filters.find(names.iter().map(|name| at(name)).collect());
+        let none = find(&["a.toml", "b.toml"]).unwrap_err().to_string();
         assert!(none.starts_with("there is no filter: none of ") && none.ends_with("/b.toml"), "{none}");
-        std::fs::write(at("b.toml"), include_bytes!("../../../examples/count-protocols/settings.toml")).unwrap();
-        let filter = find(vec![at("a.toml"), at("b.toml")]).unwrap();
-        assert_eq!((filter.path.clone(), filter.names.clone()), (at("b.toml"), vec!["protocols".to_owned()]));
-        assert!(filter.is(&Filter::load(&at("b.toml")).unwrap()));
+        std::fs::write(at("b.toml"), COUNT).unwrap();
+        let filter = find(&["a.toml", "b.toml"]).unwrap();
+        assert_eq!((filter.path.clone(), filter.program.map_names()), (at("b.toml"), &["protocols".to_owned()][..]));
         std::fs::write(at("a.toml"), "program = [\"9500000000000000\"]").unwrap();
-        let refused = find(vec![at("a.toml"), at("b.toml")]).unwrap_err().to_string();
+        let refused = find(&["a.toml", "b.toml"]).unwrap_err().to_string();
         assert!(refused.contains("a.toml: V7 at slot 0: a register is read that may be unset; "), "{refused}");
         std::fs::write(at("a.toml"), vec![b'#'; (1 << 20) + 1]).unwrap();
         assert!(Filter::load(&at("a.toml")).unwrap_err().to_string().contains("L1"));
@@ -152,10 +184,31 @@ mod tests {
     }
 
     #[test]
-    fn maps_have_their_names_or_their_numbers() {
-        let text = "program = []\n[[map]]\nname = \"a b\" # x\nentries = 1\n [[map]]\nentries = 2\n  name=\"c\"\n[[reloc]]\nname = \"d\"\n";
-        assert_eq!(names(text, 2), ["a b", "c"]);
-        assert_eq!(names("map = [{name = \"x\", entries = 1}]", 1), ["0"]);
-        assert!(names("", 0).is_empty());
+    fn a_text_is_verified_once_for_all_devices() {
+        let (folder, mut filters) = (folder("once"), Filters::default());
+        let path = folder.join("a.toml");
+        std::fs::write(&path, COUNT).unwrap();
+        let first = filters.find(vec![path.clone()]).unwrap();
+        std::fs::write(&path, COUNT).unwrap();
+        assert!(Rc::ptr_eq(&first, &filters.find(vec![folder.join("none.toml"), path.clone()]).unwrap()));
+        std::fs::write(&path, [COUNT, b"# changed\n"].concat()).unwrap();
+        let changed = filters.find(vec![path.clone()]).unwrap();
+        assert!(!Rc::ptr_eq(&first, &changed) && first.counts_as(&changed));
+        let renamed = String::from_utf8_lossy(COUNT).replace("\"protocols\"", "\"others\"");
+        std::fs::write(&path, renamed).unwrap();
+        assert!(!changed.counts_as(&filters.find(vec![path]).unwrap()));
+        std::fs::remove_dir_all(&folder).unwrap();
+    }
+
+    #[test]
+    fn what_is_no_regular_file_is_refused_at_once() {
+        let folder = folder("fifo");
+        let fifo = folder.join("f.toml");
+        assert!(std::process::Command::new("mkfifo").arg(&fifo).status().unwrap().success());
+        for path in [&fifo, &folder, Path::new("/dev/zero")] {
+            let refused = Filter::load(path).unwrap_err().to_string();
+            assert!(refused.ends_with(": no regular file"), "{refused}");
+        }
+        std::fs::remove_dir_all(&folder).unwrap();
     }
 }

@@ -1,26 +1,40 @@
-//! Lines for the log, on standard error: one each, and of those that a guest can cause only a few a minute.
+//! Lines for the log, on standard error: one each, and of those that a guest can cause only a few a minute for each device.
+use std::fmt;
 use std::io::Write;
+use std::sync::{Arc, Mutex, PoisonError};
 use std::time::{Duration, Instant};
 
 /// How many lines at once; then one in this time.
 const BURST: u32 = 5;
 const EACH: Duration = Duration::from_secs(10);
 
-/// Writes lines of one device.
+/// Writes lines of one device. Its clones write of the same device, and have one limit for what the guest can cause.
 #[derive(Clone, Debug)]
 pub struct Log {
     about: String,
+    caused: Arc<Mutex<Limit>>,
 }
 
 impl Log {
     pub fn of(about: &str) -> Log {
-        Log { about: about.to_owned() }
+        Log { about: about.to_owned(), caused: Arc::default() }
     }
 
     /// Writes a line. What isn't plain text in it, which a guest may have written, is replaced.
     pub fn line(&self, text: &str) {
         let plain: String = text.chars().map(|one| if one.is_control() { '?' } else { one }).take(500).collect();
         let _ = writeln!(std::io::stderr(), "laxonje-netback: {}: {plain}", self.about);
+    }
+
+    /// Writes a line that a guest can cause, if one may be written.
+    pub fn caused(&self, what: &dyn fmt::Display) {
+        if let Some(skipped) = self.allows() {
+            self.line(&format!("{what}{skipped}"));
+        }
+    }
+
+    fn allows(&self) -> Option<String> {
+        self.caused.lock().unwrap_or_else(PoisonError::into_inner).allows()
     }
 }
 
@@ -72,6 +86,13 @@ impl Limit {
 #[cfg(test)]
 mod tests {
     use super::*;
+
+    #[test]
+    fn the_threads_and_connections_of_a_device_have_one_limit() {
+        let device = Log::of("vif1.0");
+        let allowed = (0..31).flat_map(|_| [device.clone(), device.clone()]).filter(|thread| thread.allows().is_some()).count();
+        assert_eq!((allowed, device.allows(), Log::of("vif2.0").allows().as_deref()), (5, None, Some("")));
+    }
 
     #[test]
     fn after_a_burst_a_line_comes_now_and_then() {

@@ -11,6 +11,7 @@ mod log;
 mod options;
 #[allow(unsafe_code)]
 mod os;
+mod panics;
 mod serve;
 mod stats;
 #[allow(unsafe_code)]
@@ -43,6 +44,7 @@ fn ends(status: i32, why: &str) -> ! {
 
 fn obey(command: Command) -> Result<(), String> {
     laxonje::check_version().map_err(|error| error.to_string())?;
+    panics::keep();
     match command {
         Command::Help => say(options::HELP),
         Command::Version => say(&format!("{VERSION}\n")),
@@ -62,7 +64,8 @@ fn say(text: &str) -> Result<(), String> {
 fn check(file: &Path) -> Result<(), String> {
     let filter = Filter::load(file).map_err(|error| error.to_string())?;
     let maps: Vec<_> = filter
-        .names
+        .program
+        .map_names()
         .iter()
         .zip(filter.program.maps())
         .map(|(name, map)| format!(", map {name} {}x{}", map.entries, map.counters))

@@ -1,6 +1,7 @@
 //! The words of the command line.
 use crate::serve::Way;
 use std::path::PathBuf;
+use std::thread::available_parallelism;
 use std::time::Duration;
 
 pub const HELP: &str = "\
@@ -12,16 +13,19 @@ usage: laxonje-netback [OPTION..]           serve the network devices of guests
 
   --filters FOLDER   where settings files are: GUEST.DEVICE.toml, GUEST.toml, default.toml (/etc/laxonje)
   --domain ID        serve this guest alone
-  --queues N         offer N queues to each device, 1 to 64 (1)
+  --queues N         offer N queues to each device, 1 to 64, and no more than its guest has processors (those of this domain, at most 4)
   --bridge NAME      a bridge for devices that the toolstack gives neither a script nor a bridge
   --grants copy|map  how pages are had of Xen (copy)
   --watch SECONDS    look every SECONDS whether a settings file has changed (only on SIGHUP and reload)
-  --nice N           at what priority, -20 to 19 (-10)
+  --nice N           at what priority packets are moved, -20 to 19 (-10)
+  --with-emulated    serve devices whose guest has an emulated card too, which goes around the filter
   --socket PATH      where stats and reload are answered (/run/laxonje-netback.sock)
   --unrestricted     keep capabilities and system calls: to look for a fault
 ";
 
 const MOST_QUEUES: u32 = 64;
+/// As many queues as Linux's netback offers.
+const USUAL_QUEUES: u32 = 4;
 /// Whoever receives a packet mustn't take the processor after each of them.
 const USUAL_NICE: i32 = -10;
 
@@ -45,6 +49,7 @@ pub struct Options {
     pub watch: Option<Duration>,
     pub nice: i32,
     pub socket: PathBuf,
+    pub with_emulated: bool,
     pub restricted: bool,
 }
 
@@ -53,12 +58,13 @@ impl Default for Options {
         Options {
             filters: PathBuf::from("/etc/laxonje"),
             domain: None,
-            queues: 1,
+            queues: available_parallelism().map_or(1, |processors| USUAL_QUEUES.min(processors.get() as u32)),
             bridge: None,
             way: Way::Copy,
             watch: None,
             nice: USUAL_NICE,
             socket: PathBuf::from("/run/laxonje-netback.sock"),
+            with_emulated: false,
             restricted: true,
         }
     }
@@ -120,6 +126,7 @@ fn serve(words: &[String]) -> Result<Options, String> {
             "--nice" => options.nice = nice(value(word, words.next())?)?,
             "--socket" => options.socket = PathBuf::from(value(word, words.next())?),
             "--grants" => options.way = way(value(word, words.next())?)?,
+            "--with-emulated" => options.with_emulated = true,
             "--unrestricted" => options.restricted = false,
             other => return Err(format!("there is no option {other}: --help says which there are")),
         }
@@ -151,7 +158,8 @@ mod tests {
     #[test]
     fn words_are_options() {
         assert_eq!(of(""), Ok(Command::Serve(Options::default())));
-        let all = "--filters /f --domain 7 --queues 4 --bridge br0 --grants map --watch 2 --nice 5 --socket /s --unrestricted";
+        let all =
+            "--filters /f --domain 7 --queues 4 --bridge br0 --grants map --watch 2 --nice 5 --socket /s --with-emulated --unrestricted";
         let options = Options {
             filters: "/f".into(),
             domain: Some(7),
@@ -161,6 +169,7 @@ mod tests {
             watch: Some(Duration::from_secs(2)),
             nice: 5,
             socket: "/s".into(),
+            with_emulated: true,
             restricted: false,
         };
         assert_eq!(of(all), Ok(Command::Serve(options)));
@@ -168,6 +177,12 @@ mod tests {
         assert_eq!(of("reload"), Ok(Command::Ask { question: "reload", socket: "/run/laxonje-netback.sock".into() }));
         assert_eq!((of("--help"), of("--version")), (Ok(Command::Help), Ok(Command::Version)));
         assert_eq!(of("check a.toml"), Ok(Command::Check("a.toml".into())));
+    }
+
+    #[test]
+    fn as_many_queues_as_processors_up_to_four() {
+        let processors = available_parallelism().unwrap().get() as u32;
+        assert_eq!(Options::default().queues, processors.min(4));
     }
 
     #[test]
@@ -194,10 +209,7 @@ mod tests {
 
     #[test]
     fn the_help_has_each_option() {
-        for option in
-            ["--filters", "--domain", "--queues", "--bridge", "--grants", "--watch", "--nice", "--socket", "--unrestricted", "--json"]
-        {
-            assert!(HELP.contains(option));
-        }
+        let options = "--filters --domain --queues --bridge --grants --watch --nice --socket --with-emulated --unrestricted --json";
+        assert!(options.split(' ').all(|option| HELP.contains(option)));
     }
 }

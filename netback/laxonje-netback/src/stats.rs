@@ -55,8 +55,19 @@ totals! {
     /// Notices to the guest and from it.
     notices,
     events,
+    /// Packets to the guest that were dropped because it posted no buffers for 10 s.
+    expired,
+    /// Ends of a queue's thread by a fault of this program: 0.
+    faults,
     /// Accesses that the queue was never granted: 0.
     strange,
+}
+
+/// Where a queue's rings stand: up to which index the guest shows requests, and up to which they are answered.
+#[derive(Clone, Copy, Debug, Default, PartialEq, Eq)]
+pub struct Rings {
+    pub tx: (u32, u32),
+    pub rx: (u32, u32),
 }
 
 impl Totals {
@@ -96,6 +107,8 @@ pub struct DeviceStats {
     pub state: String,
     pub filter: String,
     pub queues: usize,
+    /// Of each queue. `None`: its thread doesn't answer.
+    pub rings: Vec<Option<Rings>>,
     pub totals: Vec<(&'static str, u64)>,
     pub refused: Vec<(u32, u64)>,
     pub halted: Vec<(u32, u64)>,
@@ -128,6 +141,12 @@ pub fn text(devices: &[DeviceStats]) -> String {
         let _ = writeln!(out, "{interface}: domain {domain} ({guest}) device {number}, {state}, queues {queues}, filter {filter}");
         for (name, value) in &device.totals {
             let _ = writeln!(out, "  {} {value}", name.replace('_', "-"));
+        }
+        for (number, rings) in device.rings.iter().enumerate() {
+            let _ = match rings {
+                Some(Rings { tx, rx }) => writeln!(out, "  rings {number} tx {} {} rx {} {}", tx.0, tx.1, rx.0, rx.1),
+                None => writeln!(out, "  rings {number} unknown: its thread doesn't answer"),
+            };
         }
         for (cause, count) in &device.refused {
             let _ = writeln!(out, "  refused {cause} {count} ({})", Refusal(*cause));
@@ -176,6 +195,10 @@ fn map_json(map: &MapCounts) -> String {
     format!("{{\"name\":{},\"entries\":{},\"counters\":{},\"values\":{values}}}", quoted(&map.name), map.entries, map.counters)
 }
 
+fn rings_json(rings: &Option<Rings>) -> String {
+    rings.map_or("null".to_owned(), |Rings { tx, rx }| format!("{{\"tx\":[{},{}],\"rx\":[{},{}]}}", tx.0, tx.1, rx.0, rx.1))
+}
+
 fn device_json(device: &DeviceStats) -> String {
     let named = [("guest", &device.guest), ("interface", &device.interface), ("state", &device.state), ("filter", &device.filter)];
     let texts = named.iter().map(|(name, value)| ((*name).to_owned(), quoted(value)));
@@ -184,6 +207,7 @@ fn device_json(device: &DeviceStats) -> String {
         ("domain", device.domain.to_string()),
         ("device", device.device.to_string()),
         ("queues", device.queues.to_string()),
+        ("rings", list(device.rings.iter().map(rings_json))),
         ("totals", totals),
         ("refused", numbers(&device.refused)),
         ("halted", numbers(&device.halted)),
@@ -213,6 +237,7 @@ mod tests {
         let mut device =
             DeviceStats { domain: 3, device: 1, guest: "web".to_owned(), interface: "vif3.1".to_owned(), ..DeviceStats::default() };
         (device.state, device.filter, device.queues, device.maps) = ("connected".to_owned(), "f.toml".to_owned(), 2, vec![map]);
+        device.rings = vec![Some(Rings { tx: (7, 6), rx: (9, 4) }), None];
         add_up(&mut device, &[Arc::new(first), Arc::new(second)]);
         device
     }
@@ -224,6 +249,7 @@ mod tests {
         assert!(
             text.contains("  refused 4 2 (a slot's grant failed its check)\n  halted 1 1 (the tx producer is more than a ring ahead)\n")
         );
+        assert!(text.contains("  rings 0 tx 7 6 rx 9 4\n  rings 1 unknown"));
         assert!(text.ends_with("17 0 9\n"));
     }
 
@@ -233,6 +259,7 @@ mod tests {
         assert!(json.starts_with(
             "{\"vifs\":[{\"guest\":\"web\",\"interface\":\"vif3.1\",\"state\":\"connected\",\"filter\":\"f.toml\",\"domain\":3"
         ));
+        assert!(json.contains("\"rings\":[{\"tx\":[7,6],\"rx\":[9,4]},null],"));
         assert!(json.contains("\"totals\":{\"passed\":7,\"passed_bytes\":0,"));
         assert!(json.contains("\"refused\":{\"4\":2},\"halted\":{\"1\":1}"));
         let map = "\"maps\":[{\"name\":\"a \\\"b\\\"\\u000a\",\"entries\":256,\"counters\":1,\"values\":[[17,0,9]]}]";

@@ -49,6 +49,14 @@ fn a_filter_is_checked() {
 }
 
 #[test]
+fn a_fifo_is_not_waited_for() {
+    let fifo = std::env::temp_dir().join(format!("laxonje-command-{}.toml", std::process::id()));
+    assert!(Command::new("mkfifo").arg(&fifo).status().unwrap().success());
+    assert!(one_line(&run(&["check", fifo.to_str().unwrap()]), 1).contains("no regular file"));
+    std::fs::remove_file(&fifo).unwrap();
+}
+
+#[test]
 fn nobody_answers_where_nobody_serves() {
     for question in ["stats", "reload"] {
         let said = one_line(&run(&[question, "--socket", "/nothing/there"]), 1);

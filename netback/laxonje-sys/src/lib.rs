@@ -14,6 +14,7 @@ pub const LAXONJE_REFUSED: u32 = 1;
 pub const LAXONJE_MAP: u32 = 2;
 pub const LAXONJE_SETTINGS: u32 = 3;
 pub const LAXONJE_EMPTY: u32 = 4;
+pub const LAXONJE_NULL: u32 = 5;
 
 pub const LAXONJE_ABORTED: u32 = 0;
 pub const LAXONJE_DROP: u32 = 1;
@@ -31,6 +32,7 @@ pub const LAXONJE_MADE_TABLE: u32 = 3;
 pub const LAXONJE_MADE_RING: u32 = 4;
 pub const LAXONJE_MADE_DOMAIN: u32 = 5;
 pub const LAXONJE_MADE_PROGRAM: u32 = 6;
+pub const LAXONJE_MADE_NULL: u32 = 7;
 
 pub const LAXONJE_OP_READ: u32 = 1;
 pub const LAXONJE_OP_WRITE: u32 = 2;
@@ -52,6 +54,7 @@ pub const LAXONJE_TAKEN: u32 = 0;
 pub const LAXONJE_TAKEN_NOT: u32 = 1;
 pub const LAXONJE_TAKEN_BUSY: u32 = 2;
 pub const LAXONJE_TAKEN_NO_FRAME: u32 = 3;
+pub const LAXONJE_TAKEN_SLOTS: u32 = 4;
 
 pub const LAXONJE_DELIVERY_SENT: u32 = 4;
 pub const LAXONJE_DELIVERY_FEW_SLOTS: u32 = 5;
@@ -176,6 +179,8 @@ extern "C" {
     pub fn laxonje_place(program: *mut laxonje_program, map: u32, entry: u32, counter: u32) -> usize;
     pub fn laxonje_map_count(program: *mut laxonje_program) -> usize;
     pub fn laxonje_map_size(program: *mut laxonje_program, number: u32) -> laxonje_map;
+    pub fn laxonje_map_named(program: *mut laxonje_program, name: *const u8, name_bytes: usize) -> usize;
+    pub fn laxonje_map_name(program: *mut laxonje_program, number: u32, out: *mut u8, out_bytes: usize) -> usize;
     pub fn laxonje_free(program: *mut laxonje_program);
 
     pub fn laxonje_queue_make_extents(
@@ -183,10 +188,12 @@ extern "C" {
         desc: *const laxonje_queue_desc, out: *mut laxonje_queue,
     ) -> u32;
     pub fn laxonje_queue_turn(queue: *mut laxonje_queue, producer: u32, ops: *mut laxonje_op, op_count: usize) -> usize;
+    #[link_name = "laxonje_queue_step_3"]
     pub fn laxonje_queue_step(
         queue: *mut laxonje_queue, words: *mut u32, word_count: usize, counters: *mut u64, counter_count: usize, ops: *mut laxonje_op,
         op_count: usize,
     ) -> usize;
+    pub fn laxonje_queue_counters(queue: *mut laxonje_queue) -> usize;
     pub fn laxonje_queue_deliver(queue: *mut laxonje_queue, producer: u32, packet: *const u8, packet_bytes: usize) -> u32;
     pub fn laxonje_queue_await(queue: *mut laxonje_queue, pages: u32) -> u32;
     pub fn laxonje_queue_flags(queue: *mut laxonje_queue) -> u32;

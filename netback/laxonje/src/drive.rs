@@ -1,13 +1,17 @@
 //! The host's loop over version 3 of the C interface: the first read, and each op in its order.
 use crate::guest::{Entry, Guest, PAGE_WORDS};
 use crate::handle::{ProgramHandle, QueueHandle};
-use crate::queue::{Extent, Halt, Indices, MakeError, ReplaceError, Setup};
+use crate::queue::{Extent, Halt, Indices, MakeError, ReplaceError, Setup, Stopped};
 use laxonje_sys as sys;
 
 /// The word of a ring's producer of requests.
 const PRODUCER: usize = 0;
 
 type Ops = [sys::laxonje_op; sys::LAXONJE_OPS];
+
+/// A turn, a delivery or a wait was begun and didn't come to its end: a `Guest` panicked inside it. Nothing is done for it any more: the next
+/// step would answer an access that wasn't made with the words of one before.
+pub(crate) struct Abandoned;
 
 /// A queue with what it was made of and the words that it is lent.
 pub(crate) struct Driver {
@@ -17,6 +21,8 @@ pub(crate) struct Driver {
     table: Vec<u32>,
     words: Box<[u32; PAGE_WORDS]>,
     ops: Ops,
+    /// From before the first access until all is over. A panic of the guest's leaves it set.
+    is_under_way: bool,
 }
 
 impl Driver {
@@ -40,6 +46,7 @@ impl Driver {
             table: setup.table.to_vec(),
             words: Box::new([0; PAGE_WORDS]),
             ops: Ops::default(),
+            is_under_way: false,
         };
         driver.make(program, setup.at).map(|()| driver)
     }
@@ -53,42 +60,74 @@ impl Driver {
     }
 
     pub fn replace(&mut self, program: &ProgramHandle) -> Result<(), ReplaceError> {
-        let at = self.indices().map_err(ReplaceError::Halted)?;
+        let at = self.indices().map_err(ReplaceError::of)?;
         self.make(program, at).map_err(ReplaceError::Make)
     }
 
-    pub fn turn(&mut self, counters: &mut [u64], guest: &mut impl Guest) -> sys::laxonje_op {
+    pub fn turn(&mut self, counters: &mut [u64], guest: &mut (impl Guest + ?Sized)) -> Result<sys::laxonje_op, Abandoned> {
+        self.begin()?;
         let producer = producer(self.desc.tx, guest);
         let count = self.handle.turn(producer, &mut self.ops);
         self.finish(count, counters, guest)
     }
 
-    /// `None`: the packet is too short or too long.
-    pub fn deliver(&mut self, packet: &[u8], counters: &mut [u64], guest: &mut impl Guest) -> Option<sys::laxonje_op> {
+    /// `Ok(None)`: the packet is too short or too long.
+    pub fn deliver(
+        &mut self, packet: &[u8], counters: &mut [u64], guest: &mut (impl Guest + ?Sized),
+    ) -> Result<Option<sys::laxonje_op>, Abandoned> {
+        self.begin()?;
         let producer = producer(self.desc.rx, guest);
         match self.handle.deliver(producer, packet) {
-            sys::LAXONJE_TAKEN => Some(self.finish(0, counters, guest)),
-            _ => None,
+            sys::LAXONJE_TAKEN => self.step_on(counters, guest).map(Some),
+            sys::LAXONJE_TAKEN_NO_FRAME => {
+                self.is_under_way = false;
+                Ok(None)
+            }
+            _ => Err(Abandoned),
         }
     }
 
-    pub fn wait_for(&mut self, pages: u32, counters: &mut [u64], guest: &mut impl Guest) -> sys::laxonje_op {
-        let taken = self.handle.wait_for(pages);
-        assert_eq!(taken, sys::LAXONJE_TAKEN, "between two turns a queue waits");
-        self.finish(0, counters, guest)
-    }
-
-    /// What is under way, to its end: the ops that are there, and those of each further step.
-    fn finish(&mut self, mut count: usize, counters: &mut [u64], guest: &mut impl Guest) -> sys::laxonje_op {
-        while !self.make_ops(count, guest) {
-            count = self.handle.step(&mut self.words[..], counters, &mut self.ops);
-            assert_ne!(count, 0, "what is under way has a next op");
+    pub fn wait_for(&mut self, pages: u32, counters: &mut [u64], guest: &mut (impl Guest + ?Sized)) -> Result<sys::laxonje_op, Abandoned> {
+        self.begin()?;
+        match self.handle.wait_for(pages) {
+            sys::LAXONJE_TAKEN => self.step_on(counters, guest),
+            _ => Err(Abandoned),
         }
-        self.ops[count - 1]
     }
 
-    /// Makes the first ops in their order. Whether the last of them says that all is over.
-    fn make_ops(&mut self, count: usize, guest: &mut impl Guest) -> bool {
+    /// Notes that something is under way, if nothing is.
+    fn begin(&mut self) -> Result<(), Abandoned> {
+        match std::mem::replace(&mut self.is_under_way, true) {
+            false => Ok(()),
+            true => Err(Abandoned),
+        }
+    }
+
+    /// Takes the next step of what is under way, and goes on to its end.
+    fn step_on(&mut self, counters: &mut [u64], guest: &mut (impl Guest + ?Sized)) -> Result<sys::laxonje_op, Abandoned> {
+        let count = self.step(counters);
+        self.finish(count, counters, guest)
+    }
+
+    fn step(&mut self, counters: &mut [u64]) -> usize {
+        self.handle.step(&mut self.words[..], counters, &mut self.ops)
+    }
+
+    /// Takes what is under way to its end: the ops that are there, and those of each further step. A step without ops is one that the
+    /// library doesn't take.
+    fn finish(&mut self, mut count: usize, counters: &mut [u64], guest: &mut (impl Guest + ?Sized)) -> Result<sys::laxonje_op, Abandoned> {
+        while count > 0 {
+            if self.make_ops(count, guest) {
+                self.is_under_way = false;
+                return Ok(self.ops[count - 1]);
+            }
+            count = self.step(counters);
+        }
+        Err(Abandoned)
+    }
+
+    /// Makes the first ops in their order. Returns whether the last of them says that all is over.
+    fn make_ops(&mut self, count: usize, guest: &mut (impl Guest + ?Sized)) -> bool {
         let ops = &self.ops[..count];
         for op in ops {
             make_op(op, &mut self.words, guest);
@@ -97,23 +136,27 @@ impl Driver {
     }
 
     pub fn packet(&self, out: &mut [u8]) -> usize {
-        self.handle.packet(out)
+        match self.is_under_way {
+            false => self.handle.packet(out),
+            true => 0,
+        }
     }
 
     pub fn flags(&self) -> u32 {
         self.handle.flags()
     }
 
-    pub fn indices(&self) -> Result<Indices, Halt> {
+    pub fn indices(&self) -> Result<Indices, Stopped> {
         let at = self.handle.state();
         match at.kind {
-            sys::LAXONJE_STANDS => Ok(Indices { tx: at.tx_index, rx: at.rx_index }),
-            _ => Err(Halt(at.halt)),
+            sys::LAXONJE_STANDS if !self.is_under_way => Ok(Indices { tx: at.tx_index, rx: at.rx_index }),
+            sys::LAXONJE_STANDS_HALTED => Err(Stopped::Halted(Halt(at.halt))),
+            _ => Err(Stopped::Abandoned),
         }
     }
 }
 
-fn make_op(op: &sys::laxonje_op, words: &mut [u32; PAGE_WORDS], guest: &mut impl Guest) {
+fn make_op(op: &sys::laxonje_op, words: &mut [u32; PAGE_WORDS], guest: &mut (impl Guest + ?Sized)) {
     let (word, count) = (op.word as usize, op.count as usize);
     let lent = op.lent as usize..op.lent as usize + count;
     match op.kind {
@@ -131,7 +174,7 @@ fn make_op(op: &sys::laxonje_op, words: &mut [u32; PAGE_WORDS], guest: &mut impl
 }
 
 /// The producer of requests of a ring.
-fn producer(ring: u32, guest: &mut impl Guest) -> u32 {
+fn producer(ring: u32, guest: &mut (impl Guest + ?Sized)) -> u32 {
     let mut word = [0];
     guest.read(ring, PRODUCER, &mut word);
     word[0]

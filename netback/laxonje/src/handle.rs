@@ -6,6 +6,9 @@
 use laxonje_sys as sys;
 use std::cell::UnsafeCell;
 
+/// The most bytes of a map's name.
+const MOST_NAME_BYTES: usize = 32;
+
 /// An accepted program, or none.
 pub(crate) struct ProgramHandle(Box<UnsafeCell<sys::laxonje_program>>);
 
@@ -64,6 +67,19 @@ impl ProgramHandle {
         let count = unsafe { sys::laxonje_map_count(self.get()) };
         // SAFETY: the module's reason. A number that is out of range is answered too.
         (0..count as u32).map(|number| unsafe { sys::laxonje_map_size(self.get(), number) }).collect()
+    }
+
+    pub fn map_named(&self, name: &[u8]) -> usize {
+        // SAFETY: the module's reason.
+        unsafe { sys::laxonje_map_named(self.get(), name.as_ptr(), name.len()) }
+    }
+
+    /// The name of a map; empty if it has none.
+    pub fn map_name(&self, number: u32) -> String {
+        let mut name = [0; MOST_NAME_BYTES];
+        // SAFETY: the module's reason. The answer is how long the name is.
+        let length = unsafe { sys::laxonje_map_name(self.get(), number, name.as_mut_ptr(), name.len()) };
+        String::from_utf8_lossy(&name[..length.min(name.len())]).into_owned()
     }
 }
 

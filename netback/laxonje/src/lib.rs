@@ -4,28 +4,58 @@
 //! - [`Queue`]: a guest's network queue with a program. The queue says what accesses of the guest's pages are to be made, and a
 //!   [`GuestMemory`] (pages that are mapped) or a [`Guest`] (pages that have to be asked for) makes them.
 //!
-//! ```no_run
-//! # struct Pages;
-//! # impl laxonje::GuestMemory for Pages {
-//! #     fn page(&self, _frame: u32) -> &laxonje::Page { unimplemented!() }
+//! ```
+//! # use laxonje::{GuestMemory, Page};
+//! # use std::sync::atomic::{AtomicU32, Ordering::SeqCst};
+//! # struct Pages { pages: Vec<Page>, sleeps: usize }
+//! # impl GuestMemory for Pages {
+//! #     fn page(&self, frame: u32) -> &Page { &self.pages[frame as usize] }
 //! #     fn notify(&mut self, _port: u32) {}
 //! # }
-//! use laxonje::{Action, Extent, Indices, Program, Queue, Setup, Turn};
+//! # impl Pages {
+//! #     fn set(&self, frame: usize, word: usize, value: u32) { self.pages[frame][word].store(value, SeqCst) }
+//! #     fn send(&self, index: usize, reference: u32) {
+//! #         self.set(0, 16 + 3 * index, reference);
+//! #         self.set(0, 16 + 3 * index + 2, 60 << 16);
+//! #         self.set(0, 0, index as u32 + 1);
+//! #     }
+//! #     fn sleep(&mut self) -> bool { self.sleeps += 1; if self.sleeps == 1 { self.send(3, 8) } self.sleeps == 1 }
+//! # }
+//! use laxonje::{Action, Extent, Indices, Program, Queue, Setup, Stopped, Turn};
 //!
-//! fn serve(guest: &mut Pages) -> Result<(), Box<dyn std::error::Error>> {
-//!     let program = Program::from_settings(&std::fs::read("settings.toml")?)?;
-//!     let frames = [Extent { frames: 65536, domain: 3 }];
-//!     let setup = Setup { frames: &frames, table: &[9], tx: 7, rx: 8, frontend: 3, backend: 0, port: 0, ifindex: 0, queue: 0, at: Indices::default() };
-//!     let mut queue = Queue::new(&program, &setup)?;
+//! /// Forwards what passes, until the guest goes.
+//! fn serve(queue: &mut Queue, guest: &mut Pages, forward: &mut impl FnMut(&[u8])) -> Result<(), Stopped> {
 //!     let mut packet = vec![0; laxonje::MOST_BYTES];
-//!     while let Turn::Ran(run) = queue.turn(guest) {
-//!         if run.action == Action::Pass {
-//!             let length = queue.packet(&mut packet);
-//!             println!("{length} bytes pass");
+//!     loop {
+//!         match queue.turn(guest) {
+//!             Turn::Ran(run) if run.action == Action::Pass => {
+//!                 let length = queue.packet(&mut packet);
+//!                 forward(&packet[..length]);
+//!             }
+//!             Turn::Ran(_) => {} // dropped, or already back at the guest
+//!             Turn::Refused(why) => eprintln!("a packet is refused: {why}"), // and answered; the next may be right
+//!             Turn::Idle if guest.sleep() => {} // until its next event
+//!             Turn::Idle => return Ok(()),
+//!             Turn::Halted(why) => return Err(Stopped::Halted(why)),
+//!             Turn::Abandoned => return Err(Stopped::Abandoned),
 //!         }
 //!     }
-//!     Ok(())
 //! }
+//!
+//! # let page = || [(); 1024].map(|()| AtomicU32::new(0));
+//! # let mut guest = Pages { pages: (0..4).map(|_| page()).collect(), sleeps: 0 };
+//! # guest.set(2, 2 * 8, 1);
+//! # guest.set(2, 2 * 8 + 1, 3);
+//! # for (index, reference) in [8, 99, 8].into_iter().enumerate() { guest.send(index, reference) }
+//! # let text = b"program = [\"b700000002000000\", \"9500000000000000\"]";
+//! let program = Program::from_settings(text)?;
+//! let frames = [Extent { frames: 4, domain: 3 }];
+//! let setup = Setup { frames: &frames, table: &[2], tx: 0, rx: 1, frontend: 3, backend: 0, port: 0, ifindex: 0, queue: 0, at: Indices::default() };
+//! let mut queue = Queue::new(&program, &setup)?;
+//! let mut count = 0;
+//! serve(&mut queue, &mut guest, &mut |_packet| count += 1)?;
+//! # assert_eq!((count, queue.indices()), (3, Ok(Indices { tx: 4, rx: 0 })));
+//! # Ok::<(), Box<dyn std::error::Error>>(())
 //! ```
 //!
 //! Each value is `Send` and not `Sync`: one call at a time, on any thread.
@@ -48,6 +78,6 @@ mod text;
 pub use guest::{Entry, Guest, GuestMemory, Page, PAGE_BYTES, PAGE_WORDS};
 pub use program::{check_version, Action, LoadError, MapSize, Program, Run, VersionError, MOST_BYTES};
 pub use queue::{
-    Awaited, DeliverError, Delivery, Extent, Flags, Halt, Indices, MakeError, Queue, Refusal, ReplaceError, Setup, Turn, TurnRun,
+    Awaited, DeliverError, Delivery, Extent, Flags, Halt, Indices, MakeError, Queue, Refusal, ReplaceError, Setup, Stopped, Turn, TurnRun,
     TABLE_FRAMES,
 };

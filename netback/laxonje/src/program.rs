@@ -122,6 +122,7 @@ pub struct Run {
 pub struct Program {
     pub(crate) handle: ProgramHandle,
     maps: Vec<MapSize>,
+    names: Vec<String>,
     instructions: u32,
 }
 
@@ -137,7 +138,7 @@ impl Program {
         Program::made(|handle| handle.load_settings(text))
     }
 
-    /// The same program once more, verified again: for another thread.
+    /// The same program once more, for another thread: nothing is verified or copied.
     pub fn try_clone(&self) -> Result<Program, LoadError> {
         Program::made(|handle| handle.again(&self.handle))
     }
@@ -147,8 +148,9 @@ impl Program {
         let verdict = make(&mut handle);
         match (verdict.kind, verdict.cause) {
             (sys::LAXONJE_ACCEPTED, _) => {
-                let maps = handle.maps().iter().map(|map| MapSize { entries: map.entries, counters: map.counters }).collect();
-                Ok(Program { handle, maps, instructions: verdict.at })
+                let maps: Vec<_> = handle.maps().iter().map(|map| MapSize { entries: map.entries, counters: map.counters }).collect();
+                let names = (0..maps.len() as u32).map(|number| handle.map_name(number)).collect();
+                Ok(Program { handle, maps, names, instructions: verdict.at })
             }
             (sys::LAXONJE_REFUSED | sys::LAXONJE_SETTINGS, 0) => Err(LoadError::Memory),
             (sys::LAXONJE_REFUSED, cause) => Err(LoadError::Refused { cause, slot: verdict.at }),
@@ -162,9 +164,19 @@ impl Program {
         self.instructions
     }
 
-    /// The sizes of its maps, by their numbers. A program may go on with the counters of another that has the same.
+    /// The sizes of its maps, by their numbers. A program may go on with the counters of another that has the same, and the same names.
     pub fn maps(&self) -> &[MapSize] {
         &self.maps
+    }
+
+    /// The names of its maps, by their numbers, as its settings have them; each is empty if the program was loaded without settings.
+    pub fn map_names(&self) -> &[String] {
+        &self.names
+    }
+
+    /// The number of the map with this name.
+    pub fn map_named(&self, name: &str) -> Option<u32> {
+        u32::try_from(self.handle.map_named(name.as_bytes())).ok()
     }
 
     /// As many zeros as it has counters.

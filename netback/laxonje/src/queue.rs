@@ -1,7 +1,7 @@
 //! Netback's queue of a guest.
-use crate::drive::Driver;
+use crate::drive::{Abandoned, Driver};
 use crate::guest::{Guest, PAGE_BYTES};
-use crate::program::{Action, MapSize, Program};
+use crate::program::{Action, MapSize, Program, MOST_BYTES};
 use crate::text;
 use laxonje_sys as sys;
 use std::error::Error;
@@ -104,14 +104,26 @@ impl Error for MakeError {}
 pub enum ReplaceError {
     /// The queue has halted: its guest has to connect anew.
     Halted(Halt),
+    /// As [`Turn::Abandoned`].
+    Abandoned,
     /// No queue was made with the new program.
     Make(MakeError),
+}
+
+impl ReplaceError {
+    pub(crate) fn of(why: Stopped) -> ReplaceError {
+        match why {
+            Stopped::Halted(halt) => ReplaceError::Halted(halt),
+            Stopped::Abandoned => ReplaceError::Abandoned,
+        }
+    }
 }
 
 impl fmt::Display for ReplaceError {
     fn fmt(&self, to: &mut fmt::Formatter<'_>) -> fmt::Result {
         match self {
-            ReplaceError::Halted(halt) => write!(to, "the queue has halted: {halt}"),
+            ReplaceError::Halted(halt) => Stopped::Halted(*halt).fmt(to),
+            ReplaceError::Abandoned => Stopped::Abandoned.fmt(to),
             ReplaceError::Make(cause) => cause.fmt(to),
         }
     }
@@ -138,6 +150,26 @@ impl fmt::Display for Halt {
         to.write_str(text::halt(self.0))
     }
 }
+
+/// Why a queue makes no more accesses.
+#[derive(Clone, Copy, Debug, PartialEq, Eq)]
+pub enum Stopped {
+    /// It has halted: its guest has to connect anew.
+    Halted(Halt),
+    /// As [`Turn::Abandoned`].
+    Abandoned,
+}
+
+impl fmt::Display for Stopped {
+    fn fmt(&self, to: &mut fmt::Formatter<'_>) -> fmt::Result {
+        match self {
+            Stopped::Halted(halt) => write!(to, "the queue has halted: {halt}"),
+            Stopped::Abandoned => to.write_str("a turn was begun and didn't come to its end"),
+        }
+    }
+}
+
+impl Error for Stopped {}
 
 /// The flags of a packet's first slot.
 #[derive(Clone, Copy, Debug, Default, PartialEq, Eq)]
@@ -184,6 +216,9 @@ pub enum Turn {
     Refused(Refusal),
     /// The guest broke the protocol. The queue makes no more accesses.
     Halted(Halt),
+    /// A turn, a delivery or a wait before this one was begun and didn't come to its end: the [`Guest`] panicked. The queue makes no more
+    /// accesses, and its guest has to connect anew: a slot may have its response already, and the guest not know of it.
+    Abandoned,
 }
 
 /// What became of a packet that was delivered.
@@ -203,6 +238,8 @@ pub enum Delivery {
     },
     /// As of a turn.
     Halted(Halt),
+    /// As of a turn.
+    Abandoned,
 }
 
 /// What a wait for rx slots came to.
@@ -214,6 +251,8 @@ pub enum Awaited {
     Waiting,
     /// As of a turn.
     Halted(Halt),
+    /// As of a turn.
+    Abandoned,
 }
 
 /// A packet has fewer than 14 bytes, or more than [`MOST_BYTES`](crate::MOST_BYTES).
@@ -232,19 +271,23 @@ impl Error for DeliverError {}
 pub struct Queue {
     driver: Driver,
     maps: Vec<MapSize>,
+    names: Vec<String>,
     counters: Vec<u64>,
 }
 
 impl Queue {
-    /// Makes a queue that stands between two turns. It has the program once more, verified again, with counters that are 0.
+    /// Makes a queue that stands between two turns. It has the same program, with counters that are 0.
     pub fn new(program: &Program, setup: &Setup) -> Result<Queue, MakeError> {
         let driver = Driver::new(&program.handle, setup)?;
-        Ok(Queue { driver, maps: program.maps().to_vec(), counters: program.new_counters() })
+        Ok(Queue { driver, maps: program.maps().to_vec(), names: program.map_names().to_vec(), counters: program.new_counters() })
     }
 
     /// Takes a turn: one packet at most.
-    pub fn turn(&mut self, guest: &mut impl Guest) -> Turn {
-        let op = self.driver.turn(&mut self.counters, guest);
+    pub fn turn(&mut self, guest: &mut (impl Guest + ?Sized)) -> Turn {
+        let op = match self.driver.turn(&mut self.counters, guest) {
+            Ok(op) => op,
+            Err(Abandoned) => return Turn::Abandoned,
+        };
         match op.outcome {
             sys::LAXONJE_TURN_IDLE => Turn::Idle,
             sys::LAXONJE_TURN_RAN => {
@@ -256,8 +299,11 @@ impl Queue {
     }
 
     /// Delivers a packet of the host's own. The program doesn't run on it.
-    pub fn deliver(&mut self, packet: &[u8], guest: &mut impl Guest) -> Result<Delivery, DeliverError> {
-        let op = self.driver.deliver(packet, &mut self.counters, guest).ok_or(DeliverError)?;
+    pub fn deliver(&mut self, packet: &[u8], guest: &mut (impl Guest + ?Sized)) -> Result<Delivery, DeliverError> {
+        let op = match self.driver.deliver(packet, &mut self.counters, guest) {
+            Ok(op) => op.ok_or(DeliverError)?,
+            Err(Abandoned) => return Ok(Delivery::Abandoned),
+        };
         Ok(match op.outcome {
             sys::LAXONJE_DELIVERY_SENT => Delivery::Sent { slots: op.slots },
             sys::LAXONJE_DELIVERY_FEW_SLOTS => Delivery::FewSlots,
@@ -266,14 +312,21 @@ impl Queue {
         })
     }
 
-    /// Asks for a notice once there are rx slots for a packet of that many bytes.
-    pub fn wait_for(&mut self, bytes: usize, guest: &mut impl Guest) -> Awaited {
-        let op = self.driver.wait_for(pages_of(bytes), &mut self.counters, guest);
-        match op.outcome {
+    /// Asks for a notice once there are rx slots for a packet of that many bytes. An error, as of [`Queue::deliver`]: no buffers would be
+    /// enough.
+    pub fn wait_for(&mut self, bytes: usize, guest: &mut (impl Guest + ?Sized)) -> Result<Awaited, DeliverError> {
+        if bytes > MOST_BYTES {
+            return Err(DeliverError);
+        }
+        let op = match self.driver.wait_for(pages_of(bytes), &mut self.counters, guest) {
+            Ok(op) => op,
+            Err(Abandoned) => return Ok(Awaited::Abandoned),
+        };
+        Ok(match op.outcome {
             sys::LAXONJE_AWAITED_POSTED => Awaited::Posted,
             sys::LAXONJE_AWAITED_WAITING => Awaited::Waiting,
             _ => Awaited::Halted(Halt(op.cause)),
-        }
+        })
     }
 
     /// Copies out the packet of the last turn, if its program ran, or of the last delivery, as far as there is room. How long it is.
@@ -286,17 +339,17 @@ impl Queue {
         Flags(self.driver.flags())
     }
 
-    /// Where the queue stands: what another queue of the same rings is made with, to go on in its place. The cause, if it has
-    /// halted.
-    pub fn indices(&self) -> Result<Indices, Halt> {
+    /// Where the queue stands: what another queue of the same rings is made with, to go on in its place.
+    pub fn indices(&self) -> Result<Indices, Stopped> {
         self.driver.indices()
     }
 
-    /// Goes on with another program. Counters are kept if its maps have the same sizes in the same order, and else are 0.
+    /// Goes on with another program. Counters are kept if its maps have the same names and sizes in the same order, and else are 0.
     pub fn replace(&mut self, program: &Program) -> Result<(), ReplaceError> {
         self.driver.replace(&program.handle)?;
-        if program.maps() != self.maps {
+        if program.maps() != self.maps || program.map_names() != self.names {
             self.maps = program.maps().to_vec();
+            self.names = program.map_names().to_vec();
             self.counters = program.new_counters();
         }
         Ok(())

@@ -37,6 +37,8 @@ fn a_refusal_has_its_cause_its_slot_and_its_text() {
 fn counters_are_words_of_the_hosts_own() {
     let mut program = Program::from_settings(COUNT.as_bytes()).unwrap();
     assert_eq!(program.maps(), [MapSize { entries: 256, counters: 1 }]);
+    assert_eq!(program.map_names(), ["protocols"]);
+    assert_eq!((program.map_named("protocols"), program.map_named("protocol"), program.map_named("")), (Some(0), None, None));
     let mut counters = program.new_counters();
     assert_eq!(counters.len(), 256);
     for _ in 0..3 {

@@ -2,8 +2,8 @@
 mod memory;
 
 use laxonje::{
-    Action, Awaited, Delivery, Entry, Extent, Guest, GuestMemory, Halt, Indices, MakeError, Program, Queue, Refusal, ReplaceError, Setup,
-    Turn, TurnRun,
+    Action, Awaited, DeliverError, Delivery, Entry, Extent, Guest, GuestMemory, Halt, Indices, MakeError, Program, Queue, Refusal,
+    ReplaceError, Setup, Stopped, Turn, TurnRun,
 };
 use memory::{setup, Memory, DATA, RX, TX};
 
@@ -120,7 +120,7 @@ fn a_broken_ring_halts_the_queue() {
     let halt = Halt(1);
     assert_eq!(queue.turn(&mut guest), Turn::Halted(halt));
     assert_eq!(halt.to_string(), "the tx producer is more than a ring ahead");
-    assert_eq!(queue.indices(), Err(halt));
+    assert_eq!(queue.indices(), Err(Stopped::Halted(halt)));
     assert_eq!(queue.replace(&answers(1)), Err(ReplaceError::Halted(halt)));
     assert_eq!(queue.turn(&mut guest), Turn::Halted(halt));
 }
@@ -131,12 +131,12 @@ fn a_packet_is_delivered_once_there_are_buffers() {
     let mut queue = guest.queue(&program, Indices::default());
     let packet = udp(5000);
     assert_eq!(queue.deliver(&packet, &mut guest), Ok(Delivery::FewSlots));
-    assert_eq!(queue.wait_for(packet.len(), &mut guest), Awaited::Waiting);
+    assert_eq!(queue.wait_for(packet.len(), &mut guest), Ok(Awaited::Waiting));
     assert_eq!(guest.get(RX, 1), 2);
     guest.post(0, guest.grant(0, true));
-    assert_eq!(queue.wait_for(packet.len(), &mut guest), Awaited::Waiting);
+    assert_eq!(queue.wait_for(packet.len(), &mut guest), Ok(Awaited::Waiting));
     guest.post(1, guest.grant(1, true));
-    assert_eq!(queue.wait_for(packet.len(), &mut guest), Awaited::Posted);
+    assert_eq!(queue.wait_for(packet.len(), &mut guest), Ok(Awaited::Posted));
     assert_eq!(queue.deliver(&packet, &mut guest), Ok(Delivery::Sent { slots: 2 }));
     assert_eq!((guest.received(0), guest.received(1)), ((200, 0, MORE, 4096), (201, 0, 0, 904)));
     assert_eq!(guest.get(DATA, 3).to_le_bytes(), packet[12..16]);
@@ -152,9 +152,12 @@ fn a_delivery_is_refused_or_halts() {
     assert_eq!(guest.received(0).3, ERROR);
     assert!(queue.deliver(&[0; 13], &mut guest).is_err());
     assert!(queue.deliver(&vec![0; laxonje::MOST_BYTES + 1], &mut guest).is_err());
+    for bytes in [laxonje::MOST_BYTES + 1, usize::MAX] {
+        assert_eq!(queue.wait_for(bytes, &mut guest), Err(DeliverError), "{bytes}");
+    }
     guest.set(RX, 0, 500);
     assert_eq!(queue.deliver(&udp(60), &mut guest), Ok(Delivery::Halted(Halt(6))));
-    assert_eq!(queue.wait_for(60, &mut guest), Awaited::Halted(Halt(6)));
+    assert_eq!(queue.wait_for(60, &mut guest), Ok(Awaited::Halted(Halt(6))));
 }
 
 #[test]
@@ -177,6 +180,11 @@ fn another_program_goes_on_with_the_rings_and_equal_maps() {
     queue.counters_mut()[17] = 41;
     guest.send(1, reference, 0, 60);
     assert_eq!((action(queue.turn(&mut guest)), queue.counters()[17]), (Action::Pass, 42));
+    // the same sizes under another name count something else
+    let renamed = Program::from_settings(COUNT.replace("\"protocols\"", "\"others\"").as_bytes()).unwrap();
+    assert_eq!(renamed.maps(), counts().maps());
+    queue.replace(&renamed).unwrap();
+    assert_eq!(queue.counters()[17], 0);
 }
 
 #[test]
@@ -208,6 +216,16 @@ fn a_queue_goes_to_another_thread() {
 }
 
 #[test]
+fn a_guest_may_be_of_a_type_that_is_known_later() {
+    let (program, mut guest) = (answers(1), Memory::new());
+    let mut queue = guest.queue(&program, Indices::default());
+    guest.send(0, guest.grant(0, false), 0, 60);
+    let guest: &mut dyn Guest = &mut guest;
+    assert_eq!(action(queue.turn(guest)), Action::Drop);
+    assert_eq!(queue.deliver(&udp(60), guest), Ok(Delivery::FewSlots));
+}
+
+#[test]
 fn a_table_lies_in_any_frames() {
     let (program, mut guest) = (answers(2), Memory::new());
     // references of the second frame, and of the third, are 512 and 1,024 on
@@ -227,6 +245,98 @@ fn a_table_lies_in_any_frames() {
         queue.packet(&mut packet);
         assert_eq!(packet[0], table.len() as u8);
     }
+}
+
+/// A host that panics at an access: once so many have been made. A page that can't be reached, and a guest's own `over`, are accesses too.
+struct Panics {
+    memory: Memory,
+    left: usize,
+    made: usize,
+}
+
+impl Panics {
+    fn new() -> Panics {
+        Panics { memory: Memory::new(), left: usize::MAX, made: 0 }
+    }
+
+    fn access(&mut self) {
+        assert_ne!(self.left, 0, "planted");
+        self.left -= 1;
+        self.made += 1;
+    }
+}
+
+impl Guest for Panics {
+    fn read(&mut self, frame: u32, word: usize, into: &mut [u32]) {
+        self.access();
+        Guest::read(&mut self.memory, frame, word, into)
+    }
+    fn write(&mut self, frame: u32, word: usize, from: &[u32]) {
+        self.access();
+        Guest::write(&mut self.memory, frame, word, from)
+    }
+    fn push(&mut self, frame: u32, word: usize, value: u32, then: usize) -> u32 {
+        self.access();
+        Guest::push(&mut self.memory, frame, word, value, then)
+    }
+    fn notify(&mut self, port: u32) {
+        self.access();
+        GuestMemory::notify(&mut self.memory, port)
+    }
+    fn over(&mut self) {
+        self.access();
+    }
+}
+
+/// A queue that took a packet of `aa`, and has one of `bb` in two slots and buffers for it before it.
+fn before_the_second(program: &Program) -> (Panics, Queue) {
+    let mut guest = Panics::new();
+    let mut queue = guest.memory.queue(program, Indices::default());
+    for (number, byte) in [(0, 0xaa), (1, 0xbb), (2, 0xbb)] {
+        guest.memory.fill(number, &[byte; 64]);
+    }
+    for index in 0..3 {
+        guest.memory.post(index, guest.memory.grant(4 + index as usize, true));
+    }
+    guest.memory.send(0, guest.memory.grant(0, false), 0, 64);
+    assert!(matches!(queue.turn(&mut guest), Turn::Ran(_)));
+    guest.memory.send(1, guest.memory.grant(1, false), MORE, 64);
+    guest.memory.send(2, guest.memory.grant(2, false), 0, 30);
+    guest.made = 0;
+    (guest, queue)
+}
+
+/// Makes a call whose k-th access panics, for each k that it has. After each the queue makes no access, and all calls say why.
+fn each_access_panics(program: &Program, call: impl Fn(&mut Queue, &mut Panics)) -> usize {
+    let (mut guest, mut queue) = before_the_second(program);
+    call(&mut queue, &mut guest);
+    let count = guest.made;
+    for access in 0..count {
+        let (mut guest, mut queue) = before_the_second(program);
+        guest.left = access;
+        let caught = std::panic::catch_unwind(std::panic::AssertUnwindSafe(|| call(&mut queue, &mut guest)));
+        assert!(caught.is_err(), "access {access}");
+        (guest.left, guest.made) = (usize::MAX, 0);
+        assert_eq!(queue.turn(&mut guest), Turn::Abandoned, "access {access}");
+        assert_eq!(queue.deliver(&udp(60), &mut guest), Ok(Delivery::Abandoned));
+        assert_eq!(queue.wait_for(60, &mut guest), Ok(Awaited::Abandoned));
+        assert_eq!(queue.indices(), Err(Stopped::Abandoned));
+        assert_eq!(queue.replace(program), Err(ReplaceError::Abandoned));
+        assert_eq!((queue.packet(&mut [0; 64]), guest.made), (0, 0));
+    }
+    count
+}
+
+#[test]
+fn a_panic_at_any_access_leaves_a_queue_that_says_so() {
+    let (passes, returns) = (answers(2), answers(3));
+    let turn = |queue: &mut Queue, guest: &mut Panics| assert!(matches!(queue.turn(guest), Turn::Ran(_)));
+    // producer, two slots, two entries, two pages, two responses, the push, the notice, and the end
+    assert_eq!(each_access_panics(&passes, turn), 11);
+    assert!(each_access_panics(&returns, turn) > 11);
+    let delivered = each_access_panics(&passes, |queue, guest| assert!(queue.deliver(&udp(5000), guest).is_ok()));
+    let awaited = each_access_panics(&passes, |queue, guest| assert!(queue.wait_for(5000, guest).is_ok()));
+    assert!(delivered > 9 && awaited > 1, "{delivered} {awaited}");
 }
 
 /// A host that asks for pages: it notes what it is asked.

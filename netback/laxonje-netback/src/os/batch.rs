@@ -14,12 +14,19 @@ use std::ptr;
 /// A context of the kernel's for a number of reads and writes at once.
 #[derive(Debug)]
 pub struct Batch {
+    /// 0: the kernel no longer says what is through, and the context is given up.
     context: c_ulong,
     most: usize,
     blocks: Vec<ffi::iocb>,
+    /// The address of each block.
+    pointers: Vec<usize>,
+    events: Vec<ffi::io_event>,
     /// How each ended: how many bytes, or an error's number below 0.
     results: Vec<i64>,
 }
+
+/// How many bytes each write or read moved: `None` for one that wasn't taken, or that found nothing.
+pub type Moved = Vec<Option<usize>>;
 
 const NOT_MADE: i64 = -5; // EIO
 
@@ -29,37 +36,43 @@ impl Batch {
         // SAFETY: the kernel writes the context's address there.
         let status = unsafe { ffi::syscall(ffi::SYS_IO_SETUP, most as c_long, &mut context as *mut c_ulong) };
         match status {
-            0 => Ok(Batch { context, most, blocks: Vec::new(), results: Vec::new() }),
+            0 => Ok(Batch { context, most, blocks: Vec::new(), pointers: Vec::new(), events: Vec::new(), results: Vec::new() }),
             _ => Err(io::Error::last_os_error()),
         }
     }
 
-    /// Writes and then reads, each whole or not at all, and says how many bytes each moved: `None` for a read that found nothing.
-    pub fn run(&mut self, fd: RawFd, writes: &[&[u8]], reads: &mut [&mut [u8]]) -> (Vec<Option<usize>>, Vec<Option<usize>>) {
-        self.blocks.clear();
+    pub fn is_open(&self) -> bool {
+        self.context != 0
+    }
+
+    /// Writes and then reads, each whole or not at all, and says what each moved.
+    pub fn run<'bytes>(
+        &mut self, fd: RawFd, writes: impl Iterator<Item = &'bytes [u8]>, reads: impl Iterator<Item = &'bytes mut [u8]>, moved: &mut Moved,
+    ) {
         let block =
             |opcode, at: u64, bytes: usize| ffi::iocb { opcode, fd: fd as u32, buffer: at, bytes: bytes as u64, ..ffi::iocb::default() };
-        self.blocks.extend(writes.iter().map(|bytes| block(ffi::IOCB_CMD_PWRITE, bytes.as_ptr() as u64, bytes.len())));
-        self.blocks.extend(reads.iter_mut().map(|bytes| block(ffi::IOCB_CMD_PREAD, bytes.as_mut_ptr() as u64, bytes.len())));
+        self.blocks.clear();
+        self.blocks.extend(writes.map(|bytes| block(ffi::IOCB_CMD_PWRITE, bytes.as_ptr() as u64, bytes.len())));
+        self.blocks.extend(reads.map(|bytes| block(ffi::IOCB_CMD_PREAD, bytes.as_mut_ptr() as u64, bytes.len())));
+        self.pointers.clear();
         for (number, block) in self.blocks.iter_mut().enumerate() {
             block.data = number as u64;
+            self.pointers.push(block as *mut _ as usize);
         }
         self.results.clear();
         self.results.resize(self.blocks.len(), NOT_MADE);
         let mut start = 0;
-        while start < self.blocks.len() {
+        while start < self.blocks.len() && self.is_open() {
             start += self.submit(start, (self.blocks.len() - start).min(self.most));
         }
-        let through = |result: &i64| usize::try_from(*result).ok();
-        let (written, read) = self.results.split_at(writes.len());
-        (written.iter().map(through).collect(), read.iter().map(through).collect())
+        moved.extend(self.results.iter().map(|result| usize::try_from(*result).ok()));
     }
 
-    /// Submits blocks and waits until they are through. How many were dealt with: one that the kernel doesn't take isn't made.
+    /// Submits blocks and waits until they are through. Returns how many were dealt with: one that the kernel doesn't take isn't made.
     fn submit(&mut self, start: usize, count: usize) -> usize {
-        let mut pointers: Vec<*mut ffi::iocb> = self.blocks[start..start + count].iter_mut().map(|block| block as *mut _).collect();
+        let pointers = self.pointers[start..start + count].as_mut_ptr();
         // SAFETY: `count` pointers to blocks, whose buffers the module's reason speaks of.
-        let taken = unsafe { ffi::syscall(ffi::SYS_IO_SUBMIT, self.context, count as c_long, pointers.as_mut_ptr()) };
+        let taken = unsafe { ffi::syscall(ffi::SYS_IO_SUBMIT, self.context, count as c_long, pointers) };
         match usize::try_from(taken) {
             Ok(taken) if taken > 0 => {
                 self.collect(taken);
@@ -69,27 +82,40 @@ impl Batch {
         }
     }
 
+    /// Waits for what was submitted. If the kernel no longer says what is through, the context is given up.
     fn collect(&mut self, count: usize) {
-        let mut events = vec![ffi::io_event::default(); count];
+        self.events.resize(count, ffi::io_event::default());
         let mut left = count;
         while left > 0 {
             let (least, room) = (left as c_long, left as c_long);
             let no_time: *const u8 = ptr::null();
             // SAFETY: there is room for that many events.
-            let came = unsafe { ffi::syscall(ffi::SYS_IO_GETEVENTS, self.context, least, room, events.as_mut_ptr(), no_time) };
-            let came = usize::try_from(came).unwrap_or(0);
-            for event in &events[..came] {
+            let came = unsafe { ffi::syscall(ffi::SYS_IO_GETEVENTS, self.context, least, room, self.events.as_mut_ptr(), no_time) };
+            let came = match usize::try_from(came) {
+                Ok(came) => came,
+                Err(_) if io::Error::last_os_error().kind() == io::ErrorKind::Interrupted => 0,
+                Err(_) => return self.give_up(),
+            };
+            for event in &self.events[..came] {
                 self.results[event.data as usize] = event.result;
             }
             left -= came;
         }
     }
+
+    /// The kernel returns once nothing is under way.
+    fn give_up(&mut self) {
+        // SAFETY: the module's reason: the context isn't used again.
+        unsafe { ffi::syscall(ffi::SYS_IO_DESTROY, self.context) };
+        self.context = 0;
+    }
 }
 
 impl Drop for Batch {
     fn drop(&mut self) {
-        // SAFETY: the module's reason; nothing is under way.
-        unsafe { ffi::syscall(ffi::SYS_IO_DESTROY, self.context) };
+        if self.is_open() {
+            self.give_up();
+        }
     }
 }
 
@@ -99,6 +125,14 @@ mod tests {
     use std::os::unix::io::AsRawFd;
     use std::os::unix::net::UnixDatagram;
 
+    fn run<const WRITES: usize, const READS: usize>(
+        batch: &mut Batch, fd: RawFd, writes: [&[u8]; WRITES], reads: [&mut [u8]; READS],
+    ) -> Moved {
+        let mut moved = Moved::new();
+        batch.run(fd, writes.into_iter(), reads.into_iter(), &mut moved);
+        moved
+    }
+
     #[test]
     fn packets_go_and_come_in_one_call() {
         let (near, far) = UnixDatagram::pair().unwrap();
@@ -107,13 +141,23 @@ mod tests {
         far.send(b"two and").unwrap();
         let mut batch = Batch::open(4).unwrap();
         let (mut first, mut second, mut third) = ([0; 8], [0; 8], [0; 8]);
-        let (written, read) = batch.run(near.as_raw_fd(), &[b"a", b"bc", b"def"], &mut [&mut first, &mut second, &mut third]);
-        assert_eq!((written, read), (vec![Some(1), Some(2), Some(3)], vec![Some(3), Some(7), None]));
+        let (writes, reads) = ([&b"a"[..], b"bc", b"def"], [&mut first[..], &mut second, &mut third]);
+        assert_eq!(run(&mut batch, near.as_raw_fd(), writes, reads), [Some(1), Some(2), Some(3), Some(3), Some(7), None]);
         assert_eq!((&first[..3], &second[..7]), (&b"one"[..], &b"two and"[..]));
         let mut room = [0; 8];
         assert_eq!((far.recv(&mut room).unwrap(), far.recv(&mut room).unwrap(), far.recv(&mut room).unwrap()), (1, 2, 3));
-        assert_eq!(batch.run(near.as_raw_fd(), &[], &mut []), (vec![], vec![]));
-        let (written, _) = batch.run(-1, &[b"x", b"y"], &mut []);
-        assert_eq!(written, [None, None]);
+        assert_eq!(run(&mut batch, near.as_raw_fd(), [], []), []);
+        assert_eq!(run(&mut batch, -1, [b"x", b"y"], []), [None, None]);
+    }
+
+    #[test]
+    fn a_context_that_no_longer_answers_is_given_up() {
+        let (near, _far) = UnixDatagram::pair().unwrap();
+        let mut batch = Batch::open(4).unwrap();
+        // SAFETY: as that of `give_up`: the context isn't used again but to be refused.
+        unsafe { ffi::syscall(ffi::SYS_IO_DESTROY, batch.context) };
+        batch.collect(1);
+        assert!(!batch.is_open());
+        assert_eq!(run(&mut batch, near.as_raw_fd(), [b"x"], []), [None]);
     }
 }

@@ -4,8 +4,8 @@ mod privileges;
 mod tap;
 mod wait;
 
-pub use privileges::{give_up_capabilities, restrict_to_packets, restrict_to_service, set_priority};
-pub use tap::{Interface, Tap, HEADER_BYTES};
+pub use privileges::{allow_priority, give_up_capabilities, restrict_to_packets, restrict_to_service, set_priority};
+pub use tap::{Interface, Tap, TapKind, HEADER_BYTES};
 pub use wait::{wait, Signals, Wanted};
 
 use std::io;

@@ -24,7 +24,21 @@ pub fn give_up_capabilities(keeps_network: bool) -> io::Result<()> {
     done(unsafe { ffi::capset(&mut header, data.as_ptr()) })
 }
 
-/// The priority of this thread and of those that it starts. When one is woken it doesn't take the processor from who runs (SCHED_BATCH): so
+/// Lets threads of this process take a priority once its capabilities are given up. Without the right to it this does nothing: who started
+/// the process may have allowed it.
+pub fn allow_priority(nice: i32) {
+    let wanted = (20 - nice) as c_ulong;
+    let mut limit = ffi::rlimit::default();
+    // SAFETY: both calls have a limit of the caller's own.
+    unsafe {
+        if ffi::getrlimit(ffi::RLIMIT_NICE, &mut limit) == 0 && limit.current < wanted {
+            let raised = ffi::rlimit { current: wanted, most: limit.most.max(wanted) };
+            ffi::setrlimit(ffi::RLIMIT_NICE, &raised);
+        }
+    }
+}
+
+/// The priority of this thread. When one is woken it doesn't take the processor from who runs (SCHED_BATCH): so
 /// a sender goes on, and its packets are taken many at a time. Its sleeps end in time.
 pub fn set_priority(nice: i32) -> io::Result<()> {
     control(ffi::PR_SET_TIMERSLACK, LEAST_SLACK, 0)?;
@@ -101,6 +115,9 @@ mod calls {
     pub const SECCOMP: u32 = 317;
     pub const GETRANDOM: u32 = 318;
     pub const STATX: u32 = 332;
+    pub const READLINK: u32 = 89;
+    pub const SETPRIORITY: u32 = 141;
+    pub const SCHED_SETSCHEDULER: u32 = 144;
     pub const RSEQ: u32 = 334;
     pub const CLONE3: u32 = 435;
 }
@@ -141,8 +158,8 @@ const PACKETS: [u32; 31] = [
     CLOCK_NANOSLEEP,
 ];
 
-/// What the main thread does besides: opens devices, settings and TAPs, starts threads, and answers on its socket.
-const SERVICE: [u32; 30] = [
+/// What the main thread does besides: opens devices, settings and TAPs, starts threads, which take their priority, and answers on its socket.
+const SERVICE: [u32; 33] = [
     OPEN,
     OPENAT,
     STAT,
@@ -173,6 +190,9 @@ const SERVICE: [u32; 30] = [
     SECCOMP,
     RSEQ,
     IO_SETUP,
+    READLINK,
+    SETPRIORITY,
+    SCHED_SETSCHEDULER,
 ];
 
 const LOAD_WORD: u16 = 0x20;

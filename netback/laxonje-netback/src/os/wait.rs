@@ -25,15 +25,19 @@ impl Wanted {
     }
 }
 
-/// Waits until one is ready or the time is over. Without a time it waits for ever.
-pub fn wait(wanted: &mut [Wanted], time: Option<Duration>) {
-    let mut on: Vec<_> = wanted.iter().map(|one| ffi::pollfd { fd: one.fd, events: ffi::POLLIN, revents: 0 }).collect();
-    let milliseconds = time.map_or(-1, |time| time.as_millis().min(i32::MAX as u128) as i32);
+/// Waits until one is ready or the time is over, to whole milliseconds. Without a time it waits for ever. A signal ends it too.
+pub fn wait<const COUNT: usize>(wanted: &mut [Wanted; COUNT], time: Option<Duration>) -> io::Result<()> {
+    let mut on = wanted.map(|one| ffi::pollfd { fd: one.fd, events: ffi::POLLIN, revents: 0 });
+    let milliseconds = time.map_or(-1, |time| time.as_micros().saturating_add(999).min(i32::MAX as u128 * 1000) as i64 / 1000);
     // SAFETY: the array has that many elements.
-    let count = unsafe { ffi::poll(on.as_mut_ptr(), on.len() as u64, milliseconds) };
+    let count = unsafe { ffi::poll(on.as_mut_ptr(), on.len() as u64, milliseconds as i32) };
     for (one, polled) in wanted.iter_mut().zip(&on) {
         one.ready = count > 0 && polled.revents != 0;
         one.failed = count > 0 && polled.revents & ffi::POLLERR != 0;
+    }
+    match count {
+        0.. => Ok(()),
+        _ => Some(io::Error::last_os_error()).filter(|error| error.raw_os_error() != Some(ffi::EINTR)).map_or(Ok(()), Err),
     }
 }
 
@@ -83,10 +87,10 @@ mod tests {
         let (near, mut far) = UnixStream::pair().unwrap();
         let mut wanted = [Wanted::of(near.as_raw_fd()), Wanted::none()];
         let began = Instant::now();
-        wait(&mut wanted, Some(Duration::from_millis(20)));
+        wait(&mut wanted, Some(Duration::from_millis(20))).unwrap();
         assert!(!wanted[0].ready && began.elapsed() >= Duration::from_millis(20));
         far.write_all(b"x").unwrap();
-        wait(&mut wanted, None);
+        wait(&mut wanted, None).unwrap();
         assert!(wanted[0].ready && !wanted[0].failed && !wanted[1].ready);
     }
 
@@ -96,7 +100,7 @@ mod tests {
         let pipe = child.stdin.take().unwrap();
         child.wait().unwrap();
         let mut wanted = [Wanted::of(pipe.as_raw_fd())];
-        wait(&mut wanted, Some(Duration::ZERO));
+        wait(&mut wanted, Some(Duration::ZERO)).unwrap();
         assert!(wanted[0].failed);
     }
 }

@@ -72,12 +72,9 @@ impl Arena {
     /// take, and whether it may have more.
     pub fn exchange(&mut self, tap: &mut Tap, out: &Out, wants: bool) -> (u64, bool) {
         let reads = if wants && self.packets.is_empty() { self.reads } else { 0 };
-        let (written, read) = {
-            let rooms = self.bytes.chunks_exact_mut(ROOM_PAGES * PAGE_BYTES);
-            let mut rooms: Vec<_> =
-                rooms.take(reads).map(|room| &mut room[PAGE_BYTES - HEADER_BYTES..PAGE_BYTES + MOST_BYTES + 1]).collect();
-            tap.exchange(&out.packets().collect::<Vec<_>>(), &mut rooms)
-        };
+        let rooms = self.bytes.chunks_exact_mut(ROOM_PAGES * PAGE_BYTES);
+        let rooms = rooms.take(reads).map(|room| &mut room[PAGE_BYTES - HEADER_BYTES..PAGE_BYTES + MOST_BYTES + 1]);
+        let (written, read) = tap.exchange(out.packets(), rooms).split_at(out.count());
         let lost = written.iter().zip(&out.ranges).filter(|(length, range)| **length != Some(range.len())).count();
         let came = read.iter().flatten().count();
         for (room, length) in read.iter().enumerate() {
@@ -113,6 +110,10 @@ impl Out {
 
     pub fn is_empty(&self) -> bool {
         self.ranges.is_empty()
+    }
+
+    pub fn count(&self) -> usize {
+        self.ranges.len()
     }
 
     /// Whether a longest packet wouldn't fit.

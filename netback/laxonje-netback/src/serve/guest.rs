@@ -15,7 +15,7 @@ use self::held::Held;
 use self::ring::{Guess, Ring, REQUESTS_IN_RING, RESPONSES, RX_SLOT, TX_SLOT};
 use super::arena::{Arena, Packet};
 use crate::keys::QueueKeys;
-use crate::stats::Totals;
+use crate::stats::{Rings, Totals};
 use crate::xen::{Memory, PageCopy, Pages, Places};
 use laxonje::{Entry, Extent, Guest, GuestMemory, Page, PAGE_BYTES};
 use std::fmt;
@@ -74,8 +74,9 @@ pub struct XenGuest<Xen: Pages> {
     asked: Memory,
     asked_count: usize,
     copies: Vec<PageCopy>,
-    /// The tx slots of the copies.
-    slots: Vec<usize>,
+    /// The slots of each ring that have a guess.
+    tx_guessed: Vec<usize>,
+    rx_guessed: Vec<usize>,
     held: Vec<Held<Xen::Mapped>>,
     refused: RefusedGrant,
     owes_notice: bool,
@@ -97,7 +98,7 @@ impl<Xen: Pages> XenGuest<Xen> {
         let (taken, given, asked) = (room(), room(), Memory::plain(PAGES_ASKED));
         let shared = [&taken, &given].iter().filter_map(|memory| memory.references()).map(<[u32]>::len).sum();
         Totals::set(&totals.shared_pages, shared);
-        let (copies, slots, held) = (Vec::new(), Vec::new(), Vec::new());
+        let (copies, tx_guessed, rx_guessed, held) = (Vec::new(), Vec::new(), Vec::new(), Vec::new());
         Ok(XenGuest {
             domain,
             xen,
@@ -109,7 +110,8 @@ impl<Xen: Pages> XenGuest<Xen> {
             asked,
             asked_count: 0,
             copies,
-            slots,
+            tx_guessed,
+            rx_guessed,
             held,
             refused: RefusedGrant::default(),
             owes_notice: false,
@@ -124,6 +126,12 @@ impl<Xen: Pages> XenGuest<Xen> {
 
     pub fn indices(&self) -> laxonje::Indices {
         laxonje::Indices { tx: self.tx.done, rx: self.rx.done }
+    }
+
+    /// Where its rings stand.
+    pub fn rings(&self) -> Rings {
+        let ring = |ring: &Ring<Xen::Mapped>| (ring.shown().wrapping_add(ring.done), ring.done);
+        Rings { tx: ring(&self.tx), rx: ring(&self.rx) }
     }
 
     /// Whether the guest shows a request of the tx ring.
@@ -148,6 +156,7 @@ impl<Xen: Pages> XenGuest<Xen> {
 
     /// Copies the pages of requests that are shown, and says up to which index.
     pub fn fetch(&mut self) -> io::Result<u32> {
+        self.forget();
         let shown = self.tx.shown();
         if self.way == Way::Map || shown > REQUESTS_IN_RING {
             return Ok(self.tx.done.wrapping_add(shown.min(REQUESTS_IN_RING)));
@@ -155,7 +164,7 @@ impl<Xen: Pages> XenGuest<Xen> {
         let count = self.guess_requests(shown);
         self.xen.fetch(self.domain, &mut self.copies, &mut self.taken)?;
         Totals::add(&self.totals.copied_pages, self.copies.len() as u64);
-        for (slot, copy) in self.slots.iter().zip(&self.copies) {
+        for (slot, copy) in self.tx_guessed.iter().zip(&self.copies) {
             self.tx.guesses[*slot] = Some(Guess::of(copy, copy.at));
         }
         Ok(self.tx.done.wrapping_add(count))
@@ -166,7 +175,6 @@ impl<Xen: Pages> XenGuest<Xen> {
         let mut places = Places::of(&self.taken);
         let (mut requests, mut copies) = (0, 0);
         self.copies.clear();
-        self.slots.clear();
         for number in 0..shown {
             let slot = self.tx.slot(number);
             let (guess, more) = self.guess_request(slot);
@@ -176,7 +184,7 @@ impl<Xen: Pages> XenGuest<Xen> {
             };
             if guess.bytes > 0 {
                 self.copies.push(PageCopy { at, ..guess });
-                self.slots.push(slot);
+                self.tx_guessed.push(slot);
             }
             if !more {
                 (requests, copies) = (number + 1, self.copies.len());
@@ -206,12 +214,13 @@ impl<Xen: Pages> XenGuest<Xen> {
 
     /// Forgets what was copied for turns and deliveries that didn't come, or went another way.
     pub fn forget(&mut self) {
-        let guesses = self.tx.guesses.iter_mut().chain(&mut self.rx.guesses);
-        guesses.for_each(|guess| *guess = None);
+        self.tx_guessed.drain(..).for_each(|slot| self.tx.guesses[slot] = None);
+        self.rx_guessed.drain(..).for_each(|slot| self.rx.guesses[slot] = None);
     }
 
     /// Copies packets that wait to the buffers that are posted for them, as many as there are buffers and room for. How many packets.
     pub fn put(&mut self, arena: &Arena) -> io::Result<usize> {
+        self.forget();
         if self.way == Way::Map {
             return Ok(arena.packets().count());
         }
@@ -229,6 +238,7 @@ impl<Xen: Pages> XenGuest<Xen> {
         for ((number, copy), page) in (0..).zip(&self.copies).zip(pages) {
             let slot = self.rx.slot(number);
             self.rx.guesses[slot] = Some(Guess::of(copy, page));
+            self.rx_guessed.push(slot);
         }
         Ok(count)
     }

@@ -2,7 +2,9 @@
 mod arena;
 mod guest;
 mod rests;
+mod running;
+mod stall;
 mod worker;
 
 pub use guest::{Way, XenGuest};
-pub use worker::{make_queue, Ended, Handle, Order, Place, Report, Reports, Worker};
+pub use worker::{make_queue, Ended, Handle, Order, Place, Report, Reports, Told, Worker};

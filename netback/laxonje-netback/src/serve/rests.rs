@@ -7,14 +7,14 @@ use std::iter::repeat_with;
 use std::thread;
 use std::time::{Duration, Instant};
 
-/// A rest comes after that many packets: the buffer of a socket takes some 270 short ones, if it has the usual size.
+/// A rest comes after that many packets, whatever became of them: the buffer of a socket takes some 270 short ones, if it has the usual size.
 const PACKETS: usize = 256;
 const NAP: Duration = Duration::from_micros(20);
 /// A nap that took so long: others had the processor, and may want it still.
 const LONG_NAP: Duration = Duration::from_micros(200);
 const MOST_NAPS: usize = 4;
 
-/// How many packets passed since the last rest.
+/// How many packets there were since the last rest.
 #[derive(Debug, Default)]
 pub struct Rests(usize);
 
@@ -23,7 +23,7 @@ impl Rests {
         self.0 += 1;
     }
 
-    /// Rests, if enough packets have passed: until nobody else takes the processor, or for the most naps.
+    /// Rests, if there were enough packets: until nobody else takes the processor, or for the most naps.
     pub fn rest(&mut self) {
         if self.take_due() {
             repeat_with(nap).take(MOST_NAPS).find(|took| *took < LONG_NAP);

@@ -1,4 +1,6 @@
 //! A guest and Xen in memory: grants that are given and ended, and a guest that changes its slots.
+mod ways;
+
 use super::ring::SLOTS;
 use super::*;
 use laxonje::{Action, Delivery, Program, Queue, Refusal, Setup, Turn};

@@ -1,27 +1,36 @@
 //! A device of a guest: its states, its TAP, its filter and its queues.
-use crate::filters::{self, Filter};
+pub mod node;
+mod port;
+mod told;
+
+use self::node::Kernel;
+use self::port::Port;
+use crate::filters::{self, Filter, FilterError, Filters, Guest};
 use crate::keys::{self, FrontKeys, State, Step};
 use crate::log::{Limit, Log};
 use crate::options::Options;
-use crate::os::Interface;
+use crate::os::TapKind;
 use crate::serve::{make_queue, Ended, Handle, Order, Place, Report, Reports, Way, Worker, XenGuest};
-use crate::stats::{self, DeviceStats, MapCounts, Totals};
+use crate::stats::Totals;
 use crate::xen::{Events, Grants, Store};
-use std::io;
-use std::sync::mpsc::channel;
-use std::sync::Arc;
+use std::cell::RefCell;
+use std::path::Path;
+use std::rc::Rc;
+use std::sync::atomic::{AtomicUsize, Ordering};
+use std::sync::{Arc, Once};
 use std::time::{Duration, Instant};
 
-/// The TAP's own address, as that of Linux's vifs: no bridge takes it for its own, and it is never the guest's.
-const ADDRESS: [u8; 6] = [0xfe, 0xff, 0xff, 0xff, 0xff, 0xff];
-const LEAST_MTU: u32 = 68;
-const MOST_MTU: u32 = 65_521;
 /// A queue's thread answers between two turns.
 const PATIENCE: Duration = Duration::from_secs(2);
 /// How often a guest may connect at once, and then once in this time.
 const CONNECTIONS: u32 = 10;
 const CONNECTS_EACH: Duration = Duration::from_millis(500);
+/// How often a device's queues are made anew after a fault of this program, and then once in this time. One more closes the device.
+const RENEWALS: u32 = 3;
+const RENEWS_EACH: Duration = Duration::from_secs(60);
 const MOST_STEPS: usize = 4;
+/// The key that says how many queues are offered.
+const OFFER: &str = "multi-queue-max-queues";
 
 /// Which device: the guest's domain and its number.
 #[derive(Clone, Copy, Debug, PartialEq, Eq, PartialOrd, Ord)]
@@ -47,23 +56,28 @@ pub struct Shared {
     pub grants: Grants,
     pub options: Options,
     pub reports: Reports,
+    pub filters: RefCell<Filters>,
 }
 
 pub struct Device {
     id: Id,
     front: String,
-    guest: String,
+    guest: Guest,
     state: Option<State>,
-    interface: Interface,
-    filter: Filter,
+    port: Port,
+    filter: Rc<Filter>,
     queues: Vec<Handle>,
     totals: Vec<Arc<Totals>>,
+    /// How many queues have a guest that posts no buffers.
+    stalled: Arc<AtomicUsize>,
     /// What the programs of threads that have ended counted.
     counted: Vec<u64>,
     connection: u64,
     log: Log,
-    refusals: Limit,
     connects: Limit,
+    renewals: Limit,
+    /// The last line about a filter that isn't taken.
+    said: String,
     /// The guest connects more often than it may: look again then.
     pub later: Option<Instant>,
 }
@@ -74,10 +88,16 @@ fn front_state(store: &Store, front: &str) -> Option<State> {
     State::of(Some(&text)).or(Some(State::Initialised))
 }
 
+/// The filter that a device has to have now.
+fn filter_of(shared: &Shared, id: Id, guest: &Guest) -> Result<Rc<Filter>, FilterError> {
+    let key = node::key(&shared.store, id, "filter");
+    shared.filters.borrow_mut().find(filters::places(&shared.options.filters, key.as_deref(), guest, id.number))
+}
+
 impl Device {
     /// A device whose node the toolstack has written. `Ok(None)`: the node isn't whole yet, or is going.
     pub fn find(shared: &Shared, id: Id) -> Result<Option<Device>, String> {
-        let key = |name: &str| shared.store.read(&format!("{}/{name}", id.back()));
+        let key = |name: &str| node::key(&shared.store, id, name);
         let front = match key("frontend") {
             Some(front) => front,
             None => return Ok(None),
@@ -85,59 +105,58 @@ impl Device {
         if key("online").as_deref() == Some("0") || front_state(&shared.store, &front).is_none() {
             return Ok(None);
         }
-        let guest = shared.store.read(&format!("/local/domain/{}/name", id.domain)).unwrap_or_default();
-        let places = filters::places(&shared.options.filters, key("filter").as_deref(), &guest, id.number);
-        let filter = filters::find(places).map_err(|error| error.to_string())?;
-        let name = key("vifname").unwrap_or_else(|| format!("vif{}.{}", id.domain, id.number));
-        let interface = Interface::new(&name).map_err(|error| error.to_string())?;
-        let counted = filter.program.new_counters();
-        let device = Device {
+        if let (Some(why), false) = (node::goes_around(key("type").as_deref()), shared.options.with_emulated) {
+            return Err(why);
+        }
+        let guest = node::guest(&shared.store, id);
+        let filter = filter_of(shared, id, &guest).map_err(|error| error.to_string())?;
+        let port = Port::make(shared, id).map_err(|error| format!("its interface: {error}"))?;
+        let mut device = Device {
             id,
             front,
-            guest,
             state: None,
-            filter,
+            log: Log::of(port.interface.name()),
+            port,
             queues: Vec::new(),
             totals: Vec::new(),
-            counted,
+            stalled: Arc::default(),
+            counted: filter.program.new_counters(),
+            filter,
+            guest,
             connection: 0,
-            log: Log::of(&name),
-            interface,
-            refusals: Limit::default(),
             connects: Limit::new(CONNECTIONS, CONNECTS_EACH),
+            renewals: Limit::new(RENEWALS, RENEWS_EACH),
+            said: String::new(),
             later: None,
         };
-        device.make_tap(shared).map_err(|error| format!("{}: {error}", device.interface.name()))?;
-        shared.store.watch(&format!("{}/state", device.front), &id.token()).map_err(|error| error.to_string())?;
-        let what = format!("found for domain {} ({}), filter {}", id.domain, device.guest, device.filter.path.display());
-        device.log.line(&what);
+        if let Err(error) = shared.store.watch(&format!("{}/state", device.front), &id.token()) {
+            let _ = device.port.remove();
+            return Err(error.to_string());
+        }
+        device.say_found(key("rate"));
         Ok(Some(device))
     }
 
-    fn key(&self, shared: &Shared, name: &str) -> Option<String> {
-        shared.store.read(&format!("{}/{name}", self.id.back()))
+    fn say_found(&self, rate: Option<String>) {
+        let Device { id, guest, filter, log, .. } = self;
+        log.line(&format!("found for domain {} ({}), filter {}", id.domain, guest.name, filter.path.display()));
+        if let Some(rate) = rate {
+            log.line(&format!("its rate isn't limited: the key rate ({rate}) is ignored"));
+        }
     }
 
-    /// Makes the TAP device, which stays until the device goes: even if this process ends before it.
-    fn make_tap(&self, shared: &Shared) -> io::Result<()> {
-        let tap = self.interface.open_tap()?;
-        tap.keep(true)?;
-        self.interface.set_address(ADDRESS)?;
-        if let Some(mtu) = self.key(shared, "mtu").as_deref().and_then(keys::number) {
-            self.interface.set_mtu(mtu.clamp(LEAST_MTU, MOST_MTU))?;
-        }
-        if self.key(shared, "script").is_some() {
-            return Ok(()); // the toolstack's script sets the interface up
-        }
-        if let Some(bridge) = self.key(shared, "bridge").or_else(|| shared.options.bridge.clone()) {
-            self.interface.join(&Interface::new(&bridge)?)?;
-        }
-        self.interface.set_up()
+    fn key(&self, shared: &Shared, name: &str) -> Option<String> {
+        node::key(&shared.store, self.id, name)
     }
 
     /// Does what comes next. Returns whether the device is still there.
     pub fn follow(&mut self, shared: &Shared) -> bool {
         self.later = None;
+        let _ = self.port.follow();
+        if node::kernel(Path::new(node::BACKENDS), self.id) == Kernel::Bound {
+            self.log.line("the kernel's driver has taken it");
+            return false;
+        }
         for _ in 0..MOST_STEPS {
             let front = front_state(&shared.store, &self.front);
             let stored = State::of(self.key(shared, "state").as_deref());
@@ -172,17 +191,26 @@ impl Device {
 
     fn offer(&mut self, shared: &Shared) {
         self.stop();
-        if self.interface.index().is_err() {
+        if matches!(self.port.follow(), Ok(false)) {
             // somebody took it away
-            if let Err(error) = self.make_tap(shared) {
-                self.say(&format!("there is no interface: {error}"));
+            match Port::make(shared, self.id) {
+                Ok(port) => self.port = port,
+                Err(error) => self.log.caused(&format_args!("there is no interface: {error}")),
             }
         }
         for (name, value) in [("feature-sg", "1"), ("feature-rx-copy", "1"), ("feature-ipv6-csum-offload", "1")] {
             self.put(shared, name, value);
         }
-        self.put(shared, "multi-queue-max-queues", &shared.options.queues.to_string());
+        self.put(shared, OFFER, &self.offered(shared).to_string());
         self.enter(shared, State::InitWait);
+    }
+
+    /// How many queues are offered: those that the TAP device can have.
+    fn offered(&self, shared: &Shared) -> u32 {
+        match self.port.kind {
+            TapKind::One => 1,
+            TapKind::Several => node::queues(&shared.store, self.id, shared.options.queues),
+        }
     }
 
     /// Whether the toolstack's script is through, and the guest doesn't connect too often.
@@ -198,26 +226,25 @@ impl Device {
     }
 
     fn connect(&mut self, shared: &Shared, fresh: bool) {
-        let offered = shared.options.queues;
+        // what a process before this offered stands in the node, which the guest can't write
+        let earlier = if fresh { None } else { self.key(shared, OFFER).as_deref().and_then(keys::number) };
+        let offered = earlier.unwrap_or_else(|| self.offered(shared));
         let front = keys::front(|key| shared.store.read(&format!("{}/{key}", self.front)), offered).map_err(|error| error.to_string());
         match front.and_then(|front| self.serve(shared, &front, fresh)) {
             Ok(count) => {
                 self.enter(shared, State::Connected);
-                self.say(&format!("{}, {count} queues", if fresh { "connected" } else { "gone on with" }));
+                self.log.caused(&format_args!("{}, {count} queues", if fresh { "connected" } else { "gone on with" }));
             }
-            Err(why) => {
-                self.stop();
-                let _ = shared.store.write(&format!("error/{}/error", self.id.back()), &why);
-                self.say(&format!("the guest isn't served: {why}"));
-                self.enter(shared, State::Closing);
-            }
+            Err(why) => self.give_up(shared, &format!("the guest isn't served: {why}")),
         }
     }
 
-    fn say(&mut self, line: &str) {
-        if let Some(skipped) = self.refusals.allows() {
-            self.log.line(&format!("{line}{skipped}"));
-        }
+    /// Closes the device, and says why.
+    fn give_up(&mut self, shared: &Shared, why: &str) {
+        self.stop();
+        let _ = shared.store.write(&format!("error/{}/error", self.id.back()), why);
+        self.log.caused(&why);
+        self.enter(shared, State::Closing);
     }
 
     fn serve(&mut self, shared: &Shared, front: &FrontKeys, fresh: bool) -> Result<usize, String> {
@@ -227,7 +254,7 @@ impl Device {
             workers.push(self.worker(shared, front, number, fresh)?);
         }
         for worker in workers {
-            self.queues.push(worker.start(shared.reports.clone(), shared.options.restricted).map_err(|error| error.to_string())?);
+            self.queues.push(worker.start(shared.reports.clone(), &shared.options).map_err(|error| error.to_string())?);
         }
         Ok(self.queues.len())
     }
@@ -240,13 +267,24 @@ impl Device {
         let Id { domain, number: device } = self.id;
         let (way, grants): (Way, Grants) = (shared.options.way, shared.grants.clone());
         let guest = XenGuest::connect(domain, keys, fresh, way, grants, Arc::clone(&totals)).map_err(|error| error.to_string())?;
+        self.note_pages(shared, &totals);
         let events =
             Events::bind(domain, keys.event).map_err(|error| format!("its event channel {} can't be bound: {error}", keys.event))?;
-        let ifindex = self.interface.index().map_err(|error| error.to_string())?;
-        let queue = make_queue(&self.filter.program, &guest, domain, ifindex, number as u32).map_err(|error| error.to_string())?;
-        let tap = self.interface.open_tap().map_err(|error| format!("{}: {error}", self.interface.name()))?;
+        let Port { interface, kind, .. } = &self.port;
+        let queue =
+            make_queue(&self.filter.program, &guest, domain, self.port.index(), number as u32).map_err(|error| error.to_string())?;
+        let tap = interface.open_tap(*kind).map_err(|error| format!("{}: {error}", interface.name()))?;
         let place = Place { domain, device, queue: number as u32, connection: self.connection };
-        Ok(Worker { place, guest, events, queue, tap, totals, log: self.log.clone(), notifies: front.notifies })
+        let stalled = Arc::clone(&self.stalled);
+        Ok(Worker { place, guest, events, queue, tap, totals, stalled, log: self.log.clone(), notifies: front.notifies })
+    }
+
+    /// Says once if pages for copies have run out.
+    fn note_pages(&self, shared: &Shared, totals: &Totals) {
+        static NONE: Once = Once::new();
+        if shared.options.way == Way::Copy && shared.grants.shares() && totals.shared_pages.load(Ordering::Relaxed) == 0 {
+            NONE.call_once(|| self.log.line("no more pages that Xen knows by references (the limit= of xen-gntalloc): packets cost more"));
+        }
     }
 
     /// Ends the threads, each between two turns.
@@ -260,7 +298,7 @@ impl Device {
 
     fn close(&mut self, shared: &Shared, state: State) {
         if !self.queues.is_empty() {
-            self.say("disconnected");
+            self.log.caused(&"disconnected");
         }
         self.stop();
         self.enter(shared, state);
@@ -270,40 +308,56 @@ impl Device {
     pub fn leave(mut self, shared: &Shared) {
         self.stop();
         let _ = shared.store.unwatch(&format!("{}/state", self.front), &self.id.token());
-        if let Err(error) = self.interface.open_tap().and_then(|tap| tap.keep(false)) {
+        if let Err(error) = self.port.remove() {
             self.log.line(&format!("the interface stays: {error}"));
         }
         self.log.line("gone");
     }
 
-    /// A queue's thread has ended by itself: the device is closed, and its guest's driver has to be bound again.
+    /// A queue's thread has ended by itself. After a fault of this program between two turns all queues are made anew, where their rings
+    /// stand. Else the device is closed, and its guest's driver has to be bound again.
     pub fn ended(&mut self, shared: &Shared, report: &Report) {
         if report.place.connection != self.connection || self.state != Some(State::Connected) {
             return;
         }
-        let why = match &report.why {
-            Ended::Halted(cause) => format!("queue {} halted: {cause}; the guest's driver has to be bound again", report.place.queue),
-            Ended::Failed(error) => format!("queue {} failed: {error}", report.place.queue),
-            Ended::Stopped => return,
-        };
-        self.say(&why);
-        self.stop();
-        self.enter(shared, State::Closing);
+        let queue = report.place.queue;
+        match &report.why {
+            Ended::Halted(cause) => {
+                self.give_up(shared, &format!("queue {queue} halted: {cause}; the guest's driver has to be bound again"))
+            }
+            Ended::Failed(error) => self.give_up(shared, &format!("queue {queue} failed: {error}")),
+            Ended::Panicked(fault) if fault.stands && self.renewals.allows().is_some() => {
+                self.log.line(&format!("queue {queue}: a fault of this program: {}; the queues are made anew", fault.line));
+                self.stop();
+                self.connect(shared, false);
+            }
+            Ended::Panicked(fault) => self.give_up(
+                shared,
+                &format!("queue {queue}: a fault of this program: {}; the guest's driver has to be bound again", fault.line),
+            ),
+            Ended::Stopped => {}
+        }
     }
 
-    /// Looks for the filter anew. What was done, if anything was.
+    /// Looks for the filter anew, by the guest's present name. Returns what was done, if anything was. The log has it once.
     pub fn reload(&mut self, shared: &Shared) -> Option<String> {
-        let places = filters::places(&shared.options.filters, self.key(shared, "filter").as_deref(), &self.guest, self.id.number);
-        let said = match filters::find(places) {
-            Ok(filter) if filter.is(&self.filter) => return None,
+        self.guest = node::guest(&shared.store, self.id);
+        let said = match filter_of(shared, self.id, &self.guest) {
+            Ok(filter) if Rc::ptr_eq(&filter, &self.filter) => {
+                self.said.clear();
+                return None;
+            }
             Ok(filter) => self.replace(filter),
             Err(error) => format!("the filter stays: {error}"),
         };
-        self.log.line(&said);
-        Some(format!("{}: {said}", self.interface.name()))
+        if said != self.said {
+            self.log.line(&said);
+        }
+        self.said = said.clone();
+        Some(format!("{}: {said}", self.port.interface.name()))
     }
 
-    fn replace(&mut self, filter: Filter) -> String {
+    fn replace(&mut self, filter: Rc<Filter>) -> String {
         for queue in &mut self.queues {
             match filter.program.try_clone() {
                 Ok(program) => {
@@ -312,63 +366,10 @@ impl Device {
                 Err(error) => return format!("the filter stays: {error}"),
             }
         }
-        if filter.program.maps() != self.filter.program.maps() {
+        if !filter.counts_as(&self.filter) {
             self.counted = filter.program.new_counters();
         }
         self.filter = filter;
         format!("the filter is now {}, {} instructions", self.filter.path.display(), self.filter.program.instructions())
-    }
-
-    /// What the filter's programs counted, in all.
-    fn counters(&mut self) -> Vec<u64> {
-        let mut sums = self.counted.clone();
-        for queue in &mut self.queues {
-            let (to, told) = channel();
-            let answer = if queue.order(Order::Tell(to)) { told.recv_timeout(PATIENCE).ok() } else { None };
-            for (sum, count) in sums.iter_mut().zip(answer.map(|told| told.counters).unwrap_or_default()) {
-                *sum = sum.wrapping_add(count);
-            }
-        }
-        sums
-    }
-
-    pub fn stats(&mut self) -> DeviceStats {
-        let mut stats = DeviceStats {
-            domain: self.id.domain,
-            device: self.id.number,
-            guest: self.guest.clone(),
-            interface: self.interface.name().to_owned(),
-            state: self.state.map_or("new", State::name).to_owned(),
-            filter: self.filter.path.display().to_string(),
-            queues: self.queues.len(),
-            ..DeviceStats::default()
-        };
-        stats::add_up(&mut stats, &self.totals);
-        let counters = self.counters();
-        stats.maps = self.maps(&counters);
-        stats
-    }
-
-    fn maps(&self, counters: &[u64]) -> Vec<MapCounts> {
-        let program = &self.filter.program;
-        let value = |map: usize, entry: u32, counter: u32| {
-            let place = program.place(map as u32, entry, counter)?;
-            counters.get(place).filter(|value| **value > 0).map(|value| (entry, counter, *value))
-        };
-        let counts = |map: usize, entries: u32, each: u32| {
-            (0..entries).flat_map(|entry| (0..each).filter_map(move |counter| value(map, entry, counter))).collect()
-        };
-        program
-            .maps()
-            .iter()
-            .zip(&self.filter.names)
-            .enumerate()
-            .map(|(number, (size, name))| MapCounts {
-                name: name.clone(),
-                entries: size.entries,
-                counters: size.counters,
-                values: counts(number, size.entries, size.counters),
-            })
-            .collect()
     }
 }

@@ -1,0 +1,99 @@
+/* The numbers of ffi.rs and ring.rs, compared by build.rs with the headers of the machine that builds. Nothing of it is linked. */
+#include <stddef.h>
+#include <stdint.h>
+#include <stdbool.h>
+#include <fcntl.h>
+#include <poll.h>
+#include <sched.h>
+#include <signal.h>
+#include <sys/ioctl.h>
+#include <sys/prctl.h>
+#include <sys/resource.h>
+#include <sys/signalfd.h>
+#include <sys/syscall.h>
+#include <linux/aio_abi.h>
+#include <linux/capability.h>
+#include <linux/filter.h>
+#include <linux/if.h>
+#include <linux/if_tun.h>
+#include <linux/seccomp.h>
+#include <linux/sockios.h>
+#include <linux/virtio_net.h>
+#include <xenevtchn.h>
+#include <xengnttab.h>
+#include <xenstore.h>
+#include <xenstore_lib.h>
+#include <xentoollog.h>
+#include <xen/grant_table.h>
+#include <xen/io/netif.h>
+
+#define IS(what, number) _Static_assert((what) == (number), #what " isn't " #number)
+
+/* Xen's libraries */
+typedef xengnttab_grant_copy_segment_t segment;
+IS(sizeof(segment), 24);
+IS(offsetof(segment, dest), 8);
+IS(offsetof(segment, source.foreign.offset), 4);
+IS(offsetof(segment, source.foreign.domid), 6);
+IS(offsetof(segment, len), 16);
+IS(offsetof(segment, flags), 18);
+IS(offsetof(segment, status), 20);
+IS(sizeof(xentoollog_logger), 24);
+IS(offsetof(xentoollog_logger, vmessage), 0);
+IS(offsetof(xentoollog_logger, progress), 8);
+IS(offsetof(xentoollog_logger, destroy), 16);
+IS(GNTCOPY_source_gref, 1);
+IS(GNTCOPY_dest_gref, 2);
+IS(GNTST_okay, 0);
+IS(GTF_permit_access, 1);
+IS(GTF_readonly, 4);
+IS(DOMID_SELF, 0x7ff0);
+IS(XS_WATCH_PATH, 0);
+IS(XS_WATCH_TOKEN, 1);
+
+/* A ring's page */
+IS(sizeof(netif_tx_request_t), 12);
+IS(sizeof(netif_rx_request_t), 8);
+IS(offsetof(netif_tx_sring_t, ring), 64);
+IS(offsetof(netif_tx_sring_t, rsp_prod), 8);
+IS(NETTXF_more_data, 4);
+
+/* Linux */
+IS(sizeof(struct ifreq), 40);
+IS(sizeof(struct pollfd), 8);
+IS(sizeof(sigset_t), 128);
+IS(sizeof(struct signalfd_siginfo), 128);
+IS(sizeof(struct rlimit), 16);
+IS(sizeof(struct __user_cap_header_struct), 8);
+IS(sizeof(struct __user_cap_data_struct), 12);
+IS(sizeof(struct sock_filter), 8);
+IS(sizeof(struct sock_fprog), 16);
+IS(sizeof(struct iocb), 64);
+IS(offsetof(struct iocb, aio_buf), 24);
+IS(offsetof(struct iocb, aio_resfd), 60);
+IS(sizeof(struct io_event), 32);
+IS(offsetof(struct io_event, res), 16);
+IS(sizeof(struct virtio_net_hdr), 10);
+IS(TUNSETIFF, 0x400454ca);
+IS(TUNSETPERSIST, 0x400454cb);
+IS(TUNSETCARRIER, 0x400454e2);
+IS(SIOCGIFNAME, 0x8910);
+IS(SIOCGIFFLAGS, 0x8913);
+IS(SIOCSIFFLAGS, 0x8914);
+IS(SIOCSIFMTU, 0x8922);
+IS(SIOCSIFNAME, 0x8923);
+IS(SIOCSIFHWADDR, 0x8924);
+IS(SIOCGIFINDEX, 0x8933);
+IS(SIOCSIFTXQLEN, 0x8943);
+IS(SIOCBRADDIF, 0x89a2);
+IS(IFF_TAP | IFF_NO_PI | IFF_VNET_HDR, 0x5002);
+IS(IFF_MULTI_QUEUE, 0x100);
+IS(CAP_NET_ADMIN, 12);
+IS(RLIMIT_NICE, 13);
+IS(PR_SET_NO_NEW_PRIVS, 38);
+IS(PR_CAPBSET_DROP, 24);
+IS(SECCOMP_MODE_FILTER, 2);
+IS(SYS_io_setup, 206);
+IS(SYS_io_submit, 209);
+IS(SYS_setpriority, 141);
+IS(SYS_sched_setscheduler, 144);

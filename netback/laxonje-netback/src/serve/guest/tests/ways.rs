@@ -1,0 +1,147 @@
+//! Whether pages are copied or mapped, a guest gets the same responses and the host the same frames.
+use super::*;
+
+const READ: std::ops::Range<u32> = 20..28;
+const WRITTEN: std::ops::Range<u32> = 28..36;
+
+/// One guest twice: its pages copied, and mapped.
+struct Both([Bench; 2]);
+
+/// What came of all seeds.
+#[derive(Debug, Default)]
+struct Seen {
+    passed: u32,
+    returned: u32,
+    refused: u32,
+    sent: u32,
+    halted: u32,
+}
+
+impl Both {
+    fn new(answer: u8) -> Both {
+        Both([Way::Copy, Way::Map].map(|way| Bench::new(way, answer)))
+    }
+
+    /// Does the same to both, by the same numbers.
+    fn each<Answer>(&mut self, any: &mut Any, mut what: impl FnMut(&mut Bench, &mut Any) -> Answer) -> [Answer; 2] {
+        let (mut first, mut second) = (Any(any.0), Any(any.0));
+        let answers = [what(&mut self.0[0], &mut first), what(&mut self.0[1], &mut second)];
+        assert_eq!(first.0, second.0);
+        *any = first;
+        answers
+    }
+
+    fn same<Answer: PartialEq + std::fmt::Debug>(&mut self, any: &mut Any, what: impl FnMut(&mut Bench, &mut Any) -> Answer) -> Answer {
+        let [copied, mapped] = self.each(any, what);
+        assert_eq!(copied, mapped);
+        copied
+    }
+}
+
+impl Any {
+    fn bytes(&mut self, count: usize) -> Vec<u8> {
+        let (first, step) = (self.below(256), self.below(256) | 1);
+        (0..count as u32).map(|byte| (first + step * byte) as u8).collect()
+    }
+}
+
+/// Pages anew, some of them for reading alone, one of them not granted.
+fn grant(bench: &mut Bench, any: &mut Any) {
+    for reference in READ.chain(WRITTEN) {
+        bench.memory.grant(reference, any.below(5) > 0);
+        fill(&bench.memory.page(reference), &any.bytes(PAGE_BYTES));
+    }
+    bench.memory.end(READ.start + any.below(16));
+}
+
+/// Requests and buffers, few of them right.
+fn show(bench: &mut Bench, any: &mut Any) {
+    let (sent, posted) = (bench.guest.tx.done, bench.guest.rx.done);
+    let (requests, buffers) = (any.below(7), any.below(7));
+    for number in 0..requests {
+        let flags = if number + 1 < requests && any.below(3) == 0 { MORE } else { any.below(50) / 49 * 8 };
+        let reference = if any.below(20) == 0 { any.below(40_000) } else { READ.start + any.below(8) };
+        let (offset, size) = (any.below(3000), any.below(1500));
+        bench.memory.send(sent.wrapping_add(number), reference.max(READ.start), offset, flags, size);
+    }
+    for number in 0..buffers {
+        bench.memory.post(posted.wrapping_add(number), WRITTEN.start + any.below(8));
+    }
+    if any.below(300) == 0 {
+        bench.memory.page(TX)[0].store(any.below(70_000), SeqCst);
+    }
+}
+
+/// The words of a page.
+fn words(bench: &Bench, reference: u32) -> Vec<u32> {
+    let pages = bench.memory.pages.borrow();
+    pages.get(&reference).map_or(Vec::new(), |(page, _)| page.iter().map(|word| word.load(SeqCst)).collect())
+}
+
+fn turns(bench: &mut Bench, _: &mut Any) -> Vec<(Turn, Vec<u8>, String)> {
+    let end = bench.guest.fetch().unwrap();
+    let mut came = Vec::new();
+    while !bench.guest.is_done(end) && came.len() < 8 {
+        let turn = bench.turn();
+        let packet = if matches!(turn, Turn::Ran(_)) { bench.packet() } else { Vec::new() };
+        came.push((turn, packet, bench.guest.take_refused().to_string()));
+        if matches!(turn, Turn::Halted(_) | Turn::Idle) {
+            break;
+        }
+    }
+    bench.guest.forget();
+    came
+}
+
+fn deliveries(bench: &mut Bench, any: &mut Any) -> Vec<Delivery> {
+    let mut arena = Arena::new();
+    for _ in 0..any.below(3) {
+        let length = 14 + any.below(6000) as usize;
+        arena.put(&any.bytes(length));
+    }
+    let mut came = Vec::new();
+    while arena.first().is_some() && !matches!(came.last(), Some(Delivery::FewSlots | Delivery::Halted(_))) {
+        bench.guest.put(&arena).unwrap();
+        came.push(bench.deliver(&arena));
+        arena.leave();
+    }
+    bench.guest.forget();
+    came
+}
+
+/// A round of both. Returns whether the queues have halted.
+fn round(both: &mut Both, any: &mut Any, seen: &mut Seen) -> bool {
+    both.each(any, show);
+    let turns = both.same(any, turns);
+    let deliveries = both.same(any, deliveries);
+    both.same(any, |bench, _| (words(bench, TX), words(bench, RX), bench.guest.rings()));
+    let is_refused = |turn: &Turn| matches!(turn, Turn::Refused(_));
+    let (passed, refused) =
+        (turns.iter().filter(|came| !came.1.is_empty()).count(), turns.iter().filter(|came| is_refused(&came.0)).count());
+    let unsent = deliveries.iter().filter(|delivery| !matches!(delivery, Delivery::Sent { .. })).count();
+    match refused + unsent {
+        // what is refused may have been copied to a buffer by then
+        0 => drop(both.same(any, |bench, _| WRITTEN.map(|reference| words(bench, reference)).collect::<Vec<_>>())),
+        _ => drop(both.each(any, grant)),
+    }
+    let returned = turns.iter().filter(|(turn, ..)| matches!(turn, Turn::Ran(run) if run.action == Action::Tx)).count();
+    let halts = turns.iter().any(|(turn, ..)| matches!(turn, Turn::Halted(_)))
+        || deliveries.iter().any(|delivery| matches!(delivery, Delivery::Halted(_)));
+    seen.passed += passed as u32;
+    seen.returned += returned as u32;
+    seen.refused += refused as u32;
+    seen.sent += (deliveries.len() - unsent) as u32;
+    seen.halted += u32::from(halts);
+    halts
+}
+
+#[test]
+fn copies_and_mappings_give_the_same_frames_and_responses() {
+    let mut seen = Seen::default();
+    for seed in 1..40u32 {
+        let (mut any, mut both) = (Any(seed), Both::new(2 + (seed % 2) as u8));
+        both.each(&mut any, grant);
+        let _ = (0..20).find(|_| round(&mut both, &mut any, &mut seen));
+    }
+    assert!(seen.passed > 100 && seen.returned > 20 && seen.refused > 100 && seen.sent > 60 && seen.halted > 2, "{seen:?}");
+}
