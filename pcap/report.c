@@ -82,6 +82,8 @@ void print_lines(FILE *to, const struct report *report, bool has_time)
 		fprintf(to, "%s ", action_names[action]);
 		print_sum(to, &report->by_action[action]);
 	}
+	if (report->not_judged)
+		fprintf(to, "not judged packets %" PRIu64 "\n", report->not_judged);
 	each_counter(to, report, print_counter_line);
 	if (has_time)
 		fprintf(to, "nanoseconds a packet %.1f\n", time_a_packet(report));
@@ -131,7 +133,7 @@ void print_json(FILE *to, const struct report *report)
 		print_json_sum(to, &report->by_action[action]);
 		fputc('}', to);
 	}
-	fputs("},\"counters\":[", to);
+	fprintf(to, "},\"not_judged\":%" PRIu64 ",\"counters\":[", report->not_judged);
 	each_counter(to, report, print_json_counter);
 	fprintf(to, "],\"nanoseconds_a_packet\":%.1f}\n", time_a_packet(report));
 }

@@ -17,6 +17,7 @@ struct sum {
 struct report {
 	struct sum by_action[ACTIONS];
 	uint64_t nanoseconds; /* that the runs took */
+	uint64_t not_judged;  /* packets */
 	uint64_t *counters;
 	struct laxonje_program *program;
 	struct settings settings;
