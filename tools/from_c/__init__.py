@@ -3,5 +3,8 @@
     compiler  clang, and what is put in front of the C
     elf       an object file's sections, symbols and relocations
     btf       its debug information: the sizes of maps, and the line of C of each slot
+    calls     functions and helpers whose calls are written out
+    memory    constants and globals
+    program   all of it, as settings
     faults    what settings can't say, with what to write instead
 """

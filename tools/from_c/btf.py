@@ -3,6 +3,7 @@
 Linux's Documentation/bpf/btf.rst has the format."""
 from __future__ import annotations
 
+import itertools
 import os
 import struct
 from typing import TYPE_CHECKING, Iterator, NamedTuple, Optional
@@ -10,9 +11,10 @@ from typing import TYPE_CHECKING, Iterator, NamedTuple, Optional
 from .elf import text_at
 
 if TYPE_CHECKING:
-    from .elf import Part
+    from .elf import Function, Part
 
-COUNTER_BYTES = 8
+COUNTER_BYTES, LINE_BYTES = 8, 16
+MOST_NUMBERS, MOST_BITS = 256, 0xFFFFFF  # of a value that are looked at; of a member's place, below a bit field's size
 INT, POINTER, ARRAY, STRUCT, UNION, VARIABLE, SECTION = 1, 2, 3, 4, 5, 14, 15
 # kinds of types, and how many bytes follow the twelve that each has: a fixed number, and a number for each member
 MORE_BYTES = {
@@ -37,9 +39,17 @@ class Type(NamedTuple):
     more: bytes
 
 
+class Number(NamedTuple):
+    """A number in a map's value: its name, where it lies, and its size in bytes."""
+
+    name: str
+    place: int
+    size: int
+
+
 class MapOfC(NamedTuple):
-    """A map as C declares it: its type's number and its sizes, of which 0 isn't said. `parts`: the name and the size of
-    each number in a value that doesn't have eight bytes. The type is None if the declaration is none of a map."""
+    """A map as C declares it: its type's number and its sizes, of which 0 isn't said. `parts`: the numbers in a value
+    that don't have eight bytes. The type is None if the declaration is none of a map."""
 
     name: str
     type: Optional[int]
@@ -47,6 +57,11 @@ class MapOfC(NamedTuple):
     value_bytes: int
     entries: int
     parts: list
+
+    @property
+    def counters(self) -> int:
+        """How many counters a value has here: one for each eight bytes that it begins."""
+        return -(-self.value_bytes // COUNTER_BYTES)
 
 
 class Types:
@@ -65,9 +80,11 @@ class Types:
 
     def plain(self, number: int) -> int:
         """The type without names and qualifiers."""
-        while number and self.rows[number].kind in ALIASES:
+        for _ in self.rows:
+            if not number or self.rows[number].kind not in ALIASES:
+                return number
             number = self.rows[number].size
-        return number
+        raise ValueError("a type is its own name")
 
     def size(self, number: int) -> int:
         """How many bytes a type has."""
@@ -87,18 +104,18 @@ class Types:
         pairs = [(text_at(self.names, name), self.plain(kind)) for name, kind, _ in rows]
         return {name: self.rows[kind].size for name, kind in pairs if kind and self.rows[kind].kind == POINTER}
 
-    def numbers_in(self, number: int, name: str = "the value") -> Iterator[tuple[str, int]]:
-        """The numbers of which a type consists, each by its name with its size; the first of an array."""
+    def numbers_in(self, number: int, name: str = "a number", at: int = 0) -> Iterator[Number]:
+        """The numbers of a value: of a struct's members, and of an array its first element's."""
         row = self.rows[self.plain(number)] if number else None
         if row is None:
             return
         if row.kind == ARRAY:
-            yield from self.numbers_in(struct.unpack_from("<I", row.more)[0], name)
+            yield from self.numbers_in(struct.unpack_from("<I", row.more)[0], name, at)
         elif row.kind in (STRUCT, UNION):
-            for at, kind, _ in struct.iter_unpack("<III", row.more):
-                yield from self.numbers_in(kind, text_at(self.names, at) or name)
+            for member, kind, bits in struct.iter_unpack("<III", row.more):
+                yield from self.numbers_in(kind, text_at(self.names, member) or name, at + (bits & MOST_BITS) // 8)
         else:
-            yield name, self.size(number)
+            yield Number(name, at, self.size(number))
 
     def number_of(self, pointed: int) -> int:
         """The number that `__uint` hides in the length of an array."""
@@ -122,7 +139,8 @@ class Types:
                 for what in ("key", "value")
             ]
             kind, entries = (self.number_of(members.get(what, 0)) for what in ("type", "max_entries"))
-            parts = [part for part in self.numbers_in(members.get("value", 0)) if part[1] != COUNTER_BYTES]
+            numbers = itertools.islice(self.numbers_in(members.get("value", 0)), MOST_NUMBERS)
+            parts = [part for part in numbers if part.size != COUNTER_BYTES]
             yield MapOfC(self.rows[number].name, kind, *sizes, entries, parts)
 
 
@@ -134,7 +152,7 @@ def named(file: str, source: str) -> str:
     return file if near.startswith("..") else near
 
 
-def lines_of(sections: dict[str, Part], program: str, source: str) -> dict[int, str]:
+def lines_of(sections: dict[str, Part], function: Function, source: str) -> dict[int, str]:
     """The line of C of each slot at which one begins, as `file.c:12`: what .BTF.ext has, if it is there."""
     if ".BTF.ext" not in sections or ".BTF" not in sections:
         return {}
@@ -145,12 +163,15 @@ def lines_of(sections: dict[str, Part], program: str, source: str) -> dict[int, 
     if length < 4:
         return {}
     (size,), at, lines = struct.unpack_from("<I", more, at), at + 4, {}
+    if size < LINE_BYTES:
+        raise ValueError("a line has fewer bytes than it needs")
     while at < end:
         section, count = struct.unpack_from("<II", more, at)
         at += 8
         for _ in range(count):
             place, file, _, line = struct.unpack_from("<IIII", more, at)
-            if text_at(names, section) == program and line >> 10:
-                lines[place // 8] = f"{named(text_at(names, file), source)}:{line >> 10}"
+            inside = function.place <= place < function.place + len(function.code)
+            if text_at(names, section) == function.section and inside and line >> 10:
+                lines[(place - function.place) // 8] = f"{named(text_at(names, file), source)}:{line >> 10}"
             at += size
     return lines

@@ -10,16 +10,17 @@ if TYPE_CHECKING:
     from .btf import MapOfC
     from .elf import Relocation
 
-CALL, LOCAL_CALL, LOOKUP = 0x85, 1, 1
+CALL, LOCAL_CALL, LOOKUP, COUNTER_BYTES = 0x85, 1, 1, 8
 MOST_MAPS, MOST_ENTRIES, MOST_COUNTERS, MOST_NAME = 4, 1024, 8, 32
 INLINED_LATER = ("memcmp", "memcpy", "memmove", "memset")
 ARRAYS, PER_CPU_ARRAY = (2, 6), 6
 
 LISTED = (
-    "keep the list as a `switch` or as comparisons in the code, and count under a number of your own in a"
-    " BPF_MAP_TYPE_ARRAY"
+    "keep a list that is known as a `switch`, which costs some 30 instructions for any number of rows, and count under"
+    " a number of your own in a BPF_MAP_TYPE_ARRAY"
 )
-NO_REDIRECT = "there is no redirect: PASS gives the packet to the host, DROP drops it, TX sends it back"
+PREFIXES = "a `switch` of the address, shifted by each length of prefix, the longest first"
+NO_REDIRECT = "there is no other device here: XDP_PASS gives the packet to the host, which forwards it; XDP_TX sends it back"
 NO_EVENTS = "nothing is sent to user space: count in a BPF_MAP_TYPE_ARRAY, and read the counters from the host"
 NO_TAIL_CALLS = "there are no tail calls: make one program of functions that are static and __always_inline"
 NO_STATE = "state is kept in counters alone, in a BPF_MAP_TYPE_ARRAY"
@@ -33,7 +34,7 @@ MAP_TYPES = {
     8: ("CGROUP_ARRAY", NO_STATE),
     9: ("LRU_HASH", LISTED),
     10: ("LRU_PERCPU_HASH", LISTED),
-    11: ("LPM_TRIE", "compare the address under each prefix's mask in the code"),
+    11: ("LPM_TRIE", PREFIXES),
     12: ("ARRAY_OF_MAPS", "name each map in the code"),
     13: ("HASH_OF_MAPS", "name each map in the code"),
     14: ("DEVMAP", NO_REDIRECT),
@@ -59,6 +60,7 @@ MAP_TYPES = {
 }
 NO_UPDATE = "a value is changed by adding to its counters alone: __sync_fetch_and_add(value, n), or `*value += n`"
 NO_CLOCK = "there is no clock: count here, and judge rates in the host, which reads the counters"
+NO_PRINTS = "nothing is printed: --without-prints leaves it out, or count it in a map instead"
 NO_RESIZE = "a packet keeps its length: pass it on as it is, or write over its bytes"
 NO_KERNEL = "there is no kernel to ask"
 # the helpers of Linux's uapi/linux/bpf.h that XDP programs call
@@ -67,13 +69,11 @@ HELPERS = {
     3: ("bpf_map_delete_elem", NO_UPDATE),
     4: ("bpf_probe_read", NO_KERNEL),
     5: ("bpf_ktime_get_ns", NO_CLOCK),
-    6: ("bpf_trace_printk", "nothing is printed: count it in a map instead"),
+    6: ("bpf_trace_printk", NO_PRINTS),
     7: ("bpf_get_prandom_u32", "there are no random numbers: choose by bits of the packet, as of its IPv4 id"),
-    8: ("bpf_get_smp_processor_id", "counters are shared by all queues; ctx->rx_queue_index is the queue's number"),
     12: ("bpf_tail_call", NO_TAIL_CALLS),
     23: ("bpf_redirect", NO_REDIRECT),
     25: ("bpf_perf_event_output", NO_EVENTS),
-    28: ("bpf_csum_diff", "add the halves in a loop, as examples/ip-checksum does"),
     44: ("bpf_xdp_adjust_head", NO_RESIZE),
     51: ("bpf_redirect_map", NO_REDIRECT),
     54: ("bpf_xdp_adjust_meta", NO_RESIZE),
@@ -97,11 +97,8 @@ HELPERS = {
     133: ("bpf_ringbuf_discard", NO_EVENTS),
     160: ("bpf_ktime_get_coarse_ns", NO_CLOCK),
     164: ("bpf_for_each_map_elem", "count the loop by a constant, in C"),
-    177: ("bpf_trace_vprintk", "nothing is printed: count it in a map instead"),
+    177: ("bpf_trace_vprintk", NO_PRINTS),
     181: ("bpf_loop", "write the loop in C, with a constant bound"),
-    188: ("bpf_xdp_get_buff_len", "data_end - data is the packet's length: a packet is one buffer"),
-    189: ("bpf_xdp_load_bytes", "read through data, after a comparison with data_end"),
-    190: ("bpf_xdp_store_bytes", "write through data, after a comparison with data_end"),
     195: ("bpf_map_lookup_percpu_elem", "bpf_map_lookup_elem: the counters are shared by all queues"),
     208: ("bpf_ktime_get_tai_ns", NO_CLOCK),
 }
@@ -119,16 +116,11 @@ def faults_of_map(declared: MapOfC) -> Iterator[str]:
         return
     if declared.key_bytes != 4:
         yield f"the keys of the map {declared.name} have {declared.key_bytes} bytes: a key has 4, as a __u32"
-    if declared.value_bytes == 0 or declared.value_bytes % 8:
+    if not 0 < declared.value_bytes <= COUNTER_BYTES * MOST_COUNTERS:
         yield (
-            f"the values of the map {declared.name} have {declared.value_bytes} bytes: a value is 1 to {MOST_COUNTERS}"
-            " counters of 8 bytes; make each a __u64"
+            f"the values of the map {declared.name} have {declared.value_bytes} bytes: a value has 1 to"
+            f" {COUNTER_BYTES * MOST_COUNTERS}, as {MOST_COUNTERS} counters of {COUNTER_BYTES}"
         )
-    elif declared.parts:
-        name, size = declared.parts[0]
-        yield f"in the values of the map {declared.name}, {name} has {size} bytes: a counter has 8; make each a __u64"
-    elif declared.value_bytes // 8 > MOST_COUNTERS:
-        yield f"the values of the map {declared.name} have {declared.value_bytes // 8} counters: at most {MOST_COUNTERS}"
     if not declared.entries:
         yield f"the map {declared.name} has no number of entries: say __uint(max_entries, N)"
 

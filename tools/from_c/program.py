@@ -1,74 +1,142 @@
-"""A filter in C as settings, with what the tools know of it beside them."""
+"""A filter in C, or in an object file, as settings, with what the tools know of it beside them."""
 from __future__ import annotations
 
-from typing import TYPE_CHECKING, Callable, Iterable, NamedTuple, Optional
+import struct
+import tempfile
+from typing import TYPE_CHECKING, Callable, Iterable, Iterator, NamedTuple, Optional
 
 from output import fail, say
 
 from . import btf, elf, faults
-from .compiler import compiled
-from .memory import faults_of_memory, memory_of
+from .calls import Calls, Fault, Replaced, has_calls
+from .compiler import Compiler
+from .memory import faults_of_memory, memory_of, set_values
 
 if TYPE_CHECKING:
-    from .elf import Part, Relocation
+    from .elf import Function, Part, Relocation
 
-SECTION_NAME = "xdp"
+SECTION_NAME, TEXT = "xdp", ".text"  # the latter has functions that others call
+MOST_OBJECT = 1 << 24  # bytes
+SizedMap = tuple[str, int, Optional[int]]  # its name, entries and counters, None if these aren't said
+# what reading bytes that aren't as they should be raises
+BROKEN = struct.error, ValueError, IndexError, KeyError, RecursionError, OverflowError
 
 
 class Filter(NamedTuple):
     """`settings`: of the program as clang made it. If it has constants or globals in memory, keys of the tools'
     own say so, which `xdpbox` doesn't know. `place`: of a slot its line of C, or None. `per_cpu`: the maps that are
-    per CPU in Linux."""
+    per CPU in Linux. `notes`: what its author should know."""
 
     settings: dict
     place: Callable
     per_cpu: set
+    notes: list
 
     @property
     def has_memory(self) -> bool:
         return bool(self.settings["tables"] or self.settings["globals"])
 
 
-def read(source: str, worded: list[tuple[str, int, int]]) -> Filter:
-    """The filter in a file. Ends if settings can't have it. `worded`: maps of the command line."""
-    sections = elf.sections_of(compiled(source))
-    program = name_of_program(source, sections)
-    relocations = list(elf.relocations_of(sections, program))
+class Asked(NamedTuple):
+    """What a command asks for: a file, maps whose sizes it gives, which function, if the file has several, numbers of
+    constants, as (name, number), and whether calls that print are left out."""
+
+    source: str
+    maps: Iterable[SizedMap] = ()
+    program: Optional[str] = None
+    values: Iterable[tuple[str, int]] = ()
+    prints: bool = False
+
+
+def read(asked: Asked) -> Filter:
+    """The filter in a file. Ends if settings can't have it."""
+    with tempfile.TemporaryDirectory() as folder:
+        compiler = None if is_object(asked.source) else Compiler(asked.source, folder)
+        data = bytes_of(asked.source) if compiler is None else compiler.compiled()
+        try:
+            return filter_of(asked, elf.sections_of(data), compiler)
+        except elf.NoObject as fault:
+            by = "" if compiler is None else f"{compiler.clang} made no object for BPF: look at CFLAGS: "
+            fail(f"{asked.source}: {by}{fault}")
+        except BROKEN as fault:
+            fail(f"{asked.source}: its object file isn't as it should be: {fault}")
+
+
+def is_object(source: str) -> bool:
+    """Whether a file is an object file. Ends if there is no file."""
+    try:
+        with open(source, "rb") as file:
+            return file.read(len(elf.MAGIC)) == elf.MAGIC
+    except OSError as fault:
+        fail(f"{source}: {fault.strerror}")
+
+
+def bytes_of(source: str) -> bytes:
+    try:
+        with open(source, "rb") as file:
+            data = file.read(MOST_OBJECT + 1)
+    except OSError as fault:
+        fail(f"{source}: {fault.strerror}")
+    if len(data) > MOST_OBJECT:
+        fail(f"{source}: an object file of more than {MOST_OBJECT} bytes isn't read")
+    return data
+
+
+def filter_of(asked: Asked, sections: dict[str, Part], compiler: Optional[Compiler]) -> Filter:
+    """The filter in an object."""
+    source, function = asked.source, chosen(asked, sections)
+    stop_on(f"{source}: {fault}" for fault in set_values(sections, asked.values))
+    place = place_in_c(btf.lines_of(sections, function, source))
+    made = without_calls(asked, sections, function, place)
+    notes = [f"{place(slot) or f'slot {slot}'}: {note}" for slot, note in made.notes]
+    place, relocations = (lambda slot, before=place: before(made.origins[slot])), made.relocations
     memory = memory_of(sections, relocations)
-    place = place_in_c(btf.lines_of(sections, program, source))
-    maps, per_cpu = maps_of(source, sections, worded, memory.maps)
-    code = sections[program].data
+    named = {row.name for row in relocations}
+    maps, declared = maps_of(asked, sections, memory.maps, named, compiler)
     rows = [
-        *faults.faults_of_program(code, relocations, [name for name, _, _ in maps]),
+        *faults.faults_of_program(made.code, relocations, [name for name, _, _ in maps]),
         *faults_of_memory(sections, relocations),
     ]
     stop_on(f"{place(slot) or f'{source}: slot {slot}'} {fault}" for slot, fault in sorted(rows))
     relocations = [row for row in relocations if not row.section]
-    code = cleared(code, relocations)
+    code = cleared(made.code, relocations)
     settings = {
         "program": [code[at : at + 8].hex() for at in range(0, len(code), 8)],
         "map": [{"name": name, "entries": entries, "counters": counters} for name, entries, counters in maps],
         "reloc": [{"slot": row.slot, "map": row.name} for row in relocations],
         **memory.settings(),
     }
-    return Filter(settings, place, per_cpu)
+    per_cpu = {row.name for row in declared if row.type == faults.PER_CPU_ARRAY}
+    return Filter(settings, place, per_cpu, [*notes, *notes_of_parts(declared)])
 
 
-def name_of_program(source: str, sections: dict[str, Part]) -> str:
-    """The section that has the program."""
-    symbols = [row for row in elf.symbols_of(sections) if row.kind == elf.FUNCTION]
-    names = {part.number: name for name, part in sections.items()}
-    functions = [(names.get(row.section, ""), row.name) for row in symbols]
-    here = [(section, name) for section, name in functions if section.startswith(SECTION_NAME)]
-    if len(here) == 1:
-        return here[0][0]
+def without_calls(asked: Asked, sections: dict[str, Part], function: Function, place: Callable) -> Replaced:
+    """The function with what it calls written out. Ends if that can't be."""
+    relocations = list(elf.relocations_of(sections, function))
+    if not any(has_calls(function.code)):
+        return Replaced(function.code, relocations, range(len(function.code) // 8), [])
+    calls = Calls(list(elf.functions_of(sections)), lambda of: elf.relocations_of(sections, of), asked.prints)
+    try:
+        return calls.replaced(function)
+    except Fault as fault:
+        fail(f"{place(fault.slot) or f'{asked.source}: slot {fault.slot}'} {fault}")
+
+
+def chosen(asked: Asked, sections: dict[str, Part]) -> Function:
+    """The function that settings are made of."""
+    functions = list(elf.functions_of(sections))
+    here = [row for row in functions if row.section.startswith(SECTION_NAME)]
+    named = [row for row in here if asked.program in (None, row.name, row.section)]
+    if len(named) == 1:
+        return named[0]
+    listed = ", ".join(f"{row.name} in {row.section}" for row in here)
+    if here and asked.program is None:
+        fail(f"{asked.source}: {len(here)} functions in sections {SECTION_NAME}..: name one, as --program {here[0].name}: {listed}")
     if here:
-        listed = ", ".join(f"{name} in {section}" for section, name in here)
-        fail(f"{source}: {len(here)} functions in sections {SECTION_NAME}.., and settings have one: {listed}")
-    others = sorted({section for section, _ in functions})
+        fail(f"{asked.source}: {len(named) or 'no'} function{'s are' if named else ' is'} called {asked.program}: {listed}")
+    others = sorted({row.section for row in functions})
     there = f"; there is {', '.join(others)}" if others else ""
-    fail(f'{source}: no function in a section "{SECTION_NAME}"{there}: write SEC("{SECTION_NAME}") in front of it')
-    return ""
+    fail(f'{asked.source}: no function in a section "{SECTION_NAME}"{there}: write SEC("{SECTION_NAME}") in front of it')
 
 
 def stop_on(words: Iterable[str]) -> None:
@@ -80,18 +148,43 @@ def stop_on(words: Iterable[str]) -> None:
 
 
 def maps_of(
-    source: str, sections: dict[str, Part], worded: list[tuple[str, int, int]], of_globals: list[tuple[str, int, int]]
-) -> tuple[list[tuple[str, int, int]], set[str]]:
-    """The maps as (name, entries, counters), and the names of those that are per CPU in Linux."""
-    said = {name for name, _, _ in worded}
+    asked: Asked, sections: dict[str, Part], of_globals: list[SizedMap], named: set[str], compiler: Optional[Compiler]
+) -> tuple[list[SizedMap], list[btf.MapOfC]]:
+    """The maps: those of the command line, those that are declared, and globals, the latter two in the order in which
+    the file declares them; and what is declared of the second. `named`: maps that the function names. Others are there
+    if it is the one function of the file, and if settings can have them."""
+    source, said = asked.source, {name: (entries, counters) for name, entries, counters in asked.maps}
     declared = list(btf.Types(sections[".BTF"].data).maps()) if ".maps" in sections and ".BTF" in sections else []
-    declared = [row for row in declared if row.name not in said]
+    declared = [row._replace(entries=said[row.name][0]) if row.name in said else row for row in declared]
+    is_alone = len({row.section for row in elf.functions_of(sections)} - {TEXT}) == 1 and asked.program is None
+    unnamed = {row.name for row in declared if not is_alone or any(faults.faults_of_map(row))} - named - set(said)
+    declared = [row for row in declared if row.name not in unnamed]
     stop_on(f"{source}: {fault}" for row in declared for fault in faults.faults_of_map(row))
-    maps = worded + [(row.name, row.entries, row.value_bytes // 8) for row in declared] + of_globals
+    if compiler is not None and len(declared) + len(of_globals) > 1:
+        order = order_by(compiler.declared())
+        declared, of_globals = (sorted(rows, key=lambda row: order(row[0])) for rows in (declared, of_globals))
+    sizes = {row.name: row.counters for row in declared}
+    worded = [(name, entries, counters or sizes.get(name, 1)) for name, (entries, counters) in said.items()]
+    others = [(row.name, row.entries, row.counters) for row in declared if row.name not in said]
+    maps = [*worded, *others, *of_globals]
     stop_on(f"{source}: {fault}" for fault in faults.faults_of_sizes(maps))
-    named = {row.name for row in elf.symbols_of(sections)}
-    stop_on(f"{source}: there is no map {name} in it" for name in sorted(said - named))
-    return maps, {row.name for row in declared if row.type == faults.PER_CPU_ARRAY}
+    symbols = {row.name for row in elf.symbols_of(sections)}
+    stop_on(f"{source}: there is no map {name} in it" for name in sorted(set(said) - symbols))
+    return maps, declared
+
+
+def notes_of_parts(declared: Iterable[btf.MapOfC]) -> Iterator[str]:
+    """Where a host finds the numbers of fewer than eight bytes."""
+    for row in declared:
+        for part in row.parts:
+            low, counter = 8 * (part.place % 8), part.place // 8
+            yield f"map {row.name}: {part.name} is bits {low} to {low + 8 * part.size - 1} of counter {counter}"
+
+
+def order_by(places: dict[str, int]) -> Callable[[str], int]:
+    """Of a symbol's name where it is declared. clang adds a number to the second of two static variables of a function
+    that have one name."""
+    return lambda name: places.get(name, places.get(name.rstrip("0123456789").rstrip("."), len(places)))
 
 
 def cleared(program: bytes, relocations: list[Relocation]) -> bytes:

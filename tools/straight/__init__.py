@@ -15,9 +15,11 @@ judges the result, and `tools/same-program`, which shares no text with this pack
     addresses     what registers stand for, and where ways with different addresses meet
     memory        constants and globals, which there aren't in the result
     counts        a load, an addition and a store of a counter as one atomic addition
+    lowered       which stores to counters may take them below 0
     emit          the copies, and what is put between them, as a program
     verifier      what `xdpbox explain` says of a program
     search        from refusal to refusal until the verifier accepts
     shown         how a result is shown to be the same
+    printed       settings that are printed: read again, and asked of xdpbox
     command       what the two tools have in common: straightened, shown to be the same, or refused in words
 """

@@ -11,6 +11,7 @@ from typing import TYPE_CHECKING, Callable, Iterable, Iterator, NamedTuple, Opti
 from output import fail
 
 from .graph import SIZE, Fail
+from .lowered import has_neighbour, may_lower
 from .search import OF_THE_BYTES, StillRefused, searches
 from .settings import as_text
 from .shown import NoComparison, question, shown
@@ -27,6 +28,11 @@ ADDED_LATER = (
     "what is stored is added as the difference from what was loaded, in two steps: another queue may count between"
 )
 SET = "a counter is set by adding the difference from what stands there, in two steps: another queue may count between"
+LOWERED = (
+    "; if two queues lower it at once, it may go below 0, where it reads as nearly 2^64: compare it with sign, as"
+    " `(long long)*value <= 0`"
+)
+BESIDE_OTHERS = "; other numbers of fewer than eight bytes share its counter, and may then be off by one: make each a __u64"
 MOST_COMPARED = 10000  # slots, in all results that can't be taken
 TOP = pathlib.Path(__file__).resolve().parents[2]
 # a refusal's words are those of instructions; these are those of C
@@ -39,11 +45,15 @@ IN_C = {
     "V13": "test what the lookup gave first: `if (!value) return XDP_PASS;`",
     "V14": "each counter is a __u64: read it whole, and add to it by __sync_fetch_and_add(value, n) or `*value += n`;"
     " to set it, add the difference from what was read of it on each way to this line",
-    "V17": "the key is a variable of four bytes, all of them stored",
+    "V17": "the key, the lookup's second argument, is a variable of four bytes, all of them stored",
     "V19": "of the atomic operations there is the addition of eight bytes alone, __sync_fetch_and_add",
     SIZE: "fewer steps of the loop, or a smaller body: keep the offset as a number, and add it to data anew in each"
     " step",
 }
+NO_MAP = (
+    "the map is the lookup's first argument, and one map on each way to this line: look up in each branch, and use what"
+    " it gave there"
+)
 ATOMIC = "c3", "db"  # opcodes
 
 
@@ -75,6 +85,9 @@ class Refused(Exception):
     def advice(self) -> Optional[str]:
         """What to write instead, or None."""
         cause = self.why.cause or self.answer.cause
+        answer = self.why.answer if isinstance(self.why, StillRefused) else self.answer
+        if cause == "V17" and not answer.has_map:
+            return NO_MAP
         if cause in IN_C and (cause != "V19" or self.atomic):
             return IN_C[cause]
         lines = self.answer.words.split("\n") if cause == self.answer.cause else []
@@ -154,7 +167,10 @@ def notes_of(result: Result, guards: Iterable[int], per_cpu: Callable[[int], boo
         if not per_cpu(slot):
             yield slot, FUSED
     for slot, row in sorted(result.differences.items()):
-        yield slot, SET if row.told or not row.known else ADDED_LATER
+        note = SET if row.told or not row.known else ADDED_LATER
+        if may_lower(result.code, slot, row):
+            note += LOWERED + (BESIDE_OTHERS if has_neighbour(result.code, slot) else "")
+        yield slot, note
     for slot in guards:
         yield slot, "guarded: if this would reach outside the packet, the program ends with ABORTED"
 

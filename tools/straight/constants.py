@@ -41,8 +41,11 @@ if TYPE_CHECKING:
 
 # FAR: so far after the packet's start that it lies past every packet's end. VALUE: of a map, with the distance that
 # the original added and the result adds to the offset of each access instead
-FRAME, CONTEXT, PACKET_END, FAR, VALUE = "frame", "context", "packet's end", "far", "value"
+FRAME, CONTEXT, PACKET_END, FAR, VALUE, MAP = "frame", "context", "packet's end", "far", "value", "map"
+# what is followed of lookups: their results, or also of which map these are
+RESULTS, MAPS = 1, 2
 END_FIELD = 4  # of the context
+MAP_ARGUMENT = 1  # of a lookup: its register
 ORDERED = {JEQ, JGT, JGE, JNE, JLT, JLE}
 FAR_ENOUGH = 1 << 32  # from any place of a section down to 0
 
@@ -50,6 +53,7 @@ FAR_ENOUGH = 1 << 32  # from any place of a section down to 0
 class Address(NamedTuple):
     base: object  # one of the names above, or a Table
     offset: int = 0
+    map: Optional[str] = None  # of a map, or of a value if maps are followed
 
 
 Constant = Union[int, Address]
@@ -71,20 +75,20 @@ def in_table(value: object) -> bool:
 class Constants:
     """The constants at one slot: of registers, and of stack slots by their offset from the frame's end.
 
-    values  whether the results of lookups are followed too
+    values  what is followed of lookups: RESULTS, MAPS, or nothing
     passed  how often the way to here came by named slots, as (name, times) in order"""
 
     def __init__(
-        self, registers: dict[int, Constant], stack: dict[int, Constant], values: bool = False, passed: tuple = ()
+        self, registers: dict[int, Constant], stack: dict[int, Constant], values: int = 0, passed: tuple = ()
     ) -> None:
         self.registers, self.stack, self.values, self.passed = registers, stack, values, passed
 
     @classmethod
-    def at_start(cls, values: bool = False) -> Constants:
+    def at_start(cls, values: int = 0) -> Constants:
         return cls({CONTEXT_ARGUMENT: Address(CONTEXT), FRAME_POINTER: Address(FRAME)}, {}, values)
 
     @classmethod
-    def at_end(cls, values: bool) -> Constants:
+    def at_end(cls, values: int) -> Constants:
         """Where the program ends whatever there was."""
         return cls({FRAME_POINTER: Address(FRAME)}, {}, values)
 
@@ -155,9 +159,11 @@ class Constants:
         elif instruction.is_store:
             following._store(instruction, elsewhere)
         elif instruction.opcode == CALL:
+            looked_in = self.registers.get(MAP_ARGUMENT)
             for register in range(6):
                 following._put(register, None)
-            following._put(0, Address(VALUE) if self.values else None)
+            name = looked_in.map if is_address(looked_in, MAP) else None
+            following._put(0, Address(VALUE, 0, name) if self.values else None)
         return following
 
     def _put(self, register: int, value: Optional[Constant]) -> None:
@@ -180,9 +186,9 @@ class Constants:
             return compute(instruction, a, b)
         moves = is_address(a, FRAME, FAR, VALUE) or in_table(a)
         if wide and instruction.operation in (ADD, SUB) and moves and is_number(b):
-            return Address(a.base, a.offset + signed(b) * (1 if instruction.operation == ADD else -1))
+            return a._replace(offset=a.offset + signed(b) * (1 if instruction.operation == ADD else -1))
         if wide and instruction.operation == ADD and is_number(a) and (is_address(b, VALUE) or in_table(b)):
-            return Address(b.base, b.offset + signed(a))
+            return b._replace(offset=b.offset + signed(a))
         return None
 
     def _wide(self, instruction: Instruction) -> Optional[Constant]:
@@ -191,6 +197,8 @@ class Constants:
             return Address(instruction.table, instruction.immediate)
         if instruction.counter is not None:
             return Address(VALUE, instruction.immediate) if self.values else None
+        if instruction.map is not None and self.values == MAPS:
+            return Address(MAP, 0, instruction.map)
         if instruction.source or instruction.map is not None:
             return None
         return instruction.immediate & MASK_32 | (instruction.upper & MASK_32) << 32

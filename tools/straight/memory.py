@@ -32,6 +32,7 @@ if TYPE_CHECKING:
 LOOKUP, ANSWER, MAP_ARGUMENT, KEY_ARGUMENT = 1, 0, 1, 2  # the helper, and its registers
 KEY_SLOT = "key"
 MOST_PLACES = 1 << 16
+MOST_ADDED = 1 << 31  # a constant that an addition can have is below it
 SLOPES = 0, 1  # of runs of numbers, by place
 
 
@@ -103,7 +104,8 @@ def runs(address: TableAddress, load: Instruction) -> list[Run]:
             )
             for slope in SLOPES
         }
-        slope = max(ends, key=lambda slope: ends[slope])
+        fits = [slope for slope in SLOPES if not slope or abs(numbers[at] - places[at] + load.offset) < MOST_ADDED]
+        slope = max(fits, key=lambda slope: ends[slope])
         constant = numbers[at] - slope * (places[at] - load.offset)
         at = ends[slope]
         rows.append(Run(places[at - 1] - load.offset, slope, constant))

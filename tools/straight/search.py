@@ -13,6 +13,7 @@ first program is that of the copies alone. Then, one mark per refusal:
                      front of what was compared, its address is made anew first (`rebased`)
   a loop             that nothing bounds but a masked number, or one that was compared with a constant: a copy for each
                      number (`cases`), or for each step up to it (`trips`)
+  V17, V9 at a value  of two lookups whose ways met: a copy behind the meeting for each map (`values`)
   V14 at a load      the whole counter is loaded, and the part cut out (`narrow`)
   V14 at a store     a load, an addition and a store become one atomic addition (`counts`); else the difference from
                      what was loaded is added, if the load stays (`differences`)
@@ -26,6 +27,7 @@ from dataclasses import dataclass, field
 from typing import TYPE_CHECKING, Iterable, Iterator, Optional, Sequence
 
 from .addresses import ADDED, KEPT, MET, Addresses, PacketAddress, StackSlot, Thing
+from .constants import MAPS, RESULTS
 from .copies import COUNTERS, EVERYWHERE, IN_LOOPS, STEERING, Cases, Copies, Trips, Wide
 from .counts import difference, fused
 from .emit import Emitter, Kind, Needs
@@ -49,7 +51,6 @@ MOST_POSITIVE = MASK_32  # a number up to here is none that is negative in 64 bi
 # causes that no other program with the same runs would avoid: of decoding and of structure, but for the loop
 OF_THE_BYTES = {"V0", "V1", "V2", "V3", "V4", "V6", "V16", "V19"}
 
-
 BY_COPY, BY_SLOT, BY_ACCESS = "by copy", "by slot", "by access"
 # the searches, in groups of which the smaller result comes first
 WAYS = [
@@ -60,8 +61,13 @@ WAYS = [
     (EVERYWHERE, (BY_COPY, BY_SLOT)),
 ]
 
+
 class StillRefused(Fail):
     """The verifier's answer to a program that nothing more was changed in."""
+
+    def __init__(self, slot: Optional[int], answer: Verdict) -> None:
+        super().__init__(f"straightened, it is refused with {answer.cause}", slot, answer.cause)
+        self.answer = answer
 
 
 @dataclass
@@ -73,7 +79,7 @@ class Marks:
     wide: dict = field(default_factory=dict)  # by slot
     cases: dict = field(default_factory=dict)  # by slot
     blurred: dict = field(default_factory=dict)  # by slot
-    values: bool = False
+    values: int = 0  # what is followed of lookups: RESULTS, MAPS, or nothing
     counts: list = field(default_factory=list)  # slots of stores
     differences: dict = field(default_factory=dict)  # by the slot of a store
     trips: dict = field(default_factory=dict)  # of slots in loops, how often a way comes by
@@ -83,11 +89,12 @@ class Marks:
 
 @dataclass
 class Result:
-    """A program that the verifier accepts. `labels`: of its slots. `counts`, `differences`: slots of the original."""
+    """A program that the verifier accepts. `labels`: of its slots. `code`, `counts`, `differences`: of the original."""
 
     words: list
     relocations: list
     labels: dict
+    code: Code
     counts: list
     differences: dict
 
@@ -99,7 +106,7 @@ class Search:
     def __init__(self, settings: dict, xdpbox: str, numbers: str, way: str) -> None:
         self.settings, self.xdpbox, self.numbers, self.way = settings, xdpbox, numbers, way
         self.code = instructions_of(settings)
-        self.marks = Marks(values=any(insn.counter is not None for insn in self.code.values()))
+        self.marks = Marks(values=RESULTS if any(insn.counter is not None for insn in self.code.values()) else 0)
         self.copies = self.addresses = self.labels = None
         self.began = False  # whether there was a program to ask the verifier of
 
@@ -152,8 +159,7 @@ class Search:
                 raise Fail(answer.words.strip() or "xdpbox gave no answer")
             if not self.learn(answer):
                 label = self.labels.get(answer.slot)
-                words = f"straightened, it is refused with {answer.cause}"
-                raise StillRefused(words, label.slot if label else None, answer.cause)
+                raise StillRefused(label.slot if label else None, answer)
         raise Fail("it isn't accepted after many changes", None, SIZE)
 
     def emitted(self) -> Optional[tuple]:
@@ -173,7 +179,7 @@ class Search:
             return None
 
     def result(self, words: list[str], relocations: list[tuple[int, str]]) -> Result:
-        return Result(words, relocations, self.labels, sorted(self.marks.counts), self.marks.differences)
+        return Result(words, relocations, self.labels, self.code, sorted(self.marks.counts), self.marks.differences)
 
     # --- what a refusal asks for; each answers whether there is a new mark
 
@@ -184,6 +190,8 @@ class Search:
         instruction = self.code[label.slot]
         if answer.cause == "V14":
             return self.narrow(label.slot) if instruction.is_load else self.fuse(label.slot)
+        if answer.cause == "V17":
+            return self.follow(MAPS)
         if not (instruction.is_load or instruction.is_store):
             return False
         if answer.cause == "V10" and self.way == BY_ACCESS:
@@ -193,8 +201,7 @@ class Search:
         if answer.cause != "V9":
             return False
         address = self.addresses.before[label.copy].get(instruction.base)
-        if address == Thing.VALUE and not self.marks.values:
-            self.marks.values = True
+        if address == Thing.VALUE and (self.follow(RESULTS) or self.follow(MAPS)):
             return True
         if not isinstance(address, PacketAddress):
             return self.tell_apart(answer)
@@ -206,6 +213,12 @@ class Search:
         if self.widen(answer, address) or self.limit(address) or self.restart(label.copy, instruction.base):
             return True
         return self.rebase(label.copy, instruction.base)
+
+    def follow(self, what: int) -> bool:
+        """Follows this of lookups: values of two maps get a copy each of what comes after their ways met."""
+        fresh = self.marks.values < what
+        self.marks.values = max(self.marks.values, what)
+        return fresh
 
     def narrow(self, slot: int) -> bool:
         """A load of a part of a counter."""

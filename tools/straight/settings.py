@@ -2,12 +2,15 @@
 from __future__ import annotations
 
 import struct
+import tomllib
 from typing import TYPE_CHECKING
 
 from .instructions import FAR_JUMP, JUMP, WIDE_LOAD, Instruction, Table
 
 if TYPE_CHECKING:
     from .instructions import Code
+
+OF_THE_TOOLS = "constants", "tables", "globals"  # keys that no printed settings have
 
 
 def instructions_of(settings: dict) -> Code:
@@ -46,15 +49,42 @@ def relocations_of(settings: dict) -> list[tuple[int, str]]:
     return [(row["slot"], row["map"]) for row in settings.get("reloc", [])]
 
 
+def quoted(text: str) -> str:
+    """A text in TOML's quotation marks. What isn't printable ASCII is escaped, so that no locale changes it."""
+    return '"' + "".join(map(escaped, text)) + '"'
+
+
+def escaped(char: str) -> str:
+    """One character of a text in quotation marks."""
+    if char in '"\\':
+        return f"\\{char}"
+    if " " <= char <= "~":
+        return char
+    return f"\\u{ord(char):04x}" if ord(char) <= 0xFFFF else f"\\U{ord(char):08x}"
+
+
+def is_text_of(text: str, settings: dict, words: list[str], relocations: list[tuple[int, str]]) -> bool:
+    """Whether a text, read again, is these settings with this program and its relocations, and has nothing else."""
+    rest = {key: value for key, value in settings.items() if key not in OF_THE_TOOLS}
+    rows = [{"slot": slot, "map": name} for slot, name in relocations]
+    return with_defaults(tomllib.loads(text)) == with_defaults({**rest, "program": words, "reloc": rows})
+
+
+def with_defaults(settings: dict) -> dict:
+    """Settings of which each list is there, and each map's number of counters."""
+    maps = [{"counters": 1, **row} for row in settings.get("map", [])]
+    return {"reloc": [], "packet": [], **settings, "map": maps}
+
+
 def text_of(settings: dict, words: list[str], relocations: list[tuple[int, str]]) -> str:
     """Settings with this program, its relocations, and the maps of these settings."""
     lines = ["program = [", *(f'  "{word}",' for word in words), "]"]
     for row in settings.get("map", []):
-        lines += ["", "[[map]]", f'name = "{row["name"]}"', f"entries = {row['entries']}"]
+        lines += ["", "[[map]]", f"name = {quoted(row['name'])}", f"entries = {row['entries']}"]
         if row.get("counters", 1) != 1:
             lines.append(f"counters = {row['counters']}")
     for slot, name in relocations:
-        lines += ["", "[[reloc]]", f"slot = {slot}", f'map = "{name}"']
+        lines += ["", "[[reloc]]", f"slot = {slot}", f"map = {quoted(name)}"]
     return "\n".join(lines) + "\n"
 
 
@@ -66,7 +96,7 @@ def text_beside(result: dict, original: dict, labels: dict) -> str:
     lines = ["", "[original]", "program = [", *(f'  "{word}",' for word in original["program"]), "]"]
     lines.append(f"places = [{places}]")
     for slot, name in relocations_of(original):
-        lines += ["", "[[original.reloc]]", f"slot = {slot}", f'map = "{name}"']
+        lines += ["", "[[original.reloc]]", f"slot = {slot}", f"map = {quoted(name)}"]
     return as_text(result) + "\n".join(lines) + "\n"
 
 
@@ -80,7 +110,7 @@ def whole_text_of(settings: dict, words: list[str], relocations: list[tuple[int,
     lines = [f"{key} = {settings[key]}" for key in ("queues", "ifindex", "start", "script") if key in settings]
     packets = []
     for row in settings.get("packet", []):
-        packets += ["", "[[packet]]", f"queue = {row['queue']}", f'bytes = "{row["bytes"]}"']
+        packets += ["", "[[packet]]", f"queue = {row['queue']}", f"bytes = {quoted(row['bytes'])}"]
         packets += [f"times = {row['times']}"] if "times" in row else []
     parts = ["\n".join([*lines, ""]) if lines else "", text_of(settings, words, relocations)]
     return "".join([*parts, "\n".join([*packets, ""]) if packets else ""])

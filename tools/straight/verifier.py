@@ -4,7 +4,7 @@ from __future__ import annotations
 import re
 import subprocess
 from dataclasses import dataclass
-from typing import NamedTuple, Optional
+from typing import NamedTuple, Optional, Union
 
 from output import fail
 
@@ -33,6 +33,11 @@ class Verdict:
         """Whether it says that more ways meet there than it keeps apart."""
         return re.search(r"is an address on \d+ of the eight notes", self.words) is not None
 
+    @property
+    def has_map(self) -> bool:
+        """Whether the first argument of the lookup that it refuses is a map."""
+        return re.search(r"^> .*\n +R1=map_ptr", self.words, re.M) is not None
+
     def lost(self) -> Optional[Lost]:
         """What is said of an address that became a number."""
         said = re.search(r"^ *R\d+ was ([a-z_]+)\S* before (\d+)(?: with R(\d+)=([^\s:]+))?", self.words, re.M)
@@ -43,13 +48,28 @@ class Verdict:
         return Lost(said[1], int(said[2]), register, (int(span[1]), int(span[2])) if span else None)
 
 
-def asked(xdpbox: str, command: str, settings: str) -> subprocess.CompletedProcess:
+def asked(xdpbox: str, command: str, settings: Union[str, bytes]) -> subprocess.CompletedProcess:
     """What xdpbox answers. Ends if it can't be run."""
+    given = settings.encode() if isinstance(settings, str) else settings
     try:
-        return subprocess.run([xdpbox, command], input=settings, capture_output=True, text=True, check=False)
+        run = subprocess.run([xdpbox, command], input=given, capture_output=True, check=False)
     except OSError as fault:
         fail(f"{xdpbox} can't be run: {fault.strerror}")
         raise
+    run.stdout, run.stderr = (part.decode(errors="replace") for part in (run.stdout, run.stderr))
+    return run
+
+
+def refusal(xdpbox: str, settings: Union[str, bytes]) -> Optional[str]:
+    """The line with which `xdpbox check` refuses settings; None if it accepts them."""
+    run = asked(xdpbox, "check", settings)
+    said = (run.stdout + run.stderr).strip().partition("\n")[0]
+    return None if run.returncode == 0 else said or f"{xdpbox} gave no answer"
+
+
+def is_of_program(refused: str) -> bool:
+    """Whether a refusal is of the program, in settings that are right."""
+    return re.match(r"refused V\d+ ", refused) is not None
 
 
 def called(xdpbox: str, settings: str) -> Optional[str]:

@@ -1,0 +1,135 @@
+"""What tools/settings-from-c is asked for besides a file, and tools/filter-test."""
+import os
+import pathlib
+import subprocess
+import tempfile
+import tomllib
+
+import machine
+from straight.verifier import called
+
+TOOLS = pathlib.Path(__file__).resolve().parents[3]
+EXAMPLES, FILTERS = TOOLS.parent / "examples", TOOLS / "gate/tests/straight/filters"
+HEADERS = "#include <linux/bpf.h>\n#include <bpf/bpf_helpers.h>\n"
+LIMITS = """const volatile __u8 first = 1; const volatile __s16 second = -5; const volatile __u64 third = 7; int fourth = 9;
+SEC("xdp") int f(struct xdp_md *ctx) {
+	__u8 *p = (void *)(long)ctx->data;
+	if (p + 14 > (__u8 *)(long)ctx->data_end) return XDP_ABORTED;
+	if (p[0] == first) return XDP_DROP;
+	if ((__s16)(p[1] - 128) == second) return XDP_TX;
+	return p[2] == third || p[3] == fourth ? XDP_PASS : XDP_ABORTED;
+}
+"""
+# what is set, and what then becomes of the packet 04 80 09 0b
+SET = {
+    (): "ABORTED",
+    ("first=4",): "DROP",
+    ("first=0x04", "second=0"): "DROP",
+    ("second=0",): "TX",
+    ("third=9",): "PASS",
+    ("fourth=11",): "PASS",
+}
+WRONG_VALUES = {
+    "fifth=1": "there is no constant fifth to set",
+    "first=256": "first has 1 bytes, which can't hold 256",
+    "second=-32769": "second has 2 bytes, which can't hold -32769",
+    "first": "isn't NAME=VALUE",
+    "first=\u0664": "isn't NAME=VALUE",
+    "=1": "isn't NAME=VALUE",
+}
+WRONG_PACKETS = {
+    "KEEP 00": "isn't ACTION PACKET [PACKET], in hex",
+    "PASS zz": "isn't ACTION PACKET [PACKET], in hex",
+    "PASS": "isn't ACTION PACKET [PACKET], in hex",
+    "PASS 00": "settings refused L4",
+    "\xff": "isn't ACTION PACKET [PACKET], in hex",
+}
+
+
+def ran(clang, xdpbox, tool, *words, **more):
+    env = {**os.environ, "CLANG": clang, "XDPBOX": str(xdpbox)}
+    run = subprocess.run([TOOLS / tool, *words], env=env, capture_output=True, text=True, check=False, **more)
+    return run.stdout, run.stderr, run.returncode
+
+
+def set_tests(clang, xdpbox, path):
+    path.write_text(HEADERS + LIMITS)
+    for values, wanted in SET.items():
+        words = [word for value in values for word in ("--set", value)]
+        made, said, _ = ran(clang, xdpbox, "settings-from-c", *words, path)
+        settings = tomllib.loads(made) if made else {"program": []}
+        runs, _ = machine.filtered(xdpbox, settings, settings["program"], [], [bytes([4, 128, 9, 11]) + bytes(10)])
+        yield f"--set {' '.join(values)}", "" if runs and runs[0][0] == wanted else f"{runs} {said}"
+    for value, wanted in WRONG_VALUES.items():
+        made, said, status = ran(clang, xdpbox, "settings-from-c", "--set", value, path)
+        yield f"--set {value} is named", "" if status and not made and wanted in said and said.count("\n") == 1 else said
+
+
+SIZES = """struct { __uint(type, BPF_MAP_TYPE_%s); __type(key, __u32); __type(value, struct { __u64 n[2]; }); } m SEC(".maps");
+SEC("xdp") int f(struct xdp_md *ctx) { __u32 k = 0; __u64 *v = bpf_map_lookup_elem(&m, &k); if (v) __sync_fetch_and_add(v + 1, 1); return XDP_PASS; }
+"""
+
+
+def size_tests(clang, xdpbox, path):
+    """A map whose number of entries the loader gives: a word does here. Its values keep their size, and it its kind."""
+    path.write_text(HEADERS + SIZES % "ARRAY")
+    for word, wanted in (("m=9", {"name": "m", "entries": 9, "counters": 2}), ("m=9:3", {"name": "m", "entries": 9, "counters": 3})):
+        made, said, _ = ran(clang, xdpbox, "settings-from-c", path, word)
+        yield f"the word {word}", "" if made and tomllib.loads(made)["map"] == [wanted] else made + said
+    path.write_text(HEADERS + SIZES % "HASH")
+    made, said, status = ran(clang, xdpbox, "settings-from-c", path, "m=9")
+    yield "a word makes no array of a hash map", "" if status and not made and "BPF_MAP_TYPE_HASH" in said else made + said
+
+
+def same_tests(clang, xdpbox, path):
+    """The question that xdpbox same was asked."""
+    kept = path.with_suffix(".asked")
+    source = EXAMPLES / "straightened/loop-with-break/loop_with_break.c"
+    made, said, status = ran(clang, xdpbox, "settings-from-c", "--same", kept, source)
+    right = made and not status and called(xdpbox, kept.read_text()) == "same"
+    yield "--same keeps a question", "" if right else said
+    for source, wanted in ((FILTERS / "31-syslog.c", ""), (path, "isn't asked about")):
+        kept.unlink(missing_ok=True)
+        made, said, status = ran(clang, xdpbox, "settings-from-c", "--same", kept, source)
+        asked = kept.exists() and not status
+        yield f"--same of {source.stem}", "" if asked or not made and "--same: " in said and wanted in said else said
+
+
+def packet_tests(clang, xdpbox, folder):
+    """Packets and captures with their verdicts."""
+    source, beside = FILTERS / "47-majority.c", FILTERS / "47-majority.packets"
+    made, said, status = ran(clang, xdpbox, "filter-test", source, beside)
+    yield "filter-test on packets", "" if not status and made.endswith("27 passed, 0 failed\n") and "counter lead 0 7\n" in made else made + said
+    path, lines = folder / "packets", beside.read_text().splitlines()
+    at = next(number for number, line in enumerate(lines) if line.startswith("PASS"))
+    path.write_text("\n".join(["# one that is wrong", *lines[:at], "DROP " + lines[at].split()[1], *lines[at + 1 :], ""]))
+    made, said, status = ran(clang, xdpbox, "filter-test", source, path)
+    wrong = made.startswith(f"{path}:{at + 2}: PASS, and not DROP\n") and made.endswith("26 passed, 1 failed\n")
+    yield "one that is wrong", "" if status == 1 and wrong else made + said
+    words = lines[at].split()
+    path.write_text(f"PASS {words[1]} {'ff' * 14}\n")
+    made, _, status = ran(clang, xdpbox, "filter-test", source, path)
+    yield "one that is left otherwise", "" if status == 1 and ": PASS, but it leaves " in made else made
+    settings, capture, verdicts = EXAMPLES / "drop-ipv6/settings.toml", EXAMPLES / "five-packets.pcap", folder / "verdicts"
+    verdicts.write_text("PASS\nPASS\nPASS\nPASS\nDROP\n")
+    made, said, status = ran(clang, xdpbox, "filter-test", settings, capture, verdicts)
+    yield "filter-test on a capture", "" if not status and made == "5 passed, 0 failed\n" else made + said
+    verdicts.write_text("PASS\nPASS\n")
+    made, said, status = ran(clang, xdpbox, "filter-test", settings, capture, verdicts)
+    yield "too few verdicts", "" if status and not made and "has 2 verdicts, and" in said else said
+    for text, wanted in WRONG_PACKETS.items():
+        path.write_text(text, encoding="utf-8")
+        made, said, status = ran(clang, xdpbox, "filter-test", settings, path)
+        yield f"packets {text!r}", "" if status and not made and wanted in said and said.count("\n") == 1 else said
+    for words, wanted in (((), "takes a filter"), ((settings, folder), "Is a directory"), ((settings, capture), "a file of verdicts"), ((settings, "/nowhere"), "No such file")):
+        made, said, status = ran(clang, xdpbox, "filter-test", *words)
+        yield f"{wanted} of filter-test", "" if status and not made and wanted in said and said.count("\n") == 1 else said
+
+
+def tests(clang, xdpbox):
+    with tempfile.TemporaryDirectory() as name:
+        folder = pathlib.Path(name)
+        yield from set_tests(clang, xdpbox, folder / "limits.c")
+        yield from size_tests(clang, xdpbox, folder / "sizes.c")
+        yield from same_tests(clang, xdpbox, folder / "limits.c")
+        yield from packet_tests(clang, xdpbox, folder)

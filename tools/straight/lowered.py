@@ -1,0 +1,64 @@
+"""Stores to counters that may leave less than what stood there: of these the difference that is added may be negative.
+
+Two queues that subtract at once may take such a counter below 0, where it reads as nearly 2^64. In Linux both would
+store the same number."""
+from __future__ import annotations
+
+from typing import TYPE_CHECKING
+
+from .graph import successors
+from .instructions import ADD_CONSTANT, ALU64, MOVE_REGISTER, OR, STX, writes
+from .kinds import kinds_before
+
+if TYPE_CHECKING:
+    from .counts import Difference
+    from .instructions import Code, Instruction
+
+COUNTER_BYTES = 8
+
+
+def may_lower(code: Code, store: int, row: Difference) -> bool:
+    """Whether a store may leave less than what the counter was loaded as before it."""
+    if row.told or not row.known or code[store].kind != STX:
+        return True
+    return code[store].source not in raised_before(code, row.known).get(store, frozenset())
+
+
+def raised_before(code: Code, known: frozenset) -> dict[int, frozenset[int]]:
+    """Of each slot the registers that hold at least what the counter was loaded as, or stored, at the last of the slots
+    `known`, but for a sum that wraps."""
+    before, todo = {0: frozenset()}, [0]
+    while todo:
+        slot = todo.pop()
+        following = raised_after(code[slot], before[slot], slot in known)
+        for after in successors(code, slot):
+            met = before[after] & following if after in before else following
+            if met != before.get(after):
+                before[after] = met
+                todo.append(after)
+    return before
+
+
+def raised_after(instruction: Instruction, raised: frozenset[int], is_known: bool) -> frozenset[int]:
+    """The same after an instruction. `is_known`: whether it loads or stores the counter."""
+    if is_known:
+        return frozenset({instruction.destination if instruction.is_load else instruction.source})
+    to = instruction.destination
+    if instruction.opcode == MOVE_REGISTER and instruction.source in raised:
+        return raised | {to}
+    grows = instruction.opcode == ADD_CONSTANT and instruction.immediate >= 0
+    if grows or instruction.kind == ALU64 and instruction.operation == OR:
+        return raised
+    return raised - writes(instruction)
+
+
+def has_neighbour(code: Code, store: int) -> bool:
+    """Whether other numbers of its counter lie above the one that a store of fewer than eight bytes changes."""
+    before = kinds_before(code)
+    counter = before[store].counter(code[store])
+    if code[store].size == COUNTER_BYTES:
+        return False
+    reached = (before[slot].counter(row) for slot, row in code.items() if slot in before and (row.is_load or row.is_store))
+    places = {place for who, place in filter(None, reached) if counter is None or who == counter[0]}
+    at = 0 if counter is None else counter[1]
+    return any(at < place < at - at % COUNTER_BYTES + COUNTER_BYTES for place in places)
