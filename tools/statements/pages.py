@@ -3,18 +3,23 @@ import os
 import pathlib
 import re
 import textwrap
-from collections.abc import Iterator
+from collections.abc import Iterable, Iterator
 
 from .claims import PAGE as CLAIMS
 from .claims import linked
 from .headlines import Chapter, Claim, Theorem, edit_path, of_claim
-from .statement import Counts, Group, Part, Statement, Unknown, counts, lines_of, outside, part, place, statement
+from .statement import Counts, Group, Part, Statement, Unknown, counts, counts_of, lines_of, outside, part, place, statement
 from .tree import Node, Tree
 
 FOLDER = pathlib.PurePath("docs/statements")
 THEOREM = pathlib.PurePath("docs/THEOREM.md")
 LONGEST = 600
 WIDTH = 130
+# A clause of what holds once a loan has ended, as the kit writes it: its name, what was lent, and the name that it has then.
+LOAN = re.compile(
+    r"ensures\* (\w+) \{ sem 𝓛 \(follows_so\s+(?:\(the_row(?: \([^)]*\))+\)\s+){2}(\w+)\.entry\.ghost_name none \(λ _ _\. ⊤\)"
+    r"\s+\(λ (\w+)\. (.*)\)\) \}"
+)
 
 
 def heading(tree: Tree, file: str) -> str:
@@ -38,9 +43,13 @@ def contract_lines(it: Part) -> list[str]:
     left_out: set[int] = set()
     for clause in item.clauses:
         if clause not in chosen and clause.kind.startswith("ensures"):
-            left_out |= set(range(clause.line - item.line, clause.last - item.line + 1))
+            first = clause.line - item.line
+            while lines[first - 1].lstrip().startswith("//"):
+                first -= 1
+            left_out |= set(range(first, clause.last - item.line + 1))
     docs = [f"/// {it}".rstrip() for it in item.docs]
-    return docs + [line[indent:] for number, line in enumerate(lines) if number not in left_out and line.strip()]
+    shown = "\n".join(line[indent:] for number, line in enumerate(lines) if number not in left_out and line.strip())
+    return docs + LOAN.sub(r"ensures* \1 { once the loan of `\2` ends, with \3 for it: \4 }", shown).split("\n")
 
 
 def group_lines(tree: Tree, group: Group) -> Iterator[str]:
@@ -71,7 +80,21 @@ def told(tree: Tree, it: Statement) -> Iterator[str]:
         yield from contract_lines(each)
         yield ""
     yield f"{counts(tree, it)}; lowest first:"
-    for group in it.groups:
+    yield from told_groups(tree, it.groups)
+    if it.premises:
+        yield ""
+        yield f"The invariants of these types, which each value meets, rest on {counts_of(tree, it.premises)} more:"
+        yield from told_groups(tree, it.premises)
+    yield ""
+    yield "== Words of the kit's libraries"
+    yield ""
+    for module, names in outside(tree, it).items():
+        yield from textwrap.wrap(f"{module}: {' '.join(names)}", WIDTH, subsequent_indent="  ")
+
+
+def told_groups(tree: Tree, groups: tuple[Group, ...]) -> Iterator[str]:
+    """The lines of each definition with its file and line."""
+    for group in groups:
         said = heading(tree, group.file)
         yield ""
         yield f"== {group.file}{': ' if said else ''}{said}"
@@ -79,13 +102,6 @@ def told(tree: Tree, it: Statement) -> Iterator[str]:
             yield ""
             yield f"{group.file}:{place(tree, node)[1]}"
             yield from lines_of(tree, node)
-
-
-    yield ""
-    yield "== Words of the kit's libraries"
-    yield ""
-    for module, names in outside(tree, it).items():
-        yield from textwrap.wrap(f"{module}: {' '.join(names)}", WIDTH, subsequent_indent="  ")
 
 
 # As pages
@@ -156,6 +172,8 @@ def claim_page(tree: Tree, claim: Claim, before: dict[int, Statement]) -> str:
     others = [group for group in left if group not in shown]
     if others:
         lines += others_page(tree, others, page)
+    if it.premises:
+        lines += premises_page(tree, it, page)
     lines += kit_page(tree, it)
     return "\n".join(lines).rstrip("\n") + "\n"
 
@@ -171,6 +189,24 @@ def kit_page(tree: Tree, it: Statement) -> Iterator[str]:
     yield ""
 
 
+def premises_page(tree: Tree, it: Statement, page: pathlib.PurePath) -> Iterator[str]:
+    """What only the invariants of the types rest on, by file."""
+    yield "## What the invariants rest on"
+    yield ""
+    yield "The contracts hold of values that meet the invariants of their types (`ghost`), which whoever makes one proves. Their words rest on"
+    yield f"{counts_of(tree, it.premises)} more; `tools/statement` prints all of it."
+    yield ""
+    yield from named_groups(it.premises, page)
+    yield ""
+
+
+def named_groups(groups: Iterable[Group], page: pathlib.PurePath) -> Iterator[str]:
+    """A line for each file, with the names of its definitions or types."""
+    for group in groups:
+        names = ", ".join(f"`{node.name}`" for node in group.nodes)
+        yield f"- {link(group.file, page, group.file.removeprefix('crates/'))}: {names}"
+
+
 def others_page(tree: Tree, groups: list[Group], page: pathlib.PurePath) -> Iterator[str]:
     """The files that a page doesn't give in full, with how much of each the claim rests on."""
     lines = sum(len(lines_of(tree, node)) for group in groups for node in group.nodes)
@@ -178,9 +214,7 @@ def others_page(tree: Tree, groups: list[Group], page: pathlib.PurePath) -> Iter
     yield ""
     yield f"Machinery of {lines} lines, by file. `tools/statement` prints all of it."
     yield ""
-    for group in groups:
-        names = ", ".join(f"`{node.name}`" for node in group.nodes)
-        yield f"- {link(group.file, page, group.file.removeprefix('crates/'))}: {names}"
+    yield from named_groups(groups, page)
     yield ""
 
 
@@ -193,8 +227,13 @@ def claims_table(tree: Tree, claims: list[Claim]) -> list[str]:
         contracts = "; ".join(table_part(each, text, page) for each, text in zip(it.parts, claim.contracts))
         edits = ", ".join(link(str(edit_path(tree.root, name)), page, f"`{name.partition('/')[2]}`") for name in claim.refused)
         to_read = f"[{table_counts(counts(tree, it))}](statements/{claim.number}.md)"
+        if it.premises:
+            more = counts_of(tree, it.premises)
+            to_read += f"; for invariants {more.definitions}, {more.lines} lines"
         lines.append(f"| {claim.number}. {claim.headline} | {contracts} | {to_read} | {edits} |")
-    return lines
+    every = statement(tree, [part(tree, text) for claim in claims for text in claim.contracts])
+    more = counts_of(tree, every.premises)
+    return [*lines, f"| All together | | {table_counts(counts(tree, every))}; for invariants {more.definitions}, {more.lines} lines | |"]
 
 
 def table_part(each: Part, text: str, page: pathlib.PurePath) -> str:
@@ -233,7 +272,17 @@ def theorem_page(tree: Tree, theorem: Theorem) -> str:
     for node in it.known:
         file, _ = place(tree, node)
         lines.append(f"- {link(file, THEOREM, f'`{node.name}`')}: {theorem.known[node.name]} ({size_below(tree, node)}).")
+    lines += invariants_known(tree, it)
     return "\n".join(lines).rstrip("\n") + "\n"
+
+
+def invariants_known(tree: Tree, it: Statement) -> Iterator[str]:
+    """The words of the types' invariants, each with how much is below it."""
+    nodes = [node for group in it.groups for node in group.nodes if node.kind == "type"]
+    words = dict.fromkeys((word, node.name) for node in nodes for word in tree.named_by_facts(node) if word.kind == "definition")
+    said = [f"{link(place(tree, word)[0], THEOREM, f'`{word.name}`')} of `{name}` ({size_below(tree, word)})" for word, name in words]
+    if said:
+        yield f"- In the invariants of types: {', '.join(said)}."
 
 
 def chapter_page(tree: Tree, chapter: Chapter, groups: list[Group]) -> Iterator[str]:

@@ -70,9 +70,15 @@ def is_refused(room: str, name: str, crates: dict) -> bool:
     except (OSError, wrong_bodies.Unreadable) as why:
         raise Unknown(f"{name}: {why}") from why
     done = wrong_bodies.check(crate, kit.kit(), texts, edit.functions)
-    verdicts = {function: wrong_bodies.verdict_of(done.said, crate.name, function) for function in edit.judged}
-    by_clause = [function for function, it in verdicts.items() if it is wrong_bodies.Verdict.CLAUSE]
+
+    def proof_at(file: str) -> str:
+        at = pathlib.Path(crate.folder, file)
+        return at.read_text(encoding="utf-8") if at.is_file() else ""
+
+    verdicts = {function: wrong_bodies.verdict_of(done.said, crate.name, function, proof_at) for function in edit.judged}
+    kinds = {wrong_bodies.Verdict.CLAUSE: "a clause", wrong_bodies.Verdict.INVARIANT: "an invariant"}
+    refused = [f"{kinds[kind]} of {function}" for kind in kinds for function, it in verdicts.items() if it is kind]
     told = ", ".join(f"{function} {it.name}" for function, it in verdicts.items())
-    said = f"refused by a clause of {by_clause[0]}" if by_clause else f"NOT REFUSED by a clause: {told}"
+    said = f"refused by {refused[0]}" if refused else f"NOT REFUSED by a clause: {told}"
     print(f"{name}: {said}, in {done.wall:.0f} s", flush=True)
-    return bool(by_clause)
+    return bool(refused)

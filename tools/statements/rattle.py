@@ -56,6 +56,17 @@ class Type:
     text: str
 
 
+def ghost_fields(it: Type) -> list[tuple[str, str]]:
+    """The ghost fields of a struct, which each value of it meets: their names and what they say."""
+    if it.kind != "struct":
+        return []
+    found = []
+    for field in re.finditer(r"(?m)^\s*ghost (\w+): (?=\{)", it.text):
+        end = end_of(it.text, field.end())
+        found.append((field[1], re.sub(r"\s+", " ", it.text[field.end() + 1 : end - 1]).strip()))
+    return found
+
+
 @dataclasses.dataclass
 class Impl:
     """An impl: its ghost members, over the imports that it knows."""
@@ -250,10 +261,13 @@ def last_name(text: str) -> str:
 
 def read(path: pathlib.Path, module: tuple[str, ...], file: str) -> Source:
     """The source that a file holds."""
-    text = path.read_text(encoding="utf-8")
+    return read_text(path.read_text(encoding="utf-8"), module, file)
+
+
+def read_text(text: str, module: tuple[str, ...] = (), file: str = "") -> Source:
+    """The source that a text is."""
     source = Source(module, file)
-    scanner = Scanner(text, source)
-    scanner.scan(0, len(text), "", "", source.imports, False)
+    Scanner(text, source).scan(0, len(text), "", "", source.imports, False)
     return source
 
 

@@ -4,7 +4,7 @@ import re
 from collections.abc import Callable, Iterable
 
 from . import rattle
-from .tree import Contract, Node, Tree
+from .tree import SEEN, Contract, Node, Tree
 from .words import free_words
 
 # How wide the text of a type is at most, where it is laid out anew.
@@ -51,11 +51,13 @@ class Group:
 
 @dataclasses.dataclass(frozen=True)
 class Statement:
-    """Contracts, the groups below them, lowest first, and the words that are taken as known."""
+    """Contracts, the groups below them, lowest first, the words that are taken as known, and the groups that only the invariants of
+    types reach."""
 
     parts: tuple[Part, ...]
     groups: tuple[Group, ...]
     known: tuple[Node, ...]
+    premises: tuple[Group, ...] = ()
 
     @property
     def nodes(self) -> list[Node]:
@@ -139,7 +141,8 @@ def statement(tree: Tree, parts: Iterable[Part], known: Iterable[str] = ()) -> S
     missing = known - {it.name for it in borders}
     if missing:
         raise Unknown(f"{sorted(missing)[0]} is taken as known, and isn't below the contracts")
-    return Statement(parts, tuple(groups(tree, order, below)), tuple(borders))
+    premises = tree.premises(order, below)
+    return Statement(parts, tuple(groups(tree, order, below)), tuple(borders), tuple(groups(tree, premises, below)))
 
 
 def place(tree: Tree, node: Node) -> tuple[str, int]:
@@ -185,10 +188,23 @@ def lines_of(tree: Tree, node: Node) -> list[str]:
         return [it.section, *(f"  {line}" for line in it.lines)] if it.section else it.lines
     model = tree.model_of(node)
     if model is not None:
-        views = [f"ghost {it.name} = {{ {it.text} }};" for it in model.members if it.name in ("Value", "view")]
+        told = [*(it for it in model.members if it.name in SEEN), *tree.facts_of(node)]
+        views = [f"ghost {it.name} = {{ {' '.join(it.text.split())} }};" for it in told]
         flat = " ".join([f"impl Model for {node.name} {{", *views, "}"])
         return [flat] if len(flat) <= WIDEST else [f"impl Model for {node.name} {{", *(f"    {it}" for it in views), "}"]
-    return type_lines(re.sub(r"(?m)^\s*(?:///|//|#\[).*\n|^\s*ghost [^\n]*\n", "", tree.type_of(node).text + "\n"))
+    it = tree.type_of(node)
+    facts = [f"    ghost {fact.name}: {{ {fact.text} }}," for fact in tree.facts_of(node)]
+    lines = type_lines(without_ghosts(it.text))
+    return lines if not facts else [*(lines[:-1] if len(lines) > 1 else [lines[0].removesuffix("}").rstrip() + ","]), *facts, "}"]
+
+
+def without_ghosts(text: str) -> str:
+    """A type's text without its comments, its attributes and its ghost fields."""
+    text = re.sub(r"(?m)^\s*(?:///|//|#\[).*\n", "", text + "\n")
+    while (found := re.search(r"(?m)^\s*ghost \w+: (?=\{)", text)) is not None:
+        end = rattle.end_of(text, found.end())
+        text = text[: found.start()] + text[text.find("\n", end) + 1 :]
+    return re.sub(r"(?m)^\s*ghost [^\n]*\n", "", text)
 
 
 def type_lines(text: str) -> list[str]:
@@ -228,7 +244,13 @@ def outside(tree: Tree, it: Statement) -> dict[str, list[str]]:
 
 def counts(tree: Tree, it: Statement) -> Counts:
     """How much there is to read."""
-    definitions = [node for node in it.nodes if node.kind == "definition"]
+    return counts_of(tree, it.groups)
+
+
+def counts_of(tree: Tree, groups: Iterable[Group]) -> Counts:
+    """How much these groups have."""
+    nodes = [node for group in groups for node in group.nodes]
+    definitions = [node for node in nodes if node.kind == "definition"]
     files = {place(tree, node)[0] for node in definitions}
     lines = sum(len(lines_of(tree, node)) for node in definitions)
-    return Counts(len(definitions), lines, len(files), len({node.crate for node in definitions}), len(it.nodes) - len(definitions))
+    return Counts(len(definitions), lines, len(files), len({node.crate for node in definitions}), len(nodes) - len(definitions))

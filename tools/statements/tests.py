@@ -4,7 +4,7 @@ import tempfile
 from collections.abc import Iterator
 
 from . import antt, claims, headlines, pages, proving
-from .statement import Unknown, counts, function, outside, part, statement, type_lines
+from .statement import Unknown, counts, function, lines_of, outside, part, statement, type_lines
 from .tree import Node, Tree
 
 FILES = {
@@ -40,9 +40,11 @@ pub(crate) fn helper() ensures { other 1 } {}
     "crates/low/src/inner/thing.rt": """ghost use Rattle.low.specs.Base.{one};
 pub struct Thing { list: Vec<u32> }
 impl Model for Thing {
-    ghost use Rattle.low.specs.Base.{Kind};
+    ghost use Rattle.low.specs.Base.{Kind, other};
     ghost Value = { Kind };
     ghost view = { λ t. t.list };
+    ghost invariant = { λ t.
+        other t.size };
 }
 impl Thing {
     pub fn count(&self) -> u32
@@ -142,8 +144,14 @@ behind_section = one
 
 ## `low`
 
+`must-fail` has 1 edits, `more-edits` 1.
+
 - What is made is small, `one` of all: `make` (`small`), `inner::helper`; `Base`; refused: `make`.
+- A kind is one of two: `Thing::count` (`Kind`), `Base` (`Small`); also
+  refused: `third`.
 """,
+    "crates/low/must-fail/make.edit": "",
+    "crates/low/more-edits/third.edit": "",
 }
 
 # What each definition of Top names, of the crate below.
@@ -225,16 +233,48 @@ def stated_tests(stated) -> Iterator[tuple[str, bool]]:
         proofs = [path for path, head in heads.items() if head == stated.FOR_PROOFS]
         yield "files for proofs", proofs == [("Again",), ("Machinery",)]
         yield "first lines as they should be", stated.findings(tree) == []
-        page = FILES["docs/CLAIMS.md"].replace("`Base`", "`Machinery`")
+        page = FILES["docs/CLAIMS.md"].replace("`Base`;", "`Machinery`;")
         found = stated.findings(written(root, {"docs/CLAIMS.md": page}))
         yield "a row that names machinery", len(found) == 1 and "names Machinery of low" in found[0]
         written(root, {"docs/CLAIMS.md": FILES["docs/CLAIMS.md"]})
         before = (root / "crates/low/specs/Base.antt").read_text(encoding="utf-8")
         stated.write(tree)
         yield "lines are written once", (root / "crates/low/specs/Base.antt").read_text(encoding="utf-8") == before
+        yield from row_tests(stated, root)
+        pair = "pub mod facts;\npub use facts::Fact;\n" + FILES["crates/low/src/lib.rt"]
+        fact = "ghost use Rattle.low.specs.Machinery.{two};\npub struct Fact {\n    size: u32,\n    ghost few: { size ≡ two },\n}\n"
+        fact += "impl Fact {\n    pub fn make() -> Fact { Fact { size: 1 } }\n}\n"
+        tree = written(root, {"crates/low/src/lib.rt": pair, "crates/low/src/facts.rt": fact})
+        yield "what an invariant alone reaches may begin with either line", stated.findings(tree) == []
+        tree = written(root, {"crates/low/src/lib.rt": FILES["crates/low/src/lib.rt"]})
+        (root / "crates/low/src/facts.rt").unlink()
         tree = written(root, {"crates/low/specs/Base.antt": before + "\n" + IMPORTS})
         found = stated.findings(tree)
         yield "an import of machinery", len(found) == 1 and "imports two" in found[0]
+
+
+def row_tests(stated, root: pathlib.Path) -> Iterator[tuple[str, bool]]:
+    """Rows that name what isn't there, and wrong bodies that no row names."""
+    edits, page = root / "crates/low/must-fail", FILES["docs/CLAIMS.md"]
+
+    def found(text: str) -> list[str]:
+        return stated.findings(written(root, {"docs/CLAIMS.md": text}))
+
+    (edits / "make.edit").rename(edits / "made.edit")
+    names = found(page)
+    yield "a wrong body that is deleted", any("names make, which isn't in must-fail of low" in it for it in names)
+    yield "a wrong body that no row names", any("no row names made of crates/low/must-fail" in it for it in names)
+    (edits / "made.edit").rename(edits / "make.edit")
+    (root / "crates/low/more-edits/fourth.edit").touch()
+    yield "another number of wrong bodies", [it for it in found(page) if "`must-fail` has 1 edits, `more-edits` 2" in it] != []
+    stated.write(Tree(root))
+    yield "the numbers are written", stated.findings(Tree(root)) == []
+    (root / "crates/low/more-edits/fourth.edit").unlink()
+    for old, new in (("`make` (`small`)", "`make` (`large`)"), ("(`Kind`)", "(`other`)"), ("`Base` (`Small`)", "`Base` (`Tiny`)")):
+        stale = [it for it in found(page.replace(old, new)) if "is neither there nor reached" in it]
+        yield f"a stale name, {new}", len(stale) == 1
+    yield "a wrong body of the other folder", any("third, which isn't in must-fail" in it for it in found(page.replace("also\n  ", "")))
+    yield "rows as they should be", found(page) == []
 
 
 def definition_tests(tree: Tree) -> Iterator[tuple[str, bool]]:
@@ -282,6 +322,14 @@ def contract_tests(tree: Tree) -> Iterator[tuple[str, bool]]:
     yield "words of the kit", outside(tree, small) == {"Rattle.std.specs.Prelude": ["ℕ", "◌<◌"]}
     text = "\n".join(pages.contract_lines(small.parts[0]))
     yield "other clauses aren't shown", "ensures small" in text and "other" not in text and "requires some" in text
+    yield "no comment without its clause", "A remark" not in text
+    thing = Node("type", "low", ("inner", "thing"), "Thing")
+    yield "what only an invariant reaches", [it.name for it in tree.premises(tree.closure([thing]))] == ["other"]
+    yield "an invariant, on a line", any("ghost invariant = { λ t. other t.size };" in it for it in lines_of(tree, thing))
+    loan = "(record { mir = named 1; lft = [] })"
+    lent = f"ensures* after {{ sem 𝓛 (follows_so\n    (the_row {loan} {loan})\n    (the_row {loan})\n"
+    lent += "    self.entry.ghost_name none (λ _ _. ⊤)\n    (λ q. IsOver self.old q result)) }"
+    yield "what holds once a loan has ended", pages.LOAN.sub(r"\1 \2 \3 \4", lent) == "after self q IsOver self.old q result"
     known = statement(tree, [part(tree, "low::make")], ["IsSmall"])
     yield "a word that is known", ([it.name for it in known.nodes], [it.name for it in known.known]) == (["other"], ["IsSmall"])
     paths = [proving.prover_path(tree, function(tree, it)) for it in ("low::make", "low::Thing::count", "low::Hidden::own")]

@@ -8,6 +8,8 @@ from .words import free_words
 
 # How often a name is handed on at most, from where it is defined to where it is used.
 MOST_HANDS = 8
+# How contracts see a type, by its Model.
+SEEN = ("Value", "view")
 
 
 @dataclasses.dataclass(frozen=True)
@@ -283,13 +285,35 @@ class Tree:
         another field names what it finds there."""
         model = self.model_of(node)
         if model is not None:
-            yield from self.of_clauses(node.crate, node.module, [it for it in model.members if it.name in ("Value", "view")], model.imports)
+            yield from self.of_clauses(node.crate, node.module, [it for it in model.members if it.name in SEEN], model.imports)
             return
         it = self.type_of(node)
         code = rattle.masked(it.text)
         for name in rattle.type_names(public_fields(code) if it.kind == "struct" else code):
             if (found := self.type_named(node.crate, node.module, name)) is not None:
                 yield found
+
+    def facts_of(self, node: Node) -> list[rattle.Clause]:
+        """What each value of a type meets: the invariant of its Model, or its ghost fields."""
+        model = self.model_of(node)
+        if model is not None:
+            return [it for it in model.members if it.name == "invariant"]
+        return [rattle.Clause("ghost", name, text, 0, 0) for name, text in rattle.ghost_fields(self.type_of(node))]
+
+    def named_by_facts(self, node: Node) -> list[Node]:
+        """What these name, over the imports of the type's Model or of its file."""
+        model = self.model_of(node)
+        imports = self.crates[node.crate].sources[node.module].imports if model is None else model.imports
+        return list(self.of_clauses(node.crate, node.module, self.facts_of(node), imports))
+
+    def premises(self, found: Iterable[Node], below: Callable[[Node], list[Node]] | None = None) -> list[Node]:
+        """What the invariants of these types, and of those that are met then, depend on besides, lowest first."""
+        first, below = dict.fromkeys(found), below or self.below
+
+        def wider(node: Node) -> list[Node]:
+            return below(node) + (self.named_by_facts(node) if node.kind == "type" else [])
+
+        return [it for it in self.closure(first, wider) if it not in first]
 
     def of_clauses(self, crate: str, module: tuple[str, ...], clauses: list[rattle.Clause], imports: dict[str, antt.Import]) -> Iterator[Node]:
         """What the words of clauses name, by these imports and the source's types."""

@@ -62,6 +62,14 @@ def install_tests():
         both = (own / "bin/laxonje-packets-of-pcap", TOOLS / "packets-of-pcap")
         made, plain = [said([tool, ROOT / "examples/five-packets.pcap"])[1] for tool in both]
         yield "a tool that is installed, in a folder with blanks", status == 0 and made == plain and made.startswith("[[packet]]")
+        odd = pathlib.Path(room, "a&b|c\\d")
+        status = said([TOOLS / "install", "--from", built, odd], env={**os.environ, "LIBDIR": "lib&|"})[0]
+        packed = (odd / "lib&|/pkgconfig/laxonje.pc").read_text().splitlines() if status == 0 else []
+        yield "a prefix with signs that sed knows", packed[:2] == [f"prefix={odd}", f"libdir={odd}/lib&|"]
+        made = said([odd / "bin/laxonje-packets-of-pcap", ROOT / "examples/five-packets.pcap"])[1]
+        yield "a tool that is installed there", made == plain
+        units = [path.read_text() for path in odd.rglob("*.service")]
+        yield "the service there", bool(units) and all(f"{odd}/" in text for text in units)
         yield "nothing to take away", said([TOOLS / "install", "--uninstall", "/usr"], env=env)[0] == 1
         yield "nothing that is built", said([TOOLS / "install", "--from", room, "/usr"], env=env)[0] == 1
         yield "a library that isn't there", said([TOOLS / "install-host", "/usr", room], env=env)[0] == 1

@@ -27,6 +27,10 @@ WORDS = {
     "tools/same-program": ["one.toml"],
     "tools/straighten": ["--fast"],
     "tools/statement": ["--fast"],
+    "tools/demo": ["ten"],
+    "tools/gate/assumed": [],
+    "tools/dev/lines-of-proof": ["all"],
+    "tools/dev/long-sentences": ["--all"],
     "tools/gate/test-pcap": ["all"],
     "tools/gate/test-tools": ["all"],
 }
