@@ -1,10 +1,10 @@
 /* Whole turns of the queue for hosts in C: each access is made here, as the queue asks for it, in pages of 1,024 words of 32 bits.
- * Loads acquire and stores release, with a full fence inside a push, as docs/HOST.md says.
+ * Loads are those of laxonje_drive.h, and stores release, with a full fence inside a push, as docs/HOST.md says.
  *
  * usage: queue SIZE BATCHES PROGRAM [SLOTS], as in turn.c; with `deliver` for PROGRAM a turn is the delivery of a packet of the host's own.
  * Prints the nanoseconds per turn, the least of five rounds, and the calls of the library per turn. */
 #define _GNU_SOURCE
-#include <laxonje.h>
+#include <laxonje_drive.h>
 #include <stdatomic.h>
 #include <stdbool.h>
 #include <stdio.h>
@@ -35,10 +35,7 @@ static void put(struct host *host, uint32_t frame, uint32_t word, uint32_t value
 
 static void read_words(struct host *host, const struct laxonje_op *op)
 {
-	_Atomic uint32_t *at = word_at(host, op->frame, op->word);
-	uint32_t *words = host->words + op->lent;
-	for (uint32_t i = 0, count = op->count; i < count; i++)
-		words[i] = atomic_load_explicit(at + i, memory_order_acquire);
+	laxonje_drive_load_((const uint32_t *)word_at(host, op->frame, op->word), op->count, host->words + op->lent);
 }
 
 static void write_words(struct host *host, const struct laxonje_op *op, const uint32_t *words)

@@ -1,5 +1,5 @@
-/* The accesses that laxonje_drive.h makes, seen by macros in place of the compiler's atomic operations: those of the ops that the host is told,
- * each once and in order, after the question for its page and before the op is told. It is C and C++. */
+/* The accesses that laxonje_drive.h makes, seen by macros in place of the compiler's atomic operations and of the load of four words: those
+ * of the ops that the host is told, each once and in order, after the question for its page and before the op is told. It is C and C++. */
 #include <laxonje.h>
 #include <stdio.h>
 #include <string.h>
@@ -33,6 +33,13 @@ static void stored(uint32_t *at, uint32_t value, int order)
 	*at = value;
 }
 
+static void loaded_4(uint32_t *words, const uint32_t *at)
+{
+	for (int i = 0; i < 4; i++)
+		words[i] = loaded(at + i, __ATOMIC_ACQUIRE);
+}
+
+#define LAXONJE_LOAD_4_(words, at) loaded_4(words, at)
 #define __atomic_load_n(at, order) loaded(at, order)
 #define __atomic_store_n(at, value, order) stored(at, value, order)
 #define __atomic_thread_fence(order) note(FENCED, NULL, 0, order)

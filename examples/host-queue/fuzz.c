@@ -10,7 +10,7 @@
 #include <stdio.h>
 #include <stdlib.h>
 
-enum { TX, RX, TABLE, FRAMES = 32, OWN = 24, GUEST = 1, OTHER = 0x7ff4, TASKS = 4, MOST_ACCESSES = 33026, FRAME = 60, PERMIT = 1, PORT = 3000, RSP_PROD = 2 };
+enum { TX, RX, TABLE, FRAMES = 32, OWN = 24, GUEST = 1, OTHER = 0x7ff4, TASKS = 4, MOST_ACCESSES = 33026, FRAME = 60, PERMIT = 1, PORT = 3000, RSP_PROD = 2, RING = 256 };
 
 /* Sends each packet back. */
 static const uint8_t sends[] = { 0xb7, 0, 0, 0, LAXONJE_TX, 0, 0, 0, 0x95, 0, 0, 0, 0, 0, 0, 0 };
@@ -90,7 +90,7 @@ static void take(struct input *input, struct laxonje_queue *queue)
 	if (what % 4 == 1)
 		is(laxonje_queue_deliver(queue, next(input), packet, FRAME + what % (LAXONJE_PACKET - FRAME)) == LAXONJE_TAKEN, "a delivery that isn't begun");
 	if (what % 4 == 2)
-		is(laxonje_queue_await(queue, what >> 2) == LAXONJE_TAKEN, "a wait that isn't begun");
+		is(laxonje_queue_await(queue, (what >> 2) % (RING + 1)) == LAXONJE_TAKEN, "a wait that isn't begun");
 	finish(input, queue, what % 4 != 1 && what % 4 != 2);
 }
 

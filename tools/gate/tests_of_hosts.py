@@ -32,6 +32,10 @@ def header_tests(fits: types.ModuleType) -> Iterator[tuple[str, bool]]:
     in_c = fits.text_in_c()
     yield "the header that fits", fits.differences(header, sources, in_c) == []
     yield "a call in C that isn't declared", len(fits.differences(header, sources, in_c + "\nconst char *laxonje_text(void);\n")) == 1
+    calls = (TOOLS / "calls.c").read_text()
+    yield "the calls that take a handle", fits.unheld(sources, calls) == []
+    yield "a call without an answer for null", len(fits.unheld(sources, calls.replace("HELD(laxonje_run);\n", ""))) == 1
+    yield "an answer for null of no call", len(fits.unheld(sources, calls + "HELD(laxonje_version);\n")) == 1
     yield "the calls and structs that are compared", len(fits.prototypes(header)) > 20 and len(fits.header_structs(header)) > 7
     for what, old, new in (
         ("two fields swapped", "uint32_t entries;\n\tuint32_t counters;", "uint32_t counters;\n\tuint32_t entries;"),

@@ -1,0 +1,82 @@
+/* That laxonje_drive.h reads each word of a page once, in rising order, and none beside those of the op, by loads of 16 bytes too: the page
+ * can't be reached, so each load ends in a signal, is noted, and is made alone by the processor's step flag. For x86-64 and Linux. */
+#define _GNU_SOURCE
+#include <laxonje_drive.h>
+#include <signal.h>
+#include <stdio.h>
+#include <string.h>
+#include <sys/mman.h>
+#include <ucontext.h>
+
+enum { PAGE = 4096, STEP_FLAG = 0x100, MOST = LAXONJE_PAGE_WORDS, WIDE = 16 };
+
+static uint8_t *guarded;
+static uintptr_t loads[MOST];
+static size_t count;
+static int wrong;
+
+static void is(const char *what, size_t found, size_t wanted)
+{
+	if (found == wanted)
+		return;
+	printf("%s: %zu, and not %zu\n", what, found, wanted);
+	wrong++;
+}
+
+/* A load of the page: noted, and made. */
+static void on_load(int number, siginfo_t *information, void *context)
+{
+	(void)number;
+	if (count < MOST)
+		loads[count++] = (uintptr_t)information->si_addr - (uintptr_t)guarded;
+	mprotect(guarded, PAGE, PROT_READ);
+	((ucontext_t *)context)->uc_mcontext.gregs[REG_EFL] |= STEP_FLAG;
+}
+
+/* After it the page can't be reached again. */
+static void on_step(int number, siginfo_t *information, void *context)
+{
+	(void)number, (void)information;
+	mprotect(guarded, PAGE, PROT_NONE);
+	((ucontext_t *)context)->uc_mcontext.gregs[REG_EFL] &= ~STEP_FLAG;
+}
+
+static uint32_t *page(void *host, const struct laxonje_op *op) { return (void)host, (void)op, (uint32_t *)(void *)guarded; }
+
+/* A READ of these words of the page. */
+static void reads(uint32_t word, uint32_t words)
+{
+	static uint32_t lent[LAXONJE_PAGE_WORDS + 1];
+	const struct laxonje_io io = { NULL, page, NULL, NULL };
+	const struct laxonje_op op = { LAXONJE_OP_READ, 0, word, words, 0, { 0, 0 }, 0, 0, 0, 0, 0, 0, 0, 0, 0 };
+	uint32_t wide = words / 4;
+	memset(lent, 0xee, sizeof lent);
+	count = 0;
+	laxonje_drive_read_(&io, &op, lent);
+	is("loads", count, wide + words % 4);
+	for (uint32_t i = 0; i < wide + words % 4; i++)
+		is("a load's place", loads[i], 4 * word + (i < wide ? i * WIDE : wide * WIDE + (i - wide) * 4));
+	for (uint32_t i = 0; i < words; i++)
+		is("a word", lent[i], 0x01010101 * (word + i));
+	is("the word after them", lent[words], 0xeeeeeeee);
+}
+
+int main(void)
+{
+	struct sigaction load = { .sa_sigaction = on_load, .sa_flags = SA_SIGINFO }, step = { .sa_sigaction = on_step, .sa_flags = SA_SIGINFO };
+	guarded = mmap(NULL, 2 * PAGE, PROT_READ | PROT_WRITE, MAP_PRIVATE | MAP_ANONYMOUS, -1, 0);
+	if (guarded == MAP_FAILED)
+		return perror("mmap"), 1;
+	for (uint32_t i = 0; i < LAXONJE_PAGE_WORDS; i++)
+		((uint32_t *)(void *)guarded)[i] = 0x01010101 * i;
+	sigaction(SIGSEGV, &load, NULL);
+	sigaction(SIGTRAP, &step, NULL);
+	mprotect(guarded, 2 * PAGE, PROT_NONE);
+	for (uint32_t words = 1; words <= 33; words++)
+		for (uint32_t word = 0; word < 8; word++)
+			reads(word, words), reads((uint32_t)LAXONJE_PAGE_WORDS - words - word, words);
+	reads(0, LAXONJE_PAGE_WORDS);
+	reads(1, LAXONJE_PAGE_WORDS - 1);
+	printf("%d wrong\n", wrong);
+	return wrong != 0;
+}
