@@ -26,6 +26,15 @@ def put(text, what="the settings", is_read_in_part=False):
         fail(f"standard output doesn't take {what}: {getattr(fault, 'strerror', None) or fault}")
 
 
+def keep(path, text):
+    """Writes a text to a file, or ends."""
+    try:
+        with open(path, "w", encoding="utf-8") as file:
+            file.write(text)
+    except OSError as fault:
+        fail(f"{path}: {fault.strerror}")
+
+
 def fail(line, status=1):
     """Ends with one line on standard error, and this status."""
     say([in_one_line(line)])

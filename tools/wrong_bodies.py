@@ -2,7 +2,10 @@
 
 An edit is a text of lines `file: PATH`, `old: TEXT`, `new: TEXT`, each text on one line and standing once in the file, as
 `rt must-fail` reads it. A line `fn: PATH` names the function that has to be refused, if that isn't the one whose body
-changes."""
+changes. No edit changes a clause of a contract.
+
+A refusal counts by the goal that isn't proved: one of a clause, of a loop's or a type's invariant, or else one of safety, such as
+a sum that has to fit, an index, or what a callee requires."""
 import dataclasses
 import enum
 import os
@@ -12,6 +15,9 @@ import subprocess
 import sys
 import tempfile
 import time
+from collections.abc import Callable
+
+from statements import rattle
 
 sys.dont_write_bytecode = True
 
@@ -20,6 +26,8 @@ class Outcome(enum.Enum):
     """What became of an edit."""
 
     CLAUSE = "refused by a clause"
+    INVARIANT = "refused by an invariant"
+    SAFETY = "refused for safety alone"
     NAMES = "refused by names alone"
     GAVE_UP = "THE PROVER GAVE UP"
     PROVED = "NOT REFUSED"
@@ -139,9 +147,21 @@ def function_at(file, text, at, types):
 def prepare(edit, folder, types):
     """Finds the functions that have to be refused: those that the edit names, or those whose bodies change; and whether it is apart."""
     changed_ones = changed_functions(edit, folder, types)
+    for it in edit.changes:
+        if it.file.startswith("src/") and is_in_contract(text_of(folder, it.file), it.old):
+            raise Unreadable(f"it changes a contract in {it.file}, and no body")
     edit.functions = edit.named or changed_ones
     edit.judged = [*edit.functions, *(it for it in changed_ones if it not in edit.functions)]
     edit.is_apart = any(is_of_all(text_of(folder, it.file), it.old) for it in edit.changes)
+
+
+def is_in_contract(text, old):
+    """Whether a text stands in a clause of a function, or in a ghost member of an impl or a trait."""
+    line = text.count("\n", 0, max(text.find(old), 0)) + 1
+    source = rattle.read_text(text)
+    clauses = [it for function in source.functions for it in function.clauses]
+    clauses += [it for impl in source.impls for it in impl.members]
+    return any(it.line <= line <= it.last for it in clauses)
 
 
 # How a line begins that functions have in common; an import counts for its file alone.
@@ -170,9 +190,14 @@ def changed_functions(edit, folder, types):
 
 # What the prover says of a function, and where it says why.
 LINE = re.compile(r"^fn (\S+): (.*)", re.M)
-TOLD = re.compile(r"^(?:note: )?(?:\./)?(\S+?):\d+:\d+: (?:(error): )?(.*)", re.M)
+TOLD = re.compile(r"^(?:note: )?(?:\./)?(\S+?):(\d+):\d+: (?:(error): )?(.*)", re.M)
 WAITS = re.compile(r"it calls|wait for a callee|depends on")
-OWN = re.compile(r"`search` did not prove")
+OWN = re.compile(r"`search` did not prove ((?:`[^`]+`(?:,? (?:and )?)?)*)")
+# The goals of clauses, and those of what a loop or a type keeps; every other one is of safety.
+OF_CLAUSE = re.compile(r"(?:returns|ensures|holds)\b")
+OF_INVARIANT = re.compile(r"loop-.*-(?:init|preserved)\b|invariant_of-")
+# Where a file of answers begins one, by the name of its goal.
+ANSWER = re.compile(r"^ *pub (?:\S+) : goal\.(\S+)")
 # What it says if it came to no answer, which is no refusal.
 STOPPED = re.compile(r"could not tell|has no verdict")
 # What it says of a text that it can't read, rather than of one that it refuses.
@@ -182,11 +207,12 @@ TAKEN_AWAY = re.compile(r"has no field|is not in scope|has no `|was not admitted
 
 
 def unread(said, files):
-    """The first line that says that a text of the contracts or of an edited file can't be read; None if there is none."""
+    """The first line that says that a definition doesn't type check, or that a text of the contracts or of an edited file can't be
+    read; None if there is none."""
     for line in said.split("\n"):
         found = re.match(r"(?:\./)?(\S+?):\d+:\d+: error: (?:(`[^`]*`): )?(.*)", line)
         if found and (found[1] in files or found[1].startswith(("src/", "specs/"))):
-            if not found[2] or MISREAD.search(re.sub(r"`[^`]*`", "", found[3])):
+            if found[1].startswith("specs/") or not found[2] or MISREAD.search(re.sub(r"`[^`]*`", "", found[3])):
                 return line
     return None
 
@@ -216,30 +242,66 @@ class Verdict(enum.Enum):
     """What one check shows of one function."""
 
     CLAUSE = 1
-    NAMES = 2
-    PROVED = 3
-    CALLEE = 4
-    STOPPED = 5
-    UNKNOWN = 6
+    INVARIANT = 2
+    SAFETY = 3
+    NAMES = 4
+    PROVED = 5
+    CALLEE = 6
+    STOPPED = 7
+    UNKNOWN = 8
+
+
+# What refuses a body, the strongest first, with the outcome that it is.
+REFUSALS = {Verdict.CLAUSE: Outcome.CLAUSE, Verdict.INVARIANT: Outcome.INVARIANT, Verdict.SAFETY: Outcome.SAFETY}
 
 
 def errors_of(said, function):
-    """What is told of a function's own proof files."""
+    """What is told of a function's own proof files: each file and line, and why."""
     folder = f"proofs/{function.replace('::', '/')}/"
-    return [why for file, error, why in TOLD.findall(said) if file.startswith(folder) and error]
+    return [(file, int(line), why) for file, line, error, why in TOLD.findall(said) if file.startswith(folder) and error]
 
 
-def verdict_of(said, crate, function):
+def goals_of(line):
+    """The goals that the line of a function names as not proved."""
+    return [name for listed in OWN.findall(line) for name in re.findall("`([^`]+)`", listed)]
+
+
+def goal_at(text, line):
+    """The goal whose answer a line of a file of answers belongs to; empty if none does."""
+    found = [it[1] for it in map(ANSWER.match, text.split("\n")[:line]) if it]
+    return found[-1] if found else ""
+
+
+def verdict_of_goals(goals):
+    """What refuses a body of which these goals aren't proved; None if there is none."""
+    if any(OF_CLAUSE.match(it) for it in goals):
+        return Verdict.CLAUSE
+    if any(OF_INVARIANT.match(it) for it in goals):
+        return Verdict.INVARIANT
+    return Verdict.SAFETY if goals else None
+
+
+def open_goals(line, errors, text_at):
+    """The goals that aren't proved: those that a function's line names, and those whose answers don't fit; the answer to an invariant
+    stands in a file of its own."""
+    answered = [goal_at(text_at(file), at) if file.endswith("/Answers.antt") else "invariant_of-" for file, at, _ in errors]
+    return goals_of(line) + answered
+
+
+def verdict_of(said, crate, function, text_at: Callable[[str], str] = lambda file: ""):
     """What a check shows of a function whose body, or a callee's, was changed. A callee counts by its contract, which no edit
-    changes: so a clause that is refused is the function's own matter, also if its line names callees that aren't proved."""
+    changes: so a goal that is refused is the function's own matter, also if its line names callees that aren't proved. `text_at`
+    gives a proof file of the crate."""
     line = of_function(lines_of(said, crate), function)
     if line is None:
         return Verdict.UNKNOWN
     if re.match(r"proved\b", line):
         return Verdict.PROVED
     errors = errors_of(said, function)
-    if OWN.search(line) or not all(TAKEN_AWAY.search(it) for it in errors):
-        return Verdict.CLAUSE
+    own = [it for it in errors if not TAKEN_AWAY.search(it[2])]
+    refused = verdict_of_goals(open_goals(line, own, text_at))
+    if refused:
+        return refused
     if STOPPED.search(line):
         return Verdict.STOPPED
     if WAITS.search(line):

@@ -12,8 +12,8 @@ from __future__ import annotations
 
 from typing import TYPE_CHECKING, Any, Optional
 
-from .facts import NOTHING, decided, learnt, put_number
-from .forms import MASK_64, SWAP, ZERO, Forms, number
+from .facts import JLE, NOTHING, compared, decided, learnt, put_number
+from .forms import MASK_32, MASK_64, SWAP, ZERO, Forms, number
 from .memory import Memory
 from .program import ADD_8, BY_REGISTER, CALL, EXIT, JUMP, WIDE, NoProgram, maps_and_rest, program_of
 from .result import COPY, MOVE_CONSTANT, OUTSIDE, STACK, STORE_8, Result
@@ -23,11 +23,11 @@ if TYPE_CHECKING:
     from .forms import Form
     from .program import Slot
 
-LOAD_WORD, LOAD_8 = 0x61, 0x79
+LOAD_WORD, LOAD_8, STORE_WORD = 0x61, 0x79, 0x63
 PLAIN = 3  # the mode of an access that is none of the others
 KEY_BYTES = 4
 IF_EQUAL, IF_ABOVE = 0x15, 0x2D
-NEG, MOV = 0x80, 0xB0
+NEG, MOV, RSH, AND, ALU64 = 0x80, 0xB0, 0x70, 0x50, 7
 FRAME, MOST_STEPS = 10, 5000
 
 
@@ -57,7 +57,7 @@ class Check(Memory):
     def run(self) -> None:
         """Follows both; Differs if they aren't the same."""
         old, new = (Registers({1: self.forms.context, FRAME: self.forms.frame}) for _ in range(2))
-        waiting = {0: [State(0, old, new, {}, {}, {}, NOTHING)]}
+        waiting = {0: [State(0, old, new, {}, {}, {}, {}, NOTHING)]}
         for pc in self.result.order():
             if pc not in waiting:
                 continue
@@ -79,7 +79,7 @@ class Check(Memory):
 
     # --- one step
 
-    def arithmetic(self, slot: Slot, registers: Registers, ranges: dict) -> None:
+    def arithmetic(self, slot: Slot, registers: Registers, state: State) -> None:
         """What it leaves in its destination."""
         operation = slot.opcode & 0xF0
         second = number(slot.immediate)
@@ -90,7 +90,14 @@ class Check(Memory):
         first = ZERO if operation == MOV else registers[slot.destination]
         if slot.destination == FRAME:
             raise Differs("r10 is written")
-        registers[slot.destination] = self.forms.operate(slot, first, second, ranges)
+        result = self.forms.operate(slot, first, second, state.facts.ranges)
+        registers[slot.destination] = result
+        least, most = self.forms.span(first, state.facts.ranges)
+        if slot.opcode & 7 == ALU64 and not second.terms and result.terms and 0 <= least and most <= MASK_64:
+            if operation == RSH:
+                state.facts = compared(self.forms, JLE, result, most >> (second.constant & 63), state.facts)
+            elif operation == AND:
+                state.facts = compared(self.forms, JLE, result, min(most, second.constant), state.facts)
 
     def operands(self, slot: Slot, registers: Registers) -> tuple[Form, Form]:
         second = registers[slot.source] if slot.opcode & BY_REGISTER else number(slot.immediate)
@@ -113,6 +120,8 @@ class Check(Memory):
             if state.at == goal:
                 return
             slot = self.slot_of_original(state.at)
+            if slot.kind in (0, 1) and slot.destination == FRAME:
+                raise Differs("r10 is written")
             if slot.opcode == JUMP:
                 state.at += 1 + slot.offset
             elif slot.is_branch:
@@ -121,7 +130,7 @@ class Check(Memory):
                     raise Differs(f"slot {pc}: the original's jump at {state.at} is left out, and nothing decides it")
                 state.at += 1 + (slot.offset if taken else 0)
             elif slot.kind in (4, 7):
-                self.arithmetic(slot, state.old, state.facts.ranges)
+                self.arithmetic(slot, state.old, state)
                 state.at += 1
             elif slot.opcode == WIDE:
                 state.old[slot.destination] = self.wide(slot)
@@ -151,7 +160,7 @@ class Check(Memory):
     def own(self, pc: int, slot: Slot, state: State) -> None:
         at = self.forms.stack_offset(self.address(slot, state.new)) if slot.opcode in (STORE_8, LOAD_8) else None
         if slot.kind in (4, 7):
-            self.arithmetic(slot, state.new, state.facts.ranges)
+            self.arithmetic(slot, state.new, state)
         elif slot.opcode == STORE_8 and at is not None:
             self.own_store(pc, at, state.new[slot.source], state)
         elif slot.opcode == LOAD_8 and at is not None:
@@ -172,7 +181,8 @@ class Check(Memory):
         """Below the original's stack, or what stands there anyway."""
         if at < -STACK or at > -8:
             raise Differs(f"slot {pc}: a store outside the stack")
-        forget(state.new_stack, at, at + 8)
+        for part in (state.new_stack, state.words):
+            forget(part, at, at + 8)
         state.new_stack[at] = stored
         if at + 8 > self.result.lowest:
             self.same(state.old_stack.get(at), stored, f"the stack at {at}", pc)
@@ -203,7 +213,7 @@ class Check(Memory):
         ):
             return
         value //= factor
-        for part in (state.old, state.new, state.old_stack, state.new_stack):
+        for part in (state.old, state.new, state.old_stack, state.new_stack, state.words):
             for place, form in part.items():
                 part[place] = put_number(self.forms, form, atom, value)
         within = frozenset(put_number(self.forms, form, atom, value) for form in state.facts.within)
@@ -248,8 +258,8 @@ class Check(Memory):
         elif read:
             self.counter_load(pc, slot, old_slot, state)
         elif slot.kind in (4, 7):
-            self.arithmetic(slot, state.new, state.facts.ranges)
-            self.arithmetic(old_slot, state.old, state.facts.ranges)
+            self.arithmetic(slot, state.new, state)
+            self.arithmetic(old_slot, state.old, state)
         elif slot.opcode == WIDE:
             self.copied_constant(pc, slot, old_slot, state)
         elif slot.kind == 1:
@@ -284,7 +294,7 @@ class Check(Memory):
         loaded = self.forms.atom(("counter", pc))
         state.old[old_slot.destination] = state.loads[address] = loaded
         state.owed = address
-        self.arithmetic(slot, state.new, state.facts.ranges)
+        self.arithmetic(slot, state.new, state)
 
     def narrow_load(self, pc: int, slot: Slot, old_slot: Slot, state: State) -> None:
         """A load of a part of a counter, which the result loads whole."""
@@ -316,6 +326,8 @@ class Check(Memory):
             new = old = self.forms.atom(("load", pc), (1 << 8 * slot.size) - 1 if unsigned else MASK_64)
             if slot.opcode == LOAD_8 and at in state.old_stack and at in state.new_stack:
                 new, old = state.new_stack[at], state.old_stack[at]
+            elif slot.opcode == LOAD_WORD and at in state.words:
+                new = old = state.words[at]
             elif slot.opcode == LOAD_8:
                 state.loads[address] = old
         state.new[slot.destination], state.old[old_slot.destination] = new, old
@@ -333,10 +345,13 @@ class Check(Memory):
 
     def store_on_stack(self, pc: int, slot: Slot, old_slot: Slot, state: State, address: Form) -> None:
         low, high = self.beside_own_stack(pc, address, slot.size, state)
-        for stack in (state.new_stack, state.old_stack):
+        for stack in (state.new_stack, state.old_stack, state.words):
             forget(stack, low, high)
         if slot.opcode == STORE_8 and high - low == slot.size:
             state.new_stack[low], state.old_stack[low] = state.new[slot.source], state.old[old_slot.source]
+        if slot.opcode == STORE_WORD and high - low == slot.size:
+            least, most = self.forms.span(state.new[slot.source], state.facts.ranges)
+            state.words.update({low: state.new[slot.source]} if least >= 0 and most <= MASK_32 else {})
 
     def fused_count(self, pc: int, slot: Slot, old_slot: Slot, state: State) -> None:
         """What is added has to be what the original adds to the counter that it loaded, or to a part of it."""

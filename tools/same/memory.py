@@ -67,7 +67,9 @@ class Memory:
         true = [number(rows[0])] if len(set(rows)) == 1 else []
         if len({row - at for row, at in zip(rows, places)}) == 1:
             true.append(self.forms.add(place, number(rows[0] - places[0])))
-        true.append(self.forms.atom(("constant", pc, count), max(rows), min(rows)))
+        # ways to one slot of the result have one atom only if they have one range
+        span = min(rows), max(rows)
+        true.append(self.forms.atom(("constant", pc, count, *span), span[1], span[0]))
         # all of these forms are the loaded number: that of the result is taken, if it is one of them
         there = state.new.get(slot.destination)
         state.old[slot.destination] = there if there in true else true[0]

@@ -14,7 +14,7 @@ from .forms import ZERO, Form, narrower, number, signed
 if TYPE_CHECKING:
     from .forms import Forms
 
-PARTS = ("old", "new", "old_stack", "new_stack", "loads")
+PARTS = ("old", "new", "old_stack", "new_stack", "words", "loads")
 
 
 class Differs(Exception):
@@ -42,6 +42,7 @@ class State:
     """Both programs at one slot of the result. Stacks are by offset from the frame's end, of whole eight bytes.
 
     at     where the original stands
+    words  what both stored as four bytes, by offset, if it has no more
     loads  by its address, what the original knows to stand in a counter, if nobody else adds to it
     owed   the counter of which one of the two loaded what the other didn't, and to which the result has to add next"""
 
@@ -50,6 +51,7 @@ class State:
     new: Registers
     old_stack: dict
     new_stack: dict
+    words: dict
     loads: dict
     facts: Facts
     owed: Optional[Form] = None

@@ -14,6 +14,8 @@ from unproved.hints import hints_of
 from unproved.plain import plain
 
 TARGET = "x86_64-unknown-linux-gnu"
+# The line of `xdpbox version` in the crate xdp_commands.
+VERSION = re.compile(r'(const VERSION: &str = "xdpbox [0-9.]+)(\\n";)')
 # The words with which the kit's `rattle build` has its clang compile a module.
 WORDS = [
     *(f"--target={TARGET}", "-march=x86-64", "-O3", "-ffunction-sections", "-fdata-sections", "--no-default-config", "-fintegrated-cc1"),
@@ -34,6 +36,14 @@ def run(*words, **how):
     return done.stdout
 
 
+def marked_version(text, commit):
+    """The source of `xdpbox version` with the line of a program that nothing was proved of."""
+    marked, count = VERSION.subn(lambda it: f"{it[1]}, UNPROVED, {commit}{it[2]}", text)
+    if count != 1:
+        raise Fault("crates/xdp_commands/src/help.rt has no line of a version")
+    return marked
+
+
 class Building:
     """A crate of the checkout that is built in a room of its own. `say` is told of each step."""
 
@@ -47,10 +57,10 @@ class Building:
         self.crate = next(it for it in crates if it.name == name)
         self.clang = f"{self.rtlib.KIT}/toolchain/bin/clang"
 
-    def lines(self, folder):
-        """The module's text of the crate in a folder."""
+    def lines(self, folder, folders=None):
+        """The module's text of the crate in a folder, with `folders` in place of crates' own below it."""
         self.say(f"reads {self.name}, the {len(self.crate.below())} crates below it, and the kit's")
-        bitcode = bitcode_of(self.rtlib, self.crate, folder, self.room)
+        bitcode = bitcode_of(self.rtlib, self.crate, folder, self.room, folders or {})
         self.say("takes out what stops a try, and puts the inline hints in")
         text = os.path.join(self.room, "tried.ll")
         run(self.clang, "-S", "-emit-llvm", "-x", "ir", bitcode, "-o", text, "-O0", "-Xclang", "-disable-llvm-passes", "-w")
@@ -67,9 +77,18 @@ class Building:
         run(self.clang, *WORDS, place, "-c", "-x", "ir", text, "-o", made)
         return made
 
-    def program(self, to):
-        """Builds a program."""
-        module = self.compile(self.lines(self.crate.folder), "-fPIE")
+    def marked(self, commit):
+        """A copy of xdp_commands whose `version` says what the program is, by the folder that it stands for."""
+        own = os.path.join(self.root, "crates/xdp_commands")
+        made = os.path.join(self.room, "xdp_commands")
+        shutil.copytree(own, made, ignore=shutil.ignore_patterns("out"))
+        source = pathlib.Path(made, "src/help.rt")
+        source.write_text(marked_version(source.read_text(encoding="utf-8"), commit), encoding="utf-8")
+        return {own: made}
+
+    def program(self, to, commit):
+        """Builds a program of this commit."""
+        module = self.compile(self.lines(self.crate.folder, self.marked(commit)), "-fPIE")
         run("objcopy", "--set-section-alignment", ".text.*=64", module)
         self.say("links it")
         libraries = [f"{self.rtlib.KIT}/c/libos_c.a", f"{self.rtlib.KIT}/c/liblibc_c.a"]
