@@ -1,4 +1,4 @@
--- Stated: claims rest on this file.
+-- For proofs: no claim rests on this file.
 -- What a host was asked, and what C's host is: room for ops, and lent words.
 use Rattle.std.specs.Prelude.{ℕ, ◌≡◌, ◌<◌, ◌≤◌, ◌+◌, ◌/◌, List, [], ◌∷◌, ◌++◌, length, take, drop}
 use Rattle.xen_netif.specs.Copy.{bytes_from}
