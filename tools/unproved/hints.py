@@ -6,7 +6,7 @@ import re
 WORDS = {"always": "alwaysinline", "never": "noinline", None: "inlinehint"}
 INLINE = re.compile(r"#\[inline(?:\((\w+)\))?\]")
 FUNCTION = re.compile(r"(?:pub(?:\([^)]*\))?\s+)?(?:const\s+)?(?:unsafe\s+)?(?:extern \"C\"\s+)?fn\s+(\w+)")
-IMPL = re.compile(r"impl\b(?:<[^{]*?>)?\s+(?:.*\bfor\s+)?&?(?:'\w+ )?(?:mut )?([A-Za-z_]\w*)")
+IMPL = re.compile(r"impl\b(?:<[^{]*?>)?\s+(?:(?:\w+::)*(\w+)(?:<.*>)?\s+for\s+)?&?(?:'\w+ )?(?:mut )?([A-Za-z_]\w*)")
 
 
 @dataclasses.dataclass(frozen=True)
@@ -35,7 +35,8 @@ def hints_of_file(text, module):
         if line.startswith("}"):
             owner = ""
         if found := IMPL.match(line):
-            owner = found[1]
+            # LLVM's name of a trait's function has the type's name and then the trait's
+            owner = found[2] + (found[1] or "")
         if found := INLINE.match(words):
             inline = WORDS.get(found[1], "")
         elif words.startswith("#[cold]"):

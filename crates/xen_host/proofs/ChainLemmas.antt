@@ -1,5 +1,5 @@
 -- Asks that follow one another: the responses of a chain and of rx slots, and a page's words.
-use Rattle.std.proofs.Common.{◌≡◌, ℕ, zero, suc, ◌+◌, ◌-◌, ◌*◌, ◌/◌, ◌%◌, ◌<◌, ◌≤◌, Bool, true, false, List, [], ◌∷◌, ◌++◌, length, drop, refl, sym, ap, ◌∙◌, subst, arith}
+use Rattle.std.proofs.Common.{◌≡◌, ℕ, zero, suc, ◌+◌, ◌-◌, ◌*◌, ◌/◌, ◌%◌, ◌<◌, ◌≤◌, Bool, true, false, List, [], ◌∷◌, ◌++◌, length, take, drop, refl, sym, ap, ◌∙◌, subst, arith}
 use Rattle.std.specs.Prelude.{slice_index, min, nat_le}
 use Rattle.std.proofs.lemmas.Bool.Decides.{nat_tests}
 use Rattle.std.proofs.lemmas.List.{drop_more}
@@ -27,19 +27,17 @@ use Rattle.xen_host.specs.Asks as ask
 use Rattle.xen_host.specs.Chained.{replies, reply, stores}
 use Rattle.xen_host.specs.Filling.{packet_words}
 use Rattle.xen_host.proofs.AskLemmas.{next_rx_word}
+use Rattle.xen_host.specs.Hosts.{WasAskedAll, plain_all}
+use Rattle.xen_host.proofs.HostLedLemmas.{asked_more}
 use Rattle.xen_host.proofs.LedLemmas.{AreChained}
 
 -- ---- the responses of a chain, from the i-th on
-
-pub stores_length : (w : Vif) (t : ℕ) (words : List ℕ) (i n : ℕ) → length (stores w t words i n) ≡ n
-stores_length w t words i zero = refl
-stores_length w t words i (suc n) = ap suc (stores_length w t words (i + 1) n)
 
 pub stores_chained : (w : Vif) (t : ℕ) (words : List ℕ) (i n : ℕ) → AreChained (stores w t words i n)
 stores_chained w t words i zero = tt
 stores_chained w t words i (suc n) = (refl, refl, tt, stores_chained w t words (i + 1) n)
 
-stores_suc : (w : Vif) (t : ℕ) (words : List ℕ) (i n : ℕ) → stores w t words i (suc n) ≡ stores w t words i n ++ ask.Store (tx_slot w (add32 t (i + n)) 0) (slice_index words (i + n)) ∷ []
+pub stores_suc : (w : Vif) (t : ℕ) (words : List ℕ) (i n : ℕ) → stores w t words i (suc n) ≡ stores w t words i n ++ ask.Store (tx_slot w (add32 t (i + n)) 0) (slice_index words (i + n)) ∷ []
 stores_suc w t words i zero =
     let e : i ≡ i + 0 = omega arith in
     ap (λ k. ask.Store (tx_slot w (add32 t k) 0) (slice_index words k) ∷ []) e
@@ -47,12 +45,6 @@ stores_suc w t words i (suc n) =
     let e : i + 1 + n ≡ i + suc n = omega arith in
     ap (λ (l : List Ask). ask.Store (tx_slot w (add32 t i) 0) (slice_index words i) ∷ l)
     (stores_suc w t words (i + 1) n ∙ ap (λ k. stores w t words (i + 1) n ++ ask.Store (tx_slot w (add32 t k) 0) (slice_index words k) ∷ []) e)
-
-pub stores_more : (w : Vif) (t : ℕ) (words : List ℕ) (i n k : ℕ) → n + i ≡ k → stores w t words i (n + 1) ≡ stores w t words i n ++ ask.Store (tx_slot w (add32 t k) 0) (slice_index words k) ∷ []
-stores_more w t words i n k e =
-    let one : n + 1 ≡ suc n = omega arith in
-    let at : i + n ≡ k = omega (arith, e) in
-    ap (λ m. stores w t words i m) one ∙ stores_suc w t words i n ∙ ap (λ j. stores w t words i n ++ ask.Store (tx_slot w (add32 t j) 0) (slice_index words j) ∷ []) at
 
 answer_more : (w : Wiring) (t n i : ℕ) (words : List ℕ) (e : Ending) → i < length words →
     answer w t n i (drop i words) e ≡ asking (want.Write (tx_slot w.vif (add32 t i) 0) (slice_index words i)) (λ _. answer w t n (i + 1) (drop (i + 1) words) e)
@@ -71,25 +63,15 @@ stores_gone w t m words e i (suc n) lent h =
 
 -- ---- the responses of rx slots, from the i-th on
 
-pub replies_length : (w : Vif) (x : ℕ) (packet : List ℕ) (grants : Grants) (ts : List Target) (i n : ℕ) → length (replies w x packet grants ts i n) ≡ n
-replies_length w x packet grants ts i zero = refl
-replies_length w x packet grants ts i (suc n) = ap suc (replies_length w x packet grants ts (i + 1) n)
-
 pub replies_chained : (w : Vif) (x : ℕ) (packet : List ℕ) (grants : Grants) (ts : List Target) (i n : ℕ) → AreChained (replies w x packet grants ts i n)
 replies_chained w x packet grants ts i zero = tt
 replies_chained w x packet grants ts i (suc n) = (refl, refl, tt, replies_chained w x packet grants ts (i + 1) n)
 
-replies_suc : (w : Vif) (x : ℕ) (packet : List ℕ) (grants : Grants) (ts : List Target) (i n : ℕ) → replies w x packet grants ts i (suc n) ≡ replies w x packet grants ts i n ++ reply w x packet grants ts (i + n) ∷ []
+pub replies_suc : (w : Vif) (x : ℕ) (packet : List ℕ) (grants : Grants) (ts : List Target) (i n : ℕ) → replies w x packet grants ts i (suc n) ≡ replies w x packet grants ts i n ++ reply w x packet grants ts (i + n) ∷ []
 replies_suc w x packet grants ts i zero = let e : i ≡ i + 0 = omega arith in ap (λ k. reply w x packet grants ts k ∷ []) e
 replies_suc w x packet grants ts i (suc n) =
     let e : i + 1 + n ≡ i + suc n = omega arith in
     ap (λ (l : List Ask). reply w x packet grants ts i ∷ l) (replies_suc w x packet grants ts (i + 1) n ∙ ap (λ k. replies w x packet grants ts (i + 1) n ++ reply w x packet grants ts k ∷ []) e)
-
-pub replies_more : (w : Vif) (x : ℕ) (packet : List ℕ) (grants : Grants) (ts : List Target) (i n k : ℕ) → n + i ≡ k → replies w x packet grants ts i (n + 1) ≡ replies w x packet grants ts i n ++ reply w x packet grants ts k ∷ []
-replies_more w x packet grants ts i n k e =
-    let one : n + 1 ≡ suc n = omega arith in
-    let at : i + n ≡ k = omega (arith, e) in
-    ap (λ m. replies w x packet grants ts i m) one ∙ replies_suc w x packet grants ts i n ∙ ap (λ j. replies w x packet grants ts i n ++ reply w x packet grants ts j ∷ []) at
 
 pub replies_gone : (w : Vif) (x : ℕ) (packet : List ℕ) (grants : Grants) (ts : List Target) (i n : ℕ) (lent : List ℕ) → i + n ≤ length ts →
     LedBy (rx_answer w x packet grants (length ts) i (drop i ts)) (did_all (replies w x packet grants ts i n) lent) (rx_answer w x packet grants (length ts) (i + n) (drop (i + n) ts))
@@ -109,6 +91,20 @@ replies_gone w x packet grants ts i (suc n) lent h =
     let wrote : ◌≡◌ {A = Event} (Write (frame_place at) second) (Write (rx_slot w (add32 x i) 1) second) = ap (λ (p : Place). Write p second) (sym (next_rx_word w (add32 x i))) in
     subst goal (sym (rx_answer_at w x packet grants m i ts (omega (arith, h))))
     (asking (want.Write (rx_slot w (add32 x i) 1) second) (λ _. after), (0, (refl, refl), refl), (after, (0, (refl, wrote), refl), later))
+
+-- ---- one more was asked for
+
+pub stores_asked : {H : Type 0} (was : H → Ask → List ℕ → H → Type 0) (w : Vif) (t : ℕ) (words : List ℕ) (from n i : ℕ) (host mid new : H) → from + n ≡ i →
+    WasAskedAll was host (plain_all (stores w t words from n)) mid → was mid (ask.Store (tx_slot w (add32 t i) 0) (slice_index words i)) [] new → WasAskedAll was host (plain_all (stores w t words from (suc n))) new
+stores_asked was w t words from n i host mid new e all one =
+    let last = subst (λ k. was mid (ask.Store (tx_slot w (add32 t k) 0) (slice_index words k)) [] new) (sym e) one in
+    subst (λ (l : List Ask). WasAskedAll was host (plain_all l) new) (sym (stores_suc w t words from n)) (asked_more was (stores w t words from n) _ host mid new all last)
+
+pub replies_asked : {H : Type 0} (was : H → Ask → List ℕ → H → Type 0) (w : Vif) (x : ℕ) (packet : List ℕ) (grants : Grants) (ts : List Target) (from n i : ℕ) (host mid new : H) → from + n ≡ i →
+    WasAskedAll was host (plain_all (replies w x packet grants ts from n)) mid → was mid (reply w x packet grants ts i) [] new → WasAskedAll was host (plain_all (replies w x packet grants ts from (suc n))) new
+replies_asked was w x packet grants ts from n i host mid new e all one =
+    let last = subst (λ k. was mid (reply w x packet grants ts k) [] new) (sym e) one in
+    subst (λ (l : List Ask). WasAskedAll was host (plain_all l) new) (sym (replies_suc w x packet grants ts from n)) (asked_more was (replies w x packet grants ts from n) _ host mid new all last)
 
 -- ---- words of a packet that go into a page
 
@@ -131,6 +127,11 @@ fill_gone {A = A} ts packet i j k (suc m) (suc n) r e h l =
     let left = subst (λ x. LedBy (bind (fill ts packet n (k + 1)) r) (writes_at next (packet_words packet (k + 1) m)) (bind (fill ts packet x (k + suc m)) r)) a
     (subst (λ x. LedBy (bind (fill ts packet n (k + 1)) r) (writes_at next (packet_words packet (k + 1) m)) (bind (fill ts packet (n - m) x) r)) b later) in
     (bind (fill ts packet n (k + 1)) r, (0, (refl, ap (λ (p : Place). Write p (word_of packet k)) place), refl), left)
+
+-- they are as many
+pub taken_words : (packet : List ℕ) (k n : ℕ) → take n (packet_words packet k n) ≡ packet_words packet k n
+taken_words packet k zero = refl
+taken_words packet k (suc n) = ap (λ l. word_of packet k ∷ l) (taken_words packet (k + 1) n)
 
 -- A page of them, and what is left then: the next page, or the responses.
 pub page_gone : (w : Vif) (x : ℕ) (packet : List ℕ) (ts : List Target) (i to : ℕ) → 1024 * i < words packet → to ≡ min (words packet) (1024 * i + 1024) →

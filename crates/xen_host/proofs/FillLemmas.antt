@@ -1,5 +1,5 @@
 -- A transmit that goes on, whatever it is for.
-use Rattle.std.proofs.Common.{◌≡◌, ℕ, suc, ◌≤◌, true, List, ◌∷◌, ◌++◌, length, drop, refl, ap, subst}
+use Rattle.std.proofs.Common.{◌≡◌, ℕ, true, List, [], ◌∷◌, ◌++◌, refl, ap, subst}
 use Rattle.xen_steps.specs.Drive.{LedBy}
 use Rattle.xen_steps.specs.Steps.{Steps, bind}
 use Rattle.xen_rx_fill.specs.declared.by_event.phase.Outcome.{Outcome}
@@ -8,22 +8,24 @@ use Rattle.xen_rx_fill.proofs.StraightLemmas.{gone_bind}
 use Rattle.xen_back.specs.Deliveries.{Arrival, arrived}
 use Rattle.xen_back.specs.Tree.{after_transmit}
 use Rattle.xen_back.specs.Turned.{Ending}
-use Rattle.xen_host.specs.Asks.{Ask, IsSized, WordsStay, did_all, did_by, op_of, takes_none}
+use Rattle.xen_host.specs.Asks.{Ask, IsSized, did_all, did_by, takes_none}
 use Rattle.xen_host.specs.Asks as ask
 use Rattle.xen_host.specs.Fed.{WaitsFor}
-use Rattle.xen_host.specs.Led.{Beside, DeliveryEnds, FillLed, IsOn, Led, TurnEnds, beside}
+use Rattle.xen_host.specs.HostLed.{FillLeads, HostLed}
+use Rattle.xen_host.specs.Hosts.{WasAskedAll, events_of, plain_all}
+use Rattle.xen_host.specs.Led.{Beside, DeliveryEnds, IsOn, TurnEnds, beside}
 use Rattle.xen_host.specs.Rest.{is_delivering, is_turning, reads_filling, reads_in, rest_filling, rest_in, rest_of_delivery}
 use Rattle.xen_host.specs.Told.{IsToldAt, IsToldFilling}
 use Rattle.xen_host.specs.Wired.{vif_of, wiring_of}
 use Rattle.xen_host.specs.declared.engine.Engine.{Engine}
-use Rattle.xen_host.specs.declared.op.Op.{Op}
 use Rattle.xen_host.specs.declared.stage.Fill.{Fill}
 use Rattle.xen_host.specs.declared.stage.Purpose.{Purpose}
 use Rattle.xen_host.specs.declared.stage.Purpose.TheVariants as purpose
 use Rattle.xen_host.specs.declared.stage.Stage.TheVariants as stage
 use Rattle.xen_host.specs.declared.work.Work.{Work}
 use Rattle.xen_host.proofs.AskLemmas.{reads_bind}
-use Rattle.xen_host.proofs.LedLemmas.{says_before}
+use Rattle.xen_host.proofs.HostLedLemmas.{asks_all, asks_before}
+use Rattle.xen_host.proofs.LedLemmas.{AreChained}
 
 -- what is waited for, before another computation
 waits_bind : {A B : Type 0} (a : Ask) (n : ℕ) (s : Steps A) (f : A → Steps B) → WaitsFor a n s → WaitsFor a n (bind s f)
@@ -88,59 +90,64 @@ abbrev pub IsFillOn : Engine → List Target → Fill → Ask → Steps Outcome 
 IsFillOn q ts f a left =
     (left ≡ rest_filling (vif_of q.wires) q.state.rx_index f (with_targets q.work ts)) × IsToldFilling q.wires.table f a × WaitsFor a (reads_filling f) left
 
-pub lift_fill : (p : Purpose) (q : Engine) (ts : List Target) (f : Fill) (x : Steps Outcome) (ops ops_after : List Op) (count : ℕ) (lent lent_after : List ℕ) →
-    Led (IsFillOn q ts f) q.wires q.flags x (filling_at q ts f p) ops ops_after count lent lent_after → FillLed p (beside q) x (filling_at q ts f p) ops ops_after count lent lent_after
-lift_fill (purpose.Back n) q ts f x ops ops_after count lent lent_after h =
+pub lift_fill : {H : Type 0} (was : H → Ask → List ℕ → H → Type 0) (full : H → Type 0) (p : Purpose) (q : Engine) (ts : List Target) (f : Fill) (x : Steps Outcome) (host host_after : H) →
+    HostLed was full (IsFillOn q ts f) q.wires q.flags x (filling_at q ts f p) host host_after → FillLeads was full p (beside q) x (filling_at q ts f p) host host_after
+lift_fill was full (purpose.Back n) q ts f x host host_after h =
     let then = after_transmit (wiring_of q.wires) q.state q.work.chain q.work.packet n in
     record {
       first = h.first;
       last = h.last;
-      said = h.said;
+      asked = h.asked;
+      take_none = h.take_none;
+      stops = h.stops;
+      sized = h.sized;
       left = bind h.left then;
-      gone = gone_bind x h.left (did_all h.first lent_after ++ did_by h.last lent_after) then h.gone;
-      is_end = turn_of_on (filling_at q ts f (purpose.Back n)) h.last (bind h.left then)
-          (record { is_rest = ap (λ (s : Steps Outcome). bind s then) h.is_end.0; waits = waits_bind h.last (reads_filling f) h.left then h.is_end.2; is_here = refl; told = h.is_end.1 });
+      gone = gone_bind x h.left (events_of (h.first ++ h.last ∷ [])) then h.gone;
+      is_end = turn_of_on (filling_at q ts f (purpose.Back n)) h.last.ask (bind h.left then)
+          (record { is_rest = ap (λ (s : Steps Outcome). bind s then) h.is_end.0; waits = waits_bind h.last.ask (reads_filling f) h.left then h.is_end.2; is_here = refl; told = h.is_end.1 });
       wires = refl;
       flags_are = refl;
       fits = h.fits;
     }
-lift_fill purpose.Delivery q ts f x ops ops_after count lent lent_after h =
+lift_fill was full purpose.Delivery q ts f x host host_after h =
     let then = arrived q.state in
     record {
       first = h.first;
       last = h.last;
-      said = h.said;
+      asked = h.asked;
+      take_none = h.take_none;
+      stops = h.stops;
+      sized = h.sized;
       left = bind h.left then;
-      gone = gone_bind x h.left (did_all h.first lent_after ++ did_by h.last lent_after) then h.gone;
-      is_end = delivery_of_on q.work.packet (filling_at q ts f purpose.Delivery) h.last (bind h.left then)
-          (record { is_rest = ap (λ (s : Steps Outcome). bind s then) h.is_end.0; waits = waits_bind h.last (reads_filling f) h.left then h.is_end.2; is_here = refl; told = h.is_end.1 }) refl;
+      gone = gone_bind x h.left (events_of (h.first ++ h.last ∷ [])) then h.gone;
+      is_end = delivery_of_on q.work.packet (filling_at q ts f purpose.Delivery) h.last.ask (bind h.left then)
+          (record { is_rest = ap (λ (s : Steps Outcome). bind s then) h.is_end.0; waits = waits_bind h.last.ask (reads_filling f) h.left then h.is_end.2; is_here = refl; told = h.is_end.1 }) refl;
       wires = refl;
       flags_are = refl;
       fits = h.fits;
     }
 
 -- From another computation that is the same.
-pub fill_same : (p : Purpose) (e : Beside) (x same : Steps Outcome) (new : Engine) (ops ops_after : List Op) (count : ℕ) (lent lent_after : List ℕ) →
-    same ≡ x → FillLed p e same new ops ops_after count lent lent_after → FillLed p e x new ops ops_after count lent lent_after
-fill_same p e x same new ops ops_after count lent lent_after s h = subst (λ (z : Steps Outcome). FillLed p e z new ops ops_after count lent lent_after) s h
+pub fill_same : {H : Type 0} (was : H → Ask → List ℕ → H → Type 0) (full : H → Type 0) (p : Purpose) (e : Beside) (x same : Steps Outcome) (new : Engine) (host host_after : H) →
+    same ≡ x → FillLeads was full p e same new host host_after → FillLeads was full p e x new host host_after
+fill_same was full p e x same new host host_after s h = subst (λ (z : Steps Outcome). FillLeads was full p e z new host host_after) s h
 
 -- An ask that takes no answer, before others.
-pub fill_before : (p : Purpose) (e : Beside) (from between : Steps Outcome) (new : Engine) (a : Ask) (o : Op) (ops tail ops_after : List Op) (count : ℕ) (lent lent_after : List ℕ) →
-    tail ≡ drop 1 ops → takes_none a ≡ true → o ≡ op_of a → ((more : List Ask) → WordsStay more lent_after lent_after → WordsStay (a ∷ more) lent lent_after) → IsSized a → LedBy from (did_by a lent_after) between →
-    FillLed p e between new tail ops_after count lent_after lent_after → 1 ≤ length ops → FillLed p e from new ops (o ∷ ops_after) (suc count) lent lent_after
-fill_before (purpose.Back n) e from between new a o ops tail ops_after count lent lent_after t none is words sized g h some =
+pub fill_before : {H : Type 0} (was : H → Ask → List ℕ → H → Type 0) (full : H → Type 0) (p : Purpose) (e : Beside) (from between : Steps Outcome) (new : Engine) (host mid host_after : H) (a : Ask) (words : List ℕ) →
+    was host a words mid → takes_none a ≡ true → IsSized a → LedBy from (did_by a words) between → FillLeads was full p e between new mid host_after → FillLeads was full p e from new host host_after
+fill_before was full (purpose.Back n) e from between new host mid host_after a words asked none sized g h =
     let then = after_transmit (wiring_of e.wires) e.state e.chain e.packet n in
-    says_before _ e.wires e.flags (bind from then) (bind between then) new a o ops tail ops_after count lent lent_after t none is words sized (gone_bind from between (did_by a lent_after) then g) h some
-fill_before purpose.Delivery e from between new a o ops tail ops_after count lent lent_after t none is words sized g h some =
+    asks_before was full _ e.wires e.flags (bind from then) (bind between then) new host mid host_after a words asked none sized (gone_bind from between (did_by a words) then g) h
+fill_before was full purpose.Delivery e from between new host mid host_after a words asked none sized g h =
     let then = arrived e.state in
-    says_before _ e.wires e.flags (bind from then) (bind between then) new a o ops tail ops_after count lent lent_after t none is words sized (gone_bind from between (did_by a lent_after) then g) h some
+    asks_before was full _ e.wires e.flags (bind from then) (bind between then) new host mid host_after a words asked none sized (gone_bind from between (did_by a words) then g) h
 
--- The same ops and count, said otherwise.
-pub fill_as : (p : Purpose) (e : Beside) (x : Steps Outcome) (new : Engine) (ops ops_after other : List Op) (count n : ℕ) (lent lent_after : List ℕ) →
-    ops_after ≡ other → count ≡ n → FillLed p e x new ops ops_after count lent lent_after → FillLed p e x new ops other n lent lent_after
-fill_as p e x new ops ops_after other count n lent lent_after a k h =
-    subst (λ (l : List Op). FillLed p e x new ops l n lent lent_after) a (subst (λ m. FillLed p e x new ops ops_after m lent lent_after) k h)
-
-pub fill_room : (p : Purpose) (e : Beside) (x : Steps Outcome) (new : Engine) (ops ops_after : List Op) (count : ℕ) (lent lent_after : List ℕ) → FillLed p e x new ops ops_after count lent lent_after → count ≤ length ops
-fill_room (purpose.Back n) e x new ops ops_after count lent lent_after h = h.said.room
-fill_room purpose.Delivery e x new ops ops_after count lent lent_after h = h.said.room
+-- Several that take no answer and no words.
+pub fill_all : {H : Type 0} (was : H → Ask → List ℕ → H → Type 0) (full : H → Type 0) (p : Purpose) (e : Beside) (from between : Steps Outcome) (new : Engine) (all : List Ask) (host mid host_after : H) →
+    WasAskedAll was host (plain_all all) mid → AreChained all → LedBy from (did_all all []) between → FillLeads was full p e between new mid host_after → FillLeads was full p e from new host host_after
+fill_all was full (purpose.Back n) e from between new all host mid host_after asked chained g h =
+    let then = after_transmit (wiring_of e.wires) e.state e.chain e.packet n in
+    asks_all was full _ e.wires e.flags (bind from then) (bind between then) new all host mid host_after asked chained (gone_bind from between (did_all all []) then g) h
+fill_all was full purpose.Delivery e from between new all host mid host_after asked chained g h =
+    let then = arrived e.state in
+    asks_all was full _ e.wires e.flags (bind from then) (bind between then) new all host mid host_after asked chained (gone_bind from between (did_all all []) then g) h

@@ -1,6 +1,5 @@
 -- A step from a stage, by what is under way there.
-use Rattle.std.proofs.Common.{◌≡◌, ℕ, ◌≤◌, List, [], ◌∷◌, length, take, refl, sym, subst, arith, true, false}
-use Rattle.std.proofs.lemmas.List.{length-take}
+use Rattle.std.proofs.Common.{◌≡◌, ℕ, zero, suc, List, [], ◌∷◌, length, take, refl, sym, ap, subst, true, false}
 use Rattle.xen_page.specs.Mapping.{frame_place}
 use Rattle.xen_page.specs.declared.place.Place.{Place}
 use Rattle.xen_steps.specs.Steps.{Steps, ask, bind, done, never}
@@ -8,7 +7,9 @@ use Rattle.xen_rx_fill.specs.declared.by_event.phase.Outcome.{Outcome}
 use Rattle.xen_back.specs.Deliveries.{arrived}
 use Rattle.xen_back.specs.Tree.{after_transmit}
 use Rattle.xen_host.specs.Fed.{AsksReads, fed}
-use Rattle.xen_host.specs.Led.{DeliveryLed, FillLed, StepAt, TurnRanLed, WaitLed, beside}
+use Rattle.xen_host.specs.Asks.{Ask}
+use Rattle.xen_host.specs.HostLed.{FillGoesOn, GoesOnAt, WasGiven}
+use Rattle.xen_host.specs.Led.{DeliveryLed, StepAt, TurnRanLed, WaitLed}
 use Rattle.xen_host.specs.Rest.{flags_after, is_delivering, is_turning, is_waiting, reads_filling, reads_in, rest_filling, rest_in, rest_of_delivery, rest_of_wait}
 use Rattle.xen_host.specs.Wired.{vif_of, wiring_of}
 use Rattle.xen_host.specs.declared.engine.Engine.{Engine}
@@ -19,7 +20,7 @@ use Rattle.xen_host.specs.declared.stage.Purpose.TheVariants as purpose
 use Rattle.xen_host.specs.declared.stage.Stage.{Stage}
 use Rattle.xen_host.specs.declared.stage.Stage.TheVariants as stage
 use Rattle.xen_host.proofs.EndLemmas.{reads_of_fill}
-use Rattle.xen_host.proofs.LedLemmas.{led_from}
+use Rattle.xen_host.proofs.HostLedLemmas.{asked_from}
 use Rattle.xen_host.proofs.RanLedLemmas.{ran_led}
 
 -- words that are read before another computation
@@ -29,22 +30,34 @@ fed_bind at (done x) f (v ∷ vs) h = cc h.0
 fed_bind at (ask w k) f (v ∷ vs) h = fed_bind (frame_place at) (k v) f vs (h.1 v)
 fed_bind at never f (v ∷ vs) h = cc h.0
 
-fed_fill : {B : Type 0} (q : Engine) (f : Fill) (then : Outcome → Steps B) (lent : List ℕ) → reads_filling f ≤ length lent →
-    bind (fed (rest_filling (vif_of q.wires) q.state.rx_index f q.work) (take (reads_filling f) lent)) then ≡ fed {A = B} (bind (rest_filling (vif_of q.wires) q.state.rx_index f q.work) then) (take (reads_filling f) lent)
-fed_fill q f then lent h =
+fed_fill : {B : Type 0} (q : Engine) (f : Fill) (then : Outcome → Steps B) (words : List ℕ) → length words ≡ reads_filling f →
+    bind (fed (rest_filling (vif_of q.wires) q.state.rx_index f q.work) words) then ≡ fed {A = B} (bind (rest_filling (vif_of q.wires) q.state.rx_index f q.work) then) words
+fed_fill q f then words e =
     let s = rest_filling (vif_of q.wires) q.state.rx_index f q.work in
-    let n = reads_filling f in
     let r = reads_of_fill (vif_of q.wires) q.state.rx_index f q.work in
-    let e : length (take n lent) ≡ n = omega (arith, length-take n lent, h) in
-    sym (fed_bind r.0 s then (take n lent) (subst (λ k. AsksReads r.0 k s) (sym e) r.1))
+    sym (fed_bind r.0 s then words (subst (λ k. AsksReads r.0 k s) (sym e) r.1))
 
-pub fill_steps : (f : Fill) (p : Purpose) (old new : Engine) (lent lent_after counters : List ℕ) (ops ops_after : List Op) (count : ℕ) → reads_filling f ≤ length lent →
-    FillLed p (beside old) (fed (rest_filling (vif_of old.wires) old.state.rx_index f old.work) (take (reads_filling f) lent)) new ops ops_after count lent lent_after →
-    StepAt (stage.Fill f p) old new lent lent_after counters counters ops ops_after count
-fill_steps f (purpose.Back n) old new lent lent_after counters ops ops_after count l h =
-    ran_led _ _ _ _ _ _ _ _ _ lent lent_after (fed_fill old f (after_transmit (wiring_of old.wires) old.state old.work.chain old.work.packet n) lent l) h
-fill_steps f purpose.Delivery old new lent lent_after counters ops ops_after count l h =
-    (led_from _ _ _ _ _ _ _ _ _ lent lent_after (fed_fill old f (arrived old.state) lent l) h, refl)
+given_length : {H : Type 0} (gave : H → List ℕ → H → Type 0) (n : ℕ) (host mid : H) (words : List ℕ) → WasGiven gave n host words mid → length words ≡ n
+given_length gave zero host mid words g = ap (λ (l : List ℕ). length l) g.0
+given_length gave (suc n) host mid words g = g.0
+
+pub fill_goes : {H : Type 0} (was : H → Ask → List ℕ → H → Type 0) (full : H → Type 0) (gave : H → List ℕ → H → Type 0) (f : Fill) (p : Purpose) (old new : Engine) (counters : List ℕ) (host host_after : H) →
+    FillGoesOn was full gave f p old new host host_after → GoesOnAt was full gave (stage.Fill f p) old new counters counters host host_after
+fill_goes was full gave f (purpose.Back n) old new counters host host_after h = record {
+  words = h.words;
+  mid = h.mid;
+  given = h.given;
+  led = ran_led _ _ _ _ _ _ _ _ _ _ (fed_fill old f (after_transmit (wiring_of old.wires) old.state old.work.chain old.work.packet n) h.words (given_length gave _ host h.mid h.words h.given)) h.led;
+}
+fill_goes was full gave f purpose.Delivery old new counters host host_after h = (
+  record {
+    words = h.words;
+    mid = h.mid;
+    given = h.given;
+    led = asked_from _ _ _ _ _ _ _ _ _ _ (fed_fill old f (arrived old.state) h.words (given_length gave _ host h.mid h.words h.given)) h.led;
+  },
+  refl,
+)
 
 -- ---- what is under way at a stage
 

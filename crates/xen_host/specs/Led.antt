@@ -4,10 +4,8 @@ use Rattle.std.specs.Prelude.{ℕ, ◌≡◌, Bool, true, false, List, [], ◌++
 use Rattle.xen_netif.specs.Chain.{Slot}
 use Rattle.xen_netif.specs.declared.flags.TxFlags.{TxFlags}
 use Rattle.xen_steps.specs.Drive.{LedBy}
-use Rattle.xen_steps.specs.Steps.{Steps, bind, done}
-use Rattle.xen_rx_fill.specs.declared.by_event.phase.Outcome.{Outcome}
-use Rattle.xen_back.specs.Deliveries.{Arrival, arrived}
-use Rattle.xen_back.specs.Tree.{after_transmit}
+use Rattle.xen_steps.specs.Steps.{Steps, done}
+use Rattle.xen_back.specs.Deliveries.{Arrival}
 use Rattle.xen_back.specs.Turned.{Ending, turned}
 use Rattle.xen_back.specs.Waits.{Wait}
 use Rattle.xen_back.specs.declared.state.State.{State}
@@ -17,13 +15,12 @@ use Rattle.xen_host.specs.Asks.{Ask, DeliveryOver, TurnOver, WaitOver, did_all, 
 use Rattle.xen_host.specs.Fed.{WaitsFor, fed}
 use Rattle.xen_host.specs.Fits.{Fits}
 use Rattle.xen_host.specs.Ran.{HasRunThrough}
-use Rattle.xen_host.specs.Rest.{flags_after, is_delivering, is_turning, is_waiting, reads_filling, reads_in, rest_in, rest_of_delivery, rest_of_wait}
+use Rattle.xen_host.specs.Rest.{flags_after, is_delivering, is_turning, is_waiting, no_flags, reads_filling, reads_in, rest_in, rest_of_delivery, rest_of_wait}
 use Rattle.xen_host.specs.Said.{Said, has_run}
 use Rattle.xen_host.specs.Told.{IsToldAt}
 use Rattle.xen_host.specs.Wired.{vif_of, wiring_of}
 use Rattle.xen_host.specs.declared.engine.Engine.{Engine}
 use Rattle.xen_host.specs.declared.op.Op.{Op}
-use Rattle.xen_host.specs.declared.stage.Purpose.{Purpose}
 use Rattle.xen_host.specs.declared.stage.Purpose.TheVariants as purpose
 use Rattle.xen_host.specs.declared.stage.Stage.{Stage}
 use Rattle.xen_host.specs.declared.stage.Stage.TheVariants as stage
@@ -82,6 +79,10 @@ pub record TurnRanLed (w : OwnedWiring) (flags : TxFlags) (from : Steps Ending) 
   pub ran : HasRunThrough w.program.shapes from between before after
   pub led : TurnLed w flags between new ops ops_after count lent lent_after
 
+-- A turn that begins, whatever the lent words are.
+pub record TurnBegun (w : OwnedWiring) (from : Steps Ending) (new : Engine) (ops ops_after : List Op) (count : ℕ) : Type 0 where
+  pub led : (lent : List ℕ) → TurnLed w no_flags from new ops ops_after count lent lent
+
 -- ---- deliveries and waits, beside which the packet stays
 
 abbrev pub DeliveryEnds : List ℕ → Engine → Ask → Steps Arrival → Type 0
@@ -106,7 +107,7 @@ abbrev pub WaitLed : OwnedWiring → TxFlags → List ℕ → Steps Wait → Eng
 WaitLed w flags packet from new ops ops_after count lent lent_after =
     Led (WaitEnds packet new) w flags from new ops ops_after count lent lent_after
 
--- ---- a transmit, by what it is for
+-- ---- a transmit
 
 -- What a transmit leaves as it is.
 pub record Beside : Type 0 where
@@ -118,13 +119,6 @@ pub record Beside : Type 0 where
 
 abbrev pub beside : Engine → Beside
 beside e = record { wires = e.wires; flags = e.flags; state = e.state; chain = e.work.chain; packet = e.work.packet }
-
-abbrev pub FillLed : Purpose → Beside → Steps Outcome → Engine → (ops ops_after : List Op) → ℕ → (lent lent_after : List ℕ) → Type 0
-FillLed (purpose.Back n) e from new ops ops_after count lent lent_after =
-    TurnLed e.wires e.flags (bind from (after_transmit (wiring_of e.wires) e.state e.chain e.packet n)) new ops ops_after count lent
-    lent_after
-FillLed purpose.Delivery e from new ops ops_after count lent lent_after =
-    DeliveryLed e.wires e.flags e.packet (bind from (arrived e.state)) new ops ops_after count lent lent_after
 
 -- ---- a step
 

@@ -14,17 +14,17 @@ use Rattle.xen_back.specs.Tree.{after_copy, copy, entered}
 use Rattle.xen_host.proofs.engine.Engine.after_entry.Goals as goal
 
 pub returns-in-Err-clause-led : goal.returns-in-Err-clause-led
-returns-in-Err-clause-led c lent =
+returns-in-Err-clause-led g c =
     let q = c.args.self.now in
     let w = wiring_of q.wires in
     let b = q.work in
     let f = fragment_at b.fragments.items c.args.i in
     let is = ap (λ (e : Entry). checked q.wires.owners q.wires.granter q.wires.user e ReadOnly) (sym c.of_words-entry.ensures.entry) ∙ sym c.check.ensures.checked ∙ c.in-Err.is in
     let same = ap (λ (r : Result ℕ GrantFault). bind (entered f (copy w (drop (c.args.i + 1) b.fragments.items)) b.packet r) (after_copy w q.state b.chain)) is in
-    ran_led _ _ _ _ _ _ _ _ _ lent lent (sym same) (c.refuse.ensures.led lent)
+    ran_led _ _ _ _ _ _ _ _ _ _ (sym same) c.refuse.ensures.led
 
 pub returns-in-Ok-clause-led : goal.returns-in-Ok-clause-led
-returns-in-Ok-clause-led c lent =
+returns-in-Ok-clause-led g c =
     let q = c.args.self.now in
     let w = wiring_of q.wires in
     let b = q.work in
@@ -33,4 +33,4 @@ returns-in-Ok-clause-led c lent =
     let is = ap (λ (e : Entry). checked q.wires.owners q.wires.granter q.wires.user e ReadOnly) (sym c.of_words-entry.ensures.entry) ∙ sym c.check.ensures.checked ∙ c.in-Ok.is in
     let same = ap (λ (r : Result ℕ GrantFault). bind (entered f rest b.packet r) (after_copy w q.state b.chain)) is in
     let page = ap (λ (g : Fragment). bind (bind (copy_words g c.in-Ok.frame (g.offset / 4) (covered g) b.packet) rest) (after_copy w q.state b.chain)) c.fragment-fragment.ensures in
-    ran_from_same _ _ _ _ _ _ _ _ _ _ lent lent (page ∙ sym same) (c.begin_page.ensures.led lent)
+    ran_from_same _ _ _ _ _ _ _ _ _ _ _ (page ∙ sym same) c.begin_page.ensures.led

@@ -12,25 +12,23 @@ use Rattle.xen_page.specs.declared.fault.GrantFault.{GrantFault}
 use Rattle.xen_page.specs.declared.entry.Rights.TheVariants.{ReadWrite}
 use Rattle.xen_host.proofs.engine.Engine.after_grant.Goals as goal
 
-pub returns-in-Err-clause-led : goal.returns-in-Err-clause-led
-returns-in-Err-clause-led c =
+pub returns-in-Err : goal.returns-in-Err
+returns-in-Err g c =
     let q = c.args.self.now in
     let w = vif_of q.wires in
     let x = q.state.rx_index in
     let ts = q.work.targets in
-    let lent = c.args.words.now in
     let after = after_targets w x q.work.packet in
     let is = ap (λ (e : Entry). checked q.wires.owners q.wires.granter q.wires.user e ReadWrite) (sym c.of_words-entry.ensures.entry) ∙ sym c.check.ensures.checked ∙ c.in-Err.is in
     let same = ap (λ (r : Result ℕ GrantFault). bind (targeted ts (read_targets w x c.args.left) c.args.id r) after) is in
-    fill_same c.args.purpose (beside q) _ _ _ _ _ _ lent lent (sym same) (c.refuse_post.ensures.led lent)
+    record { led = fill_same _ _ c.args.purpose (beside q) _ _ _ _ _ (sym same) c.refuse_post.ensures.led }
 
-pub returns-else-left-eq0-clause-led : goal.returns-else-left-eq0-clause-led
-returns-else-left-eq0-clause-led c =
+pub returns-else-left-eq0 : goal.returns-else-left-eq0
+returns-else-left-eq0 g c =
     let q = c.args.self.now in
     let w = vif_of q.wires in
     let x = q.state.rx_index in
     let ts = q.work.targets in
-    let lent = c.args.words.now in
     let n = c.args.left in
     let after = after_targets w x q.work.packet in
     let is = ap (λ (e : Entry). checked q.wires.owners q.wires.granter q.wires.user e ReadWrite) (sym c.of_words-entry.ensures.entry) ∙ sym c.check.ensures.checked ∙ c.in-Ok.is in
@@ -38,4 +36,4 @@ returns-else-left-eq0-clause-led c =
     let one : n ≡ suc (n - 1) = omega (arith, c.if-left-eq0.false) in
     let ts' = ts ++ record { id = c.args.id; frame = Some c.in-Ok.frame } ∷ [] in
     let more = ap (λ k. bind (read_targets w x k ts') after) one ∙ ap (λ (l : List Target). bind (read_targets w x (suc (n - 1)) l) after) (sym c.push.ensures) in
-    fill_same c.args.purpose (beside q) _ _ _ _ _ _ lent lent (sym (same ∙ more)) (c.read_post.ensures.led lent)
+    record { led = fill_same _ _ c.args.purpose (beside q) _ _ _ _ _ (sym (same ∙ more)) c.read_post.ensures.led }

@@ -4,7 +4,7 @@ use Rattle.xen_steps.specs.Steps.{bind}
 use Rattle.xen_host.specs.Asks as ask
 use Rattle.xen_host.specs.Led.{beside}
 use Rattle.xen_host.specs.Wired.{vif_of}
-use Rattle.xen_host.proofs.LedLemmas.{says_one}
+use Rattle.xen_host.proofs.HostLedLemmas.{asks_one}
 use Rattle.xen_page.specs.declared.place.Place.{Place}
 use Rattle.xen_rx_fill.specs.Entries.{entry_at}
 use Rattle.xen_rx_fill.specs.Transmit.{after_targets, read_targets, targeted}
@@ -16,7 +16,7 @@ use Rattle.xen_page.specs.declared.entry.Rights.TheVariants.{ReadWrite}
 use Rattle.xen_host.proofs.engine.Engine.after_post.Goals as goal
 
 pub returns-in-None : goal.returns-in-None
-returns-in-None c =
+returns-in-None g c =
     let q = c.args.self.now in
     let w = vif_of q.wires in
     let x = q.state.rx_index in
@@ -26,10 +26,10 @@ returns-in-None c =
     let after = after_targets w x q.work.packet in
     let is = ap (λ (y : RxReq). bind (bind (entry_at w ReadWrite (entry_place w.table.now y.gref)) (go y.id)) after) (sym c.of_words-id.ensures.fields) in
     let there = ap (λ (o : Option Place). bind (bind (entry_at w ReadWrite o) (go r.id)) after) (sym c.place.ensures.place ∙ c.in-None.is) in
-    record { led = λ lent. fill_same c.args.purpose (beside q) _ _ _ _ _ _ lent lent (sym (is ∙ there)) (c.refuse_post.ensures.led lent) }
+    record { led = fill_same _ _ c.args.purpose (beside q) _ _ _ _ _ (sym (is ∙ there)) c.refuse_post.ensures.led }
 
 pub returns-in-Some : goal.returns-in-Some
-returns-in-Some c =
+returns-in-Some g c =
     let q = c.args.self.now in
     let w = vif_of q.wires in
     let x = q.state.rx_index in
@@ -43,7 +43,6 @@ returns-in-Some c =
     let left = bind (bind (entry_at w ReadWrite (Some at)) (go r.id)) after in
     let f = fill.Grant c.args.left r.id at in
     record {
-      led = λ lent. lift_fill c.args.purpose q ts f _ _ _ _ lent lent
-          (says_one (IsFillOn q ts f) _ _ _ left _ (ask.Entry at r.gref ReadWrite) _ _ _ _ lent c.requires.room c.say.ensures.one c.say.ensures.said
-          c.read_entry.ensures refl refl tt (is ∙ there) (refl, (sym c.place.ensures.place ∙ c.in-Some.is, refl), (refl, (refl, λ a. (refl, λ b. tt)))) refl refl c.requires.few);
+      led = lift_fill _ _ c.args.purpose q ts f _ _ _
+          (asks_one _ _ (IsFillOn q ts f) _ _ _ left _ _ _ (ask.Entry at r.gref ReadWrite) _ c.read_entry.ensures refl refl tt (is ∙ there) (refl, (sym c.place.ensures.place ∙ c.in-Some.is, refl), (refl, (refl, λ a. (refl, λ b. tt)))) refl refl c.requires.few);
     }

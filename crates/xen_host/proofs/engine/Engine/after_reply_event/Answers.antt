@@ -8,17 +8,17 @@ use Rattle.xen_ring.specs.Index.{is_due}
 use Rattle.xen_host.proofs.engine.Engine.after_reply_event.Goals as goal
 
 pub returns-then-due : goal.returns-then-due
-returns-then-due c =
+returns-then-due g c =
     let q = c.args.self.now in
     let w = vif_of q.wires in
     let x = q.state.rx_index in
     let due : true ≡ is_due x (add32 x (length q.work.targets)) c.args.event = sym c.if-due.true ∙ c.due.ensures ∙ ap (λ k. is_due x (add32 x k) c.args.event) c.len.ensures.value in
-    record { led = λ lent. fill_same c.args.purpose (beside q) _ _ _ _ _ _ lent lent (ap (λ b. rx_notice w b (outcome_of c.args.grants (length q.work.targets))) due) (c.give_rx_notice.ensures.led lent) }
+    record { led = fill_same _ _ c.args.purpose (beside q) _ _ _ _ _ (ap (λ b. rx_notice w b (outcome_of c.args.grants (length q.work.targets))) due) c.give_rx_notice.ensures.led }
 
 pub returns-else-due : goal.returns-else-due
-returns-else-due c =
+returns-else-due g c =
     let q = c.args.self.now in
     let w = vif_of q.wires in
     let x = q.state.rx_index in
     let due : false ≡ is_due x (add32 x (length q.work.targets)) c.args.event = sym c.if-due.false ∙ c.due.ensures ∙ ap (λ k. is_due x (add32 x k) c.args.event) c.len.ensures.value in
-    record { led = λ lent. fill_same c.args.purpose (beside q) _ _ _ _ _ _ lent lent (ap (λ b. rx_notice w b (outcome_of c.args.grants (length q.work.targets))) due) (c.replied.ensures.led lent) }
+    record { led = fill_same _ _ c.args.purpose (beside q) _ _ _ _ _ (ap (λ b. rx_notice w b (outcome_of c.args.grants (length q.work.targets))) due) c.replied.ensures.led }

@@ -3,7 +3,7 @@ use Rattle.xen_steps.specs.Steps.{Steps}
 use Rattle.xen_back.specs.declared.state.State.{State}
 use Rattle.xen_host.specs.Asks as ask
 use Rattle.xen_host.specs.Wired.{wiring_of}
-use Rattle.xen_host.proofs.LedLemmas.{led_from, says_one}
+use Rattle.xen_host.proofs.HostLedLemmas.{asked_from, asks_one}
 use Rattle.std.specs.Prelude.{◌==◌, if◌then◌else◌}
 use Rattle.xen_netif.specs.Chain.{Slot}
 use Rattle.xen_netif.specs.declared.status.Status.{Status}
@@ -30,23 +30,22 @@ other_run w s slots n packet ops h = by (n == 3) refl
     by false e = refl
 
 pub returns-then-number-eq-XDP_TX : goal.returns-then-number-eq-XDP_TX
-returns-then-number-eq-XDP_TX c =
+returns-then-number-eq-XDP_TX g c =
     let q = c.args.self.now in
     let w = wiring_of q.wires in
     let r = c.args.ran in
     let left = send w q.state q.work.chain q.work.packet r.ops in
     record {
-      led = λ lent. led_from _ _ _ _ _ _ _ _ _ lent lent (sym (tx_run w q.state q.work.chain r.number q.work.packet r.ops c.if-number-eq-XDP_TX.true))
-          (says_one _ _ _ left left _ (ask.Read (rx_word w.vif 0) 1) _ _ _ _ lent c.requires.room c.say.ensures.one c.say.ensures.said
-          (c.read.ensures ∙ ap (λ (p : Place). ask.op_of (ask.Read p 1)) c.header.ensures) refl refl (omega arith, omega arith) refl
+      led = asked_from _ _ _ _ _ _ _ _ _ _ (sym (tx_run w q.state q.work.chain r.number q.work.packet r.ops c.if-number-eq-XDP_TX.true))
+          (asks_one _ _ _ _ _ left left _ _ _ (ask.Read (rx_word w.vif 0) 1) _ c.read.ensures (ap (λ (p : Place). ask.Read p 1) c.header.ensures) refl (omega arith, omega arith) refl
           (record { is_rest = refl; waits = (refl, (refl, λ a. tt)); is_here = refl; told = tt }) refl refl tt);
     }
 
 pub returns : goal.returns
-returns c =
+returns g c =
     let q = c.args.self.now in
     let w = wiring_of q.wires in
     let r = c.args.ran in
     let same = ap (λ (x : Status). respond w q.state q.work.chain x (Ran r.number q.work.packet r.ops c.len-slots.result)) c.status.ensures
     ∙ ap (λ k. respond w q.state q.work.chain (status_of r.number) (Ran r.number q.work.packet r.ops k)) c.len-slots.ensures.len in
-    record { led = λ lent. led_from _ _ _ _ _ _ _ _ _ lent lent (same ∙ sym (other_run w q.state q.work.chain r.number q.work.packet r.ops c.if-number-eq-XDP_TX.false)) (c.respond.ensures.led lent) }
+    record { led = asked_from _ _ _ _ _ _ _ _ _ _ (same ∙ sym (other_run w q.state q.work.chain r.number q.work.packet r.ops c.if-number-eq-XDP_TX.false)) c.respond.ensures.led }

@@ -1,7 +1,7 @@
 use Rattle.std.proofs.Common.{◌≡◌, ◌++◌, List, [], ◌∷◌, sym, ap, ◌∙◌, subst}
 use Rattle.std.specs.Prelude.{Option, Some, Result, Ok}
 use Rattle.xen_steps.specs.Steps.{bind}
-use Rattle.xen_host.specs.Led.{TurnRanLed}
+use Rattle.xen_host.specs.HostLed.{TurnRanLeads}
 use Rattle.xen_host.specs.Wired.{wiring_of}
 use Rattle.xen_host.proofs.RanLedLemmas.{ran_from_same, ran_led}
 use Rattle.xen_netif.specs.Chain.{Slot}
@@ -15,7 +15,7 @@ use Rattle.xen_netif.specs.declared.chain.ChainState.TheVariants as wanted
 use Rattle.xen_host.proofs.engine.Engine.after_slot.Goals as goal
 
 pub returns-in-Err-clause-led : goal.returns-in-Err-clause-led
-returns-in-Err-clause-led c lent =
+returns-in-Err-clause-led g c =
     let q = c.args.self.now in
     let w = wiring_of q.wires in
     let l = q.work.chain ++ c.args.slot ∷ [] in
@@ -23,11 +23,11 @@ returns-in-Err-clause-led c lent =
     let from = bind (judged l (standing l) rest) (after_scan w q.state) in
     let same = ap (λ (o : Option (Result ChainState ChainFault)). bind (judged l o rest) (after_scan w q.state)) (c.push.ensures.standing ∙ ap (λ (r : Result ChainState ChainFault). Some r) c.in-Err.is) in
     let n = c.args.counters.now in
-    subst (λ (f : TxFlags). TurnRanLed q.wires f from c.halt.new.self n n c.args.ops.now c.halt.new.ops c.halt.result lent lent) c.flags_behind-flags.ensures
-    (ran_led _ _ _ _ _ _ _ _ _ lent lent (sym same) (c.halt.ensures.led lent))
+    subst (λ (f : TxFlags). TurnRanLeads g.H.Host.was_asked g.H.Host.is_full q.wires f from c.halt.new.self n n c.args.host.now c.halt.new.host) c.flags_behind-flags.ensures
+    (ran_led _ _ _ _ _ _ _ _ _ _ (sym same) c.halt.ensures.led)
 
 pub returns-in-Ok-Complete-clause-led : goal.returns-in-Ok-Complete-clause-led
-returns-in-Ok-Complete-clause-led c lent =
+returns-in-Ok-Complete-clause-led g c =
     let q = c.args.self.now in
     let w = wiring_of q.wires in
     let l = q.work.chain ++ c.args.slot ∷ [] in
@@ -36,11 +36,11 @@ returns-in-Ok-Complete-clause-led c lent =
     let is : standing l ≡ Some (Ok (wanted.Complete)) = c.push.ensures.standing ∙ ap (λ (r : Result ChainState ChainFault). Some r) (c.in-Ok-Complete.is ∙ ap (λ (x : ChainState). Ok x) c.in-Ok-Complete.field-0-is) in
     let same = ap (λ (o : Option (Result ChainState ChainFault)). bind (judged l o rest) (after_scan w q.state)) is in
     let whole = ap (λ (x : List Slot). after_chain w q.state x (fragments_of x)) c.in-Ok-Complete.ensures.ok in
-    subst (λ (f : TxFlags). TurnRanLed q.wires f from c.begin_copy.new.self c.args.counters.now c.begin_copy.new.counters c.args.ops.now c.begin_copy.new.ops c.begin_copy.result lent lent) c.flags_behind-flags.ensures
-    (ran_from_same _ _ _ _ _ _ _ _ _ _ lent lent (whole ∙ sym same) (c.begin_copy.ensures.led lent))
+    subst (λ (f : TxFlags). TurnRanLeads g.H.Host.was_asked g.H.Host.is_full q.wires f from c.begin_copy.new.self c.args.counters.now c.begin_copy.new.counters c.args.host.now c.begin_copy.new.host) c.flags_behind-flags.ensures
+    (ran_from_same _ _ _ _ _ _ _ _ _ _ _ (whole ∙ sym same) c.begin_copy.ensures.led)
 
 pub returns-in-Ok-Data-clause-led : goal.returns-in-Ok-Data-clause-led
-returns-in-Ok-Data-clause-led c lent =
+returns-in-Ok-Data-clause-led g c =
     let q = c.args.self.now in
     let w = wiring_of q.wires in
     let l = q.work.chain ++ c.args.slot ∷ [] in
@@ -50,11 +50,11 @@ returns-in-Ok-Data-clause-led c lent =
     let same = ap (λ (o : Option (Result ChainState ChainFault)). bind (judged l o rest) (after_scan w q.state)) is in
     let more = ap (λ (x : List Slot). bind (read_slots w q.state.tx_index c.args.left x) (after_scan w q.state)) c.in-Ok-Data.ensures.ok in
     let n = c.args.counters.now in
-    subst (λ (f : TxFlags). TurnRanLed q.wires f from c.more_slots.new.self n n c.args.ops.now c.more_slots.new.ops c.more_slots.result lent lent) c.flags_behind-flags.ensures
-    (ran_led _ _ _ _ _ _ _ _ _ lent lent (more ∙ sym same) (c.more_slots.ensures.led lent))
+    subst (λ (f : TxFlags). TurnRanLeads g.H.Host.was_asked g.H.Host.is_full q.wires f from c.more_slots.new.self n n c.args.host.now c.more_slots.new.host) c.flags_behind-flags.ensures
+    (ran_led _ _ _ _ _ _ _ _ _ _ (more ∙ sym same) c.more_slots.ensures.led)
 
 pub returns-in-Ok-Extra-clause-led : goal.returns-in-Ok-Extra-clause-led
-returns-in-Ok-Extra-clause-led c lent =
+returns-in-Ok-Extra-clause-led g c =
     let q = c.args.self.now in
     let w = wiring_of q.wires in
     let l = q.work.chain ++ c.args.slot ∷ [] in
@@ -65,5 +65,5 @@ returns-in-Ok-Extra-clause-led c lent =
     let more = ap (λ (x : List Slot). bind (read_slots w q.state.tx_index c.args.left x) (after_scan w q.state)) c.in-Ok-Extra.ensures.ok in
     let n = c.args.counters.now in
     let m = c.more_slots-in-Ok-Extra in
-    subst (λ (f : TxFlags). TurnRanLed q.wires f from m.new.self n n c.args.ops.now m.new.ops m.result lent lent) c.flags_behind-flags.ensures
-    (ran_led _ _ _ _ _ _ _ _ _ lent lent (more ∙ sym same) (m.ensures.led lent))
+    subst (λ (f : TxFlags). TurnRanLeads g.H.Host.was_asked g.H.Host.is_full q.wires f from m.new.self n n c.args.host.now m.new.host) c.flags_behind-flags.ensures
+    (ran_led _ _ _ _ _ _ _ _ _ _ (more ∙ sym same) m.ensures.led)

@@ -1,8 +1,8 @@
-use Rattle.std.proofs.Common.{refl, ap, ◌∙◌}
+use Rattle.std.proofs.Common.{refl, ap}
 use Rattle.xen_steps.specs.Steps.{bind}
 use Rattle.xen_host.specs.Asks as ask
 use Rattle.xen_host.specs.Wired.{wiring_of}
-use Rattle.xen_host.proofs.LedLemmas.{says_one}
+use Rattle.xen_host.proofs.HostLedLemmas.{asks_one}
 use Rattle.xen_page.specs.declared.place.Place.{Place}
 use Rattle.xen_steps.specs.Places.{add32}
 use Rattle.xen_rx_fill.specs.Places.{tx_word}
@@ -10,13 +10,12 @@ use Rattle.xen_back.specs.Tree.{after_look, check_again}
 use Rattle.xen_host.proofs.engine.Engine.announce.Goals as goal
 
 pub returns : goal.returns
-returns c =
+returns g c =
     let q = c.args.self.now in
     let w = wiring_of q.wires in
     let left = bind (check_again w q.state.tx_index) (after_look w q.state) in
     let v = add32 q.state.tx_index 1 in
     record {
-      led = λ lent. says_one _ _ _ _ left _ (ask.Push (tx_word w.vif 1) v 0) _ _ _ _ lent c.requires c.say.ensures.one c.say.ensures.said
-          (c.push.ensures ∙ ap (λ (p : Place). ask.op_of (ask.Push p v 0)) c.header.ensures) refl refl tt
+      led = asks_one _ _ _ _ _ _ left _ _ _ (ask.Push (tx_word w.vif 1) v 0) _ c.push.ensures (ap (λ (p : Place). ask.Push p v 0) c.header.ensures) refl tt
           (left, (0, (refl, refl), refl), refl) (record { is_rest = refl; waits = (refl, (refl, λ a. tt)); is_here = refl; told = tt }) refl refl tt;
     }

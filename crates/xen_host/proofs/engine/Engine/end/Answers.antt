@@ -8,7 +8,7 @@ use Rattle.xen_host.specs.Asks as ask
 use Rattle.xen_host.specs.Led.{packet_after}
 use Rattle.xen_host.specs.Said.{has_run}
 use Rattle.xen_host.specs.declared.engine.Engine.{Engine}
-use Rattle.xen_host.proofs.LedLemmas.{says_one}
+use Rattle.xen_host.proofs.HostLedLemmas.{asks_one}
 use Rattle.xen_host.proofs.engine.Engine.end.Goals as goal
 
 turned_after : (k : Kind) (packet : List ℕ) → turned k packet ≡ turned k (packet_after k packet)
@@ -24,13 +24,13 @@ none_after (kind.Refused cause ops slots) packet h = refl
 none_after (kind.Halted cause) packet h = refl
 
 pub returns : goal.returns
-returns c =
+returns g c =
     let q = c.args.self.now in
     let k = c.args.kind in
     let e = c.keep_packet.ensures in
     let p : c.keep_packet.new.self.work.packet ≡ packet_after k q.work.packet = ap (λ (x : Engine). x.work.packet) e in
     let over = ap (λ (u : Turned). done (c.args.after, u)) (turned_after k q.work.packet ∙ ap (λ l. turned k l) (sym p)) in
     record {
-      led = λ lent. says_one _ _ _ _ _ _ (ask.TurnOver k) _ _ _ _ lent c.requires c.say.ensures.one c.say.ensures.said c.done.ensures refl refl tt refl
+      led = asks_one _ _ _ _ _ _ _ _ _ _ (ask.TurnOver k) _ c.done.ensures refl refl tt refl
           (record { over = over; ready = refl; packet = λ h. p ∙ none_after k q.work.packet h }) (ap (λ (x : Engine). x.wires) e) (ap (λ (x : Engine). x.flags) e) tt;
     }

@@ -12,7 +12,7 @@ use Rattle.xen_rx_fill.proofs.StraightLemmas.{found_enough}
 use Rattle.xen_host.proofs.engine.Engine.found.Goals as goal
 
 pub returns-else-pages-eq0 : goal.returns-else-pages-eq0
-returns-else-pages-eq0 c =
+returns-else-pages-eq0 g c =
     let q = c.args.self.now in
     let w = vif_of q.wires in
     let x = q.state.rx_index in
@@ -23,4 +23,4 @@ returns-else-pages-eq0 c =
     let enough = found_enough w x p c.in-Some.shown (omega (arith, count, c.if-shown-pages.false)) in
     let one : pages p ≡ suc (c.pages_of-pages.result - 1) = omega (arith, count, c.if-pages-eq0.false) in
     let all = ap (λ n. bind (read_targets w x n []) after) one ∙ ap (λ (ts : List Target). bind (read_targets w x (suc (c.pages_of-pages.result - 1)) ts) after) (sym c.new-self.ensures) in
-    record { led = λ lent. fill_same c.args.purpose (beside q) _ _ _ _ _ _ lent lent (sym (shown ∙ enough ∙ all)) (c.read_post.ensures.led lent) }
+    record { led = fill_same _ _ c.args.purpose (beside q) _ _ _ _ _ (sym (shown ∙ enough ∙ all)) c.read_post.ensures.led }

@@ -8,9 +8,9 @@ use Rattle.xen_back.proofs.RestLemmas.{copy_at}
 use Rattle.xen_host.proofs.engine.Engine.next_fragment.Goals as goal
 
 pub returns-else-i-fragment_count-clause-led : goal.returns-else-i-fragment_count-clause-led
-returns-else-i-fragment_count-clause-led c lent =
+returns-else-i-fragment_count-clause-led g c =
     let q = c.args.self.now in
     let w = wiring_of q.wires in
     let b = q.work in
     let h : c.args.i < length b.fragments.items = omega (arith, c.if-i-fragment_count.false, c.requires.copies.within, c.fragment_count.ensures.value) in
-    ran_led _ _ _ _ _ _ _ _ _ lent lent (sym (ap (λ (z : Steps (Option (List ℕ))). bind z (after_copy w q.state b.chain)) (copy_at w b.fragments.items c.args.i b.packet h))) (c.read_entry.ensures.led lent)
+    ran_led _ _ _ _ _ _ _ _ _ _ (sym (ap (λ (z : Steps (Option (List ℕ))). bind z (after_copy w q.state b.chain)) (copy_at w b.fragments.items c.args.i b.packet h))) c.read_entry.ensures.led

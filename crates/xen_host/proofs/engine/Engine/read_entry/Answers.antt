@@ -3,7 +3,7 @@ use Rattle.std.specs.Prelude.{Option, Some}
 use Rattle.xen_steps.specs.Steps.{bind}
 use Rattle.xen_host.specs.Asks as ask
 use Rattle.xen_host.specs.Wired.{wiring_of}
-use Rattle.xen_host.proofs.LedLemmas.{led_from, says_one}
+use Rattle.xen_host.proofs.HostLedLemmas.{asked_from, asks_one}
 use Rattle.xen_netif.specs.declared.fragment.Fragment.{Fragment}
 use Rattle.xen_page.specs.Table.{entry_place}
 use Rattle.xen_page.specs.declared.place.Place.{Place}
@@ -14,17 +14,17 @@ use Rattle.xen_back.specs.Tree.{after_copy, copy, entered}
 use Rattle.xen_host.proofs.engine.Engine.read_entry.Goals as goal
 
 pub returns-in-None : goal.returns-in-None
-returns-in-None c =
+returns-in-None g c =
     let q = c.args.self.now in
     let w = wiring_of q.wires in
     let b = q.work in
     let f = fragment_at b.fragments.items c.args.i in
     let there = sym (ap (λ (x : Fragment). entry_place w.vif.table.now x.gref) c.fragment-gref.ensures) ∙ sym c.place.ensures.place ∙ c.in-None.is in
     let same = ap (λ (o : Option Place). bind (bind (entry_at w.vif ReadOnly o) (entered f (copy w (drop (c.args.i + 1) b.fragments.items)) b.packet)) (after_copy w q.state b.chain)) there in
-    record { led = λ lent. led_from _ _ _ _ _ _ _ _ _ lent lent (sym same) (c.refuse.ensures.led lent) }
+    record { led = asked_from _ _ _ _ _ _ _ _ _ _ (sym same) c.refuse.ensures.led }
 
 pub returns-in-Some : goal.returns-in-Some
-returns-in-Some c =
+returns-in-Some g c =
     let q = c.args.self.now in
     let w = wiring_of q.wires in
     let b = q.work in
@@ -34,6 +34,5 @@ returns-in-Some c =
     let same = ap (λ (o : Option Place). bind (bind (entry_at w.vif ReadOnly o) (entered f (copy w (drop (c.args.i + 1) b.fragments.items)) b.packet)) (after_copy w q.state b.chain)) there in
     let left = bind (bind (entry_at w.vif ReadOnly (Some at)) (entered f (copy w (drop (c.args.i + 1) b.fragments.items)) b.packet)) (after_copy w q.state b.chain) in
     record {
-      led = λ lent. says_one _ _ _ _ left _ (ask.Entry at c.fragment-gref.result.gref ReadOnly) _ _ _ _ lent c.requires.room c.say.ensures.one c.say.ensures.said
-          c.read_entry.ensures refl refl tt same (record { is_rest = refl; waits = (refl, (refl, λ a. (refl, λ d. tt))); is_here = refl; told = (sym c.place.ensures.place ∙ c.in-Some.is, refl) }) refl refl (c.requires.few, c.requires.within, c.requires.copies);
+      led = asks_one _ _ _ _ _ _ left _ _ _ (ask.Entry at c.fragment-gref.result.gref ReadOnly) _ c.read_entry.ensures refl refl tt same (record { is_rest = refl; waits = (refl, (refl, λ a. (refl, λ d. tt))); is_here = refl; told = (sym c.place.ensures.place ∙ c.in-Some.is, refl) }) refl refl (c.requires.few, c.requires.within, c.requires.copies);
     }

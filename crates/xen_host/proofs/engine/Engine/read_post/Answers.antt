@@ -2,7 +2,7 @@ use Rattle.std.proofs.Common.{length, refl, ap, ◌∙◌, arith}
 use Rattle.xen_steps.specs.Steps.{bind}
 use Rattle.xen_host.specs.Asks as ask
 use Rattle.xen_host.specs.Wired.{vif_of}
-use Rattle.xen_host.proofs.LedLemmas.{says_one}
+use Rattle.xen_host.proofs.HostLedLemmas.{asks_one}
 use Rattle.xen_page.specs.declared.place.Place.{Place}
 use Rattle.xen_steps.specs.Places.{add32}
 use Rattle.xen_rx_fill.specs.Places.{rx_slot}
@@ -13,7 +13,7 @@ use Rattle.xen_host.proofs.FillLemmas.{IsFillOn, lift_fill}
 use Rattle.xen_host.proofs.engine.Engine.read_post.Goals as goal
 
 pub returns : goal.returns
-returns c =
+returns g c =
     let q = c.args.self.now in
     let w = vif_of q.wires in
     let x = q.state.rx_index in
@@ -24,8 +24,7 @@ returns c =
     let left = bind (posted w i rest) (after_targets w x q.work.packet) in
     let place = c.rx_entry.ensures ∙ ap (λ k. rx_slot w (add32 x k) 0) c.len.ensures.value in
     record {
-      led = λ lent. lift_fill c.args.purpose q ts f left _ _ _ lent lent
-          (says_one (IsFillOn q ts f) _ _ _ left _ (ask.Read (rx_slot w i 0) 2) _ _ _ _ lent c.requires.room c.say.ensures.one c.say.ensures.said
-          (c.read.ensures ∙ ap (λ (p : Place). ask.op_of (ask.Read p 2)) place) refl refl (omega arith, omega arith) refl
+      led = lift_fill _ _ c.args.purpose q ts f left _ _
+          (asks_one _ _ (IsFillOn q ts f) _ _ _ left _ _ _ (ask.Read (rx_slot w i 0) 2) _ c.read.ensures (ap (λ (p : Place). ask.Read p 2) place) refl (omega arith, omega arith) refl
           (refl, tt, (refl, asks_post w i rest (after_targets w x q.work.packet))) refl refl c.requires.few);
     }

@@ -1,7 +1,7 @@
 use Rattle.std.proofs.Common.{[], ◌∷◌, ◌++◌, length, refl, ap, ◌∙◌, arith}
 use Rattle.xen_host.specs.Asks as ask
 use Rattle.xen_host.specs.Wired.{wiring_of}
-use Rattle.xen_host.proofs.LedLemmas.{says_one}
+use Rattle.xen_host.proofs.HostLedLemmas.{asks_one}
 use Rattle.xen_page.specs.declared.place.Place.{Place}
 use Rattle.xen_steps.specs.Places.{add32}
 use Rattle.xen_rx_fill.specs.Places.{tx_slot}
@@ -13,7 +13,7 @@ use Rattle.xen_host.proofs.AskLemmas.{asks_slot}
 use Rattle.xen_host.proofs.engine.Engine.read_slot.Goals as goal
 
 pub returns : goal.returns
-returns c =
+returns g c =
     let q = c.args.self.now in
     let w = wiring_of q.wires in
     let i = add32 q.state.tx_index (length q.work.chain) in
@@ -21,7 +21,6 @@ returns c =
     let judge = λ (slot : Slot). judged (q.work.chain ++ slot ∷ []) (standing (q.work.chain ++ slot ∷ [])) (read_slots w q.state.tx_index c.args.left (q.work.chain ++ slot ∷ [])) in
     let place = c.tx_entry.ensures ∙ ap (λ k. tx_slot w.vif (add32 q.state.tx_index k) 0) c.len.ensures.len in
     record {
-      led = λ lent. says_one _ _ _ _ left _ (ask.Read (tx_slot w.vif i 0) 3) _ _ _ _ lent c.requires.room c.say.ensures.one c.say.ensures.said
-          (c.read.ensures ∙ ap (λ (p : Place). ask.op_of (ask.Read p 3)) place) refl refl (omega arith, omega arith)
+      led = asks_one _ _ _ _ _ _ left _ _ _ (ask.Read (tx_slot w.vif i 0) 3) _ c.read.ensures (ap (λ (p : Place). ask.Read p 3) place) refl (omega arith, omega arith)
           refl (record { is_rest = refl; waits = (refl, asks_slot w i judge (after_scan w q.state)); is_here = refl; told = tt }) refl refl c.requires.wants;
     }

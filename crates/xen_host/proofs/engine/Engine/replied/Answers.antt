@@ -7,7 +7,7 @@ use Rattle.xen_host.proofs.FillLemmas.{fill_same}
 use Rattle.xen_host.proofs.engine.Engine.replied.Goals as goal
 
 pub returns : goal.returns
-returns c =
+returns g c =
     let q = c.args.self.now in
     let same = ap (λ (o : Outcome). done o) (c.outcome_of-outcome.ensures ∙ ap (λ k. outcome_of c.args.grants k) c.len.ensures.value) in
-    record { led = λ lent. fill_same c.args.purpose (beside q) _ _ _ _ _ _ lent lent same (c.filled.ensures.led lent) }
+    record { led = fill_same _ _ c.args.purpose (beside q) _ _ _ _ _ same c.filled.ensures.led }

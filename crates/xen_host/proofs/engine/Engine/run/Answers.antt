@@ -7,7 +7,7 @@ use Rattle.xen_host.proofs.RunLemmas.{program_gone}
 use Rattle.xen_host.proofs.engine.Engine.run.Goals as goal
 
 pub returns-clause-led : goal.returns-clause-led
-returns-clause-led c lent =
+returns-clause-led g c =
     let q = c.args.self.now in
     let w = wiring_of q.wires in
     let r = c.run-ran in
@@ -15,5 +15,5 @@ returns-clause-led c lent =
     record {
       between = after_run w q.state q.work.chain (record { number = r.result.number; packet = r.new.self; ops = r.result.ops });
       ran = program_gone w q.work.packet c.args.counters.now r.result.number r.new.self r.new.counters r.result.ops (after_run w q.state q.work.chain) ran;
-      led = c.after_run.ensures.led lent;
+      led = c.after_run.ensures.led;
     }

@@ -1,29 +1,43 @@
-use Rattle.std.proofs.Common.{◌≡◌, ◌+◌, ◌++◌, List, drop, map, sym, ap, ◌∙◌, arith}
+use Rattle.std.proofs.Common.{[], suc, List, map, refl, subst, arith}
 use Rattle.std.specs.Prelude.{Option, slice_index}
 use Rattle.xen_netif.specs.declared.tx.TxReq.{TxReq}
-use Rattle.xen_host.specs.Asks as ask
-use Rattle.xen_host.specs.Wired.{vif_of}
-use Rattle.xen_host.proofs.LedLemmas.{put_ask}
 use Rattle.xen_back.specs.Tree.{response, responses}
 use Rattle.xen_steps.specs.Places.{add32}
 use Rattle.xen_rx_fill.specs.Places.{tx_slot}
-use Rattle.xen_host.specs.Asks.{Ask, op_of}
-use Rattle.xen_host.specs.Chained.{stores}
-use Rattle.xen_host.proofs.ChainLemmas.{stores_length, stores_more}
+use Rattle.xen_host.specs.Asks as ask
+use Rattle.xen_host.specs.Wired.{vif_of}
+use Rattle.xen_host.proofs.ChainLemmas.{stores_asked}
 use Rattle.xen_host.proofs.engine.Engine.say_each.Goals as goal
 
-pub loop-k-preserved : goal.loop-k-preserved
-loop-k-preserved c =
+pub loop-i-init : goal.loop-i-init
+loop-i-init g c = record { asked = (0, omega arith, refl); free = c.requires.free }
+
+pub loop-i-preserved : goal.loop-i-preserved
+loop-i-preserved g c =
     let q = c.args.self.now in
-    let w = vif_of q.wires in
     let a = c.args.answer.now in
     let t = a.at.tx_index in
     let words = responses a.status q.work.chain in
-    let from = c.args.from in
-    let k = c.loop-k.k in
-    let first = c.args.ops.now in
-    let one = ask.Store (tx_slot w (add32 t (from + k)) 0) (slice_index words (from + k)) in
-    let at : k + from ≡ from + k = omega arith in
-    let asked = c.response_op.ensures ∙ ap (λ (rs : List (Option TxReq)). op_of (ask.Store (tx_slot w (add32 t (from + k)) 0) (slice_index (map (response a.status) rs) (from + k)))) c.requires.all in
-    c.put.ensures ∙ put_ask (stores w t words from k) one c.loop-k.ops first k c.response_op.result c.loop-k.invariant (sym (stores_length w t words from k)) asked
-    ∙ ap (λ (l : List Ask). map op_of l ++ drop (k + 1) first) (sym (stores_more w t words from k (from + k) at))
+    let i = c.loop-i.i in
+    let s = c.loop-i.invariant.asked in
+    let is = subst (λ (rs : List (Option TxReq)). g.H.Host.was_asked c.loop-i.host (ask.Store (tx_slot (vif_of q.wires) (add32 t i) 0) (slice_index (map (response a.status) rs) i)) [] c.say_response.new.host) c.requires.all c.say_response.ensures.asked in
+    record {
+      asked = (suc s.0, omega (arith, s.1), stores_asked _ (vif_of q.wires) t words c.args.from s.0 i _ _ _ s.1 s.2 is);
+      free = c.has_room.ensures.room c.if-not-has_room.false;
+    }
+
+pub returns-then-not-has_room : goal.returns-then-not-has_room
+returns-then-not-has_room g c =
+    let q = c.args.self.now in
+    let a = c.args.answer.now in
+    let t = a.at.tx_index in
+    let words = responses a.status q.work.chain in
+    let i = c.loop-i.i in
+    let s = c.loop-i.invariant.asked in
+    let is = subst (λ (rs : List (Option TxReq)). g.H.Host.was_asked c.loop-i.host (ask.Store (tx_slot (vif_of q.wires) (add32 t i) 0) (slice_index (map (response a.status) rs) i)) [] c.say_response.new.host) c.requires.all c.say_response.ensures.asked in
+    (s.0, omega (arith, s.1), omega (arith, c.loop-i-test.true, c.len-i-end.ensures.len), stores_asked _ (vif_of q.wires) t words c.args.from s.0 i _ _ _ s.1 s.2 is, c.has_room.ensures.full c.if-not-has_room.true)
+
+pub returns : goal.returns
+returns g c =
+    let s = c.loop-i.invariant.asked in
+    (s.0, omega (arith, s.1, c.len-i-end.ensures.len, c.loop-i-test.false), s.2, c.loop-i.invariant.free)

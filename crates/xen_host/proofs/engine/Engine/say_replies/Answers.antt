@@ -1,22 +1,27 @@
-use Rattle.std.proofs.Common.{◌≡◌, ◌+◌, ◌++◌, drop, map, sym, ap, ◌∙◌, arith}
+use Rattle.std.proofs.Common.{suc, refl, arith}
 use Rattle.xen_host.specs.Wired.{vif_of}
-use Rattle.xen_host.proofs.LedLemmas.{put_ask}
-use Rattle.xen_host.specs.Asks.{op_of}
-use Rattle.xen_host.specs.Chained.{replies, reply}
-use Rattle.xen_host.proofs.ChainLemmas.{replies_length, replies_more}
+use Rattle.xen_host.proofs.ChainLemmas.{replies_asked}
 use Rattle.xen_host.proofs.engine.Engine.say_replies.Goals as goal
 
-pub loop-k-preserved : goal.loop-k-preserved
-loop-k-preserved c =
+pub loop-i-init : goal.loop-i-init
+loop-i-init g c = record { asked = (0, omega arith, refl); free = c.requires.free }
+
+pub loop-i-preserved : goal.loop-i-preserved
+loop-i-preserved g c =
     let q = c.args.self.now in
-    let w = vif_of q.wires in
-    let x = q.state.rx_index in
-    let p = q.work.packet in
-    let ts = q.work.targets in
-    let grants = c.args.grants in
-    let from = c.args.from in
-    let k = c.loop-k.k in
-    let first = c.args.ops.now in
-    let at : k + from ≡ from + k = omega arith in
-    c.put.ensures ∙ put_ask (replies w x p grants ts from k) (reply w x p grants ts (from + k)) c.loop-k.ops first k c.reply_op.result c.loop-k.invariant (sym (replies_length w x p grants ts from k)) c.reply_op.ensures
-    ∙ ap (λ l. map op_of l ++ drop (k + 1) first) (sym (replies_more w x p grants ts from k (from + k) at))
+    let s = c.loop-i.invariant.asked in
+    record {
+      asked = (suc s.0, omega (arith, s.1), replies_asked _ (vif_of q.wires) q.state.rx_index q.work.packet c.args.grants q.work.targets c.args.from s.0 c.loop-i.i _ _ _ s.1 s.2 c.say_reply.ensures.asked);
+      free = c.has_room.ensures.room c.if-not-has_room.false;
+    }
+
+pub returns-then-not-has_room : goal.returns-then-not-has_room
+returns-then-not-has_room g c =
+    let q = c.args.self.now in
+    let s = c.loop-i.invariant.asked in
+    (s.0, omega (arith, s.1), omega (arith, c.loop-i-test.true, c.len-i-end.ensures.value), replies_asked _ (vif_of q.wires) q.state.rx_index q.work.packet c.args.grants q.work.targets c.args.from s.0 c.loop-i.i _ _ _ s.1 s.2 c.say_reply.ensures.asked, c.has_room.ensures.full c.if-not-has_room.true)
+
+pub returns : goal.returns
+returns g c =
+    let s = c.loop-i.invariant.asked in
+    (s.0, omega (arith, s.1, c.len-i-end.ensures.value, c.loop-i-test.false), s.2, c.loop-i.invariant.free)

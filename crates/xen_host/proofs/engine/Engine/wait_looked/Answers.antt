@@ -1,12 +1,12 @@
 use Rattle.std.proofs.Common.{ℕ, ap, ◌∙◌}
 use Rattle.std.specs.Prelude.{Option}
 use Rattle.xen_steps.specs.Steps.{done}
-use Rattle.xen_host.proofs.LedLemmas.{led_from}
+use Rattle.xen_host.proofs.HostLedLemmas.{asked_from}
 use Rattle.xen_back.specs.Waits.{Wait, wait_end}
 use Rattle.xen_host.proofs.engine.Engine.wait_looked.Goals as goal
 
 pub returns : goal.returns
-returns c =
+returns g c =
     let q = c.args.self.now in
     let same = c.wait_answer-awaited.ensures ∙ ap (λ (o : Option ℕ). wait_end q.state c.args.pages o) c.requests_shown.ensures in
-    record { led = λ lent. led_from _ _ _ _ _ _ _ _ _ lent lent (ap (λ (x : Wait). done x) same) (c.end_wait.ensures.led lent) }
+    record { led = asked_from _ _ _ _ _ _ _ _ _ _ (ap (λ (x : Wait). done x) same) c.end_wait.ensures.led }

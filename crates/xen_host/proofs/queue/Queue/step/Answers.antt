@@ -5,13 +5,13 @@ use Rattle.xen_host.proofs.queue.Queue.step.Goals as goal
 
 pub invariant_of-self : goal.invariant_of-self
 invariant_of-self c =
-    let r = c.step in
+    let r = c.say_next in
     let s = step_stands c.args.self.now r.new.self c.args.words.now r.new.words c.args.counters.now r.new.counters c.args.ops.now r.new.ops r.result (omega (arith, c.if-words-lt-PAGE_WORDS.false)) r.ensures.words c.are_words.ensures r.ensures.led in
     record { fits = s.fits; wired = s.wired; turns = s.turns; left = s.left }
 
 pub returns-in_default : goal.returns-in_default
 returns-in_default c =
-    let r = c.step in
+    let r = c.say_next in
     let q = c.args.self.now in
     let long : 1024 ≤ length c.args.words.now = omega (arith, c.if-words-lt-PAGE_WORDS.false) in
     let some : 1 ≤ length c.args.ops.now = grind (arith, nat_tests) in

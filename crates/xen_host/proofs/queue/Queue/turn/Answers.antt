@@ -7,17 +7,17 @@ use Rattle.xen_host.proofs.queue.Queue.turn.Goals as goal
 
 pub invariant_of-self : goal.invariant_of-self
 invariant_of-self c =
-    let r = c.begin in
-    let s = begun_stands c.args.self.now r.new.self c.args.producer c.args.ops.now r.new.ops r.result (omega (arith, c.ranges.producer.fits)) r.ensures.led in
+    let r = c.say_first in
+    let s = begun_stands c.args.self.now r.new.self c.args.producer c.args.ops.now r.new.ops r.result (omega (arith, c.ranges.producer.fits)) r.ensures.led.led in
     record { fits = s.fits; wired = s.wired; turns = s.turns; left = s.left }
 
 pub returns-else-is_empty : goal.returns-else-is_empty
 returns-else-is_empty c =
-    let r = c.begin in
+    let r = c.say_first in
     let q = c.args.self.now in
     let some : 1 ≤ length c.args.ops.now = grind (arith, nat_tests) in
     let rests = ap (λ (g : Stage). between q.engine.state g) c.in-Ready.is in
     record {
-      begun = λ rested room. begun q _ c.args.producer c.args.ops.now r.new.ops r.result (omega (arith, c.ranges.producer.fits)) r.ensures.led;
+      begun = λ rested room. begun q _ c.args.producer c.args.ops.now r.new.ops r.result (omega (arith, c.ranges.producer.fits)) r.ensures.led.led;
       none = λ none. absurd (elim none as (λ _. ⊥) [ inl e ↦ cc (e, rests) | inr e ↦ omega (arith, some, e) ]);
     }

@@ -1,0 +1,8 @@
+use Rattle.std.proofs.Common.{refl}
+use Rattle.xen_host.specs.Asks as ask
+use Rattle.xen_host.proofs.HostLemmas.{put_asked}
+use Rattle.xen_host.proofs.host.OpsHost.read.Goals as goal
+
+pub returns : goal.returns
+returns c =
+    put_asked (ask.Read c.args.at c.args.count) c.read.result _ _ refl c.read.ensures c.requires c.put.ensures.ops c.put.ensures.counted c.put.ensures.words c.put.ensures.loan

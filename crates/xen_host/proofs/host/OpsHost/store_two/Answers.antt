@@ -1,0 +1,8 @@
+use Rattle.std.proofs.Common.{refl}
+use Rattle.xen_host.specs.Asks as ask
+use Rattle.xen_host.proofs.HostLemmas.{put_asked}
+use Rattle.xen_host.proofs.host.OpsHost.store_two.Goals as goal
+
+pub returns-clause-asked : goal.returns-clause-asked
+returns-clause-asked c =
+    put_asked (ask.StoreTwo c.args.at c.args.first c.args.second) c.store_two.result _ _ refl c.store_two.ensures c.requires c.put.ensures.ops c.put.ensures.counted c.put.ensures.words c.put.ensures.loan

@@ -1,0 +1,154 @@
+-- For proofs: no claim rests on this file.
+-- What a function that asks a host has done: the computation that was left, and where the asks lead from it.
+use Rattle.std.specs.Prelude.{ℕ, zero, suc, ◌≡◌, ◌≤◌, ◌+◌, ◌/◌, ◌⊎◌, false, List, [], ◌∷◌, ◌++◌, Option, None, Some, drop, length}
+use Rattle.xen_netif.specs.Copy.{bytes_from}
+use Rattle.xen_netif.specs.declared.fragment.Fragment.{Fragment}
+use Rattle.xen_netif.specs.declared.flags.TxFlags.{TxFlags}
+use Rattle.xen_steps.specs.Drive.{LedBy}
+use Rattle.xen_steps.specs.Pages.{covered}
+use Rattle.xen_steps.specs.Steps.{Steps, bind}
+use Rattle.xen_rx_fill.specs.declared.target.Grants.{Grants}
+use Rattle.xen_rx_fill.specs.declared.by_event.phase.Outcome.{Outcome}
+use Rattle.xen_back.specs.Deliveries.{Arrival, arrived}
+use Rattle.xen_back.specs.Tree.{after_copy, after_transmit, copy, responses}
+use Rattle.xen_back.specs.Turned.{Ending}
+use Rattle.xen_back.specs.Waits.{Wait}
+use Rattle.xen_host.specs.Asks.{AllSized, Ask, TakeNone, needs_no_answer}
+use Rattle.xen_host.specs.Chained.{replies, stores}
+use Rattle.xen_host.specs.Fed.{fed}
+use Rattle.xen_host.specs.Fits.{Fits}
+use Rattle.xen_host.specs.Hosts.{Asked, WasAskedAll, asks_of, events_of, plain_all}
+use Rattle.xen_host.specs.Led.{Beside, DeliveryEnds, TurnEnds, WaitEnds, beside}
+use Rattle.xen_host.specs.Ran.{HasRunThrough}
+use Rattle.xen_host.specs.Rest.{flags_after, reads_filling, reads_in, rest_filling, rest_in, rest_of_delivery, rest_of_wait}
+use Rattle.xen_host.specs.Wired.{vif_of, wiring_of}
+use Rattle.xen_host.specs.declared.engine.Engine.{Engine}
+use Rattle.xen_host.specs.declared.stage.Answer.{Answer}
+use Rattle.xen_host.specs.declared.stage.Fill.{Fill}
+use Rattle.xen_host.specs.declared.stage.Purpose.{Purpose}
+use Rattle.xen_host.specs.declared.stage.Purpose.TheVariants as purpose
+use Rattle.xen_host.specs.declared.stage.Stage.{Stage}
+use Rattle.xen_host.specs.declared.stage.Stage.TheVariants as stage
+use Rattle.xen_host.specs.declared.wires.OwnedWiring.{OwnedWiring}
+
+-- What a host was asked leads from a computation to where it ends. All but the last take no answer, and as much was asked as there was
+-- room for, up to an ask that the step can't go on after. The wiring stays; the flags are these.
+pub record HostLed {H : Type 0} {A : Type 0} (was : H → Ask → List ℕ → H → Type 0) (full : H → Type 0) (ends : Ask → Steps A → Type 0)
+    (w : OwnedWiring) (flags : TxFlags) (from : Steps A) (new : Engine) (host host_after : H) : Type 0 where
+  pub first : List Asked
+  pub last : Asked
+  pub asked : WasAskedAll was host (first ++ last ∷ []) host_after
+  pub take_none : TakeNone (asks_of first)
+  pub stops : full host_after ⊎ (needs_no_answer last.ask ≡ false)
+  pub sized : AllSized (asks_of (first ++ last ∷ []))
+  pub left : Steps A
+  pub gone : LedBy from (events_of (first ++ last ∷ [])) left
+  pub is_end : ends last.ask left
+  pub wires : new.wires ≡ w
+  pub flags_are : new.flags ≡ flags
+  pub fits : Fits new.stage new.work
+
+abbrev pub TurnLeads : {H : Type 0} → (H → Ask → List ℕ → H → Type 0) → (H → Type 0) → OwnedWiring → TxFlags → Steps Ending → Engine →
+    (host host_after : H) → Type 0
+TurnLeads was full w flags from new host host_after = HostLed was full (TurnEnds new) w flags from new host host_after
+
+-- As TurnLeads, after the program's run.
+pub record TurnRanLeads {H : Type 0} (was : H → Ask → List ℕ → H → Type 0) (full : H → Type 0) (w : OwnedWiring) (flags : TxFlags)
+    (from : Steps Ending) (new : Engine) (before after : List ℕ) (host host_after : H) : Type 0 where
+  pub between : Steps Ending
+  pub ran : HasRunThrough w.program.shapes from between before after
+  pub led : TurnLeads was full w flags between new host host_after
+
+abbrev pub DeliveryLeads : {H : Type 0} → (H → Ask → List ℕ → H → Type 0) → (H → Type 0) → OwnedWiring → TxFlags → List ℕ →
+    Steps Arrival → Engine → (host host_after : H) → Type 0
+DeliveryLeads was full w flags packet from new host host_after =
+    HostLed was full (DeliveryEnds packet new) w flags from new host host_after
+
+abbrev pub WaitLeads : {H : Type 0} → (H → Ask → List ℕ → H → Type 0) → (H → Type 0) → OwnedWiring → TxFlags → List ℕ → Steps Wait →
+    Engine → (host host_after : H) → Type 0
+WaitLeads was full w flags packet from new host host_after = HostLed was full (WaitEnds packet new) w flags from new host host_after
+
+abbrev pub FillLeads : {H : Type 0} → (H → Ask → List ℕ → H → Type 0) → (H → Type 0) → Purpose → Beside → Steps Outcome → Engine →
+    (host host_after : H) → Type 0
+FillLeads was full (purpose.Back n) e from new host host_after =
+    TurnLeads was full e.wires e.flags (bind from (after_transmit (wiring_of e.wires) e.state e.chain e.packet n)) new host host_after
+FillLeads was full purpose.Delivery e from new host host_after =
+    DeliveryLeads was full e.wires e.flags e.packet (bind from (arrived e.state)) new host host_after
+
+-- ---- responses
+
+-- n responses were asked for, and it is free for more; or some, up to the i-th, and it is full.
+abbrev pub SaidSome : {H : Type 0} → (H → Ask → List ℕ → H → Type 0) → (free full : H → Type 0) → (asks : ℕ → List Ask) →
+    (from all : ℕ) → Option ℕ → (host host_after : H) → Type 0
+SaidSome was free full asks from all None host host_after =
+    (n : ℕ) × (from + n ≡ all) × WasAskedAll was host (plain_all (asks n)) host_after × free host_after
+SaidSome was free full asks from all (Some i) host host_after =
+    (n : ℕ) × (from + suc n ≡ i) × (i ≤ all) × WasAskedAll was host (plain_all (asks (suc n))) host_after × full host_after
+
+-- The responses to an engine's chain, from one on.
+abbrev pub HasResponded : {H : Type 0} → (H → Ask → List ℕ → H → Type 0) → (free full : H → Type 0) → Engine → Answer → ℕ → Option ℕ →
+    (host host_after : H) → Type 0
+HasResponded was free full e a from left host host_after =
+    SaidSome was free full (stores (vif_of e.wires) a.at.tx_index (responses a.status e.work.chain) from) from (length e.work.chain) left
+    host host_after
+
+-- The responses to its rx slots.
+abbrev pub HasReplied : {H : Type 0} → (H → Ask → List ℕ → H → Type 0) → (free full : H → Type 0) → Engine → Grants → ℕ → Option ℕ →
+    (host host_after : H) → Type 0
+HasReplied was free full e grants from left host host_after =
+    SaidSome was free full (replies (vif_of e.wires) e.state.rx_index e.work.packet grants e.work.targets from) from
+    (length e.work.targets) left host host_after
+
+-- ---- answers
+
+-- An answer of so many words was given, if any was waited for.
+abbrev pub WasGiven : {H : Type 0} → (H → List ℕ → H → Type 0) → ℕ → H → List ℕ → H → Type 0
+WasGiven gave zero host words mid = (words ≡ []) × (mid ≡ host)
+WasGiven gave (suc n) host words mid = (length words ≡ suc n) × gave host words mid
+
+-- An answer of so many words, and what follows it.
+pub record AfterAnswer {H : Type 0} (gave : H → List ℕ → H → Type 0) (reads : ℕ) (then : List ℕ → H → Type 0) (host : H) : Type 0 where
+  pub words : List ℕ
+  pub mid : H
+  pub given : WasGiven gave reads host words mid
+  pub led : then words mid
+
+-- After the words of a page that a fragment covers; the next fragment is the i-th.
+pub record HasCopied {H : Type 0} (was : H → Ask → List ℕ → H → Type 0) (full : H → Type 0) (gave : H → List ℕ → H → Type 0) (i : ℕ)
+    (f : Fragment) (old new : Engine) (before after : List ℕ) (host host_after : H) : Type 0 where
+  pub words : List ℕ
+  pub mid : H
+  pub all : length words ≡ covered f
+  pub given : gave host words mid
+  pub led : TurnRanLeads was full old.wires old.flags (bind (copy (wiring_of old.wires) (drop i old.work.fragments.items)
+      (old.work.packet ++ bytes_from f (f.offset / 4) words)) (after_copy (wiring_of old.wires) old.state old.work.chain)) new before
+      after mid host_after
+
+abbrev pub FillGoesOn : {H : Type 0} → (H → Ask → List ℕ → H → Type 0) → (H → Type 0) → (H → List ℕ → H → Type 0) → Fill → Purpose →
+    (old new : Engine) → (host host_after : H) → Type 0
+FillGoesOn was full gave f p old new host host_after =
+    AfterAnswer gave (reads_filling f) (λ words mid. FillLeads was full p (beside old)
+    (fed (rest_filling (vif_of old.wires) old.state.rx_index f old.work) words) new mid host_after) host
+
+-- ---- a step
+
+-- A step from a stage, after the words that were waited for.
+abbrev pub GoesOnAt : {H : Type 0} → (H → Ask → List ℕ → H → Type 0) → (H → Type 0) → (H → List ℕ → H → Type 0) → Stage →
+    (old new : Engine) → (before after : List ℕ) → (host host_after : H) → Type 0
+GoesOnAt was full gave stage.Ready old new before after host host_after = (new ≡ old) × (host_after ≡ host) × (after ≡ before)
+GoesOnAt was full gave (stage.Fill f purpose.Delivery) old new before after host host_after =
+    AfterAnswer gave (reads_filling f) (λ words mid. DeliveryLeads was full old.wires old.flags old.work.packet
+    (fed (rest_of_delivery (vif_of old.wires) old.state (stage.Fill f purpose.Delivery) old.work) words) new mid host_after) host ×
+    (after ≡ before)
+GoesOnAt was full gave (stage.Deliver producer) old new before after host host_after =
+    DeliveryLeads was full old.wires old.flags old.work.packet (rest_of_delivery (vif_of old.wires) old.state (stage.Deliver producer)
+    old.work) new host host_after × (after ≡ before)
+GoesOnAt was full gave (stage.Wait pages) old new before after host host_after =
+    WaitLeads was full old.wires old.flags old.work.packet (rest_of_wait old.wires.rx old.state (stage.Wait pages)) new host host_after ×
+    (after ≡ before)
+GoesOnAt was full gave (stage.WaitLook pages) old new before after host host_after =
+    AfterAnswer gave 1 (λ words mid. WaitLeads was full old.wires old.flags old.work.packet
+    (fed (rest_of_wait old.wires.rx old.state (stage.WaitLook pages)) words) new mid host_after) host × (after ≡ before)
+GoesOnAt was full gave g old new before after host host_after =
+    AfterAnswer gave (reads_in g) (λ words mid. TurnRanLeads was full old.wires (flags_after g old.work words old.flags)
+    (fed (rest_in (wiring_of old.wires) old.state g old.work) words) new before after mid host_after) host

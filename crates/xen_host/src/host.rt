@@ -1,0 +1,261 @@
+//! Who does what an engine says: a host in C, later and by ops, or another at once.
+
+ghost use Rattle.std.specs.Prelude.{◌≡◌, ◌<◌, ◌≤◌, ◌+◌, ◌*◌, ◌++◌, ◌∷◌, [], ℕ, List, IsTrue, drop, false, length, slice_index, take};
+ghost use Rattle.xen_netif.specs.Fragments.{is_in_page};
+ghost use Rattle.xen_host.specs.Asks.{Ask, op_of};
+ghost use Rattle.xen_host.specs.Asks as ask;
+ghost use Rattle.xen_host.specs.Filling.{packet_words};
+ghost use Rattle.xen_host.specs.Hosts.{GavePage, IsFree, IsFresh, IsFull, IsPut, IsSameLoan, IsSettled, HasGiven};
+
+use crate::copying::push_words;
+use crate::filling::put_words;
+use crate::op::Op;
+use crate::packet::Packet;
+use xen_back::{Awaited, Delivery, Kind};
+use xen_netif::Fragment;
+use xen_page::{Place, Rights};
+
+/// Who does what an engine says. After a read nothing more is said before its answer is taken, and that is the first thing of the next
+/// step: only taking it makes the host free again.
+pub trait Host {
+    // Which ask takes the host from which state to which. The words of a WRITE stand beside it.
+    ghost was_asked: { Self → Ask → List ℕ → Self → Type 0 };
+
+    // Which answers to what was asked last take it from which state to which.
+    ghost has_given: { Self → List ℕ → Self → Type 0 };
+
+    // A step begins: an answer may be taken, or a page written.
+    ghost is_fresh: { Self → Type 0 };
+
+    // Something may be asked.
+    ghost is_free: { Self → Type 0 };
+
+    // What was asked last has no answer, so whether there is room for more may be asked.
+    ghost is_settled: { Self → Type 0 };
+
+    // There is no room for more in this step.
+    ghost is_full: { Self → Type 0 };
+
+    /// Whether there is room for more.
+    fn has_room(&self) -> bool
+        requires { is_settled self.now }
+        ensures room { IsTrue result → is_free self.now }
+        ensures full { result ≡ false → is_full self.now };
+
+    /// Reads `count` words, from a place on.
+    fn read(&mut self, at: Place, count: u32)
+        requires { is_free self.old }
+        ensures { was_asked self.old (ask.Read at count) [] self.new };
+
+    /// Reads the two words of a reference's entry; the page has to be granted with these rights.
+    fn read_entry(&mut self, at: Place, reference: u32, rights: Rights)
+        requires { is_free self.old }
+        ensures { was_asked self.old (ask.Entry at reference rights) [] self.new };
+
+    /// Writes `count` words of a packet, from the word `from` on, from a place on. The last may reach past the packet's end.
+    fn write(&mut self, at: Place, bytes: &[u8], from: u32, count: u32)
+        requires fresh { is_fresh self.old }
+        requires short { length bytes.now ≤ 65535 }
+        requires some { 0 < count }
+        requires page { count ≤ 1024 }
+        requires inside { 4 * (from + count) ≤ length bytes.now + 3 }
+        ensures asked { was_asked self.old (ask.Write at count) (packet_words bytes.now from count) self.new }
+        ensures settled { is_settled self.new };
+
+    /// Writes this word.
+    fn store(&mut self, at: Place, word: u32)
+        requires { is_free self.old }
+        ensures asked { was_asked self.old (ask.Store at word) [] self.new }
+        ensures settled { is_settled self.new };
+
+    /// Writes these two words, from a place on.
+    fn store_two(&mut self, at: Place, first: u32, second: u32)
+        requires { is_free self.old }
+        ensures asked { was_asked self.old (ask.StoreTwo at first second) [] self.new }
+        ensures settled { is_settled self.new };
+
+    /// Writes this word, and then reads one of the same page.
+    fn push(&mut self, at: Place, word: u32, read: u32)
+        requires { is_free self.old }
+        ensures { was_asked self.old (ask.Push at word read) [] self.new };
+
+    /// Sends a notice to a port.
+    fn notify(&mut self, port: u32)
+        requires { is_free self.old }
+        ensures asked { was_asked self.old (ask.Notify port) [] self.new }
+        ensures settled { is_settled self.new };
+
+    /// The turn is over.
+    fn done(&mut self, kind: Kind)
+        requires { is_free self.old }
+        ensures { was_asked self.old (ask.TurnOver kind) [] self.new };
+
+    /// The delivery is over.
+    fn delivered(&mut self, delivery: Delivery)
+        requires { is_free self.old }
+        ensures { was_asked self.old (ask.DeliveryOver delivery) [] self.new };
+
+    /// The wait for rx slots is over.
+    fn awaited(&mut self, awaited: Awaited)
+        requires { is_free self.old }
+        ensures { was_asked self.old (ask.WaitOver awaited) [] self.new };
+
+    /// The word that was asked for last.
+    fn word(&mut self) -> u32
+        requires { is_fresh self.old }
+        ensures given { has_given self.old (result ∷ []) self.new }
+        ensures fresh { is_fresh self.new }
+        ensures free { is_free self.new };
+
+    /// The two words that were.
+    fn two(&mut self) -> [u32; 2]
+        requires { is_fresh self.old }
+        ensures given { has_given self.old (slice_index result 0 ∷ slice_index result 1 ∷ []) self.new }
+        ensures fresh { is_fresh self.new }
+        ensures free { is_free self.new };
+
+    /// The three words that were.
+    fn three(&mut self) -> [u32; 3]
+        requires { is_fresh self.old }
+        ensures given { has_given self.old (slice_index result 0 ∷ slice_index result 1 ∷ slice_index result 2 ∷ []) self.new }
+        ensures fresh { is_fresh self.new }
+        ensures free { is_free self.new };
+
+    /// Puts the bytes of a fragment, whose words were, after a packet's bytes.
+    fn page(&mut self, fragment: &Fragment, packet: &mut Packet)
+        requires fresh { is_fresh self.old }
+        requires in_page { IsTrue (is_in_page fragment.now) }
+        requires room { length packet.old + fragment.now.size ≤ 65535 }
+        ensures given { GavePage has_given fragment.now packet.old packet.new self.old self.new }
+        ensures length { length packet.new ≡ length packet.old + fragment.now.size }
+        ensures fresh { is_fresh self.new }
+        ensures free { is_free self.new };
+}
+
+/// A host that has room for ops, and does what they say before the next step: in C, say. It answers with the lent words.
+#[derive(Drop)]
+pub struct Ops<'a> {
+    /// Room for ops.
+    pub(crate) ops: &'a mut [Op],
+    /// How many are said.
+    pub(crate) count: usize,
+    /// The lent words.
+    pub(crate) words: &'a mut [u32],
+}
+
+impl<'a> Ops<'a> {
+    /// The first of the lent words.
+    #[inline(always)]
+    fn front(&self, count: usize) -> &[u32]
+        requires { count ≤ length self.now.words.now }
+        ensures { result.now ≡ take count self.now.words.now }
+    {
+        &self.words[..count]
+    }
+
+    /// Puts an op behind those that are said.
+    #[inline(always)]
+    fn put(&mut self, op: Op)
+        requires { self.old.count < length self.old.ops.now }
+        ensures ops { self.new.ops.now ≡ take self.old.count self.old.ops.now ++ op ∷ drop (self.old.count + 1) self.old.ops.now }
+        ensures counted { self.new.count ≡ self.old.count + 1 }
+        ensures words { self.new.words.now ≡ self.old.words.now }
+        ensures loan { IsSameLoan self.old self.new }
+        ensures within { self.new.count ≤ length self.new.ops.now }
+    {
+        self.ops[self.count] = op;
+        self.count += 1;
+    }
+}
+
+impl<'a> Host for Ops<'a> {
+    ghost was_asked = { IsPut };
+
+    ghost has_given = { HasGiven };
+
+    ghost is_fresh = { IsFresh };
+
+    ghost is_free = { IsFree };
+
+    ghost is_settled = { IsSettled };
+
+    ghost is_full = { IsFull };
+
+    #[inline(always)]
+    fn has_room(&self) -> bool {
+        self.count < self.ops.len()
+    }
+
+    #[inline(always)]
+    fn read(&mut self, at: Place, count: u32) {
+        self.put(Op::read(at, count))
+    }
+
+    #[inline(always)]
+    fn read_entry(&mut self, at: Place, reference: u32, rights: Rights) {
+        self.put(Op::read_entry(at, reference, rights))
+    }
+
+    #[inline(always)]
+    fn write(&mut self, at: Place, bytes: &[u8], from: u32, count: u32) {
+        put_words(bytes, from, count, self.words);
+        self.put(Op::write(at, count))
+    }
+
+    #[inline(always)]
+    fn store(&mut self, at: Place, word: u32) {
+        self.put(Op::store(at, word))
+    }
+
+    #[inline(always)]
+    fn store_two(&mut self, at: Place, first: u32, second: u32) {
+        self.put(Op::store_two(at, first, second))
+    }
+
+    #[inline(always)]
+    fn push(&mut self, at: Place, word: u32, read: u32) {
+        self.put(Op::push(at, word, read))
+    }
+
+    #[inline(always)]
+    fn notify(&mut self, port: u32) {
+        self.put(Op::notify(port))
+    }
+
+    #[inline(always)]
+    fn done(&mut self, kind: Kind) {
+        self.put(Op::done(kind))
+    }
+
+    #[inline(always)]
+    fn delivered(&mut self, delivery: Delivery) {
+        self.put(Op::delivered(delivery))
+    }
+
+    #[inline(always)]
+    fn awaited(&mut self, awaited: Awaited) {
+        self.put(Op::awaited(awaited))
+    }
+
+    #[inline(always)]
+    fn word(&mut self) -> u32 {
+        self.words[0]
+    }
+
+    #[inline(always)]
+    fn two(&mut self) -> [u32; 2] {
+        [self.words[0], self.words[1]]
+    }
+
+    #[inline(always)]
+    fn three(&mut self) -> [u32; 3] {
+        [self.words[0], self.words[1], self.words[2]]
+    }
+
+    #[inline(always)]
+    fn page(&mut self, fragment: &Fragment, packet: &mut Packet) {
+        let covered = fragment.covered_words();
+        let count = (covered.end - covered.start) as usize;
+        push_words(fragment, self.front(count), packet)
+    }
+}
