@@ -1,0 +1,3 @@
+mod OneLemmas
+mod ProgramLemmas
+mod RowLemmas

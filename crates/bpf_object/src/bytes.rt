@@ -1,0 +1,48 @@
+//! Numbers and names in an object's bytes.
+ghost use Rattle.std.specs.Prelude.{◌≡◌, ◌≢◌, ◌+◌, ◌≤◌, length, ◌↔◌, IsTrue, All};
+ghost use Rattle.bpf_object.specs.Bytes.{half as half_at, word as word_at, long as long_at, IsText};
+
+/// The number in the two bytes at a place.
+#[tactic(auto, unfolding(crate::specs::Bytes::half))]
+pub(crate) fn half(bytes: &[u8], at: usize) -> u16
+    requires { at + 2 ≤ length bytes.now }
+    ensures { result ≡ half_at bytes.now at }
+{
+    u16::from_le_bytes([bytes[at], bytes[at + 1]])
+}
+
+/// The number in the four bytes at a place.
+#[tactic(auto, unfolding(crate::specs::Bytes::word))]
+pub(crate) fn word(bytes: &[u8], at: usize) -> u32
+    requires { at + 4 ≤ length bytes.now }
+    ensures { result ≡ word_at bytes.now at }
+{
+    u32::from(half(bytes, at)) + 65_536 * u32::from(half(bytes, at + 2))
+}
+
+/// The number in the eight bytes at a place.
+#[tactic(auto, unfolding(crate::specs::Bytes::long))]
+pub(crate) fn long(bytes: &[u8], at: usize) -> u64
+    requires { at + 8 ≤ length bytes.now }
+    ensures { result ≡ long_at bytes.now at }
+{
+    u64::from(word(bytes, at)) + 4_294_967_296 * u64::from(word(bytes, at + 4))
+}
+
+/// Whether a table has this name at a place.
+pub(crate) fn is_text(table: &[u8], at: usize, name: &[u8]) -> bool
+    ensures { IsTrue result ↔ IsText table.now at name.now }
+{
+    if at >= table.len() || name.len() >= table.len() - at {
+        return false;
+    }
+    let end = at + name.len();
+    &table[at..end] == name && table[end] == 0 && is_plain(name)
+}
+
+/// Whether no byte is 0.
+fn is_plain(name: &[u8]) -> bool
+    ensures { IsTrue result ↔ All (λ byte. byte ≢ 0) name.now }
+{
+    name.iter().all(|byte| *byte != 0)
+}
