@@ -220,13 +220,13 @@ def others_page(tree: Tree, groups: list[Group], page: pathlib.PurePath) -> Iter
 
 def claims_table(tree: Tree, claims: list[Claim]) -> list[str]:
     """The table of docs/CLAIMS.md: for each claim of README its page, with its counts."""
-    lines = ["| README's claim | Definitions of its page | Of invariants |", "|---|---|---|"]
+    lines = ["| README's claim | Definitions | Lines | Files | Crates | For invariants |", "|---|---|---|---|---|---|"]
     for claim in claims:
         it = of_claim(tree, claim)
-        to_read = f"[{table_counts(counts(tree, it))}](statements/{claim.name}.md)"
-        lines.append(f"| {claim.name}. {claim.headline} | {to_read} | {invariant_counts(tree, it)} |")
+        name = f"[{claim.number}{claim.part and f': {claim.part}'}](statements/{claim.name}.md)"
+        lines.append(f"| {name} | {table_row(counts(tree, it))} | {invariant_counts(tree, it)} |")
     every = statement(tree, [part(tree, text) for claim in claims for text in claim.contracts])
-    return [*lines, f"| All together | {table_counts(counts(tree, every))} | {invariant_counts(tree, every)} |"]
+    return [*lines, f"| All together | {table_row(counts(tree, every))} | {invariant_counts(tree, every)} |"]
 
 
 def invariant_counts(tree: Tree, it: Statement) -> str:
@@ -235,8 +235,8 @@ def invariant_counts(tree: Tree, it: Statement) -> str:
     return f"{more.definitions}, {more.lines} lines" if it.premises else "none"
 
 
-def table_counts(it: Counts) -> str:
-    return f"{it.definitions} definitions, {it.lines} lines, {it.files} files, {it.crates} crates"
+def table_row(it: Counts) -> str:
+    return f"{it.definitions} | {it.lines} | {it.files} | {it.crates}"
 
 
 def with_table(text: str, lines: list[str]) -> str:
