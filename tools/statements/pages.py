@@ -13,6 +13,9 @@ from .tree import Node, Tree
 
 FOLDER = pathlib.PurePath("docs/statements")
 THEOREM = pathlib.PurePath("docs/THEOREM.md")
+README = pathlib.PurePath("README.md")
+# How much README says that there is to read of all claims.
+ALL_CLAIMS = re.compile(r"[\d,]+ definitions of [\d,]+ lines for all")
 LONGEST = 600
 WIDTH = 130
 # A clause of what holds once a loan has ended, as the kit writes it: its name, what was lent, and the name that it has then.
@@ -319,6 +322,9 @@ def pages(tree: Tree, claims: list[Claim], theorem: Theorem) -> dict[pathlib.Pur
     found[THEOREM] = theorem_page(tree, theorem)
     text = (tree.root / CLAIMS).read_text(encoding="utf-8")
     found[CLAIMS] = with_table(linked(tree, text), claims_table(tree, claims))
+    every = counts(tree, statement(tree, [part(tree, text) for claim in claims for text in claim.contracts]))
+    said = f"{every.definitions:,} definitions of {every.lines:,} lines for all"
+    found[README] = ALL_CLAIMS.sub(said, (tree.root / README).read_text(encoding="utf-8"))
     rows = (tree.root / ROWS).read_text(encoding="utf-8")
     found[ROWS] = linked(tree, with_claims(rows, text), ROWS)
     return found
