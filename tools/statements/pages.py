@@ -8,7 +8,7 @@ from collections.abc import Iterable, Iterator
 from .claims import PAGE as CLAIMS
 from .claims import ROWS, linked, with_claims
 from .headlines import Chapter, Claim, Theorem, edit_path, of_claim
-from .statement import Counts, Group, Part, Statement, Unknown, counts, counts_of, lines_of, outside, part, place, statement
+from .statement import Group, Part, Statement, Unknown, counts, counts_of, lines_of, outside, part, place, statement
 from .tree import Node, Tree
 
 FOLDER = pathlib.PurePath("docs/statements")
@@ -221,33 +221,6 @@ def others_page(tree: Tree, groups: list[Group], page: pathlib.PurePath) -> Iter
     yield ""
 
 
-def claims_table(tree: Tree, claims: list[Claim]) -> list[str]:
-    """The table of docs/CLAIMS.md: for each claim of README its page, with its counts."""
-    lines = ["| README's claim | Definitions | Lines | Files | Crates | For invariants |", "|---|---|---|---|---|---|"]
-    for claim in claims:
-        it = of_claim(tree, claim)
-        name = f"[{claim.number}{claim.part and f': {claim.part}'}](statements/{claim.name}.md)"
-        lines.append(f"| {name} | {table_row(counts(tree, it))} | {invariant_counts(tree, it)} |")
-    every = statement(tree, [part(tree, text) for claim in claims for text in claim.contracts])
-    return [*lines, f"| All together | {table_row(counts(tree, every))} | {invariant_counts(tree, every)} |"]
-
-
-def invariant_counts(tree: Tree, it: Statement) -> str:
-    """How much only the invariants of a statement's types rest on."""
-    more = counts_of(tree, it.premises)
-    return f"{more.definitions}, {more.lines} lines" if it.premises else "none"
-
-
-def table_row(it: Counts) -> str:
-    return f"{it.definitions} | {it.lines} | {it.files} | {it.crates}"
-
-
-def with_table(text: str, lines: list[str]) -> str:
-    """A page with this table in place of the one with the same head."""
-    found = re.search(re.escape(lines[0]) + r"\n(?:\|.*\n)*", text)
-    return text if found is None else text[: found.start()] + "\n".join(lines) + "\n" + text[found.end() :]
-
-
 # The page of the headline
 
 
@@ -321,7 +294,7 @@ def pages(tree: Tree, claims: list[Claim], theorem: Theorem) -> dict[pathlib.Pur
     found = {FOLDER / f"{it.name}.md": claim_page(tree, it, before) for it in claims}
     found[THEOREM] = theorem_page(tree, theorem)
     text = (tree.root / CLAIMS).read_text(encoding="utf-8")
-    found[CLAIMS] = with_table(linked(tree, text), claims_table(tree, claims))
+    found[CLAIMS] = linked(tree, text)
     every = counts(tree, statement(tree, [part(tree, text) for claim in claims for text in claim.contracts]))
     said = f"{every.definitions:,} definitions of {every.lines:,} lines for all"
     found[README] = ALL_CLAIMS.sub(said, (tree.root / README).read_text(encoding="utf-8"))

@@ -40,7 +40,7 @@ class Row:
 
 
 def rows(tree: Tree) -> Iterator[Row]:
-    """The rows of both pages, but for those of the first table, which claims.toml has."""
+    """The rows of both pages."""
     for page, crates, part in every_section(tree):
         column = 0
         every = [*crates, *CRATES.findall(part)] or list(tree.crates)

@@ -138,10 +138,6 @@ behind_section = one
 """,
     "docs/CLAIMS.md": """# Claims
 
-| README's claim | Contracts | To read | Refused |
-|---|---|---|---|
-| old |
-
 ## `low`
 
 `must-fail` has 1 edits, `more-edits` 1.
@@ -370,7 +366,6 @@ def page_tests(tree: Tree) -> Iterator[tuple[str, bool]]:
     yield "which is done once", claims.with_claims(rows, FILES["docs/CLAIMS.md"].replace("What is made", "All that is made")) == rows
     linked = claims.linked(tree, rows, claims.ROWS)
     yield "a row's links", "[`make`](../../crates/low/src/inner.rt)" in linked and claims.linked(tree, linked, claims.ROWS) == linked
-    yield "a table in place of another", pages.with_table("a\n| x |\n|--|\n| old |\n\nb\n", ["| x |", "|--|", "| y |"]) == "a\n| x |\n|--|\n| y |\n\nb\n"
     yield "a type that fits on a line", type_lines("pub enum E {\n    A,\n    B { x: u32 },\n}") == ["pub enum E { A, B { x: u32 } }"]
     long = ", ".join(f"field{number}: u32" for number in range(20))
     yield "a type that doesn't", [len(it) < 121 for it in type_lines(f"pub struct S {{ {long} }}")] == [True] * 5
