@@ -238,6 +238,8 @@ def theorem_page(tree: Tree, theorem: Theorem) -> str:
         raise Unknown(f"{lost[0]} stands in no chapter of {THEOREM}")
     lines += ["## What isn't here", "", *theorem.outside.split("\n"), ""]
     for node in it.known:
+        if node.kind == "type":
+            continue
         file, _ = place(tree, node)
         lines.append(f"- {link(file, THEOREM, f'`{node.name}`')}: {theorem.known[node.name]} ({size_below(tree, node)}).")
     lines += invariants_known(tree, it)
@@ -285,7 +287,7 @@ def size_below(tree: Tree, node: Node) -> str:
     """How many lines of definitions there are to read of a word that is taken as known."""
     found = [it for it in tree.closure([node]) if it.kind == "definition"]
     lines = sum(len(lines_of(tree, it)) for it in found)
-    return f"{lines} lines" if found else "a type"
+    return f"{lines} lines"
 
 
 def pages(tree: Tree, claims: list[Claim], theorem: Theorem) -> dict[pathlib.PurePath, str]:
