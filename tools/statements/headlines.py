@@ -94,12 +94,12 @@ def claims(root: pathlib.Path) -> list[Claim]:
     return found
 
 
-def claim(root: pathlib.Path, number: int) -> list[Claim]:
-    """The claim of this number, by its parts."""
+def claim(root: pathlib.Path, name: str) -> list[Claim]:
+    """The claim of this number, by its parts, or the part of this name."""
     every = claims(root)
-    found = [it for it in every if it.number == number]
+    found = [it for it in every if name in (str(it.number), it.name)]
     if not found:
-        raise Unknown(f"no claim {number}: README has {', '.join(dict.fromkeys(str(it.number) for it in every))}")
+        raise Unknown(f"no claim {name}: README has {', '.join(dict.fromkeys(str(it.number) for it in every))}")
     return found
 
 
