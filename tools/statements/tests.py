@@ -211,6 +211,13 @@ def has_no_claims(root: pathlib.Path) -> bool:
     return all(answers)
 
 
+def parts_of(root: pathlib.Path, *names: str) -> list[list[str]]:
+    """The pages of the claims of these names, of one that has two parts."""
+    one = '[[claim]]\nnumber = 1\npart = "{}"\nreading = ""\ncontracts = []\nrefused = []\n'
+    (root / headlines.LIST).write_text(one.format("make") + one.format("take"), encoding="utf-8")
+    return [[it.name for it in headlines.claim(root, name)] for name in names]
+
+
 def tests() -> Iterator[tuple[str, bool]]:
     with tempfile.TemporaryDirectory() as room:
         tree = written(pathlib.Path(room), FILES)
@@ -359,6 +366,7 @@ def page_tests(tree: Tree) -> Iterator[tuple[str, bool]]:
     text = claims.linked(tree, FILES[ROWS].replace("*By* ", ""))
     row = "`one` of all: [`make`](../crates/low/src/inner.rt) (`small`), [`inner::helper`](../crates/low/src/inner.rt); `Base`; refused: `make`."
     yield "claims that aren't there", has_no_claims(tree.root)
+    yield "a claim of two parts", parts_of(tree.root, "1", "1-take") == [["1-make", "1-take"], ["1-take"]]
     yield "links of a row", row in " ".join(text.split())
     yield "links are made once", claims.linked(tree, text) == text
     rows = claims.with_claims(FILES[ROWS], FILES["docs/CLAIMS.md"].replace("What is made", "All that\n   is made"))
