@@ -20,8 +20,14 @@ class Claim:
     reading: str
     contracts: tuple[str, ...]
     refused: tuple[str, ...]
-    after: tuple[int, ...] = ()
+    after: tuple[str, ...] = ()
     shown: tuple[str, ...] = ()
+    part: str = ""
+
+    @property
+    def name(self) -> str:
+        """Its page's name."""
+        return f"{self.number}-{self.part}" if self.part else f"{self.number}"
 
     @property
     def headline(self) -> str:
@@ -83,17 +89,18 @@ def claims(root: pathlib.Path) -> list[Claim]:
         if number not in said:
             raise Unknown(f"README has no claim {number}")
         lists = [tuple(field(it, key)) for key in ("contracts", "refused")]
-        lists += [tuple(it.get(key, ())) for key in ("after", "shown")]
-        found.append(Claim(number, said[number], field(it, "reading").strip(), *lists))
+        lists += [tuple(f"{each}" for each in it.get(key, ())) for key in ("after", "shown")]
+        found.append(Claim(number, said[number], field(it, "reading").strip(), *lists, it.get("part", "")))
     return found
 
 
-def claim(root: pathlib.Path, number: int) -> Claim:
-    """The claim of this number."""
-    for it in claims(root):
-        if it.number == number:
-            return it
-    raise Unknown(f"no claim {number}: README has {', '.join(str(it.number) for it in claims(root))}")
+def claim(root: pathlib.Path, name: str) -> list[Claim]:
+    """The claim of this number, by its parts, or the part of this name."""
+    every = claims(root)
+    found = [it for it in every if name in (str(it.number), it.name)]
+    if not found:
+        raise Unknown(f"no claim {name}: README has {', '.join(dict.fromkeys(str(it.number) for it in every))}")
+    return found
 
 
 def theorem(root: pathlib.Path) -> Theorem:

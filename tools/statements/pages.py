@@ -6,13 +6,16 @@ import textwrap
 from collections.abc import Iterable, Iterator
 
 from .claims import PAGE as CLAIMS
-from .claims import linked
+from .claims import ROWS, linked, with_claims
 from .headlines import Chapter, Claim, Theorem, edit_path, of_claim
-from .statement import Counts, Group, Part, Statement, Unknown, counts, counts_of, lines_of, outside, part, place, statement
+from .statement import Group, Part, Statement, Unknown, counts, counts_of, lines_of, outside, part, place, statement
 from .tree import Node, Tree
 
 FOLDER = pathlib.PurePath("docs/statements")
 THEOREM = pathlib.PurePath("docs/THEOREM.md")
+README = pathlib.PurePath("README.md")
+# How much README says that there is to read of all claims.
+ALL_CLAIMS = re.compile(r"[\d,]+ definitions of [\d,]+ lines for all")
 LONGEST = 600
 WIDTH = 130
 # A clause of what holds once a loan has ended, as the kit writes it: its name, what was lent, and the name that it has then.
@@ -148,21 +151,21 @@ def group_page(tree: Tree, group: Group, page: pathlib.PurePath) -> Iterator[str
     yield ""
 
 
-def claim_page(tree: Tree, claim: Claim, before: dict[int, Statement]) -> str:
+def claim_page(tree: Tree, claim: Claim, before: dict[str, Statement]) -> str:
     """The page of a claim, without the definitions of the claims that it is read after."""
-    page = FOLDER / f"{claim.number}.md"
+    page = FOLDER / f"{claim.name}.md"
     it = of_claim(tree, claim)
-    lines = [f"# Claim {claim.number}", "", moved_links(claim.sentence, page), ""]
+    lines = [f"# Claim {claim.number}{claim.part and f': {claim.part}'}", "", moved_links(claim.sentence, page), ""]
     lines += [*claim.reading.split("\n"), ""]
     lines += [f"Made by `tools/statement --page`, and compared by the gate. To read: {counts(tree, it)}."]
     if claim.after:
-        before_it = ", ".join(f"[{number}]({number}.md)" for number in claim.after)
+        before_it = ", ".join(f"[{name}]({name}.md)" for name in claim.after)
         lines += [f"What stands on the pages of claims read before isn't repeated: {before_it}."]
     edits = [link(str(edit_path(tree.root, name)), page, f"`{name.partition('/')[2]}`") for name in claim.refused]
     lines += ["", f"`tools/statement {claim.number} --prove` proves it now. Refused: {', '.join(edits)}.", "", "## Contracts", ""]
     for each in it.parts:
         lines += part_page(each, page)
-    known = {node for number in claim.after for node in before[number].nodes}
+    known = {node for name in claim.after for node in before[name].nodes}
     left = [Group(group.file, tuple(node for node in group.nodes if node not in known)) for group in it.groups]
     left = [group for group in left if group.nodes]
     shown = [group for group in left if not claim.shown or group.file in claim.shown]
@@ -218,41 +221,6 @@ def others_page(tree: Tree, groups: list[Group], page: pathlib.PurePath) -> Iter
     yield ""
 
 
-def claims_table(tree: Tree, claims: list[Claim]) -> list[str]:
-    """The table of docs/CLAIMS.md: for each claim of README its contracts, its counts and wrong bodies."""
-    page = CLAIMS
-    lines = ["| README's claim | Contracts | To read | Refused |", "|---|---|---|---|"]
-    for claim in claims:
-        it = of_claim(tree, claim)
-        contracts = "; ".join(table_part(each, text, page) for each, text in zip(it.parts, claim.contracts))
-        edits = ", ".join(link(str(edit_path(tree.root, name)), page, f"`{name.partition('/')[2]}`") for name in claim.refused)
-        to_read = f"[{table_counts(counts(tree, it))}](statements/{claim.number}.md)"
-        if it.premises:
-            more = counts_of(tree, it.premises)
-            to_read += f"; for invariants {more.definitions}, {more.lines} lines"
-        lines.append(f"| {claim.number}. {claim.headline} | {contracts} | {to_read} | {edits} |")
-    every = statement(tree, [part(tree, text) for claim in claims for text in claim.contracts])
-    more = counts_of(tree, every.premises)
-    return [*lines, f"| All together | | {table_counts(counts(tree, every))}; for invariants {more.definitions}, {more.lines} lines | |"]
-
-
-def table_part(each: Part, text: str, page: pathlib.PurePath) -> str:
-    """A contract in the table, with the clauses that count."""
-    found = re.search(r"\(([^)]*)\)", text)
-    clauses = f" ({', '.join(f'`{name.strip()}`' for name in found[1].split(','))})" if found else ""
-    return link(each.contract.source.file, page, f"`{short(each.contract.path)}`") + clauses
-
-
-def table_counts(it: Counts) -> str:
-    return f"{it.definitions} definitions, {it.lines} lines, {it.files} files, {it.crates} crates"
-
-
-def with_table(text: str, lines: list[str]) -> str:
-    """A page with this table in place of the one with the same head."""
-    found = re.search(re.escape(lines[0]) + r"\n(?:\|.*\n)*", text)
-    return text if found is None else text[: found.start()] + "\n".join(lines) + "\n" + text[found.end() :]
-
-
 # The page of the headline
 
 
@@ -270,6 +238,8 @@ def theorem_page(tree: Tree, theorem: Theorem) -> str:
         raise Unknown(f"{lost[0]} stands in no chapter of {THEOREM}")
     lines += ["## What isn't here", "", *theorem.outside.split("\n"), ""]
     for node in it.known:
+        if node.kind == "type":
+            continue
         file, _ = place(tree, node)
         lines.append(f"- {link(file, THEOREM, f'`{node.name}`')}: {theorem.known[node.name]} ({size_below(tree, node)}).")
     lines += invariants_known(tree, it)
@@ -314,17 +284,22 @@ def file_head(tree: Tree, file: str) -> Iterator[str]:
 
 
 def size_below(tree: Tree, node: Node) -> str:
-    """How much there is to read of a word that is taken as known."""
+    """How many lines of definitions there are to read of a word that is taken as known."""
     found = [it for it in tree.closure([node]) if it.kind == "definition"]
     lines = sum(len(lines_of(tree, it)) for it in found)
-    return f"{len(found)} definition{'s' * (len(found) != 1)} of {lines} lines" if found else "a type"
+    return f"{lines} lines"
 
 
 def pages(tree: Tree, claims: list[Claim], theorem: Theorem) -> dict[pathlib.PurePath, str]:
     """Each page that is made, by its path."""
-    before = {it.number: of_claim(tree, it) for it in claims}
-    found = {FOLDER / f"{it.number}.md": claim_page(tree, it, before) for it in claims}
+    before = {it.name: of_claim(tree, it) for it in claims}
+    found = {FOLDER / f"{it.name}.md": claim_page(tree, it, before) for it in claims}
     found[THEOREM] = theorem_page(tree, theorem)
     text = (tree.root / CLAIMS).read_text(encoding="utf-8")
-    found[CLAIMS] = with_table(linked(tree, text), claims_table(tree, claims))
+    found[CLAIMS] = linked(tree, text)
+    every = counts(tree, statement(tree, [part(tree, text) for claim in claims for text in claim.contracts]))
+    said = f"{every.definitions:,} definitions of {every.lines:,} lines for all"
+    found[README] = ALL_CLAIMS.sub(said, (tree.root / README).read_text(encoding="utf-8"))
+    rows = (tree.root / ROWS).read_text(encoding="utf-8")
+    found[ROWS] = linked(tree, with_claims(rows, text), ROWS)
     return found

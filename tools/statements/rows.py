@@ -1,15 +1,14 @@
-"""What the rows of docs/CLAIMS.md name: wrong bodies, clauses and definitions. Each has to be there, and each wrong body of must-fail
-has to be named."""
+"""What the rows of docs/statements/rows.md and docs/CLAIMS.md name: wrong bodies, clauses and definitions. Each has to be there, and
+each wrong body of must-fail has to be named; each claim has a row, and each row a wrong body, or says that there is none."""
 import dataclasses
 import pathlib
 import re
 from collections.abc import Iterator
 
 from . import rattle
-from .claims import PAGE, sections
+from .claims import BY, ITEM, PAGE, ROWS, every_section, numbered, pages_of
 from .tree import Contract, Node, Tree
 
-ITEM = re.compile(r"(?ms)^(?:- .*?(?=^- |^$|\Z)|\|[^\n]*)")
 EDITS = re.compile(r"((?i:also )?)(?i:refused)[^:`]*:((?: (?:of `\w+`: )?`[a-z]\w*`,?|; for [^:`]*(?= `))+)")
 # A column of a table that names wrong bodies, and the crates whose contracts a part is of.
 COLUMN = re.compile(r"\| (?:Wrong body|Refused as) \|")
@@ -19,12 +18,15 @@ WITH_NAMES = re.compile(r"(?:\[`([\w:]+)`\]\([^)]*\)|`([\w:]+)`|([Tt]he same)) \
 ONE = re.compile(r"\[`([\w:]+)`\]\([^)]*\)")
 COUNT = re.compile(r"`must-fail` (?:has|have) (\d+) edits, `more-edits` (\d+)")
 FOLDERS = ("must-fail", "more-edits")
+# What a row says that has no wrong body, as of laws alone.
+NONE = "no wrong body"
 
 
 @dataclasses.dataclass(frozen=True)
 class Row:
-    """A row: the crates that it may be of, its text without line breaks, and what of that names wrong bodies."""
+    """A row: its page, the crates that it may be of, its text without line breaks, and what of that names wrong bodies."""
 
+    page: pathlib.PurePath
     crates: tuple[str, ...]
     text: str
     refused: str
@@ -38,19 +40,20 @@ class Row:
 
 
 def rows(tree: Tree) -> Iterator[Row]:
-    """The rows of the page, but for those of its first table, which claims.toml has."""
-    for crates, part in sections((tree.root / PAGE).read_text(encoding="utf-8")):
+    """The rows of both pages."""
+    for page, crates, part in every_section(tree):
         column = 0
         every = [*crates, *CRATES.findall(part)] or list(tree.crates)
         for text in ITEM.findall(part):
             cells = text.strip("|").split("|")
             if COLUMN.search(text):
                 column = next(at for at, it in enumerate(cells) if COLUMN.search(f"|{it}|"))
-            elif text.startswith("- ") or (column and not text.startswith("|---")):
-                text = re.sub(r"\s+", " ", text)
+            elif not text.startswith("|") or (column and not text.startswith("|---")):
+                is_item = not text.startswith("|")
+                text = re.sub(r"\s+", " ", text).rpartition(BY)[2]
                 names = [it for it in re.findall(r"`(\w+)`", text) if it in tree.crates]
-                refused = text if text.startswith("- ") else with_word(cells[column].strip())
-                yield Row(tuple(dict.fromkeys([*every, *names])), text, refused)
+                refused = text if is_item else with_word(cells[column].strip())
+                yield Row(page, tuple(dict.fromkeys([*every, *names])), text, refused)
 
 
 def with_word(cell: str) -> str:
@@ -72,14 +75,27 @@ def edit_findings(tree: Tree) -> Iterator[str]:
             crates = [it for it in row.crates if (it, name) in there[folder]]
             named |= {(it, name) for it in crates}
             if not crates:
-                yield f"{PAGE}: a row names {name}, which isn't in {folder} of {' or '.join(row.crates[:3])}"
+                yield f"{row.page}: a row names {name}, which isn't in {folder} of {' or '.join(row.crates[:3])}"
     for crate, name in there["must-fail"]:
         if (crate, name) not in named:
-            yield f"{PAGE}: no row names {name} of crates/{crate}/must-fail"
+            yield f"{ROWS}: no row names {name} of crates/{crate}/must-fail"
     found = COUNT.search((tree.root / PAGE).read_text(encoding="utf-8"))
     counts = tuple(len(there[folder]) for folder in FOLDERS)
     if found is None or (int(found[1]), int(found[2])) != counts:
         yield f"{PAGE}: it has to have: {numbers(counts)}"
+
+
+def number_findings(tree: Tree) -> Iterator[str]:
+    """The claims without a row, the rows without a claim, and those that name no wrong body and don't say so."""
+    claims, carried = (numbered(text) for _, text in pages_of(tree))
+    for head in dict.fromkeys([*claims, *carried]):
+        here, there = claims.get(head, {}), carried.get(head, {})
+        yield from (f"{ROWS}: {head}: claim {it} has no row" for it in here if it not in there)
+        yield from (f"{PAGE}: {head}: row {it} has no claim" for it in there if it not in here)
+        for number, text in there.items():
+            text = text.rpartition(BY)[2]
+            if not EDITS.search(text) and NONE not in text:
+                yield f"{ROWS}: {head}: row {number} names no wrong body"
 
 
 def numbers(counts: tuple[int, ...]) -> str:
@@ -148,11 +164,11 @@ def name_findings(tree: Tree) -> Iterator[str]:
             else:
                 last = contracts_named(tree, row, head) if head else last
                 known = names_of_contracts(tree, last)
-            yield from (f"{PAGE}: {head or 'the same'} ({name}): {name} is neither there nor reached" for name in names if name not in known)
+            yield from (f"{row.page}: {head or 'the same'} ({name}): {name} is neither there nor reached" for name in names if name not in known)
         linked = ONE.findall(text, at)
         last = contracts_named(tree, row, linked[-1]) if linked else last
 
 
 def findings(tree: Tree) -> list[str]:
-    """What is wrong with the page's rows."""
-    return [*edit_findings(tree), *name_findings(tree)]
+    """What is wrong with the rows."""
+    return [*edit_findings(tree), *number_findings(tree), *name_findings(tree)]

@@ -138,21 +138,26 @@ behind_section = one
 """,
     "docs/CLAIMS.md": """# Claims
 
-| README's claim | Contracts | To read | Refused |
-|---|---|---|---|
-| old |
-
 ## `low`
 
 `must-fail` has 1 edits, `more-edits` 1.
 
-- What is made is small, `one` of all: `make` (`small`), `inner::helper`; `Base`; refused: `make`.
-- A kind is one of two: `Thing::count` (`Kind`), `Base` (`Small`); also
-  refused: `third`.
+1. What is made is small.
+2. A kind is one of two.
+""",
+    "docs/statements/rows.md": """# Rows
+
+## `low`
+
+1. What is made is small. *By* `one` of all: `make` (`small`), `inner::helper`; `Base`; refused: `make`.
+2. A kind is one of two. *By* `Thing::count` (`Kind`), `Base` (`Small`); also
+   refused: `third`.
 """,
     "crates/low/must-fail/make.edit": "",
     "crates/low/more-edits/third.edit": "",
 }
+
+ROWS = "docs/statements/rows.md"
 
 # What each definition of Top names, of the crate below.
 BELOW = {
@@ -206,6 +211,13 @@ def has_no_claims(root: pathlib.Path) -> bool:
     return all(answers)
 
 
+def parts_of(root: pathlib.Path, *names: str) -> list[list[str]]:
+    """The pages of the claims of these names, of one that has two parts."""
+    one = '[[claim]]\nnumber = 1\npart = "{}"\nreading = ""\ncontracts = []\nrefused = []\n'
+    (root / headlines.LIST).write_text(one.format("make") + one.format("take"), encoding="utf-8")
+    return [[it.name for it in headlines.claim(root, name)] for name in names]
+
+
 def tests() -> Iterator[tuple[str, bool]]:
     with tempfile.TemporaryDirectory() as room:
         tree = written(pathlib.Path(room), FILES)
@@ -233,10 +245,10 @@ def stated_tests(stated) -> Iterator[tuple[str, bool]]:
         proofs = [path for path, head in heads.items() if head == stated.FOR_PROOFS]
         yield "files for proofs", proofs == [("Again",), ("Machinery",)]
         yield "first lines as they should be", stated.findings(tree) == []
-        page = FILES["docs/CLAIMS.md"].replace("`Base`;", "`Machinery`;")
-        found = stated.findings(written(root, {"docs/CLAIMS.md": page}))
+        page = FILES[ROWS].replace("`Base`;", "`Machinery`;")
+        found = stated.findings(written(root, {ROWS: page}))
         yield "a row that names machinery", len(found) == 1 and "names Machinery of low" in found[0]
-        written(root, {"docs/CLAIMS.md": FILES["docs/CLAIMS.md"]})
+        written(root, {ROWS: FILES[ROWS]})
         before = (root / "crates/low/specs/Base.antt").read_text(encoding="utf-8")
         stated.write(tree)
         yield "lines are written once", (root / "crates/low/specs/Base.antt").read_text(encoding="utf-8") == before
@@ -255,10 +267,10 @@ def stated_tests(stated) -> Iterator[tuple[str, bool]]:
 
 def row_tests(stated, root: pathlib.Path) -> Iterator[tuple[str, bool]]:
     """Rows that name what isn't there, and wrong bodies that no row names."""
-    edits, page = root / "crates/low/must-fail", FILES["docs/CLAIMS.md"]
+    edits, page = root / "crates/low/must-fail", FILES[ROWS]
 
     def found(text: str) -> list[str]:
-        return stated.findings(written(root, {"docs/CLAIMS.md": text}))
+        return stated.findings(written(root, {ROWS: text}))
 
     (edits / "make.edit").rename(edits / "made.edit")
     names = found(page)
@@ -270,10 +282,20 @@ def row_tests(stated, root: pathlib.Path) -> Iterator[tuple[str, bool]]:
     stated.write(Tree(root))
     yield "the numbers are written", stated.findings(Tree(root)) == []
     (root / "crates/low/more-edits/fourth.edit").unlink()
+    written(root, {"docs/CLAIMS.md": FILES["docs/CLAIMS.md"]})
     for old, new in (("`make` (`small`)", "`make` (`large`)"), ("(`Kind`)", "(`other`)"), ("`Base` (`Small`)", "`Base` (`Tiny`)")):
         stale = [it for it in found(page.replace(old, new)) if "is neither there nor reached" in it]
         yield f"a stale name, {new}", len(stale) == 1
-    yield "a wrong body of the other folder", any("third, which isn't in must-fail" in it for it in found(page.replace("also\n  ", "")))
+    yield "a wrong body of the other folder", any("third, which isn't in must-fail" in it for it in found(page.replace("also\n   ", "")))
+    yield "a row without a wrong body", any("row 2 names no wrong body" in it for it in found(page.partition("; also")[0] + ".\n"))
+    yield "a row that says so", found(page.replace("refused: `third`", "no wrong body").replace("also\n   ", "")) == []
+    yield "a claim without a row", any("claim 2 has no row" in it for it in found(page.partition("2. ")[0]))
+    yield "a row without a claim", any("row 3 has no claim" in it for it in found(page + "3. *By* `make`; refused: `make`.\n"))
+    old = FILES["docs/CLAIMS.md"].replace("1. What", "- Refused too: `make` (`tiny`); refused: `fourth`.\n\n1. What")
+    written(root, {"docs/CLAIMS.md": old})
+    names = found(page)
+    yield "a row of the page of claims", len(names) == 2 and "tiny is neither" in " ".join(names) and "names fourth, which" in " ".join(names)
+    written(root, {"docs/CLAIMS.md": FILES["docs/CLAIMS.md"]})
     yield "rows as they should be", found(page) == []
 
 
@@ -341,12 +363,17 @@ def contract_tests(tree: Tree) -> Iterator[tuple[str, bool]]:
 def page_tests(tree: Tree) -> Iterator[tuple[str, bool]]:
     said = headlines.sentences(FILES["README.md"])
     yield "README's claims", said == {1: "**It is small**, and more.", 2: "Another."}
-    text = claims.linked(tree, FILES["docs/CLAIMS.md"])
+    text = claims.linked(tree, FILES[ROWS].replace("*By* ", ""))
     row = "`one` of all: [`make`](../crates/low/src/inner.rt) (`small`), [`inner::helper`](../crates/low/src/inner.rt); `Base`; refused: `make`."
     yield "claims that aren't there", has_no_claims(tree.root)
-    yield "links of a row", row in text.replace("\n  ", " ")
+    yield "a claim of two parts", parts_of(tree.root, "1", "1-take") == [["1-make", "1-take"], ["1-take"]]
+    yield "links of a row", row in " ".join(text.split())
     yield "links are made once", claims.linked(tree, text) == text
-    yield "a table in place of another", pages.with_table("a\n| x |\n|--|\n| old |\n\nb\n", ["| x |", "|--|", "| y |"]) == "a\n| x |\n|--|\n| y |\n\nb\n"
+    rows = claims.with_claims(FILES[ROWS], FILES["docs/CLAIMS.md"].replace("What is made", "All that\n   is made"))
+    yield "claims go to their rows", "1. All that is made is small. *By* `one` of all" in " ".join(rows.split()) and rows.count("*By*") == 2
+    yield "which is done once", claims.with_claims(rows, FILES["docs/CLAIMS.md"].replace("What is made", "All that is made")) == rows
+    linked = claims.linked(tree, rows, claims.ROWS)
+    yield "a row's links", "[`make`](../../crates/low/src/inner.rt)" in linked and claims.linked(tree, linked, claims.ROWS) == linked
     yield "a type that fits on a line", type_lines("pub enum E {\n    A,\n    B { x: u32 },\n}") == ["pub enum E { A, B { x: u32 } }"]
     long = ", ".join(f"field{number}: u32" for number in range(20))
     yield "a type that doesn't", [len(it) < 121 for it in type_lines(f"pub struct S {{ {long} }}")] == [True] * 5
