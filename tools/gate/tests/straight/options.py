@@ -70,12 +70,32 @@ SEC("xdp") int f(struct xdp_md *ctx) { __u32 k = 0; __u64 *v = bpf_map_lookup_el
 """
 
 
+# a map in front of the other one, with its number of entries
+FIRST = SIZES.split("\n")[0].replace("} m SEC", "__uint(max_entries, 3); } first SEC") % "ARRAY" + "\n"
+WRONG_ENTRIES = {
+    "n=9": "it declares no map n",
+    "m=0": "m",
+    "m=1025": "the map m has 1025 entries: 1 to 1024",
+    "m=9:2": "m=9:2 isn't NAME=ENTRIES",
+    "m": "isn't NAME=ENTRIES",
+}
+
+
 def size_tests(clang, xdpbox, path):
     """A map whose number of entries the loader gives: a word does here. Its values keep their size, and it its kind."""
     path.write_text(HEADERS + SIZES % "ARRAY")
     for word, wanted in (("m=9", {"name": "m", "entries": 9, "counters": 2}), ("m=9:3", {"name": "m", "entries": 9, "counters": 3})):
         made, said, _ = ran(clang, xdpbox, "settings-from-c", path, word)
         yield f"the word {word}", "" if made and tomllib.loads(made)["map"] == [wanted] else made + said
+    path.write_text(HEADERS + FIRST + SIZES % "ARRAY")
+    for words, wanted in (((), (3, 0)), (("--entries", "m=9"), (3, 9)), (("--entries", "m=9", "--entries", "first=2"), (2, 9))):
+        made, said, _ = ran(clang, xdpbox, "settings-from-c", *words, path)
+        sizes = {row["name"]: row["entries"] for row in tomllib.loads(made)["map"]} if made else {}
+        right = list(sizes.items()) == [("first", wanted[0]), ("m", wanted[1])] if wanted[1] else not made and "max_entries" in said
+        yield f"--entries {words}, in their order", "" if right else made + said
+    for word, wanted in WRONG_ENTRIES.items():
+        made, said, status = ran(clang, xdpbox, "settings-from-c", "--entries", word, path)
+        yield f"--entries {word} is named", "" if status and not made and wanted in said and said.count("\n") == 1 else said
     path.write_text(HEADERS + SIZES % "HASH")
     made, said, status = ran(clang, xdpbox, "settings-from-c", path, "m=9")
     yield "a word makes no array of a hash map", "" if status and not made and "BPF_MAP_TYPE_HASH" in said else made + said
