@@ -146,6 +146,31 @@ def packet_tests(clang, xdpbox, folder):
         yield f"{wanted} of filter-test", "" if status and not made and wanted in said and said.count("\n") == 1 else said
 
 
+TCP, UDP, SYN, NAMES = 6, 17, 2, 53
+
+
+def ipv4(protocol, source, port=80, flags=0):
+    """A packet of IPv4 from an address."""
+    ip = bytes([0x45, 0, 0, 40, 0, 0, 0, 0, 64, protocol, 0, 0, *source, 10, 0, 0, 1])
+    return bytes(12) + b"\x08\0" + ip + bytes([4, 0]) + port.to_bytes(2, "big") + bytes(9) + bytes([flags]) + bytes(6)
+
+
+def example_tests(clang, xdpbox, folder):
+    """A rate without a clock, and state by address: what becomes of packets in their order."""
+    syn, other = ipv4(TCP, (10, 0, 0, 2), 80, SYN), ipv4(TCP, (10, 0, 0, 2))
+    one, two, plain = ipv4(UDP, (10, 0, 0, 2), NAMES), ipv4(UDP, (10, 0, 7, 9), NAMES), ipv4(UDP, (10, 0, 0, 2))
+    # 64, and one for each eight packets, these among them
+    share = [(syn, "PASS", 74), (syn, "DROP", 5), (other, "PASS", 3)]
+    share += [row for drops in (5, 7, 7) for row in ((syn, "PASS", 1), (syn, "DROP", drops))]
+    budget = [(one, "PASS", 32), (one, "DROP", 9), (two, "PASS", 32), (two, "DROP", 1), (plain, "PASS", 2), (one, "PASS", 1), (one, "DROP", 1)]
+    for name, rows in (("syn-share", share), ("budget-by-source", budget)):
+        path = folder / "of-an-example"
+        path.write_text("".join(f"{action} {packet.hex()}\n" * count for packet, action, count in rows))
+        source = EXAMPLES / "straightened" / name / f"{name.replace('-', '_')}.c"
+        made, said, status = ran(clang, xdpbox, "filter-test", source, path)
+        yield f"the example {name}", "" if not status and "passed, 0 failed\n" in made else made[-600:] + said
+
+
 def tests(clang, xdpbox):
     with tempfile.TemporaryDirectory() as name:
         folder = pathlib.Path(name)
@@ -153,3 +178,4 @@ def tests(clang, xdpbox):
         yield from size_tests(clang, xdpbox, folder / "sizes.c")
         yield from same_tests(clang, xdpbox, folder / "limits.c")
         yield from packet_tests(clang, xdpbox, folder)
+        yield from example_tests(clang, xdpbox, folder)
