@@ -63,6 +63,13 @@ def read(asked: Asked) -> Filter:
             fail(f"{asked.source}: its object file isn't as it should be: {fault}")
 
 
+def object_and_function(asked: Asked) -> tuple[bytes, str]:
+    """The object file of a filter, as a loader reads it, and the name of the function."""
+    with tempfile.TemporaryDirectory() as folder:
+        data = bytes_of(asked.source) if is_object(asked.source) else Compiler(asked.source, folder).compiled()
+    return data, chosen(asked, elf.sections_of(data)).name
+
+
 def is_object(source: str) -> bool:
     """Whether a file is an object file. Ends if there is no file."""
     try:

@@ -171,6 +171,32 @@ def example_tests(clang, xdpbox, folder):
         yield f"the example {name}", "" if not status and "passed, 0 failed\n" in made else made[-600:] + said
 
 
+# here the interface has number 0, and in a test run of Linux's it is the loopback one
+OF_INTERFACE = 'SEC("xdp") int f(struct xdp_md *ctx) { return ctx->ingress_ifindex ? XDP_DROP : XDP_PASS; }\n'
+
+
+def linux_tests(clang, xdpbox, folder):
+    """The same packets in Linux, if it can be asked."""
+    path, packets = folder / "of_interface.c", folder / "one-packet"
+    path.write_text(HEADERS + OF_INTERFACE)
+    packets.write_text(f"PASS {'00' * 14}\n")
+    made, said, status = ran(clang, xdpbox, "filter-test", "--linux", path, packets)
+    if "Linux isn't asked: " in said:
+        print(f"left out: filters beside Linux: {said.strip()}")
+        yield "a filter that Linux isn't asked about", "" if made == "1 passed, 0 failed\n" and said.count("\n") == 1 else made + said
+        return
+    right = status == 1 and made == f"{packets}:1: PASS here, and DROP in Linux\n0 passed, 1 failed\n"
+    yield "a packet of which Linux makes something else", "" if right else made + said
+    for name in ("47-majority", "61-narrow-values", "63-open-ports", "59-replay-window"):
+        source = FILTERS / f"{name}.c"
+        made, said, status = ran(clang, xdpbox, "filter-test", "--linux", source, source.with_suffix(".packets"))
+        right = not status and made.endswith(" passed, 0 failed\n") and "isn't asked" not in said
+        yield f"{name} beside Linux", "" if right else made + said
+    for words, wanted in (((EXAMPLES / "drop-ipv6/settings.toml",), "that wants a file of C"), (("--guard", path), "that wants a file of C")):
+        made, said, status = ran(clang, xdpbox, "filter-test", "--linux", *words, packets)
+        yield f"Linux and {words[0]}", "" if f"Linux isn't asked: {wanted}" in said and "passed, " in made else made + said
+
+
 def tests(clang, xdpbox):
     with tempfile.TemporaryDirectory() as name:
         folder = pathlib.Path(name)
@@ -179,3 +205,4 @@ def tests(clang, xdpbox):
         yield from same_tests(clang, xdpbox, folder / "limits.c")
         yield from packet_tests(clang, xdpbox, folder)
         yield from example_tests(clang, xdpbox, folder)
+        yield from linux_tests(clang, xdpbox, folder)
