@@ -14,7 +14,8 @@ if TYPE_CHECKING:
     from .elf import Function, Part
 
 COUNTER_BYTES, LINE_BYTES = 8, 16
-MOST_NUMBERS, MOST_BITS = 256, 0xFFFFFF  # of a value that are looked at; of a member's place, below a bit field's size
+MOST_NUMBERS, MOST_VISITS = 256, 20000  # of a value that are looked at, and of types and members on the way to them
+MOST_BITS = 0xFFFFFF  # of a member's place, below a bit field's size
 INT, POINTER, ARRAY, STRUCT, UNION, VARIABLE, SECTION = 1, 2, 3, 4, 5, 14, 15
 # kinds of types, and how many bytes follow the twelve that each has: a fixed number, and a number for each member
 MORE_BYTES = {
@@ -72,7 +73,7 @@ class Types:
 
     def __init__(self, btf: bytes) -> None:
         header, types, length, names, _ = struct.unpack_from("<IIIII", btf, 4)
-        self.names, self.rows, at = btf[header + names :], [None], header + types
+        self.names, self.rows, self.visits, at = btf[header + names :], [None], 0, header + types
         while at < header + types + length:
             name, info, size = struct.unpack_from("<III", btf, at)
             kind, members = info >> 24 & 31, info & 0xFFFF
@@ -109,9 +110,12 @@ class Types:
 
     def numbers_in(self, number: int, name: str = "", at: int = 0) -> Iterator[Number]:
         """The numbers of a value, also those of members of members and of elements, by the names that they have in C."""
+        self.visits += 1
         row = self.rows[self.plain(number)] if number else None
         if row is None:
             return
+        if self.visits > MOST_VISITS:
+            raise ValueError("a type has too many parts")
         if row.kind == ARRAY:
             element, _, count = struct.unpack_from("<III", row.more)
             for place in range(min(count, MOST_NUMBERS)):
@@ -131,6 +135,7 @@ class Types:
 
     def some_numbers(self, number: int) -> list[Number]:
         """The same, as many as are looked at."""
+        self.visits = 0
         return list(itertools.islice(self.numbers_in(number), MOST_NUMBERS))
 
     def numbers_of(self, variable: str) -> list[Number]:
