@@ -14,7 +14,8 @@ if TYPE_CHECKING:
     from .elf import Function, Part
 
 COUNTER_BYTES, LINE_BYTES = 8, 16
-MOST_NUMBERS, MOST_BITS = 256, 0xFFFFFF  # of a value that are looked at; of a member's place, below a bit field's size
+MOST_NUMBERS, MOST_VISITS = 256, 20000  # of a value that are looked at, and of types and members on the way to them
+MOST_BITS = 0xFFFFFF  # of a member's place, below a bit field's size
 INT, POINTER, ARRAY, STRUCT, UNION, VARIABLE, SECTION = 1, 2, 3, 4, 5, 14, 15
 # kinds of types, and how many bytes follow the twelve that each has: a fixed number, and a number for each member
 MORE_BYTES = {
@@ -37,26 +38,29 @@ class Type(NamedTuple):
     name: str
     size: int  # or the type that it points to
     more: bytes
+    with_bits: bool  # of a struct, whether a member's place has a bit field's size above it
 
 
 class Number(NamedTuple):
-    """A number in a map's value: its name, where it lies, and its size in bytes."""
+    """A number in a map's value: its name, where it lies, its size in bytes, and how many bits it has if it is a bit
+    field, else 0. A bit field lies where the number lies that has it."""
 
     name: str
     place: int
     size: int
+    bits: int = 0
 
 
 class MapOfC(NamedTuple):
-    """A map as C declares it: its type's number and its sizes, of which 0 isn't said. `parts`: the numbers in a value
-    that don't have eight bytes. The type is None if the declaration is none of a map."""
+    """A map as C declares it: its type's number and its sizes, of which 0 isn't said. `numbers`: those in a value. The
+    type is None if the declaration is none of a map."""
 
     name: str
     type: Optional[int]
     key_bytes: int
     value_bytes: int
     entries: int
-    parts: list
+    numbers: list
 
     @property
     def counters(self) -> int:
@@ -69,13 +73,13 @@ class Types:
 
     def __init__(self, btf: bytes) -> None:
         header, types, length, names, _ = struct.unpack_from("<IIIII", btf, 4)
-        self.names, self.rows, at = btf[header + names :], [None], header + types
+        self.names, self.rows, self.visits, at = btf[header + names :], [None], 0, header + types
         while at < header + types + length:
             name, info, size = struct.unpack_from("<III", btf, at)
             kind, members = info >> 24 & 31, info & 0xFFFF
             fixed, each = MORE_BYTES.get(kind, (0, 0))
             end = at + 12 + fixed + each * members
-            self.rows.append(Type(kind, text_at(self.names, name), size, btf[at + 12 : end]))
+            self.rows.append(Type(kind, text_at(self.names, name), size, btf[at + 12 : end], bool(info >> 31)))
             at = end
 
     def plain(self, number: int) -> int:
@@ -104,18 +108,40 @@ class Types:
         pairs = [(text_at(self.names, name), self.plain(kind)) for name, kind, _ in rows]
         return {name: self.rows[kind].size for name, kind in pairs if kind and self.rows[kind].kind == POINTER}
 
-    def numbers_in(self, number: int, name: str = "a number", at: int = 0) -> Iterator[Number]:
-        """The numbers of a value: of a struct's members, and of an array its first element's."""
+    def numbers_in(self, number: int, name: str = "", at: int = 0) -> Iterator[Number]:
+        """The numbers of a value, also those of members of members and of elements, by the names that they have in C."""
+        self.visits += 1
         row = self.rows[self.plain(number)] if number else None
         if row is None:
             return
+        if self.visits > MOST_VISITS:
+            raise ValueError("a type has too many parts")
         if row.kind == ARRAY:
-            yield from self.numbers_in(struct.unpack_from("<I", row.more)[0], name, at)
+            element, _, count = struct.unpack_from("<III", row.more)
+            for place in range(min(count, MOST_NUMBERS)):
+                yield from self.numbers_in(element, f"{name}[{place}]", at + place * self.size(element))
         elif row.kind in (STRUCT, UNION):
             for member, kind, bits in struct.iter_unpack("<III", row.more):
-                yield from self.numbers_in(kind, text_at(self.names, member) or name, at + (bits & MOST_BITS) // 8)
+                part, size = text_at(self.names, member), bits >> 24 if row.with_bits else 0
+                bits = bits & MOST_BITS if row.with_bits else bits
+                inner = ".".join(filter(None, (name, part)))
+                if size:
+                    whole = self.size(kind)
+                    yield Number(inner, at + bits // (8 * whole) * whole if whole else at, whole, size)
+                else:
+                    yield from self.numbers_in(kind, inner, at + bits // 8)
         else:
-            yield Number(name, at, self.size(number))
+            yield Number(name or "its number", at, self.size(number))
+
+    def some_numbers(self, number: int) -> list[Number]:
+        """The same, as many as are looked at."""
+        self.visits = 0
+        return list(itertools.islice(self.numbers_in(number), MOST_NUMBERS))
+
+    def numbers_of(self, variable: str) -> list[Number]:
+        """The numbers of a global; none if nothing is said of it."""
+        types = [row.size for row in self.rows[1:] if (row.kind, row.name) == (VARIABLE, variable)]
+        return self.some_numbers(types[0]) if len(types) == 1 else []
 
     def number_of(self, pointed: int) -> int:
         """The number that `__uint` hides in the length of an array."""
@@ -139,9 +165,8 @@ class Types:
                 for what in ("key", "value")
             ]
             kind, entries = (self.number_of(members.get(what, 0)) for what in ("type", "max_entries"))
-            numbers = itertools.islice(self.numbers_in(members.get("value", 0)), MOST_NUMBERS)
-            parts = [part for part in numbers if part.size != COUNTER_BYTES]
-            yield MapOfC(self.rows[number].name, kind, *sizes, entries, parts)
+            numbers = self.some_numbers(members.get("value", 0))
+            yield MapOfC(self.rows[number].name, kind, *sizes, entries, numbers)
 
 
 def named(file: str, source: str) -> str:

@@ -3,7 +3,7 @@ from __future__ import annotations
 
 import struct
 import tempfile
-from typing import TYPE_CHECKING, Callable, Iterable, Iterator, NamedTuple, Optional
+from typing import TYPE_CHECKING, Callable, Iterable, NamedTuple, Optional
 
 from output import fail, say
 
@@ -39,13 +39,14 @@ class Filter(NamedTuple):
 
 class Asked(NamedTuple):
     """What a command asks for: a file, maps whose sizes it gives, which function, if the file has several, numbers of
-    constants, as (name, number), and whether calls that print are left out."""
+    constants, as (name, number), whether calls that print are left out, and entries of declared maps, as (name, number)."""
 
     source: str
     maps: Iterable[SizedMap] = ()
     program: Optional[str] = None
     values: Iterable[tuple[str, int]] = ()
     prints: bool = False
+    entries: Iterable[tuple[str, int]] = ()
 
 
 def read(asked: Asked) -> Filter:
@@ -60,6 +61,13 @@ def read(asked: Asked) -> Filter:
             fail(f"{asked.source}: {by}{fault}")
         except BROKEN as fault:
             fail(f"{asked.source}: its object file isn't as it should be: {fault}")
+
+
+def object_and_function(asked: Asked) -> tuple[bytes, str]:
+    """The object file of a filter, as a loader reads it, and the name of the function."""
+    with tempfile.TemporaryDirectory() as folder:
+        data = bytes_of(asked.source) if is_object(asked.source) else Compiler(asked.source, folder).compiled()
+    return data, chosen(asked, elf.sections_of(data)).name
 
 
 def is_object(source: str) -> bool:
@@ -105,9 +113,10 @@ def filter_of(asked: Asked, sections: dict[str, Part], compiler: Optional[Compil
         "map": [{"name": name, "entries": entries, "counters": counters} for name, entries, counters in maps],
         "reloc": [{"slot": row.slot, "map": row.name} for row in relocations],
         **memory.settings(),
+        "numbers": numbers_of(sections, declared, memory.maps),
     }
     per_cpu = {row.name for row in declared if row.type == faults.PER_CPU_ARRAY}
-    return Filter(settings, place, per_cpu, [*notes, *notes_of_parts(declared)])
+    return Filter(settings, place, per_cpu, notes)
 
 
 def without_calls(asked: Asked, sections: dict[str, Part], function: Function, place: Callable) -> Replaced:
@@ -155,7 +164,9 @@ def maps_of(
     if it is the one function of the file, and if settings can have them."""
     source, said = asked.source, {name: (entries, counters) for name, entries, counters in asked.maps}
     declared = list(btf.Types(sections[".BTF"].data).maps()) if ".maps" in sections and ".BTF" in sections else []
-    declared = [row._replace(entries=said[row.name][0]) if row.name in said else row for row in declared]
+    resized = {**dict(asked.entries), **{name: entries for name, (entries, _) in said.items()}}
+    stop_on(f"{source}: it declares no map {name}" for name in dict(asked.entries) if name not in {row.name for row in declared})
+    declared = [row._replace(entries=resized.get(row.name, row.entries)) for row in declared]
     is_alone = len({row.section for row in elf.functions_of(sections)} - {TEXT}) == 1 and asked.program is None
     unnamed = {row.name for row in declared if not is_alone or any(faults.faults_of_map(row))} - named - set(said)
     declared = [row for row in declared if row.name not in unnamed]
@@ -173,12 +184,13 @@ def maps_of(
     return maps, declared
 
 
-def notes_of_parts(declared: Iterable[btf.MapOfC]) -> Iterator[str]:
-    """Where a host finds the numbers of fewer than eight bytes."""
-    for row in declared:
-        for part in row.parts:
-            low, counter = 8 * (part.place % 8), part.place // 8
-            yield f"map {row.name}: {part.name} is bits {low} to {low + 8 * part.size - 1} of counter {counter}"
+def numbers_of(sections: dict[str, Part], declared: Iterable[btf.MapOfC], of_globals: Iterable[SizedMap]) -> dict:
+    """By map the numbers in a value, as C declares them."""
+    found = {row.name: row.numbers for row in declared}
+    if ".BTF" in sections:
+        types = btf.Types(sections[".BTF"].data)
+        found.update((name, types.numbers_of(name)) for name, _, _ in of_globals)
+    return {name: [number._asdict() for number in rows] for name, rows in found.items()}
 
 
 def order_by(places: dict[str, int]) -> Callable[[str], int]:

@@ -15,7 +15,8 @@ from typing import TYPE_CHECKING, Any, Optional
 from .facts import JLE, NOTHING, compared, decided, learnt, put_number
 from .forms import MASK_32, MASK_64, SWAP, ZERO, Forms, number
 from .memory import Memory
-from .program import ADD_8, BY_REGISTER, CALL, EXIT, JUMP, WIDE, NoProgram, maps_and_rest, program_of
+from .parts import Parts
+from .program import ADD_8, BY_REGISTER, CALL, EXIT, JUMP, WIDE, NoProgram, program_of
 from .result import COPY, MOVE_CONSTANT, OUTSIDE, STACK, STORE_8, Result
 from .state import Differs, Registers, State, met
 
@@ -37,21 +38,21 @@ def forget(stack: dict[int, Form], low: int, high: int) -> None:
 
 
 class Check(Memory):
-    """Two settings, of which nothing but the program may differ.
+    """Two settings, of which nothing but the program may differ, and counters that were added for parts of values.
 
     labels            of each slot of the result its kind and a slot of the original
+    moved             by map the parts of its values, as (place, size), that have a counter of their own, and which
     guards, unproven  slots of the original before which the result may end, by the slot of the result"""
 
-    def __init__(self, original: dict, result: dict, labels: dict) -> None:
-        if maps_and_rest(original) != maps_and_rest(result):
-            raise Differs("the settings differ in more than their programs")
+    def __init__(self, original: dict, result: dict, labels: dict, moved: Optional[dict] = None) -> None:
+        parts = Parts(original, result, moved or {})
         try:
             self.original = program_of(original)
             made = Result(program_of({**result, "tables": [], "globals": []}), labels)
         except NoProgram as fault:
             raise Differs(f"{fault}") from None
         entries = {row["name"]: row["entries"] for row in original.get("map", [])}
-        super().__init__(Forms(), made, original.get("constants", {}), entries)
+        super().__init__(Forms(), made, original.get("constants", {}), entries, parts)
         self.guards, self.unproven = {}, {}
 
     def run(self) -> None:
@@ -189,6 +190,7 @@ class Check(Memory):
 
     def own_branch(self, pc: int, slot: Slot, state: State) -> list[tuple[int, State]]:
         a, b = self.operands(slot, state.new)
+        self.parts.hide_compared(self.forms, pc, slot.opcode, a, b)
         taken, out = decided(self.forms, slot.opcode, a, b, state.facts), []
         for way, after in enumerate(self.result.successors(pc)):
             if taken is not None and taken != bool(way):
@@ -251,7 +253,7 @@ class Check(Memory):
         if slot.is_branch:
             return self.copied_branch(pc, slot, old_slot, state)
         if slot.opcode == EXIT:
-            self.same(state.new[0], state.old[0], "r0 at the end", pc)
+            self.parts.hide(self.forms, pc, self.same(state.new[0], state.old[0], "r0 at the end", pc))
             return []
         if narrow:
             self.narrow_load(pc, slot, old_slot, state)
@@ -280,6 +282,7 @@ class Check(Memory):
         b = number(slot.immediate)
         if slot.opcode & BY_REGISTER:
             b = self.same(state.new[slot.source], state.old[old_slot.source], "the second operand", pc)
+        self.parts.hide_compared(self.forms, pc, slot.opcode, a, b)
         out = []
         for way, after in enumerate(self.result.successors(pc)):
             at = state.at + 1 + (old_slot.offset if way else 0)
@@ -290,7 +293,7 @@ class Check(Memory):
         """A counter's load, of which the addition alone is left. It is owed: it has to be the next effect."""
         if slot.immediate or state.owed is not None:
             raise Differs(f"slot {pc}: a count doesn't begin with 0")
-        address = self.address(old_slot, state.old)
+        address = self.address_in_result(old_slot, state)
         loaded = self.forms.atom(("counter", pc))
         state.old[old_slot.destination] = state.loads[address] = loaded
         state.owed = address
@@ -298,7 +301,7 @@ class Check(Memory):
 
     def narrow_load(self, pc: int, slot: Slot, old_slot: Slot, state: State) -> None:
         """A load of a part of a counter, which the result loads whole."""
-        whole, part = self.address(slot, state.new), self.address(old_slot, state.old)
+        whole, part = self.address(slot, state.new), self.address_in_result(old_slot, state)
         place = self.forms.subtract(part, whole)
         if not self.forms.is_in_value(whole) or place.terms or place.constant + old_slot.size > 8:
             raise Differs(f"slot {pc}: the size differs")
@@ -313,7 +316,7 @@ class Check(Memory):
 
     def both_addresses(self, pc: int, slot: Slot, old_slot: Slot, state: State) -> Form:
         self.same(slot.size, old_slot.size, "the size", pc)
-        return self.same(self.address(slot, state.new), self.address(old_slot, state.old), "the address", pc)
+        return self.same(self.address(slot, state.new), self.address_in_result(old_slot, state), "the address", pc)
 
     def copied_load(self, pc: int, slot: Slot, old_slot: Slot, state: State) -> None:
         address = self.both_addresses(pc, slot, old_slot, state)
@@ -321,21 +324,25 @@ class Check(Memory):
         if not field.terms:
             new = old = self.forms.field(field.constant)
         else:
-            self.beside_own_stack(pc, address, slot.size, state)
+            place = self.beside_own_stack(pc, address, slot.size, state)
             unsigned = slot.opcode >> 5 == 3
             new = old = self.forms.atom(("load", pc), (1 << 8 * slot.size) - 1 if unsigned else MASK_64)
             if slot.opcode == LOAD_8 and at in state.old_stack and at in state.new_stack:
                 new, old = state.new_stack[at], state.old_stack[at]
-            elif slot.opcode == LOAD_WORD and at in state.words:
+            else:
+                self.parts.hide_on_stack(pc, *place)
+            if slot.opcode == LOAD_WORD and at in state.words:
                 new = old = state.words[at]
-            elif slot.opcode == LOAD_8:
+            elif slot.opcode == LOAD_8 and at is None:
                 state.loads[address] = old
         state.new[slot.destination], state.old[old_slot.destination] = new, old
 
     def copied_store(self, pc: int, slot: Slot, old_slot: Slot, state: State) -> None:
         address = self.both_addresses(pc, slot, old_slot, state)
         if slot.kind == 3:
-            self.same(state.new[slot.source], state.old[old_slot.source], "the stored number", pc)
+            stored = self.same(state.new[slot.source], state.old[old_slot.source], "the stored number", pc)
+            if slot.opcode != STORE_8 or self.forms.stack_offset(address) is None:
+                self.parts.hide(self.forms, pc, stored)
         if slot.opcode != ADD_8:
             self.store_on_stack(pc, slot, old_slot, state, address)
             return
@@ -349,6 +356,7 @@ class Check(Memory):
             forget(stack, low, high)
         if slot.opcode == STORE_8 and high - low == slot.size:
             state.new_stack[low], state.old_stack[low] = state.new[slot.source], state.old[old_slot.source]
+            self.parts.spilled |= {low} if self.parts.shows(self.forms, state.old[old_slot.source]) else set()
         if slot.opcode == STORE_WORD and high - low == slot.size:
             least, most = self.forms.span(state.new[slot.source], state.facts.ranges)
             state.words.update({low: state.new[slot.source]} if least >= 0 and most <= MASK_32 else {})
@@ -356,7 +364,8 @@ class Check(Memory):
     def fused_count(self, pc: int, slot: Slot, old_slot: Slot, state: State) -> None:
         """What is added has to be what the original adds to the counter that it loaded, or to a part of it."""
         address, added, ranges = self.address(slot, state.new), state.new[slot.source], state.facts.ranges
-        place = self.forms.subtract(self.address(old_slot, state.old), address)
+        place = self.forms.subtract(self.address_in_result(old_slot, state), address)
+        self.parts.hide(self.forms, pc, added)
         known = state.loads.get(address)
         if place.terms or place.constant + old_slot.size > slot.size or known is None or slot.immediate:
             raise Differs(f"slot {pc}: this isn't the counter that was loaded")
@@ -378,7 +387,8 @@ class Check(Memory):
     def copied_call(self, pc: int, state: State) -> None:
         for register in (1, 2):
             self.same(state.new[register], state.old[register], f"r{register} of the call", pc)
-        self.beside_own_stack(pc, state.new[2], KEY_BYTES, state)
+        self.parts.hide_on_stack(pc, *self.beside_own_stack(pc, state.new[2], KEY_BYTES, state))
+        self.parts.called[pc] = self.map_named(state.new[1])
         for registers in (state.new, state.old):
             for register in range(1, 6):
                 registers.pop(register, None)

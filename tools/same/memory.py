@@ -1,7 +1,7 @@
 """What both programs have in memory: where an address lies, constants, and what is known of counters."""
 from __future__ import annotations
 
-from typing import TYPE_CHECKING
+from typing import TYPE_CHECKING, Optional
 
 from .facts import APART
 from .forms import MASK_32, MASK_64, ZERO, number
@@ -11,20 +11,43 @@ from .state import Differs
 
 if TYPE_CHECKING:
     from .forms import Form, Forms
+    from .parts import Parts
     from .program import Slot
     from .result import Result
     from .state import Registers, State
 
 
 class Memory:
-    """`constants`: bytes by section. `entries`: of maps by their names. `result`: the program that the tool made."""
+    """`constants`: bytes by section. `entries`: of maps by their names. `result`: the program that the tool made.
+    `parts`: those of values that have a counter of their own in it."""
 
-    def __init__(self, forms: Forms, result: Result, constants: dict[str, bytes], entries: dict[str, int]) -> None:
-        self.forms, self.result, self.constants, self.entries = forms, result, constants, entries
+    def __init__(
+        self, forms: Forms, result: Result, constants: dict[str, bytes], entries: dict[str, int], parts: Parts
+    ) -> None:
+        self.forms, self.result, self.constants, self.entries, self.parts = forms, result, constants, entries, parts
 
     def address(self, slot: Slot, registers: Registers) -> Form:
         base = slot.source if slot.kind == 1 else slot.destination
         return self.forms.add(registers[base], number(slot.offset))
+
+    def address_in_result(self, slot: Slot, state: State) -> Form:
+        """Where the result has what an access of the original reaches."""
+        address = self.address(slot, state.old)
+        if not self.parts.moved:
+            return address
+        value = self.parts.value_of(self.forms, address)
+        if value is not None and value[0] is not None:
+            return self.parts.in_result(address, *value, slot.size)
+        low, high = self.forms.span(self.forms.subtract(address, self.forms.frame), state.facts.ranges)
+        on_stack = -STACK <= low and high + slot.size <= 0
+        in_context = not self.forms.subtract(address, self.forms.context).terms
+        if on_stack or in_context or self.is_near_packet(self.forms.add(address, number(slot.size)), state):
+            return address
+        raise Differs("it isn't known whether this lies in a value, in which numbers have other places", state.at)
+
+    def map_named(self, form: Form) -> Optional[str]:
+        """The map of which this is the address, or None."""
+        return next((name for name in self.entries if self.forms.atom(("map", name, 0, 0)) == form), None)
 
     def is_near_packet(self, address: Form, state: State) -> bool:
         """Whether an address lies so near to the packet's start that it is none of the stack."""
@@ -76,13 +99,13 @@ class Memory:
 
     def own_lookup(self, pc: int, state: State) -> None:
         """The value of a global: the first one of its map, by a key on the tool's stack. It is never null."""
-        named = [name for name in self.entries if self.forms.atom(("map", name, 0, 0)) == state.new[1]]
+        name = self.map_named(state.new[1])
         at = self.forms.stack_offset(state.new[2])
-        if not named or self.entries[named[0]] < 1 or state.new_stack.get(at) != ZERO:
+        if name is None or self.entries[name] < 1 or state.new_stack.get(at) != ZERO:
             raise Differs(f"slot {pc}: a lookup of the tool's that isn't of a global")
         for register in range(1, 6):
             state.new.pop(register, None)
-        state.new[0] = self.forms.in_memory(("value", named[0], 0), 0)
+        state.new[0] = self.forms.in_memory(("value", name, 0), 0)
 
     def forget_counter(self, state: State, address: Form) -> None:
         """Forgets what stands in a counter, and in all that may be the same one: two places of one value aren't, nor

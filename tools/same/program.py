@@ -37,7 +37,7 @@ class Slot(NamedTuple):
         return 1 if self.upper is None else 2
 
 
-OF_THE_TOOLS = "constants", "tables", "globals"  # keys of their own in settings: what C had in memory
+OF_THE_TOOLS = "constants", "tables", "globals", "numbers"  # keys of their own in settings: what C had in memory
 OF_THE_PROGRAM = "program", "reloc", *OF_THE_TOOLS
 
 

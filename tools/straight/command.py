@@ -5,16 +5,17 @@ from __future__ import annotations
 import os
 import pathlib
 import shutil
-from dataclasses import dataclass
+from dataclasses import dataclass, field
 from typing import TYPE_CHECKING, Callable, Iterable, Iterator, NamedTuple, Optional
 
-from output import fail
+from output import fail, in_one_line
 
 from .graph import SIZE, Fail
-from .lowered import has_neighbour, may_lower
+from .lowered import may_lower
+from .parts import places_of, with_counters
 from .search import OF_THE_BYTES, StillRefused, searches
 from .settings import as_text
-from .shown import NoComparison, question, shown
+from .shown import NoComparison, Rewriting, question, shown
 from .verifier import Verdict, verdict
 
 if TYPE_CHECKING:
@@ -29,10 +30,10 @@ ADDED_LATER = (
 )
 SET = "a counter is set by adding the difference from what stands there, in two steps: another queue may count between"
 LOWERED = (
-    "; if two queues lower it at once, it may go below 0, where it reads as nearly 2^64: compare it with sign, as"
-    " `(long long)*value <= 0`"
+    "; if two queues lower it at once, it may go below 0, where it reads as nearly 2^{}: compare it with sign, as"
+    " `({})*value <= 0`"
 )
-BESIDE_OTHERS = "; other numbers of fewer than eight bytes share its counter, and may then be off by one: make each a __u64"
+SIGNED = {1: "signed char", 2: "short", 4: "int", 8: "long long"}  # by size
 MOST_COMPARED = 10000  # slots, in all results that can't be taken
 TOP = pathlib.Path(__file__).resolve().parents[2]
 # a refusal's words are those of instructions; these are those of C
@@ -60,7 +61,8 @@ ATOMIC = "c3", "db"  # opcodes
 @dataclass
 class Straight:
     """A program that is accepted and the same. `lines`: its map. `notes`: what its author should know. `how`: it was
-    shown to be the same. `asked`: what `xdpbox same` was asked of it, or None."""
+    shown to be the same. `asked`: what `xdpbox same` was asked of it, or None. `moved`: by map the parts of values that
+    have a counter of their own."""
 
     words: list
     relocations: list
@@ -68,10 +70,23 @@ class Straight:
     notes: list
     how: str
     asked: Optional[str] = None
+    moved: dict = field(default_factory=dict)
 
     def comment(self, settings: dict) -> str:
-        """The line that settings with this program have."""
-        return f"# straightened: {len(settings['program'])} slots -> {len(self.words)}, {self.how}\n"
+        """The lines that settings with this program have."""
+        first = f"# straightened: {len(settings['program'])} slots -> {len(self.words)}, {self.how}\n"
+        places = "".join(f"# {in_one_line(line)}\n" for line in places_of(settings, self.moved))
+        return first + places.encode("ascii", "backslashreplace").decode()
+
+    def settings(self, settings: dict) -> dict:
+        """Settings with the counters that this program needs."""
+        return with_counters(settings, self.moved)
+
+    def map(self, settings: dict) -> str:
+        """What `tools/same-program` reads beside the two programs."""
+        maps = [row["name"] for row in settings.get("map", [])]
+        parts = [f"moved {maps.index(name)} {at} {size} {own}" for name, row in self.moved.items() for (at, size), own in row.items()]
+        return "".join(f"{line}\n" for line in [*self.lines, *parts])
 
 
 class Refused(Exception):
@@ -146,14 +161,14 @@ def taken(xdpbox: str, settings: dict, result: Result, wanted: Wanted) -> tuple[
     """A result that is shown to be the same, and what is missing to that; one of the two is None."""
     labels = {slot: (label.kind.value, label.slot) for slot, label in result.labels.items()}
     relocations = [{"slot": slot, "map": name} for slot, name in result.relocations]
-    rebuilt = {**settings, "program": result.words, "reloc": relocations}
-    judged = shown(xdpbox, settings, rebuilt, labels, wanted.guard, wanted.proved)
+    rebuilt = {**with_counters(settings, result.moved), "program": result.words, "reloc": relocations}
+    judged = shown(xdpbox, Rewriting(settings, rebuilt, labels, result.moved), wanted.guard, wanted.proved)
     if judged.missing is not None:
         return None, judged.missing
     lines = [f"{slot} {kind} {original}" for slot, (kind, original) in sorted(labels.items())]
     notes = list(notes_of(result, judged.guards, wanted.per_cpu))
     asked = question(settings, rebuilt, labels)
-    return Straight(result.words, result.relocations, lines, notes, judged.how, asked), None
+    return Straight(result.words, result.relocations, lines, notes, judged.how, asked, result.moved), None
 
 
 def best_of(faults: list[Fail]) -> Fail:
@@ -169,7 +184,8 @@ def notes_of(result: Result, guards: Iterable[int], per_cpu: Callable[[int], boo
     for slot, row in sorted(result.differences.items()):
         note = SET if row.told or not row.known else ADDED_LATER
         if may_lower(result.code, slot, row):
-            note += LOWERED + (BESIDE_OTHERS if has_neighbour(result.code, slot) else "")
+            size = result.code[slot].size
+            note += LOWERED.format(8 * size, SIGNED[size])
         yield slot, note
     for slot in guards:
         yield slot, "guarded: if this would reach outside the packet, the program ends with ABORTED"

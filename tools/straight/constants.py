@@ -196,7 +196,8 @@ class Constants:
         if instruction.table is not None:
             return Address(instruction.table, instruction.immediate)
         if instruction.counter is not None:
-            return Address(VALUE, instruction.immediate) if self.values else None
+            name = instruction.counter if self.values == MAPS else None
+            return Address(VALUE, instruction.immediate, name) if self.values else None
         if instruction.map is not None and self.values == MAPS:
             return Address(MAP, 0, instruction.map)
         if instruction.source or instruction.map is not None:

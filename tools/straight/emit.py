@@ -6,8 +6,8 @@ from __future__ import annotations
 from enum import Enum
 from typing import TYPE_CHECKING, AbstractSet, Callable, Container, NamedTuple, Optional
 
-from .addresses import ADDED, KEPT, MET, Atom, StackSlot, Thing, in_order
-from .constants import FRAME, VALUE, is_address
+from .addresses import ADDED, KEPT, MET, Atom, StackSlot, Thing
+from .constants import VALUE, is_address
 from .copies import CASE, OUTSIDE, TESTS, Copy
 from .graph import SIZE, Fail
 from .accesses import write_difference, write_narrow_load, write_rebased
@@ -17,7 +17,6 @@ from .instructions import (
     ADD_CONSTANT,
     ADD_REGISTER,
     AND_CONSTANT,
-    CALL,
     CONTEXT_ARGUMENT,
     EXIT,
     FRAME_POINTER,
@@ -34,13 +33,15 @@ from .instructions import (
     XOR_REGISTER,
     Instruction,
 )
+from .own_stack import OwnStack, shared_slots
+from .parts import Access, Part, check_parts, place_of
 
 if TYPE_CHECKING:
     from .addresses import Addresses
     from .copies import Copies
     from .search import Marks
 
-MOST_SLOTS, STACK_BYTES, MOST_DISTANCE = 4096, 512, 65535
+MOST_SLOTS, MOST_DISTANCE = 4096, 65535
 END_FIELD, INTERFACE_FIELD = 4, 12  # of the context
 ABORTED = 0
 CONTEXT_SLOT, ZERO_SLOT = "context", "zero"  # names of our own stack slots
@@ -71,60 +72,6 @@ class Needs(Fail):
         self.meetings = meetings
 
 
-class OwnStack:
-    """Our own stack slots, by name, below the lowest byte that the program touches. `shared`: for names of numbers that
-    are needed for a while, which of them may use one slot."""
-
-    def __init__(self, copies: Copies, shared: dict) -> None:
-        lowest = 0
-        for here in copies.order:
-            instruction, registers = copies.code[here.slot], here.constants.registers
-            at = here.constants.stack_offset(instruction) if instruction.is_store else None
-            if instruction.opcode == CALL and is_address(registers.get(2), FRAME):
-                at = registers[2].offset
-            lowest = min(lowest, at or 0)
-        self.top, self.shared, self.offsets = -((7 - lowest) // 8 * 8), shared, {}
-
-    def __getitem__(self, name: object) -> int:
-        name = self.shared.get(name, name)
-        if name not in self.offsets:
-            self.offsets[name] = self.top - 8 * (len(self.offsets) + 1)
-            if self.offsets[name] < -STACK_BYTES:
-                raise Fail(f"it would need more than the {STACK_BYTES} bytes of the stack", None, SIZE)
-        return self.offsets[name]
-
-
-def shared_slots(copies: Copies, addresses: Addresses) -> dict:
-    """For each atom that is kept on the stack a number: two that are needed at once have different ones."""
-    saved, needed, beside = {}, {}, {}
-    for atom in {atom for row in addresses.stored.values() for _, address in row for atom in address.atoms}:
-        if atom.name == ADDED:
-            saved.setdefault(atom.copy, set()).add(atom)
-
-    def together(atoms: AbstractSet[Atom]) -> None:
-        for atom in atoms:
-            beside.setdefault(atom, set()).update(atoms)
-
-    for here in reversed(copies.order):
-        later = set()
-        for way, after in here.ways:
-            rows = addresses.stored.get((here, way), [])
-            written = {atom for atom, _ in rows}
-            read = {part for _, address in rows for part in address.atoms}
-            together(written | read | needed[after])
-            later |= read | needed[after] - written
-        kept = {Atom(KEPT, here, row.place) for row in addresses.remade.get(here, []) if row.leader is None}
-        together(later | saved.get(here, set()))
-        needed[here] = later - saved.get(here, set()) | kept
-        together(needed[here])
-    order = {here: number for number, here in enumerate(copies.order)}
-    numbers = {}
-    for atom in sorted(beside, key=lambda atom: (order[atom.copy], atom.name, in_order(atom.place))):
-        taken = {numbers[other] for other in beside[atom] if other in numbers}
-        numbers[atom] = next(number for number in range(len(taken) + 1) if number not in taken)
-    return {atom: ("shared", number) for atom, number in numbers.items()}
-
-
 class Emitter:
     """Writes a program.
 
@@ -134,11 +81,12 @@ class Emitter:
     limited  keys of copies to which a distance is handed on that a test has to bound
     blurred  of slots of additions to an address the register of the number, of which the verifier isn't to know that it
              is a constant on some ways: with a constant the sum would be another kind of address
-    differences  by the slots of stores to a counter of which the difference is added"""
+    differences  by the slots of stores to a counter of which the difference is added
+    moved    by map the parts of its values that have a counter of their own"""
 
-    def __init__(self, copies: Copies, addresses: Addresses, marks: Marks) -> None:
+    def __init__(self, copies: Copies, addresses: Addresses, marks: Marks, settings: dict) -> None:
         self.copies, self.addresses, self.end, self.context = copies, addresses, THE_END, CONTEXT_SLOT
-        self.marks = marks
+        self.marks, self.reached = marks, {}
         self.known = {slot: row.counter for row in marks.differences.values() for slot in row.known}
         self.own = OwnStack(copies, shared_slots(copies, addresses))
         self.out, self.labels, self.jumps, self.places = [], [], [], {}
@@ -150,6 +98,7 @@ class Emitter:
         for atom in {atom for address in self.stored for atom in address.atoms if atom.name == ADDED}:
             self.saved.setdefault(atom.copy, []).append(atom)
         self.write()
+        check_parts(settings, marks.moved, self.reached)
 
     # --- one instruction
 
@@ -356,9 +305,14 @@ class Emitter:
         return True
 
     def offset(self, here: Copy, insn: Instruction) -> int:
-        """The offset of an access, with what was added to its map's value."""
+        """The offset of an access, with what was added to its map's value, and where the number lies in the result's."""
         base = here.constants.registers.get(insn.base) if insn.is_load or insn.is_store else None
-        return insn.offset + (base.offset if is_address(base, VALUE) else 0)
+        if not is_address(base, VALUE):
+            return insn.offset
+        part = Part(insn.offset + base.offset, insn.size)
+        is_set = here.slot in self.marks.differences
+        self.reached.setdefault(base.map, set()).add(Access(part, here.slot, is_set))
+        return place_of(self.marks.moved, base.map, part)
 
     def lead(self, here: Copy, way: int, after: Copy, following: Optional[Copy]) -> None:
         """From a copy to the next one."""

@@ -8,13 +8,10 @@ from typing import TYPE_CHECKING
 
 from .graph import successors
 from .instructions import ADD_CONSTANT, ALU64, MOVE_REGISTER, OR, STX, writes
-from .kinds import kinds_before
 
 if TYPE_CHECKING:
     from .counts import Difference
     from .instructions import Code, Instruction
-
-COUNTER_BYTES = 8
 
 
 def may_lower(code: Code, store: int, row: Difference) -> bool:
@@ -50,15 +47,3 @@ def raised_after(instruction: Instruction, raised: frozenset[int], is_known: boo
     if grows or instruction.kind == ALU64 and instruction.operation == OR:
         return raised
     return raised - writes(instruction)
-
-
-def has_neighbour(code: Code, store: int) -> bool:
-    """Whether other numbers of its counter lie above the one that a store of fewer than eight bytes changes."""
-    before = kinds_before(code)
-    counter = before[store].counter(code[store])
-    if code[store].size == COUNTER_BYTES:
-        return False
-    reached = (before[slot].counter(row) for slot, row in code.items() if slot in before and (row.is_load or row.is_store))
-    places = {place for who, place in filter(None, reached) if counter is None or who == counter[0]}
-    at = 0 if counter is None else counter[1]
-    return any(at < place < at - at % COUNTER_BYTES + COUNTER_BYTES for place in places)

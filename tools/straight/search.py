@@ -16,7 +16,8 @@ first program is that of the copies alone. Then, one mark per refusal:
   V17, V9 at a value  of two lookups whose ways met: a copy behind the meeting for each map (`values`)
   V14 at a load      the whole counter is loaded, and the part cut out (`narrow`)
   V14 at a store     a load, an addition and a store become one atomic addition (`counts`); else the difference from
-                     what was loaded is added, if the load stays (`differences`)
+                     what was loaded is added, if the load stays (`differences`). A number of fewer than eight bytes
+                     that lies below another one of its counter gets a counter of its own (`moved`)
 
 No mark is taken back, so the search ends. It is made in several ways (`WAYS`): as few numbers told apart as loops
 need, their counters alone, all in loops, or all; a meeting marked as one copy or at all copies of its slot, or none, and
@@ -24,7 +25,7 @@ each access rebased."""
 from __future__ import annotations
 
 from dataclasses import dataclass, field
-from typing import TYPE_CHECKING, Iterable, Iterator, Optional, Sequence
+from typing import TYPE_CHECKING, Iterable, Iterator, Optional
 
 from .addresses import ADDED, KEPT, MET, Addresses, PacketAddress, StackSlot, Thing
 from .constants import MAPS, RESULTS
@@ -32,7 +33,9 @@ from .copies import COUNTERS, EVERYWHERE, IN_LOOPS, STEERING, Cases, Copies, Tri
 from .counts import difference, fused
 from .emit import Emitter, Kind, Needs
 from .graph import SIZE, Fail, NoBound, TooMany, loop_of, steering
-from .instructions import ALU64, AND, JMP, JMP32, LSH, MASK_32, RSH, compute, writes
+from .instructions import MASK_32
+from .masks import masked, parts_of
+from .parts import COUNTER_BYTES, NeedsCounters, has_parts, moved_with, with_counters
 from .settings import instructions_of, text_of
 from .verifier import verdict
 
@@ -40,11 +43,11 @@ if TYPE_CHECKING:
     from .addresses import Place
     from .copies import Copy
     from .graph import Steering
-    from .instructions import Code, Instruction
+    from .instructions import Code
     from .verifier import Verdict
 
 MOST_STEPS = 64  # of a cursor, from its first number to the most that a mask allows
-MOST_TURNS, MOST_CASES, MOST_CASE_BITS = 200, 64, 6
+MOST_TURNS, MOST_CASES = 200, 64
 MOST_ALIKE = 3  # marks at copies of one slot, from which on all its copies are marked
 MOST_JUDGED = 60000  # slots, in all programs of one search
 MOST_POSITIVE = MASK_32  # a number up to here is none that is negative in 64 bits
@@ -85,11 +88,13 @@ class Marks:
     trips: dict = field(default_factory=dict)  # of slots in loops, how often a way comes by
     narrow: set = field(default_factory=set)  # slots of loads
     rebased: set = field(default_factory=set)  # keys of copies, or slots
+    moved: dict = field(default_factory=dict)  # by map the parts of values that have a counter of their own
 
 
 @dataclass
 class Result:
-    """A program that the verifier accepts. `labels`: of its slots. `code`, `counts`, `differences`: of the original."""
+    """A program that the verifier accepts. `labels`: of its slots. `code`, `counts`, `differences`: of the original.
+    `moved`: by map the parts of values that have a counter of their own."""
 
     words: list
     relocations: list
@@ -97,6 +102,7 @@ class Result:
     code: Code
     counts: list
     differences: dict
+    moved: dict
 
 
 class Search:
@@ -152,7 +158,7 @@ class Search:
             judged += len(words)
             if judged > MOST_JUDGED:
                 break
-            answer = verdict(self.xdpbox, text_of(self.settings, words, relocations))
+            answer = verdict(self.xdpbox, text_of(with_counters(self.settings, self.marks.moved), words, relocations))
             if answer.accepted:
                 return self.result(words, relocations)
             if answer.cause is None:
@@ -173,13 +179,16 @@ class Search:
             return None
         self.addresses = Addresses(self.copies, self.is_marked, self.is_restarted)
         try:
-            return Emitter(self.copies, self.addresses, marks).program()
+            return Emitter(self.copies, self.addresses, marks, self.settings).program()
         except Needs as needs:
             self.mark_meetings(needs.meetings)
-            return None
+        except NeedsCounters as needs:
+            marks.moved = moved_with(self.settings, marks.moved, needs)
+        return None
 
     def result(self, words: list[str], relocations: list[tuple[int, str]]) -> Result:
-        return Result(words, relocations, self.labels, self.code, sorted(self.marks.counts), self.marks.differences)
+        marks = self.marks
+        return Result(words, relocations, self.labels, self.code, sorted(marks.counts), marks.differences, marks.moved)
 
     # --- what a refusal asks for; each answers whether there is a new mark
 
@@ -232,6 +241,8 @@ class Search:
             row = difference(self.code, slot)
             fresh = row is not None and slot not in self.marks.differences
             self.marks.differences.update({slot: row} if fresh else {})
+            if fresh and (self.code[slot].size < COUNTER_BYTES or has_parts(self.settings)):
+                self.follow(MAPS)
             return fresh
         self.code = mended
         self.marks.counts.append(slot)
@@ -341,41 +352,6 @@ class Search:
                 self.marks.cases[mask + 1] = Cases(self.code[mask].destination, tuple(numbers))
                 return True
         return False
-
-
-def masked(code: Code, slot: int, register: int) -> Sequence[int]:
-    """What a number can be that was masked by a constant, and maybe shifted, just before a slot; else nothing."""
-    later = []
-    while slot - 1 in code or slot - 2 in code:  # the latter in front of a wide load's second half
-        slot -= 1 if slot - 1 in code else 2
-        instruction = code[slot]
-        if register not in writes(instruction):
-            if instruction.kind in (JMP, JMP32):
-                return ()
-        elif instruction.kind != ALU64 or instruction.by_register or instruction.operation not in (AND, LSH, RSH):
-            return ()
-        elif instruction.operation == AND and instruction.immediate > 0:
-            return [after_shifts(number, later) for number in parts_of(instruction.immediate)]
-        else:
-            later.append(instruction)
-    return ()
-
-
-def parts_of(mask: int) -> Sequence[int]:
-    """The numbers that have no bit but those of a mask, of masks with few bits."""
-    if mask <= 0 or bin(mask).count("1") > MOST_CASE_BITS:
-        return ()
-    numbers = [0]
-    for bit in range(mask.bit_length()):
-        numbers += [number | 1 << bit for number in numbers] if mask >> bit & 1 else []
-    return numbers
-
-
-def after_shifts(number: int, shifts: list[Instruction]) -> int:
-    """A number after these instructions, of which the last comes first."""
-    for instruction in reversed(shifts):
-        number = compute(instruction, number, instruction.immediate)
-    return number
 
 
 def searches(settings: dict, xdpbox: str, faults: list[Fail], unguarded: list[Result]) -> Iterator[Result]:

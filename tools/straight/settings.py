@@ -10,7 +10,7 @@ from .instructions import FAR_JUMP, JUMP, WIDE_LOAD, Instruction, Table
 if TYPE_CHECKING:
     from .instructions import Code
 
-OF_THE_TOOLS = "constants", "tables", "globals"  # keys that no printed settings have
+OF_THE_TOOLS = "constants", "tables", "globals", "numbers"  # keys that no printed settings have
 
 
 def instructions_of(settings: dict) -> Code:

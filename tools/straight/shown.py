@@ -33,17 +33,27 @@ class Shown(NamedTuple):
     missing: Optional[Fail] = None
 
 
-def shown(xdpbox: str, original: dict, result: dict, labels: dict, guard: bool, proved: bool) -> Shown:
-    """What is shown of a result. `labels`: of each of its slots the kind and a slot of the original. `guard`: whether
-    it may end in front of an access outside of the packet. `proved`: whether a tested comparison isn't enough."""
-    asked = question(original, result, labels)
+class Rewriting(NamedTuple):
+    """Settings as they were, and as they are. `labels`: of each slot of the latter the kind and a slot of the former.
+    `moved`: by map the parts of its values that have a counter of their own."""
+
+    original: dict
+    result: dict
+    labels: dict
+    moved: dict
+
+
+def shown(xdpbox: str, made: Rewriting, guard: bool, proved: bool) -> Shown:
+    """What is shown of a result. `guard`: whether it may end in front of an access outside of the packet. `proved`:
+    whether a tested comparison isn't enough."""
+    asked = question(made.original, made.result, made.labels)
     answer = None if asked is None else called(xdpbox, asked)
     if answer is not None:
         return Shown(PROVED_BY[answer])
     if proved:
         return Shown(missing=Fail(UNPROVED))
     try:
-        check = Check(original, result, labels)
+        check = Check(*made)
         check.run()
     except Differs as differs:
         words = f"a program was found that isn't shown to be the same: {differs.alone}"
@@ -54,7 +64,7 @@ def shown(xdpbox: str, original: dict, result: dict, labels: dict, guard: bool, 
 
 def question(original: dict, result: dict, labels: dict) -> Optional[str]:
     """What `xdpbox same` is asked of a result, or None: an original with addresses of constants or globals is no program
-    for xdpbox, and both have to have the same maps."""
+    for xdpbox, and both have to have the same maps, which they haven't if a part has a counter of its own."""
     if original.get("tables") or original.get("globals") or maps_and_rest(original) != maps_and_rest(result):
         return None
     return text_beside(result, original, labels)

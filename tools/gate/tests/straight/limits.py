@@ -15,16 +15,18 @@ SEC("xdp") int f(struct xdp_md *ctx) {
 	if (!left) return XDP_DROP;
 """
 LIMITER = "if (p[0] == 1) {{ *left += 1; return XDP_PASS; }}\nif ({}) return XDP_DROP;\n*left -= 1;\nreturn XDP_PASS; }}\n"
-BELOW, SHARED = "compare it with sign, as `(long long)*value <= 0`", "share its counter"
-# what is done, and which notes there have to be: of a counter that may go below 0, of one that shares its counter
+BELOW, PART_BELOW = ("compare it with sign, as `(%s)*value <= 0`" % name for name in ("long long", "int"))
+OWN = "map state: left is bits 0 to 31 of counter 1"
+# what is done, and which notes there have to be: of a counter, or of a part of one, that may go below 0, and of a part
+# that has a counter of its own
 NOTED = {
-    "*left -= 1 if it isn't 0": (LIMITER.format("*left == 0"), True, False),
-    "*left -= n": ("if (*left < p[0]) return XDP_DROP; *left -= p[0]; return XDP_PASS; }", True, False),
-    "*left = 5": ("*left = 5; return XDP_PASS; }", True, False),
-    "*left += 1 if it is below a number": ("if (*left > 99) return XDP_DROP; *left += 1; return XDP_PASS; }", False, False),
-    "*left |= 4": ("*left |= 4; return XDP_PASS; }", False, False),
-    "state.left--": ("state.left--; state.passed++; return XDP_PASS; }", True, True),
-    "state.passed++": ("state.passed++; return XDP_PASS; }", False, False),
+    "*left -= 1 if it isn't 0": (LIMITER.format("*left == 0"), True, False, False),
+    "*left -= n": ("if (*left < p[0]) return XDP_DROP; *left -= p[0]; return XDP_PASS; }", True, False, False),
+    "*left = 5": ("*left = 5; return XDP_PASS; }", True, False, False),
+    "*left += 1 if it is below a number": ("if (*left > 99) return XDP_DROP; *left += 1; return XDP_PASS; }", False, False, False),
+    "*left |= 4": ("*left |= 4; return XDP_PASS; }", False, False, False),
+    "state.left--": ("state.left--; state.passed++; return XDP_PASS; }", False, True, True),
+    "state.passed++": ("state.passed++; return XDP_PASS; }", False, False, False),
 }
 REFILLS, PACKETS, RUNS = 3000, 20000, 4
 
@@ -50,7 +52,7 @@ def tests(clang, xdpbox):
         for name, (body, *wanted) in NOTED.items():
             path.write_text(HEADERS + TOKENS + body)
             made, said = settings_from_c(clang, xdpbox, path)
-            found = [BELOW in said, SHARED in said]
+            found = [BELOW in said, PART_BELOW in said, OWN in said]
             yield f"{name}: noted as it should be", "" if made and found == wanted else said or "no note"
         path.write_text(HEADERS + TOKENS + LIMITER.format("(long long)*left <= 0"))
         made, said = settings_from_c(clang, xdpbox, path)

@@ -14,6 +14,11 @@ IN_FRONT = '__asm__(".section \\"xdp\\",\\"ax\\",@progbits\\n r0 = 1\\n exit\\n.
 TWO_IN_ONE = 'SEC("xdp") int f(struct xdp_md *ctx) { return XDP_DROP; }\nSEC("xdp") int g(struct xdp_md *ctx) { return XDP_PASS; }\n'
 PASSES = ["b700000002000000", "9500000000000000"]
 # words that make something else than an object for BPF
+# a value of eight bytes whose type has 2^40 parts
+EMPTY_PARTS = """struct no { }; struct many { struct no no[1024][1024][1024][1024]; __u64 n; };
+struct { __uint(type, BPF_MAP_TYPE_ARRAY); __uint(max_entries, 1); __type(key, __u32); __type(value, struct many); } m SEC(".maps");
+SEC("xdp") int f(struct xdp_md *ctx) { __u32 k = 0; return bpf_map_lookup_elem(&m, &k) ? XDP_PASS : XDP_DROP; }
+"""
 FLAGS = "-flto", "-S", "-E", "-S -emit-llvm", "-emit-llvm", "-target bpfeb", "-target x86_64-linux-gnu"
 CHANGED, SEED, MOST_BYTES = 240, 7, 1 << 30
 # reads changed objects one after another, each of which ends by a line or is read; `-` in front of what isn't as it should be
@@ -96,6 +101,9 @@ def tests(clang, xdpbox):
             (folder / "front.c").write_text(text)
             made, said, _ = settings_from_c(clang, xdpbox, folder / "front.c")
             yield what, "" if made and tomllib.loads(made)["program"] == PASSES else made + said
+        (folder / "parts.c").write_text(HEADERS + EMPTY_PARTS)
+        made, said, status = settings_from_c(clang, xdpbox, folder / "parts.c")
+        yield "a type of too many parts", "" if status == 1 and not made and said.endswith("a type has too many parts\n") and said.count("\n") == 1 else said
         (folder / "two.c").write_text(HEADERS + TWO_IN_ONE)
         for source in (folder / "two.c", object_of(clang, folder / "two.c", folder / "two.o")):
             made, said, _ = settings_from_c(clang, xdpbox, "--program", "g", source)

@@ -70,12 +70,32 @@ SEC("xdp") int f(struct xdp_md *ctx) { __u32 k = 0; __u64 *v = bpf_map_lookup_el
 """
 
 
+# a map in front of the other one, with its number of entries
+FIRST = SIZES.split("\n")[0].replace("} m SEC", "__uint(max_entries, 3); } first SEC") % "ARRAY" + "\n"
+WRONG_ENTRIES = {
+    "n=9": "it declares no map n",
+    "m=0": "m",
+    "m=1025": "the map m has 1025 entries: 1 to 1024",
+    "m=9:2": "m=9:2 isn't NAME=ENTRIES",
+    "m": "isn't NAME=ENTRIES",
+}
+
+
 def size_tests(clang, xdpbox, path):
     """A map whose number of entries the loader gives: a word does here. Its values keep their size, and it its kind."""
     path.write_text(HEADERS + SIZES % "ARRAY")
     for word, wanted in (("m=9", {"name": "m", "entries": 9, "counters": 2}), ("m=9:3", {"name": "m", "entries": 9, "counters": 3})):
         made, said, _ = ran(clang, xdpbox, "settings-from-c", path, word)
         yield f"the word {word}", "" if made and tomllib.loads(made)["map"] == [wanted] else made + said
+    path.write_text(HEADERS + FIRST + SIZES % "ARRAY")
+    for words, wanted in (((), (3, 0)), (("--entries", "m=9"), (3, 9)), (("--entries", "m=9", "--entries", "first=2"), (2, 9))):
+        made, said, _ = ran(clang, xdpbox, "settings-from-c", *words, path)
+        sizes = {row["name"]: row["entries"] for row in tomllib.loads(made)["map"]} if made else {}
+        right = list(sizes.items()) == [("first", wanted[0]), ("m", wanted[1])] if wanted[1] else not made and "max_entries" in said
+        yield f"--entries {words}, in their order", "" if right else made + said
+    for word, wanted in WRONG_ENTRIES.items():
+        made, said, status = ran(clang, xdpbox, "settings-from-c", "--entries", word, path)
+        yield f"--entries {word} is named", "" if status and not made and wanted in said and said.count("\n") == 1 else said
     path.write_text(HEADERS + SIZES % "HASH")
     made, said, status = ran(clang, xdpbox, "settings-from-c", path, "m=9")
     yield "a word makes no array of a hash map", "" if status and not made and "BPF_MAP_TYPE_HASH" in said else made + said
@@ -126,6 +146,57 @@ def packet_tests(clang, xdpbox, folder):
         yield f"{wanted} of filter-test", "" if status and not made and wanted in said and said.count("\n") == 1 else said
 
 
+TCP, UDP, SYN, NAMES = 6, 17, 2, 53
+
+
+def ipv4(protocol, source, port=80, flags=0):
+    """A packet of IPv4 from an address."""
+    ip = bytes([0x45, 0, 0, 40, 0, 0, 0, 0, 64, protocol, 0, 0, *source, 10, 0, 0, 1])
+    return bytes(12) + b"\x08\0" + ip + bytes([4, 0]) + port.to_bytes(2, "big") + bytes(9) + bytes([flags]) + bytes(6)
+
+
+def example_tests(clang, xdpbox, folder):
+    """A rate without a clock, and state by address: what becomes of packets in their order."""
+    syn, other = ipv4(TCP, (10, 0, 0, 2), 80, SYN), ipv4(TCP, (10, 0, 0, 2))
+    one, two, plain = ipv4(UDP, (10, 0, 0, 2), NAMES), ipv4(UDP, (10, 0, 7, 9), NAMES), ipv4(UDP, (10, 0, 0, 2))
+    # 64, and one for each eight packets, these among them
+    share = [(syn, "PASS", 74), (syn, "DROP", 5), (other, "PASS", 3)]
+    share += [row for drops in (5, 7, 7) for row in ((syn, "PASS", 1), (syn, "DROP", drops))]
+    budget = [(one, "PASS", 32), (one, "DROP", 9), (two, "PASS", 32), (two, "DROP", 1), (plain, "PASS", 2), (one, "PASS", 1), (one, "DROP", 1)]
+    for name, rows in (("syn-share", share), ("budget-by-source", budget)):
+        path = folder / "of-an-example"
+        path.write_text("".join(f"{action} {packet.hex()}\n" * count for packet, action, count in rows))
+        source = EXAMPLES / "straightened" / name / f"{name.replace('-', '_')}.c"
+        made, said, status = ran(clang, xdpbox, "filter-test", source, path)
+        yield f"the example {name}", "" if not status and "passed, 0 failed\n" in made else made[-600:] + said
+
+
+# here the interface has number 0, and in a test run of Linux's it is the loopback one
+OF_INTERFACE = 'SEC("xdp") int f(struct xdp_md *ctx) { return ctx->ingress_ifindex ? XDP_DROP : XDP_PASS; }\n'
+
+
+def linux_tests(clang, xdpbox, folder):
+    """The same packets in Linux, if it can be asked."""
+    path, packets = folder / "of_interface.c", folder / "one-packet"
+    path.write_text(HEADERS + OF_INTERFACE)
+    packets.write_text(f"PASS {'00' * 14}\n")
+    made, said, status = ran(clang, xdpbox, "filter-test", "--linux", path, packets)
+    if "Linux isn't asked: " in said:
+        print(f"left out: filters beside Linux: {said.strip()}")
+        yield "a filter that Linux isn't asked about", "" if made == "1 passed, 0 failed\n" and said.count("\n") == 1 else made + said
+        return
+    right = status == 1 and made == f"{packets}:1: PASS here, and DROP in Linux\n0 passed, 1 failed\n"
+    yield "a packet of which Linux makes something else", "" if right else made + said
+    for name in ("47-majority", "61-narrow-values", "63-open-ports", "59-replay-window"):
+        source = FILTERS / f"{name}.c"
+        made, said, status = ran(clang, xdpbox, "filter-test", "--linux", source, source.with_suffix(".packets"))
+        right = not status and made.endswith(" passed, 0 failed\n") and "isn't asked" not in said
+        yield f"{name} beside Linux", "" if right else made + said
+    for words, wanted in (((EXAMPLES / "drop-ipv6/settings.toml",), "that wants a file of C"), (("--guard", path), "that wants a file of C")):
+        made, said, status = ran(clang, xdpbox, "filter-test", "--linux", *words, packets)
+        yield f"Linux and {words[0]}", "" if f"Linux isn't asked: {wanted}" in said and "passed, " in made else made + said
+
+
 def tests(clang, xdpbox):
     with tempfile.TemporaryDirectory() as name:
         folder = pathlib.Path(name)
@@ -133,3 +204,5 @@ def tests(clang, xdpbox):
         yield from size_tests(clang, xdpbox, folder / "sizes.c")
         yield from same_tests(clang, xdpbox, folder / "limits.c")
         yield from packet_tests(clang, xdpbox, folder)
+        yield from example_tests(clang, xdpbox, folder)
+        yield from linux_tests(clang, xdpbox, folder)

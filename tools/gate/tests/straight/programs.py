@@ -345,6 +345,22 @@ HALF_COUNTER = settings(
 UPPER_HALF = settings(
     *lookup((LOAD_WORD, R6, R0, 4), (ADD_CONSTANT, R6, 0, 0, 3), (STORE_WORD, R0, R6, 4)), *PASS, entries=1
 )
+# both halves of one are added to, and the lower one, which gets a counter of its own, is the answer
+BOTH_HALVES = settings(
+    *lookup(
+        (LOAD_WORD, R6, R0),
+        (ADD_CONSTANT, R6, 0, 0, -3),
+        (STORE_WORD, R0, R6),
+        (LOAD_WORD, R7, R0, 4),
+        (ADD_CONSTANT, R7, 0, 0, 1),
+        (STORE_WORD, R0, R7, 4),
+        (LOAD_BYTE, R0, R0, 1),
+        (EXIT,),
+    ),
+    *PASS,
+    entries=2,
+    counters=2,
+)
 BETWEEN_COUNTERS = settings(
     *lookup((MOVE_CONSTANT, R1, 0, 0, 1), (STORE_HALF, R0, R1, 7)), *PASS, entries=1, counters=2
 )

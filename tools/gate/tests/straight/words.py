@@ -28,6 +28,11 @@ NOT_HERE = {
     "nine counters": (MAP.format("ARRAY", 1, "__u32", "struct { __u64 n[9]; }", "m"), LOOKUP, "have 72 bytes: a value has 1 to 64"),
     "a map that is none": ('int m SEC(".maps");', "return m;", 'm stands in section ".maps", and is no struct'),
     "a clock": ("", "return bpf_ktime_get_ns() & 1 ? XDP_DROP : XDP_PASS;", "calls bpf_ktime_get_ns, which isn't here"),
+    "a question for a device": (
+        "",
+        "__u32 most = 0; return bpf_check_mtu(ctx, 0, &most, 0, 0) ? XDP_DROP : XDP_PASS;",
+        "calls bpf_check_mtu, which isn't here: there is no device to ask: compare the length",
+    ),
     "a redirect": ("", "return bpf_redirect(1, 0);", "there is no other device here: XDP_PASS gives the packet to the host, which forwards it; XDP_TX sends it back"),
     "a global of 12 bytes": (
         "struct { int a, b, c; } seen;",

@@ -1,0 +1,376 @@
+"""Numbers of fewer than eight bytes that share a counter: two runs of a filter at once change none but what they store to.
+
+A number that is stored below another one has a counter of its own. What two runs leave is known, wherever one of them
+stands when the other runs; and pairs in which a part is at another place than the map says aren't called the same."""
+import itertools
+import os
+import pathlib
+import re
+import subprocess
+import tempfile
+import tomllib
+from typing import NamedTuple
+
+import machine
+from programs import ADD_CONSTANT, ATOMIC_DOUBLE, CALL, EXIT, IF_ABOVE_CONSTANT, IF_ABOVE_REGISTER, IF_EQUAL_CONSTANT
+from programs import LOAD_DOUBLE, LOAD_WORD, LSH_CONSTANT, MOVE_CONSTANT, MOVE_REGISTER, PASS, R0, R1, R2, R3, R6, R10
+from programs import BOTH_HALVES, RSH_CONSTANT, START, STORE_DOUBLE, STORE_WORD, WIDE_LOAD, lookup, settings
+from from_c import program
+from same.check import Check
+from same.state import Differs
+from straight.instructions import BY_REGISTER, JLE, JMP
+from straight.parts import Part, with_counters
+from straight.settings import text_of
+from straight.verifier import verdict
+
+TOOLS = pathlib.Path(__file__).resolve().parents[3]
+HEADERS = "#include <linux/bpf.h>\n#include <bpf/bpf_helpers.h>\n"
+FUNCTION = """SEC("xdp") int f(struct xdp_md *ctx) {
+	__u8 *p = (void *)(long)ctx->data;
+	if (p + 14 > (__u8 *)(long)ctx->data_end) return XDP_ABORTED;
+"""
+LIMITER = FUNCTION + """	if (p[0] == 1) { left += 1; return XDP_TX; }
+	if (%s) return XDP_DROP;
+	left -= 1; passed += 1;
+	return XDP_PASS; }
+"""
+MAP = 'struct { __uint(type, BPF_MAP_TYPE_ARRAY); __uint(max_entries, 3); __type(key, __u32); __type(value, %s); } state SEC(".maps");\n'
+LOOKED_UP = FUNCTION + """	__u32 key = 2; %s *row = bpf_map_lookup_elem(&state, &key);
+	if (!row) return XDP_ABORTED;
+"""
+
+
+REFILL = bytes([1]) + bytes(13)
+SOME_PACKETS = [bytes([first, second]) + bytes(12) for first in (1, 1, 0, 0, 0, 1, 0, 7) for second in (0, 1, 1, 0)]
+
+
+def of_names(text, left, passed):
+    return text.replace("left", left).replace("passed", passed)
+
+
+class Limiter(NamedTuple):
+    """A filter that counts what is left and what has passed in parts of one counter: the names of the two, the entry of the map
+    that has them, and where a host finds them."""
+
+    text: str
+    left: str
+    passed: str
+    entry: int
+    places: list
+
+    @property
+    def source(self):
+        return HEADERS + self.text
+
+
+def of_global(declaration, left, passed, *places):
+    """A limiter whose numbers a global has. What stands in the place of these names in C, and in comments."""
+    return Limiter(declaration + of_names(LIMITER % "left == 0", f"state{left[0]}", f"state{passed[0]}"), left[1], passed[1], 0, places)
+
+
+def of_value(declaration, type_, left, passed, *places):
+    """The same of a map's value."""
+    text = of_names((LIMITER % "left == 0").replace(FUNCTION, LOOKED_UP % type_), f"row->{left}", f"row->{passed}")
+    return Limiter(declaration + MAP % type_ + text, left, passed, 2, places)
+
+
+LIMITERS = {
+    "two halves of a global": of_global(
+        "static volatile struct { __u32 left, passed; } state;\n",
+        (".left", "left"),
+        (".passed", "passed"),
+        "left is bits 0 to 31 of counter 1",
+        "passed is bits 32 to 63 of counter 0",
+    ),
+    "a value's bytes": of_value(
+        "struct row { __u8 left, passed; __u64 bytes; };\n",
+        "struct row",
+        "left",
+        "passed",
+        "left is bits 0 to 7 of counter 2",
+        "passed is bits 8 to 15 of counter 0",
+    ),
+    "the upper of which is first": of_global(
+        "static volatile struct { __u16 passed, left; __u32 none; } state;\n",
+        (".left", "left"),
+        (".passed", "passed"),
+        "passed is bits 0 to 15 of counter 1",
+        "left is bits 0 to 15 of counter 2",
+        "none is bits 32 to 63 of counter 0",
+    ),
+    "elements that are chosen by a number": of_global(
+        "static volatile __u16 state[4];\n",
+        ("[p[1] & 1]", "[0]"),
+        ("[2 + (p[1] & 1)]", "[2]"),
+        "[0] is bits 0 to 15 of counter 1",
+        "[2] is bits 0 to 15 of counter 3",
+        "[3] is bits 48 to 63 of counter 0",
+    ),
+    "a member of a member": of_value(
+        "struct both { __u16 left, passed; }; struct row { __u32 none; struct both both[2]; };\n",
+        "struct row",
+        "both[1].left",
+        "both[1].passed",
+        "both[1].left is bits 0 to 15 of counter 2",
+        "both[1].passed is bits 16 to 31 of counter 1",
+    ),
+}
+# C in which a store may change another number whatever is done, and what is said
+REFUSED = {
+    "nine numbers": (
+        "static volatile __u8 state[16];\n" + FUNCTION + "for (int i = 0; i < 9; i++) state[i]--; return XDP_PASS; }",
+        "numbers of state are stored below another one of their counter",
+    ),
+    "two numbers at once": (
+        "static volatile struct { __u32 left, passed; } state;\n" + FUNCTION
+        + "state.left -= 1; return *(volatile __u64 *)&state ? XDP_PASS : XDP_DROP; }",
+        "a store may change another one of left, passed",
+    ),
+    "a number and a half of it": (
+        "static volatile union { __u32 both; __u16 each[2]; } state;\n" + FUNCTION
+        + "state.each[0] -= 1; return state.both ? XDP_PASS : XDP_DROP; }",
+        "a store may change another one of both, each[0], each[1]",
+    ),
+    "bit fields": (
+        "static volatile struct { __u32 left : 8, passed : 24; } state;\n" + FUNCTION + "state.left--; return state.passed & 1; }",
+        "a store may change another one of left, passed",
+    ),
+    "a struct that is set whole": (
+        "static volatile struct { __u32 left, passed; } state;\n" + FUNCTION
+        + "if (p[0]) state.left--; else *(volatile __u64 *)&state = 0; return state.passed & 1; }",
+        "a store may change another one of left, passed",
+    ),
+}
+
+
+def settings_from_c(clang, xdpbox, path, *words):
+    run = subprocess.run([TOOLS / "settings-from-c", *words, path], env={**os.environ, "CLANG": clang, "XDPBOX": xdpbox}, capture_output=True, text=True, check=False)
+    return run.stdout, run.stderr
+
+
+def original_of(clang, path):
+    """What clang makes of it, with its constants and globals as they are."""
+    os.environ["CLANG"] = clang
+    return program.read(program.Asked(str(path))).settings
+
+
+def moved_in(original, made):
+    """The parts that have a counter of their own, as the comments of printed settings say it: by map, by (place, size)."""
+    found = {}
+    for row in original.get("map", []):
+        numbers = {number["name"]: number for number in original.get("numbers", {}).get(row["name"], [])}
+        for name, bit, counter in re.findall(rf"^# map {re.escape(row['name'])}: (.*) is bits (\d+) to \d+ of counter (\d+)$", made, re.M):
+            if int(counter) >= row.get("counters", 1):
+                number = numbers[name]
+                assert bit == "0", made
+                found.setdefault(row["name"], {})[number["place"], number["size"]] = int(counter)
+    return found
+
+
+def number_in(made, counters, name, entry):
+    """What stands in a number, found as a host finds it: by the comments."""
+    first, last, counter = map(int, re.search(rf"^# map state: {re.escape(name)} is bits (\d+) to (\d+) of counter (\d+)$", made, re.M).groups())
+    each = tomllib.loads(made)["map"][0].get("counters", 1)
+    return counters.get(("state", each * entry + counter), 0) >> first & ((1 << last - first + 1) - 1)
+
+
+def together(result, before, packet):
+    """What two runs answer and leave, of which one stands still after each number of its steps while the other runs."""
+    for still in itertools.count():
+        one, two = machine.Machine(result), machine.Machine(result)
+        two.values = one.values
+        for each in before:
+            one.run(each)
+        steps = one.steps(packet)
+        answers = [done for done in itertools.islice(steps, still) if done]
+        if answers:
+            return
+        other = two.run(packet)
+        yield [done for done in steps if done] + [other], one.counters()
+
+
+def limiter_tests(clang, xdpbox, path):
+    for name, row in LIMITERS.items():
+        path.write_text(row.source)
+        made, said = settings_from_c(clang, xdpbox, path)
+        missing = [place for place in row.places if f"\n# map state: {place}\n" not in made or f"note: map state: {place}\n" not in said]
+        yield f"{name}: where they are", f"{missing} {made[:400]} {said}" if missing else ""
+        if made:
+            wrong, count = wrong_together(row, made)
+            yield f"{name}: two runs at {count} places of one", " ".join(wrong[:3]) or ("" if count > 20 else "too few")
+            original, result = original_of(clang, path), tomllib.loads(made)
+            relocations = [(each["slot"], each["map"]) for each in result["reloc"]]
+            moved = moved_in(original, made)
+            wrong, count = machine.differences(xdpbox, original, result["program"], relocations, SOME_PACKETS, moved)
+            yield f"{name} as clang made it, on {count} packets", " ".join(wrong[:3])
+
+
+def wrong_together(row, made):
+    """What two runs leave that isn't what each of them did, and how many times the two were run."""
+    result, wrong, count = tomllib.loads(made), [], 0
+    bits = int(re.search(rf"^# map state: {re.escape(row.left)} is bits 0 to (\d+)", made, re.M)[1]) + 1
+    for begin in (1, 2):
+        for answers, counters in together(result, [REFILL] * begin, bytes(14)):
+            found = [number_in(made, counters, name, row.entry) for name in (row.passed, row.left)]
+            passed = sum(action == "PASS" for action, _ in answers)
+            count += 1
+            if found != [passed, (begin - passed) % (1 << bits)]:
+                wrong.append(f"{found} after {passed} of {begin} passed")
+    return wrong, count
+
+
+REFILLS, PACKETS, RUNS = 3000, 20000, 6
+
+
+def pair_of_queues_tests(clang, xdpbox, path):
+    """Two queues: what has passed is what the counter says, whatever is left."""
+    path.write_text(LIMITERS["two halves of a global"].source)
+    made, said = settings_from_c(clang, xdpbox, path)
+    if not made:
+        yield "two queues", said
+        return
+    rows = "".join(f'[[packet]]\nqueue = 0\nbytes = "{first}{"00" * 13}"\n' for first in ("01", "00")) * REFILLS
+    rows += f'[[packet]]\nqueue = 1\nbytes = "{"00" * 14}"\ntimes = {PACKETS}\n'
+    wrong, below = [], 0
+    for _ in range(RUNS):
+        run = subprocess.run([xdpbox, "pair", "--turns", "1000000"], input="queues = 2\n" + made + rows, capture_output=True, text=True, check=True)
+        counters = {("state", int(line[3])): int(line[4]) for line in map(str.split, run.stdout.splitlines()) if line[0] == "counter"}
+        found, left = number_in(made, counters, "passed", 0), number_in(made, counters, "left", 0)
+        below += left >> 31
+        if found != REFILLS - (left ^ 1 << 31) + (1 << 31):
+            wrong.append(f"{found} passed, {left} left: {run.stdout[-300:]}")
+    yield f"two queues, {below} of {RUNS} times below 0: what has passed", " ".join(wrong[:2])
+
+
+def refused_tests(clang, xdpbox, path):
+    for name, (text, wanted) in REFUSED.items():
+        path.write_text(HEADERS + text)
+        made, said = settings_from_c(clang, xdpbox, path)
+        yield f"{name}: refused", "" if not made and wanted in said and "make each of them a __u64" in said else made[:200] + said
+
+
+def tests(clang, xdpbox):
+    with tempfile.TemporaryDirectory() as folder:
+        path = pathlib.Path(folder, "filter.c")
+        yield from limiter_tests(clang, xdpbox, path)
+        yield from pair_of_queues_tests(clang, xdpbox, path)
+        yield from refused_tests(clang, xdpbox, path)
+
+
+# --- pairs
+
+# r6 is the packet's start, of 14 bytes, and the map's address lies on the stack; then r0 is the address of a value
+IF_NOT_ABOVE_REGISTER = JMP | JLE | BY_REGISTER
+BEFORE = [
+    *START,
+    (MOVE_REGISTER, R6, R2),
+    (ADD_CONSTANT, R2, 0, 0, 14),
+    (IF_NOT_ABOVE_REGISTER, R2, R3, 2),
+    *PASS,
+    (WIDE_LOAD, R1),
+    (STORE_DOUBLE, R10, R1, -32),
+]
+SPILLED = (STORE_DOUBLE, R10, R0, -16)
+# programs of which the number of an address decides something, or that reach outside of their values: in a map whose values
+# grow they'd be others, though no instruction changes
+SEEN = {
+    "the address is the answer": [(EXIT,)],
+    "the address is stored in the packet": [(STORE_DOUBLE, R6, R0)],
+    "half of it is stored in the packet": [(STORE_WORD, R6, R0)],
+    "half of the stored address is loaded": [SPILLED, (LOAD_WORD, R0, R10, -12), (EXIT,)],
+    "the stored address is loaded at another place": [SPILLED, (STORE_DOUBLE, R10, R0, -24), (LOAD_DOUBLE, R0, R10, -20), (EXIT,)],
+    "the stored address is a key": [
+        SPILLED,
+        (MOVE_REGISTER, R2, R10),
+        (ADD_CONSTANT, R2, 0, 0, -16),
+        (LOAD_DOUBLE, R1, R10, -32),
+        (CALL, 0, 0, 0, 1),
+        (IF_EQUAL_CONSTANT, R0, 0, 2, 0),
+        (MOVE_CONSTANT, R0, 0, 0, 1),
+        (EXIT,),
+    ],
+    "the address is compared with a number": [(IF_ABOVE_CONSTANT, R0, 0, 2, 0x50000009), (MOVE_CONSTANT, R0, 0, 0, 1), (EXIT,)],
+    "the address is compared with the packet's": [(IF_ABOVE_REGISTER, R0, R6, 2), (MOVE_CONSTANT, R0, 0, 0, 1), (EXIT,)],
+    "a part of the address is the answer": [(RSH_CONSTANT, R0, 0, 0, 3), (EXIT,)],
+    "a multiple of the address is the answer": [(LSH_CONSTANT, R0, 0, 0, 1), (EXIT,)],
+    "the address is added to a counter": [(ATOMIC_DOUBLE, R0, R0, 8)],
+    "the address or a number is the answer": [(LOAD_WORD, R3, R6), (IF_EQUAL_CONSTANT, R3, 0, 1, 7), (MOVE_CONSTANT, R0, 0, 0, 3), (EXIT,)],
+    "the address was stored on one of two ways": [
+        (STORE_WORD, R10, R6, -16),
+        (STORE_WORD, R10, R6, -12),
+        (LOAD_WORD, R3, R6),
+        (IF_EQUAL_CONSTANT, R3, 0, 1, 7),
+        SPILLED,
+        (LOAD_DOUBLE, R0, R10, -16),
+        (EXIT,),
+    ],
+    "a counter that the original doesn't have": [(LOAD_DOUBLE, R3, R0, 16), (STORE_DOUBLE, R6, R3)],
+    "a part and what lies beside it": [(LOAD_DOUBLE, R3, R0), (STORE_DOUBLE, R6, R3)],
+}
+MOVED = {"hits": {Part(0, 4): 2}}
+# the same program, of parts that aren't any, or that have no counter of their own
+WRONG_PARTS = {
+    "a counter that another number has": {"hits": {(0, 4): 1}},
+    "a counter that isn't there": {"hits": {(0, 4): 3}},
+    "two parts in one counter": {"hits": {(0, 2): 2, (2, 2): 2}},
+    "two parts with a byte in common": {"hits": {(0, 4): 2, (2, 2): 3}},
+    "a part of two counters": {"hits": {(6, 4): 2}},
+    "a part of no bytes": {"hits": {(0, 0): 2}},
+    "a part in front of the value": {"hits": {(-4, 4): 2}},
+    "a part behind the value": {"hits": {(16, 4): 2}},
+    "a part of another map": {"none": {(0, 4): 2}},
+    "no part, and a counter more": {},
+}
+
+
+def called_same(original, result, labels, moved):
+    """Whether the comparison calls them the same: nothing, or what differs."""
+    try:
+        check = Check(original, result, labels, moved)
+        check.run()
+    except Differs as differs:
+        return f"{differs}"
+    return "unproven" if check.unproven else ""
+
+
+def pair_tests(xdpbox):
+    """Programs that are no others but for a map, whose values have more counters."""
+    labels = {}
+    for name, rest in SEEN.items():
+        given = settings(*BEFORE, *lookup(*rest), *PASS, entries=1, counters=2)
+        labels = {slot: ("copy", slot) for slot in range(len(given["program"]))}
+        grown = with_counters(given, MOVED)
+        relocations = [(row["slot"], row["map"]) for row in grown["reloc"]]
+        answer = verdict(xdpbox, text_of(grown, grown["program"], relocations))
+        yield f"{name}: the same in a map as it was", called_same(given, given, labels, {})
+        yield f"{name}: accepted in one that grew", "" if answer.accepted else answer.words or "no answer"
+        yield f"{name}: not the same in one that grew", "" if called_same(given, grown, labels, MOVED) else "it is called the same"
+    given = settings(*BEFORE, *lookup((LOAD_DOUBLE, R3, R0, 8)), *PASS, entries=1, counters=2)
+    labels = {slot: ("copy", slot) for slot in range(len(given["program"]))}
+    yield "a counter without parts", called_same(given, with_counters(given, MOVED), labels, MOVED)
+    for name, moved in WRONG_PARTS.items():
+        grown = {**given, "map": [{**given["map"][0], "counters": 2 + max(1, len(moved.get("hits", {})))}]}
+        yield f"{name}: refused", "" if called_same(given, grown, labels, moved) else "it is called the same"
+    yield from map_tests(xdpbox)
+
+
+WRONG_LINES = "moved 0 0 4 1", "moved 0 0 4 3", "moved 0 0 2 2", "moved 0 4 4 2", "moved 1 0 4 2", "moved 0 0 4", "moved 0 0 4 x", ""
+
+
+def map_tests(xdpbox):
+    """What `straighten --map` writes, as `same-program` reads it."""
+    given = text_of(BOTH_HALVES, BOTH_HALVES["program"], [(row["slot"], row["map"]) for row in BOTH_HALVES["reloc"]])
+    with tempfile.TemporaryDirectory() as folder:
+        original, result, path = (pathlib.Path(folder, name) for name in ("original.toml", "result.toml", "map"))
+        original.write_text(given)
+        run = subprocess.run([TOOLS / "straighten", "--map", path], input=given, env={**os.environ, "XDPBOX": xdpbox}, capture_output=True, text=True, check=False)
+        result.write_text(run.stdout)
+        said = "\n# map hits: the number at byte 0 is bits 0 to 31 of counter 2\n" in run.stdout
+        yield "straighten says where the bytes are", "" if said else run.stdout[:300] + run.stderr
+        lines = path.read_text().splitlines() if path.exists() else []
+        yield "and the map", "" if lines[-1:] == ["moved 0 0 4 2"] else f"{lines[-2:]}"
+        for line in (*lines[-1:], *WRONG_LINES):
+            path.write_text("\n".join([*lines[:-1], line]) + "\n")
+            run = subprocess.run([TOOLS / "same-program", original, result, path], capture_output=True, text=True, check=False)
+            right = run.returncode == (line != lines[-1]) and run.stderr.count("\n") == run.returncode and "Traceback" not in run.stderr
+            yield f"a map with the line {line!r}", "" if right else run.stdout + run.stderr

@@ -1,0 +1,182 @@
+"""Numbers of fewer than eight bytes in a map's value, and which of them get a counter of their own.
+
+A store to such a number adds the difference to its whole counter. Of two queues that do it at once the second may take
+the number below 0, or above its size, and so it would change what lies above it in the counter. A number that is stored
+below another one therefore stands alone in a counter behind those of the value."""
+from __future__ import annotations
+
+from typing import Iterable, Iterator, NamedTuple, Optional
+
+from .graph import Fail
+
+COUNTER_BYTES, MOST_COUNTERS = 8, 8
+EACH_WHOLE = "make each of them a __u64"
+
+
+class Part(NamedTuple):
+    """Bytes of a value: from which place on, and how many."""
+
+    place: int
+    size: int
+
+    @property
+    def end(self) -> int:
+        return self.place + self.size
+
+    @property
+    def counter(self) -> int:
+        """The counter in which it begins."""
+        return self.place // COUNTER_BYTES
+
+    def holds(self, other: Part) -> bool:
+        return self.place <= other.place and other.end <= self.end
+
+    def meets(self, other: Part) -> bool:
+        """Whether the two have a byte in common."""
+        return self.place < other.end and other.place < self.end
+
+    def with_(self, other: Part) -> Part:
+        place = min(self.place, other.place)
+        return Part(place, max(self.end, other.end) - place)
+
+
+Moved = dict[str, dict[Part, int]]  # by the map's name the parts that have a counter of their own, and which
+
+
+class NeedsCounters(Fail):
+    """Parts of a map's values that need a counter of their own."""
+
+    def __init__(self, name: str, parts: Iterable[Part], slot: int) -> None:
+        super().__init__("a number shares its counter", slot)
+        self.name, self.parts = name, list(parts)
+
+
+class Access(NamedTuple):
+    """An access in a map's value. `slot`: of the original. `is_set`: whether its difference is added."""
+
+    part: Part
+    slot: int
+    is_set: bool
+
+
+def place_of(moved: Moved, name: Optional[str], part: Part) -> int:
+    """Where a part lies in the result's value."""
+    for whole, counter in moved.get(name, {}).items():
+        if whole.holds(part):
+            return COUNTER_BYTES * counter + part.place - whole.place
+    return part.place
+
+
+def with_counters(settings: dict, moved: Moved) -> dict:
+    """Settings whose maps have the counters that were added."""
+    added = {name: len(parts) for name, parts in moved.items()}
+    rows = [
+        {**row, "counters": row.get("counters", 1) + added[row["name"]]} if added.get(row["name"]) else row
+        for row in settings.get("map", [])
+    ]
+    return {**settings, "map": rows} if rows else settings
+
+
+def declared(settings: dict, name: str) -> list[dict]:
+    """The numbers of a map's value as C declares them: rows with a name, a place, a size, and whether it is a bit field."""
+    return settings.get("numbers", {}).get(name, [])
+
+
+def has_parts(settings: dict) -> bool:
+    """Whether C declares numbers of fewer than eight bytes, or bit fields, in a value."""
+    return any(row["bits"] or row["size"] < COUNTER_BYTES for rows in settings.get("numbers", {}).values() for row in rows)
+
+
+def check_parts(settings: dict, moved: Moved, reached: dict[Optional[str], set[Access]]) -> None:
+    """Ends if a store may change another number of its counter. `reached`: by map the accesses in its values."""
+    for name, accesses in sorted(reached.items(), key=lambda row: str(row[0])):
+        own, wanted = moved.get(name, {}), {}
+        for row in sorted(row for row in accesses if row.is_set):
+            whole = stored_below(declared(settings, name), row, [other.part for other in accesses])
+            if whole is not None and whole not in own:
+                wanted.setdefault(whole, row.slot)
+        if any(part.meets(other) for part in own for other in wanted):
+            raise Fail(f"{name} has numbers that are reached in several ways: {EACH_WHOLE}", min(wanted.values()))
+        if wanted and name is None:
+            raise Fail("a store may change another number of its counter, of which the map isn't known", min(wanted.values()))
+        if wanted:
+            raise NeedsCounters(name, wanted, min(wanted.values()))
+
+
+def stored_below(rows: list[dict], store: Access, reached: list[Part]) -> Optional[Part]:
+    """The number that a store is to, if it may change what lies above it in the counter; or None. Fail if no number
+    holds all that is reached at once with it. `rows`: as they are declared."""
+    numbers = [part_of(row) for row in rows]
+    whole = number_of(rows, store, joined(store.part, reached))
+    above = (part for part in [*numbers, *reached] if part.place >= whole.end)
+    return whole if any(part.counter == whole.counter for part in above) else None
+
+
+def number_of(rows: list[dict], store: Access, whole: Part) -> Part:
+    """The number that a store is to. `whole`: what is reached at once with its bytes."""
+    inside = [row for row in rows if whole.meets(part_of(row))]
+    holding = [row for row in inside if part_of(row).holds(whole)]
+    if holding:
+        number = min((part_of(row) for row in holding), key=lambda part: part.size)
+        within = [row for row in rows if number.holds(part_of(row))]
+        fields = [row for row in within if row["bits"]]
+        if len(fields) > 1 or any(row["place"] >= store.part.end for row in within):
+            raise shared(within, store)
+        return number
+    if len(inside) > 1:
+        raise shared(inside, store)
+    if not inside and whole != store.part:
+        words = f"a store of {store.part.size} bytes may change others of the {whole.size} that are reached at once"
+        raise Fail(f"{words}: {EACH_WHOLE}", store.slot)
+    return whole
+
+
+def shared(rows: list[dict], store: Access) -> Fail:
+    """Of a store to one of numbers that can't be told apart."""
+    names = ", ".join(dict.fromkeys(row["name"] for row in rows))
+    return Fail(f"a store may change another one of {names}, which lie in one counter: {EACH_WHOLE}", store.slot)
+
+
+def part_of(row: dict) -> Part:
+    """The bytes of a number as it is declared."""
+    return Part(row["place"], row["size"])
+
+
+def joined(part: Part, others: Iterable[Part]) -> Part:
+    """The bytes that hang together with a part: of all that have one in common."""
+    others, before = list(others), None
+    while part != before:
+        before = part
+        for other in others:
+            part = part.with_(other) if part.meets(other) else part
+    return part
+
+
+def moved_with(settings: dict, moved: Moved, needs: NeedsCounters) -> Moved:
+    """The same with counters for further parts, one for each. Fail if a value would have too many."""
+    row = next(row for row in settings["map"] if row["name"] == needs.name)
+    counters = row.get("counters", 1)
+    parts = sorted({*moved.get(needs.name, {}), *needs.parts})
+    if counters + len(parts) > MOST_COUNTERS:
+        raise Fail(
+            f"{len(parts)} numbers of {needs.name} are stored below another one of their counter, and each needs one of its"
+            f" own: its {counters} and these are more than {MOST_COUNTERS}: {EACH_WHOLE}, or use more than one map",
+            needs.slot,
+        )
+    if any(part.counter != (part.end - 1) // COUNTER_BYTES for part in parts):
+        raise Fail(f"a number of {needs.name} lies in two counters: don't pack the struct", needs.slot)
+    return {**moved, needs.name: {part: counters + number for number, part in enumerate(parts)}}
+
+
+def places_of(settings: dict, moved: Moved) -> Iterator[str]:
+    """Where a host finds the numbers of fewer than eight bytes: a line each."""
+    for row in settings.get("map", []):
+        rows = [part for part in declared(settings, row["name"]) if part["size"] < COUNTER_BYTES and not part["bits"]]
+        own = moved.get(row["name"], {})
+        whole = [part for part in rows if all(one.holds(part_of(part)) or not one.meets(part_of(part)) for one in own)]
+        named = {part_of(part): part["name"] for part in whole}
+        unnamed = {part: f"the number at byte {part.place}" for part in own if part not in named}
+        for part, name in sorted({**named, **unnamed}.items()):
+            at = place_of(moved, row["name"], part)
+            low, counter = 8 * (at % COUNTER_BYTES), at // COUNTER_BYTES
+            yield f"map {row['name']}: {name} is bits {low} to {low + 8 * part.size - 1} of counter {counter}"
