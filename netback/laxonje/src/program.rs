@@ -54,7 +54,7 @@ impl fmt::Display for LoadError {
         match self {
             LoadError::Refused { cause, slot } => write!(to, "V{} at slot {slot}: {cause}", cause.0),
             LoadError::Map(number) => write!(to, "map {number} is out of its limits"),
-            LoadError::Settings(fault) => write!(to, "L{} of the settings: {fault}", fault.0),
+            LoadError::Settings(fault) => write!(to, "L{}: {fault}", fault.0),
             LoadError::Memory => to.write_str("memory ran out"),
         }
     }

@@ -29,7 +29,7 @@ fn a_refusal_has_its_cause_its_slot_and_its_text() {
     assert!(!refused.advice().is_empty());
     assert_eq!(Program::load(&[], &[]).unwrap_err(), LoadError::Refused { cause: Cause(1), slot: 0 });
     assert_eq!(Program::load(&PASS, &[MapSize { entries: 0, counters: 1 }]).unwrap_err(), LoadError::Map(0));
-    assert_eq!(Program::from_settings(b"x").unwrap_err().to_string(), "L2 of the settings: not TOML");
+    assert_eq!(Program::from_settings(b"x").unwrap_err().to_string(), "L2: not TOML");
     assert_eq!(Program::from_settings(b"program = []\nx = 1").unwrap_err(), LoadError::Settings(Fault::KEY));
 }
 
