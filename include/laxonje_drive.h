@@ -11,8 +11,8 @@
 /* What the host does. `host` is what each call is given. */
 struct laxonje_io {
 	void *host;
-	/* The LAXONJE_PAGE_WORDS words of the frame `op->frame`, aligned to 4 bytes, and not null. It is asked before the op is made, so that a
-	 * host that maps a page for a while sees what for. */
+	/* The LAXONJE_PAGE_WORDS words of the frame `op->frame`, aligned to 4 bytes. It is asked before the op is made, so that a host that maps a
+	 * page for a while sees what for. Null if the page can't be had: the op isn't made, and nothing after it. */
 	uint32_t *(*page)(void *host, const struct laxonje_op *op);
 	/* Sends a notice to a port. */
 	void (*notify)(void *host, uint32_t port);
@@ -30,8 +30,8 @@ struct laxonje_drive {
 	uint32_t words[LAXONJE_PAGE_WORDS];
 };
 
-/* The outcome if nothing was begun: `cause` says why (enum laxonje_taken). If it is LAXONJE_TAKEN_BUSY, `page` or `notify` didn't return
- * before, as by an exception, so an access is missing, and the queue can only be deleted. */
+/* The outcome if nothing was begun: `cause` says why (enum laxonje_taken). If it is LAXONJE_TAKEN_BUSY, an access is missing, and the queue can
+ * only be deleted: `page` answered null, or `page` or `notify` didn't return, as by an exception. */
 #define LAXONJE_NOTHING UINT32_MAX
 
 /* Four words, wherever they lie, by one load: each once. */
@@ -56,61 +56,62 @@ static inline void laxonje_drive_load_(const uint32_t *at, uint32_t count, uint3
 		words[i] = __atomic_load_n(at + i, __ATOMIC_ACQUIRE);
 }
 
-/* Words of a page, into the lent ones. */
-static inline void laxonje_drive_read_(const struct laxonje_io *io, const struct laxonje_op *op, uint32_t *words)
-{
-	laxonje_drive_load_(io->page(io->host, op) + op->word, op->count, words);
-}
-
 /* Words into a page. */
-static inline void laxonje_drive_write_(const struct laxonje_io *io, const struct laxonje_op *op, const uint32_t *words)
+static inline void laxonje_drive_store_(uint32_t *at, uint32_t count, const uint32_t *words)
 {
-	uint32_t *at = io->page(io->host, op) + op->word;
-	for (uint32_t i = 0; i < op->count; i++)
+	for (uint32_t i = 0; i < count; i++)
 		__atomic_store_n(at + i, words[i], __ATOMIC_RELEASE);
 }
 
 /* A producer or an event index, and then a word into the lent one: the load must not come first. */
-static inline void laxonje_drive_push_(const struct laxonje_io *io, const struct laxonje_op *op, uint32_t *word)
+static inline void laxonje_drive_push_(uint32_t *page, const struct laxonje_op *op, uint32_t *word)
 {
-	uint32_t *page = io->page(io->host, op);
 	__atomic_store_n(page + op->word, op->value[0], __ATOMIC_RELEASE);
 	__atomic_thread_fence(__ATOMIC_SEQ_CST);
 	*word = __atomic_load_n(page + op->value[1], __ATOMIC_ACQUIRE);
 }
 
-/* An op. */
-static inline void laxonje_drive_make_(struct laxonje_drive *drive, const struct laxonje_io *io, const struct laxonje_op *op)
+/* An op of a page. */
+static inline void laxonje_drive_access_(struct laxonje_drive *drive, uint32_t *page, const struct laxonje_op *op)
 {
+	uint32_t *lent = drive->words + op->lent;
 	switch (op->kind) {
 	case LAXONJE_OP_READ:
-		laxonje_drive_read_(io, op, drive->words + op->lent);
+		laxonje_drive_load_(page + op->word, op->count, lent);
 		break;
 	case LAXONJE_OP_WRITE:
-		laxonje_drive_write_(io, op, drive->words + op->lent);
+		laxonje_drive_store_(page + op->word, op->count, lent);
 		break;
 	case LAXONJE_OP_STORE:
-		laxonje_drive_write_(io, op, op->value);
-		break;
-	case LAXONJE_OP_PUSH:
-		laxonje_drive_push_(io, op, drive->words + op->lent);
-		break;
-	case LAXONJE_OP_NOTIFY:
-		io->notify(io->host, op->value[0]);
+		laxonje_drive_store_(page + op->word, op->count, op->value);
 		break;
 	default:
+		laxonje_drive_push_(page, op, lent);
 		break;
+	}
+}
+
+/* An op. Returns 0 if its page can't be had. */
+static inline int laxonje_drive_make_(struct laxonje_drive *drive, const struct laxonje_io *io, const struct laxonje_op *op)
+{
+	if (op->kind == LAXONJE_OP_NOTIFY) {
+		io->notify(io->host, op->value[0]);
+	} else if (op->kind != LAXONJE_OP_DONE) {
+		uint32_t *page = io->page(io->host, op);
+		if (!page)
+			return 0;
+		laxonje_drive_access_(drive, page, op);
 	}
 	if (io->told)
 		io->told(io->host, op, drive->words);
+	return 1;
 }
 
-/* The producer of a ring, which is word 0 of its frame. */
-static inline uint32_t laxonje_drive_producer_(struct laxonje_drive *drive, const struct laxonje_io *io, uint32_t ring)
+/* The producer of a ring, which is word 0 of its frame, into the first lent word. Returns 0 if its page can't be had. */
+static inline int laxonje_drive_producer_(struct laxonje_drive *drive, const struct laxonje_io *io, uint32_t ring)
 {
 	struct laxonje_op read = { LAXONJE_OP_READ, ring, 0, 1, 0, { 0, 0 }, 0, 0, 0, 0, 0, 0, 0, 0, 0 };
-	laxonje_drive_make_(drive, io, &read);
-	return drive->words[0];
+	return laxonje_drive_make_(drive, io, &read);
 }
 
 /* In place of the op that ends something, if nothing was begun. */
@@ -135,7 +136,8 @@ static inline struct laxonje_op laxonje_drive_finish_(struct laxonje_drive *driv
 {
 	for (;;) {
 		for (size_t i = 0; i < count; i++)
-			laxonje_drive_make_(drive, io, &ops[i]);
+			if (!laxonje_drive_make_(drive, io, &ops[i]))
+				return laxonje_drive_nothing_(LAXONJE_TAKEN_BUSY);
 		if (!count)
 			return laxonje_drive_nothing_(LAXONJE_TAKEN_BUSY);
 		if (ops[count - 1].kind == LAXONJE_OP_DONE)
@@ -159,7 +161,9 @@ static inline struct laxonje_op laxonje_drive_turn(struct laxonje_drive *drive, 
 	uint32_t taken = laxonje_drive_may_begin_(drive);
 	if (taken != LAXONJE_TAKEN)
 		return laxonje_drive_nothing_(taken);
-	size_t count = laxonje_queue_turn(drive->queue, laxonje_drive_producer_(drive, io, drive->tx), ops, LAXONJE_OPS);
+	if (!laxonje_drive_producer_(drive, io, drive->tx))
+		return laxonje_drive_nothing_(LAXONJE_TAKEN_BUSY);
+	size_t count = laxonje_queue_turn(drive->queue, drive->words[0], ops, LAXONJE_OPS);
 	return laxonje_drive_finish_(drive, io, ops, count);
 }
 
@@ -169,8 +173,10 @@ static inline uint32_t laxonje_drive_deliver(struct laxonje_drive *drive, const 
                                              struct laxonje_op *over)
 {
 	uint32_t taken = laxonje_drive_may_begin_(drive);
+	if (taken == LAXONJE_TAKEN && !laxonje_drive_producer_(drive, io, drive->rx))
+		taken = LAXONJE_TAKEN_BUSY;
 	if (taken == LAXONJE_TAKEN)
-		taken = laxonje_queue_deliver(drive->queue, laxonje_drive_producer_(drive, io, drive->rx), packet, packet_bytes);
+		taken = laxonje_queue_deliver(drive->queue, drive->words[0], packet, packet_bytes);
 	*over = taken == LAXONJE_TAKEN ? laxonje_drive_begun_(drive, io) : laxonje_drive_nothing_(taken);
 	return taken;
 }
@@ -187,6 +193,60 @@ static inline uint32_t laxonje_drive_await(struct laxonje_drive *drive, const st
 		taken = laxonje_queue_await(drive->queue, (uint32_t)((packet_bytes + page - 1) / page));
 	*over = taken == LAXONJE_TAKEN ? laxonje_drive_begun_(drive, io) : laxonje_drive_nothing_(taken);
 	return taken;
+}
+
+/* ---- The pages of a guest whose memory has many parts */
+
+/* The domain that owns a frame of a hole: no domain has it (Xen's DOMID_INVALID). */
+#define LAXONJE_NOBODY 0x7ff4
+
+/* Frames of a guest, one after another, that the host has mapped so: the first, how many, and the words of the first. */
+struct laxonje_mapped {
+	uint32_t first;
+	uint32_t frames;
+	uint32_t *words;
+};
+
+/* Returns the words of a frame, or null if no part has it. The parts are those that laxonje_mapped_extents takes: it is found by halves, in 20
+ * comparisons among a million. */
+static inline uint32_t *laxonje_mapped_page(const struct laxonje_mapped *parts, size_t count, uint32_t frame)
+{
+	size_t low = 0, high = count;
+	while (low < high) {
+		size_t middle = low + (high - low) / 2;
+		if (parts[middle].first <= frame)
+			low = middle + 1;
+		else
+			high = middle;
+	}
+	if (!low || frame - parts[low - 1].first >= parts[low - 1].frames)
+		return NULL;
+	return parts[low - 1].words + (size_t)(frame - parts[low - 1].first) * LAXONJE_PAGE_WORDS;
+}
+
+/* Writes the owners for laxonje_queue_make_extents, as far as there is room: `domain` those of the parts, and LAXONJE_NOBODY those of the holes
+ * below and between. Returns how many extents there are, two for each part at most. Returns 0 if there is no part, or a part has no frames or
+ * no words, begins before the end of the one before it, or passes frame 2^32 - 2. Parts that touch are one extent, since each check of a grant
+ * searches the extents from the first on. */
+static inline size_t laxonje_mapped_extents(const struct laxonje_mapped *parts, size_t count, uint16_t domain, struct laxonje_extent *extents,
+                                            size_t extent_count)
+{
+	size_t said = 0;
+	uint64_t next = 0;
+	for (size_t i = 0; i < count; i++) {
+		const uint64_t first = parts[i].first, end = first + parts[i].frames;
+		const int touches = said && first == next;
+		if (!parts[i].frames || !parts[i].words || first < next || end > LAXONJE_EXTENT_FRAMES)
+			return 0;
+		if (first > next && said++ < extent_count)
+			extents[said - 1].frames = (uint32_t)(first - next), extents[said - 1].domain = LAXONJE_NOBODY;
+		if (!touches && said++ < extent_count)
+			extents[said - 1].frames = 0, extents[said - 1].domain = domain;
+		if (said <= extent_count)
+			extents[said - 1].frames += parts[i].frames;
+		next = end;
+	}
+	return said;
 }
 
 /* Why nothing was begun, in words for a log (enum laxonje_taken). */

@@ -41,18 +41,14 @@ static void on_step(int number, siginfo_t *information, void *context)
 	((ucontext_t *)context)->uc_mcontext.gregs[REG_EFL] &= ~STEP_FLAG;
 }
 
-static uint32_t *page(void *host, const struct laxonje_op *op) { return (void)host, (void)op, (uint32_t *)(void *)guarded; }
-
 /* A READ of these words of the page. */
 static void reads(uint32_t word, uint32_t words)
 {
 	static uint32_t lent[LAXONJE_PAGE_WORDS + 1];
-	const struct laxonje_io io = { NULL, page, NULL, NULL };
-	const struct laxonje_op op = { LAXONJE_OP_READ, 0, word, words, 0, { 0, 0 }, 0, 0, 0, 0, 0, 0, 0, 0, 0 };
 	uint32_t wide = words / 4;
 	memset(lent, 0xee, sizeof lent);
 	count = 0;
-	laxonje_drive_read_(&io, &op, lent);
+	laxonje_drive_load_((const uint32_t *)(const void *)guarded + word, words, lent);
 	is("loads", count, wide + words % 4);
 	for (uint32_t i = 0; i < wide + words % 4; i++)
 		is("a load's place", loads[i], 4 * word + (i < wide ? i * WIDE : wide * WIDE + (i - wide) * 4));

@@ -20,7 +20,7 @@ static uint32_t memory[FRAMES][LAXONJE_PAGE_WORDS];
 static uint64_t counters[3];
 static uint8_t packet[LAXONJE_PACKET + 1];
 static jmp_buf out_of_page;
-static int wrong, leaves;
+static int wrong, leaves, asked, refuses;
 
 static void is(const char *what, size_t found, size_t wanted)
 {
@@ -34,7 +34,7 @@ static uint32_t *page(void *host, const struct laxonje_op *op)
 {
 	if (leaves && op->frame == DATA)
 		longjmp(out_of_page, 1);
-	return (void)host, memory[op->frame];
+	return (void)host, ++asked == refuses ? NULL : memory[op->frame];
 }
 
 static void notify(void *host, uint32_t port) { (void)host, (void)port; }
@@ -171,6 +171,29 @@ static void left_out(struct laxonje_program *program)
 	is("its packet", laxonje_queue_packet(drive.queue, packet, sizeof packet), 0);
 }
 
+/* A page that can't be had, for each access of a turn: none is made after it. If it was the first, nothing was begun. */
+static void null_pages(struct laxonje_program *program)
+{
+	const int accesses = 6;
+	for (refuses = 1; refuses <= accesses; refuses++) {
+		struct laxonje_queue_desc next = desc;
+		next.tx_index = memory[TX][0];
+		is("a queue for a null page", laxonje_queue_make_extents(program, extents, 1, table, 1, &next, drive.queue), LAXONJE_MADE);
+		guest_sends();
+		asked = 0;
+		is("a turn with a null page", laxonje_drive_turn(&drive, &io).outcome, LAXONJE_NOTHING);
+		is("what was asked for until then", (size_t)asked, (size_t)refuses);
+		if (refuses > 1)
+			nothing_begins("after a null page", LAXONJE_TAKEN_BUSY);
+		else
+			is("a turn after a null page", laxonje_drive_turn(&drive, &io).outcome, LAXONJE_TURN_RAN);
+		laxonje_queue_free(drive.queue);
+	}
+	refuses = asked + 1;
+	nothing_begins("no queue any more", LAXONJE_TAKEN_NOT);
+	refuses = 0;
+}
+
 int main(void)
 {
 	struct laxonje_program *program = laxonje_program_new();
@@ -184,6 +207,7 @@ int main(void)
 	waits();
 	laxonje_load_settings((const uint8_t *)counts, strlen(counts), program);
 	left_out(program);
+	null_pages(program);
 	laxonje_queue_delete(&drive.queue);
 	laxonje_program_delete(&program);
 	nothing_begins("a null queue", LAXONJE_TAKEN_NOT);

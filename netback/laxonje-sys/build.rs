@@ -1,35 +1,63 @@
-//! Finds liblaxonje: in the folder `LAXONJE_DIR`, else by pkg-config. An archive is linked statically, unless `LAXONJE_DYNAMIC` is set.
+//! Finds liblaxonje: in the folder `LAXONJE_DIR`, else by pkg-config. An archive is linked statically, unless `LAXONJE_DYNAMIC` is set. Compares
+//! the declarations with the library's header, if that is there and a C compiler is (`CC`).
 use std::env;
-use std::path::Path;
+use std::fs;
+use std::path::{Path, PathBuf};
 use std::process::{exit, Command};
 
+#[allow(dead_code)]
+mod header;
+
+const DECLARATIONS: &str = "src/lib.rs";
+
 fn main() {
-    println!("cargo:rerun-if-env-changed=LAXONJE_DIR");
-    println!("cargo:rerun-if-env-changed=LAXONJE_DYNAMIC");
-    println!("cargo:rerun-if-env-changed=PKG_CONFIG_PATH");
-    let folder = match env::var("LAXONJE_DIR") {
-        Ok(folder) => folder,
-        Err(_) => libdir().unwrap_or_else(|why| {
-            eprintln!(
-                "liblaxonje isn't found ({why}): set LAXONJE_DIR to the folder of liblaxonje.a, or PKG_CONFIG_PATH to that of laxonje.pc"
-            );
-            exit(1)
-        }),
-    };
-    let archive = Path::new(&folder).join("liblaxonje.a");
+    for name in ["LAXONJE_DIR", "LAXONJE_DYNAMIC", "PKG_CONFIG_PATH", "CC"] {
+        println!("cargo:rerun-if-env-changed={name}");
+    }
+    for name in [DECLARATIONS, "header.rs", "build.rs"] {
+        println!("cargo:rerun-if-changed={name}");
+    }
+    let folders = env::var("LAXONJE_DIR").map(|folder| (folder.clone(), Some(folder))).or_else(|_| installed());
+    let (libraries, headers) = folders.unwrap_or_else(|why| {
+        stop(&format!(
+            "liblaxonje isn't found ({why}): set LAXONJE_DIR to the folder of liblaxonje.a, or PKG_CONFIG_PATH to that of laxonje.pc"
+        ))
+    });
+    link(&libraries);
+    if let Some(folder) = headers.filter(|folder| Path::new(folder).join("laxonje.h").exists()) {
+        println!("cargo:rerun-if-changed={folder}/laxonje.h");
+        println!("cargo:rustc-env=LAXONJE_INCLUDE={folder}");
+        compare(&folder);
+    }
+}
+
+fn stop(why: &str) -> ! {
+    eprintln!("{why}");
+    exit(1)
+}
+
+fn link(folder: &str) {
+    let archive = Path::new(folder).join("liblaxonje.a");
     let fixed = archive.exists() && env::var_os("LAXONJE_DYNAMIC").is_none();
     println!("cargo:rerun-if-changed={}", archive.display());
     println!("cargo:rustc-link-search=native={folder}");
     println!("cargo:rustc-link-lib={}laxonje", if fixed { "static=" } else { "" });
 }
 
-/// The folder that pkg-config names after `-L`, or `libdir` of an installed library.
-fn libdir() -> Result<String, String> {
-    let flags = pkg_config(&["--libs-only-L"])?;
-    match flags.split_whitespace().find_map(|flag| flag.strip_prefix("-L")) {
-        Some(folder) => Ok(folder.to_owned()),
-        None => pkg_config(&["--variable=libdir"]),
-    }
+/// The folders of the library and of its header, as pkg-config says them.
+fn installed() -> Result<(String, Option<String>), String> {
+    let libraries = match flag("--libs-only-L", "-L")? {
+        Some(folder) => folder,
+        None => pkg_config(&["--variable=libdir"])?,
+    };
+    Ok((libraries, Some(flag("--cflags-only-I", "-I")?.unwrap_or_else(|| "/usr/include".to_owned()))))
+}
+
+/// What follows the first flag of this kind.
+fn flag(which: &str, prefix: &str) -> Result<Option<String>, String> {
+    let flags = pkg_config(&[which])?;
+    let found = flags.split_whitespace().find_map(|flag| flag.strip_prefix(prefix)).map(str::to_owned);
+    Ok(found)
 }
 
 fn pkg_config(words: &[&str]) -> Result<String, String> {
@@ -38,4 +66,23 @@ fn pkg_config(words: &[&str]) -> Result<String, String> {
         true => Ok(String::from_utf8_lossy(&said.stdout).trim().to_owned()),
         false => Err(String::from_utf8_lossy(&said.stderr).trim().replace('\n', "; ")),
     }
+}
+
+/// Stops if the declarations aren't those of the header. Without a C compiler nothing is compared.
+fn compare(headers: &str) {
+    let declared = fs::read_to_string(DECLARATIONS).unwrap_or_else(|error| stop(&format!("{DECLARATIONS}: {error}")));
+    let source = PathBuf::from(env::var_os("OUT_DIR").unwrap_or_default()).join("header.c");
+    fs::write(&source, header::checks(&declared)).unwrap_or_else(|error| stop(&format!("{}: {error}", source.display())));
+    if let Some(said) = compiler(headers, &source).filter(|said| !said.is_empty()) {
+        stop(&format!("the declarations aren't those of {headers}/laxonje.h:\n{said}"));
+    }
+}
+
+/// What the compiler says is wrong. `None`: there is no compiler.
+fn compiler(headers: &str, source: &Path) -> Option<String> {
+    let name = env::var("CC").unwrap_or_else(|_| "cc".to_owned());
+    let mut own = name.split_whitespace();
+    let mut command = Command::new(own.next()?);
+    let said = command.args(own).args(["-std=gnu11", "-fsyntax-only", "-I", headers]).arg(source).output().ok()?;
+    Some(if said.status.success() { String::new() } else { format!("{} ", String::from_utf8_lossy(&said.stderr)) })
 }

@@ -48,3 +48,36 @@ def header_tests(fits: types.ModuleType) -> Iterator[tuple[str, bool]]:
         ("a call that isn't there", "uint32_t laxonje_version(void);", "uint32_t laxonje_version(void);\nvoid laxonje_nothing(void);"),
     ):
         yield f"a header with {what}", old in header and len(fits.differences(header.replace(old, new), sources, in_c)) >= 1
+
+
+# What a disassembly says, with what later than the second level each line has, and whether it is of the second level alone.
+DISASSEMBLED = [
+    ("vpaddd (%rdi),%ymm0,%ymm0", True, False),
+    ("vmovd  %eax,%xmm0", True, False),
+    ("andn   %esi,%edi,%eax", True, False),
+    ("shlx   %rax,%rbx,%rcx", True, False),
+    ("lzcnt  %eax,%eax", True, False),
+    ("movbe  (%rdi),%eax", True, False),
+    ("kmovw  %eax,%k1", True, False),
+    ("tzcnt  %eax,%eax", False, False),
+    ("verr   %ax", False, False),
+    ("mov    %rax,%rbx", False, False),
+    ("lock cmpxchg %rcx,(%rdx)", False, False),
+    ("popcnt %rax,%rax", False, True),
+    ("pshufb %xmm1,%xmm0", False, True),
+    ("crc32b %sil,%edi", False, True),
+    ("pmaxsw %xmm1,%xmm0", False, False),
+    ("pmaxub %xmm1,%xmm0", False, False),
+    ("pmaxuw %xmm1,%xmm0", False, True),
+]
+
+
+def baseline_tests(baseline: types.ModuleType) -> Iterator[tuple[str, bool]]:
+    """Which instructions each processor of the second level has."""
+    for line, is_later, is_second in DISASSEMBLED:
+        found = baseline.instructions(f"  1234:\t{line}\n")
+        yield f"the level of {line}", found.total() == 1 and (bool(baseline.later(found)), bool(baseline.second(found))) == (is_later, is_second)
+    yield "what is no instruction", not baseline.instructions("\nout.o:     file format elf64-x86-64\n\n0000 <main>:\n")
+    for words in ((), ("--fast",), ("/nowhere",)):
+        status, said, wrong = answer("gate/baseline", *words)
+        yield f"baseline {' '.join(words)}", status == (1 if words == ("/nowhere",) else 2) and not said and wrong.count("\n") == 1

@@ -1,14 +1,35 @@
-//! `laxonje.h`, version 3, in Rust: the names, the fields and the calls of the header, which says what each does.
+//! `laxonje.h`, version 3, in Rust: each constant, struct and call of the header, which says what each does.
 //!
-//! The crate `laxonje` is the safe layer over it.
+//! `build.rs` has a C compiler compare all of it with the header that comes with the library, and a test looks for what is left out. The crate
+//! `laxonje` is the safe layer over it.
 #![no_std]
 #![allow(non_camel_case_types)]
 
+/// C's `char` on x86-64, the library's machine.
+pub type c_char = i8;
+
 /// The version of the header that these declarations are of.
 pub const LAXONJE_VERSION: u32 = 3;
+
+/// The most maps, entries of a map, counters of an entry, and bytes of a packet and of a program.
+pub const LAXONJE_MAPS: usize = 4;
+pub const LAXONJE_ENTRIES: u32 = 1024;
+pub const LAXONJE_COUNTERS: u32 = 8;
 pub const LAXONJE_PACKET: usize = 65535;
+pub const LAXONJE_PROGRAM_BYTES: usize = 32768;
+
+/// There is no such counter, map or queue.
 pub const LAXONJE_NOWHERE: usize = usize::MAX;
 
+/// Words that are lent to a step, ops that it has room for, and the most frames and frames of a grant table, of owners and of extents.
+pub const LAXONJE_PAGE_WORDS: usize = 1024;
+pub const LAXONJE_OPS: usize = 8;
+pub const LAXONJE_FRAMES: usize = 8192;
+pub const LAXONJE_TABLE_FRAMES: usize = 16;
+pub const LAXONJE_EXTENT_FRAMES: usize = 4294967295;
+pub const LAXONJE_EXTENT_TABLE_FRAMES: usize = 64;
+
+/// Kinds of a verdict.
 pub const LAXONJE_ACCEPTED: u32 = 0;
 pub const LAXONJE_REFUSED: u32 = 1;
 pub const LAXONJE_MAP: u32 = 2;
@@ -16,15 +37,44 @@ pub const LAXONJE_SETTINGS: u32 = 3;
 pub const LAXONJE_EMPTY: u32 = 4;
 pub const LAXONJE_NULL: u32 = 5;
 
+/// The verifier's causes: V0 to V19.
+pub const LAXONJE_V_MEMORY: u32 = 0;
+pub const LAXONJE_V_LENGTH: u32 = 1;
+pub const LAXONJE_V_OPCODE: u32 = 2;
+pub const LAXONJE_V_REGISTER: u32 = 3;
+pub const LAXONJE_V_TARGET: u32 = 4;
+pub const LAXONJE_V_BACK_JUMP: u32 = 5;
+pub const LAXONJE_V_END: u32 = 6;
+pub const LAXONJE_V_UNSET: u32 = 7;
+pub const LAXONJE_V_FRAME_POINTER: u32 = 8;
+pub const LAXONJE_V_NO_POINTER: u32 = 9;
+pub const LAXONJE_V_PACKET: u32 = 10;
+pub const LAXONJE_V_STACK: u32 = 11;
+pub const LAXONJE_V_CONTEXT: u32 = 12;
+pub const LAXONJE_V_MAY_BE_NULL: u32 = 13;
+pub const LAXONJE_V_MAP_ACCESS: u32 = 14;
+pub const LAXONJE_V_HELPER: u32 = 15;
+pub const LAXONJE_V_MAP_NUMBER: u32 = 16;
+pub const LAXONJE_V_ARGUMENT: u32 = 17;
+pub const LAXONJE_V_UNSUPPORTED: u32 = 19;
+
+/// The faults of settings: L0 to L7.
+pub const LAXONJE_L_MEMORY: u32 = 0;
+pub const LAXONJE_L_TEXT: u32 = 1;
+pub const LAXONJE_L_SYNTAX: u32 = 2;
+pub const LAXONJE_L_KEY: u32 = 3;
+pub const LAXONJE_L_LIMIT: u32 = 4;
+pub const LAXONJE_L_NAME: u32 = 5;
+pub const LAXONJE_L_HEX: u32 = 6;
+pub const LAXONJE_L_RELOCATION: u32 = 7;
+
+/// What a program's number stands for.
 pub const LAXONJE_ABORTED: u32 = 0;
 pub const LAXONJE_DROP: u32 = 1;
 pub const LAXONJE_PASS: u32 = 2;
 pub const LAXONJE_TX: u32 = 3;
 
-pub const LAXONJE_PAGE_WORDS: usize = 1024;
-pub const LAXONJE_OPS: usize = 8;
-pub const LAXONJE_EXTENT_TABLE_FRAMES: usize = 64;
-
+/// Why no queue was made.
 pub const LAXONJE_MADE: u32 = 0;
 pub const LAXONJE_MADE_MEMORY: u32 = 1;
 pub const LAXONJE_MADE_FRAMES: u32 = 2;
@@ -34,6 +84,7 @@ pub const LAXONJE_MADE_DOMAIN: u32 = 5;
 pub const LAXONJE_MADE_PROGRAM: u32 = 6;
 pub const LAXONJE_MADE_NULL: u32 = 7;
 
+/// What an op asks for.
 pub const LAXONJE_OP_READ: u32 = 1;
 pub const LAXONJE_OP_WRITE: u32 = 2;
 pub const LAXONJE_OP_NOTIFY: u32 = 3;
@@ -41,34 +92,56 @@ pub const LAXONJE_OP_DONE: u32 = 4;
 pub const LAXONJE_OP_STORE: u32 = 5;
 pub const LAXONJE_OP_PUSH: u32 = 6;
 
+/// What the READ of a grant entry is for.
 pub const LAXONJE_ENTRY_NONE: u32 = 0;
 pub const LAXONJE_ENTRY_READ: u32 = 1;
 pub const LAXONJE_ENTRY_WRITE: u32 = 2;
 
-pub const LAXONJE_TURN_IDLE: u32 = 0;
-pub const LAXONJE_TURN_RAN: u32 = 1;
-pub const LAXONJE_TURN_REFUSED: u32 = 2;
-pub const LAXONJE_TURN_HALTED: u32 = 3;
-
+/// Why nothing was begun.
 pub const LAXONJE_TAKEN: u32 = 0;
 pub const LAXONJE_TAKEN_NOT: u32 = 1;
 pub const LAXONJE_TAKEN_BUSY: u32 = 2;
 pub const LAXONJE_TAKEN_NO_FRAME: u32 = 3;
 pub const LAXONJE_TAKEN_SLOTS: u32 = 4;
+pub const LAXONJE_TAKEN_COUNTERS: u32 = 5;
 
+/// What a turn, a delivery or a wait came to.
+pub const LAXONJE_TURN_IDLE: u32 = 0;
+pub const LAXONJE_TURN_RAN: u32 = 1;
+pub const LAXONJE_TURN_REFUSED: u32 = 2;
+pub const LAXONJE_TURN_HALTED: u32 = 3;
 pub const LAXONJE_DELIVERY_SENT: u32 = 4;
 pub const LAXONJE_DELIVERY_FEW_SLOTS: u32 = 5;
 pub const LAXONJE_DELIVERY_REFUSED: u32 = 6;
 pub const LAXONJE_DELIVERY_HALTED: u32 = 7;
-
 pub const LAXONJE_AWAITED_POSTED: u32 = 9;
 pub const LAXONJE_AWAITED_WAITING: u32 = 10;
 pub const LAXONJE_AWAITED_HALTED: u32 = 11;
 
+/// Flags of a tx slot.
 pub const LAXONJE_FLAG_CSUM_BLANK: u32 = 1;
 pub const LAXONJE_FLAG_DATA_VALIDATED: u32 = 2;
 pub const LAXONJE_FLAG_MORE_DATA: u32 = 4;
+pub const LAXONJE_FLAG_EXTRA_INFO: u32 = 8;
 
+/// Why a packet was refused.
+pub const LAXONJE_REFUSAL_SHORT: u32 = 1;
+pub const LAXONJE_REFUSAL_SIZES: u32 = 2;
+pub const LAXONJE_REFUSAL_PAGE: u32 = 3;
+pub const LAXONJE_REFUSAL_GRANT: u32 = 4;
+pub const LAXONJE_REFUSAL_EXTRA: u32 = 5;
+pub const LAXONJE_REFUSAL_FEW_SLOTS: u32 = 6;
+pub const LAXONJE_REFUSAL_RX_GRANT: u32 = 7;
+
+/// Why a queue has halted.
+pub const LAXONJE_HALT_TX_PRODUCER: u32 = 1;
+pub const LAXONJE_HALT_SHORT_CHAIN: u32 = 2;
+pub const LAXONJE_HALT_SLOTS: u32 = 3;
+pub const LAXONJE_HALT_UNKNOWN_EXTRA: u32 = 4;
+pub const LAXONJE_HALT_EXTRAS: u32 = 5;
+pub const LAXONJE_HALT_RX_PRODUCER: u32 = 6;
+
+/// Where a queue stands.
 pub const LAXONJE_STANDS_NOT: u32 = 0;
 pub const LAXONJE_STANDS: u32 = 1;
 pub const LAXONJE_STANDS_HALTED: u32 = 2;
@@ -94,6 +167,13 @@ pub struct laxonje_result {
     pub number: u32,
     pub action: u32,
     pub instructions: u32,
+}
+
+#[repr(C)]
+#[derive(Clone, Copy, Debug, Default, PartialEq, Eq)]
+pub struct laxonje_packet {
+    pub start: usize,
+    pub length: usize,
 }
 
 /// How many bytes a handle has: zeros if it holds nothing, at an address that doesn't change.
@@ -165,6 +245,9 @@ pub struct laxonje_op {
 
 extern "C" {
     pub fn laxonje_version() -> u32;
+    pub fn laxonje_proved() -> u32;
+    pub fn laxonje_build() -> *const c_char;
+    pub fn laxonje_check(program: *const u8, program_bytes: usize, maps: *const laxonje_map, map_count: usize) -> laxonje_verdict;
     pub fn laxonje_load(
         program: *const u8, program_bytes: usize, maps: *const laxonje_map, map_count: usize, out: *mut laxonje_program,
     ) -> laxonje_verdict;
@@ -174,6 +257,10 @@ extern "C" {
         program: *mut laxonje_program, counters: *mut u64, counter_count: usize, packet: *mut u8, packet_bytes: usize, ifindex: u32,
         queue: u32,
     ) -> laxonje_result;
+    pub fn laxonje_run_batch(
+        program: *mut laxonje_program, counters: *mut u64, counter_count: usize, bytes: *mut u8, byte_count: usize,
+        packets: *const laxonje_packet, packet_count: usize, results: *mut laxonje_result, result_count: usize, ifindex: u32, queue: u32,
+    ) -> usize;
     pub fn laxonje_advice(cause: u32, out: *mut u8, out_bytes: usize) -> usize;
     pub fn laxonje_counters(program: *mut laxonje_program) -> usize;
     pub fn laxonje_place(program: *mut laxonje_program, map: u32, entry: u32, counter: u32) -> usize;
@@ -183,6 +270,10 @@ extern "C" {
     pub fn laxonje_map_name(program: *mut laxonje_program, number: u32, out: *mut u8, out_bytes: usize) -> usize;
     pub fn laxonje_free(program: *mut laxonje_program);
 
+    pub fn laxonje_queue_make(
+        program: *mut laxonje_program, owners: *const u16, owner_count: usize, table: *const u32, table_count: usize,
+        desc: *const laxonje_queue_desc, out: *mut laxonje_queue,
+    ) -> u32;
     pub fn laxonje_queue_make_extents(
         program: *mut laxonje_program, extents: *const laxonje_extent, extent_count: usize, table: *const u32, table_count: usize,
         desc: *const laxonje_queue_desc, out: *mut laxonje_queue,
@@ -201,14 +292,3 @@ extern "C" {
     pub fn laxonje_queue_state(queue: *mut laxonje_queue) -> laxonje_queue_standing;
     pub fn laxonje_queue_free(queue: *mut laxonje_queue);
 }
-
-// The sizes that the header asserts.
-const _: () = assert!(core::mem::size_of::<laxonje_map>() == 8);
-const _: () = assert!(core::mem::size_of::<laxonje_verdict>() == 12);
-const _: () = assert!(core::mem::size_of::<laxonje_result>() == 12);
-const _: () = assert!(core::mem::size_of::<laxonje_program>() == 16);
-const _: () = assert!(core::mem::size_of::<laxonje_queue>() == 16);
-const _: () = assert!(core::mem::size_of::<laxonje_extent>() == 8);
-const _: () = assert!(core::mem::size_of::<laxonje_queue_desc>() == 32);
-const _: () = assert!(core::mem::size_of::<laxonje_queue_standing>() == 16);
-const _: () = assert!(core::mem::size_of::<laxonje_op>() == 64);

@@ -1,7 +1,10 @@
 //! The host's loop over version 3 of the C interface: the first read, and each op in its order.
-use crate::guest::{Entry, Guest, PAGE_WORDS};
+use crate::causes::Halt;
+use crate::guest::{Entry, Guest, Op, PAGE_WORDS};
 use crate::handle::{ProgramHandle, QueueHandle};
-use crate::queue::{Extent, Halt, Indices, MakeError, ReplaceError, Setup, Stopped};
+use crate::queue::{Extent, Grant, Indices, MakeError, ReplaceError, Setup, Stopped};
+use alloc::boxed::Box;
+use alloc::vec::Vec;
 use laxonje_sys as sys;
 
 /// The word of a ring's producer of requests.
@@ -21,6 +24,8 @@ pub(crate) struct Driver {
     table: Vec<u32>,
     words: Box<[u32; PAGE_WORDS]>,
     ops: Ops,
+    /// The last grant entry that was read since the last beginning.
+    grant: Option<Grant>,
     /// From before the first access until all is over. A panic of the guest's leaves it set.
     is_under_way: bool,
 }
@@ -46,6 +51,7 @@ impl Driver {
             table: setup.table.to_vec(),
             words: Box::new([0; PAGE_WORDS]),
             ops: Ops::default(),
+            grant: None,
             is_under_way: false,
         };
         driver.make(program, setup.at).map(|()| driver)
@@ -97,8 +103,11 @@ impl Driver {
 
     /// Notes that something is under way, if nothing is.
     fn begin(&mut self) -> Result<(), Abandoned> {
-        match std::mem::replace(&mut self.is_under_way, true) {
-            false => Ok(()),
+        match core::mem::replace(&mut self.is_under_way, true) {
+            false => {
+                self.grant = None;
+                Ok(())
+            }
             true => Err(Abandoned),
         }
     }
@@ -131,6 +140,11 @@ impl Driver {
         let ops = &self.ops[..count];
         for op in ops {
             make_op(op, &mut self.words, guest);
+            let words = words_of(op, &self.words);
+            if op.entry != sys::LAXONJE_ENTRY_NONE {
+                self.grant = Some(Grant { entry: Entry::of(op), words: [words[0], words[1]] });
+            }
+            guest.told(&Op::of(op), words);
         }
         ops.last().map_or(false, |op| op.kind == sys::LAXONJE_OP_DONE)
     }
@@ -140,6 +154,11 @@ impl Driver {
             false => self.handle.packet(out),
             true => 0,
         }
+    }
+
+    /// The last grant entry of the last turn, delivery or wait.
+    pub fn grant(&self) -> Option<Grant> {
+        self.grant
     }
 
     pub fn flags(&self) -> u32 {
@@ -161,8 +180,7 @@ fn make_op(op: &sys::laxonje_op, words: &mut [u32; PAGE_WORDS], guest: &mut (imp
     let lent = op.lent as usize..op.lent as usize + count;
     match op.kind {
         sys::LAXONJE_OP_READ if op.entry != sys::LAXONJE_ENTRY_NONE => {
-            let writes = op.entry == sys::LAXONJE_ENTRY_WRITE;
-            words[lent].copy_from_slice(&guest.entry(&Entry { reference: op.reference, frame: op.frame, word, writes }));
+            words[lent].copy_from_slice(&guest.entry(&Entry::of(op)));
         }
         sys::LAXONJE_OP_READ => guest.read(op.frame, word, &mut words[lent]),
         sys::LAXONJE_OP_WRITE => guest.write(op.frame, word, &words[lent]),
@@ -170,6 +188,17 @@ fn make_op(op: &sys::laxonje_op, words: &mut [u32; PAGE_WORDS], guest: &mut (imp
         sys::LAXONJE_OP_PUSH => words[lent.start] = guest.push(op.frame, word, op.value[0], op.value[1] as usize),
         sys::LAXONJE_OP_NOTIFY => guest.notify(op.value[0]),
         _ => guest.over(),
+    }
+}
+
+/// The words that an op read or wrote.
+fn words_of<'a>(op: &'a sys::laxonje_op, words: &'a [u32; PAGE_WORDS]) -> &'a [u32] {
+    let (lent, count) = (op.lent as usize, op.count as usize);
+    match op.kind {
+        sys::LAXONJE_OP_READ | sys::LAXONJE_OP_WRITE => &words[lent..lent + count],
+        sys::LAXONJE_OP_STORE => &op.value[..count],
+        sys::LAXONJE_OP_PUSH => &words[lent..=lent],
+        _ => &[],
     }
 }
 

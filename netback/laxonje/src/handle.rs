@@ -3,8 +3,13 @@
 //! What makes each `unsafe` block sound is said once, by the header's rules: a handle is all zeros or what the library left in it
 //! (made in `none` alone), its address doesn't change (it is boxed), and one call is made at a time (the types aren't `Sync`, and no call of
 //! the library calls back). A slice's pointer and length are memory that nobody else changes during the call.
+use crate::program::{Outcome, Packet};
+use alloc::boxed::Box;
+use alloc::string::String;
+use alloc::vec::Vec;
+use core::cell::UnsafeCell;
+use core::{slice, str};
 use laxonje_sys as sys;
-use std::cell::UnsafeCell;
 
 /// The most bytes of a map's name.
 const MOST_NAME_BYTES: usize = 32;
@@ -50,6 +55,17 @@ impl ProgramHandle {
         let (words, bytes) = (counters.len(), packet.len());
         // SAFETY: the module's reason.
         unsafe { sys::laxonje_run(self.get(), counters.as_mut_ptr(), words, packet.as_mut_ptr(), bytes, ifindex, queue) }
+    }
+
+    /// Runs the packets of a batch. Returns the number of outcomes.
+    pub fn run_batch(
+        &self, counters: &mut [u64], bytes: &mut [u8], packets: &[Packet], outcomes: &mut [Outcome], ifindex: u32, queue: u32,
+    ) -> usize {
+        let (counted, length, count, room) = (counters.len(), bytes.len(), packets.len(), outcomes.len());
+        let (counters, bytes) = (counters.as_mut_ptr(), bytes.as_mut_ptr());
+        let (packets, results) = (packets.as_ptr().cast(), outcomes.as_mut_ptr().cast());
+        // SAFETY: the module's reason. A `Packet` and an `Outcome` are transparent: they are laid out as the header's structs.
+        unsafe { sys::laxonje_run_batch(self.get(), counters, counted, bytes, length, packets, count, results, room, ifindex, queue) }
     }
 
     pub fn counters(&self) -> usize {
@@ -156,6 +172,28 @@ pub(crate) fn advice(cause: u32) -> String {
     // SAFETY: the module's reason. The answer is how long the text is, which may be more than there is room for.
     let length = unsafe { sys::laxonje_advice(cause, text.as_mut_ptr(), text.len()) };
     String::from_utf8_lossy(&text[..length.min(text.len())]).into_owned()
+}
+
+/// Whether a program is accepted.
+pub(crate) fn check(program: &[u8], maps: &[sys::laxonje_map]) -> sys::laxonje_verdict {
+    // SAFETY: the module's reason.
+    unsafe { sys::laxonje_check(program.as_ptr(), program.len(), maps.as_ptr(), maps.len()) }
+}
+
+pub(crate) fn proved() -> u32 {
+    // SAFETY: it takes nothing and answers a number.
+    unsafe { sys::laxonje_proved() }
+}
+
+/// How the library was built.
+pub(crate) fn build() -> &'static str {
+    // SAFETY: it takes nothing, and answers a constant of the library with a zero at its end.
+    let first = unsafe { sys::laxonje_build() }.cast::<u8>();
+    // SAFETY: as above: all bytes up to the zero may be read.
+    let length = (0..).take_while(|at| unsafe { *first.add(*at) } != 0).count();
+    // SAFETY: as above.
+    let text = unsafe { slice::from_raw_parts(first, length) };
+    str::from_utf8(text).unwrap_or("a build that isn't named in UTF-8")
 }
 
 pub(crate) fn version() -> u32 {

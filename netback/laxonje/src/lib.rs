@@ -21,7 +21,8 @@
 //! #     }
 //! #     fn sleep(&mut self) -> bool { self.sleeps += 1; if self.sleeps == 1 { self.send(3, 8) } self.sleeps == 1 }
 //! # }
-//! use laxonje::{Action, Extent, Indices, Program, Queue, Setup, Stopped, Turn};
+//! use laxonje::{Action, Extent, Program, Queue, Setup, Stopped, Turn};
+//! # use laxonje::Indices;
 //!
 //! /// Forwards what passes, until the guest goes.
 //! fn serve(queue: &mut Queue, guest: &mut Pages, forward: &mut impl FnMut(&[u8])) -> Result<(), Stopped> {
@@ -37,7 +38,7 @@
 //!             Turn::Idle if guest.sleep() => {} // until its next event
 //!             Turn::Idle => return Ok(()),
 //!             Turn::Halted(why) => return Err(Stopped::Halted(why)),
-//!             Turn::Abandoned => return Err(Stopped::Abandoned),
+//!             _ => return Err(Stopped::Abandoned), // the guest's memory panicked before
 //!         }
 //!     }
 //! }
@@ -50,7 +51,7 @@
 //! # let text = b"program = [\"b700000002000000\", \"9500000000000000\"]";
 //! let program = Program::from_settings(text)?;
 //! let frames = [Extent { frames: 4, domain: 3 }];
-//! let setup = Setup { frames: &frames, table: &[2], tx: 0, rx: 1, frontend: 3, backend: 0, port: 0, ifindex: 0, queue: 0, at: Indices::default() };
+//! let setup = Setup { frames: &frames, table: &[2], tx: 0, rx: 1, frontend: 3, ..Setup::default() };
 //! let mut queue = Queue::new(&program, &setup)?;
 //! let mut count = 0;
 //! serve(&mut queue, &mut guest, &mut |_packet| count += 1)?;
@@ -58,26 +59,39 @@
 //! # Ok::<(), Box<dyn std::error::Error>>(())
 //! ```
 //!
+//! Without its feature `std` the crate is of `core` and `alloc`; the library itself wants a C library's `malloc`, `realloc`, `free` and `mem*`.
+//!
 //! Each value is `Send` and not `Sync`: one call at a time, on any thread.
 //!
 //! ```compile_fail,E0277
 //! fn shared<Value: Sync>() {}
 //! shared::<laxonje::Queue>();
 //! ```
+#![cfg_attr(not(feature = "std"), no_std)]
 #![warn(missing_docs)]
 #![deny(unsafe_code)]
 
+extern crate alloc;
+
+/// Runs the page's example as a test.
+#[cfg(doctest)]
+#[doc = include_str!("../README.md")]
+struct Readme;
+
+mod causes;
 mod drive;
 mod guest;
 #[allow(unsafe_code)]
 mod handle;
 mod program;
 mod queue;
-mod text;
 
-pub use guest::{Entry, Guest, GuestMemory, Page, PAGE_BYTES, PAGE_WORDS};
-pub use program::{check_version, Action, LoadError, MapSize, Program, Run, VersionError, MOST_BYTES};
+pub use causes::{Cause, Fault, Halt, Refusal};
+pub use guest::{Entry, Guest, GuestMemory, Op, Page, PAGE_BYTES, PAGE_WORDS};
+pub use program::{
+    build, check, check_version, proved, Action, LoadError, MapSize, Outcome, Packet, Program, Run, VersionError, MOST_BYTES,
+};
 pub use queue::{
-    Awaited, DeliverError, Delivery, Extent, Flags, Halt, Indices, MakeError, Queue, Refusal, ReplaceError, Setup, Stopped, Turn, TurnRun,
+    Awaited, DeliverError, Delivery, Extent, Flags, Grant, Indices, MakeError, Queue, ReplaceError, Setup, Stopped, Turn, TurnRun,
     TABLE_FRAMES,
 };

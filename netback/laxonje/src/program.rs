@@ -1,9 +1,12 @@
 //! Programs: accepted once, run on packets in place.
-use crate::handle::{advice, version, ProgramHandle};
-use crate::text;
+use crate::causes::{Cause, Fault};
+use crate::handle::{self, advice, version, ProgramHandle};
+use alloc::string::String;
+use alloc::vec;
+use alloc::vec::Vec;
+use core::fmt;
+use core::ops::Range;
 use laxonje_sys as sys;
-use std::error::Error;
-use std::fmt;
 
 /// The most bytes of a packet.
 pub const MOST_BYTES: usize = sys::LAXONJE_PACKET;
@@ -19,18 +22,19 @@ pub struct MapSize {
 
 /// Why there is no program.
 #[derive(Clone, Copy, Debug, PartialEq, Eq)]
+#[non_exhaustive]
 pub enum LoadError {
     /// The verifier refuses it: V`cause` at the 8-byte slot `slot`.
     Refused {
         /// The number after the V.
-        cause: u32,
+        cause: Cause,
         /// The slot of the refused instruction.
         slot: u32,
     },
     /// The map of this number is the first out of its limits, or the fifth.
     Map(u32),
     /// The settings text has the fault L`0`.
-    Settings(u32),
+    Settings(Fault),
     /// Memory ran out.
     Memory,
 }
@@ -39,7 +43,7 @@ impl LoadError {
     /// What to write instead of what is refused; empty if there is nothing to say.
     pub fn advice(&self) -> String {
         match self {
-            LoadError::Refused { cause, .. } => advice(*cause),
+            LoadError::Refused { cause, .. } => advice(cause.0),
             _ => String::new(),
         }
     }
@@ -48,15 +52,16 @@ impl LoadError {
 impl fmt::Display for LoadError {
     fn fmt(&self, to: &mut fmt::Formatter<'_>) -> fmt::Result {
         match self {
-            LoadError::Refused { cause, slot } => write!(to, "V{cause} at slot {slot}: {}", text::refused(*cause)),
+            LoadError::Refused { cause, slot } => write!(to, "V{} at slot {slot}: {cause}", cause.0),
             LoadError::Map(number) => write!(to, "map {number} is out of its limits"),
-            LoadError::Settings(fault) => write!(to, "L{fault}: {}", text::settings(*fault)),
+            LoadError::Settings(fault) => write!(to, "L{}: {fault}", fault.0),
             LoadError::Memory => to.write_str("memory ran out"),
         }
     }
 }
 
-impl Error for LoadError {}
+#[cfg(feature = "std")]
+impl std::error::Error for LoadError {}
 
 /// The library is of another version than this crate.
 #[derive(Clone, Copy, Debug, PartialEq, Eq)]
@@ -71,7 +76,8 @@ impl fmt::Display for VersionError {
     }
 }
 
-impl Error for VersionError {}
+#[cfg(feature = "std")]
+impl std::error::Error for VersionError {}
 
 /// Whether the linked library is of the version that this crate is made for. Call it once, before anything else, if the library is
 /// a shared object.
@@ -82,8 +88,39 @@ pub fn check_version() -> Result<(), VersionError> {
     }
 }
 
+/// Whether the library was built by `tools/build-host`, which builds what it proved. An unproved build is for trials alone.
+pub fn proved() -> bool {
+    handle::proved() == 1
+}
+
+/// How the library was built, for a log: its release, its commit and its kit, and whether it was proved.
+pub fn build() -> &'static str {
+    handle::build()
+}
+
+/// Whether a program is accepted with its maps, and if so how many instructions it has. Nothing of it is kept.
+pub fn check(program: &[u8], maps: &[MapSize]) -> Result<u32, LoadError> {
+    accepted(handle::check(program, &sizes(maps)))
+}
+
+/// The number of instructions of an accepted program.
+fn accepted(verdict: sys::laxonje_verdict) -> Result<u32, LoadError> {
+    match (verdict.kind, verdict.cause) {
+        (sys::LAXONJE_ACCEPTED, _) => Ok(verdict.at),
+        (sys::LAXONJE_REFUSED, sys::LAXONJE_V_MEMORY) | (sys::LAXONJE_SETTINGS, sys::LAXONJE_L_MEMORY) => Err(LoadError::Memory),
+        (sys::LAXONJE_REFUSED, cause) => Err(LoadError::Refused { cause: Cause(cause), slot: verdict.at }),
+        (sys::LAXONJE_MAP, _) => Err(LoadError::Map(verdict.at)),
+        (_, fault) => Err(LoadError::Settings(Fault(fault))),
+    }
+}
+
+fn sizes(maps: &[MapSize]) -> Vec<sys::laxonje_map> {
+    maps.iter().map(|map| sys::laxonje_map { entries: map.entries, counters: map.counters }).collect()
+}
+
 /// What a program wants done with a packet.
 #[derive(Clone, Copy, Debug, PartialEq, Eq)]
+#[non_exhaustive]
 pub enum Action {
     /// The program failed; the packet is dropped.
     Aborted,
@@ -118,6 +155,37 @@ pub struct Run {
     pub instructions: u32,
 }
 
+impl Run {
+    /// `None`: it wasn't run.
+    fn of(result: sys::laxonje_result) -> Option<Run> {
+        let run = Run { number: result.number, action: Action::of(result.number), instructions: result.instructions };
+        (run.instructions > 0).then_some(run)
+    }
+}
+
+/// A packet of a batch: which of its bytes.
+#[derive(Clone, Copy, Debug, Default, PartialEq, Eq)]
+#[repr(transparent)]
+pub struct Packet(sys::laxonje_packet);
+
+impl From<Range<usize>> for Packet {
+    fn from(bytes: Range<usize>) -> Packet {
+        Packet(sys::laxonje_packet { start: bytes.start, length: bytes.end.saturating_sub(bytes.start) })
+    }
+}
+
+/// Room for what became of a packet of a batch.
+#[derive(Clone, Copy, Debug, Default, PartialEq, Eq)]
+#[repr(transparent)]
+pub struct Outcome(sys::laxonje_result);
+
+impl Outcome {
+    /// How its run ended. `None`: it wasn't run, as before a batch.
+    pub fn run(self) -> Option<Run> {
+        Run::of(self.0)
+    }
+}
+
 /// An accepted program with its maps.
 pub struct Program {
     pub(crate) handle: ProgramHandle,
@@ -129,8 +197,7 @@ pub struct Program {
 impl Program {
     /// Accepts a program with its maps.
     pub fn load(program: &[u8], maps: &[MapSize]) -> Result<Program, LoadError> {
-        let maps: Vec<_> = maps.iter().map(|map| sys::laxonje_map { entries: map.entries, counters: map.counters }).collect();
-        Program::made(|handle| handle.load(program, &maps))
+        Program::made(|handle| handle.load(program, &sizes(maps)))
     }
 
     /// Accepts the program of a settings text.
@@ -145,18 +212,10 @@ impl Program {
 
     fn made(make: impl FnOnce(&mut ProgramHandle) -> sys::laxonje_verdict) -> Result<Program, LoadError> {
         let mut handle = ProgramHandle::none();
-        let verdict = make(&mut handle);
-        match (verdict.kind, verdict.cause) {
-            (sys::LAXONJE_ACCEPTED, _) => {
-                let maps: Vec<_> = handle.maps().iter().map(|map| MapSize { entries: map.entries, counters: map.counters }).collect();
-                let names = (0..maps.len() as u32).map(|number| handle.map_name(number)).collect();
-                Ok(Program { handle, maps, names, instructions: verdict.at })
-            }
-            (sys::LAXONJE_REFUSED | sys::LAXONJE_SETTINGS, 0) => Err(LoadError::Memory),
-            (sys::LAXONJE_REFUSED, cause) => Err(LoadError::Refused { cause, slot: verdict.at }),
-            (sys::LAXONJE_MAP, _) => Err(LoadError::Map(verdict.at)),
-            (_, cause) => Err(LoadError::Settings(cause)),
-        }
+        let instructions = accepted(make(&mut handle))?;
+        let maps: Vec<_> = handle.maps().iter().map(|map| MapSize { entries: map.entries, counters: map.counters }).collect();
+        let names = (0..maps.len() as u32).map(|number| handle.map_name(number)).collect();
+        Ok(Program { handle, maps, names, instructions })
     }
 
     /// How many instructions it has.
@@ -192,9 +251,16 @@ impl Program {
     /// Runs it on a packet where it lies. `None`, and nothing has changed, if there are fewer counters than it has, or more than
     /// [`MOST_BYTES`].
     pub fn run(&mut self, counters: &mut [u64], packet: &mut [u8], ifindex: u32, queue: u32) -> Option<Run> {
-        let result = self.handle.run(counters, packet, ifindex, queue);
-        let run = Run { number: result.number, action: Action::of(result.number), instructions: result.instructions };
-        (run.instructions > 0).then_some(run)
+        Run::of(self.handle.run(counters, packet, ifindex, queue))
+    }
+
+    /// Runs it on the packets of a batch, one after another where they lie in `bytes`; they may share some. Each gets an outcome in its place of
+    /// `outcomes`, and the answer is how many there are: the fewer of packets and outcomes. A packet that doesn't lie in the bytes, or that
+    /// [`Program::run`] wouldn't run, isn't run; the others are.
+    pub fn run_batch(
+        &mut self, counters: &mut [u64], bytes: &mut [u8], packets: &[Packet], outcomes: &mut [Outcome], ifindex: u32, queue: u32,
+    ) -> usize {
+        self.handle.run_batch(counters, bytes, packets, outcomes, ifindex, queue)
     }
 }
 

@@ -1,11 +1,12 @@
 //! Netback's queue of a guest.
+use crate::causes::{Halt, Refusal};
 use crate::drive::{Abandoned, Driver};
-use crate::guest::{Guest, PAGE_BYTES};
+use crate::guest::{Entry, Guest, PAGE_BYTES};
 use crate::program::{Action, MapSize, Program, MOST_BYTES};
-use crate::text;
+use alloc::string::String;
+use alloc::vec::Vec;
+use core::fmt;
 use laxonje_sys as sys;
-use std::error::Error;
-use std::fmt;
 
 /// The most frames of a grant table.
 pub const TABLE_FRAMES: usize = sys::LAXONJE_EXTENT_TABLE_FRAMES;
@@ -28,8 +29,22 @@ pub struct Indices {
     pub rx: u32,
 }
 
-/// What a queue is made of.
-#[derive(Clone, Copy, Debug)]
+impl Extent {
+    /// The extents of frames whose owners are in a list.
+    pub fn of_owners(owners: &[u16]) -> Vec<Extent> {
+        let mut found: Vec<Extent> = Vec::new();
+        for domain in owners.iter().copied() {
+            match found.last_mut() {
+                Some(last) if last.domain == domain && last.frames < u32::MAX => last.frames += 1,
+                _ => found.push(Extent { frames: 1, domain }),
+            }
+        }
+        found
+    }
+}
+
+/// What a queue is made of. A later version may have more: end it with `..Setup::default()`.
+#[derive(Clone, Copy, Debug, Default)]
 pub struct Setup<'a> {
     /// The owners of all frames, from frame 0 on.
     pub frames: &'a [Extent],
@@ -55,6 +70,7 @@ pub struct Setup<'a> {
 
 /// Why no queue was made.
 #[derive(Clone, Copy, Debug, PartialEq, Eq)]
+#[non_exhaustive]
 pub enum MakeError {
     /// Memory ran out.
     Memory,
@@ -97,10 +113,12 @@ impl fmt::Display for MakeError {
     }
 }
 
-impl Error for MakeError {}
+#[cfg(feature = "std")]
+impl std::error::Error for MakeError {}
 
 /// Why a queue goes on with the program that it had.
 #[derive(Clone, Copy, Debug, PartialEq, Eq)]
+#[non_exhaustive]
 pub enum ReplaceError {
     /// The queue has halted: its guest has to connect anew.
     Halted(Halt),
@@ -129,30 +147,21 @@ impl fmt::Display for ReplaceError {
     }
 }
 
-impl Error for ReplaceError {}
+#[cfg(feature = "std")]
+impl std::error::Error for ReplaceError {}
 
-/// Why a packet of a guest was refused: a number of `enum laxonje_refusal`.
+/// An entry of the grant table that was read, and what was read: for a log.
 #[derive(Clone, Copy, Debug, PartialEq, Eq)]
-pub struct Refusal(pub u32);
-
-/// Why a queue has halted: a number of `enum laxonje_halt`.
-#[derive(Clone, Copy, Debug, PartialEq, Eq)]
-pub struct Halt(pub u32);
-
-impl fmt::Display for Refusal {
-    fn fmt(&self, to: &mut fmt::Formatter<'_>) -> fmt::Result {
-        to.write_str(text::refusal(self.0))
-    }
-}
-
-impl fmt::Display for Halt {
-    fn fmt(&self, to: &mut fmt::Formatter<'_>) -> fmt::Result {
-        to.write_str(text::halt(self.0))
-    }
+pub struct Grant {
+    /// Which it is: its reference, and where it lies.
+    pub entry: Entry,
+    /// Its two words.
+    pub words: [u32; 2],
 }
 
 /// Why a queue makes no more accesses.
 #[derive(Clone, Copy, Debug, PartialEq, Eq)]
+#[non_exhaustive]
 pub enum Stopped {
     /// It has halted: its guest has to connect anew.
     Halted(Halt),
@@ -169,7 +178,8 @@ impl fmt::Display for Stopped {
     }
 }
 
-impl Error for Stopped {}
+#[cfg(feature = "std")]
+impl std::error::Error for Stopped {}
 
 /// The flags of a packet's first slot.
 #[derive(Clone, Copy, Debug, Default, PartialEq, Eq)]
@@ -207,6 +217,7 @@ pub struct TurnRun {
 
 /// What a turn came to.
 #[derive(Clone, Copy, Debug, PartialEq, Eq)]
+#[non_exhaustive]
 pub enum Turn {
     /// The ring had no request: wait for the guest's event.
     Idle,
@@ -223,6 +234,7 @@ pub enum Turn {
 
 /// What became of a packet that was delivered.
 #[derive(Clone, Copy, Debug, PartialEq, Eq)]
+#[non_exhaustive]
 pub enum Delivery {
     /// It lies in the buffers of these rx slots.
     Sent {
@@ -244,6 +256,7 @@ pub enum Delivery {
 
 /// What a wait for rx slots came to.
 #[derive(Clone, Copy, Debug, PartialEq, Eq)]
+#[non_exhaustive]
 pub enum Awaited {
     /// They are there by now: deliver at once.
     Posted,
@@ -265,7 +278,8 @@ impl fmt::Display for DeliverError {
     }
 }
 
-impl Error for DeliverError {}
+#[cfg(feature = "std")]
+impl std::error::Error for DeliverError {}
 
 /// Netback's queue: it takes packets of a guest's tx ring, runs a program on each, and delivers packets on the rx ring.
 pub struct Queue {
@@ -332,6 +346,13 @@ impl Queue {
     /// Copies out the packet of the last turn, if its program ran, or of the last delivery, as far as there is room. How long it is.
     pub fn packet(&self, out: &mut [u8]) -> usize {
         self.driver.packet(out)
+    }
+
+    /// The last entry of the grant table that the last turn, delivery or wait read. After [`Turn::Refused`] for [`Refusal::GRANT`] or
+    /// [`Refusal::RX_GRANT`], and after [`Delivery::Refused`], it is the one that was refused; but no entry is read for a reference beyond the
+    /// table, so then it is that of the slot before, or `None`.
+    pub fn last_grant(&self) -> Option<Grant> {
+        self.driver.grant()
     }
 
     /// The flags of the first slot of the last turn's packet.

@@ -2,7 +2,7 @@
 mod memory;
 
 use laxonje::{
-    Action, Awaited, DeliverError, Delivery, Entry, Extent, Guest, GuestMemory, Halt, Indices, MakeError, Program, Queue, Refusal,
+    Action, Awaited, DeliverError, Delivery, Entry, Extent, Guest, GuestMemory, Halt, Indices, MakeError, Op, Program, Queue, Refusal,
     ReplaceError, Setup, Stopped, Turn, TurnRun,
 };
 use memory::{setup, Memory, DATA, RX, TX};
@@ -12,7 +12,7 @@ const ERROR: i16 = -1;
 const BLANK: u32 = 1;
 const VALIDATED: u32 = 2;
 const MORE: u32 = 4;
-const COUNT: &str = include_str!("../../../examples/count-protocols/settings.toml");
+const COUNT: &str = include_str!("count-protocols.toml");
 
 fn counts() -> Program {
     Program::from_settings(COUNT.as_bytes()).unwrap()
@@ -401,4 +401,61 @@ fn an_entry_says_whether_its_page_is_to_be_written() {
             "over"
         ]
     );
+}
+
+/// A guest that notes each op.
+struct Traced(Memory, Vec<Op>, Vec<u32>);
+
+impl GuestMemory for Traced {
+    fn page(&self, frame: u32) -> &laxonje::Page {
+        self.0.page(frame)
+    }
+
+    fn notify(&mut self, port: u32) {
+        GuestMemory::notify(&mut self.0, port);
+    }
+
+    fn told(&mut self, op: &Op, words: &[u32]) {
+        self.1.push(*op);
+        self.2.extend(words);
+    }
+}
+
+#[test]
+fn a_trace_has_each_op_and_what_was_refused() {
+    let program = answers(2);
+    let mut guest = Traced(Memory::new(), Vec::new(), Vec::new());
+    let mut queue = guest.0.queue(&program, Indices::default());
+    assert_eq!(queue.last_grant(), None);
+    let reference = guest.0.grant(0, false);
+    guest.0.send(0, reference, 0, 60);
+    assert_eq!(action(queue.turn(&mut guest as &mut dyn GuestMemory)), Action::Pass);
+    let (tx, entry) = (TX as u32, Entry { reference: 8, frame: memory::TABLE as u32, word: 16, writes: false });
+    assert_eq!(guest.1[..3], [Op::Read { frame: tx, word: 16 }, Op::Entry(entry), Op::Read { frame: DATA as u32, word: 0 }]);
+    let after = [Op::Write { frame: tx, word: 16 }, Op::Push { frame: tx, word: 2, value: 1, then: 3 }, Op::Notify(9), Op::Done];
+    assert_eq!(guest.1[3..], after);
+    assert_eq!((guest.2[..3].to_vec(), guest.2[3..5].to_vec()), (vec![8, 0, 60 << 16 | 100], vec![5, DATA as u32]));
+    assert_eq!(guest.2[guest.2.len() - 2..], [100, 1]); // the response (OKAY), and the event index that the guest had left
+                                                        // a packet whose grant isn't there: its reference, and the words that were read
+    guest.0.send(1, 77, 0, 60);
+    assert_eq!(queue.turn(&mut guest), Turn::Refused(Refusal::GRANT));
+    let refused = queue.last_grant().unwrap();
+    assert_eq!((refused.entry.reference, refused.entry.word, refused.words), (77, 154, [0, 0]));
+    // a reference beyond the table, whose entry isn't read
+    guest.0.send(2, 512, 0, 60);
+    assert_eq!((queue.turn(&mut guest), queue.last_grant()), (Turn::Refused(Refusal::GRANT), None));
+    // an idle turn reads no entry
+    assert_eq!((queue.turn(&mut guest), queue.last_grant()), (Turn::Idle, None));
+}
+
+#[test]
+fn owners_in_a_list_are_the_same_frames() {
+    assert_eq!(Extent::of_owners(&[]), []);
+    let extents = Extent::of_owners(&[3, 3, 3, 0, 3, 9, 9]);
+    let runs: Vec<_> = extents.iter().map(|extent| (extent.frames, extent.domain)).collect();
+    assert_eq!(runs, [(3, 3), (1, 0), (1, 3), (2, 9)]);
+    let frames = Extent::of_owners(&[memory::GUEST; 16]);
+    assert!(Queue::new(&answers(2), &Setup { frames: &frames, ..setup(Indices::default()) }).is_ok());
+    let frames = Extent::of_owners(&[memory::GUEST, memory::GUEST, 6]);
+    assert_eq!(Queue::new(&answers(2), &Setup { frames: &frames, ..setup(Indices::default()) }).unwrap_err(), MakeError::Table);
 }

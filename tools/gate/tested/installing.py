@@ -40,7 +40,7 @@ def install_tests():
         (to / "usr/include/other.h").write_text("")
         (to / "usr/share").mkdir()
         env = {**os.environ, "DESTDIR": str(to), "LIBDIR": "lib/there"}
-        install = [TOOLS / "install", "--from", built, "/usr"]
+        install = [TOOLS / "install", "--from", built, "--netback", "/usr"]
         status, text, error = said(install, env=env)
         yield "it installs", status == 0 and not error and text.endswith("UNPROVED: nothing of it was proved\n")
         listed = (to / "usr/share/laxonje/installed").read_text().splitlines()
@@ -48,6 +48,8 @@ def install_tests():
         yield "each file is listed", files == [it for it in files_below(to) if it != "usr/include/other.h"]
         wanted = ["bin/xdpbox", "bin/laxonje-settings-from-c", "include/laxonje.h", "lib/there/liblaxonje.so", "lib/there/pkgconfig/laxonje.pc"]
         wanted += ["share/man/man3/laxonje.3", "share/bash-completion/completions/xdpbox", "share/doc/laxonje/docs/HOST.md"]
+        wanted += ["share/man/man3/laxonje_run.3", "share/laxonje/crates/laxonje/src/lib.rs", "share/laxonje/crates/laxonje-sys/build.rs"]
+        wanted += ["sbin/laxonje-netback", "share/bash-completion/completions/laxonje-netback"]
         yield "what is wanted is there", all(f"usr/{name}" in files for name in wanted)
         packed = (to / "usr/lib/there/pkgconfig/laxonje.pc").read_text()
         is_placed = "prefix=/usr\nlibdir=/usr/lib/there\n" in packed and "-L${libdir} -llaxonje" in packed
@@ -59,11 +61,12 @@ def install_tests():
         yield "no folder is left but what was there", sorted(os.listdir(to / "usr")) == ["include", "share"]
         own = pathlib.Path(room, "of its own")
         status = said([TOOLS / "install", "--from", built, own])[0]
+        yield "no laxonje-netback if it isn't asked for", not [it for it in files_below(own) if "netback" in it and "share/doc" not in it]
         both = (own / "bin/laxonje-packets-of-pcap", TOOLS / "packets-of-pcap")
         made, plain = [said([tool, ROOT / "examples/five-packets.pcap"])[1] for tool in both]
         yield "a tool that is installed, in a folder with blanks", status == 0 and made == plain and made.startswith("[[packet]]")
         odd = pathlib.Path(room, "a&b|c\\d")
-        status = said([TOOLS / "install", "--from", built, odd], env={**os.environ, "LIBDIR": "lib&|"})[0]
+        status = said([TOOLS / "install", "--from", built, "--netback", odd], env={**os.environ, "LIBDIR": "lib&|"})[0]
         packed = (odd / "lib&|/pkgconfig/laxonje.pc").read_text().splitlines() if status == 0 else []
         yield "a prefix with signs that sed knows", packed[:2] == [f"prefix={odd}", f"libdir={odd}/lib&|"]
         made = said([odd / "bin/laxonje-packets-of-pcap", ROOT / "examples/five-packets.pcap"])[1]

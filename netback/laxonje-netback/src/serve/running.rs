@@ -256,7 +256,6 @@ impl Running {
         match turn {
             Turn::Idle => {}
             Turn::Halted(cause) => return Err(Ended::Halted(cause)),
-            Turn::Abandoned => return Err(abandoned()),
             Turn::Refused(refusal) => {
                 totals.refuse(refusal);
                 let grant = self.worker.guest.take_refused();
@@ -266,8 +265,9 @@ impl Running {
                 Action::Pass => self.forward(run.flags),
                 Action::Tx => Totals::add(&totals.sent_back, 1),
                 Action::Drop => Totals::add(&totals.dropped, 1),
-                Action::Aborted => Totals::add(&totals.aborted, 1),
+                _ => Totals::add(&totals.aborted, 1),
             },
+            _ => return Err(abandoned()),
         }
         Ok(())
     }
@@ -338,12 +338,12 @@ impl Running {
             }
             Ok(Delivery::FewSlots) => return self.await_buffers(packet.length).map(|()| false),
             Ok(Delivery::Halted(cause)) => return Err(Ended::Halted(cause)),
-            Ok(Delivery::Abandoned) => return Err(abandoned()),
             Ok(Delivery::Refused { .. }) => {
                 Totals::add(&totals.undelivered, 1);
                 let grant = guest.take_refused();
                 self.worker.log.caused(&format_args!("a packet isn't delivered: an rx slot's grant failed its check{grant}"));
             }
+            Ok(_) => return Err(abandoned()),
             Err(_) => Totals::add(&totals.undelivered, 1),
         }
         self.arena.leave();
@@ -359,7 +359,7 @@ impl Running {
             }
             Ok(Awaited::Posted) => {}
             Ok(Awaited::Halted(cause)) => return Err(Ended::Halted(cause)),
-            Ok(Awaited::Abandoned) => return Err(abandoned()),
+            Ok(_) => return Err(abandoned()),
             Err(_) => self.arena.leave(), // longer than what `deliver` takes
         }
         Ok(())
