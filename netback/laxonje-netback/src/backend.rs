@@ -1,23 +1,20 @@
-//! The main thread: XenStore's changes, reports of queues, signals, and questions.
+//! The main process: XenStore's changes, what the processes of guests say, signals, and questions.
 use crate::control::Control;
 use crate::device::node::{self, Kernel};
-use crate::device::{Device, Id, Shared};
+use crate::device::{told, Device, Id, Shared};
 use crate::ffi::SIGHUP;
+use crate::guests::{Guests, News, Report};
 use crate::keys;
 use crate::log::Log;
 use crate::options::Options;
-use crate::os::{allow_priority, give_up_capabilities, restrict_to_service, wait, Signals, Wanted};
-use crate::serve::{Report, Reports};
+use crate::os::{allow_priority, keep_capabilities, lock, restrict_to_service, wait_for_all, Keeps, Signals, Wanted, FROM_USERS};
 use crate::stats;
 use crate::xen::{Grants, Store};
 use std::cell::RefCell;
 use std::collections::{BTreeMap, BTreeSet};
-use std::io::{self, Read};
-use std::os::unix::io::AsRawFd;
-use std::os::unix::net::UnixStream;
+use std::io;
+use std::os::unix::io::RawFd;
 use std::path::Path;
-use std::sync::mpsc::{channel, Receiver};
-use std::sync::Arc;
 use std::thread::sleep;
 use std::time::{Duration, Instant};
 
@@ -27,6 +24,8 @@ const TOKEN: &str = "back";
 const SETTLES: Duration = Duration::from_secs(1);
 /// Nobody can be answered: descriptors have run out.
 const PAUSE: Duration = Duration::from_millis(10);
+/// How long the processes of an earlier start may take to end.
+const EARLIER: Duration = Duration::from_secs(10);
 /// The most changes at once, before signals and questions have their turn.
 const MOST_CHANGES: usize = 1000;
 
@@ -34,8 +33,6 @@ pub struct Backend {
     shared: Shared,
     control: Control,
     signals: Signals,
-    reported: Receiver<Report>,
-    woken: UnixStream,
     devices: BTreeMap<Id, Device>,
     log: Log,
     /// Devices that aren't served, and lines about them.
@@ -49,47 +46,40 @@ impl Backend {
     /// Opens all that is needed, and gives up what isn't.
     pub fn open(options: Options) -> io::Result<Backend> {
         let named = |what: &'static str| move |error: io::Error| io::Error::new(error.kind(), format!("{what}: {error}"));
-        let signals = Signals::block()?;
+        let signals = Signals::block(&FROM_USERS)?;
         let store = Store::open().map_err(named("XenStore"))?;
-        let own = store.read("domid").and_then(|number| keys::number(&number)).and_then(|number| u16::try_from(number).ok());
-        let grants = Grants::open(own.unwrap_or(0)).map_err(named("/dev/xen/gntdev (the module xen-gntdev)"))?;
-        let control = Control::open(&options.socket).map_err(named("the socket"))?;
+        let own = store.read("domid").and_then(|number| keys::number(&number)).and_then(|number| u16::try_from(number).ok()).unwrap_or(0);
         let log = Log::of("main");
-        if !grants.shares() {
-            log.line("Xen knows no pages of this process by references (the module xen-gntalloc): packets cost more");
-        }
-        if Path::new(node::BACKENDS).join("drivers/vif").exists() {
-            log.line("the kernel's xen-netback is loaded: devices that it is bound to are left to it");
-        }
+        look_at_modules(own, &log).map_err(named("/dev/xen/gntdev (the module xen-gntdev)"))?;
+        let control = Control::open(&options.socket).map_err(named("the socket"))?;
+        let held = lock(&options.lock(), EARLIER).map_err(named("processes of an earlier start haven't ended"))?;
         allow_priority(options.nice);
+        let guests = Guests::open(&options.words_of_guests(own), &held).map_err(named("the process that starts others"))?;
         if options.restricted {
-            give_up_capabilities(true).map_err(named("capabilities"))?;
+            keep_capabilities(Keeps::Network).map_err(named("capabilities"))?;
             restrict_to_service().map_err(named("the list of system calls"))?;
         }
-        let (to, reported) = channel();
-        let (wake, woken) = UnixStream::pair()?;
-        wake.set_nonblocking(true)?;
-        woken.set_nonblocking(true)?;
         store.watch(BACKENDS, TOKEN)?;
-        let shared = Shared { store, grants, options, reports: Reports { to, wake: Arc::new(wake) }, filters: RefCell::default() };
+        let shared = Shared { store, options, guests: RefCell::new(guests), filters: RefCell::default() };
         let (devices, wrong, unbound, looked) = (BTreeMap::new(), BTreeMap::new(), BTreeMap::new(), Instant::now());
-        Ok(Backend { shared, control, signals, reported, woken, devices, log, wrong, unbound, looked })
+        Ok(Backend { shared, control, signals, devices, log, wrong, unbound, looked })
     }
 
     /// Serves until a signal says to end. Guests stay connected: their packets wait for the next process.
-    pub fn run(&mut self) {
+    pub fn run(&mut self) -> io::Result<()> {
         self.log.line("serving");
-        while self.round() {}
-        self.devices.values_mut().for_each(Device::stop);
+        while self.round()? {}
+        self.devices.values_mut().for_each(|device| device.stop(&self.shared));
         let _ = std::fs::remove_file(&self.shared.options.socket);
         self.log.line("ended; connected guests wait for the next start");
+        Ok(())
     }
 
-    /// Whether to go on.
-    fn round(&mut self) -> bool {
-        let fds = [self.shared.store.fd(), self.woken.as_raw_fd(), self.control.fd(), self.signals.fd()];
-        let mut wanted = fds.map(Wanted::of);
-        if let Err(error) = wait(&mut wanted, self.time()) {
+    /// Whether to go on. An error: no process can be started any longer.
+    fn round(&mut self) -> io::Result<bool> {
+        let own = [self.shared.store.fd(), self.control.fd(), self.signals.fd()];
+        let mut wanted: Vec<_> = own.into_iter().chain(self.shared.guests.borrow().fds()).map(Wanted::of).collect();
+        if let Err(error) = wait_for_all(&mut wanted, self.time()) {
             self.log.caused(&format_args!("no events: {error}"));
             sleep(PAUSE);
         }
@@ -97,18 +87,20 @@ impl Backend {
             let changed = self.changed();
             self.follow(changed);
         }
-        if wanted[1].ready {
-            self.take_reports();
-        }
+        let ready: BTreeSet<RawFd> = wanted.iter().filter(|one| one.ready).map(|one| one.fd).collect();
+        self.take_news(&ready)?;
         self.look_again();
-        if wanted[2].ready {
+        if wanted[1].ready {
             self.answer();
         }
-        !wanted[3].ready || self.take_signals()
+        Ok(!wanted[2].ready || self.take_signals())
     }
 
     /// Until when there is nothing to do without an event.
     fn time(&self) -> Option<Duration> {
+        if self.shared.guests.borrow().has_kept() {
+            return Some(Duration::ZERO);
+        }
         let now = Instant::now();
         let device = self.devices.values().filter_map(|device| device.later).min();
         let file = self.shared.options.watch.map(|each| self.looked + each);
@@ -152,6 +144,7 @@ impl Backend {
             let gone = if stays { None } else { self.devices.remove(&id) };
             if let Some(device) = gone {
                 device.leave(&self.shared);
+                self.release(id.domain);
             }
         }
     }
@@ -188,14 +181,38 @@ impl Backend {
         }
     }
 
-    fn take_reports(&mut self) {
-        let _ = self.woken.read(&mut [0; 64]);
-        while let Ok(report) = self.reported.try_recv() {
-            let id = Id { domain: report.place.domain, number: report.place.device };
-            if let Some(device) = self.devices.get_mut(&id) {
-                device.ended(&self.shared, &report);
-                self.follow(BTreeSet::from([id]));
+    /// The process of a guest that has no device ends.
+    fn release(&self, domain: u16) {
+        if !self.devices.keys().any(|id| id.domain == domain) {
+            self.shared.guests.borrow_mut().release(domain);
+        }
+    }
+
+    fn take_news(&mut self, ready: &BTreeSet<RawFd>) -> io::Result<()> {
+        let news = self.shared.guests.borrow_mut().news(|fd| ready.contains(&fd));
+        let news = news.map_err(|error| io::Error::new(error.kind(), format!("the process that starts others: {error}")))?;
+        for one in news {
+            match one {
+                News::Said { domain, process, report } => self.take_report(domain, process, report),
+                News::Ended { domain, process, how } => {
+                    let devices = self.devices.iter_mut().filter(|(id, _)| id.domain == domain);
+                    devices.for_each(|(_, device)| device.process_ended(&self.shared, process, &how));
+                }
             }
+        }
+        Ok(())
+    }
+
+    fn take_report(&mut self, domain: u16, process: u64, report: Report) {
+        let device = report.device().and_then(|number| self.devices.get_mut(&Id { domain, number }).map(|device| (number, device)));
+        match (device, report) {
+            (Some((number, device)), report) => {
+                if device.said(&self.shared, process, report) {
+                    self.follow(BTreeSet::from([Id { domain, number }]));
+                }
+            }
+            (None, Report::Line { text, .. }) => Log::of(&format!("domain {domain}")).line(&text),
+            (None, _) => {}
         }
     }
 
@@ -233,10 +250,9 @@ impl Backend {
     }
 
     fn answer_to(&mut self, question: &str) -> String {
-        let stats = |devices: &mut BTreeMap<Id, Device>| devices.values_mut().map(Device::stats).collect::<Vec<_>>();
         match question {
-            "stats" => stats::text(&stats(&mut self.devices)),
-            "json" => stats::json(&stats(&mut self.devices)),
+            "stats" => stats::text(&told::stats(&self.shared, self.devices.values())),
+            "json" => stats::json(&told::stats(&self.shared, self.devices.values())),
             "reload" => match self.reload() {
                 nothing if nothing.is_empty() => "no filter has changed\n".to_owned(),
                 lines => lines,
@@ -255,6 +271,17 @@ impl Backend {
         }
         true
     }
+}
+
+/// Whether Xen's modules are there, before anything is given up.
+fn look_at_modules(own: u16, log: &Log) -> io::Result<()> {
+    if !Grants::open(own)?.shares() {
+        log.line("Xen knows no pages of this process by references (the module xen-gntalloc): packets cost more");
+    }
+    if Path::new(node::BACKENDS).join("drivers/vif").exists() {
+        log.line("the kernel's xen-netback is loaded: devices that it is bound to are left to it");
+    }
+    Ok(())
 }
 
 fn id(domain: &str, device: &str) -> Option<Id> {

@@ -97,8 +97,8 @@ extern "C" {
     pub fn xenevtchn_close(handle: *mut xenevtchn_handle) -> c_int;
     pub fn xenevtchn_fd(handle: *mut xenevtchn_handle) -> c_int;
     pub fn xenevtchn_notify(handle: *mut xenevtchn_handle, port: u32) -> c_int;
+    pub fn xenevtchn_fdopen(logger: *mut xentoollog_logger, fd: c_int, flags: c_uint) -> *mut xenevtchn_handle;
     pub fn xenevtchn_bind_interdomain(handle: *mut xenevtchn_handle, domid: u32, remote_port: u32) -> c_int;
-    pub fn xenevtchn_unbind(handle: *mut xenevtchn_handle, port: u32) -> c_int;
     pub fn xenevtchn_pending(handle: *mut xenevtchn_handle) -> c_int;
     pub fn xenevtchn_unmask(handle: *mut xenevtchn_handle, port: u32) -> c_int;
 }
@@ -120,7 +120,11 @@ pub struct signal_set {
 pub const SIG_BLOCK: c_int = 0;
 pub const SIGHUP: c_int = 1;
 pub const SIGINT: c_int = 2;
+pub const SIGBUS: c_int = 7;
+pub const SIGSEGV: c_int = 11;
+pub const SIG_DFL: usize = 0;
 pub const SIGTERM: c_int = 15;
+pub const SIGCHLD: c_int = 17;
 /// `SFD_NONBLOCK | SFD_CLOEXEC`.
 pub const SIGNALFD_FLAGS: c_int = 0o4000 | 0o2000000;
 /// `sizeof (struct signalfd_siginfo)`, which begins with the signal's number.
@@ -153,6 +157,7 @@ pub const TAP_FLAGS: u16 = 0x0002 | 0x1000 | 0x4000;
 pub const IFF_MULTI_QUEUE: u16 = 0x0100;
 pub const ARPHRD_ETHER: u16 = 1;
 pub const O_NONBLOCK: c_int = 0o4000;
+pub const FIONBIO: u32 = 0x5421;
 pub const EINTR: c_int = 4;
 pub const EBUSY: c_int = 16;
 pub const ENODEV: c_int = 19;
@@ -181,11 +186,62 @@ pub const CAP_VERSION_3: u32 = 0x2008_0522;
 pub const CAP_NET_ADMIN: u32 = 12;
 pub const PRIO_PROCESS: c_int = 0;
 pub const SCHED_BATCH: c_int = 3;
+pub const PR_SET_NAME: c_int = 15;
 pub const PR_SET_SECCOMP: c_int = 22;
 pub const PR_CAPBSET_DROP: c_int = 24;
 pub const PR_SET_TIMERSLACK: c_int = 29;
 pub const PR_SET_NO_NEW_PRIVS: c_int = 38;
 pub const SECCOMP_MODE_FILTER: c_ulong = 2;
+
+/// `struct iovec`, `struct msghdr`, `struct cmsghdr` and `struct timeval` of the C library.
+#[repr(C)]
+pub struct iovec {
+    pub base: *mut c_void,
+    pub bytes: usize,
+}
+#[repr(C)]
+pub struct msghdr {
+    pub name: *mut c_void,
+    pub name_bytes: c_uint,
+    pub parts: *mut iovec,
+    pub count: usize,
+    pub control: *mut c_void,
+    pub control_bytes: usize,
+    pub flags: c_int,
+}
+#[repr(C)]
+pub struct cmsghdr {
+    pub length: usize,
+    pub level: c_int,
+    pub kind: c_int,
+}
+#[repr(C)]
+pub struct timeval {
+    pub seconds: c_long,
+    pub microseconds: c_long,
+}
+pub const AF_UNIX: c_int = 1;
+pub const SOCK_SEQPACKET: c_int = 5;
+pub const SOCK_CLOEXEC: c_int = 0o2000000;
+pub const SOL_SOCKET: c_int = 1;
+pub const SO_SNDTIMEO: c_int = 21;
+pub const SCM_RIGHTS: c_int = 1;
+pub const MSG_CTRUNC: c_int = 0x8;
+pub const MSG_TRUNC: c_int = 0x20;
+pub const MSG_DONTWAIT: c_int = 0x40;
+pub const MSG_NOSIGNAL: c_int = 0x4000;
+pub const MSG_CMSG_CLOEXEC: c_int = 0x4000_0000;
+pub const LOCK_EX: c_int = 2;
+pub const LOCK_NB: c_int = 4;
+
+/// Requests of `xen/gntdev.h`, `xen/gntalloc.h` and `xen/evtchn.h`, which Xen's libraries make.
+pub const IOCTL_GNTDEV_MAP_GRANT_REF: u32 = 0x0018_4700;
+pub const IOCTL_GNTDEV_UNMAP_GRANT_REF: u32 = 0x0010_4701;
+pub const IOCTL_GNTDEV_GET_OFFSET_FOR_VADDR: u32 = 0x0018_4702;
+pub const IOCTL_GNTDEV_GRANT_COPY: u32 = 0x0010_4708;
+pub const IOCTL_GNTALLOC_ALLOC_GREF: u32 = 0x0018_4705;
+pub const IOCTL_GNTALLOC_DEALLOC_GREF: u32 = 0x0010_4706;
+pub const IOCTL_EVTCHN_NOTIFY: u32 = 0x0004_4504;
 
 /// An instruction of a seccomp program, and the program.
 #[repr(C)]
@@ -237,8 +293,16 @@ pub const SYS_IO_SUBMIT: c_long = 209;
 extern "C" {
     pub fn syscall(number: c_long, ...) -> c_long;
     pub fn free(at: *mut c_void);
+    pub fn socketpair(family: c_int, kind: c_int, protocol: c_int, ends: *mut c_int) -> c_int;
+    pub fn setsockopt(fd: c_int, level: c_int, option: c_int, value: *const c_void, bytes: c_uint) -> c_int;
+    pub fn send(fd: c_int, message: *const c_void, bytes: usize, flags: c_int) -> isize;
+    pub fn recv(fd: c_int, room: *mut c_void, bytes: usize, flags: c_int) -> isize;
+    pub fn sendmsg(fd: c_int, message: *const msghdr, flags: c_int) -> isize;
+    pub fn recvmsg(fd: c_int, message: *mut msghdr, flags: c_int) -> isize;
+    pub fn flock(fd: c_int, operation: c_int) -> c_int;
     pub fn poll(on: *mut pollfd, count: c_ulong, milliseconds: c_int) -> c_int;
     pub fn ioctl(fd: c_int, request: c_ulong, ...) -> c_int;
+    pub fn signal(signal: c_int, handler: usize) -> usize;
     pub fn sigemptyset(set: *mut signal_set) -> c_int;
     pub fn sigaddset(set: *mut signal_set, signal: c_int) -> c_int;
     pub fn pthread_sigmask(how: c_int, set: *const signal_set, old: *mut signal_set) -> c_int;
@@ -260,4 +324,6 @@ const _: () = assert!(std::mem::size_of::<signal_set>() == 128);
 const _: () = assert!(std::mem::size_of::<rlimit>() == 16);
 const _: () = assert!(std::mem::size_of::<cap_header>() == 8 && std::mem::size_of::<cap_data>() == 12);
 const _: () = assert!(std::mem::size_of::<sock_filter>() == 8 && std::mem::size_of::<sock_fprog>() == 16);
+const _: () = assert!(std::mem::size_of::<iovec>() == 16 && std::mem::size_of::<msghdr>() == 56);
+const _: () = assert!(std::mem::size_of::<cmsghdr>() == 16 && std::mem::size_of::<timeval>() == 16);
 const _: () = assert!(std::mem::size_of::<iocb>() == 64 && std::mem::size_of::<io_event>() == 32);

@@ -15,11 +15,13 @@ const MOST_TEXT: u64 = 1 << 20;
 /// What the toolstack appends to the name of a guest that comes from another host, until it is here.
 const INCOMING: &str = "--incoming";
 
-/// A program with its file.
+/// A program with its file, its text, and a number that no other filter of this process has.
 #[derive(Debug)]
 pub struct Filter {
     pub path: PathBuf,
     pub program: Program,
+    pub text: Vec<u8>,
+    pub number: u64,
 }
 
 /// Why a file gives no filter.
@@ -57,12 +59,12 @@ impl Error for FilterError {}
 impl Filter {
     pub fn load(path: &Path) -> Result<Filter, FilterError> {
         let text = read(path).map_err(|error| FilterError::Read(path.to_owned(), error))?;
-        Filter::of(path, &text).map_err(|error| FilterError::Load(path.to_owned(), error))
+        Filter::of(path, text, 0).map_err(|error| FilterError::Load(path.to_owned(), error))
     }
 
-    fn of(path: &Path, text: &[u8]) -> Result<Filter, LoadError> {
-        let program = Program::from_settings(text)?;
-        Ok(Filter { path: path.to_owned(), program })
+    fn of(path: &Path, text: Vec<u8>, number: u64) -> Result<Filter, LoadError> {
+        let program = Program::from_settings(&text)?;
+        Ok(Filter { path: path.to_owned(), program, text, number })
     }
 
     /// Whether another filter's counters go on as this one's: its maps have the same names and sizes, in the same order.
@@ -71,15 +73,29 @@ impl Filter {
     }
 }
 
-/// The filters of all devices. A text is verified once, however many devices have it and however often it is looked at.
+/// The filters of all devices. A text is verified once in this process, however many devices have it and however often it is looked at, and once
+/// in the process of each guest.
 #[derive(Debug, Default)]
-pub struct Filters(BTreeMap<PathBuf, Known>);
+pub struct Filters {
+    known: BTreeMap<PathBuf, Known>,
+    next: u64,
+}
 
 /// A text, and what came of it.
 #[derive(Debug)]
-struct Known {
-    text: Vec<u8>,
-    filter: Result<Rc<Filter>, LoadError>,
+enum Known {
+    Accepted(Rc<Filter>),
+    Refused { text: Vec<u8>, error: LoadError },
+}
+
+impl Known {
+    fn of(&self, text: &[u8]) -> Option<Result<Rc<Filter>, LoadError>> {
+        match self {
+            Known::Accepted(filter) if filter.text == text => Some(Ok(Rc::clone(filter))),
+            Known::Refused { text: refused, error } if refused == text => Some(Err(*error)),
+            _ => None,
+        }
+    }
 }
 
 impl Filters {
@@ -90,14 +106,19 @@ impl Filters {
             None => return Err(FilterError::None(places)),
         };
         let text = read(path).map_err(|error| FilterError::Read(path.clone(), error))?;
-        let known = self.0.get(path).filter(|known| known.text == text).map(|known| known.filter.clone());
+        let known = self.known.get(path).and_then(|known| known.of(&text));
         let filter = known.unwrap_or_else(|| self.learn(path, text));
         filter.map_err(|error| FilterError::Load(path.clone(), error))
     }
 
     fn learn(&mut self, path: &Path, text: Vec<u8>) -> Result<Rc<Filter>, LoadError> {
-        let filter = Filter::of(path, &text).map(Rc::new);
-        self.0.insert(path.to_owned(), Known { text, filter: filter.clone() });
+        self.next += 1;
+        let filter = Filter::of(path, text.clone(), self.next).map(Rc::new);
+        let known = match &filter {
+            Ok(filter) => Known::Accepted(Rc::clone(filter)),
+            Err(error) => Known::Refused { text, error: *error },
+        };
+        self.known.insert(path.to_owned(), known);
         filter
     }
 }

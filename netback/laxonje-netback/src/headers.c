@@ -8,7 +8,10 @@
 #include <signal.h>
 #include <sys/ioctl.h>
 #include <sys/prctl.h>
+#include <sys/file.h>
 #include <sys/resource.h>
+#include <sys/socket.h>
+#include <sys/time.h>
 #include <sys/signalfd.h>
 #include <sys/syscall.h>
 #include <linux/aio_abi.h>
@@ -25,6 +28,9 @@
 #include <xenstore_lib.h>
 #include <xentoollog.h>
 #include <xen/grant_table.h>
+#include <xen/sys/evtchn.h>
+#include <xen/sys/gntalloc.h>
+#include <xen/sys/gntdev.h>
 #include <xen/io/netif.h>
 
 #define IS(what, number) _Static_assert((what) == (number), #what " isn't " #number)
@@ -88,10 +94,44 @@ IS(SIOCSIFTXQLEN, 0x8943);
 IS(SIOCBRADDIF, 0x89a2);
 IS(IFF_TAP | IFF_NO_PI | IFF_VNET_HDR, 0x5002);
 IS(IFF_MULTI_QUEUE, 0x100);
+IS(FIONBIO, 0x5421);
+IS(sizeof(struct iovec), 16);
+IS(sizeof(struct msghdr), 56);
+IS(offsetof(struct msghdr, msg_iov), 16);
+IS(offsetof(struct msghdr, msg_control), 32);
+IS(offsetof(struct msghdr, msg_flags), 48);
+IS(sizeof(struct cmsghdr), 16);
+IS(offsetof(struct cmsghdr, cmsg_type), 12);
+IS(sizeof(struct timeval), 16);
+IS(AF_UNIX, 1);
+IS(SOCK_SEQPACKET, 5);
+IS(SOCK_CLOEXEC, 02000000);
+IS(SOL_SOCKET, 1);
+IS(SO_SNDTIMEO, 21);
+IS(SCM_RIGHTS, 1);
+IS(MSG_CTRUNC, 0x8);
+IS(MSG_TRUNC, 0x20);
+IS(MSG_DONTWAIT, 0x40);
+IS(MSG_NOSIGNAL, 0x4000);
+IS(MSG_CMSG_CLOEXEC, 0x40000000);
+IS(LOCK_EX, 2);
+IS(LOCK_NB, 4);
+IS(SIGCHLD, 17);
+IS(SIGBUS, 7);
+IS(SIGSEGV, 11);
+IS((size_t)SIG_DFL, 0);
+IS(IOCTL_GNTDEV_MAP_GRANT_REF, 0x184700);
+IS(IOCTL_GNTDEV_UNMAP_GRANT_REF, 0x104701);
+IS(IOCTL_GNTDEV_GET_OFFSET_FOR_VADDR, 0x184702);
+IS(IOCTL_GNTDEV_GRANT_COPY, 0x104708);
+IS(IOCTL_GNTALLOC_ALLOC_GREF, 0x184705);
+IS(IOCTL_GNTALLOC_DEALLOC_GREF, 0x104706);
+IS(IOCTL_EVTCHN_NOTIFY, 0x44504);
 IS(CAP_NET_ADMIN, 12);
 IS(RLIMIT_NICE, 13);
 IS(PR_SET_NO_NEW_PRIVS, 38);
 IS(PR_CAPBSET_DROP, 24);
+IS(PR_SET_NAME, 15);
 IS(SECCOMP_MODE_FILTER, 2);
 IS(SYS_io_setup, 206);
 IS(SYS_io_submit, 209);

@@ -1,4 +1,5 @@
 //! Lines for the log, on standard error: one each, and of those that a guest can cause only a few a minute for each device.
+use std::collections::BTreeMap;
 use std::fmt;
 use std::io::Write;
 use std::sync::{Arc, Mutex, PoisonError};
@@ -7,6 +8,17 @@ use std::time::{Duration, Instant};
 /// How many lines at once; then one in this time.
 const BURST: u32 = 5;
 const EACH: Duration = Duration::from_secs(10);
+
+/// Takes whom a line is about, and its text.
+pub type Sink = Box<dyn Fn(&str, &str) + Send>;
+
+/// Where lines go. `None`: to standard error.
+static SINK: Mutex<Option<Sink>> = Mutex::new(None);
+
+/// From now on lines go there.
+pub fn send_to(sink: Sink) {
+    *SINK.lock().unwrap_or_else(PoisonError::into_inner) = Some(sink);
+}
 
 /// Writes lines of one device. Its clones write of the same device, and have one limit for what the guest can cause.
 #[derive(Clone, Debug)]
@@ -23,7 +35,10 @@ impl Log {
     /// Writes a line. What isn't plain text in it, which a guest may have written, is replaced.
     pub fn line(&self, text: &str) {
         let plain: String = text.chars().map(|one| if one.is_control() { '?' } else { one }).take(500).collect();
-        let _ = writeln!(std::io::stderr(), "laxonje-netback: {}: {plain}", self.about);
+        match &*SINK.lock().unwrap_or_else(PoisonError::into_inner) {
+            Some(sink) => sink(&self.about, &plain),
+            None => drop(writeln!(std::io::stderr(), "laxonje-netback: {}: {plain}", self.about)),
+        }
     }
 
     /// Writes a line that a guest can cause, if one may be written.
@@ -35,6 +50,16 @@ impl Log {
 
     fn allows(&self) -> Option<String> {
         self.caused.lock().unwrap_or_else(PoisonError::into_inner).allows()
+    }
+}
+
+/// The logs of a guest's devices, by their numbers: a device has one limit, however often it connects.
+#[derive(Debug, Default)]
+pub struct Logs(BTreeMap<u32, Log>);
+
+impl Logs {
+    pub fn of(&mut self, device: u32) -> Log {
+        self.0.entry(device).or_insert_with(|| Log::of(&device.to_string())).clone()
     }
 }
 
@@ -92,6 +117,13 @@ mod tests {
         let device = Log::of("vif1.0");
         let allowed = (0..31).flat_map(|_| [device.clone(), device.clone()]).filter(|thread| thread.allows().is_some()).count();
         assert_eq!((allowed, device.allows(), Log::of("vif2.0").allows().as_deref()), (5, None, Some("")));
+    }
+
+    #[test]
+    fn a_device_that_connects_again_has_the_same_limit() {
+        let mut logs = Logs::default();
+        let allowed = (0..31).filter(|_| logs.of(3).allows().is_some()).count();
+        assert_eq!((allowed, logs.of(4).allows().is_some()), (5, true));
     }
 
     #[test]

@@ -6,6 +6,7 @@ mod device;
 mod ffi;
 mod filters;
 mod frame;
+mod guests;
 mod keys;
 mod log;
 mod options;
@@ -54,6 +55,8 @@ fn obey(command: Command) -> Result<(), String> {
             say(&answer)
         }
         Command::Serve(options) => serve(options),
+        Command::StartGuests { words, restricted } => guests::start_guests(words, restricted).map_err(|error| error.to_string()),
+        Command::ServeGuest { domain, own, options } => guests::serve_guest(domain, own, &options).map_err(|error| error.to_string()),
     }
 }
 
@@ -75,7 +78,7 @@ fn check(file: &Path) -> Result<(), String> {
 
 fn serve(options: Options) -> Result<(), String> {
     let mut backend = Backend::open(options).map_err(|error| error.to_string())?;
-    backend.run();
+    backend.run().map_err(|error| error.to_string())?;
     // To close XenStore would wait for a thread of its library, which it ends by a signal that isn't on the list of system calls.
     exit(0)
 }

@@ -24,6 +24,8 @@ usage: laxonje-netback [OPTION..]           serve the network devices of guests
 ";
 
 const MOST_QUEUES: u32 = 64;
+/// The last number of a domain before those that Xen keeps for itself.
+const MOST_DOMAIN: u32 = 0x7fef;
 /// As many queues as Linux's netback offers.
 const USUAL_QUEUES: u32 = 4;
 /// Whoever receives a packet mustn't take the processor after each of them.
@@ -33,8 +35,22 @@ const USUAL_NICE: i32 = -10;
 #[derive(Debug, PartialEq, Eq)]
 pub enum Command {
     Serve(Options),
-    Ask { question: &'static str, socket: PathBuf },
+    Ask {
+        question: &'static str,
+        socket: PathBuf,
+    },
     Check(PathBuf),
+    /// Start the processes of guests, each with these words. The main process says so.
+    StartGuests {
+        words: Vec<String>,
+        restricted: bool,
+    },
+    /// Serve a guest: its domain, and this one. The process that starts those of guests says so.
+    ServeGuest {
+        domain: u16,
+        own: u16,
+        options: Options,
+    },
     Help,
     Version,
 }
@@ -70,6 +86,24 @@ impl Default for Options {
     }
 }
 
+impl Options {
+    /// The file that the processes of one start hold locked.
+    pub fn lock(&self) -> PathBuf {
+        self.socket.with_extension("lock")
+    }
+
+    /// The words behind `start-guests`, and behind `serve-guest` and the guest's number. `own`: the number of this domain.
+    pub fn words_of_guests(&self, own: u16) -> Vec<String> {
+        let grants = match self.way {
+            Way::Copy => "copy",
+            Way::Map => "map",
+        };
+        let words = [own.to_string(), "--grants".to_owned(), grants.to_owned(), "--nice".to_owned(), self.nice.to_string()];
+        let unrestricted = (!self.restricted).then(|| "--unrestricted".to_owned());
+        words.into_iter().chain(unrestricted).collect()
+    }
+}
+
 /// What the words say, or what is wrong with them.
 pub fn command(words: &[String]) -> Result<Command, String> {
     let (first, rest) = match words.split_first() {
@@ -85,8 +119,16 @@ pub fn command(words: &[String]) -> Result<Command, String> {
             [file] => Ok(Command::Check(PathBuf::from(file))),
             _ => Err("check takes one file".to_owned()),
         },
+        "start-guests" => serve(rest.get(1..).unwrap_or_default())
+            .map(|options| Command::StartGuests { words: rest.to_vec(), restricted: options.restricted }),
+        "serve-guest" => serve_guest(rest),
         _ => serve(words).map(Command::Serve),
     }
+}
+
+fn serve_guest(words: &[String]) -> Result<Command, String> {
+    let domain = |at: usize| number("serve-guest", words.get(at), 0, MOST_DOMAIN).map(|domain| domain as u16);
+    Ok(Command::ServeGuest { domain: domain(0)?, own: domain(1)?, options: serve(words.get(2..).unwrap_or_default())? })
 }
 
 /// `json` is the question with --json, if there is one.
@@ -119,7 +161,7 @@ fn serve(words: &[String]) -> Result<Options, String> {
     while let Some(word) = words.next() {
         match word.as_str() {
             "--filters" => options.filters = PathBuf::from(value(word, words.next())?),
-            "--domain" => options.domain = Some(number(word, words.next(), 0, 0x7fef)? as u16),
+            "--domain" => options.domain = Some(number(word, words.next(), 0, MOST_DOMAIN)? as u16),
             "--queues" => options.queues = number(word, words.next(), 1, MOST_QUEUES)?,
             "--bridge" => options.bridge = Some(value(word, words.next())?.to_owned()),
             "--watch" => options.watch = Some(Duration::from_secs(number(word, words.next(), 1, 86400)?.into())),
@@ -177,6 +219,31 @@ mod tests {
         assert_eq!(of("reload"), Ok(Command::Ask { question: "reload", socket: "/run/laxonje-netback.sock".into() }));
         assert_eq!((of("--help"), of("--version")), (Ok(Command::Help), Ok(Command::Version)));
         assert_eq!(of("check a.toml"), Ok(Command::Check("a.toml".into())));
+    }
+
+    #[test]
+    fn the_processes_of_guests_get_what_they_need_to_know() {
+        for (words, restricted) in [("--grants map --nice 5 --unrestricted", false), ("--nice -20", true)] {
+            let options = match of(words) {
+                Ok(Command::Serve(options)) => options,
+                other => panic!("{other:?}"),
+            };
+            let words = options.words_of_guests(7);
+            let start = Command::StartGuests { words: words.clone(), restricted };
+            assert_eq!(of(&format!("start-guests {}", words.join(" "))), Ok(start));
+            assert_eq!(
+                of(&format!("serve-guest 3 {}", words.join(" "))),
+                Ok(Command::ServeGuest {
+                    domain: 3,
+                    own: 7,
+                    options: Options { way: options.way, nice: options.nice, restricted, ..Options::default() }
+                })
+            );
+        }
+        for words in ["serve-guest", "serve-guest 3", "serve-guest 32752 0", "serve-guest x 0", "serve-guest 3 0 --x"] {
+            assert!(of(words).is_err(), "{words}");
+        }
+        assert_eq!(Options::default().lock(), PathBuf::from("/run/laxonje-netback.lock"));
     }
 
     #[test]

@@ -16,10 +16,12 @@ macro_rules! totals {
             pub halted: [AtomicU64; CAUSES],
         }
 
+        /// The names of the numbers, in their order. Those by causes come behind them.
+        const NAMES: &[&str] = &[$(stringify!($name),)*];
+
         impl Totals {
-            /// Each number with its name.
-            fn named(&self) -> Vec<(&'static str, u64)> {
-                vec![$((stringify!($name), self.$name.load(Relaxed)),)*]
+            fn numbers(&self) -> impl Iterator<Item = &AtomicU64> {
+                [$(&self.$name,)*].into_iter().chain(&self.refused).chain(&self.halted)
             }
         }
     };
@@ -63,6 +65,46 @@ totals! {
     strange,
 }
 
+/// The count of numbers of a queue.
+pub const COUNTS: usize = NAMES.len() + 2 * CAUSES;
+
+/// The numbers of one queue at a time, or the sums of several.
+#[derive(Clone, Copy, Debug, PartialEq, Eq)]
+pub struct Counts(pub [u64; COUNTS]);
+
+impl Default for Counts {
+    fn default() -> Counts {
+        Counts([0; COUNTS])
+    }
+}
+
+impl Counts {
+    /// Adds others, each modulo 2^64: the process of a guest may say any.
+    pub fn add(&mut self, others: &Counts) {
+        for (sum, number) in self.0.iter_mut().zip(&others.0) {
+            *sum = sum.wrapping_add(*number);
+        }
+    }
+
+    /// A fault of this program that ended the process.
+    pub fn add_fault(&mut self) {
+        if let Some(place) = NAMES.iter().position(|name| *name == "faults") {
+            self.0[place] = self.0[place].wrapping_add(1);
+        }
+    }
+
+    /// Each number with its name.
+    fn named(&self) -> Vec<(&'static str, u64)> {
+        NAMES.iter().copied().zip(self.0).collect()
+    }
+
+    /// The numbers by causes that aren't 0, of refusals and of halts.
+    fn causes(&self) -> [Vec<(u32, u64)>; 2] {
+        let of = |first: usize| (0..).zip(self.0[first..first + CAUSES].iter().copied()).filter(|one| one.1 > 0).collect();
+        [of(NAMES.len()), of(NAMES.len() + CAUSES)]
+    }
+}
+
 /// Where a queue's rings stand: up to which index the guest shows requests, and up to which they are answered.
 #[derive(Clone, Copy, Debug, Default, PartialEq, Eq)]
 pub struct Rings {
@@ -73,6 +115,14 @@ pub struct Rings {
 impl Totals {
     pub fn add(to: &AtomicU64, number: u64) {
         to.store(to.load(Relaxed).wrapping_add(number), Relaxed);
+    }
+
+    pub fn counts(&self) -> Counts {
+        let mut counts = Counts::default();
+        for (count, number) in counts.0.iter_mut().zip(self.numbers()) {
+            *count = number.load(Relaxed);
+        }
+        counts
     }
 
     pub fn set(to: &AtomicU64, number: usize) {
@@ -115,22 +165,12 @@ pub struct DeviceStats {
     pub maps: Vec<MapCounts>,
 }
 
-/// The sums of the queues of a device.
-pub fn add_up(device: &mut DeviceStats, queues: &[std::sync::Arc<Totals>]) {
-    for totals in queues {
-        for (at, (name, number)) in totals.named().into_iter().enumerate() {
-            match device.totals.get_mut(at) {
-                Some(sum) => sum.1 += number,
-                None => device.totals.push((name, number)),
-            }
-        }
+impl DeviceStats {
+    /// Tells the sums of its queues.
+    pub fn tell(&mut self, counts: &Counts) {
+        self.totals = counts.named();
+        [self.refused, self.halted] = counts.causes();
     }
-    let causes = |of: fn(&Totals) -> &[AtomicU64; CAUSES]| {
-        let sum = |cause: usize| queues.iter().map(|totals| of(totals)[cause].load(Relaxed)).sum();
-        (0..CAUSES).map(|cause| (cause as u32, sum(cause))).filter(|one| one.1 > 0).collect::<Vec<_>>()
-    };
-    device.refused = causes(|totals| &totals.refused);
-    device.halted = causes(|totals| &totals.halted);
 }
 
 /// The devices as lines of text.
@@ -224,7 +264,6 @@ pub fn json(devices: &[DeviceStats]) -> String {
 #[cfg(test)]
 mod tests {
     use super::*;
-    use std::sync::Arc;
 
     fn device() -> DeviceStats {
         let (first, second) = (Totals::default(), Totals::default());
@@ -238,8 +277,19 @@ mod tests {
             DeviceStats { domain: 3, device: 1, guest: "web".to_owned(), interface: "vif3.1".to_owned(), ..DeviceStats::default() };
         (device.state, device.filter, device.queues, device.maps) = ("connected".to_owned(), "f.toml".to_owned(), 2, vec![map]);
         device.rings = vec![Some(Rings { tx: (7, 6), rx: (9, 4) }), None];
-        add_up(&mut device, &[Arc::new(first), Arc::new(second)]);
+        let mut counts = first.counts();
+        counts.add(&second.counts());
+        device.tell(&counts);
         device
+    }
+
+    #[test]
+    fn sums_are_modulo_2_to_64() {
+        let mut counts = Counts([u64::MAX; COUNTS]);
+        counts.add(&Counts([2; COUNTS]));
+        assert_eq!(counts, Counts([1; COUNTS]));
+        counts.add_fault();
+        assert_eq!(counts.named().into_iter().filter(|one| one.1 == 2).collect::<Vec<_>>(), [("faults", 2)]);
     }
 
     #[test]

@@ -1,6 +1,6 @@
 //! The program by its words, on a machine without Xen too.
 use std::path::PathBuf;
-use std::process::{Command, Output};
+use std::process::{Command, Output, Stdio};
 
 fn run(words: &[&str]) -> Output {
     Command::new(env!("CARGO_BIN_EXE_laxonje-netback")).args(words).output().unwrap()
@@ -62,6 +62,15 @@ fn nobody_answers_where_nobody_serves() {
         let said = one_line(&run(&[question, "--socket", "/nothing/there"]), 1);
         assert!(said.contains("/nothing/there: "));
     }
+}
+
+#[test]
+fn processes_of_guests_are_started_by_the_program_alone() {
+    for words in [&["start-guests", "0"][..], &["serve-guest", "3", "0"]] {
+        let by_hand = Command::new(env!("CARGO_BIN_EXE_laxonje-netback")).args(words).stdin(Stdio::null()).output().unwrap();
+        assert!(one_line(&by_hand, 1).contains("Socket operation on non-socket"), "{words:?}");
+    }
+    one_line(&run(&["serve-guest", "x"]), 2);
 }
 
 #[test]

@@ -1,27 +1,25 @@
 //! A device of a guest: its states, its TAP, its filter and its queues.
 pub mod node;
 mod port;
-mod told;
+mod served;
+pub mod told;
 
 use self::node::Kernel;
 use self::port::Port;
+use self::served::Served;
 use crate::filters::{self, Filter, FilterError, Filters, Guest};
-use crate::keys::{self, FrontKeys, State, Step};
+use crate::guests::Guests;
+use crate::keys::{self, State, Step};
 use crate::log::{Limit, Log};
 use crate::options::Options;
 use crate::os::TapKind;
-use crate::serve::{make_queue, Ended, Handle, Order, Place, Report, Reports, Way, Worker, XenGuest};
-use crate::stats::Totals;
-use crate::xen::{Events, Grants, Store};
+use crate::stats::Counts;
+use crate::xen::Store;
 use std::cell::RefCell;
 use std::path::Path;
 use std::rc::Rc;
-use std::sync::atomic::{AtomicUsize, Ordering};
-use std::sync::{Arc, Once};
 use std::time::{Duration, Instant};
 
-/// A queue's thread answers between two turns.
-const PATIENCE: Duration = Duration::from_secs(2);
 /// How often a guest may connect at once, and then once in this time.
 const CONNECTIONS: u32 = 10;
 const CONNECTS_EACH: Duration = Duration::from_millis(500);
@@ -53,9 +51,8 @@ impl Id {
 /// What is the same for all devices.
 pub struct Shared {
     pub store: Store,
-    pub grants: Grants,
     pub options: Options,
-    pub reports: Reports,
+    pub guests: RefCell<Guests>,
     pub filters: RefCell<Filters>,
 }
 
@@ -66,14 +63,13 @@ pub struct Device {
     state: Option<State>,
     port: Port,
     filter: Rc<Filter>,
-    queues: Vec<Handle>,
-    totals: Vec<Arc<Totals>>,
-    /// How many queues have a guest that posts no buffers.
-    stalled: Arc<AtomicUsize>,
-    /// What the programs of threads that have ended counted.
+    /// Who serves it, if it is connected or about to be.
+    served: Option<Served>,
+    /// What connections that have ended counted, and their programs.
+    counts: Counts,
     counted: Vec<u64>,
     connection: u64,
-    log: Log,
+    pub log: Log,
     connects: Limit,
     renewals: Limit,
     /// The last line about a filter that isn't taken.
@@ -117,9 +113,8 @@ impl Device {
             state: None,
             log: Log::of(port.interface.name()),
             port,
-            queues: Vec::new(),
-            totals: Vec::new(),
-            stalled: Arc::default(),
+            served: None,
+            counts: Counts::default(),
             counted: filter.program.new_counters(),
             filter,
             guest,
@@ -152,6 +147,9 @@ impl Device {
     /// Does what comes next. Returns whether the device is still there.
     pub fn follow(&mut self, shared: &Shared) -> bool {
         self.later = None;
+        if self.is_awaited(shared) {
+            return true;
+        }
         let _ = self.port.follow();
         if node::kernel(Path::new(node::BACKENDS), self.id) == Kernel::Bound {
             self.log.line("the kernel's driver has taken it");
@@ -168,6 +166,7 @@ impl Device {
                 Step::Stay => return true,
                 Step::Leave => return false,
                 Step::Offer => self.offer(shared),
+                Step::Connect | Step::Resume if self.served.is_some() => return true,
                 Step::Connect if !self.may_connect(shared) => return true,
                 Step::Connect => self.connect(shared, true),
                 Step::Resume => self.connect(shared, false),
@@ -190,7 +189,7 @@ impl Device {
     }
 
     fn offer(&mut self, shared: &Shared) {
-        self.stop();
+        self.stop(shared);
         if matches!(self.port.follow(), Ok(false)) {
             // somebody took it away
             match Port::make(shared, self.id) {
@@ -225,118 +224,30 @@ impl Device {
         may
     }
 
-    fn connect(&mut self, shared: &Shared, fresh: bool) {
-        // what a process before this offered stands in the node, which the guest can't write
-        let earlier = if fresh { None } else { self.key(shared, OFFER).as_deref().and_then(keys::number) };
-        let offered = earlier.unwrap_or_else(|| self.offered(shared));
-        let front = keys::front(|key| shared.store.read(&format!("{}/{key}", self.front)), offered).map_err(|error| error.to_string());
-        match front.and_then(|front| self.serve(shared, &front, fresh)) {
-            Ok(count) => {
-                self.enter(shared, State::Connected);
-                self.log.caused(&format_args!("{}, {count} queues", if fresh { "connected" } else { "gone on with" }));
-            }
-            Err(why) => self.give_up(shared, &format!("the guest isn't served: {why}")),
-        }
-    }
-
     /// Closes the device, and says why.
     fn give_up(&mut self, shared: &Shared, why: &str) {
-        self.stop();
+        self.stop(shared);
         let _ = shared.store.write(&format!("error/{}/error", self.id.back()), why);
         self.log.caused(&why);
         self.enter(shared, State::Closing);
     }
 
-    fn serve(&mut self, shared: &Shared, front: &FrontKeys, fresh: bool) -> Result<usize, String> {
-        self.connection += 1;
-        let mut workers = Vec::new();
-        for (number, _) in front.queues.iter().enumerate() {
-            workers.push(self.worker(shared, front, number, fresh)?);
-        }
-        for worker in workers {
-            self.queues.push(worker.start(shared.reports.clone(), &shared.options).map_err(|error| error.to_string())?);
-        }
-        Ok(self.queues.len())
-    }
-
-    fn worker(&mut self, shared: &Shared, front: &FrontKeys, number: usize, fresh: bool) -> Result<Worker, String> {
-        if self.totals.len() <= number {
-            self.totals.push(Arc::default());
-        }
-        let (keys, totals) = (&front.queues[number], Arc::clone(&self.totals[number]));
-        let Id { domain, number: device } = self.id;
-        let (way, grants): (Way, Grants) = (shared.options.way, shared.grants.clone());
-        let guest = XenGuest::connect(domain, keys, fresh, way, grants, Arc::clone(&totals)).map_err(|error| error.to_string())?;
-        self.note_pages(shared, &totals);
-        let events =
-            Events::bind(domain, keys.event).map_err(|error| format!("its event channel {} can't be bound: {error}", keys.event))?;
-        let Port { interface, kind, .. } = &self.port;
-        let queue =
-            make_queue(&self.filter.program, &guest, domain, self.port.index(), number as u32).map_err(|error| error.to_string())?;
-        let tap = interface.open_tap(*kind).map_err(|error| format!("{}: {error}", interface.name()))?;
-        let place = Place { domain, device, queue: number as u32, connection: self.connection };
-        let stalled = Arc::clone(&self.stalled);
-        Ok(Worker { place, guest, events, queue, tap, totals, stalled, log: self.log.clone(), notifies: front.notifies })
-    }
-
-    /// Says once if pages for copies have run out.
-    fn note_pages(&self, shared: &Shared, totals: &Totals) {
-        static NONE: Once = Once::new();
-        if shared.options.way == Way::Copy && shared.grants.shares() && totals.shared_pages.load(Ordering::Relaxed) == 0 {
-            NONE.call_once(|| self.log.line("no more pages that Xen knows by references (the limit= of xen-gntalloc): packets cost more"));
-        }
-    }
-
-    /// Ends the threads, each between two turns.
-    pub fn stop(&mut self) {
-        for queue in std::mem::take(&mut self.queues) {
-            for (sum, count) in self.counted.iter_mut().zip(queue.stop()) {
-                *sum = sum.wrapping_add(count);
-            }
-        }
-    }
-
     fn close(&mut self, shared: &Shared, state: State) {
-        if !self.queues.is_empty() {
+        if self.served.is_some() {
             self.log.caused(&"disconnected");
         }
-        self.stop();
+        self.stop(shared);
         self.enter(shared, state);
     }
 
     /// The device goes, and its TAP too.
     pub fn leave(mut self, shared: &Shared) {
-        self.stop();
+        self.stop(shared);
         let _ = shared.store.unwatch(&format!("{}/state", self.front), &self.id.token());
         if let Err(error) = self.port.remove() {
             self.log.line(&format!("the interface stays: {error}"));
         }
         self.log.line("gone");
-    }
-
-    /// A queue's thread has ended by itself. After a fault of this program between two turns all queues are made anew, where their rings
-    /// stand. Else the device is closed, and its guest's driver has to be bound again.
-    pub fn ended(&mut self, shared: &Shared, report: &Report) {
-        if report.place.connection != self.connection || self.state != Some(State::Connected) {
-            return;
-        }
-        let queue = report.place.queue;
-        match &report.why {
-            Ended::Halted(cause) => {
-                self.give_up(shared, &format!("queue {queue} halted: {cause}; the guest's driver has to be bound again"))
-            }
-            Ended::Failed(error) => self.give_up(shared, &format!("queue {queue} failed: {error}")),
-            Ended::Panicked(fault) if fault.stands && self.renewals.allows().is_some() => {
-                self.log.line(&format!("queue {queue}: a fault of this program: {}; the queues are made anew", fault.line));
-                self.stop();
-                self.connect(shared, false);
-            }
-            Ended::Panicked(fault) => self.give_up(
-                shared,
-                &format!("queue {queue}: a fault of this program: {}; the guest's driver has to be bound again", fault.line),
-            ),
-            Ended::Stopped => {}
-        }
     }
 
     /// Looks for the filter anew, by the guest's present name. Returns what was done, if anything was. The log has it once.
@@ -347,7 +258,7 @@ impl Device {
                 self.said.clear();
                 return None;
             }
-            Ok(filter) => self.replace(filter),
+            Ok(filter) => self.replace(shared, filter),
             Err(error) => format!("the filter stays: {error}"),
         };
         if said != self.said {
@@ -357,13 +268,11 @@ impl Device {
         Some(format!("{}: {said}", self.port.interface.name()))
     }
 
-    fn replace(&mut self, filter: Rc<Filter>) -> String {
-        for queue in &mut self.queues {
-            match filter.program.try_clone() {
-                Ok(program) => {
-                    queue.order(Order::Replace(program));
-                }
-                Err(error) => return format!("the filter stays: {error}"),
+    fn replace(&mut self, shared: &Shared, filter: Rc<Filter>) -> String {
+        if self.served.is_some() {
+            let replaced = shared.guests.borrow_mut().replace(self.id.domain, self.id.number, &filter);
+            if let Err(error) = replaced {
+                return format!("the filter stays: {error}");
             }
         }
         if !filter.counts_as(&self.filter) {

@@ -1,27 +1,38 @@
 //! What is told of a device.
-use super::{Device, PATIENCE};
+use super::served::{add, ANSWERS};
+use super::{Device, Shared};
+use crate::guests::QueueTold;
 use crate::keys::State;
-use crate::serve::{Order, Told};
-use crate::stats::{self, DeviceStats, MapCounts};
-use std::sync::mpsc::channel;
+use crate::stats::{DeviceStats, MapCounts};
+use std::time::Instant;
+
+/// Asks all devices what they count before it waits for any.
+pub fn stats<'all>(shared: &Shared, devices: impl Iterator<Item = &'all Device> + Clone) -> Vec<DeviceStats> {
+    devices.clone().for_each(|device| device.ask(shared));
+    let until = Instant::now() + ANSWERS;
+    devices.map(|device| device.stats(shared, until)).collect()
+}
 
 impl Device {
-    /// What the threads tell. One that doesn't answer in time is left out.
-    fn ask(&mut self) -> Vec<Option<Told>> {
-        let ask = |queue: &mut crate::serve::Handle| {
-            let (to, told) = channel();
-            queue.order(Order::Tell(to)).then(|| told.recv_timeout(PATIENCE).ok()).flatten()
-        };
-        self.queues.iter_mut().map(ask).collect()
+    fn ask(&self, shared: &Shared) {
+        if self.served.is_some() {
+            shared.guests.borrow_mut().ask(self.id.domain, self.id.number);
+        }
     }
 
-    pub fn stats(&mut self) -> DeviceStats {
-        let told = self.ask();
-        let mut counters = self.counted.clone();
-        for answer in told.iter().flatten() {
-            for (sum, count) in counters.iter_mut().zip(&answer.counters) {
-                *sum = sum.wrapping_add(*count);
-            }
+    /// What its queues tell. Of a process that doesn't answer in time nothing is told.
+    fn told(&self, shared: &Shared, until: Instant) -> Vec<QueueTold> {
+        let asked = self.served.as_ref().map(|served| self.asked(served));
+        asked.and_then(|asked| shared.guests.borrow_mut().told(self.id.domain, asked, until)).unwrap_or_default()
+    }
+
+    fn stats(&self, shared: &Shared, until: Instant) -> DeviceStats {
+        let told = self.told(shared, until);
+        let queues = self.served.as_ref().map_or(0, |served| served.queues);
+        let (mut counts, mut counters) = (self.counts, self.counted.clone());
+        for queue in &told {
+            counts.add(&queue.counts);
+            add(&mut counters, &queue.counters);
         }
         let mut stats = DeviceStats {
             domain: self.id.domain,
@@ -30,12 +41,12 @@ impl Device {
             interface: self.port.interface.name().to_owned(),
             state: self.state.map_or("new", State::name).to_owned(),
             filter: self.filter.path.display().to_string(),
-            queues: self.queues.len(),
-            rings: told.iter().map(|answer| answer.as_ref().map(|answer| answer.rings)).collect(),
+            queues,
+            rings: (0..queues).map(|number| told.get(number).and_then(|queue| queue.rings)).collect(),
             maps: self.maps(&counters),
             ..DeviceStats::default()
         };
-        stats::add_up(&mut stats, &self.totals);
+        stats.tell(&counts);
         stats
     }
 

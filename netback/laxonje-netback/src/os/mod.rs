@@ -1,12 +1,19 @@
-//! What the program asks of Linux beyond std: waiting, signals, TAP devices, and giving up privileges.
+//! What the program asks of Linux beyond std: waiting, signals, sockets, TAP devices, and giving up privileges.
 mod batch;
+mod lock;
 mod privileges;
+mod socket;
 mod tap;
 mod wait;
 
-pub use privileges::{allow_priority, give_up_capabilities, restrict_to_packets, restrict_to_service, set_priority};
+pub use lock::lock;
+pub use privileges::{
+    allow_priority, close_inherited, keep_capabilities, restrict_to_guest, restrict_to_packets, restrict_to_service, set_name,
+    set_priority, Keeps,
+};
+pub use socket::Socket;
 pub use tap::{Interface, Tap, TapKind, HEADER_BYTES};
-pub use wait::{wait, Signals, Wanted};
+pub use wait::{end_by_faults, wait, wait_for_all, Signals, Wanted, FROM_USERS};
 
 use std::io;
 

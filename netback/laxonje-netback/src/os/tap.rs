@@ -9,7 +9,7 @@ use std::fs::{File, OpenOptions};
 use std::io::{self, Read, Write};
 use std::os::raw::{c_int, c_ulong};
 use std::os::unix::fs::OpenOptionsExt;
-use std::os::unix::io::{AsRawFd, RawFd};
+use std::os::unix::io::{AsRawFd, OwnedFd, RawFd};
 use std::os::unix::net::UnixDatagram;
 
 /// `struct virtio_net_hdr`, which stands before each packet of a TAP device.
@@ -179,6 +179,11 @@ fn first_number(request: &ffi::ifreq) -> u32 {
 }
 
 impl Tap {
+    /// A queue that another process has opened.
+    pub fn of(descriptor: OwnedFd) -> Tap {
+        Tap { file: File::from(descriptor), batch: None, moved: Moved::new() }
+    }
+
     /// Whether the device stays when nobody holds it open.
     pub fn keep(&self, stays: bool) -> io::Result<()> {
         // SAFETY: the module's reason.

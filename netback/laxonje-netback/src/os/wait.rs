@@ -19,6 +19,10 @@ impl Wanted {
         Wanted { fd, ready: false, failed: false }
     }
 
+    fn polled(self) -> ffi::pollfd {
+        ffi::pollfd { fd: self.fd, events: ffi::POLLIN, revents: 0 }
+    }
+
     /// None: it is never ready.
     pub fn none() -> Wanted {
         Wanted::of(-1)
@@ -27,11 +31,21 @@ impl Wanted {
 
 /// Waits until one is ready or the time is over, to whole milliseconds. Without a time it waits for ever. A signal ends it too.
 pub fn wait<const COUNT: usize>(wanted: &mut [Wanted; COUNT], time: Option<Duration>) -> io::Result<()> {
-    let mut on = wanted.map(|one| ffi::pollfd { fd: one.fd, events: ffi::POLLIN, revents: 0 });
+    let mut on = wanted.map(Wanted::polled);
+    poll(wanted, &mut on, time)
+}
+
+/// The same for any number of them.
+pub fn wait_for_all(wanted: &mut [Wanted], time: Option<Duration>) -> io::Result<()> {
+    let mut on: Vec<_> = wanted.iter().copied().map(Wanted::polled).collect();
+    poll(wanted, &mut on, time)
+}
+
+fn poll(wanted: &mut [Wanted], on: &mut [ffi::pollfd], time: Option<Duration>) -> io::Result<()> {
     let milliseconds = time.map_or(-1, |time| time.as_micros().saturating_add(999).min(i32::MAX as u128 * 1000) as i64 / 1000);
-    // SAFETY: the array has that many elements.
+    // SAFETY: there are that many elements.
     let count = unsafe { ffi::poll(on.as_mut_ptr(), on.len() as u64, milliseconds as i32) };
-    for (one, polled) in wanted.iter_mut().zip(&on) {
+    for (one, polled) in wanted.iter_mut().zip(&*on) {
         one.ready = count > 0 && polled.revents != 0;
         one.failed = count > 0 && polled.revents & ffi::POLLERR != 0;
     }
@@ -41,17 +55,29 @@ pub fn wait<const COUNT: usize>(wanted: &mut [Wanted; COUNT], time: Option<Durat
     }
 }
 
-/// The signals that the program takes: SIGHUP, SIGTERM and SIGINT. They are blocked in the threads that are started later.
+/// The signals by which a user or a service manager ends or reloads the program. Both may send them to all its processes.
+pub const FROM_USERS: [i32; 3] = [ffi::SIGHUP, ffi::SIGTERM, ffi::SIGINT];
+
+/// From now on a fault of memory ends the process at once. Rust's own handler changes what the signal does and returns, so that the fault
+/// comes once more; where that isn't on the list of system calls, it would come for ever.
+pub fn end_by_faults() {
+    for signal in [ffi::SIGSEGV, ffi::SIGBUS] {
+        // SAFETY: it takes numbers: no function handles the signal any longer.
+        unsafe { ffi::signal(signal, ffi::SIG_DFL) };
+    }
+}
+
+/// Signals that are blocked and read from a descriptor. They are blocked in the threads that are started later too.
 pub struct Signals(File);
 
 impl Signals {
-    pub fn block() -> io::Result<Signals> {
+    pub fn block(signals: &[i32]) -> io::Result<Signals> {
         let mut set = ffi::signal_set { words: [0; 16] };
         // SAFETY: the set is the caller's own, and is there during each call.
         let fd = unsafe {
             ffi::sigemptyset(&mut set);
-            for signal in [ffi::SIGHUP, ffi::SIGTERM, ffi::SIGINT] {
-                ffi::sigaddset(&mut set, signal);
+            for signal in signals {
+                ffi::sigaddset(&mut set, *signal);
             }
             ffi::pthread_sigmask(ffi::SIG_BLOCK, &set, ptr::null_mut());
             ffi::signalfd(-1, &set, ffi::SIGNALFD_FLAGS)

@@ -1,11 +1,11 @@
-//! A queue's thread at work: packets both ways, and what the main thread orders.
+//! A queue's thread at work: packets both ways, and what its process's first thread orders.
 use super::arena::{Arena, Out};
 use super::guest::Delivering;
 use super::rests::Rests;
 use super::stall::{Due, Stall};
 use super::worker::{Ended, Fault, Order, Told, Worker};
 use crate::frame;
-use crate::os::{set_priority, wait, Wanted};
+use crate::os::{wait, Wanted};
 use crate::stats::Totals;
 use laxonje::{Action, Awaited, Delivery, Flags, Program, Stopped, Turn};
 use std::io::{self, Read};
@@ -13,7 +13,6 @@ use std::os::unix::io::AsRawFd;
 use std::os::unix::net::UnixStream;
 use std::sync::atomic::Ordering;
 use std::sync::mpsc::Receiver;
-use std::sync::Once;
 use std::time::{Duration, Instant};
 
 /// A guest that sends no notice for buffers is looked at again after this time.
@@ -25,6 +24,9 @@ const MOST_DRAINS: usize = 64;
 /// In a build for tests, a packet of that many bytes that passes is a fault of this program.
 #[cfg(feature = "plant")]
 const PLANTED: usize = 777;
+/// And of that many it ends the process.
+#[cfg(feature = "plant")]
+const PLANTED_END: usize = 778;
 
 /// A worker with what its thread keeps.
 pub struct Running {
@@ -64,13 +66,6 @@ impl Running {
 
     pub fn counters(&self) -> Vec<u64> {
         self.worker.queue.counters().to_vec()
-    }
-
-    pub fn prioritize(&self, nice: i32) {
-        static FAILED: Once = Once::new();
-        if let Err(error) = set_priority(nice) {
-            FAILED.call_once(|| self.worker.log.line(&format!("the priority of queues isn't {nice}: {error}")));
-        }
     }
 
     /// What a panic left: the packets that were on their way are lost, and the queue may stand.
@@ -176,7 +171,7 @@ impl Running {
                 Order::Stop => return false,
                 Order::Tell(to) => {
                     let Worker { queue, guest, .. } = &self.worker;
-                    let _ = to.send(Told { counters: queue.counters().to_vec(), rings: guest.rings() });
+                    let _ = to.send(Told { counters: queue.counters().to_vec(), rings: Some(guest.rings()) });
                 }
                 Order::Replace(program) => self.replace(&program),
             }
@@ -279,6 +274,10 @@ impl Running {
         let length = self.worker.queue.packet(room);
         #[cfg(feature = "plant")]
         assert_ne!(length, PLANTED, "planted");
+        #[cfg(feature = "plant")]
+        if length == PLANTED_END {
+            std::process::abort();
+        }
         Totals::add(&totals.passed, 1);
         Totals::add(&totals.passed_bytes, length as u64);
         let blank = if flags.checksum_blank() { frame::prepare(&mut room[..length]) } else { None };

@@ -1,8 +1,7 @@
-//! The thread of a queue, as the main thread has it: it is started, gets orders, and reports why it ended.
+//! The thread of a queue, as the first thread of its guest's process has it: it is started, gets orders, and reports why it ended.
 use super::guest::{XenGuest, OWN_DOMAIN, RX_RING, TABLE_FRAMES, TX_RING};
 use super::running::Running;
 use crate::log::Log;
-use crate::options::Options;
 use crate::os::{restrict_to_packets, Tap};
 use crate::panics::{caught, PACKET_THREAD};
 use crate::stats::{Rings, Totals};
@@ -15,7 +14,7 @@ use std::sync::mpsc::{channel, Sender};
 use std::sync::{Arc, Once};
 use std::thread::{self, JoinHandle};
 
-/// What the main thread wants of a queue's.
+/// What the first thread wants of a queue's.
 pub enum Order {
     /// Go on with another program.
     Replace(Program),
@@ -29,7 +28,8 @@ pub enum Order {
 #[derive(Debug)]
 pub struct Told {
     pub counters: Vec<u64>,
-    pub rings: Rings,
+    /// `None`: the thread has ended.
+    pub rings: Option<Rings>,
 }
 
 /// A queue's thread ends, or has a line for the log.
@@ -67,7 +67,7 @@ pub struct Fault {
     pub stands: bool,
 }
 
-/// What the main thread has of a queue's.
+/// What the process's first thread has of a queue's.
 pub struct Handle {
     orders: Sender<Order>,
     wake: UnixStream,
@@ -79,6 +79,8 @@ pub struct Handle {
 pub struct Reports {
     pub to: Sender<Report>,
     pub wake: Arc<UnixStream>,
+    /// Threads have fewer system calls than their process.
+    pub restricted: bool,
 }
 
 impl Reports {
@@ -134,18 +136,17 @@ pub fn make_queue(program: &Program, guest: &XenGuest<Grants>, domain: u16, ifin
 }
 
 impl Worker {
-    /// Starts the thread, which takes its priority and gives up its privileges first.
-    pub fn start(mut self, reports: Reports, options: &Options) -> io::Result<Handle> {
+    /// Starts the thread, which gives up the system calls that it doesn't need first.
+    pub fn start(mut self, reports: Reports) -> io::Result<Handle> {
         self.open_batch();
         let (orders, received) = channel();
         let (wake, woken) = UnixStream::pair()?;
         wake.set_nonblocking(true)?;
         woken.set_nonblocking(true)?;
-        let (place, nice, restricted) = (self.place, options.nice, options.restricted);
+        let place = self.place;
         let mut running = Running::new(self, received, woken);
         let body = move || {
-            running.prioritize(nice);
-            let why = match if restricted { restrict_to_packets() } else { Ok(()) } {
+            let why = match if reports.restricted { restrict_to_packets() } else { Ok(()) } {
                 Ok(()) => caught(|| running.run()).unwrap_or_else(|line| running.panicked(line)),
                 Err(error) => Ended::Failed(error),
             };

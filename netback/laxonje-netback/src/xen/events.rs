@@ -1,13 +1,13 @@
 //! An event channel of a guest.
 //!
-//! What makes each `unsafe` block sound: the handle is one that `xenevtchn_open` answered, until `xenevtchn_close`, and one thread has it.
+//! What makes each `unsafe` block sound: the handle is one that `xenevtchn_open` or `xenevtchn_fdopen` answered, until `xenevtchn_close`, and one thread has it.
 use crate::ffi;
 use crate::os::done;
 use std::io;
-use std::os::unix::io::RawFd;
+use std::os::unix::io::{IntoRawFd, OwnedFd, RawFd};
 use std::ptr::{self, NonNull};
 
-/// The local end of one event channel.
+/// The local end of one event channel. The main process binds it, and that of its guest uses it.
 pub struct Events {
     handle: NonNull<ffi::xenevtchn_handle>,
     port: u32,
@@ -28,6 +28,19 @@ impl Events {
         let port = unsafe { ffi::xenevtchn_bind_interdomain(handle.as_ptr(), domain.into(), remote) };
         events.port = u32::try_from(port).map_err(|_| io::Error::last_os_error())?;
         Ok(events)
+    }
+
+    /// A port that another process has bound by this descriptor.
+    pub fn of(descriptor: OwnedFd, port: u32) -> io::Result<Events> {
+        // SAFETY: no logger and no flags; the descriptor is the library's from now on.
+        let handle = unsafe { ffi::xenevtchn_fdopen(ptr::null_mut(), descriptor.into_raw_fd(), 0) };
+        let handle = NonNull::new(handle).ok_or_else(io::Error::last_os_error)?;
+        Ok(Events { handle, port, masked: false })
+    }
+
+    /// The number that this domain has it by.
+    pub fn port(&self) -> u32 {
+        self.port
     }
 
     /// Becomes readable when a notice has come.
@@ -63,11 +76,7 @@ impl Events {
 
 impl Drop for Events {
     fn drop(&mut self) {
-        // SAFETY: the module's reason. To close the handle unbinds its port; one that wasn't bound is refused by Xen, and nothing else
-        // comes of it.
-        unsafe {
-            ffi::xenevtchn_unbind(self.handle.as_ptr(), self.port);
-            ffi::xenevtchn_close(self.handle.as_ptr());
-        }
+        // SAFETY: the module's reason. The port is unbound when the last process closes it.
+        unsafe { ffi::xenevtchn_close(self.handle.as_ptr()) };
     }
 }
