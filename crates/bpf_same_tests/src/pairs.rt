@@ -1,7 +1,7 @@
 //! What a comparison answers of a pair of programs.
 use bpf_insn::{Code, decode};
 use bpf_note::MapShape;
-use bpf_same::{Comparison, Place, compare};
+use bpf_same::{Comparison, Witness, compare};
 use bpf_verify::verify;
 use std::alloc::Global;
 
@@ -12,7 +12,7 @@ pub struct Pair<'a> {
     pub old: &'a [&'a str],
     pub new: &'a [&'a str],
     pub maps: u8,
-    pub places: &'a str,
+    pub witnesses: &'a str,
 }
 
 fn code(alloc: Global, slots: &[&str]) -> Option<Code> {
@@ -24,17 +24,17 @@ fn code(alloc: Global, slots: &[&str]) -> Option<Code> {
     decode(alloc, bytes.as_slice()).ok()
 }
 
-fn place(word: &str) -> Option<Place> {
-    let own = word.starts_with('o');
+fn witness(word: &str) -> Option<Witness> {
+    let stutters = word.starts_with('o');
     let at = word.get(1..)?.parse().ok()?;
-    Some(Place { own, at })
+    Some(Witness { stutters, at })
 }
 
 /// What [`compare`] answers for a pair. None if the new program isn't accepted, or if memory runs out.
 pub fn compared(alloc: Global, pair: &Pair) -> Option<Comparison> {
-    let mut places = Vec::new(alloc);
-    for word in pair.places.split_ascii_whitespace() {
-        places.push(place(word)?).ok()?;
+    let mut witnesses = Vec::new(alloc);
+    for word in pair.witnesses.split_ascii_whitespace() {
+        witnesses.push(witness(word)?).ok()?;
     }
     let shapes = [MapShape::of(4, 1)?];
     let shapes = if pair.maps == 0 {
@@ -43,5 +43,5 @@ pub fn compared(alloc: Global, pair: &Pair) -> Option<Comparison> {
         &shapes[..]
     };
     let new = verify(alloc, code(alloc, pair.new)?, shapes).ok()?;
-    compare(alloc, &new, &code(alloc, pair.old)?, places.as_slice()).ok()
+    compare(alloc, &new, &code(alloc, pair.old)?, witnesses.as_slice()).ok()
 }

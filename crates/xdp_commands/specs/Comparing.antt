@@ -7,7 +7,7 @@ use Rattle.bpf_insn.specs.declared.insn.Insn.{Insn}
 use Rattle.bpf_same.specs.Counts.{IsSameByCounts, IsWholeByCounts}
 use Rattle.bpf_same.specs.Renumbered.{IsRenumbering}
 use Rattle.bpf_same.specs.Same.{IsSame}
-use Rattle.bpf_same.specs.declared.mark.Place.{Place as Tried}
+use Rattle.bpf_same.specs.declared.witness.Witness.{Witness}
 use Rattle.bpf_verify.specs.Consistent.{Accepted as Program}
 use Rattle.xdp_load.specs.Original.{Place, RewrittenView}
 use Rattle.xdp_load.specs.OriginalSeen.{place_view}
@@ -44,10 +44,10 @@ pub record IsPairByCounts (r : RewrittenView) (slots originals : ℕ) : Type 0 w
   pub originals_counted : originals ≡ length original
 
 -- a place, as it is tried
-abbrev pub tried : Place → Tried
-tried p = record { own = p.own; at = p.at }
+abbrev pub tried : Place → Witness
+tried p = record { stutters = p.own; at = p.at }
 
-abbrev pub tried_of : Read → Tried
+abbrev pub tried_of : Read → Witness
 tried_of p = tried (place_view p)
 
 -- a pair of two programs, of which neither is the other one but for the numbers of its slots, by the places

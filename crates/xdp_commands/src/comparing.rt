@@ -10,7 +10,7 @@ ghost use Rattle.xdp_commands.specs.Executing.{IsProgramOf};
 use crate::executing::accept;
 use crate::lines::refused_text;
 use bpf_insn::{Code, Refusal, decode};
-use bpf_same::{Comparison, Place};
+use bpf_same::{Comparison, Witness};
 use bpf_verify::Verified;
 use std::alloc::{AllocError, Global};
 use xdp_load::Rewritten;
@@ -31,14 +31,14 @@ pub enum Compared {
     Undecoded(Refusal),
 }
 
-/// The places of the original's that are to be tried.
-fn places_of(alloc: Global, places: &[xdp_load::Place]) -> Result<Vec<Place>, AllocError>
+/// The settings' places, as witnesses to be tried.
+fn witnesses_of(alloc: Global, places: &[xdp_load::Place]) -> Result<Vec<Witness>, AllocError>
     ensures { IfOk result (λ v. v.items ≡ map tried_of places.now) }
 {
     places
         .iter()
-        .map(|place| Place {
-            own: place.own,
+        .map(|place| Witness {
+            stutters: place.own,
             at: place.at,
         })
         .collect(alloc)
@@ -55,8 +55,8 @@ fn compare_with(
     requires original { Spells original.now rewritten.now.original.items }
     ensures { IfOk result (Compares (rewritten_view rewritten.now)) }
 {
-    let places = places_of(alloc, rewritten.places.as_slice())?;
-    match bpf_same::compare(alloc, program, original, places.as_slice())? {
+    let witnesses = witnesses_of(alloc, rewritten.places.as_slice())?;
+    match bpf_same::compare(alloc, program, original, witnesses.as_slice())? {
         Comparison::Same => Ok(Compared::Same {
             slots: program.slots(),
             originals: original.insns().len(),

@@ -13,7 +13,7 @@ const RESTORED: Pair = Pair {
         "9500000000000000",
     ],
     maps: 0,
-    places: "o0 o0 o0 c0 c1",
+    witnesses: "o0 o0 o0 c0 c1",
 };
 
 #[test]
@@ -52,7 +52,7 @@ const MADE_ANEW: Pair = Pair {
         "9500000000000000",
     ],
     maps: 0,
-    places: "o0 c0 c1 c2 c3 c4 o5 o5 o5 c5 c6 c7 c8",
+    witnesses: "o0 c0 c1 c2 c3 c4 o5 o5 o5 c5 c6 c7 c8",
 };
 
 #[test]
@@ -79,7 +79,7 @@ const MADE_OTHERWISE: Pair = Pair {
         "9500000000000000",
     ],
     maps: 0,
-    places: "o0 c0 c1 c2 c3 c4 o5 o5 o5 c5 c6 c7 c8",
+    witnesses: "o0 c0 c1 c2 c3 c4 o5 o5 o5 c5 c6 c7 c8",
 };
 
 #[test]
@@ -107,7 +107,7 @@ const STORE_TO_THE_OLD_WORD: Pair = Pair {
         "9500000000000000",
     ],
     maps: 0,
-    places: "c0 c1 o2 o2 c2 c3",
+    witnesses: "c0 c1 o2 o2 c2 c3",
 };
 
 #[test]
@@ -128,7 +128,7 @@ const LOAD_OF_AN_OWN_WORD: Pair = Pair {
         "9500000000000000",
     ],
     maps: 0,
-    places: "o0 o0 c0 c1",
+    witnesses: "o0 o0 c0 c1",
 };
 
 #[test]
@@ -144,7 +144,7 @@ const OTHER_NUMBER: Pair = Pair {
     old: &["b700000002000000", "9500000000000000"],
     new: &["b700000002000000", "b700000003000000", "9500000000000000"],
     maps: 0,
-    places: "c0 o1 c1",
+    witnesses: "c0 o1 c1",
 };
 
 #[test]
@@ -171,7 +171,7 @@ const STORE_TO_THE_PACKET: Pair = Pair {
         "9500000000000000",
     ],
     maps: 0,
-    places: "c0 c1 c2 c3 c4 o5 c5 c6 c7 c8",
+    witnesses: "c0 c1 c2 c3 c4 o5 c5 c6 c7 c8",
 };
 
 #[test]
