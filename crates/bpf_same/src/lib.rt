@@ -8,6 +8,7 @@
 //!   `meet`; `preserve`: whether a step preserves the relations; `access`: what a copied access may touch
 //! - `fuse`: the old program with its counts (a load, additions and a store of one counter) made additions; `fused`: whether it is the
 //!   same by counts: what is known inside a `count`, and which registers are `live` after it
+//! - `obstacle`: where a comparison stops
 //! - `renumbered`: whether it is the old one but for the numbers of its slots
 //! - `decide`: what decides a conditional jump, by the `range` that a register lies in; `equal`: whether two instructions are one
 //! - `laws`: what holds of programs with the same runs
@@ -25,6 +26,7 @@ mod laws;
 mod linear_form;
 mod live;
 mod meet;
+mod obstacle;
 mod preserve;
 mod range;
 mod relation;
@@ -37,5 +39,6 @@ mod step;
 mod witness;
 
 pub use laws::{same_both_ways, same_by_counts_both_ways};
-pub use same::{Comparison, compare};
+pub use obstacle::{Obstacle, ObstacleKind};
+pub use same::{Comparison, compare, first_obstacle};
 pub use witness::Witness;

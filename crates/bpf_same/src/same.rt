@@ -1,21 +1,22 @@
 //! Whether an accepted program has the runs of another one.
-ghost use Rattle.std.specs.Prelude.{◌≡◌, ◌≤◌, length, IfOk, IsTrue};
+ghost use Rattle.std.specs.Prelude.{◌≡◌, ◌<◌, ◌≤◌, length, IfOk, IfSome, IsTrue};
 ghost use Rattle.bpf_verify.specs.Consistent.{IsConsistent};
 ghost use Rattle.bpf_same.specs.Counts.{IsSameByCounts, IsWholeByCounts};
 ghost use Rattle.bpf_same.specs.Renumbered.{IsRenumbering};
 ghost use Rattle.bpf_same.specs.Same.{IsSame};
 
 use crate::equal::is_same_code;
-use crate::find::{Known, lowest_of, notes_of};
+use crate::find::{Found, Known, lowest_of, notes_of};
 use crate::fuse::{Fusion, fusion_of};
 use crate::fused::{Draft, same_by_counts};
 use crate::laws::{same_both_ways, same_by_counts_both_ways};
 use crate::live::live_registers;
+use crate::obstacle::Obstacle;
 use crate::renumbered::is_same_renumbered;
 use crate::simulation::Simulation;
 use crate::witness::Witness;
 use bpf_insn::{Code, Insn};
-use bpf_note::{MapShape, the_entry_describes_every_start};
+use bpf_note::{MapShape, Note, the_entry_describes_every_start};
 use bpf_verify::Verified;
 use std::alloc::{AllocError, Global};
 
@@ -31,6 +32,37 @@ pub enum Comparison {
     NotShown,
 }
 
+/// What is found of the new program.
+#[derive(Drop)]
+struct Findings {
+    notes: Vec<Vec<Box<Note>>>,
+    found: Found,
+    /// below which byte of the stack the new program's own words lie
+    low: u32,
+}
+
+fn findings_of(
+    alloc: Global,
+    new: &[Insn],
+    shapes: &[MapShape],
+    witnesses: &[Witness],
+) -> Result<Findings, AllocError>
+    requires { length new.now ≤ 4096 }
+{
+    let mut notes = notes_of(alloc, new, shapes)?;
+    let low = lowest_of(new, witnesses, notes.as_slice());
+    let known = Known {
+        new,
+        witnesses,
+        notes: notes.as_slice(),
+        shapes,
+        low,
+    };
+    let found = known.found(alloc)?;
+    found.forget(alloc, &mut notes);
+    Ok(Findings { notes, found, low })
+}
+
 /// Returns whether a simulation by the witnesses is found, which shows that the new program has the old one's runs.
 fn is_shown(
     alloc: Global,
@@ -44,25 +76,38 @@ fn is_shown(
     ensures { IfOk result (λ yes. IsTrue yes → IsSame shapes.now old.now new.now) }
 {
     the_entry_describes_every_start();
-    let mut notes = notes_of(alloc, new, shapes)?;
-    let low = lowest_of(new, witnesses, notes.as_slice());
-    let known = Known {
-        new,
-        witnesses,
-        notes: notes.as_slice(),
-        shapes,
-        low,
-    };
-    let found = known.found(alloc)?;
-    found.forget(alloc, &mut notes);
+    let findings = findings_of(alloc, new, shapes, witnesses)?;
     let simulation = Simulation {
         old,
         witnesses,
-        notes: notes.as_slice(),
-        relations: found.relations.as_slice(),
-        low,
+        notes: findings.notes.as_slice(),
+        relations: findings.found.relations.as_slice(),
+        low: findings.low,
     };
     Ok(simulation.is_simulation(alloc, new, shapes))
+}
+
+/// Returns where no simulation by the witnesses is found.
+fn obstacle_to(
+    alloc: Global,
+    new: &[Insn],
+    shapes: &[MapShape],
+    old: &[Insn],
+    witnesses: &[Witness],
+) -> Result<Option<Obstacle>, AllocError>
+    requires short { length old.now ≤ 4096 }
+    requires few { length new.now ≤ 4096 }
+    ensures { IfOk result (λ o. IfSome o (λ b. b.slot < length new.now)) }
+{
+    let findings = findings_of(alloc, new, shapes, witnesses)?;
+    let simulation = Simulation {
+        old,
+        witnesses,
+        notes: findings.notes.as_slice(),
+        relations: findings.found.relations.as_slice(),
+        low: findings.low,
+    };
+    Ok(simulation.first_obstacle(alloc, new, shapes))
 }
 
 /// Returns whether the old program's runs are the new one's by counts.
@@ -154,4 +199,26 @@ pub fn compare(
     same_both_ways();
     same_by_counts_both_ways();
     compared(alloc, new.insns(), new.shapes(), old.insns(), witnesses)
+}
+
+/// The first slot of the new program that [`compare`] doesn't find to be simulated, if there is one: where `NotShown` comes from.
+pub fn first_obstacle(
+    alloc: Global,
+    new: &Verified,
+    old: &Code,
+    witnesses: &[Witness],
+) -> Result<Option<Obstacle>, AllocError>
+    ensures { IfOk result (λ o. IfSome o (λ b. b.slot < length new.now.code)) }
+{
+    let (insns, shapes, originals) = (new.insns(), new.shapes(), old.insns());
+    if let Some(fusion) = fusion_of(alloc, originals, insns, witnesses)? {
+        let code = fusion.code.as_slice();
+        if code.len() <= originals.len() {
+            let found = obstacle_to(alloc, insns, shapes, code, witnesses)?;
+            if found.is_some() {
+                return Ok(found);
+            }
+        }
+    }
+    obstacle_to(alloc, insns, shapes, originals, witnesses)
 }

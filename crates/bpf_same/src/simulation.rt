@@ -22,7 +22,7 @@ use bpf_note::{MapShape, Note, covers};
 use std::alloc::Global;
 
 /// The longest row of silent steps of the old program.
-const MOST_JUMPS: u32 = 256;
+pub(crate) const MOST_JUMPS: u32 = 256;
 
 /// A candidate for a simulation: of each slot of the new program its witness, notes of which one describes the state, and the relation
 /// of both states. The new program's own words of the stack lie below `low`.
@@ -117,7 +117,7 @@ pub(crate) fn is_at(code: &[Insn], at: u32, insn: Insn) -> bool
 }
 
 /// Returns whether a way of a conditional jump is ruled out.
-fn is_ruled_out(insn: Insn, relation: &Relation, note: &Note, way: bool) -> bool
+pub(crate) fn is_ruled_out(insn: Insn, relation: &Relation, note: &Note, way: bool) -> bool
     ensures { IsTrue result → IsDecided insn relation.now (facts note.now) (not way) }
 {
     let Some(is_taken) = decided(insn, relation, note) else {
@@ -127,7 +127,7 @@ fn is_ruled_out(insn: Insn, relation: &Relation, note: &Note, way: bool) -> bool
 }
 
 /// The target of a jump of the old program, if it is this one but for its offset.
-fn same_target(there: Insn, at: u32, insn: Insn) -> Option<Option<u32>>
+pub(crate) fn same_target(there: Insn, at: u32, insn: Insn) -> Option<Option<u32>>
     requires { at < 4096 }
     ensures { IfSome result (AreSameJump (Some there) at insn) }
 {
@@ -176,7 +176,7 @@ pub(crate) struct Point<'a> {
 
 impl Simulation<'_> {
     /// The slot after a silent step of the old program.
-    fn silent_step(&self, relation: &Relation, note: &Note, at: u32) -> Option<u32>
+    pub(crate) fn silent_step(&self, relation: &Relation, note: &Note, at: u32) -> Option<u32>
         requires { length self.now.old.now ≤ 4096 }
         ensures { IfSome result (λ q. (i : Insn) × (slice_get self.now.old.now at ≡ Some i) × IsSilent i relation.now self.now.low (facts note.now) at q) }
     {
@@ -209,7 +209,7 @@ impl Simulation<'_> {
     }
 
     /// Returns whether a note entails one of the notes at a slot.
-    fn is_entailed(&self, slot: u32, note: &Note) -> bool
+    pub(crate) fn is_entailed(&self, slot: u32, note: &Note) -> bool
         ensures { IsTrue result → (s : State) → Describes (facts note.now) s → IsKnown self.now.notes.now slot s }
     {
         (slot as usize) < self.notes.len() && is_covered(self.notes[slot as usize].as_slice(), note)
@@ -230,7 +230,7 @@ impl Simulation<'_> {
     }
 
     /// Returns whether a step preserves the relations: that of the next slot holds after it.
-    fn preserves(&self, before: &Point, stutters: bool, there: &Successor) -> bool
+    pub(crate) fn preserves(&self, before: &Point, stutters: bool, there: &Successor) -> bool
         ensures { IsTrue result → PreservesAt (candidate_of self.now) before.now.insn stutters before.now.relation.now (facts there.now.note.value) there.now.pc }
     {
         let Some(next) = relation_at(self.relations, there.pc) else {

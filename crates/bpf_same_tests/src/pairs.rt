@@ -1,8 +1,8 @@
-//! What a comparison answers of a pair of programs.
+//! What a comparison answers of a pair of programs, and where it stops.
 use bpf_insn::{Code, decode};
 use bpf_note::MapShape;
-use bpf_same::{Comparison, Witness, compare};
-use bpf_verify::verify;
+use bpf_same::{Comparison, Obstacle, Witness, compare, first_obstacle};
+use bpf_verify::{Verified, verify};
 use std::alloc::Global;
 
 /// Both programs in hex, a slot each or several; how many maps of four counters they have; and for each slot of the new one where
@@ -30,8 +30,15 @@ fn witness(word: &str) -> Option<Witness> {
     Some(Witness { stutters, at })
 }
 
-/// What [`compare`] answers for a pair. None if the new program isn't accepted, or if memory runs out.
-pub fn compared(alloc: Global, pair: &Pair) -> Option<Comparison> {
+/// A pair, decoded; its new program is accepted.
+#[derive(Drop)]
+struct Decoded {
+    old: Code,
+    new: Verified,
+    witnesses: Vec<Witness>,
+}
+
+fn read_pair(alloc: Global, pair: &Pair) -> Option<Decoded> {
     let mut witnesses = Vec::new(alloc);
     for word in pair.witnesses.split_ascii_whitespace() {
         witnesses.push(witness(word)?).ok()?;
@@ -43,5 +50,22 @@ pub fn compared(alloc: Global, pair: &Pair) -> Option<Comparison> {
         &shapes[..]
     };
     let new = verify(alloc, code(alloc, pair.new)?, shapes).ok()?;
-    compare(alloc, &new, &code(alloc, pair.old)?, witnesses.as_slice()).ok()
+    let old = code(alloc, pair.old)?;
+    Some(Decoded {
+        old,
+        new,
+        witnesses,
+    })
+}
+
+/// What [`compare`] answers for a pair. None if the new program isn't accepted, or if memory runs out.
+pub fn compared(alloc: Global, pair: &Pair) -> Option<Comparison> {
+    let pair = read_pair(alloc, pair)?;
+    compare(alloc, &pair.new, &pair.old, pair.witnesses.as_slice()).ok()
+}
+
+/// What [`first_obstacle`] answers for a pair. None also if there is no obstacle.
+pub fn stopped(alloc: Global, pair: &Pair) -> Option<Obstacle> {
+    let pair = read_pair(alloc, pair)?;
+    first_obstacle(alloc, &pair.new, &pair.old, pair.witnesses.as_slice()).ok()?
 }
