@@ -1,5 +1,5 @@
 -- What operations make of linear forms, and what a relation says of registers.
-use Rattle.std.proofs.Common.{ℕ, ◌+◌, ◌%◌, ◌^◌, ◌≡◌, ◌<◌, sym, ap, ◌∙◌, subst, arith, Option, None, Some, Bool, true}
+use Rattle.std.proofs.Common.{ℕ, ◌+◌, ◌%◌, ◌^◌, ◌≡◌, ◌<◌, refl, sym, ap, ◌∙◌, subst, arith, Option, None, Some, Bool, true}
 use Rattle.std.specs.Prelude.{IfSome, bit_and}
 use Rattle.bpf_insn.specs.Register.{number}
 use Rattle.bpf_insn.specs.Arithmetic.{computed}
@@ -50,6 +50,17 @@ added a b o k = k.is ∙ (ap Some (add_value k.x k.y) ∙ sym (ap (λ (a : Optio
 some_is : {x y : ℕ} → Some x ≡ Some y → x ≡ y
 some_is e = cc
 
+sub_value : (x y z : ℕ) → z < 2 ^ 64 → x ≡ (z + y) % 2 ^ 64 → computed op.Sub true x y ≡ z
+unfolding computed
+sub_value x y z l e = omega (arith, l, e)
+
+-- what is left of a number after a subtraction
+pub subtracted : (a b o rest : Option ℕ) → Computes op.Sub true a b o → a ≡ plus rest b → IsWord rest → o ≡ rest
+subtracted a b o None k e w = let none : Some k.x ≡ None = sym k.first ∙ e in cc
+subtracted a b o (Some z) k e w =
+    let whole : Some k.x ≡ Some ((z + k.y) % 2 ^ 64) = sym k.first ∙ (e ∙ ap (plus (Some z)) k.second) in
+    k.is ∙ ap Some (sub_value k.x k.y z (w z refl) (some_is whole))
+
 pub anded : (a b o : Option ℕ) (x y : ℕ) → Computes op.And true a b o → a ≡ Some x → b ≡ Some y → x < 2 ^ 64 → y < 2 ^ 64 → o ≡ Some (bit_and x y)
 anded a b o x y k e f l m =
     let one : k.x ≡ x = some_is (sym k.first ∙ e) in
@@ -69,6 +80,12 @@ pub old_operand_if : (e : Relation) (src : Operand) (r : Register) (k : ℕ) (o 
 old_operand_if e src r k None is at same = tt
 old_operand_if e src r k (Some s) is at same = λ f g h.
     ap (operand_in g) is ∙ (ap g (sym at) ∙ h.olds k s (subst (λ (k : ℕ). k < 11) (sym at) (number_small r)) (sym same))
+
+pub subtracted_if : (first second : LinearForm) (op' : AluOp) (wide : Bool) (o : Option LinearForm) → op' ≡ op.Sub → wide ≡ true → IfSome o (λ s. (f : ℕ → Option ℕ) → total f first ≡ plus (total f s) (total f second)) →
+    IfSome o (λ s. (f : ℕ → Option ℕ) (a b x : Option ℕ) → a ≡ total f first → b ≡ total f second → Computes op' wide a b x → x ≡ total f s)
+subtracted_if first second op' wide None e w h = tt
+subtracted_if first second op' wide (Some s) e w h = λ f a b x p q k.
+    subtracted a b x (total f s) (computes_as op' op.Sub wide true a b x e w k) (p ∙ (h f ∙ ap (plus (total f s)) (sym q))) (total_word f s)
 
 pub added_if : (first second : LinearForm) (op' : AluOp) (wide : Bool) (o : Option LinearForm) → op' ≡ op.Add → wide ≡ true → IfSome o (λ s. (f : ℕ → Option ℕ) → total f s ≡ plus (total f first) (total f second)) →
     IfSome o (λ s. (f : ℕ → Option ℕ) (a b x : Option ℕ) → a ≡ total f first → b ≡ total f second → Computes op' wide a b x → x ≡ total f s)

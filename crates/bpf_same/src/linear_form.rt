@@ -54,6 +54,20 @@ impl LinearForm {
         })
     }
 
+    /// Returns this form less another one whose terms are among its own.
+    pub(crate) fn minus(self, other: LinearForm) -> Option<LinearForm>
+        ensures { IfSome result (λ s. (f : ℕ → Option ℕ) → total f self ≡ plus (total f s) (total f other)) }
+    {
+        let rest = LinearForm {
+            constant: self.constant.wrapping_sub(other.constant),
+            terms: self.terms & !other.terms,
+        };
+        let Some(whole) = rest.plus(other) else {
+            return None;
+        };
+        if whole.is(self) { Some(rest) } else { None }
+    }
+
     /// Returns whether the forms are one.
     pub(crate) fn is(self, other: LinearForm) -> bool
         ensures { IsTrue result → self ≡ other }

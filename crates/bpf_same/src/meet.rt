@@ -6,17 +6,6 @@ use crate::linear_form::{LinearForm, REGISTERS, TERMS};
 use crate::relation::Relation;
 use crate::step::{Step, alters};
 
-/// A linear form without another one that is part of it.
-fn without(form: LinearForm, part: LinearForm) -> Option<LinearForm> {
-    if form.terms & part.terms != part.terms {
-        return None;
-    }
-    Some(LinearForm {
-        constant: form.constant.wrapping_sub(part.constant),
-        terms: form.terms & !part.terms,
-    })
-}
-
 /// A linear form in which each term is replaced by what is known of it.
 fn total_in(relation: &Relation, form: LinearForm) -> Option<LinearForm> {
     let mut total = LinearForm::constant(form.constant);
@@ -142,7 +131,7 @@ impl Meeting<'_> {
         }
         for term in 0..TERMS {
             if self.differs(term) {
-                if let Some(rest) = without(here, self.one.new_form(term)) {
+                if let Some(rest) = here.minus(self.one.new_form(term)) {
                     if let Some(form) = rest.plus(LinearForm::held(term)) {
                         if self.is_met(form, there) {
                             return Some(form);

@@ -93,6 +93,7 @@ fn computed(op: AluOp, wide: bool, first: LinearForm, second: LinearForm) -> Opt
     match op {
         AluOp::Mov if wide => Some(second),
         AluOp::Add if wide => first.plus(second),
+        AluOp::Sub if wide => first.minus(second),
         AluOp::And if wide && first.terms == 0 && second.terms == 0 => {
             Some(LinearForm::constant(first.constant & second.constant))
         }

@@ -181,3 +181,77 @@ fn store_to_the_packet(rt: HostRuntime) {
         Some(Comparison::NotShown)
     );
 }
+
+/// A copy of a number that is raised by five, lowered by as much, and copied back.
+const LOWERED: Pair = Pair {
+    old: &["61120c0000000000", "bf20000000000000", "9500000000000000"],
+    new: &[
+        "61120c0000000000",
+        "bf23000000000000",
+        "0703000005000000",
+        "1703000005000000",
+        "bf32000000000000",
+        "bf20000000000000",
+        "9500000000000000",
+    ],
+    maps: 0,
+    witnesses: "c0 o1 o1 o1 o1 c1 c2",
+};
+
+#[test]
+fn lowered(rt: HostRuntime) {
+    assert_eq!(rt; compared(rt.alloc(), &LOWERED), Some(Comparison::Same));
+}
+
+/// [`LOWERED`] by six, and in 32 bits.
+#[test]
+fn lowered_otherwise(rt: HostRuntime) {
+    for insn in ["1703000006000000", "1403000005000000"] {
+        let pair = Pair {
+            new: &[
+                "61120c0000000000",
+                "bf23000000000000",
+                "0703000005000000",
+                insn,
+                "bf32000000000000",
+                "bf20000000000000",
+                "9500000000000000",
+            ],
+            ..LOWERED
+        };
+        assert_eq!(rt; compared(rt.alloc(), &pair), Some(Comparison::NotShown));
+    }
+}
+
+/// Another number is added to a copy and subtracted again, or the sum from itself, or the copy from the other number.
+#[test]
+fn register_subtracted(rt: HostRuntime) {
+    let cases = [
+        ("1f34000000000000", Comparison::Same),
+        ("1f44000000000000", Comparison::NotShown),
+        ("1f43000000000000", Comparison::NotShown),
+    ];
+    for (insn, answer) in cases {
+        let pair = Pair {
+            old: &[
+                "61120c0000000000",
+                "6113100000000000",
+                "bf20000000000000",
+                "9500000000000000",
+            ],
+            new: &[
+                "61120c0000000000",
+                "6113100000000000",
+                "bf24000000000000",
+                "0f34000000000000",
+                insn,
+                "bf42000000000000",
+                "bf20000000000000",
+                "9500000000000000",
+            ],
+            maps: 0,
+            witnesses: "c0 c1 o2 o2 o2 o2 c2 c3",
+        };
+        assert_eq!(rt; compared(rt.alloc(), &pair), Some(answer));
+    }
+}
