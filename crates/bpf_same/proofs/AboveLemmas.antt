@@ -12,7 +12,7 @@ use Rattle.bpf_note.specs.Facts.{Facts}
 use Rattle.bpf_note.specs.Describes.{Describes, Meaning, meaning, Reads, IsReading, IsValueOf}
 use Rattle.bpf_flow.specs.Step.{address, reached}
 use Rattle.bpf_flow.proofs.ReachLemmas.{shift_is, map_small}
-use Rattle.bpf_same.specs.Turned.{IsAbove}
+use Rattle.bpf_same.specs.Stepped.{IsAbove}
 
 counter_in_apart : (o : Option Shape) (m at j : ℕ) → counter_in o m at ≡ InStack j → ⊥
 counter_in_apart None m at j e = cc

@@ -1,5 +1,5 @@
--- What operations make of sums, and what equations say of registers.
-use Rattle.std.proofs.Common.{ℕ, ◌+◌, ◌%◌, ◌^◌, ◌≡◌, ◌<◌, sym, ap, ◌∙◌, subst, arith, Option, None, Some, Bool, true}
+-- What operations make of linear forms, and what a relation says of registers.
+use Rattle.std.proofs.Common.{ℕ, ◌+◌, ◌%◌, ◌^◌, ◌≡◌, ◌<◌, refl, sym, ap, ◌∙◌, subst, arith, Option, None, Some, Bool, true}
 use Rattle.std.specs.Prelude.{IfSome, bit_and}
 use Rattle.bpf_insn.specs.Register.{number}
 use Rattle.bpf_insn.specs.Arithmetic.{computed}
@@ -9,22 +9,22 @@ use Rattle.bpf_insn.specs.declared.register.Register.{Register}
 use Rattle.bpf_insn.specs.declared.operand.Operand.{Operand}
 use Rattle.bpf_insn.specs.declared.operand.Operand.TheVariants as operands
 use Rattle.bpf_flow.proofs.RegisterLemmas.{number_small}
-use Rattle.bpf_same.specs.declared.sum.Sum.{Sum}
-use Rattle.bpf_same.specs.declared.equations.Equations.{Equations}
-use Rattle.bpf_same.specs.Sums.{plus, gathered, total, IsWord, Hold, old_of}
-use Rattle.bpf_same.specs.Turned.{operand_in, Computes}
-use Rattle.bpf_same.proofs.SumLemmas.{total_constant}
+use Rattle.bpf_same.specs.declared.linear_form.LinearForm.{LinearForm}
+use Rattle.bpf_same.specs.declared.relation.Relation.{Relation}
+use Rattle.bpf_same.specs.LinearForms.{plus, gathered, total, IsWord, Hold, old_of}
+use Rattle.bpf_same.specs.Stepped.{operand_in, Computes}
+use Rattle.bpf_same.proofs.LinearFormLemmas.{total_constant}
 
-pub total_word : (f : ℕ → Option ℕ) (s : Sum) → IsWord (total f s)
-total_word f s = by (gathered f s.holders 64)
+pub total_word : (f : ℕ → Option ℕ) (s : LinearForm) → IsWord (total f s)
+total_word f s = by (gathered f s.terms 64)
   where
     by : (o : Option ℕ) → IsWord (plus (Some s.constant) o)
     by None = λ x e. cc
     by (Some y) = λ x e. let same : (s.constant + y) % 2 ^ 64 ≡ x = cc in omega (arith, same)
 
--- a sum without holders
-pub total_alone : (f : ℕ → Option ℕ) (s : Sum) → s.holders ≡ 0 → s.constant < 2 ^ 64 → total f s ≡ Some s.constant
-total_alone f s e l = ap (λ (m : ℕ). total f (record { constant = s.constant; holders = m })) e ∙ total_constant f s.constant l
+-- a linear form without terms
+pub total_alone : (f : ℕ → Option ℕ) (s : LinearForm) → s.terms ≡ 0 → s.constant < 2 ^ 64 → total f s ≡ Some s.constant
+total_alone f s e l = ap (λ (m : ℕ). total f (record { constant = s.constant; terms = m })) e ∙ total_constant f s.constant l
 
 mov_value : (x y : ℕ) → y < 2 ^ 64 → computed op.Mov true x y ≡ y
 unfolding computed
@@ -50,6 +50,17 @@ added a b o k = k.is ∙ (ap Some (add_value k.x k.y) ∙ sym (ap (λ (a : Optio
 some_is : {x y : ℕ} → Some x ≡ Some y → x ≡ y
 some_is e = cc
 
+sub_value : (x y z : ℕ) → z < 2 ^ 64 → x ≡ (z + y) % 2 ^ 64 → computed op.Sub true x y ≡ z
+unfolding computed
+sub_value x y z l e = omega (arith, l, e)
+
+-- what is left of a number after a subtraction
+pub subtracted : (a b o rest : Option ℕ) → Computes op.Sub true a b o → a ≡ plus rest b → IsWord rest → o ≡ rest
+subtracted a b o None k e w = let none : Some k.x ≡ None = sym k.first ∙ e in cc
+subtracted a b o (Some z) k e w =
+    let whole : Some k.x ≡ Some ((z + k.y) % 2 ^ 64) = sym k.first ∙ (e ∙ ap (plus (Some z)) k.second) in
+    k.is ∙ ap Some (sub_value k.x k.y z (w z refl) (some_is whole))
+
 pub anded : (a b o : Option ℕ) (x y : ℕ) → Computes op.And true a b o → a ≡ Some x → b ≡ Some y → x < 2 ^ 64 → y < 2 ^ 64 → o ≡ Some (bit_and x y)
 anded a b o x y k e f l m =
     let one : k.x ≡ x = some_is (sym k.first ∙ e) in
@@ -60,17 +71,23 @@ anded a b o x y k e f l m =
 pub computes_as : (op op' : AluOp) (wide wide' : Bool) (a b o : Option ℕ) → op ≡ op' → wide ≡ wide' → Computes op wide a b o → Computes op' wide' a b o
 computes_as op op' wide wide' a b o e f k = subst (λ (op : AluOp). Computes op wide' a b o) e (subst (λ (w : Bool). Computes op w a b o) f k)
 
--- what is claimed of a register of the old program
-pub old_if : (e : Equations) (k : ℕ) (o : Option Sum) → o ≡ old_of e k → k < 11 → IfSome o (λ s. (f g : ℕ → Option ℕ) → Hold e f g → g k ≡ total f s)
+-- what the relation says of a register of the old program
+pub old_if : (e : Relation) (k : ℕ) (o : Option LinearForm) → o ≡ old_of e k → k < 11 → IfSome o (λ s. (f g : ℕ → Option ℕ) → Hold e f g → g k ≡ total f s)
 old_if e k None same l = tt
 old_if e k (Some s) same l = λ f g h. h.olds k s l (sym same)
 
-pub old_operand_if : (e : Equations) (src : Operand) (r : Register) (k : ℕ) (o : Option Sum) → src ≡ operands.Register r → k ≡ number r → o ≡ old_of e k → IfSome o (λ s. (f g : ℕ → Option ℕ) → Hold e f g → operand_in g src ≡ total f s)
+pub old_operand_if : (e : Relation) (src : Operand) (r : Register) (k : ℕ) (o : Option LinearForm) → src ≡ operands.Register r → k ≡ number r → o ≡ old_of e k → IfSome o (λ s. (f g : ℕ → Option ℕ) → Hold e f g → operand_in g src ≡ total f s)
 old_operand_if e src r k None is at same = tt
 old_operand_if e src r k (Some s) is at same = λ f g h.
     ap (operand_in g) is ∙ (ap g (sym at) ∙ h.olds k s (subst (λ (k : ℕ). k < 11) (sym at) (number_small r)) (sym same))
 
-pub added_if : (first second : Sum) (op' : AluOp) (wide : Bool) (o : Option Sum) → op' ≡ op.Add → wide ≡ true → IfSome o (λ s. (f : ℕ → Option ℕ) → total f s ≡ plus (total f first) (total f second)) →
+pub subtracted_if : (first second : LinearForm) (op' : AluOp) (wide : Bool) (o : Option LinearForm) → op' ≡ op.Sub → wide ≡ true → IfSome o (λ s. (f : ℕ → Option ℕ) → total f first ≡ plus (total f s) (total f second)) →
+    IfSome o (λ s. (f : ℕ → Option ℕ) (a b x : Option ℕ) → a ≡ total f first → b ≡ total f second → Computes op' wide a b x → x ≡ total f s)
+subtracted_if first second op' wide None e w h = tt
+subtracted_if first second op' wide (Some s) e w h = λ f a b x p q k.
+    subtracted a b x (total f s) (computes_as op' op.Sub wide true a b x e w k) (p ∙ (h f ∙ ap (plus (total f s)) (sym q))) (total_word f s)
+
+pub added_if : (first second : LinearForm) (op' : AluOp) (wide : Bool) (o : Option LinearForm) → op' ≡ op.Add → wide ≡ true → IfSome o (λ s. (f : ℕ → Option ℕ) → total f s ≡ plus (total f first) (total f second)) →
     IfSome o (λ s. (f : ℕ → Option ℕ) (a b x : Option ℕ) → a ≡ total f first → b ≡ total f second → Computes op' wide a b x → x ≡ total f s)
 added_if first second op' wide None e w h = tt
 added_if first second op' wide (Some s) e w h = λ f a b x p q k.

@@ -31,13 +31,13 @@ use Rattle.bpf_same.specs.declared.count.Count.{Count}
 use Rattle.bpf_same.specs.Counts as counts
 use Rattle.bpf_same.specs.Counts.{Does, Stores, Effect, StoringWalk, IsCounterStore}
 use Rattle.bpf_same.specs.Same.{operations}
-use Rattle.bpf_same.specs.Sums.{bit}
-use Rattle.bpf_same.specs.Followed.{is_jump}
-use Rattle.bpf_same.specs.Turned.{alters, AreAlike}
+use Rattle.bpf_same.specs.LinearForms.{bit}
+use Rattle.bpf_same.specs.Simulated.{is_jump}
+use Rattle.bpf_same.specs.Stepped.{alters, AreAlike}
 use Rattle.bpf_same.specs.Fused as fused
-use Rattle.bpf_same.specs.Fused.{Plan, Alike, Ahead, Shadows, live_at, IsOutside, IsWalked, Coming, IsInside, Counted, IsCount, ReadsWithin, Leaves, IsPlain, IsWritten, IsCounted, IsAddition, IsAdded, IsStep, IsLoaded}
-use Rattle.bpf_same.proofs.TurnLemmas.{needed_is, written_is, put_here}
-use Rattle.bpf_same.proofs.FollowLemmas.{load_exits}
+use Rattle.bpf_same.specs.Fused.{Plan, Alike, Ahead, Shadows, live_at, IsOutside, IsWalked, ReachesAddition, IsInside, Counted, IsCount, ReadsWithin, Leaves, IsPlain, IsWritten, IsCounted, IsAddition, IsAdded, IsStep, IsLoaded}
+use Rattle.bpf_same.proofs.StepLemmas.{needed_is, written_is, put_here}
+use Rattle.bpf_same.proofs.SimulationLemmas.{load_exits}
 use Rattle.bpf_same.proofs.OwnLemmas.{load_is, counter_size}
 use Rattle.bpf_same.proofs.PairLemmas.{put_left}
 use Rattle.bpf_same.proofs.TogetherLemmas.{together, next_is, alike_reads, step_is}
@@ -181,10 +181,10 @@ counted_step c d i r adds w = λ s t u v label b a h x.
     old f g f' g' k y v both h is other (inr e) = both.1 ∙ h e (sym both.0 ∙ is)
 
 pub plain_step : (c d : Count) (i : Insn) (r : Register) → IsPlain i → ((k : ℕ) → alters i k ≡ (k == number r)) → ReadsWithin i c.alike → alters i (number c.base) ≡ false → IsWritten c (number r) d → IsStep c i d
-plain_step c d i r plain writes reads keeps w = record { plain = plain; keeps = keeps; base = w.base; off = w.off; added = written_step c d i (number r) writes reads w }
+plain_step c d i r plain writes reads preserves w = record { plain = plain; preserves = preserves; base = w.base; off = w.off; added = written_step c d i (number r) writes reads w }
 
 pub sum_step : (c d : Count) (i : Insn) (r : ℕ) → IsAddition c i r → alters i (number c.base) ≡ false → IsCounted c r d → IsStep c i d
-sum_step c d i r adds keeps w = record { plain = adds.plain; keeps = keeps; base = w.base; off = w.off; added = counted_step c d i r adds w }
+sum_step c d i r adds preserves w = record { plain = adds.plain; preserves = preserves; base = w.base; off = w.off; added = counted_step c d i r adds w }
 
 -- --- additions inside a count
 -- what an operation leaves, in a state and in another one
@@ -287,14 +287,14 @@ pub step_inside : (plan : Plan) (c d : Count) (p : ℕ) (i : Insn) → IsStep c 
     IsInside plan d.base d.off (next_slot i p) d.alike d.ahead → IsInside plan c.base c.off p c.alike c.ahead
 step_inside plan c d p i k old new inside = λ s pc r0 bytes labels w. by s pc r0 bytes labels w
   where
-    went : (s u : State) (r0 : ℕ) (bytes : List ℕ) (label : Option Op) (labels : List (Option Op)) → s.pc ≡ p → LeadsTo (step plan.new s) label u → Walk plan.new r0 bytes u labels → Coming plan c.base c.off c.alike c.ahead s r0 bytes (label ∷ labels)
+    went : (s u : State) (r0 : ℕ) (bytes : List ℕ) (label : Option Op) (labels : List (Option Op)) → s.pc ≡ p → LeadsTo (step plan.new s) label u → Walk plan.new r0 bytes u labels → ReachesAddition plan c.base c.off c.alike c.ahead s r0 bytes (label ∷ labels)
     went s u r0 bytes label labels pc h w =
         let x : LeadsTo (exec i s) label u = subst (λ (o : Outcome). LeadsTo o label u) (step_is plan.new s p i new pc) h in
         let none : label ≡ None = no_label i s label u k.plain x in
         let there : u.pc ≡ next_slot i p = next_is i p u.pc (plain_runs_on i k.plain) (subst (λ (p : ℕ). Leads i p u.pc) pc (exec_leads i s label u x)) in
         let n = inside u there r0 bytes labels w in
         let same = kept plan.new s label u h in
-        let base : u.reg (number d.base) ≡ s.reg (number c.base) = ap (λ (r : Register). u.reg (number r)) k.base ∙ left i s u label (number c.base) x k.keeps in
+        let base : u.reg (number d.base) ≡ s.reg (number c.base) = ap (λ (r : Register). u.reg (number r)) k.base ∙ left i s u label (number c.base) x k.preserves in
         record {
           m = n.m;
           k = n.k;
@@ -311,13 +311,13 @@ step_inside plan c d p i k old new inside = λ s pc r0 bytes labels w. by s pc r
           address = n.address;
           held = sym base ∙ n.held;
           place = sym (reached_is s u n.address 8 c.off same.length same.shapes) ∙ (ap (λ (off : ℤ). reached u n.address off 8) (sym k.off) ∙ n.place);
-          comes = λ t b a ahead effects walked.
+          old_walk = λ t b a ahead effects walked.
               let v = k.added s t u n.found label b a ahead x in
               let leads : LeadsTo (step plan.old t) None v.0 = subst (λ (l : Option Op). LeadsTo (step plan.old t) l v.0) none (subst (λ (o : Outcome). LeadsTo o label v.0) (sym (step_is plan.old t p i old (b.pc ∙ pc))) v.1) in
-              counts.goes t v.0 (Stores n.m n.k n.j ((n.found + n.delta) % 2 ^ 64) ∷ effects) leads (n.comes v.0 v.2 v.3 v.4 effects walked);
+              counts.goes t v.0 (Stores n.m n.k n.j ((n.found + n.delta) % 2 ^ 64) ∷ effects) leads (n.old_walk v.0 v.2 v.3 v.4 effects walked);
         }
 
-    by : (s : State) → s.pc ≡ p → (r0 : ℕ) (bytes : List ℕ) (labels : List (Option Op)) → Walk plan.new r0 bytes s labels → Coming plan c.base c.off c.alike c.ahead s r0 bytes labels
+    by : (s : State) → s.pc ≡ p → (r0 : ℕ) (bytes : List ℕ) (labels : List (Option Op)) → Walk plan.new r0 bytes s labels → ReachesAddition plan c.base c.off c.alike c.ahead s r0 bytes labels
     by _ pc r0 bytes _ (ends s e b) = absurd (not_ended i s r0 k.plain (sym (step_is plan.new s p i new pc) ∙ e))
     by _ pc r0 bytes _ (goes s u label labels h w) = went s u r0 bytes label labels pc h w
 
@@ -382,7 +382,7 @@ store_inside plan c p src old new alike ahead out = λ s pc r0 bytes labels w. b
     i : Insn
     i = AddCounter false c.base src c.off
 
-    went : (s u : State) (r0 : ℕ) (bytes : List ℕ) (label : Option Op) (labels : List (Option Op)) → s.pc ≡ p → LeadsTo (step plan.new s) label u → Walk plan.new r0 bytes u labels → Coming plan c.base c.off c.alike c.ahead s r0 bytes (label ∷ labels)
+    went : (s u : State) (r0 : ℕ) (bytes : List ℕ) (label : Option Op) (labels : List (Option Op)) → s.pc ≡ p → LeadsTo (step plan.new s) label u → Walk plan.new r0 bytes u labels → ReachesAddition plan c.base c.off c.alike c.ahead s r0 bytes (label ∷ labels)
     went s u r0 bytes label labels pc h w =
         let a = addition_is src c.base c.off s u label (subst (λ (o : Outcome). LeadsTo o label u) (step_is plan.new s p i new pc) h) in
         let there : u.pc ≡ p + 1 = ap (λ (u : State). u.pc) a.is ∙ ap (λ (p : ℕ). p + 1) pc in
@@ -402,7 +402,7 @@ store_inside plan c p src old new alike ahead out = λ s pc r0 bytes labels w. b
           address = a.address;
           held = a.held;
           place = a.place;
-          comes = λ t b same more effects walked.
+          old_walk = λ t b same more effects walked.
               let next : State = at_slot t (t.pc + 1) in
               counts.stores t next a.m a.k a.j ((a.found + a.delta) % 2 ^ 64) effects
               (record {
@@ -425,7 +425,7 @@ store_inside plan c p src old new alike ahead out = λ s pc r0 bytes labels w. b
         kept_there s t u k f e (inl b) = f b ∙ sym e
         kept_there s t u k f e (inr b) = absurd (not_altered b)
 
-    by : (s : State) → s.pc ≡ p → (r0 : ℕ) (bytes : List ℕ) (labels : List (Option Op)) → Walk plan.new r0 bytes s labels → Coming plan c.base c.off c.alike c.ahead s r0 bytes labels
+    by : (s : State) → s.pc ≡ p → (r0 : ℕ) (bytes : List ℕ) (labels : List (Option Op)) → Walk plan.new r0 bytes s labels → ReachesAddition plan c.base c.off c.alike c.ahead s r0 bytes labels
     by _ pc r0 bytes _ (ends s e b) = absurd (addition_exits src c.base c.off s r0 (sym (step_is plan.new s p i new pc) ∙ e))
     by _ pc r0 bytes _ (goes s u label labels h w) = went s u r0 bytes label labels pc h w
 
@@ -480,14 +480,14 @@ load_counts plan dst base off p c k old new inside = λ s pc r0 bytes labels w. 
           shorter = omega (arith, n.shorter);
           did = label_front label labels z.0 ∙ n.did;
           outside = n.outside;
-          comes = λ t b same effects walked.
+          old_walk = λ t b same effects walked.
               let next : State = with_number t (t.pc + 1) (number dst) n.found in
               let live : (q : ℕ) → q < 11 → bit (live_at plan p) q ≡ 1 → t.reg q ≡ s.reg q = λ q small e. same q small (subst (λ (p : ℕ). bit (live_at plan p) q ≡ 1) (sym pc) e) in
               counts.does t next (ops.Load n.m n.k n.j n.found) (Stores n.m n.k n.j ((n.found + n.delta) % 2 ^ 64) ∷ effects)
               (subst (λ (o : Outcome). LeadsTo o (Some (ops.Load n.m n.k n.j n.found)) next) (sym (step_is plan.old t p (Ldx Double false dst base off) old (b.pc ∙ pc)))
               (load_leads t dst base off n.address n.m n.k n.j n.found (live (number base) (number_small base) k.live ∙ held) (reached_is s t n.address 8 off (ap length b.packet) b.shapes ∙ place)
               (not_frame s (s.pc + 1) (number dst) (computed Mov true 0 0) label u x) n.small))
-              (n.comes next
+              (n.old_walk next
               (subst (λ (u : State). Shadows u next) (sym z.1) (numbered s t (s.pc + 1) (t.pc + 1) (number dst) (computed Mov true 0 0) n.found b (ap (λ (p : ℕ). p + 1) b.pc)))
               (λ q small e.
               let o = k.alike q small e in

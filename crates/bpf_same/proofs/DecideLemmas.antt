@@ -14,7 +14,7 @@ use Rattle.bpf_note.specs.Facts.{Facts}
 use Rattle.bpf_note.specs.Describes.{Describes}
 use Rattle.bpf_flow.specs.Step.{operand}
 use Rattle.bpf_flow.proofs.JumpLemmas.{met_is}
-use Rattle.bpf_same.specs.declared.equations.Equations.{Equations}
+use Rattle.bpf_same.specs.declared.relation.Relation.{Relation}
 use Rattle.bpf_same.specs.Ranges.{IsSpan, IsOperandSpan}
 use Rattle.bpf_same.specs.Decided.{IsBetween, IsDecided}
 
@@ -40,7 +40,7 @@ operand_small : (n : Facts) (s : State) → Describes n s → (src : Operand) (y
 operand_small n s d (operands.Register r) y e = d.state.words (number r) y e
 operand_small n s d (operands.Immediate i) y e = let same : sign_extended i ≡ y = cc in omega (arith, word_fits i)
 
-pub decides : (n : Facts) (e : Equations) (cond : Condition) (wide : Bool) (dst : Register) (src : Operand) (off : ℤ) (lo hi low high : ℕ) (b : Bool) → IsSpan n e (number dst) lo hi → IsOperandSpan n e src low high → AreMet cond wide lo hi low high b →
+pub decides : (n : Facts) (e : Relation) (cond : Condition) (wide : Bool) (dst : Register) (src : Operand) (off : ℤ) (lo hi low high : ℕ) (b : Bool) → IsSpan n e (number dst) lo hi → IsOperandSpan n e src low high → AreMet cond wide lo hi low high b →
     IsDecided (Jump cond wide dst src off) e n b
 decides n e cond wide dst src off lo hi low high b one other met = λ s g d h.
     let r = one s g d h in
@@ -52,7 +52,7 @@ ranges_met_if cond true lo hi low high None e h = tt
 ranges_met_if cond true lo hi low high (Some b) e h = ranges_met cond lo hi low high b h
 ranges_met_if cond false lo hi low high o e h = cc
 
-pub decides_if : (n : Facts) (e : Equations) (cond : Condition) (wide : Bool) (dst : Register) (src : Operand) (off : ℤ) (lo hi low high : ℕ) (o : Option Bool) → IsSpan n e (number dst) lo hi → IsOperandSpan n e src low high →
+pub decides_if : (n : Facts) (e : Relation) (cond : Condition) (wide : Bool) (dst : Register) (src : Operand) (off : ℤ) (lo hi low high : ℕ) (o : Option Bool) → IsSpan n e (number dst) lo hi → IsOperandSpan n e src low high →
     IfSome o (AreMet cond wide lo hi low high) → IfSome o (IsDecided (Jump cond wide dst src off) e n)
 decides_if n e cond wide dst src off lo hi low high None one other h = tt
 decides_if n e cond wide dst src off lo hi low high (Some b) one other h = decides n e cond wide dst src off lo hi low high b one other h

@@ -13,7 +13,7 @@ use Rattle.bpf_same.specs.Counts.{Effect, Does, Stores, StoringWalk, Counts, Run
 use Rattle.bpf_same.specs.Fused.{Plan, Shadows, IsWalked, IsOutside, IsShared, Counted, IsCount, AreFused}
 
 -- from a state of the new program, with any registers of the old one that are alike
-record Followed (plan : Plan) (r0 : ℕ) (bytes : List ℕ) (s : State) (done : List Op) : Type 0 where
+record Walked (plan : Plan) (r0 : ℕ) (bytes : List ℕ) (s : State) (done : List Op) : Type 0 where
   effects : List Effect
   counts : Counts effects done
   walk : IsWalked plan r0 bytes s effects
@@ -35,7 +35,7 @@ itself : (s : State) → Shadows s s
 itself s = record { pc = refl; packet = refl; ifindex = refl; queue = refl; shapes = refl; stack = λ i. refl }
 
 shared_step : (plan : Plan) (r0 : ℕ) (bytes : List ℕ) (s u : State) (label : Option Op) (labels : List (Option Op)) → IsShared plan s.pc → LeadsTo (step plan.new s) label u →
-    (IsOutside plan u.pc → Followed plan r0 bytes u (operations labels)) → Followed plan r0 bytes s (operations (label ∷ labels))
+    (IsOutside plan u.pc → Walked plan r0 bytes u (operations labels)) → Walked plan r0 bytes s (operations (label ∷ labels))
 shared_step plan r0 bytes s u label labels k h go =
     let some = k.goes s s refl (itself s) (λ i l e. refl) label u h in
     let there = go some.outside in
@@ -47,20 +47,20 @@ shared_step plan r0 bytes s u label labels k h go =
           walk_front plan.old r0 bytes t v.next label there.effects v.leads (there.walk v.next v.shadows v.alike);
     }
 
-count_step : (plan : Plan) (r0 : ℕ) (bytes : List ℕ) (s : State) (labels : List (Option Op)) → (c : Counted plan s r0 bytes labels) → Followed plan r0 bytes c.after (operations c.rest) → Followed plan r0 bytes s (operations labels)
+count_step : (plan : Plan) (r0 : ℕ) (bytes : List ℕ) (s : State) (labels : List (Option Op)) → (c : Counted plan s r0 bytes labels) → Walked plan r0 bytes c.after (operations c.rest) → Walked plan r0 bytes s (operations labels)
 count_step plan r0 bytes s labels c there = record {
   effects = Does (Load c.m c.k c.j c.found) ∷ Stores c.m c.k c.j ((c.found + c.delta) % 2 ^ 64) ∷ there.effects;
   counts = subst (λ (done : List Op). Counts (Does (Load c.m c.k c.j c.found) ∷ Stores c.m c.k c.j ((c.found + c.delta) % 2 ^ 64) ∷ there.effects) done) (sym c.did)
       (counts.count c.m c.k c.j c.delta c.found there.effects (operations c.rest) there.counts);
-  walk = λ t beside a. c.comes t beside a there.effects there.walk;
+  walk = λ t beside a. c.old_walk t beside a there.effects there.walk;
 }
 
 -- of shorter walks it is known
 abbrev OfShorter : Plan → ℕ → List ℕ → ℕ → Type 0
-OfShorter plan r0 bytes n = (s : State) (labels : List (Option Op)) → length labels ≤ n → IsOutside plan s.pc → Walk plan.new r0 bytes s labels → Followed plan r0 bytes s (operations labels)
+OfShorter plan r0 bytes n = (s : State) (labels : List (Option Op)) → length labels ≤ n → IsOutside plan s.pc → Walk plan.new r0 bytes s labels → Walked plan r0 bytes s (operations labels)
 
 by_kind : (plan : Plan) (n : ℕ) (r0 : ℕ) (bytes : List ℕ) (s : State) (labels : List (Option Op)) → OfShorter plan r0 bytes n → length labels ≤ suc n → Walk plan.new r0 bytes s labels → IsShared plan s.pc ⊎ IsCount plan s.pc →
-    Followed plan r0 bytes s (operations labels)
+    Walked plan r0 bytes s (operations labels)
 by_kind plan n r0 bytes s labels go l w (inr count) =
     let c = count s refl r0 bytes labels w in
     count_step plan r0 bytes s labels c (go c.after c.rest (omega (arith, l, c.shorter)) c.outside c.walk)
@@ -71,14 +71,14 @@ no_labels : (code : List Insn) (r0 : ℕ) (bytes : List ℕ) (s : State) (labels
 no_labels code r0 bytes _ _ l (ends s e b) = omega (arith, l)
 no_labels code r0 bytes _ _ l (goes s t label labels h w) = omega (arith, l)
 
-followed : (plan : Plan) → AreFused plan → (r0 : ℕ) (bytes : List ℕ) (n : ℕ) → OfShorter plan r0 bytes n
-followed plan k r0 bytes zero = λ s labels l out w. absurd (no_labels plan.new r0 bytes s labels l w)
-followed plan k r0 bytes (suc n) = λ s labels l out w. by_kind plan n r0 bytes s labels (followed plan k r0 bytes n) l w (k.each s.pc out)
+walked : (plan : Plan) → AreFused plan → (r0 : ℕ) (bytes : List ℕ) (n : ℕ) → OfShorter plan r0 bytes n
+walked plan k r0 bytes zero = λ s labels l out w. absurd (no_labels plan.new r0 bytes s labels l w)
+walked plan k r0 bytes (suc n) = λ s labels l out w. by_kind plan n r0 bytes s labels (walked plan k r0 bytes n) l w (k.each s.pc out)
 
 -- a program with the runs of the one whose counts are additions
 pub fused_runs : (plan : Plan) (shapes : List Shape) (new : List Insn) → AreFused plan → IsSame shapes plan.new new → IsSameByCounts shapes plan.old new
 fused_runs plan shapes new k same = λ s is e r0 bytes done run.
     let mid : Runs plan.new r0 bytes s done = same s is e r0 bytes done run in
     let out : IsOutside plan s.pc = subst (λ (p : ℕ). IsOutside plan p) (sym is.pc) k.begins in
-    let f = followed plan k r0 bytes (length mid.labels) s mid.labels (omega arith) out mid.walk in
+    let f = walked plan k r0 bytes (length mid.labels) s mid.labels (omega arith) out mid.walk in
     record { effects = f.effects; walk = f.walk s (itself s) (λ i l e. refl); counts = subst (λ (done : List Op). Counts f.effects done) mid.did f.counts }

@@ -7,7 +7,7 @@ use Rattle.std.proofs.lemmas.Nat.Bits.{bit_at_set_other, bit_at_clear_same, bit_
 use Rattle.bpf_insn.specs.Register.{number}
 use Rattle.bpf_insn.specs.declared.register.Register.{Register}
 use Rattle.bpf_insn.specs.declared.register.Register.TheVariants.{R0, R1, R2, R3, R4, R5, R6, R7, R8, R9, R10}
-use Rattle.bpf_same.specs.Sums.{bit}
+use Rattle.bpf_same.specs.LinearForms.{bit}
 
 pub with_is : (mask r k : ℕ) → r < 64 → bit (bit_or mask (1 * 2 ^ r % 2 ^ 64)) k ≡ 1 → (k ≡ r) ⊎ (bit mask k ≡ 1)
 with_is mask r k l e = elim (cases_eq k r) [

@@ -1,4 +1,4 @@
--- What a step of the new program's own makes of what holders hold.
+-- What a step of the new program's own makes of what terms hold.
 use Rattle.std.proofs.Common.{ℕ, zero, suc, ◌+◌, ◌-◌, ◌*◌, ◌/◌, ◌%◌, ◌≡◌, ◌<◌, ◌≤◌, ◌^◌, ◌⊎◌, inl, inr, refl, sym, ap, ◌∙◌, subst, arith, ℤ, List, length, Option, None, Some, Bool, true, false, ◌&&◌, add-zero}
 use Rattle.std.specs.Prelude.{if◌then◌else◌, ◌==◌}
 use Rattle.std.proofs.lemmas.Bool.{cases_lt}
@@ -23,12 +23,12 @@ use Rattle.bpf_flow.specs.Step.{Next, need, with_number, with_stack, written, op
 use Rattle.bpf_flow.proofs.StepLemmas.{no_fault, needed}
 use Rattle.bpf_flow.proofs.ReachLemmas.{region_stack}
 use Rattle.bpf_flow.proofs.RegisterLemmas.{number_small}
-use Rattle.bpf_same.specs.Sums.{held}
-use Rattle.bpf_same.specs.Turned.{alters, is_register_store, IsOwn, IsWordAt, Turned, IsOwnStep, IsOwnAccess}
+use Rattle.bpf_same.specs.LinearForms.{held}
+use Rattle.bpf_same.specs.Stepped.{alters, is_register_store, IsOwn, IsWordAt, Stepped, IsOwnStep, IsOwnAccess}
 use Rattle.bpf_same.proofs.PairLemmas.{put_left}
-use Rattle.bpf_same.proofs.TurnLemmas.{needed_is, held_register, held_word, held_fits, noted_is, written_is, put_here, alu_computes, computes_held, word_kept}
+use Rattle.bpf_same.proofs.StepLemmas.{needed_is, held_register, held_word, held_fits, noted_is, written_is, put_here, alu_computes, computes_held, word_kept}
 
--- what is left of the state by a step of the new program's own, and what it makes of holders
+-- what is left of the state by a step of the new program's own, and what it makes of terms
 pub record Alone (i : Insn) (low : ℕ) (m : Facts) (s : State) (g : ℕ → Option ℕ) (l : Option Op) (u : State) : Type 0 where
   pub label : l ≡ None
   pub packet : u.packet ≡ s.packet
@@ -36,7 +36,7 @@ pub record Alone (i : Insn) (low : ℕ) (m : Facts) (s : State) (g : ℕ → Opt
   pub queue : u.queue ≡ s.queue
   pub shapes : u.shapes ≡ s.shapes
   pub stack : (j : ℕ) → low ≤ j → u.stack j ≡ s.stack j
-  pub turned : Turned i true low m (held s) g (held u) g
+  pub stepped : Stepped i true low m (held s) g (held u) g
 
 true_false : {P : Type 0} → true ≡ false → P
 true_false e = cc
@@ -55,7 +55,7 @@ number_alone i low m s g l u q k x a none d h load w =
       queue = ap (λ (t : State). t.queue) w.1;
       shapes = ap (λ (t : State). t.shapes) w.1;
       stack = λ j low. at j;
-      turned = record {
+      stepped = record {
         fits = held_fits u d.state;
         kept = λ j small e. held_register u j small ∙ (ap (λ (f : ℕ → Option ℕ). f j) reg ∙ (put_left s.reg k j (Some x) (sym (a j) ∙ e) ∙ sym (held_register s j small)));
         words = λ n o differs. word_kept s u low n o (λ j lt. at j);
@@ -105,8 +105,8 @@ word_reached s base off low w a st at frame e =
     let ten : number base ≡ 10 = ap number at.frame in
     let same : Some a ≡ Some stack_end = sym e ∙ (ap s.reg ten ∙ frame) in
     let is_end : a ≡ stack_end = cc in
-    let here : address a off ≡ stack_start + (592 - 8 * w) = ap (λ (x : ℕ). address x off) is_end ∙ (ap (address stack_end) at.at ∙ omega (arith, at.own.first, at.own.last)) in
-    ap (λ (x : ℕ). region (length s.packet) s.shapes x 8) here ∙ region_stack (length s.packet) s.shapes (592 - 8 * w) 8 st.packet_size (omega (arith, at.own.first, at.own.last))
+    let here : address a off ≡ stack_start + (592 - 8 * w) = ap (λ (x : ℕ). address x off) is_end ∙ (ap (address stack_end) at.at ∙ omega (arith, at.within.first, at.within.last)) in
+    ap (λ (x : ℕ). region (length s.packet) s.shapes x 8) here ∙ region_stack (length s.packet) s.shapes (592 - 8 * w) 8 st.packet_size (omega (arith, at.within.first, at.within.last))
 
 no_counter : (i m k j : ℕ) → InStack i ≡ InCounter m k j → ⊥
 no_counter i m k j e = cc
@@ -120,7 +120,7 @@ own_loaded : (dst src : Register) (off : ℤ) (low w : ℕ) (s : State) (l : Opt
 own_loaded dst src off low w s l u st at frame h = needed_is (s.reg (number src)) _ l u (λ a e h.
     let r = word_reached s src off low w a st at frame e in
     let got = load_is (InStack (592 - 8 * w)) s false Double (number dst) l u (no_counter (592 - 8 * w)) (subst (λ (place : Place). LeadsTo (load_from place s false Double (number dst)) l u) r h) in
-    held_register u (number dst) (number_small dst) ∙ (ap (λ (t : State). t.reg (number dst)) got.done.1 ∙ (put_here s.reg (number dst) (Some got.x) ∙ (sym got.is ∙ sym (held_word s w at.own.first))))) h
+    held_register u (number dst) (number_small dst) ∙ (ap (λ (t : State). t.reg (number dst)) got.done.1 ∙ (put_here s.reg (number dst) (Some got.x) ∙ (sym got.is ∙ sym (held_word s w at.within.first))))) h
 
 -- a store to such a word
 record Stored (src : Register) (w : ℕ) (s : State) (l : Option Op) (u : State) : Type 0 where
@@ -187,20 +187,20 @@ store_alone dst src off low n m s g l u c d o h =
       ifindex = ap (λ (t : State). t.ifindex) is.done;
       queue = ap (λ (t : State). t.queue) is.done;
       shapes = ap (λ (t : State). t.shapes) is.done;
-      stack = λ j above. ap (λ (t : State). t.stack j) is.done ∙ put_above s.stack (592 - 8 * o.word) is.x j (omega (arith, above, o.at.own.below, o.at.own.last));
-      turned = record {
+      stack = λ j above. ap (λ (t : State). t.stack j) is.done ∙ put_above s.stack (592 - 8 * o.word) is.x j (omega (arith, above, o.at.within.below, o.at.within.last));
+      stepped = record {
         fits = held_fits u d.state;
         kept = λ k small e. held_register u k small ∙ (ap (λ (t : State). t.reg k) is.done ∙ sym (held_register s k small));
-        words = λ k own differs. absurd (differs refl refl);
-        beside = λ dst' src' off' w k own e at there differs.
+        words = λ k stutters differs. absurd (differs refl refl);
+        beside = λ dst' src' off' w k stutters e at there differs.
             let too = own_stored dst' src' off' low w s l u c.state at frame (subst (λ (i : Insn). LeadsTo (exec i s) l u) e h) in
-            held_word u k there.first ∙ (ap (λ (t : State). word_at t.stack (592 - 8 * k) 8) too.done ∙ (other_word s.stack (592 - 8 * w) (592 - 8 * k) too.x (apart k w low there at.own differs (cases_lt k w)) ∙ sym (held_word s k there.first)));
-        stored = λ dst' src' off' w own e at.
+            held_word u k there.first ∙ (ap (λ (t : State). word_at t.stack (592 - 8 * k) 8) too.done ∙ (other_word s.stack (592 - 8 * w) (592 - 8 * k) too.x (apart k w low there at.within differs (cases_lt k w)) ∙ sym (held_word s k there.first)));
+        stored = λ dst' src' off' w stutters e at.
             let too = own_stored dst' src' off' low w s l u c.state at frame (subst (λ (i : Insn). LeadsTo (exec i s) l u) e h) in
             let small : too.x < 2 ^ 64 = c.state.words (number src') too.x too.is in
-            held_word u w at.own.first ∙ (ap (λ (t : State). word_at t.stack (592 - 8 * w) 8) too.done ∙
+            held_word u w at.within.first ∙ (ap (λ (t : State). word_at t.stack (592 - 8 * w) 8) too.done ∙
             (word_of_bytes (put_bytes s.stack (592 - 8 * w) 8 too.x) (592 - 8 * w) 8 too.x (omega (arith, small)) (λ k lt. put_inside s.stack (592 - 8 * w) 8 too.x k lt) ∙ (sym too.is ∙ sym (held_register s (number src') (number_small src')))));
-        loaded = λ dst' src' off' w own e. absurd (cc (e));
+        loaded = λ dst' src' off' w stutters e. absurd (cc (e));
         made = λ op wide dst' src' e. absurd (cc (e));
         noted = λ k x e small. held_register u k small ∙ noted_is m u k x d e;
         stays = λ k e. refl;

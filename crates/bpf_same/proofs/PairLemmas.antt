@@ -18,8 +18,8 @@ use Rattle.bpf_note.specs.declared.op.Op.TheVariants as ops
 use Rattle.bpf_flow.specs.Step.{Outcome, Next, Loads, Adds, Exited, Fault, need, at_slot, with_number, is_frame, written, operand, first_operand, reached, loaded, load_from, store_to, add_to, map_at, key_in, value_or_null, after_call, called, looked_up, helped, exec, LeadsTo, taken}
 use Rattle.bpf_flow.specs.Graph.{next_slot}
 use Rattle.bpf_flow.proofs.StepLemmas.{no_fault, exited}
-use Rattle.bpf_same.specs.Followed.{is_jump}
-use Rattle.bpf_same.specs.Turned.{alters, operand_in, AreAlike, AreShared}
+use Rattle.bpf_same.specs.Simulated.{is_jump}
+use Rattle.bpf_same.specs.Stepped.{alters, operand_in, AreAlike, AreShared}
 
 -- s with another slot, other registers and another stack
 abbrev pub parted : State → ℕ → (ℕ → Option ℕ) → (ℕ → Option ℕ) → State

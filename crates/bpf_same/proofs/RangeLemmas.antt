@@ -8,11 +8,11 @@ use Rattle.bpf_note.specs.Facts.{Facts, packet_id}
 use Rattle.bpf_note.specs.Describes.{Reads, meaning}
 use Rattle.bpf_flow.proofs.RegisterLemmas.{is_set_reads}
 use Rattle.bpf_same.specs.declared.range.Range.{Range}
-use Rattle.bpf_same.specs.declared.sum.Sum.{Sum}
-use Rattle.bpf_same.specs.declared.equations.Equations.{Equations}
-use Rattle.bpf_same.specs.Sums.{held, plus, gathered, total, Hold}
+use Rattle.bpf_same.specs.declared.linear_form.LinearForm.{LinearForm}
+use Rattle.bpf_same.specs.declared.relation.Relation.{Relation}
+use Rattle.bpf_same.specs.LinearForms.{held, plus, gathered, total, Hold}
 use Rattle.bpf_same.specs.Ranges.{Lies, IsRead, IsFarthest, IsLeastLength, IsMoved, IsSpan}
-use Rattle.bpf_same.proofs.TurnLemmas.{held_register}
+use Rattle.bpf_same.proofs.StepLemmas.{held_register}
 
 pub far_top : (n : Facts) (id far : ℕ) → far ≡ n.top id → IsFarthest n id far
 far_top n id far e = λ s d. subst (λ (t : ℕ). d.base id ≤ t) (sym e) (d.tops id)
@@ -61,39 +61,39 @@ both_lie o low high least most a b =
     some_same : {x y : ℕ} → Some x ≡ Some y → x ≡ y
     some_same e = cc
 
--- sums of the same holders differ by a constant
-apart : (f : ℕ → Option ℕ) (s t : Sum) (by : ℕ) → s.holders ≡ t.holders → s.constant < 2 ^ 64 → t.constant < 2 ^ 64 → by ≡ (s.constant + (2 ^ 64 - t.constant)) % 2 ^ 64 → total f s ≡ plus (total f t) (Some by)
-apart f s t by same small fits e = ap (λ (m : ℕ). plus (Some s.constant) (gathered f m 64)) same ∙ of (gathered f t.holders 64)
+-- linear forms of the same terms differ by a constant
+apart : (f : ℕ → Option ℕ) (s t : LinearForm) (by : ℕ) → s.terms ≡ t.terms → s.constant < 2 ^ 64 → t.constant < 2 ^ 64 → by ≡ (s.constant + (2 ^ 64 - t.constant)) % 2 ^ 64 → total f s ≡ plus (total f t) (Some by)
+apart f s t by same small fits e = ap (λ (m : ℕ). plus (Some s.constant) (gathered f m 64)) same ∙ of (gathered f t.terms 64)
   where
     of : (o : Option ℕ) → plus (Some s.constant) o ≡ plus (plus (Some t.constant) o) (Some by)
     of None = refl
     of (Some y) = ap Some (omega (arith, small, fits, e))
 
 -- a register that holds as much as another one but for a constant
-pub moved_span : (n : Facts) (e : Equations) (k j from to by low high : ℕ) (here there : Sum) → k < 11 → j < 11 → ((f g : ℕ → Option ℕ) → Hold e f g → f k ≡ total f here) → ((f g : ℕ → Option ℕ) → Hold e f g → f j ≡ total f there) →
-    here.holders ≡ there.holders → here.constant < 2 ^ 64 → there.constant < 2 ^ 64 → by ≡ (here.constant + (2 ^ 64 - there.constant)) % 2 ^ 64 → IsRead n (n.reg j) from to → IsMoved from to by low high → IsSpan n e k low high
+pub moved_span : (n : Facts) (e : Relation) (k j from to by low high : ℕ) (here there : LinearForm) → k < 11 → j < 11 → ((f g : ℕ → Option ℕ) → Hold e f g → f k ≡ total f here) → ((f g : ℕ → Option ℕ) → Hold e f g → f j ≡ total f there) →
+    here.terms ≡ there.terms → here.constant < 2 ^ 64 → there.constant < 2 ^ 64 → by ≡ (here.constant + (2 ^ 64 - there.constant)) % 2 ^ 64 → IsRead n (n.reg j) from to → IsMoved from to by low high → IsSpan n e k low high
 moved_span n e k j from to by low high here there small fits a b same p q at read moved = λ s g d h.
     let first : s.reg k ≡ total (held s) here = sym (held_register s k small) ∙ a (held s) g h in
     let second : s.reg j ≡ total (held s) there = sym (held_register s j fits) ∙ b (held s) g h in
     let both : s.reg k ≡ plus (s.reg j) (Some by) = first ∙ (apart (held s) here there by same p q at ∙ ap (λ (o : Option ℕ). plus o (Some by)) (sym second)) in
     subst (λ (o : Option ℕ). Lies o low high) (sym both) (moved (s.reg j) (read s d (s.reg j) (d.regs j)))
 
-pub read_span : (n : Facts) (e : Equations) (k low high : ℕ) → IsRead n (n.reg k) low high → IsSpan n e k low high
+pub read_span : (n : Facts) (e : Relation) (k low high : ℕ) → IsRead n (n.reg k) low high → IsSpan n e k low high
 read_span n e k low high r = λ s g d h. r s d (s.reg k) (d.regs k)
 
-pub moved_span_if : (n : Facts) (e : Equations) (k j from to by : ℕ) (here there : Sum) (v : Val) (o : Option Range) → k < 11 → j < 11 → ((f g : ℕ → Option ℕ) → Hold e f g → f k ≡ total f here) → ((f g : ℕ → Option ℕ) → Hold e f g → f j ≡ total f there) →
-    here.holders ≡ there.holders → here.constant < 2 ^ 64 → there.constant < 2 ^ 64 → by ≡ (here.constant + (2 ^ 64 - there.constant)) % 2 ^ 64 → v ≡ n.reg j → IsRead n v from to →
+pub moved_span_if : (n : Facts) (e : Relation) (k j from to by : ℕ) (here there : LinearForm) (v : Val) (o : Option Range) → k < 11 → j < 11 → ((f g : ℕ → Option ℕ) → Hold e f g → f k ≡ total f here) → ((f g : ℕ → Option ℕ) → Hold e f g → f j ≡ total f there) →
+    here.terms ≡ there.terms → here.constant < 2 ^ 64 → there.constant < 2 ^ 64 → by ≡ (here.constant + (2 ^ 64 - there.constant)) % 2 ^ 64 → v ≡ n.reg j → IsRead n v from to →
     IfSome o (λ r. IsMoved from to by r.low r.high) → IfSome o (λ r. IsSpan n e k r.low r.high)
 moved_span_if n e k j from to by here there v None small fits a b same p q at is read moved = tt
 moved_span_if n e k j from to by here there v (Some r) small fits a b same p q at is read moved =
     moved_span n e k j from to by r.low r.high here there small fits a b same p q at (subst (λ (v : Val). IsRead n v from to) is read) moved
 
-pub read_span_if : (n : Facts) (e : Equations) (k : ℕ) (v : Val) (o : Option Range) → v ≡ n.reg k → IfSome o (λ r. IsRead n v r.low r.high) → IfSome o (λ r. IsSpan n e k r.low r.high)
+pub read_span_if : (n : Facts) (e : Relation) (k : ℕ) (v : Val) (o : Option Range) → v ≡ n.reg k → IfSome o (λ r. IsRead n v r.low r.high) → IfSome o (λ r. IsSpan n e k r.low r.high)
 read_span_if n e k v None is read = tt
 read_span_if n e k v (Some r) is read = read_span n e k r.low r.high (subst (λ (v : Val). IsRead n v r.low r.high) is read)
 
 -- what lies in a row and in another one lies in what is in both
-pub in_both_span : (n : Facts) (e : Equations) (k : ℕ) (o : Option Range) (r both : Range) → IfSome o (λ r. IsSpan n e k r.low r.high) → IsSpan n e k r.low r.high →
+pub in_both_span : (n : Facts) (e : Relation) (k : ℕ) (o : Option Range) (r both : Range) → IfSome o (λ r. IsSpan n e k r.low r.high) → IsSpan n e k r.low r.high →
     ((x : Option ℕ) → IfSome o (λ r. Lies x r.low r.high) → Lies x r.low r.high → Lies x both.low both.high) → IsSpan n e k both.low both.high
 in_both_span n e k None r both first second h = λ s g d hold. h (s.reg k) tt (second s g d hold)
 in_both_span n e k (Some q) r both first second h = λ s g d hold. h (s.reg k) (first s g d hold) (second s g d hold)

@@ -18,14 +18,14 @@ use Rattle.bpf_flow.specs.Graph.{next_slot}
 use Rattle.bpf_flow.proofs.EdgeLemmas.{exec_leads}
 use Rattle.bpf_flow.proofs.StepLemmas.{no_fault, needed, exited}
 use Rattle.bpf_vm.specs.Run.{Walk, ends, goes}
-use Rattle.bpf_same.specs.declared.mark.Place.{Place}
+use Rattle.bpf_same.specs.declared.witness.Witness.{Witness}
 use Rattle.bpf_same.specs.Same.{operations, Runs, IsSame}
-use Rattle.bpf_same.specs.Followed.{in_front, is_jump}
-use Rattle.bpf_same.specs.Renumbered.{IsPlaced, ArePlaced, IsRenumbered, IsRenumberedFrom, IsRenumbering}
-use Rattle.bpf_same.specs.Turned.{alters, AreAlike}
+use Rattle.bpf_same.specs.Simulated.{in_front, is_jump}
+use Rattle.bpf_same.specs.Renumbered.{IsWitnessed, AreWitnessed, IsRenumbered, IsRenumberedFrom, IsRenumbering}
+use Rattle.bpf_same.specs.Stepped.{alters, AreAlike}
 use Rattle.bpf_same.proofs.PairLemmas.{parted, Behind, Pairs, pairs_lead, pairs_exit, operand_is, exec_pairs}
-use Rattle.bpf_same.proofs.TurnLemmas.{needed_is, alike_of}
-use Rattle.bpf_same.proofs.FollowLemmas.{before, jumped_exits, branch_exits}
+use Rattle.bpf_same.proofs.StepLemmas.{needed_is, alike_of}
+use Rattle.bpf_same.proofs.SimulationLemmas.{before, jumped_exits, branch_exits}
 use Rattle.bpf_same.proofs.TogetherLemmas.{all_shared, next_is}
 
 -- the old program's state t at slot p, which is the new one's state s but for the slot
@@ -39,11 +39,11 @@ record Twins (p : ℕ) (s t : State) : Type 0 where
   reg : (k : ℕ) → t.reg k ≡ s.reg k
 
 -- the old program's step beside one that leads to u
-record Stepped (places : List Place) (o : Outcome) (l : Option Op) (u : State) : Type 0 where
+record Stepped (witnesses : List Witness) (o : Outcome) (l : Option Op) (u : State) : Type 0 where
   v : State
   leads : LeadsTo o l v
   q : ℕ
-  placed : IsPlaced places u.pc q
+  placed : IsWitnessed witnesses u.pc q
   twins : Twins q u v
 
 some_is : {A : Type 0} {x y : A} → Some x ≡ Some y → x ≡ y
@@ -98,14 +98,14 @@ twins_after i p q s t u v b after = record {
   ];
 }
 
-plain_steps : (places : List Place) (i j : Insn) (p : ℕ) (s t : State) (l : Option Op) (u : State) → is_jump i ≡ false → Twins p s t → j ≡ i → IsPlaced places (next_slot i s.pc) (next_slot i p) → LeadsTo (exec i s) l u → Stepped places (exec j t) l u
-plain_steps places i j p s t l u plain b same at h =
+plain_steps : (witnesses : List Witness) (i j : Insn) (p : ℕ) (s t : State) (l : Option Op) (u : State) → is_jump i ≡ false → Twins p s t → j ≡ i → IsWitnessed witnesses (next_slot i s.pc) (next_slot i p) → LeadsTo (exec i s) l u → Stepped witnesses (exec j t) l u
+plain_steps witnesses i j p s t l u plain b same at h =
     let v = pairs_lead (Behind (λ k. alters i k) (next_slot i p) 0 s t.reg) (exec i s) (exec i t) l u (pairs i p s t plain b) h in
     record {
       v = v.0;
       leads = subst (λ (j : Insn). LeadsTo (exec j t) l v.0) (sym same) v.1;
       q = next_slot i p;
-      placed = subst (λ (q : ℕ). IsPlaced places q (next_slot i p)) (sym (next_is i s.pc u.pc plain (exec_leads i s l u h))) at;
+      placed = subst (λ (q : ℕ). IsWitnessed witnesses q (next_slot i p)) (sym (next_is i s.pc u.pc plain (exec_leads i s l u h))) at;
       twins = twins_after i p (next_slot i p) s t u v.0 b v.2;
     }
 
@@ -114,20 +114,20 @@ next_does P t None u p h = subst (P None) h p
 next_does P t (Some (ops.Load m k j v)) u p h = absurd h
 next_does P t (Some (ops.Add m k j d v)) u p h = absurd h
 
-record Reached (places : List Place) (q : ℕ) (o : Option ℕ) : Type 0 where
+record Reached (witnesses : List Witness) (q : ℕ) (o : Option ℕ) : Type 0 where
   r : ℕ
   is : o ≡ Some r
-  placed : IsPlaced places q r
+  placed : IsWitnessed witnesses q r
 
-reached_at : (places : List Place) (q : ℕ) (o : Option ℕ) → ArePlaced places (Some q) o → Reached places q o
-reached_at places q None h = absurd h
-reached_at places q (Some r) h = record { r = r; is = refl; placed = h }
+reached_at : (witnesses : List Witness) (q : ℕ) (o : Option ℕ) → AreWitnessed witnesses (Some q) o → Reached witnesses q o
+reached_at witnesses q None h = absurd h
+reached_at witnesses q (Some r) h = record { r = r; is = refl; placed = h }
 
-jump_steps : (places : List Place) (p : ℕ) (s t : State) (off onto : ℤ) (l : Option Op) (u : State) → Twins p s t → ArePlaced places (target s.pc off) (target p onto) → LeadsTo (jumped s off) l u → Stepped places (jumped t onto) l u
-jump_steps places p s t off onto l u b at h = needed_is (target s.pc off) _ l u (λ q e h.
-    let r = reached_at places q (target p onto) (subst (λ (o : Option ℕ). ArePlaced places o (target p onto)) e at) in
+jump_steps : (witnesses : List Witness) (p : ℕ) (s t : State) (off onto : ℤ) (l : Option Op) (u : State) → Twins p s t → AreWitnessed witnesses (target s.pc off) (target p onto) → LeadsTo (jumped s off) l u → Stepped witnesses (jumped t onto) l u
+jump_steps witnesses p s t off onto l u b at h = needed_is (target s.pc off) _ l u (λ q e h.
+    let r = reached_at witnesses q (target p onto) (subst (λ (o : Option ℕ). AreWitnessed witnesses o (target p onto)) e at) in
     let there : target t.pc onto ≡ Some r.r = ap (λ (pc : ℕ). target pc onto) b.pc ∙ r.is in
-    next_does (λ (l : Option Op) (u : State). Stepped places (jumped t onto) l u) (at_slot s q) l u
+    next_does (λ (l : Option Op) (u : State). Stepped witnesses (jumped t onto) l u) (at_slot s q) l u
     (record {
       v = at_slot t r.r;
       leads = subst (λ (o : Option ℕ). LeadsTo (need o (λ p. Next (at_slot t p))) None (at_slot t r.r)) (sym there) refl;
@@ -136,46 +136,46 @@ jump_steps places p s t off onto l u b at h = needed_is (target s.pc off) _ l u 
       twins = twins_at p q r.r s t b;
     }) h) h
 
-fall_steps : (places : List Place) (p : ℕ) (s t : State) (l : Option Op) (u : State) → Twins p s t → IsPlaced places (s.pc + 1) (p + 1) → LeadsTo (Next (at_slot s (s.pc + 1))) l u → Stepped places (Next (at_slot t (t.pc + 1))) l u
-fall_steps places p s t l u b at h = next_does (λ (l : Option Op) (u : State). Stepped places (Next (at_slot t (t.pc + 1))) l u) (at_slot s (s.pc + 1)) l u
+fall_steps : (witnesses : List Witness) (p : ℕ) (s t : State) (l : Option Op) (u : State) → Twins p s t → IsWitnessed witnesses (s.pc + 1) (p + 1) → LeadsTo (Next (at_slot s (s.pc + 1))) l u → Stepped witnesses (Next (at_slot t (t.pc + 1))) l u
+fall_steps witnesses p s t l u b at h = next_does (λ (l : Option Op) (u : State). Stepped witnesses (Next (at_slot t (t.pc + 1))) l u) (at_slot s (s.pc + 1)) l u
     (record {
       v = at_slot t (t.pc + 1);
       leads = refl;
       q = t.pc + 1;
-      placed = subst (λ (q : ℕ). IsPlaced places (s.pc + 1) (q + 1)) (sym b.pc) at;
+      placed = subst (λ (q : ℕ). IsWitnessed witnesses (s.pc + 1) (q + 1)) (sym b.pc) at;
       twins = twins_at p (s.pc + 1) (t.pc + 1) s t b;
     }) h
 
-branch_steps : (places : List Place) (p : ℕ) (s t : State) (cond : Condition) (wide : Bool) (dst : Register) (src : Operand) (off onto : ℤ) (l : Option Op) (u : State) → Twins p s t → ArePlaced places (target s.pc off) (target p onto) →
-    IsPlaced places (s.pc + 1) (p + 1) → LeadsTo (exec (Jump cond wide dst src off) s) l u → Stepped places (exec (Jump cond wide dst src onto) t) l u
-branch_steps places p s t cond wide dst src off onto l u b at next h =
+branch_steps : (witnesses : List Witness) (p : ℕ) (s t : State) (cond : Condition) (wide : Bool) (dst : Register) (src : Operand) (off onto : ℤ) (l : Option Op) (u : State) → Twins p s t → AreWitnessed witnesses (target s.pc off) (target p onto) →
+    IsWitnessed witnesses (s.pc + 1) (p + 1) → LeadsTo (exec (Jump cond wide dst src off) s) l u → Stepped witnesses (exec (Jump cond wide dst src onto) t) l u
+branch_steps witnesses p s t cond wide dst src off onto l u b at next h =
     let a = alike (Jump cond wide dst src off) p s t b in
     needed_is (s.reg (number dst)) _ l u (λ x e h.
     needed_is (operand s src) _ l u (λ y f h.
-    subst (λ (o : Option ℕ). Stepped places (need o (λ x. need (operand t src) (λ y. if is_met cond wide x y then jumped t onto else Next (at_slot t (t.pc + 1))))) l u) (sym (a.0 ∙ e))
-    (subst (λ (o : Option ℕ). Stepped places (need o (λ y. if is_met cond wide x y then jumped t onto else Next (at_slot t (t.pc + 1)))) l u) (sym (operand_is t src ∙ (a.1 ∙ (sym (operand_is s src) ∙ f))))
+    subst (λ (o : Option ℕ). Stepped witnesses (need o (λ x. need (operand t src) (λ y. if is_met cond wide x y then jumped t onto else Next (at_slot t (t.pc + 1))))) l u) (sym (a.0 ∙ e))
+    (subst (λ (o : Option ℕ). Stepped witnesses (need o (λ y. if is_met cond wide x y then jumped t onto else Next (at_slot t (t.pc + 1)))) l u) (sym (operand_is t src ∙ (a.1 ∙ (sym (operand_is s src) ∙ f))))
     (by (is_met cond wide x y) h))) h) h
   where
-    by : (c : Bool) → LeadsTo (if c then jumped s off else Next (at_slot s (s.pc + 1))) l u → Stepped places (if c then jumped t onto else Next (at_slot t (t.pc + 1))) l u
-    by true h = jump_steps places p s t off onto l u b at h
-    by false h = fall_steps places p s t l u b next h
+    by : (c : Bool) → LeadsTo (if c then jumped s off else Next (at_slot s (s.pc + 1))) l u → Stepped witnesses (if c then jumped t onto else Next (at_slot t (t.pc + 1))) l u
+    by true h = jump_steps witnesses p s t off onto l u b at h
+    by false h = fall_steps witnesses p s t l u b next h
 
-stepped : (places : List Place) (i j : Insn) (p : ℕ) (s t : State) (l : Option Op) (u : State) → Twins p s t → IsRenumbered places i s.pc j p → LeadsTo (exec i s) l u → Stepped places (exec j t) l u
-stepped places (Ja wide to) j p s t l u b r h = subst (λ (j : Insn). Stepped places (exec j t) l u) (sym r.2) (jump_steps places p s t to r.1 l u b r.3 h)
-stepped places (Jump cond wide dst src off) j p s t l u b r h = subst (λ (j : Insn). Stepped places (exec j t) l u) (sym r.1) (branch_steps places p s t cond wide dst src off r.0 l u b r.2 r.3 h)
-stepped places Exit j p s t l u b r h = absurd (needed (s.reg 0) Exited l u (λ x h. exited x l u h) h)
-stepped places Second j p s t l u b r h = absurd (no_fault l u h)
-stepped places (Alu op wide dst src) j p s t l u b r h = plain_steps places (Alu op wide dst src) j p s t l u refl b r.0 r.1 h
-stepped places (Neg wide dst) j p s t l u b r h = plain_steps places (Neg wide dst) j p s t l u refl b r.0 r.1 h
-stepped places (End kind width dst) j p s t l u b r h = plain_steps places (End kind width dst) j p s t l u refl b r.0 r.1 h
-stepped places (MovSx wide bits dst src) j p s t l u b r h = plain_steps places (MovSx wide bits dst src) j p s t l u refl b r.0 r.1 h
-stepped places (Const dst value) j p s t l u b r h = plain_steps places (Const dst value) j p s t l u refl b r.0 r.1 h
-stepped places (MapRef dst m) j p s t l u b r h = plain_steps places (MapRef dst m) j p s t l u refl b r.0 r.1 h
-stepped places (Ldx size signed dst src off) j p s t l u b r h = plain_steps places (Ldx size signed dst src off) j p s t l u refl b r.0 r.1 h
-stepped places (St size dst off imm) j p s t l u b r h = plain_steps places (St size dst off imm) j p s t l u refl b r.0 r.1 h
-stepped places (Stx size dst src off) j p s t l u b r h = plain_steps places (Stx size dst src off) j p s t l u refl b r.0 r.1 h
-stepped places (AddCounter fetch dst src off) j p s t l u b r h = plain_steps places (AddCounter fetch dst src off) j p s t l u refl b r.0 r.1 h
-stepped places (Call helper) j p s t l u b r h = plain_steps places (Call helper) j p s t l u refl b r.0 r.1 h
+stepped : (witnesses : List Witness) (i j : Insn) (p : ℕ) (s t : State) (l : Option Op) (u : State) → Twins p s t → IsRenumbered witnesses i s.pc j p → LeadsTo (exec i s) l u → Stepped witnesses (exec j t) l u
+stepped witnesses (Ja wide to) j p s t l u b r h = subst (λ (j : Insn). Stepped witnesses (exec j t) l u) (sym r.2) (jump_steps witnesses p s t to r.1 l u b r.3 h)
+stepped witnesses (Jump cond wide dst src off) j p s t l u b r h = subst (λ (j : Insn). Stepped witnesses (exec j t) l u) (sym r.1) (branch_steps witnesses p s t cond wide dst src off r.0 l u b r.2 r.3 h)
+stepped witnesses Exit j p s t l u b r h = absurd (needed (s.reg 0) Exited l u (λ x h. exited x l u h) h)
+stepped witnesses Second j p s t l u b r h = absurd (no_fault l u h)
+stepped witnesses (Alu op wide dst src) j p s t l u b r h = plain_steps witnesses (Alu op wide dst src) j p s t l u refl b r.0 r.1 h
+stepped witnesses (Neg wide dst) j p s t l u b r h = plain_steps witnesses (Neg wide dst) j p s t l u refl b r.0 r.1 h
+stepped witnesses (End kind width dst) j p s t l u b r h = plain_steps witnesses (End kind width dst) j p s t l u refl b r.0 r.1 h
+stepped witnesses (MovSx wide bits dst src) j p s t l u b r h = plain_steps witnesses (MovSx wide bits dst src) j p s t l u refl b r.0 r.1 h
+stepped witnesses (Const dst value) j p s t l u b r h = plain_steps witnesses (Const dst value) j p s t l u refl b r.0 r.1 h
+stepped witnesses (MapRef dst m) j p s t l u b r h = plain_steps witnesses (MapRef dst m) j p s t l u refl b r.0 r.1 h
+stepped witnesses (Ldx size signed dst src off) j p s t l u b r h = plain_steps witnesses (Ldx size signed dst src off) j p s t l u refl b r.0 r.1 h
+stepped witnesses (St size dst off imm) j p s t l u b r h = plain_steps witnesses (St size dst off imm) j p s t l u refl b r.0 r.1 h
+stepped witnesses (Stx size dst src off) j p s t l u b r h = plain_steps witnesses (Stx size dst src off) j p s t l u refl b r.0 r.1 h
+stepped witnesses (AddCounter fetch dst src off) j p s t l u b r h = plain_steps witnesses (AddCounter fetch dst src off) j p s t l u refl b r.0 r.1 h
+stepped witnesses (Call helper) j p s t l u b r h = plain_steps witnesses (Call helper) j p s t l u refl b r.0 r.1 h
 
 plain_ends : (i j : Insn) (p : ℕ) (s t : State) (x : ℕ) → is_jump i ≡ false → Twins p s t → j ≡ i → exec i s ≡ Exited x → exec j t ≡ Exited x
 plain_ends i j p s t x plain b same e =
@@ -184,32 +184,32 @@ plain_ends i j p s t x plain b same e =
 fault_ends : (x : ℕ) → Fault ≡ Exited x → ⊥
 fault_ends x e = cc
 
-ended : (places : List Place) (i j : Insn) (p : ℕ) (s t : State) (x : ℕ) → Twins p s t → IsRenumbered places i s.pc j p → exec i s ≡ Exited x → exec j t ≡ Exited x
-ended places (Ja wide to) j p s t x b r e = absurd (jumped_exits s to x e)
-ended places (Jump cond wide dst src off) j p s t x b r e = absurd (branch_exits s cond wide dst src off x e)
-ended places Exit j p s t x b r e = plain_ends Exit j p s t x refl b r e
-ended places Second j p s t x b r e = absurd (fault_ends x e)
-ended places (Alu op wide dst src) j p s t x b r e = plain_ends (Alu op wide dst src) j p s t x refl b r.0 e
-ended places (Neg wide dst) j p s t x b r e = plain_ends (Neg wide dst) j p s t x refl b r.0 e
-ended places (End kind width dst) j p s t x b r e = plain_ends (End kind width dst) j p s t x refl b r.0 e
-ended places (MovSx wide bits dst src) j p s t x b r e = plain_ends (MovSx wide bits dst src) j p s t x refl b r.0 e
-ended places (Const dst value) j p s t x b r e = plain_ends (Const dst value) j p s t x refl b r.0 e
-ended places (MapRef dst m) j p s t x b r e = plain_ends (MapRef dst m) j p s t x refl b r.0 e
-ended places (Ldx size signed dst src off) j p s t x b r e = plain_ends (Ldx size signed dst src off) j p s t x refl b r.0 e
-ended places (St size dst off imm) j p s t x b r e = plain_ends (St size dst off imm) j p s t x refl b r.0 e
-ended places (Stx size dst src off) j p s t x b r e = plain_ends (Stx size dst src off) j p s t x refl b r.0 e
-ended places (AddCounter fetch dst src off) j p s t x b r e = plain_ends (AddCounter fetch dst src off) j p s t x refl b r.0 e
-ended places (Call helper) j p s t x b r e = plain_ends (Call helper) j p s t x refl b r.0 e
+ended : (witnesses : List Witness) (i j : Insn) (p : ℕ) (s t : State) (x : ℕ) → Twins p s t → IsRenumbered witnesses i s.pc j p → exec i s ≡ Exited x → exec j t ≡ Exited x
+ended witnesses (Ja wide to) j p s t x b r e = absurd (jumped_exits s to x e)
+ended witnesses (Jump cond wide dst src off) j p s t x b r e = absurd (branch_exits s cond wide dst src off x e)
+ended witnesses Exit j p s t x b r e = plain_ends Exit j p s t x refl b r e
+ended witnesses Second j p s t x b r e = absurd (fault_ends x e)
+ended witnesses (Alu op wide dst src) j p s t x b r e = plain_ends (Alu op wide dst src) j p s t x refl b r.0 e
+ended witnesses (Neg wide dst) j p s t x b r e = plain_ends (Neg wide dst) j p s t x refl b r.0 e
+ended witnesses (End kind width dst) j p s t x b r e = plain_ends (End kind width dst) j p s t x refl b r.0 e
+ended witnesses (MovSx wide bits dst src) j p s t x b r e = plain_ends (MovSx wide bits dst src) j p s t x refl b r.0 e
+ended witnesses (Const dst value) j p s t x b r e = plain_ends (Const dst value) j p s t x refl b r.0 e
+ended witnesses (MapRef dst m) j p s t x b r e = plain_ends (MapRef dst m) j p s t x refl b r.0 e
+ended witnesses (Ldx size signed dst src off) j p s t x b r e = plain_ends (Ldx size signed dst src off) j p s t x refl b r.0 e
+ended witnesses (St size dst off imm) j p s t x b r e = plain_ends (St size dst off imm) j p s t x refl b r.0 e
+ended witnesses (Stx size dst src off) j p s t x b r e = plain_ends (Stx size dst src off) j p s t x refl b r.0 e
+ended witnesses (AddCounter fetch dst src off) j p s t x b r e = plain_ends (AddCounter fetch dst src off) j p s t x refl b r.0 e
+ended witnesses (Call helper) j p s t x b r e = plain_ends (Call helper) j p s t x refl b r.0 e
 
 -- the old program's instruction at a slot
-record Stands (places : List Place) (old : List Insn) (i : Insn) (q p : ℕ) : Type 0 where
+record Stands (witnesses : List Witness) (old : List Insn) (i : Insn) (q p : ℕ) : Type 0 where
   j : Insn
   here : slice_get old p ≡ Some j
-  is : IsRenumbered places i q j p
+  is : IsRenumbered witnesses i q j p
 
-stands : (places : List Place) (old : List Insn) (i : Insn) (q p : ℕ) (o : Option Insn) → slice_get old p ≡ o → IsRenumberedFrom places o i q p → Stands places old i q p
-stands places old i q p None e h = absurd h
-stands places old i q p (Some j) e h = record { j = j; here = e; is = h }
+stands : (witnesses : List Witness) (old : List Insn) (i : Insn) (q p : ℕ) (o : Option Insn) → slice_get old p ≡ o → IsRenumberedFrom witnesses o i q p → Stands witnesses old i q p
+stands witnesses old i q p None e h = absurd h
+stands witnesses old i q p (Some j) e h = record { j = j; here = e; is = h }
 
 operations_front : (label : Option Op) (labels : List (Option Op)) → operations (label ∷ labels) ≡ in_front label (operations labels)
 operations_front None labels = refl
@@ -219,24 +219,24 @@ needed_exit : (o : Option Insn) (s : State) (r0 : ℕ) (P : Type 0) → ((i : In
 needed_exit None s r0 P f e = cc
 needed_exit (Some i) s r0 P f e = f i refl e
 
-walks : (places : List Place) (old new : List Insn) (r0 : ℕ) (bytes : List ℕ) (s : State) (labels : List (Option Op)) → IsRenumbering places old new → Walk new r0 bytes s labels → (p : ℕ) (t : State) → IsPlaced places s.pc p → Twins p s t →
+walks : (witnesses : List Witness) (old new : List Insn) (r0 : ℕ) (bytes : List ℕ) (s : State) (labels : List (Option Op)) → IsRenumbering witnesses old new → Walk new r0 bytes s labels → (p : ℕ) (t : State) → IsWitnessed witnesses s.pc p → Twins p s t →
     Runs old r0 bytes t (operations labels)
-walks places old new r0 bytes _ _ k (ends s e same) = λ p t at b.
+walks witnesses old new r0 bytes _ _ k (ends s e same) = λ p t at b.
     let there : step old t ≡ Exited r0 = needed_exit (slice_get new s.pc) s r0 (step old t ≡ Exited r0)
     (λ i f e.
-    let c = stands places old i s.pc p (slice_get old p) refl (k.each s.pc p i f at) in
-    ap (λ (o : Option Insn). need o (λ i. exec i t)) (ap (slice_get old) b.pc ∙ c.here) ∙ ended places i c.j p s t r0 b c.is e) e in
+    let c = stands witnesses old i s.pc p (slice_get old p) refl (k.each s.pc p i f at) in
+    ap (λ (o : Option Insn). need o (λ i. exec i t)) (ap (slice_get old) b.pc ∙ c.here) ∙ ended witnesses i c.j p s t r0 b c.is e) e in
     record { labels = None ∷ []; walk = ends t there (b.packet ∙ same); did = refl }
-walks places old new r0 bytes _ _ k (goes s u label labels h w) = λ p t at b.
+walks witnesses old new r0 bytes _ _ k (goes s u label labels h w) = λ p t at b.
     subst (λ (done : List Op). Runs old r0 bytes t done) (sym (operations_front label labels))
     (needed_is (slice_get new s.pc) _ label u (λ i f h.
-    let c = stands places old i s.pc p (slice_get old p) refl (k.each s.pc p i f at) in
-    let v = stepped places i c.j p s t label u b c.is h in
+    let c = stands witnesses old i s.pc p (slice_get old p) refl (k.each s.pc p i f at) in
+    let v = stepped witnesses i c.j p s t label u b c.is h in
     let leads : LeadsTo (step old t) label v.v = subst (λ (o : Option Insn). LeadsTo (need o (λ i. exec i t)) label v.v) (sym (ap (slice_get old) b.pc ∙ c.here)) v.leads in
-    before old r0 bytes t v.v label (operations labels) leads (walks places old new r0 bytes u labels k w v.q v.v v.placed v.twins)) h)
+    before old r0 bytes t v.v label (operations labels) leads (walks witnesses old new r0 bytes u labels k w v.q v.v v.placed v.twins)) h)
 
-pub renumbered_same : (shapes : List Shape) (places : List Place) (old new : List Insn) → IsRenumbering places old new → IsSame shapes old new
-renumbered_same shapes places old new k = λ s is e r0 bytes done run.
+pub renumbered_same : (shapes : List Shape) (witnesses : List Witness) (old new : List Insn) → IsRenumbering witnesses old new → IsSame shapes old new
+renumbered_same shapes witnesses old new k = λ s is e r0 bytes done run.
     subst (λ (done : List Op). Runs old r0 bytes s done) run.did
-    (walks places old new r0 bytes s run.labels k run.walk 0 s (subst (λ (q : ℕ). IsPlaced places q 0) (sym is.pc) k.start)
+    (walks witnesses old new r0 bytes s run.labels k run.walk 0 s (subst (λ (q : ℕ). IsWitnessed witnesses q 0) (sym is.pc) k.start)
     (record { pc = is.pc; packet = refl; ifindex = refl; queue = refl; shapes = refl; stack = λ i. refl; reg = λ k. refl }))

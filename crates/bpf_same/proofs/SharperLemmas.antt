@@ -16,10 +16,10 @@ use Rattle.bpf_note.specs.Facts.{Facts, with_reg}
 use Rattle.bpf_note.specs.Describes.{Describes, Reads, meaning}
 use Rattle.bpf_flow.specs.Sound.{Accounts, Covers}
 use Rattle.bpf_flow.specs.Step.{Outcome, Next, Loads, Adds, Exited, Fault, exec, operand, LeadsTo}
-use Rattle.bpf_same.specs.Sums.{plus}
+use Rattle.bpf_same.specs.LinearForms.{plus}
 use Rattle.bpf_same.specs.Ranges.{Lies, IsRead, IsOperandRead, IsAdded, IsSummed, IsSharper}
 use Rattle.bpf_same.proofs.ComputeLemmas.{added}
-use Rattle.bpf_same.proofs.TurnLemmas.{alu_computes}
+use Rattle.bpf_same.proofs.StepLemmas.{alu_computes}
 use Rattle.bpf_same.proofs.PairLemmas.{operand_is}
 
 -- sums below 2 ^ 64

@@ -22,10 +22,10 @@ use Rattle.bpf_flow.specs.Graph.{Leads, next_slot, is_operand}
 use Rattle.bpf_flow.proofs.EdgeLemmas.{exec_leads}
 use Rattle.bpf_flow.proofs.RegisterLemmas.{number_small}
 use Rattle.bpf_flow.proofs.StepLemmas.{no_fault}
-use Rattle.bpf_same.specs.Sums.{bit}
-use Rattle.bpf_same.specs.Followed.{is_jump}
-use Rattle.bpf_same.specs.Turned.{alters, operand_in, AreAlike, AreShared}
-use Rattle.bpf_same.specs.Fused.{Plan, Alike, Shadows, live_at, IsOutside, IsShared, ReadsWithin, Leaves, LeadsOut}
+use Rattle.bpf_same.specs.LinearForms.{bit}
+use Rattle.bpf_same.specs.Simulated.{is_jump}
+use Rattle.bpf_same.specs.Stepped.{alters, operand_in, AreAlike, AreShared}
+use Rattle.bpf_same.specs.Fused.{Plan, Alike, Shadows, live_at, IsOutside, IsShared, ReadsWithin, Leaves, AllowsWays}
 use Rattle.bpf_same.proofs.PairLemmas.{parted, Behind, Pairs, need_pairs, pairs_lead, pairs_exit, operand_is, exec_pairs}
 
 -- after a step of both, from s and t to u and v
@@ -220,7 +220,7 @@ needed_step o s i e f = f (sym (ap (λ (o : Option Insn). need o (λ i. exec i s
 pub step_is : (code : List Insn) (s : State) (p : ℕ) (i : Insn) → slice_get code p ≡ Some i → s.pc ≡ p → step code s ≡ exec i s
 step_is code s p i here at = ap (λ (o : Option Insn). need o (λ i. exec i s)) (ap (slice_get code) at ∙ here)
 
-pub shared : (plan : Plan) (p : ℕ) (i : Insn) → slice_get plan.old p ≡ Some i → slice_get plan.new p ≡ Some i → ReadsWithin i (live_at plan p) → LeadsOut plan (live_at plan p) i p → IsShared plan p
+pub shared : (plan : Plan) (p : ℕ) (i : Insn) → slice_get plan.old p ≡ Some i → slice_get plan.new p ≡ Some i → ReadsWithin i (live_at plan p) → AllowsWays plan (live_at plan p) i p → IsShared plan p
 shared plan p i old new r out = record {
   goes = λ s t pc b a label u h.
       let x : LeadsTo (exec i s) label u = subst (λ (o : Outcome). LeadsTo o label u) (step_is plan.new s p i new pc) h in
@@ -238,12 +238,12 @@ shared plan p i old new r out = record {
 }
 
 -- where a jump leads
-pub ja_out : (plan : Plan) (before p : ℕ) (i : Insn) (wide : Bool) (to : ℤ) (o : Option ℕ) → i ≡ Ja wide to → o ≡ target p to → ((q : ℕ) → o ≡ Some q → IsOutside plan q × Leaves before (Ja wide to) (live_at plan q)) → LeadsOut plan before i p
-ja_out plan before p i wide to o is at h = subst (λ (i : Insn). LeadsOut plan before i p) (sym is) (λ q l. h q (at ∙ l))
+pub ja_out : (plan : Plan) (before p : ℕ) (i : Insn) (wide : Bool) (to : ℤ) (o : Option ℕ) → i ≡ Ja wide to → o ≡ target p to → ((q : ℕ) → o ≡ Some q → IsOutside plan q × Leaves before (Ja wide to) (live_at plan q)) → AllowsWays plan before i p
+ja_out plan before p i wide to o is at h = subst (λ (i : Insn). AllowsWays plan before i p) (sym is) (λ q l. h q (at ∙ l))
 
 pub branch_out : (plan : Plan) (before p : ℕ) (i : Insn) (cond : Condition) (wide : Bool) (dst : Register) (src : Operand) (off : ℤ) (o : Option ℕ) → i ≡ Jump cond wide dst src off → o ≡ target p off →
-    (IsOutside plan (p + 1) × Leaves before (Jump cond wide dst src off) (live_at plan (p + 1))) → ((q : ℕ) → o ≡ Some q → IsOutside plan q × Leaves before (Jump cond wide dst src off) (live_at plan q)) → LeadsOut plan before i p
-branch_out plan before p i cond wide dst src off o is at next h = subst (λ (i : Insn). LeadsOut plan before i p) (sym is) (λ q l. by q l)
+    (IsOutside plan (p + 1) × Leaves before (Jump cond wide dst src off) (live_at plan (p + 1))) → ((q : ℕ) → o ≡ Some q → IsOutside plan q × Leaves before (Jump cond wide dst src off) (live_at plan q)) → AllowsWays plan before i p
+branch_out plan before p i cond wide dst src off o is at next h = subst (λ (i : Insn). AllowsWays plan before i p) (sym is) (λ q l. by q l)
   where
     by : (q : ℕ) → (q ≡ p + 1) ⊎ (target p off ≡ Some q) → IsOutside plan q × Leaves before (Jump cond wide dst src off) (live_at plan q)
     by q (inl e) = subst (λ (q : ℕ). IsOutside plan q × Leaves before (Jump cond wide dst src off) (live_at plan q)) (sym e) next

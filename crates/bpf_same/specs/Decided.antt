@@ -10,8 +10,8 @@ use Rattle.bpf_note.specs.State.{State}
 use Rattle.bpf_note.specs.Facts.{Facts}
 use Rattle.bpf_note.specs.Describes.{Describes}
 use Rattle.bpf_flow.specs.Step.{operand}
-use Rattle.bpf_same.specs.declared.equations.Equations.{Equations}
-use Rattle.bpf_same.specs.Sums.{held, Hold}
+use Rattle.bpf_same.specs.declared.relation.Relation.{Relation}
+use Rattle.bpf_same.specs.LinearForms.{held, Hold}
 
 -- between each number of one range and each of another one the condition is the same
 abbrev pub IsBetween : Condition → ℕ → ℕ → ℕ → ℕ → Bool → Type 0
@@ -25,7 +25,7 @@ pub record Compared (cond : Condition) (wide : Bool) (o p : Option ℕ) (b : Boo
   pub second : p ≡ Some y
   pub met : is_met cond wide x y ≡ b
 
--- a conditional jump is taken in each state that the facts describe and in which the equations hold, or in none
-abbrev pub IsDecided : Insn → Equations → Facts → Bool → Type 0
+-- a conditional jump is taken in each state that the facts describe and in which the relation holds, or in none
+abbrev pub IsDecided : Insn → Relation → Facts → Bool → Type 0
 IsDecided (Jump cond wide dst src off) e n b = (s : State) (g : ℕ → Option ℕ) → Describes n s → Hold e (held s) g → Compared cond wide (s.reg (number dst)) (operand s src) b
 IsDecided i e n b = ⊥

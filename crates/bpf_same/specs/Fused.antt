@@ -18,8 +18,8 @@ use Rattle.bpf_same.specs.declared.count.Count.{Count}
 use Rattle.bpf_same.specs.declared.fused.Role.{Role}
 use Rattle.bpf_same.specs.declared.fused.Role.TheVariants.{Inside}
 use Rattle.bpf_same.specs.Same.{operations}
-use Rattle.bpf_same.specs.Sums.{bit}
-use Rattle.bpf_same.specs.Turned.{alters}
+use Rattle.bpf_same.specs.LinearForms.{bit}
+use Rattle.bpf_same.specs.Stepped.{alters}
 use Rattle.bpf_same.specs.Counts.{Does, Stores, Effect, StoringWalk}
 
 -- both programs; of each slot the registers that are read after it, a bit each, and what it is to a count
@@ -74,7 +74,7 @@ pub record IsShared (plan : Plan) (p : ℕ) : Type 0 where
 
 -- a walk of the new program reaches an addition to the counter at this offset from a register, and goes on from the state after it;
 -- from registers of which some hold the same, and some what the addition finds more, the old program reaches a store of the sum
-pub record Coming (plan : Plan) (base : Register) (off : ℤ) (same counted : ℕ) (s : State) (r0 : ℕ) (bytes : List ℕ) (labels : List (Option Op)) : Type 0 where
+pub record ReachesAddition (plan : Plan) (base : Register) (off : ℤ) (same counted : ℕ) (s : State) (r0 : ℕ) (bytes : List ℕ) (labels : List (Option Op)) : Type 0 where
   pub m : ℕ
   pub k : ℕ
   pub j : ℕ
@@ -90,13 +90,13 @@ pub record Coming (plan : Plan) (base : Register) (off : ℤ) (same counted : �
   pub address : ℕ
   pub held : s.reg (number base) ≡ Some address
   pub place : reached s address off 8 ≡ InCounter m k j
-  pub comes : (t : State) → Shadows s t → Alike same s.reg t.reg → Ahead counted found s.reg t.reg → (effects : List Effect) →
+  pub old_walk : (t : State) → Shadows s t → Alike same s.reg t.reg → Ahead counted found s.reg t.reg → (effects : List Effect) →
       IsWalked plan r0 bytes after effects → StoringWalk plan.old r0 bytes t (Stores m k j ((found + delta) % 2 ^ 64) ∷ effects)
 
 -- from slot p on, inside a count, with these registers alike and those ahead
 abbrev pub IsInside : Plan → Register → ℤ → ℕ → ℕ → ℕ → Type 0
 IsInside plan base off p same counted = (s : State) → s.pc ≡ p → (r0 : ℕ) (bytes : List ℕ) (labels : List (Option Op)) →
-    Walk plan.new r0 bytes s labels → Coming plan base off same counted s r0 bytes labels
+    Walk plan.new r0 bytes s labels → ReachesAddition plan base off same counted s r0 bytes labels
 
 -- a walk of the new program reaches the addition of a count from its load, and goes on from the state after it; the old program
 -- gets there by a load and a store
@@ -112,7 +112,7 @@ pub record Counted (plan : Plan) (s : State) (r0 : ℕ) (bytes : List ℕ) (labe
   pub shorter : length rest < length labels
   pub did : operations labels ≡ Add m k j delta found ∷ operations rest
   pub outside : IsOutside plan after.pc
-  pub comes : (t : State) → Shadows s t → Alike (live_at plan s.pc) s.reg t.reg → (effects : List Effect) → IsWalked plan r0 bytes after effects →
+  pub old_walk : (t : State) → Shadows s t → Alike (live_at plan s.pc) s.reg t.reg → (effects : List Effect) → IsWalked plan r0 bytes after effects →
       StoringWalk plan.old r0 bytes t (Does (Load m k j found) ∷ Stores m k j ((found + delta) % 2 ^ 64) ∷ effects)
 
 -- a count begins at slot p
@@ -134,8 +134,8 @@ abbrev pub Leaves : ℕ → Insn → ℕ → Type 0
 Leaves before i after = (k : ℕ) → k < 11 → bit after k ≡ 1 → (bit before k ≡ 1) ⊎ (alters i k ≡ true)
 
 -- wherever the instruction leads from slot p, nothing is inside a count, and what is read later was alike or is written
-abbrev pub LeadsOut : Plan → ℕ → Insn → ℕ → Type 0
-LeadsOut plan before i p = (q : ℕ) → Leads i p q → IsOutside plan q × Leaves before i (live_at plan q)
+abbrev pub AllowsWays : Plan → ℕ → Insn → ℕ → Type 0
+AllowsWays plan before i p = (q : ℕ) → Leads i p q → IsOutside plan q × Leaves before i (live_at plan q)
 
 -- the instruction writes a register and does nothing else; a load of eight bytes may be one of a counter
 abbrev pub IsPlain : Insn → Type 0
@@ -184,7 +184,7 @@ IsAdded c i d = (s t u : State) (v : ℕ) (label : Option Op) → Shadows s t �
 -- an instruction inside a count, which keeps the counter's address
 pub record IsStep (c : Count) (i : Insn) (d : Count) : Type 0 where
   pub plain : IsPlain i
-  pub keeps : alters i (number c.base) ≡ false
+  pub preserves : alters i (number c.base) ≡ false
   pub base : d.base ≡ c.base
   pub off : d.off ≡ c.off
   pub added : IsAdded c i d

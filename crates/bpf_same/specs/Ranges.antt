@@ -9,8 +9,8 @@ use Rattle.bpf_note.specs.State.{State}
 use Rattle.bpf_note.specs.Facts.{Facts}
 use Rattle.bpf_note.specs.Describes.{Describes, Reads, meaning}
 use Rattle.bpf_flow.specs.Step.{exec, operand, LeadsTo}
-use Rattle.bpf_same.specs.declared.equations.Equations.{Equations}
-use Rattle.bpf_same.specs.Sums.{held, plus, Hold}
+use Rattle.bpf_same.specs.declared.relation.Relation.{Relation}
+use Rattle.bpf_same.specs.LinearForms.{held, plus, Hold}
 
 -- a number that is there, from the least to the greatest
 pub record Lies (o : Option ℕ) (low high : ℕ) : Type 0 where
@@ -36,11 +36,11 @@ abbrev pub IsMoved : ℕ → ℕ → ℕ → ℕ → ℕ → Type 0
 IsMoved from to by low high = (o : Option ℕ) → Lies o from to → Lies (plus o (Some by)) low high
 
 -- where this is known, register k lies between these numbers
-abbrev pub IsSpan : Facts → Equations → ℕ → ℕ → ℕ → Type 0
+abbrev pub IsSpan : Facts → Relation → ℕ → ℕ → ℕ → Type 0
 IsSpan n e k low high = (s : State) (g : ℕ → Option ℕ) → Describes n s → Hold e (held s) g → Lies (s.reg k) low high
 
 -- the same of an operand
-abbrev pub IsOperandSpan : Facts → Equations → Operand → ℕ → ℕ → Type 0
+abbrev pub IsOperandSpan : Facts → Relation → Operand → ℕ → ℕ → Type 0
 IsOperandSpan n e src low high = (s : State) (g : ℕ → Option ℕ) → Describes n s → Hold e (held s) g → Lies (operand s src) low high
 
 -- the same of an operand, by what is known alone

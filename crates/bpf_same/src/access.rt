@@ -4,22 +4,22 @@ ghost use Rattle.bpf_insn.specs.Register.{number};
 ghost use Rattle.bpf_note.specs.Describes.{Describes};
 ghost use Rattle.bpf_note.specs.Parts.{facts};
 ghost use Rattle.bpf_note.specs.State.{State};
-ghost use Rattle.bpf_same.specs.Sums.{Hold};
-ghost use Rattle.bpf_same.specs.Turned.{IsAbove, IsOwnAccess, IsOwnStep, ReadsAlike, Shares, operand_in};
+ghost use Rattle.bpf_same.specs.LinearForms.{Hold};
+ghost use Rattle.bpf_same.specs.Stepped.{IsAbove, IsOwnAccess, IsOwnStep, ReadsAlike, Shares, operand_in};
 
-use crate::equations::Equations;
-use crate::turn::own_word;
+use crate::relation::Relation;
+use crate::step::own_word;
 use bpf_insn::{AluOp, Insn, Operand, Register, Size};
 use bpf_note::{Note, Val};
 
-/// Whether offsets from the stack's end lie at or above a byte.
+/// Returns whether offsets from the stack's end lie at or above a byte.
 fn is_at_least(low: u32, at: i16, off: i16) -> bool
     ensures { IsTrue result → pos low ≤ℤ ((pos 512 +ℤ at) +ℤ off) }
 {
     i64::from(low) <= 512 + i64::from(at) + i64::from(off)
 }
 
-/// Whether an access doesn't touch the stack below `low`.
+/// Returns whether an access doesn't touch the stack below `low`.
 fn is_above(note: &Note, base: Register, off: i16, low: u32) -> bool
     ensures { IsTrue result → (z : ℕ) (s : State) → Describes (facts note.now) s → IsAbove low s (s.reg (number base)) off z }
 {
@@ -32,7 +32,7 @@ fn is_above(note: &Note, base: Register, off: i16, low: u32) -> bool
     }
 }
 
-/// Whether an instruction doesn't touch the stack below `low`.
+/// Returns whether an instruction doesn't touch the stack below `low`.
 pub(crate) fn is_shared(insn: Insn, note: &Note, low: u32) -> bool
     ensures { IsTrue result → Shares low (facts note.now) insn }
 {
@@ -45,14 +45,14 @@ pub(crate) fn is_shared(insn: Insn, note: &Note, low: u32) -> bool
     }
 }
 
-/// Whether one of the new program's own words is accessed.
+/// Returns whether one of the new program's own words is accessed.
 fn is_own_access(base: Register, off: i16, note: &Note, low: u32) -> bool
     ensures { IsTrue result → IsOwnAccess base off low (facts note.now) }
 {
     own_word(base, off, low).is_some() && matches!(note.register(10), Val::Stack { off: 0 })
 }
 
-/// Whether an instruction of the new program's own writes a register, or a word of its own, and does nothing else.
+/// Returns whether an instruction of the new program's own writes a register, or a word of its own, and does nothing else.
 pub(crate) fn is_own_step(insn: Insn, note: &Note, low: u32) -> bool
     ensures { IsTrue result → IsOwnStep insn low (facts note.now) }
 {
@@ -80,56 +80,56 @@ pub(crate) fn is_own_step(insn: Insn, note: &Note, low: u32) -> bool
     }
 }
 
-fn is_same(equations: &Equations, register: Register) -> bool
-    ensures { IsTrue result → (f g : ℕ → Option ℕ) → Hold equations.now f g → g (number register) ≡ f (number register) }
+fn is_same(relation: &Relation, register: Register) -> bool
+    ensures { IsTrue result → (f g : ℕ → Option ℕ) → Hold relation.now f g → g (number register) ≡ f (number register) }
 {
-    equations.is_same(register.number())
+    relation.is_same(register.number())
 }
 
-fn is_same_operand(equations: &Equations, src: Operand) -> bool
-    ensures { IsTrue result → (f g : ℕ → Option ℕ) → Hold equations.now f g → operand_in g src ≡ operand_in f src }
+fn is_same_operand(relation: &Relation, src: Operand) -> bool
+    ensures { IsTrue result → (f g : ℕ → Option ℕ) → Hold relation.now f g → operand_in g src ≡ operand_in f src }
 {
     match src {
-        Operand::Register(register) => is_same(equations, register),
+        Operand::Register(register) => is_same(relation, register),
         Operand::Immediate(_) => true,
     }
 }
 
-/// Whether both programs' operands are the same.
-fn are_same(equations: &Equations, dst: Register, src: Operand) -> bool
-    ensures { IsTrue result → (f g : ℕ → Option ℕ) → Hold equations.now f g →
+/// Returns whether both programs' operands are the same.
+fn are_same(relation: &Relation, dst: Register, src: Operand) -> bool
+    ensures { IsTrue result → (f g : ℕ → Option ℕ) → Hold relation.now f g →
         (g (number dst) ≡ f (number dst)) × (operand_in g src ≡ operand_in f src) }
 {
-    is_same(equations, dst) && is_same_operand(equations, src)
+    is_same(relation, dst) && is_same_operand(relation, src)
 }
 
-fn are_both_same(equations: &Equations, dst: Register, src: Register) -> bool
-    ensures { IsTrue result → (f g : ℕ → Option ℕ) → Hold equations.now f g →
+fn are_both_same(relation: &Relation, dst: Register, src: Register) -> bool
+    ensures { IsTrue result → (f g : ℕ → Option ℕ) → Hold relation.now f g →
         (g (number dst) ≡ f (number dst)) × (g (number src) ≡ f (number src)) }
 {
-    is_same(equations, dst) && is_same(equations, src)
+    is_same(relation, dst) && is_same(relation, src)
 }
 
-/// Whether both programs read the same registers with the same numbers.
-pub(crate) fn reads_alike(equations: &Equations, insn: Insn) -> bool
-    ensures { IsTrue result → ReadsAlike equations.now insn }
+/// Returns whether both programs read the same registers with the same numbers.
+pub(crate) fn reads_alike(relation: &Relation, insn: Insn) -> bool
+    ensures { IsTrue result → ReadsAlike relation.now insn }
 {
     match insn {
         Insn::Alu {
             op: AluOp::Mov,
             src,
             ..
-        } => is_same_operand(equations, src),
-        Insn::Alu { dst, src, .. } | Insn::Jump { dst, src, .. } => are_same(equations, dst, src),
+        } => is_same_operand(relation, src),
+        Insn::Alu { dst, src, .. } | Insn::Jump { dst, src, .. } => are_same(relation, dst, src),
         Insn::Neg { dst, .. } | Insn::End { dst, .. } | Insn::St { dst, .. } => is_same(
-            equations, dst,
+            relation, dst,
         ),
-        Insn::MovSx { src, .. } | Insn::Ldx { src, .. } => is_same(equations, src),
+        Insn::MovSx { src, .. } | Insn::Ldx { src, .. } => is_same(relation, src),
         Insn::Stx { dst, src, .. } | Insn::AddCounter { dst, src, .. } => are_both_same(
-            equations, dst, src,
+            relation, dst, src,
         ),
-        Insn::Call { .. } => are_both_same(equations, Register::R1, Register::R2),
-        Insn::Exit => is_same(equations, Register::R0),
+        Insn::Call { .. } => are_both_same(relation, Register::R1, Register::R2),
+        Insn::Exit => is_same(relation, Register::R0),
         Insn::Const { .. } | Insn::MapRef { .. } | Insn::Ja { .. } | Insn::Second => true,
     }
 }

@@ -1,12 +1,12 @@
 //! What is known inside a count, between its load and its store.
 ghost use Rattle.std.specs.Prelude.{◌≡◌, ◌==◌, ◌≢◌, ◌⊎◌, ℕ, IsTrue, IfSome};
-ghost use Rattle.bpf_same.specs.Turned.{alters};
+ghost use Rattle.bpf_same.specs.Stepped.{alters};
 ghost use Rattle.bpf_insn.specs.Register.{number};
 ghost use Rattle.bpf_same.specs.Fused.{IsAddition, IsCounted, IsPlain, IsStep, IsWritten};
-ghost use Rattle.bpf_same.specs.Sums.{bit};
+ghost use Rattle.bpf_same.specs.LinearForms.{bit};
 
 use crate::live::{is_set, reads_within, with, without};
-use crate::turn::alters;
+use crate::step::alters;
 use bpf_insn::{AluOp, Insn, Operand, Register, Size};
 
 /// The counter's address, and masks of registers: those that hold the same in both programs, and those that hold what was loaded more
@@ -74,7 +74,7 @@ impl Count {
         is_set(self.ahead, register.number())
     }
 
-    /// Whether the sum of two registers holds what was loaded more.
+    /// Returns whether the sum of two registers holds what was loaded more.
     fn is_sum(self, first: Register, second: Register) -> bool
         ensures { IsTrue result → ((bit self.ahead (number first) ≡ 1) × (bit self.alike (number second) ≡ 1))
             ⊎ ((bit self.alike (number first) ≡ 1) × (bit self.ahead (number second) ≡ 1)) }
@@ -110,7 +110,7 @@ impl Count {
         }
     }
 
-    /// What is known after an instruction inside the count.
+    /// Returns what is known after an instruction inside the count.
     pub(crate) fn after(self, insn: Insn) -> Option<Count>
         ensures { IfSome result (IsStep self insn) }
     {

@@ -4,12 +4,12 @@ ghost use Rattle.bpf_note.specs.Parts.{facts};
 ghost use Rattle.bpf_insn.specs.Conditions.{is_met};
 ghost use Rattle.bpf_same.specs.Decided.{IsBetween, IsDecided};
 
-use crate::equations::Equations;
 use crate::range::{operand_span, span};
+use crate::relation::Relation;
 use bpf_insn::{Condition, Insn, holds};
 use bpf_note::Note;
 
-/// Whether a condition holds between each number of one range and each of another one, where that is the same for all.
+/// Returns whether a condition holds between each number of one range and each of another one, where that is the same for all.
 fn between_ranges(cond: Condition, lo: u64, hi: u64, low: u64, high: u64) -> Option<bool>
     ensures { IfSome result (IsBetween cond lo hi low high) }
 {
@@ -28,7 +28,7 @@ fn between_ranges(cond: Condition, lo: u64, hi: u64, low: u64, high: u64) -> Opt
     }
 }
 
-/// Whether a comparison of two known numbers, or of two ranges, is decided.
+/// Returns whether a comparison of two known numbers, or of two ranges, is decided.
 fn between_numbers(
     cond: Condition,
     wide: bool,
@@ -48,9 +48,9 @@ fn between_numbers(
     }
 }
 
-/// Whether a conditional jump is taken, where what is known decides it.
-pub(crate) fn decided(insn: Insn, equations: &Equations, note: &Note) -> Option<bool>
-    ensures { IfSome result (IsDecided insn equations.now (facts note.now)) }
+/// Returns whether a conditional jump is taken, where what is known decides it.
+pub(crate) fn decided(insn: Insn, relation: &Relation, note: &Note) -> Option<bool>
+    ensures { IfSome result (IsDecided insn relation.now (facts note.now)) }
 {
     match insn {
         Insn::Jump {
@@ -59,8 +59,8 @@ pub(crate) fn decided(insn: Insn, equations: &Equations, note: &Note) -> Option<
             dst,
             src,
             ..
-        } => match span(note, equations, dst.number()) {
-            Some(one) => match operand_span(note, equations, src) {
+        } => match span(note, relation, dst.number()) {
+            Some(one) => match operand_span(note, relation, src) {
                 Some(other) => {
                     between_numbers(cond, wide, one.low, one.high, other.low, other.high)
                 }

@@ -17,7 +17,7 @@ fn is_operand(a: Operand, b: Operand) -> bool
     a == b
 }
 
-/// Whether two pairs, each of a register and an operand, are one.
+/// Returns whether two pairs, each of a register and an operand, are one.
 pub(crate) fn are_operands(a: Register, b: Register, c: Operand, d: Operand) -> bool
     ensures { IsTrue result ↔ (a ≡ b) × (c ≡ d) }
 {
@@ -204,7 +204,7 @@ pub(crate) fn is_jump(
     }
 }
 
-/// Whether an instruction is this conditional jump but for its offset.
+/// Returns whether an instruction is this conditional jump but for its offset.
 pub(crate) fn is_but_for_offset(
     insn: Insn,
     cond: Condition,
@@ -226,7 +226,7 @@ pub(crate) fn is_but_for_offset(
     }
 }
 
-/// Whether an instruction is this load, store or addition.
+/// Returns whether an instruction is this load, store or addition.
 fn is_same_access(there: Insn, insn: Insn) -> bool
     requires { IsAccess insn }
     ensures { IsTrue result ↔ there ≡ insn }
@@ -261,7 +261,7 @@ fn is_same_access(there: Insn, insn: Insn) -> bool
     }
 }
 
-/// Whether the instructions are one.
+/// Returns whether the instructions are one.
 pub(crate) fn is_same_insn(there: Insn, insn: Insn) -> bool
     ensures { IsTrue result ↔ there ≡ insn }
 {
@@ -294,7 +294,7 @@ pub(crate) fn is_same_insn(there: Insn, insn: Insn) -> bool
     }
 }
 
-/// Whether both programs have one instruction at a slot.
+/// Returns whether both programs have one instruction at a slot.
 fn is_same_at(there: &[Insn], code: &[Insn], at: usize) -> bool
     requires there { at < length there.now }
     requires inside { at < length code.now }
@@ -303,7 +303,7 @@ fn is_same_at(there: &[Insn], code: &[Insn], at: usize) -> bool
     is_same_insn(there[at], code[at])
 }
 
-/// Whether the programs are one.
+/// Returns whether the programs are one.
 pub(crate) fn is_same_code(there: &[Insn], code: &[Insn]) -> bool
     ensures { IsTrue result ↔ there.now ≡ code.now }
 {

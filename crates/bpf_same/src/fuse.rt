@@ -1,9 +1,9 @@
 //! A program with its counts made atomic additions. Nothing is promised of it: `fused` judges.
 ghost use Rattle.std.specs.Prelude.{◌≤◌, length};
 
-use crate::check::place_at;
 use crate::fused::{MOST_COUNTED, Role};
-use crate::mark::Place;
+use crate::simulation::witness_at;
+use crate::witness::Witness;
 use bpf_insn::{AluOp, Insn, Operand, Register, Size};
 use std::alloc::{AllocError, Global};
 
@@ -48,7 +48,7 @@ fn added(insn: Insn) -> Option<(Register, Address)> {
     }
 }
 
-/// Whether an instruction stores a register to an address.
+/// Returns whether an instruction stores a register to an address.
 fn is_store(insn: Insn, register: Register, address: Address) -> bool {
     match insn {
         Insn::Stx {
@@ -119,9 +119,9 @@ impl Fusion {
     }
 
     /// Makes the count an addition that an instruction of the new program stands for.
-    fn fuse_at(&mut self, new: Insn, place: Place) -> Option<()> {
+    fn fuse_at(&mut self, new: Insn, witness: Witness) -> Option<()> {
         let (register, address) = added(new)?;
-        let at = place.at as usize;
+        let at = witness.at as usize;
         if at < self.code.len() && is_store(self.code[at], register, address) {
             self.fuse(at, new, address)
         } else {
@@ -135,15 +135,15 @@ pub(crate) fn fusion_of(
     alloc: Global,
     old: &[Insn],
     new: &[Insn],
-    places: &[Place],
+    witnesses: &[Witness],
 ) -> Result<Option<Fusion>, AllocError>
     requires { length new.now ≤ 4096 }
 {
     let mut fusion = Fusion::none(alloc, old)?;
     let mut is_any = false;
     for at in 0..new.len() {
-        if let Some(place) = place_at(places, at as u32) {
-            is_any |= fusion.fuse_at(new[at], place).is_some();
+        if let Some(witness) = witness_at(witnesses, at as u32) {
+            is_any |= fusion.fuse_at(new[at], witness).is_some();
         }
     }
     Ok(is_any.then_some(fusion))

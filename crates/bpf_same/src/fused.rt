@@ -7,14 +7,14 @@ ghost use Rattle.bpf_insn.specs.declared.size.Size.TheVariants as sizes;
 ghost use Rattle.bpf_flow.specs.Graph.{next_slot};
 ghost use Rattle.bpf_note.specs.Shape.{Shape};
 ghost use Rattle.bpf_same.specs.Counts.{IsSameByCounts};
-ghost use Rattle.bpf_same.specs.Fused.{AreFused, IsCount, IsInside, IsLoaded, IsOutside, IsShared, IsStep, Leaves, LeadsOut, Plan, ReadsWithin, live_at};
+ghost use Rattle.bpf_same.specs.Fused.{AreFused, IsCount, IsInside, IsLoaded, IsOutside, IsShared, IsStep, Leaves, AllowsWays, Plan, ReadsWithin, live_at};
 ghost use Rattle.bpf_same.specs.Plans.{plan_of};
 ghost use Rattle.bpf_same.specs.Same.{IsSame};
 
-use crate::check::{insn_at, is_at};
 use crate::count::Count;
 use crate::equal::is_same_insn;
 use crate::live::{is_set, leaves, reads_within, with, without};
+use crate::simulation::{insn_at, is_at};
 use bpf_flow::{jump_target, next_slot};
 use bpf_insn::{AluOp, Insn, Operand, Register, Size};
 
@@ -52,55 +52,55 @@ impl Draft<'_> {
         }
     }
 
-    /// Whether a slot isn't inside a count.
+    /// Returns whether a slot isn't inside a count.
     fn is_outside(&self, at: u32) -> bool
         ensures { IsTrue result → IsOutside (plan_of self.now) at }
     {
         (at as usize) >= self.roles.len() || self.roles[at as usize] != Role::Inside
     }
 
-    /// Whether an instruction may lead to a slot, by the registers that hold the same before it.
-    fn leads_to(&self, before: u64, insn: Insn, to: u32) -> bool
+    /// Returns whether an instruction may lead to a slot, by the registers that hold the same before it.
+    fn allows_slot(&self, before: u64, insn: Insn, to: u32) -> bool
         ensures { IsTrue result → IsOutside (plan_of self.now) to × Leaves before insn (live_at (plan_of self.now) to) }
     {
         self.is_outside(to) && leaves(before, insn, self.live_at(to))
     }
 
-    fn leads_by(&self, before: u64, insn: Insn, to: Option<u32>) -> bool
+    fn allows_target(&self, before: u64, insn: Insn, to: Option<u32>) -> bool
         ensures { IsTrue result → (q : ℕ) → to ≡ Some q → IsOutside (plan_of self.now) q × Leaves before insn (live_at (plan_of self.now) q) }
     {
         match to {
-            Some(to) => self.leads_to(before, insn, to),
+            Some(to) => self.allows_slot(before, insn, to),
             None => true,
         }
     }
 
-    /// Whether an instruction may lead where it does.
-    fn leads_out(&self, before: u64, insn: Insn, at: u32) -> bool
+    /// Returns whether an instruction may lead where it does.
+    fn allows_ways(&self, before: u64, insn: Insn, at: u32) -> bool
         requires { at < 4096 }
-        ensures { IsTrue result → LeadsOut (plan_of self.now) before insn at }
+        ensures { IsTrue result → AllowsWays (plan_of self.now) before insn at }
     {
         match insn {
-            Insn::Ja { to, .. } => self.leads_by(before, insn, jump_target(at, to)),
+            Insn::Ja { to, .. } => self.allows_target(before, insn, jump_target(at, to)),
             Insn::Jump { off, .. } => {
-                self.leads_to(before, insn, at + 1)
-                    && self.leads_by(before, insn, jump_target(at, i32::from(off)))
+                self.allows_slot(before, insn, at + 1)
+                    && self.allows_target(before, insn, jump_target(at, i32::from(off)))
             }
             Insn::Exit | Insn::Second => true,
-            _ => self.leads_to(before, insn, next_slot(insn, at)),
+            _ => self.allows_slot(before, insn, next_slot(insn, at)),
         }
     }
 
-    /// Whether an instruction reads what is the same in both programs, and may lead where it does.
+    /// Returns whether an instruction reads what is the same in both programs, and may lead where it does.
     fn is_taken(&self, insn: Insn, at: u32) -> bool
         requires { at < 4096 }
-        ensures { IsTrue result → ReadsWithin insn (live_at (plan_of self.now) at) × LeadsOut (plan_of self.now) (live_at (plan_of self.now) at) insn at }
+        ensures { IsTrue result → ReadsWithin insn (live_at (plan_of self.now) at) × AllowsWays (plan_of self.now) (live_at (plan_of self.now) at) insn at }
     {
         let live = self.live_at(at);
-        reads_within(insn, live) && self.leads_out(live, insn, at)
+        reads_within(insn, live) && self.allows_ways(live, insn, at)
     }
 
-    /// Whether both programs take the step at a slot.
+    /// Returns whether both programs take the step at a slot.
     fn is_shared(&self, at: u32) -> bool
         requires { at < 4096 }
         ensures { IsTrue result → IsShared (plan_of self.now) at }
@@ -117,8 +117,8 @@ impl Draft<'_> {
         }
     }
 
-    /// Whether a count ends at a slot with a store of a register.
-    fn ends(&self, count: Count, src: Register, at: u32) -> bool
+    /// Returns whether a count ends at a slot with a store of a register.
+    fn is_store_of(&self, count: Count, src: Register, at: u32) -> bool
         requires inside { at < 4096 }
         requires old { slice_get self.now.old.now at ≡ Some (Stx sizes.Double count.base src count.off) }
         ensures { IsTrue result → IsInside (plan_of self.now) count.base count.off at count.alike count.ahead }
@@ -132,11 +132,11 @@ impl Draft<'_> {
         is_at(self.new, at, addition)
             && count.is_alike(count.base)
             && count.is_ahead(src)
-            && self.leads_to(count.alike, addition, at + 1)
+            && self.allows_slot(count.alike, addition, at + 1)
     }
 
-    /// Whether a count ends at a slot.
-    fn ends_at(&self, count: Count, at: u32) -> bool
+    /// Returns whether a count ends at a slot.
+    fn is_store_at(&self, count: Count, at: u32) -> bool
         requires { at < 4096 }
         ensures { IsTrue result → IsInside (plan_of self.now) count.base count.off at count.alike count.ahead }
     {
@@ -150,7 +150,7 @@ impl Draft<'_> {
                 },
             ) => {
                 if dst == count.base && off == count.off {
-                    self.ends(count, src, at)
+                    self.is_store_of(count, src, at)
                 } else {
                     false
                 }
@@ -159,8 +159,8 @@ impl Draft<'_> {
         }
     }
 
-    /// What is known after an instruction that both programs have inside a count, and the slot after it.
-    fn stepped(&self, count: Count, at: u32) -> Option<(Count, u32)>
+    /// Returns what is known after an instruction that both programs have inside a count, and the slot after it.
+    fn shared_step(&self, count: Count, at: u32) -> Option<(Count, u32)>
         requires { at < 4096 }
         ensures { IfSome result (λ there. (i : Insn) × IsStep count i there.0 × (slice_get self.now.old.now at ≡ Some i) × (slice_get self.now.new.now at ≡ Some i) × (there.1 ≡ next_slot i at)) }
     {
@@ -172,23 +172,23 @@ impl Draft<'_> {
         Some((next, next_slot(insn, at)))
     }
 
-    /// Whether a count goes on from a slot to its store.
-    fn goes_on(&self, count: Count, at: u32, steps: u32) -> bool
+    /// Returns whether a count reaches its store from a slot.
+    fn reaches_store(&self, count: Count, at: u32, steps: u32) -> bool
         ensures { IsTrue result → IsInside (plan_of self.now) count.base count.off at count.alike count.ahead }
     {
         if steps == 0 || at >= 4096 {
             return false;
         }
-        if self.ends_at(count, at) {
+        if self.is_store_at(count, at) {
             return true;
         }
-        match self.stepped(count, at) {
-            Some((next, to)) => self.goes_on(next, to, steps - 1),
-            None => false,
-        }
+        let Some((next, to)) = self.shared_step(count, at) else {
+            return false;
+        };
+        self.reaches_store(next, to, steps - 1)
     }
 
-    /// What is known after a load in whose place the new program has a 0.
+    /// Returns what is known after a load in whose place the new program has a 0.
     fn loaded(&self, dst: Register, base: Register, off: i16, at: u32) -> Option<Count>
         ensures { IfSome result (IsLoaded (plan_of self.now) dst base off at) }
     {
@@ -204,8 +204,8 @@ impl Draft<'_> {
         })
     }
 
-    /// Whether a count begins at a slot, with a load from an address.
-    fn begins(&self, dst: Register, base: Register, off: i16, at: u32) -> bool
+    /// Returns whether a count begins at a slot, with a load from an address.
+    fn is_count_from(&self, dst: Register, base: Register, off: i16, at: u32) -> bool
         requires inside { at < 4096 }
         requires old { slice_get self.now.old.now at ≡ Some (Ldx sizes.Double false dst base off) }
         ensures { IsTrue result → IsCount (plan_of self.now) at }
@@ -219,13 +219,13 @@ impl Draft<'_> {
         if !is_at(self.new, at, zero) {
             return false;
         }
-        match self.loaded(dst, base, off, at) {
-            Some(count) => self.goes_on(count, at + 1, MOST_COUNTED),
-            None => false,
-        }
+        let Some(count) = self.loaded(dst, base, off, at) else {
+            return false;
+        };
+        self.reaches_store(count, at + 1, MOST_COUNTED)
     }
 
-    /// Whether a count begins at a slot.
+    /// Returns whether a count begins at a slot.
     fn is_count(&self, at: u32) -> bool
         requires { at < 4096 }
         ensures { IsTrue result → IsCount (plan_of self.now) at }
@@ -239,12 +239,12 @@ impl Draft<'_> {
                     src,
                     off,
                 },
-            ) => self.begins(dst, src, off, at),
+            ) => self.is_count_from(dst, src, off, at),
             _ => false,
         }
     }
 
-    /// Whether a slot is what it is said to be.
+    /// Returns whether a slot is what it is said to be.
     fn is_as_said(&self, at: u32) -> bool
         requires inside { at < length self.now.roles.now }
         requires few { length self.now.roles.now ≤ 4096 }
@@ -257,7 +257,7 @@ impl Draft<'_> {
         }
     }
 
-    /// Whether all slots are what they are said to be.
+    /// Returns whether all slots are what they are said to be.
     pub(crate) fn holds(&self) -> bool
         requires { length self.now.new.now ≤ 4096 }
         ensures { IsTrue result → AreFused (plan_of self.now) }

@@ -1,42 +1,44 @@
 //! Whether an accepted program has the runs of another one, which need not be accepted.
 //!
 //! - `same`: the comparison
-//! - `mark`: where the old program stands before a slot of the new one
-//! - `find`: what is known at each slot, as instructions leave it (`sharper`); `check`: whether the old program follows an instruction; `hold`: whether what is known and
-//!   the places show the runs to be the same
-//! - `equations`: what the old program's registers are, as a `sum` of what the new one holds: those at the `start`, after an
-//!   instruction (`turn`), where ways `meet`; `keep`: whether those claimed after an instruction hold; `access`: what a copied
-//!   access may touch
+//! - `witness`: the slot of the old program that is claimed to match a slot of the new one
+//! - `find`: notes and a relation for each slot, as instructions leave them (`sharper`); `simulation`: whether the old program
+//!   simulates an instruction; `induction`: whether the relations hold at the start and each instruction is simulated
+//! - `relation`: the old program's registers, as a `linear_form` of the new one's terms: at the `start`, after a `step`, where ways
+//!   `meet`; `preserve`: whether a step preserves the relations; `access`: what a copied access may touch
 //! - `fuse`: the old program with its counts (a load, additions and a store of one counter) made additions; `fused`: whether it is the
 //!   same by counts: what is known inside a `count`, and which registers are `live` after it
+//! - `obstacle`: where a comparison stops
 //! - `renumbered`: whether it is the old one but for the numbers of its slots
 //! - `decide`: what decides a conditional jump, by the `range` that a register lies in; `equal`: whether two instructions are one
 //! - `laws`: what holds of programs with the same runs
 #![tactic(auto)]
 
 mod access;
-mod check;
 mod count;
 mod decide;
 mod equal;
-mod equations;
 mod find;
 mod fuse;
 mod fused;
-mod hold;
-mod keep;
+mod induction;
 mod laws;
+mod linear_form;
 mod live;
-mod mark;
 mod meet;
+mod obstacle;
+mod preserve;
 mod range;
+mod relation;
 mod renumbered;
 mod same;
 mod sharper;
+mod simulation;
 mod start;
-mod sum;
-mod turn;
+mod step;
+mod witness;
 
 pub use laws::{same_both_ways, same_by_counts_both_ways};
-pub use mark::Place;
-pub use same::{Comparison, compare};
+pub use obstacle::{Obstacle, ObstacleKind};
+pub use same::{Comparison, compare, first_obstacle};
+pub use witness::Witness;

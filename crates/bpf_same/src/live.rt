@@ -3,10 +3,10 @@ ghost use Rattle.std.specs.Prelude.{◌≡◌, ◌≢◌, ◌<◌, ◌≤◌, �
 ghost use Rattle.bpf_flow.specs.Graph.{reads};
 ghost use Rattle.bpf_insn.specs.Register.{number};
 ghost use Rattle.bpf_same.specs.Fused.{Leaves, ReadsWithin};
-ghost use Rattle.bpf_same.specs.Sums.{bit};
-ghost use Rattle.bpf_same.specs.Turned.{alters};
+ghost use Rattle.bpf_same.specs.LinearForms.{bit};
+ghost use Rattle.bpf_same.specs.Stepped.{alters};
 
-use crate::turn::alters;
+use crate::step::alters;
 use bpf_flow::{jump_target, next_slot, reads};
 use bpf_insn::{Insn, Register};
 use std::alloc::{AllocError, Global};
@@ -29,7 +29,7 @@ const REGISTERS: [Register; 11] = [
 /// How often a program is gone through, from its end, until nothing is added.
 const MOST_PASSES: u32 = 64;
 
-/// Whether a register is in a mask.
+/// Returns whether a register is in a mask.
 pub(crate) fn is_set(mask: u64, register: u8) -> bool
     requires { register < 64 }
     ensures set { IsTrue result → bit mask register ≡ 1 }
@@ -55,14 +55,14 @@ pub(crate) fn without(mask: u64, register: u8) -> u64
     mask & !(1 << register)
 }
 
-/// Whether a register is in a mask, or isn't read by an instruction.
+/// Returns whether a register is in a mask, or isn't read by an instruction.
 fn is_within(insn: Insn, mask: u64, register: Register) -> bool
     ensures { IsTrue result → reads insn (number register) ≡ true → bit mask (number register) ≡ 1 }
 {
     !reads(insn, register) || is_set(mask, register.number())
 }
 
-/// Whether an instruction reads registers of a mask alone.
+/// Returns whether an instruction reads registers of a mask alone.
 pub(crate) fn reads_within(insn: Insn, mask: u64) -> bool
     ensures { IsTrue result → ReadsWithin insn mask }
 {
@@ -74,7 +74,7 @@ pub(crate) fn reads_within(insn: Insn, mask: u64) -> bool
     true
 }
 
-/// Whether a register of the mask after an instruction is written by it, or in the mask before it.
+/// Returns whether a register of the mask after an instruction is written by it, or in the mask before it.
 fn is_left(before: u64, insn: Insn, after: u64, register: u8) -> bool
     requires { register < 64 }
     ensures { IsTrue result → bit after register ≡ 1 → (bit before register ≡ 1) ⊎ (alters insn register ≡ true) }
@@ -82,7 +82,7 @@ fn is_left(before: u64, insn: Insn, after: u64, register: u8) -> bool
     !is_set(after, register) || is_set(before, register) || alters(insn, register)
 }
 
-/// Whether each register of the mask after an instruction is written by it, or in the mask before it.
+/// Returns whether each register of the mask after an instruction is written by it, or in the mask before it.
 pub(crate) fn leaves(before: u64, insn: Insn, after: u64) -> bool
     ensures { IsTrue result → Leaves before insn after }
 {

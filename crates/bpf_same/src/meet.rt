@@ -1,28 +1,17 @@
-//! What may be claimed where ways meet. Nothing is promised of it: `turn` judges.
+//! The relation after a step, and where ways meet. Nothing is promised of it: `preserve` judges.
 
 ghost use Rattle.std.specs.Prelude.{◌<◌, IfSome};
 
-use crate::equations::Equations;
-use crate::sum::{HOLDERS, REGISTERS, Sum};
-use crate::turn::{Turn, alters};
+use crate::linear_form::{LinearForm, REGISTERS, TERMS};
+use crate::relation::Relation;
+use crate::step::{Step, alters};
 
-/// A sum without another one that is part of it.
-fn without(sum: Sum, part: Sum) -> Option<Sum> {
-    if sum.holders & part.holders != part.holders {
-        return None;
-    }
-    Some(Sum {
-        constant: sum.constant.wrapping_sub(part.constant),
-        holders: sum.holders & !part.holders,
-    })
-}
-
-/// A sum in which each holder stands for what is known of it.
-fn total_in(equations: &Equations, sum: Sum) -> Option<Sum> {
-    let mut total = Sum::constant(sum.constant);
-    for holder in 0..HOLDERS {
-        if sum.has(holder) {
-            match total.plus(equations.new_sum(holder)) {
+/// A linear form in which each term is replaced by what is known of it.
+fn total_in(relation: &Relation, form: LinearForm) -> Option<LinearForm> {
+    let mut total = LinearForm::constant(form.constant);
+    for term in 0..TERMS {
+        if form.has(term) {
+            match total.plus(relation.new_form(term)) {
                 Some(more) => total = more,
                 None => return None,
             }
@@ -31,13 +20,13 @@ fn total_in(equations: &Equations, sum: Sum) -> Option<Sum> {
     Some(total)
 }
 
-/// A sum of what is held before a step, by holders that hold the same after it.
-fn moved(turn: &Turn, sum: Sum) -> Option<Sum> {
-    let mut total = Sum::constant(sum.constant);
-    for part in 0..HOLDERS {
-        if sum.has(part) {
-            match holder_of(turn, part) {
-                Some(holder) => total.holders |= Sum::held(holder).holders,
+/// A linear form before a step, by terms that hold the same after it.
+fn moved(step: &Step, form: LinearForm) -> Option<LinearForm> {
+    let mut total = LinearForm::constant(form.constant);
+    for part in 0..TERMS {
+        if form.has(part) {
+            match term_of(step, part) {
+                Some(term) => total.terms |= LinearForm::held(term).terms,
                 None => return None,
             }
         }
@@ -45,107 +34,107 @@ fn moved(turn: &Turn, sum: Sum) -> Option<Sum> {
     Some(total)
 }
 
-/// The holder that has after a step what another had before: itself, if it is left as it was.
-fn holder_of(turn: &Turn, part: u8) -> Option<u8>
+/// The term that has after a step what another had before: itself, if it is left as it was.
+fn term_of(step: &Step, part: u8) -> Option<u8>
     requires { part < 64 }
     ensures { IfSome result (λ h. h < 64) }
 {
-    let wanted = Some(Sum::held(part));
-    if turn.new_after(part) == wanted {
+    let wanted = Some(LinearForm::held(part));
+    if step.new_after(part) == wanted {
         return Some(part);
     }
-    for holder in 0..HOLDERS {
-        if turn.new_after(holder) == wanted {
-            return Some(holder);
+    for term in 0..TERMS {
+        if step.new_after(term) == wanted {
+            return Some(term);
         }
     }
     None
 }
 
-/// What may be claimed after a step.
-pub(crate) fn claims_after(turn: &Turn) -> Equations {
-    let mut found = Equations::none();
-    for holder in 0..HOLDERS {
-        if let Some(sum) = turn.new_after(holder) {
-            if let Some(sum) = moved(turn, sum) {
-                if sum != Sum::held(holder) {
-                    found.new[holder as usize] = Some(sum);
+/// The relation after a step.
+pub(crate) fn relation_after(step: &Step) -> Relation {
+    let mut found = Relation::none();
+    for term in 0..TERMS {
+        if let Some(form) = step.new_after(term) {
+            if let Some(form) = moved(step, form) {
+                if form != LinearForm::held(term) {
+                    found.new[term as usize] = Some(form);
                 }
             }
         }
     }
     for register in 0..REGISTERS {
-        found.old[register as usize] = old_claim_after(turn, &found, register);
+        found.old[register as usize] = old_claim_after(step, &found, register);
     }
     found
 }
 
-/// What may be claimed of a register of the old program after a step.
-fn old_claim_after(turn: &Turn, found: &Equations, register: u8) -> Option<Sum>
+/// The linear form of a register of the old program after a step.
+fn old_claim_after(step: &Step, found: &Relation, register: u8) -> Option<LinearForm>
     requires { register < 11 }
 {
-    let same = if turn.own || !alters(turn.insn, register) {
-        turn.old_after(register) == turn.new_after(register) && turn.old_after(register).is_some()
+    let same = if step.stutters || !alters(step.insn, register) {
+        step.old_after(register) == step.new_after(register) && step.old_after(register).is_some()
     } else {
         true
     };
     if same {
-        return Some(found.new_sum(register));
+        return Some(found.new_form(register));
     }
-    match turn.old_after(register) {
-        Some(sum) => moved(turn, sum),
+    match step.old_after(register) {
+        Some(form) => moved(step, form),
         None => None,
     }
 }
 
-/// What is one sum in both, by holders that hold themselves where they meet.
+/// What is one linear form in both, by terms that hold themselves where they meet.
 #[derive(Drop)]
 struct Meeting<'a> {
-    one: &'a Equations,
-    other: &'a Equations,
-    met: Equations,
-    /// holders that are still to come
+    one: &'a Relation,
+    other: &'a Relation,
+    met: Relation,
+    /// terms that are still to come
     rest: u64,
 }
 
 impl Meeting<'_> {
-    fn differs(&self, holder: u8) -> bool
-        requires { holder < 64 }
+    fn differs(&self, term: u8) -> bool
+        requires { term < 64 }
     {
-        self.one.new_sum(holder) != self.other.new_sum(holder)
+        self.one.new_form(term) != self.other.new_form(term)
     }
 
-    /// Whether a holder holds itself where they meet.
-    fn is_itself(&self, holder: u8) -> bool
-        requires { holder < 64 }
+    /// Returns whether a term holds itself where they meet.
+    fn is_itself(&self, term: u8) -> bool
+        requires { term < 64 }
     {
-        if self.rest & Sum::held(holder).holders == 0 {
-            return self.met.claimed(holder).is_none();
+        if self.rest & LinearForm::held(term).terms == 0 {
+            return self.met.claimed(term).is_none();
         }
-        self.one.claimed(holder).is_none() && self.other.claimed(holder).is_none()
+        self.one.claimed(term).is_none() && self.other.claimed(term).is_none()
     }
 
-    /// Whether a sum is the same one in both, of holders that hold themselves.
-    fn is_met(&self, sum: Sum, there: Sum) -> bool {
-        for holder in 0..HOLDERS {
-            if sum.has(holder) && !self.is_itself(holder) {
+    /// Returns whether a linear form is the same in both, of terms that hold themselves.
+    fn is_met(&self, form: LinearForm, there: LinearForm) -> bool {
+        for term in 0..TERMS {
+            if form.has(term) && !self.is_itself(term) {
                 return false;
             }
         }
-        total_in(self.other, sum) == Some(there)
+        total_in(self.other, form) == Some(there)
     }
 
-    /// A sum that is one number in both.
-    fn sum_of(&self, here: Sum, there: Sum) -> Option<Sum> {
+    /// A linear form that is one number in both.
+    fn form_of(&self, here: LinearForm, there: LinearForm) -> Option<LinearForm> {
         if self.is_met(here, there) {
             return Some(here);
         }
-        for holder in 0..HOLDERS {
-            if self.differs(holder) {
-                if let Some(rest) = without(here, self.one.new_sum(holder)) {
-                    if let Some(sum) = rest.plus(Sum::held(holder)) {
-                        if self.is_met(sum, there) {
-                            return Some(sum);
+        for term in 0..TERMS {
+            if self.differs(term) {
+                if let Some(rest) = here.minus(self.one.new_form(term)) {
+                    if let Some(form) = rest.plus(LinearForm::held(term)) {
+                        if self.is_met(form, there) {
+                            return Some(form);
                         }
                     }
                 }
@@ -154,41 +143,41 @@ impl Meeting<'_> {
         None
     }
 
-    fn meet_holder(&mut self, holder: u8)
-        requires { holder < 64 }
+    fn meet_term(&mut self, term: u8)
+        requires { term < 64 }
     {
-        let (here, there) = (self.one.new_sum(holder), self.other.new_sum(holder));
-        if self.one.claimed(holder).is_some() || self.other.claimed(holder).is_some() {
-            self.met.new[holder as usize] = self.sum_of(here, there);
+        let (here, there) = (self.one.new_form(term), self.other.new_form(term));
+        if self.one.claimed(term).is_some() || self.other.claimed(term).is_some() {
+            self.met.new[term as usize] = self.form_of(here, there);
         }
-        self.rest &= !Sum::held(holder).holders;
+        self.rest &= !LinearForm::held(term).terms;
     }
 
     fn meet_register(&mut self, register: u8)
         requires { register < 11 }
     {
-        let both = (self.one.old_sum(register), self.other.old_sum(register));
+        let both = (self.one.old_form(register), self.other.old_form(register));
         if self.one.is_same(register) && self.other.is_same(register) {
-            self.met.old[register as usize] = Some(self.met.new_sum(register));
+            self.met.old[register as usize] = Some(self.met.new_form(register));
         } else if let (Some(here), Some(there)) = both {
-            self.met.old[register as usize] = self.sum_of(here, there);
+            self.met.old[register as usize] = self.form_of(here, there);
         }
     }
 }
 
-/// What is claimed by both.
-pub(crate) fn met(one: &Equations, other: &Equations) -> Equations {
+/// Returns what holds in both.
+pub(crate) fn met(one: &Relation, other: &Relation) -> Relation {
     let mut meeting = Meeting {
         one,
         other,
-        met: Equations::none(),
+        met: Relation::none(),
         rest: u64::MAX,
     };
-    for word in REGISTERS..HOLDERS {
-        meeting.meet_holder(word);
+    for word in REGISTERS..TERMS {
+        meeting.meet_term(word);
     }
     for register in 0..REGISTERS {
-        meeting.meet_holder(register);
+        meeting.meet_term(register);
     }
     for register in 0..REGISTERS {
         meeting.meet_register(register);

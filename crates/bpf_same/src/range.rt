@@ -3,9 +3,9 @@ ghost use Rattle.std.specs.Prelude.{◌≡◌, ◌<◌, ℕ, Option, IfSome};
 ghost use Rattle.bpf_note.specs.Parts.{facts};
 ghost use Rattle.bpf_same.specs.Ranges.{IsFarthest, IsLeastLength, IsMoved, IsOperandSpan, IsRead, IsSpan, Lies};
 
-use crate::equations::Equations;
-use crate::sum::REGISTERS;
-use crate::turn::{PACKET_START, extended};
+use crate::linear_form::REGISTERS;
+use crate::relation::Relation;
+use crate::step::{PACKET_START, extended};
 use bpf_insn::Operand;
 use bpf_note::{Note, PACKET_ID, Val};
 
@@ -29,7 +29,7 @@ fn farthest(note: &Note, id: u16) -> u32
     }
 }
 
-/// How many bytes the packet has at least.
+/// Returns the number of bytes the packet has at least.
 fn least_length(note: &Note) -> u32
     ensures { IsLeastLength (facts note.now) result }
 {
@@ -70,13 +70,13 @@ fn moved(range: Range, by: u64) -> Option<Range>
 }
 
 /// The numbers that a register may hold by what another one does, which holds as much but for a constant.
-fn moved_from(note: &Note, equations: &Equations, register: u8, other: u8) -> Option<Range>
+fn moved_from(note: &Note, relation: &Relation, register: u8, other: u8) -> Option<Range>
     requires small { register < 11 }
     requires other { other < 11 }
-    ensures { IfSome result (λ r. IsSpan (facts note.now) equations.now register r.low r.high) }
+    ensures { IfSome result (λ r. IsSpan (facts note.now) relation.now register r.low r.high) }
 {
-    let (here, there) = (equations.new_sum(register), equations.new_sum(other));
-    if here.holders != there.holders {
+    let (here, there) = (relation.new_form(register), relation.new_form(other));
+    if here.terms != there.terms {
         return None;
     }
     match range_of(note, note.register(other)) {
@@ -99,13 +99,13 @@ fn in_both(one: Option<Range>, other: Range) -> Range
 }
 
 /// The numbers that a register may hold.
-pub(crate) fn span(note: &Note, equations: &Equations, register: u8) -> Option<Range>
+pub(crate) fn span(note: &Note, relation: &Relation, register: u8) -> Option<Range>
     requires { register < 11 }
-    ensures { IfSome result (λ r. IsSpan (facts note.now) equations.now register r.low r.high) }
+    ensures { IfSome result (λ r. IsSpan (facts note.now) relation.now register r.low r.high) }
 {
     let mut found = range_of(note, note.register(register));
     for other in 0..REGISTERS {
-        if let Some(range) = moved_from(note, equations, register, other) {
+        if let Some(range) = moved_from(note, relation, register, other) {
             found = Some(in_both(found, range));
         }
     }
@@ -113,11 +113,11 @@ pub(crate) fn span(note: &Note, equations: &Equations, register: u8) -> Option<R
 }
 
 /// The numbers that an operand may be.
-pub(crate) fn operand_span(note: &Note, equations: &Equations, src: Operand) -> Option<Range>
-    ensures { IfSome result (λ r. IsOperandSpan (facts note.now) equations.now src r.low r.high) }
+pub(crate) fn operand_span(note: &Note, relation: &Relation, src: Operand) -> Option<Range>
+    ensures { IfSome result (λ r. IsOperandSpan (facts note.now) relation.now src r.low r.high) }
 {
     match src {
-        Operand::Register(register) => span(note, equations, register.number()),
+        Operand::Register(register) => span(note, relation, register.number()),
         Operand::Immediate(value) => Some(Range {
             low: extended(value),
             high: extended(value),

@@ -1,21 +1,22 @@
 //! Whether an accepted program has the runs of another one.
-ghost use Rattle.std.specs.Prelude.{◌≡◌, ◌≤◌, length, IfOk, IsTrue};
+ghost use Rattle.std.specs.Prelude.{◌≡◌, ◌<◌, ◌≤◌, length, IfOk, IfSome, IsTrue};
 ghost use Rattle.bpf_verify.specs.Consistent.{IsConsistent};
 ghost use Rattle.bpf_same.specs.Counts.{IsSameByCounts, IsWholeByCounts};
 ghost use Rattle.bpf_same.specs.Renumbered.{IsRenumbering};
 ghost use Rattle.bpf_same.specs.Same.{IsSame};
 
-use crate::check::Claims;
 use crate::equal::is_same_code;
-use crate::find::{Known, lowest_of, notes_of};
+use crate::find::{Found, Known, lowest_of, notes_of};
 use crate::fuse::{Fusion, fusion_of};
 use crate::fused::{Draft, same_by_counts};
 use crate::laws::{same_both_ways, same_by_counts_both_ways};
 use crate::live::live_registers;
-use crate::mark::Place;
+use crate::obstacle::Obstacle;
 use crate::renumbered::is_same_renumbered;
+use crate::simulation::Simulation;
+use crate::witness::Witness;
 use bpf_insn::{Code, Insn};
-use bpf_note::{MapShape, the_entry_describes_every_start};
+use bpf_note::{MapShape, Note, the_entry_describes_every_start};
 use bpf_verify::Verified;
 use std::alloc::{AllocError, Global};
 
@@ -31,47 +32,91 @@ pub enum Comparison {
     NotShown,
 }
 
-/// Whether what is known of the new program and the places show that it has the old one's runs.
-fn is_shown(
+/// What is found of the new program.
+#[derive(Drop)]
+struct Findings {
+    notes: Vec<Vec<Box<Note>>>,
+    found: Found,
+    /// below which byte of the stack the new program's own words lie
+    low: u32,
+}
+
+fn findings_of(
     alloc: Global,
     new: &[Insn],
     shapes: &[MapShape],
-    old: &[Insn],
-    places: &[Place],
-) -> Result<bool, AllocError>
-    requires short { length old.now ≤ 4096 }
-    requires few { length new.now ≤ 4096 }
-    ensures { IfOk result (λ yes. IsTrue yes → IsSame shapes.now old.now new.now) }
+    witnesses: &[Witness],
+) -> Result<Findings, AllocError>
+    requires { length new.now ≤ 4096 }
 {
-    the_entry_describes_every_start();
     let mut notes = notes_of(alloc, new, shapes)?;
-    let low = lowest_of(new, places, notes.as_slice());
+    let low = lowest_of(new, witnesses, notes.as_slice());
     let known = Known {
         new,
-        places,
+        witnesses,
         notes: notes.as_slice(),
         shapes,
         low,
     };
     let found = known.found(alloc)?;
     found.forget(alloc, &mut notes);
-    let claims = Claims {
-        old,
-        places,
-        notes: notes.as_slice(),
-        equations: found.equations.as_slice(),
-        low,
-    };
-    Ok(claims.hold(alloc, new, shapes))
+    Ok(Findings { notes, found, low })
 }
 
-/// Whether the old program's runs are the new one's by counts.
+/// Returns whether a simulation by the witnesses is found, which shows that the new program has the old one's runs.
+fn is_shown(
+    alloc: Global,
+    new: &[Insn],
+    shapes: &[MapShape],
+    old: &[Insn],
+    witnesses: &[Witness],
+) -> Result<bool, AllocError>
+    requires short { length old.now ≤ 4096 }
+    requires few { length new.now ≤ 4096 }
+    ensures { IfOk result (λ yes. IsTrue yes → IsSame shapes.now old.now new.now) }
+{
+    the_entry_describes_every_start();
+    let findings = findings_of(alloc, new, shapes, witnesses)?;
+    let simulation = Simulation {
+        old,
+        witnesses,
+        notes: findings.notes.as_slice(),
+        relations: findings.found.relations.as_slice(),
+        low: findings.low,
+    };
+    Ok(simulation.is_simulation(alloc, new, shapes))
+}
+
+/// Returns where no simulation by the witnesses is found.
+fn obstacle_to(
+    alloc: Global,
+    new: &[Insn],
+    shapes: &[MapShape],
+    old: &[Insn],
+    witnesses: &[Witness],
+) -> Result<Option<Obstacle>, AllocError>
+    requires short { length old.now ≤ 4096 }
+    requires few { length new.now ≤ 4096 }
+    ensures { IfOk result (λ o. IfSome o (λ b. b.slot < length new.now)) }
+{
+    let findings = findings_of(alloc, new, shapes, witnesses)?;
+    let simulation = Simulation {
+        old,
+        witnesses,
+        notes: findings.notes.as_slice(),
+        relations: findings.found.relations.as_slice(),
+        low: findings.low,
+    };
+    Ok(simulation.first_obstacle(alloc, new, shapes))
+}
+
+/// Returns whether the old program's runs are the new one's by counts.
 fn is_shown_by_counts(
     alloc: Global,
     new: &[Insn],
     shapes: &[MapShape],
     old: &[Insn],
-    places: &[Place],
+    witnesses: &[Witness],
     fusion: &Fusion,
 ) -> Result<bool, AllocError>
     requires short { length old.now ≤ 4096 }
@@ -93,49 +138,49 @@ fn is_shown_by_counts(
     if !draft.holds() {
         return Ok(false);
     }
-    is_shown(alloc, new, shapes, code, places)
+    is_shown(alloc, new, shapes, code, witnesses)
 }
 
-/// What is shown of the two programs: by counts first, since with a count in it the old program isn't followed as it stands.
+/// Returns what is shown of the two programs: by counts first, since a program with a count in it is simulated as an addition.
 fn compared(
     alloc: Global,
     new: &[Insn],
     shapes: &[MapShape],
     old: &[Insn],
-    places: &[Place],
+    witnesses: &[Witness],
 ) -> Result<Comparison, AllocError>
     requires short { length old.now ≤ 4096 }
     requires few { length new.now ≤ 4096 }
     ensures same { IfOk result (λ c. c ≡ Comparison.Same → IsSame shapes.now old.now new.now) }
     ensures counts { IfOk result (λ c. c ≡ Comparison.SameByCounts → IsSameByCounts shapes.now old.now new.now) }
     ensures itself { IfOk result (λ c. new.now ≡ old.now → c ≡ Comparison.Same) }
-    ensures renumbered { IfOk result (λ c. IsRenumbering places.now old.now new.now → c ≡ Comparison.Same) }
+    ensures renumbered { IfOk result (λ c. IsRenumbering witnesses.now old.now new.now → c ≡ Comparison.Same) }
 {
     if is_same_code(new, old) {
         return Ok(Comparison::Same);
     }
-    if is_same_renumbered(places, old, new) {
+    if is_same_renumbered(witnesses, old, new) {
         return Ok(Comparison::Same);
     }
-    if let Some(fusion) = fusion_of(alloc, old, new, places)? {
-        if is_shown_by_counts(alloc, new, shapes, old, places, &fusion)? {
+    if let Some(fusion) = fusion_of(alloc, old, new, witnesses)? {
+        if is_shown_by_counts(alloc, new, shapes, old, witnesses, &fusion)? {
             return Ok(Comparison::SameByCounts);
         }
     }
-    if is_shown(alloc, new, shapes, old, places)? {
+    if is_shown(alloc, new, shapes, old, witnesses)? {
         Ok(Comparison::Same)
     } else {
         Ok(Comparison::NotShown)
     }
 }
 
-/// Compares an accepted program with one that it was made of. The old program need not be accepted, and may loop. A place says
-/// where the old program stands before a slot of the new one; the places need not be right, nor as many as the slots.
+/// Compares an accepted program with one that it was made of. The old program need not be accepted, and may loop. A witness is the slot of
+/// the old program that matches a slot of the new one; the witnesses need not be right, nor as many as the slots.
 pub fn compare(
     alloc: Global,
     new: &Verified,
     old: &Code,
-    places: &[Place],
+    witnesses: &[Witness],
 ) -> Result<Comparison, AllocError>
     // Each run of the new program is one of the old.
     ensures same { IfOk result (λ c. c ≡ Comparison.Same → IsSame new.now.shapes old.now new.now.code) }
@@ -145,13 +190,35 @@ pub fn compare(
     ensures counts { IfOk result (λ c. c ≡ Comparison.SameByCounts → IsSameByCounts new.now.shapes old.now new.now.code) }
     // Each run of the old program is one of the new one, by counts.
     ensures counts_whole { IfOk result (λ c. c ≡ Comparison.SameByCounts → IsWholeByCounts new.now.shapes new.now.code old.now) }
-    // A program is the same as itself, whatever the places.
+    // A program is the same as itself, whatever the witnesses.
     ensures itself { IfOk result (λ c. new.now.code ≡ old.now → c ≡ Comparison.Same) }
-    // A program is the same as one of which it is a renumbering by the places.
-    ensures renumbered { IfOk result (λ c. IsRenumbering places.now old.now new.now.code → c ≡ Comparison.Same) }
+    // A program is the same as one of which it is a renumbering by the witnesses.
+    ensures renumbered { IfOk result (λ c. IsRenumbering witnesses.now old.now new.now.code → c ≡ Comparison.Same) }
     ensures accepted { IsConsistent new.now }
 {
     same_both_ways();
     same_by_counts_both_ways();
-    compared(alloc, new.insns(), new.shapes(), old.insns(), places)
+    compared(alloc, new.insns(), new.shapes(), old.insns(), witnesses)
+}
+
+/// The first slot of the new program that [`compare`] doesn't find to be simulated, if there is one: where `NotShown` comes from.
+pub fn first_obstacle(
+    alloc: Global,
+    new: &Verified,
+    old: &Code,
+    witnesses: &[Witness],
+) -> Result<Option<Obstacle>, AllocError>
+    ensures { IfOk result (λ o. IfSome o (λ b. b.slot < length new.now.code)) }
+{
+    let (insns, shapes, originals) = (new.insns(), new.shapes(), old.insns());
+    if let Some(fusion) = fusion_of(alloc, originals, insns, witnesses)? {
+        let code = fusion.code.as_slice();
+        if code.len() <= originals.len() {
+            let found = obstacle_to(alloc, insns, shapes, code, witnesses)?;
+            if found.is_some() {
+                return Ok(found);
+            }
+        }
+    }
+    obstacle_to(alloc, insns, shapes, originals, witnesses)
 }

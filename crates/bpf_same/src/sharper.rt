@@ -4,11 +4,11 @@ ghost use Rattle.bpf_insn.specs.declared.insn.Insn.TheVariants as insns;
 ghost use Rattle.bpf_note.specs.Parts.{facts};
 ghost use Rattle.bpf_flow.specs.Rule.{IsRuled};
 ghost use Rattle.bpf_same.specs.Ranges.{IsAdded, IsOperandRead, IsSharper, IsSummed};
-ghost use Rattle.bpf_same.specs.Followed.{IsAccounted};
+ghost use Rattle.bpf_same.specs.Simulated.{IsAccounted};
 ghost use Rattle.bpf_flow.specs.Gives.{edges_of};
 
 use crate::range::{Range, range_of};
-use crate::turn::extended;
+use crate::step::extended;
 use bpf_flow::{Successor, Successors, after};
 use bpf_insn::{AluOp, Insn, Operand, Register};
 use bpf_note::{MapShape, Note, Val};
@@ -91,7 +91,7 @@ fn summed(insn: Insn, note: &Note) -> Option<Bounded>
     }
 }
 
-/// What is known after an instruction, with the numbers that a sum may be where it is forgotten.
+/// Returns what is known after an instruction, with the numbers that a sum may be where it is forgotten.
 fn sharpened(insn: Insn, note: &Note, there: Successor) -> Successor
     ensures { IsSharper insn (facts note.now) there.pc (facts there.note.value) result.pc (facts result.note.value) }
 {
@@ -109,7 +109,7 @@ fn sharpened(insn: Insn, note: &Note, there: Successor) -> Successor
     there
 }
 
-/// Where an instruction leads from a slot, if the verifier's rule gives that.
+/// Returns where an instruction leads from a slot, if the verifier's rule gives that.
 pub(crate) fn known_after(
     alloc: Global,
     insn: Insn,

@@ -1,40 +1,40 @@
-//! What is claimed where both programs begin.
+//! The relation where both programs begin.
 ghost use Rattle.std.specs.Prelude.{◌≡◌, ◌<◌, ℕ, Option, Some, None, IsTrue};
-ghost use Rattle.bpf_same.specs.Sums.{new_of, old_of, IsWord, total};
-ghost use Rattle.bpf_same.specs.Followed.{IsAtStart};
-ghost use Rattle.bpf_same.specs.declared.sum.Sum.{Sum};
+ghost use Rattle.bpf_same.specs.LinearForms.{new_of, old_of, IsWord, total};
+ghost use Rattle.bpf_same.specs.Simulated.{HoldsAtStart};
+ghost use Rattle.bpf_same.specs.declared.linear_form.LinearForm.{LinearForm};
 
-use crate::equations::Equations;
-use crate::sum::{HOLDERS, REGISTERS, Sum};
+use crate::linear_form::{LinearForm, REGISTERS, TERMS};
+use crate::relation::Relation;
 
-fn is_itself(equations: &Equations, register: u8) -> bool
+fn is_itself(relation: &Relation, register: u8) -> bool
     requires { register < 11 }
-    ensures { IsTrue result → (s : Sum) → old_of equations.now register ≡ Some s →
+    ensures { IsTrue result → (s : LinearForm) → old_of relation.now register ≡ Some s →
         (f : ℕ → Option ℕ) → IsWord (f register) → total f s ≡ f register }
 {
-    match equations.old_sum(register) {
-        Some(sum) => sum.is(Sum::held(register)),
+    match relation.old_form(register) {
+        Some(form) => form.is(LinearForm::held(register)),
         None => true,
     }
 }
 
-fn is_free(equations: &Equations, holder: u8) -> bool
-    ensures { IsTrue result → new_of equations.now holder ≡ None }
+fn is_free(relation: &Relation, term: u8) -> bool
+    ensures { IsTrue result → new_of relation.now term ≡ None }
 {
-    equations.claimed(holder).is_none()
+    relation.claimed(term).is_none()
 }
 
-/// Whether no more is claimed than that registers are the same.
-pub(crate) fn is_at_entry(equations: &Equations) -> bool
-    ensures { IsTrue result → IsAtStart equations.now }
+/// Returns whether the relation says no more than that registers are the same.
+pub(crate) fn holds_at_entry(relation: &Relation) -> bool
+    ensures { IsTrue result → HoldsAtStart relation.now }
 {
     for register in 0..REGISTERS {
-        if !is_itself(equations, register) {
+        if !is_itself(relation, register) {
             return false;
         }
     }
-    for holder in 0..HOLDERS {
-        if !is_free(equations, holder) {
+    for term in 0..TERMS {
+        if !is_free(relation, term) {
             return false;
         }
     }

@@ -1,8 +1,8 @@
-//! What a comparison answers of a pair of programs.
+//! What a comparison answers of a pair of programs, and where it stops.
 use bpf_insn::{Code, decode};
 use bpf_note::MapShape;
-use bpf_same::{Comparison, Place, compare};
-use bpf_verify::verify;
+use bpf_same::{Comparison, Obstacle, Witness, compare, first_obstacle};
+use bpf_verify::{Verified, verify};
 use std::alloc::Global;
 
 /// Both programs in hex, a slot each or several; how many maps of four counters they have; and for each slot of the new one where
@@ -12,7 +12,7 @@ pub struct Pair<'a> {
     pub old: &'a [&'a str],
     pub new: &'a [&'a str],
     pub maps: u8,
-    pub places: &'a str,
+    pub witnesses: &'a str,
 }
 
 fn code(alloc: Global, slots: &[&str]) -> Option<Code> {
@@ -24,17 +24,24 @@ fn code(alloc: Global, slots: &[&str]) -> Option<Code> {
     decode(alloc, bytes.as_slice()).ok()
 }
 
-fn place(word: &str) -> Option<Place> {
-    let own = word.starts_with('o');
+fn witness(word: &str) -> Option<Witness> {
+    let stutters = word.starts_with('o');
     let at = word.get(1..)?.parse().ok()?;
-    Some(Place { own, at })
+    Some(Witness { stutters, at })
 }
 
-/// What [`compare`] answers for a pair. None if the new program isn't accepted, or if memory runs out.
-pub fn compared(alloc: Global, pair: &Pair) -> Option<Comparison> {
-    let mut places = Vec::new(alloc);
-    for word in pair.places.split_ascii_whitespace() {
-        places.push(place(word)?).ok()?;
+/// A pair, decoded; its new program is accepted.
+#[derive(Drop)]
+struct Decoded {
+    old: Code,
+    new: Verified,
+    witnesses: Vec<Witness>,
+}
+
+fn read_pair(alloc: Global, pair: &Pair) -> Option<Decoded> {
+    let mut witnesses = Vec::new(alloc);
+    for word in pair.witnesses.split_ascii_whitespace() {
+        witnesses.push(witness(word)?).ok()?;
     }
     let shapes = [MapShape::of(4, 1)?];
     let shapes = if pair.maps == 0 {
@@ -43,5 +50,22 @@ pub fn compared(alloc: Global, pair: &Pair) -> Option<Comparison> {
         &shapes[..]
     };
     let new = verify(alloc, code(alloc, pair.new)?, shapes).ok()?;
-    compare(alloc, &new, &code(alloc, pair.old)?, places.as_slice()).ok()
+    let old = code(alloc, pair.old)?;
+    Some(Decoded {
+        old,
+        new,
+        witnesses,
+    })
+}
+
+/// What [`compare`] answers for a pair. None if the new program isn't accepted, or if memory runs out.
+pub fn compared(alloc: Global, pair: &Pair) -> Option<Comparison> {
+    let pair = read_pair(alloc, pair)?;
+    compare(alloc, &pair.new, &pair.old, pair.witnesses.as_slice()).ok()
+}
+
+/// What [`first_obstacle`] answers for a pair. None also if there is no obstacle.
+pub fn stopped(alloc: Global, pair: &Pair) -> Option<Obstacle> {
+    let pair = read_pair(alloc, pair)?;
+    first_obstacle(alloc, &pair.new, &pair.old, pair.witnesses.as_slice()).ok()?
 }

@@ -1,13 +1,16 @@
 -- Stated: claims rest on this file.
 -- What becomes of a setup's program beside the one that it was made of.
-use Rattle.std.specs.Prelude.{ℕ, ◌≡◌, List, ◌++◌, codes, decimal, length, map}
+use Rattle.std.specs.Prelude.{ℕ, ◌≡◌, List, ◌++◌, Option, None, Some, codes, decimal, length, map}
 use Rattle.bpf_insn.specs.Code.{Spells}
 use Rattle.bpf_insn.specs.Refusal.{IsNoCode}
 use Rattle.bpf_insn.specs.declared.insn.Insn.{Insn}
 use Rattle.bpf_same.specs.Counts.{IsSameByCounts, IsWholeByCounts}
 use Rattle.bpf_same.specs.Renumbered.{IsRenumbering}
 use Rattle.bpf_same.specs.Same.{IsSame}
-use Rattle.bpf_same.specs.declared.mark.Place.{Place as Tried}
+use Rattle.bpf_same.specs.declared.obstacle.Obstacle.{Obstacle}
+use Rattle.bpf_same.specs.declared.obstacle.ObstacleKind.{ObstacleKind}
+use Rattle.bpf_same.specs.declared.obstacle.ObstacleKind.TheVariants as kind
+use Rattle.bpf_same.specs.declared.witness.Witness.{Witness}
 use Rattle.bpf_verify.specs.Consistent.{Accepted as Program}
 use Rattle.xdp_load.specs.Original.{Place, RewrittenView}
 use Rattle.xdp_load.specs.OriginalSeen.{place_view}
@@ -44,10 +47,10 @@ pub record IsPairByCounts (r : RewrittenView) (slots originals : ℕ) : Type 0 w
   pub originals_counted : originals ≡ length original
 
 -- a place, as it is tried
-abbrev pub tried : Place → Tried
-tried p = record { own = p.own; at = p.at }
+abbrev pub tried : Place → Witness
+tried p = record { stutters = p.own; at = p.at }
 
-abbrev pub tried_of : Read → Tried
+abbrev pub tried_of : Read → Witness
 tried_of p = tried (place_view p)
 
 -- a pair of two programs, of which neither is the other one but for the numbers of its slots, by the places
@@ -62,14 +65,26 @@ pub record IsPairUnshown (r : RewrittenView) : Type 0 where
 abbrev pub Compares : RewrittenView → Compared → Type 0
 Compares r (Same slots originals) = IsSamePair r slots originals
 Compares r (SameByCounts slots originals) = IsPairByCounts r slots originals
-Compares r NotShown = IsPairUnshown r
+Compares r (NotShown obstacle) = IsPairUnshown r
 Compares r (Refused refusal) = IsRefusalOfBytes r.setup.program r.setup.shapes refusal
 Compares r (Undecoded refusal) = (p : Program) × IsProgramOf r.setup.program r.setup.shapes p × IsNoCode r.original refusal
+
+-- the words for what stands against a proof
+abbrev pub obstacle_words : ObstacleKind → List ℕ
+obstacle_words kind.Witness = codes "the next place isn't reached"
+obstacle_words kind.Instruction = codes "the instructions differ"
+obstacle_words kind.Jump = codes "a jump isn't decided"
+obstacle_words kind.Registers = codes "too little is known of the registers"
+
+-- the lines where nothing is shown: the second says where the comparison stops, if that is known
+abbrev pub not_shown_text : Option Obstacle → List ℕ
+not_shown_text None = codes "not shown\n"
+not_shown_text (Some o) = codes "not shown\nat slot " ++ (decimal o.slot ++ (codes ", the original at " ++ (decimal o.old ++ (codes ": " ++ (obstacle_words o.kind ++ codes "\n")))))
 
 abbrev pub compared_text : Compared → List ℕ
 compared_text (Same slots originals) = codes "same, " ++ (decimal slots ++ (codes " slots for " ++ (decimal originals ++ codes "\n")))
 compared_text (SameByCounts slots originals) = codes "same by counts, " ++ (decimal slots ++ (codes " slots for " ++ (decimal originals ++ codes "\n")))
-compared_text NotShown = codes "not shown\n"
+compared_text (NotShown obstacle) = not_shown_text obstacle
 compared_text (Refused refusal) = refused_text refusal
 compared_text (Undecoded refusal) = codes "original " ++ refused_text refusal
 
@@ -77,6 +92,6 @@ compared_text (Undecoded refusal) = codes "original " ++ refused_text refusal
 abbrev pub compared_status : Compared → ℕ
 compared_status (Same slots originals) = 0
 compared_status (SameByCounts slots originals) = 0
-compared_status NotShown = 1
+compared_status (NotShown obstacle) = 1
 compared_status (Refused refusal) = 1
 compared_status (Undecoded refusal) = 1

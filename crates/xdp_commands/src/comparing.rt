@@ -1,16 +1,16 @@
 //! A setup's program beside the one that it was made of.
-ghost use Rattle.std.specs.Prelude.{◌≡◌, ◌≤◌, IfOk, length, map, string_bytes};
+ghost use Rattle.std.specs.Prelude.{◌≡◌, ◌<◌, ◌≤◌, IfOk, IfSome, length, map, string_bytes};
 ghost use Rattle.bpf_insn.specs.Code.{Spells};
 ghost use Rattle.xdp_load.specs.OriginalSeen.{place_view, rewritten_view};
 ghost use Rattle.xdp_load.specs.SetupSeen.{setup_view};
 ghost use Rattle.xdp_load.specs.Sound.{IsSound};
-ghost use Rattle.xdp_commands.specs.Comparing.{Compares, IsSamePair, compared_status, compared_text, tried_of};
+ghost use Rattle.xdp_commands.specs.Comparing.{Compares, IsSamePair, compared_status, compared_text, not_shown_text, obstacle_words, tried_of};
 ghost use Rattle.xdp_commands.specs.Executing.{IsProgramOf};
 
 use crate::executing::accept;
 use crate::lines::refused_text;
 use bpf_insn::{Code, Refusal, decode};
-use bpf_same::{Comparison, Place};
+use bpf_same::{Comparison, Obstacle, ObstacleKind, Witness};
 use bpf_verify::Verified;
 use std::alloc::{AllocError, Global};
 use xdp_load::Rewritten;
@@ -23,25 +23,40 @@ pub enum Compared {
     /// Each run of the program is one of the original, but that one atomic addition to a counter may stand for a load and a store,
     /// as where nobody else writes the counter between.
     SameByCounts { slots: u32, originals: usize },
-    /// Nothing is shown of their runs.
-    NotShown,
+    /// Nothing is shown of their runs; and where the comparison stops, if that is known.
+    NotShown { obstacle: Option<Obstacle> },
     /// The program is refused.
     Refused(Refusal),
     /// The bytes of the original spell no program.
     Undecoded(Refusal),
 }
 
-/// The places of the original's that are to be tried.
-fn places_of(alloc: Global, places: &[xdp_load::Place]) -> Result<Vec<Place>, AllocError>
+/// The settings' places, as witnesses to be tried.
+fn witnesses_of(alloc: Global, places: &[xdp_load::Place]) -> Result<Vec<Witness>, AllocError>
     ensures { IfOk result (λ v. v.items ≡ map tried_of places.now) }
 {
     places
         .iter()
-        .map(|place| Place {
-            own: place.own,
+        .map(|place| Witness {
+            stutters: place.own,
             at: place.at,
         })
         .collect(alloc)
+}
+
+/// Where the comparison stops, if memory is left to find that out.
+fn obstacle_of(
+    alloc: Global,
+    program: &Verified,
+    original: &Code,
+    witnesses: &[Witness],
+) -> Option<Obstacle>
+    ensures { IfSome result (λ o. o.slot < length program.now.code) }
+{
+    match bpf_same::first_obstacle(alloc, program, original, witnesses) {
+        Ok(obstacle) => obstacle,
+        Err(_) => None,
+    }
 }
 
 /// Compares the program of a setup, which was accepted, with the one that it was made of.
@@ -55,8 +70,8 @@ fn compare_with(
     requires original { Spells original.now rewritten.now.original.items }
     ensures { IfOk result (Compares (rewritten_view rewritten.now)) }
 {
-    let places = places_of(alloc, rewritten.places.as_slice())?;
-    match bpf_same::compare(alloc, program, original, places.as_slice())? {
+    let witnesses = witnesses_of(alloc, rewritten.places.as_slice())?;
+    match bpf_same::compare(alloc, program, original, witnesses.as_slice())? {
         Comparison::Same => Ok(Compared::Same {
             slots: program.slots(),
             originals: original.insns().len(),
@@ -65,7 +80,10 @@ fn compare_with(
             slots: program.slots(),
             originals: original.insns().len(),
         }),
-        Comparison::NotShown => Ok(Compared::NotShown),
+        Comparison::NotShown => {
+            let obstacle = obstacle_of(alloc, program, original, witnesses.as_slice());
+            Ok(Compared::NotShown { obstacle })
+        }
     }
 }
 
@@ -84,7 +102,32 @@ pub fn compare(alloc: Global, rewritten: &Rewritten) -> Result<Compared, AllocEr
     }
 }
 
-/// The line of `same`.
+/// The words for what stands against a proof.
+fn obstacle_words(kind: ObstacleKind) -> &'static str
+    ensures { result.now ≡ obstacle_words kind }
+{
+    match kind {
+        ObstacleKind::Witness => "the next place isn't reached",
+        ObstacleKind::Instruction => "the instructions differ",
+        ObstacleKind::Jump => "a jump isn't decided",
+        ObstacleKind::Registers => "too little is known of the registers",
+    }
+}
+
+/// The lines of `same` where nothing is shown.
+fn not_shown_text(alloc: Global, obstacle: Option<Obstacle>) -> Result<String, AllocError>
+    ensures { IfOk result (λ s. string_bytes s ≡ not_shown_text obstacle) }
+{
+    match obstacle {
+        None => String::from_str(alloc, "not shown\n"),
+        Some(Obstacle { slot, old, kind }) => {
+            let words = obstacle_words(kind);
+            format!(in alloc; "not shown\nat slot {slot}, the original at {old}: {words}\n")
+        }
+    }
+}
+
+/// The lines of `same`.
 pub fn compared_text(alloc: Global, compared: &Compared) -> Result<String, AllocError>
     ensures { IfOk result (λ s. string_bytes s ≡ compared_text compared.now) }
 {
@@ -95,7 +138,7 @@ pub fn compared_text(alloc: Global, compared: &Compared) -> Result<String, Alloc
         Compared::SameByCounts { slots, originals } => {
             format!(in alloc; "same by counts, {slots} slots for {originals}\n")
         }
-        Compared::NotShown => String::from_str(alloc, "not shown\n"),
+        Compared::NotShown { obstacle } => not_shown_text(alloc, *obstacle),
         Compared::Refused(refusal) => refused_text(alloc, refusal),
         Compared::Undecoded(refusal) => {
             let refused = refused_text(alloc, refusal)?;
@@ -110,6 +153,6 @@ pub fn compared_status(compared: &Compared) -> u8
 {
     match compared {
         Compared::Same { .. } | Compared::SameByCounts { .. } => 0,
-        Compared::NotShown | Compared::Refused(_) | Compared::Undecoded(_) => 1,
+        Compared::NotShown { .. } | Compared::Refused(_) | Compared::Undecoded(_) => 1,
     }
 }

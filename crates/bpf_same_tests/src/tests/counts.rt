@@ -43,7 +43,7 @@ const IMMEDIATE: Pair = Pair {
         PASS,
     ],
     maps: 1,
-    places: AS_THEY_STAND,
+    witnesses: AS_THEY_STAND,
 };
 
 #[test]
@@ -75,7 +75,7 @@ const REGISTER: Pair = Pair {
         "9500000000000000",
     ],
     maps: 1,
-    places: AS_THEY_STAND,
+    witnesses: AS_THEY_STAND,
 };
 
 #[test]
@@ -107,7 +107,7 @@ const LOADED_ADDED: Pair = Pair {
         PASS,
     ],
     maps: 1,
-    places: AS_THEY_STAND,
+    witnesses: AS_THEY_STAND,
 };
 
 #[test]
@@ -147,7 +147,7 @@ const TWO_COUNTERS: Pair = Pair {
         PASS,
     ],
     maps: 1,
-    places: AS_THEY_STAND,
+    witnesses: AS_THEY_STAND,
 };
 
 #[test]
@@ -181,7 +181,7 @@ const PACKET_BETWEEN: Pair = Pair {
         PASS,
     ],
     maps: 1,
-    places: AS_THEY_STAND,
+    witnesses: AS_THEY_STAND,
 };
 
 #[test]
@@ -250,7 +250,7 @@ const TURNS: Pair = Pair {
         PASS,
     ],
     maps: 1,
-    places: "c0 c1 c2 c3 c4 c5 c0 c7 c8 c9 c10 c11 c12 c13 c14 c15 c16 c17 c18 c19 c11 c12 c13 c14 c15 c16 c17 c18 c19 c11 c12 c13 c14 c15 c16 c17 c18 c19 c21 c22",
+    witnesses: "c0 c1 c2 c3 c4 c5 c0 c7 c8 c9 c10 c11 c12 c13 c14 c15 c16 c17 c18 c19 c11 c12 c13 c14 c15 c16 c17 c18 c19 c11 c12 c13 c14 c15 c16 c17 c18 c19 c21 c22",
 };
 
 #[test]

@@ -20,7 +20,7 @@ const ANOTHER_COUNTER: Pair = Pair {
         PASS,
     ],
     maps: 1,
-    places: AS_THEY_STAND,
+    witnesses: AS_THEY_STAND,
 };
 
 #[test]
@@ -54,7 +54,7 @@ const JUMP_BETWEEN: Pair = Pair {
         PASS,
     ],
     maps: 1,
-    places: AS_THEY_STAND,
+    witnesses: AS_THEY_STAND,
 };
 
 #[test]
@@ -86,7 +86,7 @@ const ADDRESS_OVERWRITTEN: Pair = Pair {
         PASS,
     ],
     maps: 1,
-    places: AS_THEY_STAND,
+    witnesses: AS_THEY_STAND,
 };
 
 #[test]
@@ -116,7 +116,7 @@ const ANOTHER_REGISTER_STORED: Pair = Pair {
         PASS,
     ],
     maps: 1,
-    places: AS_THEY_STAND,
+    witnesses: AS_THEY_STAND,
 };
 
 #[test]
@@ -146,7 +146,7 @@ const LOADED_BETWEEN: Pair = Pair {
         PASS,
     ],
     maps: 1,
-    places: AS_THEY_STAND,
+    witnesses: AS_THEY_STAND,
 };
 
 #[test]
@@ -178,7 +178,7 @@ const ADDED_BETWEEN: Pair = Pair {
         PASS,
     ],
     maps: 1,
-    places: AS_THEY_STAND,
+    witnesses: AS_THEY_STAND,
 };
 
 #[test]
@@ -208,7 +208,7 @@ const STORED_BETWEEN: Pair = Pair {
         PASS,
     ],
     maps: 1,
-    places: AS_THEY_STAND,
+    witnesses: AS_THEY_STAND,
 };
 
 #[test]
@@ -224,7 +224,7 @@ const NO_LOAD: Pair = Pair {
     old: &[LOOKUP, "b701000003000000", "7b10000000000000", PASS],
     new: &[LOOKUP, "b701000003000000", "db10000000000000", PASS],
     maps: 1,
-    places: AS_THEY_STAND,
+    witnesses: AS_THEY_STAND,
 };
 
 #[test]

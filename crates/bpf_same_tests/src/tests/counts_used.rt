@@ -30,7 +30,7 @@ const SUM_READ: Pair = Pair {
         "9500000000000000",
     ],
     maps: 1,
-    places: AS_THEY_STAND,
+    witnesses: AS_THEY_STAND,
 };
 
 #[test]
@@ -55,7 +55,7 @@ const ANOTHER_NUMBER: Pair = Pair {
         PASS,
     ],
     maps: 1,
-    places: AS_THEY_STAND,
+    witnesses: AS_THEY_STAND,
 };
 
 #[test]
@@ -85,7 +85,7 @@ const COMPARED_INSIDE: Pair = Pair {
         PASS,
     ],
     maps: 1,
-    places: AS_THEY_STAND,
+    witnesses: AS_THEY_STAND,
 };
 
 #[test]
@@ -119,7 +119,7 @@ const SHIFTED: Pair = Pair {
         "9500000000000000",
     ],
     maps: 1,
-    places: AS_THEY_STAND,
+    witnesses: AS_THEY_STAND,
 };
 
 #[test]
@@ -144,7 +144,7 @@ const DOUBLED: Pair = Pair {
         PASS,
     ],
     maps: 1,
-    places: AS_THEY_STAND,
+    witnesses: AS_THEY_STAND,
 };
 
 #[test]
@@ -169,7 +169,7 @@ const SUM_OF_32_BITS: Pair = Pair {
         PASS,
     ],
     maps: 1,
-    places: AS_THEY_STAND,
+    witnesses: AS_THEY_STAND,
 };
 
 #[test]
@@ -201,7 +201,7 @@ const NUMBER_READ: Pair = Pair {
         "9500000000000000",
     ],
     maps: 1,
-    places: AS_THEY_STAND,
+    witnesses: AS_THEY_STAND,
 };
 
 #[test]
@@ -229,7 +229,7 @@ const SUM_OVERWRITTEN: Pair = Pair {
         PASS,
     ],
     maps: 1,
-    places: AS_THEY_STAND,
+    witnesses: AS_THEY_STAND,
 };
 
 #[test]

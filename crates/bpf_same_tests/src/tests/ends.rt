@@ -23,7 +23,7 @@ const GUARDED_STACK: Pair = Pair {
         "9500000000000000",
     ],
     maps: 0,
-    places: "c0 c1 o2 o2 c2 c3 c4 o0 o0",
+    witnesses: "c0 c1 o2 o2 c2 c3 c4 o0 o0",
 };
 
 #[test]
@@ -76,7 +76,7 @@ const GUARDED_COUNTER: Pair = Pair {
         "9500000000000000",
     ],
     maps: 1,
-    places: "c0 c1 c2 c3 c4 c5 c6 c7 c8 c9 c10 c11 o12 o12 o12 c12 c13 c14 o0 o0",
+    witnesses: "c0 c1 c2 c3 c4 c5 c6 c7 c8 c9 c10 c11 o12 o12 o12 c12 c13 c14 o0 o0",
 };
 
 #[test]
@@ -129,7 +129,7 @@ const COUNTER_READ_TWICE: Pair = Pair {
         "9500000000000000",
     ],
     maps: 1,
-    places: "c0 c1 c2 c3 c4 c5 c6 c7 c8 c9 c21 c22",
+    witnesses: "c0 c1 c2 c3 c4 c5 c6 c7 c8 c9 c21 c22",
 };
 
 #[test]
@@ -173,7 +173,7 @@ const GUARD_THAT_PASSES: Pair = Pair {
         "9500000000000000",
     ],
     maps: 0,
-    places: "c0 c1 c2 c3 c4 c5 c6 o7 o7 o7 o7 c7 c8 c9 o0 o0",
+    witnesses: "c0 c1 c2 c3 c4 c5 c6 o7 o7 o7 o7 c7 c8 c9 o0 o0",
 };
 
 #[test]

@@ -37,7 +37,7 @@ const COPIED_JUMP_TO_AN_END: Pair = Pair {
         "9500000000000000",
     ],
     maps: 0,
-    places: "c0 c1 c2 c3 c4 c5 c6 c7 c8 c9 c10 c11 c12 o0 o0",
+    witnesses: "c0 c1 c2 c3 c4 c5 c6 c7 c8 c9 c10 c11 c12 o0 o0",
 };
 
 #[test]
@@ -74,7 +74,7 @@ const FALLS_INTO_AN_END: Pair = Pair {
         "9500000000000000",
     ],
     maps: 0,
-    places: "c0 c1 c2 c3 c4 c5 c6 c7 o0 o0",
+    witnesses: "c0 c1 c2 c3 c4 c5 c6 c7 o0 o0",
 };
 
 #[test]
@@ -119,7 +119,7 @@ const COMPARED_32_BITS: Pair = Pair {
         "9500000000000000",
     ],
     maps: 0,
-    places: "c0 c1 c2 c3 c4 c5 c6 c7 o8 c8 c9 c10 c11 c12",
+    witnesses: "c0 c1 c2 c3 c4 c5 c6 c7 o8 c8 c9 c10 c11 c12",
 };
 
 #[test]
@@ -159,7 +159,7 @@ const LOAD_WITH_SIGN_LEFT_OUT: Pair = Pair {
         "9500000000000000",
     ],
     maps: 0,
-    places: "c0 c1 c2 c3 c4 c5 c6 c9 c10",
+    witnesses: "c0 c1 c2 c3 c4 c5 c6 c9 c10",
 };
 
 #[test]
@@ -216,7 +216,7 @@ const WRAPPED_RANGES: Pair = Pair {
         "9500000000000000",
     ],
     maps: 0,
-    places: "c0 c1 c2 c3 c4 c5 c6 c7 c8 c9 c10 c11 c12 c13 c14 c15 c17 c18",
+    witnesses: "c0 c1 c2 c3 c4 c5 c6 c7 c8 c9 c10 c11 c12 c13 c14 c15 c17 c18",
 };
 
 #[test]
@@ -291,7 +291,7 @@ const RANGE_WITH_SIGN: Pair = Pair {
         "9500000000000000",
     ],
     maps: 0,
-    places: "c0 c1 c2 c3 c4 c5 c6 c7 c8 c9 c10 c11 c12 c13 c14 c15 c16 c17 c18 c19 c20 c21 c22 c23 c24 c26 c27",
+    witnesses: "c0 c1 c2 c3 c4 c5 c6 c7 c8 c9 c10 c11 c12 c13 c14 c15 c16 c17 c18 c19 c20 c21 c22 c23 c24 c26 c27",
 };
 
 #[test]

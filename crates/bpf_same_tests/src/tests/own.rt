@@ -13,7 +13,7 @@ const RESTORED: Pair = Pair {
         "9500000000000000",
     ],
     maps: 0,
-    places: "o0 o0 o0 c0 c1",
+    witnesses: "o0 o0 o0 c0 c1",
 };
 
 #[test]
@@ -52,7 +52,7 @@ const MADE_ANEW: Pair = Pair {
         "9500000000000000",
     ],
     maps: 0,
-    places: "o0 c0 c1 c2 c3 c4 o5 o5 o5 c5 c6 c7 c8",
+    witnesses: "o0 c0 c1 c2 c3 c4 o5 o5 o5 c5 c6 c7 c8",
 };
 
 #[test]
@@ -79,7 +79,7 @@ const MADE_OTHERWISE: Pair = Pair {
         "9500000000000000",
     ],
     maps: 0,
-    places: "o0 c0 c1 c2 c3 c4 o5 o5 o5 c5 c6 c7 c8",
+    witnesses: "o0 c0 c1 c2 c3 c4 o5 o5 o5 c5 c6 c7 c8",
 };
 
 #[test]
@@ -107,7 +107,7 @@ const STORE_TO_THE_OLD_WORD: Pair = Pair {
         "9500000000000000",
     ],
     maps: 0,
-    places: "c0 c1 o2 o2 c2 c3",
+    witnesses: "c0 c1 o2 o2 c2 c3",
 };
 
 #[test]
@@ -128,7 +128,7 @@ const LOAD_OF_AN_OWN_WORD: Pair = Pair {
         "9500000000000000",
     ],
     maps: 0,
-    places: "o0 o0 c0 c1",
+    witnesses: "o0 o0 c0 c1",
 };
 
 #[test]
@@ -144,7 +144,7 @@ const OTHER_NUMBER: Pair = Pair {
     old: &["b700000002000000", "9500000000000000"],
     new: &["b700000002000000", "b700000003000000", "9500000000000000"],
     maps: 0,
-    places: "c0 o1 c1",
+    witnesses: "c0 o1 c1",
 };
 
 #[test]
@@ -171,7 +171,7 @@ const STORE_TO_THE_PACKET: Pair = Pair {
         "9500000000000000",
     ],
     maps: 0,
-    places: "c0 c1 c2 c3 c4 o5 c5 c6 c7 c8",
+    witnesses: "c0 c1 c2 c3 c4 o5 c5 c6 c7 c8",
 };
 
 #[test]
@@ -180,4 +180,78 @@ fn store_to_the_packet(rt: HostRuntime) {
         compared(rt.alloc(), &STORE_TO_THE_PACKET),
         Some(Comparison::NotShown)
     );
+}
+
+/// A copy of a number that is raised by five, lowered by as much, and copied back.
+const LOWERED: Pair = Pair {
+    old: &["61120c0000000000", "bf20000000000000", "9500000000000000"],
+    new: &[
+        "61120c0000000000",
+        "bf23000000000000",
+        "0703000005000000",
+        "1703000005000000",
+        "bf32000000000000",
+        "bf20000000000000",
+        "9500000000000000",
+    ],
+    maps: 0,
+    witnesses: "c0 o1 o1 o1 o1 c1 c2",
+};
+
+#[test]
+fn lowered(rt: HostRuntime) {
+    assert_eq!(rt; compared(rt.alloc(), &LOWERED), Some(Comparison::Same));
+}
+
+/// [`LOWERED`] by six, and in 32 bits.
+#[test]
+fn lowered_otherwise(rt: HostRuntime) {
+    for insn in ["1703000006000000", "1403000005000000"] {
+        let pair = Pair {
+            new: &[
+                "61120c0000000000",
+                "bf23000000000000",
+                "0703000005000000",
+                insn,
+                "bf32000000000000",
+                "bf20000000000000",
+                "9500000000000000",
+            ],
+            ..LOWERED
+        };
+        assert_eq!(rt; compared(rt.alloc(), &pair), Some(Comparison::NotShown));
+    }
+}
+
+/// Another number is added to a copy and subtracted again, or the sum from itself, or the copy from the other number.
+#[test]
+fn register_subtracted(rt: HostRuntime) {
+    let cases = [
+        ("1f34000000000000", Comparison::Same),
+        ("1f44000000000000", Comparison::NotShown),
+        ("1f43000000000000", Comparison::NotShown),
+    ];
+    for (insn, answer) in cases {
+        let pair = Pair {
+            old: &[
+                "61120c0000000000",
+                "6113100000000000",
+                "bf20000000000000",
+                "9500000000000000",
+            ],
+            new: &[
+                "61120c0000000000",
+                "6113100000000000",
+                "bf24000000000000",
+                "0f34000000000000",
+                insn,
+                "bf42000000000000",
+                "bf20000000000000",
+                "9500000000000000",
+            ],
+            maps: 0,
+            witnesses: "c0 c1 o2 o2 o2 o2 c2 c3",
+        };
+        assert_eq!(rt; compared(rt.alloc(), &pair), Some(answer));
+    }
 }

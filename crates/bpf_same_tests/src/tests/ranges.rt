@@ -56,7 +56,7 @@ fn compared_again(rt: &HostRuntime, mask: &'static str) -> Option<Comparison> {
         old: &old,
         new: &new,
         maps: 0,
-        places: "c0 c1 c2 c3 c4 c5 c6 c7 c8 c9 c10 o11 o11 o11 c11 c12 o0 o0",
+        witnesses: "c0 c1 c2 c3 c4 c5 c6 c7 c8 c9 c10 o11 o11 o11 c11 c12 o0 o0",
     };
     compared(rt.alloc(), &pair)
 }
@@ -124,7 +124,7 @@ fn beyond(rt: &HostRuntime, test: &'static str) -> Option<Comparison> {
         old: &old,
         new: &new,
         maps: 0,
-        places: "c0 c1 c2 c3 c4 c5 c6 c7 o8 c8 c9 c10 c11 c12 c13 c14 c8 c9 c13 c14",
+        witnesses: "c0 c1 c2 c3 c4 c5 c6 c7 o8 c8 c9 c10 c11 c12 c13 c14 c8 c9 c13 c14",
     };
     compared(rt.alloc(), &pair)
 }
@@ -188,7 +188,7 @@ fn forgotten(rt: &HostRuntime, load: &'static str, test: &'static str) -> Option
         old: &old,
         new: &new,
         maps: 0,
-        places: "c0 c1 c2 c3 c4 c5 c6 c7 c8 c9 c10 c11 o12 c12 c13 c14 c15 c16 c17 c12 c16 c17",
+        witnesses: "c0 c1 c2 c3 c4 c5 c6 c7 c8 c9 c10 c11 o12 c12 c13 c14 c15 c16 c17 c12 c16 c17",
     };
     compared(rt.alloc(), &pair)
 }
@@ -271,7 +271,7 @@ fn bounded(
         old: &old,
         new: &new,
         maps: 0,
-        places: "c0 c1 c2 c3 c4 c5 c6 c7 c8 c9 c10 c11 c13 c14 c15 c16",
+        witnesses: "c0 c1 c2 c3 c4 c5 c6 c7 c8 c9 c10 c11 c13 c14 c15 c16",
     };
     compared(rt.alloc(), &pair)
 }

@@ -20,7 +20,7 @@ const LEFT_OUT: Pair = Pair {
         "9500000000000000",
     ],
     maps: 0,
-    places: "c0 c2 c3 c4 c5",
+    witnesses: "c0 c2 c3 c4 c5",
 };
 
 #[test]
@@ -46,7 +46,7 @@ fn wide_load(rt: HostRuntime) {
             "9500000000000000",
         ],
         maps: 0,
-        places: "c0 o0 c2 c4 c5",
+        witnesses: "c0 o0 c2 c4 c5",
     };
     assert_eq!(rt; compared(rt.alloc(), &wide), Some(Comparison::Same));
 }
@@ -76,11 +76,11 @@ fn other_programs(rt: HostRuntime) {
         ],
         ..LEFT_OUT
     };
-    let place = Pair {
-        places: "c0 c2 c3 c3 c5",
+    let witness = Pair {
+        witnesses: "c0 c2 c3 c3 c5",
         ..LEFT_OUT
     };
-    for pair in [number, way, place] {
+    for pair in [number, way, witness] {
         assert_eq!(rt; compared(rt.alloc(), &pair), Some(Comparison::NotShown));
     }
 }

@@ -18,7 +18,7 @@ const COUNTED_LOOP: Pair = Pair {
         "9500000000000000",
     ],
     maps: 0,
-    places: "c0 c1 c1 c1 c3",
+    witnesses: "c0 c1 c1 c1 c3",
 };
 
 #[test]
@@ -38,7 +38,7 @@ const DECIDED_JUMP: Pair = Pair {
     ],
     new: &["b700000002000000", "b702000007000000", "9500000000000000"],
     maps: 0,
-    places: "c0 c1 c3",
+    witnesses: "c0 c1 c3",
 };
 
 #[test]
@@ -58,7 +58,7 @@ const OWN_TEST: Pair = Pair {
         "9500000000000000",
     ],
     maps: 0,
-    places: "c0 o1 c1 c2 c1 c2",
+    witnesses: "c0 o1 c1 c2 c1 c2",
 };
 
 #[test]
@@ -70,11 +70,11 @@ fn own_test(rt: HostRuntime) {
 #[test]
 fn wrong_places_show_nothing(rt: HostRuntime) {
     let wrong = Pair {
-        places: "c0 c1 c1 c2 c3",
+        witnesses: "c0 c1 c1 c2 c3",
         ..COUNTED_LOOP
     };
     let none = Pair {
-        places: "",
+        witnesses: "",
         ..COUNTED_LOOP
     };
     assert_eq!(rt; compared(rt.alloc(), &wrong), Some(Comparison::NotShown));
@@ -86,7 +86,7 @@ const ENDLESS: Pair = Pair {
     old: &["0500ffff00000000"],
     new: &["b700000002000000", "9500000000000000"],
     maps: 0,
-    places: "c0 c0",
+    witnesses: "c0 c0",
 };
 
 #[test]
@@ -99,7 +99,7 @@ fn an_endless_program_ends_in_an_answer(rt: HostRuntime) {
 fn a_program_is_the_same_as_itself(rt: HostRuntime) {
     let itself = Pair {
         old: OWN_TEST.new,
-        places: "",
+        witnesses: "",
         ..OWN_TEST
     };
     assert_eq!(rt; compared(rt.alloc(), &itself), Some(Comparison::Same));
@@ -117,7 +117,7 @@ const RANGE_DECIDES: Pair = Pair {
     ],
     new: &["61100c0000000000", "5700000007000000", "9500000000000000"],
     maps: 0,
-    places: "c0 c1 c3",
+    witnesses: "c0 c1 c3",
 };
 
 #[test]
@@ -152,7 +152,7 @@ const RULED_OUT: Pair = Pair {
         "9500000000000000",
     ],
     maps: 0,
-    places: "c0 c1 o2 c2 o0 o0",
+    witnesses: "c0 c1 o2 c2 o0 o0",
 };
 
 #[test]

@@ -48,7 +48,7 @@ const STORE_AT_A_MASKED_OFFSET: Pair = Pair {
         "9500000000000000",
     ],
     maps: 0,
-    places: "c0 c1 c2 c3 c4 c5 c6 c7 c8 c9 c10 c11 c12 c13 c14 c15 c19 c20",
+    witnesses: "c0 c1 c2 c3 c4 c5 c6 c7 c8 c9 c10 c11 c12 c13 c14 c15 c19 c20",
 };
 
 #[test]
@@ -109,7 +109,7 @@ const STORE_AT_A_COMPARED_OFFSET: Pair = Pair {
         "9500000000000000",
     ],
     maps: 0,
-    places: "c0 c1 c2 c3 c4 c5 c6 c7 c8 c9 c10 c11 c12 c13 c14 c15 c16 c17 c21 c22",
+    witnesses: "c0 c1 c2 c3 c4 c5 c6 c7 c8 c9 c10 c11 c12 c13 c14 c15 c16 c17 c21 c22",
 };
 
 #[test]
@@ -160,7 +160,7 @@ const STORE_OVER_AN_OWN_WORD: Pair = Pair {
         "9500000000000000",
     ],
     maps: 0,
-    places: "c0 c1 c2 c3 c4 c5 c6 c7 c8 c9 o10 c10 c11 c12 c13 o15 c15",
+    witnesses: "c0 c1 c2 c3 c4 c5 c6 c7 c8 c9 o10 c10 c11 c12 c13 o15 c15",
 };
 
 #[test]
@@ -230,7 +230,7 @@ const STORE_OVER_A_KEY: Pair = Pair {
         "9500000000000000",
     ],
     maps: 1,
-    places: "c0 c1 c2 c3 c4 c5 c6 c7 c8 c9 c10 c11 c12 c13 c14 o15 o15 c15 c0 c17 c18 c19 c20 c21 c22 c23 c24",
+    witnesses: "c0 c1 c2 c3 c4 c5 c6 c7 c8 c9 c10 c11 c12 c13 c14 o15 o15 c15 c0 c17 c18 c19 c20 c21 c22 c23 c24",
 };
 
 #[test]

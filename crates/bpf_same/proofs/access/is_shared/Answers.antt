@@ -4,7 +4,7 @@ use Rattle.bpf_insn.specs.Size.{size_bytes}
 use Rattle.bpf_insn.specs.declared.insn.Insn.{Insn}
 use Rattle.bpf_note.specs.Regions.{region}
 use Rattle.bpf_flow.specs.Step.{address}
-use Rattle.bpf_same.specs.Turned.{AreShared}
+use Rattle.bpf_same.specs.Stepped.{AreShared}
 use Rattle.bpf_same.proofs.access.is_shared.Goals as goal
 
 pub returns-in-Ldx : goal.returns-in-Ldx

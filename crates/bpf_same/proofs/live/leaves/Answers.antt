@@ -1,7 +1,7 @@
 use Rattle.std.proofs.Common.{rules, ◌≡◌, ◌⊎◌, ℕ, inl, inr, true, subst, arith}
 use Rattle.std.proofs.lemmas.Bool.{cases_lt}
-use Rattle.bpf_same.specs.Sums.{bit}
-use Rattle.bpf_same.specs.Turned.{alters}
+use Rattle.bpf_same.specs.LinearForms.{bit}
+use Rattle.bpf_same.specs.Stepped.{alters}
 use Rattle.bpf_same.proofs.live.leaves.Goals as goal
 
 pub loop-register-init : goal.loop-register-init

@@ -1,6 +1,6 @@
 use Rattle.std.proofs.Common.{◌≡◌, ◌<◌, ◌⊎◌, ℕ, true}
-use Rattle.bpf_same.specs.Sums.{bit}
-use Rattle.bpf_same.specs.Turned.{alters}
+use Rattle.bpf_same.specs.LinearForms.{bit}
+use Rattle.bpf_same.specs.Stepped.{alters}
 use Rattle.bpf_same.proofs.live.leaves.Given as goal
 
 abbrev pub invariant-loop-register : goal.invariant-loop-register

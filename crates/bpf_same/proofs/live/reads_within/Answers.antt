@@ -6,7 +6,7 @@ use Rattle.bpf_insn.specs.declared.register.Register.{Register}
 use Rattle.bpf_insn.specs.declared.register.Register.TheVariants.{R0}
 use Rattle.bpf_flow.specs.Graph.{reads}
 use Rattle.bpf_flow.proofs.RegisterLemmas.{number_small}
-use Rattle.bpf_same.specs.Sums.{bit}
+use Rattle.bpf_same.specs.LinearForms.{bit}
 use Rattle.bpf_same.proofs.LiveLemmas.{registers, register_at}
 use Rattle.bpf_same.proofs.live.reads_within.Goals as goal
 

@@ -5,5 +5,5 @@ use Rattle.bpf_same.proofs.range.moved_from.Goals as goal
 
 pub returns-in-Some : goal.returns-in-Some
 returns-in-Some c =
-    moved_span_if (facts c.args.note.now) c.args.equations.now c.args.register c.args.other c.in-Some.range.low c.in-Some.range.high _ c.new_sum-here.result c.new_sum-there.result c.register.result c.moved.result c.requires.small c.requires.other
-    c.new_sum-here.ensures c.new_sum-there.ensures c.if-here-there.false (omega arith) (omega arith) refl c.register.ensures.value c.in-Some.ensures c.moved.ensures
+    moved_span_if (facts c.args.note.now) c.args.relation.now c.args.register c.args.other c.in-Some.range.low c.in-Some.range.high _ c.new_form-here.result c.new_form-there.result c.register.result c.moved.result c.requires.small c.requires.other
+    c.new_form-here.ensures c.new_form-there.ensures c.if-here-there.false (omega arith) (omega arith) refl c.register.ensures.value c.in-Some.ensures c.moved.ensures

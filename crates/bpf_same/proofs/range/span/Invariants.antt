@@ -5,4 +5,4 @@ use Rattle.bpf_same.proofs.range.span.Given as goal
 
 -- what is found so far bounds the register
 abbrev pub invariant-loop-other : goal.invariant-loop-other
-invariant-loop-other l = IfSome l.found (λ r. IsSpan (facts l.note) l.equations l.register r.low r.high)
+invariant-loop-other l = IfSome l.found (λ r. IsSpan (facts l.note) l.relation l.register r.low r.high)

@@ -11,6 +11,6 @@ pub returns-in-Some : goal.returns-in-Some
 returns-in-Some c = (
   λ t p i e at.
       let same : c.in-Some.insn ≡ i = some_is (sym c.in-Some.is ∙ (c.insn_at.ensures ∙ e)) in
-      subst (λ (i : Insn). IsRenumberedFrom c.args.places.now (slice_get c.args.old.now p) i c.args.slot p) same (c.is_insn_renumbered.ensures.0 t p at),
+      subst (λ (i : Insn). IsRenumberedFrom c.args.witnesses.now (slice_get c.args.old.now p) i c.args.slot p) same (c.is_insn_renumbered.ensures.0 t p at),
   λ h. c.is_insn_renumbered.ensures.1 (λ p at. h p c.in-Some.insn (sym c.insn_at.ensures ∙ c.in-Some.is) at),
 )

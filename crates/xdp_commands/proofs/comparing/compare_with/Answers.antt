@@ -2,7 +2,7 @@ use Rattle.std.proofs.Common.{◌≡◌, List, [], ◌∷◌, refl, ap, sym, ◌
 use Rattle.bpf_same.specs.Counts.{IsSameByCounts, IsWholeByCounts}
 use Rattle.bpf_same.specs.Renumbered.{IsRenumbering}
 use Rattle.bpf_same.specs.Same.{IsSame}
-use Rattle.bpf_same.specs.declared.mark.Place.{Place}
+use Rattle.bpf_same.specs.declared.witness.Witness.{Witness}
 use Rattle.xdp_load.specs.OriginalSeen.{place_view}
 use Rattle.xdp_load.specs.declared.original.Place.{Place as Read}
 use Rattle.xdp_commands.specs.Comparing.{tried, tried_of}
@@ -40,7 +40,7 @@ returns-in-SameByCounts c = record {
 
 two_maps : (xs : List Read) → map tried (map place_view xs) ≡ map tried_of xs
 two_maps [] = refl
-two_maps (x ∷ xs) = ap (λ (ys : List Place). tried_of x ∷ ys) (two_maps xs)
+two_maps (x ∷ xs) = ap (λ (ys : List Witness). tried_of x ∷ ys) (two_maps xs)
 
 pub returns : goal.returns
 returns c = record {
@@ -49,6 +49,6 @@ returns c = record {
   pair = record { accepted = c.requires.program; spelled = c.requires.original };
   other = λ e. let same = c.in_ok-compare.ensures.itself e in cc (same, c.in-NotShown.is);
   renumbered = λ h.
-      let same = c.in_ok-compare.ensures.renumbered (subst (λ (p : List Place). IsRenumbering p c.args.original.now c.args.program.now.code) (two_maps c.args.rewritten.now.places.items ∙ (ap (map tried_of) (sym c.as_slice.ensures.value) ∙ (sym c.in_ok-places.ensures ∙ sym c.as_slice-2.ensures.value))) h) in
+      let same = c.in_ok-compare.ensures.renumbered (subst (λ (p : List Witness). IsRenumbering p c.args.original.now c.args.program.now.code) (two_maps c.args.rewritten.now.places.items ∙ (ap (map tried_of) (sym c.as_slice.ensures.value) ∙ (sym c.in_ok-witnesses.ensures ∙ sym c.as_slice-2.ensures.value))) h) in
       cc (same, c.in-NotShown.is);
 }

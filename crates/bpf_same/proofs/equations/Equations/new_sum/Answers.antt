@@ -1,5 +1,0 @@
-use Rattle.std.proofs.Common.{sym}
-use Rattle.bpf_same.proofs.equations.Equations.new_sum.Goals as goal
-
-pub returns-in-None : goal.returns-in-None
-returns-in-None c = λ f g h. sym (c.held.ensures f (h.words c.args.holder))

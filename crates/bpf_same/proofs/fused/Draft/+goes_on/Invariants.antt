@@ -1,4 +1,0 @@
-use Rattle.bpf_same.proofs.fused.Draft.+goes_on.Given as goal
-
-abbrev pub decreases-goes_on : goal.decreases-goes_on
-decreases-goes_on l = l.steps

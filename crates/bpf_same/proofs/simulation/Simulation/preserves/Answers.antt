@@ -1,0 +1,11 @@
+use Rattle.std.proofs.Common.{sym, ◌∙◌, subst}
+use Rattle.bpf_note.specs.Parts.{Noted, facts}
+use Rattle.bpf_same.specs.Stepped.{Preserves}
+use Rattle.bpf_same.proofs.simulation.Simulation.preserves.Goals as goal
+
+pub returns : goal.returns
+returns c = λ t. record {
+  next = c.in-Some.next;
+  here = sym c.relation_at.ensures ∙ c.in-Some.is;
+  preserves = subst (λ (n : Noted). Preserves c.args.before.now.insn c.args.stutters c.args.self.now.low (facts n) c.args.before.now.relation.now c.in-Some.next) c.deref.ensures (c.preserves.ensures t);
+}

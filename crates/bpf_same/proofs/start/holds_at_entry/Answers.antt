@@ -1,0 +1,37 @@
+use Rattle.std.proofs.Common.{rules, ◌≡◌, ◌∙◌, ℕ, Some, None, inl, inr, true, sym, subst, arith}
+use Rattle.std.proofs.lemmas.Bool.{cases_lt}
+use Rattle.bpf_same.specs.LinearForms.{old_of, new_of, total, IsWord}
+use Rattle.bpf_same.proofs.start.holds_at_entry.Goals as goal
+
+pub loop-register-preserved : goal.loop-register-preserved
+loop-register-preserved c = λ k low s e f w.
+    elim (cases_lt k c.loop-register.register) [
+      | inl old ↦ c.loop-register.invariant k old s e f w
+      | inr high ↦
+          let this : c.loop-register.register ≡ k = omega (arith, low, high) in
+          let holds : c.is_itself.result ≡ true = search rules in
+          subst (λ (k : ℕ). IsWord (f k) → total f s ≡ f k) this (c.is_itself.ensures holds s (subst (λ (k : ℕ). old_of c.args.relation.now k ≡ Some s) (sym this) e) f) w
+    ]
+
+pub loop-term-init : goal.loop-term-init
+loop-term-init c = (λ k small s e f w. c.loop-register.invariant k (omega (arith, small, c.loop-register-test.false)) s e f w, λ n low. absurd (omega (arith, low)))
+
+pub loop-term-preserved : goal.loop-term-preserved
+loop-term-preserved c = (
+  c.loop-term.invariant.0,
+  λ n low.
+      elim (cases_lt n c.loop-term.term) [
+        | inl old ↦ c.loop-term.invariant.1 n old
+        | inr high ↦
+            let this : c.loop-term.term ≡ n = omega (arith, low, high) in
+            let holds : c.is_free.result ≡ true = search rules in
+            subst (λ (n : ℕ). new_of c.args.relation.now n ≡ None) this (c.is_free.ensures holds)
+      ],
+)
+
+pub returns : goal.returns
+returns c = λ t f g w same. record {
+  olds = λ k s small e. same k small ∙ sym (c.loop-term.invariant.0 k small s e f (w k));
+  news = λ n s small e. absurd (let none : new_of c.args.relation.now n ≡ None = c.loop-term.invariant.1 n (omega (arith, small, c.loop-term-test.false)) in cc (none, e));
+  words = w;
+}

@@ -1,0 +1,16 @@
+use Rattle.std.proofs.Common.{rules, FitsSigned, w32, ◌≡◌, sym, ap, ◌∙◌, Some}
+use Rattle.std.proofs.lemmas.Int.{to_z-of_z}
+use Rattle.bpf_insn.specs.Signed.{sign_extended}
+use Rattle.bpf_same.specs.LinearForms.{total}
+use Rattle.bpf_same.specs.Stepped.{operand_in}
+use Rattle.bpf_same.proofs.ComputeLemmas.{old_operand_if}
+use Rattle.bpf_same.proofs.step.Step.old_operand.Goals as goal
+
+pub returns-in-Register : goal.returns-in-Register
+returns-in-Register c = old_operand_if c.args.self.now.before.now c.args.src c.in-Register.register c.number.result c.old_form.result c.in-Register.is c.number.ensures.number c.old_form.ensures
+
+pub returns-in-Immediate : goal.returns-in-Immediate
+returns-in-Immediate c = λ f g h.
+    let fits : FitsSigned w32 c.in-Immediate.value = search rules in
+    let e : Some (sign_extended c.in-Immediate.value) ≡ total f c.constant.result = ap Some (sym (simp to_z-of_z at c.extended.ensures)) ∙ sym (c.constant.ensures f) in
+    ap (operand_in g) c.in-Immediate.is ∙ e

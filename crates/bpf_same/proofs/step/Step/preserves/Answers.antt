@@ -1,0 +1,41 @@
+use Rattle.std.proofs.Common.{rules, ◌≡◌, ℕ, Some, inl, inr, true, sym, subst, arith}
+use Rattle.std.proofs.lemmas.Bool.{cases_lt}
+use Rattle.bpf_note.specs.Parts.{facts}
+use Rattle.bpf_same.specs.LinearForms.{old_of, new_of}
+use Rattle.bpf_same.specs.Stepped.{PreservesOld, PreservesNew}
+use Rattle.bpf_same.proofs.step.Step.preserves.Goals as goal
+
+pub loop-register-preserved : goal.loop-register-preserved
+loop-register-preserved c = λ k low s e.
+    let t = c.args.self.now in
+    elim (cases_lt k c.loop-register.register) [
+      | inl old ↦ c.loop-register.invariant k old s e
+      | inr high ↦
+          let this : c.loop-register.register ≡ k = omega (arith, low, high) in
+          let holds : c.preserves_register.result ≡ true = search rules in
+          subst (λ (k : ℕ). PreservesOld t.insn t.stutters t.low (facts t.after.now) t.before.now k s) this (c.preserves_register.ensures holds s (subst (λ (k : ℕ). old_of c.args.next.now k ≡ Some s) (sym this) e))
+    ]
+
+pub loop-term-init : goal.loop-term-init
+loop-term-init c = (λ k small s e. c.loop-register.invariant k (omega (arith, small, c.loop-register-test.false)) s e, λ n low s e. absurd (omega (arith, low)))
+
+pub loop-term-preserved : goal.loop-term-preserved
+loop-term-preserved c = (
+  c.loop-term.invariant.0,
+  λ n low s e.
+      let t = c.args.self.now in
+      elim (cases_lt n c.loop-term.term) [
+        | inl old ↦ c.loop-term.invariant.1 n old s e
+        | inr high ↦
+            let this : c.loop-term.term ≡ n = omega (arith, low, high) in
+            let holds : c.preserves_term.result ≡ true = search rules in
+            subst (λ (n : ℕ). PreservesNew t.insn t.stutters t.low (facts t.after.now) t.before.now n s) this (c.preserves_term.ensures holds s (subst (λ (n : ℕ). new_of c.args.next.now n ≡ Some s) (sym this) e))
+      ],
+)
+
+pub returns : goal.returns
+returns c = λ r f g f' g' t h. record {
+  olds = λ k s small e. c.loop-term.invariant.0 k small s e f g f' g' t h;
+  news = λ n s small e. c.loop-term.invariant.1 n (omega (arith, small, c.loop-term-test.false)) s e f g f' g' t h;
+  words = t.fits;
+}

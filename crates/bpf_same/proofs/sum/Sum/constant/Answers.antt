@@ -1,6 +1,0 @@
-use Rattle.std.proofs.Common.{arith}
-use Rattle.bpf_same.proofs.SumLemmas.{total_constant}
-use Rattle.bpf_same.proofs.sum.Sum.constant.Goals as goal
-
-pub returns : goal.returns
-returns c = λ f. total_constant f c.args.constant (omega arith)

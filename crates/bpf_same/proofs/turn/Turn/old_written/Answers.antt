@@ -1,8 +1,0 @@
-use Rattle.bpf_note.specs.Parts.{facts}
-use Rattle.bpf_same.proofs.KeepLemmas.{old_noted_if}
-use Rattle.bpf_same.proofs.turn.Turn.old_written.Goals as goal
-
-pub returns-in-None : goal.returns-in-None
-returns-in-None c =
-    let s = c.args.self.now in
-    old_noted_if s.insn s.own s.low (facts s.after.now) s.before.now c.args.register c.noted.result c.requires.copied c.requires.altered c.requires.small c.noted.ensures

@@ -1,5 +1,0 @@
-use Rattle.std.proofs.Common.{◌∙◌}
-use Rattle.bpf_same.proofs.turn.Turn.register_left.Goals as goal
-
-pub returns : goal.returns
-returns c = λ f g f' g' t h. t.kept c.args.register c.requires.small c.requires.left ∙ c.new_sum.ensures f g h

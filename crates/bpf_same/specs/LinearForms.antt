@@ -1,0 +1,50 @@
+-- For proofs: no claim rests on this file.
+-- Linear forms of what the new program holds, modulo 2 ^ 64, and what a relation says by them.
+use Rattle.std.specs.Prelude.{ℕ, zero, suc, ◌+◌, ◌-◌, ◌*◌, ◌/◌, ◌%◌, ◌^◌, ◌≡◌, ◌<◌, Option, None, Some, if◌then◌else◌, nat_lt, slice_index_or}
+use Rattle.bpf_note.specs.State.{State}
+use Rattle.bpf_note.specs.Bytes.{word_at}
+use Rattle.bpf_same.specs.declared.linear_form.LinearForm.{LinearForm}
+use Rattle.bpf_same.specs.declared.relation.Relation.{Relation}
+
+-- what a term of the new program holds: a register, or from 11 on eight bytes of the stack, from its top downwards
+abbrev pub held : State → ℕ → Option ℕ
+held s n = if nat_lt n 11 then s.reg n else word_at s.stack (592 - 8 * n) 8
+
+-- a sum of two numbers, where both are there
+abbrev pub plus : Option ℕ → Option ℕ → Option ℕ
+plus None b = None
+plus (Some a) None = None
+plus (Some a) (Some b) = Some ((a + b) % 2 ^ 64)
+
+-- bit n of a number, 1 or 0
+abbrev pub bit : ℕ → ℕ → ℕ
+bit mask n = mask / 2 ^ n % 2
+
+abbrev pub with_bit : ℕ → Option ℕ → Option ℕ → Option ℕ
+with_bit zero o x = o
+with_bit (suc b) o x = plus o x
+
+-- the sum of what the first n terms of a mask hold
+abbrev pub gathered : (ℕ → Option ℕ) → ℕ → ℕ → Option ℕ
+gathered f mask zero = Some 0
+gathered f mask (suc n) = with_bit (bit mask n) (gathered f mask n) (f n)
+
+-- what a linear form comes to, the terms holding these numbers
+abbrev pub total : (ℕ → Option ℕ) → LinearForm → Option ℕ
+total f s = plus (Some s.constant) (gathered f s.terms 64)
+
+-- a number that may be there has 64 bits
+abbrev pub IsWord : Option ℕ → Type 0
+IsWord o = (x : ℕ) → o ≡ Some x → x < 2 ^ 64
+
+abbrev pub old_of : Relation → ℕ → Option LinearForm
+old_of e k = slice_index_or e.old k None
+
+abbrev pub new_of : Relation → ℕ → Option LinearForm
+new_of e n = slice_index_or e.new n None
+
+-- the relation holds of what the terms of the new program and the registers of the old one hold
+pub record Hold (e : Relation) (f g : ℕ → Option ℕ) : Type 0 where
+  pub olds : (k : ℕ) (s : LinearForm) → k < 11 → old_of e k ≡ Some s → g k ≡ total f s
+  pub news : (n : ℕ) (s : LinearForm) → n < 64 → new_of e n ≡ Some s → f n ≡ total f s
+  pub words : (n : ℕ) → IsWord (f n)

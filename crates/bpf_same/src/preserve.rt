@@ -1,0 +1,126 @@
+//! Whether a step preserves the relation.
+ghost use Rattle.std.specs.Prelude.{◌≡◌, ◌<◌, ℕ, Some, IsTrue, IfSome};
+ghost use Rattle.bpf_note.specs.Parts.{facts};
+ghost use Rattle.bpf_same.specs.LinearForms.{new_of, old_of};
+ghost use Rattle.bpf_same.specs.Stepped.{IsPulledBack, IsWithTerm, IsOldAlike, Preserves, PreservesNew, PreservesOld};
+
+use crate::linear_form::{LinearForm, REGISTERS, TERMS};
+use crate::relation::Relation;
+use crate::step::{Step, alters};
+
+impl Step<'_> {
+    /// A linear form before the step, and what one term is after it, if that is in the other form.
+    fn with_term(&self, all: LinearForm, form: LinearForm, term: u8) -> Option<LinearForm>
+        requires { term < 64 }
+        ensures { IfSome result (IsWithTerm self.now.insn self.now.stutters self.now.low (facts self.now.after.now) self.now.before.now form term all) }
+    {
+        if form.has(term) {
+            match self.new_after(term) {
+                Some(part) => all.plus(part),
+                None => None,
+            }
+        } else {
+            Some(all)
+        }
+    }
+
+    /// A linear form after the step, pulled back to one before it.
+    pub(crate) fn pulled_back(&self, form: LinearForm) -> Option<LinearForm>
+        ensures { IfSome result (IsPulledBack self.now.insn self.now.stutters self.now.low (facts self.now.after.now) self.now.before.now form) }
+    {
+        let mut all = LinearForm::constant(form.constant);
+        for term in 0..TERMS {
+            match self.with_term(all, form, term) {
+                Some(with_term) => all = with_term,
+                None => return None,
+            }
+        }
+        Some(all)
+    }
+
+    /// Returns whether both programs have written the same into a register.
+    fn is_alike(&self, register: u8, form: LinearForm) -> bool
+        requires { register < 11 }
+        ensures { IsTrue result → IsOldAlike self.now.insn self.now.stutters self.now.low (facts self.now.after.now) register form }
+    {
+        if self.stutters {
+            false
+        } else if alters(self.insn, register) {
+            form.is(LinearForm::held(register))
+        } else {
+            false
+        }
+    }
+
+    /// Returns whether a register of the old program holds this linear form after the step.
+    fn preserves_old(&self, register: u8, form: LinearForm) -> bool
+        requires { register < 11 }
+        ensures { IsTrue result → PreservesOld self.now.insn self.now.stutters self.now.low (facts self.now.after.now) self.now.before.now register form }
+    {
+        if self.is_alike(register, form) {
+            return true;
+        }
+        let Some(there) = self.old_after(register) else {
+            return false;
+        };
+        let Some(here) = self.pulled_back(form) else {
+            return false;
+        };
+        there.is(here)
+    }
+
+    /// Returns whether a term of the new program holds this linear form after the step.
+    fn preserves_new(&self, term: u8, form: LinearForm) -> bool
+        requires { term < 64 }
+        ensures { IsTrue result → PreservesNew self.now.insn self.now.stutters self.now.low (facts self.now.after.now) self.now.before.now term form }
+    {
+        let Some(there) = self.new_after(term) else {
+            return false;
+        };
+        let Some(here) = self.pulled_back(form) else {
+            return false;
+        };
+        there.is(here)
+    }
+
+    /// Returns whether the next relation holds of a register of the old program after the step.
+    fn preserves_register(&self, next: &Relation, register: u8) -> bool
+        requires { register < 11 }
+        ensures { IsTrue result → (s : LinearForm) → old_of next.now register ≡ Some s →
+            PreservesOld self.now.insn self.now.stutters self.now.low (facts self.now.after.now) self.now.before.now register s }
+    {
+        match next.old_form(register) {
+            Some(form) => self.preserves_old(register, form),
+            None => true,
+        }
+    }
+
+    /// Returns whether the next relation holds of a term after the step.
+    fn preserves_term(&self, next: &Relation, term: u8) -> bool
+        requires { term < 64 }
+        ensures { IsTrue result → (s : LinearForm) → new_of next.now term ≡ Some s →
+            PreservesNew self.now.insn self.now.stutters self.now.low (facts self.now.after.now) self.now.before.now term s }
+    {
+        match next.claimed(term) {
+            Some(form) => self.preserves_new(term, form),
+            None => true,
+        }
+    }
+
+    /// Returns whether the next relation holds after the step.
+    pub(crate) fn preserves(&self, next: &Relation) -> bool
+        ensures { IsTrue result → Preserves self.now.insn self.now.stutters self.now.low (facts self.now.after.now) self.now.before.now next.now }
+    {
+        for register in 0..REGISTERS {
+            if !self.preserves_register(next, register) {
+                return false;
+            }
+        }
+        for term in 0..TERMS {
+            if !self.preserves_term(next, term) {
+                return false;
+            }
+        }
+        true
+    }
+}
