@@ -1,0 +1,74 @@
+//! Tests of [`bpf_object`] by what it makes public, and `bpf_object_tests`: answers the questions of standard input, one per line,
+//! by that crate. What it has to write, the file `stdout`, is what LLVM's tools say of the same objects.
+//!
+//! - `tests`: small objects, each changed in one place, and `growth`
+#![tactic(auto)]
+
+#[cfg(test)]
+mod tests;
+
+use bpf_object::Object;
+use std::alloc::{AllocError, Global};
+use std::fmt::Write;
+use std::io;
+
+/// Adds what a function of an object is: its bytes, and each slot with the name of its map.
+fn write_program(
+    alloc: Global,
+    text: &mut String,
+    object: &Object,
+    name: &str,
+) -> Result<(), AllocError> {
+    let program = match object.program(alloc, name.as_bytes()) {
+        Ok(program) => program,
+        Err(fault) => return write!(text, "{fault:?}"),
+    };
+    text.push_str(hex::encode(alloc, program.code)?.as_str())?;
+    for reference in program.references.iter() {
+        let slot = reference.slot;
+        let map = reference.map;
+        write!(text, " {slot} {map}")?;
+    }
+    Ok(())
+}
+
+/// Adds the number and the name of each map of an object.
+fn write_maps(text: &mut String, object: &Object) -> Result<(), AllocError> {
+    let mut from = 0;
+    while let Some(map) = object.next_map(from) {
+        write!(text, " {map}")?;
+        from = map + 1;
+    }
+    Ok(())
+}
+
+/// The answer to a question about an object: its maps, or the program of a name.
+fn answer(alloc: Global, bytes: &[u8], question: &str) -> Result<String, AllocError> {
+    let mut text = String::new(alloc);
+    match Object::parse(bytes) {
+        Err(fault) => write!(text, "{fault:?}")?,
+        Ok(object) => match question.strip_prefix("program ") {
+            Some(name) => write_program(alloc, &mut text, &object, name)?,
+            None => write_maps(&mut text, &object)?,
+        },
+    }
+    Ok(text)
+}
+
+fn main(rt: HostRuntime) -> io::Result<()> {
+    let mut bytes = Vec::new(rt.alloc());
+    for line in rt.lines(rt.alloc()) {
+        let line = line?;
+        if line.starts_with('#') {
+            println!(rt; "{line}")?;
+        } else if let Some(object) = line.strip_prefix("object ") {
+            bytes = hex::decode(rt.alloc(), object).unwrap_or_else(|_| Vec::new(rt.alloc()));
+            let count = bytes.len();
+            println!(rt; "{count} bytes")?;
+        } else {
+            let text = answer(rt.alloc(), bytes.as_slice(), line.as_str())?;
+            println!(rt; "{text}")?;
+        }
+    }
+    Ok(())
+}

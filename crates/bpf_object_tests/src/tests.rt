@@ -1,0 +1,4 @@
+mod growth;
+mod objects;
+mod programs;
+mod small;
