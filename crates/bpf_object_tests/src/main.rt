@@ -35,7 +35,10 @@ fn write_program(
 /// Adds the number and the name of each map of an object.
 fn write_maps(text: &mut String, object: &Object) -> Result<(), AllocError> {
     let mut from = 0;
-    while let Some(map) = object.next_map(from) {
+    for _ in 0..u32::MAX {
+        let Some(map) = object.next_map(from) else {
+            break;
+        };
         write!(text, " {map}")?;
         from = map + 1;
     }

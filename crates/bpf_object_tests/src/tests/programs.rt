@@ -7,6 +7,9 @@ fn relocation(cause: RelocationFault) -> Option<ProgramFault> {
     Some(ProgramFault::Relocation(0, cause))
 }
 
+/// Where the symbol of the function lies.
+const FUNCTION: usize = SYMBOLS + 24;
+
 #[test]
 fn the_program_is_there(rt: HostRuntime) {
     assert_eq!(rt; program_fault(rt.alloc(), &SMALL), None);
@@ -39,20 +42,19 @@ fn a_function_is_found_by_its_name(rt: HostRuntime) {
 
 #[test]
 fn a_function_is_whole_slots_of_code(rt: HostRuntime) {
-    let function = SYMBOLS + 24;
     for (place, byte) in [
-        (6, 0),
-        (6, 4),
-        (6, 6),
-        (7, 255),
-        (8, 8),
-        (8, 1),
-        (16, 31),
-        (16, 40),
-        (16, 0),
-        (23, 255),
+        (FUNCTION + 6, 0),
+        (FUNCTION + 6, 4),
+        (FUNCTION + 6, 6),
+        (FUNCTION + 7, 255),
+        (FUNCTION + 8, 8),
+        (FUNCTION + 8, 1),
+        (FUNCTION + 16, 31),
+        (FUNCTION + 16, 40),
+        (FUNCTION + 16, 0),
+        (FUNCTION + 23, 255),
     ] {
-        let bytes = changed(function + place, byte);
+        let bytes = changed(place, byte);
         assert_eq!(rt; program_fault(rt.alloc(), &bytes), Some(ProgramFault::Code));
     }
 }
