@@ -34,7 +34,7 @@ from .instructions import (
     Instruction,
 )
 from .own_stack import OwnStack, shared_slots
-from .parts import Access, Part, check_parts, place_of
+from .parts import Access, Part, place_of
 
 if TYPE_CHECKING:
     from .addresses import Addresses
@@ -82,9 +82,11 @@ class Emitter:
     blurred  of slots of additions to an address the register of the number, of which the verifier isn't to know that it
              is a constant on some ways: with a constant the sum would be another kind of address
     differences  by the slots of stores to a counter of which the difference is added
-    moved    by map the parts of its values that have a counter of their own"""
+    moved    by map the parts of its values that have a counter of their own
 
-    def __init__(self, copies: Copies, addresses: Addresses, marks: Marks, settings: dict) -> None:
+    `reached`: by map the accesses in its values; those of None may be in any."""
+
+    def __init__(self, copies: Copies, addresses: Addresses, marks: Marks) -> None:
         self.copies, self.addresses, self.end, self.context = copies, addresses, THE_END, CONTEXT_SLOT
         self.marks, self.reached = marks, {}
         self.known = {slot: row.counter for row in marks.differences.values() for slot in row.known}
@@ -98,7 +100,6 @@ class Emitter:
         for atom in {atom for address in self.stored for atom in address.atoms if atom.name == ADDED}:
             self.saved.setdefault(atom.copy, []).append(atom)
         self.write()
-        check_parts(settings, marks.moved, self.reached)
 
     # --- one instruction
 

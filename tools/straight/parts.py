@@ -90,6 +90,8 @@ def has_parts(settings: dict) -> bool:
 def check_parts(settings: dict, moved: Moved, reached: dict[Optional[str], set[Access]]) -> None:
     """Ends if a store may change another number of its counter. `reached`: by map the accesses in its values; those of None may be
     in any."""
+    if not has_parts(settings) and all(row.part.size == COUNTER_BYTES for rows in reached.values() for row in rows if row.is_set):
+        return
     for name in sorted(reached, key=str):
         accesses = reached[name] | reached.get(None, set())
         own, wanted = moved.get(name, {}), {}
