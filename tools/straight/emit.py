@@ -6,7 +6,7 @@ from __future__ import annotations
 from enum import Enum
 from typing import TYPE_CHECKING, AbstractSet, Callable, Container, NamedTuple, Optional
 
-from .addresses import ADDED, KEPT, MET, Atom, StackSlot, Thing
+from .addresses import ADDED, KEPT, MET, Atom, PacketAddress, StackSlot, TableAddress, Thing
 from .constants import VALUE, is_address
 from .copies import CASE, OUTSIDE, TESTS, Copy
 from .graph import SIZE, Fail
@@ -34,7 +34,7 @@ from .instructions import (
     Instruction,
 )
 from .own_stack import OwnStack, shared_slots
-from .parts import Access, Part, check_parts, place_of
+from .parts import Access, Part, place_of
 
 if TYPE_CHECKING:
     from .addresses import Addresses
@@ -82,9 +82,11 @@ class Emitter:
     blurred  of slots of additions to an address the register of the number, of which the verifier isn't to know that it
              is a constant on some ways: with a constant the sum would be another kind of address
     differences  by the slots of stores to a counter of which the difference is added
-    moved    by map the parts of its values that have a counter of their own"""
+    moved    by map the parts of its values that have a counter of their own
 
-    def __init__(self, copies: Copies, addresses: Addresses, marks: Marks, settings: dict) -> None:
+    `reached`: by map the accesses in its values; those of None may be in any."""
+
+    def __init__(self, copies: Copies, addresses: Addresses, marks: Marks) -> None:
         self.copies, self.addresses, self.end, self.context = copies, addresses, THE_END, CONTEXT_SLOT
         self.marks, self.reached = marks, {}
         self.known = {slot: row.counter for row in marks.differences.values() for slot in row.known}
@@ -98,7 +100,6 @@ class Emitter:
         for atom in {atom for address in self.stored for atom in address.atoms if atom.name == ADDED}:
             self.saved.setdefault(atom.copy, []).append(atom)
         self.write()
-        check_parts(settings, marks.moved, self.reached)
 
     # --- one instruction
 
@@ -306,13 +307,22 @@ class Emitter:
 
     def offset(self, here: Copy, insn: Instruction) -> int:
         """The offset of an access, with what was added to its map's value, and where the number lies in the result's."""
-        base = here.constants.registers.get(insn.base) if insn.is_load or insn.is_store else None
-        if not is_address(base, VALUE):
+        if not (insn.is_load or insn.is_store):
             return insn.offset
-        part = Part(insn.offset + base.offset, insn.size)
-        is_set = here.slot in self.marks.differences
-        self.reached.setdefault(base.map, set()).add(Access(part, here.slot, is_set))
-        return place_of(self.marks.moved, base.map, part)
+        base, is_set = here.constants.registers.get(insn.base), here.slot in self.marks.differences
+        if is_address(base, VALUE):
+            name, part = base.map, Part(insn.offset + base.offset, insn.size)
+        elif self.is_elsewhere(here, insn.base):
+            return insn.offset
+        else:
+            name, part = None, Part(insn.offset, insn.size)
+        self.reached.setdefault(name, set()).add(Access(part, here.slot, is_set))
+        return place_of(self.marks.moved, name, part)
+
+    def is_elsewhere(self, here: Copy, register: int) -> bool:
+        """Whether a register surely has no address of a value."""
+        place = self.addresses.before[here].get(register)
+        return isinstance(place, (PacketAddress, TableAddress)) or place in (Thing.FRAME, Thing.CONTEXT)
 
     def lead(self, here: Copy, way: int, after: Copy, following: Optional[Copy]) -> None:
         """From a copy to the next one."""

@@ -88,8 +88,12 @@ def has_parts(settings: dict) -> bool:
 
 
 def check_parts(settings: dict, moved: Moved, reached: dict[Optional[str], set[Access]]) -> None:
-    """Ends if a store may change another number of its counter. `reached`: by map the accesses in its values."""
-    for name, accesses in sorted(reached.items(), key=lambda row: str(row[0])):
+    """Ends if a store may change another number of its counter. `reached`: by map the accesses in its values; those of None may be
+    in any."""
+    if not has_parts(settings) and all(row.part.size == COUNTER_BYTES for rows in reached.values() for row in rows if row.is_set):
+        return
+    for name in sorted(reached, key=str):
+        accesses = reached[name] | reached.get(None, set())
         own, wanted = moved.get(name, {}), {}
         for row in sorted(row for row in accesses if row.is_set):
             whole = stored_below(declared(settings, name), row, [other.part for other in accesses])
@@ -107,12 +111,12 @@ def stored_below(rows: list[dict], store: Access, reached: list[Part]) -> Option
     """The number that a store is to, if it may change what lies above it in the counter; or None. Fail if no number
     holds all that is reached at once with it. `rows`: as they are declared."""
     numbers = [part_of(row) for row in rows]
-    whole = number_of(rows, store, joined(store.part, reached))
+    whole = number_of(rows, store, joined(store.part, reached), reached)
     above = (part for part in [*numbers, *reached] if part.place >= whole.end)
     return whole if any(part.counter == whole.counter for part in above) else None
 
 
-def number_of(rows: list[dict], store: Access, whole: Part) -> Part:
+def number_of(rows: list[dict], store: Access, whole: Part, reached: list[Part]) -> Part:
     """The number that a store is to. `whole`: what is reached at once with its bytes."""
     inside = [row for row in rows if whole.meets(part_of(row))]
     holding = [row for row in inside if part_of(row).holds(whole)]
@@ -120,7 +124,8 @@ def number_of(rows: list[dict], store: Access, whole: Part) -> Part:
         number = min((part_of(row) for row in holding), key=lambda part: part.size)
         within = [row for row in rows if number.holds(part_of(row))]
         fields = [row for row in within if row["bits"]]
-        if len(fields) > 1 or any(row["place"] >= store.part.end for row in within):
+        beside = any(number.holds(part) and part.place >= whole.end for part in reached)
+        if len(fields) > 1 or beside or any(row["place"] >= store.part.end for row in within):
             raise shared(within, store)
         return number
     if len(inside) > 1:

@@ -35,7 +35,7 @@ from .emit import Emitter, Kind, Needs
 from .graph import SIZE, Fail, NoBound, TooMany, loop_of, steering
 from .instructions import MASK_32
 from .masks import masked, parts_of
-from .parts import COUNTER_BYTES, NeedsCounters, has_parts, moved_with, with_counters
+from .parts import COUNTER_BYTES, NeedsCounters, check_parts, has_parts, moved_with, with_counters
 from .settings import instructions_of, text_of
 from .verifier import verdict
 
@@ -114,6 +114,7 @@ class Search:
         self.code = instructions_of(settings)
         self.marks = Marks(values=RESULTS if any(insn.counter is not None for insn in self.code.values()) else 0)
         self.copies = self.addresses = self.labels = None
+        self.reached = {}  # by map the accesses in its values
         self.began = False  # whether there was a program to ask the verifier of
 
     def mark(self, here: Copy, place: Place) -> tuple:
@@ -159,6 +160,8 @@ class Search:
             if judged > MOST_JUDGED:
                 break
             answer = verdict(self.xdpbox, text_of(with_counters(self.settings, self.marks.moved), words, relocations))
+            if answer.accepted and not self.keeps_parts():
+                continue
             if answer.accepted:
                 return self.result(words, relocations)
             if answer.cause is None:
@@ -179,12 +182,21 @@ class Search:
             return None
         self.addresses = Addresses(self.copies, self.is_marked, self.is_restarted)
         try:
-            return Emitter(self.copies, self.addresses, marks, self.settings).program()
+            emitter = Emitter(self.copies, self.addresses, marks)
         except Needs as needs:
             self.mark_meetings(needs.meetings)
+            return None
+        self.reached = emitter.reached
+        return emitter.program()
+
+    def keeps_parts(self) -> bool:
+        """Whether no store changes another number of its counter; else parts that need it get counters of their own."""
+        try:
+            check_parts(self.settings, self.marks.moved, self.reached)
         except NeedsCounters as needs:
-            marks.moved = moved_with(self.settings, marks.moved, needs)
-        return None
+            self.marks.moved = moved_with(self.settings, self.marks.moved, needs)
+            return False
+        return True
 
     def result(self, words: list[str], relocations: list[tuple[int, str]]) -> Result:
         marks = self.marks

@@ -131,6 +131,11 @@ REFUSED = {
         + "state.each[0] -= 1; return state.both ? XDP_PASS : XDP_DROP; }",
         "a store may change another one of both, each[0], each[1]",
     ),
+    "a half of a number of eight bytes, and the other half": (
+        "static volatile __u64 state;\n" + FUNCTION
+        + "volatile __u32 *each = (volatile __u32 *)&state; each[0] -= 1; return each[1] ? XDP_PASS : XDP_DROP; }",
+        "a store may change another one of its number, which lie in one counter",
+    ),
     "bit fields": (
         "static volatile struct { __u32 left : 8, passed : 24; } state;\n" + FUNCTION + "state.left--; return state.passed & 1; }",
         "a store may change another one of left, passed",
