@@ -177,8 +177,9 @@ impl<'a> Object<'a> {
         ensures references { IfOk result (λ v. v.items ≡ map (reference_of function) (within function rows.now (length rows.now / 16))) }
         ensures err { IfErr result (HasNoReferences self.now function rows.now) }
     {
-        let mut references = Vec::with_capacity(alloc, relocation::count(rows))?;
-        for row in 0..relocation::count(rows) {
+        let count = relocation::count(rows);
+        let mut references = Vec::with_capacity(alloc, count)?;
+        for row in 0..count {
             let relocation = relocation::at(rows, row);
             if !relocation.is_within(function) {
                 continue;
