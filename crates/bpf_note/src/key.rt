@@ -1,0 +1,75 @@
+//! By what the values of a map are looked up.
+ghost use Rattle.std.specs.Prelude.{◌≡◌, ◌↔◌, IsTrue};
+ghost use Rattle.bpf_note.specs.Keys.{size as size_of, width as width_of, key_size, IsKind, IsKey};
+
+/// What the keys of a map with a list are, each with its number of bytes of data, from 1 to 64.
+#[derive(Clone, Copy, Debug, PartialEq, Eq)]
+pub enum Kind {
+    /// All bytes have to be the same, as in BPF_MAP_TYPE_HASH.
+    Exact(u8),
+    /// A length in bits in four bytes, little-endian, then the data, as in BPF_MAP_TYPE_LPM_TRIE.
+    Prefix(u8),
+}
+
+impl Kind {
+    /// The most bytes of data that a key has.
+    pub const MOST_BYTES: u8 = 64;
+
+    /// Returns the number of bytes of a key.
+    pub fn size(&self) -> usize
+        ensures { result ≡ size_of self.now }
+    {
+        match self {
+            Kind::Exact(bytes) => *bytes as usize,
+            Kind::Prefix(bytes) => 4 + *bytes as usize,
+        }
+    }
+
+    /// Returns the number of bytes of data of a key.
+    pub fn width(&self) -> usize
+        ensures { result ≡ width_of self.now }
+    {
+        match self {
+            Kind::Exact(bytes) | Kind::Prefix(bytes) => *bytes as usize,
+        }
+    }
+
+    /// Whether there are 1 to 64 bytes of data.
+    pub fn is_supported(&self) -> bool
+        ensures { IsTrue result ↔ IsKind self.now }
+    {
+        let width = self.width();
+        1 <= width && width <= Kind::MOST_BYTES as usize
+    }
+}
+
+/// By what a map's values are looked up.
+#[derive(Clone, Copy, Debug, PartialEq, Eq)]
+pub enum MapKey {
+    /// By their numbers, of four bytes, as in BPF_MAP_TYPE_ARRAY.
+    Index,
+    /// By the keys of a list that is given beside the program: value `k` is that of the list's row `k`.
+    Listed(Kind),
+}
+
+impl MapKey {
+    /// Returns the number of bytes of a key.
+    pub fn size(&self) -> usize
+        ensures { result ≡ key_size self.now }
+    {
+        match self {
+            MapKey::Index => 4,
+            MapKey::Listed(kind) => kind.size(),
+        }
+    }
+
+    /// Whether the keys of a list have 1 to 64 bytes of data.
+    pub fn is_supported(&self) -> bool
+        ensures { IsTrue result ↔ IsKey self.now }
+    {
+        match self {
+            MapKey::Index => true,
+            MapKey::Listed(kind) => kind.is_supported(),
+        }
+    }
+}
