@@ -18,7 +18,7 @@ use Rattle.bpf_note.specs.Regions.{region}
 use Rattle.bpf_flow.specs.Step.{Outcome, Next, Loads, Adds, Exited, Fault, step}
 
 start : List Shape → List ℕ → State
-start shapes packet = record { pc = 0; reg = start_register; stack = λ i. None; packet = packet; ifindex = 0; queue = 0; shapes = shapes }
+start shapes packet = record { pc = 0; reg = start_register; stack = λ i. None; packet = packet; ifindex = 0; queue = 0; shapes = shapes; find = λ m key. found_in key }
 
 -- an answer of a counter is 0 here
 next : Outcome → (State → Outcome) → Outcome
@@ -60,7 +60,7 @@ is_add (Adds m k j d go) = m ∷ k ∷ j ∷ d ∷ []
 is_add o = []
 
 two_values : List Shape
-two_values = record { entries = 2; counters = 1 } ∷ []
+two_values = record { entries = 2; counters = 1; key = Index } ∷ []
 
 adds_1_to_value_1 : is_add (after counts 7 (start two_values [])) ≡ 0 ∷ 1 ∷ 0 ∷ 1 ∷ []
 unfolding computed is_met region put_bytes extended start next after counts is_add two_values

@@ -1,8 +1,8 @@
 //! Helper calls.
-ghost use Rattle.std.specs.Prelude.{◌≡◌, ◌<◌};
+ghost use Rattle.std.specs.Prelude.{◌≡◌, ◌<◌, ◌≤◌, option_map, slice_get};
 ghost use Rattle.bpf_insn.specs.declared.insn.Insn.{Insn};
 ghost use Rattle.bpf_note.specs.Parts.{facts};
-ghost use Rattle.bpf_flow.specs.Call.{is_key, is_lookup, looks_up, with_call};
+ghost use Rattle.bpf_flow.specs.Call.{is_key, is_key_of, is_lookup, looks_up, with_call};
 ghost use Rattle.bpf_flow.specs.Effect.{Decides};
 ghost use Rattle.bpf_flow.specs.Rule.{after_of};
 
@@ -11,7 +11,7 @@ use crate::effect::Effect;
 use crate::memory::all_set;
 use crate::point::{Point, is_unset};
 use bpf_insn::Cause;
-use bpf_note::{Note, Val};
+use bpf_note::{MapShape, Note, Val};
 
 fn is_lookup(helper: i32) -> bool
     ensures { result ≡ is_lookup helper }
@@ -29,16 +29,27 @@ pub(crate) fn call(note: &mut Note, m: u32, id: u16)
     }
 }
 
-/// Whether a value is the address of four set bytes of the stack.
-fn is_key(note: &Note, value: Val) -> bool
-    ensures { result ≡ is_key (facts note.now) value }
+/// Whether a value is the address of `bytes` set bytes of the stack.
+fn is_key(note: &Note, bytes: u32, value: Val) -> bool
+    requires { bytes ≤ 512 }
+    ensures { result ≡ is_key (facts note.now) bytes value }
 {
     match value {
-        Val::Stack { off } => match place_in(512 + i32::from(off), 4, 512) {
+        Val::Stack { off } => match place_in(512 + i32::from(off), bytes, 512) {
             None => false,
-            Some(place) => all_set(note, place, 4),
+            Some(place) => all_set(note, place, bytes),
         },
         _ => false,
+    }
+}
+
+/// Whether a value is the address of a key of a map, which has this shape.
+fn is_key_of(note: &Note, shape: Option<&MapShape>, value: Val) -> bool
+    ensures { result ≡ is_key_of (facts note.now) (option_map (λ s. s.now) shape.entry) value }
+{
+    match shape {
+        None => false,
+        Some(shape) => is_key(note, shape.key().size(), value),
     }
 }
 
@@ -46,11 +57,12 @@ impl Point<'_> {
     /// A lookup in the map that `map` names.
     fn looks_up(&self, map: Val, key: Val) -> Result<Effect, Cause>
         requires { self.now.pc < 4096 }
-        ensures gives { Decides result self.now.pc (facts self.now.note.now) (looks_up (facts self.now.note.now) self.now.pc map key) }
+        ensures gives { Decides result self.now.pc (facts self.now.note.now)
+            (looks_up self.now.shapes.now (facts self.now.note.now) self.now.pc map key) }
     {
         match map {
             Val::Map { m } => {
-                if !is_key(self.note, key) {
+                if !is_key_of(self.note, self.shapes.get(m as usize), key) {
                     return Err(Cause::Argument);
                 }
                 Ok(Effect::LooksUp { m })

@@ -1,5 +1,5 @@
 //! By what the values of a map are looked up.
-ghost use Rattle.std.specs.Prelude.{◌≡◌, ◌↔◌, IsTrue};
+ghost use Rattle.std.specs.Prelude.{◌≡◌, ◌≤◌, ◌+◌, ◌↔◌, IsTrue};
 ghost use Rattle.bpf_note.specs.Keys.{size as size_of, width as width_of, key_size, IsKind, IsKey};
 
 /// What the keys of a map with a list are, each with its number of bytes of data, from 1 to 64.
@@ -17,7 +17,8 @@ impl Kind {
 
     /// Returns the number of bytes of a key.
     pub fn size(&self) -> usize
-        ensures { result ≡ size_of self.now }
+        ensures value { result ≡ size_of self.now }
+        ensures few { result ≤ 4 + 255 }
     {
         match self {
             Kind::Exact(bytes) => *bytes as usize,
@@ -54,12 +55,13 @@ pub enum MapKey {
 
 impl MapKey {
     /// Returns the number of bytes of a key.
-    pub fn size(&self) -> usize
-        ensures { result ≡ key_size self.now }
+    pub fn size(&self) -> u32
+        ensures value { result ≡ key_size self.now }
+        ensures few { result ≤ 4 + 255 }
     {
         match self {
             MapKey::Index => 4,
-            MapKey::Listed(kind) => kind.size(),
+            MapKey::Listed(kind) => kind.size() as u32,
         }
     }
 

@@ -35,7 +35,9 @@ pub use laws::{
     notes_that_say_the_same_are_equal, the_entry_describes_every_start,
     the_entry_describes_what_is_begun, the_packet_starts_at_its_id,
 };
-pub use layout::{counters_are_found, found_counters_lie_there, narrow_addresses_stay, packets_end};
+pub use layout::{
+    counters_are_found, found_counters_lie_there, narrow_addresses_stay, packets_end,
+};
 pub use note::Note;
 pub use op::Op;
 pub use shape::MapShape;
