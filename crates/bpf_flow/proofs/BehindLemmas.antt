@@ -27,7 +27,7 @@ use Rattle.bpf_flow.specs.Alu.{exactly, constant, operand_value, any_number, any
 use Rattle.bpf_flow.specs.Memory.{reach, loaded_value, stores, with_store, with_bytes, is_slot, touches, adds_at}
 use Rattle.bpf_flow.specs.Branch.{opposite, raise, narrowed, compared, against_end, end_against, is_null, checked, refined, refined_if, taken, passed}
 use Rattle.bpf_flow.specs.Rule.{is_first_unset, at_target, after_of}
-use Rattle.bpf_flow.specs.Call.{is_key_of, with_call, looks_up, is_lookup}
+use Rattle.bpf_flow.specs.Call.{is_key, key_bytes, with_call, looks_up, is_lookup}
 use Rattle.bpf_flow.specs.declared.computed.Computed.{Computed}
 use Rattle.bpf_flow.specs.declared.computed.Computed.TheVariants.{Plain, Fresh}
 use Rattle.bpf_flow.specs.declared.access.Access.{Access}
@@ -243,7 +243,7 @@ call_behind : (shapes : List Shape) (helper : ℤ) (pc k : ℕ) (n : Facts) (v k
 call_behind shapes helper pc k n (Map m) key es h =
     one_behind (Call helper) pc k (pc + 1) n (with_call (with_id n pc 0) m pc) es refl (λ q l. l) (λ g. call_unset n m pc k)
     (λ g j. mapped_kept (forgotten pc) (n.kept j) (forgotten_unset pc) (g j))
-    (unless_ok (not (is_key_of n (slice_get shapes m) key)) cause.Argument _ es h).1
+    (unless_ok (not (is_key n (key_bytes (slice_get shapes m)) key)) cause.Argument _ es h).1
 call_behind shapes helper pc k n Unset key es h = absurd (cc)
 call_behind shapes helper pc k n (Num lo hi) key es h = absurd (cc)
 call_behind shapes helper pc k n (Pkt id off) key es h = absurd (cc)

@@ -1,5 +1,5 @@
 -- Lookups, and adds to counters.
-use Rattle.std.proofs.Common.{◌≡◌, ℕ, ◌+◌, ◌-◌, ◌^◌, ◌<◌, ◌≤◌, ◌⊎◌, inl, inr, Bool, true, false, ◌&&◌, not, refl, Option, Some, None, List, length, nat_eq, nat_lt, subst, sym, ap, ◌∙◌, arith, ℤ, pos, ◌+ℤ◌}
+use Rattle.std.proofs.Common.{◌≡◌, ℕ, zero, suc, ◌+◌, ◌-◌, ◌^◌, ◌<◌, ◌≤◌, ◌⊎◌, inl, inr, Bool, true, false, ◌&&◌, not, refl, Option, Some, None, List, [], ◌∷◌, length, nat_eq, nat_lt, subst, sym, ap, ◌∙◌, arith, ℤ, pos, ◌+ℤ◌}
 use Rattle.std.specs.Prelude.{if◌then◌else◌, nat_le, slice_get, Ok, Err}
 use Rattle.std.proofs.lemmas.Bool.Decides.{nat_tests}
 use Rattle.std.proofs.lemmas.Int.{ints}
@@ -17,7 +17,7 @@ use Rattle.bpf_flow.specs.Step.{Outcome, Next, Adds, Fault, need, at_slot, with_
 use Rattle.bpf_flow.specs.Edges.{Edges, goes_to}
 use Rattle.bpf_flow.specs.Memory.{place_in, is_counter, all_set, adds_at}
 use Rattle.bpf_flow.specs.Rule.{fetched}
-use Rattle.bpf_flow.specs.Call.{is_key, is_key_at, is_key_of, with_call, looks_up}
+use Rattle.bpf_flow.specs.Call.{is_key, is_key_at, key_bytes, with_call, looks_up}
 use Rattle.bpf_flow.specs.Sound.{Accounts}
 use Rattle.bpf_flow.specs.declared.access.Access.TheVariants.{AtValue}
 use Rattle.bpf_flow.proofs.AnswerLemmas.{unless_ok, same_some, flipped}
@@ -116,10 +116,15 @@ key_is n s z (val.Map m) a d r e = absurd (cc)
 key_is n s z (val.MaybeValue m id) a d r e = absurd (cc)
 key_is n s z (val.Value m) a d r e = absurd (cc)
 
--- the map's shape, and a key of its size
-key_of : (n : Facts) (s : State) (shape : Option Shape) (v : Val) (a : ℕ) (d : Describes n s) → IsReading (meaning s d.base d.address) v a → is_key_of n shape v ≡ true → (c : Shape) × (shape ≡ Some c) × Key s a (key_size c.key)
-key_of n s None v a d r e = absurd (cc)
-key_of n s (Some c) v a d r e = (c, refl, key_is n s (key_size c.key) v a d r e)
+-- the map's shape
+there_is : {A : Type 0} (xs : List A) (k : ℕ) → k < length xs → (x : A) × (slice_get xs k ≡ Some x)
+there_is [] k h = absurd (omega arith)
+there_is (x ∷ xs) zero h = (x, refl)
+there_is (x ∷ xs) (suc k) h = there_is xs k (omega arith)
+
+-- a key of the size that the map's shape says
+key_of : (n : Facts) (s : State) (shape : Option Shape) (c : Shape) (v : Val) (a : ℕ) (d : Describes n s) → shape ≡ Some c → IsReading (meaning s d.base d.address) v a → is_key n (key_bytes shape) v ≡ true → Key s a (key_size c.key)
+key_of n s shape c v a d same r e = key_is n s (key_size c.key) v a d r (subst (λ (o : Option Shape). is_key n (key_bytes o) v ≡ true) same e)
 
 map_found : (s : State) (x m : ℕ) → x ≡ references_start + m → m < length s.shapes → map_at s x ≡ Some m
 map_found s x m e lt = by (nat_le references_start x && nat_lt (x - references_start) (length s.shapes)) refl
@@ -138,20 +143,21 @@ needs_some {A = A} es o x go e h = subst (λ (o : Option A). Accounts es (need o
 map_looks_up : (n : Facts) (s : State) (m x y : ℕ) (key : Val) (es : Edges) (d : Describes n s) → s.pc < 4096 → s.reg 1 ≡ Some x → s.reg 2 ≡ Some y →
     IsReading (meaning s d.base d.address) (val.Map m) x → IsReading (meaning s d.base d.address) key y → looks_up s.shapes n s.pc (val.Map m) key ≡ Ok es → Accounts es (looked_up s)
 map_looks_up n s m x y key es d small e f rx ry h =
-    let u = unless_ok (not (is_key_of n (slice_get s.shapes m) key)) cause.Argument (goes_to (s.pc + 1) (with_call (with_id n s.pc 0) m s.pc)) es h in
-    let k = key_of n s (slice_get s.shapes m) key y d ry (flipped (is_key_of n (slice_get s.shapes m) key) u.0) in
-    let c : Shape = k.0 in
-    let a : ℕ = value_or_null c m (row_of s m c.key k.2.key) in
-    let fits : a < 2 ^ 64 = value_fits s m c (row_of s m c.key k.2.key) d.state k.1 in
+    let u = unless_ok (not (is_key n (key_bytes (slice_get s.shapes m)) key)) cause.Argument (goes_to (s.pc + 1) (with_call (with_id n s.pc 0) m s.pc)) es h in
+    let map = there_is s.shapes m rx.1 in
+    let c : Shape = map.0 in
+    let k = key_of n s (slice_get s.shapes m) c key y d map.1 ry (flipped (is_key n (key_bytes (slice_get s.shapes m)) key) u.0) in
+    let a : ℕ = value_or_null c m (row_of s m c.key k.key) in
+    let fits : a < 2 ^ 64 = value_fits s m c (row_of s m c.key k.key) d.state map.1 in
     let known = with_id_known n s s.pc 0 a 0 (other_id s.pc small) (omega arith) (omega arith) d in
-    let value : (a ≡ 0) ⊎ IsValueOf (slice_get s.shapes m) m a = subst (λ (o : Option Shape). (a ≡ 0) ⊎ IsValueOf o m a) (sym k.1) (null_or_value c m (row_of s m c.key k.2.key)) in
+    let value : (a ≡ 0) ⊎ IsValueOf (slice_get s.shapes m) m a = subst (λ (o : Option Shape). (a ≡ 0) ⊎ IsValueOf o m a) (sym map.1) (null_or_value c m (row_of s m c.key k.key)) in
     let reading : IsReading (meaning s known.0.base known.0.address) (val.MaybeValue m s.pc) a = (sym known.2, value) in
-    let there : key_in (region (length s.packet) s.shapes y (key_size c.key)) s (key_size c.key) ≡ Some k.2.key = ap (λ (p : Place). key_in p s (key_size c.key)) k.2.place ∙ k.2.bytes in
+    let there : key_in (region (length s.packet) s.shapes y (key_size c.key)) s (key_size c.key) ≡ Some k.key = ap (λ (p : Place). key_in p s (key_size c.key)) k.place ∙ k.bytes in
     needs_some es (s.reg 1) x _ e
     (needs_some es (s.reg 2) y _ f
     (needs_some es (map_at s x) m _ (map_found s x m rx.0 rx.1)
-    (needs_some es (slice_get s.shapes m) c (looked_up_in s y m) k.1
-    (needs_some es (key_in (region (length s.packet) s.shapes y (key_size c.key)) s (key_size c.key)) k.2.key (λ key. Next (called s (value_or_null c m (row_of s m c.key key)))) there
+    (needs_some es (slice_get s.shapes m) c (looked_up_in s y m) map.1
+    (needs_some es (key_in (region (length s.packet) s.shapes y (key_size c.key)) s (key_size c.key)) k.key (λ key. Next (called s (value_or_null c m (row_of s m c.key key)))) there
     (one_covers (s.pc + 1) (with_call (with_id n s.pc 0) m s.pc) es (called s a) refl
     (called_describes (with_id n s.pc 0) s m s.pc a known.0 fits reading) u.1)))))
 

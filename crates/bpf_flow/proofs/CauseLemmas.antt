@@ -19,7 +19,7 @@ use Rattle.bpf_flow.specs.Edges.{Edges, unless, and_then, sets}
 use Rattle.bpf_flow.specs.Alu.{exactly, operand_value}
 use Rattle.bpf_flow.specs.Memory.{place_in, packet_place, in_packet, on_stack, reach, is_word, is_field, is_double, is_counter, all_set, loaded_value, stores, adds_at}
 use Rattle.bpf_flow.specs.Rule.{after_of, is_first_unset, at_target, IsRuled}
-use Rattle.bpf_flow.specs.Call.{is_key_of, is_lookup, looks_up}
+use Rattle.bpf_flow.specs.Call.{is_key, key_bytes, is_lookup, looks_up}
 use Rattle.bpf_flow.specs.declared.access.Access.{Access}
 use Rattle.bpf_flow.specs.declared.access.Access.TheVariants.{InPacket, OnStack, InContext, AtValue}
 
@@ -97,7 +97,7 @@ target_cause None edges c there h = absurd (cc)
 target_cause (Some q) edges c there h = absurd (cc)
 
 lookup_cause : (shapes : List Shape) (n : Facts) (pc : ℕ) (v key : Val) (c : Cause) → looks_up shapes n pc v key ≡ Err c → IsRuleCause c
-lookup_cause shapes n pc (val.Map m) key c h = unless_cause (not (is_key_of n (slice_get shapes m) key)) cause.Argument c _ tt (λ g. absurd (cc)) h
+lookup_cause shapes n pc (val.Map m) key c h = unless_cause (not (is_key n (key_bytes (slice_get shapes m)) key)) cause.Argument c _ tt (λ g. absurd (cc)) h
 lookup_cause shapes n pc val.Unset key c h = this {A = Edges} cause.Argument c tt h
 lookup_cause shapes n pc (val.Num lo hi) key c h = this {A = Edges} cause.Argument c tt h
 lookup_cause shapes n pc (val.Pkt id off) key c h = this {A = Edges} cause.Argument c tt h

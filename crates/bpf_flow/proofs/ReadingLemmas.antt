@@ -26,7 +26,7 @@ use Rattle.bpf_flow.specs.Alu.{exactly, operand_value, result_of, negated_value,
 use Rattle.bpf_flow.specs.Memory.{place_in, packet_place, in_packet, on_stack, reach, is_word, is_field, is_double, is_counter, all_set, stack_value, field_value, loaded_value, stores, adds_at}
 use Rattle.bpf_flow.specs.Branch.{taken, passed}
 use Rattle.bpf_flow.specs.Rule.{is_first_unset, at_target, fetched, after_of}
-use Rattle.bpf_flow.specs.Call.{is_key_of, with_call, looks_up, is_lookup}
+use Rattle.bpf_flow.specs.Call.{is_key, key_bytes, with_call, looks_up, is_lookup}
 use Rattle.bpf_flow.specs.Reading.{IsKnownCall, ReadsUnset}
 use Rattle.bpf_flow.specs.declared.access.Access.{Access}
 use Rattle.bpf_flow.specs.declared.access.Access.TheVariants.{InPacket, OnStack, InContext, AtValue}
@@ -103,7 +103,7 @@ target_others None edges = refl
 target_others (Some q) edges = tt
 
 looks_up_others : (shapes : List Shape) (n : Facts) (pc : ℕ) (v key : Val) → Others (looks_up shapes n pc v key)
-looks_up_others shapes n pc (Map m) key = chosen_others (not (is_key_of n (slice_get shapes m) key)) (Err cause.Argument) (goes_to (pc + 1) (with_call (with_id n pc 0) m pc)) refl tt
+looks_up_others shapes n pc (Map m) key = chosen_others (not (is_key n (key_bytes (slice_get shapes m)) key)) (Err cause.Argument) (goes_to (pc + 1) (with_call (with_id n pc 0) m pc)) refl tt
 looks_up_others shapes n pc Unset key = refl
 looks_up_others shapes n pc (Num lo hi) key = refl
 looks_up_others shapes n pc (Pkt id off) key = refl

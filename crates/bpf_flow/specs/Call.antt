@@ -19,10 +19,10 @@ abbrev pub is_key : Facts → ℕ → Val → Bool
 is_key n z (val.Stack off) = is_key_at n z (place_in (pos 512 +ℤ off) z 512)
 is_key n z v = false
 
--- a key as long as those of the map, which has this shape
-abbrev pub is_key_of : Facts → Option Shape → Val → Bool
-is_key_of n None v = false
-is_key_of n (Some shape) v = is_key n (key_size shape.key) v
+-- how many bytes a key of a map has; a program names no map that isn't there
+abbrev pub key_bytes : Option Shape → ℕ
+key_bytes None = 4
+key_bytes (Some shape) = key_size shape.key
 
 -- registers after a call: r0 the address of a value or 0, r1 to r5 lost
 abbrev pub called_reg : (ℕ → Val) → ℕ → ℕ → ℕ → Val
@@ -34,7 +34,7 @@ with_call n m pc = record { reg = called_reg n.reg m pc; kept = n.kept; set = n.
 -- a lookup of a key, in the map that r1 names
 abbrev pub looks_up : List Shape → Facts → ℕ → Val → Val → Answer
 looks_up shapes n pc (val.Map m) key =
-    unless (not (is_key_of n (slice_get shapes m) key)) cause.Argument (goes_to (pc + 1) (with_call (with_id n pc 0) m pc))
+    unless (not (is_key n (key_bytes (slice_get shapes m)) key)) cause.Argument (goes_to (pc + 1) (with_call (with_id n pc 0) m pc))
 looks_up shapes n pc v key = Err cause.Argument
 
 abbrev pub is_lookup : ℤ → Bool

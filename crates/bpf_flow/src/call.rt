@@ -2,7 +2,7 @@
 ghost use Rattle.std.specs.Prelude.{◌≡◌, ◌<◌, ◌≤◌, option_map, slice_get};
 ghost use Rattle.bpf_insn.specs.declared.insn.Insn.{Insn};
 ghost use Rattle.bpf_note.specs.Parts.{facts};
-ghost use Rattle.bpf_flow.specs.Call.{is_key, is_key_of, is_lookup, looks_up, with_call};
+ghost use Rattle.bpf_flow.specs.Call.{is_key, key_bytes, is_lookup, looks_up, with_call};
 ghost use Rattle.bpf_flow.specs.Effect.{Decides};
 ghost use Rattle.bpf_flow.specs.Rule.{after_of};
 
@@ -11,7 +11,7 @@ use crate::effect::Effect;
 use crate::memory::all_set;
 use crate::point::{Point, is_unset};
 use bpf_insn::Cause;
-use bpf_note::{MapShape, Note, Val};
+use bpf_note::{MapKey, MapShape, Note, Val};
 
 fn is_lookup(helper: i32) -> bool
     ensures { result ≡ is_lookup helper }
@@ -43,14 +43,23 @@ fn is_key(note: &Note, bytes: u32, value: Val) -> bool
     }
 }
 
-/// Whether a value is the address of a key of a map, which has this shape.
-fn is_key_of(note: &Note, shape: Option<&MapShape>, value: Val) -> bool
-    ensures { result ≡ is_key_of (facts note.now) (option_map (λ s. s.now) shape.entry) value }
+/// Returns the number of bytes of a key of a map.
+fn key_bytes(shape: Option<&MapShape>) -> u32
+    ensures value { result ≡ key_bytes (option_map (λ s. s.now) shape.entry) }
+    ensures few { result ≤ 512 }
 {
     match shape {
-        None => false,
-        Some(shape) => is_key(note, shape.key().size(), value),
+        None => MapKey::Index.size(),
+        Some(shape) => shape.key().size(),
     }
+}
+
+/// Returns the number of bytes of a key of map `m`.
+fn key_bytes_of(shapes: &[MapShape], m: u32) -> u32
+    ensures value { result ≡ key_bytes (slice_get shapes.now m) }
+    ensures few { result ≤ 512 }
+{
+    key_bytes(shapes.get(m as usize))
 }
 
 impl Point<'_> {
@@ -62,7 +71,7 @@ impl Point<'_> {
     {
         match map {
             Val::Map { m } => {
-                if !is_key_of(self.note, self.shapes.get(m as usize), key) {
+                if !is_key(self.note, key_bytes_of(self.shapes, m), key) {
                     return Err(Cause::Argument);
                 }
                 Ok(Effect::LooksUp { m })
