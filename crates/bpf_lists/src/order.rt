@@ -1,9 +1,10 @@
 //! Rows in the order of their data, and the search among them.
 ghost use Rattle.std.specs.Prelude.{◌≡◌, ◌+◌, ◌-◌, ◌*◌, ◌<◌, ◌≤◌, ℕ, length, slice_index, ◌↔◌, IsTrue, ◌⊎◌};
-ghost use Rattle.bpf_lists.specs.Keys.{size as size_of, value, data_of};
+ghost use Rattle.bpf_note.specs.Keys.{size as size_of, data_of};
+ghost use Rattle.bpf_lists.specs.Keys.{value};
 ghost use Rattle.bpf_lists.specs.Order.{at as key_of, IsOrdered, Covers, Reaches, AreParents};
 
-use crate::kind::Kind;
+use bpf_note::Kind;
 use crate::{keys, numbers};
 use std::marker::Model;
 

@@ -1,9 +1,10 @@
 //! The rows of a keyed map.
 ghost use Rattle.std.specs.Prelude.{◌≡◌, length, IfOk, IfErr};
-ghost use Rattle.bpf_lists.specs.Keys.{size as size_of, IsFound};
+ghost use Rattle.bpf_note.specs.Keys.{size as size_of};
+ghost use Rattle.bpf_lists.specs.Keys.{IsFound};
 ghost use Rattle.bpf_lists.specs.Refusals.{AreListed, IsRefused};
 
-use crate::kind::Kind;
+use bpf_note::Kind;
 use crate::order::Order;
 use crate::refusal::Refusal;
 use crate::{keys, sorting};

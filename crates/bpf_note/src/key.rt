@@ -1,6 +1,6 @@
 //! By what the values of a map are looked up.
-ghost use Rattle.std.specs.Prelude.{◌≡◌, ◌≤◌, ◌+◌, ◌↔◌, IsTrue};
-ghost use Rattle.bpf_note.specs.Keys.{size as size_of, width as width_of, key_size, IsKind, IsKey};
+ghost use Rattle.std.specs.Prelude.{◌≡◌, ◌≤◌, ◌+◌, length, ◌↔◌, IsTrue};
+ghost use Rattle.bpf_note.specs.Keys.{size as size_of, width as width_of, data_of, bits_of, key_size, IsKind, IsKey};
 
 /// What the keys of a map with a list are, each with its number of bytes of data, from 1 to 64.
 #[derive(Clone, Copy, Debug, PartialEq, Eq)]
@@ -41,6 +41,29 @@ impl Kind {
     {
         let width = self.width();
         1 <= width && width <= Kind::MOST_BYTES as usize
+    }
+
+    /// The data of a key.
+    pub fn data_bytes<'a>(&self, key: &'a [u8]) -> &'a [u8]
+        requires { length key.now ≡ size_of self.now }
+        ensures value { result.now ≡ data_of self.now key.now }
+        ensures len { length result.now ≡ width_of self.now }
+    {
+        match self {
+            Kind::Exact(_) => key,
+            Kind::Prefix(_) => &key[4..],
+        }
+    }
+
+    /// Returns the number of bits of its data that a key is about.
+    pub fn data_bits(&self, key: &[u8]) -> u32
+        requires { length key.now ≡ size_of self.now }
+        ensures { result ≡ bits_of self.now key.now }
+    {
+        match self {
+            Kind::Exact(bytes) => 8 * *bytes as u32,
+            Kind::Prefix(_) => u32::from_le_bytes([key[0], key[1], key[2], key[3]]),
+        }
     }
 }
 
