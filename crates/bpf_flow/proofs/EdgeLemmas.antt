@@ -85,7 +85,7 @@ helped_at (pos n) s l u h = by (n == 1) h
         needed (map_at s x) _ l u (λ m h.
         needed (slice_get s.shapes m) (looked_up_in s a m) l u (λ shape h.
         needed (key_in (region (length s.packet) s.shapes a (key_size shape.key)) s (key_size shape.key)) _ l u (λ key h.
-        next_at (called s (value_or_null shape m (row_of s m shape.key key))) (s.pc + 1) l u refl h) h) h) h) h h
+        next_at (called s (value_or_null shape m (row_of s m shape.key key))) (s.pc + 1) l u refl h) h) h) h) h) h
     by false h = absurd (no_fault l u h)
 helped_at (negsuc n) s l u h = absurd (no_fault l u h)
 
