@@ -76,29 +76,45 @@ module _ (kind : Kind) (keys key : List ℕ) where
   bits r = bits_of kind (row kind keys r)
 
   next_longer : (n r : ℕ) (b : Bool) → Holds kind (row kind keys n) key → b ≡ nat_lt (bits r) (bits n) → Among kind keys key n (Some r) → Among kind keys key (suc n) (if b then Some n else Some r)
-  next_longer n r true here e f = (omega arith, here, λ s lt h. elim (equal_or_less s n (omega arith)) [
-    | inl same ↦ subst (λ (k : ℕ). bits k ≤ bits n) (sym same) (omega arith)
-    | inr less ↦ (let a : bits s ≤ bits r = f.2 s less h in let b : bits r < bits n = lt_is (bits r) (bits n) e in omega (arith, a, b))
-  ])
-  next_longer n r false here e f = (omega (arith, f.0), f.1, λ s lt h. elim (equal_or_less s n (omega arith)) [
-    | inl same ↦ subst (λ (k : ℕ). bits k ≤ bits r) (sym same) (not_lt_is (bits r) (bits n) e)
-    | inr less ↦ f.2 s less h
-  ])
+  next_longer n r true here e f = (
+    omega arith,
+    here,
+    λ s lt h. elim (equal_or_less s n (omega arith)) [
+      | inl same ↦ subst (λ (k : ℕ). bits k ≤ bits n) (sym same) (omega arith)
+      | inr less ↦ (let a : bits s ≤ bits r = f.2 s less h in let b : bits r < bits n = lt_is (bits r) (bits n) e in omega (arith, a, b))
+    ],
+  )
+  next_longer n r false here e f = (
+    omega (arith, f.0),
+    f.1,
+    λ s lt h. elim (equal_or_less s n (omega arith)) [
+      | inl same ↦ subst (λ (k : ℕ). bits k ≤ bits r) (sym same) (not_lt_is (bits r) (bits n) e)
+      | inr less ↦ f.2 s less h
+    ],
+  )
 
   next : (n : ℕ) (b : Bool) → holds kind (row kind keys n) key ≡ b → (o : Option ℕ) → Among kind keys key n o → Among kind keys key (suc n) (if b then longer kind keys n o else o)
-  next n true e None f = (omega arith, holds_is kind (row kind keys n) key e, λ s lt h. elim (equal_or_less s n (omega arith)) [
-    | inl same ↦ subst (λ (k : ℕ). bits k ≤ bits n) (sym same) (omega arith)
-    | inr less ↦ absurd (f s less h)
-  ])
+  next n true e None f = (
+    omega arith,
+    holds_is kind (row kind keys n) key e,
+    λ s lt h. elim (equal_or_less s n (omega arith)) [
+      | inl same ↦ subst (λ (k : ℕ). bits k ≤ bits n) (sym same) (omega arith)
+      | inr less ↦ absurd (f s less h)
+    ],
+  )
   next n true e (Some r) f = next_longer n r (nat_lt (bits r) (bits n)) (holds_is kind (row kind keys n) key e) refl f
   next n false e None f = λ s lt h. elim (equal_or_less s n (omega arith)) [
     | inl same ↦ (let there : holds kind (row kind keys n) key ≡ true = is_holds kind (row kind keys n) key (subst (λ (k : ℕ). Holds kind (row kind keys k) key) same h) in absurd (cc))
     | inr less ↦ f s less h
   ]
-  next n false e (Some r) f = (omega (arith, f.0), f.1, λ s lt h. elim (equal_or_less s n (omega arith)) [
-    | inl same ↦ (let there : holds kind (row kind keys n) key ≡ true = is_holds kind (row kind keys n) key (subst (λ (k : ℕ). Holds kind (row kind keys k) key) same h) in absurd (cc))
-    | inr less ↦ f.2 s less h
-  ])
+  next n false e (Some r) f = (
+    omega (arith, f.0),
+    f.1,
+    λ s lt h. elim (equal_or_less s n (omega arith)) [
+      | inl same ↦ (let there : holds kind (row kind keys n) key ≡ true = is_holds kind (row kind keys n) key (subst (λ (k : ℕ). Holds kind (row kind keys k) key) same h) in absurd (cc))
+      | inr less ↦ f.2 s less h
+    ],
+  )
 
   among : (n : ℕ) → Among kind keys key n (found_among kind keys key n)
   among zero = λ s lt h. absurd (omega arith)

@@ -5,9 +5,9 @@ ghost use Rattle.bpf_lists.specs.Keys.{row as row_of, count as count_of};
 ghost use Rattle.bpf_lists.specs.Refusals.{IsWithin, IsSame, AreFew, AreRows, IsRefused};
 ghost use Rattle.bpf_lists.specs.Order.{Covers};
 
-use bpf_note::Kind;
 use crate::numbers;
 use crate::refusal::Refusal;
+use bpf_note::Kind;
 
 /// The most rows of a map.
 pub(crate) const MOST_ROWS: usize = 65536;

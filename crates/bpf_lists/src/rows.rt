@@ -5,10 +5,10 @@ ghost use Rattle.bpf_lists.specs.Keys.{IsFound};
 ghost use Rattle.bpf_lists.specs.Find.{row_for};
 ghost use Rattle.bpf_lists.specs.Refusals.{AreListed, IsRefused};
 
-use bpf_note::Kind;
 use crate::order::Order;
 use crate::refusal::Refusal;
 use crate::{keys, sorting};
+use bpf_note::Kind;
 use std::alloc::Global;
 use std::marker::Model;
 

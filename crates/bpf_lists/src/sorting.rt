@@ -7,10 +7,10 @@ ghost use Rattle.bpf_lists.specs.Keys.{row as row_of, count as count_of};
 ghost use Rattle.bpf_lists.specs.Refusals.{AreRows, AreListed, IsRefused};
 ghost use Rattle.bpf_lists.specs.Order.{AreParents, AreSorted, spot, Differ};
 
-use bpf_note::Kind;
 use crate::order::Order;
 use crate::refusal::Refusal;
 use crate::{keys, numbers};
+use bpf_note::Kind;
 use std::alloc::{AllocError, Global};
 use std::cmp::Ordering;
 
