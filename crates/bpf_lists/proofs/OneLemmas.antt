@@ -1,10 +1,10 @@
 -- A lookup has one answer, and it is the one that is computed.
-use Rattle.std.proofs.Common.{◌≡◌, ℕ, zero, suc, ◌+◌, ◌-◌, ◌*◌, ◌/◌, ◌%◌, ◌^◌, ◌<◌, ◌≤◌, ◌⊎◌, inl, inr, Bool, true, false, ◌&&◌, List, [], ◌∷◌, Option, None, Some, length, drop, arith, sym, ◌∙◌, ap, subst, refl}
+use Rattle.std.proofs.Common.{◌≡◌, ℕ, zero, suc, ◌-◌, ◌*◌, ◌/◌, ◌%◌, ◌^◌, ◌<◌, ◌≤◌, inl, inr, Bool, true, false, ◌&&◌, List, [], ◌∷◌, Option, None, Some, length, drop, arith, sym, ◌∙◌, ap, subst, refl}
 use Rattle.std.specs.Prelude.{if◌then◌else◌, ◌==◌, nat_le, nat_lt}
 use Rattle.std.proofs.lemmas.Bool.Decides.{nat_tests}
 use Rattle.bpf_note.specs.declared.key.Kind.{Kind}
 use Rattle.bpf_note.specs.declared.key.Kind.TheVariants.{Exact, Prefix}
-use Rattle.bpf_note.specs.Keys.{size, width, word, bits_of, data_of}
+use Rattle.bpf_note.specs.Keys.{size, word, bits_of, data_of}
 use Rattle.bpf_lists.specs.Keys.{Keyed, value, first, row, count, Holds, IsLongest, IsFound}
 use Rattle.bpf_lists.specs.Refusals.{AreListed, IsPlain}
 use Rattle.bpf_lists.specs.Find.{are_same, holds, longer, found_among, row_for}
