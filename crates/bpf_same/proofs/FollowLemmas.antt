@@ -73,6 +73,7 @@ parted_is e low p s t b =
     ∙ ap (λ (i : ℕ). record t { pc = p; packet = s.packet; ifindex = i }) b.ifindex
     ∙ ap (λ (q : ℕ). record t { pc = p; packet = s.packet; ifindex = s.ifindex; queue = q }) b.queue
     ∙ ap (λ (m : List Shape). record t { pc = p; packet = s.packet; ifindex = s.ifindex; queue = s.queue; shapes = m }) b.shapes
+    ∙ ap (λ (f : ℕ → List ℕ → Option ℕ). record t { pc = p; packet = s.packet; ifindex = s.ifindex; queue = s.queue; shapes = s.shapes; find = f }) b.find
 
 alike_there : (e : Equations) (low p : ℕ) (i : Insn) (s t : State) → Beside e low p s t → ReadsAlike e i → AreAlike i s.reg t.reg
 alike_there e low p i s t b alike = alike_of i (held s) s.reg t.reg (λ k l. held_register s k l) (alike (held s) t.reg b.equations)
@@ -87,7 +88,7 @@ compared_old e low p cond wide dst src off s t c b alike k =
 -- a slot that is passed, in front of a way on
 pub pass_on : (old : List Insn) (e : Equations) (low : ℕ) (n : Facts) (p q r : ℕ) (i : Insn) → Passes old e low n p q → slice_get old q ≡ Some i → IsPassed i e low n q r → Passes old e low n p r
 pass_on old e low n p q r i before_that there h = λ s t d b r0 bytes done run.
-    let moved : Beside e low q s (at_slot t q) = record { pc = refl; packet = b.packet; ifindex = b.ifindex; queue = b.queue; shapes = b.shapes; stack = b.stack; equations = b.equations } in
+    let moved : Beside e low q s (at_slot t q) = record { pc = refl; packet = b.packet; ifindex = b.ifindex; queue = b.queue; shapes = b.shapes; find = b.find; stack = b.stack; equations = b.equations } in
     before_that s t d b r0 bytes done (before old r0 bytes (at_slot t q) (at_slot t r) None done (step_at old (at_slot t q) i None (at_slot t r) there (h s (at_slot t q) d moved)) run)
 
 pub stay : (old : List Insn) (e : Equations) (low : ℕ) (n : Facts) (p : ℕ) → Passes old e low n p p
@@ -123,7 +124,7 @@ meet b n p q place e here claimed way known = λ e' claimed' s t pc d beside r0 
     let same : e' ≡ e = some_is (sym claimed' ∙ claimed) in
     let there : Beside e b.low p s t = subst (λ (e : Equations). Beside e b.low p s t) same beside in
     way s t d there r0 bytes done (go place e (at_slot t place.at) (ap (slice_get b.places) pc ∙ here) (ap (slice_get b.equations) pc ∙ claimed) (subst (λ (q : ℕ). IsKnown b.notes q s) (sym pc) (known s d))
-    (record { pc = refl; packet = there.packet; ifindex = there.ifindex; queue = there.queue; shapes = there.shapes; stack = there.stack; equations = there.equations }))
+    (record { pc = refl; packet = there.packet; ifindex = there.ifindex; queue = there.queue; shapes = there.shapes; find = there.find; stack = there.stack; equations = there.equations }))
 
 -- a state that a step leads to is covered by the edges
 covered : (es : Edges) (o : Outcome) (label : Option Op) (u : State) → Accounts es o → LeadsTo o label u → Covers es u
@@ -201,9 +202,9 @@ own_exits Second low n s r0 o e = o
 
 -- after a step of both, or of the new program's own, the old program's state v stands beside the new one's state u
 landed : (b : Book) (i : Insn) (own : Bool) (e : Equations) (low : ℕ) (m : Facts) (p q : ℕ) → Lands b i own e m p q → (s t u v : State) → Hold e (held s) t.reg → Turned i own b.low m (held s) t.reg (held u) v.reg → Describes m u → u.pc ≡ q → v.pc ≡ p →
-    v.packet ≡ u.packet → v.ifindex ≡ u.ifindex → v.queue ≡ u.queue → v.shapes ≡ u.shapes → ((j : ℕ) → b.low ≤ j → v.stack j ≡ u.stack j) → (r0 : ℕ) (bytes : List ℕ) (done : List Op) → IsFollowed b r0 bytes done u → Runs b.old r0 bytes v done
-landed b i own e low m p q l s t u v hold turned d at pc packet ifindex queue shapes stack r0 bytes done go =
-    l.meets l.next l.here u v at d (record { pc = pc; packet = packet; ifindex = ifindex; queue = queue; shapes = shapes; stack = stack; equations = l.keeps (held s) t.reg (held u) v.reg turned hold }) r0 bytes done go
+    v.packet ≡ u.packet → v.ifindex ≡ u.ifindex → v.queue ≡ u.queue → v.shapes ≡ u.shapes → v.find ≡ u.find → ((j : ℕ) → b.low ≤ j → v.stack j ≡ u.stack j) → (r0 : ℕ) (bytes : List ℕ) (done : List Op) → IsFollowed b r0 bytes done u → Runs b.old r0 bytes v done
+landed b i own e low m p q l s t u v hold turned d at pc packet ifindex queue shapes find stack r0 bytes done go =
+    l.meets l.next l.here u v at d (record { pc = pc; packet = packet; ifindex = ifindex; queue = queue; shapes = shapes; find = find; stack = stack; equations = l.keeps (held s) t.reg (held u) v.reg turned hold }) r0 bytes done go
 
 -- a jump leaves what holders hold
 jump_turned : (i : Insn) (low q : ℕ) (m : Facts) (s : State) (g : ℕ → Option ℕ) → is_jump i ≡ true → Describes m (at_slot s q) → Turned i true low m (held s) g (held (at_slot s q)) g
@@ -232,7 +233,7 @@ both_step b shapes p i e n m pc q j st sound = record {
       let behind = v.2 in
       before b.old r0 bytes t v.0 label done (step_at b.old t i label v.0 there v.1)
       (landed b i false e b.low m (next_slot i p) q st.lands s t u v.0 beside.equations (copied_turned i s u t v.0 b.low (next_slot i p) m label h v.1 cover.1 behind) cover.1 cover.0 behind.pc
-      behind.packet behind.ifindex behind.queue behind.shapes behind.stack r0 bytes done go);
+      behind.packet behind.ifindex behind.queue behind.shapes behind.find behind.stack r0 bytes done go);
   ends = λ s t beside d r0 x.
       ap (λ (o : Option Insn). need o (λ i. exec i t)) (ap (slice_get b.old) beside.pc ∙ st.there) ∙ pairs_exit (Behind (λ k. alters i k) (next_slot i p) b.low s t.reg) (exec i s) (exec i t) r0 (pairs s t beside d) x;
 }
@@ -248,7 +249,7 @@ own_step b shapes p i e n m pc q o l sound = record {
       let cover : (u.pc ≡ q) × Describes m u = by_one q m u (covered ((q, m) ∷ []) (exec i s) label u (sound s d at sh) h) in
       let a = own_alone i b.low n m s t.reg label u o d cover.1 h in
       let run : Runs b.old r0 bytes t done = landed b i true e b.low m p q l s t u t beside.equations a.turned cover.1 cover.0 beside.pc (beside.packet ∙ sym a.packet) (beside.ifindex ∙ sym a.ifindex) (beside.queue ∙ sym a.queue)
-      (beside.shapes ∙ sym a.shapes) (λ j above. beside.stack j above ∙ sym (a.stack j above)) r0 bytes done go in
+      (beside.shapes ∙ sym a.shapes) (beside.find ∙ sym a.find) (λ j above. beside.stack j above ∙ sym (a.stack j above)) r0 bytes done go in
       subst (λ (label : Option Op). Runs b.old r0 bytes t (in_front label done)) (sym a.label) run;
   ends = λ s t beside d r0 x. absurd (own_exits i b.low n s r0 o x);
 }
@@ -274,7 +275,7 @@ ja_follows b shapes p wide to e n m pc q sound l = record {
   goes = λ s t beside at sh d label u h r0 bytes done go.
       let cover : (u.pc ≡ q) × Describes m u = by_one q m u (covered ((q, m) ∷ []) (exec (Ja wide to) s) label u (sound s d at sh) h) in
       needed (target s.pc to) _ label u (λ r h. next_does (λ (label : Option Op) (u : State). u.pc ≡ q → Describes m u → IsFollowed b r0 bytes done u → Runs b.old r0 bytes t (in_front label done)) (at_slot s r) label u
-      (λ here known go. landed b (Ja wide to) true e b.low m p q l s t (at_slot s r) t beside.equations (jump_turned (Ja wide to) b.low r m s t.reg refl known) known here beside.pc beside.packet beside.ifindex beside.queue beside.shapes beside.stack r0 bytes done go)
+      (λ here known go. landed b (Ja wide to) true e b.low m p q l s t (at_slot s r) t beside.equations (jump_turned (Ja wide to) b.low r m s t.reg refl known) known here beside.pc beside.packet beside.ifindex beside.queue beside.shapes beside.find beside.stack r0 bytes done go)
       h cover.0 cover.1 go) h;
   ends = λ s t beside d r0 x. absurd (jumped_exits s to r0 x);
 }
@@ -321,7 +322,7 @@ arrives : (b : Book) (i : Insn) (e : Equations) (p : ℕ) (n m : Facts) (other :
 arrives b i e p n m other o q q' s t P r0 bytes done j beside at d never (inl decided) f go = absurd (never decided)
 arrives b i e p n m other None q q' s t P r0 bytes done j beside at d never (inr lands) f go = absurd lands
 arrives b i e p n m other (Some z) q q' s t P r0 bytes done j beside at d never (inr lands) f go =
-    f z refl (landed b i true e b.low m z q lands s t (at_slot s q') (at_slot t z) beside.equations (jump_turned i b.low q' m s t.reg j d) d at refl beside.packet beside.ifindex beside.queue beside.shapes beside.stack r0 bytes done go)
+    f z refl (landed b i true e b.low m z q lands s t (at_slot s q') (at_slot t z) beside.equations (jump_turned i b.low q' m s t.reg j d) d at refl beside.packet beside.ifindex beside.queue beside.shapes beside.find beside.stack r0 bytes done go)
 
 both_follow : (b : Book) (shapes : List Shape) (p : ℕ) (a c : Option ℕ) (cond : Condition) (wide : Bool) (dst : Register) (src : Operand) (off : ℤ) (e : Equations) (n l m : Facts) (pc q r : ℕ) →
     q ≡ pc + 1 → target pc off ≡ Some r → (q ≡ r → ⊥) → IsAccounted ((q, l) ∷ (r, m) ∷ []) shapes (Jump cond wide dst src off) n pc → GoesBoth b (Jump cond wide dst src off) e n a c l q m r → Leads b.old b.low e p cond wide dst src a c →
@@ -456,7 +457,7 @@ pub same_runs : (b : Book) (new : List Insn) (shapes : List Shape) → ((s : Sta
 same_runs b new shapes begun k = λ s is e r0 bytes done run.
     let go : IsFollowed b r0 bytes (operations run.labels) s = walks b new shapes r0 bytes s run.labels k run.walk e in
     let there : Runs b.old r0 bytes s (operations run.labels) = k.begins.start k.begins.first k.begins.here s s is.pc (begun s is)
-    (record { pc = is.pc; packet = refl; ifindex = refl; queue = refl; shapes = refl; stack = λ i l. refl; equations = k.begins.begins (held s) s.reg (held_fits s is.state) (λ j l. sym (held_register s j l)) }) r0 bytes (operations run.labels) go in
+    (record { pc = is.pc; packet = refl; ifindex = refl; queue = refl; shapes = refl; find = refl; stack = λ i l. refl; equations = k.begins.begins (held s) s.reg (held_fits s is.state) (λ j l. sym (held_register s j l)) }) r0 bytes (operations run.labels) go in
     subst (λ (done : List Op). Runs b.old r0 bytes s done) run.did there
 
 pub taken_if : (i : Insn) (cond : Condition) (wide : Bool) (dst : Register) (src : Operand) (off : ℤ) (e : Equations) (low : ℕ) (n : Facts) (p : ℕ) (o : Option ℕ) → i ≡ Jump cond wide dst src off → ReadsAlike e (Jump cond wide dst src off) →

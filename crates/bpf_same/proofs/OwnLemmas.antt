@@ -35,6 +35,7 @@ pub record Alone (i : Insn) (low : ℕ) (m : Facts) (s : State) (g : ℕ → Opt
   pub ifindex : u.ifindex ≡ s.ifindex
   pub queue : u.queue ≡ s.queue
   pub shapes : u.shapes ≡ s.shapes
+  pub find : u.find ≡ s.find
   pub stack : (j : ℕ) → low ≤ j → u.stack j ≡ s.stack j
   pub turned : Turned i true low m (held s) g (held u) g
 
@@ -54,6 +55,7 @@ number_alone i low m s g l u q k x a none d h load w =
       ifindex = ap (λ (t : State). t.ifindex) w.1;
       queue = ap (λ (t : State). t.queue) w.1;
       shapes = ap (λ (t : State). t.shapes) w.1;
+      find = ap (λ (t : State). t.find) w.1;
       stack = λ j low. at j;
       turned = record {
         fits = held_fits u d.state;
@@ -187,6 +189,7 @@ store_alone dst src off low n m s g l u c d o h =
       ifindex = ap (λ (t : State). t.ifindex) is.done;
       queue = ap (λ (t : State). t.queue) is.done;
       shapes = ap (λ (t : State). t.shapes) is.done;
+      find = ap (λ (t : State). t.find) is.done;
       stack = λ j above. ap (λ (t : State). t.stack j) is.done ∙ put_above s.stack (592 - 8 * o.word) is.x j (omega (arith, above, o.at.own.below, o.at.own.last));
       turned = record {
         fits = held_fits u d.state;

@@ -49,6 +49,7 @@ pub record Beside (e : Equations) (low p : ℕ) (s t : State) : Type 0 where
   pub ifindex : t.ifindex ≡ s.ifindex
   pub queue : t.queue ≡ s.queue
   pub shapes : t.shapes ≡ s.shapes
+  pub find : t.find ≡ s.find
   pub stack : (i : ℕ) → low ≤ i → t.stack i ≡ s.stack i
   pub equations : Hold e (held s) t.reg
 

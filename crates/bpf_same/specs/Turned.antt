@@ -166,7 +166,7 @@ abbrev pub AreShared : Insn → ℕ → State → Type 0
 AreShared (Ldx size signed dst src off) low s = IsAbove low s (s.reg (number src)) off (size_bytes size)
 AreShared (St size dst off imm) low s = IsAbove low s (s.reg (number dst)) off (size_bytes size)
 AreShared (Stx size dst src off) low s = IsAbove low s (s.reg (number dst)) off (size_bytes size)
-AreShared (Call helper) low s = (a j : ℕ) → s.reg 2 ≡ Some a → region (length s.packet) s.shapes a 4 ≡ InStack j → low ≤ j
+AreShared (Call helper) low s = (a j z : ℕ) → s.reg 2 ≡ Some a → region (length s.packet) s.shapes a z ≡ InStack j → low ≤ j
 AreShared i low s = Unit {0}
 
 -- where this is known, the instruction touches nothing of the stack below low
