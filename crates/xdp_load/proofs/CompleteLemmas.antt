@@ -1,5 +1,5 @@
 -- Each sound setup is that of a document: the one that spells its fields.
-use Rattle.std.proofs.Common.{append-nil, not, true, None, Result, ◌≡◌, ◌<◌, ◌≤◌, ◌/◌, ℕ, pos, List, [], ◌∷◌, length, map, codes, Ok, refl, ap, arith, suc}
+use Rattle.std.proofs.Common.{append-nil, not, true, None, Result, ◌≡◌, ◌<◌, ◌≤◌, ◌/◌, ℕ, pos, List, [], ◌∷◌, length, map, codes, Ok, refl, ap, sym, arith, suc}
 use Rattle.std.proofs.lemmas.Bool.{and_parts, le-leb, lt-ltb, not-true}
 use Rattle.std.specs.List.{AllByRecursion}
 use Rattle.bpf_note.specs.declared.key.MapKey.{MapKey}
