@@ -1,5 +1,5 @@
 //! Lookups in maps, and where their values lie.
-ghost use Rattle.std.specs.Prelude.{◌≡◌, ◌×◌, ◌+◌, ◌<◌, ◌≤◌, ℕ, List, Some, length, slice_get};
+ghost use Rattle.std.specs.Prelude.{◌≡◌, ◌×◌, ◌+◌, ◌*◌, ◌/◌, ◌%◌, ◌<◌, ◌≤◌, ℕ, List, Some, length, slice_get};
 ghost use Rattle.bpf_lists.specs.Find.{find_in};
 ghost use Rattle.bpf_note.specs.Bytes.{bytes_at};
 ghost use Rattle.bpf_note.specs.Keys.{key_size};
@@ -40,6 +40,19 @@ fn map_offset(shape: &MapShape, m: u64) -> u64
     }
 }
 
+/// The value of a map, and the counter in it, of which `number` counters of the map come before it.
+#[inline(always)]
+fn value_and_counter(shape: &MapShape, number: u64) -> (u32, u32)
+    requires { number < shape.now.counters * shape.now.entries }
+    ensures value { result.0 ≡ number / shape.now.counters }
+    ensures counter { result.1 ≡ number % shape.now.counters }
+{
+    let counters = u64::from(shape.counters());
+    let value = number / counters;
+    let counter = number % counters;
+    (value as u32, counter as u32)
+}
+
 impl<'p, 'b> Machine<'p, 'b> {
     /// The map, the value and the counter that lie at an address.
     pub(crate) fn counter_at(&self, address: u64) -> (u32, u32, u32)
@@ -52,13 +65,10 @@ impl<'p, 'b> Machine<'p, 'b> {
         let at = address - VALUES_START;
         let m = map_near(at);
         let shape = &self.shapes[m as usize];
-        let number = (at - map_offset(shape, m)) / 8;
-        let counters = u64::from(shape.counters());
-        (
-            m as u32,
-            (number / counters) as u32,
-            (number % counters) as u32,
-        )
+        let start = map_offset(shape, m);
+        let number = (at - start) / 8;
+        let (k, j) = value_and_counter(shape, number);
+        (m as u32, k, j)
     }
 
     /// The address of a row's value, or 0 past the map's end, or without a row.
