@@ -31,7 +31,8 @@ fn map_near(at: u64) -> u64
 #[inline(always)]
 fn map_offset(shape: &MapShape, m: u64) -> u64
     requires { m < most_maps }
-    ensures { result ≡ map_offset shape.now m }
+    ensures value { result ≡ map_offset shape.now m }
+    ensures small { result ≤ 0x4000000 }
 {
     if u64::from(shape.counters()) * u64::from(shape.entries()) <= MOST_SMALL {
         SMALL_STRIDE * m
