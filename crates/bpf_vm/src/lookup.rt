@@ -1,6 +1,6 @@
 //! Lookups in maps, and where their values lie.
 ghost use Rattle.std.specs.Prelude.{◌≡◌, ◌×◌, ◌+◌, ◌*◌, ◌/◌, ◌%◌, ◌<◌, ◌≤◌, ℕ, List, Some, length, slice_get};
-ghost use Rattle.bpf_lists.specs.Find.{find_in};
+ghost use Rattle.bpf_lists.specs.Find.{find_in, found_in};
 ghost use Rattle.bpf_note.specs.Bytes.{bytes_at};
 ghost use Rattle.bpf_note.specs.Keys.{key_size};
 ghost use Rattle.bpf_note.specs.Regions.{region, map_near, map_offset, InCounter};
@@ -13,6 +13,7 @@ use crate::machine::{
     LARGE_STRIDE, MOST_SMALL, Machine, REFERENCES_START, SMALL_STRIDE, STACK_START, VALUES_START,
 };
 use bpf_insn::{Register, Size};
+use bpf_lists::KeyedRows;
 use bpf_note::{MapKey, MapShape};
 
 /// The map that alone may have values this many bytes past the first of all.
@@ -52,6 +53,20 @@ fn value_and_counter(shape: &MapShape, number: u64) -> (u32, u32)
     let value = number / counters;
     let counter = number % counters;
     (value as u32, counter as u32)
+}
+
+/// The row that a key has in a list, if the list's keys are of its size.
+fn row_in(rows: &KeyedRows, key: &[u8]) -> Option<u64>
+    ensures { result ≡ found_in (Some (Some rows.now)) key.now }
+{
+    if rows.kind().size() != key.len() {
+        return None;
+    }
+    rows.has_one_answer();
+    match rows.find(key) {
+        Some(row) => Some(u64::from(row)),
+        None => None,
+    }
 }
 
 impl<'p, 'b> Machine<'p, 'b> {
@@ -94,14 +109,10 @@ impl<'p, 'b> Machine<'p, 'b> {
         requires { m < most_maps }
         ensures { result ≡ find_in self.now.lists.now m key.now }
     {
-        let Some(Some(rows)) = self.lists.get(m as usize) else {
-            return None;
-        };
-        if rows.kind().size() != key.len() {
-            return None;
+        match self.lists.get(m as usize) {
+            Some(Some(rows)) => row_in(rows, key),
+            _ => None,
         }
-        rows.has_one_answer();
-        rows.find(key).map(u64::from)
     }
 
     /// The row that the key at a place of the stack finds in map `m`.
