@@ -7,4 +7,3 @@ use Rattle.bpf_note.specs.Shape.{Shape}
 use Rattle.bpf_flow.specs.Step.{row_of}
 use Rattle.bpf_vm.proofs.ByteLemmas.{bytes_of_list}
 use Rattle.bpf_vm.proofs.machine.Machine.row_at.Goals as goal
-
