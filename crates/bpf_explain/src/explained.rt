@@ -232,7 +232,11 @@ pub fn explained_text(
     let insns = code.insns();
     let insn = insn_at(code, refusal.pc);
     let below = below_text(alloc, names, shapes, refusal.pc, refusal.cause, insn, note)?;
-    let verdict = verdict_text(alloc, refusal, advice_for(shapes, refusal.cause, insn, note))?;
+    let verdict = verdict_text(
+        alloc,
+        refusal,
+        advice_for(shapes, refusal.cause, insn, note),
+    )?;
     let mut text = String::new(alloc);
     add_listing(alloc, &mut text, insns, Some(refusal.pc), below.as_str())?;
     text.push_str(verdict.as_str())?;
