@@ -1,5 +1,5 @@
 //! The stack's slots that an access touches.
-ghost use Rattle.std.specs.Prelude.{◌≡◌, ◌×◌, ◌+◌, ◌-◌, ◌<◌, ◌≤◌, IfOk, IfSome, Option, map, string_bytes};
+ghost use Rattle.std.specs.Prelude.{◌≡◌, ◌+◌, ◌-◌, ◌<◌, ◌≤◌, IfOk, IfSome, Option, map, string_bytes};
 ghost use Rattle.bpf_note.specs.Parts.{facts};
 ghost use Rattle.bpf_explain.specs.Stack.{byte_text, bytes_text, content_text, place_of, slot_text, slots_text, stack_place};
 ghost use Rattle.bpf_explain.specs.Stack.{stack_text, touched_text};

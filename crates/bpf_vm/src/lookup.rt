@@ -1,5 +1,5 @@
 //! Lookups in maps, and where their values lie.
-ghost use Rattle.std.specs.Prelude.{◌≡◌, ◌×◌, ◌+◌, ◌*◌, ◌/◌, ◌%◌, ◌<◌, ◌≤◌, ℕ, List, Some, length, slice_get};
+ghost use Rattle.std.specs.Prelude.{◌≡◌, ◌+◌, ◌*◌, ◌/◌, ◌%◌, ◌<◌, ◌≤◌, ℕ, List, Some, length, slice_get};
 ghost use Rattle.bpf_lists.specs.Find.{find_in, found_in};
 ghost use Rattle.bpf_note.specs.Bytes.{bytes_at};
 ghost use Rattle.bpf_note.specs.Keys.{key_size};
