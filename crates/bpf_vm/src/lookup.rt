@@ -115,6 +115,18 @@ impl<'p, 'b> Machine<'p, 'b> {
         }
     }
 
+    /// The row that a key finds in map `m`, whose values are looked up so.
+    fn row_of(&self, m: u64, by: MapKey, key: &[u8]) -> Option<u64>
+        requires few { m < most_maps }
+        requires sized { length key.now ≡ key_size by }
+        ensures { result ≡ row_of (machine_state 0 self.now) m by key.now }
+    {
+        match by {
+            MapKey::Index => Some(number_at(key, 0, Size::Word)),
+            MapKey::Listed(_) => self.listed_row(m, key),
+        }
+    }
+
     /// The row that the key at a place of the stack finds in map `m`.
     fn row_at(&self, m: u64, place: usize) -> Option<u64>
         requires map { m < length self.now.shapes.now }
@@ -125,10 +137,10 @@ impl<'p, 'b> Machine<'p, 'b> {
             × (result ≡ row_of (machine_state 0 self.now) m shape.key key) }
     {
         let stack = self.packet.stack();
-        match self.shapes[m as usize].key() {
-            MapKey::Index => Some(number_at(stack, place, Size::Word)),
-            MapKey::Listed(kind) => self.listed_row(m, &stack[place..place + kind.size()]),
-        }
+        let by = self.shapes[m as usize].key();
+        let end = place + by.size() as usize;
+        let key = &stack[place..end];
+        self.row_of(m, by, key)
     }
 
     /// Helper 1: `r0` becomes the address of the value under a key of the stack, or 0.
