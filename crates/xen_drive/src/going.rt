@@ -2,10 +2,9 @@
 
 ghost use Rattle.std.specs.Prelude.{◌≡◌, ◌≤◌, length};
 ghost use Rattle.bpf_maps.specs.Layout.{total};
-ghost use Rattle.xen_drive.specs.OverBus.{HasGoneOn, IsGoing};
+ghost use Rattle.xen_drive.specs.Going.{HasGoneOn, IsGoing};
 
-use crate::over_bus::{Over, OverBus};
-use xen_host::Queue;
+use xen_host::{Over, OverBus, Queue};
 use xen_page::Bus;
 
 /// Steps until something is over, fewer than `most` times, and returns that.

@@ -1,6 +1,5 @@
 //! Whole turns, deliveries and waits of `xen_host`'s queue over a bus: the loop that a host has, in Rattle.
 //!
-//! - `over_bus`: a host that makes the accesses that its queue asks for
 //! - `going`: steps until something is over
 //! - `whole`: a whole turn, a whole delivery, a whole wait
 //! - `laws`: whoever makes the accesses of each op has made the whole
@@ -8,9 +7,7 @@
 
 mod going;
 mod laws;
-mod over_bus;
 mod whole;
 
 pub use laws::{deliveries_are_made, turns_are_made, waits_are_made};
-pub use over_bus::{Over, OverBus};
 pub use whole::{await_slots, deliver, drive};

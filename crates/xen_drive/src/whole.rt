@@ -15,10 +15,9 @@ ghost use Rattle.xen_host.specs.Queues.{first_read, resting};
 ghost use Rattle.xen_drive.specs.Driven.{HasAwaited, HasDelivered, HasTurned};
 
 use crate::going::go_on;
-use crate::over_bus::{Over, OverBus};
 use xen_back::State;
 use xen_back::decisions::can_be_delivered;
-use xen_host::{Delivery, Op, Queue};
+use xen_host::{Delivery, Op, Over, OverBus, Queue};
 use xen_page::{Bus, Place};
 use xen_ring::Ports;
 

@@ -6,9 +6,12 @@ ghost use Rattle.xen_page.specs.Access.{Performs};
 ghost use Rattle.xen_steps.specs.Drive.{accesses};
 ghost use Rattle.xen_host.specs.Asks.{op_of, writes_at};
 ghost use Rattle.xen_host.specs.Filling.{packet_words};
-ghost use Rattle.xen_drive.specs.OverBus.{HasRead, IsAlways, IsInBus, IsMade, IsNever, MayRead, MayWrite, WouldRead, ask_of};
+ghost use Rattle.xen_host.specs.Buses.{HasRead, IsAlways, IsInBus, IsMade, IsNever, MayRead, MayReadRun, MayWrite, ask_of};
 
-use xen_host::{Awaited, Delivery, Host, Kind, Op, Packet};
+use crate::host::Host;
+use crate::op::Op;
+use crate::packet::Packet;
+use xen_back::{Awaited, Delivery, Kind};
 use xen_netif::Fragment;
 use xen_page::{Bus, Place, Rights};
 use xen_ring::{Port, Ports};
@@ -56,7 +59,7 @@ pub struct OverBus<'a, 'p, B: Bus> {
 impl<'a, 'p, B: Bus> OverBus<'a, 'p, B> {
     /// A host that was asked for nothing yet.
     #[inline(always)]
-    pub(crate) fn new(bus: &'a mut B, ports: &'p Ports) -> OverBus<'a, 'p, B>
+    pub fn new(bus: &'a mut B, ports: &'p Ports) -> OverBus<'a, 'p, B>
         ensures bus { result.bus.now ≡ bus.now }
         ensures over { result.over ≡ None }
     {
@@ -100,7 +103,7 @@ impl<'a, 'p, B: Bus> OverBus<'a, 'p, B> {
     fn page_run(&mut self, k: u32, count: u32, packet: &mut Packet)
         requires page { k + count ≤ 1024 }
         requires room { 0 < count → length packet.old + 4 * count ≤ 65535 }
-        ensures read { (words : List ℕ) × (length words ≡ count) × WouldRead B.log B.access_gives B.size self.old k words self.new ×
+        ensures read { (words : List ℕ) × (length words ≡ count) × MayReadRun B.log B.access_gives B.size self.old k words self.new ×
             (packet.new ≡ packet.old ++ bytes_of words) }
         ensures at { self.new.at ≡ self.old.at }
         ensures over { self.new.over ≡ self.old.over }
