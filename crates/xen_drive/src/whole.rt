@@ -7,7 +7,6 @@ ghost use Rattle.xen_steps.specs.Drive.{accesses};
 ghost use Rattle.xen_steps.specs.Event as event;
 ghost use Rattle.xen_steps.specs.Places.{page_word};
 ghost use Rattle.xen_back.specs.declared.delivery.delivering.Delivery.{Delivery};
-ghost use Rattle.xen_back.specs.declared.delivery.delivering.Delivery.TheVariants as delivery;
 ghost use Rattle.xen_back.specs.declared.delivery.wait.Awaited.{Awaited};
 ghost use Rattle.xen_back.specs.declared.turn.Kind.{Kind};
 ghost use Rattle.xen_host.specs.Asks.{DeliveryOver, TurnOver, WaitOver, op_of};
@@ -100,6 +99,7 @@ pub fn deliver<B: Bus>(
     let producer = look(queue, rx, bus);
     queue.deliver(producer, packet);
     let mut host = OverBus::new(bus, ports);
+    queue.step_by(counters, &mut host);
     go_on(queue, DELIVERY_STEPS, counters, &mut host).op()
 }
 
@@ -125,5 +125,6 @@ pub fn await_slots<B: Bus>(
 {
     queue.await_slots(pages);
     let mut host = OverBus::new(bus, ports);
+    queue.step_by(counters, &mut host);
     go_on(queue, WAIT_STEPS, counters, &mut host).op()
 }
