@@ -1,6 +1,6 @@
 //! A host over a bus: it writes at once, and reads when the answer is taken.
 
-ghost use Rattle.std.specs.Prelude.{◌≡◌, ◌<◌, ◌≤◌, ◌+◌, ◌*◌, ◌/◌, ◌×◌, ◌↔◌, ◌++◌, ◌∷◌, [], Unit, IsTrue, List, None, Option, length, ℕ};
+ghost use Rattle.std.specs.Prelude.{◌≡◌, ◌<◌, ◌≤◌, ◌+◌, ◌*◌, ◌/◌, ◌↔◌, ◌++◌, ◌∷◌, [], IsTrue, List, None, Option, length, ℕ};
 ghost use Rattle.xen_netif.specs.Copy.{bytes_of};
 ghost use Rattle.xen_page.specs.Access.{Performs};
 ghost use Rattle.xen_steps.specs.Drive.{accesses};
