@@ -52,7 +52,7 @@ impl Engine {
     }
 
     /// A turn halts.
-    #[inline(always)]
+    #[inline(never)]
     pub(crate) fn halt<H: Host>(&mut self, cause: Halt, host: &mut H)
         requires { H.is_free host.old }
         ensures led { TurnLeads H.was_asked H.is_full self.old.wires self.old.flags (halted_spec self.old.state cause) self.new host.old host.new }

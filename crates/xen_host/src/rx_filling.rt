@@ -138,7 +138,7 @@ impl Engine {
     }
 
     /// A slot that is refused is the last.
-    #[inline(always)]
+    #[inline(never)]
     fn refuse_post<H: Host>(&mut self, purpose: Purpose, id: u16, host: &mut H)
         requires few { length self.old.work.targets < 16 }
         requires free { H.is_free host.old }
@@ -314,7 +314,7 @@ impl Engine {
     }
 
     /// A notice is due.
-    #[inline(always)]
+    #[inline(never)]
     fn give_rx_notice<H: Host>(&mut self, purpose: Purpose, grants: Grants, host: &mut H)
         requires free { H.is_free host.old }
         ensures led { FillLeads H.was_asked H.is_full purpose (beside self.old) (rx_notice (vif_of self.old.wires) true (outcome_of

@@ -16,7 +16,7 @@ use xen_steps::{header, requests_shown};
 
 impl Engine {
     /// A wait begins.
-    #[inline(always)]
+    #[inline(never)]
     pub(crate) fn wait_begun<H: Host>(&mut self, pages: u32, host: &mut H)
         requires free { H.is_free host.old }
         ensures led { WaitLeads H.was_asked H.is_full self.old.wires self.old.flags self.old.work.packet (whole_wait self.old.wires.rx
@@ -32,7 +32,7 @@ impl Engine {
     }
 
     /// After the event index of a wait.
-    #[inline(always)]
+    #[inline(never)]
     pub(crate) fn wait_looked<H: Host>(&mut self, pages: u32, producer: u32, host: &mut H)
         requires free { H.is_free host.old }
         ensures led { WaitLeads H.was_asked H.is_full self.old.wires self.old.flags self.old.work.packet (done (wait_end self.old.state
