@@ -42,3 +42,9 @@ pub place_is : (ss : List Shape) (m k j : ℕ) (d : Shape) → IsCounter ss m k 
 place_is [] m k j d h = absurd h
 place_is (s ∷ ss) zero k j d h = (omega arith, h.0, h.1, omega arith)
 place_is (s ∷ ss) (suc m) k j d h = let r = place_is ss m k j d h in (omega arith, r.1, r.2, (let e = r.3 in omega arith))
+
+-- one map more has its counters more
+pub total_more : (ss : List Shape) (i : ℕ) (d : Shape) → i < length ss → total (take (suc i) ss) ≡ total (take i ss) + size (get_or ss i d)
+total_more [] i d h = absurd (omega arith)
+total_more (s ∷ ss) zero d h = omega arith
+total_more (s ∷ ss) (suc i) d h = let r = total_more ss i d (omega arith) in omega (arith, r)

@@ -10,6 +10,10 @@ use Rattle.bpf_maps.specs.Layout.{place_of}
 use Rattle.bpf_maps.specs.declared.view.Part.{Part}
 use Rattle.bpf_maps.specs.declared.view.View.{View}
 
+-- how many seats counters have at most
+abbrev pub most_seats : ℕ
+most_seats = 64
+
 -- the table, the maps' shapes, and how many seats there are
 pub record CountersView : Type 0 where
   pub table : TableId

@@ -1,7 +1,7 @@
 //! As many threads as seats, in a scope, each of which promises to give its seat back.
 ghost use Rattle.std.specs.Prelude.{◌≡◌, ℕ, List, All, Contains, map, ◌<◌, ◌≤◌, length, IfOk};
-ghost use Rattle.bpf_note.specs.Shape.{IsCounter};
-ghost use Rattle.bpf_maps.specs.Seats.{IsSeatOf, CountersView, SeatView, Account};
+ghost use Rattle.bpf_note.specs.Shape.{IsCounter, most_maps};
+ghost use Rattle.bpf_maps.specs.Seats.{IsSeatOf, CountersView, SeatView, Account, most_seats};
 
 use super::worker::hit;
 use crate::{CounterSeat, Counters, MapShape, Totals};
@@ -93,8 +93,8 @@ fn many<R: Threads + Wait + Sync>(
     seats: usize,
     times: u32,
 ) -> Result<Totals, AllocError>
-    requires maps { length shapes.now ≤ 4 }
-    requires seats { (0 < seats) × (seats ≤ 8) }
+    requires maps { length shapes.now ≤ most_maps }
+    requires seats { (0 < seats) × (seats ≤ most_seats) }
     requires place { IsCounter shapes.now 0 0 0 }
     ensures shapes { IfOk result (λ t. t.shapes ≡ shapes.now) }
     ensures account { IfOk result (λ t. (back : List SeatView) × Account back t) }
@@ -112,5 +112,13 @@ fn eight_threads_add(rt: HostRuntime) -> Result<(), Fail> {
     ];
     let totals = many(&rt, rt.alloc(), &shapes, 8, 10_000)?;
     assert_eq!(rt; totals.at(0, 0, 0), 80_000);
+    Ok(())
+}
+
+#[test]
+fn threads_for_all_seats_add(rt: HostRuntime) -> Result<(), Fail> {
+    let shapes = [MapShape::of(1, 1).ok_or("shape")?];
+    let totals = many(&rt, rt.alloc(), &shapes, 64, 100)?;
+    assert_eq!(rt; totals.at(0, 0, 0), 6_400);
     Ok(())
 }

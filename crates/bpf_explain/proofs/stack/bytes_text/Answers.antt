@@ -1,4 +1,4 @@
-use Rattle.std.proofs.Common.{◌≡◌, ◌+◌, ◌<◌, append_assoc, arith}
+use Rattle.std.proofs.Common.{◌+◌, ◌<◌, append_assoc, arith}
 use Rattle.bpf_note.specs.Parts.{facts}
 use Rattle.bpf_explain.proofs.ByteLemmas.{bytes_more}
 use Rattle.bpf_explain.proofs.stack.bytes_text.Goals as goal
