@@ -70,7 +70,7 @@ fn queue<'p, 'b>(
         port: Port::of(1).ok_or(Fault::Refused)?,
         start: 0,
     };
-    Ok(Queue::make(program, desc, room))
+    Ok(Queue::make(program, &[], desc, room))
 }
 
 /// Delivers the answer, or asks to be told once the guest has posted a buffer for it.

@@ -53,6 +53,7 @@ pub record IsWiredFor (task : Task) (n : ℕ) (w : Wiring) : Type 0 where
   pub user : w.vif.user ≡ 0
   pub port : w.vif.port ≡ 2 * n + 1
   pub program : w.program.now ≡ task.program
+  pub lists : w.lists.now ≡ []
   pub ifindex : w.ifindex ≡ task.ifindex
   pub number : w.queue ≡ n
 

@@ -110,7 +110,7 @@ fn make_queue<'p, 'b>(
         port,
         start: shared.start,
     };
-    Queue::make(program, desc, room)
+    Queue::make(program, &[], desc, room)
 }
 
 /// Drives turns until the front has ended and a later turn is idle, or `turns` turns are done, or the queue has halted,

@@ -75,7 +75,7 @@ pub fn queue<'p, 'b, B: Bus>(
         port: Port::of(1).ok_or(Fault::Unexpected)?,
         start: 0,
     };
-    Ok(Queue::make(program, desc, buffer))
+    Ok(Queue::make(program, &[], desc, buffer))
 }
 
 /// Times `times` turns over a bus of the interface's frames.

@@ -20,6 +20,7 @@ pub record IsFor (accepted : Accepted) (queues index n : ℕ) (w : Wiring) : Typ
   pub user : w.vif.user ≡ 0
   pub port : w.vif.port ≡ 2 * n + 1
   pub program : w.program.now ≡ accepted
+  pub lists : w.lists.now ≡ []
   pub ifindex : w.ifindex ≡ index
   pub number : w.queue ≡ n
 

@@ -47,7 +47,7 @@ pub(crate) fn queue<'p, 'b>(
         port: Layout::back_port(number),
         start,
     };
-    Ok(Queue::make(program, desc, buffer))
+    Ok(Queue::make(program, &[], desc, buffer))
 }
 
 /// A buffer for each queue.

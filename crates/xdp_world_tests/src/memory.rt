@@ -1,6 +1,7 @@
 //! What one queue of the tests stands on.
 ghost use Rattle.std.specs.Prelude.{◌≡◌, ◌≤◌, length, IfSome};
 ghost use Rattle.bpf_maps.specs.Seats.{IsSeatOf};
+ghost use Rattle.bpf_note.specs.Shape.{most_maps};
 ghost use Rattle.xen_back.specs.Queues.{IsReady, wiring_of};
 ghost use Rattle.xen_page.specs.Mapping.{IsMappedBy};
 ghost use Rattle.xen_page.specs.Table.{IsTable};
@@ -102,13 +103,13 @@ impl Memory {
             port: Layout::back_port(0),
             start,
         };
-        Some(Queue::make(program, desc, buffer))
+        Some(Queue::make(program, &[], desc, buffer))
     }
 }
 
 /// Counters that are 0, and their only seat.
 pub fn seated(alloc: Global, shapes: &[MapShape]) -> Option<(Counters, CounterSeat)>
-    requires { length shapes.now ≤ 4 }
+    requires { length shapes.now ≤ most_maps }
     ensures shapes { IfSome result (λ r. r.0.shapes ≡ shapes.now) }
     ensures seat { IfSome result (λ r. IsSeatOf r.0 r.1) }
 {

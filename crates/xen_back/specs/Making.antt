@@ -1,6 +1,7 @@
 -- Stated: claims rest on this file.
 -- A queue that was made, new or from where another one ended.
-use Rattle.std.specs.Prelude.{◌≡◌, None}
+use Rattle.std.specs.Prelude.{◌≡◌, List, Option, None}
+use Rattle.bpf_lists.specs.Keys.{Keyed}
 use Rattle.bpf_verify.specs.Consistent.{Accepted}
 use Rattle.xen_back.specs.Queues.{IsReady, rx_ring_of, state_of, tx_ring_of, wiring_of}
 use Rattle.xen_back.specs.declared.desc.QueueDesc.{QueueDesc}
@@ -9,7 +10,7 @@ use Rattle.xen_back.specs.declared.state.State.{State}
 use Rattle.xen_rx_fill.specs.Wired.{IsWired}
 
 -- It is of the description, but for the index at which that has both rings begin, and is between turns in this state.
-pub record IsResumed (program : Accepted) (desc : QueueDesc) (s : State) (q : Queue) : Type 0 where
+pub record IsResumed (program : Accepted) (lists : List (Option Keyed)) (desc : QueueDesc) (s : State) (q : Queue) : Type 0 where
   pub tx_ring : tx_ring_of q ≡ desc.tx
   pub rx_ring : rx_ring_of q ≡ desc.rx
   pub tx : (wiring_of q).vif.tx ≡ desc.tx.frame
@@ -20,6 +21,7 @@ pub record IsResumed (program : Accepted) (desc : QueueDesc) (s : State) (q : Qu
   pub user : (wiring_of q).vif.user ≡ desc.user
   pub port : (wiring_of q).vif.port ≡ desc.port
   pub accepted : (wiring_of q).program.now ≡ program
+  pub lists_are : (wiring_of q).lists.now ≡ lists
   pub ifindex : (wiring_of q).ifindex ≡ desc.ifindex
   pub queue : (wiring_of q).queue ≡ desc.queue
   pub state : state_of q ≡ s
@@ -27,5 +29,5 @@ pub record IsResumed (program : Accepted) (desc : QueueDesc) (s : State) (q : Qu
   pub wired : IsWired (wiring_of q).vif
 
 -- Both rings begin at the description's index.
-abbrev pub IsMade : Accepted → QueueDesc → Queue → Type 0
-IsMade program desc q = IsResumed program desc (record { tx_index = desc.start; rx_index = desc.start; halt = None }) q
+abbrev pub IsMade : Accepted → List (Option Keyed) → QueueDesc → Queue → Type 0
+IsMade program lists desc q = IsResumed program lists desc (record { tx_index = desc.start; rx_index = desc.start; halt = None }) q

@@ -1,12 +1,14 @@
 //! What a queue of the tests stands on.
 ghost use Rattle.std.specs.Prelude.{◌≡◌, ◌≤◌, length, IfSome};
 ghost use Rattle.bpf_maps.specs.Seats.{IsSeatOf};
+ghost use Rattle.bpf_note.specs.Shape.{most_maps};
 ghost use Rattle.xen_back.specs.Queues.{IsReady, rx_ring_of, tx_ring_of, wiring_of};
 ghost use Rattle.xen_page.specs.Mapping.{IsMappedBy};
 ghost use Rattle.xen_page.specs.Table.{IsTable};
 ghost use Rattle.xen_page.specs.declared.entry.Rights.TheVariants.{ReadWrite};
 
 use bpf_insn::decode;
+use bpf_lists::KeyedRows;
 use bpf_maps::{CounterSeat, Counters};
 use bpf_note::MapShape;
 use bpf_verify::{Verified, verify};
@@ -55,12 +57,13 @@ fn ring(alloc: Global, owners: &Owners, table: &Table, gref: u32, frame: u32) ->
     map(&mut bus, table, owners, 1, 0, gref, Rights::ReadWrite).ok()
 }
 
-/// What a queue stands on: the frames' owners, the frontend's table, in frame 1, and the program.
+/// What a queue stands on: the frames' owners, the frontend's table, in frame 1, the program and its lists.
 #[derive(Drop)]
 pub struct Bench {
     owners: Owners,
     table: Table,
     program: Verified,
+    lists: Vec<Option<KeyedRows>>,
     ghost granted: { IsTable owners 1 table },
     ghost size: { length owners ≡ 20 },
 }
@@ -77,8 +80,27 @@ impl Bench {
                 owners,
                 table,
                 program,
+                lists: Vec::new(alloc),
             }),
             None => None,
+        }
+    }
+
+    /// The same, with these lists of the program's maps.
+    pub fn with_lists(self, lists: Vec<Option<KeyedRows>>) -> Bench
+        ensures { result.program ≡ self.program }
+    {
+        let Bench {
+            owners,
+            table,
+            program,
+            lists: _,
+        } = self;
+        Bench {
+            owners,
+            table,
+            program,
+            lists,
         }
     }
 
@@ -107,7 +129,7 @@ impl Bench {
             port: Port::of(1)?,
             start,
         };
-        Some(Queue::make(&self.program, desc, buffer))
+        Some(Queue::make(&self.program, self.lists.as_slice(), desc, buffer))
     }
 
     /// A queue that goes on from a state, over the rings of one that has ended.
@@ -132,7 +154,7 @@ impl Bench {
             port: Port::of(1)?,
             start: 0,
         };
-        Some(Queue::resume(&self.program, desc, state, buffer))
+        Some(Queue::resume(&self.program, self.lists.as_slice(), desc, state, buffer))
     }
 }
 
@@ -150,7 +172,7 @@ pub fn ready(alloc: Global, bytes: &[u8], shapes: &[MapShape]) -> Option<(Bench,
 
 /// Counters that are 0, and their only seat.
 pub fn seated(alloc: Global, shapes: &[MapShape]) -> Option<(Counters, CounterSeat)>
-    requires { length shapes.now ≤ 4 }
+    requires { length shapes.now ≤ most_maps }
     ensures shapes { IfSome result (λ r. r.0.shapes ≡ shapes.now) }
     ensures seat { IfSome result (λ r. IsSeatOf r.0 r.1) }
 {

@@ -10,6 +10,7 @@ mod driving;
 mod fixtures;
 mod kind;
 mod later_turns;
+mod lists;
 mod programs;
 mod resumed;
 mod sending;

@@ -34,6 +34,7 @@ pub(crate) fn begin_run<'p, 'b>(
         packet.into_packet(),
         wiring.ifindex,
         wiring.queue,
+        wiring.lists,
     );
     Stage::Run(Executing { chain, vm, ops: 0 })
 }

@@ -13,31 +13,39 @@ use crate::desc::QueueDesc;
 use crate::queue::Queue;
 use crate::state::State;
 use crate::wiring::Wiring;
+use bpf_lists::KeyedRows;
 use bpf_verify::Verified;
 use bpf_vm::Buffer;
 use xen_rx_fill::Vif;
 
 impl<'p, 'b> Queue<'p, 'b> {
-    /// A queue between turns, which keeps its packets in the buffer.
-    pub fn make(program: &'p Verified, desc: QueueDesc<'p>, buffer: &'b mut Buffer) -> Queue<'p, 'b>
+    /// A queue between turns, which keeps its packets in the buffer. The lists are those of the program's maps, by the maps'
+    /// numbers.
+    pub fn make(
+        program: &'p Verified,
+        lists: &'p [Option<KeyedRows>],
+        desc: QueueDesc<'p>,
+        buffer: &'b mut Buffer,
+    ) -> Queue<'p, 'b>
         requires tx { IsMappedBy desc.owners.now desc.granter desc.tx }
         requires rx { IsMappedBy desc.owners.now desc.granter desc.rx }
         requires writable { (desc.tx.rights ≡ ReadWrite) × (desc.rx.rights ≡ ReadWrite) }
         requires table { IsTable desc.owners.now desc.granter desc.table.now }
-        ensures { IsMade program.now desc.entry result }
+        ensures { IsMade program.now lists.now desc.entry result }
     {
         let state = State {
             tx_index: desc.start,
             rx_index: desc.start,
             halt: None,
         };
-        Queue::resume(program, desc, state, buffer)
+        Queue::resume(program, lists, desc, state, buffer)
     }
 
     /// A queue that goes on where another one over the same rings ended, maybe with another program: `state` is what that one's
     /// [`Queue::state`] was between turns. The description's `start` isn't looked at; a queue that had halted stays halted.
     pub fn resume(
         program: &'p Verified,
+        lists: &'p [Option<KeyedRows>],
         desc: QueueDesc<'p>,
         state: State,
         buffer: &'b mut Buffer,
@@ -46,7 +54,7 @@ impl<'p, 'b> Queue<'p, 'b> {
         requires rx { IsMappedBy desc.owners.now desc.granter desc.rx }
         requires writable { (desc.tx.rights ≡ ReadWrite) × (desc.rx.rights ≡ ReadWrite) }
         requires table { IsTable desc.owners.now desc.granter desc.table.now }
-        ensures { IsResumed program.now desc.entry state result }
+        ensures { IsResumed program.now lists.now desc.entry state result }
     {
         // Only the proof uses what this call ensures: every accepted program is consistent.
         program.instructions();
@@ -62,6 +70,7 @@ impl<'p, 'b> Queue<'p, 'b> {
         let wiring = Wiring {
             vif,
             program,
+            lists,
             ifindex: desc.ifindex,
             queue: desc.queue,
         };

@@ -197,7 +197,12 @@ pub fn turn_by_hand(
 }
 
 /// A turn by `drive_turn`, of which the counters are 0.
-fn driven(alloc: Global, queue: &mut Queue, shapes: &[MapShape], answers: &[u32]) -> Option<Seen>
+pub fn driven(
+    alloc: Global,
+    queue: &mut Queue,
+    shapes: &[MapShape],
+    answers: &[u32],
+) -> Option<Seen>
     requires few { length shapes.now ≤ 4 }
     requires ready { IsReady queue.old }
     requires owners { length (wiring_of queue.old).vif.owners.now ≡ 20 }
