@@ -1,32 +1,39 @@
 -- What an access reaches of the stack.
-use Rattle.std.proofs.Common.{ℕ, ◌+◌, ◌-◌, ◌*◌, ◌/◌, ◌%◌, ◌^◌, ◌≡◌, ◌<◌, ◌≤◌, ◌⊎◌, inl, inr, refl, subst, arith, ℤ, pos, negsuc, List, length, Option, None, Some, Bool, true, false, ◌&&◌, mul-le-mul}
+use Rattle.std.proofs.Common.{ℕ, ◌+◌, ◌-◌, ◌*◌, ◌/◌, ◌%◌, ◌^◌, ◌≡◌, ◌<◌, ◌≤◌, ◌⊎◌, inl, inr, refl, sym, subst, arith, ℤ, pos, negsuc, List, length, Option, None, Some, Bool, true, false, ◌&&◌}
 use Rattle.std.specs.Prelude.{if◌then◌else◌, ◌==◌, nat_le, nat_lt, ◌+ℤ◌, ◌≤ℤ◌, slice_get}
 use Rattle.std.proofs.lemmas.Bool.Decides.{nat_tests}
 use Rattle.std.proofs.lemmas.Int.{ints}
 use Rattle.bpf_note.specs.declared.val.Val.{Val}
 use Rattle.bpf_note.specs.declared.val.Val.TheVariants.{Pkt, Stack, Ctx, Value}
-use Rattle.bpf_note.specs.Shape.{Shape, IsShape, AreShapes}
+use Rattle.bpf_note.specs.Shape.{Shape, IsShape, AreShapes, most_maps}
 use Rattle.bpf_note.specs.State.{State, packet_start, stack_start, stack_end, context_start, values_start}
-use Rattle.bpf_note.specs.Regions.{InPacket, InStack, InContext, InCounter, Nowhere, region, lies_in, counter_at, counter_in, counter_from}
+use Rattle.bpf_note.specs.Regions.{InPacket, InStack, InContext, InCounter, Nowhere, region, lies_in, map_near, map_offset, counter_address, counter_at, counter_in, counter_past, counter_from}
 use Rattle.bpf_note.specs.Facts.{Facts}
 use Rattle.bpf_note.specs.Describes.{Describes, Meaning, meaning, Reads, IsReading, IsValueOf}
 use Rattle.bpf_flow.specs.Step.{address, reached}
-use Rattle.bpf_flow.proofs.ReachLemmas.{shift_is, map_small}
+use Rattle.bpf_flow.proofs.ReachLemmas.{shift_is, map_small, counter_below}
 use Rattle.bpf_same.specs.Stepped.{IsAbove}
 
-counter_in_apart : (o : Option Shape) (m at j : ℕ) → counter_in o m at ≡ InStack j → ⊥
-counter_in_apart None m at j e = cc
-counter_in_apart (Some c) m at j e = by (at % 8 == 0 && nat_lt at (8 * (c.counters * c.entries))) e
+counter_past_apart : (c : Shape) (m at j : ℕ) → counter_past c m at ≡ InStack j → ⊥
+counter_past_apart c m at j e = by (at % 8 == 0 && nat_lt at (8 * (c.counters * c.entries))) e
   where
     by : (b : Bool) → (if b then InCounter m (at / 8 / c.counters) (at / 8 % c.counters) else Nowhere) ≡ InStack j → ⊥
     by true e = cc
+    by false e = cc
+
+counter_in_apart : (o : Option Shape) (m at j : ℕ) → counter_in o m at ≡ InStack j → ⊥
+counter_in_apart None m at j e = cc
+counter_in_apart (Some c) m at j e = by (nat_le (map_offset c m) at) e
+  where
+    by : (b : Bool) → (if b then counter_past c m (at - map_offset c m) else Nowhere) ≡ InStack j → ⊥
+    by true e = counter_past_apart c m (at - map_offset c m) j e
     by false e = cc
 
 counter_apart : (shapes : List Shape) (a j : ℕ) → counter_at shapes a ≡ InStack j → ⊥
 counter_apart shapes a j e = by (nat_le values_start a) e
   where
     by : (b : Bool) → (if b then counter_from shapes (a - values_start) else Nowhere) ≡ InStack j → ⊥
-    by true e = counter_in_apart (slice_get shapes ((a - values_start) / 0x10000)) ((a - values_start) / 0x10000) ((a - values_start) % 0x10000) j e
+    by true e = counter_in_apart (slice_get shapes (map_near (a - values_start))) (map_near (a - values_start)) (a - values_start) j e
     by false e = cc
 
 -- what lies in the stack has such an address
@@ -85,15 +92,16 @@ context_above low n s k z o d v short = λ a j e is.
     let r = read w Ctx (s.reg k) a (subst (λ (v : Val). Reads w v (s.reg k)) v (d.regs k)) e in
     far low s a z j o short (omega (arith, r)) (omega (arith, r)) (inr (omega (arith, r))) is
 
-value_bounds : (shapes : List Shape) (m x : ℕ) (o : Option Shape) → slice_get shapes m ≡ o → AreShapes shapes → length shapes ≤ 4 → IsValueOf o m x → (values_start ≤ x) × (x < 0x80000000)
+not_below : (start n x : ℕ) → x ≡ values_start + start + 8 * (n + 0) → values_start ≤ x
+not_below start n x e = omega (arith, e)
+
+value_bounds : (shapes : List Shape) (m x : ℕ) (o : Option Shape) → slice_get shapes m ≡ o → AreShapes shapes → length shapes ≤ most_maps → IsValueOf o m x → (values_start ≤ x) × (x < 0x80000000)
 value_bounds shapes m x None e all few h = absurd h
 value_bounds shapes m x (Some c) e all few h =
     let shape : IsShape c = all m c e in
-    let inside : m < 4 = map_small shapes m c e few in
-    let counters : c.counters ≤ 8 = shape.most_counters in
-    let key : h.0 ≤ 1024 = omega (arith, h.1, shape.most_entries) in
-    let product : c.counters * h.0 ≤ 8 * 1024 = mul-le-mul counters key in
-    (omega (arith, h.2), omega (arith, h.2, product, inside))
+    let inside : m < most_maps = map_small shapes m c e few in
+    let below : counter_address c m h.0 0 < 0x45000000 = counter_below c m h.0 0 inside shape h.1 (omega (arith, shape.some_counters)) in
+    (not_below (map_offset c m) (c.counters * h.0) x h.2, omega (arith, subst (λ (a : ℕ). a < 0x45000000) (sym h.2) below))
 
 pub value_above : (low : ℕ) (n : Facts) (s : State) (k m z : ℕ) (o : ℤ) → Describes n s → n.reg k ≡ Value m → IsShort o → IsAbove low s (s.reg k) o z
 value_above low n s k m z o d v short = λ a j e is.

@@ -133,7 +133,7 @@ self_alike Exit f = refl
 self_alike Second f = tt
 
 left : (i : Insn) (s u : State) (l : Option Op) (k : ℕ) → LeadsTo (exec i s) l u → alters i k ≡ false → u.reg k ≡ s.reg k
-left i s u l k h e = ((together i s s l u (record { pc = refl; packet = refl; ifindex = refl; queue = refl; shapes = refl; stack = λ i. refl }) (self_alike i s.reg) h).2.left k e).0
+left i s u l k h e = ((together i s s l u (record { pc = refl; packet = refl; ifindex = refl; queue = refl; shapes = refl; find = refl; stack = λ i. refl }) (self_alike i s.reg) h).2.left k e).0
 
 -- what an access reaches, by what two states have in common
 reached_is : (s t : State) (a z : ℕ) (off : ℤ) → length t.packet ≡ length s.packet → t.shapes ≡ s.shapes → reached t a off z ≡ reached s a off z
@@ -208,7 +208,7 @@ written_there s pc k x l u h = by (is_frame k) refl h
         }
 
 numbered : (s t : State) (p q k x y : ℕ) → Shadows s t → q ≡ p → Shadows (with_number s p k x) (with_number t q k y)
-numbered s t p q k x y b e = record { pc = e; packet = b.packet; ifindex = b.ifindex; queue = b.queue; shapes = b.shapes; stack = b.stack }
+numbered s t p q k x y b e = record { pc = e; packet = b.packet; ifindex = b.ifindex; queue = b.queue; shapes = b.shapes; find = b.find; stack = b.stack }
 
 others_left : (f : ℕ → Option ℕ) (r k : ℕ) (x : Option ℕ) → k ≢ r → put f r x k ≡ f k
 others_left f r k x n = put_left f r k x (other_number k r n)
@@ -417,7 +417,7 @@ store_inside plan c p src old new alike ahead out = λ s pc r0 bytes labels w. b
                 next = refl;
               })
               (walked next
-              (subst (λ (u : State). Shadows u next) (sym a.is) (record { pc = ap (λ (p : ℕ). p + 1) b.pc; packet = b.packet; ifindex = b.ifindex; queue = b.queue; shapes = b.shapes; stack = b.stack }))
+              (subst (λ (u : State). Shadows u next) (sym a.is) (record { pc = ap (λ (p : ℕ). p + 1) b.pc; packet = b.packet; ifindex = b.ifindex; queue = b.queue; shapes = b.shapes; find = b.find; stack = b.stack }))
               (λ k small e. kept_there s t u k (same k small) (ap (λ (u : State). u.reg k) a.is) (out.1 k small (subst (λ (p : ℕ). bit (live_at plan p) k ≡ 1) there e))));
         }
       where

@@ -1,6 +1,7 @@
 -- What decides a conditional jump does so.
-use Rattle.std.proofs.Common.{ℕ, ◌≡◌, ◌≤◌, ◌<◌, ◌^◌, ap, ◌∙◌, arith, Option, None, Some, Bool, true, false, ℤ}
+use Rattle.std.proofs.Common.{ℕ, ◌+◌, ◌≡◌, ◌≤◌, ◌<◌, ◌^◌, sym, ap, ◌∙◌, subst, arith, length, Option, None, Some, Bool, true, false, ℤ}
 use Rattle.std.specs.Prelude.{pos, negsuc, IfSome}
+use Rattle.bpf_insn.specs.declared.insn.Insn.{Insn}
 use Rattle.bpf_insn.specs.declared.insn.Insn.TheVariants.{Jump}
 use Rattle.bpf_insn.specs.Register.{number}
 use Rattle.bpf_insn.specs.Signed.{sign_extended}
@@ -9,14 +10,18 @@ use Rattle.bpf_insn.specs.declared.condition.Condition.{Condition}
 use Rattle.bpf_insn.specs.declared.register.Register.{Register}
 use Rattle.bpf_insn.specs.declared.operand.Operand.{Operand}
 use Rattle.bpf_insn.specs.declared.operand.Operand.TheVariants as operands
-use Rattle.bpf_note.specs.State.{State}
+use Rattle.bpf_note.specs.declared.val.Val.{Val}
+use Rattle.bpf_note.specs.State.{State, packet_start}
 use Rattle.bpf_note.specs.Facts.{Facts}
-use Rattle.bpf_note.specs.Describes.{Describes}
+use Rattle.bpf_note.specs.Describes.{Describes, meaning, Reads}
 use Rattle.bpf_flow.specs.Step.{operand}
 use Rattle.bpf_flow.proofs.JumpLemmas.{met_is}
+use Rattle.bpf_flow.proofs.RegisterLemmas.{number_small}
 use Rattle.bpf_same.specs.declared.relation.Relation.{Relation}
 use Rattle.bpf_same.specs.Ranges.{IsSpan, IsOperandSpan}
-use Rattle.bpf_same.specs.Decided.{IsBetween, IsDecided}
+use Rattle.bpf_same.specs.LinearForms.{held, IsAddress, Hold}
+use Rattle.bpf_same.specs.Decided.{IsBetween, IsDecided, IsOrdered, IsPacketEnd}
+use Rattle.bpf_same.proofs.StepLemmas.{held_register, held_end, end_is}
 
 abbrev pub AreMet : Condition → Bool → ℕ → ℕ → ℕ → ℕ → Bool → Type 0
 AreMet cond wide lo hi low high b = (x y : ℕ) → lo ≤ x → x ≤ hi → low ≤ y → y ≤ high → x < 2 ^ 64 → y < 2 ^ 64 → is_met cond wide x y ≡ b
@@ -56,3 +61,32 @@ pub decides_if : (n : Facts) (e : Relation) (cond : Condition) (wide : Bool) (ds
     IfSome o (AreMet cond wide lo hi low high) → IfSome o (IsDecided (Jump cond wide dst src off) e n)
 decides_if n e cond wide dst src off lo hi low high None one other h = tt
 decides_if n e cond wide dst src off lo hi low high (Some b) one other h = decides n e cond wide dst src off lo hi low high b one other h
+
+-- an address in the packet beside the packet's end
+pub room_decides : (n : Facts) (e : Relation) (cond : Condition) (dst src : Register) (off : ℤ) (b : Bool) → IsPacketEnd n (number src) → ((f g : ℕ → Option ℕ) → Hold e f g → IsAddress f (f (number dst))) → IsOrdered cond b →
+    IsDecided (Jump cond true dst (operands.Register src) off) e n b
+room_decides n e cond dst src off b at address order = λ s g d h.
+    let w = meaning s d.base d.address in
+    let a = address (held s) g h in
+    let stop : s.reg (number src) ≡ Some (packet_start + length s.packet) = end_is w (s.reg (number src)) (subst (λ (v : Val). Reads w v (s.reg (number src))) at (d.regs (number src))) in
+    let both : Some a.stop ≡ Some (packet_start + length s.packet) = sym a.packet_end ∙ held_end s in
+    let same : a.stop ≡ packet_start + length s.packet = cc in
+    let to = a.to in
+    let x_is : s.reg (number dst) ≡ Some a.x = sym (held_register s (number dst) (number_small dst)) ∙ a.is in
+    let fits = d.state.words (number dst) a.x x_is in
+    let small = d.state.words (number src) (packet_start + length s.packet) stop in
+    record {
+      x = a.x;
+      y = packet_start + length s.packet;
+      first = x_is;
+      second = stop;
+      met = met_is cond a.x (packet_start + length s.packet) fits small ∙ order a.x (packet_start + length s.packet) (omega (arith, to, same));
+    }
+
+pub room_decides_if : (n : Facts) (e : Relation) (cond : Condition) (dst register : Register) (src : Operand) (off : ℤ) (o : Option Bool) → src ≡ operands.Register register → IsPacketEnd n (number register) → ((f g : ℕ → Option ℕ) → Hold e f g → IsAddress f (f (number dst))) →
+    IfSome o (λ b. IsOrdered cond b) → IfSome o (IsDecided (Jump cond true dst src off) e n)
+room_decides_if n e cond dst register src off None is at address order = tt
+room_decides_if n e cond dst register src off (Some b) is at address order = subst (λ (s : Operand). IsDecided (Jump cond true dst s off) e n b) (sym is) (room_decides n e cond dst register off b at address order)
+
+pub wide_decides : (n : Facts) (e : Relation) (i : Insn) (cond : Condition) (wide : Bool) (dst : Register) (src : Operand) (off : ℤ) (o : Option Bool) → i ≡ Jump cond wide dst src off → wide ≡ true → IfSome o (IsDecided (Jump cond true dst src off) e n) → IfSome o (IsDecided i e n)
+wide_decides n e i cond wide dst src off o is w h = subst (λ (i : Insn). IfSome o (IsDecided i e n)) (sym (is ∙ ap (λ (w : Bool). Jump cond w dst src off) w)) h

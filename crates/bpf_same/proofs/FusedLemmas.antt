@@ -32,7 +32,7 @@ walk_front code r0 bytes s t None effects h w = counts.goes s t effects h w
 walk_front code r0 bytes s t (Some op) effects h w = counts.does s t op effects h w
 
 itself : (s : State) → Shadows s s
-itself s = record { pc = refl; packet = refl; ifindex = refl; queue = refl; shapes = refl; stack = λ i. refl }
+itself s = record { pc = refl; packet = refl; ifindex = refl; queue = refl; shapes = refl; find = refl; stack = λ i. refl }
 
 shared_step : (plan : Plan) (r0 : ℕ) (bytes : List ℕ) (s u : State) (label : Option Op) (labels : List (Option Op)) → IsShared plan s.pc → LeadsTo (step plan.new s) label u →
     (IsOutside plan u.pc → Walked plan r0 bytes u (operations labels)) → Walked plan r0 bytes s (operations (label ∷ labels))

@@ -1,5 +1,5 @@
 -- Linear forms modulo 2 ^ 64.
-use Rattle.std.proofs.Common.{ℕ, zero, suc, ◌+◌, ◌%◌, ◌^◌, ◌≡◌, ◌<◌, ◌≤◌, ◌⊎◌, min, max, inl, inr, refl, sym, ap, ◌∙◌, subst, arith, Option, None, Some}
+use Rattle.std.proofs.Common.{ℕ, zero, suc, ◌+◌, ◌-◌, ◌%◌, ◌^◌, ◌≡◌, ◌<◌, ◌≤◌, ◌⊎◌, min, max, inl, inr, refl, sym, ap, ◌∙◌, subst, arith, Option, None, Some}
 use Rattle.std.specs.Prelude.{bit_and, bit_or}
 use Rattle.std.proofs.lemmas.Bool.{cases_lt}
 use Rattle.std.proofs.lemmas.Nat.Bits.{bit_at_or, bit_at_and, bit_at-zero, bit_at-pow_same, bit_at-pow_other}
@@ -82,3 +82,19 @@ pub total_plus : (f : ℕ → Option ℕ) (s t : LinearForm) → bit_and s.terms
     total f (record { constant = (s.constant + t.constant) % 2 ^ 64; terms = bit_or s.terms t.terms }) ≡ plus (total f s) (total f t)
 total_plus f s t e = ap (plus (Some ((s.constant + t.constant) % 2 ^ 64))) (gathered_or f s.terms t.terms 64 e)
     ∙ plus_across (Some s.constant) (Some t.constant) (gathered f s.terms 64) (gathered f t.terms 64)
+
+-- linear forms of the same terms differ by a constant
+pub apart : (f : ℕ → Option ℕ) (s t : LinearForm) (by : ℕ) → s.terms ≡ t.terms → s.constant < 2 ^ 64 → t.constant < 2 ^ 64 → by ≡ (s.constant + (2 ^ 64 - t.constant)) % 2 ^ 64 → total f s ≡ plus (total f t) (Some by)
+apart f s t by same small fits e = ap (λ (m : ℕ). plus (Some s.constant) (gathered f m 64)) same ∙ of (gathered f t.terms 64)
+  where
+    of : (o : Option ℕ) → plus (Some s.constant) o ≡ plus (plus (Some t.constant) o) (Some by)
+    of None = refl
+    of (Some y) = ap Some (omega (arith, small, fits, e))
+
+-- a form that comes to a number comes to a word
+pub total_small : (f : ℕ → Option ℕ) (s : LinearForm) (x : ℕ) → total f s ≡ Some x → x < 2 ^ 64
+total_small f s x = by (gathered f s.terms 64)
+  where
+    by : (o : Option ℕ) → plus (Some s.constant) o ≡ Some x → x < 2 ^ 64
+    by None e = cc
+    by (Some y) e = let same : (s.constant + y) % 2 ^ 64 ≡ x = cc in omega (arith, same)

@@ -24,9 +24,10 @@ use Rattle.bpf_flow.proofs.StepLemmas.{no_fault, needed}
 use Rattle.bpf_flow.proofs.ReachLemmas.{region_stack}
 use Rattle.bpf_flow.proofs.RegisterLemmas.{number_small}
 use Rattle.bpf_same.specs.LinearForms.{held}
+use Rattle.bpf_same.specs.Simulated.{is_jump}
 use Rattle.bpf_same.specs.Stepped.{alters, is_register_store, IsOwn, IsWordAt, Stepped, IsOwnStep, IsOwnAccess}
 use Rattle.bpf_same.proofs.PairLemmas.{put_left}
-use Rattle.bpf_same.proofs.StepLemmas.{needed_is, held_register, held_word, held_fits, noted_is, written_is, put_here, alu_computes, computes_held, word_kept}
+use Rattle.bpf_same.proofs.StepLemmas.{needed_is, held_register, held_word, held_fits, end_kept, noted_within, noted_long, noted_end, noted_range, noted_is, written_is, put_here, alu_computes, computes_held, word_kept}
 
 -- what is left of the state by a step of the new program's own, and what it makes of terms
 pub record Alone (i : Insn) (low : ℕ) (m : Facts) (s : State) (g : ℕ → Option ℕ) (l : Option Op) (u : State) : Type 0 where
@@ -35,6 +36,7 @@ pub record Alone (i : Insn) (low : ℕ) (m : Facts) (s : State) (g : ℕ → Opt
   pub ifindex : u.ifindex ≡ s.ifindex
   pub queue : u.queue ≡ s.queue
   pub shapes : u.shapes ≡ s.shapes
+  pub find : u.find ≡ s.find
   pub stack : (j : ℕ) → low ≤ j → u.stack j ≡ s.stack j
   pub stepped : Stepped i true low m (held s) g (held u) g
 
@@ -42,9 +44,9 @@ true_false : {P : Type 0} → true ≡ false → P
 true_false e = cc
 
 -- it writes one register
-pub number_alone : (i : Insn) (low : ℕ) (m : Facts) (s : State) (g : ℕ → Option ℕ) (l : Option Op) (u : State) (q k x : ℕ) → ((j : ℕ) → alters i j ≡ (j == k)) → is_register_store i ≡ false → Describes m u →
+pub number_alone : (i : Insn) (low : ℕ) (m : Facts) (s : State) (g : ℕ → Option ℕ) (l : Option Op) (u : State) (q k x : ℕ) → ((j : ℕ) → alters i j ≡ (j == k)) → is_register_store i ≡ false → is_jump i ≡ false → Describes m u →
     LeadsTo (exec i s) l u → ((dst src : Register) (off : ℤ) (w : ℕ) → i ≡ Ldx Double false dst src off → IsWordAt src off low w → held u (number dst) ≡ held s w) → (l ≡ None) × (u ≡ with_number s q k x) → Alone i low m s g l u
-number_alone i low m s g l u q k x a none d h load w =
+number_alone i low m s g l u q k x a none jumps d h load w =
     let stack : u.stack ≡ s.stack = ap (λ (t : State). t.stack) w.1 in
     let reg : u.reg ≡ put s.reg k (Some x) = ap (λ (t : State). t.reg) w.1 in
     let at : (j : ℕ) → u.stack j ≡ s.stack j = λ j. ap (λ (f : ℕ → Option ℕ). f j) stack in
@@ -54,6 +56,7 @@ number_alone i low m s g l u q k x a none d h load w =
       ifindex = ap (λ (t : State). t.ifindex) w.1;
       queue = ap (λ (t : State). t.queue) w.1;
       shapes = ap (λ (t : State). t.shapes) w.1;
+      find = ap (λ (t : State). t.find) w.1;
       stack = λ j low. at j;
       stepped = record {
         fits = held_fits u d.state;
@@ -64,6 +67,12 @@ number_alone i low m s g l u q k x a none d h load w =
         loaded = λ dst src off w o e. load dst src off w e;
         made = λ op wide dst src e. computes_held op wide dst src s u (alu_computes op wide dst src s l u (subst (λ (i : Insn). LeadsTo (exec i s) l u) e h));
         noted = λ k x e small. held_register u k small ∙ noted_is m u k x d e;
+        packet = end_kept s u (ap (λ (t : State). length t.packet) w.1);
+        addresses = λ k id off safe v e small. noted_within m u k id off safe d v e small;
+        long = λ least e. noted_long m u least d e;
+        ends = λ k v small. noted_end m u k d v small;
+        ranged = λ k low high r small. noted_range m u k low high d r small;
+        met = λ cond wide dst src off e. true_false (ap is_jump (sym e) ∙ jumps);
         stays = λ k e. refl;
         old_kept = λ k e. refl;
         old_made = λ op wide dst src e. true_false e;
@@ -120,7 +129,7 @@ own_loaded : (dst src : Register) (off : ℤ) (low w : ℕ) (s : State) (l : Opt
 own_loaded dst src off low w s l u st at frame h = needed_is (s.reg (number src)) _ l u (λ a e h.
     let r = word_reached s src off low w a st at frame e in
     let got = load_is (InStack (592 - 8 * w)) s false Double (number dst) l u (no_counter (592 - 8 * w)) (subst (λ (place : Place). LeadsTo (load_from place s false Double (number dst)) l u) r h) in
-    held_register u (number dst) (number_small dst) ∙ (ap (λ (t : State). t.reg (number dst)) got.done.1 ∙ (put_here s.reg (number dst) (Some got.x) ∙ (sym got.is ∙ sym (held_word s w at.within.first))))) h
+    held_register u (number dst) (number_small dst) ∙ (ap (λ (t : State). t.reg (number dst)) got.done.1 ∙ (put_here s.reg (number dst) (Some got.x) ∙ (sym got.is ∙ sym (held_word s w at.within.first at.within.last))))) h
 
 -- a store to such a word
 record Stored (src : Register) (w : ℕ) (s : State) (l : Option Op) (u : State) : Type 0 where
@@ -187,6 +196,7 @@ store_alone dst src off low n m s g l u c d o h =
       ifindex = ap (λ (t : State). t.ifindex) is.done;
       queue = ap (λ (t : State). t.queue) is.done;
       shapes = ap (λ (t : State). t.shapes) is.done;
+      find = ap (λ (t : State). t.find) is.done;
       stack = λ j above. ap (λ (t : State). t.stack j) is.done ∙ put_above s.stack (592 - 8 * o.word) is.x j (omega (arith, above, o.at.within.below, o.at.within.last));
       stepped = record {
         fits = held_fits u d.state;
@@ -194,15 +204,21 @@ store_alone dst src off low n m s g l u c d o h =
         words = λ k stutters differs. absurd (differs refl refl);
         beside = λ dst' src' off' w k stutters e at there differs.
             let too = own_stored dst' src' off' low w s l u c.state at frame (subst (λ (i : Insn). LeadsTo (exec i s) l u) e h) in
-            held_word u k there.first ∙ (ap (λ (t : State). word_at t.stack (592 - 8 * k) 8) too.done ∙ (other_word s.stack (592 - 8 * w) (592 - 8 * k) too.x (apart k w low there at.within differs (cases_lt k w)) ∙ sym (held_word s k there.first)));
+            held_word u k there.first there.last ∙ (ap (λ (t : State). word_at t.stack (592 - 8 * k) 8) too.done ∙ (other_word s.stack (592 - 8 * w) (592 - 8 * k) too.x (apart k w low there at.within differs (cases_lt k w)) ∙ sym (held_word s k there.first there.last)));
         stored = λ dst' src' off' w stutters e at.
             let too = own_stored dst' src' off' low w s l u c.state at frame (subst (λ (i : Insn). LeadsTo (exec i s) l u) e h) in
             let small : too.x < 2 ^ 64 = c.state.words (number src') too.x too.is in
-            held_word u w at.within.first ∙ (ap (λ (t : State). word_at t.stack (592 - 8 * w) 8) too.done ∙
+            held_word u w at.within.first at.within.last ∙ (ap (λ (t : State). word_at t.stack (592 - 8 * w) 8) too.done ∙
             (word_of_bytes (put_bytes s.stack (592 - 8 * w) 8 too.x) (592 - 8 * w) 8 too.x (omega (arith, small)) (λ k lt. put_inside s.stack (592 - 8 * w) 8 too.x k lt) ∙ (sym too.is ∙ sym (held_register s (number src') (number_small src')))));
         loaded = λ dst' src' off' w stutters e. absurd (cc (e));
         made = λ op wide dst' src' e. absurd (cc (e));
         noted = λ k x e small. held_register u k small ∙ noted_is m u k x d e;
+        packet = end_kept s u (ap (λ (t : State). length t.packet) is.done);
+        addresses = λ k id off safe v e small. noted_within m u k id off safe d v e small;
+        long = λ least e. noted_long m u least d e;
+        ends = λ k v small. noted_end m u k d v small;
+        ranged = λ k low high r small. noted_range m u k low high d r small;
+        met = λ cond wide dst' src' off' e. absurd (cc (e));
         stays = λ k e. refl;
         old_kept = λ k e. refl;
         old_made = λ op wide dst' src' e. true_false e;
@@ -218,22 +234,22 @@ load_alone : (size : Size) (signed : Bool) (dst src : Register) (off : ℤ) (low
     Alone (Ldx size signed dst src off) low m s g l u
 load_alone size signed dst src off low m s g l u d h differs load = needed_is (s.reg (number src)) _ l u (λ a e step.
     let got = load_is (reached s a off (size_bytes size)) s signed size (number dst) l u (λ i j k at. differs a i j k e at) step in
-    number_alone (Ldx size signed dst src off) low m s g l u (s.pc + 1) (number dst) (taken signed size got.x) (λ j. refl) refl d h load got.done) h
+    number_alone (Ldx size signed dst src off) low m s g l u (s.pc + 1) (number dst) (taken signed size got.x) (λ j. refl) refl refl d h load got.done) h
 
 -- a step of the new program's own
 pub own_alone : (i : Insn) (low : ℕ) (n m : Facts) (s : State) (g : ℕ → Option ℕ) (l : Option Op) (u : State) → IsOwnStep i low n → Describes n s → Describes m u → LeadsTo (exec i s) l u → Alone i low m s g l u
 own_alone (Alu op wide dst src) low n m s g l u o c d h = needed (operand s src) _ l u (λ y step. needed (first_operand op (s.reg (number dst))) _ l u (λ x step.
-    number_alone (Alu op wide dst src) low m s g l u (s.pc + 1) (number dst) _ (λ j. refl) refl d h (no_load (Alu op wide dst src) s u low (λ a b z e. cc (e))) (written_is s (s.pc + 1) (number dst) _ l u step)) step) h
+    number_alone (Alu op wide dst src) low m s g l u (s.pc + 1) (number dst) _ (λ j. refl) refl refl d h (no_load (Alu op wide dst src) s u low (λ a b z e. cc (e))) (written_is s (s.pc + 1) (number dst) _ l u step)) step) h
 own_alone (Neg wide dst) low n m s g l u o c d h = needed (s.reg (number dst)) _ l u (λ x step.
-    number_alone (Neg wide dst) low m s g l u (s.pc + 1) (number dst) _ (λ j. refl) refl d h (no_load (Neg wide dst) s u low (λ a b z e. cc (e))) (written_is s (s.pc + 1) (number dst) _ l u step)) h
+    number_alone (Neg wide dst) low m s g l u (s.pc + 1) (number dst) _ (λ j. refl) refl refl d h (no_load (Neg wide dst) s u low (λ a b z e. cc (e))) (written_is s (s.pc + 1) (number dst) _ l u step)) h
 own_alone (End kind width dst) low n m s g l u o c d h = needed (s.reg (number dst)) _ l u (λ x step.
-    number_alone (End kind width dst) low m s g l u (s.pc + 1) (number dst) _ (λ j. refl) refl d h (no_load (End kind width dst) s u low (λ a b z e. cc (e))) (written_is s (s.pc + 1) (number dst) _ l u step)) h
+    number_alone (End kind width dst) low m s g l u (s.pc + 1) (number dst) _ (λ j. refl) refl refl d h (no_load (End kind width dst) s u low (λ a b z e. cc (e))) (written_is s (s.pc + 1) (number dst) _ l u step)) h
 own_alone (MovSx wide bits dst src) low n m s g l u o c d h = needed (s.reg (number src)) _ l u (λ x step.
-    number_alone (MovSx wide bits dst src) low m s g l u (s.pc + 1) (number dst) _ (λ j. refl) refl d h (no_load (MovSx wide bits dst src) s u low (λ a b z e. cc (e))) (written_is s (s.pc + 1) (number dst) _ l u step)) h
+    number_alone (MovSx wide bits dst src) low m s g l u (s.pc + 1) (number dst) _ (λ j. refl) refl refl d h (no_load (MovSx wide bits dst src) s u low (λ a b z e. cc (e))) (written_is s (s.pc + 1) (number dst) _ l u step)) h
 own_alone (Const dst value) low n m s g l u o c d h =
-    number_alone (Const dst value) low m s g l u (s.pc + 2) (number dst) value (λ j. refl) refl d h (no_load (Const dst value) s u low (λ a b z e. cc (e))) (written_is s (s.pc + 2) (number dst) value l u h)
+    number_alone (Const dst value) low m s g l u (s.pc + 2) (number dst) value (λ j. refl) refl refl d h (no_load (Const dst value) s u low (λ a b z e. cc (e))) (written_is s (s.pc + 2) (number dst) value l u h)
 own_alone (MapRef dst k) low n m s g l u o c d h =
-    number_alone (MapRef dst k) low m s g l u (s.pc + 2) (number dst) _ (λ j. refl) refl d h (no_load (MapRef dst k) s u low (λ a b z e. cc (e))) (written_is s (s.pc + 2) (number dst) _ l u h)
+    number_alone (MapRef dst k) low m s g l u (s.pc + 2) (number dst) _ (λ j. refl) refl refl d h (no_load (MapRef dst k) s u low (λ a b z e. cc (e))) (written_is s (s.pc + 2) (number dst) _ l u h)
 own_alone (Ldx size signed dst src off) low n m s g l u (inl narrow) c d h =
     load_alone size signed dst src off low m s g l u d h (λ a i j k e at. narrow (counter_size (length s.packet) s.shapes (address a off) (size_bytes size) i j k at))
     (λ dst' src' off' w e at. absurd (narrow (ap size_bytes (let same : size ≡ Double = cc (e) in same))))

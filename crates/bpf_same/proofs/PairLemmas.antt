@@ -1,5 +1,5 @@
 -- An instruction that both programs have does the same in both states, where they read the same.
-use Rattle.std.proofs.Common.{ℕ, zero, suc, ◌+◌, ◌-◌, ◌≡◌, ◌<◌, ◌≤◌, refl, sym, ap, ◌∙◌, subst, arith, ℤ, pos, negsuc, length, Option, None, Some, Bool, true, false, ◌&&◌, nat_lt}
+use Rattle.std.proofs.Common.{ℕ, zero, suc, ◌+◌, ◌-◌, ◌≡◌, ◌<◌, ◌≤◌, refl, sym, ap, ◌∙◌, subst, arith, ℤ, pos, negsuc, List, length, Option, None, Some, Bool, true, false, ◌&&◌, nat_lt}
 use Rattle.std.specs.Prelude.{if◌then◌else◌, ◌==◌, nat_le, slice_get}
 use Rattle.std.proofs.lemmas.Bool.Decides.{nat_tests}
 use Rattle.bpf_insn.specs.Register.{number}
@@ -11,11 +11,14 @@ use Rattle.bpf_insn.specs.declared.operand.Operand.TheVariants as operands
 use Rattle.bpf_insn.specs.declared.insn.Insn.{Insn}
 use Rattle.bpf_insn.specs.declared.insn.Insn.TheVariants.{Alu, Neg, End, MovSx, Const, MapRef, Ldx, St, Stx, AddCounter, Ja, Jump, Call, Exit, Second}
 use Rattle.bpf_note.specs.State.{State, put}
-use Rattle.bpf_note.specs.Bytes.{word_at, higher, byte_of, put_bytes}
+use Rattle.bpf_note.specs.Bytes.{word_at, higher, bytes_at, before, byte_of, put_bytes}
+use Rattle.bpf_note.specs.Keys.{key_size}
+use Rattle.bpf_note.specs.declared.key.MapKey.{MapKey}
+use Rattle.bpf_note.specs.declared.key.MapKey.TheVariants.{Index, Listed}
 use Rattle.bpf_note.specs.Regions.{Place, InPacket, InStack, InContext, InCounter, Nowhere, region}
 use Rattle.bpf_note.specs.declared.op.Op.{Op}
 use Rattle.bpf_note.specs.declared.op.Op.TheVariants as ops
-use Rattle.bpf_flow.specs.Step.{Outcome, Next, Loads, Adds, Exited, Fault, need, at_slot, with_number, is_frame, written, operand, first_operand, reached, loaded, load_from, store_to, add_to, map_at, key_in, value_or_null, after_call, called, looked_up, helped, exec, LeadsTo, taken}
+use Rattle.bpf_flow.specs.Step.{Outcome, Next, Loads, Adds, Exited, Fault, need, at_slot, with_number, is_frame, written, operand, first_operand, reached, loaded, load_from, store_to, add_to, map_at, key_in, value_or_null, after_call, called, looked_up, looked_up_in, row_of, helped, exec, LeadsTo, taken}
 use Rattle.bpf_flow.specs.Graph.{next_slot}
 use Rattle.bpf_flow.proofs.StepLemmas.{no_fault, exited}
 use Rattle.bpf_same.specs.Simulated.{is_jump}
@@ -23,7 +26,7 @@ use Rattle.bpf_same.specs.Stepped.{alters, operand_in, AreAlike, AreShared}
 
 -- s with another slot, other registers and another stack
 abbrev pub parted : State → ℕ → (ℕ → Option ℕ) → (ℕ → Option ℕ) → State
-parted s p g h = record { pc = p; reg = g; stack = h; packet = s.packet; ifindex = s.ifindex; queue = s.queue; shapes = s.shapes }
+parted s p g h = record { pc = p; reg = g; stack = h; packet = s.packet; ifindex = s.ifindex; queue = s.queue; shapes = s.shapes; find = s.find }
 
 -- after a step from s, which changes these registers, the old program's state v beside the new one's u
 pub record Behind (a : ℕ → Bool) (q low : ℕ) (s : State) (g : ℕ → Option ℕ) (u v : State) : Type 0 where
@@ -32,6 +35,7 @@ pub record Behind (a : ℕ → Bool) (q low : ℕ) (s : State) (g : ℕ → Opti
   pub ifindex : v.ifindex ≡ u.ifindex
   pub queue : v.queue ≡ u.queue
   pub shapes : v.shapes ≡ u.shapes
+  pub find : v.find ≡ u.find
   pub stack : (i : ℕ) → low ≤ i → v.stack i ≡ u.stack i
   pub below : (i : ℕ) → i < low → u.stack i ≡ s.stack i
   pub changed : (k : ℕ) → a k ≡ true → v.reg k ≡ u.reg k
@@ -78,6 +82,10 @@ operand_is s (operands.Immediate i) = refl
 pub word_from : (f h : ℕ → Option ℕ) (low i z : ℕ) → ((j : ℕ) → low ≤ j → h j ≡ f j) → low ≤ i → word_at h i z ≡ word_at f i z
 word_from f h low i zero e l = refl
 word_from f h low i (suc z) e l = ap (λ (o : Option ℕ). higher o (word_at h (i + 1) z)) (e i l) ∙ ap (higher (f i)) (word_from f h low (i + 1) z e (omega (arith, l)))
+
+pub bytes_from : (f h : ℕ → Option ℕ) (low i z : ℕ) → ((j : ℕ) → low ≤ j → h j ≡ f j) → low ≤ i → bytes_at h i z ≡ bytes_at f i z
+bytes_from f h low i zero e l = refl
+bytes_from f h low i (suc z) e l = ap (λ (o : Option ℕ). before o (bytes_at h (i + 1) z)) (e i l) ∙ ap (before (f i)) (bytes_from f h low (i + 1) z e (omega (arith, l)))
 
 pub word_under : (f h : ℕ → Option ℕ) (low i z : ℕ) → ((j : ℕ) → j < low → h j ≡ f j) → i + z ≤ low → word_at h i z ≡ word_at f i z
 word_under f h low i zero e l = refl
@@ -135,6 +143,7 @@ module _ (s : State) (p low : ℕ) (g h : ℕ → Option ℕ) (above : (i : ℕ)
     ifindex = refl;
     queue = refl;
     shapes = refl;
+    find = refl;
     stack = above;
     below = λ i l. refl;
     changed = λ j e. put_alike s.reg g k j (Some x) e;
@@ -182,6 +191,7 @@ module _ (s : State) (p low : ℕ) (g h : ℕ → Option ℕ) (above : (i : ℕ)
       ifindex = refl;
       queue = refl;
       shapes = refl;
+      find = refl;
       stack = above;
       below = λ j l. refl;
       changed = λ k e. never e;
@@ -197,6 +207,7 @@ module _ (s : State) (p low : ℕ) (g h : ℕ → Option ℕ) (above : (i : ℕ)
       ifindex = refl;
       queue = refl;
       shapes = refl;
+      find = refl;
       stack = λ j l. put_from s.stack h i z x j (above j l);
       below = λ j l. put_under s.stack i z x j (omega (arith, l, e i refl));
       changed = λ k e. never e;
@@ -222,6 +233,7 @@ module _ (s : State) (p low : ℕ) (g h : ℕ → Option ℕ) (above : (i : ℕ)
       ifindex = refl;
       queue = refl;
       shapes = refl;
+      find = refl;
       stack = above;
       below = λ j l. refl;
       changed = λ k e. never e;
@@ -233,12 +245,16 @@ module _ (s : State) (p low : ℕ) (g h : ℕ → Option ℕ) (above : (i : ℕ)
   add_pairs (InContext i) fetch src d = tt
   add_pairs Nowhere fetch src d = tt
 
-  key_same : (place : Place) → ((j : ℕ) → place ≡ InStack j → low ≤ j) → key_in place (parted s p g h) ≡ key_in place s
-  key_same (InPacket i) e = refl
-  key_same (InStack i) e = word_from s.stack h low i 4 above (e i refl)
-  key_same (InContext i) e = refl
-  key_same (InCounter m k j) e = refl
-  key_same Nowhere e = refl
+  key_same : (place : Place) (z : ℕ) → ((j : ℕ) → place ≡ InStack j → low ≤ j) → key_in place (parted s p g h) z ≡ key_in place s z
+  key_same (InPacket i) z e = refl
+  key_same (InStack i) z e = bytes_from s.stack h low i z above (e i refl)
+  key_same (InContext i) z e = refl
+  key_same (InCounter m k j) z e = refl
+  key_same Nowhere z e = refl
+
+  row_same : (m : ℕ) (by : MapKey) (key : List ℕ) → row_of (parted s p g h) m by key ≡ row_of s m by key
+  row_same m Index key = refl
+  row_same m (Listed kind) key = refl
 
   called_behind : (x : ℕ) → Behind (λ k. nat_le k 5) (p + 1) low s g (called s x) (called (parted s p g h) x)
   called_behind x = record {
@@ -247,13 +263,14 @@ module _ (s : State) (p low : ℕ) (g h : ℕ → Option ℕ) (above : (i : ℕ)
     ifindex = refl;
     queue = refl;
     shapes = refl;
+    find = refl;
     stack = above;
     below = λ i l. refl;
     changed = λ k e. call_alike s.reg g x k e;
     left = λ k e. (call_left s.reg x k e, call_left g x k e);
   }
 
-  help_pairs : (helper : ℤ) → g 1 ≡ s.reg 1 → g 2 ≡ s.reg 2 → ((a j : ℕ) → s.reg 2 ≡ Some a → region (length s.packet) s.shapes a 4 ≡ InStack j → low ≤ j) →
+  help_pairs : (helper : ℤ) → g 1 ≡ s.reg 1 → g 2 ≡ s.reg 2 → ((a j z : ℕ) → s.reg 2 ≡ Some a → region (length s.packet) s.shapes a z ≡ InStack j → low ≤ j) →
       Pairs (Behind (λ k. nat_le k 5) (p + 1) low s g) (helped helper s) (helped helper (parted s p g h))
   help_pairs (pos n) first second e = by (n == 1)
     where
@@ -264,8 +281,13 @@ module _ (s : State) (p low : ℕ) (g h : ℕ → Option ℕ) (above : (i : ℕ)
       by true = need_pairs R (s.reg 1) (g 1) _ _ first (λ x is1.
           need_pairs R (s.reg 2) (g 2) _ _ second (λ a is2.
           need_pairs R (map_at s x) (map_at s x) _ _ refl (λ m is3.
-          need_pairs R (key_in (region (length s.packet) s.shapes a 4) s) (key_in (region (length s.packet) s.shapes a 4) (parted s p g h)) _ _ (key_same (region (length s.packet) s.shapes a 4) (λ j at. e a j is2 at)) (λ k is4.
-          (called (parted s p g h) (value_or_null (slice_get s.shapes m) m k), refl, called_behind (value_or_null (slice_get s.shapes m) m k))))))
+          need_pairs R (slice_get s.shapes m) (slice_get s.shapes m) (looked_up_in s a m) (looked_up_in (parted s p g h) a m) refl (λ shape is4.
+          need_pairs R (key_in (region (length s.packet) s.shapes a (key_size shape.key)) s (key_size shape.key)) (key_in (region (length s.packet) s.shapes a (key_size shape.key)) (parted s p g h) (key_size shape.key)) _ _
+          (key_same (region (length s.packet) s.shapes a (key_size shape.key)) (key_size shape.key) (λ j at. e a j (key_size shape.key) is2 at)) (λ key is5. (
+            called (parted s p g h) (value_or_null shape m (row_of s m shape.key key)),
+            ap (λ (row : Option ℕ). Next (called (parted s p g h) (value_or_null shape m row))) (row_same m shape.key key),
+            called_behind (value_or_null shape m (row_of s m shape.key key)),
+          ))))))
       by false = tt
   help_pairs (negsuc n) first second e = tt
 

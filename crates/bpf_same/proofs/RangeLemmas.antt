@@ -3,16 +3,19 @@ use Rattle.std.proofs.Common.{ℕ, ◌+◌, ◌-◌, ◌%◌, ◌^◌, ◌≡◌
 use Rattle.std.specs.Prelude.{IfSome}
 use Rattle.bpf_note.specs.declared.val.Val.{Val}
 use Rattle.bpf_note.specs.declared.val.Val.TheVariants.{Num, Pkt, PktEnd}
-use Rattle.bpf_note.specs.State.{packet_start}
+use Rattle.bpf_note.specs.State.{State, packet_start}
 use Rattle.bpf_note.specs.Facts.{Facts, packet_id}
-use Rattle.bpf_note.specs.Describes.{Reads, meaning}
+use Rattle.bpf_note.specs.Describes.{Describes, Reads, meaning}
 use Rattle.bpf_flow.proofs.RegisterLemmas.{is_set_reads}
 use Rattle.bpf_same.specs.declared.range.Range.{Range}
 use Rattle.bpf_same.specs.declared.linear_form.LinearForm.{LinearForm}
 use Rattle.bpf_same.specs.declared.relation.Relation.{Relation}
-use Rattle.bpf_same.specs.LinearForms.{held, plus, gathered, total, Hold}
+use Rattle.bpf_same.specs.declared.room.Room.{Room}
+use Rattle.bpf_same.specs.LinearForms.{held, plus, total, first_form, IsRoom, Hold}
 use Rattle.bpf_same.specs.Ranges.{Lies, IsRead, IsFarthest, IsLeastLength, IsMoved, IsSpan}
-use Rattle.bpf_same.proofs.StepLemmas.{held_register}
+use Rattle.bpf_same.proofs.LinearFormLemmas.{apart}
+use Rattle.bpf_same.proofs.StepLemmas.{held_register, held_end}
+use Rattle.bpf_same.proofs.RoomLemmas.{last_is}
 
 pub far_top : (n : Facts) (id far : ℕ) → far ≡ n.top id → IsFarthest n id far
 far_top n id far e = λ s d. subst (λ (t : ℕ). d.base id ≤ t) (sym e) (d.tops id)
@@ -61,14 +64,6 @@ both_lie o low high least most a b =
     some_same : {x y : ℕ} → Some x ≡ Some y → x ≡ y
     some_same e = cc
 
--- linear forms of the same terms differ by a constant
-apart : (f : ℕ → Option ℕ) (s t : LinearForm) (by : ℕ) → s.terms ≡ t.terms → s.constant < 2 ^ 64 → t.constant < 2 ^ 64 → by ≡ (s.constant + (2 ^ 64 - t.constant)) % 2 ^ 64 → total f s ≡ plus (total f t) (Some by)
-apart f s t by same small fits e = ap (λ (m : ℕ). plus (Some s.constant) (gathered f m 64)) same ∙ of (gathered f t.terms 64)
-  where
-    of : (o : Option ℕ) → plus (Some s.constant) o ≡ plus (plus (Some t.constant) o) (Some by)
-    of None = refl
-    of (Some y) = ap Some (omega (arith, small, fits, e))
-
 -- a register that holds as much as another one but for a constant
 pub moved_span : (n : Facts) (e : Relation) (k j from to by low high : ℕ) (here there : LinearForm) → k < 11 → j < 11 → ((f g : ℕ → Option ℕ) → Hold e f g → f k ≡ total f here) → ((f g : ℕ → Option ℕ) → Hold e f g → f j ≡ total f there) →
     here.terms ≡ there.terms → here.constant < 2 ^ 64 → there.constant < 2 ^ 64 → by ≡ (here.constant + (2 ^ 64 - there.constant)) % 2 ^ 64 → IsRead n (n.reg j) from to → IsMoved from to by low high → IsSpan n e k low high
@@ -97,3 +92,28 @@ pub in_both_span : (n : Facts) (e : Relation) (k : ℕ) (o : Option Range) (r bo
     ((x : Option ℕ) → IfSome o (λ r. Lies x r.low r.high) → Lies x r.low r.high → Lies x both.low both.high) → IsSpan n e k both.low both.high
 in_both_span n e k None r both first second h = λ s g d hold. h (s.reg k) tt (second s g d hold)
 in_both_span n e k (Some q) r both first second h = λ s g d hold. h (s.reg k) (first s g d hold) (second s g d hold)
+
+-- a register that differs by a constant from the first address of a room
+first_lies : (n : Facts) (s : State) (room : Room) (w : ℕ) → Describes n s → IsRoom (held s) room → room.first < 2 ^ 64 → room.last < 2 ^ 64 → w ≡ (room.last + (2 ^ 64 - room.first)) % 2 ^ 64 → w ≤ 65535 →
+    Lies (total (held s) (first_form room)) packet_start (packet_start + 65535 - w)
+first_lies n s room w d r p q e short =
+    let l = last_is (held s) room w p q e short r in
+    let same : Some r.last.stop ≡ Some (packet_start + length s.packet) = sym r.last.packet_end ∙ held_end s in
+    let stop : r.last.stop ≡ packet_start + length s.packet = cc in
+    let size = d.state.packet_size in
+    let to = r.last.to in
+    record { x = r.first.x; is = r.first.is; least = r.first.from; most = omega (arith, l, stop, size, to) }
+
+pub room_span : (e : Relation) (k : ℕ) (here : LinearForm) (room : Room) (w by low high : ℕ) → k < 11 → ((f g : ℕ → Option ℕ) → Hold e f g → f k ≡ total f here) → ((f g : ℕ → Option ℕ) → Hold e f g → IsRoom f room) →
+    here.terms ≡ room.terms → here.constant < 2 ^ 64 → room.first < 2 ^ 64 → room.last < 2 ^ 64 → w ≡ (room.last + (2 ^ 64 - room.first)) % 2 ^ 64 → w ≤ 65535 → by ≡ (here.constant + (2 ^ 64 - room.first)) % 2 ^ 64 →
+    IsMoved packet_start (packet_start + 65535 - w) by low high → (n : Facts) → IsSpan n e k low high
+room_span e k here room w by low high small a holds same p q t length short at moved n = λ s g d h.
+    let first : s.reg k ≡ total (held s) here = sym (held_register s k small) ∙ a (held s) g h in
+    let both : s.reg k ≡ plus (total (held s) (first_form room)) (Some by) = first ∙ apart (held s) here (first_form room) by same p q at in
+    subst (λ (o : Option ℕ). Lies o low high) (sym both) (moved (total (held s) (first_form room)) (first_lies n s room w d (holds (held s) g h) q t length short))
+
+pub room_span_if : (e : Relation) (k : ℕ) (here : LinearForm) (room : Room) (w by : ℕ) (o : Option Range) → k < 11 → ((f g : ℕ → Option ℕ) → Hold e f g → f k ≡ total f here) → ((f g : ℕ → Option ℕ) → Hold e f g → IsRoom f room) →
+    here.terms ≡ room.terms → here.constant < 2 ^ 64 → room.first < 2 ^ 64 → room.last < 2 ^ 64 → w ≡ (room.last + (2 ^ 64 - room.first)) % 2 ^ 64 → w ≤ 65535 → by ≡ (here.constant + (2 ^ 64 - room.first)) % 2 ^ 64 →
+    IfSome o (λ r. IsMoved packet_start (packet_start + 65535 - w) by r.low r.high) → IfSome o (λ r. (n : Facts) → IsSpan n e k r.low r.high)
+room_span_if e k here room w by None small a holds same p q t length short at moved = tt
+room_span_if e k here room w by (Some r) small a holds same p q t length short at moved = room_span e k here room w by r.low r.high small a holds same p q t length short at moved

@@ -35,6 +35,7 @@ record Twins (p : ℕ) (s t : State) : Type 0 where
   ifindex : t.ifindex ≡ s.ifindex
   queue : t.queue ≡ s.queue
   shapes : t.shapes ≡ s.shapes
+  find : t.find ≡ s.find
   stack : (i : ℕ) → t.stack i ≡ s.stack i
   reg : (k : ℕ) → t.reg k ≡ s.reg k
 
@@ -56,9 +57,10 @@ twin_is p s t b =
     ∙ ap (λ (i : ℕ). record t { pc = p; packet = s.packet; ifindex = i }) b.ifindex
     ∙ ap (λ (q : ℕ). record t { pc = p; packet = s.packet; ifindex = s.ifindex; queue = q }) b.queue
     ∙ ap (λ (m : List Shape). record t { pc = p; packet = s.packet; ifindex = s.ifindex; queue = s.queue; shapes = m }) b.shapes
+    ∙ ap (λ (f : ℕ → List ℕ → Option ℕ). record t { pc = p; packet = s.packet; ifindex = s.ifindex; queue = s.queue; shapes = s.shapes; find = f }) b.find
 
 twins_at : (p q r : ℕ) (s t : State) → Twins p s t → Twins r (at_slot s q) (at_slot t r)
-twins_at p q r s t b = record { pc = refl; packet = b.packet; ifindex = b.ifindex; queue = b.queue; shapes = b.shapes; stack = b.stack; reg = b.reg }
+twins_at p q r s t b = record { pc = refl; packet = b.packet; ifindex = b.ifindex; queue = b.queue; shapes = b.shapes; find = b.find; stack = b.stack; reg = b.reg }
 
 alike_self : (i : Insn) (g : ℕ → Option ℕ) → AreAlike i g g
 alike_self (Alu op wide dst src) g = (refl, refl)
@@ -91,6 +93,7 @@ twins_after i p q s t u v b after = record {
   ifindex = after.ifindex;
   queue = after.queue;
   shapes = after.shapes;
+  find = after.find;
   stack = λ k. after.stack k (omega arith);
   reg = λ k. elim (cases_Bool (alters i k)) [
     | inl e ↦ after.changed k e
@@ -239,4 +242,4 @@ pub renumbered_same : (shapes : List Shape) (witnesses : List Witness) (old new 
 renumbered_same shapes witnesses old new k = λ s is e r0 bytes done run.
     subst (λ (done : List Op). Runs old r0 bytes s done) run.did
     (walks witnesses old new r0 bytes s run.labels k run.walk 0 s (subst (λ (q : ℕ). IsWitnessed witnesses q 0) (sym is.pc) k.start)
-    (record { pc = is.pc; packet = refl; ifindex = refl; queue = refl; shapes = refl; stack = λ i. refl; reg = λ k. refl }))
+    (record { pc = is.pc; packet = refl; ifindex = refl; queue = refl; shapes = refl; find = refl; stack = λ i. refl; reg = λ k. refl }))

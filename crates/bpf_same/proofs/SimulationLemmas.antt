@@ -1,12 +1,14 @@
 -- Where the old program simulates each instruction, each walk of the new program is one of the old.
-use Rattle.std.proofs.Common.{ℕ, ◌+◌, ◌≡◌, ◌≤◌, inl, inr, refl, sym, ap, ◌∙◌, subst, ℤ, List, [], ◌∷◌, Option, None, Some, Bool, true, false}
+use Rattle.std.proofs.Common.{ℕ, ◌+◌, ◌^◌, ◌≡◌, ◌<◌, ◌≤◌, arith, pos, negsuc, not, inl, inr, refl, sym, ap, ◌∙◌, subst, ℤ, List, [], ◌∷◌, Option, None, Some, Bool, true, false}
 use Rattle.std.specs.Prelude.{if◌then◌else◌, slice_get, IfSome}
 use Rattle.std.specs.Global.{Box, Vec}
 use Rattle.bpf_insn.specs.Register.{number}
 use Rattle.bpf_insn.specs.Conditions.{is_met}
 use Rattle.bpf_insn.specs.declared.condition.Condition.{Condition}
 use Rattle.bpf_insn.specs.declared.register.Register.{Register}
+use Rattle.bpf_insn.specs.Signed.{sign_extended}
 use Rattle.bpf_insn.specs.declared.operand.Operand.{Operand}
+use Rattle.bpf_insn.specs.declared.operand.Operand.TheVariants as operands
 use Rattle.bpf_insn.specs.declared.insn.Insn.{Insn}
 use Rattle.bpf_insn.specs.declared.insn.Insn.TheVariants.{Alu, Neg, End, MovSx, Const, MapRef, Ldx, St, Stx, AddCounter, Ja, Jump, Call, Exit, Second}
 use Rattle.bpf_note.specs.Shape.{Shape}
@@ -14,7 +16,7 @@ use Rattle.bpf_insn.specs.Size.{size_bytes}
 use Rattle.bpf_insn.specs.declared.size.Size.{Size}
 use Rattle.bpf_note.specs.Regions as regions
 use Rattle.bpf_note.specs.Regions.{InPacket, InStack, InContext, InCounter, Nowhere}
-use Rattle.bpf_note.specs.State.{State, IsStart}
+use Rattle.bpf_note.specs.State.{State, IsState, IsStart}
 use Rattle.bpf_note.specs.Parts.{Noted, facts}
 use Rattle.bpf_note.specs.Facts.{Facts, entry}
 use Rattle.bpf_note.specs.Describes.{Describes}
@@ -29,13 +31,16 @@ use Rattle.bpf_flow.proofs.KeptLemmas.{kept}
 use Rattle.bpf_vm.specs.Run.{Walk, ends, goes}
 use Rattle.bpf_same.specs.declared.witness.Witness.{Witness}
 use Rattle.bpf_same.specs.Same.{operations, Runs, IsSame}
-use Rattle.bpf_same.specs.Decided.{Compared, IsDecided}
+use Rattle.bpf_same.specs.Decided.{Compared, IsDecided, opposed, on_way}
+use Rattle.bpf_flow.specs.Branch.{opposite}
+use Rattle.bpf_flow.proofs.JumpLemmas.{met_is, opposite_holds}
+use Rattle.bpf_flow.proofs.RegisterLemmas.{number_small}
 use Rattle.bpf_same.specs.declared.relation.Relation.{Relation}
 use Rattle.bpf_same.specs.LinearForms.{held, Hold}
-use Rattle.bpf_same.specs.Stepped.{alters, Stepped, AreAlike, ReadsAlike, IsOwnStep}
+use Rattle.bpf_same.specs.Stepped.{alters, operand_in, Stepped, AreAlike, ReadsAlike, IsOwnStep}
 use Rattle.bpf_same.specs.Simulated.{Candidate, IsKnown, IsRelated, IsSimulated, ReachesSilently, SimulatesFrom, Establishes, IsSharedStep, SimulatesStep, SimulatesPlain, SimulatesWay, SimulatesWays, AreSameJump, SimulatesBranch, IsBranch, IsAccounted, in_front, Simulates, IsSilent, SimulatesSlot, is_jump, IsSimulation}
 use Rattle.bpf_same.proofs.PairLemmas.{parted, Behind, Pairs, pairs_lead, pairs_exit, operand_is, exec_pairs}
-use Rattle.bpf_same.proofs.StepLemmas.{needed_is, held_register, held_fits, alike_of, noted_is, copied_stepped}
+use Rattle.bpf_same.proofs.StepLemmas.{needed_is, held_register, held_fits, alike_of, noted_within, noted_long, noted_end, noted_range, noted_is, copied_stepped}
 use Rattle.bpf_same.proofs.OwnLemmas.{own_alone}
 
 operations_front : (label : Option Op) (labels : List (Option Op)) → operations (label ∷ labels) ≡ in_front label (operations labels)
@@ -73,6 +78,7 @@ parted_is e low p s t b =
     ∙ ap (λ (i : ℕ). record t { pc = p; packet = s.packet; ifindex = i }) b.ifindex
     ∙ ap (λ (q : ℕ). record t { pc = p; packet = s.packet; ifindex = s.ifindex; queue = q }) b.queue
     ∙ ap (λ (m : List Shape). record t { pc = p; packet = s.packet; ifindex = s.ifindex; queue = s.queue; shapes = m }) b.shapes
+    ∙ ap (λ (f : ℕ → List ℕ → Option ℕ). record t { pc = p; packet = s.packet; ifindex = s.ifindex; queue = s.queue; shapes = s.shapes; find = f }) b.find
 
 alike_there : (e : Relation) (low p : ℕ) (i : Insn) (s t : State) → IsRelated e low p s t → ReadsAlike e i → AreAlike i s.reg t.reg
 alike_there e low p i s t b alike = alike_of i (held s) s.reg t.reg (λ k l. held_register s k l) (alike (held s) t.reg b.relation)
@@ -87,7 +93,7 @@ compared_old e low p cond wide dst src off s t c b alike k =
 -- one silent step more
 pub silent_further : (old : List Insn) (e : Relation) (low : ℕ) (n : Facts) (p q r : ℕ) (i : Insn) → ReachesSilently old e low n p q → slice_get old q ≡ Some i → IsSilent i e low n q r → ReachesSilently old e low n p r
 silent_further old e low n p q r i before_that there h = λ s t d b r0 bytes done run.
-    let moved : IsRelated e low q s (at_slot t q) = record { pc = refl; packet = b.packet; ifindex = b.ifindex; queue = b.queue; shapes = b.shapes; stack = b.stack; relation = b.relation } in
+    let moved : IsRelated e low q s (at_slot t q) = record { pc = refl; packet = b.packet; ifindex = b.ifindex; queue = b.queue; shapes = b.shapes; find = b.find; stack = b.stack; relation = b.relation } in
     before_that s t d b r0 bytes done (before old r0 bytes (at_slot t q) (at_slot t r) None done (step_at old (at_slot t q) i None (at_slot t r) there (h s (at_slot t q) d moved)) run)
 
 pub stay : (old : List Insn) (e : Relation) (low : ℕ) (n : Facts) (p : ℕ) → ReachesSilently old e low n p p
@@ -123,7 +129,7 @@ meet b n p q witness e here claimed way known = λ e' claimed' s t pc d beside r
     let same : e' ≡ e = some_is (sym claimed' ∙ claimed) in
     let there : IsRelated e b.low p s t = subst (λ (e : Relation). IsRelated e b.low p s t) same beside in
     way s t d there r0 bytes done (go witness e (at_slot t witness.at) (ap (slice_get b.witnesses) pc ∙ here) (ap (slice_get b.relations) pc ∙ claimed) (subst (λ (q : ℕ). IsKnown b.notes q s) (sym pc) (known s d))
-    (record { pc = refl; packet = there.packet; ifindex = there.ifindex; queue = there.queue; shapes = there.shapes; stack = there.stack; relation = there.relation }))
+    (record { pc = refl; packet = there.packet; ifindex = there.ifindex; queue = there.queue; shapes = there.shapes; find = there.find; stack = there.stack; relation = there.relation }))
 
 -- a state that a step leads to is covered by the edges
 covered : (es : Edges) (o : Outcome) (label : Option Op) (u : State) → Accounts es o → LeadsTo o label u → Covers es u
@@ -201,13 +207,34 @@ own_exits Second low n s r0 o e = o
 
 -- after a step of both, or one in which the old program stutters, its state v is related to the new one's state u
 established : (b : Candidate) (i : Insn) (stutters : Bool) (e : Relation) (low : ℕ) (m : Facts) (p q : ℕ) → Establishes b i stutters e m p q → (s t u v : State) → Hold e (held s) t.reg → Stepped i stutters b.low m (held s) t.reg (held u) v.reg → Describes m u → u.pc ≡ q → v.pc ≡ p →
-    v.packet ≡ u.packet → v.ifindex ≡ u.ifindex → v.queue ≡ u.queue → v.shapes ≡ u.shapes → ((j : ℕ) → b.low ≤ j → v.stack j ≡ u.stack j) → (r0 : ℕ) (bytes : List ℕ) (done : List Op) → IsSimulated b r0 bytes done u → Runs b.old r0 bytes v done
-established b i stutters e low m p q l s t u v hold stepped d at pc packet ifindex queue shapes stack r0 bytes done go =
-    l.simulated l.next l.here u v at d (record { pc = pc; packet = packet; ifindex = ifindex; queue = queue; shapes = shapes; stack = stack; relation = l.preserves (held s) t.reg (held u) v.reg stepped hold }) r0 bytes done go
+    v.packet ≡ u.packet → v.ifindex ≡ u.ifindex → v.queue ≡ u.queue → v.shapes ≡ u.shapes → v.find ≡ u.find → ((j : ℕ) → b.low ≤ j → v.stack j ≡ u.stack j) → (r0 : ℕ) (bytes : List ℕ) (done : List Op) → IsSimulated b r0 bytes done u → Runs b.old r0 bytes v done
+established b i stutters e low m p q l s t u v hold stepped d at pc packet ifindex queue shapes find stack r0 bytes done go =
+    l.simulated l.next l.here u v at d (record { pc = pc; packet = packet; ifindex = ifindex; queue = queue; shapes = shapes; find = find; stack = stack; relation = l.preserves (held s) t.reg (held u) v.reg stepped hold }) r0 bytes done go
+
+-- the numbers of a jump that is taken
+abbrev Taking : Insn → State → Type 0
+Taking (Jump cond wide dst src off) s = Compared cond wide (s.reg (number dst)) (operand s src) true
+Taking i s = Unit {0}
+
+word_fits : (z : ℤ) → sign_extended z < 2 ^ 64
+word_fits (pos n) = omega arith
+word_fits (negsuc n) = omega arith
+
+operand_word : (s : State) → IsState s → (src : Operand) (y : ℕ) → operand s src ≡ Some y → y < 2 ^ 64
+operand_word s st (operands.Register r) y e = st.words (number r) y e
+operand_word s st (operands.Immediate i) y e = let same : sign_extended i ≡ y = cc in omega (arith, word_fits i)
 
 -- a jump leaves what terms hold
-jump_stepped : (i : Insn) (low q : ℕ) (m : Facts) (s : State) (g : ℕ → Option ℕ) → is_jump i ≡ true → Describes m (at_slot s q) → Stepped i true low m (held s) g (held (at_slot s q)) g
-jump_stepped i low q m s g j d = record {
+operand_held : (s : State) (src : Operand) → operand_in (held s) src ≡ operand s src
+operand_held s (operands.Register r) = held_register s (number r) (number_small r)
+operand_held s (operands.Immediate i) = refl
+
+-- the same of a state
+abbrev IsTakenIn : Insn → State → Type 0
+IsTakenIn i s = (cond : Condition) (wide : Bool) (dst : Register) (src : Operand) (off : ℤ) → i ≡ Jump cond wide dst src off → Compared cond wide (s.reg (number dst)) (operand s src) true
+
+jump_stepped : (i : Insn) (low q : ℕ) (m : Facts) (s : State) (g : ℕ → Option ℕ) → is_jump i ≡ true → IsTakenIn i s → Describes m (at_slot s q) → Stepped i true low m (held s) g (held (at_slot s q)) g
+jump_stepped i low q m s g j met d = record {
   fits = held_fits (at_slot s q) d.state;
   kept = λ k small e. refl;
   words = λ k stutters other. refl;
@@ -216,6 +243,18 @@ jump_stepped i low q m s g j d = record {
   loaded = λ dst src off w stutters e. absurd (true_false (sym j ∙ ap is_jump e));
   made = λ op wide dst src e. absurd (true_false (sym j ∙ ap is_jump e));
   noted = λ k x e small. held_register (at_slot s q) k small ∙ noted_is m (at_slot s q) k x d e;
+  packet = refl;
+  addresses = λ k id off safe v e small. noted_within m (at_slot s q) k id off safe d v e small;
+  long = λ least e. noted_long m (at_slot s q) least d e;
+  ends = λ k v small. noted_end m (at_slot s q) k d v small;
+  ranged = λ k low high r small. noted_range m (at_slot s q) k low high d r small;
+  met = λ cond wide dst src off e. let k = met cond wide dst src off e in record {
+    x = k.x;
+    y = k.y;
+    first = held_register s (number dst) (number_small dst) ∙ k.first;
+    second = operand_held s src ∙ k.second;
+    met = k.met;
+  };
   stays = λ k e. refl;
   old_kept = λ k e. refl;
   old_made = λ op wide dst src stutters e. absurd (true_false (sym j ∙ ap is_jump e));
@@ -231,8 +270,8 @@ both_step b shapes p i e n m pc q j st sound = record {
       let there : slice_get b.old t.pc ≡ Some i = ap (slice_get b.old) beside.pc ∙ st.there in
       let behind = v.2 in
       before b.old r0 bytes t v.0 label done (step_at b.old t i label v.0 there v.1)
-      (established b i false e b.low m (next_slot i p) q st.establishes s t u v.0 beside.relation (copied_stepped i s u t v.0 b.low (next_slot i p) m label h v.1 cover.1 behind) cover.1 cover.0 behind.pc
-      behind.packet behind.ifindex behind.queue behind.shapes behind.stack r0 bytes done go);
+      (established b i false e b.low m (next_slot i p) q st.establishes s t u v.0 beside.relation (copied_stepped i s u t v.0 b.low (next_slot i p) m label h v.1 j cover.1 behind) cover.1 cover.0 behind.pc
+      behind.packet behind.ifindex behind.queue behind.shapes behind.find behind.stack r0 bytes done go);
   ends = λ s t beside d r0 x.
       ap (λ (o : Option Insn). need o (λ i. exec i t)) (ap (slice_get b.old) beside.pc ∙ st.there) ∙ pairs_exit (Behind (λ k. alters i k) (next_slot i p) b.low s t.reg) (exec i s) (exec i t) r0 (pairs s t beside d) x;
 }
@@ -248,7 +287,7 @@ own_step b shapes p i e n m pc q o l sound = record {
       let cover : (u.pc ≡ q) × Describes m u = by_one q m u (covered ((q, m) ∷ []) (exec i s) label u (sound s d at sh) h) in
       let a = own_alone i b.low n m s t.reg label u o d cover.1 h in
       let run : Runs b.old r0 bytes t done = established b i true e b.low m p q l s t u t beside.relation a.stepped cover.1 cover.0 beside.pc (beside.packet ∙ sym a.packet) (beside.ifindex ∙ sym a.ifindex) (beside.queue ∙ sym a.queue)
-      (beside.shapes ∙ sym a.shapes) (λ j above. beside.stack j above ∙ sym (a.stack j above)) r0 bytes done go in
+      (beside.shapes ∙ sym a.shapes) (beside.find ∙ sym a.find) (λ j above. beside.stack j above ∙ sym (a.stack j above)) r0 bytes done go in
       subst (λ (label : Option Op). Runs b.old r0 bytes t (in_front label done)) (sym a.label) run;
   ends = λ s t beside d r0 x. absurd (own_exits i b.low n s r0 o x);
 }
@@ -274,7 +313,7 @@ ja_simulates b shapes p wide to e n m pc q sound l = record {
   goes = λ s t beside at sh d label u h r0 bytes done go.
       let cover : (u.pc ≡ q) × Describes m u = by_one q m u (covered ((q, m) ∷ []) (exec (Ja wide to) s) label u (sound s d at sh) h) in
       needed (target s.pc to) _ label u (λ r h. next_does (λ (label : Option Op) (u : State). u.pc ≡ q → Describes m u → IsSimulated b r0 bytes done u → Runs b.old r0 bytes t (in_front label done)) (at_slot s r) label u
-      (λ here known go. established b (Ja wide to) true e b.low m p q l s t (at_slot s r) t beside.relation (jump_stepped (Ja wide to) b.low r m s t.reg refl known) known here beside.pc beside.packet beside.ifindex beside.queue beside.shapes beside.stack r0 bytes done go)
+      (λ here known go. established b (Ja wide to) true e b.low m p q l s t (at_slot s r) t beside.relation (jump_stepped (Ja wide to) b.low r m s t.reg refl (λ cond wide dst src off e. absurd (cc (e))) known) known here beside.pc beside.packet beside.ifindex beside.queue beside.shapes beside.find beside.stack r0 bytes done go)
       h cover.0 cover.1 go) h;
   ends = λ s t beside d r0 x. absurd (jumped_exits s to r0 x);
 }
@@ -315,13 +354,37 @@ abbrev Leads : List Insn → ℕ → Relation → ℕ → Condition → Bool →
 Leads old low e p cond wide dst src a c = (s t : State) (way : Bool) → IsRelated e low p s t → Compared cond wide (s.reg (number dst)) (operand s src) way → (z : ℕ) → (if way then c else a) ≡ Some z → (r0 : ℕ) (bytes : List ℕ) (done : List Op) →
     Runs old r0 bytes (at_slot t z) done → Runs old r0 bytes t done
 
+-- what is known of the numbers on each way
+taken_way : (cond : Condition) (wide : Bool) (dst : Register) (src : Operand) (off : ℤ) (s : State) → Compared cond wide (s.reg (number dst)) (operand s src) true → IsTakenIn (Jump cond wide dst src off) s
+taken_way cond wide dst src off s k = λ cond' wide' dst' src' off' e. subst (λ (i : Insn). Taking i s) e k
+
+opposed_way : (o : Option Condition) (cond : Condition) (dst : Register) (src : Operand) (off : ℤ) (s : State) → opposite cond ≡ o → IsState s → Compared cond true (s.reg (number dst)) (operand s src) false → IsTakenIn (opposed o dst src off) s
+opposed_way None cond dst src off s e st k = λ cond' wide' dst' src' off' x. absurd (cc (x))
+opposed_way (Some other) cond dst src off s e st k = λ cond' wide' dst' src' off' x.
+    let fx = st.words (number dst) k.x k.first in
+    let fy = operand_word s st src k.y k.second in
+    let held = opposite_holds cond other k.x k.y e (sym (met_is cond k.x k.y fx fy) ∙ k.met) in
+    subst (λ (i : Insn). Taking i s) x (record { x = k.x; y = k.y; first = k.first; second = k.second; met = met_is other k.x k.y fx fy ∙ held })
+
+left_way : (cond : Condition) (wide : Bool) (dst : Register) (src : Operand) (off : ℤ) (s : State) → IsState s → Compared cond wide (s.reg (number dst)) (operand s src) false → IsTakenIn (on_way (Jump cond wide dst src off) false) s
+left_way cond true dst src off s st k = opposed_way (opposite cond) cond dst src off s refl st k
+left_way cond false dst src off s st k = λ cond' wide' dst' src' off' x. absurd (cc (x))
+
+opposed_jumps : (o : Option Condition) (dst : Register) (src : Operand) (off : ℤ) → is_jump (opposed o dst src off) ≡ true
+opposed_jumps None dst src off = refl
+opposed_jumps (Some cond) dst src off = refl
+
+way_jumps : (cond : Condition) (wide : Bool) (dst : Register) (src : Operand) (off : ℤ) → is_jump (on_way (Jump cond wide dst src off) false) ≡ true
+way_jumps cond true dst src off = opposed_jumps (opposite cond) dst src off
+way_jumps cond false dst src off = refl
+
 -- where a way leads to what the old program simulates, and is one that may be taken
-arrives : (b : Candidate) (i : Insn) (e : Relation) (p : ℕ) (n m : Facts) (other : Bool) (o : Option ℕ) (q q' : ℕ) (s t : State) (P : Type 0) (r0 : ℕ) (bytes : List ℕ) (done : List Op) → is_jump i ≡ true → IsRelated e b.low p s t → q' ≡ q → Describes m (at_slot s q') →
-    (IsDecided i e n other → ⊥) → SimulatesWay b i e n other o m q → ((z : ℕ) → o ≡ Some z → Runs b.old r0 bytes (at_slot t z) done → P) → IsSimulated b r0 bytes done (at_slot s q') → P
-arrives b i e p n m other o q q' s t P r0 bytes done j beside at d never (inl decided) f go = absurd (never decided)
-arrives b i e p n m other None q q' s t P r0 bytes done j beside at d never (inr establishes) f go = absurd establishes
-arrives b i e p n m other (Some z) q q' s t P r0 bytes done j beside at d never (inr establishes) f go =
-    f z refl (established b i true e b.low m z q establishes s t (at_slot s q') (at_slot t z) beside.relation (jump_stepped i b.low q' m s t.reg j d) d at refl beside.packet beside.ifindex beside.queue beside.shapes beside.stack r0 bytes done go)
+arrives : (b : Candidate) (i : Insn) (e : Relation) (p : ℕ) (n m : Facts) (way : Bool) (o : Option ℕ) (q q' : ℕ) (s t : State) (P : Type 0) (r0 : ℕ) (bytes : List ℕ) (done : List Op) → is_jump (on_way i way) ≡ true → IsTakenIn (on_way i way) s → IsRelated e b.low p s t → q' ≡ q → Describes m (at_slot s q') →
+    (IsDecided i e n (not way) → ⊥) → SimulatesWay b i e n way o m q → ((z : ℕ) → o ≡ Some z → Runs b.old r0 bytes (at_slot t z) done → P) → IsSimulated b r0 bytes done (at_slot s q') → P
+arrives b i e p n m way o q q' s t P r0 bytes done j met beside at d never (inl decided) f go = absurd (never decided)
+arrives b i e p n m way None q q' s t P r0 bytes done j met beside at d never (inr establishes) f go = absurd establishes
+arrives b i e p n m way (Some z) q q' s t P r0 bytes done j met beside at d never (inr establishes) f go =
+    f z refl (established b (on_way i way) true e b.low m z q establishes s t (at_slot s q') (at_slot t z) beside.relation (jump_stepped (on_way i way) b.low q' m s t.reg j met d) d at refl beside.packet beside.ifindex beside.queue beside.shapes beside.find beside.stack r0 bytes done go)
 
 ways_simulate : (b : Candidate) (shapes : List Shape) (p : ℕ) (a c : Option ℕ) (cond : Condition) (wide : Bool) (dst : Register) (src : Operand) (off : ℤ) (e : Relation) (n l m : Facts) (pc q r : ℕ) →
     q ≡ pc + 1 → target pc off ≡ Some r → (q ≡ r → ⊥) → IsAccounted ((q, l) ∷ (r, m) ∷ []) shapes (Jump cond wide dst src off) n pc → SimulatesWays b (Jump cond wide dst src off) e n a c l q m r → Leads b.old b.low e p cond wide dst src a c →
@@ -338,10 +401,10 @@ ways_simulate b shapes p a c cond wide dst src off e n l m pc q r next to apart 
     by : (s t : State) → IsRelated e b.low p s t → s.pc ≡ pc → q ≡ s.pc + 1 → Describes n s → (label : Option Op) (u : State) (r0 : ℕ) (bytes : List ℕ) (done : List Op) → Ways cond wide dst src off l m s label u → IsSimulated b r0 bytes done u →
         Runs b.old r0 bytes t (in_front label done)
     by s t beside at here d _ _ r0 bytes done (takes q' k x dm) go =
-        arrives b (Jump cond wide dst src off) e p n m false c r q' s t (Runs b.old r0 bytes t done) r0 bytes done refl beside (some_is (sym x ∙ (ap (λ (pc : ℕ). target pc off) at ∙ to))) dm
+        arrives b (Jump cond wide dst src off) e p n m true c r q' s t (Runs b.old r0 bytes t done) r0 bytes done refl (taken_way cond wide dst src off s k) beside (some_is (sym x ∙ (ap (λ (pc : ℕ). target pc off) at ∙ to))) dm
         (λ never. true_false (not_ruled_out cond wide (s.reg (number dst)) (operand s src) true false k (never s t.reg d beside.relation))) ways.taken (λ z f run. leads s t true beside k z f r0 bytes done run) go
     by s t beside at here d _ _ r0 bytes done (leaves k dl) go =
-        arrives b (Jump cond wide dst src off) e p n l true a q (s.pc + 1) s t (Runs b.old r0 bytes t done) r0 bytes done refl beside (sym here) dl
+        arrives b (Jump cond wide dst src off) e p n l false a q (s.pc + 1) s t (Runs b.old r0 bytes t done) r0 bytes done (way_jumps cond wide dst src off) (left_way cond wide dst src off s d.state k) beside (sym here) dl
         (λ never. true_false (not_ruled_out cond wide (s.reg (number dst)) (operand s src) true false (never s t.reg d beside.relation) k)) ways.next (λ z f run. leads s t false beside k z f r0 bytes done run) go
 
 stays_leads : (old : List Insn) (low : ℕ) (e : Relation) (p : ℕ) (cond : Condition) (wide : Bool) (dst : Register) (src : Operand) → Leads old low e p cond wide dst src (Some p) (Some p)
@@ -456,7 +519,7 @@ pub same_runs : (b : Candidate) (new : List Insn) (shapes : List Shape) → ((s 
 same_runs b new shapes begun k = λ s is e r0 bytes done run.
     let go : IsSimulated b r0 bytes (operations run.labels) s = walks b new shapes r0 bytes s run.labels k run.walk e in
     let there : Runs b.old r0 bytes s (operations run.labels) = k.initial.start k.initial.first k.initial.here s s is.pc (begun s is)
-    (record { pc = is.pc; packet = refl; ifindex = refl; queue = refl; shapes = refl; stack = λ i l. refl; relation = k.initial.at_start (held s) s.reg (held_fits s is.state) (λ j l. sym (held_register s j l)) }) r0 bytes (operations run.labels) go in
+    (record { pc = is.pc; packet = refl; ifindex = refl; queue = refl; shapes = refl; find = refl; stack = λ i l. refl; relation = k.initial.at_start (held s) s.reg (held_fits s is.state) (λ j l. sym (held_register s j l)) }) r0 bytes (operations run.labels) go in
     subst (λ (done : List Op). Runs b.old r0 bytes s done) run.did there
 
 pub taken_if : (i : Insn) (cond : Condition) (wide : Bool) (dst : Register) (src : Operand) (off : ℤ) (e : Relation) (low : ℕ) (n : Facts) (p : ℕ) (o : Option ℕ) → i ≡ Jump cond wide dst src off → ReadsAlike e (Jump cond wide dst src off) →

@@ -1,5 +1,5 @@
 -- What a step makes of what terms and the old program's registers hold.
-use Rattle.std.proofs.Common.{ℕ, ◌+◌, ◌-◌, ◌*◌, ◌≡◌, ◌<◌, ◌≤◌, ◌^◌, refl, sym, ap, ◌∙◌, subst, arith, Option, None, Some, Bool, true, false, nat_lt}
+use Rattle.std.proofs.Common.{ℕ, ◌+◌, ◌-◌, ◌*◌, ◌≡◌, ◌<◌, ◌≤◌, ◌^◌, refl, sym, ap, ◌∙◌, subst, arith, length, Option, None, Some, Bool, true, false, nat_lt}
 use Rattle.std.specs.Prelude.{if◌then◌else◌, ◌==◌}
 use Rattle.std.proofs.lemmas.Bool.Decides.{nat_tests}
 use Rattle.bpf_insn.specs.Register.{number}
@@ -18,11 +18,14 @@ use Rattle.bpf_note.specs.Describes.{Describes, Meaning, meaning, Reads}
 use Rattle.bpf_note.proofs.JoinDescribes.{word_below}
 use Rattle.bpf_note.specs.declared.op.Op.{Op}
 use Rattle.bpf_note.specs.declared.op.Op.TheVariants as ops
-use Rattle.bpf_flow.specs.Step.{Outcome, Next, Fault, need, with_number, is_frame, written, operand, first_operand, exec, LeadsTo}
-use Rattle.bpf_flow.proofs.StepLemmas.{no_fault}
+use Rattle.bpf_flow.specs.Step.{Outcome, Next, Loads, Adds, Exited, Fault, need, with_number, is_frame, written, operand, first_operand, exec, LeadsTo}
+use Rattle.bpf_flow.proofs.StepLemmas.{no_fault, exited}
+use Rattle.bpf_flow.proofs.KeptLemmas.{Keeps, exec_keeps}
 use Rattle.bpf_flow.proofs.RegisterLemmas.{number_small}
 use Rattle.bpf_same.specs.LinearForms.{held, IsWord}
-use Rattle.bpf_same.specs.Stepped.{alters, IsOwn, operand_in, Computes, number_in, Stepped, AreAlike}
+use Rattle.bpf_same.specs.Ranges.{IsLeastLength, IsRead, Lies}
+use Rattle.bpf_same.specs.Simulated.{is_jump}
+use Rattle.bpf_same.specs.Stepped.{alters, IsOwn, operand_in, Computes, number_in, IsWithin, IsLong, Stepped, AreAlike}
 use Rattle.bpf_same.proofs.PairLemmas.{Behind, operand_is, word_under}
 
 pub needed_is : {A P : Type 0} (o : Option A) (go : A → Outcome) (l : Option Op) (u : State) → ((x : A) → o ≡ Some x → LeadsTo (go x) l u → P) → LeadsTo (need o go) l u → P
@@ -38,17 +41,29 @@ if_false true x y e = cc
 if_false false x y e = refl
 
 pub held_register : (s : State) (k : ℕ) → k < 11 → held s k ≡ s.reg k
-held_register s k l = if_true (nat_lt k 11) (s.reg k) (word_at s.stack (592 - 8 * k) 8) (grind (arith, nat_tests))
+held_register s k l = if_true (nat_lt k 11) (s.reg k) (if nat_lt k 64 then word_at s.stack (592 - 8 * k) 8 else Some (packet_start + length s.packet)) (grind (arith, nat_tests))
 
-pub held_word : (s : State) (n : ℕ) → 11 ≤ n → held s n ≡ word_at s.stack (592 - 8 * n) 8
-held_word s n l = if_false (nat_lt n 11) (s.reg n) (word_at s.stack (592 - 8 * n) 8) (grind (arith, nat_tests))
+pub held_word : (s : State) (n : ℕ) → 11 ≤ n → n < 64 → held s n ≡ word_at s.stack (592 - 8 * n) 8
+held_word s n l m =
+    let word = word_at s.stack (592 - 8 * n) 8 in
+    let stop = Some (packet_start + length s.packet) in
+    if_false (nat_lt n 11) (s.reg n) (if nat_lt n 64 then word else stop) (grind (arith, nat_tests)) ∙ if_true (nat_lt n 64) word stop (grind (arith, nat_tests))
+
+-- past all terms stands the packet's end
+pub held_end : (s : State) → held s 64 ≡ Some (packet_start + length s.packet)
+held_end s = refl
 
 pub held_fits : (s : State) → IsState s → (n : ℕ) → IsWord (held s n)
-held_fits s st n = by (nat_lt n 11)
+held_fits s st n = by (nat_lt n 11) (nat_lt n 64)
   where
-    by : (b : Bool) → IsWord (if b then s.reg n else word_at s.stack (592 - 8 * n) 8)
-    by true = λ x e. st.words n x e
-    by false = λ x e. let small : x < 256 ^ 8 = word_below s.stack (592 - 8 * n) 8 x st.stack_bytes e in omega (arith, small)
+    by : (b c : Bool) → IsWord (if b then s.reg n else if c then word_at s.stack (592 - 8 * n) 8 else Some (packet_start + length s.packet))
+    by true c = λ x e. st.words n x e
+    by false true = λ x e. let small : x < 256 ^ 8 = word_below s.stack (592 - 8 * n) 8 x st.stack_bytes e in omega (arith, small)
+    by false false = λ x e. let same : packet_start + length s.packet ≡ x = cc in omega (arith, same, st.packet_size)
+
+-- a packet of the same length ends at the same address
+pub end_kept : (s u : State) → length u.packet ≡ length s.packet → held u 64 ≡ held s 64
+end_kept s u e = ap (λ (n : ℕ). Some (packet_start + n)) e
 
 operand_same : (f g : ℕ → Option ℕ) → ((k : ℕ) → k < 11 → f k ≡ g k) → (src : Operand) → operand_in f src ≡ operand_in g src
 operand_same f g h (operands.Register r) = h (number r) (number_small r)
@@ -97,6 +112,40 @@ number_read w (Map m) o x z r e = cc
 number_read w (MaybeValue m id) o x z r e = cc
 number_read w (Value m) o x z r e = cc
 
+address_is : (w : Meaning) (o : Option ℕ) (id off : ℕ) → Reads w (Pkt id off) o → o ≡ Some (packet_start + w.base id + off)
+address_is w None id off r = cc
+address_is w (Some x) id off r = ap Some r.0
+
+pub end_is : (w : Meaning) (o : Option ℕ) → Reads w PktEnd o → o ≡ Some (packet_start + w.len)
+end_is w None r = cc
+end_is w (Some x) r = ap Some r
+
+-- what a note says of an address in the packet, and of its length
+pub noted_within : (m : Facts) (u : State) (k id off safe : ℕ) → Describes m u → m.reg k ≡ Pkt id off → m.safe id ≡ Some safe → k < 11 → IsWithin (held u) k off safe
+noted_within m u k id off safe d v e small =
+    let w = meaning u d.base d.address in
+    let is : u.reg k ≡ Some (packet_start + d.base id + off) = address_is w (u.reg k) id off (subst (λ (v : Val). Reads w v (u.reg k)) v (d.regs k)) in
+    let inside = d.safes id safe e in
+    record {
+      x = packet_start + d.base id + off;
+      stop = packet_start + length u.packet;
+      is = held_register u k small ∙ is;
+      packet_end = held_end u;
+      from = omega arith;
+      to = omega (arith, inside);
+    }
+
+pub noted_long : (m : Facts) (u : State) (least : ℕ) → Describes m u → IsLeastLength m least → IsLong (held u) least
+noted_long m u least d h = let l = h u d in record { stop = packet_start + length u.packet; packet_end = held_end u; reach = omega (arith, l) }
+
+pub noted_end : (m : Facts) (u : State) (k : ℕ) → Describes m u → m.reg k ≡ PktEnd → k < 11 → held u k ≡ held u 64
+noted_end m u k d v small =
+    let w = meaning u d.base d.address in
+    held_register u k small ∙ (end_is w (u.reg k) (subst (λ (v : Val). Reads w v (u.reg k)) v (d.regs k)) ∙ sym (held_end u))
+
+pub noted_range : (m : Facts) (u : State) (k low high : ℕ) → Describes m u → IsRead m (m.reg k) low high → k < 11 → Lies (held u k) low high
+noted_range m u k low high d read small = subst (λ (o : Option ℕ). Lies o low high) (sym (held_register u k small)) (read u d (u.reg k) (d.regs k))
+
 pub noted_is : (m : Facts) (u : State) (k x : ℕ) → Describes m u → number_in (m.reg k) ≡ Some x → u.reg k ≡ Some x
 noted_is m u k x d e = number_read (meaning u d.base d.address) (m.reg k) (u.reg k) x d.start (d.regs k) e
 
@@ -140,12 +189,26 @@ true_false e = cc
 
 pub word_kept : (s u : State) (low n : ℕ) → IsOwn low n → ((i : ℕ) → i < low → u.stack i ≡ s.stack i) → held u n ≡ held s n
 word_kept s u low n o h =
-    held_word u n o.first ∙ (word_under s.stack u.stack low (592 - 8 * n) 8 h (omega (arith, o.first, o.last, o.below)) ∙ sym (held_word s n o.first))
+    held_word u n o.first o.last ∙ (word_under s.stack u.stack low (592 - 8 * n) 8 h (omega (arith, o.first, o.last, o.below)) ∙ sym (held_word s n o.first o.last))
+
+-- no step changes the packet's length
+length_kept : (s : State) (o : Outcome) (l : Option Op) (u : State) → Keeps s o → LeadsTo o l u → length u.packet ≡ length s.packet
+length_kept s (Next t) None u k h = subst (λ (u : State). length u.packet ≡ length s.packet) h k.length
+length_kept s (Next t) (Some (ops.Load m i j v)) u k h = absurd h
+length_kept s (Next t) (Some (ops.Add m i j d v)) u k h = absurd h
+length_kept s (Loads m i j go) None u k h = absurd h
+length_kept s (Loads m i j go) (Some (ops.Load m' i' j' v)) u k h = subst (λ (u : State). length u.packet ≡ length s.packet) h.4 (k.1 v).length
+length_kept s (Loads m i j go) (Some (ops.Add m' i' j' d' v)) u k h = absurd h
+length_kept s (Adds m i j d go) None u k h = absurd h
+length_kept s (Adds m i j d go) (Some (ops.Load m' i' j' v)) u k h = absurd h
+length_kept s (Adds m i j d go) (Some (ops.Add m' i' j' d' v)) u k h = subst (λ (u : State). length u.packet ≡ length s.packet) h.5 (k.1 v).length
+length_kept s (Exited x) l u k h = absurd (exited x l u h)
+length_kept s Fault l u k h = absurd (no_fault l u h)
 
 -- a step that both programs take
-pub copied_stepped : (i : Insn) (s u t v : State) (low q : ℕ) (m : Facts) (l : Option Op) → LeadsTo (exec i s) l u → LeadsTo (exec i t) l v → Describes m u → Behind (λ k. alters i k) q low s t.reg u v →
+pub copied_stepped : (i : Insn) (s u t v : State) (low q : ℕ) (m : Facts) (l : Option Op) → LeadsTo (exec i s) l u → LeadsTo (exec i t) l v → is_jump i ≡ false → Describes m u → Behind (λ k. alters i k) q low s t.reg u v →
     Stepped i false low m (held s) t.reg (held u) v.reg
-copied_stepped i s u t v low q m l h g d b = record {
+copied_stepped i s u t v low q m l h g j d b = record {
   fits = held_fits u d.state;
   kept = λ k small e. held_register u k small ∙ ((b.left k e).0 ∙ sym (held_register s k small));
   words = λ n o none. word_kept s u low n o b.below;
@@ -154,6 +217,12 @@ copied_stepped i s u t v low q m l h g d b = record {
   loaded = λ dst src off w e. false_true e;
   made = λ op wide dst src e. computes_held op wide dst src s u (alu_computes op wide dst src s l u (subst (λ (i : Insn). LeadsTo (exec i s) l u) e h));
   noted = λ k x e small. held_register u k small ∙ noted_is m u k x d e;
+  packet = end_kept s u (length_kept s (exec i s) l u (exec_keeps s i) h);
+  addresses = λ k id off safe v e small. noted_within m u k id off safe d v e small;
+  long = λ least e. noted_long m u least d e;
+  ends = λ k v small. noted_end m u k d v small;
+  ranged = λ k low high r small. noted_range m u k low high d r small;
+  met = λ cond wide dst src off e. false_true (sym j ∙ ap is_jump e);
   stays = λ k e. false_true e;
   old_kept = λ k e. (b.left k e).1;
   old_made = λ op wide dst src f e. alu_computes op wide dst src t l v (subst (λ (i : Insn). LeadsTo (exec i t) l v) e g);

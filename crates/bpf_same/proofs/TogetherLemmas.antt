@@ -41,12 +41,13 @@ shadow_is s t b =
     ∙ ap (λ (i : ℕ). record t { pc = s.pc; packet = s.packet; ifindex = i }) b.ifindex
     ∙ ap (λ (q : ℕ). record t { pc = s.pc; packet = s.packet; ifindex = s.ifindex; queue = q }) b.queue
     ∙ ap (λ (m : List Shape). record t { pc = s.pc; packet = s.packet; ifindex = s.ifindex; queue = s.queue; shapes = m }) b.shapes
+    ∙ ap (λ (f : ℕ → List ℕ → Option ℕ). record t { pc = s.pc; packet = s.packet; ifindex = s.ifindex; queue = s.queue; shapes = s.shapes; find = f }) b.find
 
 pub all_shared : (i : Insn) (s : State) → AreShared i 0 s
 all_shared (Ldx size signed dst src off) s = λ a j e at. omega arith
 all_shared (St size dst off imm) s = λ a j e at. omega arith
 all_shared (Stx size dst src off) s = λ a j e at. omega arith
-all_shared (Call helper) s = λ a j e at. omega arith
+all_shared (Call helper) s = λ a j z e at. omega arith
 all_shared (Alu op wide dst src) s = tt
 all_shared (Neg wide dst) s = tt
 all_shared (End kind width dst) s = tt
@@ -79,7 +80,7 @@ next_is Second p q j h = absurd h
 module _ (s : State) (g h : ℕ → Option ℕ) (stack : (i : ℕ) → h i ≡ s.stack i) where
   at_together : (i : Insn) (q : ℕ) → ((k : ℕ) → alters i k ≡ false) → Together i s (parted s s.pc g h) (at_slot s q) (at_slot (parted s s.pc g h) q)
   at_together i q none = record {
-    shadows = record { pc = refl; packet = refl; ifindex = refl; queue = refl; shapes = refl; stack = stack };
+    shadows = record { pc = refl; packet = refl; ifindex = refl; queue = refl; shapes = refl; find = refl; stack = stack };
     changed = λ k e. let n = none k in cc;
     left = λ k e. (refl, refl);
   }
@@ -112,7 +113,7 @@ module _ (s : State) (g h : ℕ → Option ℕ) (stack : (i : ℕ) → h i ≡ s
 
   behind_together : (i : Insn) (u v : State) → is_jump i ≡ false → Leads i s.pc u.pc → Behind (λ k. alters i k) (next_slot i s.pc) 0 s g u v → Together i s (parted s s.pc g h) u v
   behind_together i u v j l b = record {
-    shadows = record { pc = b.pc ∙ sym (next_is i s.pc u.pc j l); packet = b.packet; ifindex = b.ifindex; queue = b.queue; shapes = b.shapes; stack = λ k. b.stack k (omega arith) };
+    shadows = record { pc = b.pc ∙ sym (next_is i s.pc u.pc j l); packet = b.packet; ifindex = b.ifindex; queue = b.queue; shapes = b.shapes; find = b.find; stack = λ k. b.stack k (omega arith) };
     changed = b.changed;
     left = b.left;
   }

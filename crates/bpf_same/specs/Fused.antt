@@ -44,6 +44,7 @@ pub record Shadows (s t : State) : Type 0 where
   pub ifindex : t.ifindex ≡ s.ifindex
   pub queue : t.queue ≡ s.queue
   pub shapes : t.shapes ≡ s.shapes
+  pub find : t.find ≡ s.find
   pub stack : (i : ℕ) → t.stack i ≡ s.stack i
 
 abbrev pub live_at : Plan → ℕ → ℕ

@@ -1,14 +1,16 @@
 -- For proofs: no claim rests on this file.
 -- Linear forms of what the new program holds, modulo 2 ^ 64, and what a relation says by them.
-use Rattle.std.specs.Prelude.{ℕ, zero, suc, ◌+◌, ◌-◌, ◌*◌, ◌/◌, ◌%◌, ◌^◌, ◌≡◌, ◌<◌, Option, None, Some, if◌then◌else◌, nat_lt, slice_index_or}
-use Rattle.bpf_note.specs.State.{State}
+use Rattle.std.specs.Prelude.{ℕ, zero, suc, ◌+◌, ◌-◌, ◌*◌, ◌/◌, ◌%◌, ◌^◌, ◌≡◌, ◌<◌, ◌≤◌, length, Option, None, Some, if◌then◌else◌, nat_lt, slice_index_or}
+use Rattle.bpf_note.specs.State.{State, packet_start}
 use Rattle.bpf_note.specs.Bytes.{word_at}
 use Rattle.bpf_same.specs.declared.linear_form.LinearForm.{LinearForm}
 use Rattle.bpf_same.specs.declared.relation.Relation.{Relation}
+use Rattle.bpf_same.specs.declared.room.Room.{Room}
 
--- what a term of the new program holds: a register, or from 11 on eight bytes of the stack, from its top downwards
+-- what a term of the new program holds: a register, or from 11 on eight bytes of the stack, from its top downwards; and past all
+-- terms of a form the packet's end
 abbrev pub held : State → ℕ → Option ℕ
-held s n = if nat_lt n 11 then s.reg n else word_at s.stack (592 - 8 * n) 8
+held s n = if nat_lt n 11 then s.reg n else if nat_lt n 64 then word_at s.stack (592 - 8 * n) 8 else Some (packet_start + length s.packet)
 
 -- a sum of two numbers, where both are there
 abbrev pub plus : Option ℕ → Option ℕ → Option ℕ
@@ -43,8 +45,33 @@ old_of e k = slice_index_or e.old k None
 abbrev pub new_of : Relation → ℕ → Option LinearForm
 new_of e n = slice_index_or e.new n None
 
+abbrev pub room_of : Relation → ℕ → Option Room
+room_of e r = slice_index_or e.rooms r None
+
+-- the linear forms of a room's ends
+abbrev pub first_form : Room → LinearForm
+first_form r = record { constant = r.first; terms = r.terms }
+
+abbrev pub last_form : Room → LinearForm
+last_form r = record { constant = r.last; terms = r.terms }
+
+-- a number that is there, an address from the packet's start to its end
+pub record IsAddress (f : ℕ → Option ℕ) (o : Option ℕ) : Type 0 where
+  pub x : ℕ
+  pub stop : ℕ
+  pub is : o ≡ Some x
+  pub packet_end : f 64 ≡ Some stop
+  pub from : packet_start ≤ x
+  pub to : x ≤ stop
+
+-- both ends of a room are such addresses
+pub record IsRoom (f : ℕ → Option ℕ) (r : Room) : Type 0 where
+  pub first : IsAddress f (total f (first_form r))
+  pub last : IsAddress f (total f (last_form r))
+
 -- the relation holds of what the terms of the new program and the registers of the old one hold
 pub record Hold (e : Relation) (f g : ℕ → Option ℕ) : Type 0 where
   pub olds : (k : ℕ) (s : LinearForm) → k < 11 → old_of e k ≡ Some s → g k ≡ total f s
   pub news : (n : ℕ) (s : LinearForm) → n < 64 → new_of e n ≡ Some s → f n ≡ total f s
+  pub rooms : (r : ℕ) (room : Room) → r < 8 → room_of e r ≡ Some room → IsRoom f room
   pub words : (n : ℕ) → IsWord (f n)

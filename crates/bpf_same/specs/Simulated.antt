@@ -1,6 +1,6 @@
 -- For proofs: no claim rests on this file.
 -- When an old program simulates what a new one does.
-use Rattle.std.specs.Prelude.{ℕ, ℤ, ◌+◌, ◌≡◌, ◌<◌, ◌≤◌, ◌⊎◌, List, ◌∷◌, Option, None, Some, Bool, true, false, slice_get}
+use Rattle.std.specs.Prelude.{ℕ, ℤ, ◌+◌, ◌≡◌, ◌<◌, ◌≤◌, ◌⊎◌, List, ◌∷◌, Option, None, Some, Bool, true, false, not, slice_get}
 use Rattle.std.specs.Global.{Box, Vec}
 use Rattle.bpf_insn.specs.declared.insn.Insn.{Insn}
 use Rattle.bpf_insn.specs.declared.insn.Insn.TheVariants.{Ja, Jump}
@@ -16,7 +16,7 @@ use Rattle.bpf_flow.specs.Sound.{Accounts}
 use Rattle.bpf_flow.specs.Step.{Exited, at_slot, exec, step, target, LeadsTo}
 use Rattle.bpf_same.specs.declared.witness.Witness.{Witness}
 use Rattle.bpf_same.specs.declared.relation.Relation.{Relation}
-use Rattle.bpf_same.specs.Decided.{IsDecided}
+use Rattle.bpf_same.specs.Decided.{IsDecided, on_way}
 use Rattle.bpf_same.specs.Same.{Runs}
 use Rattle.bpf_same.specs.LinearForms.{held, IsWord, Hold}
 use Rattle.bpf_same.specs.Stepped.{Preserves, ReadsAlike, Shares, IsOwnStep}
@@ -49,6 +49,7 @@ pub record IsRelated (e : Relation) (low p : ℕ) (s t : State) : Type 0 where
   pub ifindex : t.ifindex ≡ s.ifindex
   pub queue : t.queue ≡ s.queue
   pub shapes : t.shapes ≡ s.shapes
+  pub find : t.find ≡ s.find
   pub stack : (i : ℕ) → low ≤ i → t.stack i ≡ s.stack i
   pub relation : Hold e (held s) t.reg
 
@@ -106,12 +107,12 @@ SimulatesPlain b stutters p i e n m q = SimulatesStep b stutters p i e n m q
 
 -- a way of a conditional jump is never taken, or leads to slot q, which the old program simulates from slot p on
 abbrev pub SimulatesWay : Candidate → Insn → Relation → Facts → Bool → Option ℕ → Facts → ℕ → Type 0
-SimulatesWay b i e n other p m q = IsDecided i e n other ⊎ EstablishesAt b i true e m p q
+SimulatesWay b i e n way p m q = IsDecided i e n (not way) ⊎ EstablishesAt b (on_way i way) true e m p q
 
 -- both ways of a conditional jump: not taken, and taken
 pub record SimulatesWays (b : Candidate) (i : Insn) (e : Relation) (n : Facts) (p t : Option ℕ) (l : Facts) (q : ℕ) (m : Facts) (r : ℕ) : Type 0 where
-  pub next : SimulatesWay b i e n true p l q
-  pub taken : SimulatesWay b i e n false t m r
+  pub next : SimulatesWay b i e n false p l q
+  pub taken : SimulatesWay b i e n true t m r
 
 -- the same jump but for its offset leads to t
 abbrev pub AreSameJump : Option Insn → ℕ → Insn → Option ℕ → Type 0

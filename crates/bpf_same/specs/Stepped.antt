@@ -1,11 +1,13 @@
 -- For proofs: no claim rests on this file.
 -- What a step makes of what the new program's terms and the old one's registers hold.
-use Rattle.std.specs.Prelude.{ℕ, ℤ, negsuc, ◌+◌, ◌-◌, ◌*◌, ◌≡◌, ◌<◌, ◌≤◌, ◌⊎◌, length, Option, None, Some, Bool, true, false, ◌&&◌, if◌then◌else◌, ◌==◌, nat_le}
+use Rattle.std.specs.Prelude.{ℕ, ℤ, negsuc, ◌+◌, ◌-◌, ◌*◌, ◌^◌, ◌≡◌, ◌<◌, ◌≤◌, ◌⊎◌, length, Option, None, Some, Bool, true, false, ◌&&◌, if◌then◌else◌, ◌==◌, nat_le}
 use Rattle.bpf_insn.specs.Register.{number}
 use Rattle.bpf_insn.specs.Size.{size_bytes}
 use Rattle.bpf_insn.specs.Signed.{sign_extended}
 use Rattle.bpf_insn.specs.Arithmetic.{computed}
+use Rattle.bpf_insn.specs.Conditions.{relation}
 use Rattle.bpf_insn.specs.declared.alu_op.AluOp.{AluOp}
+use Rattle.bpf_insn.specs.declared.condition.Condition.{Condition}
 use Rattle.bpf_insn.specs.declared.register.Register.{Register}
 use Rattle.bpf_insn.specs.declared.register.Register.TheVariants.{R10}
 use Rattle.bpf_insn.specs.declared.operand.Operand.{Operand}
@@ -14,7 +16,7 @@ use Rattle.bpf_insn.specs.declared.size.Size.TheVariants.{Double}
 use Rattle.bpf_insn.specs.declared.insn.Insn.{Insn}
 use Rattle.bpf_insn.specs.declared.insn.Insn.TheVariants.{Alu, Neg, End, MovSx, Const, MapRef, Ldx, St, Stx, AddCounter, Ja, Jump, Call, Exit, Second}
 use Rattle.bpf_note.specs.declared.val.Val.{Val}
-use Rattle.bpf_note.specs.declared.val.Val.TheVariants.{Num, Pkt}
+use Rattle.bpf_note.specs.declared.val.Val.TheVariants.{Num, Pkt, PktEnd}
 use Rattle.bpf_note.specs.State.{State, packet_start, stack_end}
 use Rattle.bpf_note.specs.Regions.{InStack, region}
 use Rattle.bpf_note.specs.Facts.{Facts, packet_id}
@@ -22,7 +24,10 @@ use Rattle.bpf_note.specs.Describes.{Describes}
 use Rattle.bpf_flow.specs.Step.{first_operand, reached}
 use Rattle.bpf_same.specs.declared.linear_form.LinearForm.{LinearForm}
 use Rattle.bpf_same.specs.declared.relation.Relation.{Relation}
-use Rattle.bpf_same.specs.LinearForms.{plus, gathered, total, IsWord, Hold}
+use Rattle.bpf_same.specs.declared.room.Room.{Room}
+use Rattle.bpf_same.specs.LinearForms.{plus, gathered, total, IsWord, IsAddress, IsRoom, Hold}
+use Rattle.bpf_same.specs.Ranges.{IsLeastLength, IsRead, Lies}
+use Rattle.bpf_same.specs.Decided.{Compared}
 
 -- the instruction writes or loses register k
 abbrev pub alters : Insn → ℕ → Bool
@@ -71,6 +76,63 @@ number_in (Num lo hi) = if lo == hi then Some lo else None
 number_in (Pkt id off) = if id == packet_id then Some (packet_start + off) else None
 number_in v = None
 
+-- register k holds an address of which this many bytes in front, and this many from there on, lie in the packet
+pub record IsWithin (f : ℕ → Option ℕ) (k off safe : ℕ) : Type 0 where
+  pub x : ℕ
+  pub stop : ℕ
+  pub is : f k ≡ Some x
+  pub packet_end : f 64 ≡ Some stop
+  pub from : packet_start + off ≤ x
+  pub to : x + safe ≤ stop + off
+
+-- the packet has at least these bytes
+pub record IsLong (f : ℕ → Option ℕ) (least : ℕ) : Type 0 where
+  pub stop : ℕ
+  pub packet_end : f 64 ≡ Some stop
+  pub reach : packet_start + least ≤ stop
+
+-- a conditional jump is taken where terms hold these numbers
+abbrev pub IsTaken : Insn → (ℕ → Option ℕ) → Type 0
+IsTaken i f = (cond : Condition) (wide : Bool) (dst : Register) (src : Operand) (off : ℤ) → i ≡ Jump cond wide dst src off → Compared cond wide (f (number dst)) (operand_in f src) true
+
+-- what term k holds is at most what term j does, even with as much added
+pub record IsAtMost (f : ℕ → Option ℕ) (k j by : ℕ) : Type 0 where
+  pub x : ℕ
+  pub y : ℕ
+  pub lesser : f k ≡ Some x
+  pub greater : f j ≡ Some y
+  pub least : x + by ≤ y
+
+-- the same where a condition holds between what terms dst and src hold; and where an instruction is a jump that is taken
+abbrev pub IsOrder : Condition → ℕ → ℕ → ℕ → ℕ → ℕ → Type 0
+IsOrder cond dst src k j by = (f : ℕ → Option ℕ) (x y : ℕ) → f dst ≡ Some x → f src ≡ Some y → relation cond (2 ^ 64) x y ≡ true → IsAtMost f k j by
+
+abbrev pub IsOrderOf : Insn → ℕ → ℕ → ℕ → Type 0
+IsOrderOf i k j by = (f : ℕ → Option ℕ) → ((n : ℕ) → IsWord (f n)) → IsTaken i f → IsAtMost f k j by
+
+-- what term k holds is at most the packet's end
+pub record IsBelow (f f' : ℕ → Option ℕ) (k : ℕ) : Type 0 where
+  pub y : ℕ
+  pub stop : ℕ
+  pub is : f k ≡ Some y
+  pub packet_end : f' 64 ≡ Some stop
+  pub below : y ≤ stop
+
+-- what term k holds is at least so far from the packet's start
+pub record IsFar (f : ℕ → Option ℕ) (k distance : ℕ) : Type 0 where
+  pub x : ℕ
+  pub is : f k ≡ Some x
+  pub from : packet_start + distance ≤ x
+
+-- both, of what term k holds with as much added
+pub record IsInside (f f' : ℕ → Option ℕ) (k distance by : ℕ) : Type 0 where
+  pub x : ℕ
+  pub stop : ℕ
+  pub is : f k ≡ Some x
+  pub packet_end : f' 64 ≡ Some stop
+  pub from : packet_start + distance ≤ x
+  pub to : x + by ≤ stop
+
 -- a step, which the old program takes too or not: what terms and the old program's registers hold before and after it
 pub record Stepped (i : Insn) (stutters : Bool) (low : ℕ) (m : Facts) (f g f' g' : ℕ → Option ℕ) : Type 0 where
   pub fits : (n : ℕ) → IsWord (f' n)
@@ -81,6 +143,12 @@ pub record Stepped (i : Insn) (stutters : Bool) (low : ℕ) (m : Facts) (f g f' 
   pub loaded : (dst src : Register) (off : ℤ) (w : ℕ) → stutters ≡ true → i ≡ Ldx Double false dst src off → IsWordAt src off low w → f' (number dst) ≡ f w
   pub made : (op : AluOp) (wide : Bool) (dst : Register) (src : Operand) → i ≡ Alu op wide dst src → Computes op wide (f (number dst)) (operand_in f src) (f' (number dst))
   pub noted : (k x : ℕ) → number_in (m.reg k) ≡ Some x → k < 11 → f' k ≡ Some x
+  pub packet : f' 64 ≡ f 64
+  pub addresses : (k id off safe : ℕ) → m.reg k ≡ Pkt id off → m.safe id ≡ Some safe → k < 11 → IsWithin f' k off safe
+  pub long : (least : ℕ) → IsLeastLength m least → IsLong f' least
+  pub ends : (k : ℕ) → m.reg k ≡ PktEnd → k < 11 → f' k ≡ f' 64
+  pub ranged : (k low high : ℕ) → IsRead m (m.reg k) low high → k < 11 → Lies (f' k) low high
+  pub met : IsTaken i f
   pub stays : (k : ℕ) → stutters ≡ true → g' k ≡ g k
   pub old_kept : (k : ℕ) → alters i k ≡ false → g' k ≡ g k
   pub old_made : (op : AluOp) (wide : Bool) (dst : Register) (src : Operand) → stutters ≡ false → i ≡ Alu op wide dst src → Computes op wide (g (number dst)) (operand_in g src) (g' (number dst))
@@ -114,6 +182,28 @@ PreservesOld i stutters low m e k s = (f g f' g' : ℕ → Option ℕ) → Stepp
 
 abbrev pub PreservesNew : Insn → Bool → ℕ → Facts → Relation → ℕ → LinearForm → Type 0
 PreservesNew i stutters low m e n s = (f g f' g' : ℕ → Option ℕ) → Stepped i stutters low m f g f' g' → Hold e f g → f' n ≡ total f' s
+
+-- what is known before the step of what term k holds, the packet's end being that after it
+abbrev pub IsBelowEnd : Insn → Bool → ℕ → Facts → Relation → ℕ → Type 0
+IsBelowEnd i stutters low m e k = (f g f' g' : ℕ → Option ℕ) → Stepped i stutters low m f g f' g' → Hold e f g → IsBelow f f' k
+
+abbrev pub IsDistance : Insn → Bool → ℕ → Facts → Relation → ℕ → ℕ → Type 0
+IsDistance i stutters low m e k distance = (f g f' g' : ℕ → Option ℕ) → Stepped i stutters low m f g f' g' → Hold e f g → IsFar f k distance
+
+abbrev pub IsComparedAddress : Insn → Bool → ℕ → Facts → Relation → ℕ → ℕ → ℕ → Type 0
+IsComparedAddress i stutters low m e k distance by = (f g f' g' : ℕ → Option ℕ) → Stepped i stutters low m f g f' g' → Hold e f g → IsInside f f' k distance by
+
+-- a linear form of what is held before the step is, after it, an address from the packet's start to its end; the same of one of what is
+-- held after it
+abbrev pub IsAddressAfter : Insn → Bool → ℕ → Facts → Relation → LinearForm → Type 0
+IsAddressAfter i stutters low m e s = (f g f' g' : ℕ → Option ℕ) → Stepped i stutters low m f g f' g' → Hold e f g → IsAddress f' (total f s)
+
+abbrev pub PreservesAddress : Insn → Bool → ℕ → Facts → Relation → LinearForm → Type 0
+PreservesAddress i stutters low m e s = (f g f' g' : ℕ → Option ℕ) → Stepped i stutters low m f g f' g' → Hold e f g → IsAddress f' (total f' s)
+
+-- after the step the room is one
+abbrev pub PreservesRoom : Insn → Bool → ℕ → Facts → Relation → Room → Type 0
+PreservesRoom i stutters low m e room = (f g f' g' : ℕ → Option ℕ) → Stepped i stutters low m f g f' g' → Hold e f g → IsRoom f' room
 
 -- a relation that holds before the step is followed by another one
 abbrev pub Preserves : Insn → Bool → ℕ → Facts → Relation → Relation → Type 0
@@ -166,7 +256,7 @@ abbrev pub AreShared : Insn → ℕ → State → Type 0
 AreShared (Ldx size signed dst src off) low s = IsAbove low s (s.reg (number src)) off (size_bytes size)
 AreShared (St size dst off imm) low s = IsAbove low s (s.reg (number dst)) off (size_bytes size)
 AreShared (Stx size dst src off) low s = IsAbove low s (s.reg (number dst)) off (size_bytes size)
-AreShared (Call helper) low s = (a j : ℕ) → s.reg 2 ≡ Some a → region (length s.packet) s.shapes a 4 ≡ InStack j → low ≤ j
+AreShared (Call helper) low s = (a j z : ℕ) → s.reg 2 ≡ Some a → region (length s.packet) s.shapes a z ≡ InStack j → low ≤ j
 AreShared i low s = Unit {0}
 
 -- where this is known, the instruction touches nothing of the stack below low

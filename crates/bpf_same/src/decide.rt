@@ -1,13 +1,16 @@
 //! What decides a conditional jump.
-ghost use Rattle.std.specs.Prelude.{◌≡◌, ◌≤◌, ◌<◌, ◌^◌, ℕ, IfSome};
+ghost use Rattle.std.specs.Prelude.{◌≡◌, ◌≤◌, ◌<◌, ◌^◌, ℕ, ℤ, Option, true, IfSome, IsTrue};
+ghost use Rattle.bpf_insn.specs.declared.insn.Insn.TheVariants as insns;
 ghost use Rattle.bpf_note.specs.Parts.{facts};
-ghost use Rattle.bpf_insn.specs.Conditions.{is_met};
-ghost use Rattle.bpf_same.specs.Decided.{IsBetween, IsDecided};
+ghost use Rattle.bpf_insn.specs.Conditions.{is_met, relation};
+ghost use Rattle.bpf_insn.specs.Register.{number};
+ghost use Rattle.bpf_same.specs.Decided.{IsBetween, IsDecided, IsOrdered, IsPacketEnd};
+ghost use Rattle.bpf_same.specs.LinearForms.{Hold, IsAddress};
 
 use crate::range::{operand_span, span};
 use crate::relation::Relation;
-use bpf_insn::{Condition, Insn, holds};
-use bpf_note::Note;
+use bpf_insn::{Condition, Insn, Operand, Register, holds};
+use bpf_note::{Note, Val};
 
 /// Returns whether a condition holds between each number of one range and each of another one, where that is the same for all.
 fn between_ranges(cond: Condition, lo: u64, hi: u64, low: u64, high: u64) -> Option<bool>
@@ -48,8 +51,77 @@ fn between_numbers(
     }
 }
 
-/// Returns whether a conditional jump is taken, where what is known decides it.
-pub(crate) fn decided(insn: Insn, relation: &Relation, note: &Note) -> Option<bool>
+/// Returns whether a condition holds between a number and one that is at least as great.
+fn between_ordered(cond: Condition) -> Option<bool>
+    ensures { IfSome result (λ b. IsOrdered cond b) }
+{
+    match cond {
+        Condition::Greater => Some(false),
+        Condition::LessOrEqual => Some(true),
+        _ => None,
+    }
+}
+
+/// Returns whether a register holds the packet's end.
+fn is_packet_end(note: &Note, register: Register) -> bool
+    ensures { IsTrue result → IsPacketEnd (facts note.now) (number register) }
+{
+    matches!(note.register(register.number()), Val::PktEnd)
+}
+
+/// Returns whether a register holds an address in the packet.
+fn is_in_packet(relation: &Relation, register: Register) -> bool
+    ensures { IsTrue result → (f g : ℕ → Option ℕ) → Hold relation.now f g → IsAddress f (f (number register)) }
+{
+    relation.has_room_of(relation.new_form(register.number()))
+}
+
+/// Returns whether a jump is taken that compares 64 bits of an address in the packet with the packet's end.
+fn decided_between(
+    cond: Condition,
+    dst: Register,
+    src: Operand,
+    relation: &Relation,
+    note: &Note,
+) -> Option<bool>
+    ensures { (off : ℤ) → IfSome result (IsDecided (insns.Jump cond true dst src off) relation.now (facts note.now)) }
+{
+    let Operand::Register(end) = src else {
+        return None;
+    };
+    if !is_packet_end(note, end) {
+        return None;
+    }
+    if !is_in_packet(relation, dst) {
+        return None;
+    }
+    between_ordered(cond)
+}
+
+/// Returns whether a jump is taken that compares an address in the packet with the packet's end.
+fn decided_by_room(insn: Insn, relation: &Relation, note: &Note) -> Option<bool>
+    ensures { IfSome result (IsDecided insn relation.now (facts note.now)) }
+{
+    match insn {
+        Insn::Jump {
+            cond,
+            wide,
+            dst,
+            src,
+            ..
+        } => {
+            if wide {
+                decided_between(cond, dst, src, relation, note)
+            } else {
+                None
+            }
+        }
+        _ => None,
+    }
+}
+
+/// Returns whether a conditional jump is taken, where the ranges of both numbers decide it.
+fn decided_by_spans(insn: Insn, relation: &Relation, note: &Note) -> Option<bool>
     ensures { IfSome result (IsDecided insn relation.now (facts note.now)) }
 {
     match insn {
@@ -69,5 +141,15 @@ pub(crate) fn decided(insn: Insn, relation: &Relation, note: &Note) -> Option<bo
             None => None,
         },
         _ => None,
+    }
+}
+
+/// Returns whether a conditional jump is taken, where what is known decides it.
+pub(crate) fn decided(insn: Insn, relation: &Relation, note: &Note) -> Option<bool>
+    ensures { IfSome result (IsDecided insn relation.now (facts note.now)) }
+{
+    match decided_by_room(insn, relation, note) {
+        Some(way) => Some(way),
+        None => decided_by_spans(insn, relation, note),
     }
 }

@@ -5,16 +5,19 @@
 //! - `find`: notes and a relation for each slot, as instructions leave them (`sharper`); `simulation`: whether the old program
 //!   simulates an instruction; `induction`: whether the relations hold at the start and each instruction is simulated
 //! - `relation`: the old program's registers, as a `linear_form` of the new one's terms: at the `start`, after a `step`, where ways
-//!   `meet`; `preserve`: whether a step preserves the relations; `access`: what a copied access may touch
+//!   `meet`; `room`: forms that are addresses in the packet; `preserve`: whether a step preserves the relations, `address`: of rooms;
+//!   `access`: what a copied access may touch
 //! - `fuse`: the old program with its counts (a load, additions and a store of one counter) made additions; `fused`: whether it is the
 //!   same by counts: what is known inside a `count`, and which registers are `live` after it
 //! - `obstacle`: where a comparison stops
 //! - `renumbered`: whether it is the old one but for the numbers of its slots
-//! - `decide`: what decides a conditional jump, by the `range` that a register lies in; `equal`: whether two instructions are one
+//! - `decide`: what decides a conditional jump, by the `range` that a register lies in or a `room`; `way`: what is known on each way of
+//!   one; `equal`: whether two instructions are one
 //! - `laws`: what holds of programs with the same runs
 #![tactic(auto)]
 
 mod access;
+mod address;
 mod count;
 mod decide;
 mod equal;
@@ -31,11 +34,13 @@ mod preserve;
 mod range;
 mod relation;
 mod renumbered;
+mod room;
 mod same;
 mod sharper;
 mod simulation;
 mod start;
 mod step;
+mod way;
 mod witness;
 
 pub use laws::{same_both_ways, same_by_counts_both_ways};

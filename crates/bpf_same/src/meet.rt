@@ -4,7 +4,9 @@ ghost use Rattle.std.specs.Prelude.{◌<◌, IfSome};
 
 use crate::linear_form::{LinearForm, REGISTERS, TERMS};
 use crate::relation::Relation;
+use crate::room::{LONGEST, ROOMS, Room};
 use crate::step::{Step, alters};
+use bpf_note::Val;
 
 /// A linear form in which each term is replaced by what is known of it.
 fn total_in(relation: &Relation, form: LinearForm) -> Option<LinearForm> {
@@ -66,7 +68,137 @@ pub(crate) fn relation_after(step: &Step) -> Relation {
     for register in 0..REGISTERS {
         found.old[register as usize] = old_claim_after(step, &found, register);
     }
+    add_rooms_after(step, &mut found);
     found
+}
+
+/// A room before a step, by terms that hold the same after it.
+fn moved_room(step: &Step, room: Room) -> Option<Room> {
+    let form = moved(step, room.first_form())?;
+    Some(Room {
+        terms: form.terms,
+        ..room
+    })
+}
+
+/// The room that the note after a step says by where a register points.
+fn noted_room(step: &Step, found: &Relation, register: u8) -> Option<Room>
+    requires { register < 11 }
+{
+    let Val::Pkt { id, off } = step.after.register(register) else {
+        return None;
+    };
+    let safe = step.after.safe(id)?;
+    let form = found.new_form(register);
+    let first = form.constant.wrapping_sub(u64::from(off));
+    Some(Room {
+        first,
+        last: first.wrapping_add(u64::from(safe)),
+        terms: form.terms,
+    })
+}
+
+/// The room up to an address that a jump compares. A jump leaves what terms hold.
+fn compared_room(step: &Step) -> Option<Room> {
+    let address = step.compared()?;
+    let form = step.before.new_form(address.register);
+    let last = form.constant.wrapping_add(address.by);
+    Some(Room {
+        first: last.wrapping_sub(address.distance),
+        last,
+        terms: form.terms,
+    })
+}
+
+/// Adds the rooms before a step, and those that the note after it says.
+fn add_rooms_after(step: &Step, found: &mut Relation) {
+    for number in 0..ROOMS {
+        if let Some(room) = step.before.room(number) {
+            if let Some(room) = moved_room(step, room) {
+                add_room(found, room);
+            }
+        }
+    }
+    for register in 0..REGISTERS {
+        if let Some(room) = noted_room(step, found, register) {
+            add_room(found, room);
+        }
+    }
+    if let Some(room) = compared_room(step) {
+        add_room(found, room);
+    }
+}
+
+/// Two rooms of the same terms: the one that begins first, the other one, and by how much that begins later; unless they lie apart.
+fn in_order(one: Room, other: Room) -> Option<(Room, Room, u64)> {
+    let later = other.first.wrapping_sub(one.first);
+    if later <= LONGEST {
+        return Some((one, other, later));
+    }
+    let later = one.first.wrapping_sub(other.first);
+    (later <= LONGEST).then_some((other, one, later))
+}
+
+/// The room from the first address of both to the last one.
+fn joined(one: Room, other: Room) -> Option<Room> {
+    let (from, to, later) = in_order(one, other)?;
+    let length = from.length().max(later.wrapping_add(to.length()));
+    Some(Room {
+        last: from.first.wrapping_add(length),
+        ..from
+    })
+}
+
+/// The addresses that are in both rooms.
+fn common(one: Room, other: Room) -> Option<Room> {
+    let (from, to, later) = in_order(one, other)?;
+    let length = from.length().checked_sub(later)?.min(to.length());
+    Some(Room {
+        last: to.first.wrapping_add(length),
+        ..to
+    })
+}
+
+/// Adds a room, joined to one of the same terms. The first one makes place for it if there are eight.
+fn add_room(relation: &mut Relation, room: Room) {
+    for number in 0..ROOMS {
+        match relation.room(number) {
+            None => {
+                relation.rooms[number as usize] = Some(room);
+                return;
+            }
+            Some(here) if here.terms == room.terms => {
+                relation.rooms[number as usize] = joined(here, room).or(Some(here));
+                return;
+            }
+            Some(_) => {}
+        }
+    }
+    relation.rooms.rotate_left(1);
+    relation.rooms[7] = Some(room);
+}
+
+/// The addresses that are in a room and in one of a relation.
+fn common_room(here: Room, other: &Relation) -> Option<Room> {
+    for number in 0..ROOMS {
+        if let Some(there) = other.room(number) {
+            if here.terms == there.terms {
+                return common(here, there);
+            }
+        }
+    }
+    None
+}
+
+/// Adds what is in rooms of both.
+fn add_common_rooms(met: &mut Relation, one: &Relation, other: &Relation) {
+    for number in 0..ROOMS {
+        if let Some(here) = one.room(number) {
+            if let Some(room) = common_room(here, other) {
+                add_room(met, room);
+            }
+        }
+    }
 }
 
 /// The linear form of a register of the old program after a step.
@@ -182,5 +314,7 @@ pub(crate) fn met(one: &Relation, other: &Relation) -> Relation {
     for register in 0..REGISTERS {
         meeting.meet_register(register);
     }
-    meeting.met
+    let mut met = meeting.met;
+    add_common_rooms(&mut met, one, other);
+    met
 }

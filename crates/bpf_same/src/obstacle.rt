@@ -8,6 +8,7 @@ use crate::simulation::{
     MOST_JUMPS, Point, Simulation, insn_at, is_at, is_ruled, is_ruled_out, relation_at,
     same_target, witness_at,
 };
+use crate::way::on_way;
 use bpf_flow::{Successor, Successors, next_slot};
 use bpf_insn::Insn;
 use bpf_note::{MapShape, Note};
@@ -141,7 +142,13 @@ impl Simulation<'_> {
             return None;
         }
         match from {
-            Some(from) => self.stop_after(before, true, from, there),
+            Some(from) => {
+                let taken = Point {
+                    insn: on_way(before.insn, way),
+                    ..*before
+                };
+                self.stop_after(&taken, true, from, there)
+            }
             None => stop_at(before.witness.at, ObstacleKind::Instruction),
         }
     }

@@ -6,6 +6,7 @@ ghost use Rattle.bpf_same.specs.Stepped.{IsPulledBack, IsWithTerm, IsOldAlike, P
 
 use crate::linear_form::{LinearForm, REGISTERS, TERMS};
 use crate::relation::Relation;
+use crate::room::ROOMS;
 use crate::step::{Step, alters};
 
 impl Step<'_> {
@@ -118,6 +119,11 @@ impl Step<'_> {
         }
         for term in 0..TERMS {
             if !self.preserves_term(next, term) {
+                return false;
+            }
+        }
+        for number in 0..ROOMS {
+            if !self.preserves_room(next, number) {
                 return false;
             }
         }

@@ -1,16 +1,19 @@
 //! Between which numbers a register of the new program lies.
 ghost use Rattle.std.specs.Prelude.{◌≡◌, ◌<◌, ℕ, Option, IfSome};
+ghost use Rattle.bpf_note.specs.Facts.{Facts};
 ghost use Rattle.bpf_note.specs.Parts.{facts};
+ghost use Rattle.bpf_same.specs.LinearForms.{Hold, IsRoom};
 ghost use Rattle.bpf_same.specs.Ranges.{IsFarthest, IsLeastLength, IsMoved, IsOperandSpan, IsRead, IsSpan, Lies};
 
 use crate::linear_form::REGISTERS;
 use crate::relation::Relation;
+use crate::room::{LONGEST, ROOMS, Room};
 use crate::step::{PACKET_START, extended};
 use bpf_insn::Operand;
 use bpf_note::{Note, PACKET_ID, Val};
 
 /// How many bytes a packet has at most.
-const MOST_BYTES: u32 = 65535;
+pub(crate) const MOST_BYTES: u32 = 65535;
 
 /// The numbers from one to another.
 #[derive(Clone, Copy, Debug, Drop)]
@@ -30,7 +33,7 @@ fn farthest(note: &Note, id: u16) -> u32
 }
 
 /// Returns the number of bytes the packet has at least.
-fn least_length(note: &Note) -> u32
+pub(crate) fn least_length(note: &Note) -> u32
     ensures { IsLeastLength (facts note.now) result }
 {
     match note.safe(PACKET_ID) {
@@ -85,6 +88,39 @@ fn moved_from(note: &Note, relation: &Relation, register: u8, other: u8) -> Opti
     }
 }
 
+/// The numbers that a register may hold by a room, of an address of which it differs by a constant.
+fn by_room(relation: &Relation, register: u8, room: Room) -> Option<Range>
+    requires small { register < 11 }
+    requires room { (f g : ℕ → Option ℕ) → Hold relation.now f g → IsRoom f room }
+    ensures { IfSome result (λ r. (n : Facts) → IsSpan n relation.now register r.low r.high) }
+{
+    let here = relation.new_form(register);
+    let length = room.length();
+    if here.terms != room.terms {
+        return None;
+    }
+    if length > LONGEST {
+        return None;
+    }
+    let first = Range {
+        low: PACKET_START,
+        high: PACKET_START + LONGEST - length,
+    };
+    moved(first, here.constant.wrapping_sub(room.first))
+}
+
+/// The numbers that a register may hold by one of the rooms.
+fn in_room(relation: &Relation, register: u8, number: u8) -> Option<Range>
+    requires small { register < 11 }
+    requires number { number < 8 }
+    ensures { IfSome result (λ r. (n : Facts) → IsSpan n relation.now register r.low r.high) }
+{
+    match relation.room(number) {
+        Some(room) => by_room(relation, register, room),
+        None => None,
+    }
+}
+
 /// The numbers that are in both.
 fn in_both(one: Option<Range>, other: Range) -> Range
     ensures { (o : Option ℕ) → IfSome one (λ r. Lies o r.low r.high) → Lies o other.low other.high → Lies o result.low result.high }
@@ -106,6 +142,11 @@ pub(crate) fn span(note: &Note, relation: &Relation, register: u8) -> Option<Ran
     let mut found = range_of(note, note.register(register));
     for other in 0..REGISTERS {
         if let Some(range) = moved_from(note, relation, register, other) {
+            found = Some(in_both(found, range));
+        }
+    }
+    for number in 0..ROOMS {
+        if let Some(range) = in_room(relation, register, number) {
             found = Some(in_both(found, range));
         }
     }

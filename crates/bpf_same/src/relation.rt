@@ -3,13 +3,15 @@ ghost use Rattle.std.specs.Prelude.{◌≡◌, ◌<◌, ℕ, Option, IsTrue};
 ghost use Rattle.bpf_same.specs.LinearForms.{Hold, new_of, old_of, total};
 
 use crate::linear_form::{LinearForm, REGISTERS};
+use crate::room::Room;
 
 /// Of each register of the old program the linear form of the new one's terms that it holds, if that is related; of each term of the new
-/// one the same, if it is another form than the term itself.
+/// one the same, if it is another form than the term itself; and which forms are addresses in the packet.
 #[derive(Clone, Copy, Debug, Drop)]
 pub(crate) struct Relation {
     pub(crate) old: [Option<LinearForm>; 11],
     pub(crate) new: [Option<LinearForm>; 64],
+    pub(crate) rooms: [Option<Room>; 8],
 }
 
 impl Relation {
@@ -18,6 +20,7 @@ impl Relation {
         Relation {
             old: [None; 11],
             new: [None; 64],
+            rooms: [None; 8],
         }
     }
 

@@ -15,6 +15,7 @@ use crate::equal::{is_but_for_offset, is_same_insn};
 use crate::relation::Relation;
 use crate::sharper::known_after;
 use crate::step::Step;
+use crate::way::on_way;
 use crate::witness::Witness;
 use bpf_flow::{Successor, Successors, jump_target, next_slot};
 use bpf_insn::Insn;
@@ -267,11 +268,15 @@ impl Simulation<'_> {
     /// Returns whether a way of a conditional jump is ruled out or simulated.
     fn simulates_way(&self, before: &Point, way: bool, from: Option<u32>, there: &Successor) -> bool
         requires { length self.now.old.now ≤ 4096 }
-        ensures { IsTrue result → SimulatesWay (candidate_of self.now) before.now.insn before.now.relation.now (facts before.now.note.now) (not way) from
+        ensures { IsTrue result → SimulatesWay (candidate_of self.now) before.now.insn before.now.relation.now (facts before.now.note.now) way from
             (facts there.now.note.value) there.now.pc }
     {
+        let taken = Point {
+            insn: on_way(before.insn, way),
+            ..*before
+        };
         is_ruled_out(before.insn, before.relation, before.note, way)
-            || self.establishes_at(before, from, there)
+            || self.establishes_at(&taken, from, there)
     }
 
     /// Returns whether both ways of a conditional jump are ruled out or simulated, by the old program from these slots.

@@ -1,11 +1,12 @@
 //! The relation where both programs begin.
 ghost use Rattle.std.specs.Prelude.{◌≡◌, ◌<◌, ℕ, Option, Some, None, IsTrue};
-ghost use Rattle.bpf_same.specs.LinearForms.{new_of, old_of, IsWord, total};
+ghost use Rattle.bpf_same.specs.LinearForms.{new_of, old_of, room_of, IsWord, total};
 ghost use Rattle.bpf_same.specs.Simulated.{HoldsAtStart};
 ghost use Rattle.bpf_same.specs.declared.linear_form.LinearForm.{LinearForm};
 
 use crate::linear_form::{LinearForm, REGISTERS, TERMS};
 use crate::relation::Relation;
+use crate::room::ROOMS;
 
 fn is_itself(relation: &Relation, register: u8) -> bool
     requires { register < 11 }
@@ -24,6 +25,12 @@ fn is_free(relation: &Relation, term: u8) -> bool
     relation.claimed(term).is_none()
 }
 
+fn is_roomless(relation: &Relation, number: u8) -> bool
+    ensures { IsTrue result → room_of relation.now number ≡ None }
+{
+    relation.room(number).is_none()
+}
+
 /// Returns whether the relation says no more than that registers are the same.
 pub(crate) fn holds_at_entry(relation: &Relation) -> bool
     ensures { IsTrue result → HoldsAtStart relation.now }
@@ -35,6 +42,11 @@ pub(crate) fn holds_at_entry(relation: &Relation) -> bool
     }
     for term in 0..TERMS {
         if !is_free(relation, term) {
+            return false;
+        }
+    }
+    for number in 0..ROOMS {
+        if !is_roomless(relation, number) {
             return false;
         }
     }

@@ -8,5 +8,6 @@ mod obstacles;
 mod own;
 mod ranges;
 mod renumbered;
+mod rooms;
 mod same;
 mod stack;

@@ -23,7 +23,7 @@ returns-in-Stx c = λ t s d.
     subst (λ (i : Insn). AreShared i c.args.low s) (sym c.in-Stx.is) (simp to_z-of_z at (c.is_above-in-Stx.ensures t (size_bytes c.in-Stx.size) s d))
 
 pub returns-in-Call : goal.returns-in-Call
-returns-in-Call c = λ t s d. subst (λ (i : Insn). AreShared i c.args.low s) (sym c.in-Call.is) (λ a j e at.
+returns-in-Call c = λ t s d. subst (λ (i : Insn). AreShared i c.args.low s) (sym c.in-Call.is) (λ a j z e at.
     let fits = d.state.words 2 a e in
     let same : address a (pos 0) ≡ a = omega (arith, fits) in
-    c.is_above-in-Call.ensures t 4 s d a j e (ap (λ (x : ℕ). region (length s.packet) s.shapes x 4) same ∙ at))
+    c.is_above-in-Call.ensures t z s d a j e (ap (λ (x : ℕ). region (length s.packet) s.shapes x z) same ∙ at))

@@ -6,3 +6,6 @@ use Rattle.bpf_same.proofs.range.span.Given as goal
 -- what is found so far bounds the register
 abbrev pub invariant-loop-other : goal.invariant-loop-other
 invariant-loop-other l = IfSome l.found (λ r. IsSpan (facts l.note) l.relation l.register r.low r.high)
+
+abbrev pub invariant-loop-number : goal.invariant-loop-number
+invariant-loop-number l = IfSome l.found (λ r. IsSpan (facts l.note) l.relation l.register r.low r.high)

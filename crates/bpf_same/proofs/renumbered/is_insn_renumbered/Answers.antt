@@ -1,7 +1,7 @@
 use Rattle.std.proofs.Common.{◌≡◌, sym, ap, ◌∙◌, subst, refl, ℕ, Some}
 use Rattle.std.specs.Prelude.{slice_get}
 use Rattle.bpf_same.specs.declared.witness.Witness.{Witness}
-use Rattle.bpf_same.specs.Renumbered.{IsWitnessed, IsRenumberedFrom}
+use Rattle.bpf_same.specs.Renumbered.{IsRenumberedFrom}
 use Rattle.bpf_same.proofs.renumbered.is_insn_renumbered.Goals as goal
 
 some_is : {A : Type 0} {x y : A} → Some x ≡ Some y → x ≡ y

@@ -1,6 +1,6 @@
 use Rattle.std.proofs.Common.{rules, ◌≡◌, ◌∙◌, ℕ, Some, None, inl, inr, true, sym, subst, arith}
 use Rattle.std.proofs.lemmas.Bool.{cases_lt}
-use Rattle.bpf_same.specs.LinearForms.{old_of, new_of, total, IsWord}
+use Rattle.bpf_same.specs.LinearForms.{old_of, new_of, room_of, total, IsWord}
 use Rattle.bpf_same.proofs.start.holds_at_entry.Goals as goal
 
 pub loop-register-preserved : goal.loop-register-preserved
@@ -29,9 +29,27 @@ loop-term-preserved c = (
       ],
 )
 
+pub loop-number-init : goal.loop-number-init
+loop-number-init c = (c.loop-term.invariant.0, λ n small. c.loop-term.invariant.1 n (omega (arith, small, c.loop-term-test.false)), λ r low. absurd (omega (arith, low)))
+
+pub loop-number-preserved : goal.loop-number-preserved
+loop-number-preserved c = (
+  c.loop-number.invariant.0,
+  c.loop-number.invariant.1,
+  λ r low.
+      elim (cases_lt r c.loop-number.number) [
+        | inl old ↦ c.loop-number.invariant.2 r old
+        | inr high ↦
+            let this : c.loop-number.number ≡ r = omega (arith, low, high) in
+            let holds : c.is_roomless.result ≡ true = search rules in
+            subst (λ (r : ℕ). room_of c.args.relation.now r ≡ None) this (c.is_roomless.ensures holds)
+      ],
+)
+
 pub returns : goal.returns
 returns c = λ t f g w same. record {
-  olds = λ k s small e. same k small ∙ sym (c.loop-term.invariant.0 k small s e f (w k));
-  news = λ n s small e. absurd (let none : new_of c.args.relation.now n ≡ None = c.loop-term.invariant.1 n (omega (arith, small, c.loop-term-test.false)) in cc (none, e));
+  olds = λ k s small e. same k small ∙ sym (c.loop-number.invariant.0 k small s e f (w k));
+  news = λ n s small e. absurd (let none : new_of c.args.relation.now n ≡ None = c.loop-number.invariant.1 n small in cc (none, e));
+  rooms = λ r room small e. absurd (let none : room_of c.args.relation.now r ≡ None = c.loop-number.invariant.2 r (omega (arith, small, c.loop-number-test.false)) in cc (none, e));
   words = w;
 }

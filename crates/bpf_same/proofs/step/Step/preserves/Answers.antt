@@ -1,7 +1,7 @@
 use Rattle.std.proofs.Common.{rules, ◌≡◌, ℕ, Some, inl, inr, true, sym, subst, arith}
 use Rattle.std.proofs.lemmas.Bool.{cases_lt}
 use Rattle.bpf_note.specs.Parts.{facts}
-use Rattle.bpf_same.specs.LinearForms.{old_of, new_of}
+use Rattle.bpf_same.specs.LinearForms.{old_of, new_of, room_of}
 use Rattle.bpf_same.specs.Stepped.{PreservesOld, PreservesNew}
 use Rattle.bpf_same.proofs.step.Step.preserves.Goals as goal
 
@@ -33,9 +33,27 @@ loop-term-preserved c = (
       ],
 )
 
+pub loop-number-init : goal.loop-number-init
+loop-number-init c = (c.loop-term.invariant.0, λ n small s e. c.loop-term.invariant.1 n (omega (arith, small, c.loop-term-test.false)) s e, λ r low room e. absurd (omega (arith, low)))
+
+pub loop-number-preserved : goal.loop-number-preserved
+loop-number-preserved c = (
+  c.loop-number.invariant.0,
+  c.loop-number.invariant.1,
+  λ r low room e.
+      elim (cases_lt r c.loop-number.number) [
+        | inl old ↦ c.loop-number.invariant.2 r old room e
+        | inr high ↦
+            let this : c.loop-number.number ≡ r = omega (arith, low, high) in
+            let holds : c.preserves_room.result ≡ true = search rules in
+            c.preserves_room.ensures holds room (subst (λ (r : ℕ). room_of c.args.next.now r ≡ Some room) (sym this) e)
+      ],
+)
+
 pub returns : goal.returns
 returns c = λ r f g f' g' t h. record {
-  olds = λ k s small e. c.loop-term.invariant.0 k small s e f g f' g' t h;
-  news = λ n s small e. c.loop-term.invariant.1 n (omega (arith, small, c.loop-term-test.false)) s e f g f' g' t h;
+  olds = λ k s small e. c.loop-number.invariant.0 k small s e f g f' g' t h;
+  news = λ n s small e. c.loop-number.invariant.1 n small s e f g f' g' t h;
+  rooms = λ k room small e. c.loop-number.invariant.2 k (omega (arith, small, c.loop-number-test.false)) room e f g f' g' t h;
   words = t.fits;
 }

@@ -1,8 +1,9 @@
 use Rattle.std.proofs.Common.{◌≡◌, ◌<◌, ℕ, Some}
 use Rattle.bpf_note.specs.Parts.{facts}
 use Rattle.bpf_same.specs.declared.linear_form.LinearForm.{LinearForm}
-use Rattle.bpf_same.specs.LinearForms.{old_of, new_of}
-use Rattle.bpf_same.specs.Stepped.{PreservesOld, PreservesNew}
+use Rattle.bpf_same.specs.declared.room.Room.{Room}
+use Rattle.bpf_same.specs.LinearForms.{old_of, new_of, room_of}
+use Rattle.bpf_same.specs.Stepped.{PreservesOld, PreservesNew, PreservesRoom}
 use Rattle.bpf_same.proofs.step.Step.preserves.Given as goal
 
 abbrev pub invariant-loop-register : goal.invariant-loop-register
@@ -11,3 +12,8 @@ invariant-loop-register l = (k : ℕ) → k < l.register → (s : LinearForm) �
 abbrev pub invariant-loop-term : goal.invariant-loop-term
 invariant-loop-term l = ((k : ℕ) → k < 11 → (s : LinearForm) → old_of l.next k ≡ Some s → PreservesOld l.self.insn l.self.stutters l.self.low (facts l.self.after.now) l.self.before.now k s)
     × ((n : ℕ) → n < l.term → (s : LinearForm) → new_of l.next n ≡ Some s → PreservesNew l.self.insn l.self.stutters l.self.low (facts l.self.after.now) l.self.before.now n s)
+
+abbrev pub invariant-loop-number : goal.invariant-loop-number
+invariant-loop-number l = ((k : ℕ) → k < 11 → (s : LinearForm) → old_of l.next k ≡ Some s → PreservesOld l.self.insn l.self.stutters l.self.low (facts l.self.after.now) l.self.before.now k s)
+    × ((n : ℕ) → n < 64 → (s : LinearForm) → new_of l.next n ≡ Some s → PreservesNew l.self.insn l.self.stutters l.self.low (facts l.self.after.now) l.self.before.now n s)
+    × ((r : ℕ) → r < l.number → (room : Room) → room_of l.next r ≡ Some room → PreservesRoom l.self.insn l.self.stutters l.self.low (facts l.self.after.now) l.self.before.now room)
