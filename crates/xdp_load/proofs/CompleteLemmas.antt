@@ -1,8 +1,9 @@
 -- Each sound setup is that of a document: the one that spells its fields.
-use Rattle.std.proofs.Common.{append-nil, not, true, None, Result, ◌≡◌, ◌<◌, ◌≤◌, ◌/◌, ℕ, pos, List, [], ◌∷◌, length, map, codes, Ok, refl, ap, arith, suc}
+use Rattle.std.proofs.Common.{append-nil, not, true, None, Result, ◌≡◌, ◌<◌, ◌≤◌, ◌/◌, ℕ, pos, List, [], ◌∷◌, length, map, codes, Ok, refl, ap, sym, arith, suc}
 use Rattle.std.proofs.lemmas.Bool.{and_parts, le-leb, lt-ltb, not-true}
 use Rattle.std.specs.List.{AllByRecursion}
-use Rattle.bpf_note.specs.Shape.{IsShape, Shape}
+use Rattle.bpf_note.specs.declared.key.MapKey.{MapKey}
+use Rattle.bpf_note.specs.Shape.{Shape, IsNarrow}
 use Rattle.hex.specs.Hex.{IsBytes, encode_lower}
 use Rattle.hex.proofs.HexLemmas.{decode_of-encode_lower, decode_of-ok}
 use Rattle.toml.specs.Data.{Data, string, integer, array, table, Members, no_members, member}
@@ -11,7 +12,7 @@ use Rattle.xdp_load.specs.Complete.{HasFields, IsWritten}
 use Rattle.xdp_load.specs.Document.{Text, MapText, PacketText, StepText, map_row, packet_row, step_row}
 use Rattle.xdp_load.specs.Gives.{each}
 use Rattle.xdp_load.specs.Keys.{least, most}
-use Rattle.xdp_load.specs.Limits.{HexPacket, LimitedText, are_names, bad_name, is_bad_first, limited_shape, limited_step, limited_packet, limited_of, limited_lists, limited_rows}
+use Rattle.xdp_load.specs.Limits.{HexPacket, LimitedText, are_names, bad_name, is_bad_first, limited_shape, limited_step, limited_packet, limited_of, limited_lists, limited_rows, limited_with}
 use Rattle.xdp_load.specs.Numbers.{limited, limited_numbers}
 use Rattle.xdp_load.specs.declared.fault.Fault.{Fault}
 use Rattle.xdp_load.specs.declared.fault.Fault.TheVariants as fault
@@ -19,7 +20,7 @@ use Rattle.xdp_load.specs.declared.key.Key.{Key}
 use Rattle.xdp_load.specs.declared.key.Key.TheVariants as key
 use Rattle.xdp_load.specs.Setup.{Packet, SetupView, packet_of, names_of, decoded_of, relocated_setup, setup_of_limited, setup_of_table}
 use Rattle.xdp_load.specs.Sound.{IsPacket, IsSound}
-use Rattle.xdp_load.specs.Written.{WrittenText, written_of, rows_of_table, program_of, rows_of}
+use Rattle.xdp_load.specs.Written.{WrittenText, written_of, rows_of_table, written_with, program_of, rows_of}
 use Rattle.xdp_load.proofs.RowLemmas.{items_list-items_of}
 
 -- ---- rows
@@ -85,7 +86,7 @@ written s = record {
 }
 
 document_written : (s : SetupView) → written_of (document s) ≡ Ok (written s)
-unfolding written_of rows_of_table program_of rows_of
+unfolding written_of rows_of_table written_with program_of rows_of
 document_written s =
     rw (
       items_list-items_of (map map_data (named s.names s.shapes)),
@@ -101,10 +102,12 @@ document_written s =
 limited_all : (k : Key) (n : ℕ) → least k ≤ n → n ≤ most k → limited k (pos n) ≡ Ok n
 limited_all k n a b = rw (le-leb (least k) n a, le-leb n (most k) b) refl
 
-shape_limited : (n : Text) (s : Shape) → IsShape s → limited_shape (map_text (n, s)) ≡ Ok s
-shape_limited n s h = rw (limited_all key.Entries s.entries h.some_entries h.most_entries, limited_all key.Counters s.counters h.some_counters h.most_counters) refl
+shape_limited : (n : Text) (s : Shape) → IsNarrow s → limited_shape (map_text (n, s)) ≡ Ok s
+shape_limited n s h =
+    rw (limited_all key.Entries s.entries h.some_entries h.most_entries, limited_all key.Counters s.counters h.some_counters h.most_counters)
+    (ap (λ (k : MapKey). Ok (record { entries = s.entries; counters = s.counters; key = k })) (sym h.index))
 
-shapes_limited : (i : ℕ) (ns : List Text) (ss : List Shape) → length ns ≡ length ss → AllByRecursion IsShape ss → each fault.Limit limited_shape i (map map_text (named ns ss)) ≡ Ok ss
+shapes_limited : (i : ℕ) (ns : List Text) (ss : List Shape) → length ns ≡ length ss → AllByRecursion IsNarrow ss → each fault.Limit limited_shape i (map map_text (named ns ss)) ≡ Ok ss
 shapes_limited i [] [] e a = refl
 shapes_limited i [] (s ∷ ss) e a = absurd (omega (arith, e))
 shapes_limited i (n ∷ ns) [] e a = absurd (omega (arith, e))
@@ -179,7 +182,7 @@ numbers_limited s h f =
     rw (limited_all key.Queues s.queues h.some_queues h.few_queues, limited_all key.IfIndex s.ifindex (omega arith) (omega (arith, i)), limited_all key.Start s.start (omega arith) (omega (arith, b))) refl
 
 rows_limited : (s : SetupView) → IsSound s → HasFields s → limited_rows (written s) (limits_of s).numbers ≡ Ok (limits_of s)
-unfolding limited_rows
+unfolding limited_rows limited_with
 rows_limited s h f =
     rw (shapes_limited 0 s.names s.shapes h.named h.shapes, steps_limited s.queues 0 s.script h.few_queues h.script f.answers, packets_limited s.queues 0 s.packets h.few_queues h.packets f.packets) refl
 

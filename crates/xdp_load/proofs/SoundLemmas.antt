@@ -11,7 +11,7 @@ use Rattle.xdp_load.specs.declared.fault.Fault.TheVariants as fault
 use Rattle.xdp_load.specs.Document.{MapText, PacketText, StepText}
 use Rattle.xdp_load.specs.Gives.{Gives, each, in_key, in_original, in_row, or_else, or_refused, ◌>>=◌}
 use Rattle.xdp_load.specs.Keys.{least, most}
-use Rattle.xdp_load.specs.Limits.{HexPacket, LimitedText, are_names, bad_name, is_bad_first, is_packet_text, limited_shape, limited_lists, limited_of, limited_packet, limited_rows, limited_step, packet_text}
+use Rattle.xdp_load.specs.Limits.{HexPacket, LimitedText, are_names, bad_name, is_bad_first, is_packet_text, limited_shape, limited_lists, limited_of, limited_packet, limited_rows, limited_step, limited_with, packet_text}
 use Rattle.xdp_load.specs.Numbers.{below, limited, limited_numbers}
 use Rattle.xdp_load.specs.Setup.{Packet, SetupView, bytes_of, decoded_of, document_of, joined, loaded_program, names_of, text_of, packet_of, relocated_setup, setup_of, setup_of_limited, setup_of_table}
 use Rattle.xdp_load.specs.Spot.{at, refused, row, whole}
@@ -20,7 +20,7 @@ use Rattle.xdp_load.specs.declared.key.Key.{Key}
 use Rattle.xdp_load.specs.declared.numbers.Limits.{Limits}
 use Rattle.xdp_load.specs.declared.numbers.Numbers.{Numbers}
 use Rattle.xdp_load.specs.declared.key.Key.TheVariants as key
-use Rattle.bpf_note.specs.Shape.{IsShape, Shape}
+use Rattle.bpf_note.specs.Shape.{Shape, IsNarrow}
 use Rattle.hex.proofs.HexLemmas.{decode_of-ok}
 use Rattle.xdp_load.specs.Original.{RewrittenView, limited_place, original_of, original_program, rewritten_of, rewritten_of_table, written_beside}
 use Rattle.xdp_load.specs.OriginalSeen.{rewritten_view}
@@ -32,26 +32,26 @@ use Rattle.xdp_load.specs.declared.fault.LoadError.{LoadError}
 
 -- ---- the bind, and a fault in place of nothing
 
-bind_ok : {A B E P : Type 0} (r : Result A E) (f : A → Result B E) (y : B) → (r >>= f) ≡ Ok y → ((x : A) → r ≡ Ok x → f x ≡ Ok y → P) → P
+pub bind_ok : {A B E P : Type 0} (r : Result A E) (f : A → Result B E) (y : B) → (r >>= f) ≡ Ok y → ((x : A) → r ≡ Ok x → f x ≡ Ok y → P) → P
 bind_ok (Ok x) f y e k = k x refl e
 bind_ok (Err d) f y e k = absurd (cc)
 
-else_ok : {A E : Type 0} (d : E) (o : Option A) (y : A) → or_else d o ≡ Ok y → o ≡ Some y
+pub else_ok : {A E : Type 0} (d : E) (o : Option A) (y : A) → or_else d o ≡ Ok y → o ≡ Some y
 else_ok d (Some x) y e = cc
 else_ok d None y e = absurd (cc)
 
-same_Ok : {A E : Type 0} (x y : A) → ◌≡◌ {A = Result A E} (Ok x) (Ok y) → x ≡ y
+pub same_Ok : {A E : Type 0} (x y : A) → ◌≡◌ {A = Result A E} (Ok x) (Ok y) → x ≡ y
 same_Ok x y e = cc
 
-cond_ok : {A E : Type 0} (b : Bool) (x y : A) (d : E) → cond b (Ok x) (Err d) ≡ Ok y → (b ≡ true) × (x ≡ y)
+pub cond_ok : {A E : Type 0} (b : Bool) (x y : A) (d : E) → cond b (Ok x) (Err d) ≡ Ok y → (b ≡ true) × (x ≡ y)
 cond_ok true x y d e = (refl, same_Ok x y e)
 cond_ok false x y d e = absurd (cc)
 
-key_ok : {A : Type 0} (f : Fault) (r : Result A Key) (y : A) → in_key f r ≡ Ok y → r ≡ Ok y
+pub key_ok : {A : Type 0} (f : Fault) (r : Result A Key) (y : A) → in_key f r ≡ Ok y → r ≡ Ok y
 key_ok f (Ok x) y e = cc
 key_ok f (Err k) y e = absurd (cc)
 
-row_ok : {A : Type 0} (f : Fault) (n : ℕ) (r : Result A Key) (y : A) → in_row f n r ≡ Ok y → r ≡ Ok y
+pub row_ok : {A : Type 0} (f : Fault) (n : ℕ) (r : Result A Key) (y : A) → in_row f n r ≡ Ok y → r ≡ Ok y
 row_ok f n (Ok x) y e = cc
 row_ok f n (Err k) y e = absurd (cc)
 
@@ -64,13 +64,13 @@ each_keeps c f P Q h n [] (y ∷ ys) a e = absurd (cc)
 each_keeps c f P Q h n (x ∷ xs) ys a e = bind_ok (in_row c n (f x)) _ ys e (λ y here rest. bind_ok (each c f (suc n) xs) _ ys rest (λ more tail same.
     subst (AllByRecursion Q) (same_Ok _ _ same) (h x y a.0 (row_ok c n (f x) y here), each_keeps c f P Q h (suc n) xs more a.1 tail)))
 
-each_all : {A B : Type 0} (c : Fault) (f : A → Result B Key) (P : B → Type 0) → ((x : A) (y : B) → f x ≡ Ok y → P y) → (n : ℕ) (xs : List A) (ys : List B) → each c f n xs ≡ Ok ys → AllByRecursion P ys
+pub each_all : {A B : Type 0} (c : Fault) (f : A → Result B Key) (P : B → Type 0) → ((x : A) (y : B) → f x ≡ Ok y → P y) → (n : ℕ) (xs : List A) (ys : List B) → each c f n xs ≡ Ok ys → AllByRecursion P ys
 each_all c f P h n [] [] e = tt
 each_all c f P h n [] (y ∷ ys) e = absurd (cc)
 each_all c f P h n (x ∷ xs) ys e = bind_ok (in_row c n (f x)) _ ys e (λ y here rest. bind_ok (each c f (suc n) xs) _ ys rest (λ more tail same.
     subst (AllByRecursion P) (same_Ok _ _ same) (h x y (row_ok c n (f x) y here), each_all c f P h (suc n) xs more tail)))
 
-each_length : {A B : Type 0} (c : Fault) (f : A → Result B Key) (n : ℕ) (xs : List A) (ys : List B) → each c f n xs ≡ Ok ys → length ys ≡ length xs
+pub each_length : {A B : Type 0} (c : Fault) (f : A → Result B Key) (n : ℕ) (xs : List A) (ys : List B) → each c f n xs ≡ Ok ys → length ys ≡ length xs
 each_length c f n [] [] e = refl
 each_length c f n [] (y ∷ ys) e = absurd (cc)
 each_length c f n (x ∷ xs) ys e = bind_ok (in_row c n (f x)) _ ys e (λ y here rest. bind_ok (each c f (suc n) xs) _ ys rest (λ more tail same.
@@ -78,7 +78,7 @@ each_length c f n (x ∷ xs) ys e = bind_ok (in_row c n (f x)) _ ys e (λ y here
 
 -- ---- the limits
 
-limited_within : (k : Key) (z : ℤ) (n : ℕ) → limited k z ≡ Ok n → (least k ≤ n) × (n ≤ most k)
+pub limited_within : (k : Key) (z : ℤ) (n : ℕ) → limited k z ≡ Ok n → (least k ≤ n) × (n ≤ most k)
 limited_within k (pos m) n e =
     let (held, same) = cond_ok (nat_le (least k) m && nat_le m (most k)) m n k e in
     let (low, high) = and_parts _ _ held in
@@ -90,7 +90,7 @@ below_within k q z n e = bind_ok (limited k z) _ n e (λ m here rest.
     let (held, same) = cond_ok (nat_lt m q) m n k rest in
     subst (λ j. j < q) same (ltb-true m q held))
 
-numbers_within : (n : Numbers) (m : Limits) → limited_numbers n ≡ Ok m → (1 ≤ m.queues) × (m.queues ≤ 8)
+pub numbers_within : (n : Numbers) (m : Limits) → limited_numbers n ≡ Ok m → (1 ≤ m.queues) × (m.queues ≤ 8)
 numbers_within n m e =
     bind_ok (limited key.Queues n.queues) _ m e (λ q here rest.
     bind_ok (limited key.IfIndex n.ifindex) _ m rest (λ i there more.
@@ -103,21 +103,21 @@ step_within queues s p e =
     bind_ok (limited key.Answer s.answer) _ p rest (λ a there same.
     subst (λ (r : ℕ × ℕ). r.0 < queues) (same_Ok _ _ same) (below_within key.StepQueue queues s.queue q here)))
 
-shape_within : (m : MapText) (s : Shape) → limited_shape m ≡ Ok s → IsShape s
+shape_within : (m : MapText) (s : Shape) → limited_shape m ≡ Ok s → IsNarrow s
 shape_within m s e =
     bind_ok (limited key.Entries m.entries) _ s e (λ entries here rest.
     bind_ok (limited key.Counters m.counters) _ s rest (λ counters there same.
     let most = limited_within key.Entries m.entries entries here in
     let each = limited_within key.Counters m.counters counters there in
-    subst IsShape (same_Ok _ _ same) (record { some_entries = most.0; most_entries = most.1; some_counters = each.0; most_counters = each.1 })))
+    subst IsNarrow (same_Ok _ _ same) (record { some_entries = most.0; most_entries = most.1; some_counters = each.0; most_counters = each.1; index = refl })))
 
 -- a packet's numbers, its bytes still being hex
-record IsHexPacket (queues : ℕ) (p : HexPacket) : Type 0 where
-  queue : p.queue < queues
-  long : 14 ≤ length p.bytes / 2
-  short : length p.bytes / 2 ≤ 65535
-  some_times : 1 ≤ p.times
-  few_times : p.times ≤ 100000
+pub record IsHexPacket (queues : ℕ) (p : HexPacket) : Type 0 where
+  pub queue : p.queue < queues
+  pub long : 14 ≤ length p.bytes / 2
+  pub short : length p.bytes / 2 ≤ 65535
+  pub some_times : 1 ≤ p.times
+  pub few_times : p.times ≤ 100000
 
 packet_within : (queues : ℕ) (t : PacketText) (p : HexPacket) → limited_packet queues t ≡ Ok p → IsHexPacket queues p
 packet_within queues t p e =
@@ -139,7 +139,7 @@ ok_some : {A E : Type 0} (r : Result A E) (x : A) → result_ok r ≡ Some x →
 ok_some (Ok y) x e = cc
 ok_some (Err d) x e = absurd (cc)
 
-bytes_length : (t bytes : List ℕ) → bytes_of t ≡ Some bytes → length t / 2 ≡ length bytes
+pub bytes_length : (t bytes : List ℕ) → bytes_of t ≡ Some bytes → length t / 2 ≡ length bytes
 bytes_length t bytes e =
     let twice = (decode_of-ok t bytes (ok_some _ bytes e)).2 in
     omega (arith, twice)
@@ -157,41 +157,51 @@ bytes_kept queues x y h e = bind_ok (or_else key.Bytes (bytes_of x.bytes)) _ y e
 
 -- ---- the phases
 
-record IsLimited (w : WrittenText) (l : LimitedText) : Type 0 where
-  some_queues : 1 ≤ l.numbers.queues
-  few_queues : l.numbers.queues ≤ 8
-  few_maps : length w.maps ≤ 4
-  counted : length l.shapes ≡ length w.maps
-  shapes : AllByRecursion IsShape l.shapes
-  script : AllByRecursion (λ p. p.0 < l.numbers.queues) l.script
-  packets : AllByRecursion (IsHexPacket l.numbers.queues) l.packets
+-- at most so many maps, each of this kind
+pub record IsLimited (most : ℕ) (IsMap : Shape → Type 0) (w : WrittenText) (l : LimitedText) : Type 0 where
+  pub some_queues : 1 ≤ l.numbers.queues
+  pub few_queues : l.numbers.queues ≤ 8
+  pub few_maps : length w.maps ≤ most
+  pub counted : length l.shapes ≡ length w.maps
+  pub shapes : AllByRecursion IsMap l.shapes
+  pub script : AllByRecursion (λ p. p.0 < l.numbers.queues) l.script
+  pub packets : AllByRecursion (IsHexPacket l.numbers.queues) l.packets
 
-rows_limited : (w : WrittenText) (n : Limits) (l : LimitedText) → length w.maps ≤ 4 → (1 ≤ n.queues) × (n.queues ≤ 8) → limited_rows w n ≡ Ok l → IsLimited w l
-unfolding limited_rows
-rows_limited w n l few q e =
-    bind_ok (each fault.Limit limited_shape 0 w.maps) _ l e (λ shapes e1 rest.
-    bind_ok (each fault.Limit (limited_step n.queues) 0 w.script) _ l rest (λ script e2 more.
+pub with_limited : (most : ℕ) (IsMap : Shape → Type 0) (w : WrittenText) (n : Limits) (shapes : List Shape) (l : LimitedText) → length w.maps ≤ most → (1 ≤ n.queues) × (n.queues ≤ 8)
+    → length shapes ≡ length w.maps → AllByRecursion IsMap shapes → limited_with w n shapes ≡ Ok l → IsLimited most IsMap w l × (l.shapes ≡ shapes)
+unfolding limited_with
+with_limited most IsMap w n shapes l few q counted all e =
+    bind_ok (each fault.Limit (limited_step n.queues) 0 w.script) _ l e (λ script e2 more.
     bind_ok (each fault.Limit (limited_packet n.queues) 0 w.packets) _ l more (λ packets e3 last.
     let made : ◌≡◌ {A = LimitedText} (record { numbers = n; shapes = shapes; script = script; packets = packets }) l = same_Ok _ _ last in
-    subst (IsLimited w) made (record {
-      some_queues = q.0;
-      few_queues = q.1;
-      few_maps = few;
-      counted = each_length fault.Limit limited_shape 0 w.maps shapes e1;
-      shapes = each_all fault.Limit limited_shape _ shape_within 0 w.maps shapes e1;
-      script = each_all fault.Limit (limited_step n.queues) _ (step_within n.queues) 0 w.script script e2;
-      packets = each_all fault.Limit (limited_packet n.queues) _ (packet_within n.queues) 0 w.packets packets e3;
-    }))))
+    subst (λ (x : LimitedText). IsLimited most IsMap w x × (x.shapes ≡ shapes)) made (
+      record {
+        some_queues = q.0;
+        few_queues = q.1;
+        few_maps = few;
+        counted = counted;
+        shapes = all;
+        script = each_all fault.Limit (limited_step n.queues) _ (step_within n.queues) 0 w.script script e2;
+        packets = each_all fault.Limit (limited_packet n.queues) _ (packet_within n.queues) 0 w.packets packets e3;
+      },
+      refl,
+    )))
 
-lists_limited : (w : WrittenText) (n : Limits) (l : LimitedText) → (1 ≤ n.queues) × (n.queues ≤ 8) → limited_lists w n ≡ Ok l → IsLimited w l
+rows_limited : (w : WrittenText) (n : Limits) (l : LimitedText) → length w.maps ≤ 4 → (1 ≤ n.queues) × (n.queues ≤ 8) → limited_rows w n ≡ Ok l → IsLimited 4 IsNarrow w l
+unfolding limited_rows
+rows_limited w n l few q e =
+    bind_ok (each fault.Limit limited_shape 0 w.maps) (limited_with w n) l e (λ shapes e1 rest.
+    (with_limited 4 IsNarrow w n shapes l few q (each_length fault.Limit limited_shape 0 w.maps shapes e1) (each_all fault.Limit limited_shape _ shape_within 0 w.maps shapes e1) rest).0)
+
+lists_limited : (w : WrittenText) (n : Limits) (l : LimitedText) → (1 ≤ n.queues) × (n.queues ≤ 8) → limited_lists w n ≡ Ok l → IsLimited 4 IsNarrow w l
 unfolding limited_lists
 lists_limited w n l q e = go (nat_le (length w.maps) 4) refl e
   where
-    go : (b : Bool) → nat_le (length w.maps) 4 ≡ b → cond b (limited_rows w n) (Err (refused fault.Limit (at key.Map))) ≡ Ok l → IsLimited w l
+    go : (b : Bool) → nat_le (length w.maps) 4 ≡ b → cond b (limited_rows w n) (Err (refused fault.Limit (at key.Map))) ≡ Ok l → IsLimited 4 IsNarrow w l
     go true t h = rows_limited w n l (leb-true _ _ t) q h
     go false t h = absurd (cc)
 
-of_limited : (w : WrittenText) (l : LimitedText) → limited_of w ≡ Ok l → IsLimited w l
+pub of_limited : (w : WrittenText) (l : LimitedText) → limited_of w ≡ Ok l → IsLimited 4 IsNarrow w l
 unfolding limited_of
 of_limited w l e = bind_ok (in_key fault.Limit (limited_numbers w.numbers)) (limited_lists w) l e (λ n e1 rest.
     lists_limited w n l (numbers_within w.numbers n (key_ok fault.Limit (limited_numbers w.numbers) n e1)) rest)
@@ -208,9 +218,30 @@ names_length : (maps : List MapText) → length (names_of maps) ≡ length maps
 unfolding names_of
 names_length maps = length-map maps (λ m. m.name)
 
-of_relocated : (w : WrittenText) (l : LimitedText) (d : List ℕ × List Packet) (s : SetupView) → IsLimited w l → are_names (names_of w.maps) ≡ true → each fault.Hex packet_of 0 l.packets ≡ Ok d.1 → relocated_setup w l d ≡ Ok s → IsSound s
+-- no name is a bad one
+pub good_names : (n : ℕ) (ts : List (List ℕ)) → bad_name n ts ≡ None → are_names ts ≡ true
+good_names n [] e = refl
+good_names n (t ∷ ts) e = go (is_bad_first (t ∷ ts)) refl e (λ k. good_names (suc n) ts k)
+  where
+    go : (b : Bool) → is_bad_first (t ∷ ts) ≡ b → cond b (Some n) (bad_name (suc n) ts) ≡ None → (bad_name (suc n) ts ≡ None → are_names ts ≡ true) → are_names (t ∷ ts) ≡ true
+    go true h k rest = absurd (cc)
+    go false h k rest = rw (h, rest k)
+
+-- a setup with at most so many maps, each of this kind
+pub record IsGiven (most : ℕ) (IsMap : Shape → Type 0) (s : SetupView) : Type 0 where
+  pub some_queues : 1 ≤ s.queues
+  pub few_queues : s.queues ≤ 8
+  pub few_maps : length s.shapes ≤ most
+  pub shapes : AllByRecursion IsMap s.shapes
+  pub named : length s.names ≡ length s.shapes
+  pub names : are_names s.names ≡ true
+  pub script : AllByRecursion (λ p. p.0 < s.queues) s.script
+  pub packets : AllByRecursion (IsPacket s.queues) s.packets
+
+of_relocated : (most : ℕ) (IsMap : Shape → Type 0) (w : WrittenText) (l : LimitedText) (d : List ℕ × List Packet) (s : SetupView) → IsLimited most IsMap w l → are_names (names_of w.maps) ≡ true
+    → each fault.Hex packet_of 0 l.packets ≡ Ok d.1 → relocated_setup w l d ≡ Ok s → IsGiven most IsMap s × (s.shapes ≡ l.shapes)
 unfolding relocated_setup
-of_relocated w l d s held names bytes e =
+of_relocated most IsMap w l d s held names bytes e =
     bind_ok (loaded_program (names_of w.maps) w.relocs d.0) _ s e (λ program e1 last.
     let made : ◌≡◌ {A = SetupView} (record {
       program = program;
@@ -222,32 +253,42 @@ of_relocated w l d s held names bytes e =
       script = l.script;
       packets = d.1;
     }) s = same_Ok _ _ last in
-    subst IsSound made (record {
-      some_queues = held.some_queues;
-      few_queues = held.few_queues;
-      few_maps = rw held.counted held.few_maps;
-      shapes = held.shapes;
-      named = names_length w.maps ∙ sym held.counted;
-      names = names;
-      script = held.script;
-      packets = each_keeps fault.Hex packet_of _ _ (bytes_kept l.numbers.queues) 0 l.packets d.1 held.packets bytes;
-    }))
+    subst (λ (x : SetupView). IsGiven most IsMap x × (x.shapes ≡ l.shapes)) made (
+      record {
+        some_queues = held.some_queues;
+        few_queues = held.few_queues;
+        few_maps = rw held.counted held.few_maps;
+        shapes = held.shapes;
+        named = names_length w.maps ∙ sym held.counted;
+        names = names;
+        script = held.script;
+        packets = each_keeps fault.Hex packet_of _ _ (bytes_kept l.numbers.queues) 0 l.packets d.1 held.packets bytes;
+      },
+      refl,
+    ))
 
--- no name is a bad one
-pub good_names : (n : ℕ) (ts : List (List ℕ)) → bad_name n ts ≡ None → are_names ts ≡ true
-good_names n [] e = refl
-good_names n (t ∷ ts) e = go (is_bad_first (t ∷ ts)) refl e (λ k. good_names (suc n) ts k)
-  where
-    go : (b : Bool) → is_bad_first (t ∷ ts) ≡ b → cond b (Some n) (bad_name (suc n) ts) ≡ None → (bad_name (suc n) ts ≡ None → are_names ts ≡ true) → are_names (t ∷ ts) ≡ true
-    go true h k rest = absurd (cc)
-    go false h k rest = rw (h, rest k)
+pub of_decoded : (most : ℕ) (IsMap : Shape → Type 0) (w : WrittenText) (l : LimitedText) (d : List ℕ × List Packet) (s : SetupView) → IsLimited most IsMap w l → bad_name 0 (names_of w.maps) ≡ None
+    → decoded_of w l ≡ Ok d → relocated_setup w l d ≡ Ok s → IsGiven most IsMap s × (s.shapes ≡ l.shapes)
+of_decoded most IsMap w l d s held named e rest = of_relocated most IsMap w l d s held (good_names 0 (names_of w.maps) named) (decoded_packets w l d e) rest
 
-of_setup : (w : WrittenText) (l : LimitedText) (s : SetupView) → IsLimited w l → setup_of_limited w l ≡ Ok s → IsSound s
+sound_of : (s : SetupView) → IsGiven 4 IsNarrow s → IsSound s
+sound_of s g = record {
+  some_queues = g.some_queues;
+  few_queues = g.few_queues;
+  few_maps = g.few_maps;
+  shapes = g.shapes;
+  named = g.named;
+  names = g.names;
+  script = g.script;
+  packets = g.packets;
+}
+
+of_setup : (w : WrittenText) (l : LimitedText) (s : SetupView) → IsLimited 4 IsNarrow w l → setup_of_limited w l ≡ Ok s → IsSound s
 unfolding setup_of_limited
 of_setup w l s held e = go (bad_name 0 (names_of w.maps)) refl e
   where
     go : (o : Option ℕ) → bad_name 0 (names_of w.maps) ≡ o → option_map_or (λ n. Err (refused fault.Name (row key.Name n))) o (decoded_of w l >>= relocated_setup w l) ≡ Ok s → IsSound s
-    go None t h = bind_ok (decoded_of w l) (relocated_setup w l) s h (λ d e1 rest. of_relocated w l d s held (good_names 0 (names_of w.maps) t) (decoded_packets w l d e1) rest)
+    go None t h = bind_ok (decoded_of w l) (relocated_setup w l) s h (λ d e1 rest. sound_of s (of_decoded 4 IsNarrow w l d s held t e1 rest).0)
     go (Some n) t h = absurd (cc)
 
 pub setup_sound : (bytes : List ℕ) (s : SetupView) → setup_of bytes ≡ Ok s → IsSound s

@@ -1,7 +1,7 @@
 -- Stated: claims rest on this file.
 -- The number after the L.
 use Rattle.std.specs.Prelude.{ℕ}
-use Rattle.xdp_load.specs.declared.fault.Fault.TheVariants.{Text, Syntax, Key, Limit, Name, Hex, Relocation}
+use Rattle.xdp_load.specs.declared.fault.Fault.TheVariants.{Text, Syntax, Key, Limit, Name, Hex, Relocation, Rows}
 use Rattle.xdp_load.specs.declared.fault.LoadFault.{LoadFault}
 use Rattle.xdp_load.specs.declared.fault.LoadFault.TheVariants.{Memory, Refused}
 
@@ -14,3 +14,4 @@ fault_number (Refused Limit) = 4
 fault_number (Refused Name) = 5
 fault_number (Refused Hex) = 6
 fault_number (Refused Relocation) = 7
+fault_number (Refused Rows) = 8

@@ -4,7 +4,7 @@ use Rattle.std.specs.Prelude.{ℕ, ℤ, pos, List, [], ◌∷◌, Option, Some, 
 use Rattle.xdp_load.specs.declared.key.Key.{Key}
 use Rattle.xdp_load.specs.declared.key.Key.TheVariants.{Program, Queues, IfIndex, Start, Map, Name, Entries, Counters, Reloc, Slot}
 use Rattle.xdp_load.specs.declared.key.Key.TheVariants.{OfMap, Step, StepQueue, Answer, Packet, PacketQueue, Bytes, Times, Original}
-use Rattle.xdp_load.specs.declared.key.Key.TheVariants.{Place}
+use Rattle.xdp_load.specs.declared.key.Key.TheVariants.{Place, Wide, WideMap, WideEntries, KeyKind, KeySize, Rows}
 
 -- the key of the document that it is, or that holds the rows in which it is
 abbrev pub list_name : Key → List ℕ
@@ -28,6 +28,12 @@ list_name Bytes = codes "packet"
 list_name Times = codes "packet"
 list_name Original = codes "original"
 list_name Place = codes "places"
+list_name Wide = codes "wide"
+list_name WideMap = codes "map"
+list_name WideEntries = codes "map"
+list_name KeyKind = codes "map"
+list_name KeySize = codes "map"
+list_name Rows = codes "map"
 
 -- the key within a row, or the part of a step
 abbrev pub part_name : Key → Option (List ℕ)
@@ -41,6 +47,10 @@ part_name PacketQueue = Some (codes "queue")
 part_name Answer = Some (codes "answer")
 part_name Bytes = Some (codes "bytes")
 part_name Times = Some (codes "times")
+part_name WideEntries = Some (codes "entries")
+part_name KeyKind = Some (codes "key")
+part_name KeySize = Some (codes "size")
+part_name Rows = Some (codes "rows")
 part_name _ = None
 
 -- the key as it is written in its table
@@ -61,6 +71,8 @@ least Queues = 1
 least Entries = 1
 least Counters = 1
 least Times = 1
+least WideEntries = 1
+least KeySize = 1
 least _ = 0
 
 abbrev pub most : Key → ℕ
@@ -68,6 +80,8 @@ most Queues = 8
 most Entries = 1024
 most Counters = 8
 most Times = 100000
+most WideEntries = 65536
+most KeySize = 64
 most _ = most_word
 
 -- the number where there is no such key, if it may be left out
@@ -77,6 +91,7 @@ missing IfIndex = Some (pos 0)
 missing Start = Some (pos 0)
 missing Counters = Some (pos 1)
 missing Times = Some (pos 1)
+missing KeySize = Some (pos 4)
 missing _ = None
 
 abbrev pub allowed : Key → List ℕ
@@ -100,3 +115,9 @@ allowed Bytes = codes "a hex text of 14 to 65535 bytes (required)"
 allowed Times = codes "a whole number, 1 to 100000"
 allowed Original = codes "a table with program, places and, optionally, reloc (required)"
 allowed Place = codes "places, each of a whole number, 0 to 4294967295, and true or false"
+allowed Wide = codes "true or false"
+allowed WideMap = codes "at most 16 tables, each with name, entries and, optionally, counters, key, size and rows"
+allowed WideEntries = codes "a whole number, 1 to 65536 (required)"
+allowed KeyKind = codes "index, exact or prefix"
+allowed KeySize = codes "a whole number, 1 to 64; of an index 4"
+allowed Rows = codes "hex texts, each a key of the map, none twice, at most as many as entries; of an index none"

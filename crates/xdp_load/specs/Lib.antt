@@ -18,3 +18,10 @@ pub mod Spot
 pub mod SpotSeen
 pub mod Spots
 pub mod Written
+pub mod MapKeys
+pub mod Listed
+pub mod ListedSeen
+pub mod ListedGiven
+pub mod ListedSound
+pub mod ListedFault
+pub mod Plain

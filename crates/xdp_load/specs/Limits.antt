@@ -4,6 +4,7 @@ use Rattle.std.specs.Prelude.{Result, Ok, Err, ◌&&◌, ◌||◌, ◌/◌, ℕ,
 use Rattle.std.specs.Prelude.{Option, Some, None, nat_le, if◌then◌else◌}
 use Rattle.std.specs.List.{list_any}
 use Rattle.std.specs.Str.{bytes_eq}
+use Rattle.bpf_note.specs.declared.key.MapKey.TheVariants.{Index}
 use Rattle.bpf_note.specs.Shape.{Shape}
 use Rattle.xdp_load.specs.Document.{Text, MapText, PacketText, StepText}
 use Rattle.xdp_load.specs.declared.fault.Fault.TheVariants.{Limit}
@@ -19,7 +20,7 @@ abbrev pub limited_shape : MapText → Result Shape Key
 limited_shape m = do
   entries ← limited key.Entries m.entries
   counters ← limited key.Counters m.counters
-  Ok (record { entries = entries; counters = counters })
+  Ok (record { entries = entries; counters = counters; key = Index })
 
 abbrev pub limited_step : ℕ → StepText → Result (ℕ × ℕ) Key
 limited_step queues s = do
@@ -53,13 +54,16 @@ pub record LimitedText : Type 0 where
   pub script : List (ℕ × ℕ)
   pub packets : List HexPacket
 
--- the lists, where there are at most four maps
-unfoldable pub limited_rows : WrittenText → Limits → Result LimitedText Refused
-limited_rows w n = do
-  shapes ← each Limit limited_shape 0 w.maps
+-- the script and the packets, beside these maps
+unfoldable pub limited_with : WrittenText → Limits → List Shape → Result LimitedText Refused
+limited_with w n shapes = do
   script ← each Limit (limited_step n.queues) 0 w.script
   packets ← each Limit (limited_packet n.queues) 0 w.packets
   Ok (record { numbers = n; shapes = shapes; script = script; packets = packets })
+
+-- the lists, where there are at most four maps
+unfoldable pub limited_rows : WrittenText → Limits → Result LimitedText Refused
+limited_rows w n = each Limit limited_shape 0 w.maps >>= limited_with w n
 
 unfoldable pub limited_lists : WrittenText → Limits → Result LimitedText Refused
 limited_lists w n = if nat_le (length w.maps) 4 then limited_rows w n else Err (refused Limit (at key.Map))

@@ -28,15 +28,20 @@ program_of ms = rows hex_row key.Program (list_at key.Program ms)
 unfoldable pub rows_of : {A : Type 0} → (Data → Result A Key) → Key → Members → Result (List A) Refused
 rows_of f k ms = rows f k (values_at k ms)
 
+-- what a document says beside its program, its numbers and its maps
+unfoldable pub written_with : List Text → Numbers → List MapText → Members → Result WrittenText Refused
+written_with program numbers maps ms = do
+  relocs ← rows_of reloc_row key.Reloc ms
+  script ← rows_of step_row key.Step ms
+  packets ← rows_of packet_row key.Packet ms
+  Ok (record { program = program; numbers = numbers; maps = maps; relocs = relocs; script = script; packets = packets })
+
 unfoldable pub rows_of_table : Members → Result WrittenText Refused
 rows_of_table ms = do
   program ← program_of ms
   numbers ← in_key fault.Key (numbers_of ms)
   maps ← rows_of map_row key.Map ms
-  relocs ← rows_of reloc_row key.Reloc ms
-  script ← rows_of step_row key.Step ms
-  packets ← rows_of packet_row key.Packet ms
-  Ok (record { program = program; numbers = numbers; maps = maps; relocs = relocs; script = script; packets = packets })
+  written_with program numbers maps ms
 
 -- what a document says that knows these keys
 abbrev pub written_by : List Key → Members → Result WrittenText Refused

@@ -2,8 +2,8 @@
 ghost use Rattle.std.specs.Prelude.{map};
 ghost use Rattle.toml.specs.View.{table_view};
 ghost use Rattle.xdp_load.specs.Gives.{Gives};
-ghost use Rattle.xdp_load.specs.Written.{program_of, rows_of_table, written_by, written_of};
-ghost use Rattle.xdp_load.specs.Seen.{hex_seen, written_seen};
+ghost use Rattle.xdp_load.specs.Written.{program_of, rows_of_table, written_by, written_of, written_with};
+ghost use Rattle.xdp_load.specs.Seen.{hex_seen, map_seen, written_seen};
 
 use crate::fault::{Fault, LoadError, in_key};
 use crate::key::{Key, TOP_KEYS};
@@ -34,14 +34,18 @@ pub struct Written<'a> {
     pub packets: Vec<PacketRow<'a>>,
 }
 
-/// What a document with known keys says.
-#[tactic(auto, unfolding(crate::specs::Written::rows_of_table))]
-fn rows_of_table<'a>(alloc: Global, table: &'a Table) -> Result<Written<'a>, LoadError>
-    ensures { Gives written_seen result (rows_of_table (table_view table.now)) }
+/// What a document with known keys says beside its program, its numbers and its maps.
+#[tactic(auto, unfolding(crate::specs::Written::written_with))]
+pub fn written_with<'a>(
+    alloc: Global,
+    table: &'a Table,
+    program: Vec<HexRow<'a>>,
+    numbers: Numbers,
+    maps: Vec<MapRow<'a>>,
+) -> Result<Written<'a>, LoadError>
+    ensures { Gives written_seen result
+        (written_with (map hex_seen program.entry.items) numbers (map map_seen maps.entry.items) (table_view table.now)) }
 {
-    let program = program_of(alloc, table)?;
-    let numbers = in_key(Fault::Key, numbers_of(table))?;
-    let maps = rows_at(alloc, table, Key::Map)?;
     let relocs = rows_at(alloc, table, Key::Reloc)?;
     let script = rows_at(alloc, table, Key::Step)?;
     let packets = rows_at(alloc, table, Key::Packet)?;
@@ -53,6 +57,17 @@ fn rows_of_table<'a>(alloc: Global, table: &'a Table) -> Result<Written<'a>, Loa
         script,
         packets,
     })
+}
+
+/// What a document with known keys says.
+#[tactic(auto, unfolding(crate::specs::Written::rows_of_table))]
+fn rows_of_table<'a>(alloc: Global, table: &'a Table) -> Result<Written<'a>, LoadError>
+    ensures { Gives written_seen result (rows_of_table (table_view table.now)) }
+{
+    let program = program_of(alloc, table)?;
+    let numbers = in_key(Fault::Key, numbers_of(table))?;
+    let maps = rows_at(alloc, table, Key::Map)?;
+    written_with(alloc, table, program, numbers, maps)
 }
 
 /// What a document says that knows these keys.

@@ -34,6 +34,9 @@ pub enum Fault {
     /// L7
     #[error("a relocation names no map, or no wide load of its own")]
     Relocation,
+    /// L8: a prefix with a bit set beyond its length too
+    #[error("a row of a map is no prefix of its data, or is given twice")]
+    Rows,
 }
 
 /// The fault of settings of which there is no setup, wherever it is.
@@ -42,7 +45,7 @@ pub enum LoadFault {
     /// L0
     #[error("out of memory")]
     Memory,
-    /// L1 to L7
+    /// L1 to L8
     #[error("the settings are refused")]
     Refused(Fault),
 }
@@ -61,6 +64,7 @@ impl LoadFault {
             LoadFault::Refused(Fault::Name) => 5,
             LoadFault::Refused(Fault::Hex) => 6,
             LoadFault::Refused(Fault::Relocation) => 7,
+            LoadFault::Refused(Fault::Rows) => 8,
         }
     }
 }
@@ -86,7 +90,7 @@ pub enum LoadError {
     /// L0
     #[error("out of memory")]
     Memory,
-    /// L1 to L7
+    /// L1 to L8
     #[error("the settings are refused")]
     Refused(Refused),
 }

@@ -2,7 +2,8 @@
 ghost use Rattle.std.specs.Prelude.{◌≡◌, option_map};
 ghost use Rattle.xdp_load.specs.Keys.{allowed, least, list_name, missing, most, name, part_name};
 
-/// A key of the settings. `Map`, `Reloc`, `Step`, `Packet` and `Place` are a list, or one of its rows, as a whole.
+/// A key of the settings. `Map`, `WideMap`, `Reloc`, `Step`, `Packet` and `Place` are a list, or one of its rows, as a whole.
+/// `WideMap` and `WideEntries` are `map` and its `entries` where wider limits are asked for.
 #[derive(Clone, Copy, Debug, PartialEq, Eq)]
 pub enum Key {
     Program,
@@ -25,6 +26,12 @@ pub enum Key {
     Times,
     Original,
     Place,
+    Wide,
+    WideMap,
+    WideEntries,
+    KeyKind,
+    KeySize,
+    Rows,
 }
 
 impl Key {
@@ -37,12 +44,15 @@ impl Key {
             Key::Queues => "queues",
             Key::IfIndex => "ifindex",
             Key::Start => "start",
-            Key::Map | Key::Name | Key::Entries | Key::Counters => "map",
+            Key::Map | Key::WideMap | Key::Name | Key::Entries | Key::WideEntries | Key::Counters =>
+                "map",
+            Key::KeyKind | Key::KeySize | Key::Rows => "map",
             Key::Reloc | Key::Slot | Key::OfMap => "reloc",
             Key::Step | Key::StepQueue | Key::Answer => "script",
             Key::Packet | Key::PacketQueue | Key::Bytes | Key::Times => "packet",
             Key::Original => "original",
             Key::Place => "places",
+            Key::Wide => "wide",
         }
     }
 
@@ -52,7 +62,7 @@ impl Key {
     {
         match self {
             Key::Name => Some("name"),
-            Key::Entries => Some("entries"),
+            Key::Entries | Key::WideEntries => Some("entries"),
             Key::Counters => Some("counters"),
             Key::Slot => Some("slot"),
             Key::OfMap => Some("map"),
@@ -60,6 +70,9 @@ impl Key {
             Key::Answer => Some("answer"),
             Key::Bytes => Some("bytes"),
             Key::Times => Some("times"),
+            Key::KeyKind => Some("key"),
+            Key::KeySize => Some("size"),
+            Key::Rows => Some("rows"),
             _ => None,
         }
     }
@@ -80,6 +93,7 @@ impl Key {
     {
         match self {
             Key::Queues | Key::Entries | Key::Counters | Key::Times => 1,
+            Key::WideEntries | Key::KeySize => 1,
             _ => 0,
         }
     }
@@ -92,6 +106,8 @@ impl Key {
             Key::Queues | Key::Counters => 8,
             Key::Entries => 1024,
             Key::Times => 100_000,
+            Key::WideEntries => 65_536,
+            Key::KeySize => 64,
             _ => u32::MAX,
         }
     }
@@ -103,6 +119,7 @@ impl Key {
         match self {
             Key::Queues | Key::Counters | Key::Times => Some(1),
             Key::IfIndex | Key::Start => Some(0),
+            Key::KeySize => Some(4),
             _ => None,
         }
     }
@@ -131,6 +148,14 @@ impl Key {
             Key::Times => "a whole number, 1 to 100000",
             Key::Original => "a table with program, places and, optionally, reloc (required)",
             Key::Place => "places, each of a whole number, 0 to 4294967295, and true or false",
+            Key::Wide => "true or false",
+            Key::WideMap =>
+                "at most 16 tables, each with name, entries and, optionally, counters, key, size and rows",
+            Key::WideEntries => "a whole number, 1 to 65536 (required)",
+            Key::KeyKind => "index, exact or prefix",
+            Key::KeySize => "a whole number, 1 to 64; of an index 4",
+            Key::Rows =>
+                "hex texts, each a key of the map, none twice, at most as many as entries; of an index none",
         }
     }
 }
@@ -145,6 +170,19 @@ pub const TOP_KEYS: [Key; 8] = [
     Key::Reloc,
     Key::Step,
     Key::Packet,
+];
+
+/// The keys of a document whose maps may have lists.
+pub const LISTED_KEYS: [Key; 9] = [
+    Key::Program,
+    Key::Queues,
+    Key::IfIndex,
+    Key::Start,
+    Key::Map,
+    Key::Reloc,
+    Key::Step,
+    Key::Packet,
+    Key::Wide,
 ];
 
 /// The keys of a document that has its original beside them.

@@ -1,20 +1,35 @@
 //! The rows of the settings, as they are written.
 ghost use Rattle.std.specs.Prelude.{◌≡◌, map, option_map};
-ghost use Rattle.toml.specs.View.{view};
-ghost use Rattle.xdp_load.specs.Document.{place_of, step_of};
-ghost use Rattle.xdp_load.specs.Seen.{place_seen, step_seen};
+ghost use Rattle.toml.specs.View.{table_view, view};
+ghost use Rattle.xdp_load.specs.Document.{map_of_fields, place_of, step_of};
+ghost use Rattle.xdp_load.specs.Gives.{seen_by};
+ghost use Rattle.xdp_load.specs.Seen.{map_seen, place_seen, step_seen};
 
 use crate::key::Key;
 use crate::rows::{Row, rows_in};
 use crate::table::{has_only, number_at, text_at};
-use toml::Value;
+use toml::{Table, Value};
 
 /// A map as it is written.
-#[derive(Drop)]
+#[derive(Clone, Copy)]
 pub struct MapRow<'a> {
     pub name: &'a str,
     pub entries: i64,
     pub counters: i64,
+}
+
+/// The map of a table with known keys.
+pub fn map_of_fields<'a>(table: &'a Table) -> Result<MapRow<'a>, Key>
+    ensures { seen_by map_seen result ≡ map_of_fields (table_view table.now) }
+{
+    let name = text_at(table, Key::Name)?;
+    let entries = number_at(table, Key::Entries)?;
+    let counters = number_at(table, Key::Counters)?;
+    Ok(MapRow {
+        name,
+        entries,
+        counters,
+    })
 }
 
 impl<'a> Row<'a> for MapRow<'a> {
@@ -32,14 +47,7 @@ impl<'a> Row<'a> for MapRow<'a> {
         if !has_only(table, &[Key::Name, Key::Entries, Key::Counters]) {
             return Err(Key::Map);
         }
-        let name = text_at(table, Key::Name)?;
-        let entries = number_at(table, Key::Entries)?;
-        let counters = number_at(table, Key::Counters)?;
-        Ok(MapRow {
-            name,
-            entries,
-            counters,
-        })
+        map_of_fields(table)
     }
 }
 

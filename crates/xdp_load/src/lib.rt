@@ -7,17 +7,23 @@
 //!   kind where it comes to it
 //! - `setup`: all phases in their order, and the setup that they give
 //! - `original`, `rewritten`: settings that have the program too of which theirs was made
+//! - `listed`: settings whose maps may have lists, by `keyed`, `listed_document`, `keyed_limits` and `lists`
 //! - `laws`: what holds of settings
 #![tactic(auto)]
 
 mod document;
 mod fault;
 mod key;
+mod keyed;
+mod keyed_limits;
 mod kinds;
 mod laws;
 mod limits;
 mod line_words;
 mod lines;
+mod listed;
+mod listed_document;
+mod lists;
 mod names;
 mod numbers;
 mod original;
@@ -31,7 +37,10 @@ mod table;
 
 pub use fault::{Fault, LoadError, LoadFault, Part, Refused};
 pub use key::Key;
-pub use laws::{relocated_loads_are_of_maps, sound_setups_are_written};
+pub use laws::{
+    relocated_loads_are_of_maps, settings_without_lists_are_read_as_ever, sound_setups_are_written,
+};
+pub use listed::{Listed, load_listed};
 pub use original::Place;
 pub use packets::Packet;
 pub use rewritten::{Rewritten, load_rewritten};

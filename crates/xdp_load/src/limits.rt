@@ -1,7 +1,7 @@
 //! The limits of the lists: the numbers and the lengths of their rows.
-ghost use Rattle.std.specs.Prelude.{◌≡◌, ◌≤◌, OnOk, vec_len, map};
+ghost use Rattle.std.specs.Prelude.{◌≡◌, ◌≤◌, IfOk, OnOk, vec_len, map};
 ghost use Rattle.xdp_load.specs.Gives.{Gives, each, seen_by};
-ghost use Rattle.xdp_load.specs.Limits.{is_packet_text, limited_lists, limited_of, limited_packet, limited_rows, limited_shape};
+ghost use Rattle.xdp_load.specs.Limits.{is_packet_text, limited_lists, limited_of, limited_packet, limited_rows, limited_shape, limited_with};
 ghost use Rattle.xdp_load.specs.Limits.{limited_step, packet_text};
 ghost use Rattle.xdp_load.specs.Seen.{map_seen, packet_seen, step_seen, written_seen};
 ghost use Rattle.xdp_load.specs.LimitsSeen.{hex_packet_seen, limited_seen};
@@ -128,6 +128,27 @@ pub struct WithinLimits<'a> {
     pub packets: Vec<HexPacket<'a>>,
 }
 
+/// The script and the packets within their limits, beside these maps.
+#[tactic(auto, unfolding(crate::specs::Limits::limited_with))]
+pub fn limited_with<'a>(
+    alloc: Global,
+    written: &Written<'a>,
+    numbers: Limits,
+    shapes: Vec<MapShape>,
+) -> Result<WithinLimits<'a>, LoadError>
+    ensures value { Gives limited_seen result (limited_with (written_seen written.now) numbers shapes.items) }
+    ensures shapes { IfOk result (λ l. l.shapes.items ≡ shapes.items) }
+{
+    let script = limited_script(alloc, numbers.queues, written.script.as_slice())?;
+    let packets = limited_packets(alloc, numbers.queues, written.packets.as_slice())?;
+    Ok(WithinLimits {
+        numbers,
+        shapes,
+        script,
+        packets,
+    })
+}
+
 /// The rows of the lists within their limits.
 #[tactic(auto, unfolding(crate::specs::Limits::limited_rows))]
 fn limited_rows<'a>(
@@ -138,14 +159,7 @@ fn limited_rows<'a>(
     ensures { Gives limited_seen result (limited_rows (written_seen written.now) numbers) }
 {
     let shapes = limited_shapes(alloc, written.maps.as_slice())?;
-    let script = limited_script(alloc, numbers.queues, written.script.as_slice())?;
-    let packets = limited_packets(alloc, numbers.queues, written.packets.as_slice())?;
-    Ok(WithinLimits {
-        numbers,
-        shapes,
-        script,
-        packets,
-    })
+    limited_with(alloc, written, numbers, shapes)
 }
 
 /// The lists within their limits, where there are at most four maps.

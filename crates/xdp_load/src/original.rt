@@ -1,5 +1,6 @@
 //! The program that the settings' one was made of, in a table of its own.
 ghost use Rattle.std.specs.Prelude.{◌≡◌, ◌≤◌, length, map};
+ghost use Rattle.bpf_note.specs.Shape.{most_maps};
 ghost use Rattle.toml.specs.View.{table_view};
 ghost use Rattle.xdp_load.specs.Gives.{Gives, each, in_original, seen_by};
 ghost use Rattle.xdp_load.specs.Original.{limited_place, original_of, original_of_table, original_program, relocated_program};
@@ -110,7 +111,7 @@ fn relocated_program(
     maps: &[MapRow<'_>],
     original: &Original<'_>,
 ) -> Result<Vec<u8>, LoadError>
-    requires { length maps.now ≤ 4 }
+    requires { length maps.now ≤ most_maps }
     ensures { Gives (λ v. v.items) result (relocated_program (names_of (map map_seen maps.now)) (original_seen original.now)) }
 {
     let program = joined(alloc, original.program.as_slice())?;
@@ -124,7 +125,7 @@ pub fn original_program(
     maps: &[MapRow<'_>],
     original: &Original<'_>,
 ) -> Result<Vec<u8>, LoadError>
-    requires { length maps.now ≤ 4 }
+    requires { length maps.now ≤ most_maps }
     ensures { Gives (λ v. v.items) result (original_program (names_of (map map_seen maps.now)) (original_seen original.now)) }
 {
     relocated_program(alloc, maps, original).map_err(LoadError::in_original)

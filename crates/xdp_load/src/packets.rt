@@ -24,7 +24,7 @@ pub struct Packet {
 }
 
 /// The bytes of the hex text at a key, in the row with that number.
-fn bytes_in(alloc: Global, key: Key, number: usize, text: &str) -> Result<Vec<u8>, LoadError>
+pub fn bytes_in(alloc: Global, key: Key, number: usize, text: &str) -> Result<Vec<u8>, LoadError>
     ensures { Gives (λ v. v.items) result (bytes_in key number text.now) }
 {
     match hex::decode(alloc, text) {

@@ -3,6 +3,7 @@ ghost use Rattle.std.specs.Prelude.{◌≡◌, ◌≤◌, ◌<◌, ◌+◌, ◌*
 ghost use Rattle.std.specs.List.{list_any};
 ghost use Rattle.std.specs.Ordering.{int_eq};
 ghost use Rattle.std.specs.Str.{bytes_eq};
+ghost use Rattle.bpf_note.specs.Shape.{most_maps};
 ghost use Rattle.xdp_load.specs.Gives.{Gives, seen_by};
 ghost use Rattle.xdp_load.specs.Seen.{map_seen, reloc_seen};
 ghost use Rattle.xdp_load.specs.Setup.{loaded_program, names_of, own_slot, relocated, relocated_once, wide_slot, with_map};
@@ -70,7 +71,7 @@ fn relocate_once(
     row: &RelocRow<'_>,
     later: &[RelocRow<'_>],
 ) -> Result<(), Key>
-    requires { length maps.now ≤ 4 }
+    requires { length maps.now ≤ most_maps }
     ensures { seen_by (λ _. program.new) result
         ≡ relocated_once (map (λ m. m.name.now) maps.now) program.old (reloc_seen row.now) (map reloc_seen later.now) }
 {
@@ -82,7 +83,7 @@ fn relocate_once(
 
 /// Applies the relocations in turn.
 fn relocate(program: &mut [u8], maps: &[MapRow<'_>], rows: &[RelocRow<'_>]) -> Result<(), LoadError>
-    requires { length maps.now ≤ 4 }
+    requires { length maps.now ≤ most_maps }
     ensures { Gives (λ _. program.new) result (relocated (map (λ m. m.name.now) maps.now) 0 program.old (map reloc_seen rows.now)) }
 {
     for (i, row) in rows.iter().enumerate() {
@@ -99,7 +100,7 @@ pub fn relocated(
     maps: &[MapRow<'_>],
     rows: &[RelocRow<'_>],
 ) -> Result<Vec<u8>, LoadError>
-    requires { length maps.now ≤ 4 }
+    requires { length maps.now ≤ most_maps }
     ensures { Gives (λ v. v.items) result (loaded_program (names_of (map map_seen maps.now)) (map reloc_seen rows.now) program.items) }
 {
     let mut program = program;

@@ -53,7 +53,7 @@ pub fn list_at(table: &Table, key: Key) -> Option<&[Value]>
 }
 
 /// The rows of the array at a key, none where there is no such key.
-fn values_at(table: &Table, key: Key) -> Option<&[Value]>
+pub fn values_at(table: &Table, key: Key) -> Option<&[Value]>
     ensures { option_map (λ vs. map view vs.now) result ≡ values_at key (table_view table.now) }
 {
     match found(table, key) {

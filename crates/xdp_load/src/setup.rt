@@ -9,6 +9,7 @@ ghost use Rattle.xdp_load.specs.Sound.{IsSound};
 ghost use Rattle.xdp_load.specs.Spot.{refused, whole};
 ghost use Rattle.xdp_load.specs.SetupSeen.{packet_view, setup_view};
 ghost use Rattle.xdp_load.specs.declared.fault.Fault.TheVariants.{Text};
+ghost use Rattle.bpf_note.specs.Shape.{most_maps};
 ghost use Rattle.toml.specs.View.{table_view};
 
 use crate::document::{Written, read_document};
@@ -41,7 +42,7 @@ pub struct Setup {
 
 /// The bytes of the program and of the packets.
 #[tactic(auto, unfolding(crate::specs::Setup::decoded_of))]
-fn decoded_of(
+pub fn decoded_of(
     alloc: Global,
     written: &Written<'_>,
     limited: &WithinLimits<'_>,
@@ -67,13 +68,13 @@ fn names_of(alloc: Global, maps: &[MapRow<'_>]) -> Result<Vec<String>, AllocErro
 
 /// The setup of a document whose hex is read.
 #[tactic(auto, using(crate::proofs::RowLemmas::names_seen), unfolding(crate::specs::Setup::relocated_setup))]
-fn relocated_setup(
+pub fn relocated_setup(
     alloc: Global,
     written: &Written<'_>,
     limited: WithinLimits<'_>,
     decoded: (Vec<u8>, Vec<Packet>),
 ) -> Result<Setup, LoadError>
-    requires { vec_len written.now.maps ≤ 4 }
+    requires { vec_len written.now.maps ≤ most_maps }
     ensures { Gives setup_view result (relocated_setup (written_seen written.now) (limited_seen limited.entry)
         (decoded.0.items, map packet_view decoded.1.items)) }
 {
@@ -99,7 +100,7 @@ pub fn setup_of_limited(
     written: &Written<'_>,
     limited: WithinLimits<'_>,
 ) -> Result<Setup, LoadError>
-    requires { vec_len written.now.maps ≤ 4 }
+    requires { vec_len written.now.maps ≤ most_maps }
     ensures { Gives setup_view result (setup_of_limited (written_seen written.now) (limited_seen limited.entry)) }
 {
     if let Some(number) = bad_name(written.maps.as_slice()) {

@@ -2,7 +2,9 @@
 ghost use Rattle.std.specs.Prelude.{◌≤◌, length};
 
 use std::alloc::Global;
-use xdp_load::{Fault, LoadError, Part, Place, Setup, Spot, load, load_rewritten};
+use xdp_load::{
+    Fault, Listed, LoadError, Part, Place, Setup, Spot, load, load_listed, load_rewritten,
+};
 
 /// How many bytes the program has, how many shapes, names, steps and packets there are; the queues; the interface's number;
 /// and the index at which each ring begins.
@@ -161,5 +163,51 @@ pub fn gives_original(
                 && has_places(rewritten.places.as_slice(), places)
         }
         Err(_) => false,
+    }
+}
+
+/// Whether settings with lists are refused for this fault at this spot.
+pub fn is_listed_refused_at(alloc: Global, text: &str, fault: Fault, spot: &Spot) -> bool {
+    match load_listed(alloc, text.as_bytes()) {
+        Ok(_) => false,
+        Err(error) => is_at(&error, fault, Part::Settings, spot),
+    }
+}
+
+/// Whether the maps that settings with lists give have these names, entries and counters.
+pub fn gives_listed_maps(alloc: Global, text: &str, maps: &[(&str, u32, u32)]) -> bool {
+    match load_listed(alloc, text.as_bytes()) {
+        Ok(listed) => has_maps(&listed.setup, maps),
+        Err(_) => false,
+    }
+}
+
+/// The row that a key, as a hexadecimal text, finds in the list of a map, if there is one.
+fn row_in(alloc: Global, listed: &Listed, number: usize, key: &str) -> Option<u32> {
+    let rows = listed.lists.as_slice().get(number)?.as_ref()?;
+    let key = hex::decode(alloc, key).ok()?;
+    if key.len() != rows.kind().size() {
+        return None;
+    }
+    rows.find(key.as_slice())
+}
+
+/// The row that a key finds in the list of a map of settings, if there is one.
+pub fn found_row(alloc: Global, text: &str, number: usize, key: &str) -> Option<u32> {
+    let listed = load_listed(alloc, text.as_bytes()).ok()?;
+    row_in(alloc, &listed, number, key)
+}
+
+/// How many maps of settings have a list.
+pub fn lists_given(alloc: Global, text: &str) -> Option<usize> {
+    let listed = load_listed(alloc, text.as_bytes()).ok()?;
+    Some(listed.lists.iter().filter(|list| list.is_some()).count())
+}
+
+/// The counts of a setup with lists, or why there is none.
+pub fn listed_counts(alloc: Global, text: &str) -> Result<Counts, LoadError> {
+    match load_listed(alloc, text.as_bytes()) {
+        Ok(listed) => Ok(counts_of(&listed.setup)),
+        Err(error) => Err(error),
     }
 }

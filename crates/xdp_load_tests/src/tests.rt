@@ -1,5 +1,6 @@
 mod beginnings;
 mod growth;
+mod lists;
 mod originals;
 mod setups;
 mod spots;

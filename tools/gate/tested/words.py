@@ -23,6 +23,7 @@ WORDS = {
     "tools/release": ["--fast"],
     "tools/test-built": ["--fast"],
     "tools/packets-of-pcap": [],
+    "tools/rows-of-list": [],
     "tools/script-of-packet": ["--fast"],
     "tools/same-program": ["one.toml"],
     "tools/straighten": ["--fast"],
