@@ -1,3 +1,4 @@
 mod OneLemmas
 mod ProgramLemmas
 mod RowLemmas
+mod TypeLemmas

@@ -7,3 +7,10 @@ only P n below above m h =
     let a : m < n → ⊥ = λ lt. below m (omega arith) lt h in
     let b : n + 1 ≤ m → ⊥ = λ le. above m le h in
     omega arith
+
+pub only_below : (P : ℕ → Type 0) (n m : ℕ) → ((k : ℕ) → 0 ≤ k → k < n → P k → ⊥) → ((k : ℕ) → n + 1 ≤ k → k < m → P k → ⊥) →
+    (k : ℕ) → k < m → P k → k ≡ n
+only_below P n m below above k lt h =
+    let a : k < n → ⊥ = λ l. below k (omega arith) l h in
+    let b : n + 1 ≤ k → ⊥ = λ le. above k le lt h in
+    omega arith

@@ -1,11 +1,9 @@
 -- What one more row adds to the relocations of a function.
-use Rattle.std.proofs.Common.{ℕ, ◌≡◌, ◌+◌, ◌<◌, List, [], ◌∷◌, ◌++◌, Bool, map, true, false, cond, IsTrue, ap, ◌∙◌, zero-add, below_more}
+use Rattle.std.proofs.Common.{ℕ, ◌≡◌, ◌+◌, List, [], ◌∷◌, ◌++◌, Bool, map, true, false, cond, IsTrue, ap, ◌∙◌, zero-add, below_more}
 use Rattle.std.proofs.lemmas.List.{map-append, append-nil}
 use Rattle.std.proofs.lemmas.List.FromFn.{filter_of_map_range_with_len_more}
 use Rattle.bpf_object.specs.Object.{Parts}
 use Rattle.bpf_object.specs.declared.symbol.Symbol.{Symbol}
-use Rattle.bpf_object.specs.declared.relocation.Relocation.{Relocation}
-use Rattle.bpf_object.specs.declared.program.MapReference.{MapReference}
 use Rattle.bpf_object.specs.Program.{relocation, is_within, reference, within, NamesMap, AllNameMaps}
 
 within_more : (f : Symbol) (rows : List ℕ) (n : ℕ) (b : Bool) → is_within f (relocation rows n) ≡ b →

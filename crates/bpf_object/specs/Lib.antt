@@ -4,3 +4,6 @@ pub mod Header
 pub mod Object
 pub mod Symbol
 pub mod Program
+pub mod Types
+pub mod Definition
+pub mod Map

@@ -1,6 +1,6 @@
 -- Stated: claims rest on this file.
 -- Objects for BPF, and why bytes are none. The causes are tried in this order.
-use Rattle.std.specs.Prelude.{ℕ, ◌≡◌, ◌%◌, ◌<◌, ◌≤◌, List, length}
+use Rattle.std.specs.Prelude.{ℕ, ◌≡◌, ◌%◌, ◌<◌, List}
 use Rattle.bpf_object.specs.Section.{shnum, section, contents, IsInside}
 use Rattle.bpf_object.specs.Header.{HasHeader, HasFormat, IsForBpf, HasTable, IsStringTable, shstrndx}
 use Rattle.bpf_object.specs.declared.fault.ObjectFault.{ObjectFault}
@@ -68,4 +68,5 @@ IsNoObject bytes (Section i) = IsElf bytes × (i < shnum bytes) × (IsInside byt
 IsNoObject bytes SectionNames = AreInside bytes × (IsStringTable bytes (shstrndx bytes) → ⊥)
 IsNoObject bytes NoSymbols = AreNamed bytes × ((t : ℕ) → IsSymbolTable bytes t → ⊥)
 IsNoObject bytes (TwoSymbolTables t u) = AreNamed bytes × IsSymbolTable bytes t × IsSymbolTable bytes u × (t < u)
+    × ((v : ℕ) → v < u → IsSymbolTable bytes v → v ≡ t)
 IsNoObject bytes Symbols = (t : ℕ) × (IsOneSymbolTable bytes t × (HasSymbols bytes t → ⊥))

@@ -7,7 +7,7 @@ use Rattle.std.specs.List.{filter, range_with_len}
 use Rattle.bpf_object.specs.Bytes.{word, long}
 use Rattle.bpf_object.specs.Section.{shnum, section, contents}
 use Rattle.bpf_object.specs.Object.{Parts}
-use Rattle.bpf_object.specs.Symbol.{symbol, symbol_count, IsFunction, IsMap, HasCode, code}
+use Rattle.bpf_object.specs.Symbol.{symbol, IsFunction, IsMap, HasCode, code}
 use Rattle.bpf_object.specs.declared.symbol.Symbol.{Symbol}
 use Rattle.bpf_object.specs.declared.relocation.Relocation.{Relocation}
 use Rattle.bpf_object.specs.declared.program.MapReference.{MapReference}
@@ -107,11 +107,13 @@ pub record IsProgram (o : Parts) (name : List ℕ) (bytes : List ℕ) (reference
 abbrev pub IsNotFound : Parts → List ℕ → ProgramFault → Type 0
 IsNotFound o name NoFunction = (n : ℕ) → IsFunction o name n → ⊥
 IsNotFound o name (TwoFunctions n m) = IsFunction o name n × IsFunction o name m × (n < m)
+    × ((k : ℕ) → k < m → IsFunction o name k → k ≡ n)
 IsNotFound o name _ = ⊥
 
 -- the tables that apply to section s aren't one that can be read
 abbrev pub HasNoTable : Parts → ℕ → ProgramFault → Type 0
 HasNoTable o s (TwoTables r q) = AppliesTo o s r × AppliesTo o s q × (r < q)
+    × ((p : ℕ) → p < q → AppliesTo o s p → p ≡ r)
 HasNoTable o s (Table r) = AppliesTo o s r × (IsTable o r → ⊥)
 HasNoTable o s _ = ⊥
 

@@ -1,6 +1,6 @@
 -- Stated: claims rest on this file.
 -- Sections (gABI chapter 4, "Section Header": Elf64_Shdr, of 64 bytes).
-use Rattle.std.specs.Prelude.{ℕ, ◌≡◌, ◌+◌, ◌*◌, ◌<◌, ◌≤◌, ◌⊎◌, ◌==◌, ◌||◌, if◌then◌else◌, List, [], length, slice_range}
+use Rattle.std.specs.Prelude.{ℕ, ◌≡◌, ◌+◌, ◌*◌, ◌≤◌, ◌⊎◌, ◌==◌, ◌||◌, if◌then◌else◌, List, [], length, slice_range}
 use Rattle.bpf_object.specs.Bytes.{half, word, long}
 use Rattle.bpf_object.specs.declared.section.Section.{Section}
 

@@ -6,10 +6,12 @@ use Rattle.bpf_object.specs.Section.{shnum, section, contents}
 use Rattle.bpf_object.specs.Object.{Parts}
 use Rattle.bpf_object.specs.declared.symbol.Symbol.{Symbol}
 
--- st_name, the type in the low four bits of st_info (ELF64_ST_TYPE), st_shndx, st_value and st_size of the symbol at a place
+-- st_name, of st_info the binding (ELF64_ST_BIND, its high four bits) and the type (ELF64_ST_TYPE, its low four bits), st_shndx,
+-- st_value and st_size of the symbol at a place
 unfoldable pub symbol_at : List ℕ → ℕ → Symbol
 symbol_at table at = record {
   name = word table at;
+  binding = slice_index table (at + 4) / 16;
   kind = slice_index table (at + 4) % 16;
   section = half table (at + 6);
   value = long table (at + 8);

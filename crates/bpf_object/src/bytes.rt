@@ -1,5 +1,5 @@
 //! Numbers and names in an object's bytes.
-ghost use Rattle.std.specs.Prelude.{◌≡◌, ◌≢◌, ◌+◌, ◌≤◌, length, ◌↔◌, IsTrue, All};
+ghost use Rattle.std.specs.Prelude.{◌≡◌, ◌≢◌, ◌+◌, ◌≤◌, ℕ, List, length, ◌↔◌, IsTrue, IfSome, IfNone, All};
 ghost use Rattle.bpf_object.specs.Bytes.{half as half_at, word as word_at, long as long_at, IsText};
 
 /// The number in the two bytes at a place.
@@ -45,4 +45,17 @@ fn is_plain(name: &[u8]) -> bool
     ensures { IsTrue result ↔ All (λ byte. byte ≢ 0) name.now }
 {
     name.iter().all(|byte| *byte != 0)
+}
+
+/// The name at a place of a table.
+pub(crate) fn text(table: &[u8], at: usize) -> Option<&[u8]>
+    ensures some { IfSome result (λ name. IsText table.now at name.now) }
+    ensures none { IfNone result ((name : List ℕ) → IsText table.now at name → ⊥) }
+{
+    for end in at..table.len() {
+        if table[end] == 0 {
+            return Some(&table[at..end]);
+        }
+    }
+    None
 }

@@ -81,7 +81,7 @@ fn next_symbol_table(bytes: &[u8], from: u16) -> Option<u16>
 }
 
 /// The one symbol table.
-#[tactic(auto, using(crate::proofs::OneLemmas::only))]
+#[tactic(auto, using(crate::proofs::OneLemmas::only, crate::proofs::OneLemmas::only_below))]
 fn symbol_table(bytes: &[u8]) -> Result<u16, ObjectFault>
     requires { AreNamed bytes.now }
     ensures ok { IfOk result (IsOneSymbolTable bytes.now) }

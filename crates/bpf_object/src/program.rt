@@ -15,7 +15,7 @@ use std::alloc::{AllocError, Global};
 /// A function's instructions, and the maps that it refers to, by rising slots.
 #[derive(Drop)]
 pub struct Program<'a> {
-    /// The bytes of its instructions: 8 a slot.
+    /// The bytes of its instructions: 8 bytes per slot.
     pub code: &'a [u8],
     /// The maps.
     pub references: Vec<MapReference>,
@@ -58,7 +58,7 @@ fn add(references: &mut Vec<MapReference>, reference: MapReference) -> Result<()
 
 impl<'a> Object<'a> {
     /// The one function of this name.
-    #[tactic(auto, using(crate::proofs::OneLemmas::only))]
+    #[tactic(auto, using(crate::proofs::OneLemmas::only, crate::proofs::OneLemmas::only_below))]
     fn function(&self, name: &[u8]) -> Result<usize, ProgramFault>
         ensures ok { IfOk result (IsOneFunction self.now name.now) }
         ensures err { IfErr result (IsNotFound self.now name.now) }
@@ -111,7 +111,7 @@ impl<'a> Object<'a> {
     }
 
     /// The bytes of a section.
-    fn contents(&self, number: u16) -> &'a [u8]
+    pub(crate) fn contents(&self, number: u16) -> &'a [u8]
         requires { number < shnum self.now.bytes }
         ensures { result.now ≡ contents_of self.now.bytes (section_of self.now.bytes number) }
     {
@@ -119,7 +119,7 @@ impl<'a> Object<'a> {
     }
 
     /// The relocations of a section.
-    #[tactic(auto, using(crate::proofs::OneLemmas::only))]
+    #[tactic(auto, using(crate::proofs::OneLemmas::only, crate::proofs::OneLemmas::only_below))]
     fn rows(&self, target: u16) -> Result<&'a [u8], ProgramFault>
         ensures ok { IfOk result (λ rows. AreRows self.now target rows.now) }
         ensures err { IfErr result (HasNoTable self.now target) }

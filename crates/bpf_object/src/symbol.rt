@@ -12,6 +12,8 @@ use crate::{bytes, section};
 pub(crate) struct Symbol {
     /// Where its name is in the table of names.
     pub(crate) name: u32,
+    /// Its binding.
+    pub(crate) binding: u8,
     /// Its type.
     pub(crate) kind: u8,
     /// The section that it lies in.
@@ -26,7 +28,7 @@ pub(crate) struct Symbol {
 const SYMBOL_BYTES: usize = 24;
 
 /// The types of symbols that are variables and functions.
-const OBJECT: u8 = 1;
+pub(crate) const OBJECT: u8 = 1;
 
 const FUNCTION: u8 = 2;
 
@@ -43,6 +45,7 @@ fn read(table: &[u8], at: usize) -> Symbol
 {
     Symbol {
         name: bytes::word(table, at),
+        binding: table[at + 4] / 16,
         kind: table[at + 4] % 16,
         section: bytes::half(table, at + 6),
         value: bytes::long(table, at + 8),

@@ -45,13 +45,38 @@ fn write_maps(text: &mut String, object: &Object) -> Result<(), AllocError> {
     Ok(())
 }
 
-/// The answer to a question about an object: its maps, or the program of a name.
+/// Adds what each map of an object is: its number, type, entries, and the sizes of keys and values.
+fn write_definitions(alloc: Global, text: &mut String, object: &Object) -> Result<(), AllocError> {
+    let types = match object.types(alloc) {
+        Ok(types) => types,
+        Err(fault) => return write!(text, "{fault:?}"),
+    };
+    let mut from = 0;
+    for _ in 0..u32::MAX {
+        let Some(map) = object.next_map(from) else {
+            break;
+        };
+        match object.map(&types, map) {
+            Ok(found) => {
+                let (kind, entries) = (found.kind, found.entries);
+                let (key, value) = (found.key_bytes, found.value_bytes);
+                write!(text, " {map}: {kind} {entries} {key} {value}")?;
+            }
+            Err(fault) => write!(text, " {map}: {fault:?}")?,
+        }
+        from = map + 1;
+    }
+    Ok(())
+}
+
+/// The answer to a question about an object: its maps, what they are, or the program of a name.
 fn answer(alloc: Global, bytes: &[u8], question: &str) -> Result<String, AllocError> {
     let mut text = String::new(alloc);
     match Object::parse(bytes) {
         Err(fault) => write!(text, "{fault:?}")?,
         Ok(object) => match question.strip_prefix("program ") {
             Some(name) => write_program(alloc, &mut text, &object, name)?,
+            None if question == "definitions" => write_definitions(alloc, &mut text, &object)?,
             None => write_maps(&mut text, &object)?,
         },
     }

@@ -1,4 +1,6 @@
 mod growth;
+mod maps;
 mod objects;
 mod programs;
 mod small;
+mod typed;

@@ -1,7 +1,8 @@
-//! A program, read again after it was refused memory. `tools/gate/refuse-growths` refuses each allocation of this test in turn, and
-//! counts the runs that print `refused`.
+//! A program and types, read again after they were refused memory. `tools/gate/refuse-growths` refuses each allocation of these tests
+//! in turn, and counts the runs that print `refused`.
 use super::small::{SMALL, program_fault};
-use bpf_object::ProgramFault;
+use super::typed::{TYPED, types_fault};
+use bpf_object::{ProgramFault, TypesFault};
 use std::io;
 
 #[test]
@@ -10,6 +11,17 @@ fn a_program_is_read_again(rt: HostRuntime) -> io::Result<()> {
     if fault == Some(ProgramFault::Memory) {
         println!(rt; "refused")?;
         fault = program_fault(rt.alloc(), &SMALL);
+    }
+    assert_eq!(rt; fault, None);
+    Ok(())
+}
+
+#[test]
+fn types_are_read_again(rt: HostRuntime) -> io::Result<()> {
+    let mut fault = types_fault(rt.alloc(), &TYPED);
+    if fault == Some(TypesFault::Memory) {
+        println!(rt; "refused")?;
+        fault = types_fault(rt.alloc(), &TYPED);
     }
     assert_eq!(rt; fault, None);
     Ok(())

@@ -1,4 +1,4 @@
-use Rattle.std.proofs.Common.{ℕ, ◌≡◌, List, subst, sym, arith, rules}
+use Rattle.std.proofs.Common.{ℕ, List, subst, sym, arith, rules}
 use Rattle.bpf_object.specs.Program.{AppliesTo, AreRows, none, one}
 use Rattle.bpf_object.proofs.OneLemmas.{only}
 use Rattle.bpf_object.proofs.object.Object.rows.Goals as goal
