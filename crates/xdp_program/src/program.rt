@@ -50,7 +50,7 @@ impl Model for Program {
 }
 
 impl Program {
-    ghost use Rattle.std.specs.Prelude.{◌≡◌, ◌≤◌, ◌<◌, List, length, IfOk, IfErr, IfSome, IfNone, MatchResult};
+    ghost use Rattle.std.specs.Prelude.{◌≡◌, ◌≤◌, ◌<◌, List, [], length, IfOk, IfErr, IfSome, IfNone, MatchResult};
     ghost use Rattle.bpf_insn.specs.Code.{Spells};
     ghost use Rattle.bpf_insn.specs.declared.insn.Insn.{Insn};
     ghost use Rattle.bpf_maps.specs.Layout.{total, place_of};
@@ -158,7 +158,7 @@ impl Program {
     ) -> Lent<'b>
         requires short { length packet.old ≤ 65535 }
         requires enough { total self.now.shapes ≤ length counters.old }
-        ensures ran { Ran self.now packet.old ifindex queue counters.old result.number result.packet.now counters.new result.instructions }
+        ensures ran { Ran self.now [] packet.old ifindex queue counters.old result.number result.packet.now counters.new result.instructions }
         ensures lent { result.packet.ghost_name ≡ packet.entry.ghost_name }
         ensures bound { result.instructions ≤ instructions self.now.code }
         ensures words { length counters.new ≡ length counters.old }
@@ -174,7 +174,7 @@ impl Program {
                     number,
                     packet,
                     instructions,
-                } = run_on(program, counters, lent, ifindex, queue);
+                } = run_on(program, &[], counters, lent, ifindex, queue);
                 Lent {
                     number,
                     instructions,
@@ -197,7 +197,7 @@ impl Program {
     ) -> Run
         requires short { length packet.old ≤ 65535 }
         requires enough { total self.now.shapes ≤ length counters.old }
-        ensures ran { Ran self.now packet.old ifindex queue counters.old result.number packet.new counters.new result.instructions }
+        ensures ran { Ran self.now [] packet.old ifindex queue counters.old result.number packet.new counters.new result.instructions }
         ensures bound { result.instructions ≤ instructions self.now.code }
         ensures words { length counters.new ≡ length counters.old }
     {
@@ -225,7 +225,7 @@ impl Program {
     ) -> Run
         requires short { length packet.old ≤ 65535 }
         ensures made { total self.now.shapes ≤ length counters.old →
-            Ran self.now packet.old ifindex queue counters.old result.number packet.new counters.new result.instructions }
+            Ran self.now [] packet.old ifindex queue counters.old result.number packet.new counters.new result.instructions }
         ensures unmade { length counters.old < total self.now.shapes →
             (result.number ≡ 0) × (result.instructions ≡ 0) × (packet.new ≡ packet.old) × (counters.new ≡ counters.old) }
         ensures bound { result.instructions ≤ instructions self.now.code }
@@ -249,7 +249,7 @@ impl Program {
         queue: u32,
     ) -> Run
         ensures made { IsMade self.now.shapes counters.old packet.old →
-            Ran self.now packet.old ifindex queue counters.old result.number packet.new counters.new result.instructions }
+            Ran self.now [] packet.old ifindex queue counters.old result.number packet.new counters.new result.instructions }
         ensures unmade { IsUnmade self.now.shapes counters.old packet.old →
             (result.number ≡ 0) × (result.instructions ≡ 0) × (packet.new ≡ packet.old) × (counters.new ≡ counters.old) }
         ensures bound { result.instructions ≤ instructions self.now.code }

@@ -133,6 +133,10 @@ pub taken_words : (packet : List ℕ) (k n : ℕ) → take n (packet_words packe
 taken_words packet k zero = refl
 taken_words packet k (suc n) = ap (λ l. word_of packet k ∷ l) (taken_words packet (k + 1) n)
 
+pub words_length : (packet : List ℕ) (k n : ℕ) → length (packet_words packet k n) ≡ n
+words_length packet k zero = refl
+words_length packet k (suc n) = ap suc (words_length packet (k + 1) n)
+
 -- A page of them, and what is left then: the next page, or the responses.
 pub page_gone : (w : Vif) (x : ℕ) (packet : List ℕ) (ts : List Target) (i to : ℕ) → 1024 * i < words packet → to ≡ min (words packet) (1024 * i + 1024) →
     LedBy (fill_from w x packet ts (1024 * i)) (writes_at (page_word (frame_in (target_at ts i).frame) 0) (packet_words packet (1024 * i) (to - 1024 * i))) (fill_from w x packet ts (1024 * (i + 1)))

@@ -1,11 +1,11 @@
 -- What is left comes to its end, and what is asked lies in the frames.
-use Rattle.std.proofs.Common.{◌≡◌, ℕ, ◌≤◌, ◌⊎◌, inl, inr, List, [], ◌∷◌, ◌++◌, length, take, drop, refl, sym, subst, arith, true}
+use Rattle.std.proofs.Common.{◌≡◌, ℕ, ◌⊎◌, inl, inr, List, [], ◌∷◌, ◌++◌, length, drop, refl, sym, subst, true}
 use Rattle.std.specs.Prelude.{◌/◌}
 use Rattle.xen_netif.specs.declared.flags.TxFlags.{TxFlags}
 use Rattle.xen_page.specs.declared.place.Place.{Place}
 use Rattle.xen_steps.specs.Drive.{LedBy, IsPageWant}
 use Rattle.xen_steps.specs.Finish.{Finishes}
-use Rattle.xen_steps.specs.Pages.{covered}
+use Rattle.xen_steps.specs.Pages.{AreWords, covered}
 use Rattle.xen_steps.specs.Places.{add32, page_word}
 use Rattle.xen_steps.specs.Steps.{Steps}
 use Rattle.xen_steps.specs.declared.want.Want.{Want}
@@ -25,17 +25,19 @@ use Rattle.xen_back.specs.declared.wiring.Wiring.{Wiring}
 use Rattle.xen_back.specs.declared.delivery.wait.Awaited.{Awaited}
 use Rattle.xen_back.specs.declared.delivery.delivering.Delivery.{Delivery}
 use Rattle.xen_back.specs.declared.turn.Kind.{Kind}
-use Rattle.xen_host.specs.Asks.{AllInPages, AllSized, Ask, IsInPages, IsSized, did_all, did_by, reads_at}
+use Rattle.xen_host.specs.Asks.{AllInPages, AllSized, Ask, IsInPages, IsSized, did_by, reads_at}
 use Rattle.xen_host.specs.Asks as ask
+use Rattle.xen_host.specs.Buses.{IsHeld}
 use Rattle.xen_host.specs.Completing.{Arriving, TaskCompletes, Waiting}
 use Rattle.xen_host.specs.Fed.{AsksReads, WaitsFor, fed}
-use Rattle.xen_host.specs.Fits.{Fits}
-use Rattle.xen_host.specs.Led.{DeliveryEnds, IsOn, IsTurnOver, Led, TurnEnds, WaitEnds}
+use Rattle.xen_host.specs.HostLed.{HostLed}
+use Rattle.xen_host.specs.Hosts.{Asked, asks_of, events_of}
+use Rattle.xen_host.specs.Led.{DeliveryEnds, IsOn, IsTurnOver, TurnEnds, WaitEnds}
+use Rattle.xen_host.specs.Over.{AllHeld}
 use Rattle.xen_host.specs.Told.{IsToldAt}
 use Rattle.xen_host.specs.Rest.{is_delivering, is_turning, is_waiting, reads_filling, reads_in, rest_filling, rest_in, rest_of_delivery, rest_of_wait}
 use Rattle.xen_host.specs.Wired.{vif_of, wiring_of}
 use Rattle.xen_host.specs.declared.engine.Engine.{Engine}
-use Rattle.xen_host.specs.declared.op.Op.{Op}
 use Rattle.xen_host.specs.declared.stage.Fill.{Fill}
 use Rattle.xen_host.specs.declared.stage.Fill.TheVariants as fill
 use Rattle.xen_host.specs.declared.stage.Purpose.TheVariants as purpose
@@ -43,8 +45,8 @@ use Rattle.xen_host.specs.declared.stage.Stage.{Stage}
 use Rattle.xen_host.specs.declared.stage.Stage.TheVariants as stage
 use Rattle.xen_host.specs.declared.wires.OwnedWiring.{OwnedWiring}
 use Rattle.xen_host.specs.declared.work.Work.{Work}
-use Rattle.xen_host.proofs.AskLemmas.{asks_post, asks_slot, asks_words, page_short, reads_bind}
-use Rattle.xen_host.proofs.StepLemmas.{AreInPages, AreSmall, all_within, last_within, page_pages, read_led, turn_pages}
+use Rattle.xen_host.proofs.AskLemmas.{asks_post, asks_slot, asks_words, reads_bind}
+use Rattle.xen_host.proofs.StepLemmas.{AreInPages, all_within, last_within, page_pages, read_led, turn_pages}
 
 -- ---- what is waited for
 
@@ -103,29 +105,6 @@ reads_of_wait rx s (stage.Notice at kind) t = cc t
 reads_of_wait rx s (stage.Deliver producer) t = cc t
 reads_of_wait rx s (stage.Wait pages) t = (none, tt)
 reads_of_wait rx s (stage.WaitLook pages) t = (page_word rx 0, (refl, λ a. tt))
-
-pub few_of_fill : (f : Fill) → reads_filling f ≤ 1024
-few_of_fill fill.Producer = omega arith
-few_of_fill (fill.Slot left) = omega arith
-few_of_fill (fill.Grant left id at) = omega arith
-few_of_fill (fill.Words i) = omega arith
-few_of_fill (fill.Respond grants i) = omega arith
-few_of_fill (fill.Push grants) = omega arith
-few_of_fill (fill.Notice grants) = omega arith
-
-pub reads_few : (g : Stage) (b : Work) → Fits g b → reads_in g ≤ 1024
-reads_few stage.Ready b h = omega arith
-reads_few stage.Announce b h = omega arith
-reads_few (stage.Slot left) b h = omega arith
-reads_few (stage.Entry i at) b h = omega arith
-reads_few (stage.Page i f frame) b h = page_short f h.here
-reads_few (stage.Fill f p) b h = few_of_fill f
-reads_few (stage.Respond a i) b h = omega arith
-reads_few (stage.Push at kind) b h = omega arith
-reads_few (stage.Notice at kind) b h = omega arith
-reads_few (stage.Deliver producer) b h = omega arith
-reads_few (stage.Wait pages) b h = omega arith
-reads_few (stage.WaitLook pages) b h = omega arith
 
 -- ---- what ends
 
@@ -233,102 +212,110 @@ wait_split packet e (ask.Notify port) left h = inr h.0
 wait_split packet e (ask.TurnOver k) left h = inr h.0
 wait_split packet e (ask.DeliveryOver what) left h = inr h.0
 
-sized_last : (first : List Ask) (last : Ask) → AllSized (first ++ last ∷ []) → IsSized last
+sized_last : (first : List Asked) (last : Asked) → AllSized (asks_of (first ++ last ∷ [])) → IsSized last.ask
 sized_last [] last h = h.0
 sized_last (a ∷ first) last h = sized_last first last h.1
 
+held_last : (first : List Asked) (last : Asked) → AllHeld (first ++ last ∷ []) → IsHeld last.ask last.words
+held_last [] last h = h.0
+held_last (a ∷ first) last h = held_last first last h.1
+
+-- What is asked last is waited for, or lies in the frames by itself.
+abbrev pub IsMet : {A : Type 0} → ℕ → Ask → Steps A → Type 0
+IsMet frames last left = ((n : ℕ) × WaitsFor last n left) ⊎ IsInPages frames last
+
 -- what a step asks lies in the frames, and what it leaves finishes
-pub record EndsWell {A : Type 0} (frames : ℕ) (within : Want → Type 0) (asks : List Ask) (left : Steps A) : Type 0 where
-  pub inside : AllInPages frames asks
+pub record EndsWell {A : Type 0} (frames : ℕ) (within : Want → Type 0) (all : List Asked) (left : Steps A) : Type 0 where
+  pub inside : AllHeld all → AllInPages frames (asks_of all)
   pub finishes : Finishes within left
 
-module _ {A : Type 0} (frames : ℕ) (within : Want → Type 0) (in_pages : AreInPages frames within) (ends : Ask → Steps A → Type 0) where
-  pub ends_well : (w : OwnedWiring) (flags : TxFlags) (from : Steps A) (new : Engine) (ops ops_after : List Op) (count : ℕ) (lent lent_after : List ℕ) → 1024 ≤ length lent_after →
-      (h : Led ends w flags from new ops ops_after count lent lent_after) → ((n : ℕ) × WaitsFor h.last n h.left) ⊎ IsInPages frames h.last → Finishes within from →
-      EndsWell frames within (h.first ++ h.last ∷ []) h.left
-  ends_well w flags from new ops ops_after count lent lent_after long h waits f = record {
-    inside = all_within frames within in_pages h.first h.last lent_after from h.left long h.said.sized h.said.take_none h.gone (by waits) f;
-    finishes = finishes_gone within from h.left (did_all h.first lent_after ++ did_by h.last lent_after) f h.gone;
-  }
-    where
-      by : ((n : ℕ) × WaitsFor h.last n h.left) ⊎ IsInPages frames h.last → (m : Steps A) → LedBy m (did_by h.last lent_after) h.left → Finishes within m → IsInPages frames h.last
-      by (inl x) m g k = last_within frames within in_pages h.last x.0 lent_after m h.left long (sized_last h.first h.last h.said.sized) g x.1 k
-      by (inr p) m g k = p
+pub ends_well : {H A : Type 0} {was : H → Ask → List ℕ → H → Type 0} {full : H → Type 0} {host host_after : H} (frames : ℕ) (within : Want → Type 0) → AreInPages frames within →
+    (ends : Ask → Steps A → Type 0) (w : OwnedWiring) (flags : TxFlags) (from : Steps A) (new : Engine) (h : HostLed was full ends w flags from new host host_after) → IsMet frames h.last.ask h.left → Finishes within from →
+    EndsWell frames within (h.first ++ h.last ∷ []) h.left
+ends_well {A = A} frames within in_pages ends w flags from new h met f = record {
+  inside = λ held. all_within frames within in_pages h.first h.last from h.left held h.sized h.take_none h.gone (last_met held met) f;
+  finishes = finishes_gone within from h.left (events_of (h.first ++ h.last ∷ [])) f h.gone;
+}
+  where
+    last_met : AllHeld (h.first ++ h.last ∷ []) → IsMet frames h.last.ask h.left → (m : Steps A) → LedBy m (did_by h.last.ask h.last.words) h.left → Finishes within m → IsInPages frames h.last.ask
+    last_met held (inl x) m g k = last_within frames within in_pages h.last.ask x.0 h.last.words m h.left (held_last h.first h.last held) (sized_last h.first h.last h.sized) g x.1 k
+    last_met held (inr p) m g k = p
 
--- A turn's step.
-pub record Ended (frames : ℕ) (e : Engine) (asks : List Ask) : Type 0 where
-  pub inside : AllInPages frames asks
+-- A step's end.
+pub record Ended (frames : ℕ) (e : Engine) (all : List Asked) : Type 0 where
+  pub inside : AllHeld all → AllInPages frames (asks_of all)
   pub task : TaskCompletes e.wires e.state e.stage e.work
 
-pub turn_ended : (w : OwnedWiring) (flags : TxFlags) (from : Steps Ending) (new : Engine) (ops ops_after : List Op) (count : ℕ) (lent lent_after : List ℕ) → 1024 ≤ length lent_after →
-    (h : Led (TurnEnds new) w flags from new ops ops_after count lent lent_after) → Completes (wiring_of w) from → Ended (length w.owners) new (h.first ++ h.last ∷ [])
-turn_ended w flags from new ops ops_after count lent lent_after long h c = by (turn_split new h.last h.left h.is_end)
+-- What is over takes no words of a page.
+over_met : {A : Type 0} (frames : ℕ) (last over : Ask) (left : Steps A) → last ≡ over → IsInPages frames over → IsMet frames last left
+over_met frames last over left is p = inr (subst (λ (a : Ask). IsInPages frames a) (sym is) p)
+
+pub turn_ended : {H : Type 0} {was : H → Ask → List ℕ → H → Type 0} {full : H → Type 0} {host host_after : H} (w : OwnedWiring) (flags : TxFlags) (from : Steps Ending) (new : Engine)
+    (h : HostLed was full (TurnEnds new) w flags from new host host_after) → Completes (wiring_of w) from → Ended (length w.owners) new (h.first ++ h.last ∷ [])
+turn_ended w flags from new h c = by (turn_split new h.last.ask h.left h.is_end)
   where
     frames : ℕ
     frames = length w.owners
 
-    by : ((k : Kind) × (h.last ≡ ask.TurnOver k) × IsTurnOver new k h.left) ⊎ IsOn (rest_in (wiring_of new.wires) new.state new.stage new.work) (reads_in new.stage) (is_turning new.stage) (IsToldAt new.wires.table new.stage) h.last h.left → Ended frames new (h.first ++ h.last ∷ [])
-    by (inl x) =
-        let r = ends_well frames (may_want (wiring_of w)) (turn_pages frames w.program.shapes) (TurnEnds new) w flags from new ops ops_after count lent lent_after long h
-        (inr (subst (λ (a : Ask). IsInPages frames a) (sym x.1) tt)) c in
-        record { inside = r.inside; task = ready_task new.wires new.state new.stage new.work x.2.ready }
+    well : IsMet frames h.last.ask h.left → EndsWell frames (may_want (wiring_of w)) (h.first ++ h.last ∷ []) h.left
+    well met = ends_well frames (may_want (wiring_of w)) (turn_pages frames w.program.shapes) (TurnEnds new) w flags from new h met c
+
+    by : ((k : Kind) × (h.last.ask ≡ ask.TurnOver k) × IsTurnOver new k h.left) ⊎ IsOn (rest_in (wiring_of new.wires) new.state new.stage new.work) (reads_in new.stage) (is_turning new.stage) (IsToldAt new.wires.table new.stage) h.last.ask h.left → Ended frames new (h.first ++ h.last ∷ [])
+    by (inl x) = record { inside = (well (over_met frames h.last.ask (ask.TurnOver x.0) h.left x.1 tt)).inside; task = ready_task new.wires new.state new.stage new.work x.2.ready }
     by (inr on) =
-        let r = ends_well frames (may_want (wiring_of w)) (turn_pages frames w.program.shapes) (TurnEnds new) w flags from new ops ops_after count lent lent_after long h
-        (inl (reads_in new.stage, on.waits)) c in
+        let r = well (inl (reads_in new.stage, on.waits)) in
         let there = subst (λ (x : OwnedWiring). Completes (wiring_of x) h.left) (sym h.wires) r.finishes in
         record { inside = r.inside; task = turn_task new.wires new.state new.stage new.work on.is_here (subst (λ (x : Steps Ending). Completes (wiring_of new.wires) x) on.is_rest there) }
 
-pub delivery_ended : (w : OwnedWiring) (flags : TxFlags) (packet : List ℕ) (from : Steps Arrival) (new : Engine) (ops ops_after : List Op) (count : ℕ) (lent lent_after : List ℕ) → 1024 ≤ length lent_after →
-    (h : Led (DeliveryEnds packet new) w flags from new ops ops_after count lent lent_after) → Finishes (IsPageWant (length w.owners)) from → Ended (length w.owners) new (h.first ++ h.last ∷ [])
-delivery_ended w flags packet from new ops ops_after count lent lent_after long h c = by (delivery_split packet new h.last h.left h.is_end)
+pub delivery_ended : {H : Type 0} {was : H → Ask → List ℕ → H → Type 0} {full : H → Type 0} {host host_after : H} (w : OwnedWiring) (flags : TxFlags) (packet : List ℕ) (from : Steps Arrival) (new : Engine)
+    (h : HostLed was full (DeliveryEnds packet new) w flags from new host host_after) → Finishes (IsPageWant (length w.owners)) from → Ended (length w.owners) new (h.first ++ h.last ∷ [])
+delivery_ended w flags packet from new h c = by (delivery_split packet new h.last.ask h.left h.is_end)
   where
     frames : ℕ
     frames = length w.owners
 
-    by : ((what : Delivery) × (h.last ≡ ask.DeliveryOver what) × (new.stage ≡ stage.Ready)) ⊎ IsOn (rest_of_delivery (vif_of new.wires) new.state new.stage new.work) (reads_in new.stage) (is_delivering new.stage) (IsToldAt new.wires.table new.stage) h.last h.left → Ended frames new (h.first ++ h.last ∷ [])
-    by (inl x) =
-        let r = ends_well frames (IsPageWant frames) (page_pages frames) (DeliveryEnds packet new) w flags from new ops ops_after count lent lent_after long h
-        (inr (subst (λ (a : Ask). IsInPages frames a) (sym x.1) tt)) c in
-        record { inside = r.inside; task = ready_task new.wires new.state new.stage new.work x.2 }
+    well : IsMet frames h.last.ask h.left → EndsWell frames (IsPageWant frames) (h.first ++ h.last ∷ []) h.left
+    well met = ends_well frames (IsPageWant frames) (page_pages frames) (DeliveryEnds packet new) w flags from new h met c
+
+    by : ((what : Delivery) × (h.last.ask ≡ ask.DeliveryOver what) × (new.stage ≡ stage.Ready)) ⊎ IsOn (rest_of_delivery (vif_of new.wires) new.state new.stage new.work) (reads_in new.stage) (is_delivering new.stage) (IsToldAt new.wires.table new.stage) h.last.ask h.left → Ended frames new (h.first ++ h.last ∷ [])
+    by (inl x) = record { inside = (well (over_met frames h.last.ask (ask.DeliveryOver x.0) h.left x.1 tt)).inside; task = ready_task new.wires new.state new.stage new.work x.2 }
     by (inr on) =
-        let r = ends_well frames (IsPageWant frames) (page_pages frames) (DeliveryEnds packet new) w flags from new ops ops_after count lent lent_after long h
-        (inl (reads_in new.stage, on.waits)) c in
+        let r = well (inl (reads_in new.stage, on.waits)) in
         let there = subst (λ (x : OwnedWiring). Finishes (IsPageWant (length x.owners)) h.left) (sym h.wires) r.finishes in
         record { inside = r.inside; task = delivery_task new.wires new.state new.stage new.work on.is_here (subst (λ (x : Steps Arrival). Finishes (IsPageWant (length new.wires.owners)) x) on.is_rest there) }
 
-pub wait_ended : (w : OwnedWiring) (flags : TxFlags) (packet : List ℕ) (from : Steps Wait) (new : Engine) (ops ops_after : List Op) (count : ℕ) (lent lent_after : List ℕ) → 1024 ≤ length lent_after →
-    (h : Led (WaitEnds packet new) w flags from new ops ops_after count lent lent_after) → Finishes (IsPageWant (length w.owners)) from → Ended (length w.owners) new (h.first ++ h.last ∷ [])
-wait_ended w flags packet from new ops ops_after count lent lent_after long h c = by (wait_split packet new h.last h.left h.is_end)
+pub wait_ended : {H : Type 0} {was : H → Ask → List ℕ → H → Type 0} {full : H → Type 0} {host host_after : H} (w : OwnedWiring) (flags : TxFlags) (packet : List ℕ) (from : Steps Wait) (new : Engine)
+    (h : HostLed was full (WaitEnds packet new) w flags from new host host_after) → Finishes (IsPageWant (length w.owners)) from → Ended (length w.owners) new (h.first ++ h.last ∷ [])
+wait_ended w flags packet from new h c = by (wait_split packet new h.last.ask h.left h.is_end)
   where
     frames : ℕ
     frames = length w.owners
 
-    by : ((what : Awaited) × (h.last ≡ ask.WaitOver what) × (new.stage ≡ stage.Ready)) ⊎ IsOn (rest_of_wait new.wires.rx new.state new.stage) (reads_in new.stage) (is_waiting new.stage) (IsToldAt new.wires.table new.stage) h.last h.left → Ended frames new (h.first ++ h.last ∷ [])
-    by (inl x) =
-        let r = ends_well frames (IsPageWant frames) (page_pages frames) (WaitEnds packet new) w flags from new ops ops_after count lent lent_after long h
-        (inr (subst (λ (a : Ask). IsInPages frames a) (sym x.1) tt)) c in
-        record { inside = r.inside; task = ready_task new.wires new.state new.stage new.work x.2 }
+    well : IsMet frames h.last.ask h.left → EndsWell frames (IsPageWant frames) (h.first ++ h.last ∷ []) h.left
+    well met = ends_well frames (IsPageWant frames) (page_pages frames) (WaitEnds packet new) w flags from new h met c
+
+    by : ((what : Awaited) × (h.last.ask ≡ ask.WaitOver what) × (new.stage ≡ stage.Ready)) ⊎ IsOn (rest_of_wait new.wires.rx new.state new.stage) (reads_in new.stage) (is_waiting new.stage) (IsToldAt new.wires.table new.stage) h.last.ask h.left → Ended frames new (h.first ++ h.last ∷ [])
+    by (inl x) = record { inside = (well (over_met frames h.last.ask (ask.WaitOver x.0) h.left x.1 tt)).inside; task = ready_task new.wires new.state new.stage new.work x.2 }
     by (inr on) =
-        let r = ends_well frames (IsPageWant frames) (page_pages frames) (WaitEnds packet new) w flags from new ops ops_after count lent lent_after long h
-        (inl (reads_in new.stage, on.waits)) c in
+        let r = well (inl (reads_in new.stage, on.waits)) in
         let there = subst (λ (x : OwnedWiring). Finishes (IsPageWant (length x.owners)) h.left) (sym h.wires) r.finishes in
         record { inside = r.inside; task = wait_task new.wires new.state new.stage new.work on.is_here (subst (λ (x : Steps Wait). Finishes (IsPageWant (length new.wires.owners)) x) on.is_rest there) }
 
 -- What is answered to what was asked last finishes too.
-pub fed_turn : (w : OwnedWiring) (s : State) (g : Stage) (b : Work) (lent : List ℕ) → AreSmall lent → reads_in g ≤ length lent → is_turning g ≡ true → TaskCompletes w s g b → Completes (wiring_of w) (fed (rest_in (wiring_of w) s g b) (take (reads_in g) lent))
-fed_turn w s g b lent small long t c =
+pub fed_turn : (w : OwnedWiring) (s : State) (g : Stage) (b : Work) (words : List ℕ) → AreWords words → length words ≡ reads_in g → is_turning g ≡ true → TaskCompletes w s g b → Completes (wiring_of w) (fed (rest_in (wiring_of w) s g b) words)
+fed_turn w s g b words below n t c =
     let r = reads_of_turn (wiring_of w) s g b t in
     let rest = rest_in (wiring_of w) s g b in
-    finishes_gone (may_want (wiring_of w)) rest (fed rest (take (reads_in g) lent)) (reads_at r.0 (take (reads_in g) lent)) (task_turn w s g b t c) (read_led rest r.0 (reads_in g) lent small long r.1)
+    finishes_gone (may_want (wiring_of w)) rest (fed rest words) (reads_at r.0 words) (task_turn w s g b t c) (read_led rest r.0 (reads_in g) words below n r.1)
 
-pub fed_delivery : (w : OwnedWiring) (s : State) (g : Stage) (b : Work) (lent : List ℕ) → AreSmall lent → reads_in g ≤ length lent → is_delivering g ≡ true → Arriving w s g b → Finishes (IsPageWant (length w.owners)) (fed (rest_of_delivery (vif_of w) s g b) (take (reads_in g) lent))
-fed_delivery w s g b lent small long t c =
+pub fed_delivery : (w : OwnedWiring) (s : State) (g : Stage) (b : Work) (words : List ℕ) → AreWords words → length words ≡ reads_in g → is_delivering g ≡ true → Arriving w s g b → Finishes (IsPageWant (length w.owners)) (fed (rest_of_delivery (vif_of w) s g b) words)
+fed_delivery w s g b words below n t c =
     let r = reads_of_delivery (vif_of w) s g b t in
     let rest = rest_of_delivery (vif_of w) s g b in
-    finishes_gone (IsPageWant (length w.owners)) rest (fed rest (take (reads_in g) lent)) (reads_at r.0 (take (reads_in g) lent)) c (read_led rest r.0 (reads_in g) lent small long r.1)
+    finishes_gone (IsPageWant (length w.owners)) rest (fed rest words) (reads_at r.0 words) c (read_led rest r.0 (reads_in g) words below n r.1)
 
-pub fed_wait : (w : OwnedWiring) (s : State) (g : Stage) (lent : List ℕ) → AreSmall lent → reads_in g ≤ length lent → is_waiting g ≡ true → Waiting w s g → Finishes (IsPageWant (length w.owners)) (fed (rest_of_wait w.rx s g) (take (reads_in g) lent))
-fed_wait w s g lent small long t c =
+pub fed_wait : (w : OwnedWiring) (s : State) (g : Stage) (words : List ℕ) → AreWords words → length words ≡ reads_in g → is_waiting g ≡ true → Waiting w s g → Finishes (IsPageWant (length w.owners)) (fed (rest_of_wait w.rx s g) words)
+fed_wait w s g words below n t c =
     let r = reads_of_wait w.rx s g t in
     let rest = rest_of_wait w.rx s g in
-    finishes_gone (IsPageWant (length w.owners)) rest (fed rest (take (reads_in g) lent)) (reads_at r.0 (take (reads_in g) lent)) c (read_led rest r.0 (reads_in g) lent small long r.1)
+    finishes_gone (IsPageWant (length w.owners)) rest (fed rest words) (reads_at r.0 words) c (read_led rest r.0 (reads_in g) words below n r.1)

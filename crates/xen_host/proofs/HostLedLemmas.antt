@@ -107,7 +107,8 @@ asks_all {H = H} was full ends w flags from between new all host mid host_after 
     events [] = refl
     events (x ∷ all) = ap (λ l. did_by x [] ++ l) (events all) ∙ sym (append_assoc (did_by x []) (did_all all []) (events_of (h.first ++ h.last ∷ [])))
 
-gone_split : {A : Type 0} (s s' : Steps A) (t u : List Event) → LedBy s (t ++ u) s' → (m : Steps A) × LedBy s t m × LedBy m u s'
+-- Where a trace of two parts leads from: the first part leads to something between.
+pub gone_split : {A : Type 0} (s s' : Steps A) (t u : List Event) → LedBy s (t ++ u) s' → (m : Steps A) × LedBy s t m × LedBy m u s'
 gone_split s s' [] u g = (s, refl, g)
 gone_split s s' (e ∷ t) u g = let r = gone_split g.0 s' t u g.2 in (r.0, (g.0, g.1, r.1), r.2)
 

@@ -1,26 +1,28 @@
 -- C's host: what it was asked stands in its ops.
-use Rattle.std.proofs.Common.{◌≡◌, ℕ, zero, suc, ◌+◌, ◌<◌, ◌≤◌, ◌⊎◌, inl, inr, true, false, List, [], ◌∷◌, ◌++◌, length, take, drop, map, refl, sym, ap, ◌∙◌, subst, append_assoc, append-nil, length-append, length-drop, arith}
+use Rattle.std.proofs.Common.{◌≡◌, ℕ, zero, suc, ◌+◌, ◌<◌, ◌≤◌, ◌⊎◌, inl, inr, true, false, Option, None, Some, List, [], ◌∷◌, ◌++◌, length, take, drop, map, refl, sym, ap, ◌∙◌, subst, append_assoc, append-nil, length-append, length-drop, arith}
 use Rattle.std.proofs.lemmas.List.{length-take}
 use Rattle.xen_netif.specs.declared.flags.TxFlags.{TxFlags}
-use Rattle.xen_steps.specs.Drive.{LedBy}
-use Rattle.xen_steps.specs.Event.{Event}
+use Rattle.xen_steps.specs.Event.{Event, Read}
+use Rattle.xen_steps.specs.Places.{page_word}
 use Rattle.xen_steps.specs.Steps.{Steps}
-use Rattle.xen_back.specs.Turned.{Ending}
-use Rattle.xen_host.specs.Asks.{AllSized, Ask, WordsStay, did_all, did_by, needs_no_answer, op_of, writes_at}
+use Rattle.xen_rx_fill.specs.Places.{tx_word}
+use Rattle.xen_back.specs.Program.{event_of}
+use Rattle.xen_host.specs.Asks.{AllInPages, AllSized, Ask, TakeNone, WordsStay, did_all, did_by, needs_no_answer, op_of, read_by, reads_at, writes_at}
 use Rattle.xen_host.specs.Asks as ask
-use Rattle.xen_host.specs.Fed.{fed}
-use Rattle.xen_host.specs.HostLed.{AfterAnswer, GoesOnAt, HostLed, TurnRanLeads, WasGiven}
-use Rattle.xen_host.specs.Hosts.{Asked, HasGiven, IsFull, IsLent, IsPut, IsSameLoan, WasAskedAll, asks_of, events_of}
-use Rattle.xen_host.specs.Led.{Led, StepAt, TurnRanLed}
-use Rattle.xen_host.specs.Rest.{flags_after, flags_behind, reads_filling, reads_in, rest_in}
-use Rattle.xen_host.specs.Wired.{wiring_of}
-use Rattle.xen_host.specs.declared.engine.Engine.{Engine}
+use Rattle.xen_host.specs.Buses.{IsHeld}
+use Rattle.xen_host.specs.Fed.{WaitsFor}
+use Rattle.xen_host.specs.Hosts.{Asked, HasGiven, IsFull, IsLent, IsPut, IsSameLoan, WasAskedAll, WasGiven, asks_of, events_of}
+use Rattle.xen_host.specs.Over.{AllHeld, BeginsOver, SteppedOver}
+use Rattle.xen_host.specs.Queues.{DeliveryGoesOn, HasBegun, Stepped, TurnGoesOn, WaitGoesOn, WaitsForSome, first_read, read_by_some, wiring}
+use Rattle.xen_host.specs.Rest.{flags_after, flags_behind, reads_in}
+use Rattle.xen_host.specs.Said.{Said}
 use Rattle.xen_host.specs.declared.host.Ops.{Ops}
+use Rattle.bpf_note.specs.declared.op.Op.{Op as Operation}
 use Rattle.xen_host.specs.declared.op.Op.{Op}
-use Rattle.xen_host.specs.declared.stage.Purpose.TheVariants as purpose
+use Rattle.xen_host.specs.declared.queue.Queue.{Queue}
 use Rattle.xen_host.specs.declared.stage.Stage.{Stage}
 use Rattle.xen_host.specs.declared.stage.Stage.TheVariants as stage
-use Rattle.xen_host.specs.declared.wires.OwnedWiring.{OwnedWiring}
+use Rattle.xen_host.specs.declared.work.Work.{Work}
 use Rattle.xen_host.proofs.LedLemmas.{did_more, keeps, length_more, ops_more, put_ask, stay_kept}
 
 asks_append : (all : List Asked) (a : Asked) → asks_of (all ++ a ∷ []) ≡ asks_of all ++ a.ask ∷ []
@@ -164,51 +166,58 @@ wrote_all (a ∷ all) old new e =
     let k = keep_rest all e.0 new (omega (arith, e.1.counted)) e.2 in
     first_asked a.ask a.words all old e.0 new e.1.lent k.0 k.1
 
+-- A WRITE has as many words as it says.
+lent_held : (a : Ask) (words : List ℕ) (old new : Ops) → IsLent a words old new → IsHeld a words
+lent_held (ask.Write at count) words old new h = h.4
+lent_held (ask.Read at count) words old new h = tt
+lent_held (ask.Entry at reference rights) words old new h = tt
+lent_held (ask.Store at word) words old new h = tt
+lent_held (ask.StoreTwo at x y) words old new h = tt
+lent_held (ask.Push at word read) words old new h = tt
+lent_held (ask.Notify port) words old new h = tt
+lent_held (ask.TurnOver kind) words old new h = tt
+lent_held (ask.DeliveryOver what) words old new h = tt
+lent_held (ask.WaitOver what) words old new h = tt
+
+held_all : (all : List Asked) (old new : Ops) → WasAskedAll IsPut old all new → AllHeld all
+held_all [] old new e = tt
+held_all (a ∷ all) old new e = (lent_held a.ask a.words old e.0 e.1.lent, held_all all e.0 new e.2)
+
 -- ---- what was asked of C's host is what stands in its ops
 
-led_with : {A : Type 0} (ends : Ask → Steps A → Type 0) (w : OwnedWiring) (flags : TxFlags) (from : Steps A) (new : Engine) (host host_after : Ops) (lent lent_after : List ℕ) →
-    host.count ≡ 0 → (h : HostLed IsPut IsFull ends w flags from new host host_after) → WordsStay (asks_of (h.first ++ h.last ∷ [])) lent lent_after →
-    events_of (h.first ++ h.last ∷ []) ≡ did_all (asks_of (h.first ++ h.last ∷ [])) lent_after → Led ends w flags from new host.ops.now host_after.ops.now host_after.count lent lent_after
-led_with ends w flags from new host host_after lent lent_after none h words events =
-    let all = h.first ++ h.last ∷ [] in
-    let first = asks_of h.first in
-    let last = h.last.ask in
-    let ops = host.ops.now in
-    let n = host_after.count in
-    let is : asks_of all ≡ first ++ last ∷ [] = asks_append h.first h.last in
-    let begins : Stand ops [] host = (sym (ap (λ k. drop k ops) none), none) in
-    let s = stand_all ops all [] host host_after begins h.asked in
-    let b = within_all all host host_after (omega (arith, none)) h.asked in
-    record {
-      first = first;
-      last = last;
-      said = record {
-        take_none = h.take_none;
-        filled = s.0 ∙ ap (λ (l : List Ask). map op_of l ++ drop n ops) is ∙ ap (λ l. l ++ drop n ops) (ops_more first last) ∙ append_assoc (map op_of first) (op_of last ∷ []) (drop n ops);
-        counted = s.1 ∙ ap (λ (l : List Ask). length l) is ∙ length_more first last;
-        room = omega (arith, b.0, b.1);
-        stops = stops b.1 h.stops;
-        words = subst (λ (l : List Ask). WordsStay l lent lent_after) is words;
-        sized = subst AllSized is h.sized;
-      };
-      left = h.left;
-      gone = subst (λ (t : List Event). LedBy from t h.left) (events ∙ ap (λ (l : List Ask). did_all l lent_after) is ∙ did_more first last lent_after) h.gone;
-      is_end = h.is_end;
-      wires = h.wires;
-      flags_are = h.flags_are;
-      fits = h.fits;
-    }
-  where
-    stops : length host_after.ops.now ≡ length host.ops.now → IsFull host_after ⊎ (needs_no_answer h.last.ask ≡ false) → (host_after.count ≡ length host.ops.now) ⊎ (needs_no_answer h.last.ask ≡ false)
-    stops n (inl e) = inl (e ∙ n)
-    stops n (inr e) = inr e
+module _ (first : List Asked) (last : Asked) where
+  abbrev All : List Asked
+  All = first ++ last ∷ []
 
-pub led_of : {A : Type 0} (ends : Ask → Steps A → Type 0) (w : OwnedWiring) (flags : TxFlags) (from : Steps A) (new : Engine) (host host_after : Ops) →
-    host.count ≡ 0 → HostLed IsPut IsFull ends w flags from new host host_after →
-    Led ends w flags from new host.ops.now host_after.ops.now host_after.count host.words.now host_after.words.now
-led_of ends w flags from new host host_after none h =
-    let e = wrote_all (h.first ++ h.last ∷ []) host host_after h.asked in
-    led_with ends w flags from new host host_after host.words.now host_after.words.now none h e.0 e.1
+  said_of : (host host_after : Ops) (lent lent_after : List ℕ) → host.count ≡ 0 → WasAskedAll IsPut host All host_after → TakeNone (asks_of first) → IsFull host_after ⊎ (needs_no_answer last.ask ≡ false) →
+      AllSized (asks_of All) → WordsStay (asks_of All) lent lent_after → Said (asks_of first) last.ask host.ops.now host_after.ops.now host_after.count lent lent_after
+  said_of host host_after lent lent_after none asked take_none ends sized words =
+      let asks = asks_of first in
+      let ops = host.ops.now in
+      let n = host_after.count in
+      let is : asks_of All ≡ asks ++ last.ask ∷ [] = asks_append first last in
+      let begins : Stand ops [] host = (sym (ap (λ k. drop k ops) none), none) in
+      let s = stand_all ops All [] host host_after begins asked in
+      let b = within_all All host host_after (omega (arith, none)) asked in
+      record {
+        take_none = take_none;
+        filled = s.0 ∙ ap (λ (l : List Ask). map op_of l ++ drop n ops) is ∙ ap (λ l. l ++ drop n ops) (ops_more asks last.ask) ∙ append_assoc (map op_of asks) (op_of last.ask ∷ []) (drop n ops);
+        counted = s.1 ∙ ap (λ (l : List Ask). length l) is ∙ length_more asks last.ask;
+        room = omega (arith, b.0, b.1);
+        stops = stops b.1 ends;
+        words = subst (λ (l : List Ask). WordsStay l lent lent_after) is words;
+        sized = subst AllSized is sized;
+      }
+    where
+      stops : length host_after.ops.now ≡ length host.ops.now → IsFull host_after ⊎ (needs_no_answer last.ask ≡ false) → (host_after.count ≡ length host.ops.now) ⊎ (needs_no_answer last.ask ≡ false)
+      stops n (inl e) = inl (e ∙ n)
+      stops n (inr e) = inr e
+
+  did_of : (lent : List ℕ) → events_of All ≡ did_all (asks_of All) lent → events_of All ≡ did_all (asks_of first) lent ++ did_by last.ask lent
+  did_of lent e = e ∙ ap (λ (l : List Ask). did_all l lent) (asks_append first last) ∙ did_more (asks_of first) last.ask lent
+
+  pages_of : (frames : ℕ) → AllInPages frames (asks_of All) → AllInPages frames (asks_of first ++ last.ask ∷ [])
+  pages_of frames h = subst (λ (l : List Ask). AllInPages frames l) (asks_append first last) h
 
 -- without a page of words there is no WRITE
 unlent : (a : Ask) (words : List ℕ) (old new : Ops) → length old.words.now < 1024 → IsLent a words old new → keeps a ≡ true
@@ -227,14 +236,25 @@ unlent_all : (all : List Asked) (old new : Ops) → length old.words.now < 1024 
 unlent_all [] old new few e = tt
 unlent_all (a ∷ all) old new few e = (unlent a.ask a.words old e.0 few e.1.lent, unlent_all all e.0 new (omega (arith, few, e.1.width)) e.2)
 
--- What was said without lent words leads there whatever the lent words are.
-pub led_unlent : {A : Type 0} (ends : Ask → Steps A → Type 0) (w : OwnedWiring) (flags : TxFlags) (from : Steps A) (new : Engine) (host host_after : Ops) →
-    host.count ≡ 0 → length host.words.now < 1024 → HostLed IsPut IsFull ends w flags from new host host_after → (lent : List ℕ) →
-    Led ends w flags from new host.ops.now host_after.ops.now host_after.count lent lent
-led_unlent ends w flags from new host host_after none few h lent =
-    let all = h.first ++ h.last ∷ [] in
-    let k = unlent_all all host host_after few h.asked in
-    led_with ends w flags from new host host_after lent lent none h (stays all lent k) (events_same all lent k)
+-- A turn that begins without lent words has begun whatever these are.
+pub begun_of : (old new : Queue) (producer : ℕ) (host host_after : Ops) → host.count ≡ 0 → length host.words.now < 1024 → BeginsOver IsPut IsFull old new producer host host_after →
+    HasBegun old new producer host.ops.now host_after.ops.now host_after.count
+begun_of old new producer host host_after none few d lent long =
+    let all = d.first ++ d.last ∷ [] in
+    let k = unlent_all all host host_after few d.asked in
+    let did = did_of d.first d.last lent (events_same all lent k) in
+    let s = old.engine.state in
+    let reads = first_read s.halt (Read (tx_word (wiring old).vif 0) producer) in
+    record {
+      first = asks_of d.first;
+      last = d.last.ask;
+      said = said_of d.first d.last host host_after lent lent none d.asked d.take_none d.stops d.sized (stays all lent k);
+      told = d.told;
+      within = pages_of d.first d.last (length old.engine.wires.owners) (d.within (held_all all host host_after d.asked));
+      wires = d.wires;
+      flags = d.flags;
+      turn = subst (λ (t : List Event). TurnGoesOn new d.last.ask s (reads ++ t)) did d.turn;
+    }
 
 -- ---- a step
 
@@ -242,69 +262,86 @@ given_is : (n : ℕ) (host mid : Ops) (words : List ℕ) → WasGiven HasGiven n
 given_is zero host mid words g = g
 given_is (suc n) host mid words g = (g.1.0 ∙ ap (λ k. take k host.words.now) g.0, g.1.1)
 
--- An answer is taken, and what follows it holds of the lent words.
-answered_by : (n : ℕ) (then : List ℕ → Ops → Type 0) (host : Ops) → AfterAnswer HasGiven n then host → then (take n host.words.now) host
-answered_by n then host h =
-    let g = given_is n host h.mid h.words h.given in
-    subst (λ (l : List ℕ). then l host) g.0 (subst (λ (m : Ops). then h.words m) g.1 h.led)
+take_twice : (n : ℕ) (l : List ℕ) → take n (take n l) ≡ take n l
+take_twice zero l = refl
+take_twice (suc n) [] = refl
+take_twice (suc n) (a ∷ l) = ap (λ m. a ∷ m) (take_twice n l)
 
-ran_of : (w : OwnedWiring) (flags : TxFlags) (from : Steps Ending) (new : Engine) (before after : List ℕ) (host host_after : Ops) → host.count ≡ 0 →
-    TurnRanLeads IsPut IsFull w flags from new before after host host_after → TurnRanLed w flags from new before after host.ops.now host_after.ops.now host_after.count host.words.now host_after.words.now
-ran_of w flags from new before after host host_after none h = record { between = h.between; ran = h.ran; led = led_of _ w flags h.between new host host_after none h.led }
+take_front : (n count : ℕ) (lent : List ℕ) → n ≡ count → take count (take n lent) ≡ take count lent
+take_front n count lent e = ap (λ k. take k (take n lent)) (sym e) ∙ take_twice n lent ∙ ap (λ k. take k lent) e
 
-turn_of : (g : Stage) (old new : Engine) (before after : List ℕ) (host host_after : Ops) → host.count ≡ 0 → flags_after g old.work (take (reads_in g) host.words.now) old.flags ≡ flags_after g old.work host.words.now old.flags →
-    AfterAnswer HasGiven (reads_in g) (λ words mid. TurnRanLeads IsPut IsFull old.wires (flags_after g old.work words old.flags) (fed (rest_in (wiring_of old.wires) old.state g old.work) words) new before after mid host_after) host →
-    TurnRanLed old.wires (flags_after g old.work host.words.now old.flags) (fed (rest_in (wiring_of old.wires) old.state g old.work) (take (reads_in g) host.words.now)) new before after host.ops.now host_after.ops.now host_after.count host.words.now host_after.words.now
-turn_of g old new before after host host_after none flags h =
-    let r = answered_by (reads_in g) _ host h in
-    ran_of _ _ _ new before after host host_after none (subst (λ (f : TxFlags). TurnRanLeads IsPut IsFull old.wires f (fed (rest_in (wiring_of old.wires) old.state g old.work) (take (reads_in g) host.words.now)) new before after host host_after) flags r)
+-- What is read of the lent words stands in front of them.
+read_same : {A : Type 0} (a : Ask) (n : ℕ) (s : Steps A) (lent : List ℕ) → WaitsFor a n s → read_by a (take n lent) ≡ read_by a lent
+read_same (ask.Read at count) n s lent w = ap (λ l. reads_at at l) (take_front n count lent w.0)
+read_same (ask.Entry at reference rights) n s lent w = ap (λ l. reads_at at l) (take_front n 2 lent w.0)
+read_same (ask.Push at word read) n s lent w = ap (λ l. reads_at (page_word at.frame read) l) (take_front n 1 lent w.0)
+read_same (ask.Write at count) n s lent w = refl
+read_same (ask.Store at word) n s lent w = refl
+read_same (ask.StoreTwo at x y) n s lent w = refl
+read_same (ask.Notify port) n s lent w = refl
+read_same (ask.TurnOver kind) n s lent w = refl
+read_same (ask.DeliveryOver what) n s lent w = refl
+read_same (ask.WaitOver what) n s lent w = refl
 
-first_three : (l : List ℕ) → take 3 (take 3 l) ≡ take 3 l
-first_three [] = refl
-first_three (a ∷ []) = refl
-first_three (a ∷ b ∷ []) = refl
-first_three (a ∷ b ∷ c ∷ l) = refl
+some_same : {A : Type 0} (a : Option Ask) (n : ℕ) (s : Steps A) (lent : List ℕ) → WaitsForSome a n s → read_by_some a (take n lent) ≡ read_by_some a lent
+some_same None n s lent w = refl
+some_same (Some a) n s lent w = read_same a n s lent w
 
--- A step over C's host is one of its ops and lent words.
-pub step_of : (g : Stage) (old new : Engine) (before after : List ℕ) (host host_after : Ops) → host.count ≡ 0 → GoesOnAt IsPut IsFull HasGiven g old new before after host host_after →
-    StepAt g old new host.words.now host_after.words.now before after host.ops.now host_after.ops.now host_after.count
-step_of stage.Ready old new before after host host_after none h =
-    (ap (λ (x : Ops). x.count) h.1 ∙ none, h.0, ap (λ (x : Ops). x.words.now) h.1, h.2, ap (λ (x : Ops). x.ops.now) h.1)
-step_of stage.Announce old new before after host host_after none h = turn_of stage.Announce old new before after host host_after none refl h
-step_of (stage.Slot left) old new before after host host_after none h =
-    turn_of (stage.Slot left) old new before after host host_after none (ap (λ l. flags_behind old.work.chain l old.flags) (first_three host.words.now)) h
-step_of (stage.Entry i at) old new before after host host_after none h = turn_of (stage.Entry i at) old new before after host host_after none refl h
-step_of (stage.Page i f frame) old new before after host host_after none h = turn_of (stage.Page i f frame) old new before after host host_after none refl h
-step_of (stage.Fill f (purpose.Back n)) old new before after host host_after none h = turn_of (stage.Fill f (purpose.Back n)) old new before after host host_after none refl h
-step_of (stage.Fill f purpose.Delivery) old new before after host host_after none h = (led_of _ _ _ _ new host host_after none (answered_by (reads_filling f) _ host h.0), h.1)
-step_of (stage.Respond a i) old new before after host host_after none h = turn_of (stage.Respond a i) old new before after host host_after none refl h
-step_of (stage.Push at kind) old new before after host host_after none h = turn_of (stage.Push at kind) old new before after host host_after none refl h
-step_of (stage.Notice at kind) old new before after host host_after none h = turn_of (stage.Notice at kind) old new before after host host_after none refl h
-step_of (stage.Deliver producer) old new before after host host_after none h = (led_of _ _ _ _ new host host_after none h.0, h.1)
-step_of (stage.Wait pages) old new before after host host_after none h = (led_of _ _ _ _ new host host_after none h.0, h.1)
-step_of (stage.WaitLook pages) old new before after host host_after none h = (led_of _ _ _ _ new host host_after none (answered_by 1 _ host h.0), h.1)
+flags_same : (g : Stage) (b : Work) (lent : List ℕ) (f : TxFlags) → flags_after g b (take (reads_in g) lent) f ≡ flags_after g b lent f
+flags_same stage.Ready b lent f = refl
+flags_same stage.Announce b lent f = refl
+flags_same (stage.Slot left) b lent f = ap (λ l. flags_behind b.chain l f) (take_twice 3 lent)
+flags_same (stage.Entry i at) b lent f = refl
+flags_same (stage.Page i here frame) b lent f = refl
+flags_same (stage.Fill here p) b lent f = refl
+flags_same (stage.Respond a i) b lent f = refl
+flags_same (stage.Push at kind) b lent f = refl
+flags_same (stage.Notice at kind) b lent f = refl
+flags_same (stage.Deliver producer) b lent f = refl
+flags_same (stage.Wait pages) b lent f = refl
+flags_same (stage.WaitLook pages) b lent f = refl
 
--- ---- C's host keeps its loans
+module _ (went : List (Option Operation) → Type 0) (same : Type 0) (old new : Queue) (host host_after : Ops) (d : SteppedOver IsPut IsFull HasGiven went same old new host host_after) where
+  answered : (d.words ≡ take (reads_in old.engine.stage) host.words.now) × (d.mid ≡ host)
+  answered = given_is (reads_in old.engine.stage) host d.mid d.words d.given
 
-pub led_within : {A : Type 0} (ends : Ask → Steps A → Type 0) (w : OwnedWiring) (flags : TxFlags) (from : Steps A) (new : Engine) (host host_after : Ops) →
-    host.count ≤ length host.ops.now → HostLed IsPut IsFull ends w flags from new host host_after → Within host host_after
-led_within ends w flags from new host host_after le h = within_all (h.first ++ h.last ∷ []) host host_after le h.asked
+  put : WasAskedAll IsPut host (d.first ++ d.last ∷ []) host_after
+  put = subst (λ (h : Ops). WasAskedAll IsPut h (d.first ++ d.last ∷ []) host_after) answered.1 d.asked
 
-turn_within : (g : Stage) (old new : Engine) (before after : List ℕ) (host host_after : Ops) → host.count ≤ length host.ops.now →
-    AfterAnswer HasGiven (reads_in g) (λ words mid. TurnRanLeads IsPut IsFull old.wires (flags_after g old.work words old.flags) (fed (rest_in (wiring_of old.wires) old.state g old.work) words) new before after mid host_after) host → Within host host_after
-turn_within g old new before after host host_after le h = led_within _ _ _ _ new host host_after le (answered_by (reads_in g) _ host h).led
+  -- It keeps its loans.
+  pub step_within : host.count ≤ length host.ops.now → Within host host_after
+  step_within le = within_all (d.first ++ d.last ∷ []) host host_after le put
 
-pub step_within : (g : Stage) (old new : Engine) (before after : List ℕ) (host host_after : Ops) → host.count ≤ length host.ops.now → GoesOnAt IsPut IsFull HasGiven g old new before after host host_after → Within host host_after
-step_within stage.Ready old new before after host host_after le h = subst (λ (x : Ops). Within host x) (sym h.1) (le, refl, refl, (refl, refl))
-step_within stage.Announce old new before after host host_after le h = turn_within stage.Announce old new before after host host_after le h
-step_within (stage.Slot left) old new before after host host_after le h = turn_within (stage.Slot left) old new before after host host_after le h
-step_within (stage.Entry i at) old new before after host host_after le h = turn_within (stage.Entry i at) old new before after host host_after le h
-step_within (stage.Page i f frame) old new before after host host_after le h = turn_within (stage.Page i f frame) old new before after host host_after le h
-step_within (stage.Fill f (purpose.Back n)) old new before after host host_after le h = turn_within (stage.Fill f (purpose.Back n)) old new before after host host_after le h
-step_within (stage.Fill f purpose.Delivery) old new before after host host_after le h = led_within _ _ _ _ new host host_after le (answered_by (reads_filling f) _ host h.0)
-step_within (stage.Respond a i) old new before after host host_after le h = turn_within (stage.Respond a i) old new before after host host_after le h
-step_within (stage.Push at kind) old new before after host host_after le h = turn_within (stage.Push at kind) old new before after host host_after le h
-step_within (stage.Notice at kind) old new before after host host_after le h = turn_within (stage.Notice at kind) old new before after host host_after le h
-step_within (stage.Deliver producer) old new before after host host_after le h = led_within _ _ _ _ new host host_after le h.0
-step_within (stage.Wait pages) old new before after host host_after le h = led_within _ _ _ _ new host host_after le h.0
-step_within (stage.WaitLook pages) old new before after host host_after le h = led_within _ _ _ _ new host host_after le (answered_by 1 _ host h.0)
+  -- A step over C's host is one of its ops and lent words.
+  pub stepped_of : host.count ≡ 0 → Stepped went same old new host.words.now host_after.words.now host.ops.now host_after.ops.now host_after.count
+  stepped_of none =
+      let lent = host.words.now in
+      let lent_after = host_after.words.now in
+      let all = d.first ++ d.last ∷ [] in
+      let last = d.last.ask in
+      let g = old.engine.stage in
+      let wrote = wrote_all all host host_after put in
+      let did = did_of d.first d.last lent_after wrote.1 in
+      record {
+        first = asks_of d.first;
+        last = last;
+        said = said_of d.first d.last host host_after lent lent_after none put d.take_none d.stops d.sized wrote.0;
+        told = d.told;
+        within = pages_of d.first d.last (length old.engine.wires.owners) (d.within (held_all all host host_after put));
+        wires = d.wires;
+        flags = d.flags ∙ ap (λ l. flags_after g old.engine.work l old.engine.flags) answered.0 ∙ flags_same g old.engine.work lent old.engine.flags;
+        labels = d.labels;
+        history = d.history;
+        turn = λ s trace asked token.
+            let read = ap (λ l. read_by asked l) answered.0 ∙ read_same asked (reads_in g) _ lent token.waits in
+            let ran = map event_of d.labels in
+            subst (λ (t : List Event). TurnGoesOn new last s (trace ++ t)) (ap (λ r. r ++ (ran ++ events_of all)) read ∙ ap (λ e. read_by asked lent ++ (ran ++ e)) did) (d.turn s trace asked token);
+        delivery = λ s packet trace asked token.
+            let read = ap (λ l. read_by_some asked l) answered.0 ∙ some_same asked (reads_in g) _ lent token.0.waits in
+            let r = d.delivery s packet trace asked token in
+            (subst (λ (t : List Event). DeliveryGoesOn new last s packet (trace ++ t)) (ap (λ r. r ++ events_of all) read ∙ ap (λ e. read_by_some asked lent ++ e) did) r.0, r.1);
+        wait = λ s pages packet trace asked token.
+            let read = ap (λ l. read_by_some asked l) answered.0 ∙ some_same asked (reads_in g) _ lent token.0.waits in
+            let r = d.wait s pages packet trace asked token in
+            (subst (λ (t : List Event). WaitGoesOn new last s pages packet (trace ++ t)) (ap (λ r. r ++ events_of all) read ∙ ap (λ e. read_by_some asked lent ++ e) did) r.0, r.1);
+      }

@@ -1,6 +1,7 @@
 -- A host's loop ends: each step makes an access or gives a notice, or is the last.
 use Rattle.std.proofs.Common.{◌≡◌, ℕ, zero, suc, ◌+◌, ◌≤◌, true, List, [], ◌∷◌, ◌++◌, length, map, refl, sym, ap, ◌∙◌, subst, arith}
-use Rattle.std.specs.Prelude.{Option, None, Some, IsSome}
+use Rattle.std.specs.Prelude.{Option, None, Some, IsSome, replicate}
+use Rattle.std.proofs.lemmas.List.{length-replicate}
 use Rattle.std.proofs.lemmas.Bool.Decides.{nat_tests}
 use Rattle.xen_steps.specs.Drive.{Goes, IsPageWant, LedBy}
 use Rattle.xen_steps.specs.Event.{Event, Read, Write}
@@ -48,8 +49,15 @@ use Rattle.xen_host.specs.declared.op.Op.{Op}
 use Rattle.xen_host.specs.declared.queue.Queue.{Queue}
 use Rattle.xen_host.specs.declared.stage.Stage.{Stage}
 use Rattle.xen_host.specs.declared.stage.Stage.TheVariants as stage
-use Rattle.xen_host.proofs.QueueLemmas.{blank, blank_length}
 use Rattle.xen_host.proofs.WeightLemmas.{After, over, goes, IsAsked, IsSizedSome, weight, weight_append, owed, owed_some, paid, paid_some, asked_weighs, last_sized, step_few, few}
+
+-- words that a host lends
+blank : List ℕ
+blank = replicate 1024 0
+
+blank_length : length blank ≡ 1024
+unfolding blank
+blank_length = length-replicate {A = ℕ} 1024 0
 
 -- ---- a turn
 

@@ -1,9 +1,8 @@
 -- A step of a queue: what it is of goes on, and the queue stays as it has to be.
-use Rattle.std.proofs.Common.{◌≡◌, ℕ, ◌<◌, ◌≤◌, inl, inr, List, [], ◌++◌, length, take, map, refl, sym, ap, ◌∙◌, subst, arith, true}
+use Rattle.std.proofs.Common.{◌≡◌, ℕ, ◌<◌, ◌≤◌, inl, inr, List, [], ◌∷◌, ◌++◌, length, map, refl, sym, ap, ◌∙◌, subst, arith, true}
 use Rattle.std.specs.Prelude.{None, Option, Some, IsSome}
 use Rattle.bpf_maps.specs.Layout.{total}
-use Rattle.std.specs.Prelude.{◌^◌, Bool, replicate}
-use Rattle.std.proofs.lemmas.List.{length-replicate}
+use Rattle.std.specs.Prelude.{◌^◌, Bool}
 use Rattle.xen_steps.specs.Drive.{LedBy, IsPageWant}
 use Rattle.xen_steps.specs.Event.{Read}
 use Rattle.xen_steps.specs.Steps.{next}
@@ -19,7 +18,7 @@ use Rattle.xen_back.specs.declared.turn.Halt.{Halt}
 use Rattle.xen_back.specs.declared.wiring.Wiring.{Wiring}
 use Rattle.xen_back.proofs.ArriveLemmas.{arrives}
 use Rattle.xen_back.proofs.WaitLemmas.{wait_ends}
-use Rattle.xen_host.specs.Asks.{did_all, did_by}
+use Rattle.xen_host.specs.Asks.{Ask}
 use Rattle.xen_steps.proofs.FinishLemmas.{finishes_gone}
 use Rattle.xen_rx_fill.specs.Wired.{IsWired}
 use Rattle.xen_back.specs.Program.{event_of}
@@ -28,11 +27,14 @@ use Rattle.xen_back.specs.declared.state.State.{State}
 use Rattle.xen_host.specs.Completing.{Arriving, TaskCompletes, Waiting}
 use Rattle.xen_host.specs.Fed.{fed}
 use Rattle.xen_host.specs.Fits.{Fits}
-use Rattle.xen_host.specs.Led.{StepAt, TurnLed}
-use Rattle.xen_host.specs.Queues.{AreFew, HasBegun, HasStepped, IsBegun, IsUnderWay, IsWaitBegun, between, first_read, packet_in, packet_of, wiring}
+use Rattle.xen_host.specs.HostLed.{GoesOnAt, TurnLeads}
+use Rattle.xen_host.specs.Hosts.{events_of}
+use Rattle.xen_host.specs.Over.{BeginsOver, SteppedOver}
+use Rattle.xen_host.specs.Queues.{AreFew, AreFewAtSeat, IsBegun, IsUnderWay, IsWaitBegun, between, first_read, packet_in, packet_of, resting, wiring}
 use Rattle.xen_host.specs.Rest.{is_delivering, is_waiting, no_flags, reads_in, rest_in, rest_of_delivery, rest_of_wait}
 use Rattle.xen_host.specs.Wired.{vif_of, wiring_of}
 use Rattle.xen_host.specs.declared.engine.Engine.{Engine}
+use Rattle.bpf_note.specs.declared.op.Op.{Op as Operation}
 use Rattle.xen_host.specs.declared.op.Op.{Op}
 use Rattle.xen_host.specs.declared.queue.Queue.{Queue}
 use Rattle.xen_host.specs.declared.stage.Purpose.TheVariants as purpose
@@ -40,9 +42,8 @@ use Rattle.xen_host.specs.declared.stage.Stage.{Stage}
 use Rattle.xen_host.specs.declared.stage.Stage.TheVariants as stage
 use Rattle.xen_host.specs.declared.wires.OwnedWiring.{OwnedWiring}
 use Rattle.xen_host.specs.declared.work.Work.{Work}
-use Rattle.xen_host.proofs.EndLemmas.{delivery_ended, fed_delivery, fed_turn, fed_wait, reads_few, turn_ended, wait_ended}
-use Rattle.xen_host.proofs.StageLemmas.{AtTurn, Under, delivery, nothing, turn, under, wait}
-use Rattle.xen_host.proofs.StepLemmas.{AreSmall}
+use Rattle.xen_host.proofs.EndLemmas.{Ended, delivery_ended, fed_delivery, fed_turn, fed_wait, turn_ended, wait_ended}
+use Rattle.xen_host.proofs.StageLemmas.{AtDelivery, AtTurn, AtWait, Under, delivery, given_length, given_words, nothing, turn, under, wait}
 use Rattle.xen_host.proofs.ToldLemmas.{delivery_told, turn_told, wait_told}
 use Rattle.xen_host.proofs.TurnLemmas.{delivery_steps, turn_goes, turn_steps, wait_steps}
 
@@ -88,128 +89,183 @@ stands q = record { fits = q.fits; wired = q.wired; turns = q.turns; left = q.le
 wires_stand : (q : Queue) (w : OwnedWiring) → w ≡ q.engine.wires → IsWired (vif_of w) × TurnsComplete (wiring_of w)
 wires_stand q w e = subst (λ (x : OwnedWiring). IsWired (vif_of x) × TurnsComplete (wiring_of x)) (sym e) (q.wired, q.turns)
 
-module _ (old : Queue) (engine : Engine) (lent lent_after before after : List ℕ) (ops ops_after : List Op) (count : ℕ) (long : 1024 ≤ length lent) (same : length lent_after ≡ length lent) (small : AreSmall lent)
-    (led : StepAt old.engine.stage old.engine engine lent lent_after before after ops ops_after count) where
-  few : reads_in old.engine.stage ≤ length lent
-  few = omega (arith, reads_few old.engine.stage old.engine.work old.fits, long)
+module _ {H : Type 0} (was : H → Ask → List ℕ → H → Type 0) (full : H → Type 0) (gave : H → List ℕ → H → Type 0) (host host_after : H) (old : Queue) (engine : Engine) (went : List (Option Operation) → Type 0)
+    (led : GoesOnAt was full gave old.engine.stage old.engine engine went host host_after) where
+  -- after the run, what is left of a turn ends
+  from : (t : AtTurn was full gave old.engine.stage old.engine engine went host host_after) → Completes (wiring old) t.led.led.between
+  from t =
+      let e = old.engine in
+      let a = t.led in
+      finishes_gone (may_want (wiring old)) (fed (rest_in (wiring old) e.state e.stage e.work) a.words) a.led.between (map event_of a.led.ran.labels)
+      (fed_turn e.wires e.state e.stage e.work a.words (given_words gave _ host a.mid a.words a.given) (given_length gave _ host a.mid a.words a.given) t.turning old.left) a.led.ran.gone
 
-  long_after : 1024 ≤ length lent_after
-  long_after = omega (arith, same, long)
+  turn_end : (t : AtTurn was full gave old.engine.stage old.engine engine went host host_after) → Ended (length old.engine.wires.owners) engine (t.led.led.led.first ++ t.led.led.led.last ∷ [])
+  turn_end t = turn_ended old.engine.wires _ t.led.led.between engine t.led.led.led (from t)
 
-  module _ (t : AtTurn old.engine.stage old.engine engine lent lent_after before after ops ops_after count) where
-    from : Completes (wiring old) t.led.between
-    from =
-        let e = old.engine in
-        finishes_gone (may_want (wiring old)) (fed (rest_in (wiring old) e.state e.stage e.work) (take (reads_in e.stage) lent)) t.led.between (map event_of t.led.ran.labels)
-        (fed_turn e.wires e.state e.stage e.work lent small few t.turning old.left) t.led.ran.gone
+  delivery_end : (t : AtDelivery was full gave old.engine.stage old.engine engine went host host_after) → Ended (length old.engine.wires.owners) engine (t.led.led.first ++ t.led.led.last ∷ [])
+  delivery_end t =
+      let e = old.engine in
+      let a = t.led in
+      delivery_ended e.wires e.flags e.work.packet _ engine a.led (fed_delivery e.wires e.state e.stage e.work a.words (given_words gave _ host a.mid a.words a.given) (given_length gave _ host a.mid a.words a.given)
+      t.delivering (task_delivery e.wires e.state e.stage e.work t.delivering old.left))
+
+  wait_end : (t : AtWait was full gave old.engine.stage old.engine engine went host host_after) → Ended (length old.engine.wires.owners) engine (t.led.led.first ++ t.led.led.last ∷ [])
+  wait_end t =
+      let e = old.engine in
+      let a = t.led in
+      wait_ended e.wires e.flags e.work.packet _ engine a.led (fed_wait e.wires e.state e.stage a.words (given_words gave _ host a.mid a.words a.given) (given_length gave _ host a.mid a.words a.given)
+      t.waiting (task_wait e.wires e.state e.stage e.work t.waiting old.left))
 
   pub step_stands : Stands engine
-  step_stands = by (under old.engine.stage old.engine engine lent lent_after before after ops ops_after count led)
+  step_stands = by (under old.engine.stage old.engine engine went led)
     where
-      by : Under old.engine.stage old.engine engine lent lent_after before after ops ops_after count → Stands engine
-      by (nothing e h) = subst Stands (sym h.1) (stands old)
+      by : Under was full gave old.engine.stage old.engine engine went host host_after → Stands engine
+      by (nothing e h) = subst Stands (sym h.0) (stands old)
       by (turn t) =
+          let l = t.led.led.led in
+          let w = wires_stand old engine.wires l.wires in
+          record { fits = l.fits; wired = w.0; turns = w.1; left = (turn_end t).task }
+      by (delivery t) =
           let l = t.led.led in
           let w = wires_stand old engine.wires l.wires in
-          let r = turn_ended old.engine.wires _ t.led.between engine ops ops_after count lent lent_after long_after l (from t) in
-          record { fits = l.fits; wired = w.0; turns = w.1; left = r.task }
-      by (delivery t) =
-          let l = t.led in
-          let e = old.engine in
-          let w = wires_stand old engine.wires l.wires in
-          let r = delivery_ended e.wires e.flags e.work.packet _ engine ops ops_after count lent lent_after long_after l (fed_delivery e.wires e.state e.stage e.work lent small few t.delivering (task_delivery e.wires e.state e.stage e.work t.delivering old.left)) in
-          record { fits = l.fits; wired = w.0; turns = w.1; left = r.task }
+          record { fits = l.fits; wired = w.0; turns = w.1; left = (delivery_end t).task }
       by (wait t) =
-          let l = t.led in
-          let e = old.engine in
+          let l = t.led.led in
           let w = wires_stand old engine.wires l.wires in
-          let r = wait_ended e.wires e.flags e.work.packet _ engine ops ops_after count lent lent_after long_after l (fed_wait e.wires e.state e.stage lent small few t.waiting (task_wait e.wires e.state e.stage e.work t.waiting old.left)) in
-          record { fits = l.fits; wired = w.0; turns = w.1; left = r.task }
+          record { fits = l.fits; wired = w.0; turns = w.1; left = (wait_end t).task }
 
-  -- and what is under way goes on
-  pub stepped : (new : Queue) → new.engine ≡ engine → (old.engine.stage ≡ stage.Ready → ⊥) → HasStepped old new lent lent_after before after ops ops_after count
-  stepped new is busy = by (under old.engine.stage old.engine new.engine lent lent_after before after ops ops_after count (subst (λ (x : Engine). StepAt old.engine.stage old.engine x lent lent_after before after ops ops_after count) (sym is) led))
-    where
-      by : Under old.engine.stage old.engine new.engine lent lent_after before after ops ops_after count → HasStepped old new lent lent_after before after ops ops_after count
-      by (nothing e h) = absurd (busy e)
-      by (turn t) =
-          let l = t.led.led in
-          let e = old.engine in
-          let c = finishes_gone (may_want (wiring old)) (fed (rest_in (wiring old) e.state e.stage e.work) (take (reads_in e.stage) lent)) t.led.between (map event_of t.led.ran.labels)
-          (fed_turn e.wires e.state e.stage e.work lent small few t.turning old.left) t.led.ran.gone in
-          let r = turn_ended e.wires _ t.led.between new.engine ops ops_after count lent lent_after long_after l c in
-          record {
-            first = l.first;
-            last = l.last;
-            said = l.said;
-            told = turn_told old.engine.wires new.engine l.last l.left l.wires l.is_end;
-            within = r.inside;
-            wires = l.wires;
-            flags = l.flags_are;
-            labels = t.led.ran.labels;
-            history = t.led.ran.history;
-            turn = turn_steps old new _ lent lent_after before after ops ops_after count small few t.led;
-            delivery = λ s packet trace asked token. absurd (cc (token.0.is_here, t.not_delivering));
-            wait = λ s pages packet trace asked token. absurd (cc (token.0.is_here, t.not_waiting));
-          }
-      by (delivery t) =
-          let l = t.led in
-          let e = old.engine in
-          let r = delivery_ended e.wires e.flags e.work.packet _ new.engine ops ops_after count lent lent_after long_after l (fed_delivery e.wires e.state e.stage e.work lent small few t.delivering (task_delivery e.wires e.state e.stage e.work t.delivering old.left)) in
-          record {
-            first = l.first;
-            last = l.last;
-            said = l.said;
-            told = delivery_told e.wires e.work.packet new.engine l.last l.left l.wires l.is_end;
-            within = r.inside;
-            wires = l.wires;
-            flags = l.flags_are ∙ sym t.flags;
-            labels = [];
-            history = sym t.counters;
-            turn = λ s trace asked token. absurd (cc (token.is_here, t.not_turning));
-            delivery = λ s packet trace asked token. (delivery_steps old new e.flags lent lent_after ops ops_after count small few l s packet trace asked token, t.counters);
-            wait = λ s pages packet trace asked token. absurd (cc (token.0.is_here, t.not_waiting));
-          }
-      by (wait t) =
-          let l = t.led in
-          let e = old.engine in
-          let r = wait_ended e.wires e.flags e.work.packet _ new.engine ops ops_after count lent lent_after long_after l (fed_wait e.wires e.state e.stage lent small few t.waiting (task_wait e.wires e.state e.stage e.work t.waiting old.left)) in
-          record {
-            first = l.first;
-            last = l.last;
-            said = l.said;
-            told = wait_told e.wires e.work.packet new.engine l.last l.left l.wires l.is_end;
-            within = r.inside;
-            wires = l.wires;
-            flags = l.flags_are ∙ sym t.flags;
-            labels = [];
-            history = sym t.counters;
-            turn = λ s trace asked token. absurd (cc (token.is_here, t.not_turning));
-            delivery = λ s packet trace asked token. absurd (cc (token.0.is_here, t.not_delivering));
-            wait = λ s pages packet trace asked token. (wait_steps old new e.flags lent lent_after ops ops_after count small few l s pages packet trace asked token, t.counters);
-          }
+-- and what is under way goes on
+pub stepped : {H : Type 0} {was : H → Ask → List ℕ → H → Type 0} {full : H → Type 0} {gave : H → List ℕ → H → Type 0} {host host_after : H} (old new : Queue) (went : List (Option Operation) → Type 0) (same : Type 0) → (went [] → same) →
+    GoesOnAt was full gave old.engine.stage old.engine new.engine went host host_after → (old.engine.stage ≡ stage.Ready → ⊥) → SteppedOver was full gave went same old new host host_after
+stepped {was = was} {full = full} {gave = gave} {host = host} {host_after = host_after} old new went same none led busy = by (under old.engine.stage old.engine new.engine went led)
+  where
+    by : Under was full gave old.engine.stage old.engine new.engine went host host_after → SteppedOver was full gave went same old new host host_after
+    by (nothing e h) = absurd (busy e)
+    by (turn t) =
+        let a = t.led in
+        let l = a.led.led in
+        record {
+          words = a.words;
+          mid = a.mid;
+          given = a.given;
+          first = l.first;
+          last = l.last;
+          asked = l.asked;
+          take_none = l.take_none;
+          stops = l.stops;
+          sized = l.sized;
+          told = turn_told old.engine.wires new.engine l.last.ask l.left l.wires l.is_end;
+          within = (turn_end was full gave host host_after old new.engine went led t).inside;
+          wires = l.wires;
+          flags = l.flags_are;
+          labels = a.led.ran.labels;
+          history = a.led.ran.history;
+          turn = turn_steps old new _ a.words went (given_words gave _ host a.mid a.words a.given) (given_length gave _ host a.mid a.words a.given) a.led;
+          delivery = λ s packet trace asked token. absurd (cc (token.0.is_here, t.not_delivering));
+          wait = λ s pages packet trace asked token. absurd (cc (token.0.is_here, t.not_waiting));
+        }
+    by (delivery t) =
+        let a = t.led in
+        let l = a.led in
+        record {
+          words = a.words;
+          mid = a.mid;
+          given = a.given;
+          first = l.first;
+          last = l.last;
+          asked = l.asked;
+          take_none = l.take_none;
+          stops = l.stops;
+          sized = l.sized;
+          told = delivery_told old.engine.wires old.engine.work.packet new.engine l.last.ask l.left l.wires l.is_end;
+          within = (delivery_end was full gave host host_after old new.engine went led t).inside;
+          wires = l.wires;
+          flags = l.flags_are ∙ sym (t.flags a.words);
+          labels = [];
+          history = t.counters;
+          turn = λ s trace asked token. absurd (cc (token.is_here, t.not_turning));
+          delivery = λ s packet trace asked token.
+              (delivery_steps old new old.engine.flags a.words (given_words gave _ host a.mid a.words a.given) (given_length gave _ host a.mid a.words a.given) l s packet trace asked token, none t.counters);
+          wait = λ s pages packet trace asked token. absurd (cc (token.0.is_here, t.not_waiting));
+        }
+    by (wait t) =
+        let a = t.led in
+        let l = a.led in
+        record {
+          words = a.words;
+          mid = a.mid;
+          given = a.given;
+          first = l.first;
+          last = l.last;
+          asked = l.asked;
+          take_none = l.take_none;
+          stops = l.stops;
+          sized = l.sized;
+          told = wait_told old.engine.wires old.engine.work.packet new.engine l.last.ask l.left l.wires l.is_end;
+          within = (wait_end was full gave host host_after old new.engine went led t).inside;
+          wires = l.wires;
+          flags = l.flags_are ∙ sym (t.flags a.words);
+          labels = [];
+          history = t.counters;
+          turn = λ s trace asked token. absurd (cc (token.is_here, t.not_turning));
+          delivery = λ s packet trace asked token. absurd (cc (token.0.is_here, t.not_delivering));
+          wait = λ s pages packet trace asked token.
+              (wait_steps old new old.engine.flags a.words (given_words gave _ host a.mid a.words a.given) (given_length gave _ host a.mid a.words a.given) l s pages packet trace asked token, none t.counters);
+        }
+
+-- what is known of its operations, and of a step without one, in other words
+pub stepped_also : {H : Type 0} {was : H → Ask → List ℕ → H → Type 0} {full : H → Type 0} {gave : H → List ℕ → H → Type 0} {host host_after : H} {went : List (Option Operation) → Type 0} {same : Type 0} {old new : Queue} (also : List (Option Operation) → Type 0) (also_same : Type 0) →
+    ((labels : List (Option Operation)) → went labels → also labels) → (same → also_same) → SteppedOver was full gave went same old new host host_after → SteppedOver was full gave also also_same old new host host_after
+stepped_also also also_same f h d = record {
+  words = d.words;
+  mid = d.mid;
+  given = d.given;
+  first = d.first;
+  last = d.last;
+  asked = d.asked;
+  take_none = d.take_none;
+  stops = d.stops;
+  sized = d.sized;
+  told = d.told;
+  within = d.within;
+  wires = d.wires;
+  flags = d.flags;
+  labels = d.labels;
+  history = f d.labels d.history;
+  turn = d.turn;
+  delivery = λ s packet trace asked token. let r = d.delivery s packet trace asked token in (r.0, h r.1);
+  wait = λ s pages packet trace asked token. let r = d.wait s pages packet trace asked token in (r.0, h r.1);
+}
 
 -- ---- what is enough
 
-rests_ready : (s : State) (g : Stage) → IsSome (between s g) → g ≡ stage.Ready
-rests_ready s stage.Ready h = refl
-rests_ready s stage.Announce h = cc h
-rests_ready s (stage.Slot left) h = cc h
-rests_ready s (stage.Entry i at) h = cc h
-rests_ready s (stage.Page i f frame) h = cc h
-rests_ready s (stage.Fill f p) h = cc h
-rests_ready s (stage.Respond a i) h = cc h
-rests_ready s (stage.Push at kind) h = cc h
-rests_ready s (stage.Notice at kind) h = cc h
-rests_ready s (stage.Deliver producer) h = cc h
-rests_ready s (stage.Wait pages) h = cc h
-rests_ready s (stage.WaitLook pages) h = cc h
+pub busy_at : (s : State) (g : Stage) → (g ≡ stage.Ready → ⊥) → between s g ≡ None
+busy_at s stage.Ready h = absurd (h refl)
+busy_at s stage.Announce h = refl
+busy_at s (stage.Slot left) h = refl
+busy_at s (stage.Entry i at) h = refl
+busy_at s (stage.Page i f frame) h = refl
+busy_at s (stage.Fill f p) h = refl
+busy_at s (stage.Respond a i) h = refl
+busy_at s (stage.Push at kind) h = refl
+busy_at s (stage.Notice at kind) h = refl
+busy_at s (stage.Deliver producer) h = refl
+busy_at s (stage.Wait pages) h = refl
+busy_at s (stage.WaitLook pages) h = refl
 
-pub not_few : (q : Queue) (words counters : List ℕ) (ops : List Op) → 1024 ≤ length words → total q.engine.wires.program.shapes ≤ length counters → 1 ≤ length ops → (q.engine.stage ≡ stage.Ready → ⊥) → AreFew q words counters ops → ⊥
+pub not_ready : (q : Queue) → resting q ≡ None → q.engine.stage ≡ stage.Ready → ⊥
+not_ready q busy e = let rests = ap (λ (g : Stage). between q.engine.state g) e in cc (busy, rests)
+
+pub not_few_at_seat : (q : Queue) (words : List ℕ) (ops : List Op) → 1024 ≤ length words → 1 ≤ length ops → resting q ≡ None → AreFewAtSeat q words ops → ⊥
+not_few_at_seat q words ops a c d (inl h) = absurd (omega (arith, a, h))
+not_few_at_seat q words ops a c d (inr (inl h)) = absurd (omega (arith, c, h))
+not_few_at_seat q words ops a c d (inr (inr h)) = let none = subst (λ (o : Option State). IsSome o) d h in cc none
+
+pub not_few : (q : Queue) (words counters : List ℕ) (ops : List Op) → 1024 ≤ length words → total q.engine.wires.program.shapes ≤ length counters → 1 ≤ length ops → resting q ≡ None → AreFew q words counters ops → ⊥
 not_few q words counters ops a b c d (inl h) = absurd (omega (arith, a, h))
 not_few q words counters ops a b c d (inr (inl h)) = absurd (omega (arith, b, h))
 not_few q words counters ops a b c d (inr (inr (inl h))) = absurd (omega (arith, c, h))
-not_few q words counters ops a b c d (inr (inr (inr h))) = d (rests_ready q.engine.state q.engine.stage h)
+not_few q words counters ops a b c d (inr (inr (inr h))) = let none = subst (λ (o : Option State). IsSome o) d h in cc none
 
 -- ---- what begins
 
@@ -221,49 +277,44 @@ first_led w s producer small o e =
     by None = (next (turn_by w s None) producer, (producer, (small, refl), refl), refl)
     by (Some cause) = refl
 
-pub begun : (old new : Queue) (producer : ℕ) (ops ops_after : List Op) (count : ℕ) → producer < 2 ^ 32 →
-    ((lent : List ℕ) → TurnLed old.engine.wires no_flags (next (whole_turn (wiring old) old.engine.state) producer) new.engine ops ops_after count lent lent) → HasBegun old new producer ops ops_after count
-begun old new producer ops ops_after count small led lent long =
-    let l = led lent in
+module _ {H : Type 0} {was : H → Ask → List ℕ → H → Type 0} {full : H → Type 0} {host host_after : H} (old : Queue) (engine : Engine) (producer : ℕ) (small : producer < 2 ^ 32)
+    (l : TurnLeads was full old.engine.wires no_flags (next (whole_turn (wiring old) old.engine.state) producer) engine host host_after) where
+  -- what is left of a turn that begins ends
+  begins : Ended (length old.engine.wires.owners) engine (l.first ++ l.last ∷ [])
+  begins =
+      let w = wiring old in
+      let s = old.engine.state in
+      let whole = whole_turn w s in
+      let c = finishes_gone (may_want w) whole (next whole producer) (first_read s.halt (Read (tx_word w.vif 0) producer)) (old.turns s) (first_led w s producer small s.halt refl) in
+      turn_ended old.engine.wires no_flags (next whole producer) engine l c
+
+  pub begun_stands : Stands engine
+  begun_stands =
+      let x = wires_stand old engine.wires l.wires in
+      record { fits = l.fits; wired = x.0; turns = x.1; left = begins.task }
+
+pub begun : {H : Type 0} {was : H → Ask → List ℕ → H → Type 0} {full : H → Type 0} {host host_after : H} (old new : Queue) (producer : ℕ) → producer < 2 ^ 32 →
+    TurnLeads was full old.engine.wires no_flags (next (whole_turn (wiring old) old.engine.state) producer) new.engine host host_after → BeginsOver was full old new producer host host_after
+begun old new producer small l =
     let w = wiring old in
     let s = old.engine.state in
     let whole = whole_turn w s in
     let reads = first_read s.halt (Read (tx_word w.vif 0) producer) in
-    let did = did_all l.first lent ++ did_by l.last lent in
-    let first = first_led w s producer small s.halt refl in
-    let c = finishes_gone (may_want w) whole (next whole producer) reads (old.turns s) first in
-    let r = turn_ended old.engine.wires no_flags (next whole producer) new.engine ops ops_after count lent lent long l c in
-    let g = gone_append whole (next whole producer) l.left reads did first l.gone in
+    let did = events_of (l.first ++ l.last ∷ []) in
+    let g = gone_append whole (next whole producer) l.left reads did (first_led w s producer small s.halt refl) l.gone in
     record {
       first = l.first;
       last = l.last;
-      said = l.said;
-      told = turn_told old.engine.wires new.engine l.last l.left l.wires l.is_end;
-      within = r.inside;
+      asked = l.asked;
+      take_none = l.take_none;
+      stops = l.stops;
+      sized = l.sized;
+      told = turn_told old.engine.wires new.engine l.last.ask l.left l.wires l.is_end;
+      within = (begins old new.engine producer small l).inside;
       wires = l.wires;
       flags = l.flags_are;
-      turn = turn_goes new s (reads ++ did) l.last l.left (subst (λ (x : OwnedWiring). LedBy (whole_turn (wiring_of x) s) (reads ++ did) l.left) (sym l.wires) g) l.is_end;
+      turn = turn_goes new s (reads ++ did) l.last.ask l.left (subst (λ (x : OwnedWiring). LedBy (whole_turn (wiring_of x) s) (reads ++ did) l.left) (sym l.wires) g) l.is_end;
     }
-
-pub blank : List ℕ
-blank = replicate 1024 0
-
-pub blank_length : length blank ≡ 1024
-unfolding blank
-blank_length = length-replicate {A = ℕ} 1024 0
-
-pub begun_stands : (old : Queue) (engine : Engine) (producer : ℕ) (ops ops_after : List Op) (count : ℕ) → producer < 2 ^ 32 →
-    ((lent : List ℕ) → TurnLed old.engine.wires no_flags (next (whole_turn (wiring old) old.engine.state) producer) engine ops ops_after count lent lent) → Stands engine
-begun_stands old engine producer ops ops_after count small led =
-    let l = led blank in
-    let w = wiring old in
-    let s = old.engine.state in
-    let whole = whole_turn w s in
-    let reads = first_read s.halt (Read (tx_word w.vif 0) producer) in
-    let c = finishes_gone (may_want w) whole (next whole producer) reads (old.turns s) (first_led w s producer small s.halt refl) in
-    let r = turn_ended old.engine.wires no_flags (next whole producer) engine ops ops_after count blank blank (omega (arith, blank_length)) l c in
-    let x = wires_stand old engine.wires l.wires in
-    record { fits = l.fits; wired = x.0; turns = x.1; left = r.task }
 
 delivery_led : (w : Vif) (s : State) (packet : List ℕ) (producer : ℕ) → producer < 2 ^ 32 → is_frame packet ≡ true → LedBy (whole_delivery w s packet) (first_read s.halt (Read (rx_word w 0) producer)) (next (delivery_by w s packet s.halt) producer)
 delivery_led w s packet producer small frame =

@@ -1,19 +1,21 @@
 -- A step from a stage, by what is under way there.
-use Rattle.std.proofs.Common.{◌≡◌, ℕ, zero, suc, List, [], ◌∷◌, length, take, refl, sym, ap, subst, true, false}
+use Rattle.std.proofs.Common.{◌≡◌, ℕ, zero, suc, List, [], ◌∷◌, length, refl, sym, ap, subst, true, false}
+use Rattle.std.specs.Prelude.{Option}
+use Rattle.bpf_note.specs.declared.op.Op.{Op as Operation}
 use Rattle.xen_page.specs.Mapping.{frame_place}
 use Rattle.xen_page.specs.declared.place.Place.{Place}
+use Rattle.xen_steps.specs.Pages.{AreWords}
 use Rattle.xen_steps.specs.Steps.{Steps, ask, bind, done, never}
 use Rattle.xen_rx_fill.specs.declared.by_event.phase.Outcome.{Outcome}
 use Rattle.xen_back.specs.Deliveries.{arrived}
 use Rattle.xen_back.specs.Tree.{after_transmit}
 use Rattle.xen_host.specs.Fed.{AsksReads, fed}
 use Rattle.xen_host.specs.Asks.{Ask}
-use Rattle.xen_host.specs.HostLed.{FillGoesOn, GoesOnAt, WasGiven}
-use Rattle.xen_host.specs.Led.{DeliveryLed, StepAt, TurnRanLed, WaitLed}
+use Rattle.xen_host.specs.HostLed.{AfterAnswer, DeliveryLeads, FillGoesOn, GoesOnAt, TurnRanLeads, WaitLeads}
+use Rattle.xen_host.specs.Hosts.{WasGiven}
 use Rattle.xen_host.specs.Rest.{flags_after, is_delivering, is_turning, is_waiting, reads_filling, reads_in, rest_filling, rest_in, rest_of_delivery, rest_of_wait}
 use Rattle.xen_host.specs.Wired.{vif_of, wiring_of}
 use Rattle.xen_host.specs.declared.engine.Engine.{Engine}
-use Rattle.xen_host.specs.declared.op.Op.{Op}
 use Rattle.xen_host.specs.declared.stage.Fill.{Fill}
 use Rattle.xen_host.specs.declared.stage.Purpose.{Purpose}
 use Rattle.xen_host.specs.declared.stage.Purpose.TheVariants as purpose
@@ -37,69 +39,80 @@ fed_fill q f then words e =
     let r = reads_of_fill (vif_of q.wires) q.state.rx_index f q.work in
     sym (fed_bind r.0 s then words (subst (λ k. AsksReads r.0 k s) (sym e) r.1))
 
-given_length : {H : Type 0} (gave : H → List ℕ → H → Type 0) (n : ℕ) (host mid : H) (words : List ℕ) → WasGiven gave n host words mid → length words ≡ n
+pub given_length : {H : Type 0} (gave : H → List ℕ → H → Type 0) (n : ℕ) (host mid : H) (words : List ℕ) → WasGiven gave n host words mid → length words ≡ n
 given_length gave zero host mid words g = ap (λ (l : List ℕ). length l) g.0
 given_length gave (suc n) host mid words g = g.0
 
-pub fill_goes : {H : Type 0} (was : H → Ask → List ℕ → H → Type 0) (full : H → Type 0) (gave : H → List ℕ → H → Type 0) (f : Fill) (p : Purpose) (old new : Engine) (counters : List ℕ) (host host_after : H) →
-    FillGoesOn was full gave f p old new host host_after → GoesOnAt was full gave (stage.Fill f p) old new counters counters host host_after
-fill_goes was full gave f (purpose.Back n) old new counters host host_after h = record {
+pub fill_goes : {H : Type 0} (was : H → Ask → List ℕ → H → Type 0) (full : H → Type 0) (gave : H → List ℕ → H → Type 0) (f : Fill) (p : Purpose) (old new : Engine) (went : List (Option Operation) → Type 0) (host host_after : H) → went [] →
+    FillGoesOn was full gave f p old new host host_after → GoesOnAt was full gave (stage.Fill f p) old new went host host_after
+fill_goes was full gave f (purpose.Back n) old new went host host_after none h = record {
   words = h.words;
   mid = h.mid;
   given = h.given;
-  led = ran_led _ _ _ _ _ _ _ _ _ _ (fed_fill old f (after_transmit (wiring_of old.wires) old.state old.work.chain old.work.packet n) h.words (given_length gave _ host h.mid h.words h.given)) h.led;
+  led = ran_led _ _ _ _ _ _ _ _ _ _ none (fed_fill old f (after_transmit (wiring_of old.wires) old.state old.work.chain old.work.packet n) h.words (given_length gave _ host h.mid h.words h.given)) h.led;
 }
-fill_goes was full gave f purpose.Delivery old new counters host host_after h = (
+fill_goes was full gave f purpose.Delivery old new went host host_after none h = (
   record {
     words = h.words;
     mid = h.mid;
     given = h.given;
     led = asked_from _ _ _ _ _ _ _ _ _ _ (fed_fill old f (arrived old.state) h.words (given_length gave _ host h.mid h.words h.given)) h.led;
   },
-  refl,
+  none,
 )
+
+pub given_words : {H : Type 0} (gave : H → List ℕ → H → Type 0) (n : ℕ) (host mid : H) (words : List ℕ) → WasGiven gave n host words mid → AreWords words
+given_words gave zero host mid words g = subst (λ (l : List ℕ). AreWords l) (sym g.0) tt
+given_words gave (suc n) host mid words g = g.2
 
 -- ---- what is under way at a stage
 
-pub record AtTurn (g : Stage) (old new : Engine) (lent lent_after before after : List ℕ) (ops ops_after : List Op) (count : ℕ) : Type 0 where
-  pub turning : is_turning g ≡ true
-  pub not_delivering : is_delivering g ≡ false
-  pub not_waiting : is_waiting g ≡ false
-  pub led : TurnRanLed old.wires (flags_after g old.work lent old.flags) (fed (rest_in (wiring_of old.wires) old.state g old.work) (take (reads_in g) lent)) new before after ops ops_after count lent lent_after
+-- What is under way at a stage, and what is asked after the words that it waits for.
+module _ {H : Type 0} (was : H → Ask → List ℕ → H → Type 0) (full : H → Type 0) (gave : H → List ℕ → H → Type 0) (g : Stage) (old new : Engine) (went : List (Option Operation) → Type 0) (host host_after : H) where
+  pub record AtTurn : Type 0 where
+    pub turning : is_turning g ≡ true
+    pub not_delivering : is_delivering g ≡ false
+    pub not_waiting : is_waiting g ≡ false
+    pub led : AfterAnswer gave (reads_in g) (λ words mid. TurnRanLeads was full old.wires (flags_after g old.work words old.flags) (fed (rest_in (wiring_of old.wires) old.state g old.work) words) new went mid host_after) host
 
-pub record AtDelivery (g : Stage) (old new : Engine) (lent lent_after before after : List ℕ) (ops ops_after : List Op) (count : ℕ) : Type 0 where
-  pub not_turning : is_turning g ≡ false
-  pub delivering : is_delivering g ≡ true
-  pub not_waiting : is_waiting g ≡ false
-  pub flags : flags_after g old.work lent old.flags ≡ old.flags
-  pub led : DeliveryLed old.wires old.flags old.work.packet (fed (rest_of_delivery (vif_of old.wires) old.state g old.work) (take (reads_in g) lent)) new ops ops_after count lent lent_after
-  pub counters : after ≡ before
+  pub record AtDelivery : Type 0 where
+    pub not_turning : is_turning g ≡ false
+    pub delivering : is_delivering g ≡ true
+    pub not_waiting : is_waiting g ≡ false
+    pub flags : (words : List ℕ) → flags_after g old.work words old.flags ≡ old.flags
+    pub led : AfterAnswer gave (reads_in g) (λ words mid. DeliveryLeads was full old.wires old.flags old.work.packet (fed (rest_of_delivery (vif_of old.wires) old.state g old.work) words) new mid host_after) host
+    pub counters : went []
 
-pub record AtWait (g : Stage) (old new : Engine) (lent lent_after before after : List ℕ) (ops ops_after : List Op) (count : ℕ) : Type 0 where
-  pub not_turning : is_turning g ≡ false
-  pub not_delivering : is_delivering g ≡ false
-  pub waiting : is_waiting g ≡ true
-  pub flags : flags_after g old.work lent old.flags ≡ old.flags
-  pub led : WaitLed old.wires old.flags old.work.packet (fed (rest_of_wait old.wires.rx old.state g) (take (reads_in g) lent)) new ops ops_after count lent lent_after
-  pub counters : after ≡ before
+  pub record AtWait : Type 0 where
+    pub not_turning : is_turning g ≡ false
+    pub not_delivering : is_delivering g ≡ false
+    pub waiting : is_waiting g ≡ true
+    pub flags : (words : List ℕ) → flags_after g old.work words old.flags ≡ old.flags
+    pub led : AfterAnswer gave (reads_in g) (λ words mid. WaitLeads was full old.wires old.flags old.work.packet (fed (rest_of_wait old.wires.rx old.state g) words) new mid host_after) host
+    pub counters : went []
 
-pub data Under (g : Stage) (old new : Engine) (lent lent_after before after : List ℕ) (ops ops_after : List Op) (count : ℕ) : Type 0 where
-  nothing : g ≡ stage.Ready → StepAt stage.Ready old new lent lent_after before after ops ops_after count → Under g old new lent lent_after before after ops ops_after count
-  turn : AtTurn g old new lent lent_after before after ops ops_after count → Under g old new lent lent_after before after ops ops_after count
-  delivery : AtDelivery g old new lent lent_after before after ops ops_after count → Under g old new lent lent_after before after ops ops_after count
-  wait : AtWait g old new lent lent_after before after ops ops_after count → Under g old new lent lent_after before after ops ops_after count
+  pub data Under : Type 0 where
+    nothing : g ≡ stage.Ready → (new ≡ old) × (host_after ≡ host) × went [] → Under
+    turn : AtTurn → Under
+    delivery : AtDelivery → Under
+    wait : AtWait → Under
 
-pub under : (g : Stage) (old new : Engine) (lent lent_after before after : List ℕ) (ops ops_after : List Op) (count : ℕ) → StepAt g old new lent lent_after before after ops ops_after count → Under g old new lent lent_after before after ops ops_after count
-under stage.Ready old new lent lent_after before after ops ops_after count h = nothing refl h
-under stage.Announce old new lent lent_after before after ops ops_after count h = turn (record { turning = refl; not_delivering = refl; not_waiting = refl; led = h })
-under (stage.Slot left) old new lent lent_after before after ops ops_after count h = turn (record { turning = refl; not_delivering = refl; not_waiting = refl; led = h })
-under (stage.Entry i at) old new lent lent_after before after ops ops_after count h = turn (record { turning = refl; not_delivering = refl; not_waiting = refl; led = h })
-under (stage.Page i f frame) old new lent lent_after before after ops ops_after count h = turn (record { turning = refl; not_delivering = refl; not_waiting = refl; led = h })
-under (stage.Fill f (purpose.Back n)) old new lent lent_after before after ops ops_after count h = turn (record { turning = refl; not_delivering = refl; not_waiting = refl; led = h })
-under (stage.Fill f purpose.Delivery) old new lent lent_after before after ops ops_after count h = delivery (record { not_turning = refl; delivering = refl; not_waiting = refl; flags = refl; led = h.0; counters = h.1 })
-under (stage.Respond a i) old new lent lent_after before after ops ops_after count h = turn (record { turning = refl; not_delivering = refl; not_waiting = refl; led = h })
-under (stage.Push at kind) old new lent lent_after before after ops ops_after count h = turn (record { turning = refl; not_delivering = refl; not_waiting = refl; led = h })
-under (stage.Notice at kind) old new lent lent_after before after ops ops_after count h = turn (record { turning = refl; not_delivering = refl; not_waiting = refl; led = h })
-under (stage.Deliver producer) old new lent lent_after before after ops ops_after count h = delivery (record { not_turning = refl; delivering = refl; not_waiting = refl; flags = refl; led = h.0; counters = h.1 })
-under (stage.Wait pages) old new lent lent_after before after ops ops_after count h = wait (record { not_turning = refl; not_delivering = refl; waiting = refl; flags = refl; led = h.0; counters = h.1 })
-under (stage.WaitLook pages) old new lent lent_after before after ops ops_after count h = wait (record { not_turning = refl; not_delivering = refl; waiting = refl; flags = refl; led = h.0; counters = h.1 })
+-- Nothing was waited for.
+unanswered : {H : Type 0} {gave : H → List ℕ → H → Type 0} (then : List ℕ → H → Type 0) (host : H) → then [] host → AfterAnswer gave 0 then host
+unanswered then host h = record { words = []; mid = host; given = (refl, refl); led = h }
+
+pub under : {H : Type 0} {was : H → Ask → List ℕ → H → Type 0} {full : H → Type 0} {gave : H → List ℕ → H → Type 0} {host host_after : H} (g : Stage) (old new : Engine) (went : List (Option Operation) → Type 0) →
+    GoesOnAt was full gave g old new went host host_after → Under was full gave g old new went host host_after
+under stage.Ready old new went h = nothing refl h
+under stage.Announce old new went h = turn (record { turning = refl; not_delivering = refl; not_waiting = refl; led = h })
+under (stage.Slot left) old new went h = turn (record { turning = refl; not_delivering = refl; not_waiting = refl; led = h })
+under (stage.Entry i at) old new went h = turn (record { turning = refl; not_delivering = refl; not_waiting = refl; led = h })
+under (stage.Page i f frame) old new went h = turn (record { turning = refl; not_delivering = refl; not_waiting = refl; led = h })
+under (stage.Fill f (purpose.Back n)) old new went h = turn (record { turning = refl; not_delivering = refl; not_waiting = refl; led = h })
+under (stage.Fill f purpose.Delivery) old new went h = delivery (record { not_turning = refl; delivering = refl; not_waiting = refl; flags = λ words. refl; led = h.0; counters = h.1 })
+under (stage.Respond a i) old new went h = turn (record { turning = refl; not_delivering = refl; not_waiting = refl; led = h })
+under (stage.Push at kind) old new went h = turn (record { turning = refl; not_delivering = refl; not_waiting = refl; led = h })
+under (stage.Notice at kind) old new went h = turn (record { turning = refl; not_delivering = refl; not_waiting = refl; led = h })
+under {host = host} (stage.Deliver producer) old new went h = delivery (record { not_turning = refl; delivering = refl; not_waiting = refl; flags = λ words. refl; led = unanswered _ host h.0; counters = h.1 })
+under {host = host} (stage.Wait pages) old new went h = wait (record { not_turning = refl; not_delivering = refl; waiting = refl; flags = λ words. refl; led = unanswered _ host h.0; counters = h.1 })
+under (stage.WaitLook pages) old new went h = wait (record { not_turning = refl; not_delivering = refl; waiting = refl; flags = λ words. refl; led = h.0; counters = h.1 })

@@ -1,13 +1,12 @@
 -- What was asked and answered as events, and where it lies.
-use Rattle.std.proofs.Common.{◌≡◌, ℕ, zero, suc, ◌+◌, ◌<◌, ◌≤◌, ◌^◌, true, append_assoc, List, [], ◌∷◌, ◌++◌, length, take, refl, sym, arith, subst}
-use Rattle.std.specs.Prelude.{slice_index}
-use Rattle.std.proofs.lemmas.List.{length-take}
+use Rattle.std.proofs.Common.{◌≡◌, ℕ, zero, suc, ◌+◌, ◌<◌, ◌≤◌, true, append-nil, List, [], ◌∷◌, ◌++◌, length, take, refl, sym, ap, ◌∙◌, arith, subst}
 use Rattle.bpf_note.specs.Shape.{Shape}
 use Rattle.xen_page.specs.Mapping.{frame_place}
 use Rattle.xen_page.specs.declared.place.Place.{Place}
 use Rattle.xen_steps.specs.Drive.{LedBy, Goes, IsPageWant}
 use Rattle.xen_steps.specs.Event.{Event, Occurs, Read, Write}
 use Rattle.xen_steps.specs.Finish.{Finishes}
+use Rattle.xen_steps.specs.Pages.{AreWords}
 use Rattle.xen_steps.specs.Places.{page_word}
 use Rattle.xen_steps.specs.Steps.{Steps, next, want_of}
 use Rattle.xen_steps.specs.declared.want.Want.{Want}
@@ -15,49 +14,49 @@ use Rattle.xen_steps.specs.declared.want.Want.TheVariants as want
 use Rattle.xen_steps.proofs.DriveLemmas.{occurs_read}
 use Rattle.xen_steps.proofs.FinishLemmas.{finishes_gone, finishes_next, finishes_want}
 use Rattle.xen_back.specs.Within.{IsWithin}
-use Rattle.xen_host.specs.Asks.{AllInPages, AllSized, Ask, IsInPages, IsSized, TakeNone, did_all, did_by, read_by, reads_at, takes_none, writes_at}
+use Rattle.xen_host.specs.Asks.{AllInPages, AllSized, Ask, IsInPages, IsSized, TakeNone, did_by, read_by, reads_at, takes_none, writes_at}
 use Rattle.xen_host.specs.Asks as ask
+use Rattle.xen_host.specs.Buses.{IsHeld}
 use Rattle.xen_host.specs.Fed.{AsksReads, WaitsFor, fed}
+use Rattle.xen_host.specs.Hosts.{Asked, asks_of, events_of}
+use Rattle.xen_host.specs.Over.{AllHeld}
+use Rattle.xen_host.proofs.HostLedLemmas.{gone_split}
 
-abbrev pub AreSmall : List ℕ → Type 0
-AreSmall lent = (i : ℕ) → slice_index lent i < 2 ^ 32
-
-small_tail : (v : ℕ) (vs : List ℕ) → AreSmall (v ∷ vs) → AreSmall vs
-small_tail v vs h i = h (suc i)
-
-small_take : (n : ℕ) (lent : List ℕ) → AreSmall lent → AreSmall (take n lent)
-small_take zero lent h i = omega arith
-small_take (suc n) [] h i = h i
-small_take (suc n) (v ∷ vs) h zero = h zero
-small_take (suc n) (v ∷ vs) h (suc i) = small_take n vs (small_tail v vs h) i
+-- as many as there are
+pub take_all : (n : ℕ) (words : List ℕ) → length words ≡ n → take n words ≡ words
+take_all zero [] e = refl
+take_all zero (v ∷ vs) e = absurd (omega (arith, e))
+take_all (suc n) [] e = refl
+take_all (suc n) (v ∷ vs) e = ap (λ l. v ∷ l) (take_all n vs (omega (arith, e)))
 
 -- words that were read
-reads_led : {A : Type 0} (s : Steps A) (at : Place) (vs : List ℕ) → AreSmall vs → AsksReads at (length vs) s → LedBy s (reads_at at vs) (fed s vs)
+reads_led : {A : Type 0} (s : Steps A) (at : Place) (vs : List ℕ) → AreWords vs → AsksReads at (length vs) s → LedBy s (reads_at at vs) (fed s vs)
 reads_led s at [] b a = refl
-reads_led s at (v ∷ vs) b a = (next s v, (v, occurs_read (want_of s) at v a.0 (b zero), refl), reads_led (next s v) (frame_place at) vs (small_tail v vs b) (a.1 v))
+reads_led s at (v ∷ vs) b a = (next s v, (v, occurs_read (want_of s) at v a.0 b.0, refl), reads_led (next s v) (frame_place at) vs b.1 (a.1 v))
 
-pub read_led : {A : Type 0} (s : Steps A) (at : Place) (n : ℕ) (lent : List ℕ) → AreSmall lent → n ≤ length lent → AsksReads at n s → LedBy s (reads_at at (take n lent)) (fed s (take n lent))
-read_led s at n lent b l a =
-    let e : length (take n lent) ≡ n = omega (arith, length-take n lent, l) in
-    reads_led s at (take n lent) (small_take n lent b) (subst (λ k. AsksReads at k s) (sym e) a)
+pub read_led : {A : Type 0} (s : Steps A) (at : Place) (n : ℕ) (words : List ℕ) → AreWords words → length words ≡ n → AsksReads at n s → LedBy s (reads_at at words) (fed s words)
+read_led s at n words b e a = reads_led s at words b (subst (λ k. AsksReads at k s) (sym e) a)
 
-none_led : {A : Type 0} (s : Steps A) (n : ℕ) (lent : List ℕ) → n ≡ 0 → LedBy s [] (fed s (take n lent))
-none_led {A = A} s n lent e = subst (λ k. LedBy {A = A} s [] (fed s (take k lent))) (sym e) refl
+-- The first of them are all.
+first_led : {A : Type 0} (s : Steps A) (at : Place) (n : ℕ) (words : List ℕ) → AreWords words → length words ≡ n → AsksReads at n s → LedBy s (reads_at at (take n words)) (fed s words)
+first_led {A = A} s at n words b e a = subst (λ l. LedBy {A = A} s (reads_at at l) (fed s words)) (sym (take_all n words e)) (read_led s at n words b e a)
+
+none_led : {A : Type 0} (s : Steps A) (words : List ℕ) → length words ≡ 0 → LedBy s [] (fed s words)
+none_led s [] e = refl
+none_led s (v ∷ vs) e = absurd (omega (arith, e))
 
 -- What was asked last is answered.
-pub waits_led : {A : Type 0} (a : Ask) (n : ℕ) (s : Steps A) (lent : List ℕ) → AreSmall lent → n ≤ length lent → WaitsFor a n s → LedBy s (read_by a lent) (fed s (take n lent))
-waits_led {A = A} (ask.Read at count) n s lent b l w = subst (λ k. LedBy {A = A} s (reads_at at (take k lent)) (fed s (take n lent))) w.0 (read_led s at n lent b l (subst (λ k. AsksReads at k s) (sym w.0) w.1))
-waits_led {A = A} (ask.Entry at reference rights) n s lent b l w = subst (λ k. LedBy {A = A} s (reads_at at (take k lent)) (fed s (take n lent))) w.0 (read_led s at n lent b l (subst (λ k. AsksReads at k s) (sym w.0) w.1))
-waits_led {A = A} (ask.Push at word read) n s lent b l w =
-    let from = page_word at.frame read in
-    subst (λ k. LedBy {A = A} s (reads_at from (take k lent)) (fed s (take n lent))) w.0 (read_led s from n lent b l (subst (λ k. AsksReads from k s) (sym w.0) w.1))
-waits_led (ask.Write at count) n s lent b l w = none_led s n lent w
-waits_led (ask.Store at word) n s lent b l w = none_led s n lent w
-waits_led (ask.StoreTwo at x y) n s lent b l w = none_led s n lent w
-waits_led (ask.Notify port) n s lent b l w = none_led s n lent w
-waits_led (ask.TurnOver kind) n s lent b l w = absurd w
-waits_led (ask.DeliveryOver what) n s lent b l w = absurd w
-waits_led (ask.WaitOver what) n s lent b l w = absurd w
+pub waits_led : {A : Type 0} (a : Ask) (n : ℕ) (s : Steps A) (words : List ℕ) → AreWords words → length words ≡ n → WaitsFor a n s → LedBy s (read_by a words) (fed s words)
+waits_led (ask.Read at count) n s words b e w = first_led s at count words b (e ∙ w.0) w.1
+waits_led (ask.Entry at reference rights) n s words b e w = first_led s at 2 words b (e ∙ w.0) w.1
+waits_led (ask.Push at word read) n s words b e w = first_led s (page_word at.frame read) 1 words b (e ∙ w.0) w.1
+waits_led (ask.Write at count) n s words b e w = none_led s words (e ∙ w)
+waits_led (ask.Store at word) n s words b e w = none_led s words (e ∙ w)
+waits_led (ask.StoreTwo at x y) n s words b e w = none_led s words (e ∙ w)
+waits_led (ask.Notify port) n s words b e w = none_led s words (e ∙ w)
+waits_led (ask.TurnOver kind) n s words b e w = absurd w
+waits_led (ask.DeliveryOver what) n s words b e w = absurd w
+waits_led (ask.WaitOver what) n s words b e w = absurd w
 
 -- ---- where what is asked lies
 
@@ -106,46 +105,41 @@ module _ {A : Type 0} (frames : ℕ) (within : Want → Type 0) (in_pages : AreI
       (more.0, omega (arith, more.1))
 
   -- an ask that takes no answer
-  did_within : (a : Ask) (lent : List ℕ) (s left : Steps A) → 1024 ≤ length lent → IsSized a → takes_none a ≡ true → LedBy s (did_by a lent) left → Finishes within s → IsInPages frames a
-  did_within (ask.Read at count) lent s left l z e g h = cc e
-  did_within (ask.Entry at reference rights) lent s left l z e g h = cc e
-  did_within (ask.Write at count) lent s left l z e g h =
-      let n : length (take count lent) ≡ count = omega (arith, length-take count lent, z.1, l) in
-      let w = writes_within at (take count lent) s left (omega (arith, n, z.0)) g h in
+  did_within : (a : Ask) (words : List ℕ) (s left : Steps A) → IsHeld a words → IsSized a → takes_none a ≡ true → LedBy s (did_by a words) left → Finishes within s → IsInPages frames a
+  did_within (ask.Read at count) words s left l z e g h = cc e
+  did_within (ask.Entry at reference rights) words s left l z e g h = cc e
+  did_within (ask.Write at count) words s left l z e g h =
+      let n : length (take count words) ≡ count = ap (λ (m : List ℕ). length m) (take_all count words l) ∙ l in
+      let w = writes_within at (take count words) s left (omega (arith, n, z.0)) g h in
       (w.0, omega (arith, w.1, n))
-  did_within (ask.Store at word) lent s left l z e g h = writes_within at (word ∷ []) s left (omega arith) g h
-  did_within (ask.StoreTwo at x y) lent s left l z e g h = writes_within at (x ∷ y ∷ []) s left (omega arith) g h
-  did_within (ask.Push at word read) lent s left l z e g h = cc e
-  did_within (ask.Notify port) lent s left l z e g h = tt
-  did_within (ask.TurnOver kind) lent s left l z e g h = tt
-  did_within (ask.DeliveryOver what) lent s left l z e g h = tt
-  did_within (ask.WaitOver what) lent s left l z e g h = tt
+  did_within (ask.Store at word) words s left l z e g h = writes_within at (word ∷ []) s left (omega arith) g h
+  did_within (ask.StoreTwo at x y) words s left l z e g h = writes_within at (x ∷ y ∷ []) s left (omega arith) g h
+  did_within (ask.Push at word read) words s left l z e g h = cc e
+  did_within (ask.Notify port) words s left l z e g h = tt
+  did_within (ask.TurnOver kind) words s left l z e g h = tt
+  did_within (ask.DeliveryOver what) words s left l z e g h = tt
+  did_within (ask.WaitOver what) words s left l z e g h = tt
 
   -- what is asked last, and waited for
-  pub last_within : (a : Ask) (n : ℕ) (lent : List ℕ) (s left : Steps A) → 1024 ≤ length lent → IsSized a → LedBy s (did_by a lent) left → WaitsFor a n left → Finishes within s → IsInPages frames a
-  last_within (ask.Read at count) n lent s left l z g w h = reads_within at count left z.0 w.1 (finishes_gone within s left [] h g)
-  last_within (ask.Entry at reference rights) n lent s left l z g w h = reads_within at 2 left (omega arith) w.1 (finishes_gone within s left [] h g)
-  last_within (ask.Push at word read) n lent s left l z g w h =
+  pub last_within : (a : Ask) (n : ℕ) (words : List ℕ) (s left : Steps A) → IsHeld a words → IsSized a → LedBy s (did_by a words) left → WaitsFor a n left → Finishes within s → IsInPages frames a
+  last_within (ask.Read at count) n words s left l z g w h = reads_within at count left z.0 w.1 (finishes_gone within s left [] h g)
+  last_within (ask.Entry at reference rights) n words s left l z g w h = reads_within at 2 left (omega arith) w.1 (finishes_gone within s left [] h g)
+  last_within (ask.Push at word read) n words s left l z g w h =
       let p = writes_within at (word ∷ []) s left (omega arith) g h in
       let r = reads_within (page_word at.frame read) 1 left (omega arith) w.1 (finishes_gone within s left (Write at word ∷ []) h g) in
       (p.0, p.1, omega (arith, r.1))
-  last_within (ask.Write at count) n lent s left l z g w h = did_within (ask.Write at count) lent s left l z refl g h
-  last_within (ask.Store at word) n lent s left l z g w h = did_within (ask.Store at word) lent s left l z refl g h
-  last_within (ask.StoreTwo at x y) n lent s left l z g w h = did_within (ask.StoreTwo at x y) lent s left l z refl g h
-  last_within (ask.Notify port) n lent s left l z g w h = tt
-  last_within (ask.TurnOver kind) n lent s left l z g w h = tt
-  last_within (ask.DeliveryOver what) n lent s left l z g w h = tt
-  last_within (ask.WaitOver what) n lent s left l z g w h = tt
+  last_within (ask.Write at count) n words s left l z g w h = did_within (ask.Write at count) words s left l z refl g h
+  last_within (ask.Store at word) n words s left l z g w h = did_within (ask.Store at word) words s left l z refl g h
+  last_within (ask.StoreTwo at x y) n words s left l z g w h = did_within (ask.StoreTwo at x y) words s left l z refl g h
+  last_within (ask.Notify port) n words s left l z g w h = tt
+  last_within (ask.TurnOver kind) n words s left l z g w h = tt
+  last_within (ask.DeliveryOver what) n words s left l z g w h = tt
+  last_within (ask.WaitOver what) n words s left l z g w h = tt
 
-  -- Where a trace of two parts leads from: the first part leads to something between.
-  pub split_gone : (t u : List Event) (s left : Steps A) → LedBy s (t ++ u) left → (m : Steps A) × LedBy s t m × LedBy m u left
-  split_gone [] u s left g = (s, refl, g)
-  split_gone (e ∷ t) u s left g = let r = split_gone t u g.0 left g.2 in (r.0, (g.0, g.1, r.1), r.2)
-
-  pub all_within : (first : List Ask) (last : Ask) (lent : List ℕ) (s left : Steps A) → 1024 ≤ length lent → AllSized (first ++ last ∷ []) → TakeNone first →
-      LedBy s (did_all first lent ++ did_by last lent) left → ((m : Steps A) → LedBy m (did_by last lent) left → Finishes within m → IsInPages frames last) → Finishes within s → AllInPages frames (first ++ last ∷ [])
-  all_within [] last lent s left l z t g by h = (by s g h, tt)
-  all_within (a ∷ more) last lent s left l z t g by h =
-      let parts = subst (λ (q : List Event). LedBy s q left) (append_assoc (did_by a lent) (did_all more lent) (did_by last lent)) g in
-      let r = split_gone (did_by a lent) (did_all more lent ++ did_by last lent) s left parts in
-      (did_within a lent s r.0 l z.0 t.0 r.1 h, all_within more last lent r.0 left l z.1 t.1 r.2 by (finishes_gone within s r.0 (did_by a lent) h r.1))
+  pub all_within : (first : List Asked) (last : Asked) (s left : Steps A) → AllHeld (first ++ last ∷ []) → AllSized (asks_of (first ++ last ∷ [])) → TakeNone (asks_of first) →
+      LedBy s (events_of (first ++ last ∷ [])) left → ((m : Steps A) → LedBy m (did_by last.ask last.words) left → Finishes within m → IsInPages frames last.ask) → Finishes within s → AllInPages frames (asks_of (first ++ last ∷ []))
+  all_within [] last s left l z t g by h = (by s (subst (λ (q : List Event). LedBy s q left) (append-nil (did_by last.ask last.words)) g) h, tt)
+  all_within (a ∷ more) last s left l z t g by h =
+      let did = did_by a.ask a.words in
+      let r = gone_split s left did (events_of (more ++ last ∷ [])) g in
+      (did_within a.ask a.words s r.0 l.0 z.0 t.0 r.1 h, all_within more last r.0 left l.1 z.1 t.1 r.2 by (finishes_gone within s r.0 did h r.1))

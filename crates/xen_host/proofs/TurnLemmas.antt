@@ -1,9 +1,11 @@
 -- What is under way goes on, or is a row of its table.
-use Rattle.std.proofs.Common.{◌≡◌, ℕ, ◌≤◌, List, [], ◌++◌, length, take, map, refl, sym, ap, ◌∙◌, subst, Bool}
+use Rattle.std.proofs.Common.{◌≡◌, ℕ, List, [], ◌∷◌, ◌++◌, length, map, sym, ap, ◌∙◌, subst, Bool}
 use Rattle.std.specs.Prelude.{Option, Some, None}
+use Rattle.bpf_note.specs.declared.op.Op.{Op as Operation}
 use Rattle.xen_netif.specs.declared.flags.TxFlags.{TxFlags}
 use Rattle.xen_steps.specs.Drive.{LedBy}
 use Rattle.xen_steps.specs.Event.{Event}
+use Rattle.xen_steps.specs.Pages.{AreWords}
 use Rattle.xen_steps.specs.Steps.{Steps}
 use Rattle.xen_steps.proofs.DriveLemmas.{gone_append, runs_of_gone}
 use Rattle.xen_back.specs.Deliveries.{Arrival, whole_delivery}
@@ -16,19 +18,20 @@ use Rattle.xen_back.specs.declared.state.State.{State}
 use Rattle.xen_back.proofs.ArriveLemmas.{delivery_rows}
 use Rattle.xen_back.proofs.TurnParts.{turn_parts}
 use Rattle.xen_back.proofs.WaitLemmas.{wait_rows}
-use Rattle.xen_host.specs.Asks.{Ask, did_all, did_by, read_by}
+use Rattle.xen_host.specs.Asks.{Ask, read_by}
 use Rattle.xen_host.specs.Asks as ask
 use Rattle.xen_host.specs.Fed.{WaitsFor, fed}
-use Rattle.xen_host.specs.Led.{DeliveryEnds, IsOn, Led, TurnEnds, TurnRanLed, WaitEnds}
+use Rattle.xen_host.specs.HostLed.{DeliveryLeads, TurnRanLeads, WaitLeads}
+use Rattle.xen_host.specs.Hosts.{events_of}
+use Rattle.xen_host.specs.Led.{DeliveryEnds, IsOn, TurnEnds, WaitEnds}
 use Rattle.xen_host.specs.Queues.{DeliveryGoesOn, IsDelivering, IsTurning, IsUnderWay, IsWaiting, TurnGoesOn, WaitGoesOn, WaitsForSome, between, packet_in, packet_of, read_by_some, resting, wiring}
 use Rattle.xen_host.specs.Rest.{reads_in, rest_in, rest_of_delivery, rest_of_wait}
 use Rattle.xen_host.specs.Wired.{wiring_of}
-use Rattle.xen_host.specs.declared.op.Op.{Op}
 use Rattle.xen_host.specs.declared.queue.Queue.{Queue}
 use Rattle.xen_host.specs.declared.stage.Stage.{Stage}
 use Rattle.xen_host.specs.declared.stage.Stage.TheVariants as stage
 use Rattle.xen_host.specs.declared.wires.OwnedWiring.{OwnedWiring}
-use Rattle.xen_host.proofs.StepLemmas.{AreSmall, waits_led}
+use Rattle.xen_host.proofs.StepLemmas.{waits_led}
 
 -- It goes on.
 under_way : {A : Type 0} {tells : Ask → Type 0} (whole rest left : Steps A) (reads : ℕ) (here : Bool) (t : List Event) (last : Ask) → LedBy whole t left → IsOn rest reads here tells last left → IsUnderWay whole rest reads here t (Some last)
@@ -90,55 +93,52 @@ wait_goes q s pages packet t (ask.TurnOver k) left g e = (under_way _ _ left _ _
 wait_goes q s pages packet t (ask.DeliveryOver what) left g e = (under_way _ _ left _ _ t (ask.DeliveryOver what) g e.0, e.1)
 
 -- What was asked last is answered, if anything was.
-some_led : {A : Type 0} (asked : Option Ask) (n : ℕ) (s : Steps A) (lent : List ℕ) → AreSmall lent → n ≤ length lent → WaitsForSome asked n s → LedBy s (read_by_some asked lent) (fed s (take n lent))
-some_led {A = A} None n s lent b l w = subst (λ k. LedBy {A = A} s [] (fed s (take k lent))) (sym w) refl
-some_led (Some a) n s lent b l w = waits_led a n s lent b l w
+some_led : {A : Type 0} (asked : Option Ask) (n : ℕ) (s : Steps A) (words : List ℕ) → AreWords words → length words ≡ n → WaitsForSome asked n s → LedBy s (read_by_some asked words) (fed s words)
+some_led None n s words b e w = waits_led (ask.Notify 0) n s words b e w
+some_led (Some a) n s words b e w = waits_led a n s words b e w
 
 -- A step of a turn.
-pub turn_steps : (old new : Queue) (flags : TxFlags) (lent lent_after before after : List ℕ) (ops ops_after : List Op) (count : ℕ) → AreSmall lent → reads_in old.engine.stage ≤ length lent →
-    (h : TurnRanLed old.engine.wires flags (fed (rest_in (wiring old) old.engine.state old.engine.stage old.engine.work) (take (reads_in old.engine.stage) lent)) new.engine before after ops ops_after count lent lent_after) →
+pub turn_steps : {H : Type 0} {was : H → Ask → List ℕ → H → Type 0} {full : H → Type 0} {host host_after : H} (old new : Queue) (flags : TxFlags) (words : List ℕ) (went : List (Option Operation) → Type 0) → AreWords words → length words ≡ reads_in old.engine.stage →
+    (h : TurnRanLeads was full old.engine.wires flags (fed (rest_in (wiring old) old.engine.state old.engine.stage old.engine.work) words) new.engine went host host_after) →
     (s : State) (trace : List Event) (asked : Ask) → IsTurning old s trace asked →
-    TurnGoesOn new h.led.last s (trace ++ (read_by asked lent ++ (map event_of h.ran.labels ++ (did_all h.led.first lent_after ++ did_by h.led.last lent_after))))
-turn_steps old new flags lent lent_after before after ops ops_after count small long h s trace asked token =
+    TurnGoesOn new h.led.last.ask s (trace ++ (read_by asked words ++ (map event_of h.ran.labels ++ events_of (h.led.first ++ h.led.last ∷ []))))
+turn_steps old new flags words went below n h s trace asked token =
     let e = old.engine in
     let rest = rest_in (wiring old) e.state e.stage e.work in
-    let n = reads_in e.stage in
-    let did = did_all h.led.first lent_after ++ did_by h.led.last lent_after in
+    let did = events_of (h.led.first ++ h.led.last ∷ []) in
     let ran = map event_of h.ran.labels in
-    let t = trace ++ (read_by asked lent ++ (ran ++ did)) in
-    let g = gone_append (whole_turn (wiring old) s) rest h.led.left trace (read_by asked lent ++ (ran ++ did)) token.gone
-    (gone_append rest (fed rest (take n lent)) h.led.left (read_by asked lent) (ran ++ did) (waits_led asked n rest lent small long token.waits)
-    (gone_append (fed rest (take n lent)) h.between h.led.left ran did h.ran.gone h.led.gone)) in
-    turn_goes new s t h.led.last h.led.left (subst (λ (x : OwnedWiring). LedBy (whole_turn (wiring_of x) s) t h.led.left) (sym h.led.wires) g) h.led.is_end
+    let t = trace ++ (read_by asked words ++ (ran ++ did)) in
+    let g = gone_append (whole_turn (wiring old) s) rest h.led.left trace (read_by asked words ++ (ran ++ did)) token.gone
+    (gone_append rest (fed rest words) h.led.left (read_by asked words) (ran ++ did) (waits_led asked (reads_in e.stage) rest words below n token.waits)
+    (gone_append (fed rest words) h.between h.led.left ran did h.ran.gone h.led.gone)) in
+    turn_goes new s t h.led.last.ask h.led.left (subst (λ (x : OwnedWiring). LedBy (whole_turn (wiring_of x) s) t h.led.left) (sym h.led.wires) g) h.led.is_end
 
 -- A step of a delivery.
-pub delivery_steps : (old new : Queue) (flags : TxFlags) (lent lent_after : List ℕ) (ops ops_after : List Op) (count : ℕ) → AreSmall lent → reads_in old.engine.stage ≤ length lent →
-    (h : Led (DeliveryEnds old.engine.work.packet new.engine) old.engine.wires flags (fed (rest_of_delivery (wiring old).vif old.engine.state old.engine.stage old.engine.work) (take (reads_in old.engine.stage) lent)) new.engine ops ops_after count lent lent_after) →
+pub delivery_steps : {H : Type 0} {was : H → Ask → List ℕ → H → Type 0} {full : H → Type 0} {host host_after : H} (old new : Queue) (flags : TxFlags) (words : List ℕ) → AreWords words → length words ≡ reads_in old.engine.stage →
+    (h : DeliveryLeads was full old.engine.wires flags old.engine.work.packet (fed (rest_of_delivery (wiring old).vif old.engine.state old.engine.stage old.engine.work) words) new.engine host host_after) →
     (s : State) (packet : List ℕ) (trace : List Event) (asked : Option Ask) → IsDelivering old s packet trace asked →
-    DeliveryGoesOn new h.last s packet (trace ++ (read_by_some asked lent ++ (did_all h.first lent_after ++ did_by h.last lent_after)))
-delivery_steps old new flags lent lent_after ops ops_after count small long h s packet trace asked token =
+    DeliveryGoesOn new h.last.ask s packet (trace ++ (read_by_some asked words ++ events_of (h.first ++ h.last ∷ [])))
+delivery_steps old new flags words below n h s packet trace asked token =
     let e = old.engine in
     let rest = rest_of_delivery (wiring old).vif e.state e.stage e.work in
-    let n = reads_in e.stage in
-    let did = did_all h.first lent_after ++ did_by h.last lent_after in
-    let t = trace ++ (read_by_some asked lent ++ did) in
-    let g = gone_append (whole_delivery (wiring old).vif s packet) rest h.left trace (read_by_some asked lent ++ did) token.0.gone
-    (gone_append rest (fed rest (take n lent)) h.left (read_by_some asked lent) did (some_led asked n rest lent small long token.0.waits) h.gone) in
-    delivery_goes new s packet t h.last h.left (subst (λ (x : OwnedWiring). LedBy (whole_delivery (wiring_of x).vif s packet) t h.left) (sym h.wires) g)
-    (subst (λ p. DeliveryEnds p new.engine h.last h.left) token.1 h.is_end)
+    let did = events_of (h.first ++ h.last ∷ []) in
+    let t = trace ++ (read_by_some asked words ++ did) in
+    let g = gone_append (whole_delivery (wiring old).vif s packet) rest h.left trace (read_by_some asked words ++ did) token.0.gone
+    (gone_append rest (fed rest words) h.left (read_by_some asked words) did (some_led asked (reads_in e.stage) rest words below n token.0.waits) h.gone) in
+    delivery_goes new s packet t h.last.ask h.left (subst (λ (x : OwnedWiring). LedBy (whole_delivery (wiring_of x).vif s packet) t h.left) (sym h.wires) g)
+    (subst (λ p. DeliveryEnds p new.engine h.last.ask h.left) token.1 h.is_end)
 
 -- A step of a wait.
-pub wait_steps : (old new : Queue) (flags : TxFlags) (lent lent_after : List ℕ) (ops ops_after : List Op) (count : ℕ) → AreSmall lent → reads_in old.engine.stage ≤ length lent →
-    (h : Led (WaitEnds old.engine.work.packet new.engine) old.engine.wires flags (fed (rest_of_wait old.engine.wires.rx old.engine.state old.engine.stage) (take (reads_in old.engine.stage) lent)) new.engine ops ops_after count lent lent_after) →
+pub wait_steps : {H : Type 0} {was : H → Ask → List ℕ → H → Type 0} {full : H → Type 0} {host host_after : H} (old new : Queue) (flags : TxFlags) (words : List ℕ) → AreWords words → length words ≡ reads_in old.engine.stage →
+    (h : WaitLeads was full old.engine.wires flags old.engine.work.packet (fed (rest_of_wait old.engine.wires.rx old.engine.state old.engine.stage) words) new.engine host host_after) →
     (s : State) (pages : ℕ) (packet : List ℕ) (trace : List Event) (asked : Option Ask) → IsWaiting old s pages packet trace asked →
-    WaitGoesOn new h.last s pages packet (trace ++ (read_by_some asked lent ++ (did_all h.first lent_after ++ did_by h.last lent_after)))
-wait_steps old new flags lent lent_after ops ops_after count small long h s pages packet trace asked token =
+    WaitGoesOn new h.last.ask s pages packet (trace ++ (read_by_some asked words ++ events_of (h.first ++ h.last ∷ [])))
+wait_steps old new flags words below n h s pages packet trace asked token =
     let e = old.engine in
     let rest = rest_of_wait e.wires.rx e.state e.stage in
-    let n = reads_in e.stage in
-    let did = did_all h.first lent_after ++ did_by h.last lent_after in
-    let t = trace ++ (read_by_some asked lent ++ did) in
-    let g = gone_append (whole_wait e.wires.rx s pages) rest h.left trace (read_by_some asked lent ++ did) token.0.gone
-    (gone_append rest (fed rest (take n lent)) h.left (read_by_some asked lent) did (some_led asked n rest lent small long token.0.waits) h.gone) in
-    wait_goes new s pages packet t h.last h.left (subst (λ (x : OwnedWiring). LedBy (whole_wait x.rx s pages) t h.left) (sym h.wires) g)
-    (subst (λ p. WaitEnds p new.engine h.last h.left) token.1 h.is_end)
+    let did = events_of (h.first ++ h.last ∷ []) in
+    let t = trace ++ (read_by_some asked words ++ did) in
+    let g = gone_append (whole_wait e.wires.rx s pages) rest h.left trace (read_by_some asked words ++ did) token.0.gone
+    (gone_append rest (fed rest words) h.left (read_by_some asked words) did (some_led asked (reads_in e.stage) rest words below n token.0.waits) h.gone) in
+    wait_goes new s pages packet t h.last.ask h.left (subst (λ (x : OwnedWiring). LedBy (whole_wait x.rx s pages) t h.left) (sym h.wires) g)
+    (subst (λ p. WaitEnds p new.engine h.last.ask h.left) token.1 h.is_end)

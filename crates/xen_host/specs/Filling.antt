@@ -1,4 +1,4 @@
--- For proofs: no claim rests on this file.
+-- Stated: claims rest on this file.
 -- The words of a packet that go into a page.
 use Rattle.std.specs.Prelude.{ℕ, zero, suc, ◌+◌, List, [], ◌∷◌}
 use Rattle.xen_rx_fill.specs.Packets.{word_of}

@@ -1,10 +1,10 @@
--- For proofs: no claim rests on this file.
+-- Stated: claims rest on this file.
 -- What a host was asked, and what C's host is: room for ops, and lent words.
-use Rattle.std.specs.Prelude.{ℕ, ◌≡◌, ◌<◌, ◌≤◌, ◌+◌, ◌/◌, List, [], ◌∷◌, ◌++◌, length, take, drop}
+use Rattle.std.specs.Prelude.{ℕ, zero, suc, ◌≡◌, ◌<◌, ◌≤◌, ◌+◌, ◌/◌, List, [], ◌∷◌, ◌++◌, length, take, drop}
 use Rattle.xen_netif.specs.Copy.{bytes_from}
 use Rattle.xen_netif.specs.declared.fragment.Fragment.{Fragment}
 use Rattle.xen_steps.specs.Event.{Event}
-use Rattle.xen_steps.specs.Pages.{covered}
+use Rattle.xen_steps.specs.Pages.{AreWords, covered}
 use Rattle.xen_host.specs.Asks.{Ask, Write, did_by, op_of}
 use Rattle.xen_host.specs.declared.host.Ops.{Ops}
 
@@ -39,6 +39,7 @@ WasAskedAll {H} was old (a ∷ more) new = (mid : H) × was old a.ask a.words mi
 pub record GavePage {H : Type 0} (gave : H → List ℕ → H → Type 0) (f : Fragment) (packet packet_after : List ℕ) (old new : H) : Type 0 where
   pub words : List ℕ
   pub all : length words ≡ covered f
+  pub below : AreWords words
   pub read : packet_after ≡ packet ++ bytes_from f (f.offset / 4) words
   pub given : gave old words new
 
@@ -52,7 +53,7 @@ IsSameLoan old new = (new.ops.ghost_name ≡ old.ops.ghost_name) × (new.words.g
 abbrev pub IsLent : Ask → List ℕ → Ops → Ops → Type 0
 IsLent (Write at count) words old new =
     (old.count ≡ 0) × (1024 ≤ length old.words.now) × (take count new.words.now ≡ take count words) ×
-    (drop count new.words.now ≡ drop count old.words.now)
+    (drop count new.words.now ≡ drop count old.words.now) × (length words ≡ count)
 IsLent a words old new = new.words.now ≡ old.words.now
 
 -- An ask stands behind the ops that were said.
@@ -79,3 +80,8 @@ IsSettled h = h.count ≤ length h.ops.now
 
 abbrev pub IsFull : Ops → Type 0
 IsFull h = h.count ≡ length h.ops.now
+
+-- An answer of so many words of 32 bits was given, if any was waited for.
+abbrev pub WasGiven : {H : Type 0} → (H → List ℕ → H → Type 0) → ℕ → H → List ℕ → H → Type 0
+WasGiven gave zero host words mid = (words ≡ []) × (mid ≡ host)
+WasGiven gave (suc n) host words mid = (length words ≡ suc n) × gave host words mid × AreWords words

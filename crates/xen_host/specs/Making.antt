@@ -75,6 +75,7 @@ pub record IsWiredTo (program : Accepted) (g : Given) (w : OwnedWiring) : Type 0
   pub user : w.user ≡ g.user
   pub port : w.port ≡ g.port
   pub program_is : w.program ≡ program
+  pub lists : w.lists.items ≡ []
   pub ifindex : w.ifindex ≡ g.ifindex
   pub queue : w.queue ≡ g.queue
   pub wired : IsWired (wiring_of w).vif

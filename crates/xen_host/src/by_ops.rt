@@ -1,38 +1,36 @@
 //! A turn's beginning and a step, for a host in C: what is asked stands in its ops.
 
-ghost use Rattle.std.specs.Prelude.{◌≡◌, ◌<◌, ◌≤◌, length};
+ghost use Rattle.std.specs.Prelude.{◌≡◌, ◌<◌, ◌≤◌, IsSome, None, length};
 ghost use Rattle.bpf_maps.specs.Layout.{total};
-ghost use Rattle.xen_steps.specs.Steps.{next};
-ghost use Rattle.xen_back.specs.Tree.{whole_turn};
-ghost use Rattle.xen_host.specs.Fits.{Fits};
+ghost use Rattle.bpf_maps.specs.Seats.{IsSeatOf};
 ghost use Rattle.xen_host.specs.Hosts.{IsFresh, IsFree, IsSameLoan};
-ghost use Rattle.xen_host.specs.Led.{StepAt, TurnBegun};
-ghost use Rattle.xen_host.specs.Wired.{wiring_of};
+ghost use Rattle.xen_host.specs.Queues.{HasBegun, HasStepped, HasSteppedAtSeat, resting};
 
-use crate::engine::Engine;
 use crate::host::Ops;
 use crate::op::Op;
+use crate::queue::Queue;
+use bpf_maps::{CounterSeat, Counters};
 
-impl Engine {
+impl Queue {
     /// Begins a turn over a host that lends no words.
     #[inline(always)]
     fn begin_ops(&mut self, producer: u32, host: &mut Ops<'_>)
+        requires rests { IsSome (resting self.old) }
         requires none { host.old.count ≡ 0 }
         requires unlent { length host.old.words.now < 1024 }
         requires free { IsFree host.old }
-        ensures led { TurnBegun self.old.wires (next (whole_turn (wiring_of self.old.wires) self.old.state) producer) self.new
-            host.old.ops.now host.new.ops.now host.new.count }
+        ensures begun { HasBegun self.old self.new producer host.old.ops.now host.new.ops.now host.new.count }
         ensures loan { IsSameLoan host.old host.new }
     {
-        self.begin(producer, host)
+        self.turn_by(producer, host)
     }
 
     /// Begins a turn, with what was read of the tx producer, and says its first op. How many: one.
     #[inline(always)]
     pub(crate) fn say_first(&mut self, producer: u32, ops: &mut [Op]) -> usize
-        requires { 1 ≤ length ops.old }
-        ensures led { TurnBegun self.old.wires (next (whole_turn (wiring_of self.old.wires) self.old.state) producer) self.new
-            ops.old ops.new result }
+        requires rests { IsSome (resting self.old) }
+        requires room { 1 ≤ length ops.old }
+        ensures begun { HasBegun self.old self.new producer ops.old ops.new result }
     {
         let mut host = Ops {
             ops,
@@ -46,19 +44,19 @@ impl Engine {
     /// Goes on with what is under way, over a host that has said nothing yet.
     #[inline(always)]
     fn step_ops(&mut self, counters: &mut [u64], host: &mut Ops<'_>)
-        requires fits { Fits self.old.stage self.old.work }
-        requires counters { total self.old.wires.program.shapes ≤ length counters.old }
+        requires busy { resting self.old ≡ None }
+        requires counts { total self.old.engine.wires.program.shapes ≤ length counters.old }
         requires fresh { IsFresh host.old }
         ensures counters { length counters.new ≡ length counters.old }
         ensures words { length host.new.words.now ≡ length host.old.words.now }
-        ensures led { StepAt self.old.stage self.old self.new host.old.words.now host.new.words.now counters.old counters.new
+        ensures stepped { HasStepped self.old self.new host.old.words.now host.new.words.now counters.old counters.new
             host.old.ops.now host.new.ops.now host.new.count }
         ensures loan { IsSameLoan host.old host.new }
     {
-        self.step(counters, host)
+        self.step_by(counters, host)
     }
 
-    /// Goes on with what is under way, if anything is, with the words that were read, and says what is next. How many ops.
+    /// Goes on with what is under way, with the words that were read, and says what is next. How many ops.
     #[inline(always)]
     pub(crate) fn say_next(
         &mut self,
@@ -66,13 +64,13 @@ impl Engine {
         counters: &mut [u64],
         ops: &mut [Op],
     ) -> usize
-        requires fits { Fits self.old.stage self.old.work }
+        requires busy { resting self.old ≡ None }
         requires enough { 1024 ≤ length words.old }
-        requires counters { total self.old.wires.program.shapes ≤ length counters.old }
+        requires counts { total self.old.engine.wires.program.shapes ≤ length counters.old }
         requires room { 1 ≤ length ops.old }
         ensures words { length words.new ≡ length words.old }
         ensures counters { length counters.new ≡ length counters.old }
-        ensures led { StepAt self.old.stage self.old self.new words.old words.new counters.old counters.new ops.old ops.new result }
+        ensures stepped { HasStepped self.old self.new words.old words.new counters.old counters.new ops.old ops.new result }
     {
         let mut host = Ops {
             ops,
@@ -80,6 +78,46 @@ impl Engine {
             words,
         };
         self.step_ops(counters, &mut host);
+        host.count
+    }
+    /// As `step_ops`, at a seat.
+    #[inline(always)]
+    fn step_ops_at_seat(&mut self, counters: &Counters, seat: &mut CounterSeat, host: &mut Ops<'_>)
+        requires busy { resting self.old ≡ None }
+        requires shapes { counters.now.shapes ≡ self.old.engine.wires.program.shapes }
+        requires seat { IsSeatOf counters.now seat.old }
+        requires fresh { IsFresh host.old }
+        ensures words { length host.new.words.now ≡ length host.old.words.now }
+        ensures stepped { HasSteppedAtSeat self.old self.new host.old.words.now host.new.words.now seat.old seat.new
+            host.old.ops.now host.new.ops.now host.new.count }
+        ensures loan { IsSameLoan host.old host.new }
+    {
+        self.step_by_at_seat(counters, seat, host)
+    }
+
+    /// As `say_next`, with the program's counters at a seat.
+    #[inline(always)]
+    pub(crate) fn say_next_at_seat(
+        &mut self,
+        words: &mut [u32],
+        counters: &Counters,
+        seat: &mut CounterSeat,
+        ops: &mut [Op],
+    ) -> usize
+        requires busy { resting self.old ≡ None }
+        requires enough { 1024 ≤ length words.old }
+        requires shapes { counters.now.shapes ≡ self.old.engine.wires.program.shapes }
+        requires seat { IsSeatOf counters.now seat.old }
+        requires room { 1 ≤ length ops.old }
+        ensures words { length words.new ≡ length words.old }
+        ensures stepped { HasSteppedAtSeat self.old self.new words.old words.new seat.old seat.new ops.old ops.new result }
+    {
+        let mut host = Ops {
+            ops,
+            count: 0,
+            words,
+        };
+        self.step_ops_at_seat(counters, seat, &mut host);
         host.count
     }
 }

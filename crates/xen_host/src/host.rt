@@ -11,6 +11,7 @@ use crate::copying::push_words;
 use crate::filling::put_words;
 use crate::op::Op;
 use crate::packet::Packet;
+use crate::words::are_words;
 use xen_back::{Awaited, Delivery, Kind};
 use xen_netif::Fragment;
 use xen_page::{Place, Rights};
@@ -256,6 +257,9 @@ impl<'a> Host for Ops<'a> {
     fn page(&mut self, fragment: &Fragment, packet: &mut Packet) {
         let covered = fragment.covered_words();
         let count = (covered.end - covered.start) as usize;
-        push_words(fragment, self.front(count), packet)
+        let front = self.front(count);
+        // Only the proof uses what this call ensures: a word is below 2^32.
+        are_words(front);
+        push_words(fragment, front, packet)
     }
 }

@@ -25,6 +25,7 @@ ghost use Rattle.xen_host.specs.Wired.{vif_of};
 use crate::engine::Engine;
 use crate::host::Host;
 use crate::stage::{Fill, Purpose, Stage};
+use crate::words::are_words;
 use crate::work::Work;
 use xen_netif::RxReq;
 use xen_page::{Entry, Place, Rights, check};
@@ -59,10 +60,14 @@ impl Engine {
             }
             Fill::Slot { left } => {
                 let [first, second] = host.two();
+                // Only the proof uses what this call ensures: a word is below 2^32.
+                are_words(&[first, second]);
                 self.after_post(purpose, left, [first, second], host)
             }
             Fill::Grant { left, id, .. } => {
                 let [first, second] = host.two();
+                // Only the proof uses what this call ensures: a word is below 2^32.
+                are_words(&[first, second]);
                 self.after_grant(purpose, left, id, [first, second], host)
             }
             Fill::Words { i } => self.write_page(purpose, i, host),

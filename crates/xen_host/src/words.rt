@@ -1,4 +1,4 @@
-//! The words that a host lends.
+//! The words that a host gives.
 
 ghost use Rattle.std.specs.Prelude.{ℕ, ◌<◌, ◌^◌, slice_index};
 

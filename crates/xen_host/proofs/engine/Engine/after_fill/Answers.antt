@@ -1,6 +1,8 @@
-use Rattle.std.proofs.Common.{[], refl, sym, subst}
+use Rattle.std.proofs.Common.{[], ◌∷◌, refl, sym, subst}
+use Rattle.std.specs.Prelude.{slice_index}
 use Rattle.xen_host.specs.HostLed.{FillGoesOn}
 use Rattle.xen_host.specs.declared.stage.Fill.{Fill}
+use Rattle.xen_host.proofs.FedLemmas.{words_below}
 use Rattle.xen_host.proofs.engine.Engine.after_fill.Goals as goal
 
 pub returns-in-Producer : goal.returns-in-Producer
@@ -9,7 +11,7 @@ returns-in-Producer g c =
     let r = c.found in
     record {
       led = subst (λ (f : Fill). FillGoesOn g.H.Host.was_asked g.H.Host.is_full g.H.Host.has_given f c.args.purpose q r.new.self c.args.host.now r.new.host) (sym c.in-Producer.is)
-          (record { words = _; mid = c.word-producer.new.self; given = (refl, c.word-producer.ensures.given); led = r.ensures.led });
+          (record { words = _; mid = c.word-producer.new.self; given = (refl, c.word-producer.ensures.given, (c.word-producer.type_inv, tt)); led = r.ensures.led });
     }
 
 pub returns-in-Slot : goal.returns-in-Slot
@@ -18,7 +20,7 @@ returns-in-Slot g c =
     let r = c.after_post in
     record {
       led = subst (λ (f : Fill). FillGoesOn g.H.Host.was_asked g.H.Host.is_full g.H.Host.has_given f c.args.purpose q r.new.self c.args.host.now r.new.host) (sym c.in-Slot.is)
-          (record { words = _; mid = c.two.new.self; given = (refl, c.two.ensures.given); led = r.ensures.led });
+          (record { words = _; mid = c.two.new.self; given = (refl, c.two.ensures.given, words_below (slice_index c.two.result 0 ∷ slice_index c.two.result 1 ∷ []) c.are_words.ensures); led = r.ensures.led });
     }
 
 pub returns-in-Grant : goal.returns-in-Grant
@@ -27,7 +29,7 @@ returns-in-Grant g c =
     let r = c.after_grant in
     record {
       led = subst (λ (f : Fill). FillGoesOn g.H.Host.was_asked g.H.Host.is_full g.H.Host.has_given f c.args.purpose q r.new.self c.args.host.now r.new.host) (sym c.in-Grant.is)
-          (record { words = _; mid = c.two-in-Grant.new.self; given = (refl, c.two-in-Grant.ensures.given); led = r.ensures.led });
+          (record { words = _; mid = c.two-in-Grant.new.self; given = (refl, c.two-in-Grant.ensures.given, words_below (slice_index c.two-in-Grant.result 0 ∷ slice_index c.two-in-Grant.result 1 ∷ []) c.are_words-in-Grant.ensures); led = r.ensures.led });
     }
 
 pub returns-in-Words : goal.returns-in-Words
@@ -54,7 +56,7 @@ returns-in-Push g c =
     let r = c.after_reply_event in
     record {
       led = subst (λ (f : Fill). FillGoesOn g.H.Host.was_asked g.H.Host.is_full g.H.Host.has_given f c.args.purpose q r.new.self c.args.host.now r.new.host) (sym c.in-Push.is)
-          (record { words = _; mid = c.word-event.new.self; given = (refl, c.word-event.ensures.given); led = r.ensures.led });
+          (record { words = _; mid = c.word-event.new.self; given = (refl, c.word-event.ensures.given, (c.word-event.type_inv, tt)); led = r.ensures.led });
     }
 
 pub returns-in-Notice : goal.returns-in-Notice

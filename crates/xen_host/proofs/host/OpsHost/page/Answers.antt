@@ -1,8 +1,9 @@
-use Rattle.std.proofs.Common.{◌≡◌, ℕ, ◌≤◌, ◌-◌, ◌/◌, ◌++◌, List, length, take, refl, sym, ap, ◌∙◌, arith}
+use Rattle.std.proofs.Common.{◌≡◌, ℕ, ◌≤◌, ◌-◌, ◌/◌, ◌++◌, List, length, take, refl, sym, ap, ◌∙◌, subst, arith}
 use Rattle.std.proofs.lemmas.List.{length-take}
 use Rattle.xen_netif.specs.Copy.{bytes_from}
-use Rattle.xen_steps.specs.Pages.{covered}
+use Rattle.xen_steps.specs.Pages.{AreWords, covered}
 use Rattle.xen_host.proofs.AskLemmas.{page_short}
+use Rattle.xen_host.proofs.FedLemmas.{words_below}
 use Rattle.xen_host.proofs.host.OpsHost.page.Goals as goal
 
 pub returns-clause-given : goal.returns-clause-given
@@ -17,6 +18,7 @@ returns-clause-given c =
     record {
       words = take k lent;
       all = all ∙ n;
-      read = c.push_words.ensures.read ∙ ap (λ (l : List ℕ). c.args.packet.now ++ bytes_from f (f.offset / 4) l) c.front.ensures;
+      below = subst (λ (l : List ℕ). AreWords l) c.front-front.ensures (words_below c.front-front.result.now c.are_words.ensures);
+      read = c.push_words.ensures.read ∙ ap (λ (l : List ℕ). c.args.packet.now ++ bytes_from f (f.offset / 4) l) c.front-front.ensures;
       given = (sym (ap (λ m. take m lent) all), refl);
     }

@@ -1,13 +1,10 @@
-use Rattle.std.proofs.Common.{◌≤◌, length, refl, arith}
+use Rattle.std.proofs.Common.{◌≤◌, length, arith}
 use Rattle.std.proofs.lemmas.Bool.Decides.{nat_tests}
-use Rattle.xen_host.proofs.QueueLemmas.{not_few, step_stands, stepped}
+use Rattle.xen_host.proofs.QueueLemmas.{busy_at, not_few}
 use Rattle.xen_host.proofs.queue.Queue.step.Goals as goal
 
-pub invariant_of-self : goal.invariant_of-self
-invariant_of-self c =
-    let r = c.say_next in
-    let s = step_stands c.args.self.now r.new.self c.args.words.now r.new.words c.args.counters.now r.new.counters c.args.ops.now r.new.ops r.result (omega (arith, c.if-words-lt-PAGE_WORDS.false)) r.ensures.words c.are_words.ensures r.ensures.led in
-    record { fits = s.fits; wired = s.wired; turns = s.turns; left = s.left }
+pub say_next-requires-clause-busy : goal.say_next-requires-clause-busy
+say_next-requires-clause-busy c = busy_at c.args.self.now.engine.state c.args.self.now.engine.stage c.in_default.not-Ready
 
 pub returns-in_default : goal.returns-in_default
 returns-in_default c =
@@ -18,6 +15,6 @@ returns-in_default c =
     record {
       words = r.ensures.words;
       counters = r.ensures.counters;
-      stepped = λ enough. stepped q r.new.self c.args.words.now r.new.words c.args.counters.now r.new.counters c.args.ops.now r.new.ops r.result long r.ensures.words c.are_words.ensures r.ensures.led _ refl c.in_default.not-Ready;
-      few = λ few. absurd (not_few q c.args.words.now c.args.counters.now c.args.ops.now long (omega (arith, c.if-counters.false, c.counters.ensures)) some c.in_default.not-Ready few);
+      stepped = λ enough. r.ensures.stepped;
+      few = λ few. absurd (not_few q c.args.words.now c.args.counters.now c.args.ops.now long (omega (arith, c.if-counters.false, c.counters.ensures)) some (busy_at q.engine.state q.engine.stage c.in_default.not-Ready) few);
     }

@@ -1,0 +1,46 @@
+use Rattle.std.proofs.Common.{◌≡◌, ◌+◌, ◌-◌, ◌++◌, [], ◌∷◌, length, length-append, append-nil, append_assoc, refl, sym, ◌∙◌, ap, arith, subst}
+use Rattle.xen_netif.specs.Copy.{bytes_from, bytes_in}
+use Rattle.xen_steps.specs.Pages.{HasRoom}
+use Rattle.xen_steps.proofs.CopyLemmas.{bytes_short, room_at_end, room_goes_on}
+use Rattle.xen_back.proofs.ReadLemmas.{bytes_from-append}
+use Rattle.xen_host.proofs.BusLemmas.{run_then}
+use Rattle.xen_host.proofs.over_bus.OverBus.page_parts.Goals as goal
+
+pub push_all-requires : goal.push_all-requires
+push_all-requires g c =
+    let f = c.args.fragment.now in
+    let i = c.loop-place.invariant in
+    let place = c.loop-place.place in
+    let v = c.word_behind-word.result in
+    let e = ap length (c.as_slice.ensures.value ∙ c.bytes_in-bytes.ensures) in
+    let b = bytes_short f place v refl in
+    omega (arith, e, room_at_end f place (length c.loop-place.packet) (length (bytes_in f place v)) 0 (c.requires.covers place i.up c.loop-place-test.true) b.0 i.room)
+
+pub loop-place-preserved : goal.loop-place-preserved
+loop-place-preserved g c =
+    let f = c.args.fragment.now in
+    let i = c.loop-place.invariant in
+    let ws = i.read.0 in
+    let v = c.word_behind-word.result in
+    let from = c.args.from in
+    let place = c.loop-place.place in
+    let packet = c.loop-place.packet in
+    let at : place ≡ from + length ws = omega (arith, i.up, i.read.1) in
+    let next : place - c.args.start ≡ from - c.args.start + length ws = omega (arith, at, c.requires.ordered.0) in
+    let b = bytes_short f place v refl in
+    let same : c.push_all.new.self ≡ packet ++ bytes_in f place v = c.push_all.ensures ∙ ap (λ l. packet ++ l) (c.as_slice.ensures.value ∙ c.bytes_in-bytes.ensures) in
+    let len : length c.push_all.new.self ≡ length packet + length (bytes_in f place v) = ap length same ∙ length-append packet (bytes_in f place v) in
+    record {
+      up = omega (arith, i.up);
+      room = subst (λ k. HasRoom k f (place + 1) 0) (sym len) (room_goes_on f place (length packet) (length (bytes_in f place v)) 0 (c.requires.covers place i.up c.loop-place-test.true) b.1 i.room);
+      read = (
+        ws ++ v ∷ [],
+        omega (arith, length-append ws (v ∷ []), i.read.1, i.up),
+        run_then g.B.Bus.log g.B.Bus.access_gives g.B.Bus.size (from - c.args.start) (place - c.args.start) ws (v ∷ []) c.args.self.now c.loop-place.self c.word_behind-word.new.self next i.read.2 c.word_behind-word.ensures,
+        same
+            ∙ ap (λ l. l ++ bytes_in f place v) i.read.3
+            ∙ append_assoc c.args.packet.now (bytes_from f from ws) (bytes_in f place v)
+            ∙ ap (λ l. c.args.packet.now ++ (bytes_from f from ws ++ l)) (ap (λ p. bytes_in f p v) at ∙ sym (append-nil (bytes_in f (from + length ws) v)))
+            ∙ sym (ap (λ l. c.args.packet.now ++ l) (bytes_from-append f from ws (v ∷ []))),
+      );
+    }

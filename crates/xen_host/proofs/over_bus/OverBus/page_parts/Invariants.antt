@@ -1,0 +1,13 @@
+use Rattle.std.proofs.Common.{◌≡◌, ◌≤◌, ◌-◌, ◌++◌, List, ℕ, length}
+use Rattle.xen_netif.specs.Copy.{bytes_from}
+use Rattle.xen_steps.specs.Pages.{HasRoom}
+use Rattle.xen_host.specs.Buses.{MayReadRun}
+use Rattle.xen_host.proofs.over_bus.OverBus.page_parts.Given as goal
+
+abbrev pub invariant-loop-place : goal.invariant-loop-place
+invariant-loop-place g l =
+    record {
+      up : l.from ≤ l.place;
+      room : HasRoom (length l.packet) l.fragment l.place 0;
+      read : (words : List ℕ) × (length words ≡ l.place - l.from) × MayReadRun g.B.Bus.log g.B.Bus.access_gives g.B.Bus.size l.fn.self (l.from - l.start) words l.self × (l.packet ≡ l.fn.packet ++ bytes_from l.fragment l.from words);
+    }

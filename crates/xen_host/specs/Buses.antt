@@ -1,0 +1,113 @@
+-- Stated: claims rest on this file.
+-- A host over a bus: which accesses it makes of what it is asked, and what an answer is read by.
+use Rattle.std.specs.Prelude.{ℕ, ◌≡◌, ◌<◌, ◌≤◌, ◌+◌, List, [], ◌∷◌, Option, Some, length}
+use Rattle.xen_netif.specs.Copy.{bytes_of}
+use Rattle.xen_page.specs.Access.{Performs}
+use Rattle.xen_page.specs.declared.access.Access.{Access}
+use Rattle.xen_page.specs.declared.access.Access.TheVariants as access
+use Rattle.xen_page.specs.declared.place.Place.{Place}
+use Rattle.xen_steps.specs.Drive.{accesses}
+use Rattle.xen_steps.specs.Pages.{AreWords}
+use Rattle.xen_steps.specs.Places.{page_word}
+use Rattle.xen_host.specs.Asks.{Ask, DeliveryOver, Entry, IsInPages, Push, Read, TurnOver, WaitOver, Write, did_by, reads_at}
+use Rattle.xen_host.specs.declared.over_bus.Over.{Over}
+use Rattle.xen_host.specs.declared.over_bus.Over.TheVariants as over
+use Rattle.xen_host.specs.declared.over_bus.OverBus.{OverBus}
+
+-- Nothing has to hold, or it never does.
+abbrev pub IsAlways : {B : Type 0} → OverBus B → Type 0
+IsAlways h = Unit {0}
+
+abbrev pub IsNever : {B : Type 0} → OverBus B → Type 0
+IsNever h = ⊥
+
+-- So many words, from a place on, are words of one of `frames` pages.
+abbrev pub IsInBus : ℕ → Place → ℕ → Type 0
+IsInBus frames at count = (at.frame < frames) × (at.word + count ≤ 1024)
+
+-- The bus is the same loan.
+abbrev pub IsSameBus : {B : Type 0} → OverBus B → OverBus B → Type 0
+IsSameBus old new = new.bus.ghost_name ≡ old.bus.ghost_name
+
+-- The place of the k-th word from one on.
+abbrev pub behind : Place → ℕ → Place
+behind at k = page_word at.frame (at.word + k)
+
+-- ---- what is over, as an ask
+
+abbrev pub ask_of : Over → Ask
+ask_of (over.Turn kind) = TurnOver kind
+ask_of (over.Delivery what) = DeliveryOver what
+ask_of (over.Wait what) = WaitOver what
+
+-- What is over after an ask.
+abbrev pub over_after : Ask → Option Over → Option Over
+over_after (TurnOver kind) o = Some (over.Turn kind)
+over_after (DeliveryOver what) o = Some (over.Delivery what)
+over_after (WaitOver what) o = Some (over.Wait what)
+over_after a o = o
+
+-- ---- what was asked
+
+-- Where the words of its answer are.
+abbrev pub IsDueAt : Ask → Place → Type 0
+IsDueAt (Read at count) due = due ≡ at
+IsDueAt (Entry at reference rights) due = due ≡ at
+IsDueAt (Push at word read) due = due ≡ page_word at.frame read
+IsDueAt a due = Unit {0}
+
+-- A WRITE has as many words as it says.
+abbrev pub IsHeld : Ask → List ℕ → Type 0
+IsHeld (Write at count) words = length words ≡ count
+IsHeld a words = Unit {0}
+
+-- What was asked was done, if its words are in the bus's pages, and its answer is due.
+pub record IsMade {B : Type 0} (log : B → Option (List Access)) (gives : B → Access → B → Type 0) (size : B → ℕ) (old : OverBus B) (a : Ask)
+    (words : List ℕ) (new : OverBus B) : Type 0 where
+  pub performed : IsInPages (size old.bus.now) a → Performs log gives old.bus.now (accesses (did_by a words)) new.bus.now
+  pub sized : size new.bus.now ≡ size old.bus.now
+  pub due : IsDueAt a new.at
+  pub held : IsHeld a words
+  pub over : new.over ≡ over_after a old.over
+  pub loan : IsSameBus old new
+
+-- ---- what was answered
+
+-- The words that are due were read, each once and in order, if they are in the bus's pages.
+pub record HasRead {B : Type 0} (log : B → Option (List Access)) (gives : B → Access → B → Type 0) (size : B → ℕ) (old : OverBus B)
+    (words : List ℕ) (new : OverBus B) : Type 0 where
+  pub performed : IsInBus (size old.bus.now) old.at (length words) →
+      Performs log gives old.bus.now (accesses (reads_at old.at words)) new.bus.now
+  pub sized : size new.bus.now ≡ size old.bus.now
+  pub over : new.over ≡ old.over
+  pub loan : IsSameBus old new
+
+-- ---- the parts
+
+-- Words that are due were read, from the k-th on, each once and in order.
+pub record MayReadRun {B : Type 0} (log : B → Option (List Access)) (gives : B → Access → B → Type 0) (size : B → ℕ) (old : OverBus B) (k : ℕ)
+    (words : List ℕ) (new : OverBus B) : Type 0 where
+  pub performed : IsInBus (size old.bus.now) (behind old.at k) (length words) →
+      Performs log gives old.bus.now (accesses (reads_at (behind old.at k) words)) new.bus.now
+  pub below : AreWords words
+  pub sized : size new.bus.now ≡ size old.bus.now
+  pub due : new.at ≡ old.at
+  pub over : new.over ≡ old.over
+  pub loan : IsSameBus old new
+
+-- These are the bytes of so many of them, lowest byte first.
+pub record IsFilled {B : Type 0} (log : B → Option (List Access)) (gives : B → Access → B → Type 0) (size : B → ℕ) (old : OverBus B) (k count : ℕ)
+    (bytes : List ℕ) (new : OverBus B) : Type 0 where
+  pub words : List ℕ
+  pub all : length words ≡ count
+  pub told : bytes ≡ bytes_of words
+  pub read : MayReadRun log gives size old k words new
+
+-- A word was written.
+pub record MayWrite {B : Type 0} (log : B → Option (List Access)) (gives : B → Access → B → Type 0) (size : B → ℕ) (old : OverBus B)
+    (at : Place) (word : ℕ) (new : OverBus B) : Type 0 where
+  pub performed : IsInBus (size old.bus.now) at 1 → Performs log gives old.bus.now (access.Write at word ∷ []) new.bus.now
+  pub sized : size new.bus.now ≡ size old.bus.now
+  pub due : new.at ≡ old.at
+  pub over : new.over ≡ old.over
+  pub loan : IsSameBus old new

@@ -1,0 +1,78 @@
+-- Stated: claims rest on this file.
+-- A turn's beginning and a step of a queue, over any host: what it answered, what it was asked, and where these lead.
+use Rattle.std.specs.Prelude.{ℕ, ◌≡◌, ◌⊎◌, false, List, [], ◌∷◌, ◌++◌, Option, length, map}
+use Rattle.bpf_note.specs.declared.op.Op.{Op as Operation}
+use Rattle.bpf_maps.specs.Seats.{SeatView}
+use Rattle.xdp_program.specs.Ran.{IsHistory}
+use Rattle.xdp_program.specs.Tallies.{HasGrown}
+use Rattle.xen_steps.specs.Event.{Event, Read}
+use Rattle.xen_rx_fill.specs.Places.{tx_word}
+use Rattle.xen_back.specs.Program.{event_of}
+use Rattle.xen_back.specs.declared.state.State.{State}
+use Rattle.xen_host.specs.Asks.{AllInPages, AllSized, Ask, TakeNone, needs_no_answer, read_by}
+use Rattle.xen_host.specs.Buses.{IsHeld}
+use Rattle.xen_host.specs.Hosts.{Asked, WasAskedAll, WasGiven, asks_of, events_of}
+use Rattle.xen_host.specs.Queues.{DeliveryGoesOn, IsDelivering, IsTurning, IsWaiting, TurnGoesOn, WaitGoesOn, first_read, read_by_some, wiring}
+use Rattle.xen_host.specs.Rest.{flags_after, no_flags, reads_in}
+use Rattle.xen_host.specs.Told.{IsToldAt}
+use Rattle.xen_host.specs.declared.queue.Queue.{Queue}
+
+-- Each WRITE has as many words as it says.
+abbrev pub AllHeld : List Asked → Type 0
+AllHeld [] = Unit {0}
+AllHeld (a ∷ more) = IsHeld a.ask a.words × AllHeld more
+
+-- A turn has begun between two, with what was read of the tx producer.
+pub record BeginsOver {H : Type 0} (was : H → Ask → List ℕ → H → Type 0) (full : H → Type 0) (old new : Queue) (producer : ℕ)
+    (host host_after : H) : Type 0 where
+  pub first : List Asked
+  pub last : Asked
+  pub asked : WasAskedAll was host (first ++ last ∷ []) host_after
+  pub take_none : TakeNone (asks_of first)
+  pub stops : full host_after ⊎ (needs_no_answer last.ask ≡ false)
+  pub sized : AllSized (asks_of (first ++ last ∷ []))
+  pub told : IsToldAt old.engine.wires.table new.engine.stage last.ask
+  pub within : AllHeld (first ++ last ∷ []) → AllInPages (length old.engine.wires.owners) (asks_of (first ++ last ∷ []))
+  pub wires : new.engine.wires ≡ old.engine.wires
+  pub flags : new.engine.flags ≡ no_flags
+  pub turn : TurnGoesOn new last.ask old.engine.state
+      (first_read old.engine.state.halt (Read (tx_word (wiring old).vif 0) producer) ++ events_of (first ++ last ∷ []))
+
+-- What was asked last is answered, the program runs as far as it has to, with its operations on counters as `went` says, and the host is
+-- asked for what comes then. With the events of all this, what is under way goes on or is over.
+pub record SteppedOver {H : Type 0} (was : H → Ask → List ℕ → H → Type 0) (full : H → Type 0) (gave : H → List ℕ → H → Type 0)
+    (went : List (Option Operation) → Type 0) (same : Type 0) (old new : Queue) (host host_after : H) : Type 0 where
+  pub words : List ℕ
+  pub mid : H
+  pub given : WasGiven gave (reads_in old.engine.stage) host words mid
+  pub first : List Asked
+  pub last : Asked
+  pub asked : WasAskedAll was mid (first ++ last ∷ []) host_after
+  pub take_none : TakeNone (asks_of first)
+  pub stops : full host_after ⊎ (needs_no_answer last.ask ≡ false)
+  pub sized : AllSized (asks_of (first ++ last ∷ []))
+  pub told : IsToldAt old.engine.wires.table new.engine.stage last.ask
+  pub within : AllHeld (first ++ last ∷ []) → AllInPages (length old.engine.wires.owners) (asks_of (first ++ last ∷ []))
+  pub wires : new.engine.wires ≡ old.engine.wires
+  pub flags : new.engine.flags ≡ flags_after old.engine.stage old.engine.work words old.engine.flags
+  pub labels : List (Option Operation)
+  pub history : went labels
+  pub turn : (s : State) (trace : List Event) (asked : Ask) → IsTurning old s trace asked →
+      TurnGoesOn new last.ask s (trace ++ (read_by asked words ++ (map event_of labels ++ events_of (first ++ last ∷ []))))
+  pub delivery : (s : State) (packet : List ℕ) (trace : List Event) (asked : Option Ask) → IsDelivering old s packet trace asked →
+      DeliveryGoesOn new last.ask s packet (trace ++ (read_by_some asked words ++ events_of (first ++ last ∷ []))) × same
+  pub wait : (s : State) (pages : ℕ) (packet : List ℕ) (trace : List Event) (asked : Option Ask) → IsWaiting old s pages packet trace asked →
+      WaitGoesOn new last.ask s pages packet (trace ++ (read_by_some asked words ++ events_of (first ++ last ∷ []))) × same
+
+-- A step with the program's counters in the host's words.
+abbrev pub StepsOver : {H : Type 0} → (H → Ask → List ℕ → H → Type 0) → (H → Type 0) → (H → List ℕ → H → Type 0) → (old new : Queue) →
+    (before after : List ℕ) → (host host_after : H) → Type 0
+StepsOver was full gave old new before after host host_after =
+    SteppedOver was full gave (λ labels. IsHistory old.engine.wires.program.shapes labels before after) (after ≡ before) old new host
+    host_after
+
+-- A step at a seat, whose list grew by the program's operations and by no others.
+abbrev pub StepsOverAtSeat : {H : Type 0} → (H → Ask → List ℕ → H → Type 0) → (H → Type 0) → (H → List ℕ → H → Type 0) →
+    (old new : Queue) → (before after : SeatView) → (host host_after : H) → Type 0
+StepsOverAtSeat was full gave old new before after host host_after =
+    SteppedOver was full gave (HasGrown before after) (after ≡ before) old new host host_after

@@ -1,0 +1,319 @@
+//! A host over a bus: it writes at once, and reads when the answer is taken.
+
+ghost use Rattle.std.specs.Prelude.{◌≡◌, ◌<◌, ◌≤◌, ◌+◌, ◌-◌, ◌*◌, ◌↔◌, ◌++◌, ◌∷◌, [], IsTrue, List, None, length, ℕ};
+ghost use Rattle.xen_netif.specs.Copy.{Covers, bytes_from, bytes_of};
+ghost use Rattle.xen_page.specs.Access.{Performs};
+ghost use Rattle.xen_steps.specs.Drive.{accesses};
+ghost use Rattle.xen_steps.specs.Pages.{HasRoom};
+ghost use Rattle.xen_host.specs.Asks.{op_of, writes_at};
+ghost use Rattle.xen_host.specs.Filling.{packet_words};
+ghost use Rattle.xen_host.specs.Buses.{HasRead, IsAlways, IsFilled, IsInBus, IsMade, IsNever, IsSameBus, MayReadRun, MayWrite, ask_of, behind};
+
+use crate::host::Host;
+use crate::op::Op;
+use crate::packet::Packet;
+use xen_back::{Awaited, Delivery, Kind};
+use xen_netif::Fragment;
+use xen_page::{Bus, Place, Rights};
+use xen_ring::{Port, Ports};
+use xen_rx_fill::packet_word;
+
+/// How many words a page has.
+const PAGE_WORDS: u32 = 1024;
+
+/// What is over.
+#[derive(Clone, Copy, Debug, PartialEq, Eq, Drop)]
+pub enum Over {
+    Turn(Kind),
+    Delivery(Delivery),
+    Wait(Awaited),
+}
+
+impl Over {
+    /// As C sees it.
+    #[inline(always)]
+    pub fn op(self) -> Op
+        ensures { result ≡ op_of (ask_of self) }
+    {
+        match self {
+            Over::Turn(kind) => Op::done(kind),
+            Over::Delivery(delivery) => Op::delivered(delivery),
+            Over::Wait(awaited) => Op::awaited(awaited),
+        }
+    }
+}
+
+/// A host over a bus. It makes each access that it is asked for at once, but for a read, which it makes when its answer is taken.
+/// What isn't in the bus's pages is neither read nor written: a word there is 0. No queue asks for such a word.
+#[derive(Drop)]
+pub struct OverBus<'a, 'p, B: Bus> {
+    /// Who reaches the pages.
+    pub(crate) bus: &'a mut B,
+    /// Where notices go.
+    pub(crate) ports: &'p Ports,
+    /// Where the words of the next answer are.
+    pub(crate) at: Place,
+    /// What is over, if anything is.
+    pub(crate) over: Option<Over>,
+}
+
+impl<'a, 'p, B: Bus> OverBus<'a, 'p, B> {
+    /// A host that was asked for nothing yet.
+    #[inline(always)]
+    pub fn new(bus: &'a mut B, ports: &'p Ports) -> OverBus<'a, 'p, B>
+        ensures bus { result.bus.now ≡ bus.old }
+        ensures loan { result.bus.ghost_name ≡ bus.entry.ghost_name }
+        ensures over { result.over ≡ None }
+    {
+        OverBus {
+            bus,
+            ports,
+            at: Place { frame: 0, word: 0 },
+            over: None,
+        }
+    }
+
+    /// What is over, if anything is.
+    #[inline(always)]
+    pub fn over(&self) -> Option<Over>
+        ensures { result ≡ self.now.over }
+    {
+        self.over
+    }
+
+    /// Whether `count` words, from the k-th behind a place on, are words of a page of the bus.
+    #[inline(always)]
+    fn reaches(&self, at: Place, k: u32, count: u32) -> bool
+        requires { k + count ≤ 1024 }
+        ensures { IsTrue result ↔ IsInBus (B.size self.now.bus.now) (behind at k) count }
+    {
+        at.frame < self.bus.frames() && at.word <= PAGE_WORDS - (k + count)
+    }
+
+    /// The k-th word of the next answer.
+    #[inline(always)]
+    fn word_behind(&mut self, k: u32) -> u32
+        requires { k < 1024 }
+        ensures { MayReadRun B.log B.access_gives B.size self.old k (result ∷ []) self.new }
+    {
+        if self.reaches(self.at, k, 1) {
+            self.bus.read(Place {
+                frame: self.at.frame,
+                word: self.at.word + k,
+            })
+        } else {
+            0
+        }
+    }
+
+    /// Fills room with the bytes of words of the next answer, from the k-th on.
+    #[inline(always)]
+    fn fill(&mut self, k: u32, count: u32, room: &mut [u8])
+        requires page { k + count ≤ 1024 }
+        requires room { length room.old ≡ 4 * count }
+        ensures { IsFilled B.log B.access_gives B.size self.old k count room.new self.new }
+    {
+        if self.reaches(self.at, k, count) {
+            let from = Place {
+                frame: self.at.frame,
+                word: self.at.word + k,
+            };
+            self.bus.read_run(from, room)
+        } else {
+            room.fill(0)
+        }
+    }
+
+    /// Puts a fragment's bytes in words of its page, from one place to another, after a packet's bytes. The next answer has the page's
+    /// words from `start` on.
+    #[inline(always)]
+    fn page_parts(
+        &mut self,
+        fragment: &Fragment,
+        start: u32,
+        from: u32,
+        to: u32,
+        packet: &mut Packet,
+    )
+        requires ordered { (start ≤ from) × (from ≤ to) }
+        requires within { to ≤ 1024 }
+        requires covers { (place : ℕ) → from ≤ place → place < to → Covers fragment.now place }
+        requires room { HasRoom (length packet.old) fragment.now from 0 }
+        ensures room { HasRoom (length packet.new) fragment.now to 0 }
+        ensures read { (words : List ℕ) × (length words ≡ to - from) × MayReadRun B.log B.access_gives B.size self.old (from - start) words
+            self.new × (packet.new ≡ packet.old ++ bytes_from fragment.now from words) }
+    {
+        for place in from..to {
+            let word = self.word_behind(place - start);
+            let bytes = fragment.bytes_in(place, word);
+            packet.push_all(bytes.as_slice());
+        }
+    }
+
+    /// Writes a word.
+    #[inline(always)]
+    fn put(&mut self, at: Place, word: u32)
+        ensures { MayWrite B.log B.access_gives B.size self.old at word self.new }
+    {
+        if self.reaches(at, 0, 1) {
+            self.bus.write(at, word)
+        }
+    }
+
+    /// Writes `count` words of a packet, from the word `from` on, from a place on.
+    #[inline(always)]
+    fn put_packet(&mut self, at: Place, bytes: &[u8], from: u32, count: u32)
+        requires frame { at.frame < B.size self.old.bus.now }
+        requires within { at.word + count ≤ 1024 }
+        requires short { length bytes.now ≤ 65535 }
+        requires some { 0 < count }
+        requires inside { 4 * (from + count) ≤ length bytes.now + 3 }
+        ensures size { B.size self.new.bus.now ≡ B.size self.old.bus.now }
+        ensures wrote { Performs B.log B.access_gives self.old.bus.now (accesses (writes_at at (packet_words bytes.now from count)))
+            self.new.bus.now }
+        ensures beside { (self.new.at ≡ self.old.at) × (self.new.over ≡ self.old.over) × IsSameBus self.old self.new }
+    {
+        let whole = count.min(bytes.len() as u32 / 4 - from);
+        let start = 4 * from as usize;
+        self.bus
+            .write_run(at, &bytes[start..start + 4 * whole as usize]);
+        if whole < count {
+            let last = Place {
+                frame: at.frame,
+                word: at.word + whole,
+            };
+            self.bus.write(last, packet_word(bytes, from + whole));
+        }
+    }
+}
+
+impl Packet {
+    /// Puts `count` words of a host's next answer, from the k-th on, after the packet's bytes.
+    #[inline(always)]
+    fn push_due<B: Bus>(&mut self, host: &mut OverBus<'_, '_, B>, k: u32, count: u32)
+        requires page { k + count ≤ 1024 }
+        requires room { 0 < count → length self.old + 4 * count ≤ 65535 }
+        ensures { (words : List ℕ) × (length words ≡ count) × MayReadRun B.log B.access_gives B.size host.old k words host.new ×
+            (self.new ≡ self.old ++ bytes_of words) }
+    {
+        if count == 0 {
+            return;
+        }
+        let end = self.len + 4 * count as usize;
+        host.fill(k, count, &mut self.storage[self.len..end]);
+        self.len = end;
+    }
+}
+
+impl<'a, 'p, B: Bus> Host for OverBus<'a, 'p, B> {
+    ghost was_asked = { IsMade B.log B.access_gives B.size };
+
+    ghost has_given = { HasRead B.log B.access_gives B.size };
+
+    ghost is_fresh = { IsAlways };
+
+    ghost is_free = { IsAlways };
+
+    ghost is_settled = { IsAlways };
+
+    ghost is_full = { IsNever };
+
+    #[inline(always)]
+    fn has_room(&self) -> bool {
+        true
+    }
+
+    #[inline(always)]
+    fn read(&mut self, at: Place, _count: u32) {
+        self.at = at;
+    }
+
+    #[inline(always)]
+    fn read_entry(&mut self, at: Place, _reference: u32, _rights: Rights) {
+        self.at = at;
+    }
+
+    #[inline(always)]
+    fn write(&mut self, at: Place, bytes: &[u8], from: u32, count: u32) {
+        if self.reaches(at, 0, count) {
+            self.put_packet(at, bytes, from, count)
+        }
+    }
+
+    #[inline(always)]
+    fn store(&mut self, at: Place, word: u32) {
+        self.put(at, word)
+    }
+
+    #[inline(always)]
+    fn store_two(&mut self, at: Place, first: u32, second: u32) {
+        if self.reaches(at, 0, 2) {
+            self.bus.write(at, first);
+            let next = Place {
+                frame: at.frame,
+                word: at.word + 1,
+            };
+            self.bus.write(next, second);
+        }
+    }
+
+    #[inline(always)]
+    fn push(&mut self, at: Place, word: u32, read: u32) {
+        self.put(at, word);
+        self.at = Place {
+            frame: at.frame,
+            word: read,
+        };
+    }
+
+    #[inline(always)]
+    fn notify(&mut self, port: u32) {
+        if let Some(port) = Port::of(port) {
+            self.ports.notify(port);
+        }
+    }
+
+    #[inline(always)]
+    fn done(&mut self, kind: Kind) {
+        self.over = Some(Over::Turn(kind));
+    }
+
+    #[inline(always)]
+    fn delivered(&mut self, delivery: Delivery) {
+        self.over = Some(Over::Delivery(delivery));
+    }
+
+    #[inline(always)]
+    fn awaited(&mut self, awaited: Awaited) {
+        self.over = Some(Over::Wait(awaited));
+    }
+
+    #[inline(always)]
+    fn word(&mut self) -> u32 {
+        self.word_behind(0)
+    }
+
+    #[inline(always)]
+    fn two(&mut self) -> [u32; 2] {
+        let first = self.word_behind(0);
+        let second = self.word_behind(1);
+        [first, second]
+    }
+
+    #[inline(always)]
+    fn three(&mut self) -> [u32; 3] {
+        let first = self.word_behind(0);
+        let second = self.word_behind(1);
+        let third = self.word_behind(2);
+        [first, second, third]
+    }
+
+    fn page(&mut self, fragment: &Fragment, packet: &mut Packet) {
+        let covered = fragment.covered_words();
+        let whole = fragment.whole_words();
+        let start = covered.start;
+        self.page_parts(fragment, start, start, whole.start, packet);
+        packet.push_due(self, whole.start - start, whole.end - whole.start);
+        self.page_parts(fragment, start, whole.end, covered.end, packet);
+    }
+}
