@@ -1,13 +1,12 @@
 -- How a turn, a delivery and a wait begin and end, and how many steps they take.
-use Rattle.std.proofs.Common.{◌≡◌, ℕ, ◌+◌, ◌≤◌, Bool, true, false, List, [], ◌∷◌, ◌++◌, Option, None, Some, refl, sym, ap, ◌∙◌, subst, length, map, arith, append-nil}
+use Rattle.std.proofs.Common.{◌≡◌, ℕ, ◌≤◌, true, List, [], ◌∷◌, ◌++◌, Option, None, Some, refl, sym, ◌∙◌, subst, length, map, arith, append-nil}
 use Rattle.xdp_program.specs.Ran.{IsHistory}
 use Rattle.xen_page.specs.Access.{Performs}
 use Rattle.xen_page.specs.declared.access.Access.{Access}
 use Rattle.xen_page.proofs.AccessLemmas.{performs_none, performs_then}
-use Rattle.xen_steps.specs.Drive.{IsPageWant, accesses, notices_in}
+use Rattle.xen_steps.specs.Drive.{IsPageWant, accesses}
 use Rattle.xen_steps.specs.Event.{Event}
 use Rattle.xen_steps.specs.Event as event
-use Rattle.xen_steps.specs.Finish.{Finishes}
 use Rattle.xen_steps.specs.Steps.{Runs}
 use Rattle.xen_steps.proofs.DriveLemmas.{accesses-append}
 use Rattle.xen_steps.proofs.FinishLemmas.{runs_gone, some_run}
@@ -31,7 +30,7 @@ use Rattle.xen_host.specs.Asks.{Ask, IsSized, Read, Entry, Write, Store, StoreTw
 use Rattle.xen_host.specs.Completing.{Arriving, TaskCompletes, Waiting}
 use Rattle.xen_host.specs.Queues.{DeliveryGoesOn, IsDelivering, IsTurning, IsWaiting, TurnGoesOn, WaitGoesOn, first_read, packet_of, wiring}
 use Rattle.xen_host.specs.Rest.{is_delivering, is_turning, is_waiting, rest_in, rest_of_delivery, rest_of_wait}
-use Rattle.xen_host.specs.Wired.{vif_of, wiring_of}
+use Rattle.xen_host.specs.Wired.{wiring_of}
 use Rattle.xen_host.specs.declared.queue.Queue.{Queue}
 use Rattle.xen_host.specs.declared.stage.Purpose.TheVariants as purpose
 use Rattle.xen_host.specs.declared.stage.Stage.{Stage}
@@ -39,9 +38,9 @@ use Rattle.xen_host.specs.declared.stage.Stage.TheVariants as stage
 use Rattle.xen_host.specs.declared.wires.OwnedWiring.{OwnedWiring}
 use Rattle.xen_host.specs.declared.work.Work.{Work}
 use Rattle.xen_drive.specs.Driven.{BeginsDelivery, BeginsTurn, BeginsWait, HasAwaited, HasDelivered, HasTurned}
-use Rattle.xen_drive.specs.Driving.{GoesOn, HasTask, Task, delivery, turn, wait}
-use Rattle.xen_drive.specs.Hosts.{Held, StepsBy, is_over}
-use Rattle.xen_drive.proofs.StepLemmas.{Carried, carried_by, last_sized}
+use Rattle.xen_drive.specs.Driving.{delivery, turn, wait}
+use Rattle.xen_drive.specs.Hosts.{Held, is_over}
+use Rattle.xen_drive.proofs.StepLemmas.{Carried, last_sized}
 use Rattle.xen_drive.proofs.TraceLemmas.{all_none, effects, effects_append, history_append, history_none}
 
 -- ---- what is under way has a way to its end
@@ -113,7 +112,7 @@ some_wait q s pages packet t a h =
 
 -- ---- so it has few accesses and notices
 
-front_few : (t p : List Event) (most : ℕ) → effects (t ++ p) ≤ most → effects t ≤ most
+pub front_few : (t p : List Event) (most : ℕ) → effects (t ++ p) ≤ most → effects t ≤ most
 front_few t p most h = let e = effects_append t p in omega (arith, e, h)
 
 -- The laws of whole turns, deliveries and waits.
@@ -143,7 +142,7 @@ turning_few rests short q s t a h =
     let r = some_turn q s t a h in
     front_few t r.0 33028 (short (wiring q) s (t ++ r.0) r.1.0 r.1.1 (rests (wiring q) s (t ++ r.0) r.1.0 r.1.1 r.2))
 
-turn_few : TurnsAreRests → TurnsAreShort → (q : Queue) (s : State) (t : List Event) (a : Ask) → TurnGoesOn q a s t → effects t ≤ 33028
+pub turn_few : TurnsAreRests → TurnsAreShort → (q : Queue) (s : State) (t : List Event) (a : Ask) → TurnGoesOn q a s t → effects t ≤ 33028
 turn_few rests short q s t (TurnOver x) h = short (wiring q) s t q.engine.state (turned x (packet_of q)) h.0
 turn_few rests short q s t (Read at count) h = turning_few rests short q s t (Read at count) h
 turn_few rests short q s t (Entry at reference rights) h = turning_few rests short q s t (Entry at reference rights) h
@@ -160,7 +159,7 @@ delivering_few rests short q s packet t a h =
     let r = some_delivery q s packet t a h in
     front_few t r.0 16484 (short (wiring q) s packet (t ++ r.0) r.1.0 r.1.1 (rests (wiring q) s packet (t ++ r.0) r.1.0 r.1.1 r.2))
 
-delivery_few : DeliveriesAreRests → DeliveriesAreShort → (q : Queue) (s : State) (packet : List ℕ) (t : List Event) (a : Ask) → DeliveryGoesOn q a s packet t → effects t ≤ 16484
+pub delivery_few : DeliveriesAreRests → DeliveriesAreShort → (q : Queue) (s : State) (packet : List ℕ) (t : List Event) (a : Ask) → DeliveryGoesOn q a s packet t → effects t ≤ 16484
 delivery_few rests short q s packet t (DeliveryOver x) h = short (wiring q) s packet t q.engine.state x h.0
 delivery_few rests short q s packet t (Read at count) h = delivering_few rests short q s packet t (Some (Read at count)) h
 delivery_few rests short q s packet t (Entry at reference rights) h = delivering_few rests short q s packet t (Some (Entry at reference rights)) h
@@ -177,7 +176,7 @@ waiting_few rests q s pages packet t a h =
     let r = some_wait q s pages packet t a h in
     front_few t r.0 2 (waits_are_short (wiring q) s pages (t ++ r.0) r.1.0 r.1.1 (rests (wiring q) s pages (t ++ r.0) r.1.0 r.1.1 r.2))
 
-wait_few : WaitsAreRests → (q : Queue) (s : State) (pages : ℕ) (packet : List ℕ) (t : List Event) (a : Ask) → WaitGoesOn q a s pages packet t → effects t ≤ 2
+pub wait_few : WaitsAreRests → (q : Queue) (s : State) (pages : ℕ) (packet : List ℕ) (t : List Event) (a : Ask) → WaitGoesOn q a s pages packet t → effects t ≤ 2
 wait_few rests q s pages packet t (WaitOver x) h = waits_are_short (wiring q) s pages t q.engine.state x h.0
 wait_few rests q s pages packet t (Read at count) h = waiting_few rests q s pages packet t (Some (Read at count)) h
 wait_few rests q s pages packet t (Entry at reference rights) h = waiting_few rests q s pages packet t (Some (Entry at reference rights)) h
@@ -189,7 +188,7 @@ wait_few rests q s pages packet t (Notify port) h = waiting_few rests q s pages 
 wait_few rests q s pages packet t (TurnOver x) h = waiting_few rests q s pages packet t (Some (TurnOver x)) h
 wait_few rests q s pages packet t (DeliveryOver x) h = waiting_few rests q s pages packet t (Some (DeliveryOver x)) h
 
-first_none : (o : Option Halt) (at : Event) → labels (at ∷ []) ≡ [] → labels (first_read o at) ≡ []
+pub first_none : (o : Option Halt) (at : Event) → labels (at ∷ []) ≡ [] → labels (first_read o at) ≡ []
 first_none None at h = h
 first_none (Some cause) at h = refl
 
@@ -357,26 +356,3 @@ module _ {S : Type 0} (log : S → Option (List Access)) (gives : S → Access �
       by (StoreTwo at first second) e o g = absurd (cc o)
       by (Push at word read) e o g = absurd (cc o)
       by (Notify port) e o g = absurd (cc o)
-
-  -- ---- how many steps
-
-  pub turn_steps : TurnsAreRests → TurnsAreShort → (old : Queue) (bus : S) (before : List ℕ) (n : ℕ) (h : Held S) → Carried log gives turn old.engine.state old.engine.wires bus before n h → n ≤ 33028
-  turn_steps rests short old bus before n h c =
-      let x = did_all h.first h.lent ++ did_by h.last h.lent in
-      let k = c.some in
-      let f = front_few c.trace x 33028 (turn_few rests short h.queue old.engine.state (c.trace ++ x) h.last c.goes) in
-      omega (arith, k, f)
-
-  pub delivery_steps : DeliveriesAreRests → DeliveriesAreShort → (old : Queue) (packet : List ℕ) (bus : S) (before : List ℕ) (n : ℕ) (h : Held S) → Carried log gives (delivery packet) old.engine.state old.engine.wires bus before n h → n ≤ 16484
-  delivery_steps rests short old packet bus before n h c =
-      let x = did_all h.first h.lent ++ did_by h.last h.lent in
-      let k = c.some in
-      let f = front_few c.trace x 16484 (delivery_few rests short h.queue old.engine.state packet (c.trace ++ x) h.last c.goes) in
-      omega (arith, k, f)
-
-  pub wait_steps : WaitsAreRests → (old : Queue) (pages : ℕ) (bus : S) (before : List ℕ) (n : ℕ) (h : Held S) → Carried log gives (wait pages (packet_of old)) old.engine.state old.engine.wires bus before n h → n ≤ 2
-  wait_steps rests old pages bus before n h c =
-      let x = did_all h.first h.lent ++ did_by h.last h.lent in
-      let k = c.some in
-      let f = front_few c.trace x 2 (wait_few rests h.queue old.engine.state pages (packet_of old) (c.trace ++ x) h.last c.goes) in
-      omega (arith, k, f)

@@ -1,7 +1,6 @@
-pub mod OpLemmas
-pub mod WordLemmas
 pub mod TraceLemmas
 pub mod TaskLemmas
 pub mod StepLemmas
 pub mod BoundLemmas
-pub mod LoopLemmas
+pub mod GoingLemmas
+pub mod GoneLemmas

@@ -1,5 +1,5 @@
 -- A host that makes the accesses of each op goes on.
-use Rattle.std.proofs.Common.{◌≡◌, ℕ, zero, suc, ◌+◌, ◌≤◌, Bool, true, false, List, [], ◌∷◌, ◌++◌, Option, Some, refl, sym, ap, ◌∙◌, subst, length, map, arith, append-nil, append_assoc}
+use Rattle.std.proofs.Common.{◌≡◌, ℕ, zero, suc, ◌≤◌, List, [], ◌∷◌, ◌++◌, Option, Some, sym, ap, ◌∙◌, subst, length, map, arith, append-nil, append_assoc}
 use Rattle.xdp_program.specs.Ran.{IsHistory}
 use Rattle.xen_page.specs.Access.{Performs}
 use Rattle.xen_page.specs.declared.access.Access.{Access}
@@ -10,11 +10,11 @@ use Rattle.xen_steps.proofs.DriveLemmas.{accesses-append}
 use Rattle.xen_back.specs.Drive.{labels}
 use Rattle.xen_back.specs.declared.state.State.{State}
 use Rattle.xen_host.specs.Asks.{AllSized, Ask, IsSized, did_all, did_by, read_by}
-use Rattle.xen_host.specs.declared.queue.Queue.{Queue}
 use Rattle.xen_host.specs.declared.wires.OwnedWiring.{OwnedWiring}
-use Rattle.xen_drive.specs.Driving.{GoesOn, HasTask, Task}
-use Rattle.xen_drive.specs.Hosts.{Held, Steps, StepsBy, done_by, is_over}
-use Rattle.xen_drive.proofs.TaskLemmas.{Keeps, keeps_then, moved, task_on}
+use Rattle.xen_drive.specs.Driving.{GoesOn, Task}
+use Rattle.xen_drive.specs.Going.{KeepsAll}
+use Rattle.xen_drive.specs.Hosts.{Held, Steps, StepsBy}
+use Rattle.xen_drive.proofs.TaskLemmas.{keeps_then, moved}
 use Rattle.xen_drive.proofs.TraceLemmas.{all_none, did_none, effects, effects_append, history_append, history_none, labels_none, read_by_none, some_effect}
 
 -- What was done since a task began, of which at least n accesses and notices: the bus went through the accesses, and the counters through the operations. What was asked last isn't done yet.
@@ -22,7 +22,7 @@ pub record Carried {S : Type 0} (log : S → Option (List Access)) (gives : S �
   pub trace : List Event
   pub performed : Performs log gives bus (accesses trace) h.bus
   pub counted : IsHistory w.program.shapes (map Some (labels trace)) before h.counters
-  pub keeps : Keeps k before h.counters
+  pub keeps : KeepsAll k before h.counters
   pub goes : GoesOn k h.queue h.last s (trace ++ (did_all h.first h.lent ++ did_by h.last h.lent))
   pub sized : IsSized h.last
   pub page : 1024 ≤ length h.lent
@@ -87,10 +87,3 @@ module _ {S : Type 0} (log : S → Option (List Access)) (gives : S → Access �
     pub carried_by : (n : ℕ) (h h' : Held S) → Carried log gives k s w bus before 0 h → StepsBy log gives n h h' → Carried log gives k s w bus before n h'
     carried_by zero h h' c d = subst (λ (x : Held S). Carried log gives k s w bus before 0 x) d c
     carried_by (suc n) h h' c d = carried_on n d.0 h' (carried_by n h d.0 c d.1) d.2
-
-  pub task_by : (n : ℕ) (h h' : Held S) → HasTask h.queue h.last → StepsBy log gives n h h' → HasTask h'.queue h'.last
-  task_by zero h h' t d = subst (λ (x : Held S). HasTask x.queue x.last) d t
-  task_by (suc n) h h' t d =
-      let m = d.0 in
-      let g = d.2 in
-      subst (λ (a : Ask). HasTask h'.queue a) (sym g.last) (task_on m.queue h'.queue g.read h'.lent m.counters h'.counters g.ops g.ops_after g.count g.stepped m.last g.goes_on (task_by n h m t d.1))

@@ -1,5 +1,5 @@
 -- What a queue is about: it goes on, and it is busy until it is over.
-use Rattle.std.proofs.Common.{◌≡◌, ℕ, Bool, true, false, List, [], ◌∷◌, ◌++◌, Option, Some, None, refl, sym, ◌∙◌, map}
+use Rattle.std.proofs.Common.{◌≡◌, ℕ, true, false, List, [], ◌++◌, Option, Some, None, refl, sym, ◌∙◌, map}
 use Rattle.std.specs.Prelude.{IsSome}
 use Rattle.bpf_note.specs.Shape.{Shape}
 use Rattle.xdp_program.specs.Ran.{IsHistory}
@@ -13,10 +13,10 @@ use Rattle.xen_host.specs.Queues.{DeliveryGoesOn, HasStepped, IsDelivering, IsTu
 use Rattle.xen_host.specs.Rest.{is_delivering, is_turning, is_waiting}
 use Rattle.xen_host.specs.declared.op.Op.{Op}
 use Rattle.xen_host.specs.declared.queue.Queue.{Queue}
-use Rattle.xen_host.specs.declared.stage.Purpose.TheVariants as purpose
 use Rattle.xen_host.specs.declared.stage.Stage.{Stage}
 use Rattle.xen_host.specs.declared.stage.Stage.TheVariants as stage
-use Rattle.xen_drive.specs.Driving.{GoesOn, HasTask, Task, delivery, turn, wait}
+use Rattle.xen_drive.specs.Driving.{GoesOn, Task, delivery, turn, wait}
+use Rattle.xen_drive.specs.Going.{KeepsAll}
 use Rattle.xen_drive.specs.Hosts.{is_over}
 use Rattle.xen_drive.proofs.TraceLemmas.{history_of, program_none}
 
@@ -108,13 +108,10 @@ begun_delivery_busy q s packet t a h = delivering_busy q.engine.state q.engine.s
 pub begun_wait_busy : (q : Queue) (s : State) (pages : ℕ) (packet : List ℕ) (t : List Event) (a : Option Ask) → IsWaiting q s pages packet t a → resting q ≡ None
 begun_wait_busy q s pages packet t a h = waiting_busy q.engine.state q.engine.stage h.0.is_here
 
-is_busy : (k : Task) (q : Queue) (a : Ask) (s : State) (t : List Event) → is_over a ≡ false → GoesOn k q a s t → resting q ≡ None
+pub is_busy : (k : Task) (q : Queue) (a : Ask) (s : State) (t : List Event) → is_over a ≡ false → GoesOn k q a s t → resting q ≡ None
 is_busy turn q a s t n h = turning_busy q.engine.state q.engine.stage (turns_on q a s t n h).is_here
 is_busy (delivery packet) q a s t n h = begun_delivery_busy q s packet t (Some a) (delivers_on q a s packet t n h)
 is_busy (wait pages packet) q a s t n h = begun_wait_busy q s pages packet t (Some a) (waits_on q a s pages packet t n h)
-
-pub task_busy : (q : Queue) (a : Ask) → is_over a ≡ false → HasTask q a → resting q ≡ None
-task_busy q a n h = is_busy h.0 q a h.1 h.2 n h.3
 
 pub at_rest : (q : Queue) → IsSome (resting q) → resting q ≡ Some q.engine.state
 at_rest q h = rests q.engine.state q.engine.stage h
@@ -135,13 +132,7 @@ at_rest q h = rests q.engine.state q.engine.stage h
 
 -- ---- a step
 
--- A delivery and a wait leave the counters as they are.
-abbrev pub Keeps : Task → List ℕ → List ℕ → Type 0
-Keeps turn before after = Unit {0}
-Keeps (delivery packet) before after = after ≡ before
-Keeps (wait pages packet) before after = after ≡ before
-
-pub keeps_then : (k : Task) (a b c : List ℕ) → Keeps k a b → Keeps k b c → Keeps k a c
+pub keeps_then : (k : Task) (a b c : List ℕ) → KeepsAll k a b → KeepsAll k b c → KeepsAll k a c
 keeps_then turn a b c g h = tt
 keeps_then (delivery packet) a b c g h = h ∙ g
 keeps_then (wait pages packet) a b c g h = h ∙ g
@@ -151,7 +142,7 @@ pub record Moved (k : Task) (s : State) (shapes : List Shape) (new : Queue) (las
   pub ran : List Event
   pub silent : accesses ran ≡ []
   pub history : IsHistory shapes (map Some (labels ran)) before after
-  pub keeps : Keeps k before after
+  pub keeps : KeepsAll k before after
   pub goes : GoesOn k new last s (t ++ (read ++ (ran ++ did)))
 
 pub moved : (k : Task) (s : State) (old new : Queue) (lent lent_after before after : List ℕ) (ops ops_after : List Op) (count : ℕ) (h : HasStepped old new lent lent_after before after ops ops_after count)
@@ -171,9 +162,3 @@ moved (delivery packet) s old new lent lent_after before after ops ops_after cou
 moved (wait pages packet) s old new lent lent_after before after ops ops_after count h t a n g =
     let d = h.wait s pages packet t (Some a) (waits_on old a s pages packet t n g) in
     record { ran = []; silent = refl; history = sym d.1; keeps = d.1; goes = d.0 }
-
-pub task_on : (old new : Queue) (lent lent_after before after : List ℕ) (ops ops_after : List Op) (count : ℕ) (h : HasStepped old new lent lent_after before after ops ops_after count)
-    (a : Ask) → is_over a ≡ false → HasTask old a → HasTask new h.last
-task_on old new lent lent_after before after ops ops_after count h a n g =
-    let m = moved g.0 g.1 old new lent lent_after before after ops ops_after count h g.2 a n g.3 in
-    (g.0, g.1, _, m.goes)

@@ -1,5 +1,5 @@
 -- Events one after another: their accesses, the operations among them, and how many they are.
-use Rattle.std.proofs.Common.{◌≡◌, ℕ, zero, suc, ◌+◌, ◌≤◌, List, [], ◌∷◌, ◌++◌, Bool, true, false, Option, Some, None, refl, sym, ap, ◌∙◌, subst, map, take, length, arith, append-nil, append_assoc, length-append}
+use Rattle.std.proofs.Common.{◌≡◌, ℕ, zero, suc, ◌+◌, ◌≤◌, List, [], ◌∷◌, ◌++◌, false, Option, Some, None, refl, sym, ap, ◌∙◌, subst, map, take, length, arith, append-nil, append_assoc, length-append}
 use Rattle.bpf_note.specs.Shape.{Shape}
 use Rattle.bpf_note.specs.declared.op.Op.{Op as Operation}
 use Rattle.bpf_note.specs.declared.op.Op.TheVariants as operation
@@ -76,7 +76,7 @@ history_of shapes (None ∷ ls) before after h = history_of shapes ls before aft
 history_of shapes (Some (operation.Load m k j v) ∷ ls) before after h = (h.0, h.1, history_of shapes ls before after h.2)
 history_of shapes (Some (operation.Add m k j delta old) ∷ ls) before after h = (h.0, h.1, history_of shapes ls _ after h.2)
 
-map_append : (a b : List Operation) → map Some (a ++ b) ≡ map Some a ++ map Some b
+pub map_append : (a b : List Operation) → map Some (a ++ b) ≡ map Some a ++ map Some b
 map_append [] b = refl
 map_append (x ∷ a) b = ap (λ l. Some x ∷ l) (map_append a b)
 
@@ -115,11 +115,11 @@ effects_append t u =
     let n = notices_append t u in
     omega (arith, a, n)
 
-read_all : (at : Place) (words : List ℕ) → effects (reads_at at words) ≡ length words + notices_in (reads_at at words)
+pub read_all : (at : Place) (words : List ℕ) → effects (reads_at at words) ≡ length words + notices_in (reads_at at words)
 read_all at [] = omega arith
 read_all at (v ∷ vs) = let e = read_all (frame_place at) vs in omega (arith, e)
 
-write_all : (at : Place) (words : List ℕ) → effects (writes_at at words) ≡ length words + notices_in (writes_at at words)
+pub write_all : (at : Place) (words : List ℕ) → effects (writes_at at words) ≡ length words + notices_in (writes_at at words)
 write_all at [] = omega arith
 write_all at (v ∷ vs) = let e = write_all (frame_place at) vs in omega (arith, e)
 

@@ -1,6 +1,6 @@
 -- Stated: claims rest on this file.
 -- A whole turn, a whole delivery and a whole wait of a queue whose accesses a host makes, from the call that begins it to its last op.
-use Rattle.std.specs.Prelude.{ℕ, ◌≡◌, ◌≤◌, Bool, true, false, List, [], Option, Some, length, map}
+use Rattle.std.specs.Prelude.{ℕ, ◌≡◌, ◌≤◌, true, false, List, [], Option, Some, length, map}
 use Rattle.xdp_program.specs.Ran.{IsHistory}
 use Rattle.xen_page.specs.Access.{Performs}
 use Rattle.xen_page.specs.declared.access.Access.{Access}

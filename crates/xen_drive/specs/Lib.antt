@@ -1,3 +1,4 @@
 pub mod Hosts
 pub mod Driven
 pub mod Driving
+pub mod Going

@@ -5,10 +5,15 @@ ghost use Rattle.xen_page.specs.Access.{Performs};
 ghost use Rattle.xen_steps.specs.Drive.{accesses};
 ghost use Rattle.xen_back.specs.declared.delivery.delivering.Delivery.{Delivery};
 ghost use Rattle.xen_back.specs.declared.delivery.wait.Awaited.{Awaited};
+ghost use Rattle.xen_back.specs.declared.state.State.{State};
 ghost use Rattle.xen_back.specs.declared.turn.Kind.{Kind};
 ghost use Rattle.xen_host.specs.Asks.{DeliveryOver, TurnOver, WaitOver, did_all};
+ghost use Rattle.xen_host.specs.declared.over_bus.OverBus.{OverBus};
 ghost use Rattle.xen_host.specs.declared.queue.Queue.{Queue};
+ghost use Rattle.xen_host.specs.declared.wires.OwnedWiring.{OwnedWiring};
 ghost use Rattle.xen_drive.specs.Driven.{BeginsDelivery, BeginsTurn, BeginsWait, HasAwaited, HasDelivered, HasTurned};
+ghost use Rattle.xen_drive.specs.Driving.{delivery, turn, wait};
+ghost use Rattle.xen_drive.specs.Going.{IsGone};
 ghost use Rattle.xen_drive.specs.Hosts.{Held, StepsBy, is_over};
 
 use xen_back::laws::{
@@ -45,10 +50,10 @@ pub fn waits_are_made<B: Bus>()
         HasAwaited B.log B.access_gives old h'.queue pages what bus bus' before h'.counters }
 {}
 
-/// A turn's steps are no more than a turn has accesses and notices.
+/// A turn's steps over a bus are no more than a turn has accesses and notices.
 pub(crate) fn turns_end<B: Bus>()
-    ensures { (old : Queue) (bus : B) (before : List ℕ) (h h' : Held B) (n : ℕ) →
-        BeginsTurn B.log B.access_gives old bus before h → StepsBy B.log B.access_gives n h h' → n ≤ 33028 }
+    ensures { (s : State) (w : OwnedWiring) (bus : B) (before : List ℕ) (n : ℕ) (q : Queue) (after : List ℕ) (host : OverBus B) →
+        IsGone B.log B.access_gives B.size turn s w bus before n q after host → n ≤ 33028 }
 {
     // Only the proof uses what these calls ensure.
     turns_are_rests();
@@ -57,8 +62,8 @@ pub(crate) fn turns_end<B: Bus>()
 
 /// Nor are a delivery's.
 pub(crate) fn deliveries_end<B: Bus>()
-    ensures { (old : Queue) (packet : List ℕ) (bus : B) (before : List ℕ) (h h' : Held B) (n : ℕ) →
-        BeginsDelivery B.log B.access_gives old packet bus before h → StepsBy B.log B.access_gives n h h' → n ≤ 16484 }
+    ensures { (s : State) (packet : List ℕ) (w : OwnedWiring) (bus : B) (before : List ℕ) (n : ℕ) (q : Queue) (after : List ℕ)
+        (host : OverBus B) → IsGone B.log B.access_gives B.size (delivery packet) s w bus before n q after host → n ≤ 16484 }
 {
     // Only the proof uses what these calls ensure.
     deliveries_are_rests();
@@ -67,8 +72,8 @@ pub(crate) fn deliveries_end<B: Bus>()
 
 /// Nor are a wait's.
 pub(crate) fn waits_end<B: Bus>()
-    ensures { (old : Queue) (pages : ℕ) (bus : B) (before : List ℕ) (h h' : Held B) (n : ℕ) →
-        BeginsWait old pages bus before h → StepsBy B.log B.access_gives n h h' → n ≤ 2 }
+    ensures { (s : State) (pages : ℕ) (packet : List ℕ) (w : OwnedWiring) (bus : B) (before : List ℕ) (n : ℕ) (q : Queue) (after : List ℕ)
+        (host : OverBus B) → IsGone B.log B.access_gives B.size (wait pages packet) s w bus before n q after host → n ≤ 2 }
 {
     // Only the proof uses what this call ensures.
     waits_are_rests();

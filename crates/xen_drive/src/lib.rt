@@ -1,16 +1,12 @@
 //! Whole turns, deliveries and waits of `xen_host`'s queue over a bus: the loop that a host has, in Rattle.
 //!
-//! - `perform`: makes the accesses of an op
-//! - `single`: a turn's beginning and the steps, with one op each
-//! - `finish`: does what is asked until something is over
+//! - `going`: steps until something is over
 //! - `whole`: a whole turn, a whole delivery, a whole wait
 //! - `laws`: whoever makes the accesses of each op has made the whole
 #![tactic(auto)]
 
-mod finish;
+mod going;
 mod laws;
-mod perform;
-mod single;
 mod whole;
 
 pub use laws::{deliveries_are_made, turns_are_made, waits_are_made};

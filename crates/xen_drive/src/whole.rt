@@ -7,21 +7,17 @@ ghost use Rattle.xen_steps.specs.Drive.{accesses};
 ghost use Rattle.xen_steps.specs.Event as event;
 ghost use Rattle.xen_steps.specs.Places.{page_word};
 ghost use Rattle.xen_back.specs.declared.delivery.delivering.Delivery.{Delivery};
-ghost use Rattle.xen_back.specs.declared.delivery.delivering.Delivery.TheVariants as delivery;
 ghost use Rattle.xen_back.specs.declared.delivery.wait.Awaited.{Awaited};
 ghost use Rattle.xen_back.specs.declared.turn.Kind.{Kind};
 ghost use Rattle.xen_host.specs.Asks.{DeliveryOver, TurnOver, WaitOver, op_of};
 ghost use Rattle.xen_host.specs.Queues.{first_read, resting};
 ghost use Rattle.xen_drive.specs.Driven.{HasAwaited, HasDelivered, HasTurned};
 
-use crate::finish::{DONE, finish};
-use crate::laws::{
-    deliveries_are_made, deliveries_end, turns_are_made, turns_end, waits_are_made, waits_end,
-};
-use crate::single::{BLANK, begin, step};
+use crate::going::{begin, go_on, step};
+use crate::laws::{deliveries_end, turns_end, waits_end};
 use xen_back::State;
 use xen_back::decisions::can_be_delivered;
-use xen_host::{Op, Queue};
+use xen_host::{Delivery, Op, Over, OverBus, Queue};
 use xen_page::{Bus, Place};
 use xen_ring::Ports;
 
@@ -33,9 +29,6 @@ const DELIVERY_STEPS: u32 = 16_485;
 
 /// More steps than a wait takes.
 const WAIT_STEPS: u32 = 3;
-
-/// The outcome of a packet that has fewer bytes than a frame, or more.
-const NO_FRAME: u32 = 8;
 
 /// Reads the producer of the ring whose page is in this frame, unless the queue has halted.
 fn look<B: Bus>(queue: &Queue, frame: u32, bus: &mut B) -> u32
@@ -53,6 +46,7 @@ fn look<B: Bus>(queue: &Queue, frame: u32, bus: &mut B) -> u32
 
 /// Takes a whole turn of a queue that is between two, and returns its last op: how the turn ended. `tx` is the frame of the
 /// tx ring's page.
+#[inline(always)]
 pub fn drive<B: Bus>(
     queue: &mut Queue,
     tx: u32,
@@ -72,12 +66,12 @@ pub fn drive<B: Bus>(
     ensures turned { (kind : Kind) × (result ≡ op_of (TurnOver kind)) ×
         HasTurned B.log B.access_gives queue.old queue.new kind bus.old bus.new counters.old counters.new }
 {
-    // Only the proof uses what these calls ensure.
-    turns_are_made::<B>();
+    // Only the proof uses what this call ensures.
     turns_end::<B>();
     let producer = look(queue, tx, bus);
-    let op = begin(queue, producer);
-    finish(queue, op, TURN_STEPS, bus, words, counters, ports)
+    let mut host = OverBus::new(bus, ports);
+    begin(queue, producer, &mut host);
+    go_on(queue, TURN_STEPS, counters, &mut host).op()
 }
 
 /// Delivers a packet of the host's own to the frontend, between two turns, and returns the last op: what became of it. `rx`
@@ -102,27 +96,16 @@ pub fn deliver<B: Bus>(
     ensures delivered { (what : Delivery) × (result ≡ op_of (DeliveryOver what)) ×
         HasDelivered B.log B.access_gives queue.old queue.new packet.now what bus.old bus.new counters.old counters.new }
 {
-    // Only the proof uses what these calls ensure.
-    deliveries_are_made::<B>();
+    // Only the proof uses what this call ensures.
     deliveries_end::<B>();
     if !can_be_delivered(packet) {
-        return no_frame();
+        return Over::Delivery(Delivery::NoFrame).op();
     }
     let producer = look(queue, rx, bus);
     queue.deliver(producer, packet);
-    let op = step(queue, words, counters);
-    finish(queue, op, DELIVERY_STEPS, bus, words, counters, ports)
-}
-
-/// The op that a packet gets which is no frame.
-fn no_frame() -> Op
-    ensures { result ≡ op_of (DeliveryOver delivery.NoFrame) }
-{
-    Op {
-        kind: DONE,
-        outcome: NO_FRAME,
-        ..BLANK
-    }
+    let mut host = OverBus::new(bus, ports);
+    step(queue, counters, &mut host);
+    go_on(queue, DELIVERY_STEPS, counters, &mut host).op()
 }
 
 /// Asks the frontend for a notice as soon as it has posted `pages` rx slots, and looks whether it has by now, between two turns. Returns
@@ -145,10 +128,10 @@ pub fn await_slots<B: Bus>(
     ensures awaited { (what : Awaited) × (result ≡ op_of (WaitOver what)) ×
         HasAwaited B.log B.access_gives queue.old queue.new pages what bus.old bus.new counters.old counters.new }
 {
-    // Only the proof uses what these calls ensure.
-    waits_are_made::<B>();
+    // Only the proof uses what this call ensures.
     waits_end::<B>();
     queue.await_slots(pages);
-    let op = step(queue, words, counters);
-    finish(queue, op, WAIT_STEPS, bus, words, counters, ports)
+    let mut host = OverBus::new(bus, ports);
+    step(queue, counters, &mut host);
+    go_on(queue, WAIT_STEPS, counters, &mut host).op()
 }

@@ -1,11 +1,6 @@
-use Rattle.xen_host.specs.Queues.{packet_of}
-use Rattle.xen_drive.specs.Driving.{wait}
-use Rattle.xen_drive.proofs.BoundLemmas.{wait_begins, wait_steps}
-use Rattle.xen_drive.proofs.StepLemmas.{carried_by}
+use Rattle.xen_drive.proofs.GoneLemmas.{wait_short}
 use Rattle.xen_drive.proofs.laws.waits_end.Goals as goal
 
 pub returns : goal.returns
-returns g c old pages bus before h h' n b d =
-    let log = g.B.Bus.log in
-    let gives = g.B.Bus.access_gives in
-    wait_steps log gives c.waits_are_rests.ensures.rests old pages bus before n h' (carried_by log gives (wait pages (packet_of old)) old.engine.state old.engine.wires bus before n h h' (wait_begins log gives old pages bus before h b) d)
+returns g c s pages packet w bus before n q after host h =
+    wait_short g.B.Bus.log g.B.Bus.access_gives g.B.Bus.size c.waits_are_rests.ensures.rests s pages packet w bus before n q after host h

@@ -1,0 +1,272 @@
+-- What a task over a bus has done once it has begun, how it ends, and how many steps it takes.
+use Rattle.std.proofs.Common.{◌≡◌, ℕ, ◌≤◌, ◌<◌, true, List, [], ◌∷◌, ◌++◌, Option, None, Some, refl, sym, ap, ◌∙◌, subst, length, map, arith, append_assoc}
+use Rattle.std.specs.Prelude.{IsSome}
+use Rattle.xdp_program.specs.Ran.{IsHistory}
+use Rattle.xen_page.specs.Access.{Performs}
+use Rattle.xen_page.specs.declared.access.Access.{Access}
+use Rattle.xen_page.proofs.AccessLemmas.{performs_none, performs_then}
+use Rattle.xen_steps.specs.Drive.{accesses}
+use Rattle.xen_steps.specs.Event.{Event}
+use Rattle.xen_steps.specs.Event as event
+use Rattle.xen_steps.proofs.DriveLemmas.{accesses-append}
+use Rattle.xen_rx_fill.specs.Places.{rx_word, tx_word}
+use Rattle.xen_back.specs.Awaited.{IsAwaiting}
+use Rattle.xen_back.specs.Delivered.{IsDelivery, is_frame}
+use Rattle.xen_back.specs.Drive.{labels}
+use Rattle.xen_back.specs.Turned.{turned}
+use Rattle.xen_back.specs.Turns.{IsTurn}
+use Rattle.xen_back.specs.declared.delivery.delivering.Delivery.{Delivery}
+use Rattle.xen_back.specs.declared.delivery.wait.Awaited.{Awaited}
+use Rattle.xen_back.specs.declared.state.State.{State}
+use Rattle.xen_back.specs.declared.turn.Kind.{Kind}
+use Rattle.xen_host.specs.Asks.{AllInPages, AllSized, Ask, TakeNone, Read, Entry, Write, Store, StoreTwo, Push, Notify, TurnOver, DeliveryOver, WaitOver, did_by}
+use Rattle.xen_host.specs.Buses.{HasRead, IsMade, ask_of, over_after}
+use Rattle.xen_host.specs.Hosts.{WasGiven}
+use Rattle.xen_host.specs.Hosts.{Asked, WasAskedAll, asks_of, events_of}
+use Rattle.xen_host.specs.Over.{AllHeld}
+use Rattle.xen_host.specs.Queues.{DeliveryGoesOn, IsBegin, IsBegun, IsWaitBegin, IsWaitBegun, TurnGoesOn, WaitGoesOn, first_read, packet_of, resting, wiring}
+use Rattle.xen_host.specs.Rest.{reads_in}
+use Rattle.xen_host.specs.Wired.{wiring_of}
+use Rattle.xen_host.specs.declared.over_bus.Over.{Over}
+use Rattle.xen_host.specs.declared.over_bus.Over.TheVariants as over
+use Rattle.xen_host.specs.declared.over_bus.OverBus.{OverBus}
+use Rattle.xen_host.specs.declared.queue.Queue.{Queue}
+use Rattle.xen_host.specs.declared.task.Begin.{Begin}
+use Rattle.xen_host.specs.declared.task.Begin.TheVariants as begin
+use Rattle.xen_host.specs.declared.wires.OwnedWiring.{OwnedWiring}
+use Rattle.xen_drive.specs.Driven.{HasAwaited, HasDelivered, HasTurned}
+use Rattle.xen_drive.specs.Driving.{GoesOn, Task, delivery, turn, wait}
+use Rattle.xen_drive.specs.Going.{BeginsOnBus, HasGoneBy, IsGoing, IsGone, KeepsAll, StepsOnBus}
+use Rattle.xen_drive.proofs.BoundLemmas.{DeliveriesAreRests, DeliveriesAreShort, TurnsAreRests, TurnsAreShort, WaitsAreRests, delivery_few, first_none, front_few, turn_few, wait_few}
+use Rattle.xen_drive.proofs.GoingLemmas.{events_none, events_split, held_all, held_last, inside_last, made_all, sized_last}
+use Rattle.xen_drive.proofs.TraceLemmas.{history_none, labels_append}
+
+-- ---- what a host had begun
+
+pub is_begun : (old new : Queue) (producer : ℕ) (packet : List ℕ) (answer : Begin) → IsSome (resting old) → is_frame packet ≡ true → IsBegin old new producer packet answer → IsBegun old new producer packet
+is_begun old new producer packet begin.Begun rests frame h = h
+is_begun old new producer packet begin.Busy rests frame h = absurd (cc (subst (λ o. IsSome o) h.0 rests))
+is_begun old new producer packet begin.NoFrame rests frame h = absurd (cc (sym frame ∙ h.1))
+
+pub is_wait_begun : (old new : Queue) (pages : ℕ) (answer : Begin) → IsSome (resting old) → IsWaitBegin old new pages answer → IsWaitBegun old new pages
+is_wait_begun old new pages begin.Begun rests h = h
+is_wait_begun old new pages begin.Busy rests h = absurd (cc (subst (λ o. IsSome o) h.0 rests))
+is_wait_begun old new pages begin.NoFrame rests h = absurd h
+
+module _ {B : Type 0} (log : B → Option (List Access)) (gives : B → Access → B → Type 0) (size : B → ℕ) where
+  -- ---- how many steps
+
+  pub turn_short : TurnsAreRests → TurnsAreShort → (s : State) (w : OwnedWiring) (bus : B) (before : List ℕ) (n : ℕ) (q : Queue) (after : List ℕ) (host : OverBus B) →
+      IsGone log gives size turn s w bus before n q after host → n ≤ 33028
+  turn_short rests short s w bus before n q after host c =
+      let x = did_by c.last.ask c.last.words in
+      let k = c.some in
+      let f = front_few c.earlier x 33028 (turn_few rests short q s (c.earlier ++ x) c.last.ask c.goes) in
+      omega (arith, k, f)
+
+  pub delivery_short : DeliveriesAreRests → DeliveriesAreShort → (s : State) (packet : List ℕ) (w : OwnedWiring) (bus : B) (before : List ℕ) (n : ℕ) (q : Queue) (after : List ℕ) (host : OverBus B) →
+      IsGone log gives size (delivery packet) s w bus before n q after host → n ≤ 16484
+  delivery_short rests short s packet w bus before n q after host c =
+      let x = did_by c.last.ask c.last.words in
+      let k = c.some in
+      let f = front_few c.earlier x 16484 (delivery_few rests short q s packet (c.earlier ++ x) c.last.ask c.goes) in
+      omega (arith, k, f)
+
+  pub wait_short : WaitsAreRests → (s : State) (pages : ℕ) (packet : List ℕ) (w : OwnedWiring) (bus : B) (before : List ℕ) (n : ℕ) (q : Queue) (after : List ℕ) (host : OverBus B) →
+      IsGone log gives size (wait pages packet) s w bus before n q after host → n ≤ 2
+  wait_short rests s pages packet w bus before n q after host c =
+      let x = did_by c.last.ask c.last.words in
+      let k = c.some in
+      let f = front_few c.earlier x 2 (wait_few rests q s pages packet (c.earlier ++ x) c.last.ask c.goes) in
+      omega (arith, k, f)
+
+  -- ---- what begins
+
+  -- What was read before anything was asked, and what was asked first.
+  begins : (k : Task) (s : State) (w : OwnedWiring) (bus : B) (before after : List ℕ) (q : Queue) (look : List Event) (first : List Asked) (last : Asked) (host host_after : OverBus B) →
+      Performs log gives bus (accesses look) host.bus.now → labels look ≡ [] → size host.bus.now ≡ length w.owners → host.over ≡ None → WasAskedAll (IsMade log gives size) host (first ++ last ∷ []) host_after →
+      TakeNone (asks_of first) → AllSized (asks_of (first ++ last ∷ [])) → (AllHeld (first ++ last ∷ []) → AllInPages (length w.owners) (asks_of (first ++ last ∷ []))) → q.engine.wires ≡ w →
+      after ≡ before → KeepsAll k before after → GoesOn k q last.ask s (look ++ events_of (first ++ last ∷ [])) → IsGone log gives size k s w bus before 0 q after host_after
+  begins k s w bus before after q look first last host host_after performed silent sized free asked none sizes within wires same keeps goes =
+      let all = first ++ last ∷ [] in
+      let holds = held_all log gives size all host host_after asked in
+      let inside = within holds in
+      let did = made_all log gives size (length w.owners) first last host host_after sized none inside asked in
+      let front = events_of first in
+      let behind = did_by last.ask last.words in
+      let trace = look ++ events_of all in
+      let here : trace ≡ (look ++ front) ++ behind = ap (λ l. look ++ l) (events_split first last) ∙ sym (append_assoc look front behind) in
+      let quiet : labels trace ≡ [] = labels_append look (events_of all) ∙ ap (λ l. l ++ labels (events_of all)) silent ∙ events_none all in
+      let both = performs_then log gives bus host.bus.now host_after.bus.now (accesses look) (accesses (events_of all)) performed did.performed in
+      let through : Performs log gives bus (accesses trace) host_after.bus.now = subst (λ l. Performs log gives bus l host_after.bus.now) (sym (accesses-append look (events_of all))) both in
+      let shapes = w.program.shapes in
+      let history : IsHistory shapes (map Some (labels trace)) before after = subst (λ l. IsHistory shapes (map Some (labels trace)) before l) (sym same) (history_none shapes trace before quiet) in
+      record {
+        earlier = look ++ front;
+        last = last;
+        performed = subst (λ (l : List Event). Performs log gives bus (accesses l) host_after.bus.now) here through;
+        counted = subst (λ (l : List Event). IsHistory shapes (map Some (labels l)) before after) here history;
+        keeps = keeps;
+        goes = subst (λ l. GoesOn k q last.ask s l) here goes;
+        wide = sized_last first last sizes;
+        held = held_last first last holds;
+        inside = inside_last (length w.owners) first last inside;
+        due = did.due;
+        over = did.over ∙ ap (λ o. over_after last.ask o) free;
+        sized = did.sized ∙ sized;
+        wires = wires;
+        some = omega arith;
+      }
+
+  pub turn_begun : (old q : Queue) (bus : B) (before : List ℕ) (producer : ℕ) (host host_after : OverBus B) → size host.bus.now ≡ length old.engine.wires.owners → host.over ≡ None →
+      Performs log gives bus (accesses (first_read old.engine.state.halt (event.Read (tx_word (wiring old).vif 0) producer))) host.bus.now →
+      BeginsOnBus log gives size old q producer host host_after → IsGone log gives size turn old.engine.state old.engine.wires bus before 0 q before host_after
+  turn_begun old q bus before producer host host_after sized free performed b =
+      let s = old.engine.state in
+      let at = event.Read (tx_word (wiring old).vif 0) producer in
+      begins turn s old.engine.wires bus before before q (first_read s.halt at) b.first b.last host host_after performed (first_none s.halt at refl) sized free b.asked b.take_none b.sized b.within b.wires refl tt b.turn
+
+  -- A step that takes no answer begins with what is asked.
+  unanswered : (n : ℕ) (words : List ℕ) (host mid : OverBus B) → n ≡ 0 → WasGiven (HasRead log gives size) n host words mid → mid ≡ host
+  unanswered n words host mid e g = (subst (λ m. WasGiven (HasRead log gives size) m host words mid) e g).1
+
+  pub delivery_begun : (old mid q : Queue) (packet : List ℕ) (bus : B) (before after : List ℕ) (producer : ℕ) (host host_after : OverBus B) → size host.bus.now ≡ length old.engine.wires.owners → host.over ≡ None →
+      Performs log gives bus (accesses (first_read old.engine.state.halt (event.Read (rx_word (wiring old).vif 0) producer))) host.bus.now → IsBegun old mid producer packet →
+      StepsOnBus log gives size mid q before after host host_after →
+      IsGone log gives size (delivery packet) old.engine.state old.engine.wires bus before 0 q after host_after
+  delivery_begun old mid q packet bus before after producer host host_after sized free performed b h =
+      let s = old.engine.state in
+      let at = event.Read (rx_word (wiring old).vif 0) producer in
+      let d = h.delivery s packet (first_read s.halt at) None b.delivering in
+      let same = unanswered (reads_in mid.engine.stage) h.words host h.mid b.delivering.0.waits h.given in
+      let asked = subst (λ (x : OverBus B). WasAskedAll (IsMade log gives size) x (h.first ++ h.last ∷ []) host_after) same h.asked in
+      let within = subst (λ (v : OwnedWiring). AllHeld (h.first ++ h.last ∷ []) → AllInPages (length v.owners) (asks_of (h.first ++ h.last ∷ []))) b.wires h.within in
+      begins (delivery packet) s old.engine.wires bus before after q (first_read s.halt at) h.first h.last host host_after performed (first_none s.halt at refl) sized free asked h.take_none h.sized within (h.wires ∙ b.wires) d.1 d.1 d.0
+
+  pub wait_begun : (old mid q : Queue) (pages : ℕ) (bus : B) (before after : List ℕ) (host host_after : OverBus B) → size host.bus.now ≡ length old.engine.wires.owners → host.over ≡ None →
+      host.bus.now ≡ bus → IsWaitBegun old mid pages →
+      StepsOnBus log gives size mid q before after host host_after →
+      IsGone log gives size (wait pages (packet_of old)) old.engine.state old.engine.wires bus before 0 q after host_after
+  wait_begun old mid q pages bus before after host host_after sized free untouched b h =
+      let s = old.engine.state in
+      let d = h.wait s pages (packet_of old) [] None b.waiting in
+      let same = unanswered (reads_in mid.engine.stage) h.words host h.mid b.waiting.0.waits h.given in
+      let asked = subst (λ (x : OverBus B). WasAskedAll (IsMade log gives size) x (h.first ++ h.last ∷ []) host_after) same h.asked in
+      let within = subst (λ (v : OwnedWiring). AllHeld (h.first ++ h.last ∷ []) → AllInPages (length v.owners) (asks_of (h.first ++ h.last ∷ []))) b.wires h.within in
+      let performed = subst (λ (x : B). Performs log gives bus [] x) (sym untouched) (performs_none log gives bus) in
+      begins (wait pages (packet_of old)) s old.engine.wires bus before after q [] h.first h.last host host_after performed refl sized free asked h.take_none h.sized within (h.wires ∙ b.wires) d.1 d.1 d.0
+
+  -- ---- what is under way
+
+  pub going : (k : Task) (s : State) (w : OwnedWiring) (bus : B) (before : List ℕ) (most : ℕ) (q : Queue) (after : List ℕ) (host : OverBus B) → IsGone log gives size k s w bus before 0 q after host →
+      ((n : ℕ) (new : Queue) (end : List ℕ) (host_after : OverBus B) → IsGone log gives size k s w bus before n new end host_after → n < most) → IsGoing log gives size most q after host
+  going k s w bus before most q after host d few =
+      record {
+        task = k;
+        state = s;
+        bus = bus;
+        before = before;
+        gone = subst (λ (v : OwnedWiring). IsGone log gives size k s v bus before 0 q after host) (sym d.wires) d;
+        few = λ n new end host_after x. few n new end host_after (subst (λ (v : OwnedWiring). IsGone log gives size k s v bus before n new end host_after) d.wires x);
+      }
+
+  pub gone_then : (k : Task) (s : State) (w : OwnedWiring) (bus : B) (before : List ℕ) (n : ℕ) (q new : Queue) (after end : List ℕ) (host host_after : OverBus B) → IsGone log gives size k s w bus before 0 q after host →
+      HasGoneBy log gives size n q new after end host host_after → IsGone log gives size k s w bus before n new end host_after
+  gone_then k s w bus before n q new after end host host_after d h =
+      subst (λ (v : OwnedWiring). IsGone log gives size k s v bus before n new end host_after) d.wires
+      (h k s bus before (subst (λ (v : OwnedWiring). IsGone log gives size k s v bus before 0 q after host) (sym d.wires) d))
+
+  -- ---- what is over
+
+  pub turn_over : (old : Queue) (bus : B) (before : List ℕ) (n : ℕ) (q : Queue) (after : List ℕ) (host : OverBus B) (what : Over) →
+      IsGone log gives size turn old.engine.state old.engine.wires bus before n q after host → host.over ≡ Some what → (kind : Kind) × (ask_of what ≡ TurnOver kind) × HasTurned log gives old q kind bus host.bus.now before after
+  turn_over old bus before n q after host what c e = by c.last.ask (sym c.over ∙ e) c.performed c.counted c.goes
+    where
+      by : (a : Ask) → over_after a None ≡ Some what → Performs log gives bus (accesses (c.earlier ++ did_by a c.last.words)) host.bus.now →
+          IsHistory old.engine.wires.program.shapes (map Some (labels (c.earlier ++ did_by a c.last.words))) before after → TurnGoesOn q a old.engine.state (c.earlier ++ did_by a c.last.words) →
+          (kind : Kind) × (ask_of what ≡ TurnOver kind) × HasTurned log gives old q kind bus host.bus.now before after
+      by (TurnOver k) o p h g =
+          let same : over.Turn k ≡ what = cc o in (
+            k,
+            ap (λ (x : Over). ask_of x) (sym same),
+            record {
+              trace = c.earlier ++ [];
+              is_turn = subst (λ (w : OwnedWiring). IsTurn (wiring_of w) old.engine.state (c.earlier ++ []) q.engine.state (turned k (packet_of q))) c.wires g.0;
+              performed = p;
+              counted = h;
+              packet = g.2;
+              rests = g.1;
+              wires = c.wires;
+            },
+          )
+      by (DeliveryOver x) o p h g = absurd g.waits
+      by (WaitOver x) o p h g = absurd g.waits
+      by (Read at count) o p h g = absurd (cc o)
+      by (Entry at reference rights) o p h g = absurd (cc o)
+      by (Write at count) o p h g = absurd (cc o)
+      by (Store at word) o p h g = absurd (cc o)
+      by (StoreTwo at first second) o p h g = absurd (cc o)
+      by (Push at word read) o p h g = absurd (cc o)
+      by (Notify port) o p h g = absurd (cc o)
+
+  pub delivery_over : (old : Queue) (packet : List ℕ) (bus : B) (before : List ℕ) (n : ℕ) (q : Queue) (after : List ℕ) (host : OverBus B) (what : Over) →
+      IsGone log gives size (delivery packet) old.engine.state old.engine.wires bus before n q after host → host.over ≡ Some what →
+      (outcome : Delivery) × (ask_of what ≡ DeliveryOver outcome) × HasDelivered log gives old q packet outcome bus host.bus.now before after
+  delivery_over old packet bus before n q after host what c e = by c.last.ask (sym c.over ∙ e) c.performed c.goes
+    where
+      by : (a : Ask) → over_after a None ≡ Some what → Performs log gives bus (accesses (c.earlier ++ did_by a c.last.words)) host.bus.now → DeliveryGoesOn q a old.engine.state packet (c.earlier ++ did_by a c.last.words) →
+          (outcome : Delivery) × (ask_of what ≡ DeliveryOver outcome) × HasDelivered log gives old q packet outcome bus host.bus.now before after
+      by (DeliveryOver x) o p g =
+          let same : over.Delivery x ≡ what = cc o in (
+            x,
+            ap (λ (y : Over). ask_of y) (sym same),
+            record {
+              trace = c.earlier ++ [];
+              is_delivery = subst (λ (w : OwnedWiring). IsDelivery (wiring_of w) old.engine.state packet (c.earlier ++ []) q.engine.state x) c.wires g.0;
+              performed = p;
+              counters = c.keeps;
+              copied = λ f. g.2;
+              rests = g.1;
+              wires = c.wires;
+            },
+          )
+      by (TurnOver x) o p g = absurd g.0.waits
+      by (WaitOver x) o p g = absurd g.0.waits
+      by (Read at count) o p g = absurd (cc o)
+      by (Entry at reference rights) o p g = absurd (cc o)
+      by (Write at count) o p g = absurd (cc o)
+      by (Store at word) o p g = absurd (cc o)
+      by (StoreTwo at first second) o p g = absurd (cc o)
+      by (Push at word read) o p g = absurd (cc o)
+      by (Notify port) o p g = absurd (cc o)
+
+  pub wait_over : (old : Queue) (pages : ℕ) (bus : B) (before : List ℕ) (n : ℕ) (q : Queue) (after : List ℕ) (host : OverBus B) (what : Over) →
+      IsGone log gives size (wait pages (packet_of old)) old.engine.state old.engine.wires bus before n q after host → host.over ≡ Some what →
+      (outcome : Awaited) × (ask_of what ≡ WaitOver outcome) × HasAwaited log gives old q pages outcome bus host.bus.now before after
+  wait_over old pages bus before n q after host what c e = by c.last.ask (sym c.over ∙ e) c.performed c.goes
+    where
+      by : (a : Ask) → over_after a None ≡ Some what → Performs log gives bus (accesses (c.earlier ++ did_by a c.last.words)) host.bus.now → WaitGoesOn q a old.engine.state pages (packet_of old) (c.earlier ++ did_by a c.last.words) →
+          (outcome : Awaited) × (ask_of what ≡ WaitOver outcome) × HasAwaited log gives old q pages outcome bus host.bus.now before after
+      by (WaitOver x) o p g =
+          let same : over.Wait x ≡ what = cc o in (
+            x,
+            ap (λ (y : Over). ask_of y) (sym same),
+            record {
+              trace = c.earlier ++ [];
+              is_awaiting = subst (λ (w : OwnedWiring). IsAwaiting (wiring_of w) old.engine.state pages (c.earlier ++ []) q.engine.state x) c.wires g.0;
+              performed = p;
+              counters = c.keeps;
+              packet = g.2;
+              rests = g.1;
+              wires = c.wires;
+            },
+          )
+      by (TurnOver x) o p g = absurd g.0.waits
+      by (DeliveryOver x) o p g = absurd g.0.waits
+      by (Read at count) o p g = absurd (cc o)
+      by (Entry at reference rights) o p g = absurd (cc o)
+      by (Write at count) o p g = absurd (cc o)
+      by (Store at word) o p g = absurd (cc o)
+      by (StoreTwo at first second) o p g = absurd (cc o)
+      by (Push at word read) o p g = absurd (cc o)
+      by (Notify port) o p g = absurd (cc o)
