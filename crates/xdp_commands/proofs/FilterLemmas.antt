@@ -39,7 +39,7 @@ goes_nowhere program ifindex words lines = record { runs = []; ran = refl; print
 
 -- one run, with its line
 pub goes_once : (program : Program) (ifindex : ℕ) (p : Packet) (before lines after more bytes line : List ℕ) (number count : ℕ)
-    → Ran program p.bytes ifindex p.queue before number bytes after count → line ≡ passed_text (record { number = number; bytes = bytes }) → more ≡ lines ++ line
+    → Ran program [] p.bytes ifindex p.queue before number bytes after count → line ≡ passed_text (record { number = number; bytes = bytes }) → more ≡ lines ++ line
     → Goes program ifindex (p ∷ []) before lines after more
 goes_once program ifindex p before lines after more bytes line number count ran is printed = record {
   runs = record { number = number; bytes = bytes } ∷ [];

@@ -1,6 +1,6 @@
 -- Stated: claims rest on this file.
 -- What becomes of a setup's program beside the one that it was made of.
-use Rattle.std.specs.Prelude.{ℕ, ◌≡◌, List, ◌++◌, Option, None, Some, codes, decimal, length, map}
+use Rattle.std.specs.Prelude.{ℕ, ◌≡◌, ◌<◌, List, ◌++◌, Option, None, Some, IfSome, codes, decimal, length, map}
 use Rattle.bpf_insn.specs.Code.{Spells}
 use Rattle.bpf_insn.specs.Refusal.{IsNoCode}
 use Rattle.bpf_insn.specs.declared.insn.Insn.{Insn}
@@ -53,19 +53,21 @@ tried p = record { stutters = p.own; at = p.at }
 abbrev pub tried_of : Read → Witness
 tried_of p = tried (place_view p)
 
--- a pair of two programs, of which neither is the other one but for the numbers of its slots, by the places
-pub record IsPairUnshown (r : RewrittenView) : Type 0 where
+-- a pair of two programs, of which neither is the other one but for the numbers of its slots, by the places; and where the
+-- comparison stops is a slot of the program
+pub record IsPairUnshown (r : RewrittenView) (obstacle : Option Obstacle) : Type 0 where
   pub program : Program
   pub original : List Insn
   pub pair : IsPair r program original
   pub other : program.code ≡ original → ⊥
   pub renumbered : IsRenumbering (map tried r.places) original program.code → ⊥
+  pub stops : IfSome obstacle (λ (o : Obstacle). o.slot < length program.code)
 
 -- the program is accepted, and the same, or the same by counts, or another one; or it is refused, or the original's bytes are
 abbrev pub Compares : RewrittenView → Compared → Type 0
 Compares r (Same slots originals) = IsSamePair r slots originals
 Compares r (SameByCounts slots originals) = IsPairByCounts r slots originals
-Compares r (NotShown obstacle) = IsPairUnshown r
+Compares r (NotShown obstacle) = IsPairUnshown r obstacle
 Compares r (Refused refusal) = IsRefusalOfBytes r.setup.program r.setup.shapes refusal
 Compares r (Undecoded refusal) = (p : Program) × IsProgramOf r.setup.program r.setup.shapes p × IsNoCode r.original refusal
 

@@ -30,7 +30,7 @@ AreRuns program ifindex [] before [] after = before ≡ after
 AreRuns program ifindex [] before (r ∷ rs) after = ⊥
 AreRuns program ifindex (p ∷ ps) before [] after = ⊥
 AreRuns program ifindex (p ∷ ps) before (r ∷ rs) after =
-    (count : ℕ) × (between : List ℕ) × Ran program p.bytes ifindex p.queue before r.number r.bytes between count ×
+    (count : ℕ) × (between : List ℕ) × Ran program [] p.bytes ifindex p.queue before r.number r.bytes between count ×
     AreRuns program ifindex ps between rs after
 
 -- the action, the packet's length and its bytes in lower-case hex

@@ -52,7 +52,7 @@ fn run_once(
         unreachable!();
     };
     let words = filtered.words.as_mut_slice();
-    let ended = run_on(program, words, bytes, ifindex, packet.queue as u32);
+    let ended = run_on(program, &[], words, bytes, ifindex, packet.queue as u32);
     let line = passed_text(alloc, ended.number, ended.packet.bytes())?;
     filtered.lines.push_str(line.as_str())?;
     Ok(())

@@ -1,5 +1,5 @@
 -- One packet of a batch, and one more.
-use Rattle.std.proofs.Common.{◌≡◌, ◌≤◌, ◌<◌, ◌+◌, ◌-◌, ℕ, List, length, take, drop, get_or, set, ◌∙◌, refl, sym, subst, inl, inr, arith}
+use Rattle.std.proofs.Common.{◌≡◌, ◌≤◌, ◌<◌, ◌+◌, ◌-◌, ℕ, List, [], length, take, drop, get_or, set, ◌∙◌, refl, sym, subst, inl, inr, arith}
 use Rattle.std.proofs.lemmas.List.{take_more, take_more_set, drop-set-lt}
 use Rattle.std.proofs.lemmas.Grind.{drop_more_same}
 use Rattle.std.proofs.lemmas.Slice.{between-put_mid, take-put_mid_below, drop-put_mid}
@@ -34,7 +34,7 @@ nothing_changed x bytes words packet after same kept = rw (same, kept, put_same 
 
 pub runs_one : (p : Accepted) (ifindex queue : ℕ) (x : XdpPacket) (run : Run) (bytes words packet after : List ℕ) →
     end_of x ≤ length bytes → length packet ≡ end_of x - x.start →
-    (IsMade p.shapes words (packet_of bytes x) → Ran p (packet_of bytes x) ifindex queue words run.number packet after run.instructions) →
+    (IsMade p.shapes words (packet_of bytes x) → Ran p [] (packet_of bytes x) ifindex queue words run.number packet after run.instructions) →
     (IsUnmade p.shapes words (packet_of bytes x) → (run.number ≡ 0) × (run.instructions ≡ 0) × (packet ≡ packet_of bytes x) × (after ≡ words)) →
     RunsOne p ifindex queue x (run_of run) (record { bytes = bytes; words = words }) (record { bytes = put_mid x.start (end_of x - x.start) bytes packet; words = after })
 runs_one p ifindex queue x run bytes words packet after inside long made unmade =
@@ -42,7 +42,7 @@ runs_one p ifindex queue x run bytes words packet after inside long made unmade 
     let starts : x.start ≤ length bytes = omega (arith, inside) in
     let part : packet_of (put_mid x.start k bytes packet) x ≡ packet = between-put_mid x.start k bytes packet (end_of x) starts long in
     record {
-      made = λ h. subst (λ b. Ran p (packet_of bytes x) ifindex queue words run.number b after run.instructions) (sym part) (made (made_inside p x bytes words h));
+      made = λ h. subst (λ b. Ran p [] (packet_of bytes x) ifindex queue words run.number b after run.instructions) (sym part) (made (made_inside p x bytes words h));
       before = λ h. take-put_mid_below x.start k bytes packet x.start (omega arith) starts;
       after = λ h. drop-put_mid x.start k bytes packet (end_of x) (omega arith) starts long;
       unmade = λ h. let u = unmade (unmade_inside p x bytes words inside h) in (nothing_ran run u.0 u.1, nothing_changed x bytes words packet after u.2 u.3);

@@ -31,7 +31,7 @@ IsUnrunnable p x s = (length s.bytes < end_of x) ⊎ ((65535 < x.length) ⊎ (le
 
 -- the program runs on the packet and leaves the other bytes; or nothing is run, and nothing changes
 pub record RunsOne (p : Accepted) (ifindex queue : ℕ) (x : XdpPacket) (r : XdpRun) (s t : Shared) : Type 0 where
-  pub made : IsRunnable p x s → Ran p (packet_of s.bytes x) ifindex queue s.words r.number (packet_of t.bytes x) t.words r.instructions
+  pub made : IsRunnable p x s → Ran p [] (packet_of s.bytes x) ifindex queue s.words r.number (packet_of t.bytes x) t.words r.instructions
   pub before : IsRunnable p x s → take x.start t.bytes ≡ take x.start s.bytes
   pub after : IsRunnable p x s → drop (end_of x) t.bytes ≡ drop (end_of x) s.bytes
   pub unmade : IsUnrunnable p x s → (r ≡ nothing) × (t ≡ s)

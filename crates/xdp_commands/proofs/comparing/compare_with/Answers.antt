@@ -1,4 +1,4 @@
-use Rattle.std.proofs.Common.{◌≡◌, List, [], ◌∷◌, refl, ap, sym, ◌∙◌, length, map, subst}
+use Rattle.std.proofs.Common.{◌≡◌, List, [], ◌∷◌, refl, ap, sym, ◌∙◌, length, map, subst, rules}
 use Rattle.bpf_same.specs.Counts.{IsSameByCounts, IsWholeByCounts}
 use Rattle.bpf_same.specs.Renumbered.{IsRenumbering}
 use Rattle.bpf_same.specs.Same.{IsSame}
@@ -51,4 +51,5 @@ returns c = record {
   renumbered = λ h.
       let same = c.in_ok-compare.ensures.renumbered (subst (λ (p : List Witness). IsRenumbering p c.args.original.now c.args.program.now.code) (two_maps c.args.rewritten.now.places.items ∙ (ap (map tried_of) (sym c.as_slice.ensures.value) ∙ (sym c.in_ok-witnesses.ensures ∙ sym c.as_slice-2.ensures.value))) h) in
       cc (same, c.in-NotShown.is);
+  stops = search rules;
 }
