@@ -1,11 +1,13 @@
 -- A run leaves the packet's length.
-use Rattle.std.proofs.Common.{◌≡◌, ℕ, ◌<◌, ◌≤◌, ◌^◌, List, length, refl, subst, None}
-use Rattle.std.specs.Prelude.{slice_index}
+use Rattle.std.proofs.Common.{◌≡◌, ℕ, ◌<◌, ◌≤◌, ◌%◌, ◌^◌, List, length, refl, subst, None}
+use Rattle.std.specs.Prelude.{Option, slice_index}
 use Rattle.bpf_note.specs.State.{State, IsState, IsStart}
+use Rattle.bpf_note.specs.declared.op.Op.{Op}
 use Rattle.bpf_verify.specs.Consistent.{Accepted, IsConsistent}
 use Rattle.bpf_vm.proofs.CounterLemmas.{walk_length}
 use Rattle.bpf_vm.proofs.RunLemmas.{start_of, start_is_state}
-use Rattle.xdp_program.specs.Ran.{Ran}
+use Rattle.bpf_vm.specs.Run.{Walk}
+use Rattle.xdp_program.specs.Ran.{Ran, RanCounting}
 
 -- nothing is set
 abbrev blank : Accepted → List ℕ → ℕ → ℕ → State
@@ -25,10 +27,18 @@ blank_is p k packet ifindex queue bytes short i q = record {
   shapes = k.maps;
 }
 
-pub ran_length : (p : Accepted) → IsConsistent p → (packet : List ℕ) (ifindex queue : ℕ) (before : List ℕ) (number : ℕ) (bytes after : List ℕ) (count : ℕ) → ((i : ℕ) → slice_index packet i < 256) → {n : ℕ} → n ≡ length packet → n ≤ 65535 → ifindex < 2 ^ 32 → queue < 2 ^ 32 →
-    Ran p packet ifindex queue before number bytes after count → length bytes ≡ length packet
-ran_length p k packet ifindex queue before number bytes after count all same short i q ran =
+pub walks_length : (p : Accepted) → IsConsistent p → (packet : List ℕ) (ifindex queue number : ℕ) (bytes : List ℕ) (labels : List (Option Op)) → ((i : ℕ) → slice_index packet i < 256) → {n : ℕ} → n ≡ length packet → n ≤ 65535 → ifindex < 2 ^ 32 → queue < 2 ^ 32 →
+    ((s : State) → IsStart s → s.packet ≡ packet → s.ifindex ≡ ifindex → s.queue ≡ queue → s.shapes ≡ p.shapes → (r0 : ℕ) × (number ≡ r0 % 2 ^ 32) × Walk p.code r0 bytes s labels) → length bytes ≡ length packet
+walks_length p k packet ifindex queue number bytes labels all same short i q walks =
     let u = blank p packet ifindex queue in
     let is : IsStart (start_of u) = record { state = start_is_state u (blank_is p k packet ifindex queue all (subst (λ (n : ℕ). n ≤ 65535) same short) i q); pc = refl; reg = λ r. refl; stack = λ r. refl } in
-    let w = ran.walks (start_of u) is refl refl refl refl in
-    walk_length p.code w.0 bytes (start_of u) ran.labels w.2
+    let w = walks (start_of u) is refl refl refl refl in
+    walk_length p.code w.0 bytes (start_of u) labels w.2
+
+pub counting_length : (went : List (Option Op) → Type 0) (p : Accepted) → IsConsistent p → (packet : List ℕ) (ifindex queue number : ℕ) (bytes : List ℕ) (count ops : ℕ) → ((i : ℕ) → slice_index packet i < 256) → {n : ℕ} → n ≡ length packet → n ≤ 65535 → ifindex < 2 ^ 32 → queue < 2 ^ 32 →
+    RanCounting went p packet ifindex queue number bytes count ops → length bytes ≡ length packet
+counting_length went p k packet ifindex queue number bytes count ops all same short i q ran = walks_length p k packet ifindex queue number bytes ran.labels all same short i q ran.walks
+
+pub ran_length : (p : Accepted) → IsConsistent p → (packet : List ℕ) (ifindex queue : ℕ) (before : List ℕ) (number : ℕ) (bytes after : List ℕ) (count : ℕ) → ((i : ℕ) → slice_index packet i < 256) → {n : ℕ} → n ≡ length packet → n ≤ 65535 → ifindex < 2 ^ 32 → queue < 2 ^ 32 →
+    Ran p packet ifindex queue before number bytes after count → length bytes ≡ length packet
+ran_length p k packet ifindex queue before number bytes after count all same short i q ran = walks_length p k packet ifindex queue number bytes ran.labels all same short i q ran.walks

@@ -1,3 +1,4 @@
+pub mod TallyLemmas
 pub mod RanLemmas
 pub mod LoadLemmas
 pub mod SettingsLemmas

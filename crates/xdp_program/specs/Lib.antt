@@ -1,3 +1,4 @@
+pub mod Tallies
 pub mod Ran
 pub mod Refused
 pub mod Settings

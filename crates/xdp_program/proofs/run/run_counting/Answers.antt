@@ -1,77 +1,82 @@
-use Rattle.std.proofs.Common.{refl, ◌∙◌, arith}
-use Rattle.xdp_program.proofs.RanLemmas.{sofar_advanced, sofar_load, sofar_add, word_of, ran_of}
+use Rattle.std.proofs.Common.{◌∙◌, List, refl, subst, sym, arith}
+use Rattle.bpf_note.specs.Shape.{IsCounter, Shape}
+use Rattle.bpf_note.specs.declared.op.Op.TheVariants.{Load, Add}
+use Rattle.bpf_verify.specs.Consistent.{Accepted}
+use Rattle.xdp_program.proofs.RanLemmas.{sofar_advanced, sofar_load, sofar_add, ran_of}
 use Rattle.xdp_program.proofs.run.run_counting.Goals as goal
 
 pub loop-m-init : goal.loop-m-init
-loop-m-init c = record {
+loop-m-init g c = record {
   sofar = record {
     program = c.start-vm.ensures.program;
-    width = refl;
     grown = λ rest. rest;
     counted = λ rest. let none = c.start-vm.ensures.count in omega (arith, none);
     ops_done = λ rest. omega arith;
     history = λ rest after h. h;
     walks = λ s h b i q e. (s, c.start-vm.ensures.stands s h b i q e, λ r0 bytes rest w. w);
   };
+  serves = c.requires;
   few = omega arith;
   room = c.start-vm.ensures.room;
 }
 
-pub bounds-counters-place : goal.bounds-counters-place
-bounds-counters-place c =
-    let p = c.args.program.now in
+pub load-number-requires-clause-serves : goal.load-number-requires-clause-serves
+load-number-requires-clause-serves g c = subst (λ (l : List Shape). g.T.Tallies.serves l c.loop-m.counters) (sym c.shapes.ensures.same) c.loop-m.invariant.serves
+
+pub load-number-requires-clause-place : goal.load-number-requires-clause-place
+load-number-requires-clause-place g c =
     let a = c.in-Load.ensures in
-    let so = c.loop-m.invariant.sofar in
-    (word_of p c.advance.new.self c.loop-m.counters c.args.counters.now c.shapes.result.now c.in-Load.m c.in-Load.k c.in-Load.j c.place.result (a.advanced.program ∙ so.program) c.shapes.ensures.same a.want.counter c.place.ensures.place c.requires so.width).inside
+    let mine = subst (λ (x : Accepted). IsCounter x.shapes c.in-Load.m c.in-Load.k c.in-Load.j) (a.advanced.program ∙ c.loop-m.invariant.sofar.program) a.want.counter in
+    subst (λ (l : List Shape). IsCounter l c.in-Load.m c.in-Load.k c.in-Load.j) (sym c.shapes.ensures.same) mine
 
 pub loop-m-preserved-in-Load : goal.loop-m-preserved-in-Load
-loop-m-preserved-in-Load c =
+loop-m-preserved-in-Load g c =
     let p = c.args.program.now in
+    let did = g.T.Tallies.did in
     let a = c.in-Load.ensures in
-    let so = c.loop-m.invariant.sofar in
-    let has = word_of p c.advance.new.self c.loop-m.counters c.args.counters.now c.shapes.result.now c.in-Load.m c.in-Load.k c.in-Load.j c.place.result (a.advanced.program ∙ so.program) c.shapes.ensures.same a.want.counter c.place.ensures.place c.requires so.width in
-    let mid = sofar_advanced p c.args.packet.bytes c.args.ifindex c.args.queue c.args.counters.now c.loop-m.vm c.advance.new.self c.loop-m.counters c.loop-m.ops so a.advanced in
+    let r = c.load-number in
+    let op = Load c.in-Load.m c.in-Load.k c.in-Load.j r.result in
+    let mid = sofar_advanced (did p.shapes) p c.args.packet.bytes c.args.ifindex c.args.queue c.args.counters.now c.loop-m.vm c.advance.new.self c.loop-m.counters c.loop-m.ops c.loop-m.invariant.sofar a.advanced in
     record {
-      sofar = sofar_load p c.args.packet.bytes c.args.ifindex c.args.queue c.args.counters.now c.advance.new.self c.loaded.new.self c.loop-m.counters c.loop-m.ops c.in-Load.m c.in-Load.k c.in-Load.j c.place.result mid has a.want.own c.loaded.ensures;
+      sofar = sofar_load (did p.shapes) p c.args.packet.bytes c.args.ifindex c.args.queue c.args.counters.now c.advance.new.self c.loaded.new.self c.loop-m.counters r.new.self c.loop-m.ops c.in-Load.m c.in-Load.k c.in-Load.j r.result mid a.want.own c.loaded.ensures
+          (subst (λ (l : List Shape). did l op c.loop-m.counters r.new.self) c.shapes.ensures.same r.ensures.did);
+      serves = subst (λ (l : List Shape). g.T.Tallies.serves l r.new.self) c.shapes.ensures.same r.ensures.serves;
       few = let f = c.loop-m.invariant.few in let d = a.advanced.count in let e = c.loaded.ensures.count in omega (arith, f, d, e);
       room = c.loaded.ensures.room ∙ (a.advanced.room ∙ c.loop-m.invariant.room);
     }
 
-pub bounds-counters-at : goal.bounds-counters-at
-bounds-counters-at c =
-    let p = c.args.program.now in
-    let a = c.in-Add.ensures in
-    let so = c.loop-m.invariant.sofar in
-    (word_of p c.advance.new.self c.loop-m.counters c.args.counters.now c.shapes-in-Add.result.now c.in-Add.m c.in-Add.k c.in-Add.j c.place-at.result (a.advanced.program ∙ so.program) c.shapes-in-Add.ensures.same a.want.counter c.place-at.ensures.place c.requires so.width).inside
+pub add-old-requires-clause-serves : goal.add-old-requires-clause-serves
+add-old-requires-clause-serves g c = subst (λ (l : List Shape). g.T.Tallies.serves l c.loop-m.counters) (sym c.shapes-in-Add.ensures.same) c.loop-m.invariant.serves
 
-pub bounds-counters-at-in-Add : goal.bounds-counters-at-in-Add
-bounds-counters-at-in-Add c =
-    let p = c.args.program.now in
+pub add-old-requires-clause-place : goal.add-old-requires-clause-place
+add-old-requires-clause-place g c =
     let a = c.in-Add.ensures in
-    let so = c.loop-m.invariant.sofar in
-    (word_of p c.advance.new.self c.loop-m.counters c.args.counters.now c.shapes-in-Add.result.now c.in-Add.m c.in-Add.k c.in-Add.j c.place-at.result (a.advanced.program ∙ so.program) c.shapes-in-Add.ensures.same a.want.counter c.place-at.ensures.place c.requires so.width).inside
+    let mine = subst (λ (x : Accepted). IsCounter x.shapes c.in-Add.m c.in-Add.k c.in-Add.j) (a.advanced.program ∙ c.loop-m.invariant.sofar.program) a.want.counter in
+    subst (λ (l : List Shape). IsCounter l c.in-Add.m c.in-Add.k c.in-Add.j) (sym c.shapes-in-Add.ensures.same) mine
 
 pub loop-m-preserved : goal.loop-m-preserved
-loop-m-preserved c =
+loop-m-preserved g c =
     let p = c.args.program.now in
+    let did = g.T.Tallies.did in
     let a = c.in-Add.ensures in
-    let so = c.loop-m.invariant.sofar in
-    let has = word_of p c.advance.new.self c.loop-m.counters c.args.counters.now c.shapes-in-Add.result.now c.in-Add.m c.in-Add.k c.in-Add.j c.place-at.result (a.advanced.program ∙ so.program) c.shapes-in-Add.ensures.same a.want.counter c.place-at.ensures.place c.requires so.width in
-    let mid = sofar_advanced p c.args.packet.bytes c.args.ifindex c.args.queue c.args.counters.now c.loop-m.vm c.advance.new.self c.loop-m.counters c.loop-m.ops so a.advanced in
+    let r = c.add-old in
+    let op = Add c.in-Add.m c.in-Add.k c.in-Add.j c.in-Add.delta r.result in
+    let mid = sofar_advanced (did p.shapes) p c.args.packet.bytes c.args.ifindex c.args.queue c.args.counters.now c.loop-m.vm c.advance.new.self c.loop-m.counters c.loop-m.ops c.loop-m.invariant.sofar a.advanced in
     record {
-      sofar = sofar_add p c.args.packet.bytes c.args.ifindex c.args.queue c.args.counters.now c.advance.new.self c.added.new.self c.loop-m.counters c.loop-m.ops c.in-Add.m c.in-Add.k c.in-Add.j c.in-Add.delta c.place-at.result mid has a.want.own c.added.ensures;
+      sofar = sofar_add (did p.shapes) p c.args.packet.bytes c.args.ifindex c.args.queue c.args.counters.now c.advance.new.self c.added.new.self c.loop-m.counters r.new.self c.loop-m.ops c.in-Add.m c.in-Add.k c.in-Add.j c.in-Add.delta r.result mid a.want.own c.added.ensures
+          (subst (λ (l : List Shape). did l op c.loop-m.counters r.new.self) c.shapes-in-Add.ensures.same r.ensures.did);
+      serves = subst (λ (l : List Shape). g.T.Tallies.serves l r.new.self) c.shapes-in-Add.ensures.same r.ensures.serves;
       few = let f = c.loop-m.invariant.few in let d = a.advanced.count in let e = c.added.ensures.count in omega (arith, f, d, e);
       room = c.added.ensures.room ∙ (a.advanced.room ∙ c.loop-m.invariant.room);
     }
 
 pub returns-in-Exit-clause-ran : goal.returns-in-Exit-clause-ran
-returns-in-Exit-clause-ran c =
+returns-in-Exit-clause-ran g c =
     let p = c.args.program.now in
-    let a = c.in-Exit.ensures in
-    let so = c.loop-m.invariant.sofar in
+    let did = g.T.Tallies.did p.shapes in
     let w = c.advance.new.self in
-    let mid = sofar_advanced p c.args.packet.bytes c.args.ifindex c.args.queue c.args.counters.now c.loop-m.vm w c.loop-m.counters c.loop-m.ops so a.advanced in
-    ran_of p c.args.packet.bytes c.args.ifindex c.args.queue c.args.counters.now w c.loop-m.counters c.end.result.number c.end.result.instructions c.end.result.packet.bytes c.loop-m.ops mid c.end.ensures.stands c.end.ensures.instructions
+    let mid = sofar_advanced did p c.args.packet.bytes c.args.ifindex c.args.queue c.args.counters.now c.loop-m.vm w c.loop-m.counters c.loop-m.ops c.loop-m.invariant.sofar c.in-Exit.ensures.advanced in
+    ran_of did p c.args.packet.bytes c.args.ifindex c.args.queue c.args.counters.now w c.loop-m.counters c.end.result.number c.end.result.instructions c.end.result.packet.bytes c.loop-m.ops mid c.end.ensures.stands c.end.ensures.instructions
 
 pub returns-in-Exit-clause-room : goal.returns-in-Exit-clause-room
-returns-in-Exit-clause-room c = c.end.ensures.room ∙ (c.in-Exit.ensures.advanced.room ∙ c.loop-m.invariant.room)
+returns-in-Exit-clause-room g c = c.end.ensures.room ∙ (c.in-Exit.ensures.advanced.room ∙ c.loop-m.invariant.room)
