@@ -1,5 +1,6 @@
 -- C's host: what it was asked stands in its ops.
 use Rattle.std.proofs.Common.{◌≡◌, ℕ, zero, suc, ◌+◌, ◌<◌, ◌≤◌, ◌⊎◌, inl, inr, true, false, List, [], ◌∷◌, ◌++◌, length, take, drop, map, refl, sym, ap, ◌∙◌, subst, append_assoc, append-nil, length-append, length-drop, arith}
+use Rattle.std.specs.Prelude.{Option}
 use Rattle.std.proofs.lemmas.List.{length-take}
 use Rattle.xen_netif.specs.declared.flags.TxFlags.{TxFlags}
 use Rattle.xen_steps.specs.Drive.{LedBy}
@@ -16,6 +17,7 @@ use Rattle.xen_host.specs.Rest.{flags_after, flags_behind, reads_filling, reads_
 use Rattle.xen_host.specs.Wired.{wiring_of}
 use Rattle.xen_host.specs.declared.engine.Engine.{Engine}
 use Rattle.xen_host.specs.declared.host.Ops.{Ops}
+use Rattle.bpf_note.specs.declared.op.Op.{Op as Operation}
 use Rattle.xen_host.specs.declared.op.Op.{Op}
 use Rattle.xen_host.specs.declared.stage.Purpose.TheVariants as purpose
 use Rattle.xen_host.specs.declared.stage.Stage.{Stage}
@@ -248,16 +250,16 @@ answered_by n then host h =
     let g = given_is n host h.mid h.words h.given in
     subst (λ (l : List ℕ). then l host) g.0 (subst (λ (m : Ops). then h.words m) g.1 h.led)
 
-ran_of : (w : OwnedWiring) (flags : TxFlags) (from : Steps Ending) (new : Engine) (before after : List ℕ) (host host_after : Ops) → host.count ≡ 0 →
-    TurnRanLeads IsPut IsFull w flags from new before after host host_after → TurnRanLed w flags from new before after host.ops.now host_after.ops.now host_after.count host.words.now host_after.words.now
-ran_of w flags from new before after host host_after none h = record { between = h.between; ran = h.ran; led = led_of _ w flags h.between new host host_after none h.led }
+ran_of : (w : OwnedWiring) (flags : TxFlags) (from : Steps Ending) (new : Engine) (went : List (Option Operation) → Type 0) (host host_after : Ops) → host.count ≡ 0 →
+    TurnRanLeads IsPut IsFull w flags from new went host host_after → TurnRanLed w flags from new went host.ops.now host_after.ops.now host_after.count host.words.now host_after.words.now
+ran_of w flags from new went host host_after none h = record { between = h.between; ran = h.ran; led = led_of _ w flags h.between new host host_after none h.led }
 
-turn_of : (g : Stage) (old new : Engine) (before after : List ℕ) (host host_after : Ops) → host.count ≡ 0 → flags_after g old.work (take (reads_in g) host.words.now) old.flags ≡ flags_after g old.work host.words.now old.flags →
-    AfterAnswer HasGiven (reads_in g) (λ words mid. TurnRanLeads IsPut IsFull old.wires (flags_after g old.work words old.flags) (fed (rest_in (wiring_of old.wires) old.state g old.work) words) new before after mid host_after) host →
-    TurnRanLed old.wires (flags_after g old.work host.words.now old.flags) (fed (rest_in (wiring_of old.wires) old.state g old.work) (take (reads_in g) host.words.now)) new before after host.ops.now host_after.ops.now host_after.count host.words.now host_after.words.now
-turn_of g old new before after host host_after none flags h =
+turn_of : (g : Stage) (old new : Engine) (went : List (Option Operation) → Type 0) (host host_after : Ops) → host.count ≡ 0 → flags_after g old.work (take (reads_in g) host.words.now) old.flags ≡ flags_after g old.work host.words.now old.flags →
+    AfterAnswer HasGiven (reads_in g) (λ words mid. TurnRanLeads IsPut IsFull old.wires (flags_after g old.work words old.flags) (fed (rest_in (wiring_of old.wires) old.state g old.work) words) new went mid host_after) host →
+    TurnRanLed old.wires (flags_after g old.work host.words.now old.flags) (fed (rest_in (wiring_of old.wires) old.state g old.work) (take (reads_in g) host.words.now)) new went host.ops.now host_after.ops.now host_after.count host.words.now host_after.words.now
+turn_of g old new went host host_after none flags h =
     let r = answered_by (reads_in g) _ host h in
-    ran_of _ _ _ new before after host host_after none (subst (λ (f : TxFlags). TurnRanLeads IsPut IsFull old.wires f (fed (rest_in (wiring_of old.wires) old.state g old.work) (take (reads_in g) host.words.now)) new before after host host_after) flags r)
+    ran_of _ _ _ new went host host_after none (subst (λ (f : TxFlags). TurnRanLeads IsPut IsFull old.wires f (fed (rest_in (wiring_of old.wires) old.state g old.work) (take (reads_in g) host.words.now)) new went host host_after) flags r)
 
 first_three : (l : List ℕ) → take 3 (take 3 l) ≡ take 3 l
 first_three [] = refl
@@ -266,23 +268,23 @@ first_three (a ∷ b ∷ []) = refl
 first_three (a ∷ b ∷ c ∷ l) = refl
 
 -- A step over C's host is one of its ops and lent words.
-pub step_of : (g : Stage) (old new : Engine) (before after : List ℕ) (host host_after : Ops) → host.count ≡ 0 → GoesOnAt IsPut IsFull HasGiven g old new before after host host_after →
-    StepAt g old new host.words.now host_after.words.now before after host.ops.now host_after.ops.now host_after.count
-step_of stage.Ready old new before after host host_after none h =
+pub step_of : (g : Stage) (old new : Engine) (went : List (Option Operation) → Type 0) (host host_after : Ops) → host.count ≡ 0 → GoesOnAt IsPut IsFull HasGiven g old new went host host_after →
+    StepAt g old new host.words.now host_after.words.now went host.ops.now host_after.ops.now host_after.count
+step_of stage.Ready old new went host host_after none h =
     (ap (λ (x : Ops). x.count) h.1 ∙ none, h.0, ap (λ (x : Ops). x.words.now) h.1, h.2, ap (λ (x : Ops). x.ops.now) h.1)
-step_of stage.Announce old new before after host host_after none h = turn_of stage.Announce old new before after host host_after none refl h
-step_of (stage.Slot left) old new before after host host_after none h =
-    turn_of (stage.Slot left) old new before after host host_after none (ap (λ l. flags_behind old.work.chain l old.flags) (first_three host.words.now)) h
-step_of (stage.Entry i at) old new before after host host_after none h = turn_of (stage.Entry i at) old new before after host host_after none refl h
-step_of (stage.Page i f frame) old new before after host host_after none h = turn_of (stage.Page i f frame) old new before after host host_after none refl h
-step_of (stage.Fill f (purpose.Back n)) old new before after host host_after none h = turn_of (stage.Fill f (purpose.Back n)) old new before after host host_after none refl h
-step_of (stage.Fill f purpose.Delivery) old new before after host host_after none h = (led_of _ _ _ _ new host host_after none (answered_by (reads_filling f) _ host h.0), h.1)
-step_of (stage.Respond a i) old new before after host host_after none h = turn_of (stage.Respond a i) old new before after host host_after none refl h
-step_of (stage.Push at kind) old new before after host host_after none h = turn_of (stage.Push at kind) old new before after host host_after none refl h
-step_of (stage.Notice at kind) old new before after host host_after none h = turn_of (stage.Notice at kind) old new before after host host_after none refl h
-step_of (stage.Deliver producer) old new before after host host_after none h = (led_of _ _ _ _ new host host_after none h.0, h.1)
-step_of (stage.Wait pages) old new before after host host_after none h = (led_of _ _ _ _ new host host_after none h.0, h.1)
-step_of (stage.WaitLook pages) old new before after host host_after none h = (led_of _ _ _ _ new host host_after none (answered_by 1 _ host h.0), h.1)
+step_of stage.Announce old new went host host_after none h = turn_of stage.Announce old new went host host_after none refl h
+step_of (stage.Slot left) old new went host host_after none h =
+    turn_of (stage.Slot left) old new went host host_after none (ap (λ l. flags_behind old.work.chain l old.flags) (first_three host.words.now)) h
+step_of (stage.Entry i at) old new went host host_after none h = turn_of (stage.Entry i at) old new went host host_after none refl h
+step_of (stage.Page i f frame) old new went host host_after none h = turn_of (stage.Page i f frame) old new went host host_after none refl h
+step_of (stage.Fill f (purpose.Back n)) old new went host host_after none h = turn_of (stage.Fill f (purpose.Back n)) old new went host host_after none refl h
+step_of (stage.Fill f purpose.Delivery) old new went host host_after none h = (led_of _ _ _ _ new host host_after none (answered_by (reads_filling f) _ host h.0), h.1)
+step_of (stage.Respond a i) old new went host host_after none h = turn_of (stage.Respond a i) old new went host host_after none refl h
+step_of (stage.Push at kind) old new went host host_after none h = turn_of (stage.Push at kind) old new went host host_after none refl h
+step_of (stage.Notice at kind) old new went host host_after none h = turn_of (stage.Notice at kind) old new went host host_after none refl h
+step_of (stage.Deliver producer) old new went host host_after none h = (led_of _ _ _ _ new host host_after none h.0, h.1)
+step_of (stage.Wait pages) old new went host host_after none h = (led_of _ _ _ _ new host host_after none h.0, h.1)
+step_of (stage.WaitLook pages) old new went host host_after none h = (led_of _ _ _ _ new host host_after none (answered_by 1 _ host h.0), h.1)
 
 -- ---- C's host keeps its loans
 
@@ -290,21 +292,21 @@ pub led_within : {A : Type 0} (ends : Ask → Steps A → Type 0) (w : OwnedWiri
     host.count ≤ length host.ops.now → HostLed IsPut IsFull ends w flags from new host host_after → Within host host_after
 led_within ends w flags from new host host_after le h = within_all (h.first ++ h.last ∷ []) host host_after le h.asked
 
-turn_within : (g : Stage) (old new : Engine) (before after : List ℕ) (host host_after : Ops) → host.count ≤ length host.ops.now →
-    AfterAnswer HasGiven (reads_in g) (λ words mid. TurnRanLeads IsPut IsFull old.wires (flags_after g old.work words old.flags) (fed (rest_in (wiring_of old.wires) old.state g old.work) words) new before after mid host_after) host → Within host host_after
-turn_within g old new before after host host_after le h = led_within _ _ _ _ new host host_after le (answered_by (reads_in g) _ host h).led
+turn_within : (g : Stage) (old new : Engine) (went : List (Option Operation) → Type 0) (host host_after : Ops) → host.count ≤ length host.ops.now →
+    AfterAnswer HasGiven (reads_in g) (λ words mid. TurnRanLeads IsPut IsFull old.wires (flags_after g old.work words old.flags) (fed (rest_in (wiring_of old.wires) old.state g old.work) words) new went mid host_after) host → Within host host_after
+turn_within g old new went host host_after le h = led_within _ _ _ _ new host host_after le (answered_by (reads_in g) _ host h).led
 
-pub step_within : (g : Stage) (old new : Engine) (before after : List ℕ) (host host_after : Ops) → host.count ≤ length host.ops.now → GoesOnAt IsPut IsFull HasGiven g old new before after host host_after → Within host host_after
-step_within stage.Ready old new before after host host_after le h = subst (λ (x : Ops). Within host x) (sym h.1) (le, refl, refl, (refl, refl))
-step_within stage.Announce old new before after host host_after le h = turn_within stage.Announce old new before after host host_after le h
-step_within (stage.Slot left) old new before after host host_after le h = turn_within (stage.Slot left) old new before after host host_after le h
-step_within (stage.Entry i at) old new before after host host_after le h = turn_within (stage.Entry i at) old new before after host host_after le h
-step_within (stage.Page i f frame) old new before after host host_after le h = turn_within (stage.Page i f frame) old new before after host host_after le h
-step_within (stage.Fill f (purpose.Back n)) old new before after host host_after le h = turn_within (stage.Fill f (purpose.Back n)) old new before after host host_after le h
-step_within (stage.Fill f purpose.Delivery) old new before after host host_after le h = led_within _ _ _ _ new host host_after le (answered_by (reads_filling f) _ host h.0)
-step_within (stage.Respond a i) old new before after host host_after le h = turn_within (stage.Respond a i) old new before after host host_after le h
-step_within (stage.Push at kind) old new before after host host_after le h = turn_within (stage.Push at kind) old new before after host host_after le h
-step_within (stage.Notice at kind) old new before after host host_after le h = turn_within (stage.Notice at kind) old new before after host host_after le h
-step_within (stage.Deliver producer) old new before after host host_after le h = led_within _ _ _ _ new host host_after le h.0
-step_within (stage.Wait pages) old new before after host host_after le h = led_within _ _ _ _ new host host_after le h.0
-step_within (stage.WaitLook pages) old new before after host host_after le h = led_within _ _ _ _ new host host_after le (answered_by 1 _ host h.0)
+pub step_within : (g : Stage) (old new : Engine) (went : List (Option Operation) → Type 0) (host host_after : Ops) → host.count ≤ length host.ops.now → GoesOnAt IsPut IsFull HasGiven g old new went host host_after → Within host host_after
+step_within stage.Ready old new went host host_after le h = subst (λ (x : Ops). Within host x) (sym h.1) (le, refl, refl, (refl, refl))
+step_within stage.Announce old new went host host_after le h = turn_within stage.Announce old new went host host_after le h
+step_within (stage.Slot left) old new went host host_after le h = turn_within (stage.Slot left) old new went host host_after le h
+step_within (stage.Entry i at) old new went host host_after le h = turn_within (stage.Entry i at) old new went host host_after le h
+step_within (stage.Page i f frame) old new went host host_after le h = turn_within (stage.Page i f frame) old new went host host_after le h
+step_within (stage.Fill f (purpose.Back n)) old new went host host_after le h = turn_within (stage.Fill f (purpose.Back n)) old new went host host_after le h
+step_within (stage.Fill f purpose.Delivery) old new went host host_after le h = led_within _ _ _ _ new host host_after le (answered_by (reads_filling f) _ host h.0)
+step_within (stage.Respond a i) old new went host host_after le h = turn_within (stage.Respond a i) old new went host host_after le h
+step_within (stage.Push at kind) old new went host host_after le h = turn_within (stage.Push at kind) old new went host host_after le h
+step_within (stage.Notice at kind) old new went host host_after le h = turn_within (stage.Notice at kind) old new went host host_after le h
+step_within (stage.Deliver producer) old new went host host_after le h = led_within _ _ _ _ new host host_after le h.0
+step_within (stage.Wait pages) old new went host host_after le h = led_within _ _ _ _ new host host_after le h.0
+step_within (stage.WaitLook pages) old new went host host_after le h = led_within _ _ _ _ new host host_after le (answered_by 1 _ host h.0)

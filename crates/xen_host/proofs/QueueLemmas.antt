@@ -29,10 +29,11 @@ use Rattle.xen_host.specs.Completing.{Arriving, TaskCompletes, Waiting}
 use Rattle.xen_host.specs.Fed.{fed}
 use Rattle.xen_host.specs.Fits.{Fits}
 use Rattle.xen_host.specs.Led.{StepAt, TurnLed}
-use Rattle.xen_host.specs.Queues.{AreFew, HasBegun, HasStepped, IsBegun, IsUnderWay, IsWaitBegun, between, first_read, packet_in, packet_of, wiring}
+use Rattle.xen_host.specs.Queues.{AreFew, AreFewAtSeat, HasBegun, Stepped, IsBegun, IsUnderWay, IsWaitBegun, between, first_read, packet_in, packet_of, wiring}
 use Rattle.xen_host.specs.Rest.{is_delivering, is_waiting, no_flags, reads_in, rest_in, rest_of_delivery, rest_of_wait}
 use Rattle.xen_host.specs.Wired.{vif_of, wiring_of}
 use Rattle.xen_host.specs.declared.engine.Engine.{Engine}
+use Rattle.bpf_note.specs.declared.op.Op.{Op as Operation}
 use Rattle.xen_host.specs.declared.op.Op.{Op}
 use Rattle.xen_host.specs.declared.queue.Queue.{Queue}
 use Rattle.xen_host.specs.declared.stage.Purpose.TheVariants as purpose
@@ -88,15 +89,15 @@ stands q = record { fits = q.fits; wired = q.wired; turns = q.turns; left = q.le
 wires_stand : (q : Queue) (w : OwnedWiring) → w ≡ q.engine.wires → IsWired (vif_of w) × TurnsComplete (wiring_of w)
 wires_stand q w e = subst (λ (x : OwnedWiring). IsWired (vif_of x) × TurnsComplete (wiring_of x)) (sym e) (q.wired, q.turns)
 
-module _ (old : Queue) (engine : Engine) (lent lent_after before after : List ℕ) (ops ops_after : List Op) (count : ℕ) (long : 1024 ≤ length lent) (same : length lent_after ≡ length lent) (small : AreSmall lent)
-    (led : StepAt old.engine.stage old.engine engine lent lent_after before after ops ops_after count) where
+module _ (old : Queue) (engine : Engine) (lent lent_after : List ℕ) (went : List (Option Operation) → Type 0) (ops ops_after : List Op) (count : ℕ) (long : 1024 ≤ length lent) (same : length lent_after ≡ length lent) (small : AreSmall lent)
+    (led : StepAt old.engine.stage old.engine engine lent lent_after went ops ops_after count) where
   few : reads_in old.engine.stage ≤ length lent
   few = omega (arith, reads_few old.engine.stage old.engine.work old.fits, long)
 
   long_after : 1024 ≤ length lent_after
   long_after = omega (arith, same, long)
 
-  module _ (t : AtTurn old.engine.stage old.engine engine lent lent_after before after ops ops_after count) where
+  module _ (t : AtTurn old.engine.stage old.engine engine lent lent_after went ops ops_after count) where
     from : Completes (wiring old) t.led.between
     from =
         let e = old.engine in
@@ -104,9 +105,9 @@ module _ (old : Queue) (engine : Engine) (lent lent_after before after : List �
         (fed_turn e.wires e.state e.stage e.work lent small few t.turning old.left) t.led.ran.gone
 
   pub step_stands : Stands engine
-  step_stands = by (under old.engine.stage old.engine engine lent lent_after before after ops ops_after count led)
+  step_stands = by (under old.engine.stage old.engine engine lent lent_after went ops ops_after count led)
     where
-      by : Under old.engine.stage old.engine engine lent lent_after before after ops ops_after count → Stands engine
+      by : Under old.engine.stage old.engine engine lent lent_after went ops ops_after count → Stands engine
       by (nothing e h) = subst Stands (sym h.1) (stands old)
       by (turn t) =
           let l = t.led.led in
@@ -126,11 +127,21 @@ module _ (old : Queue) (engine : Engine) (lent lent_after before after : List �
           let r = wait_ended e.wires e.flags e.work.packet _ engine ops ops_after count lent lent_after long_after l (fed_wait e.wires e.state e.stage lent small few t.waiting (task_wait e.wires e.state e.stage e.work t.waiting old.left)) in
           record { fits = l.fits; wired = w.0; turns = w.1; left = r.task }
 
-  -- and what is under way goes on
-  pub stepped : (new : Queue) → new.engine ≡ engine → (old.engine.stage ≡ stage.Ready → ⊥) → HasStepped old new lent lent_after before after ops ops_after count
-  stepped new is busy = by (under old.engine.stage old.engine new.engine lent lent_after before after ops ops_after count (subst (λ (x : Engine). StepAt old.engine.stage old.engine x lent lent_after before after ops ops_after count) (sym is) led))
+  -- the wiring stays
+  pub step_wires : engine.wires ≡ old.engine.wires
+  step_wires = by (under old.engine.stage old.engine engine lent lent_after went ops ops_after count led)
     where
-      by : Under old.engine.stage old.engine new.engine lent lent_after before after ops ops_after count → HasStepped old new lent lent_after before after ops ops_after count
+      by : Under old.engine.stage old.engine engine lent lent_after went ops ops_after count → engine.wires ≡ old.engine.wires
+      by (nothing e h) = ap (λ (x : Engine). x.wires) h.1
+      by (turn t) = t.led.led.wires
+      by (delivery t) = t.led.wires
+      by (wait t) = t.led.wires
+
+  -- and what is under way goes on
+  pub stepped : (same_counters : Type 0) → (went [] → same_counters) → (new : Queue) → new.engine ≡ engine → (old.engine.stage ≡ stage.Ready → ⊥) → Stepped went same_counters old new lent lent_after ops ops_after count
+  stepped same_counters none new is busy = by (under old.engine.stage old.engine new.engine lent lent_after went ops ops_after count (subst (λ (x : Engine). StepAt old.engine.stage old.engine x lent lent_after went ops ops_after count) (sym is) led))
+    where
+      by : Under old.engine.stage old.engine new.engine lent lent_after went ops ops_after count → Stepped went same_counters old new lent lent_after ops ops_after count
       by (nothing e h) = absurd (busy e)
       by (turn t) =
           let l = t.led.led in
@@ -148,7 +159,7 @@ module _ (old : Queue) (engine : Engine) (lent lent_after before after : List �
             flags = l.flags_are;
             labels = t.led.ran.labels;
             history = t.led.ran.history;
-            turn = turn_steps old new _ lent lent_after before after ops ops_after count small few t.led;
+            turn = turn_steps old new _ lent lent_after went ops ops_after count small few t.led;
             delivery = λ s packet trace asked token. absurd (cc (token.0.is_here, t.not_delivering));
             wait = λ s pages packet trace asked token. absurd (cc (token.0.is_here, t.not_waiting));
           }
@@ -165,9 +176,9 @@ module _ (old : Queue) (engine : Engine) (lent lent_after before after : List �
             wires = l.wires;
             flags = l.flags_are ∙ sym t.flags;
             labels = [];
-            history = sym t.counters;
+            history = t.counters;
             turn = λ s trace asked token. absurd (cc (token.is_here, t.not_turning));
-            delivery = λ s packet trace asked token. (delivery_steps old new e.flags lent lent_after ops ops_after count small few l s packet trace asked token, t.counters);
+            delivery = λ s packet trace asked token. (delivery_steps old new e.flags lent lent_after ops ops_after count small few l s packet trace asked token, none t.counters);
             wait = λ s pages packet trace asked token. absurd (cc (token.0.is_here, t.not_waiting));
           }
       by (wait t) =
@@ -183,10 +194,10 @@ module _ (old : Queue) (engine : Engine) (lent lent_after before after : List �
             wires = l.wires;
             flags = l.flags_are ∙ sym t.flags;
             labels = [];
-            history = sym t.counters;
+            history = t.counters;
             turn = λ s trace asked token. absurd (cc (token.is_here, t.not_turning));
             delivery = λ s packet trace asked token. absurd (cc (token.0.is_here, t.not_delivering));
-            wait = λ s pages packet trace asked token. (wait_steps old new e.flags lent lent_after ops ops_after count small few l s pages packet trace asked token, t.counters);
+            wait = λ s pages packet trace asked token. (wait_steps old new e.flags lent lent_after ops ops_after count small few l s pages packet trace asked token, none t.counters);
           }
 
 -- ---- what is enough
@@ -204,6 +215,11 @@ rests_ready s (stage.Notice at kind) h = cc h
 rests_ready s (stage.Deliver producer) h = cc h
 rests_ready s (stage.Wait pages) h = cc h
 rests_ready s (stage.WaitLook pages) h = cc h
+
+pub not_few_at_seat : (q : Queue) (words : List ℕ) (ops : List Op) → 1024 ≤ length words → 1 ≤ length ops → (q.engine.stage ≡ stage.Ready → ⊥) → AreFewAtSeat q words ops → ⊥
+not_few_at_seat q words ops a c d (inl h) = absurd (omega (arith, a, h))
+not_few_at_seat q words ops a c d (inr (inl h)) = absurd (omega (arith, c, h))
+not_few_at_seat q words ops a c d (inr (inr h)) = d (rests_ready q.engine.state q.engine.stage h)
 
 pub not_few : (q : Queue) (words counters : List ℕ) (ops : List Op) → 1024 ≤ length words → total q.engine.wires.program.shapes ≤ length counters → 1 ≤ length ops → (q.engine.stage ≡ stage.Ready → ⊥) → AreFew q words counters ops → ⊥
 not_few q words counters ops a b c d (inl h) = absurd (omega (arith, a, h))

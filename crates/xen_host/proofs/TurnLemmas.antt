@@ -23,6 +23,7 @@ use Rattle.xen_host.specs.Led.{DeliveryEnds, IsOn, Led, TurnEnds, TurnRanLed, Wa
 use Rattle.xen_host.specs.Queues.{DeliveryGoesOn, IsDelivering, IsTurning, IsUnderWay, IsWaiting, TurnGoesOn, WaitGoesOn, WaitsForSome, between, packet_in, packet_of, read_by_some, resting, wiring}
 use Rattle.xen_host.specs.Rest.{reads_in, rest_in, rest_of_delivery, rest_of_wait}
 use Rattle.xen_host.specs.Wired.{wiring_of}
+use Rattle.bpf_note.specs.declared.op.Op.{Op as Operation}
 use Rattle.xen_host.specs.declared.op.Op.{Op}
 use Rattle.xen_host.specs.declared.queue.Queue.{Queue}
 use Rattle.xen_host.specs.declared.stage.Stage.{Stage}
@@ -95,11 +96,11 @@ some_led {A = A} None n s lent b l w = subst (λ k. LedBy {A = A} s [] (fed s (t
 some_led (Some a) n s lent b l w = waits_led a n s lent b l w
 
 -- A step of a turn.
-pub turn_steps : (old new : Queue) (flags : TxFlags) (lent lent_after before after : List ℕ) (ops ops_after : List Op) (count : ℕ) → AreSmall lent → reads_in old.engine.stage ≤ length lent →
-    (h : TurnRanLed old.engine.wires flags (fed (rest_in (wiring old) old.engine.state old.engine.stage old.engine.work) (take (reads_in old.engine.stage) lent)) new.engine before after ops ops_after count lent lent_after) →
+pub turn_steps : (old new : Queue) (flags : TxFlags) (lent lent_after : List ℕ) (went : List (Option Operation) → Type 0) (ops ops_after : List Op) (count : ℕ) → AreSmall lent → reads_in old.engine.stage ≤ length lent →
+    (h : TurnRanLed old.engine.wires flags (fed (rest_in (wiring old) old.engine.state old.engine.stage old.engine.work) (take (reads_in old.engine.stage) lent)) new.engine went ops ops_after count lent lent_after) →
     (s : State) (trace : List Event) (asked : Ask) → IsTurning old s trace asked →
     TurnGoesOn new h.led.last s (trace ++ (read_by asked lent ++ (map event_of h.ran.labels ++ (did_all h.led.first lent_after ++ did_by h.led.last lent_after))))
-turn_steps old new flags lent lent_after before after ops ops_after count small long h s trace asked token =
+turn_steps old new flags lent lent_after went ops ops_after count small long h s trace asked token =
     let e = old.engine in
     let rest = rest_in (wiring old) e.state e.stage e.work in
     let n = reads_in e.stage in

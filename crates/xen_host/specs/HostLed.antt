@@ -1,6 +1,7 @@
 -- For proofs: no claim rests on this file.
 -- What a function that asks a host has done: the computation that was left, and where the asks lead from it.
 use Rattle.std.specs.Prelude.{ℕ, zero, suc, ◌≡◌, ◌≤◌, ◌+◌, ◌/◌, ◌⊎◌, false, List, [], ◌∷◌, ◌++◌, Option, None, Some, drop, length}
+use Rattle.bpf_note.specs.declared.op.Op.{Op}
 use Rattle.xen_netif.specs.Copy.{bytes_from}
 use Rattle.xen_netif.specs.declared.fragment.Fragment.{Fragment}
 use Rattle.xen_netif.specs.declared.flags.TxFlags.{TxFlags}
@@ -54,9 +55,9 @@ TurnLeads was full w flags from new host host_after = HostLed was full (TurnEnds
 
 -- As TurnLeads, after the program's run.
 pub record TurnRanLeads {H : Type 0} (was : H → Ask → List ℕ → H → Type 0) (full : H → Type 0) (w : OwnedWiring) (flags : TxFlags)
-    (from : Steps Ending) (new : Engine) (before after : List ℕ) (host host_after : H) : Type 0 where
+    (from : Steps Ending) (new : Engine) (went : List (Option Op) → Type 0) (host host_after : H) : Type 0 where
   pub between : Steps Ending
-  pub ran : HasRunThrough w.program.shapes from between before after
+  pub ran : HasRunThrough went from between
   pub led : TurnLeads was full w flags between new host host_after
 
 abbrev pub DeliveryLeads : {H : Type 0} → (H → Ask → List ℕ → H → Type 0) → (H → Type 0) → OwnedWiring → TxFlags → List ℕ →
@@ -115,14 +116,14 @@ pub record AfterAnswer {H : Type 0} (gave : H → List ℕ → H → Type 0) (re
 
 -- After the words of a page that a fragment covers; the next fragment is the i-th.
 pub record HasCopied {H : Type 0} (was : H → Ask → List ℕ → H → Type 0) (full : H → Type 0) (gave : H → List ℕ → H → Type 0) (i : ℕ)
-    (f : Fragment) (old new : Engine) (before after : List ℕ) (host host_after : H) : Type 0 where
+    (f : Fragment) (old new : Engine) (went : List (Option Op) → Type 0) (host host_after : H) : Type 0 where
   pub words : List ℕ
   pub mid : H
   pub all : length words ≡ covered f
   pub given : gave host words mid
   pub led : TurnRanLeads was full old.wires old.flags (bind (copy (wiring_of old.wires) (drop i old.work.fragments.items)
-      (old.work.packet ++ bytes_from f (f.offset / 4) words)) (after_copy (wiring_of old.wires) old.state old.work.chain)) new before
-      after mid host_after
+      (old.work.packet ++ bytes_from f (f.offset / 4) words)) (after_copy (wiring_of old.wires) old.state old.work.chain)) new went
+      mid host_after
 
 abbrev pub FillGoesOn : {H : Type 0} → (H → Ask → List ℕ → H → Type 0) → (H → Type 0) → (H → List ℕ → H → Type 0) → Fill → Purpose →
     (old new : Engine) → (host host_after : H) → Type 0
@@ -134,21 +135,21 @@ FillGoesOn was full gave f p old new host host_after =
 
 -- A step from a stage, after the words that were waited for.
 abbrev pub GoesOnAt : {H : Type 0} → (H → Ask → List ℕ → H → Type 0) → (H → Type 0) → (H → List ℕ → H → Type 0) → Stage →
-    (old new : Engine) → (before after : List ℕ) → (host host_after : H) → Type 0
-GoesOnAt was full gave stage.Ready old new before after host host_after = (new ≡ old) × (host_after ≡ host) × (after ≡ before)
-GoesOnAt was full gave (stage.Fill f purpose.Delivery) old new before after host host_after =
+    (old new : Engine) → (went : List (Option Op) → Type 0) → (host host_after : H) → Type 0
+GoesOnAt was full gave stage.Ready old new went host host_after = (new ≡ old) × (host_after ≡ host) × went []
+GoesOnAt was full gave (stage.Fill f purpose.Delivery) old new went host host_after =
     AfterAnswer gave (reads_filling f) (λ words mid. DeliveryLeads was full old.wires old.flags old.work.packet
     (fed (rest_of_delivery (vif_of old.wires) old.state (stage.Fill f purpose.Delivery) old.work) words) new mid host_after) host ×
-    (after ≡ before)
-GoesOnAt was full gave (stage.Deliver producer) old new before after host host_after =
+    went []
+GoesOnAt was full gave (stage.Deliver producer) old new went host host_after =
     DeliveryLeads was full old.wires old.flags old.work.packet (rest_of_delivery (vif_of old.wires) old.state (stage.Deliver producer)
-    old.work) new host host_after × (after ≡ before)
-GoesOnAt was full gave (stage.Wait pages) old new before after host host_after =
+    old.work) new host host_after × went []
+GoesOnAt was full gave (stage.Wait pages) old new went host host_after =
     WaitLeads was full old.wires old.flags old.work.packet (rest_of_wait old.wires.rx old.state (stage.Wait pages)) new host host_after ×
-    (after ≡ before)
-GoesOnAt was full gave (stage.WaitLook pages) old new before after host host_after =
+    went []
+GoesOnAt was full gave (stage.WaitLook pages) old new went host host_after =
     AfterAnswer gave 1 (λ words mid. WaitLeads was full old.wires old.flags old.work.packet
-    (fed (rest_of_wait old.wires.rx old.state (stage.WaitLook pages)) words) new mid host_after) host × (after ≡ before)
-GoesOnAt was full gave g old new before after host host_after =
+    (fed (rest_of_wait old.wires.rx old.state (stage.WaitLook pages)) words) new mid host_after) host × went []
+GoesOnAt was full gave g old new went host host_after =
     AfterAnswer gave (reads_in g) (λ words mid. TurnRanLeads was full old.wires (flags_after g old.work words old.flags)
-    (fed (rest_in (wiring_of old.wires) old.state g old.work) words) new before after mid host_after) host
+    (fed (rest_in (wiring_of old.wires) old.state g old.work) words) new went mid host_after) host

@@ -1,6 +1,7 @@
 -- For proofs: no claim rests on this file.
 -- What a function that says ops has done: the computation that was left, and where the ops lead from it.
-use Rattle.std.specs.Prelude.{ℕ, ◌≡◌, Bool, true, false, List, [], ◌++◌, take}
+use Rattle.std.specs.Prelude.{ℕ, ◌≡◌, Bool, true, false, List, [], ◌++◌, Option, take}
+use Rattle.bpf_note.specs.declared.op.Op.{Op as Operation}
 use Rattle.xen_netif.specs.Chain.{Slot}
 use Rattle.xen_netif.specs.declared.flags.TxFlags.{TxFlags}
 use Rattle.xen_steps.specs.Drive.{LedBy}
@@ -73,10 +74,10 @@ abbrev pub TurnLed : OwnedWiring → TxFlags → Steps Ending → Engine → (op
 TurnLed w flags from new ops ops_after count lent lent_after = Led (TurnEnds new) w flags from new ops ops_after count lent lent_after
 
 -- As TurnLed, after the program's run.
-pub record TurnRanLed (w : OwnedWiring) (flags : TxFlags) (from : Steps Ending) (new : Engine) (before after : List ℕ)
+pub record TurnRanLed (w : OwnedWiring) (flags : TxFlags) (from : Steps Ending) (new : Engine) (went : List (Option Operation) → Type 0)
     (ops ops_after : List Op) (count : ℕ) (lent lent_after : List ℕ) : Type 0 where
   pub between : Steps Ending
-  pub ran : HasRunThrough w.program.shapes from between before after
+  pub ran : HasRunThrough went from between
   pub led : TurnLed w flags between new ops ops_after count lent lent_after
 
 -- A turn that begins, whatever the lent words are.
@@ -123,21 +124,21 @@ beside e = record { wires = e.wires; flags = e.flags; state = e.state; chain = e
 -- ---- a step
 
 -- A step from a stage, after the words that were waited for.
-abbrev pub StepAt : Stage → (old new : Engine) → (lent lent_after before after : List ℕ) → (ops ops_after : List Op) → ℕ → Type 0
-StepAt stage.Ready old new lent lent_after before after ops ops_after count =
-    (count ≡ 0) × (new ≡ old) × (lent_after ≡ lent) × (after ≡ before) × (ops_after ≡ ops)
-StepAt (stage.Fill f purpose.Delivery) old new lent lent_after before after ops ops_after count =
+abbrev pub StepAt : Stage → (old new : Engine) → (lent lent_after : List ℕ) → (went : List (Option Operation) → Type 0) → (ops ops_after : List Op) → ℕ → Type 0
+StepAt stage.Ready old new lent lent_after went ops ops_after count =
+    (count ≡ 0) × (new ≡ old) × (lent_after ≡ lent) × went [] × (ops_after ≡ ops)
+StepAt (stage.Fill f purpose.Delivery) old new lent lent_after went ops ops_after count =
     DeliveryLed old.wires old.flags old.work.packet (fed (rest_of_delivery (vif_of old.wires) old.state (stage.Fill f purpose.Delivery)
-    old.work) (take (reads_filling f) lent)) new ops ops_after count lent lent_after × (after ≡ before)
-StepAt (stage.Deliver producer) old new lent lent_after before after ops ops_after count =
+    old.work) (take (reads_filling f) lent)) new ops ops_after count lent lent_after × went []
+StepAt (stage.Deliver producer) old new lent lent_after went ops ops_after count =
     DeliveryLed old.wires old.flags old.work.packet (rest_of_delivery (vif_of old.wires) old.state (stage.Deliver producer) old.work) new
-    ops ops_after count lent lent_after × (after ≡ before)
-StepAt (stage.Wait pages) old new lent lent_after before after ops ops_after count =
+    ops ops_after count lent lent_after × went []
+StepAt (stage.Wait pages) old new lent lent_after went ops ops_after count =
     WaitLed old.wires old.flags old.work.packet (rest_of_wait old.wires.rx old.state (stage.Wait pages)) new ops ops_after count lent
-    lent_after × (after ≡ before)
-StepAt (stage.WaitLook pages) old new lent lent_after before after ops ops_after count =
+    lent_after × went []
+StepAt (stage.WaitLook pages) old new lent lent_after went ops ops_after count =
     WaitLed old.wires old.flags old.work.packet (fed (rest_of_wait old.wires.rx old.state (stage.WaitLook pages)) (take 1 lent)) new ops
-    ops_after count lent lent_after × (after ≡ before)
-StepAt g old new lent lent_after before after ops ops_after count =
+    ops_after count lent lent_after × went []
+StepAt g old new lent lent_after went ops ops_after count =
     TurnRanLed old.wires (flags_after g old.work lent old.flags) (fed (rest_in (wiring_of old.wires) old.state g old.work)
-    (take (reads_in g) lent)) new before after ops ops_after count lent lent_after
+    (take (reads_in g) lent)) new went ops ops_after count lent lent_after

@@ -1,7 +1,7 @@
 //! A turn's beginning and a step, for a host in C: what is asked stands in its ops.
 
 ghost use Rattle.std.specs.Prelude.{◌≡◌, ◌<◌, ◌≤◌, length};
-ghost use Rattle.bpf_maps.specs.Layout.{total};
+ghost use Rattle.xdp_program.specs.Tallies.{Went};
 ghost use Rattle.xen_steps.specs.Steps.{next};
 ghost use Rattle.xen_back.specs.Tree.{whole_turn};
 ghost use Rattle.xen_host.specs.Fits.{Fits};
@@ -12,6 +12,7 @@ ghost use Rattle.xen_host.specs.Wired.{wiring_of};
 use crate::engine::Engine;
 use crate::host::Ops;
 use crate::op::Op;
+use xdp_program::Tallies;
 
 impl Engine {
     /// Begins a turn over a host that lends no words.
@@ -45,14 +46,13 @@ impl Engine {
 
     /// Goes on with what is under way, over a host that has said nothing yet.
     #[inline(always)]
-    fn step_ops(&mut self, counters: &mut [u64], host: &mut Ops<'_>)
+    fn step_ops<T: Tallies>(&mut self, counters: &mut T, host: &mut Ops<'_>)
         requires fits { Fits self.old.stage self.old.work }
-        requires counters { total self.old.wires.program.shapes ≤ length counters.old }
+        requires counters { T.serves self.old.wires.program.shapes counters.old }
         requires fresh { IsFresh host.old }
-        ensures counters { length counters.new ≡ length counters.old }
         ensures words { length host.new.words.now ≡ length host.old.words.now }
-        ensures led { StepAt self.old.stage self.old self.new host.old.words.now host.new.words.now counters.old counters.new
-            host.old.ops.now host.new.ops.now host.new.count }
+        ensures led { StepAt self.old.stage self.old self.new host.old.words.now host.new.words.now (Went (T.did self.old.wires.program.shapes)
+            counters.old counters.new) host.old.ops.now host.new.ops.now host.new.count }
         ensures loan { IsSameLoan host.old host.new }
     {
         self.step(counters, host)
@@ -60,19 +60,19 @@ impl Engine {
 
     /// Goes on with what is under way, if anything is, with the words that were read, and says what is next. How many ops.
     #[inline(always)]
-    pub(crate) fn say_next(
+    pub(crate) fn say_next<T: Tallies>(
         &mut self,
         words: &mut [u32],
-        counters: &mut [u64],
+        counters: &mut T,
         ops: &mut [Op],
     ) -> usize
         requires fits { Fits self.old.stage self.old.work }
         requires enough { 1024 ≤ length words.old }
-        requires counters { total self.old.wires.program.shapes ≤ length counters.old }
+        requires counters { T.serves self.old.wires.program.shapes counters.old }
         requires room { 1 ≤ length ops.old }
         ensures words { length words.new ≡ length words.old }
-        ensures counters { length counters.new ≡ length counters.old }
-        ensures led { StepAt self.old.stage self.old self.new words.old words.new counters.old counters.new ops.old ops.new result }
+        ensures led { StepAt self.old.stage self.old self.new words.old words.new (Went (T.did self.old.wires.program.shapes) counters.old
+            counters.new) ops.old ops.new result }
     {
         let mut host = Ops {
             ops,

@@ -1,6 +1,7 @@
-use Rattle.std.proofs.Common.{ℕ, ◌+◌, ◌/◌, drop, sym, ap, ◌∙◌}
+use Rattle.std.proofs.Common.{ℕ, ◌+◌, ◌/◌, drop, sym, ap, ◌∙◌, refl}
 use Rattle.std.specs.Prelude.{Result}
 use Rattle.xen_steps.specs.Steps.{bind}
+use Rattle.xdp_program.specs.Tallies.{Went}
 use Rattle.xen_host.specs.Wired.{wiring_of}
 use Rattle.xen_host.proofs.RanLedLemmas.{ran_from_same, ran_led}
 use Rattle.xen_netif.specs.declared.fragment.Fragment.{Fragment}
@@ -13,18 +14,18 @@ use Rattle.xen_back.specs.Rest.{fragment_at}
 use Rattle.xen_back.specs.Tree.{after_copy, copy, entered}
 use Rattle.xen_host.proofs.engine.Engine.after_entry.Goals as goal
 
-pub returns-in-Err-clause-led : goal.returns-in-Err-clause-led
-returns-in-Err-clause-led g c =
+pub returns-in-Err : goal.returns-in-Err
+returns-in-Err g c =
     let q = c.args.self.now in
     let w = wiring_of q.wires in
     let b = q.work in
     let f = fragment_at b.fragments.items c.args.i in
     let is = ap (λ (e : Entry). checked q.wires.owners q.wires.granter q.wires.user e ReadOnly) (sym c.of_words-entry.ensures.entry) ∙ sym c.check.ensures.checked ∙ c.in-Err.is in
     let same = ap (λ (r : Result ℕ GrantFault). bind (entered f (copy w (drop (c.args.i + 1) b.fragments.items)) b.packet r) (after_copy w q.state b.chain)) is in
-    ran_led _ _ _ _ _ _ _ _ _ _ (sym same) c.refuse.ensures.led
+    record { led = ran_led _ _ _ _ _ _ _ (Went (g.T.Tallies.did c.args.self.now.wires.program.shapes) c.args.counters.now c.args.counters.now) _ _ refl (sym same) c.refuse.ensures.led }
 
-pub returns-in-Ok-clause-led : goal.returns-in-Ok-clause-led
-returns-in-Ok-clause-led g c =
+pub returns-in-Ok : goal.returns-in-Ok
+returns-in-Ok g c =
     let q = c.args.self.now in
     let w = wiring_of q.wires in
     let b = q.work in
@@ -33,4 +34,4 @@ returns-in-Ok-clause-led g c =
     let is = ap (λ (e : Entry). checked q.wires.owners q.wires.granter q.wires.user e ReadOnly) (sym c.of_words-entry.ensures.entry) ∙ sym c.check.ensures.checked ∙ c.in-Ok.is in
     let same = ap (λ (r : Result ℕ GrantFault). bind (entered f rest b.packet r) (after_copy w q.state b.chain)) is in
     let page = ap (λ (g : Fragment). bind (bind (copy_words g c.in-Ok.frame (g.offset / 4) (covered g) b.packet) rest) (after_copy w q.state b.chain)) c.fragment-fragment.ensures in
-    ran_from_same _ _ _ _ _ _ _ _ _ _ _ (page ∙ sym same) c.begin_page.ensures.led
+    record { led = ran_from_same _ _ _ _ _ _ _ _ _ _ (page ∙ sym same) c.begin_page.ensures.led }

@@ -1,6 +1,7 @@
-use Rattle.std.proofs.Common.{◌≡◌, ◌++◌, List, [], ◌∷◌, sym, ap, ◌∙◌, subst}
+use Rattle.std.proofs.Common.{◌≡◌, ◌++◌, List, [], ◌∷◌, sym, ap, ◌∙◌, subst, refl}
 use Rattle.std.specs.Prelude.{Option, Some, Result, Ok}
 use Rattle.xen_steps.specs.Steps.{bind}
+use Rattle.xdp_program.specs.Tallies.{Went}
 use Rattle.xen_host.specs.HostLed.{TurnRanLeads}
 use Rattle.xen_host.specs.Wired.{wiring_of}
 use Rattle.xen_host.proofs.RanLedLemmas.{ran_from_same, ran_led}
@@ -14,8 +15,8 @@ use Rattle.xen_netif.specs.declared.flags.TxFlags.{TxFlags}
 use Rattle.xen_netif.specs.declared.chain.ChainState.TheVariants as wanted
 use Rattle.xen_host.proofs.engine.Engine.after_slot.Goals as goal
 
-pub returns-in-Err-clause-led : goal.returns-in-Err-clause-led
-returns-in-Err-clause-led g c =
+pub returns-in-Err : goal.returns-in-Err
+returns-in-Err g c =
     let q = c.args.self.now in
     let w = wiring_of q.wires in
     let l = q.work.chain ++ c.args.slot ∷ [] in
@@ -23,11 +24,14 @@ returns-in-Err-clause-led g c =
     let from = bind (judged l (standing l) rest) (after_scan w q.state) in
     let same = ap (λ (o : Option (Result ChainState ChainFault)). bind (judged l o rest) (after_scan w q.state)) (c.push.ensures.standing ∙ ap (λ (r : Result ChainState ChainFault). Some r) c.in-Err.is) in
     let n = c.args.counters.now in
-    subst (λ (f : TxFlags). TurnRanLeads g.H.Host.was_asked g.H.Host.is_full q.wires f from c.halt.new.self n n c.args.host.now c.halt.new.host) c.flags_behind-flags.ensures
-    (ran_led _ _ _ _ _ _ _ _ _ _ (sym same) c.halt.ensures.led)
+    let did = g.T.Tallies.did q.wires.program.shapes in
+    record {
+      led = subst (λ (f : TxFlags). TurnRanLeads g.H.Host.was_asked g.H.Host.is_full q.wires f from c.halt.new.self (Went did n n) c.args.host.now c.halt.new.host) c.flags_behind-flags.ensures
+          (ran_led _ _ _ _ _ _ _ (Went (g.T.Tallies.did c.args.self.now.wires.program.shapes) c.args.counters.now c.args.counters.now) _ _ refl (sym same) c.halt.ensures.led);
+    }
 
-pub returns-in-Ok-Complete-clause-led : goal.returns-in-Ok-Complete-clause-led
-returns-in-Ok-Complete-clause-led g c =
+pub returns-in-Ok-Complete : goal.returns-in-Ok-Complete
+returns-in-Ok-Complete g c =
     let q = c.args.self.now in
     let w = wiring_of q.wires in
     let l = q.work.chain ++ c.args.slot ∷ [] in
@@ -36,11 +40,13 @@ returns-in-Ok-Complete-clause-led g c =
     let is : standing l ≡ Some (Ok (wanted.Complete)) = c.push.ensures.standing ∙ ap (λ (r : Result ChainState ChainFault). Some r) (c.in-Ok-Complete.is ∙ ap (λ (x : ChainState). Ok x) c.in-Ok-Complete.field-0-is) in
     let same = ap (λ (o : Option (Result ChainState ChainFault)). bind (judged l o rest) (after_scan w q.state)) is in
     let whole = ap (λ (x : List Slot). after_chain w q.state x (fragments_of x)) c.in-Ok-Complete.ensures.ok in
-    subst (λ (f : TxFlags). TurnRanLeads g.H.Host.was_asked g.H.Host.is_full q.wires f from c.begin_copy.new.self c.args.counters.now c.begin_copy.new.counters c.args.host.now c.begin_copy.new.host) c.flags_behind-flags.ensures
-    (ran_from_same _ _ _ _ _ _ _ _ _ _ _ (whole ∙ sym same) c.begin_copy.ensures.led)
+    record {
+      led = subst (λ (f : TxFlags). TurnRanLeads g.H.Host.was_asked g.H.Host.is_full q.wires f from c.begin_copy.new.self (Went (g.T.Tallies.did q.wires.program.shapes) c.args.counters.now c.begin_copy.new.counters) c.args.host.now c.begin_copy.new.host) c.flags_behind-flags.ensures
+          (ran_from_same _ _ _ _ _ _ _ _ _ _ (whole ∙ sym same) c.begin_copy.ensures.led);
+    }
 
-pub returns-in-Ok-Data-clause-led : goal.returns-in-Ok-Data-clause-led
-returns-in-Ok-Data-clause-led g c =
+pub returns-in-Ok-Data : goal.returns-in-Ok-Data
+returns-in-Ok-Data g c =
     let q = c.args.self.now in
     let w = wiring_of q.wires in
     let l = q.work.chain ++ c.args.slot ∷ [] in
@@ -50,11 +56,14 @@ returns-in-Ok-Data-clause-led g c =
     let same = ap (λ (o : Option (Result ChainState ChainFault)). bind (judged l o rest) (after_scan w q.state)) is in
     let more = ap (λ (x : List Slot). bind (read_slots w q.state.tx_index c.args.left x) (after_scan w q.state)) c.in-Ok-Data.ensures.ok in
     let n = c.args.counters.now in
-    subst (λ (f : TxFlags). TurnRanLeads g.H.Host.was_asked g.H.Host.is_full q.wires f from c.more_slots.new.self n n c.args.host.now c.more_slots.new.host) c.flags_behind-flags.ensures
-    (ran_led _ _ _ _ _ _ _ _ _ _ (more ∙ sym same) c.more_slots.ensures.led)
+    let did = g.T.Tallies.did q.wires.program.shapes in
+    record {
+      led = subst (λ (f : TxFlags). TurnRanLeads g.H.Host.was_asked g.H.Host.is_full q.wires f from c.more_slots.new.self (Went did n n) c.args.host.now c.more_slots.new.host) c.flags_behind-flags.ensures
+          (ran_led _ _ _ _ _ _ _ (Went (g.T.Tallies.did c.args.self.now.wires.program.shapes) c.args.counters.now c.args.counters.now) _ _ refl (more ∙ sym same) c.more_slots.ensures.led);
+    }
 
-pub returns-in-Ok-Extra-clause-led : goal.returns-in-Ok-Extra-clause-led
-returns-in-Ok-Extra-clause-led g c =
+pub returns-in-Ok-Extra : goal.returns-in-Ok-Extra
+returns-in-Ok-Extra g c =
     let q = c.args.self.now in
     let w = wiring_of q.wires in
     let l = q.work.chain ++ c.args.slot ∷ [] in
@@ -64,6 +73,9 @@ returns-in-Ok-Extra-clause-led g c =
     let same = ap (λ (o : Option (Result ChainState ChainFault)). bind (judged l o rest) (after_scan w q.state)) is in
     let more = ap (λ (x : List Slot). bind (read_slots w q.state.tx_index c.args.left x) (after_scan w q.state)) c.in-Ok-Extra.ensures.ok in
     let n = c.args.counters.now in
+    let did = g.T.Tallies.did q.wires.program.shapes in
     let m = c.more_slots-in-Ok-Extra in
-    subst (λ (f : TxFlags). TurnRanLeads g.H.Host.was_asked g.H.Host.is_full q.wires f from m.new.self n n c.args.host.now m.new.host) c.flags_behind-flags.ensures
-    (ran_led _ _ _ _ _ _ _ _ _ _ (more ∙ sym same) m.ensures.led)
+    record {
+      led = subst (λ (f : TxFlags). TurnRanLeads g.H.Host.was_asked g.H.Host.is_full q.wires f from m.new.self (Went did n n) c.args.host.now m.new.host) c.flags_behind-flags.ensures
+          (ran_led _ _ _ _ _ _ _ (Went (g.T.Tallies.did c.args.self.now.wires.program.shapes) c.args.counters.now c.args.counters.now) _ _ refl (more ∙ sym same) m.ensures.led);
+    }

@@ -1,6 +1,7 @@
-use Rattle.std.proofs.Common.{ℕ, List, [], length, sym, ap, ◌∙◌}
+use Rattle.std.proofs.Common.{ℕ, List, [], length, sym, ap, ◌∙◌, refl}
 use Rattle.std.specs.Prelude.{Result}
 use Rattle.xen_steps.specs.Steps.{bind}
+use Rattle.xdp_program.specs.Tallies.{Went}
 use Rattle.xen_host.specs.Wired.{wiring_of}
 use Rattle.xen_host.proofs.RanLedLemmas.{ran_from_same, ran_led}
 use Rattle.xen_netif.specs.Chain.{Slot}
@@ -12,17 +13,17 @@ use Rattle.xen_back.specs.Turned.{Refused}
 use Rattle.xen_back.specs.declared.turn.Refusal.TheVariants as refusal
 use Rattle.xen_host.proofs.engine.Engine.begin_copy.Goals as goal
 
-pub returns-in-Err-clause-led : goal.returns-in-Err-clause-led
-returns-in-Err-clause-led g c =
+pub returns-in-Err : goal.returns-in-Err
+returns-in-Err g c =
     let q = c.args.self.now in
     let w = wiring_of q.wires in
     let chain = q.work.chain in
     let fault = c.in-Err.fault in
     let kept = ap (λ (l : List Slot). respond w q.state l Error (Refused (refusal.Size fault) 0 (length l))) c.place_fragments.ensures.chain in
-    ran_led _ _ _ _ _ _ _ _ _ _ (kept ∙ sym (ap (λ (r : Result (List Fragment) SizeFault). after_chain w q.state chain r) c.in-Err.ensures.answer)) c.refuse.ensures.led
+    record { led = ran_led _ _ _ _ _ _ _ (Went (g.T.Tallies.did c.args.self.now.wires.program.shapes) c.args.counters.now c.args.counters.now) _ _ refl (kept ∙ sym (ap (λ (r : Result (List Fragment) SizeFault). after_chain w q.state chain r) c.in-Err.ensures.answer)) c.refuse.ensures.led }
 
-pub returns-in-Ok-clause-led : goal.returns-in-Ok-clause-led
-returns-in-Ok-clause-led g c =
+pub returns-in-Ok : goal.returns-in-Ok
+returns-in-Ok g c =
     let q = c.args.self.now in
     let w = wiring_of q.wires in
     let chain = q.work.chain in
@@ -30,4 +31,4 @@ returns-in-Ok-clause-led g c =
     let fs = new.fragments.items in
     let none = ap (λ (l : List ℕ). bind (copy w fs l) (after_copy w q.state new.chain)) c.clear.ensures in
     let kept = ap (λ (l : List Slot). bind (copy w fs []) (after_copy w q.state l)) c.place_fragments.ensures.chain in
-    ran_from_same _ _ _ _ _ _ _ _ _ _ _ (none ∙ kept ∙ sym (ap (λ (r : Result (List Fragment) SizeFault). after_chain w q.state chain r) c.in-Ok.ensures.answer)) c.next_fragment.ensures.led
+    record { led = ran_from_same _ _ _ _ _ _ _ _ _ _ (none ∙ kept ∙ sym (ap (λ (r : Result (List Fragment) SizeFault). after_chain w q.state chain r) c.in-Ok.ensures.answer)) c.next_fragment.ensures.led }

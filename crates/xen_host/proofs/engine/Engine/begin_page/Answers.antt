@@ -1,5 +1,6 @@
 use Rattle.std.proofs.Common.{◌≡◌, ◌≤◌, ◌-◌, ◌/◌, drop, refl, sym, ap, ◌∙◌, arith}
 use Rattle.xen_steps.specs.Steps.{bind}
+use Rattle.xdp_program.specs.Tallies.{Went}
 use Rattle.xen_host.specs.Asks as ask
 use Rattle.xen_host.specs.Wired.{wiring_of}
 use Rattle.xen_host.proofs.HostLedLemmas.{asks_one}
@@ -10,8 +11,8 @@ use Rattle.xen_back.specs.Tree.{after_copy, copy}
 use Rattle.xen_host.proofs.AskLemmas.{asks_words, page_short}
 use Rattle.xen_host.proofs.engine.Engine.begin_page.Goals as goal
 
-pub returns-then-words-clause-led : goal.returns-then-words-clause-led
-returns-then-words-clause-led g c =
+pub returns-then-words : goal.returns-then-words
+returns-then-words g c =
     let q = c.args.self.now in
     let w = wiring_of q.wires in
     let b = q.work in
@@ -19,10 +20,10 @@ returns-then-words-clause-led g c =
     let r = c.covered_words-words.result in
     let none : covered f ≡ 0 = omega (arith, c.covered_words-words.ensures.count, c.if-words.true) in
     let same = ap (λ n. bind (bind (copy_words f c.args.frame (f.offset / 4) n b.packet) (copy w (drop c.args.i b.fragments.items))) (after_copy w q.state b.chain)) none in
-    ran_from_same _ _ _ _ _ _ _ _ _ _ _ (sym same) c.after_empty.ensures.led
+    record { led = ran_from_same _ _ _ _ _ _ _ _ _ _ (sym same) c.after_empty.ensures.led }
 
-pub returns-clause-led : goal.returns-clause-led
-returns-clause-led g c =
+pub returns : goal.returns
+returns g c =
     let q = c.args.self.now in
     let w = wiring_of q.wires in
     let b = q.work in
@@ -35,6 +36,8 @@ returns-clause-led g c =
     let at = page_word frame (f.offset / 4) in
     let left = bind (bind (copy_words f frame (f.offset / 4) (covered f) b.packet) (copy w (drop c.args.i b.fragments.items))) (after_copy w q.state b.chain) in
     let is = ap (λ k. ask.Read (page_word frame k) (r.end - r.start)) e.start ∙ ap (λ m. ask.Read at m) (sym n) in
-    ran_none _ _ _ _ _ _ _ _ _ (asks_one _ _ _ _ _ _ left _ _ _ (ask.Read at (covered f)) _ c.read.ensures is refl (some, page_short f c.requires.in_page) refl
-    (record { is_rest = refl; waits = (refl, asks_words f frame (f.offset / 4) (covered f) b.packet (copy w (drop c.args.i b.fragments.items)) (after_copy w q.state b.chain)); is_here = refl; told = tt }) refl refl
-    (record { within = c.requires.copies.within; in_page = c.requires.copies.in_page; here = c.requires.in_page; some = some; room = c.requires.more }))
+    record {
+      led = ran_none _ _ _ _ _ _ (Went (g.T.Tallies.did c.args.self.now.wires.program.shapes) c.args.counters.now c.args.counters.now) _ _ refl (asks_one _ _ _ _ _ _ left _ _ _ (ask.Read at (covered f)) _ c.read.ensures is refl (some, page_short f c.requires.in_page) refl
+          (record { is_rest = refl; waits = (refl, asks_words f frame (f.offset / 4) (covered f) b.packet (copy w (drop c.args.i b.fragments.items)) (after_copy w q.state b.chain)); is_here = refl; told = tt }) refl refl
+          (record { within = c.requires.copies.within; in_page = c.requires.copies.in_page; here = c.requires.in_page; some = some; room = c.requires.more }));
+    }

@@ -1,5 +1,6 @@
 use Rattle.std.proofs.Common.{[], ◌/◌, drop, refl, sym, subst}
 use Rattle.xen_back.specs.Tree.{after_copy, copy}
+use Rattle.xdp_program.specs.Tallies.{Went}
 use Rattle.xen_host.specs.Fits.{Fits}
 use Rattle.xen_host.specs.HostLed.{GoesOnAt}
 use Rattle.xen_host.specs.Wired.{wiring_of}
@@ -10,100 +11,133 @@ use Rattle.xen_host.proofs.RanLedLemmas.{ran_from_same, ran_none}
 use Rattle.xen_host.proofs.StageLemmas.{fill_goes}
 use Rattle.xen_host.proofs.engine.Engine.step.Goals as goal
 
-pub returns-in-Announce-clause-led : goal.returns-in-Announce-clause-led
-returns-in-Announce-clause-led g c =
+pub returns-in-Announce : goal.returns-in-Announce
+returns-in-Announce g c =
     let q = c.args.self.now in
     let n = c.args.counters.now in
+    let did = g.T.Tallies.did q.wires.program.shapes in
     let r = c.looked_again in
-    subst (λ (x : Stage). GoesOnAt g.H.Host.was_asked g.H.Host.is_full g.H.Host.has_given x q r.new.self n n c.args.host.now r.new.host) (sym c.in-Announce.is)
-    (record { words = _; mid = c.word-producer.new.self; given = (refl, c.word-producer.ensures.given); led = ran_none _ _ _ _ _ _ _ _ _ r.ensures.led })
-
-pub returns-in-Slot-clause-led : goal.returns-in-Slot-clause-led
-returns-in-Slot-clause-led g c =
-    let q = c.args.self.now in
-    let n = c.args.counters.now in
-    let r = c.after_slot in
-    subst (λ (x : Stage). GoesOnAt g.H.Host.was_asked g.H.Host.is_full g.H.Host.has_given x q r.new.self n r.new.counters c.args.host.now r.new.host) (sym c.in-Slot.is)
-    (record { words = _; mid = c.three.new.self; given = (refl, c.three.ensures.given); led = r.ensures.led })
-
-pub returns-in-Entry-clause-led : goal.returns-in-Entry-clause-led
-returns-in-Entry-clause-led g c =
-    let q = c.args.self.now in
-    let n = c.args.counters.now in
-    let r = c.after_entry in
-    subst (λ (x : Stage). GoesOnAt g.H.Host.was_asked g.H.Host.is_full g.H.Host.has_given x q r.new.self n r.new.counters c.args.host.now r.new.host) (sym c.in-Entry.is)
-    (record { words = _; mid = c.two.new.self; given = (refl, c.two.ensures.given); led = r.ensures.led })
-
-pub returns-in-Push-clause-led : goal.returns-in-Push-clause-led
-returns-in-Push-clause-led g c =
-    let q = c.args.self.now in
-    let n = c.args.counters.now in
-    let r = c.after_event in
-    subst (λ (x : Stage). GoesOnAt g.H.Host.was_asked g.H.Host.is_full g.H.Host.has_given x q r.new.self n n c.args.host.now r.new.host) (sym c.in-Push.is)
-    (record { words = _; mid = c.word-event.new.self; given = (refl, c.word-event.ensures.given); led = ran_none _ _ _ _ _ _ _ _ _ r.ensures.led })
-
-pub returns-in-Respond-clause-led : goal.returns-in-Respond-clause-led
-returns-in-Respond-clause-led g c =
-    let q = c.args.self.now in
-    let n = c.args.counters.now in
-    let r = c.respond_from in
-    subst (λ (x : Stage). GoesOnAt g.H.Host.was_asked g.H.Host.is_full g.H.Host.has_given x q r.new.self n n c.args.host.now r.new.host) (sym c.in-Respond.is)
-    (record { words = []; mid = c.args.host.now; given = (refl, refl); led = ran_none _ _ _ _ _ _ _ _ _ r.ensures.led })
-
-pub returns-in-Notice-clause-led : goal.returns-in-Notice-clause-led
-returns-in-Notice-clause-led g c =
-    let q = c.args.self.now in
-    let n = c.args.counters.now in
-    let r = c.answered in
-    subst (λ (x : Stage). GoesOnAt g.H.Host.was_asked g.H.Host.is_full g.H.Host.has_given x q r.new.self n n c.args.host.now r.new.host) (sym c.in-Notice.is)
-    (record { words = []; mid = c.args.host.now; given = (refl, refl); led = ran_none _ _ _ _ _ _ _ _ _ r.ensures.led })
-
-pub returns-in-Page-clause-led : goal.returns-in-Page-clause-led
-returns-in-Page-clause-led g c =
-    let q = c.args.self.now in
-    let n = c.args.counters.now in
-    let r = c.after_page in
-    subst (λ (x : Stage). GoesOnAt g.H.Host.was_asked g.H.Host.is_full g.H.Host.has_given x q r.new.self n r.new.counters c.args.host.now r.new.host) (sym c.in-Page.is)
-    (let f = c.in-Page.fragment in
-    let w = wiring_of q.wires in
-    let b = q.work in
-    let l = r.ensures.led in
-    let some = (subst (λ (x : Stage). Fits x b) c.in-Page.is c.requires.fits).some in
     record {
-      words = l.words;
-      mid = l.mid;
-      given = given_some _ _ _ _ _ some l.all l.given;
-      led = ran_from_same _ _ _ _ _ _ _ _ _ _ _ (sym (fed_all f c.in-Page.frame (f.offset / 4) l.words b.packet (copy w (drop c.in-Page.i b.fragments.items)) (after_copy w q.state b.chain) (covered f) l.all)) l.led;
-    })
+      led = subst (λ (x : Stage). GoesOnAt g.H.Host.was_asked g.H.Host.is_full g.H.Host.has_given x q r.new.self (Went did n n) c.args.host.now r.new.host) (sym c.in-Announce.is)
+          (record { words = _; mid = c.word-producer.new.self; given = (refl, c.word-producer.ensures.given); led = ran_none _ _ _ _ _ _ (Went (g.T.Tallies.did c.args.self.now.wires.program.shapes) c.args.counters.now c.args.counters.now) _ _ refl r.ensures.led });
+    }
 
-pub returns-in-Fill-clause-led : goal.returns-in-Fill-clause-led
-returns-in-Fill-clause-led g c =
+pub returns-in-Slot : goal.returns-in-Slot
+returns-in-Slot g c =
     let q = c.args.self.now in
     let n = c.args.counters.now in
+    let did = g.T.Tallies.did q.wires.program.shapes in
+    let r = c.after_slot in
+    record {
+      led = subst (λ (x : Stage). GoesOnAt g.H.Host.was_asked g.H.Host.is_full g.H.Host.has_given x q r.new.self (Went did n r.new.counters) c.args.host.now r.new.host) (sym c.in-Slot.is)
+          (record { words = _; mid = c.three.new.self; given = (refl, c.three.ensures.given); led = r.ensures.led });
+    }
+
+pub returns-in-Entry : goal.returns-in-Entry
+returns-in-Entry g c =
+    let q = c.args.self.now in
+    let n = c.args.counters.now in
+    let did = g.T.Tallies.did q.wires.program.shapes in
+    let r = c.after_entry in
+    record {
+      led = subst (λ (x : Stage). GoesOnAt g.H.Host.was_asked g.H.Host.is_full g.H.Host.has_given x q r.new.self (Went did n r.new.counters) c.args.host.now r.new.host) (sym c.in-Entry.is)
+          (record { words = _; mid = c.two.new.self; given = (refl, c.two.ensures.given); led = r.ensures.led });
+    }
+
+pub returns-in-Push : goal.returns-in-Push
+returns-in-Push g c =
+    let q = c.args.self.now in
+    let n = c.args.counters.now in
+    let did = g.T.Tallies.did q.wires.program.shapes in
+    let r = c.after_event in
+    record {
+      led = subst (λ (x : Stage). GoesOnAt g.H.Host.was_asked g.H.Host.is_full g.H.Host.has_given x q r.new.self (Went did n n) c.args.host.now r.new.host) (sym c.in-Push.is)
+          (record { words = _; mid = c.word-event.new.self; given = (refl, c.word-event.ensures.given); led = ran_none _ _ _ _ _ _ (Went (g.T.Tallies.did c.args.self.now.wires.program.shapes) c.args.counters.now c.args.counters.now) _ _ refl r.ensures.led });
+    }
+
+pub returns-in-Respond : goal.returns-in-Respond
+returns-in-Respond g c =
+    let q = c.args.self.now in
+    let n = c.args.counters.now in
+    let did = g.T.Tallies.did q.wires.program.shapes in
+    let r = c.respond_from in
+    record {
+      led = subst (λ (x : Stage). GoesOnAt g.H.Host.was_asked g.H.Host.is_full g.H.Host.has_given x q r.new.self (Went did n n) c.args.host.now r.new.host) (sym c.in-Respond.is)
+          (record { words = []; mid = c.args.host.now; given = (refl, refl); led = ran_none _ _ _ _ _ _ (Went (g.T.Tallies.did c.args.self.now.wires.program.shapes) c.args.counters.now c.args.counters.now) _ _ refl r.ensures.led });
+    }
+
+pub returns-in-Notice : goal.returns-in-Notice
+returns-in-Notice g c =
+    let q = c.args.self.now in
+    let n = c.args.counters.now in
+    let did = g.T.Tallies.did q.wires.program.shapes in
+    let r = c.answered in
+    record {
+      led = subst (λ (x : Stage). GoesOnAt g.H.Host.was_asked g.H.Host.is_full g.H.Host.has_given x q r.new.self (Went did n n) c.args.host.now r.new.host) (sym c.in-Notice.is)
+          (record { words = []; mid = c.args.host.now; given = (refl, refl); led = ran_none _ _ _ _ _ _ (Went (g.T.Tallies.did c.args.self.now.wires.program.shapes) c.args.counters.now c.args.counters.now) _ _ refl r.ensures.led });
+    }
+
+pub returns-in-Page : goal.returns-in-Page
+returns-in-Page g c =
+    let q = c.args.self.now in
+    let n = c.args.counters.now in
+    let did = g.T.Tallies.did q.wires.program.shapes in
+    let r = c.after_page in
+    record {
+      led = subst (λ (x : Stage). GoesOnAt g.H.Host.was_asked g.H.Host.is_full g.H.Host.has_given x q r.new.self (Went did n r.new.counters) c.args.host.now r.new.host) (sym c.in-Page.is)
+          (let f = c.in-Page.fragment in
+          let w = wiring_of q.wires in
+          let b = q.work in
+          let l = r.ensures.led in
+          let some = (subst (λ (x : Stage). Fits x b) c.in-Page.is c.requires.fits).some in
+          record {
+            words = l.words;
+            mid = l.mid;
+            given = given_some _ _ _ _ _ some l.all l.given;
+            led = ran_from_same _ _ _ _ _ _ _ _ _ _ (sym (fed_all f c.in-Page.frame (f.offset / 4) l.words b.packet (copy w (drop c.in-Page.i b.fragments.items)) (after_copy w q.state b.chain) (covered f) l.all)) l.led;
+          });
+    }
+
+pub returns-in-Fill : goal.returns-in-Fill
+returns-in-Fill g c =
+    let q = c.args.self.now in
+    let n = c.args.counters.now in
+    let did = g.T.Tallies.did q.wires.program.shapes in
     let r = c.after_fill in
-    subst (λ (x : Stage). GoesOnAt g.H.Host.was_asked g.H.Host.is_full g.H.Host.has_given x q r.new.self n n c.args.host.now r.new.host) (sym c.in-Fill.is)
-    (fill_goes _ _ _ c.in-Fill.fill c.in-Fill.purpose q r.new.self n _ _ r.ensures.led)
+    record {
+      led = subst (λ (x : Stage). GoesOnAt g.H.Host.was_asked g.H.Host.is_full g.H.Host.has_given x q r.new.self (Went did n n) c.args.host.now r.new.host) (sym c.in-Fill.is)
+          (fill_goes _ _ _ c.in-Fill.fill c.in-Fill.purpose q r.new.self (Went did n n) _ _ refl r.ensures.led);
+    }
 
-pub returns-in-Deliver-clause-led : goal.returns-in-Deliver-clause-led
-returns-in-Deliver-clause-led g c =
+pub returns-in-Deliver : goal.returns-in-Deliver
+returns-in-Deliver g c =
     let q = c.args.self.now in
     let n = c.args.counters.now in
+    let did = g.T.Tallies.did q.wires.program.shapes in
     let r = c.set_out in
-    subst (λ (x : Stage). GoesOnAt g.H.Host.was_asked g.H.Host.is_full g.H.Host.has_given x q r.new.self n n c.args.host.now r.new.host) (sym c.in-Deliver.is)
-    (r.ensures.led, refl)
+    record {
+      led = subst (λ (x : Stage). GoesOnAt g.H.Host.was_asked g.H.Host.is_full g.H.Host.has_given x q r.new.self (Went did n n) c.args.host.now r.new.host) (sym c.in-Deliver.is)
+          (r.ensures.led, refl);
+    }
 
-pub returns-in-Wait-clause-led : goal.returns-in-Wait-clause-led
-returns-in-Wait-clause-led g c =
+pub returns-in-Wait : goal.returns-in-Wait
+returns-in-Wait g c =
     let q = c.args.self.now in
     let n = c.args.counters.now in
+    let did = g.T.Tallies.did q.wires.program.shapes in
     let r = c.wait_begun in
-    subst (λ (x : Stage). GoesOnAt g.H.Host.was_asked g.H.Host.is_full g.H.Host.has_given x q r.new.self n n c.args.host.now r.new.host) (sym c.in-Wait.is)
-    (r.ensures.led, refl)
+    record {
+      led = subst (λ (x : Stage). GoesOnAt g.H.Host.was_asked g.H.Host.is_full g.H.Host.has_given x q r.new.self (Went did n n) c.args.host.now r.new.host) (sym c.in-Wait.is)
+          (r.ensures.led, refl);
+    }
 
-pub returns-in-WaitLook-clause-led : goal.returns-in-WaitLook-clause-led
-returns-in-WaitLook-clause-led g c =
+pub returns-in-WaitLook : goal.returns-in-WaitLook
+returns-in-WaitLook g c =
     let q = c.args.self.now in
     let n = c.args.counters.now in
+    let did = g.T.Tallies.did q.wires.program.shapes in
     let r = c.wait_looked in
-    subst (λ (x : Stage). GoesOnAt g.H.Host.was_asked g.H.Host.is_full g.H.Host.has_given x q r.new.self n n c.args.host.now r.new.host) (sym c.in-WaitLook.is)
-    (record { words = _; mid = c.word-producer-in-WaitLook.new.self; given = (refl, c.word-producer-in-WaitLook.ensures.given); led = r.ensures.led }, refl)
+    record {
+      led = subst (λ (x : Stage). GoesOnAt g.H.Host.was_asked g.H.Host.is_full g.H.Host.has_given x q r.new.self (Went did n n) c.args.host.now r.new.host) (sym c.in-WaitLook.is)
+          (record { words = _; mid = c.word-producer-in-WaitLook.new.self; given = (refl, c.word-producer-in-WaitLook.ensures.given); led = r.ensures.led }, refl);
+    }
