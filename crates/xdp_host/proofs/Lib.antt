@@ -3,3 +3,4 @@ mod FaultLemmas
 mod BatchLemmas
 pub mod AsQueueBox
 mod MadeLemmas
+pub mod AsCountersBox

@@ -1,4 +1,4 @@
-use Rattle.std.proofs.Common.{Option, subst, sym}
+use Rattle.std.proofs.Common.{◌≡◌, Option, None, subst, sym}
 use Rattle.std.specs.Prelude.{IfSome}
 use Rattle.xen_host.specs.Queues.{AreFew, IsNothing}
 use Rattle.xen_host.specs.declared.queue.Queue.{Queue}
@@ -9,12 +9,12 @@ returns-clause-few c =
     let lent = c.args.words.now in
     let before = c.args.counters.now in
     let ops = c.args.ops.now in
-    let s = c.step-count in
+    let s = c.stepped-count in
     let v = c.take_held-held.result.value in
     let is_held = c.deref_mut.ensures.value in
-    let nothing : AreFew v lent before ops → IfSome c.put.new.self.slot.held (λ r. IsNothing v r lent s.new.words before s.new.counters ops s.new.ops s.result) = λ few.
+    let nothing : v.share ≡ None → AreFew v lent before ops → IfSome c.put.new.self.slot.held (λ r. IsNothing v r lent s.new.words before s.new.counters ops s.new.ops s.result) = λ own few.
     subst (λ (o : Option Queue). IfSome o (λ r. IsNothing v r lent s.new.words before s.new.counters ops s.new.ops s.result)) (sym c.put.ensures)
-    (subst (λ (q : Queue). IsNothing q s.new.self lent s.new.words before s.new.counters ops s.new.ops s.result) is_held
-    (s.ensures.few (subst (λ (q : Queue). AreFew q lent before ops) (sym is_held) few))) in
-    subst (λ (o : Option Queue). IfSome o (λ q. AreFew q lent before ops →
+    (subst (λ (q : Queue). IsNothing q s.new.queue lent s.new.words before s.new.counters ops s.new.ops s.result) is_held
+    (s.ensures.few (subst (λ (q : Queue). q.share ≡ None) (sym is_held) own) (subst (λ (q : Queue). AreFew q lent before ops) (sym is_held) few))) in
+    subst (λ (o : Option Queue). IfSome o (λ q. q.share ≡ None → AreFew q lent before ops →
     IfSome c.put.new.self.slot.held (λ r. IsNothing q r lent s.new.words before s.new.counters ops s.new.ops s.result))) (sym c.take_held-held.ensures.gone) nothing
