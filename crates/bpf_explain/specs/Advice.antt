@@ -1,6 +1,6 @@
 -- Stated: claims rest on this file.
 -- What to write instead of what a cause refuses.
-use Rattle.std.specs.Prelude.{ℕ, List, ◌++◌, codes, Option, None, Some}
+use Rattle.std.specs.Prelude.{ℕ, List, ◌++◌, codes, Option, None, Some, slice_get}
 use Rattle.bpf_insn.specs.declared.insn.Insn.{Insn}
 use Rattle.bpf_insn.specs.declared.insn.Insn.TheVariants.{St, Stx, AddCounter}
 use Rattle.bpf_insn.specs.declared.refusal.Cause.{Cause}
@@ -8,6 +8,9 @@ use Rattle.bpf_insn.specs.declared.refusal.Cause.TheVariants.{Memory, Length, Op
 use Rattle.bpf_insn.specs.declared.refusal.Cause.TheVariants.{FramePointer, NoPointer, Packet, Stack, Context, MayBeNull, MapAccess}
 use Rattle.bpf_insn.specs.declared.refusal.Cause.TheVariants.{Helper, MapNumber, Argument, Unsupported}
 use Rattle.bpf_note.specs.Facts.{Facts}
+use Rattle.bpf_note.specs.Shape.{Shape}
+use Rattle.bpf_note.specs.declared.key.MapKey.{MapKey}
+use Rattle.bpf_note.specs.declared.key.MapKey.TheVariants.{Index, Listed}
 use Rattle.bpf_note.specs.declared.val.Val.{Val}
 use Rattle.bpf_note.specs.declared.val.Val.TheVariants as val
 use Rattle.bpf_explain.specs.Accesses.{address_of}
@@ -65,11 +68,20 @@ map_advice (St size dst off imm) v = store_advice
 map_advice (Stx size dst src off) v = store_advice
 map_advice i v = codes "load eight bytes, unsigned, at 8*j of the value, j below its number of counters"
 
+-- V17, if the key isn't there: an array's, and a list's
+abbrev pub advice_by : MapKey → List ℕ
+advice_by Index = codes "set all four bytes of the key that r2 points to, within the stack: an unsigned int"
+advice_by (Listed kind) = codes "set all bytes of the key that r2 points to, within the stack: as many as each key of the map's list has"
+
+abbrev pub key_advice : Option Shape → List ℕ
+key_advice None = advice_by Index
+key_advice (Some shape) = advice_by shape.key
+
 -- V17: r1 is no map; or r2 is no address of the stack; or the key isn't there
-abbrev pub argument_advice : Val → Val → List ℕ
-argument_advice (val.Map m) (val.Stack off) = codes "set all four bytes of the key that r2 points to, within the stack: an unsigned int"
-argument_advice (val.Map m) v = codes "the key on the stack, and its address in r2"
-argument_advice v w = codes "a wide load of a map in r1"
+abbrev pub argument_advice : List Shape → Val → Val → List ℕ
+argument_advice shapes (val.Map m) (val.Stack off) = key_advice (slice_get shapes m)
+argument_advice shapes (val.Map m) v = codes "the key on the stack, and its address in r2"
+argument_advice shapes v w = codes "a wide load of a map in r1"
 
 -- V11 of a load: it lies outside the stack, or its bytes aren't set
 abbrev pub load_advice : Option ℕ → List ℕ
@@ -89,15 +101,15 @@ context_advice (Stx size dst src off) = codes "store to the packet or the stack:
 context_advice i = cause_advice Context
 
 -- by the cause, for V11 and V12 by the instruction too, and for V9, V11, V14 and V17 by the values that the instruction finds
-abbrev pub value_advice : Cause → Insn → Facts → List ℕ
-value_advice NoPointer i n = pointer_advice (address_of n i)
-value_advice Stack i n = stack_advice i n
-value_advice Context i n = context_advice i
-value_advice MapAccess i n = map_advice i (address_of n i)
-value_advice Argument i n = argument_advice (n.reg 1) (n.reg 2)
-value_advice c i n = cause_advice c
+abbrev pub value_advice : List Shape → Cause → Insn → Facts → List ℕ
+value_advice shapes NoPointer i n = pointer_advice (address_of n i)
+value_advice shapes Stack i n = stack_advice i n
+value_advice shapes Context i n = context_advice i
+value_advice shapes MapAccess i n = map_advice i (address_of n i)
+value_advice shapes Argument i n = argument_advice shapes (n.reg 1) (n.reg 2)
+value_advice shapes c i n = cause_advice c
 
 -- the advice for a cause, and for the instruction and what is known there if both are at hand
-abbrev pub advice_text : Cause → Option Insn → Option Facts → List ℕ
-advice_text c (Some i) (Some n) = value_advice c i n
-advice_text c i n = cause_advice c
+abbrev pub advice_text : List Shape → Cause → Option Insn → Option Facts → List ℕ
+advice_text shapes c (Some i) (Some n) = value_advice shapes c i n
+advice_text shapes c i n = cause_advice c

@@ -13,7 +13,7 @@ use Rattle.bpf_insn.specs.declared.refusal.Cause.TheVariants.{Target, FramePoint
 use Rattle.bpf_insn.specs.declared.refusal.Refusal.{Refusal}
 use Rattle.bpf_note.specs.Facts.{Facts}
 use Rattle.bpf_note.specs.Shape.{Shape}
-use Rattle.bpf_explain.specs.Accesses.{access_of, address_of, base_of}
+use Rattle.bpf_explain.specs.Accesses.{access_of, access_at, address_of, base_of}
 use Rattle.bpf_explain.specs.Advice.{advice_text, cause_advice, joined_advice, lost_advice}
 use Rattle.bpf_explain.specs.Fields.{refused_slot_text}
 use Rattle.bpf_explain.specs.Listing.{listing_text}
@@ -30,7 +30,7 @@ is_about_values c = true
 -- what it reaches: the stack's slots with V11 and V17, the packet's bytes with V10, a value's counters with V14
 abbrev pub reached_text : List (List ℕ) → List Shape → Cause → Insn → Facts → List ℕ
 reached_text names shapes Stack i n = stack_text names n (access_of i)
-reached_text names shapes Argument i n = stack_text names n (access_of i)
+reached_text names shapes Argument i n = stack_text names n (access_at shapes n i)
 reached_text names shapes Packet i n = span_text (address_of n i) (access_of i)
 reached_text names shapes MapAccess i n = counters_text shapes (address_of n i)
 reached_text names shapes c i n = []
@@ -59,7 +59,7 @@ undecoded_text program r = refused_slot_text program r.pc r.cause ++ verdict_tex
 abbrev pub explained_text : List Insn → List (List ℕ) → List Shape → Refusal → Option Facts → List ℕ
 explained_text code names shapes r note =
     listing_text (Some r.pc) (below_text names shapes r.pc r.cause (slice_get code r.pc) note) 0 code
-    ++ verdict_text r (advice_text r.cause (slice_get code r.pc) note)
+    ++ verdict_text r (advice_text shapes r.cause (slice_get code r.pc) note)
 
 -- the register of which V9 asks since when it is no address: the one that its access goes through
 abbrev pub asked_register : Cause → Option Insn → Option Register

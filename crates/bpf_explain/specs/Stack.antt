@@ -1,6 +1,6 @@
 -- Stated: claims rest on this file.
 -- The text of the stack's slots that an access touches.
-use Rattle.std.specs.Prelude.{ℕ, zero, suc, ◌+◌, ◌-◌, ◌*◌, ◌/◌, ℤ, pos, ◌+ℤ◌, Bool, List, [], ◌++◌, codes, Option, None, Some, ◌==◌}
+use Rattle.std.specs.Prelude.{ℕ, zero, suc, ◌+◌, ◌-◌, ◌*◌, ◌/◌, ℤ, pos, ◌+ℤ◌, Bool, List, [], ◌++◌, codes, Option, None, Some}
 use Rattle.std.specs.Prelude.{if◌then◌else◌}
 use Rattle.std.specs.Fmt.{decimal}
 use Rattle.bpf_insn.specs.Register.{number}
@@ -31,15 +31,16 @@ content_text names n j (Some v) = known_text names n v
 abbrev pub slot_text : List (List ℕ) → Facts → ℕ → List ℕ
 slot_text names n j = codes "  fp-" ++ (decimal (512 - 8 * j) ++ (codes "=" ++ content_text names n j (n.kept j)))
 
--- the slot of the last byte, if it isn't that of the first one
-abbrev pub further_text : List (List ℕ) → Facts → ℕ → ℕ → List ℕ
-further_text names n first last = if first == last then [] else slot_text names n last
+-- k slots from slot j on
+abbrev pub slots_text : List (List ℕ) → Facts → ℕ → ℕ → List ℕ
+slots_text names n j zero = []
+slots_text names n j (suc k) = slot_text names n j ++ slots_text names n (j + 1) k
 
--- the slots that an access touches, by its place and its number of bytes; at most eight bytes touch two
+-- the slots that an access touches, by its place and its number of bytes
 abbrev pub touched_text : List (List ℕ) → Facts → Option ℕ → ℕ → List ℕ
 touched_text names n None bytes = []
 touched_text names n (Some place) bytes =
-    slot_text names n (place / 8) ++ further_text names n (place / 8) ((place + bytes - 1) / 8)
+    slots_text names n (place / 8) ((place + bytes - 1) / 8 + 1 - place / 8)
 
 -- the place of an access of that many bytes, `off` past an address of the stack, if it lies in the stack
 abbrev pub stack_place : Val → ℤ → ℕ → Option ℕ

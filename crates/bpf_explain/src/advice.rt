@@ -1,13 +1,13 @@
 //! What to write instead.
 ghost use Rattle.std.specs.Prelude.{◌≡◌, option_map};
 ghost use Rattle.bpf_note.specs.Parts.{facts};
-ghost use Rattle.bpf_explain.specs.Advice.{advice_text, argument_advice, cause_advice, joined_advice, lost_advice, map_advice};
+ghost use Rattle.bpf_explain.specs.Advice.{advice_by, advice_text, argument_advice, cause_advice, key_advice, joined_advice, lost_advice, map_advice};
 ghost use Rattle.bpf_explain.specs.Advice.{pointer_advice, value_advice, context_advice, load_advice, stack_advice};
 
 use crate::access::address_of;
 use crate::stack::place_of;
 use bpf_insn::{Cause, Insn};
-use bpf_note::{Note, Val};
+use bpf_note::{MapKey, MapShape, Note, Val};
 
 /// What to write instead of what a cause refuses.
 pub(crate) fn cause_advice(cause: Cause) -> &'static str
@@ -91,13 +91,33 @@ fn map_advice(insn: Insn, address: Val) -> &'static str
     }
 }
 
+/// V17, if the key isn't there: an array's, and a list's.
+fn advice_by(key: MapKey) -> &'static str
+    ensures { result.now ≡ advice_by key }
+{
+    match key {
+        MapKey::Index =>
+            "set all four bytes of the key that r2 points to, within the stack: an unsigned int",
+        MapKey::Listed(_) =>
+            "set all bytes of the key that r2 points to, within the stack: as many as each key of the map's list has",
+    }
+}
+
+fn key_advice(shape: Option<&MapShape>) -> &'static str
+    ensures { result.now ≡ key_advice (option_map (λ s. s.now) shape.entry) }
+{
+    match shape {
+        None => advice_by(MapKey::Index),
+        Some(shape) => advice_by(shape.key()),
+    }
+}
+
 /// V17: by the arguments.
-fn argument_advice(map: Val, key: Val) -> &'static str
-    ensures { result.now ≡ argument_advice map key }
+fn argument_advice(shapes: &[MapShape], map: Val, key: Val) -> &'static str
+    ensures { result.now ≡ argument_advice shapes.now map key }
 {
     match (map, key) {
-        (Val::Map { .. }, Val::Stack { .. }) =>
-            "set all four bytes of the key that r2 points to, within the stack: an unsigned int",
+        (Val::Map { m }, Val::Stack { .. }) => key_advice(shapes.get(m as usize)),
         (Val::Map { .. }, _) => "the key on the stack, and its address in r2",
         _ => "a wide load of a map in r1",
     }
@@ -136,25 +156,30 @@ fn context_advice(insn: Insn) -> &'static str
 }
 
 /// By the cause, for V11 and V12 by the instruction too, and for V9, V11, V14 and V17 by the values that the instruction finds.
-fn value_advice(cause: Cause, insn: Insn, note: &Note) -> &'static str
-    ensures { result.now ≡ value_advice cause insn (facts note.now) }
+fn value_advice(shapes: &[MapShape], cause: Cause, insn: Insn, note: &Note) -> &'static str
+    ensures { result.now ≡ value_advice shapes.now cause insn (facts note.now) }
 {
     match cause {
         Cause::NoPointer => pointer_advice(address_of(note, insn)),
         Cause::Stack => stack_advice(insn, note),
         Cause::Context => context_advice(insn),
         Cause::MapAccess => map_advice(insn, address_of(note, insn)),
-        Cause::Argument => argument_advice(note.register(1), note.register(2)),
+        Cause::Argument => argument_advice(shapes, note.register(1), note.register(2)),
         _ => cause_advice(cause),
     }
 }
 
 /// What to write instead, whether or not the instruction and what is known there are at hand.
-pub fn advice_for(cause: Cause, insn: Option<Insn>, note: Option<&Note>) -> &'static str
-    ensures { result.now ≡ advice_text cause insn (option_map (λ n. facts n.now) note.entry) }
+pub fn advice_for(
+    shapes: &[MapShape],
+    cause: Cause,
+    insn: Option<Insn>,
+    note: Option<&Note>,
+) -> &'static str
+    ensures { result.now ≡ advice_text shapes.now cause insn (option_map (λ n. facts n.now) note.entry) }
 {
     match (insn, note) {
-        (Some(insn), Some(note)) => value_advice(cause, insn, note),
+        (Some(insn), Some(note)) => value_advice(shapes, cause, insn, note),
         _ => cause_advice(cause),
     }
 }

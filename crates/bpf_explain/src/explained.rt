@@ -5,7 +5,7 @@ ghost use Rattle.bpf_explain.specs.Explained.{addresses_text, asked_register, be
 ghost use Rattle.bpf_explain.specs.Explained.{joined_text, operand_of, operand_text, reached_text, undecoded_text, values_text};
 ghost use Rattle.bpf_explain.specs.Explained.{verdict_text, was_text};
 
-use crate::access::{access_of, address_of, base_of};
+use crate::access::{access_at, access_of, address_of, base_of};
 use crate::advice::{advice_for, cause_advice, joined_advice, lost_advice};
 use crate::fields::refused_slot_text;
 use crate::listing::add_listing;
@@ -50,10 +50,11 @@ fn reached_text(
 ) -> Result<String, AllocError>
     ensures { IfOk result (λ s. string_bytes s ≡ reached_text (map string_bytes names.now) shapes.now cause insn (facts note.now)) }
 {
-    match (cause, access_of(insn)) {
-        (Cause::Stack | Cause::Argument, Some(access)) => stack_text(alloc, names, note, access),
-        (Cause::Packet, Some(access)) => span_text(alloc, address_of(note, insn), access),
-        (Cause::MapAccess, _) => counters_text(alloc, shapes, address_of(note, insn)),
+    match (cause, access_of(insn), access_at(shapes, note, insn)) {
+        (Cause::Stack, Some(access), _) => stack_text(alloc, names, note, access),
+        (Cause::Argument, _, Some(access)) => stack_text(alloc, names, note, access),
+        (Cause::Packet, Some(access), _) => span_text(alloc, address_of(note, insn), access),
+        (Cause::MapAccess, _, _) => counters_text(alloc, shapes, address_of(note, insn)),
         _ => Ok(String::new(alloc)),
     }
 }
@@ -231,7 +232,11 @@ pub fn explained_text(
     let insns = code.insns();
     let insn = insn_at(code, refusal.pc);
     let below = below_text(alloc, names, shapes, refusal.pc, refusal.cause, insn, note)?;
-    let verdict = verdict_text(alloc, refusal, advice_for(refusal.cause, insn, note))?;
+    let verdict = verdict_text(
+        alloc,
+        refusal,
+        advice_for(shapes, refusal.cause, insn, note),
+    )?;
     let mut text = String::new(alloc);
     add_listing(alloc, &mut text, insns, Some(refusal.pc), below.as_str())?;
     text.push_str(verdict.as_str())?;

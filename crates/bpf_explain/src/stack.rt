@@ -1,7 +1,7 @@
 //! The stack's slots that an access touches.
-ghost use Rattle.std.specs.Prelude.{◌≡◌, ◌+◌, ◌<◌, ◌≤◌, IfOk, IfSome, Option, map, string_bytes};
+ghost use Rattle.std.specs.Prelude.{◌≡◌, ◌+◌, ◌-◌, ◌<◌, ◌≤◌, IfOk, IfSome, Option, map, string_bytes};
 ghost use Rattle.bpf_note.specs.Parts.{facts};
-ghost use Rattle.bpf_explain.specs.Stack.{byte_text, bytes_text, content_text, further_text, place_of, slot_text, stack_place};
+ghost use Rattle.bpf_explain.specs.Stack.{byte_text, bytes_text, content_text, place_of, slot_text, slots_text, stack_place};
 ghost use Rattle.bpf_explain.specs.Stack.{stack_text, touched_text};
 
 use crate::access::{Access, access_of};
@@ -58,22 +58,22 @@ fn slot_text(alloc: Global, names: &[String], note: &Note, slot: u8) -> Result<S
     format!(in alloc; "  fp-{below}={content}")
 }
 
-/// The slot of the last byte, if it isn't that of the first one.
-fn further_text(
+/// The slots from `first` up to, but not including, `end`.
+fn slots_text(
     alloc: Global,
     names: &[String],
     note: &Note,
     first: u8,
-    last: u8,
+    end: u8,
 ) -> Result<String, AllocError>
-    requires { last < 64 }
-    ensures { IfOk result (λ s. string_bytes s ≡ further_text (map string_bytes names.now) (facts note.now) first last) }
+    requires { (first ≤ end) × (end ≤ 64) }
+    ensures { IfOk result (λ s. string_bytes s ≡ slots_text (map string_bytes names.now) (facts note.now) first (end - first)) }
 {
-    if first == last {
-        Ok(String::new(alloc))
-    } else {
-        slot_text(alloc, names, note, last)
+    let mut text = String::new(alloc);
+    for slot in first..end {
+        text.push_str(slot_text(alloc, names, note, slot)?.as_str())?;
     }
+    Ok(text)
 }
 
 /// The slots that `bytes` bytes from `place` on touch.
@@ -90,14 +90,12 @@ fn touched_text(
 {
     let first = (place / 8) as u8;
     let last = ((place + bytes - 1) / 8) as u8;
-    let one = slot_text(alloc, names, note, first)?;
-    let other = further_text(alloc, names, note, first, last)?;
-    format!(in alloc; "{one}{other}")
+    slots_text(alloc, names, note, first, last + 1)
 }
 
 /// The place of `bytes` bytes, `off` past an address of the stack, if they lie in the stack.
 fn stack_place(value: Val, off: i16, bytes: u32) -> Option<u32>
-    requires { bytes ≤ 8 }
+    requires { bytes ≤ 512 }
     ensures place { result ≡ stack_place value off bytes }
     ensures inside { IfSome result (λ p. p + bytes ≤ 512) }
 {
@@ -138,7 +136,7 @@ pub(crate) fn stack_text(
     access: Access,
 ) -> Result<String, AllocError>
     requires some { 1 ≤ access.bytes }
-    requires few { access.bytes ≤ 8 }
+    requires few { access.bytes ≤ 512 }
     ensures { IfOk result (λ s. string_bytes s ≡ stack_text (map string_bytes names.now) (facts note.now) (Option.Some access)) }
 {
     let value = note.register(access.base.number());

@@ -83,5 +83,5 @@ pub fn advice_by(
     [first, second]: [Val; 2],
 ) -> &'static str {
     let note = note_of(alloc, &[(0, first), (1, second)]);
-    advice_for(cause, Some(insn), Some(&note))
+    advice_for(&[], cause, Some(insn), Some(&note))
 }

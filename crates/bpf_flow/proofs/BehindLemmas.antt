@@ -1,6 +1,6 @@
 -- Which registers are Unset behind an instruction, on each edge that the rule answers.
 use Rattle.std.proofs.Common.{◌≡◌, ◌⊎◌, inl, inr, ℕ, ◌+◌, ◌-◌, ◌/◌, List, [], ◌∷◌, Bool, true, false, ◌&&◌, ◌||◌, not, refl, sym, ap, ◌∙◌, subst, Option, Some, None, arith, min, max, ℤ}
-use Rattle.std.specs.Prelude.{if◌then◌else◌, ◌==◌, nat_le, Ok}
+use Rattle.std.specs.Prelude.{if◌then◌else◌, ◌==◌, nat_le, slice_get, Ok}
 use Rattle.std.proofs.lemmas.Bool.Decides.{nat_tests}
 use Rattle.bpf_insn.specs.Register.{number}
 use Rattle.bpf_insn.specs.Signed.{sign_extended}
@@ -27,7 +27,7 @@ use Rattle.bpf_flow.specs.Alu.{exactly, constant, operand_value, any_number, any
 use Rattle.bpf_flow.specs.Memory.{reach, loaded_value, stores, with_store, with_bytes, is_slot, touches, adds_at}
 use Rattle.bpf_flow.specs.Branch.{opposite, raise, narrowed, compared, against_end, end_against, is_null, checked, refined, refined_if, taken, passed}
 use Rattle.bpf_flow.specs.Rule.{is_first_unset, at_target, after_of}
-use Rattle.bpf_flow.specs.Call.{is_key, with_call, looks_up, is_lookup}
+use Rattle.bpf_flow.specs.Call.{is_key, key_bytes, with_call, looks_up, is_lookup}
 use Rattle.bpf_flow.specs.declared.computed.Computed.{Computed}
 use Rattle.bpf_flow.specs.declared.computed.Computed.TheVariants.{Plain, Fresh}
 use Rattle.bpf_flow.specs.declared.access.Access.{Access}
@@ -239,19 +239,19 @@ call_unset n m pc k =
     called_by (k == 0) (nat_le k 5) m pc (forgotten pc (n.reg k)) (is_unset (n.reg k)) (forgotten_unset pc (n.reg k))
     ∙ ap (λ (b : Bool). (b && nat_le k 5) || (is_unset (n.reg k) && not (k == 0))) (above_none k)
 
-call_behind : (helper : ℤ) (pc k : ℕ) (n : Facts) (v key : Val) (es : Edges) → looks_up n pc v key ≡ Ok es → IsBehind (Call helper) pc k n es
-call_behind helper pc k n (Map m) key es h =
+call_behind : (shapes : List Shape) (helper : ℤ) (pc k : ℕ) (n : Facts) (v key : Val) (es : Edges) → looks_up shapes n pc v key ≡ Ok es → IsBehind (Call helper) pc k n es
+call_behind shapes helper pc k n (Map m) key es h =
     one_behind (Call helper) pc k (pc + 1) n (with_call (with_id n pc 0) m pc) es refl (λ q l. l) (λ g. call_unset n m pc k)
     (λ g j. mapped_kept (forgotten pc) (n.kept j) (forgotten_unset pc) (g j))
-    (unless_ok (not (is_key n key)) cause.Argument _ es h).1
-call_behind helper pc k n Unset key es h = absurd (cc)
-call_behind helper pc k n (Num lo hi) key es h = absurd (cc)
-call_behind helper pc k n (Pkt id off) key es h = absurd (cc)
-call_behind helper pc k n PktEnd key es h = absurd (cc)
-call_behind helper pc k n (Stack off) key es h = absurd (cc)
-call_behind helper pc k n Ctx key es h = absurd (cc)
-call_behind helper pc k n (MaybeValue m id) key es h = absurd (cc)
-call_behind helper pc k n (Value m) key es h = absurd (cc)
+    (unless_ok (not (is_key n (key_bytes (slice_get shapes m)) key)) cause.Argument _ es h).1
+call_behind shapes helper pc k n Unset key es h = absurd (cc)
+call_behind shapes helper pc k n (Num lo hi) key es h = absurd (cc)
+call_behind shapes helper pc k n (Pkt id off) key es h = absurd (cc)
+call_behind shapes helper pc k n PktEnd key es h = absurd (cc)
+call_behind shapes helper pc k n (Stack off) key es h = absurd (cc)
+call_behind shapes helper pc k n Ctx key es h = absurd (cc)
+call_behind shapes helper pc k n (MaybeValue m id) key es h = absurd (cc)
+call_behind shapes helper pc k n (Value m) key es h = absurd (cc)
 
 -- the edges that the rule answers are the flow graph's, and behind each a register is Unset where it was before and isn't
 -- written, or where it is lost
@@ -298,7 +298,7 @@ after_behind (AddCounter false dst src off) pc k n shapes es h =
 after_behind (Ja wide_offset to) pc k n shapes es h = ja_behind wide_offset to pc k n es h
 after_behind (Jump cond wide dst src off) pc k n shapes es h = jump_behind cond wide dst src off pc k n es (unless_ok _ cause.Unset _ es h).1
 after_behind (Call helper) pc k n shapes es h =
-    call_behind helper pc k n (n.reg 1) (n.reg 2) es (unless_ok _ cause.Unset _ es (unless_ok (not (is_lookup helper)) cause.Helper _ es h).1).1
+    call_behind shapes helper pc k n (n.reg 1) (n.reg 2) es (unless_ok _ cause.Unset _ es (unless_ok (not (is_lookup helper)) cause.Helper _ es h).1).1
 after_behind Exit pc k n shapes es h =
     let none : Edges = [] in
     let same = same_ok none es (unless_ok (is_unset (n.reg 0)) cause.Unset (Ok none) es h).1 in

@@ -1,5 +1,5 @@
 -- Lookups, and adds to counters.
-use Rattle.std.proofs.Common.{◌≡◌, ℕ, ◌+◌, ◌-◌, ◌^◌, ◌<◌, ◌≤◌, ◌⊎◌, inl, inr, Bool, true, false, ◌&&◌, not, refl, Option, Some, None, List, length, nat_eq, nat_lt, subst, sym, ap, ◌∙◌, arith, ℤ, pos, ◌+ℤ◌}
+use Rattle.std.proofs.Common.{◌≡◌, ℕ, zero, suc, ◌+◌, ◌-◌, ◌^◌, ◌<◌, ◌≤◌, ◌⊎◌, inl, inr, Bool, true, false, ◌&&◌, not, refl, Option, Some, None, List, [], ◌∷◌, length, nat_eq, nat_lt, subst, sym, ap, ◌∙◌, arith, ℤ, pos, ◌+ℤ◌}
 use Rattle.std.specs.Prelude.{if◌then◌else◌, nat_le, slice_get, Ok, Err}
 use Rattle.std.proofs.lemmas.Bool.Decides.{nat_tests}
 use Rattle.std.proofs.lemmas.Int.{ints}
@@ -7,38 +7,39 @@ use Rattle.bpf_insn.specs.declared.refusal.Cause.TheVariants as cause
 use Rattle.bpf_note.specs.declared.val.Val.{Val}
 use Rattle.bpf_note.specs.declared.val.Val.TheVariants as val
 use Rattle.bpf_note.specs.Shape.{Shape}
-use Rattle.bpf_note.specs.Bytes.{word_at}
+use Rattle.bpf_note.specs.Keys.{key_size}
+use Rattle.bpf_note.specs.Bytes.{bytes_at}
 use Rattle.bpf_note.specs.State.{State, IsState, stack_start, references_start}
 use Rattle.bpf_note.specs.Regions.{Place, InStack, InCounter, region, counter_address}
 use Rattle.bpf_note.specs.Facts.{Facts, full, packet_id, with_reg, with_id}
 use Rattle.bpf_note.specs.Describes.{Meaning, meaning, Describes, IsReading, Reads, IsValueOf}
-use Rattle.bpf_flow.specs.Step.{Next, Adds, Fault, need, at_slot, with_number, is_frame, add_to, map_at, key_in, value_or_null, called, looked_up, reached}
+use Rattle.bpf_flow.specs.Step.{Outcome, Next, Adds, Fault, need, at_slot, with_number, is_frame, add_to, map_at, key_in, row_of, value_or_null, called, looked_up, looked_up_in, reached}
 use Rattle.bpf_flow.specs.Edges.{Edges, goes_to}
 use Rattle.bpf_flow.specs.Memory.{place_in, is_counter, all_set, adds_at}
 use Rattle.bpf_flow.specs.Rule.{fetched}
-use Rattle.bpf_flow.specs.Call.{is_key, is_key_at, with_call, looks_up}
+use Rattle.bpf_flow.specs.Call.{is_key, is_key_at, key_bytes, with_call, looks_up}
 use Rattle.bpf_flow.specs.Sound.{Accounts}
 use Rattle.bpf_flow.specs.declared.access.Access.TheVariants.{AtValue}
 use Rattle.bpf_flow.proofs.AnswerLemmas.{unless_ok, same_some, flipped}
 use Rattle.bpf_flow.proofs.RegisterLemmas.{one_covers, at_slot_describes, with_number_describes}
 use Rattle.bpf_flow.proofs.IdLemmas.{full_reads, with_id_known}
 use Rattle.bpf_flow.proofs.ReachLemmas.{access_reaches, place_in_ok, counter_fits, map_small, region_stack}
-use Rattle.bpf_flow.proofs.LoadLemmas.{all_set_word, counter_at_ok}
+use Rattle.bpf_flow.proofs.LoadLemmas.{all_set_bytes, counter_at_ok}
 
 -- a value's address, or 0
-null_or_value : (shapes : List Shape) (m k : ℕ) (shape : Option Shape) → slice_get shapes m ≡ shape → (value_or_null shape m k ≡ 0) ⊎ IsValueOf shape m (value_or_null shape m k)
-null_or_value shapes m k None e = inl refl
-null_or_value shapes m k (Some c) e = by (nat_lt k c.entries) refl
+null_or_value : (c : Shape) (m : ℕ) (row : Option ℕ) → (value_or_null c m row ≡ 0) ⊎ IsValueOf (Some c) m (value_or_null c m row)
+null_or_value c m None = inl refl
+null_or_value c m (Some k) = by (nat_lt k c.entries) refl
   where
-    by : (b : Bool) → b ≡ nat_lt k c.entries → ((if b then counter_address c.counters m k 0 else 0) ≡ 0) ⊎ IsValueOf (Some c) m (if b then counter_address c.counters m k 0 else 0)
+    by : (b : Bool) → b ≡ nat_lt k c.entries → ((if b then counter_address c m k 0 else 0) ≡ 0) ⊎ IsValueOf (Some c) m (if b then counter_address c m k 0 else 0)
     by true t = inr (k, grind (arith, nat_tests), refl)
     by false t = inl refl
 
-value_fits : (s : State) (m k : ℕ) (shape : Option Shape) → IsState s → slice_get s.shapes m ≡ shape → value_or_null shape m k < 2 ^ 64
-value_fits s m k None st e = omega arith
-value_fits s m k (Some c) st e = by (nat_lt k c.entries) refl
+value_fits : (s : State) (m : ℕ) (c : Shape) (row : Option ℕ) → IsState s → slice_get s.shapes m ≡ Some c → value_or_null c m row < 2 ^ 64
+value_fits s m c None st e = omega arith
+value_fits s m c (Some k) st e = by (nat_lt k c.entries) refl
   where
-    by : (b : Bool) → b ≡ nat_lt k c.entries → (if b then counter_address c.counters m k 0 else 0) < 2 ^ 64
+    by : (b : Bool) → b ≡ nat_lt k c.entries → (if b then counter_address c m k 0 else 0) < 2 ^ 64
     by true t = let is = st.shapes m c e in counter_fits c m k 0 (map_small s.shapes m c e st.maps) is (grind (arith, nat_tests)) is.some_counters
     by false t = omega arith
 
@@ -87,33 +88,43 @@ called_describes n s m pc a d fits r = record {
 }
 
 -- the key
-key_at : (n : Facts) (at : ℤ) → is_key_at n (place_in at 4 512) ≡ true → (p : ℕ) × (at ≡ pos p) × (p + 4 ≤ 512) × (all_set n p 4 ≡ true)
-key_at n at e = by (place_in at 4 512) refl e
+key_at : (n : Facts) (z : ℕ) (at : ℤ) → is_key_at n z (place_in at z 512) ≡ true → (p : ℕ) × (at ≡ pos p) × (p + z ≤ 512) × (all_set n p z ≡ true)
+key_at n z at e = by (place_in at z 512) refl e
   where
-    by : (o : Option ℕ) → place_in at 4 512 ≡ o → is_key_at n o ≡ true → (p : ℕ) × (at ≡ pos p) × (p + 4 ≤ 512) × (all_set n p 4 ≡ true)
+    by : (o : Option ℕ) → place_in at z 512 ≡ o → is_key_at n z o ≡ true → (p : ℕ) × (at ≡ pos p) × (p + z ≤ 512) × (all_set n p z ≡ true)
     by None f e = absurd (cc)
-    by (Some p) f e = let q = place_in_ok at 4 512 p f in (p, q.0, q.1, e)
+    by (Some p) f e = let q = place_in_ok at z 512 p f in (p, q.0, q.1, e)
 
-record Key (s : State) (a : ℕ) : Type 0 where
+record Key (s : State) (a z : ℕ) : Type 0 where
   pub at : ℕ
-  pub key : ℕ
-  pub place : region (length s.packet) s.shapes a 4 ≡ InStack at
-  pub word : word_at s.stack at 4 ≡ Some key
+  pub key : List ℕ
+  pub place : region (length s.packet) s.shapes a z ≡ InStack at
+  pub bytes : bytes_at s.stack at z ≡ Some key
 
-key_is : (n : Facts) (s : State) (v : Val) (a : ℕ) (d : Describes n s) → IsReading (meaning s d.base d.address) v a → is_key n v ≡ true → Key s a
-key_is n s (val.Stack off) a d r e =
-    let q = key_at n (pos 512 +ℤ off) e in
+key_is : (n : Facts) (s : State) (z : ℕ) (v : Val) (a : ℕ) (d : Describes n s) → IsReading (meaning s d.base d.address) v a → is_key n z v ≡ true → Key s a z
+key_is n s z (val.Stack off) a d r e =
+    let q = key_at n z (pos 512 +ℤ off) e in
     let at : a ≡ stack_start + q.0 = omega (arith, ints, q.1, r.0) in
-    let word = all_set_word n s q.0 4 d q.3 in
-    record { at = q.0; key = word.0; place = ap (λ (b : ℕ). region (length s.packet) s.shapes b 4) at ∙ region_stack (length s.packet) s.shapes q.0 4 d.state.packet_size q.2; word = word.1 }
-key_is n s val.Unset a d r e = absurd (cc)
-key_is n s (val.Num lo hi) a d r e = absurd (cc)
-key_is n s (val.Pkt id off) a d r e = absurd (cc)
-key_is n s val.PktEnd a d r e = absurd (cc)
-key_is n s val.Ctx a d r e = absurd (cc)
-key_is n s (val.Map m) a d r e = absurd (cc)
-key_is n s (val.MaybeValue m id) a d r e = absurd (cc)
-key_is n s (val.Value m) a d r e = absurd (cc)
+    let bytes = all_set_bytes n s q.0 z d q.3 in
+    record { at = q.0; key = bytes.0; place = ap (λ (b : ℕ). region (length s.packet) s.shapes b z) at ∙ region_stack (length s.packet) s.shapes q.0 z d.state.packet_size q.2; bytes = bytes.1 }
+key_is n s z val.Unset a d r e = absurd (cc)
+key_is n s z (val.Num lo hi) a d r e = absurd (cc)
+key_is n s z (val.Pkt id off) a d r e = absurd (cc)
+key_is n s z val.PktEnd a d r e = absurd (cc)
+key_is n s z val.Ctx a d r e = absurd (cc)
+key_is n s z (val.Map m) a d r e = absurd (cc)
+key_is n s z (val.MaybeValue m id) a d r e = absurd (cc)
+key_is n s z (val.Value m) a d r e = absurd (cc)
+
+-- the map's shape
+there_is : {A : Type 0} (xs : List A) (k : ℕ) → k < length xs → (x : A) × (slice_get xs k ≡ Some x)
+there_is [] k h = absurd (omega arith)
+there_is (x ∷ xs) zero h = (x, refl)
+there_is (x ∷ xs) (suc k) h = there_is xs k (omega arith)
+
+-- a key of the size that the map's shape says
+key_of : (n : Facts) (s : State) (shape : Option Shape) (c : Shape) (v : Val) (a : ℕ) (d : Describes n s) → shape ≡ Some c → IsReading (meaning s d.base d.address) v a → is_key n (key_bytes shape) v ≡ true → Key s a (key_size c.key)
+key_of n s shape c v a d same r e = key_is n s (key_size c.key) v a d r (subst (λ (o : Option Shape). is_key n (key_bytes o) v ≡ true) same e)
 
 map_found : (s : State) (x m : ℕ) → x ≡ references_start + m → m < length s.shapes → map_at s x ≡ Some m
 map_found s x m e lt = by (nat_le references_start x && nat_lt (x - references_start) (length s.shapes)) refl
@@ -125,27 +136,34 @@ map_found s x m e lt = by (nat_le references_start x && nat_lt (x - references_s
 other_id : (pc : ℕ) → pc < 4096 → nat_eq packet_id pc ≡ false
 other_id pc h = grind (arith, nat_tests)
 
+-- what is needed is there
+needs_some : {A : Type 0} (es : Edges) (o : Option A) (x : A) (go : A → Outcome) → o ≡ Some x → Accounts es (go x) → Accounts es (need o go)
+needs_some {A = A} es o x go e h = subst (λ (o : Option A). Accounts es (need o go)) (sym e) h
+
 map_looks_up : (n : Facts) (s : State) (m x y : ℕ) (key : Val) (es : Edges) (d : Describes n s) → s.pc < 4096 → s.reg 1 ≡ Some x → s.reg 2 ≡ Some y →
-    IsReading (meaning s d.base d.address) (val.Map m) x → IsReading (meaning s d.base d.address) key y → looks_up n s.pc (val.Map m) key ≡ Ok es → Accounts es (looked_up s)
+    IsReading (meaning s d.base d.address) (val.Map m) x → IsReading (meaning s d.base d.address) key y → looks_up s.shapes n s.pc (val.Map m) key ≡ Ok es → Accounts es (looked_up s)
 map_looks_up n s m x y key es d small e f rx ry h =
-    let u = unless_ok (not (is_key n key)) cause.Argument (goes_to (s.pc + 1) (with_call (with_id n s.pc 0) m s.pc)) es h in
-    let k = key_is n s key y d ry (flipped (is_key n key) u.0) in
-    let a = value_or_null (slice_get s.shapes m) m k.key in
-    let fits : value_or_null (slice_get s.shapes m) m k.key < 2 ^ 64 = value_fits s m k.key (slice_get s.shapes m) d.state refl in
-    let known = with_id_known n s s.pc 0 (value_or_null (slice_get s.shapes m) m k.key) 0 (other_id s.pc small) (omega arith) (omega arith) d in
-    let reading : IsReading (meaning s known.0.base known.0.address) (val.MaybeValue m s.pc) (value_or_null (slice_get s.shapes m) m k.key) =
-    (sym known.2, null_or_value s.shapes m k.key (slice_get s.shapes m) refl) in
-    subst (λ (o : Option ℕ). Accounts es (need o (λ x. need (s.reg 2) (λ a. need (map_at s x) (λ m. need (key_in (region (length s.packet) s.shapes a 4) s) (λ k. Next (called s (value_or_null (slice_get s.shapes m) m k)))))))) (sym e)
-    (subst (λ (o : Option ℕ). Accounts es (need o (λ a. need (map_at s x) (λ m. need (key_in (region (length s.packet) s.shapes a 4) s) (λ k. Next (called s (value_or_null (slice_get s.shapes m) m k))))))) (sym f)
-    (subst (λ (o : Option ℕ). Accounts es (need o (λ m. need (key_in (region (length s.packet) s.shapes y 4) s) (λ k. Next (called s (value_or_null (slice_get s.shapes m) m k)))))) (sym (map_found s x m rx.0 rx.1))
-    (subst (λ (p : Place). Accounts es (need (key_in p s) (λ k. Next (called s (value_or_null (slice_get s.shapes m) m k))))) (sym k.place)
-    (subst (λ (o : Option ℕ). Accounts es (need o (λ k. Next (called s (value_or_null (slice_get s.shapes m) m k))))) (sym k.word)
-    (one_covers (s.pc + 1) (with_call (with_id n s.pc 0) m s.pc) es (called s (value_or_null (slice_get s.shapes m) m k.key)) refl
-    (called_describes (with_id n s.pc 0) s m s.pc (value_or_null (slice_get s.shapes m) m k.key) known.0 fits reading) u.1)))))
+    let u = unless_ok (not (is_key n (key_bytes (slice_get s.shapes m)) key)) cause.Argument (goes_to (s.pc + 1) (with_call (with_id n s.pc 0) m s.pc)) es h in
+    let map = there_is s.shapes m rx.1 in
+    let c : Shape = map.0 in
+    let k = key_of n s (slice_get s.shapes m) c key y d map.1 ry (flipped (is_key n (key_bytes (slice_get s.shapes m)) key) u.0) in
+    let a : ℕ = value_or_null c m (row_of s m c.key k.key) in
+    let fits : a < 2 ^ 64 = value_fits s m c (row_of s m c.key k.key) d.state map.1 in
+    let known = with_id_known n s s.pc 0 a 0 (other_id s.pc small) (omega arith) (omega arith) d in
+    let value : (a ≡ 0) ⊎ IsValueOf (slice_get s.shapes m) m a = subst (λ (o : Option Shape). (a ≡ 0) ⊎ IsValueOf o m a) (sym map.1) (null_or_value c m (row_of s m c.key k.key)) in
+    let reading : IsReading (meaning s known.0.base known.0.address) (val.MaybeValue m s.pc) a = (sym known.2, value) in
+    let there : key_in (region (length s.packet) s.shapes y (key_size c.key)) s (key_size c.key) ≡ Some k.key = ap (λ (p : Place). key_in p s (key_size c.key)) k.place ∙ k.bytes in
+    needs_some es (s.reg 1) x _ e
+    (needs_some es (s.reg 2) y _ f
+    (needs_some es (map_at s x) m _ (map_found s x m rx.0 rx.1)
+    (needs_some es (slice_get s.shapes m) c (looked_up_in s y m) map.1
+    (needs_some es (key_in (region (length s.packet) s.shapes y (key_size c.key)) s (key_size c.key)) k.key (λ key. Next (called s (value_or_null c m (row_of s m c.key key)))) there
+    (one_covers (s.pc + 1) (with_call (with_id n s.pc 0) m s.pc) es (called s a) refl
+    (called_describes (with_id n s.pc 0) s m s.pc a known.0 fits reading) u.1)))))
 
 -- a lookup that the rule allows
 pub lookup_sound : (n : Facts) (s : State) (v key : Val) (x y : ℕ) (es : Edges) (d : Describes n s) → s.pc < 4096 → s.reg 1 ≡ Some x → s.reg 2 ≡ Some y →
-    IsReading (meaning s d.base d.address) v x → IsReading (meaning s d.base d.address) key y → looks_up n s.pc v key ≡ Ok es → Accounts es (looked_up s)
+    IsReading (meaning s d.base d.address) v x → IsReading (meaning s d.base d.address) key y → looks_up s.shapes n s.pc v key ≡ Ok es → Accounts es (looked_up s)
 lookup_sound n s (val.Map m) key x y es d small e f rx ry h = map_looks_up n s m x y key es d small e f rx ry h
 lookup_sound n s val.Unset key x y es d small e f rx ry h = absurd (cc)
 lookup_sound n s (val.Num lo hi) key x y es d small e f rx ry h = absurd (cc)

@@ -19,7 +19,7 @@ use Rattle.bpf_flow.specs.Edges.{Edges, unless, and_then, sets}
 use Rattle.bpf_flow.specs.Alu.{exactly, operand_value}
 use Rattle.bpf_flow.specs.Memory.{place_in, packet_place, in_packet, on_stack, reach, is_word, is_field, is_double, is_counter, all_set, loaded_value, stores, adds_at}
 use Rattle.bpf_flow.specs.Rule.{after_of, is_first_unset, at_target, IsRuled}
-use Rattle.bpf_flow.specs.Call.{is_key, is_lookup, looks_up}
+use Rattle.bpf_flow.specs.Call.{is_key, key_bytes, is_lookup, looks_up}
 use Rattle.bpf_flow.specs.declared.access.Access.{Access}
 use Rattle.bpf_flow.specs.declared.access.Access.TheVariants.{InPacket, OnStack, InContext, AtValue}
 
@@ -96,16 +96,16 @@ target_cause : (o : Option ℕ) (edges : ℕ → Edges) (c : Cause) → IsSome o
 target_cause None edges c there h = absurd (cc)
 target_cause (Some q) edges c there h = absurd (cc)
 
-lookup_cause : (n : Facts) (pc : ℕ) (v key : Val) (c : Cause) → looks_up n pc v key ≡ Err c → IsRuleCause c
-lookup_cause n pc (val.Map m) key c h = unless_cause (not (is_key n key)) cause.Argument c _ tt (λ g. absurd (cc)) h
-lookup_cause n pc val.Unset key c h = this {A = Edges} cause.Argument c tt h
-lookup_cause n pc (val.Num lo hi) key c h = this {A = Edges} cause.Argument c tt h
-lookup_cause n pc (val.Pkt id off) key c h = this {A = Edges} cause.Argument c tt h
-lookup_cause n pc val.PktEnd key c h = this {A = Edges} cause.Argument c tt h
-lookup_cause n pc (val.Stack off) key c h = this {A = Edges} cause.Argument c tt h
-lookup_cause n pc val.Ctx key c h = this {A = Edges} cause.Argument c tt h
-lookup_cause n pc (val.MaybeValue m id) key c h = this {A = Edges} cause.Argument c tt h
-lookup_cause n pc (val.Value m) key c h = this {A = Edges} cause.Argument c tt h
+lookup_cause : (shapes : List Shape) (n : Facts) (pc : ℕ) (v key : Val) (c : Cause) → looks_up shapes n pc v key ≡ Err c → IsRuleCause c
+lookup_cause shapes n pc (val.Map m) key c h = unless_cause (not (is_key n (key_bytes (slice_get shapes m)) key)) cause.Argument c _ tt (λ g. absurd (cc)) h
+lookup_cause shapes n pc val.Unset key c h = this {A = Edges} cause.Argument c tt h
+lookup_cause shapes n pc (val.Num lo hi) key c h = this {A = Edges} cause.Argument c tt h
+lookup_cause shapes n pc (val.Pkt id off) key c h = this {A = Edges} cause.Argument c tt h
+lookup_cause shapes n pc val.PktEnd key c h = this {A = Edges} cause.Argument c tt h
+lookup_cause shapes n pc (val.Stack off) key c h = this {A = Edges} cause.Argument c tt h
+lookup_cause shapes n pc val.Ctx key c h = this {A = Edges} cause.Argument c tt h
+lookup_cause shapes n pc (val.MaybeValue m id) key c h = this {A = Edges} cause.Argument c tt h
+lookup_cause shapes n pc (val.Value m) key c h = this {A = Edges} cause.Argument c tt h
 
 -- the rule answers these causes alone, where it may be asked
 pub rule_causes : (i : Insn) (pc : ℕ) (n : Facts) (shapes : List Shape) (c : Cause) → IsRuled i pc (length shapes) → after_of i pc n shapes ≡ Err c → IsRuleCause c
@@ -138,6 +138,6 @@ rule_causes (Jump cond wide dst src off) pc n shapes c r h =
     unless_cause (is_unset (n.reg (number dst)) || is_unset (operand_value n src)) cause.Unset c _ tt (λ g. target_cause (target pc off) _ c r g) h
 rule_causes (Call helper) pc n shapes c r h =
     unless_cause (not (is_lookup helper)) cause.Helper c _ tt (λ g.
-    unless_cause (is_unset (n.reg 1) || is_unset (n.reg 2)) cause.Unset c _ tt (λ g. lookup_cause n pc (n.reg 1) (n.reg 2) c g) g) h
+    unless_cause (is_unset (n.reg 1) || is_unset (n.reg 2)) cause.Unset c _ tt (λ g. lookup_cause shapes n pc (n.reg 1) (n.reg 2) c g) g) h
 rule_causes Exit pc n shapes c r h = unless_cause (is_unset (n.reg 0)) cause.Unset c _ tt (λ g. absurd (cc)) h
 rule_causes Second pc n shapes c r h = absurd r

@@ -7,12 +7,13 @@ use Rattle.bpf_insn.specs.Conditions.{is_met}
 use Rattle.bpf_insn.specs.declared.insn.Insn.{Insn}
 use Rattle.bpf_insn.specs.declared.insn.Insn.TheVariants.{Alu, Neg, End, MovSx, Const, MapRef, Ldx, St, Stx, AddCounter, Ja, Jump, Call, Exit, Second}
 use Rattle.bpf_insn.specs.declared.size.Size.{Size}
+use Rattle.bpf_note.specs.Keys.{key_size}
 use Rattle.bpf_note.specs.State.{State}
 use Rattle.bpf_note.specs.Regions.{Place, InPacket, InStack, InContext, InCounter, Nowhere, region}
 use Rattle.bpf_note.specs.declared.op.Op.{Op}
 use Rattle.bpf_note.specs.declared.op.Op.TheVariants.{Load, Add}
 use Rattle.bpf_flow.specs.Graph.{Leads}
-use Rattle.bpf_flow.specs.Step.{Next, Loads, Adds, Exited, Fault, need, at_slot, with_number, is_frame, written, operand, first_operand, target, jumped, reached, loaded, load_from, store_to, add_to, map_at, key_in, value_or_null, called, looked_up, helped, exec, LeadsTo, taken}
+use Rattle.bpf_flow.specs.Step.{Next, Loads, Adds, Exited, Fault, need, at_slot, with_number, is_frame, written, operand, first_operand, target, jumped, reached, loaded, load_from, store_to, add_to, map_at, key_in, value_or_null, called, looked_up, looked_up_in, row_of, helped, exec, LeadsTo, taken}
 use Rattle.bpf_flow.proofs.StepLemmas.{no_fault, needed, exited}
 
 next_at : (t : State) (q : ℕ) (l : Option Op) (u : State) → t.pc ≡ q → LeadsTo (Next t) l u → u.pc ≡ q
@@ -82,8 +83,9 @@ helped_at (pos n) s l u h = by (n == 1) h
         needed (s.reg 1) _ l u (λ x h.
         needed (s.reg 2) _ l u (λ a h.
         needed (map_at s x) _ l u (λ m h.
-        needed (key_in (region (length s.packet) s.shapes a 4) s) _ l u (λ k h.
-        next_at (called s (value_or_null (slice_get s.shapes m) m k)) (s.pc + 1) l u refl h) h) h) h) h
+        needed (slice_get s.shapes m) (looked_up_in s a m) l u (λ shape h.
+        needed (key_in (region (length s.packet) s.shapes a (key_size shape.key)) s (key_size shape.key)) _ l u (λ key h.
+        next_at (called s (value_or_null shape m (row_of s m shape.key key))) (s.pc + 1) l u refl h) h) h) h) h) h
     by false h = absurd (no_fault l u h)
 helped_at (negsuc n) s l u h = absurd (no_fault l u h)
 

@@ -11,10 +11,11 @@ use Rattle.bpf_insn.specs.declared.insn.Insn.{Insn}
 use Rattle.bpf_insn.specs.declared.insn.Insn.TheVariants.{Alu, Neg, End, MovSx, Const, MapRef, Ldx, St, Stx, AddCounter, Ja, Jump, Call, Exit, Second}
 use Rattle.bpf_note.specs.Shape.{Shape, AreShapes, IsShape, IsCounter, IsWithin}
 use Rattle.bpf_note.specs.State.{State, values_start, packet_start, stack_start, stack_end, context_start}
-use Rattle.bpf_note.specs.Regions.{Place, InPacket, InStack, InContext, InCounter, Nowhere, region, counter_in, counter_from, lies_in}
+use Rattle.bpf_note.specs.Keys.{key_size}
+use Rattle.bpf_note.specs.Regions.{Place, InPacket, InStack, InContext, InCounter, Nowhere, region, map_near, map_offset, counter_in, counter_past, counter_from, lies_in}
 use Rattle.bpf_note.specs.declared.op.Op.{Op}
 use Rattle.bpf_note.specs.declared.op.Op.TheVariants as op
-use Rattle.bpf_flow.specs.Step.{Outcome, Next, Loads, Adds, Exited, Fault, need, exec, step, written, with_number, is_frame, store_to, jumped, target, helped, looked_up, map_at, key_in, operand, first_operand, at_slot, load_from, loaded, add_to, reached, taken, address, LeadsTo}
+use Rattle.bpf_flow.specs.Step.{Outcome, Next, Loads, Adds, Exited, Fault, need, exec, step, written, with_number, is_frame, store_to, jumped, target, helped, looked_up, looked_up_in, map_at, key_in, operand, first_operand, at_slot, load_from, loaded, add_to, reached, taken, address, LeadsTo}
 use Rattle.bpf_flow.specs.Kept.{Kept, IsLabelOf}
 use Rattle.bpf_flow.proofs.StoreLemmas.{spliced_length}
 
@@ -44,7 +45,11 @@ chosen n z shapes s m at e false t = tt
 
 counter_lies : (n z : ℕ) (shapes : List Shape) (m at : ℕ) (o : Option Shape) → slice_get shapes m ≡ o → Lies n shapes z (counter_in o m at)
 counter_lies n z shapes m at None e = tt
-counter_lies n z shapes m at (Some s) e = chosen n z shapes s m at e (at % 8 == 0 && nat_lt at (8 * (s.counters * s.entries))) refl
+counter_lies n z shapes m at (Some s) e = either (nat_le (map_offset s m) at) (at - map_offset s m)
+  where
+    either : (b : Bool) (r : ℕ) → Lies n shapes z (if b then counter_past s m r else Nowhere)
+    either true r = chosen n z shapes s m r e (r % 8 == 0 && nat_lt r (8 * (s.counters * s.entries))) refl
+    either false r = tt
 
 region_by : (n : ℕ) (shapes : List Shape) (a z : ℕ) (p s c e v : Bool) → lies_in packet_start (packet_start + n) a z ≡ p →
     Lies n shapes z (if p then InPacket (a - packet_start) else if s then InStack (a - stack_start) else if c then InContext (a - context_start) else if e then (if v then counter_from shapes (a - values_start) else Nowhere) else Nowhere)
@@ -56,7 +61,7 @@ region_by n shapes a z true s c e v h = inside (nat_le packet_start a) (nat_le (
     inside false y f g h = cc
 region_by n shapes a z false true c e v h = tt
 region_by n shapes a z false false true e v h = tt
-region_by n shapes a z false false false true true h = counter_lies n z shapes ((a - values_start) / 0x10000) ((a - values_start) % 0x10000) (slice_get shapes ((a - values_start) / 0x10000)) refl
+region_by n shapes a z false false false true true h = counter_lies n z shapes (map_near (a - values_start)) (a - values_start) (slice_get shapes (map_near (a - values_start))) refl
 region_by n shapes a z false false false true false h = tt
 region_by n shapes a z false false false false v h = tt
 
@@ -72,15 +77,15 @@ with_frame : (s : State) (b : Bool) (o : Outcome) → Keeps s o → Keeps s (if 
 with_frame s true o k = tt
 with_frame s false o k = k
 
-unchanged : {s t : State} → t.shapes ≡ s.shapes → t.packet ≡ s.packet → Kept s t
-unchanged e f = record { shapes = e; length = ap length f }
+unchanged : {s t : State} → t.shapes ≡ s.shapes → t.packet ≡ s.packet → t.find ≡ s.find → Kept s t
+unchanged e f g = record { shapes = e; length = ap length f; find = g }
 
 written_keeps : (s : State) (pc k x : ℕ) → Keeps s (written s pc k x)
-written_keeps s pc k x = with_frame s (is_frame k) (Next (with_number s pc k x)) (unchanged refl refl)
+written_keeps s pc k x = with_frame s (is_frame k) (Next (with_number s pc k x)) (unchanged refl refl refl)
 
 store_keeps : (place : Place) (s : State) (z x : ℕ) → Lies (length s.packet) s.shapes z place → Keeps s (store_to place s z x)
-store_keeps (InPacket i) s z x h = record { shapes = refl; length = spliced_length s.packet i z x h }
-store_keeps (InStack i) s z x h = unchanged refl refl
+store_keeps (InPacket i) s z x h = record { shapes = refl; length = spliced_length s.packet i z x h; find = refl }
+store_keeps (InStack i) s z x h = unchanged refl refl refl
 store_keeps (InContext i) s z x h = tt
 store_keeps (InCounter m k j) s z x h = tt
 store_keeps Nowhere s z x h = tt
@@ -92,25 +97,25 @@ load_keeps : (place : Place) (s : State) (signed : Bool) (size : Size) (dst : �
 load_keeps (InPacket i) s signed size dst h = plain_keeps (loaded s (InPacket i) (size_bytes size)) s dst signed size
 load_keeps (InStack i) s signed size dst h = plain_keeps (loaded s (InStack i) (size_bytes size)) s dst signed size
 load_keeps (InContext i) s signed size dst h = plain_keeps (loaded s (InContext i) (size_bytes size)) s dst signed size
-load_keeps (InCounter m k j) s signed size dst h = with_frame s (is_frame dst) _ (h, λ v. unchanged refl refl)
+load_keeps (InCounter m k j) s signed size dst h = with_frame s (is_frame dst) _ (h, λ v. unchanged refl refl refl)
 load_keeps Nowhere s signed size dst h = plain_keeps (loaded s Nowhere (size_bytes size)) s dst signed size
 
 add_keeps : (place : Place) (s : State) (fetch : Bool) (src d : ℕ) → Lies (length s.packet) s.shapes 8 place → Keeps s (add_to place s fetch src d)
-add_keeps (InCounter m k j) s true src d h = with_frame s (is_frame src) _ (h, λ v. unchanged refl refl)
-add_keeps (InCounter m k j) s false src d h = (h, λ v. unchanged refl refl)
+add_keeps (InCounter m k j) s true src d h = with_frame s (is_frame src) _ (h, λ v. unchanged refl refl refl)
+add_keeps (InCounter m k j) s false src d h = (h, λ v. unchanged refl refl refl)
 add_keeps (InPacket i) s fetch src d h = tt
 add_keeps (InStack i) s fetch src d h = tt
 add_keeps (InContext i) s fetch src d h = tt
 add_keeps Nowhere s fetch src d h = tt
 
 jumped_keeps : (s : State) (off : ℤ) → Keeps s (jumped s off)
-jumped_keeps s off = needs s (target s.pc off) _ (λ to. unchanged refl refl)
+jumped_keeps s off = needs s (target s.pc off) _ (λ to. unchanged refl refl refl)
 
 helped_keeps : (i : ℤ) (s : State) → Keeps s (helped i s)
 helped_keeps (pos n) s = by (n == 1)
   where
     by : (b : Bool) → Keeps s (if b then looked_up s else Fault)
-    by true = needs s (s.reg 1) _ (λ x. needs s (s.reg 2) _ (λ a. needs s (map_at s x) _ (λ m. needs s (key_in (region (length s.packet) s.shapes a 4) s) _ (λ k. unchanged refl refl))))
+    by true = needs s (s.reg 1) _ (λ x. needs s (s.reg 2) _ (λ a. needs s (map_at s x) _ (λ m. needs s (slice_get s.shapes m) (looked_up_in s a m) (λ shape. needs s (key_in (region (length s.packet) s.shapes a (key_size shape.key)) s (key_size shape.key)) _ (λ key. unchanged refl refl refl)))))
     by false = tt
 helped_keeps (negsuc n) s = tt
 
@@ -134,7 +139,7 @@ module _ (s : State) where
     where
       either : (b : Bool) (off : ℤ) → Keeps s (if b then jumped s off else Next (at_slot s (s.pc + 1)))
       either true off = jumped_keeps s off
-      either false off = unchanged refl refl
+      either false off = unchanged refl refl refl
   exec_keeps (Call helper) = helped_keeps helper s
   exec_keeps Exit = needs s (s.reg 0) Exited (λ x. tt)
   exec_keeps Second = tt

@@ -1,6 +1,6 @@
 -- The rule's edges are edges that the instruction has.
 use Rattle.std.proofs.Common.{◌≡◌, ◌⊎◌, inl, inr, ◌+◌, ℕ, List, [], ◌∷◌, Option, Some, None, ◌&&◌, ◌||◌, not, sym, ap, subst}
-use Rattle.std.specs.Prelude.{Ok}
+use Rattle.std.specs.Prelude.{Ok, slice_get}
 use Rattle.bpf_insn.specs.Register.{number}
 use Rattle.bpf_insn.specs.declared.insn.Insn.{Insn}
 use Rattle.bpf_insn.specs.declared.insn.Insn.TheVariants.{Alu, Neg, End, MovSx, Const, MapRef, Ldx, St, Stx, AddCounter, Ja, Jump, Call, Exit, Second}
@@ -18,7 +18,7 @@ use Rattle.bpf_flow.specs.Edges.{Edges, goes_to, sets}
 use Rattle.bpf_flow.specs.Alu.{exactly, operand_value}
 use Rattle.bpf_flow.specs.Memory.{reach, loaded_value, stores, adds_at}
 use Rattle.bpf_flow.specs.Rule.{after_of, is_first_unset, at_target}
-use Rattle.bpf_flow.specs.Call.{is_key, looks_up, is_lookup}
+use Rattle.bpf_flow.specs.Call.{is_key, key_bytes, looks_up, is_lookup}
 use Rattle.bpf_flow.specs.declared.access.Access.{Access}
 use Rattle.bpf_flow.specs.declared.access.Access.TheVariants.{InPacket, OnStack, InContext, AtValue}
 use Rattle.bpf_flow.proofs.AnswerLemmas.{unless_ok, and_then_ok, same_ok}
@@ -41,16 +41,16 @@ store_way n pc size v (OnStack p) es q h s = one_way pc _ es q h s
 store_way n pc size v (InContext o) es q h s = absurd (cc)
 store_way n pc size v (AtValue m o) es q h s = absurd (cc)
 
-lookup_way : (n : Facts) (pc : ℕ) (v key : Val) (es : Edges) (q : ℕ) → looks_up n pc v key ≡ Ok es → Speaks es q → q ≡ pc + 1
-lookup_way n pc (val.Map m) key es q h s = one_way (pc + 1) _ es q (unless_ok (not (is_key n key)) cause.Argument _ es h).1 s
-lookup_way n pc val.Unset key es q h s = absurd (cc)
-lookup_way n pc (val.Num lo hi) key es q h s = absurd (cc)
-lookup_way n pc (val.Pkt id off) key es q h s = absurd (cc)
-lookup_way n pc val.PktEnd key es q h s = absurd (cc)
-lookup_way n pc (val.Stack off) key es q h s = absurd (cc)
-lookup_way n pc val.Ctx key es q h s = absurd (cc)
-lookup_way n pc (val.MaybeValue m id) key es q h s = absurd (cc)
-lookup_way n pc (val.Value m) key es q h s = absurd (cc)
+lookup_way : (shapes : List Shape) (n : Facts) (pc : ℕ) (v key : Val) (es : Edges) (q : ℕ) → looks_up shapes n pc v key ≡ Ok es → Speaks es q → q ≡ pc + 1
+lookup_way shapes n pc (val.Map m) key es q h s = one_way (pc + 1) _ es q (unless_ok (not (is_key n (key_bytes (slice_get shapes m)) key)) cause.Argument _ es h).1 s
+lookup_way shapes n pc val.Unset key es q h s = absurd (cc)
+lookup_way shapes n pc (val.Num lo hi) key es q h s = absurd (cc)
+lookup_way shapes n pc (val.Pkt id off) key es q h s = absurd (cc)
+lookup_way shapes n pc val.PktEnd key es q h s = absurd (cc)
+lookup_way shapes n pc (val.Stack off) key es q h s = absurd (cc)
+lookup_way shapes n pc val.Ctx key es q h s = absurd (cc)
+lookup_way shapes n pc (val.MaybeValue m id) key es q h s = absurd (cc)
+lookup_way shapes n pc (val.Value m) key es q h s = absurd (cc)
 
 ja_way : (o : Option ℕ) (n : Facts) (es : Edges) (q : ℕ) → at_target o (λ t. (t, n) ∷ []) ≡ Ok es → Speaks es q → o ≡ Some q
 ja_way None n es q h s = absurd (cc)
@@ -101,7 +101,7 @@ rule_leads (Jump cond wide dst src off) pc n shapes es q h s =
 rule_leads (Call helper) pc n shapes es q h s =
     let k = unless_ok (not (is_lookup helper)) cause.Helper _ es h in
     let u = unless_ok (is_unset (n.reg 1) || is_unset (n.reg 2)) cause.Unset _ es k.1 in
-    lookup_way n pc (n.reg 1) (n.reg 2) es q u.1 s
+    lookup_way shapes n pc (n.reg 1) (n.reg 2) es q u.1 s
 rule_leads Exit pc n shapes es q h s =
     let u = unless_ok (is_unset (n.reg 0)) cause.Unset (Ok []) es h in
     absurd (subst (λ (es : Edges). Speaks es q) (sym (same_ok [] es u.1)) s)

@@ -10,7 +10,7 @@ use Rattle.bpf_insn.specs.Extension.{extended}
 use Rattle.bpf_insn.proofs.ResultLemmas.{extended_fits}
 use Rattle.bpf_note.specs.declared.val.Val.{Val}
 use Rattle.bpf_note.specs.declared.val.Val.TheVariants as val
-use Rattle.bpf_note.specs.Bytes.{number_of, word_at, higher}
+use Rattle.bpf_note.specs.Bytes.{number_of, word_at, bytes_at, higher, before}
 use Rattle.bpf_note.specs.Shape.{Shape}
 use Rattle.bpf_note.specs.State.{State, packet_start}
 use Rattle.bpf_note.specs.Regions.{Place}
@@ -55,6 +55,15 @@ all_set_word n s p (suc z) d e =
     let b = set_byte (s.stack p) (d.set p both.0) in
     let r = all_set_word n s (p + 1) z d both.1 in
     (b.0 + 256 * r.0, ap (λ (o : Option ℕ). higher o (word_at s.stack (p + 1) z)) b.1 ∙ ap (higher (Some b.0)) r.1)
+
+-- bytes that are set are there
+pub all_set_bytes : (n : Facts) (s : State) (p z : ℕ) → Describes n s → all_set n p z ≡ true → (bs : List ℕ) × (bytes_at s.stack p z ≡ Some bs)
+all_set_bytes n s p zero d e = ([], refl)
+all_set_bytes n s p (suc z) d e =
+    let both = each (n.set p) (all_set n (p + 1) z) e in
+    let b = set_byte (s.stack p) (d.set p both.0) in
+    let r = all_set_bytes n s (p + 1) z d both.1 in
+    (b.0 ∷ r.0, ap (λ (o : Option ℕ). before o (bytes_at s.stack (p + 1) z)) b.1 ∙ ap (before (Some b.0)) r.1)
 
 size_limit : (size : Size) → 256 ^ size_bytes size ≤ 2 ^ 64
 size_limit Byte = omega arith

@@ -5,9 +5,9 @@ use Rattle.std.proofs.lemmas.Bool.Decides.{nat_tests}
 use Rattle.std.proofs.lemmas.Int.{ints}
 use Rattle.bpf_note.specs.declared.val.Val.{Val}
 use Rattle.bpf_note.specs.declared.val.Val.TheVariants.{Unset, Num, Pkt, PktEnd, Stack, Ctx, Map, MaybeValue, Value}
-use Rattle.bpf_note.specs.Shape.{Shape, IsShape}
+use Rattle.bpf_note.specs.Shape.{Shape, IsShape, most_maps}
 use Rattle.bpf_note.specs.State.{State, packet_start, stack_start, stack_end, context_start, values_start}
-use Rattle.bpf_note.specs.Regions.{Place, InStack, InCounter, Nowhere, region, counter_at, counter_address}
+use Rattle.bpf_note.specs.Regions.{Place, InStack, InCounter, Nowhere, region, is_small, map_offset, counter_at, counter_address}
 use Rattle.bpf_note.specs.Regions as place
 use Rattle.bpf_note.specs.Facts.{Facts}
 use Rattle.bpf_note.specs.Describes.{meaning, Describes, IsReading, IsValueOf}
@@ -86,17 +86,34 @@ moved_packet a b off p o e f = omega (arith, ints, e, f)
 moved_stack : (a p : ℕ) (off o : ℤ) → pos a ≡ pos stack_end +ℤ off → pos 512 +ℤ off +ℤ o ≡ pos p → pos a +ℤ o ≡ pos (stack_start + p)
 moved_stack a p off o e f = omega (arith, ints, e, f)
 
-counter_further : (c m k at a : ℕ) → a ≡ counter_address c m k 0 → at % 8 ≡ 0 → a + at ≡ counter_address c m k (at / 8)
-counter_further c m k at a e whole = omega (arith, e, whole)
+further : (start n at a : ℕ) → a ≡ start + 8 * (n + 0) → at % 8 ≡ 0 → a + at ≡ start + 8 * (n + at / 8)
+further start n at a e whole = omega (arith, e, whole)
 
-pub map_small : (shapes : List Shape) (m : ℕ) (c : Shape) → slice_get shapes m ≡ Some c → length shapes ≤ 4 → m < 4
+counter_further : (c : Shape) (m k at a : ℕ) → a ≡ counter_address c m k 0 → at % 8 ≡ 0 → a + at ≡ counter_address c m k (at / 8)
+counter_further c m k at a e whole = further (values_start + map_offset c m) (c.counters * k) at a e whole
+
+pub map_small : (shapes : List Shape) (m : ℕ) (c : Shape) → slice_get shapes m ≡ Some c → length shapes ≤ most_maps → m < most_maps
 map_small shapes m c e few = omega (arith, some_inside shapes m c e, few)
 
-pub counter_fits : (c : Shape) (m k j : ℕ) → m < 4 → IsShape c → k < c.entries → j < c.counters → counter_address c.counters m k j < 2 ^ 64
-counter_fits c m k j few is hk hj =
-    let few' : k ≤ 1024 = omega (arith, hk, is.most_entries) in
-    let some : c.counters * k ≤ 8 * 1024 = mul-le-mul is.most_counters few' in
-    omega (arith, some, hj, is.most_counters)
+offset_below : (small : Bool) (m : ℕ) → m < most_maps → (if small then 0x10000 * m else 0x400000 * (m + 1)) ≤ 0x4000000
+offset_below true m few = omega arith
+offset_below false m few = omega arith
+
+address_below : (start n j : ℕ) → start ≤ 0x4000000 → n ≤ 8 * 65536 → j < 8 → values_start + start + 8 * (n + j) < 0x45000000
+address_below start n j h g l = omega arith
+
+-- all counters lie below the references
+pub counter_below : (c : Shape) (m k j : ℕ) → m < most_maps → IsShape c → k < c.entries → j < c.counters → counter_address c m k j < 0x45000000
+counter_below c m k j few is hk hj =
+    let few' : k ≤ 65536 = omega (arith, hk, is.most_entries) in
+    let some : c.counters * k ≤ 8 * 65536 = mul-le-mul is.most_counters few' in
+    address_below (map_offset c m) (c.counters * k) j (offset_below (is_small c) m few) some (omega (arith, hj, is.most_counters))
+
+pub counter_fits : (c : Shape) (m k j : ℕ) → m < most_maps → IsShape c → k < c.entries → j < c.counters → counter_address c m k j < 2 ^ 64
+counter_fits c m k j few is hk hj = omega (arith, counter_below c m k j few is hk hj)
+
+above_start : (start n : ℕ) → values_start ≤ values_start + start + 8 * n
+above_start start n = omega arith
 
 module _ (n : Facts) (s : State) (d : Describes n s) (a : ℕ) (fits : a < 2 ^ 64) (o : ℤ) (z : ℕ) where
   abbrev there : Place
@@ -130,16 +147,16 @@ module _ (n : Facts) (s : State) (d : Describes n s) (a : ℕ) (fits : a < 2 ^ 6
       let same : c ≡ shape = same_some c shape (sym f ∙ e) in
       let j : at / 8 < shape.counters = subst (λ (c : Shape). at / 8 < c.counters) same (omega (arith, inside)) in
       let is_shape = d.state.shapes m shape e in
-      let place : address a o ≡ counter_address shape.counters m r.0 (at / 8) =
-      shift_is a (counter_address shape.counters m r.0 (at / 8)) o
-      (ap (λ (o : ℤ). pos a +ℤ o) g ∙ ap pos (counter_further shape.counters m r.0 at a r.2 whole)) fits
+      let place : address a o ≡ counter_address shape m r.0 (at / 8) =
+      shift_is a (counter_address shape m r.0 (at / 8)) o
+      (ap (λ (o : ℤ). pos a +ℤ o) g ∙ ap pos (counter_further shape m r.0 at a r.2 whole)) fits
       (counter_fits shape m r.0 (at / 8) (map_small s.shapes m shape e d.state.maps) is_shape r.1 j) in (
         r.0,
         at / 8,
         ap (λ (b : ℕ). region (length s.packet) s.shapes b z) place
-            ∙ (ap (region (length s.packet) s.shapes (counter_address shape.counters m r.0 (at / 8))) eight
-            ∙ (region_value (length s.packet) s.shapes (counter_address shape.counters m r.0 (at / 8)) d.state.packet_size (omega arith)
-            ∙ counter_at_address s.shapes m r.0 (at / 8) shape e is_shape r.1 j)),
+            ∙ (ap (region (length s.packet) s.shapes (counter_address shape m r.0 (at / 8))) eight
+            ∙ (region_value (length s.packet) s.shapes (counter_address shape m r.0 (at / 8)) d.state.packet_size (above_start (map_offset shape m) (shape.counters * r.0 + at / 8))
+            ∙ counter_at_address s.shapes m r.0 (at / 8) shape (map_small s.shapes m shape e d.state.maps) e is_shape r.1 j)),
       )
 
   -- an access that the rule allows lies where it says

@@ -26,7 +26,7 @@ use Rattle.bpf_flow.specs.Alu.{exactly, operand_value, result_of, negated_value,
 use Rattle.bpf_flow.specs.Memory.{place_in, packet_place, in_packet, on_stack, reach, is_word, is_field, is_double, is_counter, all_set, stack_value, field_value, loaded_value, stores, adds_at}
 use Rattle.bpf_flow.specs.Branch.{taken, passed}
 use Rattle.bpf_flow.specs.Rule.{is_first_unset, at_target, fetched, after_of}
-use Rattle.bpf_flow.specs.Call.{is_key, with_call, looks_up, is_lookup}
+use Rattle.bpf_flow.specs.Call.{is_key, key_bytes, with_call, looks_up, is_lookup}
 use Rattle.bpf_flow.specs.Reading.{IsKnownCall, ReadsUnset}
 use Rattle.bpf_flow.specs.declared.access.Access.{Access}
 use Rattle.bpf_flow.specs.declared.access.Access.TheVariants.{InPacket, OnStack, InContext, AtValue}
@@ -102,16 +102,16 @@ target_others : (o : Option ℕ) (edges : ℕ → Edges) → Others (at_target o
 target_others None edges = refl
 target_others (Some q) edges = tt
 
-looks_up_others : (n : Facts) (pc : ℕ) (v key : Val) → Others (looks_up n pc v key)
-looks_up_others n pc (Map m) key = chosen_others (not (is_key n key)) (Err cause.Argument) (goes_to (pc + 1) (with_call (with_id n pc 0) m pc)) refl tt
-looks_up_others n pc Unset key = refl
-looks_up_others n pc (Num lo hi) key = refl
-looks_up_others n pc (Pkt id off) key = refl
-looks_up_others n pc PktEnd key = refl
-looks_up_others n pc (Stack off) key = refl
-looks_up_others n pc Ctx key = refl
-looks_up_others n pc (MaybeValue m id) key = refl
-looks_up_others n pc (Value m) key = refl
+looks_up_others : (shapes : List Shape) (n : Facts) (pc : ℕ) (v key : Val) → Others (looks_up shapes n pc v key)
+looks_up_others shapes n pc (Map m) key = chosen_others (not (is_key n (key_bytes (slice_get shapes m)) key)) (Err cause.Argument) (goes_to (pc + 1) (with_call (with_id n pc 0) m pc)) refl tt
+looks_up_others shapes n pc Unset key = refl
+looks_up_others shapes n pc (Num lo hi) key = refl
+looks_up_others shapes n pc (Pkt id off) key = refl
+looks_up_others shapes n pc PktEnd key = refl
+looks_up_others shapes n pc (Stack off) key = refl
+looks_up_others shapes n pc Ctx key = refl
+looks_up_others shapes n pc (MaybeValue m id) key = refl
+looks_up_others shapes n pc (Value m) key = refl
 
 -- the test u holds exactly where one of the registers r is Unset
 record IsTestOf (n : Facts) (r : ℕ → Bool) (u : Bool) : Type 0 where
@@ -209,14 +209,14 @@ call_form : (helper : ℤ) (pc : ℕ) (n : Facts) (shapes : List Shape) (known :
 call_form helper pc n shapes true e =
     let unset = is_unset (n.reg 1) || is_unset (n.reg 2) in
     let t = test_either n (λ k. k == 1) (λ k. k == 2) (is_unset (n.reg 1)) (is_unset (n.reg 2)) (test_register n 1) (test_register n 2) in
-    plain_form (Call helper) pc n shapes unset false (looks_up n pc (n.reg 1) (n.reg 2)) e t refl
-    (ap (λ (b : Bool). unless (not b) cause.Helper (unless unset cause.Unset (looks_up n pc (n.reg 1) (n.reg 2)))) e)
-    (λ h. looks_up_others n pc (n.reg 1) (n.reg 2))
+    plain_form (Call helper) pc n shapes unset false (looks_up shapes n pc (n.reg 1) (n.reg 2)) e t refl
+    (ap (λ (b : Bool). unless (not b) cause.Helper (unless unset cause.Unset (looks_up shapes n pc (n.reg 1) (n.reg 2)))) e)
+    (λ h. looks_up_others shapes n pc (n.reg 1) (n.reg 2))
 call_form helper pc n shapes false e = record {
   unset = false;
   frame = false;
   rest = Err cause.Helper;
-  is = ap (λ (b : Bool). unless (not b) cause.Helper (unless (is_unset (n.reg 1) || is_unset (n.reg 2)) cause.Unset (looks_up n pc (n.reg 1) (n.reg 2)))) e;
+  is = ap (λ (b : Bool). unless (not b) cause.Helper (unless (is_unset (n.reg 1) || is_unset (n.reg 2)) cause.Unset (looks_up shapes n pc (n.reg 1) (n.reg 2)))) e;
   others = λ h. refl;
   found = λ h. absurd (cc);
   back = λ r. sym e ∙ r.known;

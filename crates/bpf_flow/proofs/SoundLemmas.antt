@@ -206,7 +206,7 @@ module _ (n : Facts) (s : State) (d : Describes n s) where
       (jump_by cond wide (number dst) t.0 x.0 y.0 src (n.reg (number dst)) (operand_value n src) (is_met cond wide x.0 y.0) refl x.1 y.1
       (d.state.words (number dst) x.0 x.1) (operand_fits src y.0 y.1) x.2 y.2))))
 
-  call_goes_on : (es : Edges) → s.pc < 4096 → unless (is_unset (n.reg 1) || is_unset (n.reg 2)) cause.Unset (looks_up n s.pc (n.reg 1) (n.reg 2)) ≡ Ok es → Accounts es (looked_up s)
+  call_goes_on : (es : Edges) → s.pc < 4096 → unless (is_unset (n.reg 1) || is_unset (n.reg 2)) cause.Unset (looks_up s.shapes n s.pc (n.reg 1) (n.reg 2)) ≡ Ok es → Accounts es (looked_up s)
   call_goes_on es small h =
       let u = unless_ok _ cause.Unset _ es h in
       let set = neither (is_unset (n.reg 1)) (is_unset (n.reg 2)) u.0 in
@@ -214,7 +214,7 @@ module _ (n : Facts) (s : State) (d : Describes n s) where
       let y = register 2 set.1 in
       lookup_sound n s (n.reg 1) (n.reg 2) x.0 y.0 es d small x.1 y.1 x.2 y.2 u.1
 
-  call_by : (b : Bool) (es : Edges) → s.pc < 4096 → unless (not b) cause.Helper (unless (is_unset (n.reg 1) || is_unset (n.reg 2)) cause.Unset (looks_up n s.pc (n.reg 1) (n.reg 2))) ≡ Ok es →
+  call_by : (b : Bool) (es : Edges) → s.pc < 4096 → unless (not b) cause.Helper (unless (is_unset (n.reg 1) || is_unset (n.reg 2)) cause.Unset (looks_up s.shapes n s.pc (n.reg 1) (n.reg 2))) ≡ Ok es →
       Accounts es (if b then looked_up s else Fault)
   call_by true es small h = call_goes_on es small h
   call_by false es small h = absurd (cc)

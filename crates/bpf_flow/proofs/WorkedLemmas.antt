@@ -1,24 +1,30 @@
 -- The definitions, computed on small programs. No proof uses these; they are checked with the crate, and show what the definitions say.
-use Rattle.std.proofs.Common.{◌≡◌, ◌^◌, ◌-◌, ℕ, zero, suc, List, [], ◌∷◌, None, refl, true, false}
-use Rattle.std.specs.Prelude.{pos, negsuc}
+use Rattle.std.proofs.Common.{◌≡◌, ◌^◌, ◌-◌, ℕ, zero, suc, List, [], ◌∷◌, Option, Some, None, refl, true, false}
+use Rattle.std.specs.Prelude.{pos, negsuc, if◌then◌else◌, ◌==◌}
 use Rattle.bpf_insn.specs.Arithmetic.{computed}
 use Rattle.bpf_insn.specs.Conditions.{is_met}
 use Rattle.bpf_insn.specs.Extension.{extended}
 use Rattle.bpf_insn.specs.declared.register.Register.TheVariants.{R0, R1, R2, R3, R4, R10}
 use Rattle.bpf_insn.specs.declared.operand.Operand.TheVariants.{Register, Immediate}
 use Rattle.bpf_insn.specs.declared.alu_op.AluOp.TheVariants as ops
-use Rattle.bpf_insn.specs.declared.size.Size.TheVariants.{Byte, Word}
+use Rattle.bpf_insn.specs.declared.size.Size.TheVariants.{Byte, Half, Word}
 use Rattle.bpf_insn.specs.declared.condition.Condition.TheVariants.{Greater, Equal}
 use Rattle.bpf_insn.specs.declared.insn.Insn.{Insn}
 use Rattle.bpf_insn.specs.declared.insn.Insn.TheVariants.{Alu, MapRef, Ldx, St, AddCounter, Jump, Call, Exit, Second}
+use Rattle.bpf_note.specs.declared.key.Kind.TheVariants.{Exact}
+use Rattle.bpf_note.specs.declared.key.MapKey.TheVariants.{Index, Listed}
 use Rattle.bpf_note.specs.Shape.{Shape}
 use Rattle.bpf_note.specs.State.{State, start_register}
-use Rattle.bpf_note.specs.Bytes.{put_bytes}
-use Rattle.bpf_note.specs.Regions.{region}
+use Rattle.bpf_note.specs.Bytes.{number_of, put_bytes}
+use Rattle.bpf_note.specs.Regions.{region, counter_address}
 use Rattle.bpf_flow.specs.Step.{Outcome, Next, Loads, Adds, Exited, Fault, step}
 
+-- each list has one key, of two bytes
+rows : ℕ → List ℕ → Option ℕ
+rows m key = if number_of key == 0x1122 then Some 1 else None
+
 start : List Shape → List ℕ → State
-start shapes packet = record { pc = 0; reg = start_register; stack = λ i. None; packet = packet; ifindex = 0; queue = 0; shapes = shapes }
+start shapes packet = record { pc = 0; reg = start_register; stack = λ i. None; packet = packet; ifindex = 0; queue = 0; shapes = shapes; find = rows }
 
 -- an answer of a counter is 0 here
 next : Outcome → (State → Outcome) → Outcome
@@ -60,7 +66,7 @@ is_add (Adds m k j d go) = m ∷ k ∷ j ∷ d ∷ []
 is_add o = []
 
 two_values : List Shape
-two_values = record { entries = 2; counters = 1 } ∷ []
+two_values = record { entries = 2; counters = 1; key = Index } ∷ []
 
 adds_1_to_value_1 : is_add (after counts 7 (start two_values [])) ≡ 0 ∷ 1 ∷ 0 ∷ 1 ∷ []
 unfolding computed is_met region put_bytes extended start next after counts is_add two_values
@@ -69,6 +75,30 @@ adds_1_to_value_1 = refl
 then_passes : after counts 9 (start two_values []) ≡ Exited 2
 unfolding computed is_met region put_bytes extended start next after counts two_values
 then_passes = refl
+
+-- counts in the value of a key of two bytes, if it has one
+counts_key : ℕ → List Insn
+counts_key key =
+    St Half R10 (negsuc 1) (pos key) ∷ Alu ops.Mov true R2 (Register R10) ∷ Alu ops.Add true R2 (Immediate (negsuc 1)) ∷ MapRef R1 0 ∷ Second
+    ∷ Call (pos 1) ∷ Jump Equal true R0 (Immediate (pos 0)) (pos 2) ∷ Alu ops.Mov true R1 (Immediate (pos 1)) ∷ AddCounter false R0 R1 (pos 0)
+    ∷ Alu ops.Mov true R0 (Immediate (pos 2)) ∷ Exit ∷ []
+
+two_keys : List Shape
+two_keys = record { entries = 2; counters = 1; key = Listed (Exact 2) } ∷ []
+
+adds_1_to_row_1 : is_add (after (counts_key 0x1122) 7 (start two_keys [])) ≡ 0 ∷ 1 ∷ 0 ∷ 1 ∷ []
+unfolding computed is_met region put_bytes extended start next after counts_key is_add two_keys rows
+adds_1_to_row_1 = refl
+
+finds_no_row : after (counts_key 0x1123) 7 (start two_keys []) ≡ Exited 2
+unfolding computed is_met region put_bytes extended start next after counts_key two_keys rows
+finds_no_row = refl
+
+-- small maps lie 64 KiB apart from 0x40000000 on, others 4 MiB apart from 0x40400000 on
+addresses : (counter_address (record { entries = 1024; counters = 8; key = Index }) 3 1023 7 ≡ 0x4003FFF8)
+    × (counter_address (record { entries = 1025; counters = 8; key = Index }) 0 0 0 ≡ 0x40400000)
+    × (counter_address (record { entries = 65536; counters = 8; key = Index }) 15 65535 7 ≡ 0x443FFFF8)
+addresses = (refl, refl, refl)
 
 -- zero divisors, the least number and the upper half
 divisions : (computed ops.Div true 7 0 ≡ 0) × (computed ops.Mod true 7 0 ≡ 7) × (computed ops.SignedDiv true (2 ^ 63) (2 ^ 64 - 1) ≡ 2 ^ 63)

@@ -1,21 +1,28 @@
 -- Stated: claims rest on this file.
 -- What a call of a helper asks, and what is known after it.
-use Rattle.std.specs.Prelude.{ℕ, ◌+◌, ℤ, pos, negsuc, ◌+ℤ◌, Option, None, Some, Bool, false, not, if◌then◌else◌, ◌==◌, nat_le, Err}
+use Rattle.std.specs.Prelude.{ℕ, ◌+◌, ℤ, pos, negsuc, ◌+ℤ◌, List, Option, None, Some, Bool, false, not, if◌then◌else◌, ◌==◌, nat_le, slice_get, Err}
 use Rattle.bpf_insn.specs.declared.refusal.Cause.TheVariants as cause
 use Rattle.bpf_note.specs.declared.val.Val.{Val}
 use Rattle.bpf_note.specs.declared.val.Val.TheVariants as val
+use Rattle.bpf_note.specs.Keys.{key_size}
+use Rattle.bpf_note.specs.Shape.{Shape}
 use Rattle.bpf_note.specs.Facts.{Facts, with_id}
 use Rattle.bpf_flow.specs.Edges.{Answer, unless, goes_to}
 use Rattle.bpf_flow.specs.Memory.{place_in, all_set}
 
--- a key of four set bytes on the stack
-abbrev pub is_key_at : Facts → Option ℕ → Bool
-is_key_at n None = false
-is_key_at n (Some p) = all_set n p 4
+-- a key of z set bytes on the stack
+abbrev pub is_key_at : Facts → ℕ → Option ℕ → Bool
+is_key_at n z None = false
+is_key_at n z (Some p) = all_set n p z
 
-abbrev pub is_key : Facts → Val → Bool
-is_key n (val.Stack off) = is_key_at n (place_in (pos 512 +ℤ off) 4 512)
-is_key n v = false
+abbrev pub is_key : Facts → ℕ → Val → Bool
+is_key n z (val.Stack off) = is_key_at n z (place_in (pos 512 +ℤ off) z 512)
+is_key n z v = false
+
+-- how many bytes a key of a map has; a program names no map that isn't there
+abbrev pub key_bytes : Option Shape → ℕ
+key_bytes None = 4
+key_bytes (Some shape) = key_size shape.key
 
 -- registers after a call: r0 the address of a value or 0, r1 to r5 lost
 abbrev pub called_reg : (ℕ → Val) → ℕ → ℕ → ℕ → Val
@@ -25,9 +32,10 @@ abbrev pub with_call : Facts → ℕ → ℕ → Facts
 with_call n m pc = record { reg = called_reg n.reg m pc; kept = n.kept; set = n.set; top = n.top; safe = n.safe }
 
 -- a lookup of a key, in the map that r1 names
-abbrev pub looks_up : Facts → ℕ → Val → Val → Answer
-looks_up n pc (val.Map m) key = unless (not (is_key n key)) cause.Argument (goes_to (pc + 1) (with_call (with_id n pc 0) m pc))
-looks_up n pc v key = Err cause.Argument
+abbrev pub looks_up : List Shape → Facts → ℕ → Val → Val → Answer
+looks_up shapes n pc (val.Map m) key =
+    unless (not (is_key n (key_bytes (slice_get shapes m)) key)) cause.Argument (goes_to (pc + 1) (with_call (with_id n pc 0) m pc))
+looks_up shapes n pc v key = Err cause.Argument
 
 abbrev pub is_lookup : ℤ → Bool
 is_lookup (pos h) = h == 1

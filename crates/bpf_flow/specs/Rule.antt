@@ -73,7 +73,7 @@ after_of (Jump cond wide dst src off) pc n shapes =
 after_of (Call helper) pc n shapes =
     unless (not (is_lookup helper)) cause.Helper
     (unless (is_unset (n.reg 1) || is_unset (n.reg 2)) cause.Unset
-    (looks_up n pc (n.reg 1) (n.reg 2)))
+    (looks_up shapes n pc (n.reg 1) (n.reg 2)))
 after_of Exit pc n shapes = unless (is_unset (n.reg 0)) cause.Unset (Ok [])
 after_of Second pc n shapes = Err cause.Target
 

@@ -1,7 +1,8 @@
 -- What a lookup answers.
 use Rattle.std.proofs.Common.{◌≡◌, ℕ, ◌-◌, ◌*◌, ◌<◌, ◌≤◌, inl, inr, List, length, slice_index, None, arith, sym, subst}
-use Rattle.bpf_lists.specs.declared.kind.Kind.{Kind}
-use Rattle.bpf_lists.specs.Keys.{size, row, count, width, bits_of, data_of, value, Holds, IsLongest, IsFound}
+use Rattle.bpf_note.specs.declared.key.Kind.{Kind}
+use Rattle.bpf_note.specs.Keys.{size, width, bits_of, data_of}
+use Rattle.bpf_lists.specs.Keys.{row, count, value, Holds, IsLongest, IsFound}
 use Rattle.bpf_lists.specs.Order.{Ordered, IsOrdered, HasPlace, at, Covers, Reaches}
 use Rattle.bpf_lists.proofs.ValueLemmas.{AreBytes}
 use Rattle.bpf_lists.proofs.NestLemmas.{le_or_lt}

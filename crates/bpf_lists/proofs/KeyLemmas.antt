@@ -2,9 +2,10 @@
 use Rattle.std.proofs.Common.{◌≡◌, ℕ, ◌+◌, ◌-◌, ◌*◌, ◌/◌, ◌^◌, ◌<◌, ◌≤◌, List, length, take, drop, arith, sym, ◌∙◌, ap, subst, refl}
 use Rattle.std.proofs.lemmas.List.{length-take-le, length-drop, get_or-drop}
 use Rattle.std.proofs.Math.Seq.{take-length}
-use Rattle.bpf_lists.specs.declared.kind.Kind.{Kind}
-use Rattle.bpf_lists.specs.declared.kind.Kind.TheVariants.{Exact, Prefix}
-use Rattle.bpf_lists.specs.Keys.{size, width, row, count, bits_of, data_of, value, first, Holds}
+use Rattle.bpf_note.specs.declared.key.Kind.{Kind}
+use Rattle.bpf_note.specs.declared.key.Kind.TheVariants.{Exact, Prefix}
+use Rattle.bpf_note.specs.Keys.{size, width, bits_of, data_of}
+use Rattle.bpf_lists.specs.Keys.{row, count, value, first, Holds}
 use Rattle.bpf_lists.specs.Order.{Covers}
 use Rattle.bpf_lists.proofs.RowLemmas.{row_inside}
 use Rattle.bpf_lists.proofs.ValueLemmas.{AreBytes, take_bytes, alike_whole}

@@ -5,3 +5,4 @@ pub mod KeyLemmas
 pub mod OrderLemmas
 pub mod SortLemmas
 pub mod FindLemmas
+pub mod OneLemmas

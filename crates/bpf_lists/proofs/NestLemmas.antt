@@ -4,7 +4,7 @@ use Rattle.std.proofs.Math.Pow.{shr_mono}
 use Rattle.std.proofs.lemmas.Nat.{mod-pow-add, div-add-mod'}
 
 -- data that are plain are the bits that they are about, and zeros
-plain_is : (s v : ℕ) → v % 2 ^ s ≡ 0 → v ≡ v / 2 ^ s * 2 ^ s
+pub plain_is : (s v : ℕ) → v % 2 ^ s ≡ 0 → v ≡ v / 2 ^ s * 2 ^ s
 plain_is s v plain =
     let e = div-add-mod' v (2 ^ s) in
     omega arith

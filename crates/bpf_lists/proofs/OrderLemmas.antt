@@ -1,6 +1,7 @@
 -- Rows in order.
 use Rattle.std.proofs.Common.{◌≡◌, ℕ, ◌-◌, ◌*◌, ◌<◌, ◌≤◌, ◌⊎◌, inl, inr, List, length, slice_index, arith, sym, ◌∙◌, subst}
-use Rattle.bpf_lists.specs.Keys.{size, count, width, bits_of, data_of, value}
+use Rattle.bpf_note.specs.Keys.{size, width, bits_of, data_of}
+use Rattle.bpf_lists.specs.Keys.{count, value}
 use Rattle.bpf_lists.specs.Refusals.{IsRow}
 use Rattle.bpf_lists.specs.Order.{Ordered, IsOrdered, at, rank, Covers, Reaches, AreParents}
 use Rattle.bpf_lists.proofs.RowLemmas.{few_bits}

@@ -1,8 +1,9 @@
 -- Rows one after the other.
 use Rattle.std.proofs.Common.{ℕ, suc, ◌+◌, ◌*◌, ◌<◌, ◌≤◌, List, length, arith}
 use Rattle.std.proofs.Math.Nat.{mul-le-mul_left, mul-div-le}
-use Rattle.bpf_lists.specs.declared.kind.Kind.{Kind}
-use Rattle.bpf_lists.specs.Keys.{size, row, count, bits_of}
+use Rattle.bpf_note.specs.declared.key.Kind.{Kind}
+use Rattle.bpf_note.specs.Keys.{size, bits_of}
+use Rattle.bpf_lists.specs.Keys.{row, count}
 use Rattle.bpf_lists.specs.Refusals.{AreRows}
 
 -- a row lies within the bytes

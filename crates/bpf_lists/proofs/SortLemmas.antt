@@ -10,8 +10,9 @@ use Rattle.std.proofs.lemmas.Map.Made.{AllPairs-from_IsDistinct, IsDistinct-from
 use Rattle.std.proofs.lemmas.Map.Keys.{IsDistinct-IsPermutation}
 use Rattle.std.proofs.lemmas.Bool.Decides.{Decides-eqb}
 use Rattle.std.proofs.lemmas.Cmp.{nat_eq_equiv}
-use Rattle.bpf_lists.specs.declared.kind.Kind.{Kind}
-use Rattle.bpf_lists.specs.Keys.{size, row, count, bits_of, data_of, value}
+use Rattle.bpf_note.specs.declared.key.Kind.{Kind}
+use Rattle.bpf_note.specs.Keys.{size, bits_of, data_of}
+use Rattle.bpf_lists.specs.Keys.{row, count, value}
 use Rattle.bpf_lists.specs.Refusals.{AreRows, AreFew, IsSame, AreListed}
 use Rattle.bpf_lists.specs.Order.{rank, seat, spot, at, AreSorted, Differ, HasPlace, Ordered, IsOrdered, Reaches, AreParents}
 use Rattle.bpf_lists.proofs.RowLemmas.{few_bits}

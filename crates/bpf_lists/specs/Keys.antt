@@ -2,23 +2,10 @@
 -- Keys of maps, and which row of a keyed map is found. Exact keys are those of BPF_MAP_TYPE_HASH; prefixes those of
 -- BPF_MAP_TYPE_LPM_TRIE, as in `bpf_lpm_trie_key` of Linux's bpf.h.
 use Rattle.std.specs.Prelude.{ℕ, ◌≡◌, ◌+◌, ◌-◌, ◌*◌, ◌/◌, ◌^◌, ◌<◌, ◌≤◌, List, [], ◌∷◌, Option, None, Some}
-use Rattle.std.specs.Prelude.{length, drop, slice_range, slice_index}
-use Rattle.bpf_lists.specs.declared.kind.Kind.{Kind}
-use Rattle.bpf_lists.specs.declared.kind.Kind.TheVariants.{Exact, Prefix}
-
--- how many bytes of data a key has
-abbrev pub width : Kind → ℕ
-width (Exact bytes) = bytes
-width (Prefix bytes) = bytes
-
--- how many bytes a key has: the length of a prefix is a __u32 in front of the data
-abbrev pub size : Kind → ℕ
-size (Exact bytes) = bytes
-size (Prefix bytes) = 4 + bytes
-
--- 1 to 64 bytes of data
-abbrev pub IsKind : Kind → Type 0
-IsKind kind = (1 ≤ width kind) × (width kind ≤ 64)
+use Rattle.std.specs.Prelude.{length, drop, slice_range}
+use Rattle.bpf_note.specs.Keys.{size, word, bits_of}
+use Rattle.bpf_note.specs.declared.key.Kind.{Kind}
+use Rattle.bpf_note.specs.declared.key.Kind.TheVariants.{Exact, Prefix}
 
 -- data is "interpreted as big endian, so data[0] stores the most significant byte" (Linux's kernel/bpf/lpm_trie.c)
 abbrev pub value : List ℕ → ℕ
@@ -28,20 +15,6 @@ value (x ∷ xs) = x * 2 ^ (8 * length xs) + value xs
 -- the first bits of data, as a number
 abbrev pub first : ℕ → List ℕ → ℕ
 first bits bytes = value bytes / 2 ^ (8 * length bytes - bits)
-
--- the number in a __u32 of a little-endian machine
-abbrev pub word : List ℕ → ℕ
-word bytes = slice_index bytes 0 + 256 * slice_index bytes 1 + 65536 * slice_index bytes 2 + 16777216 * slice_index bytes 3
-
--- the data of a key
-abbrev pub data_of : Kind → List ℕ → List ℕ
-data_of (Exact bytes) key = key
-data_of (Prefix bytes) key = drop 4 key
-
--- how many bits of its data a key is about
-abbrev pub bits_of : Kind → List ℕ → ℕ
-bits_of (Exact bytes) key = 8 * bytes
-bits_of (Prefix bytes) key = word key
 
 -- the key of row r, where the keys of all rows follow one another
 abbrev pub row : Kind → List ℕ → ℕ → List ℕ

@@ -1,3 +1,4 @@
 pub mod Keys
 pub mod Refusals
 pub mod Order
+pub mod Find

@@ -2,8 +2,9 @@
 -- Rows in the order of their data, and of those with the same data the shorter first. So the rows that a row's prefix covers
 -- follow it.
 use Rattle.std.specs.Prelude.{ℕ, ◌≡◌, ◌+◌, ◌-◌, ◌*◌, ◌^◌, ◌<◌, ◌≤◌, List, length, slice_index, min}
-use Rattle.bpf_lists.specs.declared.kind.Kind.{Kind}
-use Rattle.bpf_lists.specs.Keys.{value, first, data_of, bits_of, row, count}
+use Rattle.bpf_note.specs.declared.key.Kind.{Kind}
+use Rattle.bpf_note.specs.Keys.{data_of, bits_of}
+use Rattle.bpf_lists.specs.Keys.{value, first, row, count}
 use Rattle.bpf_lists.specs.Refusals.{AreRows, IsSame}
 
 -- a key as a number: its data, then its length, which is at most 512

@@ -1,10 +1,11 @@
 -- Stated: claims rest on this file.
 -- Which rows are refused, and why. The causes are tried in this order.
 use Rattle.std.specs.Prelude.{ℕ, ◌≡◌, ◌-◌, ◌*◌, ◌%◌, ◌^◌, ◌<◌, ◌≤◌, List, length}
-use Rattle.bpf_lists.specs.declared.kind.Kind.{Kind}
+use Rattle.bpf_note.specs.declared.key.Kind.{Kind}
 use Rattle.bpf_lists.specs.declared.refusal.Refusal.{Refusal}
 use Rattle.bpf_lists.specs.declared.refusal.Refusal.TheVariants.{Width, Partial, TooMany, Length, Beyond, Repeated, Memory}
-use Rattle.bpf_lists.specs.Keys.{width, size, IsKind, value, data_of, bits_of, row, count}
+use Rattle.bpf_note.specs.Keys.{width, size, IsKind, data_of, bits_of}
+use Rattle.bpf_lists.specs.Keys.{value, row, count}
 
 -- the bytes are those of whole rows
 abbrev pub AreWhole : Kind → List ℕ → Type 0

@@ -1,12 +1,13 @@
 //! The keys of rows, one after the other.
 ghost use Rattle.std.specs.Prelude.{◌≡◌, ◌+◌, ◌*◌, ◌<◌, ◌≤◌, length, ◌↔◌, IsTrue, IfOk, IfErr, OnOk};
-ghost use Rattle.bpf_lists.specs.Keys.{size as size_of, row as row_of, count as count_of, IsKind};
+ghost use Rattle.bpf_note.specs.Keys.{size as size_of, IsKind};
+ghost use Rattle.bpf_lists.specs.Keys.{row as row_of, count as count_of};
 ghost use Rattle.bpf_lists.specs.Refusals.{IsWithin, IsSame, AreFew, AreRows, IsRefused};
 ghost use Rattle.bpf_lists.specs.Order.{Covers};
 
-use crate::kind::Kind;
 use crate::numbers;
 use crate::refusal::Refusal;
+use bpf_note::Kind;
 
 /// The most rows of a map.
 pub(crate) const MOST_ROWS: usize = 65536;

@@ -1,6 +1,5 @@
 //! The rows of a keyed map: made once, and looked up by a key.
 //!
-//! - `kind`: what a key is, and its parts
 //! - `numbers`: the bytes of keys as numbers in network byte order
 //! - `refusal`: which rows are refused
 //! - `keys`: the keys of rows, one after the other
@@ -10,13 +9,11 @@
 #![tactic(auto)]
 
 mod keys;
-mod kind;
 mod numbers;
 mod order;
 mod refusal;
 mod rows;
 mod sorting;
 
-pub use kind::Kind;
 pub use refusal::Refusal;
 pub use rows::KeyedRows;

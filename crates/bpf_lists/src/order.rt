@@ -1,10 +1,11 @@
 //! Rows in the order of their data, and the search among them.
 ghost use Rattle.std.specs.Prelude.{◌≡◌, ◌+◌, ◌-◌, ◌*◌, ◌<◌, ◌≤◌, ℕ, length, slice_index, ◌↔◌, IsTrue, ◌⊎◌};
-ghost use Rattle.bpf_lists.specs.Keys.{size as size_of, value, data_of};
+ghost use Rattle.bpf_note.specs.Keys.{size as size_of, data_of};
+ghost use Rattle.bpf_lists.specs.Keys.{value};
 ghost use Rattle.bpf_lists.specs.Order.{at as key_of, IsOrdered, Covers, Reaches, AreParents};
 
-use crate::kind::Kind;
 use crate::{keys, numbers};
+use bpf_note::Kind;
 use std::marker::Model;
 
 /// Rows in the order of their data, of those with the same data the shorter first.

@@ -1,12 +1,14 @@
 //! The rows of a keyed map.
-ghost use Rattle.std.specs.Prelude.{◌≡◌, length, IfOk, IfErr};
-ghost use Rattle.bpf_lists.specs.Keys.{size as size_of, IsFound};
+ghost use Rattle.std.specs.Prelude.{◌≡◌, length, IfOk, IfErr, ℕ, List, Option};
+ghost use Rattle.bpf_note.specs.Keys.{size as size_of};
+ghost use Rattle.bpf_lists.specs.Keys.{IsFound};
+ghost use Rattle.bpf_lists.specs.Find.{row_for};
 ghost use Rattle.bpf_lists.specs.Refusals.{AreListed, IsRefused};
 
-use crate::kind::Kind;
 use crate::order::Order;
 use crate::refusal::Refusal;
 use crate::{keys, sorting};
+use bpf_note::Kind;
 use std::alloc::Global;
 use std::marker::Model;
 
@@ -49,6 +51,16 @@ impl KeyedRows {
         ensures { result ≡ self.now.kind }
     {
         self.order.kind()
+    }
+
+    /// A lookup has one answer, which is the one that `row_for` computes. A law, empty at run time.
+    pub fn has_one_answer(&self)
+        ensures listed { AreListed self.now.kind self.now.keys }
+        ensures found { (key : List ℕ) → IsFound self.now.kind self.now.keys key (row_for self.now key) }
+        ensures one { (key : List ℕ) (answer : Option ℕ) → IsFound self.now.kind self.now.keys key answer → answer ≡ row_for self.now key }
+    {
+        // Only the proof uses what this call ensures: the rows are in order.
+        let _kind = self.order.kind();
     }
 
     /// The row with this key, or with the longest prefix that it begins with and that is no longer.

@@ -2,14 +2,15 @@
 ghost use Rattle.std.specs.Prelude.{◌≡◌, ◌+◌, ◌-◌, ◌*◌, ◌^◌, ◌<◌, ◌≤◌, ℕ, length, IfOk, IfErr, OnOk};
 ghost use Rattle.std.specs.Ordering.{nat_cmp};
 ghost use Rattle.std.specs.List.{range_with_len};
-ghost use Rattle.bpf_lists.specs.Keys.{size as size_of, row as row_of, count as count_of};
+ghost use Rattle.bpf_note.specs.Keys.{size as size_of};
+ghost use Rattle.bpf_lists.specs.Keys.{row as row_of, count as count_of};
 ghost use Rattle.bpf_lists.specs.Refusals.{AreRows, AreListed, IsRefused};
 ghost use Rattle.bpf_lists.specs.Order.{AreParents, AreSorted, spot, Differ};
 
-use crate::kind::Kind;
 use crate::order::Order;
 use crate::refusal::Refusal;
 use crate::{keys, numbers};
+use bpf_note::Kind;
 use std::alloc::{AllocError, Global};
 use std::cmp::Ordering;
 

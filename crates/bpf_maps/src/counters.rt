@@ -3,7 +3,7 @@ ghost use Rattle.std.specs.Prelude.{◌≡◌, ℕ, ◌%◌, ◌^◌, ◌<◌, �
 ghost use Rattle.bpf_note.specs.declared.op.Op.TheVariants.{Load, Add};
 ghost use Rattle.bpf_maps.specs.Seats.{IsSeatOf, new_seats, StandTogether, Account, total_at};
 ghost use Rattle.bpf_note.specs.History.{added};
-ghost use Rattle.bpf_note.specs.Shape.{IsCounter};
+ghost use Rattle.bpf_note.specs.Shape.{IsCounter, most_maps};
 
 use crate::layout;
 use crate::plays::{Fetched, JoinBoth, Loaded, Look, SplitFirst};
@@ -28,6 +28,7 @@ pub struct Counters {
 
 impl Model for Counters {
     ghost use Rattle.std.specs.Prelude.{◌≡◌, ◌<◌, ◌≤◌, ◌+◌, length};
+    ghost use Rattle.bpf_note.specs.Shape.{most_maps};
     ghost use Rattle.bpf_maps.specs.Layout.{total};
     ghost use Rattle.bpf_maps.specs.Seats.{CountersView};
 
@@ -35,7 +36,7 @@ impl Model for Counters {
 
     ghost view = { λ c. record { table = c.table.shared.table_id; shapes = c.plan.shapes.items; seats = c.plan.seats } };
 
-    ghost invariant = { λ c. (c.table.shared.key ≡ c.plan) × (length c.plan.shapes.items ≤ 4) ×
+    ghost invariant = { λ c. (c.table.shared.key ≡ c.plan) × (length c.plan.shapes.items ≤ most_maps) ×
         (c.table.shared.table_id.words ≡ 1 + total c.plan.shapes.items) × (c.table.shared.table_id.slots ≡ 0) ×
         (c.room.shapes ≡ c.plan.shapes.items) × (0 < c.plan.seats) };
 }
@@ -47,7 +48,7 @@ impl Counters {
         shapes: &[MapShape],
         seats: usize,
     ) -> Result<(Counters, Vec<CounterSeat>), AllocError>
-        requires maps { length shapes.now ≤ 4 }
+        requires maps { length shapes.now ≤ most_maps }
         requires seats { (0 < seats) × (seats ≤ 8) }
         ensures counters { IfOk result (λ r. (r.0.shapes ≡ shapes.now) × (r.0.seats ≡ seats)) }
         ensures seats { IfOk result (λ r. r.1.items ≡ new_seats r.0 seats) }

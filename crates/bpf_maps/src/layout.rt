@@ -1,6 +1,6 @@
 //! Where a counter lies among the words.
 ghost use Rattle.std.specs.Prelude.{◌≡◌, ◌<◌, ◌≤◌, ◌^◌, length, IfOk};
-ghost use Rattle.bpf_note.specs.Shape.{IsCounter};
+ghost use Rattle.bpf_note.specs.Shape.{IsCounter, most_maps};
 ghost use Rattle.bpf_maps.specs.Layout.{place_of, size as all_of, total as all};
 
 use bpf_note::MapShape;
@@ -8,7 +8,7 @@ use std::alloc::{AllocError, Global};
 
 /// How many counters come before counter `j` of value `k` of map `m`.
 pub fn place(shapes: &[MapShape], m: u32, k: u32, j: u32) -> usize
-    requires maps { length shapes.now ≤ 4 }
+    requires maps { length shapes.now ≤ most_maps }
     requires place { IsCounter shapes.now m k j }
     ensures place { result ≡ place_of shapes.now m k j }
     ensures small { result < 2 ^ 40 }
@@ -19,9 +19,9 @@ pub fn place(shapes: &[MapShape], m: u32, k: u32, j: u32) -> usize
 
 /// How many counters all maps have.
 pub fn total(shapes: &[MapShape]) -> usize
-    requires { length shapes.now ≤ 4 }
+    requires { length shapes.now ≤ most_maps }
     ensures sum { result ≡ all shapes.now }
-    ensures most { result ≤ 32768 }
+    ensures most { result ≤ 16 * 524288 }
 {
     let mut count = 0;
     for shape in shapes {
@@ -32,7 +32,7 @@ pub fn total(shapes: &[MapShape]) -> usize
 
 fn size(shape: &MapShape) -> usize
     ensures size { result ≡ all_of shape.now }
-    ensures most { result ≤ 8192 }
+    ensures most { result ≤ 524288 }
 {
     shape.counters() as usize * shape.entries() as usize
 }

@@ -2,7 +2,7 @@
 ghost use Rattle.std.specs.Prelude.{◌≡◌, ◌+◌, ◌%◌, ◌^◌, ◌<◌, ◌≤◌, ℕ, slice_index, length, IfOk};
 ghost use Rattle.std.specs.Slots.{slots_items, slots_len, IsFull};
 ghost use Rattle.bpf_maps.specs.Seats.{total_at};
-ghost use Rattle.bpf_note.specs.Shape.{IsCounter};
+ghost use Rattle.bpf_note.specs.Shape.{IsCounter, most_maps};
 ghost use Rattle.bpf_maps.specs.Layout.{total as all};
 
 use crate::layout;
@@ -20,6 +20,7 @@ pub struct Totals {
 
 impl Model for Totals {
     ghost use Rattle.std.specs.Prelude.{◌≡◌, ◌≤◌, length};
+    ghost use Rattle.bpf_note.specs.Shape.{most_maps};
     ghost use Rattle.bpf_maps.specs.Layout.{total};
     ghost use Rattle.bpf_maps.specs.Seats.{TotalsView};
 
@@ -27,13 +28,13 @@ impl Model for Totals {
 
     ghost view = { λ t. record { shapes = t.shapes.items; values = t.values.items } };
 
-    ghost invariant = { λ t. (length t.shapes.items ≤ 4) × (length t.values.items ≡ total t.shapes.items) };
+    ghost invariant = { λ t. (length t.shapes.items ≤ most_maps) × (length t.values.items ≡ total t.shapes.items) };
 }
 
 impl Totals {
     /// All counters are 0.
     pub fn make(alloc: Global, shapes: &[MapShape]) -> Result<Totals, AllocError>
-        requires { length shapes.now ≤ 4 }
+        requires { length shapes.now ≤ most_maps }
         ensures shapes { IfOk result (λ t. t.shapes ≡ shapes.now) }
         ensures zeros { IfOk result (λ t. (m k j : ℕ) → total_at t m k j ≡ 0) }
     {

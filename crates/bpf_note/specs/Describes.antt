@@ -23,7 +23,7 @@ meaning s base address = record { len = length s.packet; shapes = s.shapes; base
 -- x is the address of a value of map m, which has this shape
 abbrev pub IsValueOf : Option Shape → ℕ → ℕ → Type 0
 IsValueOf None m x = ⊥
-IsValueOf (Some s) m x = (k : ℕ) × (k < s.entries) × (x ≡ counter_address s.counters m k 0)
+IsValueOf (Some s) m x = (k : ℕ) × (k < s.entries) × (x ≡ counter_address s m k 0)
 
 -- x is a reading of the value
 abbrev pub IsReading : Meaning → Val → ℕ → Type 0

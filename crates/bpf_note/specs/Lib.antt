@@ -1,7 +1,9 @@
+pub mod Keys
 pub mod Shape
 pub mod State
 pub mod Bytes
 pub mod Regions
+pub mod Narrow
 pub mod History
 pub mod Facts
 pub mod Describes

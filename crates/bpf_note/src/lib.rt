@@ -1,6 +1,6 @@
 //! What the verifier knows at a point of a program, and the machine that it speaks of.
 //!
-//! - `shape`, `op`, `layout`: the machine: how large a map is, what a program does to counters, and where memory lies
+//! - `key`, `shape`, `op`, `layout`: the machine: how a map is looked up in and how large it is, what a program does to counters, and where memory lies
 //! - `val`, `slot`, `slots`: what is known of a register and of eight bytes of the stack, and what is done to these
 //! - `bound`, `bounds`: what is known of ids, and lists of it; `chunk`, `chunks`, `shared`, `fingerprint`: how notes share
 //!   these lists
@@ -15,6 +15,7 @@ mod chunk;
 mod chunks;
 mod fingerprint;
 mod joins;
+mod key;
 mod laws;
 mod layout;
 mod note;
@@ -28,12 +29,15 @@ mod spares;
 mod val;
 
 pub use joins::{covers, join, join_in_place};
+pub use key::{Kind, MapKey};
 pub use laws::{
     joins_describe_what_either_does, joins_take_either_order, joins_with_itself_change_nothing,
     notes_that_say_the_same_are_equal, the_entry_describes_every_start,
     the_entry_describes_what_is_begun, the_packet_starts_at_its_id,
 };
-pub use layout::{counters_are_found, found_counters_lie_there, packets_end};
+pub use layout::{
+    counters_are_found, found_counters_lie_there, narrow_addresses_stay, packets_end,
+};
 pub use note::Note;
 pub use op::Op;
 pub use shape::MapShape;

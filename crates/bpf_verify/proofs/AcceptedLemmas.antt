@@ -8,7 +8,7 @@ use Rattle.bpf_insn.specs.Code.{IsCode}
 use Rattle.bpf_insn.specs.declared.insn.Insn.{Insn}
 use Rattle.bpf_insn.specs.declared.insn.Insn.TheVariants.{Alu, Neg, End, MovSx, Const, MapRef, Ldx, St, Stx, AddCounter, Ja, Jump, Call, Exit, Second}
 use Rattle.bpf_insn.specs.Spelling.{HasSpelling}
-use Rattle.bpf_note.specs.Shape.{Shape, AreShapes}
+use Rattle.bpf_note.specs.Shape.{Shape, AreShapes, most_maps}
 use Rattle.bpf_note.specs.State.{State, IsStart}
 use Rattle.bpf_note.specs.Facts.{Facts, entry}
 use Rattle.bpf_note.specs.Join.{joined}
@@ -113,7 +113,7 @@ goes_with p notes are (Exited x) h = tt
 goes_with p notes are Fault h = h
 
 module _ (code : List Insn) (shapes : List Shape) (notes : ℕ → List Facts)
-    (laid : IsCode code) (few : length shapes ≤ 4) (maps : AreShapes shapes) (structured : IsStructured code (length shapes)) (ordered : IsOrdered code)
+    (laid : IsCode code) (few : length shapes ≤ most_maps) (maps : AreShapes shapes) (structured : IsStructured code (length shapes)) (ordered : IsOrdered code)
     (passed : IsPassed code shapes notes) where
   abbrev program : Accepted
   program = record { code = code; shapes = shapes }

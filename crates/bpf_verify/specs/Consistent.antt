@@ -4,7 +4,7 @@ use Rattle.std.specs.Prelude.{ℕ, ◌+◌, ◌^◌, ◌≡◌, ◌<◌, ◌≤�
 use Rattle.bpf_insn.specs.declared.insn.Insn.{Insn}
 use Rattle.bpf_insn.specs.declared.insn.Insn.TheVariants.{Second}
 use Rattle.bpf_insn.specs.Code.{IsCode}
-use Rattle.bpf_note.specs.Shape.{Shape, AreShapes}
+use Rattle.bpf_note.specs.Shape.{Shape, AreShapes, most_maps}
 use Rattle.bpf_note.specs.State.{State, IsStart}
 use Rattle.bpf_note.specs.Facts.{Facts}
 use Rattle.bpf_note.specs.Describes.{Describes}
@@ -71,7 +71,7 @@ pub record IsOrdered (code : List Insn) : Type 0 where
 -- every start is described, and so is what each step of a described state leads to
 pub record IsConsistent (p : Accepted) : Type 0 where
   pub laid_out : IsCode p.code
-  pub few_maps : length p.shapes ≤ 4
+  pub few_maps : length p.shapes ≤ most_maps
   pub maps : AreShapes p.shapes
   pub starts : (s : State) → IsStart s → s.shapes ≡ p.shapes → IsDescribed p s
   pub steps : (s : State) → IsDescribed p s → GoesOn p (step p.code s)

@@ -2,7 +2,7 @@
 ghost use Rattle.std.specs.Prelude.{◌≡◌, ◌≤◌, ◌↔◌, length, IfOk, IfErr, IsSome, IfSome};
 ghost use Rattle.bpf_insn.specs.Code.{IsCode};
 ghost use Rattle.bpf_note.specs.Parts.{facts};
-ghost use Rattle.bpf_note.specs.Shape.{AreShapes};
+ghost use Rattle.bpf_note.specs.Shape.{AreShapes, most_maps};
 ghost use Rattle.bpf_flow.specs.Causes.{IsRuleCause};
 ghost use Rattle.bpf_verify.specs.Consistent.{IsConsistent, IsOrdered};
 ghost use Rattle.bpf_verify.specs.Flat.{AreFlat};
@@ -47,7 +47,7 @@ fn to_keep(alloc: Global, code: &[Insn], shapes: &[MapShape]) -> Result<Kept, Al
 /// Both passes. Gives what an accepted program keeps beside its code.
 fn both_passes(alloc: Global, code: &[Insn], shapes: &[MapShape]) -> Result<Kept, Stopped>
     requires laid { IsCode code.now }
-    requires few { length shapes.now ≤ 4 }
+    requires few { length shapes.now ≤ most_maps }
     ensures maps { IfOk result (λ k. k.shapes.items ≡ shapes.now) }
     ensures flats { IfOk result (λ k. AreFlat k.flats.items code.now) }
     ensures consistent { IfOk result (λ _. IsConsistent (record { code = code.now; shapes = shapes.now })) }
@@ -82,7 +82,7 @@ pub struct Explained {
 /// [`verify`], and on a refusal the code and the note at fault: the first note at the refused slot that the rule
 /// refuses.
 pub fn explain(alloc: Global, code: Code, shapes: &[MapShape]) -> Result<Verified, Explained>
-    requires { length shapes.now ≤ 4 }
+    requires { length shapes.now ≤ most_maps }
     ensures code { IfOk result (λ v. v.code ≡ code) }
     ensures shapes { IfOk result (λ v. v.shapes ≡ shapes.now) }
     ensures consistent { IfOk result IsConsistent }
@@ -104,10 +104,10 @@ pub fn explain(alloc: Global, code: Code, shapes: &[MapShape]) -> Result<Verifie
     }
 }
 
-/// Accepts a program with its maps, at most four of them, or refuses it with the first cause of the first pass that has
+/// Accepts a program with its maps, at most 16 of them, or refuses it with the first cause of the first pass that has
 /// one. On a refusal the code is dropped. Out of memory is V0.
 pub fn verify(alloc: Global, code: Code, shapes: &[MapShape]) -> Result<Verified, Refusal>
-    requires { length shapes.now ≤ 4 }
+    requires { length shapes.now ≤ most_maps }
     ensures code { IfOk result (λ v. v.code ≡ code) }
     ensures shapes { IfOk result (λ v. v.shapes ≡ shapes.now) }
     ensures consistent { IfOk result IsConsistent }

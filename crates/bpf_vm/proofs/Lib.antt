@@ -1,5 +1,6 @@
 mod ByteLemmas
 mod RegionLemmas
+mod FindLemmas
 pub mod ExecuteLemmas
 pub mod ExtendLemmas
 pub mod DescribeLemmas

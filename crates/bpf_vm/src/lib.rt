@@ -3,7 +3,7 @@
 //! - `vm`: an interpreter: `want`, what it waits for; `turn`, what an instruction came to; `ended`, how a run ended
 //! - `run`: a whole run of a program without maps
 //! - `running`: all instructions up to one that waits; `flow`: one in its flat form; `execute`: one by its kind
-//! - `machine`, `memory`, `bytes`: registers, stack and packet, and what is done to them
+//! - `machine`, `memory`, `bytes`: registers, stack and packet, and what is done to them; `lookup`: lookups in maps
 //! - `packet`, `buffer`, `fill`: a packet, the memory that it lies in, and how it is filled
 //! - `action`: the actions of XDP
 //! - `laws`: what holds of accepted programs
@@ -17,6 +17,7 @@ mod execute;
 mod fill;
 mod flow;
 mod laws;
+mod lookup;
 mod machine;
 mod memory;
 mod packet;

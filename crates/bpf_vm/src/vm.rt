@@ -1,12 +1,13 @@
 //! An interpreter of an accepted program.
 ghost use Rattle.std.specs.Prelude.{◌≡◌, ◌+◌, ◌≤◌, ◌%◌, ◌^◌, [], ℕ, None};
+ghost use Rattle.bpf_lists.specs.Find.{find_in};
 ghost use Rattle.bpf_note.specs.State.{State, IsStart};
 ghost use Rattle.bpf_flow.specs.Step.{Exited, step};
 ghost use Rattle.bpf_verify.specs.Consistent.{instructions};
 ghost use Rattle.bpf_vm.specs.Advance.{Advanced, IsWantOf};
 ghost use Rattle.bpf_vm.specs.Course.{Exiting, course, left, start_state};
 ghost use Rattle.bpf_vm.specs.Run.{IsStep};
-ghost use Rattle.bpf_vm.specs.Running.{Advances, Asks, first_numbers, state_of};
+ghost use Rattle.bpf_vm.specs.Running.{Advances, Asks, FindsAlike, first_numbers, state_of};
 ghost use Rattle.bpf_vm.specs.Stands.{Stands, now, own, exits, Ends, label_of};
 ghost use Rattle.bpf_vm.specs.Wants.{IsLoad, IsAdd, IsNoStep, Waits};
 
@@ -16,6 +17,7 @@ use crate::packet::PacketBuf;
 use crate::turn::{Stop, Turn};
 use crate::want::VmWant;
 use bpf_insn::Register;
+use bpf_lists::KeyedRows;
 use bpf_verify::Verified;
 use std::marker::Model;
 
@@ -48,18 +50,19 @@ impl<'p, 'b> Vm<'p, 'b> {
         packet: PacketBuf<'b>,
         ifindex: u32,
         queue: u32,
+        lists: &'p [Option<KeyedRows>],
     ) -> Vm<'p, 'b>
         ensures program { result.program ≡ program.now }
         ensures stands { (s : State) → IsStart s → s.packet ≡ packet.entry.bytes → s.ifindex ≡ ifindex →
-            s.queue ≡ queue → s.shapes ≡ program.now.shapes → Stands result s }
-        ensures own { own result ≡ state_of program.now.shapes (first_numbers packet.entry ifindex queue) }
+            s.queue ≡ queue → s.shapes ≡ program.now.shapes → FindsAlike s.shapes s.find (find_in lists.now) → Stands result s }
+        ensures own { own result ≡ state_of program.now.shapes (first_numbers packet.entry ifindex queue lists.now) }
         ensures itself { Stands result (own result) }
         ensures course { left result ≡ course (instructions program.now.code) program.now.code
-            (start_state program.now.shapes packet.entry.bytes ifindex queue) }
+            (start_state program.now.shapes lists.now packet.entry.bytes ifindex queue) }
         ensures room { result.numbers.packet.room ≡ packet.entry.room }
         ensures count { result.count ≡ 0 }
     {
-        let machine = Machine::new(packet, ifindex, queue, program.shapes());
+        let machine = Machine::new(packet, ifindex, queue, program.shapes(), lists);
         machine.are_numbers();
         Vm {
             program,

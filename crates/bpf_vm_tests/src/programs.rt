@@ -1,6 +1,7 @@
 //! What the verifier and the interpreter answer of programs, as plain values. A program has one slot per line, with its text
 //! beside it.
 ghost use Rattle.std.specs.Prelude.{◌≡◌, ◌≤◌, [], IfOk, IfSome, length};
+ghost use Rattle.bpf_note.specs.Shape.{most_maps};
 
 use bpf_insn::{Code, decode};
 use bpf_verify::{Cause, Explained, MapShape, Refusal, Verified, explain, verify};
@@ -57,7 +58,7 @@ pub fn bytes_of(alloc: Global, slots: &[[u8; 8]]) -> Result<Vec<u8>, AllocError>
 
 /// What [`verify`] answers of bytes.
 pub fn answer(alloc: Global, bytes: &[u8], shapes: &[MapShape]) -> Result<Verified, Refusal>
-    requires { length shapes.now ≤ 4 }
+    requires { length shapes.now ≤ most_maps }
     ensures { IfOk result (λ v. v.shapes ≡ shapes.now) }
 {
     verify(alloc, decode(alloc, bytes)?, shapes)
@@ -65,7 +66,7 @@ pub fn answer(alloc: Global, bytes: &[u8], shapes: &[MapShape]) -> Result<Verifi
 
 /// What [`verify`] answers of a program.
 pub fn verified(alloc: Global, slots: &[[u8; 8]], shapes: &[MapShape]) -> Result<Verified, Refusal>
-    requires { length shapes.now ≤ 4 }
+    requires { length shapes.now ≤ most_maps }
     ensures { IfOk result (λ v. v.shapes ≡ shapes.now) }
 {
     match bytes_of(alloc, slots) {
@@ -76,7 +77,7 @@ pub fn verified(alloc: Global, slots: &[[u8; 8]], shapes: &[MapShape]) -> Result
 
 /// A program that is accepted.
 pub fn accepted(alloc: Global, slots: &[[u8; 8]], shapes: &[MapShape]) -> Option<Verified>
-    requires { length shapes.now ≤ 4 }
+    requires { length shapes.now ≤ most_maps }
     ensures { IfSome result (λ v. v.shapes ≡ shapes.now) }
 {
     verified(alloc, slots, shapes).ok()
@@ -84,7 +85,7 @@ pub fn accepted(alloc: Global, slots: &[[u8; 8]], shapes: &[MapShape]) -> Option
 
 /// A program that is accepted, and a buffer for its packets.
 pub fn ready(alloc: Global, slots: &[[u8; 8]], shapes: &[MapShape]) -> Option<(Verified, Buffer)>
-    requires { length shapes.now ≤ 4 }
+    requires { length shapes.now ≤ most_maps }
     ensures { IfSome result (λ r. r.0.shapes ≡ shapes.now) }
 {
     let program = accepted(alloc, slots, shapes)?;
@@ -105,7 +106,7 @@ pub fn counts(program: &Verified) -> (u32, u32, usize) {
 
 /// The cause and the slot of a program's refusal.
 pub fn refusal(alloc: Global, slots: &[[u8; 8]], shapes: &[MapShape]) -> Option<(Cause, u32)>
-    requires { length shapes.now ≤ 4 }
+    requires { length shapes.now ≤ most_maps }
 {
     match verified(alloc, slots, shapes) {
         Ok(_) => None,

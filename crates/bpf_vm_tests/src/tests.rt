@@ -7,6 +7,7 @@ mod flow;
 mod full;
 mod growth;
 mod keys;
+mod lists;
 mod notes;
 mod packets;
 mod runs;

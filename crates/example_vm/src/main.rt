@@ -35,7 +35,7 @@ impl From<AllocError> for Fault {
 fn run_with(program: &Verified, packet: PacketBuf<'_>, totals: &mut Totals) -> Option<u32>
     requires { totals.old.shapes ≡ program.now.shapes }
 {
-    let mut vm = Vm::start(program, packet, 0, 0);
+    let mut vm = Vm::start(program, packet, 0, 0, &[]);
     for _ in 0..program.instructions() {
         match vm.advance() {
             VmWant::Load { m, k, j } => vm.loaded(totals.at(m, k, j)),

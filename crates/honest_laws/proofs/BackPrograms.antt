@@ -56,7 +56,7 @@ module _ (p : Accepted) (k : IsConsistent p) (bytes : List ℕ) where
 
 runs_leave : (v : BackWiring) → IsConsistent v.program.now → v.ifindex < 2 ^ 32 → v.queue < 2 ^ 32 → Programmed v
 runs_leave v c i q s good =
-    leaves_all v.program.now c s.bytes (start_state v.program.now.shapes s.bytes v.ifindex v.queue)
+    leaves_all v.program.now c s.bytes (start_state v.program.now.shapes [] s.bytes v.ifindex v.queue)
     (record {
       state = record {
         words = λ k x e. start_words k x e;

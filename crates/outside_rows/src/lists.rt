@@ -1,6 +1,7 @@
 //! Questions about the rows of keyed maps: whether they are taken, and which is found.
 
-use bpf_lists::{KeyedRows, Kind};
+use bpf_lists::KeyedRows;
+use bpf_note::Kind;
 use std::alloc::{AllocError, Global};
 
 fn kind_of(word: &str, bytes: &str) -> Option<Kind> {

@@ -1,7 +1,7 @@
 //! What is known before and after an instruction, as in a row: facts, a blank apart.
 
 use crate::values::{id, value};
-use bpf_note::{MapShape, Note, Val};
+use bpf_note::{Kind, MapKey, MapShape, Note, Val};
 use std::alloc::Global;
 
 /// A fact of a note.
@@ -76,12 +76,36 @@ pub fn known(alloc: Global, facts: &str) -> Option<Note> {
     Some(note)
 }
 
-fn shape(text: &str) -> Option<MapShape> {
-    let (entries, counters) = text.split_once('x')?;
-    MapShape::of(entries.parse().ok()?, counters.parse().ok()?)
+/// By what a list is looked up, as in `exact6` or `prefix4`.
+fn key(text: &str) -> Option<MapKey> {
+    if let Some(bytes) = text.strip_prefix("exact") {
+        return Some(MapKey::Listed(Kind::Exact(bytes.parse().ok()?)));
+    }
+    let bytes = text.strip_prefix("prefix")?;
+    Some(MapKey::Listed(Kind::Prefix(bytes.parse().ok()?)))
 }
 
-/// The maps that a row begins with, as `2x1` for one of two entries of one counter, and what comes after them.
+/// The entries of a map, and the counters of an entry.
+fn size(text: &str) -> Option<(u32, u32)> {
+    let (entries, counters) = text.split_once('x')?;
+    Some((entries.parse().ok()?, counters.parse().ok()?))
+}
+
+fn shape(text: &str) -> Option<MapShape> {
+    match text.split_once(':') {
+        None => {
+            let (entries, counters) = size(text)?;
+            MapShape::of(entries, counters)
+        }
+        Some((text, list)) => {
+            let (entries, counters) = size(text)?;
+            MapShape::keyed(key(list)?, entries, counters)
+        }
+    }
+}
+
+/// The maps that a row begins with, as `2x1` for one of two entries of one counter, or `2x1:exact6` if they are looked up by a
+/// list of keys of six bytes, and what comes after them.
 pub fn maps(alloc: Global, text: &str) -> Option<(Vec<MapShape>, &str)> {
     let mut shapes = Vec::new(alloc);
     match text.strip_prefix("maps=") {

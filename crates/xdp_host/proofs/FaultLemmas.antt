@@ -4,7 +4,7 @@ use Rattle.std.specs.Prelude.{IfOk, IfErr}
 use Rattle.std.proofs.lemmas.List.{get_or-map, length-map}
 use Rattle.bpf_insn.specs.declared.refusal.Cause.TheVariants.{Memory}
 use Rattle.bpf_insn.specs.declared.refusal.Refusal.{Refusal}
-use Rattle.bpf_note.specs.Shape.{IsShape}
+use Rattle.bpf_note.specs.Shape.{IsNarrow}
 use Rattle.bpf_verify.specs.Consistent.{Accepted}
 use Rattle.xdp_program.specs.Settings.{IsProgramOf, IsSettingsOutOfMemory}
 use Rattle.xdp_program.specs.declared.fault.LoadFault.{LoadFault}
@@ -22,7 +22,7 @@ pub none_outside : (maps : List XdpMap) (number : ℕ) → IsFirstOutside maps n
 none_outside maps number o w =
     let blank : XdpMap = record { entries = 0; counters = 0 } in
     let there : number < length (shapes_of maps) = subst (λ n. number < n) (sym (length-map maps shape_of)) o.there in
-    o.outside blank (subst IsShape (get_or-map shape_of maps number blank (shape_of blank) o.there) (w.shapes number (shape_of blank) there))
+    o.outside blank (subst IsNarrow (get_or-map shape_of maps number blank (shape_of blank) o.there) (w.shapes number (shape_of blank) there))
 
 -- a refusal of a settings text's program is for out of memory where its fault is
 pub refusal_out_of_memory : (f : SettingsFault) (g : LoadFault) (r : Refusal) → f ≡ Program g → g ≡ Refused r → IsSettingsOutOfMemory f → r.cause ≡ Memory

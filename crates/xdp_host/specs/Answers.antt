@@ -4,7 +4,8 @@ use Rattle.std.specs.Prelude.{ℕ, ◌≡◌, ◌<◌, ◌≤◌, ◌⊎◌, Lis
 use Rattle.std.specs.List.{HoldsAt}
 use Rattle.bpf_insn.specs.Code.{Spells}
 use Rattle.bpf_insn.specs.declared.refusal.Cause.TheVariants.{Memory}
-use Rattle.bpf_note.specs.Shape.{Shape, IsShape}
+use Rattle.bpf_note.specs.declared.key.MapKey.TheVariants.{Index}
+use Rattle.bpf_note.specs.Shape.{Shape, IsNarrow}
 use Rattle.bpf_verify.specs.Consistent.{Accepted, instructions}
 use Rattle.bpf_verify.specs.FirstRefusal.{IsFaultless}
 use Rattle.xdp_load.specs.declared.fault.LoadFault.TheVariants as text
@@ -19,7 +20,7 @@ use Rattle.xdp_host.specs.declared.abi.XdpMap.{XdpMap}
 use Rattle.xdp_host.specs.declared.abi.XdpVerdict.{XdpVerdict}
 
 abbrev pub shape_of : XdpMap → Shape
-shape_of m = record { entries = m.entries; counters = m.counters }
+shape_of m = record { entries = m.entries; counters = m.counters; key = Index }
 
 abbrev pub shapes_of : List XdpMap → List Shape
 shapes_of maps = map shape_of maps
@@ -27,14 +28,14 @@ shapes_of maps = map shape_of maps
 -- at most four maps, each within its limits
 pub record AreWithin (maps : List XdpMap) : Type 0 where
   pub few : length maps ≤ 4
-  pub shapes : All IsShape (shapes_of maps)
+  pub shapes : All IsNarrow (shapes_of maps)
 
 -- this map is the first of at most four that is out of its limits
 pub record IsFirstOutside (maps : List XdpMap) (number : ℕ) : Type 0 where
   pub few : length maps ≤ 4
   pub there : number < length maps
-  pub before : All IsShape (shapes_of (take number maps))
-  pub outside : HoldsAt (λ m. IsShape (shape_of m) → ⊥) maps number
+  pub before : All IsNarrow (shapes_of (take number maps))
+  pub outside : HoldsAt (λ m. IsNarrow (shape_of m) → ⊥) maps number
 
 -- the number of the first map out of its limits, or of the fifth
 abbrev pub IsOutside : List XdpMap → ℕ → Type 0

@@ -44,7 +44,7 @@ fn advice(cause: Option<Cause>) -> &'static str
     ensures { result.now ≡ advice_or cause }
 {
     match cause {
-        Some(cause) => advice_for(cause, None, None),
+        Some(cause) => advice_for(&[], cause, None, None),
         None => "",
     }
 }

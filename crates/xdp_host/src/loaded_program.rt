@@ -2,7 +2,7 @@
 ghost use Rattle.std.specs.Prelude.{◌≡◌, ◌≤◌, ℕ, List, [], All, IfOk, IfErr, Ok, length, take};
 ghost use Rattle.bpf_insn.specs.Code.{Spells};
 ghost use Rattle.bpf_insn.specs.declared.insn.Insn.{Insn};
-ghost use Rattle.bpf_note.specs.Shape.{IsShape};
+ghost use Rattle.bpf_note.specs.Shape.{IsNarrow};
 ghost use Rattle.bpf_verify.specs.Consistent.{instructions};
 ghost use Rattle.bpf_verify.specs.FirstRefusal.{IsFaultless};
 ghost use Rattle.xdp_load.specs.Setup.{SetupView, setup_of};
@@ -54,8 +54,8 @@ fn smallest() -> MapShape {
 
 /// The shape of a map.
 fn shape_of(number: u32, map: XdpMap) -> Result<MapShape, Fault>
-    ensures ok { IfOk result (λ s. (s ≡ shape_of map) × IsShape (shape_of map)) }
-    ensures err { IfErr result (λ f. (f ≡ Fault.Map number) × (IsShape (shape_of map) → ⊥)) }
+    ensures ok { IfOk result (λ s. (s ≡ shape_of map) × IsNarrow (shape_of map)) }
+    ensures err { IfErr result (λ f. (f ≡ Fault.Map number) × (IsNarrow (shape_of map) → ⊥)) }
 {
     match MapShape::of(map.entries, map.counters) {
         Some(shape) => Ok(shape),
@@ -67,7 +67,7 @@ fn shape_of(number: u32, map: XdpMap) -> Result<MapShape, Fault>
 fn shapes_of(maps: &[XdpMap]) -> Result<[MapShape; MOST_MAPS], Fault>
     requires { length maps.now ≤ 4 }
     ensures shapes { IfOk result (λ shapes. take (length maps.now) shapes ≡ shapes_of maps.now) }
-    ensures within { IfOk result (λ _. All IsShape (shapes_of maps.now)) }
+    ensures within { IfOk result (λ _. All IsNarrow (shapes_of maps.now)) }
     ensures outside { IfErr result (λ f. (number : ℕ) × (f ≡ Fault.Map number) × IsFirstOutside maps.now number) }
 {
     let mut shapes = [smallest(); MOST_MAPS];

@@ -1,8 +1,9 @@
 -- Each sound setup is that of a document: the one that spells its fields.
-use Rattle.std.proofs.Common.{append-nil, not, true, None, Result, ◌≡◌, ◌<◌, ◌≤◌, ◌/◌, ℕ, pos, List, [], ◌∷◌, length, map, codes, Ok, refl, ap, arith, suc}
+use Rattle.std.proofs.Common.{append-nil, not, true, None, Result, ◌≡◌, ◌<◌, ◌≤◌, ◌/◌, ℕ, pos, List, [], ◌∷◌, length, map, codes, Ok, refl, ap, sym, arith, suc}
 use Rattle.std.proofs.lemmas.Bool.{and_parts, le-leb, lt-ltb, not-true}
 use Rattle.std.specs.List.{AllByRecursion}
-use Rattle.bpf_note.specs.Shape.{IsShape, Shape}
+use Rattle.bpf_note.specs.declared.key.MapKey.{MapKey}
+use Rattle.bpf_note.specs.Shape.{Shape, IsNarrow}
 use Rattle.hex.specs.Hex.{IsBytes, encode_lower}
 use Rattle.hex.proofs.HexLemmas.{decode_of-encode_lower, decode_of-ok}
 use Rattle.toml.specs.Data.{Data, string, integer, array, table, Members, no_members, member}
@@ -101,10 +102,12 @@ document_written s =
 limited_all : (k : Key) (n : ℕ) → least k ≤ n → n ≤ most k → limited k (pos n) ≡ Ok n
 limited_all k n a b = rw (le-leb (least k) n a, le-leb n (most k) b) refl
 
-shape_limited : (n : Text) (s : Shape) → IsShape s → limited_shape (map_text (n, s)) ≡ Ok s
-shape_limited n s h = rw (limited_all key.Entries s.entries h.some_entries h.most_entries, limited_all key.Counters s.counters h.some_counters h.most_counters) refl
+shape_limited : (n : Text) (s : Shape) → IsNarrow s → limited_shape (map_text (n, s)) ≡ Ok s
+shape_limited n s h =
+    rw (limited_all key.Entries s.entries h.some_entries h.most_entries, limited_all key.Counters s.counters h.some_counters h.most_counters)
+    (ap (λ (k : MapKey). Ok (record { entries = s.entries; counters = s.counters; key = k })) (sym h.index))
 
-shapes_limited : (i : ℕ) (ns : List Text) (ss : List Shape) → length ns ≡ length ss → AllByRecursion IsShape ss → each fault.Limit limited_shape i (map map_text (named ns ss)) ≡ Ok ss
+shapes_limited : (i : ℕ) (ns : List Text) (ss : List Shape) → length ns ≡ length ss → AllByRecursion IsNarrow ss → each fault.Limit limited_shape i (map map_text (named ns ss)) ≡ Ok ss
 shapes_limited i [] [] e a = refl
 shapes_limited i [] (s ∷ ss) e a = absurd (omega (arith, e))
 shapes_limited i (n ∷ ns) [] e a = absurd (omega (arith, e))

@@ -20,7 +20,7 @@ use Rattle.xdp_load.specs.declared.key.Key.{Key}
 use Rattle.xdp_load.specs.declared.numbers.Limits.{Limits}
 use Rattle.xdp_load.specs.declared.numbers.Numbers.{Numbers}
 use Rattle.xdp_load.specs.declared.key.Key.TheVariants as key
-use Rattle.bpf_note.specs.Shape.{IsShape, Shape}
+use Rattle.bpf_note.specs.Shape.{Shape, IsNarrow}
 use Rattle.hex.proofs.HexLemmas.{decode_of-ok}
 use Rattle.xdp_load.specs.Original.{RewrittenView, limited_place, original_of, original_program, rewritten_of, rewritten_of_table, written_beside}
 use Rattle.xdp_load.specs.OriginalSeen.{rewritten_view}
@@ -103,13 +103,13 @@ step_within queues s p e =
     bind_ok (limited key.Answer s.answer) _ p rest (λ a there same.
     subst (λ (r : ℕ × ℕ). r.0 < queues) (same_Ok _ _ same) (below_within key.StepQueue queues s.queue q here)))
 
-shape_within : (m : MapText) (s : Shape) → limited_shape m ≡ Ok s → IsShape s
+shape_within : (m : MapText) (s : Shape) → limited_shape m ≡ Ok s → IsNarrow s
 shape_within m s e =
     bind_ok (limited key.Entries m.entries) _ s e (λ entries here rest.
     bind_ok (limited key.Counters m.counters) _ s rest (λ counters there same.
     let most = limited_within key.Entries m.entries entries here in
     let each = limited_within key.Counters m.counters counters there in
-    subst IsShape (same_Ok _ _ same) (record { some_entries = most.0; most_entries = most.1; some_counters = each.0; most_counters = each.1 })))
+    subst IsNarrow (same_Ok _ _ same) (record { some_entries = most.0; most_entries = most.1; some_counters = each.0; most_counters = each.1; index = refl })))
 
 -- a packet's numbers, its bytes still being hex
 record IsHexPacket (queues : ℕ) (p : HexPacket) : Type 0 where
@@ -162,7 +162,7 @@ record IsLimited (w : WrittenText) (l : LimitedText) : Type 0 where
   few_queues : l.numbers.queues ≤ 8
   few_maps : length w.maps ≤ 4
   counted : length l.shapes ≡ length w.maps
-  shapes : AllByRecursion IsShape l.shapes
+  shapes : AllByRecursion IsNarrow l.shapes
   script : AllByRecursion (λ p. p.0 < l.numbers.queues) l.script
   packets : AllByRecursion (IsHexPacket l.numbers.queues) l.packets
 

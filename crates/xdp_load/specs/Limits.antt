@@ -4,6 +4,7 @@ use Rattle.std.specs.Prelude.{Result, Ok, Err, ◌&&◌, ◌||◌, ◌/◌, ℕ,
 use Rattle.std.specs.Prelude.{Option, Some, None, nat_le, if◌then◌else◌}
 use Rattle.std.specs.List.{list_any}
 use Rattle.std.specs.Str.{bytes_eq}
+use Rattle.bpf_note.specs.declared.key.MapKey.TheVariants.{Index}
 use Rattle.bpf_note.specs.Shape.{Shape}
 use Rattle.xdp_load.specs.Document.{Text, MapText, PacketText, StepText}
 use Rattle.xdp_load.specs.declared.fault.Fault.TheVariants.{Limit}
@@ -19,7 +20,7 @@ abbrev pub limited_shape : MapText → Result Shape Key
 limited_shape m = do
   entries ← limited key.Entries m.entries
   counters ← limited key.Counters m.counters
-  Ok (record { entries = entries; counters = counters })
+  Ok (record { entries = entries; counters = counters; key = Index })
 
 abbrev pub limited_step : ℕ → StepText → Result (ℕ × ℕ) Key
 limited_step queues s = do

@@ -2,7 +2,7 @@
 -- What holds of each setup.
 use Rattle.std.specs.Prelude.{ℕ, ◌≡◌, ◌<◌, ◌≤◌, length, true}
 use Rattle.std.specs.List.{AllByRecursion}
-use Rattle.bpf_note.specs.Shape.{IsShape}
+use Rattle.bpf_note.specs.Shape.{IsNarrow}
 use Rattle.xdp_load.specs.Limits.{are_names}
 use Rattle.xdp_load.specs.Setup.{Packet, SetupView}
 
@@ -19,7 +19,7 @@ pub record IsSound (s : SetupView) : Type 0 where
   pub some_queues : 1 ≤ s.queues
   pub few_queues : s.queues ≤ 8
   pub few_maps : length s.shapes ≤ 4
-  pub shapes : AllByRecursion IsShape s.shapes
+  pub shapes : AllByRecursion IsNarrow s.shapes
   pub named : length s.names ≡ length s.shapes
   pub names : are_names s.names ≡ true
   pub script : AllByRecursion (λ p. p.0 < s.queues) s.script

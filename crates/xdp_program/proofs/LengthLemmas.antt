@@ -1,6 +1,7 @@
 -- A run leaves the packet's length.
-use Rattle.std.proofs.Common.{◌≡◌, ℕ, ◌<◌, ◌≤◌, ◌^◌, List, length, refl, subst, None}
+use Rattle.std.proofs.Common.{◌≡◌, ℕ, ◌<◌, ◌≤◌, ◌^◌, List, length, refl, subst, None, []}
 use Rattle.std.specs.Prelude.{slice_index}
+use Rattle.bpf_lists.specs.Find.{find_in}
 use Rattle.bpf_note.specs.State.{State, IsState, IsStart}
 use Rattle.bpf_verify.specs.Consistent.{Accepted, IsConsistent}
 use Rattle.bpf_vm.proofs.CounterLemmas.{walk_length}
@@ -9,7 +10,7 @@ use Rattle.xdp_program.specs.Ran.{Ran}
 
 -- nothing is set
 abbrev blank : Accepted → List ℕ → ℕ → ℕ → State
-blank p packet ifindex queue = record { pc = 0; reg = λ k. None; stack = λ i. None; packet = packet; ifindex = ifindex; queue = queue; shapes = p.shapes }
+blank p packet ifindex queue = record { pc = 0; reg = λ k. None; stack = λ i. None; packet = packet; ifindex = ifindex; queue = queue; shapes = p.shapes; find = find_in [] }
 
 blank_is : (p : Accepted) → IsConsistent p → (packet : List ℕ) (ifindex queue : ℕ) → ((i : ℕ) → slice_index packet i < 256) → length packet ≤ 65535 → ifindex < 2 ^ 32 → queue < 2 ^ 32 → IsState (blank p packet ifindex queue)
 blank_is p k packet ifindex queue bytes short i q = record {
@@ -30,5 +31,5 @@ pub ran_length : (p : Accepted) → IsConsistent p → (packet : List ℕ) (ifin
 ran_length p k packet ifindex queue before number bytes after count all same short i q ran =
     let u = blank p packet ifindex queue in
     let is : IsStart (start_of u) = record { state = start_is_state u (blank_is p k packet ifindex queue all (subst (λ (n : ℕ). n ≤ 65535) same short) i q); pc = refl; reg = λ r. refl; stack = λ r. refl } in
-    let w = ran.walks (start_of u) is refl refl refl refl in
+    let w = ran.walks (start_of u) is refl refl refl refl (λ m shape kind key e k. refl) in
     walk_length p.code w.0 bytes (start_of u) ran.labels w.2

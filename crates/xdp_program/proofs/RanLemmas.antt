@@ -4,6 +4,7 @@ use Rattle.std.specs.Prelude.{Option, replicate}
 use Rattle.std.proofs.lemmas.List.{length-replicate}
 use Rattle.bpf_insn.specs.declared.insn.Insn.{Insn}
 use Rattle.bpf_flow.specs.Step.{Outcome, Next, Loads, Adds, Exited, Fault, step, LeadsTo}
+use Rattle.bpf_lists.specs.Find.{find_in}
 use Rattle.bpf_note.specs.State.{State, IsStart}
 use Rattle.bpf_note.specs.Shape.{Shape, IsCounter}
 use Rattle.bpf_note.specs.declared.op.Op.{Op}
@@ -12,6 +13,7 @@ use Rattle.bpf_maps.specs.Layout.{place_of, total}
 use Rattle.bpf_verify.specs.Consistent.{Accepted}
 use Rattle.bpf_vm.specs.Advance.{Silent, stays, steps, Advanced}
 use Rattle.bpf_vm.specs.Run.{Walk, ends, goes, IsRunOf, IsStep}
+use Rattle.bpf_vm.specs.Running.{FindsAlike}
 use Rattle.bpf_vm.specs.Stands.{Running, Stands, label_of, now}
 use Rattle.bpf_vm.specs.Wants.{IsLoadOf, IsAddOf, IsLoad, IsAdd}
 use Rattle.xdp_program.specs.Ran.{IsHistory, Ran, RanCounting, operations}
@@ -25,7 +27,7 @@ pub record Sofar (p : Accepted) (packet : List ℕ) (ifindex queue : ℕ) (first
   pub counted : (rest : List (Option Op)) → length (grown rest) ≡ v.count + length rest
   pub ops_done : (rest : List (Option Op)) → operations (grown rest) ≡ ops + operations rest
   pub history : (rest : List (Option Op)) (after : List ℕ) → IsHistory p.shapes rest words after → IsHistory p.shapes (grown rest) first after
-  pub walks : (s : State) → IsStart s → s.packet ≡ packet → s.ifindex ≡ ifindex → s.queue ≡ queue → s.shapes ≡ p.shapes →
+  pub walks : (s : State) → IsStart s → s.packet ≡ packet → s.ifindex ≡ ifindex → s.queue ≡ queue → s.shapes ≡ p.shapes → FindsAlike s.shapes s.find (find_in []) →
       (t : State) × Stands v t × ((r0 : ℕ) (bytes : List ℕ) (rest : List (Option Op)) → Walk p.code r0 bytes t rest → Walk p.code r0 bytes s (grown rest))
 
 abbrev pub nones : ℕ → List (Option Op) → List (Option Op)
@@ -57,8 +59,8 @@ sofar_advanced p packet ifindex queue first v w words ops so a = record {
   counted = λ rest. let c = so.counted (nones a.done rest) in let d = nones_length a.done rest in let e = a.count in omega (arith, c, d, e);
   ops_done = λ rest. let c = so.ops_done (nones a.done rest) in let d = nones_ops a.done rest in omega (arith, c, d);
   history = λ rest after h. so.history (nones a.done rest) after (nones_history a.done p.shapes rest words after h);
-  walks = λ s h b i q e.
-      let g = so.walks s h b i q e in
+  walks = λ s h b i q e f.
+      let g = so.walks s h b i q e f in
       let k = a.stands g.0 g.1 in
       let silent = subst (λ (x : Accepted). Silent x.code a.done g.0 k.0) so.program k.1 in
       (k.0, k.2, λ r0 bytes rest z. g.2 r0 bytes (nones a.done rest) (nones_walk p.code a.done r0 bytes rest g.0 k.0 silent z));
@@ -74,8 +76,8 @@ sofar_step p packet ifindex queue first v w words more ops label so one_op st wi
   counted = λ rest. let c = so.counted (label ∷ rest) in let e = st.count in let one : length (label ∷ rest) ≡ 1 + length rest = omega arith in omega (arith, c, e, one);
   ops_done = λ rest. let c = so.ops_done (label ∷ rest) in let d = one_op rest in omega (arith, c, d);
   history = λ rest after x. so.history (label ∷ rest) after (h rest after x);
-  walks = λ s i b j q e.
-      let g = so.walks s i b j q e in
+  walks = λ s i b j q e f.
+      let g = so.walks s i b j q e f in
       let k = st.stands g.0 g.1 in
       let leads = subst (λ (x : Accepted). LeadsTo (step x.code g.0) label k.0) so.program k.1 in
       (k.0, k.2, λ r0 bytes rest z. g.2 r0 bytes (label ∷ rest) (goes g.0 k.0 label rest leads z));
@@ -104,8 +106,8 @@ ran_of p packet ifindex queue first v words number count bytes ops so f n = reco
     labels = so.grown (None ∷ []);
     counted = let c = so.counted (None ∷ []) in let one : length {A = Option Op} (None ∷ []) ≡ 1 = refl in omega (arith, c, n, one);
     history = so.history (None ∷ []) words refl;
-    walks = λ s h b i q e.
-        let g = so.walks s h b i q e in
+    walks = λ s h b i q e alike.
+        let g = so.walks s h b i q e alike in
         let k = f g.0 g.1 in
         let ended = subst (λ (x : Accepted). step x.code g.0 ≡ Exited k.0) so.program k.1 in
         (k.0, k.2, g.2 k.0 bytes (None ∷ []) (ends g.0 ended (sym k.3)));
@@ -156,5 +158,5 @@ ran_alone p packet ifindex queue words number count bytes e run = record {
   labels = replicate count None;
   counted = length-replicate count None;
   history = none_history count p.shapes words;
-  walks = λ s h b i q m. run s h b i q (m ∙ e);
+  walks = λ s h b i q m f. run s h b i q (m ∙ e);
 }

@@ -25,7 +25,7 @@ pub fn run_counting<'b>(
     ensures bound { result.0.instructions ≤ instructions program.now.code }
     ensures words { length counters.new ≡ length counters.old }
 {
-    let mut vm = Vm::start(program, packet, ifindex, queue);
+    let mut vm = Vm::start(program, packet, ifindex, queue, &[]);
     let mut ops = 0;
     loop {
         match vm.advance() {

@@ -254,7 +254,7 @@ module _ (w : Wiring) (shapes : List Shape) (h : IsWired w.vif) where
 
     bounded_run : (packet : List ℕ) → Bounded within Any (program (run_of w packet) 0) steps
     bounded_run packet =
-        let start = start_state w.program.now.shapes packet w.ifindex w.queue in
+        let start = start_state w.program.now.shapes [] packet w.ifindex w.queue in
         bounded_program w.program.now.code steps start 0 (course_of w.program.now.code steps shapes start same maps)
 
     bounded_after_copy : (s : State) (slots : List Slot) (o : Option (List ℕ)) → length slots ≤ 23 → Bounded within Any (after_copy w s slots o) (steps + 263710)

@@ -267,7 +267,7 @@ byte_small (b ∷ l) (suc i) h = byte_small l i h.1
 
 pub run_whole : (w : Wiring) → IsConsistent w.program.now → w.ifindex < 2 ^ 32 → w.queue < 2 ^ 32 → (packet : List ℕ) → length packet ≤ 65535 → AllBytes packet → IsWhole (run_of w packet)
 run_whole w c i q packet l b =
-    accepted_ends w.program.now c (start_state w.program.now.shapes packet w.ifindex w.queue)
+    accepted_ends w.program.now c (start_state w.program.now.shapes [] packet w.ifindex w.queue)
     (record {
       state = record {
         words = λ k x e. start_words k x e;

@@ -182,7 +182,7 @@ n_run w s p slots out h =
     let none : n h.runs ≡ 0 = ap n h.ran.events ∙ n_program h.ran.labels in
     let same : n p ≡ n (h.looks ++ (h.reads ++ (h.copies ++ h.runs))) = ap n h.joined in
     let short : length h.packet ≤ sum_by fragment_size h.fragments = copy_short w h.fragments h.copies (Some h.packet) h.copied in
-    let kept : length out.packet ≡ length h.packet = walk_length w.program.now.code h.ran.r0 out.packet (start_state w.program.now.shapes h.packet w.ifindex w.queue) h.ran.labels h.ran.walk in (
+    let kept : length out.packet ≡ length h.packet = walk_length w.program.now.code h.ran.r0 out.packet (start_state w.program.now.shapes [] h.packet w.ifindex w.queue) h.ran.labels h.ran.walk in (
       omega (arith, few.0.count, few.0.size, few.1, c, r.0, r.1, none, same, n_append h.looks (h.reads ++ (h.copies ++ h.runs)), n_append h.reads (h.copies ++ h.runs), n_append h.copies h.runs),
       few.1,
       omega (arith, short, kept, few.0.size),

@@ -87,7 +87,7 @@ walked code (suc n) s ops p out h = walked_by code n s (λ t o q u g. walked cod
 pub program_parts : (w : Wiring) (packet : List ℕ) (p : List Event) (out : Left) → Runs (program (run_of w packet) 0) p out → IsProgram w packet p out
 program_parts w packet p out h =
     let g = w.program.now in
-    let r = walked g.code (instructions g.code) (start_state g.shapes packet w.ifindex w.queue) 0 p out h in
+    let r = walked g.code (instructions g.code) (start_state g.shapes [] packet w.ifindex w.queue) 0 p out h in
     record { r0 = r.r0; labels = r.labels; walk = r.walk; within = r.within; events = r.events; number = r.number; ops = omega (arith, r.ops_done) }
 
 -- what a walk leaves
@@ -129,6 +129,6 @@ walks_run code r0 packet _ _ (goes s t label labels l r) (suc n) h ops = leads_o
 pub runs_program : (w : Wiring) (packet : List ℕ) (p : List Event) (out : Left) → IsProgram w packet p out → Runs (program (run_of w packet) 0) p out
 runs_program w packet p out h =
     let g = w.program.now in
-    let r = walks_run g.code h.r0 out.packet (start_state g.shapes packet w.ifindex w.queue) h.labels h.walk (instructions g.code) h.within 0 in
+    let r = walks_run g.code h.r0 out.packet (start_state g.shapes [] packet w.ifindex w.queue) h.labels h.walk (instructions g.code) h.within 0 in
     let none : 0 + ops_in h.labels ≡ out.ops = omega (arith, h.ops) in
     rw h.events (subst (λ (l : Left). Runs (program (run_of w packet) 0) (map event_of h.labels) l) (ap (left_by h.r0 out.packet) none ∙ ap (λ m. record { number = m; packet = out.packet; ops = out.ops }) (sym h.number)) r)

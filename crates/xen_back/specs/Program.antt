@@ -26,7 +26,7 @@ ops_in (Some op ∷ labels) = suc (ops_in labels)
 pub record IsProgram (w : Wiring) (packet : List ℕ) (p : List Event) (out : Left) : Type 0 where
   pub r0 : ℕ
   pub labels : List (Option Op)
-  pub walk : Walk w.program.now.code r0 out.packet (start_state w.program.now.shapes packet w.ifindex w.queue) labels
+  pub walk : Walk w.program.now.code r0 out.packet (start_state w.program.now.shapes [] packet w.ifindex w.queue) labels
   pub within : length labels ≤ instructions w.program.now.code
   pub events : p ≡ map event_of labels
   pub number : out.number ≡ r0 % 2 ^ 32

@@ -132,7 +132,7 @@ after_run w s slots r =
 
 -- what the wired program does on a packet
 abbrev pub run_of : Wiring → List ℕ → Course
-run_of w packet = let p = w.program.now in course (instructions p.code) p.code (start_state p.shapes packet w.ifindex w.queue)
+run_of w packet = let p = w.program.now in course (instructions p.code) p.code (start_state p.shapes [] packet w.ifindex w.queue)
 
 abbrev pub after_copy : Wiring → State → List Slot → Option (List ℕ) → Steps Ending
 after_copy w s slots None = respond w s slots status.Error (Refused refusal.Grant 0 (length slots))

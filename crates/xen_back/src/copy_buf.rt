@@ -85,7 +85,7 @@ fn run_on<'b>(
     ensures seat { seat.new ≡ record seat.old { ops = seat.new.ops } }
     ensures ran { HasRunOn wiring.now packet.entry.bytes result.1.bytes result.0.number result.0.ops seat.old.ops seat.new.ops }
 {
-    let mut vm = Vm::start(wiring.program, packet, wiring.ifindex, wiring.queue);
+    let mut vm = Vm::start(wiring.program, packet, wiring.ifindex, wiring.queue, &[]);
     let mut ops = 0;
     loop {
         match vm.advance() {

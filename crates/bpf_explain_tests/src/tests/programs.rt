@@ -1,8 +1,8 @@
 //! Refused programs and what is printed of them. A program has one slot per line, with its text beside it.
-use crate::printed::{advice_by, prints, prints_by_registers, prints_undecoded};
+use crate::printed::{advice_by, prints, prints_by_registers, prints_undecoded, text};
 use bpf_explain::{asked_register, joined_text, was_text};
 use bpf_insn::{Cause, Insn, Refusal, Register, Size, decode};
-use bpf_note::{Note, PACKET_ID, Val};
+use bpf_note::{Kind, MapKey, MapShape, Note, PACKET_ID, Val};
 use std::alloc::Global;
 
 /// The first byte of the packet.
@@ -62,6 +62,30 @@ fn prints_half_set(alloc: Global) -> Option<bool> {
 #[test]
 fn a_key_that_is_half_set(rt: HostRuntime) {
     assert_eq!(rt; prints_half_set(rt.alloc()), Some(true));
+}
+
+const LISTED: &str =
+    "   0: r1 = map 0\n>  2: call 1\n       R1=map_ptr(map=hits)  R2=fp-20  fp-24=????##??  fp-16=????????  fp-8=????????\n   3: exit\nrefused V17 at 2\nwrite instead: set all bytes of the key that r2 points to, within the stack: as many as each key of the map's list has\n";
+
+/// Whether all slots of a key of 16 bytes are printed, of which two are set.
+fn prints_listed(alloc: Global) -> Option<bool> {
+    let shape = MapShape::keyed(MapKey::Listed(Kind::Exact(16)), 2, 3)?;
+    let mut note = Note::entry(alloc);
+    note.set_register(1, Val::Map { m: 0 });
+    note.set_register(2, Val::Stack { off: -20 });
+    note.set_byte(492);
+    note.set_byte(493);
+    let refusal = Refusal {
+        cause: Cause::Argument,
+        pc: 2,
+    };
+    let text = text(alloc, &LOOKUP, &[shape], refusal, Some(&note))?;
+    Some(text.as_str() == LISTED)
+}
+
+#[test]
+fn a_list_s_key_that_is_not_set(rt: HostRuntime) {
+    assert_eq!(rt; prints_listed(rt.alloc()), Some(true));
 }
 
 #[rattlefmt::skip]

@@ -118,7 +118,7 @@ const ALONE: [(Cause, &str); 11] = [
 #[test]
 fn causes_without_a_note(rt: HostRuntime) {
     for (cause, wanted) in ALONE {
-        assert_eq!(rt; advice_for(cause, None, None), wanted);
+        assert_eq!(rt; advice_for(&[], cause, None, None), wanted);
     }
 }
 

@@ -1,5 +1,6 @@
 //! Rows with exact keys.
-use bpf_lists::{KeyedRows, Kind};
+use bpf_lists::KeyedRows;
+use bpf_note::Kind;
 use std::alloc::Global;
 
 const ADDRESSES: [u8; 16] = [192, 0, 2, 1, 10, 0, 0, 1, 255, 255, 255, 255, 0, 0, 0, 0];

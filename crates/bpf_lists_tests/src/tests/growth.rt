@@ -1,6 +1,7 @@
 //! Rows, made again after they were refused memory. `tools/gate/refuse-growths` refuses each allocation of this test in turn, and
 //! counts the runs that print `refused`.
-use bpf_lists::{KeyedRows, Kind, Refusal};
+use bpf_lists::{KeyedRows, Refusal};
+use bpf_note::Kind;
 use std::alloc::Global;
 use std::io;
 

@@ -1,5 +1,6 @@
 //! Rows with prefixes: 10.0.0.0/8, 10.1.0.0/16, 10.1.2.0/23, 10.1.3.3/32 and 192.0.2.128/25.
-use bpf_lists::{KeyedRows, Kind};
+use bpf_lists::KeyedRows;
+use bpf_note::Kind;
 use std::alloc::Global;
 
 const PREFIXES: [u8; 40] = [

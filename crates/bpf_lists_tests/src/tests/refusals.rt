@@ -1,5 +1,6 @@
 //! Rows that are refused, each for its cause.
-use bpf_lists::{KeyedRows, Kind, Refusal};
+use bpf_lists::{KeyedRows, Refusal};
+use bpf_note::Kind;
 use std::alloc::{AllocError, Global};
 
 /// Why rows are refused.

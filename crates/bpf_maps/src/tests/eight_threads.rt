@@ -1,6 +1,6 @@
 //! As many threads as seats, in a scope, each of which promises to give its seat back.
 ghost use Rattle.std.specs.Prelude.{◌≡◌, ℕ, List, All, Contains, map, ◌<◌, ◌≤◌, length, IfOk};
-ghost use Rattle.bpf_note.specs.Shape.{IsCounter};
+ghost use Rattle.bpf_note.specs.Shape.{IsCounter, most_maps};
 ghost use Rattle.bpf_maps.specs.Seats.{IsSeatOf, CountersView, SeatView, Account};
 
 use super::worker::hit;
@@ -93,7 +93,7 @@ fn many<R: Threads + Wait + Sync>(
     seats: usize,
     times: u32,
 ) -> Result<Totals, AllocError>
-    requires maps { length shapes.now ≤ 4 }
+    requires maps { length shapes.now ≤ most_maps }
     requires seats { (0 < seats) × (seats ≤ 8) }
     requires place { IsCounter shapes.now 0 0 0 }
     ensures shapes { IfOk result (λ t. t.shapes ≡ shapes.now) }

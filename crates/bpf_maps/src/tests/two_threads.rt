@@ -1,6 +1,6 @@
 //! Two threads that borrow the counters and own a seat each.
 ghost use Rattle.std.specs.Prelude.{◌≡◌, ◌+◌, ◌*◌, ◌%◌, ◌^◌, ◌≤◌, length, sum_by, IfOk, IfSome};
-ghost use Rattle.bpf_note.specs.Shape.{IsCounter};
+ghost use Rattle.bpf_note.specs.Shape.{IsCounter, most_maps};
 ghost use Rattle.bpf_note.specs.History.{added};
 ghost use Rattle.bpf_maps.specs.Seats.{IsSeatOf};
 
@@ -19,7 +19,7 @@ fn two<R: Threads + Sync>(
     ones: u32,
     twos: u32,
 ) -> Result<Option<u64>, AllocError>
-    requires maps { length shapes.now ≤ 4 }
+    requires maps { length shapes.now ≤ most_maps }
     requires place { IsCounter shapes.now 0 0 0 }
     ensures { IfOk result (λ r. IfSome r (λ n. n ≡ (ones * 1 + twos * 2) % 2 ^ 64)) }
 {

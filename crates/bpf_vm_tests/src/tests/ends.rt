@@ -21,7 +21,7 @@ const STORES: [[u8; 8]; 9] = [
 /// The number, the instructions and the packet's first byte.
 fn ended_by_hand(program: &Verified, buffer: &mut Buffer) -> Option<(u32, u32, Option<u8>)> {
     let packet = PacketBuf::copy(buffer, &[5, 6]).ok()?;
-    let mut vm = Vm::start(program, packet, 3, 4);
+    let mut vm = Vm::start(program, packet, 3, 4, &[]);
     let VmWant::Exit { .. } = vm.advance() else {
         return None;
     };

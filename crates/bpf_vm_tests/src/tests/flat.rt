@@ -42,7 +42,7 @@ fn alike(program: &Verified, first: &mut Buffer, second: &mut Buffer) -> Option<
     requires { program.now.shapes ≡ [] }
 {
     let packet = PacketBuf::copy(first, &PACKET).ok()?;
-    let slow = stepped(Vm::start(program, packet, 3, 4))?;
+    let slow = stepped(Vm::start(program, packet, 3, 4, &[]))?;
     let fast = run_to_end(program, PacketBuf::copy(second, &PACKET).ok()?, 3, 4);
     Some(
         slow.number == fast.number

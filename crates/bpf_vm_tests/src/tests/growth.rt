@@ -1,6 +1,7 @@
 //! Checking again after it was refused memory, and a buffer made again. `tools/gate/refuse-growths` refuses each allocation of
 //! these tests in turn, and counts the runs that print `refused`.
 ghost use Rattle.std.specs.Prelude.{◌≤◌, length};
+ghost use Rattle.bpf_note.specs.Shape.{most_maps};
 
 use crate::programs::{COUNTING, verified};
 use bpf_verify::{Cause, MapShape, Refusal};
@@ -24,7 +25,7 @@ const READS_PAST_THE_END: [[u8; 8]; 9] = [
 
 /// How many instructions an accepted program has, or its refusal.
 fn counted(alloc: Global, slots: &[[u8; 8]], shapes: &[MapShape]) -> Result<u32, Refusal>
-    requires { length shapes.now ≤ 4 }
+    requires { length shapes.now ≤ most_maps }
 {
     match verified(alloc, slots, shapes) {
         Ok(program) => Ok(program.instructions()),
@@ -39,7 +40,7 @@ fn counted_again(
     slots: &[[u8; 8]],
     shapes: &[MapShape],
 ) -> Result<Result<u32, Refusal>, Fail>
-    requires { length shapes.now ≤ 4 }
+    requires { length shapes.now ≤ most_maps }
 {
     match counted(alloc, slots, shapes) {
         Err(Refusal { cause, .. }) if cause == Cause::Memory => {

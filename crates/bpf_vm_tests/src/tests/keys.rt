@@ -16,7 +16,7 @@ fn number_at_exit(mut vm: Vm<'_, '_>) -> Option<u32> {
 fn number_of(alloc: Global, slots: &[[u8; 8]]) -> Option<u32> {
     let shape = MapShape::of(1, 1)?;
     let (program, mut buffer) = ready(alloc, slots, &[shape, shape])?;
-    number_at_exit(Vm::start(&program, PacketBuf::empty(&mut buffer), 0, 0))
+    number_at_exit(Vm::start(&program, PacketBuf::empty(&mut buffer), 0, 0, &[]))
 }
 
 /// What a lookup of a key in a map of one value gives.
@@ -99,7 +99,7 @@ fn loaded(mut vm: Vm<'_, '_>) -> Option<([u32; 2], u32)> {
 /// [`loaded`] for [`UPPER_HALF`].
 fn loaded_half(alloc: Global) -> Option<([u32; 2], u32)> {
     let (program, mut buffer) = ready(alloc, &UPPER_HALF, &[MapShape::of(1, 1)?])?;
-    loaded(Vm::start(&program, PacketBuf::empty(&mut buffer), 0, 0))
+    loaded(Vm::start(&program, PacketBuf::empty(&mut buffer), 0, 0, &[]))
 }
 
 #[test]
@@ -138,7 +138,7 @@ fn fetched(mut vm: Vm<'_, '_>) -> Option<(u64, u32)> {
 /// [`fetched`] for [`FETCHED_HALF`].
 fn fetched_half(alloc: Global) -> Option<(u64, u32)> {
     let (program, mut buffer) = ready(alloc, &FETCHED_HALF, &[MapShape::of(1, 1)?])?;
-    fetched(Vm::start(&program, PacketBuf::empty(&mut buffer), 0, 0))
+    fetched(Vm::start(&program, PacketBuf::empty(&mut buffer), 0, 0, &[]))
 }
 
 #[test]

@@ -304,8 +304,8 @@ fn advanced(start: Vm<'_, '_>) -> Option<(Wants, u32, u32)> {
 /// What [`COUNTING`] wants by single steps, and by all between two wants.
 fn counted_twice(alloc: Global) -> Option<[Option<(Wants, u32, u32)>; 2]> {
     let (program, mut buffer) = ready(alloc, &COUNTING, &[MapShape::of(2, 1)?])?;
-    let first = counted(Vm::start(&program, PacketBuf::empty(&mut buffer), 0, 0));
-    let second = advanced(Vm::start(&program, PacketBuf::empty(&mut buffer), 0, 0));
+    let first = counted(Vm::start(&program, PacketBuf::empty(&mut buffer), 0, 0, &[]));
+    let second = advanced(Vm::start(&program, PacketBuf::empty(&mut buffer), 0, 0, &[]));
     Some([first, second])
 }
 
@@ -377,7 +377,7 @@ fn wants_and_number(start: Vm<'_, '_>) -> Option<(Wants, u32)> {
 fn looked_up(alloc: Global, slots: &[[u8; 8]]) -> Option<(Wants, u32)> {
     let shape = MapShape::of(3, 2)?;
     let (program, mut buffer) = ready(alloc, slots, &[shape, shape])?;
-    wants_and_number(Vm::start(&program, PacketBuf::empty(&mut buffer), 0, 0))
+    wants_and_number(Vm::start(&program, PacketBuf::empty(&mut buffer), 0, 0, &[]))
 }
 
 #[test]

@@ -16,7 +16,7 @@ fn run_with<'b>(
 ) -> Option<(u32, PacketBuf<'b>)>
     requires { totals.old.shapes ≡ program.now.shapes }
 {
-    let mut vm = Vm::start(program, packet, 0, 0);
+    let mut vm = Vm::start(program, packet, 0, 0, &[]);
     for _ in 0..program.instructions() {
         match vm.advance() {
             VmWant::Load { m, k, j } => vm.loaded(totals.at(m, k, j)),

@@ -34,6 +34,7 @@ pub(crate) fn begin_run<'p, 'b>(
         packet.into_packet(),
         wiring.ifindex,
         wiring.queue,
+        &[],
     );
     Stage::Run(Executing { chain, vm, ops: 0 })
 }

@@ -1,6 +1,7 @@
 use Rattle.std.proofs.Common.{arith, ◌≡◌, ◌^◌, ◌<◌, ◌≤◌, ℕ, List, min, ◌∙◌, ap}
 use Rattle.std.specs.Ordering.{nat_cmp, ordering_then}
-use Rattle.bpf_lists.specs.Keys.{value, data_of, bits_of, row, count}
+use Rattle.bpf_note.specs.Keys.{data_of, bits_of}
+use Rattle.bpf_lists.specs.Keys.{value, row, count}
 use Rattle.bpf_lists.specs.Order.{rank}
 use Rattle.bpf_lists.proofs.RowLemmas.{few_bits}
 use Rattle.bpf_lists.proofs.ValueLemmas.{lex_number}

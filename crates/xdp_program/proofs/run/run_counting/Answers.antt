@@ -11,7 +11,7 @@ loop-m-init c = record {
     counted = λ rest. let none = c.start-vm.ensures.count in omega (arith, none);
     ops_done = λ rest. omega arith;
     history = λ rest after h. h;
-    walks = λ s h b i q e. (s, c.start-vm.ensures.stands s h b i q e, λ r0 bytes rest w. w);
+    walks = λ s h b i q e f. (s, c.start-vm.ensures.stands s h b i q e f, λ r0 bytes rest w. w);
   };
   few = omega arith;
   room = c.start-vm.ensures.room;

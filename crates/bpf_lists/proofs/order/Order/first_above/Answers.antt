@@ -1,5 +1,6 @@
 use Rattle.std.proofs.Common.{arith, ◌≡◌, ◌+◌, ◌-◌, ◌/◌, ◌<◌, ◌≤◌, sym, ap, ◌∙◌}
-use Rattle.bpf_lists.specs.Keys.{value, data_of}
+use Rattle.bpf_note.specs.Keys.{data_of}
+use Rattle.bpf_lists.specs.Keys.{value}
 use Rattle.bpf_lists.specs.Order.{at}
 use Rattle.bpf_lists.proofs.ValueLemmas.{gt_is, not_gt_is}
 use Rattle.bpf_lists.proofs.OrderLemmas.{above_rises, below_falls}

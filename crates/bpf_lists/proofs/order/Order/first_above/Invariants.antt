@@ -1,5 +1,6 @@
 use Rattle.std.proofs.Common.{ℕ, ◌-◌, ◌<◌, ◌≤◌, length}
-use Rattle.bpf_lists.specs.Keys.{value, data_of}
+use Rattle.bpf_note.specs.Keys.{data_of}
+use Rattle.bpf_lists.specs.Keys.{value}
 use Rattle.bpf_lists.specs.Order.{at}
 use Rattle.bpf_lists.proofs.order.Order.first_above.Given as goal
 

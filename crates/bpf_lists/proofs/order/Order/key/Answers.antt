@@ -1,6 +1,6 @@
 use Rattle.std.proofs.Common.{arith, ◌≡◌, ◌+◌, ◌*◌, ◌<◌, ◌≤◌, ℕ, List, length, slice_index, ◌∙◌, sym, ap, subst}
 use Rattle.std.proofs.lemmas.Grind.{get_or_default_zero}
-use Rattle.bpf_lists.specs.Keys.{size}
+use Rattle.bpf_note.specs.Keys.{size}
 use Rattle.bpf_lists.specs.Order.{Ordered}
 use Rattle.bpf_lists.proofs.RowLemmas.{row_inside}
 use Rattle.bpf_lists.proofs.order.Order.key.Goals as goal

@@ -1,5 +1,6 @@
 use Rattle.std.proofs.Common.{arith, ◌≡◌, ◌*◌, ◌<◌, ◌≤◌, None, length, sym, ◌∙◌, ap, subst}
-use Rattle.bpf_lists.specs.Keys.{Keyed, size, width, bits_of, IsFound, IsLongest}
+use Rattle.bpf_note.specs.Keys.{size, width, bits_of}
+use Rattle.bpf_lists.specs.Keys.{Keyed, IsFound, IsLongest}
 use Rattle.bpf_lists.specs.Order.{Reaches}
 use Rattle.bpf_lists.proofs.OrderLemmas.{climb_start}
 use Rattle.bpf_lists.proofs.FindLemmas.{found_none, found_some}

@@ -1,0 +1,163 @@
+//! Lookups in maps, and where their values lie.
+ghost use Rattle.std.specs.Prelude.{◌≡◌, ◌+◌, ◌*◌, ◌/◌, ◌%◌, ◌<◌, ◌≤◌, ℕ, List, Some, length, slice_get};
+ghost use Rattle.bpf_lists.specs.Find.{find_in, found_in};
+ghost use Rattle.bpf_note.specs.Bytes.{bytes_at};
+ghost use Rattle.bpf_note.specs.Keys.{key_size};
+ghost use Rattle.bpf_note.specs.Regions.{region, map_near, map_offset, InCounter};
+ghost use Rattle.bpf_note.specs.Shape.{Shape, most_maps};
+ghost use Rattle.bpf_flow.specs.Step.{looked_up, row_of, value_or_null};
+ghost use Rattle.bpf_vm.specs.Running.{machine_state, Advances, ComesTo, IsInCounter};
+
+use crate::bytes::number_at;
+use crate::machine::{
+    LARGE_STRIDE, MOST_SMALL, Machine, REFERENCES_START, SMALL_STRIDE, STACK_START, VALUES_START,
+};
+use bpf_insn::{Register, Size};
+use bpf_lists::KeyedRows;
+use bpf_note::{MapKey, MapShape};
+
+/// The map that alone may have values this many bytes past the first of all.
+#[inline(always)]
+fn map_near(at: u64) -> u64
+    ensures { result ≡ map_near at }
+{
+    if at < LARGE_STRIDE {
+        at / SMALL_STRIDE
+    } else {
+        at / LARGE_STRIDE - 1
+    }
+}
+
+/// How far past the first of all values those of map `m` begin.
+#[inline(always)]
+fn map_offset(shape: &MapShape, m: u64) -> u64
+    requires { m < most_maps }
+    ensures value { result ≡ map_offset shape.now m }
+    ensures small { result ≤ 0x4000000 }
+{
+    if u64::from(shape.counters()) * u64::from(shape.entries()) <= MOST_SMALL {
+        SMALL_STRIDE * m
+    } else {
+        LARGE_STRIDE * (m + 1)
+    }
+}
+
+/// The value of a map, and the counter in it, of which `number` counters of the map come before it.
+#[inline(always)]
+fn value_and_counter(shape: &MapShape, number: u64) -> (u32, u32)
+    requires { number < shape.now.counters * shape.now.entries }
+    ensures value { result.0 ≡ number / shape.now.counters }
+    ensures counter { result.1 ≡ number % shape.now.counters }
+{
+    let counters = u64::from(shape.counters());
+    let value = number / counters;
+    let counter = number % counters;
+    (value as u32, counter as u32)
+}
+
+/// The row that a key has in a list, if the list's keys are of its size.
+fn row_in(rows: &KeyedRows, key: &[u8]) -> Option<u64>
+    ensures { result ≡ found_in (Some (Some rows.now)) key.now }
+{
+    if rows.kind().size() != key.len() {
+        return None;
+    }
+    rows.has_one_answer();
+    match rows.find(key) {
+        Some(row) => Some(u64::from(row)),
+        None => None,
+    }
+}
+
+impl<'p, 'b> Machine<'p, 'b> {
+    /// The map, the value and the counter that lie at an address.
+    pub(crate) fn counter_at(&self, address: u64) -> (u32, u32, u32)
+        requires few { length self.now.shapes.now ≤ most_maps }
+        requires there { IsInCounter (region (length self.now.packet.bytes) self.now.shapes.now address 8) }
+        ensures { region (length self.now.packet.bytes) self.now.shapes.now address 8 ≡ InCounter result.0 result.1 result.2 }
+    {
+        // Only the proof uses what this call ensures: a packet is short.
+        let _packet = self.packet.bytes();
+        let at = address - VALUES_START;
+        let m = map_near(at);
+        let shape = &self.shapes[m as usize];
+        let start = map_offset(shape, m);
+        let number = (at - start) / 8;
+        let (k, j) = value_and_counter(shape, number);
+        (m as u32, k, j)
+    }
+
+    /// The address of a row's value, or 0 past the map's end, or without a row.
+    fn value_address(&self, m: u64, row: Option<u64>) -> u64
+        requires map { m < length self.now.shapes.now }
+        requires few { length self.now.shapes.now ≤ most_maps }
+        ensures { (shape : Shape) → slice_get self.now.shapes.now m ≡ Some shape → result ≡ value_or_null shape m row }
+    {
+        let Some(k) = row else {
+            return 0;
+        };
+        let shape = &self.shapes[m as usize];
+        if k < u64::from(shape.entries()) {
+            VALUES_START + map_offset(shape, m) + 8 * (u64::from(shape.counters()) * k)
+        } else {
+            0
+        }
+    }
+
+    /// The row that a key has in the list of map `m`.
+    fn listed_row(&self, m: u64, key: &[u8]) -> Option<u64>
+        requires { m < most_maps }
+        ensures { result ≡ find_in self.now.lists.now m key.now }
+    {
+        match self.lists.get(m as usize) {
+            Some(Some(rows)) => row_in(rows, key),
+            _ => None,
+        }
+    }
+
+    /// The row that a key finds in map `m`, whose values are looked up so.
+    fn row_of(&self, m: u64, by: MapKey, key: &[u8]) -> Option<u64>
+        requires few { m < most_maps }
+        requires sized { length key.now ≡ key_size by }
+        ensures { result ≡ row_of (machine_state 0 self.now) m by key.now }
+    {
+        match by {
+            MapKey::Index => Some(number_at(key, 0, Size::Word)),
+            MapKey::Listed(_) => self.listed_row(m, key),
+        }
+    }
+
+    /// The row that the key at a place of the stack finds in map `m`.
+    fn row_at(&self, m: u64, place: usize) -> Option<u64>
+        requires map { m < length self.now.shapes.now }
+        requires few { length self.now.shapes.now ≤ most_maps }
+        requires inside { (shape : Shape) → slice_get self.now.shapes.now m ≡ Some shape → place + key_size shape.key ≤ 512 }
+        ensures { (shape : Shape) → slice_get self.now.shapes.now m ≡ Some shape → (key : List ℕ)
+            × (bytes_at (slice_get self.now.packet.stack) place (key_size shape.key) ≡ Some key)
+            × (result ≡ row_of (machine_state 0 self.now) m shape.key key) }
+    {
+        let stack = self.packet.stack();
+        let by = self.shapes[m as usize].key();
+        let end = place + by.size() as usize;
+        let key = &stack[place..end];
+        self.row_of(m, by, key)
+    }
+
+    /// Helper 1: `r0` becomes the address of the value under a key of the stack, or 0.
+    pub(crate) fn look_up(&mut self, pc: u32) -> u32
+        requires small { pc < 4096 }
+        requires few { length self.old.shapes.now ≤ most_maps }
+        requires advances { Advances (looked_up (machine_state pc self.old)) }
+        ensures room { self.new.packet.room ≡ self.old.packet.room }
+        ensures state { ComesTo (looked_up (machine_state pc self.old)) (machine_state result self.new) }
+    {
+        // Only the proof uses what these calls ensure: a packet is short, and the stack has 512 bytes.
+        let _packet = self.packet.bytes();
+        let _stack = self.packet.stack();
+        let m = self.register(Register::R1) - REFERENCES_START;
+        let place = self.register(Register::R2) - STACK_START;
+        let row = self.row_at(m, place as usize);
+        let address = self.value_address(m, row);
+        self.set(pc, Register::R0, address)
+    }
+}
