@@ -1,5 +1,5 @@
 use Rattle.bpf_vm.proofs.RegionLemmas.{number_small}
-use Rattle.std.proofs.Common.{arith, ◌≡◌, ◌/◌, ◌%◌, ap, ℕ, subst, sym}
+use Rattle.std.proofs.Common.{arith, ◌/◌, ◌<◌, ◌^◌, ℕ, subst, sym}
 use Rattle.bpf_vm.proofs.lookup.value_and_counter.Goals as goal
 
 pub overflow_cast-result : goal.overflow_cast-result
