@@ -54,6 +54,6 @@ returns c = λ other e.
     let key : List ℕ = take (place + z - place) (drop place stack) in
     let cut : key_size shape.key ≡ place + z - place = omega (arith, size) in
     let read : bytes_at (slice_get c.args.self.now.packet.stack) place (key_size shape.key) ≡ Some key =
-        ap (λ (bytes : List ℕ). bytes_at (slice_get bytes) place (key_size shape.key)) (sym c.stack-stack.ensures.same) ∙ (bytes_of_list stack place (key_size shape.key) inside ∙ ap (λ (n : ℕ). Some (take n (drop place stack))) cut) in
+    ap (λ (bytes : List ℕ). bytes_at (slice_get bytes) place (key_size shape.key)) (sym c.stack-stack.ensures.same) ∙ (bytes_of_list stack place (key_size shape.key) inside ∙ ap (λ (n : ℕ). Some (take n (drop place stack))) cut) in
     let row = c.row_of.ensures ∙ ap (λ (k : MapKey). row_of (machine_state 0 c.args.self.now) c.args.m k key) c.key-by.ensures.value in
     subst (λ (s : Shape). (key : List ℕ) × (bytes_at (slice_get c.args.self.now.packet.stack) place (key_size s.key) ≡ Some key) × (c.row_of.result ≡ row_of (machine_state 0 c.args.self.now) c.args.m s.key key)) same (key, read, row)
