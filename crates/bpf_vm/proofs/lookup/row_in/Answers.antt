@@ -12,7 +12,8 @@ returns-then-size-key c =
 pub returns-in-Some : goal.returns-in-Some
 returns-in-Some c =
     let sized : c.size.result ≡ size c.args.rows.now.kind = c.size.ensures.value ∙ ap (λ (k : Kind). size k) c.kind.ensures in
-    found_is c.args.rows.now c.args.key.now (Some c.in-Some.row) (omega (arith, sized)) (c.has_one_answer.ensures.one c.args.key.now (Some c.in-Some.row) c.in-Some.ensures)
+    let widened : c.from.result ≡ c.in-Some.row = omega arith in
+    ap Some widened ∙ found_is c.args.rows.now c.args.key.now (Some c.in-Some.row) (omega (arith, sized)) (c.has_one_answer.ensures.one c.args.key.now (Some c.in-Some.row) c.in-Some.ensures)
 
 pub returns-in-None : goal.returns-in-None
 returns-in-None c =
