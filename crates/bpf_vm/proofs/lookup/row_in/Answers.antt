@@ -1,4 +1,4 @@
-use Rattle.std.proofs.Common.{◌≡◌, ◌∙◌, Some, None, ap, arith, length}
+use Rattle.std.proofs.Common.{◌≡◌, ◌∙◌, Some, None, ap, arith}
 use Rattle.bpf_note.specs.Keys.{size}
 use Rattle.bpf_note.specs.declared.key.Kind.{Kind}
 use Rattle.bpf_vm.proofs.FindLemmas.{found_is, found_not}
